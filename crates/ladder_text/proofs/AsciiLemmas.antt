@@ -1,0 +1,41 @@
+-- Every character of a text that was looked at is ASCII.
+use Rattle.std.proofs.Common.{ℕ, ◌+◌, ◌-◌, ◌<◌, ◌≤◌, ◌≡◌, List, [], ◌∷◌, length, take, drop, get_or, true, false, sym, ◌∙◌, refl, arith, rules, tests, ◌⊎◌, inl, inr}
+use Rattle.std.proofs.lemmas.Bool.{cases_lt}
+use Rattle.std.proofs.lemmas.List.{get_or_default}
+use Rattle.std.proofs.lemmas.Str.{IsAscii-take, IsAscii-drop}
+use Rattle.std.proofs.lemmas.Str.Ascii.{IsAscii-from_reads, IsAscii-nil, IsAscii-cons}
+use Rattle.std.proofs.Math.ListN.{get_or-eq_default}
+use Rattle.std.specs.Str.{IsAscii}
+use Rattle.ladder_text.specs.Rows.{Rows, char_at, width}
+use Rattle.ladder_text.specs.Chars.{between, is_letter_or_digit, is_rest, is_identifier}
+use Rattle.ladder_text.specs.Boxes.{cut}
+use Rattle.ladder_text.specs.Faults.{Nowhere, not_ascii}
+use Rattle.ladder_text.proofs.WidthLemmas.{row-narrow}
+
+pub row_small : (d : Rows) (r k : ℕ) → Nowhere d (not_ascii d) → r < length d → k < length (get_or d r []) → get_or (get_or d r []) k 0 < 128
+unfolding char_at
+row_small d r k n h l =
+    let e = n r k h (row-narrow d r k l) in
+    let q : get_or (get_or d r []) k 0 ≡ get_or (get_or d r []) k 32 = get_or_default (get_or d r []) k 0 32 l in
+    rw q (search (rules, tests))
+
+pub row_ascii : (d : Rows) (r : ℕ) → Nowhere d (not_ascii d) → IsAscii (get_or d r [])
+row_ascii d r n = elim (cases_lt r (length d)) [
+  | inl h ↦ IsAscii-from_reads (get_or d r []) (length (get_or d r [])) (omega arith) (λ k l. row_small d r k n h l)
+  | inr h ↦ rw (get_or-eq_default d [] h) IsAscii-nil
+]
+
+pub cut_ascii : (d : Rows) (r a b : ℕ) → Nowhere d (not_ascii d) → IsAscii (cut d r a b)
+cut_ascii d r a b n = IsAscii-take (drop a (get_or d r [])) (b - a) (IsAscii-drop (get_or d r []) a (row_ascii d r n))
+
+pub letter_small : (c : ℕ) → is_letter_or_digit c ≡ true → c < 128
+letter_small c h = search (rules, tests)
+
+pub rest_ascii : (w : List ℕ) → is_rest w ≡ true → IsAscii w
+rest_ascii [] h = IsAscii-nil
+rest_ascii (c ∷ []) h = IsAscii-cons c [] (letter_small c h) IsAscii-nil
+rest_ascii (c ∷ e ∷ more) h = IsAscii-cons c (e ∷ more) (search (rules, tests)) (rest_ascii (e ∷ more) (search (rules, tests)))
+
+pub identifier_ascii : (w : List ℕ) → is_identifier w ≡ true → IsAscii w
+unfolding is_identifier
+identifier_ascii w h = rest_ascii w (search (rules, tests))

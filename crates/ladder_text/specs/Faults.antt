@@ -1,0 +1,186 @@
+-- The faults, each as a test of a place, and when a drawing is well drawn.
+use Rattle.std.specs.Prelude.{ℕ, true, false, ◌+◌, ◌-◌, ◌≡◌, ◌≤◌, ◌<◌, IsTrue, IsFalse, List, [], ◌∷◌, ◌==◌, if◌then◌else◌, length, Bool, ◌&&◌, ◌||◌, not, nat_lt, nat_le, Option, Some, None, is_some, is_none}
+use Rattle.std.specs.List.{list_all, list_any, range_with_len, count_by}
+use Rattle.ladder_text.specs.declared.span.Span.{Span}
+use Rattle.ladder_text.specs.declared.drawn_box.Operand.{Operand}
+use Rattle.ladder_text.specs.declared.drawn_box.Side.{Side}
+use Rattle.ladder_text.specs.declared.drawn_box.Side.TheVariants as side
+use Rattle.ladder_text.specs.declared.drawn_box.DrawnPin.{DrawnPin}
+use Rattle.ladder_text.specs.declared.place_fault.PlaceFault.{PlaceFault}
+use Rattle.ladder_text.specs.declared.place_fault.PlaceFault.TheVariants.{BadMark, Crossing, NoSource}
+use Rattle.ladder_text.specs.declared.outline.Outline.{Outline}
+use Rattle.ladder_text.specs.Rows.{Rows, char_at, height, width, run}
+use Rattle.ladder_text.specs.Chars.{between, is_word_char, is_name, is_plain_name, is_operand}
+use Rattle.ladder_text.specs.Boxes.{outline_at, begins_box, covers, left_column}
+use Rattle.ladder_text.specs.Places.{Layout, contact_at, coil_at, is_taken, is_rail_char, mark, is_wire, is_join, is_upright, is_vertical, is_line, is_box_part, gives, pin_on, layout_of}
+use Rattle.ladder_text.specs.Names.{overlap, words, symbols, tops, things, word_text}
+
+-- a character outside 32 to 126
+abbrev pub not_ascii : Rows → ℕ → ℕ → Bool
+not_ascii d r c = not (between 32 (char_at d r c) 126)
+
+-- a character of the left rail's column that is no rail's
+abbrev pub no_left_rail : Rows → ℕ → Bool
+no_left_rail d r = let c = char_at d r (left_column d) in not (c == 32 || is_rail_char c)
+
+-- a box begins, and isn't as it should be; or two boxes share a place
+abbrev pub bad_box : Rows → ℕ → ℕ → Bool
+bad_box d r c = begins_box d r c && is_none (outline_at d r c)
+
+abbrev pub same_corner : Outline → Outline → Bool
+same_corner a b = a.top == b.top && a.left == b.left
+
+abbrev pub share_place : Outline → Outline → Bool
+share_place a b = nat_le a.top b.bottom && nat_le b.top a.bottom && nat_le a.left b.right && nat_le b.left a.right
+
+abbrev pub is_apart : List Outline → Outline → Bool
+is_apart bs a = list_all (λ b. same_corner a b || not (share_place a b)) bs
+
+abbrev pub boxes_apart : Layout → Bool
+boxes_apart p = list_all (is_apart p.boxes) p.boxes
+
+-- a character without a meaning, or a line that ends at a box's side where there is no pin
+abbrev pub has_meaning : ℕ → Bool
+has_meaning c = c == 32 || c == 45 || is_rail_char c || is_word_char c
+
+-- the place on the right of (r, c) is the left side of a box, on a row without a left pin
+abbrev pub blind_right_of : ℕ → ℕ → Outline → Bool
+blind_right_of r c b = covers r (c + 1) b && c + 1 == b.left && not (list_any (pin_on side.Left r) b.pins)
+
+abbrev pub blind_left_of : ℕ → ℕ → Outline → Bool
+blind_left_of r c b = covers r (c - 1) b && nat_lt 0 c && c - 1 == b.right && not (list_any (pin_on side.Right r) b.pins)
+
+abbrev pub blind_right : Layout → ℕ → ℕ → Bool
+blind_right p r c = list_any (blind_right_of r c) p.boxes
+
+abbrev pub blind_left : Layout → ℕ → ℕ → Bool
+blind_left p r c = list_any (blind_left_of r c) p.boxes
+
+abbrev pub is_first_of_symbol : Layout → ℕ → ℕ → Bool
+is_first_of_symbol p r c = is_some (contact_at p r c) || is_some (coil_at p r c)
+
+-- the last place of the line that begins at (r, c): a symbol has three, a Wire or Join one
+abbrev pub line_end : Layout → ℕ → ℕ → ℕ
+line_end p r c = if is_first_of_symbol p r c then c + 2 else c
+
+-- a Wire or a Join, or the first place of a symbol, beside a box where there is no pin
+abbrev pub is_blind : Layout → ℕ → ℕ → Bool
+is_blind p r c =
+    (is_wire (mark p r c) || is_join (mark p r c) || is_first_of_symbol p r c) && (blind_left p r c || blind_right p r (line_end p r c))
+
+abbrev pub bad_mark : Layout → ℕ → ℕ → Bool
+bad_mark p r c = (not (is_taken p r c) && not (has_meaning (char_at p.rows r c))) || is_blind p r c
+
+-- an Upright place beside a line or a box, or at the end of its upright
+abbrev pub touches : Layout → ℕ → ℕ → Bool
+touches p r c = let m = mark p r c in is_line m || is_box_part m
+
+abbrev pub crossing : Layout → ℕ → ℕ → Bool
+crossing p r c =
+    is_upright (mark p r c)
+    && (touches p r (c - 1) || touches p r (c + 1) || not (is_vertical (mark p (r - 1) c)) || not (is_vertical (mark p (r + 1) c)))
+
+-- a line that state never enters
+-- how far the upright at (r, c) goes down
+abbrev pub upright_len : Layout → ℕ → ℕ → ℕ
+upright_len p r c = run (λ k. is_vertical (mark p k c)) r (height p.rows)
+
+abbrev pub is_fed : Layout → ℕ → ℕ → Bool
+is_fed p c k = is_join (mark p k c) && gives p k (c - 1)
+
+abbrev pub has_fed_join : Layout → ℕ → ℕ → Bool
+has_fed_join p r c = list_any (is_fed p c) (range_with_len r (upright_len p r c))
+
+abbrev pub no_source : Layout → ℕ → ℕ → Bool
+no_source p r c =
+    ((is_wire (mark p r c) || is_first_of_symbol p r c) && not (gives p r (c - 1)))
+    || (is_vertical (mark p r c) && not (is_vertical (mark p (r - 1) c)) && not (has_fed_join p r c))
+
+-- a symbol or box without a word above it
+unfoldable pub name_missing : Layout → ℕ → Span → Bool
+name_missing p r s = not (list_any (overlap s) (words p (r - 1)))
+
+-- a word that isn't of the form wanted, or belongs to nothing, to two things, or to a thing that has one before it
+-- some word before w overlaps s
+abbrev pub has_earlier : Span → List Span → Span → Bool
+has_earlier w ws s = list_any (λ v. overlap v s && nat_lt v.first w.first) ws
+
+abbrev pub is_second : Span → List Span → List Span → Bool
+is_second w ws things = list_any (λ s. overlap w s && has_earlier w ws s) things
+
+-- the words of row r, and the symbols, boxes and all things of the row below it
+pub record IsNames (p : Layout) (r : ℕ) (ws ss ts all : List Span) : Type 0 where
+  pub are_words : ws ≡ words p r
+  pub are_symbols : ss ≡ symbols p (r + 1)
+  pub are_tops : ts ≡ tops p (r + 1)
+  pub are_things : all ≡ things p (r + 1)
+
+unfoldable pub stray_name : Layout → ℕ → Span → Bool
+stray_name p r w =
+    not (count_by (overlap w) (things p (r + 1)) == 1)
+    || is_second w (words p r) (things p (r + 1))
+    || (list_any (overlap w) (symbols p (r + 1)) && not (is_name (word_text p r w)))
+    || (list_any (overlap w) (tops p (r + 1)) && not (is_plain_name (word_text p r w)))
+
+-- whether the operand of a pin on side s begins at (r, c)
+abbrev pub takes_word : Side → ℕ → ℕ → DrawnPin → Bool
+takes_word s r c q = pin_on s r q && begins_at c q.operand where
+  begins_at : ℕ → Option Operand → Bool
+  begins_at c None = false
+  begins_at c (Some o) = o.column == c
+
+unfoldable pub some_takes_word : List Outline → Side → ℕ → ℕ → Bool
+some_takes_word bs s r c = list_any (λ b. list_any (takes_word s r c) b.pins) bs
+
+-- an operand that isn't of the form wanted, or belongs to two pins: a left one and a right one
+abbrev pub is_stray_operand : List Outline → ℕ → Option Operand → Bool
+is_stray_operand bs r None = false
+is_stray_operand bs r (Some o) = not (is_operand o.text) || (some_takes_word bs side.Left r o.column && some_takes_word bs side.Right r o.column)
+
+abbrev pub has_stray_pin : List Outline → Outline → Bool
+has_stray_pin bs b = list_any (λ q. is_stray_operand bs q.row q.operand) b.pins
+
+unfoldable pub has_stray_operand : Layout → Bool
+has_stray_operand p = list_any (has_stray_pin p.boxes) p.boxes
+
+-- the faults of single places
+abbrev pub has_fault : PlaceFault → Layout → ℕ → ℕ → Bool
+has_fault BadMark p = bad_mark p
+has_fault Crossing p = crossing p
+has_fault NoSource p = no_source p
+
+-- no place of the rows, nor of their margin, passes the test
+abbrev pub Nowhere : Rows → (ℕ → ℕ → Bool) → Type 0
+Nowhere d test = (r c : ℕ) → r < length d → c ≤ width d → IsFalse (test r c)
+
+-- the test passes at a place of the rows or of their margin
+pub record IsFoundAt (d : Rows) (test : ℕ → ℕ → Bool) (r c : ℕ) : Type 0 where
+  pub in_rows : r < length d
+  pub in_columns : c ≤ width d
+  pub passes : IsTrue (test r c)
+
+-- every symbol and box has a word above it, and no word is stray
+pub record IsNamed (d : Rows) : Type 0 where
+  pub things_named : (r : ℕ) → r < length d → IsFalse (list_any (name_missing (layout_of d) r) (things (layout_of d) r))
+  pub no_stray_name : (r : ℕ) → r < length d → IsFalse (list_any (stray_name (layout_of d) r) (words (layout_of d) r))
+
+-- none of the faults holds anywhere
+pub record IsWellDrawn (d : Rows) : Type 0 where
+  pub ascii : Nowhere d (not_ascii d)
+  pub low_enough : height d ≤ 2000
+  pub narrow_enough : width d ≤ 240
+  pub drawn : 0 < width d
+  pub left_rail : (r : ℕ) → r < length d → IsFalse (no_left_rail d r)
+  pub boxes_whole : Nowhere d (bad_box d)
+  pub boxes_apart : IsTrue (boxes_apart (layout_of d))
+  pub places : (fault : PlaceFault) → Nowhere d (has_fault fault (layout_of d))
+  pub named : IsNamed d
+  pub operands_good : IsFalse (has_stray_operand (layout_of d))
+
+-- a text that isn't well drawn
+abbrev pub IsIllDrawn : Rows → Type 0
+IsIllDrawn d = IsWellDrawn d → ⊥
+
+-- a text that isn't well drawn, or has a box
+abbrev pub IsRefusable : Rows → Type 0
+IsRefusable d = Nowhere d (begins_box d) → IsIllDrawn d

@@ -1,0 +1,165 @@
+-- What stands at each place.
+use Rattle.std.specs.Prelude.{ℕ, ◌+◌, ◌-◌, List, ◌==◌, if◌then◌else◌, length, Bool, true, false, ◌&&◌, ◌||◌, not, nat_lt, nat_le, Option, Some, None, is_some}
+use Rattle.std.specs.List.{list_all, list_any, range_with_len}
+use Rattle.ladder_text.specs.declared.mark.Mark.{Mark}
+use Rattle.ladder_text.specs.declared.mark.Mark.TheVariants.{Blank, Rail, Wire, Join, Upright, ContactPart, CoilPart, BoxPart}
+use Rattle.ladder_text.specs.declared.contact.ContactKind.{ContactKind}
+use Rattle.ladder_text.specs.declared.coil.CoilKind.{CoilKind}
+use Rattle.ladder_text.specs.declared.drawn_box.Operand.{Operand}
+use Rattle.ladder_text.specs.declared.drawn_box.DrawnPin.{DrawnPin}
+use Rattle.ladder_text.specs.declared.drawn_box.Side.{Side}
+use Rattle.ladder_text.specs.declared.drawn_box.Side.TheVariants as side
+use Rattle.ladder_text.specs.declared.place.Place.{Place}
+use Rattle.ladder_text.specs.declared.outline.Outline.{Outline}
+use Rattle.ladder_text.specs.Rows.{Rows, char_at, height, width}
+use Rattle.ladder_text.specs.Chars.{contact_kind, coil_kind}
+use Rattle.ladder_text.specs.Boxes.{outlines, covers, left_column}
+
+-- the rows of a text with what is found first: the left rail's column and the boxes
+pub record Layout : Type 0 where
+  pub rows : Rows
+  pub left : ℕ
+  pub boxes : List Outline
+
+-- p comes before q, by row and then column
+abbrev pub is_before : Place → Place → Bool
+is_before p q = nat_lt p.row q.row || (p.row == q.row && nat_lt p.column q.column)
+
+-- p, or a place before it
+abbrev pub or_earlier : Place → Option Place → Place
+or_earlier p None = p
+or_earlier p (Some q) = if is_before q p then q else p
+
+abbrev pub in_box : Layout → ℕ → ℕ → Bool
+in_box p r c = list_any (covers r c) p.boxes
+
+-- the kind of the contact whose first place is (r, c), if there is one; none of its places is in a box
+unfoldable pub contact_at : Layout → ℕ → ℕ → Option ContactKind
+contact_at p r c =
+    if (char_at p.rows r (c - 1) == 45 || char_at p.rows r (c - 1) == 43) && char_at p.rows r c == 124 && char_at p.rows r (c + 2) == 124
+    && not (in_box p r c || in_box p r (c + 1) || in_box p r (c + 2))
+    then contact_kind (char_at p.rows r (c + 1)) else None
+
+-- the same for a coil
+unfoldable pub coil_at : Layout → ℕ → ℕ → Option CoilKind
+coil_at p r c =
+    if char_at p.rows r c == 40 && char_at p.rows r (c + 2) == 41 && not (in_box p r c || in_box p r (c + 1) || in_box p r (c + 2))
+    then coil_kind (char_at p.rows r (c + 1)) else None
+
+-- whether f finds a symbol whose three places contain (r, c)
+abbrev pub within_three : {A : Type 0} → (ℕ → ℕ → Option A) → ℕ → ℕ → Bool
+within_three f r c = is_some (f r c) || is_some (f r (c - 1)) || is_some (f r (c - 2))
+
+abbrev pub in_contact : Layout → ℕ → ℕ → Bool
+in_contact p = within_three (contact_at p)
+
+abbrev pub in_coil : Layout → ℕ → ℕ → Bool
+in_coil p = within_three (coil_at p)
+
+-- whether (r, c) is in a box or a symbol
+abbrev pub is_taken : Layout → ℕ → ℕ → Bool
+is_taken p r c = in_box p r c || in_contact p r c || in_coil p r c
+
+-- `|` or `+`
+abbrev pub is_rail_char : ℕ → Bool
+is_rail_char c = c == 124 || c == 43
+
+-- what stands in the last column of row r is a blank, or `|` or `+` outside boxes and symbols
+unfoldable pub may_be_rail : Layout → ℕ → Bool
+may_be_rail p r =
+    let c = char_at p.rows r (width p.rows) in c == 32 || (is_rail_char c && not (is_taken p r (width p.rows)))
+
+-- the greatest column is a right rail
+unfoldable pub has_right_rail : Layout → Bool
+has_right_rail p = nat_lt p.left (width p.rows) && list_all (may_be_rail p) (range_with_len 1 (height p.rows))
+
+-- the column c has a rail
+abbrev pub is_rail_column : Layout → ℕ → Bool
+is_rail_column p c = c == p.left || (c == width p.rows && has_right_rail p)
+
+-- whether the operand of a pin, or a dash on its way there, is at (r, c)
+abbrev pub operand_reaches : Outline → ℕ → ℕ → Option Operand → Side → Bool
+operand_reaches b r c None s = false
+operand_reaches b r c (Some o) side.Left = nat_le o.column c && nat_lt c b.left
+operand_reaches b r c (Some o) side.Right = nat_lt b.right c && nat_lt c (o.column + length o.text)
+
+abbrev pub pin_reaches : Outline → ℕ → ℕ → DrawnPin → Bool
+pin_reaches b r c q = q.row == r && operand_reaches b r c q.operand q.side
+
+abbrev pub in_operand : Layout → ℕ → ℕ → Bool
+in_operand p r c = list_any (λ b. list_any (pin_reaches b r c) b.pins) p.boxes
+
+-- what `-`, `+` and `|` mean outside boxes, symbols and rails
+abbrev pub line_mark : ℕ → Bool → Mark
+line_mark c operand = if c == 43 then Join else (if c == 124 then Upright else (if c == 45 && not operand then Wire else Blank))
+
+unfoldable pub mark : Layout → ℕ → ℕ → Mark
+mark p r c =
+    if in_box p r c then BoxPart
+    else (if in_contact p r c then ContactPart
+    else (if in_coil p r c then CoilPart
+    else (if is_rail_column p c && is_rail_char (char_at p.rows r c) then Rail
+    else line_mark (char_at p.rows r c) (in_operand p r c))))
+
+abbrev pub is_wire : Mark → Bool
+is_wire Wire = true
+is_wire _ = false
+
+abbrev pub is_join : Mark → Bool
+is_join Join = true
+is_join _ = false
+
+abbrev pub is_upright : Mark → Bool
+is_upright Upright = true
+is_upright _ = false
+
+abbrev pub is_rail : Mark → Bool
+is_rail Rail = true
+is_rail _ = false
+
+abbrev pub is_box_part : Mark → Bool
+is_box_part BoxPart = true
+is_box_part _ = false
+
+abbrev pub is_symbol : Mark → Bool
+is_symbol ContactPart = true
+is_symbol CoilPart = true
+is_symbol _ = false
+
+-- a place of an upright
+abbrev pub is_vertical : Mark → Bool
+is_vertical m = is_join m || is_upright m
+
+-- a place through which state runs from left to right
+abbrev pub is_line : Mark → Bool
+is_line m = is_wire m || is_join m || is_symbol m
+
+abbrev pub same_side : Side → Side → Bool
+same_side side.Left side.Left = true
+same_side side.Left side.Right = false
+same_side side.Right side.Left = false
+same_side side.Right side.Right = true
+
+-- a pin on a side and a row
+abbrev pub pin_on : Side → ℕ → DrawnPin → Bool
+pin_on s r q = q.row == r && same_side q.side s
+
+-- (r, c) is on the right side of a box on the row of a right pin
+abbrev pub is_right_pin : List Outline → ℕ → ℕ → Bool
+is_right_pin bs r c = list_any (λ b. c == b.right && list_any (pin_on side.Right r) b.pins) bs
+
+abbrev pub is_left_pin : List Outline → ℕ → ℕ → Bool
+is_left_pin bs r c = list_any (λ b. c == b.left && list_any (pin_on side.Left r) b.pins) bs
+
+-- state may leave (r, c) to its right
+unfoldable pub gives : Layout → ℕ → ℕ → Bool
+gives p r c =
+    let m = mark p r c in
+    (is_rail m && c == p.left) || is_line m || is_right_pin p.boxes r c
+
+-- state may enter (r, c) from its left
+unfoldable pub takes : Layout → ℕ → ℕ → Bool
+takes p r c = is_line (mark p r c) || is_left_pin p.boxes r c
+
+unfoldable pub layout_of : Rows → Layout
+layout_of d = record { rows = d; left = left_column d; boxes = outlines d }

@@ -1,0 +1,212 @@
+//! A drawing, and the faults of a text that is none.
+
+ghost use Rattle.std.specs.Prelude.{◌≡◌, ◌≢◌, ◌<◌, ◌≤◌, ◌+◌, ◌-◌, ◌^◌, IfOk, IfErr, min};
+ghost use Rattle.ladder_text.specs.Rows.{rows_of};
+ghost use Rattle.ladder_text.specs.Places.{layout_of};
+ghost use Rattle.ladder_text.specs.Faults.{IsWellDrawn, IsRefusable};
+ghost use Rattle.ladder_text.specs.Picture.{mark_at, picture_of, IsSound};
+ghost use Rattle.ladder_text.specs.declared.drawing.DrawFaultKind.TheVariants.{Memory};
+
+use crate::coil::Coil;
+use crate::contact::Contact;
+use crate::drawn_box::DrawnBox;
+use crate::mark::Mark;
+use crate::mark_row::MarkRow;
+use crate::reading::read_page;
+use crate::refusal::Refusal;
+use crate::symbols::{coils, contacts, drawn_boxes};
+use std::alloc::Global;
+use std::fmt;
+use std::marker::Model;
+
+/// A ladder drawn in characters: what stands at each place, and its contacts, coils and boxes.
+#[derive(Drop)]
+pub struct Drawing {
+    first_line: u64,
+    rows: usize,
+    columns: usize,
+    left: usize,
+    marks: Vec<MarkRow>,
+    contacts: Vec<Contact>,
+    coils: Vec<Coil>,
+    boxes: Vec<DrawnBox>,
+}
+
+impl Model for Drawing {
+    ghost use Rattle.ladder_text.specs.Picture.{Picture, picture, IsSound};
+
+    ghost Value = { Picture };
+
+    ghost view = { λ d. picture d.first_line d.rows d.columns d.left d.marks.items d.contacts.items d.coils.items d.boxes.items };
+
+    ghost invariant = { λ d. IsSound (picture d.first_line d.rows d.columns d.left d.marks.items d.contacts.items d.coils.items d.boxes.items) };
+}
+
+/// The kinds of faults of a drawing, in the order in which they are sought.
+#[derive(Clone, Copy, Debug, PartialEq, Eq)]
+pub enum DrawFaultKind {
+    /// A character outside 32 to 126; tabs too.
+    NotAscii,
+    /// Line 2,001, or column 241 of a line; blanks at the end of a line don't count.
+    TooLarge,
+    /// Nothing is drawn, or the leftmost column has another character than `|` and `+`.
+    NoLeftRail,
+    /// The top left corner of a box that isn't closed or has other pins than it may, or shares a place with one before it.
+    BadBox,
+    /// A character without a meaning, or a line that ends at a box where there is no pin.
+    BadMark,
+    /// A `|` that touches a line or a box, or that ends its upright.
+    Crossing,
+    /// A line, or an upright at its topmost place, that state enters from nowhere.
+    NoSource,
+    /// A symbol or box without a word above it.
+    NameMissing,
+    /// A word of another form than is wanted there, or one that names nothing, two things, or a thing that has a name.
+    StrayName,
+    /// There was no memory left; line and column are 0.
+    Memory,
+}
+
+/// Why a text is no drawing, and where: the first fault of the first kind that there is.
+#[derive(Clone, Copy, Debug, PartialEq, Eq)]
+pub struct DrawFault {
+    pub kind: DrawFaultKind,
+    /// The number of the line, counted on from that of the first.
+    pub line: u64,
+    /// The column, from 1 on.
+    pub column: usize,
+}
+
+impl fmt::Display for DrawFault {
+    fn fmt<W: fmt::Write>(&self, f: &mut fmt::Formatter<W>) -> fmt::Result {
+        write!(f, "{:?}", self.kind)
+    }
+}
+
+impl Refusal {
+    /// The fault, where the first row has a number.
+    fn on_lines(self, first_line: u64) -> DrawFault
+        requires { 1 ≤ first_line }
+        ensures kind { result.kind ≡ self.kind }
+        ensures memory { self.kind ≡ Memory → (result.line ≡ 0) × (result.column ≡ 0) }
+        ensures line { self.kind ≢ Memory → result.line ≡ min (first_line + self.place.row - 1) u64.MAX }
+        ensures column { self.kind ≢ Memory → result.column ≡ self.place.column }
+    {
+        if self.kind == DrawFaultKind::Memory {
+            return DrawFault {
+                kind: self.kind,
+                line: 0,
+                column: 0,
+            };
+        }
+        DrawFault {
+            kind: self.kind,
+            line: (first_line - 1).saturating_add(self.place.row as u64),
+            column: self.place.column,
+        }
+    }
+}
+
+#[tactic(auto, unfolding(crate::specs::Picture::picture_of, crate::specs::Places::layout_of))]
+fn read_drawing(alloc: Global, text: &str, first_line: u64) -> Result<Drawing, Refusal>
+    ensures well_drawn { IfOk result (λ _. IsWellDrawn (rows_of text.now)) }
+    ensures drawing { IfOk result (λ g. g ≡ picture_of first_line (layout_of (rows_of text.now))) }
+    ensures refused { IfErr result (λ e. e.kind ≢ Memory → IsRefusable (rows_of text.now)) }
+{
+    let page = read_page(alloc, text)?;
+    let contacts = contacts(alloc, &page)?;
+    let coils = coils(alloc, &page)?;
+    let boxes = drawn_boxes(alloc, &page)?;
+    Ok(Drawing {
+        first_line,
+        rows: page.row_end().saturating_sub(1),
+        columns: page.last(),
+        left: page.left(),
+        marks: page.into_marks(),
+        contacts,
+        coils,
+        boxes,
+    })
+}
+
+impl Drawing {
+    /// Reads a text whose first line has the number `first_line`, from 1 to 9,223,372,036,854,775,807.
+    ///
+    /// A text is refused by the first fault of the first kind of `DrawFaultKind` that it has.
+    pub fn read(alloc: Global, text: &str, first_line: u64) -> Result<Drawing, DrawFault>
+        requires { (1 ≤ first_line) × (first_line < 2 ^ 63) }
+        ensures well_drawn { IfOk result (λ _. IsWellDrawn (rows_of text.now)) }
+        ensures drawing { IfOk result (λ g. g ≡ picture_of first_line (layout_of (rows_of text.now))) }
+        ensures refused { IfErr result (λ e. e.kind ≢ Memory → IsRefusable (rows_of text.now)) }
+        ensures memory { IfErr result (λ e. e.kind ≡ Memory → (e.line ≡ 0) × (e.column ≡ 0)) }
+    {
+        match read_drawing(alloc, text, first_line) {
+            Ok(drawing) => Ok(drawing),
+            Err(refusal) => Err(refusal.on_lines(first_line)),
+        }
+    }
+
+    /// The number of the drawing's first line.
+    pub fn first_line(&self) -> u64
+        ensures { result ≡ self.now.first_line }
+    {
+        self.first_line
+    }
+
+    /// The number of rows, at most 2,000.
+    pub fn rows(&self) -> usize
+        ensures rows { result ≡ self.now.rows }
+        ensures sound { IsSound self.now }
+    {
+        self.rows
+    }
+
+    /// The number of columns, at most 240.
+    pub fn columns(&self) -> usize
+        ensures { result ≡ self.now.columns }
+    {
+        self.columns
+    }
+
+    /// The column of the left rail.
+    pub fn left(&self) -> usize
+        ensures { result ≡ self.now.left }
+    {
+        self.left
+    }
+
+    /// What stands at a place, rows and columns counted from 1; Blank outside the drawing.
+    #[tactic(auto, unfolding(crate::specs::Picture::mark_at))]
+    pub fn mark(&self, row: usize, column: usize) -> Mark
+        ensures { result ≡ mark_at self.now row column }
+    {
+        if row == 0 {
+            return Mark::Blank;
+        }
+        match self.marks.get(row - 1) {
+            Some(marks) => marks.at(column),
+            None => Mark::Blank,
+        }
+    }
+
+    /// The contacts, by row and then column.
+    pub fn contacts(&self) -> &[Contact]
+        ensures { result.now ≡ self.now.contacts }
+    {
+        &self.contacts
+    }
+
+    /// The coils, by row and then column.
+    pub fn coils(&self) -> &[Coil]
+        ensures { result.now ≡ self.now.coils }
+    {
+        &self.coils
+    }
+
+    /// The boxes, by row and then column.
+    pub fn boxes(&self) -> &[DrawnBox]
+        ensures { result.now ≡ self.now.boxes }
+    {
+        &self.boxes
+    }
+}

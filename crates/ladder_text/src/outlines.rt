@@ -1,0 +1,632 @@
+//! The boxes of a text: sides, pins and operands.
+
+ghost use Rattle.std.specs.Prelude.{◌≡◌, ◌==◌, ◌∷◌, ◌++◌, ◌+◌, ◌-◌, ◌<◌, ◌≤◌, ◌^◌, ℕ, List, IsFalse, IsTrue, IfNone, IfSome, IfOk, length};
+ghost use Rattle.ladder_text.specs.Rows.{char_at, width, height, run, run_back, upto};
+ghost use Rattle.std.specs.List.{list_any, list_all, filter};
+ghost use Rattle.std.specs.Prelude.{map, not, ◌||◌, ◌&&◌, nat_le, is_some, is_none};
+ghost use Rattle.ladder_text.specs.Places.{operand_reaches, pin_reaches, is_right_pin, is_left_pin, pin_on};
+ghost use Rattle.ladder_text.specs.Names.{top_span};
+ghost use Rattle.ladder_text.specs.Faults.{bad_box, Nowhere, IsFoundAt, same_corner, share_place, is_apart, takes_word, some_takes_word, is_stray_operand, has_stray_pin, blind_right_of, blind_left_of};
+ghost use Rattle.ladder_text.specs.declared.drawn_box.Side.{Side};
+ghost use Rattle.ladder_text.specs.declared.drawn_box.Side.TheVariants as side;
+ghost use Rattle.ladder_text.specs.Chars.{is_word_char, is_identifier};
+ghost use Rattle.ladder_text.specs.Boxes.{covers, begins_box, blank_words, dashes_after, top_end, has_sides, block_in, bottom_row, word_start, word_end, left_operand, right_operand, left_pin, right_pin, nearer_pin, blanks_before, blanks_behind, pins_from, row_pins, pins_of_rows, is_edge, outline_with, outline_at, box_at, row_outlines, outlines};
+ghost use Rattle.std.specs.Str.{IsAscii};
+
+use crate::grid::{Grid, without_leading};
+use crate::names::{is_identifier, is_operand, is_word_char};
+use crate::drawn_box::{DrawnPin, Operand, Pins, Side};
+use crate::outline::Outline;
+use crate::place::{Place, or_earlier};
+use crate::span::Span;
+use crate::text::Text;
+use crate::rows::trimmed;
+use std::alloc::{AllocError, Global};
+
+/// The words between blanks.
+fn blank_words(alloc: Global, text: &[u8]) -> Result<Vec<&[u8]>, AllocError>
+    ensures { IfOk result (λ v. map (λ w. w.now) v.items ≡ blank_words text.now) }
+{
+    let mut words = Vec::new(alloc);
+    for word in text.split(|c| *c == b' ') {
+        if !word.is_empty() {
+            words.push(word)?;
+        }
+    }
+    Ok(words)
+}
+
+/// How many dashes end right before a column.
+fn dashes_before(grid: &Grid, row: usize, column: usize) -> usize
+    ensures { result ≡ run_back (λ k. char_at grid.now row k == 45) (column - 1) column }
+{
+    let mut n = 0;
+    while n < column && grid.at(row, column - 1 - n) == b'-' {
+        n += 1;
+    }
+    n
+}
+
+/// The first column of the word that ends at a place.
+fn word_start(grid: &Grid, row: usize, column: usize) -> usize
+    requires { column < 2 ^ 62 }
+    ensures { result ≡ word_start grid.now row column }
+{
+    let mut n = 0;
+    while n < column && is_word_char(grid.at(row, column - n)) {
+        n += 1;
+    }
+    column + 1 - n
+}
+
+/// The end of the word that begins at a place.
+fn word_end(grid: &Grid, row: usize, column: usize) -> usize
+    requires { column < 2 ^ 62 }
+    ensures { result ≡ word_end grid.now row column }
+{
+    let limit = grid.last();
+    let mut n = 0;
+    while n < limit && is_word_char(grid.at(row, column + n)) {
+        n += 1;
+    }
+    column + n
+}
+
+fn left_operand(
+    alloc: Global,
+    grid: &Grid,
+    row: usize,
+    column: usize,
+) -> Result<Option<Operand>, AllocError>
+    requires { column < 2 ^ 62 }
+    ensures { IfOk result (λ o. o ≡ left_operand grid.now row column) }
+{
+    let dashes = dashes_before(grid, row, column);
+    let end = column.saturating_sub(1).saturating_sub(dashes);
+    if !is_word_char(grid.at(row, end)) {
+        return Ok(None);
+    }
+    let first = word_start(grid, row, end);
+    let text = Text::from_ascii(alloc, grid.cut(row, first, end + 1))?;
+    Ok(Some(Operand {
+        text,
+        column: first,
+    }))
+}
+
+fn right_operand(
+    alloc: Global,
+    grid: &Grid,
+    row: usize,
+    column: usize,
+) -> Result<Option<Operand>, AllocError>
+    requires { column < 2 ^ 61 }
+    ensures { IfOk result (λ o. o ≡ right_operand grid.now row column) }
+{
+    let first = column + 1 + grid.dashes_after(row, column);
+    if !is_word_char(grid.at(row, first)) {
+        return Ok(None);
+    }
+    let end = word_end(grid, row, first);
+    let text = Text::from_ascii(alloc, grid.cut(row, first, end))?;
+    Ok(Some(Operand {
+        text,
+        column: first,
+    }))
+}
+
+fn left_pin(
+    alloc: Global,
+    grid: &Grid,
+    row: usize,
+    column: usize,
+    name: &[u8],
+) -> Result<DrawnPin, AllocError>
+    requires column { column < 2 ^ 61 }
+    requires name { IsAscii name.now }
+    ensures { IfOk result (λ p. p ≡ left_pin grid.now row column name.now) }
+{
+    Ok(DrawnPin {
+        row,
+        side: Side::Left,
+        name: Text::from_ascii(alloc, name)?,
+        operand: left_operand(alloc, grid, row, column)?,
+    })
+}
+
+fn right_pin(
+    alloc: Global,
+    grid: &Grid,
+    row: usize,
+    column: usize,
+    name: &[u8],
+) -> Result<DrawnPin, AllocError>
+    requires column { column < 2 ^ 61 }
+    requires name { IsAscii name.now }
+    ensures { IfOk result (λ p. p ≡ right_pin grid.now row column name.now) }
+{
+    Ok(DrawnPin {
+        row,
+        side: Side::Right,
+        name: Text::from_ascii(alloc, name)?,
+        operand: right_operand(alloc, grid, row, column)?,
+    })
+}
+
+fn blanks_before(text: &[u8]) -> usize
+    ensures { result ≡ blanks_before text.now }
+{
+    text.len().saturating_sub(without_leading(text).len())
+}
+
+fn blanks_behind(text: &[u8]) -> usize
+    ensures { result ≡ blanks_behind text.now }
+{
+    text.len().saturating_sub(trimmed(text).len())
+}
+
+/// The pin of the only word of an inner row.
+#[tactic(auto, unfolding(crate::specs::Boxes::nearer_pin))]
+fn nearer_pin(
+    alloc: Global,
+    grid: &Grid,
+    row: usize,
+    left: usize,
+    right: usize,
+    name: &[u8],
+) -> Result<DrawnPin, AllocError>
+    requires left { left < 2 ^ 61 }
+    requires right { right < 2 ^ 61 }
+    requires name { IsAscii name.now }
+    ensures { IfOk result (λ p. p ≡ nearer_pin grid.now row left right name.now) }
+{
+    let text = grid.cut(row, left + 1, right);
+    if blanks_before(text) <= blanks_behind(text) {
+        left_pin(alloc, grid, row, left, name)
+    } else {
+        right_pin(alloc, grid, row, right, name)
+    }
+}
+
+#[tactic(auto, using(crate::proofs::AsciiLemmas::identifier_ascii))]
+fn pins_from(
+    alloc: Global,
+    grid: &Grid,
+    row: usize,
+    left: usize,
+    right: usize,
+    words: &[&[u8]],
+) -> Result<Option<Pins>, AllocError>
+    requires left { left < 2 ^ 61 }
+    requires right { right < 2 ^ 61 }
+    ensures { IfOk result (λ o. o ≡ pins_from grid.now row left right (map (λ w. w.now) words.now)) }
+{
+    let mut pins = Pins::new(alloc);
+    match words {
+        [] => Ok(Some(pins)),
+        [name] => {
+            if !is_identifier(name) {
+                return Ok(None);
+            }
+            pins.push(nearer_pin(alloc, grid, row, left, right, name)?)?;
+            Ok(Some(pins))
+        }
+        [first, second] => {
+            if !(is_identifier(first) && is_identifier(second)) {
+                return Ok(None);
+            }
+            pins.push(left_pin(alloc, grid, row, left, first)?)?;
+            pins.push(right_pin(alloc, grid, row, right, second)?)?;
+            Ok(Some(pins))
+        }
+        _ => Ok(None),
+    }
+}
+
+fn row_pins(
+    alloc: Global,
+    grid: &Grid,
+    left: usize,
+    right: usize,
+    row: usize,
+) -> Result<Option<Pins>, AllocError>
+    requires left { left < 2 ^ 61 }
+    requires right { right < 2 ^ 61 }
+    ensures { IfOk result (λ o. o ≡ row_pins grid.now left right row) }
+{
+    let words = blank_words(alloc, grid.cut(row, left + 1, right))?;
+    pins_from(alloc, grid, row, left, right, &words)
+}
+
+/// The pins of some inner rows.
+fn pins_of_rows(
+    alloc: Global,
+    grid: &Grid,
+    left: usize,
+    right: usize,
+    from: usize,
+    count: usize,
+) -> Result<Option<Pins>, AllocError>
+    requires left { left < 2 ^ 61 }
+    requires right { right < 2 ^ 61 }
+    requires from { from < 2 ^ 61 }
+    requires count { count < 2 ^ 61 }
+    ensures { IfOk result (λ o. o ≡ pins_of_rows grid.now left right from count) }
+{
+    let mut pins = Pins::new(alloc);
+    for i in 0..count {
+        match row_pins(alloc, grid, left, right, from + i)? {
+            None => return Ok(None),
+            Some(more) => pins.append(more)?,
+        }
+    }
+    Ok(Some(pins))
+}
+
+/// The row of the bottom side of a box.
+fn bottom_row(grid: &Grid, row: usize, column: usize) -> usize
+    requires row { row < 2 ^ 61 }
+    requires column { column < 2 ^ 61 }
+    ensures bottom { result ≡ bottom_row grid.now row column }
+    ensures near { result ≤ row + 2002 }
+{
+    let right = column + 1 + grid.dashes_after(row, column);
+    let limit = grid.row_end().saturating_sub(1).saturating_sub(row);
+    let mut n = 0;
+    while n < limit && grid.has_sides(column, right, row + 1 + n) {
+        n += 1;
+    }
+    row + 1 + n
+}
+
+fn is_edge(grid: &Grid, left: usize, right: usize, row: usize) -> bool
+    requires { left < 2 ^ 61 }
+    ensures { result ≡ is_edge grid.now left right row }
+{
+    grid.at(row, left) == b'+'
+        && left + 1 + grid.dashes_after(row, left) == right
+        && grid.at(row, right) == b'+'
+}
+
+/// The box that begins at a place, if it is as it should be.
+#[tactic(auto, unfolding(crate::specs::Boxes::outline_at))]
+fn outline_at(
+    alloc: Global,
+    grid: &Grid,
+    row: usize,
+    column: usize,
+) -> Result<Option<Outline>, AllocError>
+    requires row { row < 2 ^ 60 }
+    requires column { column < 2 ^ 30 }
+    ensures { IfOk result (λ o. o ≡ outline_at grid.now row column) }
+{
+    let right = column + 1 + grid.dashes_after(row, column);
+    let bottom = bottom_row(grid, row, column);
+    let count = bottom.saturating_sub(row + 2);
+    let block = grid.block_in(row, column);
+    let pins = pins_of_rows(alloc, grid, column, right, row + 2, count)?;
+    match (block, pins) {
+        (Some(block), Some(pins)) => {
+            if !is_edge(grid, column, right, bottom) {
+                return Ok(None);
+            }
+            Ok(Some(Outline {
+                top: row,
+                left: column,
+                bottom,
+                right: right as u32,
+                block,
+                pins,
+            }))
+        }
+        _ => Ok(None),
+    }
+}
+
+#[tactic(auto, unfolding(crate::specs::Boxes::box_at))]
+fn box_at(
+    alloc: Global,
+    grid: &Grid,
+    row: usize,
+    column: usize,
+) -> Result<Option<Outline>, AllocError>
+    requires row { row < 2 ^ 60 }
+    requires column { column < 2 ^ 30 }
+    ensures { IfOk result (λ o. o ≡ box_at grid.now row column) }
+{
+    if !grid.begins_box(row, column) {
+        return Ok(None);
+    }
+    outline_at(alloc, grid, row, column)
+}
+
+#[tactic(auto, unfolding(crate::specs::Boxes::row_outlines))]
+fn row_outlines(alloc: Global, grid: &Grid, row: usize) -> Result<Vec<Outline>, AllocError>
+    requires { row < 2 ^ 60 }
+    ensures { IfOk result (λ v. v.items ≡ row_outlines grid.now row) }
+{
+    let mut found = Vec::new(alloc);
+    for column in 0..grid.last() {
+        if let Some(outline) = box_at(alloc, grid, row, column + 1)? {
+            found.push(outline)?;
+        }
+    }
+    Ok(found)
+}
+
+/// The boxes, by row and then column.
+#[tactic(auto, unfolding(crate::specs::Boxes::outlines))]
+pub fn outlines(alloc: Global, grid: &Grid) -> Result<Vec<Outline>, AllocError>
+    ensures { IfOk result (λ v. v.items ≡ outlines grid.now) }
+{
+    let mut all = Vec::new(alloc);
+    for row in 0..grid.row_end().saturating_sub(1) {
+        let mut more = row_outlines(alloc, grid, row + 1)?;
+        all.append(&mut more)?;
+    }
+    Ok(all)
+}
+
+fn is_bad_box(alloc: Global, grid: &Grid, row: usize, column: usize) -> Result<bool, AllocError>
+    requires row { row < 2 ^ 60 }
+    requires column { column < 2 ^ 30 }
+    ensures { IfOk result (λ b. b ≡ bad_box grid.now row column) }
+{
+    if !grid.begins_box(row, column) {
+        return Ok(false);
+    }
+    let outline = outline_at(alloc, grid, row, column)?;
+    Ok(outline.is_none())
+}
+
+fn bad_box_in_row(alloc: Global, grid: &Grid, row: usize) -> Result<Option<usize>, AllocError>
+    requires { row < 2 ^ 60 }
+    ensures none { IfOk result (λ found. IfNone found ((c : ℕ) → c ≤ width grid.now → IsFalse (bad_box grid.now row c))) }
+    ensures inside { IfOk result (λ found. IfSome found (λ c. c ≤ width grid.now)) }
+    ensures some { IfOk result (λ found. IfSome found (λ c. IsTrue (bad_box grid.now row c))) }
+{
+    for column in 0..grid.last() + 1 {
+        if is_bad_box(alloc, grid, row, column)? {
+            return Ok(Some(column));
+        }
+    }
+    Ok(None)
+}
+
+/// The first place at which a box begins that isn't as it should be.
+pub fn first_bad_box(alloc: Global, grid: &Grid) -> Result<Option<Place>, AllocError>
+    ensures none { IfOk result (λ found. IfNone found (Nowhere grid.now (bad_box grid.now))) }
+    ensures some { IfOk result (λ found. IfSome found (λ p. IsFoundAt grid.now (bad_box grid.now) p.row p.column)) }
+{
+    for row in 0..grid.row_end() {
+        if let Some(column) = bad_box_in_row(alloc, grid, row)? {
+            return Ok(Some(Place { row, column }));
+        }
+    }
+    Ok(None)
+}
+
+fn covers(outline: &Outline, row: usize, column: usize) -> bool
+    ensures { result ≡ covers row column outline.now }
+{
+    outline.top <= row
+        && row <= outline.bottom
+        && outline.left <= column
+        && column <= outline.right as usize
+}
+
+pub fn any_covers(boxes: &[Outline], row: usize, column: usize) -> bool
+    ensures { result ≡ list_any (covers row column) boxes.now }
+{
+    boxes.iter().any(|outline| covers(outline, row, column))
+}
+
+fn share_place(a: &Outline, b: &Outline) -> bool
+    ensures { result ≡ share_place a.now b.now }
+{
+    a.top <= b.bottom && b.top <= a.bottom && a.left <= b.right as usize && b.left <= a.right as usize
+}
+
+fn same_corner(a: &Outline, b: &Outline) -> bool
+    ensures { result ≡ same_corner a.now b.now }
+{
+    a.top == b.top && a.left == b.left
+}
+
+fn is_apart(boxes: &[Outline], a: &Outline) -> bool
+    ensures { result ≡ is_apart boxes.now a.now }
+{
+    boxes.iter().all(|b| same_corner(a, b) || !share_place(a, b))
+}
+
+fn are_apart(boxes: &[Outline]) -> bool
+    ensures { result ≡ list_all (is_apart boxes.now) boxes.now }
+{
+    boxes.iter().all(|a| is_apart(boxes, a))
+}
+
+/// Whether the operand of a pin, or a dash on its way there, is at a place.
+fn pin_reaches(outline: &Outline, row: usize, column: usize, pin: &DrawnPin) -> bool
+    ensures { result ≡ pin_reaches outline.now row column pin.now }
+{
+    match &pin.operand {
+        None => false,
+        Some(operand) => {
+            let len = operand.text.as_str().len();
+            pin.row == row
+                && match pin.side {
+                    Side::Left => operand.column <= column && column < outline.left,
+                    Side::Right => {
+                        (outline.right as usize) < column
+                            && (column < operand.column || column - operand.column < len)
+                    }
+                }
+        }
+    }
+}
+
+fn box_reaches(outline: &Outline, row: usize, column: usize) -> bool
+    ensures { result ≡ list_any (pin_reaches outline.now row column) outline.now.pins }
+{
+    outline.pins.as_slice().iter().any(|pin| pin_reaches(outline, row, column, pin))
+}
+
+pub fn any_operand_reaches(boxes: &[Outline], row: usize, column: usize) -> bool
+    ensures { result ≡ list_any (λ b. list_any (pin_reaches b row column) b.pins) boxes.now }
+{
+    boxes.iter().any(|outline| box_reaches(outline, row, column))
+}
+
+fn pin_on(side: Side, row: usize, pin: &DrawnPin) -> bool
+    ensures { result ≡ pin_on side row pin.now }
+{
+    pin.row == row && pin.side == side
+}
+
+fn has_pin(outline: &Outline, side: Side, row: usize) -> bool
+    ensures { result ≡ list_any (pin_on side row) outline.now.pins }
+{
+    outline.pins.as_slice().iter().any(|pin| pin_on(side, row, pin))
+}
+
+pub fn any_right_pin(boxes: &[Outline], row: usize, column: usize) -> bool
+    ensures { result ≡ is_right_pin boxes.now row column }
+{
+    boxes.iter().any(|outline| column == outline.right as usize && has_pin(outline, Side::Right, row))
+}
+
+fn blind_right_of(outline: &Outline, row: usize, column: usize) -> bool
+    requires { column < 2 ^ 62 }
+    ensures { result ≡ blind_right_of row column outline.now }
+{
+    covers(outline, row, column + 1)
+        && column + 1 == outline.left
+        && !has_pin(outline, Side::Left, row)
+}
+
+pub fn any_blind_right(boxes: &[Outline], row: usize, column: usize) -> bool
+    requires { column < 2 ^ 62 }
+    ensures { result ≡ list_any (blind_right_of row column) boxes.now }
+{
+    boxes.iter().any(|outline| blind_right_of(outline, row, column))
+}
+
+fn blind_left_of(outline: &Outline, row: usize, column: usize) -> bool
+    ensures { result ≡ blind_left_of row column outline.now }
+{
+    covers(outline, row, column.saturating_sub(1))
+        && column > 0
+        && column - 1 == outline.right as usize
+        && !has_pin(outline, Side::Right, row)
+}
+
+pub fn any_blind_left(boxes: &[Outline], row: usize, column: usize) -> bool
+    ensures { result ≡ list_any (blind_left_of row column) boxes.now }
+{
+    boxes.iter().any(|outline| blind_left_of(outline, row, column))
+}
+
+/// The top sides of the boxes that begin in a row.
+pub fn tops(alloc: Global, boxes: &[Outline], row: usize) -> Result<Vec<Span>, AllocError>
+    ensures { IfOk result (λ v. v.items ≡ map top_span (filter (λ b. b.top == row) boxes.now)) }
+{
+    let mut spans = Vec::new(alloc);
+    for outline in boxes {
+        if outline.top == row {
+            spans.push(Span {
+                first: outline.left,
+                end: outline.right as usize + 1,
+            })?;
+        }
+    }
+    Ok(spans)
+}
+
+/// Whether the operand of a pin on a side begins at a place.
+fn takes_word(pin: &DrawnPin, side: Side, row: usize, column: usize) -> bool
+    ensures { result ≡ takes_word side row column pin.now }
+{
+    match &pin.operand {
+        None => false,
+        Some(operand) => pin_on(side, row, pin) && operand.column == column,
+    }
+}
+
+fn box_takes_word(outline: &Outline, side: Side, row: usize, column: usize) -> bool
+    ensures { result ≡ list_any (takes_word side row column) outline.now.pins }
+{
+    outline.pins.as_slice().iter().any(|pin| takes_word(pin, side, row, column))
+}
+
+#[tactic(auto, unfolding(crate::specs::Faults::some_takes_word))]
+fn some_takes_word(boxes: &[Outline], side: Side, row: usize, column: usize) -> bool
+    ensures { result ≡ some_takes_word boxes.now side row column }
+{
+    boxes.iter().any(|outline| box_takes_word(outline, side, row, column))
+}
+
+/// The place of the operand of a pin, where it isn't as it should be or belongs to another pin too.
+fn stray_operand(boxes: &[Outline], pin: &DrawnPin) -> Option<Place>
+    ensures { is_some result ≡ is_stray_operand boxes.now pin.now.row pin.now.operand }
+{
+    match &pin.operand {
+        None => None,
+        Some(operand) => {
+            let column = operand.column;
+            let is_stray = !is_operand(operand.text.as_str().as_bytes())
+                || (some_takes_word(boxes, Side::Left, pin.row, column)
+                    && some_takes_word(boxes, Side::Right, pin.row, column));
+            let place = Place {
+                row: pin.row,
+                column,
+            };
+            if is_stray { Some(place) } else { None }
+        }
+    }
+}
+
+/// The first place of a stray operand of a box.
+fn first_stray_pin(boxes: &[Outline], outline: &Outline) -> Option<Place>
+    ensures { is_some result ≡ has_stray_pin boxes.now outline.now }
+{
+    let mut first = None;
+    for pin in outline.pins.as_slice() {
+        if let Some(place) = stray_operand(boxes, pin) {
+            first = Some(or_earlier(place, first));
+        }
+    }
+    first
+}
+
+/// The first place of a stray operand.
+pub fn first_stray_operand(boxes: &[Outline]) -> Option<Place>
+    ensures { is_some result ≡ list_any (has_stray_pin boxes.now) boxes.now }
+{
+    let mut first = None;
+    for outline in boxes {
+        if let Some(place) = first_stray_pin(boxes, outline) {
+            first = Some(or_earlier(place, first));
+        }
+    }
+    first
+}
+
+/// The corner of the first box that shares a place with one before it.
+fn shared_place(boxes: &[Outline]) -> Place {
+    for (i, outline) in boxes.iter().enumerate() {
+        if boxes.iter().take(i).any(|other| share_place(other, outline)) {
+            return Place {
+                row: outline.top,
+                column: outline.left,
+            };
+        }
+    }
+    Place { row: 1, column: 1 }
+}
+
+/// The corner of the first box that shares a place with one before it, if there is one.
+pub fn first_shared_box(boxes: &[Outline]) -> Option<Place>
+    ensures { is_none result ≡ list_all (is_apart boxes.now) boxes.now }
+{
+    if are_apart(boxes) { None } else { Some(shared_place(boxes)) }
+}

@@ -1,0 +1,289 @@
+//! The marks of a text, and the faults of single places.
+
+ghost use Rattle.std.specs.Prelude.{◌≡◌, ◌∷◌, ◌+◌, ◌-◌, ◌<◌, ◌≤◌, ◌^◌, ℕ, IsTrue, IsFalse, IfNone, IfSome, IfOk, length};
+ghost use Rattle.ladder_text.specs.Rows.{char_at, width, height};
+ghost use Rattle.ladder_text.specs.Boxes.{left_column};
+ghost use Rattle.ladder_text.specs.Places.{layout_of, is_line, is_vertical, is_taken, mark, gives};
+ghost use Rattle.ladder_text.specs.Picture.{marks_of};
+ghost use Rattle.ladder_text.specs.Faults.{has_meaning, has_fed_join, is_first_of_symbol, is_blind, line_end, touches, is_fed, upright_len, bad_mark, crossing, no_source, has_fault, Nowhere, IsFoundAt};
+ghost use Rattle.ladder_text.specs.Names.{tops};
+
+use crate::mark::Mark;
+use crate::mark_row::MarkRow;
+use crate::place::Place;
+use crate::place_fault::PlaceFault;
+use crate::span::Span;
+use crate::railed_sheet::RailedSheet;
+use crate::sheet::Sheet;
+use std::alloc::{AllocError, Global};
+use std::marker::Model;
+
+/// A sheet with its marks.
+#[derive(Drop)]
+pub struct Page {
+    sheet: RailedSheet,
+    marks: Vec<MarkRow>,
+}
+
+impl Model for Page {
+    ghost use Rattle.std.specs.Prelude.{◌≡◌};
+    ghost use Rattle.ladder_text.specs.Rows.{Rows};
+    ghost use Rattle.ladder_text.specs.Places.{layout_of};
+    ghost use Rattle.ladder_text.specs.Picture.{marks_of};
+
+    ghost Value = { Rows };
+
+    ghost view = { λ p. p.sheet };
+
+    ghost invariant = { λ p. p.marks.items ≡ marks_of (layout_of p.sheet) };
+}
+
+fn is_line(mark: Mark) -> bool
+    ensures { result ≡ is_line mark }
+{
+    matches!(
+        mark,
+        Mark::Wire | Mark::Join | Mark::ContactPart | Mark::CoilPart
+    )
+}
+
+fn has_meaning(c: u8) -> bool
+    ensures { result ≡ has_meaning c }
+{
+    matches!(c, b' ' | b'-' | b'|' | b'+' | b'_' | b'.' | b'#') || c.is_ascii_alphanumeric()
+}
+
+fn is_vertical(mark: Mark) -> bool
+    ensures { result ≡ is_vertical mark }
+{
+    matches!(mark, Mark::Join | Mark::Upright)
+}
+
+impl Page {
+    pub fn new(alloc: Global, sheet: Sheet) -> Result<Page, AllocError>
+        ensures { IfOk result (λ p. p ≡ sheet) }
+    {
+        let sheet = RailedSheet::new(sheet);
+        let marks = sheet.marks(alloc)?;
+        Ok(Page { sheet, marks })
+    }
+
+    pub fn into_marks(self) -> Vec<MarkRow>
+        ensures { result.items ≡ marks_of (layout_of self) }
+    {
+        let Page { sheet: _, marks } = self;
+        marks
+    }
+
+    pub fn sheet(&self) -> &Sheet
+        ensures { result.now ≡ self.now }
+    {
+        self.sheet.sheet()
+    }
+
+    pub fn tops(&self, alloc: Global, row: usize) -> Result<Vec<Span>, AllocError>
+        ensures { IfOk result (λ v. v.items ≡ tops (layout_of self.now) row) }
+    {
+        self.sheet().tops(alloc, row)
+    }
+
+    pub fn last(&self) -> usize
+        ensures last { result ≡ width self.now }
+        ensures narrow { result ≤ 240 }
+    {
+        self.sheet().last()
+    }
+
+    pub fn left(&self) -> usize
+        ensures { result ≡ left_column self.now }
+    {
+        self.sheet().left()
+    }
+
+    /// One more than the number of rows.
+    pub fn row_end(&self) -> usize
+        ensures rows { result ≡ length self.now }
+        ensures few { result ≤ 2001 }
+    {
+        self.sheet().row_end()
+    }
+
+    /// What stands at a place.
+    pub fn mark(&self, row: usize, column: usize) -> Mark
+        requires { column < 2 ^ 63 }
+        ensures { result ≡ mark (layout_of self.now) row column }
+    {
+        if row == 0 || column == 0 || self.last() < column {
+            return self.sheet.mark(row, column);
+        }
+        match self.marks.get(row - 1) {
+            Some(marks) => marks.at(column),
+            None => self.sheet.mark(row, column),
+        }
+    }
+
+    /// Whether a place is in a box or a symbol.
+    #[tactic(auto, using(crate::proofs::MarkLemmas::taken_by_mark))]
+    pub fn is_taken(&self, row: usize, column: usize) -> bool
+        requires { column < 2 ^ 63 }
+        ensures { result ≡ is_taken (layout_of self.now) row column }
+    {
+        matches!(
+            self.mark(row, column),
+            Mark::BoxPart | Mark::ContactPart | Mark::CoilPart
+        )
+    }
+
+    #[tactic(auto, unfolding(crate::specs::Places::layout_of, crate::specs::Places::gives))]
+    pub fn gives(&self, row: usize, column: usize) -> bool
+        requires { column < 2 ^ 63 }
+        ensures { result ≡ gives (layout_of self.now) row column }
+    {
+        let mark = self.mark(row, column);
+        (mark == Mark::Rail && column == self.sheet().left())
+            || is_line(mark)
+            || self.sheet().is_right_pin(row, column)
+    }
+
+    fn touches(&self, row: usize, column: usize) -> bool
+        requires { column < 2 ^ 63 }
+        ensures { result ≡ touches (layout_of self.now) row column }
+    {
+        let mark = self.mark(row, column);
+        is_line(mark) || mark == Mark::BoxPart
+    }
+
+    fn crossing(&self, row: usize, column: usize) -> bool
+        requires row { row < 2 ^ 62 }
+        requires column { column < 2 ^ 62 }
+        ensures { result ≡ crossing (layout_of self.now) row column }
+    {
+        self.mark(row, column) == Mark::Upright
+            && (self.touches(row, column.saturating_sub(1))
+                || self.touches(row, column + 1)
+                || !is_vertical(self.mark(row.saturating_sub(1), column))
+                || !is_vertical(self.mark(row + 1, column)))
+    }
+
+    fn is_first_of_symbol(&self, row: usize, column: usize) -> bool
+        requires { column < 2 ^ 62 }
+        ensures { result ≡ is_first_of_symbol (layout_of self.now) row column }
+    {
+        self.sheet().contact_at(row, column).is_some() || self.sheet().coil_at(row, column).is_some()
+    }
+
+    /// The last place of the line that begins at a place.
+    fn line_end(&self, row: usize, column: usize) -> usize
+        requires { column < 2 ^ 61 }
+        ensures value { result ≡ line_end (layout_of self.now) row column }
+        ensures near { result ≤ column + 2 }
+    {
+        if self.is_first_of_symbol(row, column) { column + 2 } else { column }
+    }
+
+    /// Whether a line begins at a place, and meets a box where there is no pin.
+    fn is_blind(&self, row: usize, column: usize) -> bool
+        requires { column < 2 ^ 61 }
+        ensures { result ≡ is_blind (layout_of self.now) row column }
+    {
+        let mark = self.mark(row, column);
+        if !(mark == Mark::Wire || mark == Mark::Join || self.is_first_of_symbol(row, column)) {
+            return false;
+        }
+        self.sheet().blind_left(row, column)
+            || self.sheet().blind_right(row, self.line_end(row, column))
+    }
+
+    #[tactic(auto, unfolding(crate::specs::Places::layout_of))]
+    fn bad_mark(&self, row: usize, column: usize) -> bool
+        requires { column < 2 ^ 61 }
+        ensures { result ≡ bad_mark (layout_of self.now) row column }
+    {
+        (!self.is_taken(row, column) && !has_meaning(self.sheet().at(row, column)))
+            || self.is_blind(row, column)
+    }
+
+    /// How far the upright at a place goes down.
+    fn upright_len(&self, row: usize, column: usize) -> usize
+        requires row { row < 2 ^ 62 }
+        requires column { column < 2 ^ 62 }
+        ensures len { result ≡ upright_len (layout_of self.now) row column }
+        ensures few { result ≤ 2001 }
+    {
+        let limit = self.row_end().saturating_sub(1);
+        let mut n = 0;
+        while n < limit && is_vertical(self.mark(row + n, column)) {
+            n += 1;
+        }
+        n
+    }
+
+    fn is_fed(&self, column: usize, row: usize) -> bool
+        requires { column < 2 ^ 62 }
+        ensures { result ≡ is_fed (layout_of self.now) column row }
+    {
+        self.mark(row, column) == Mark::Join && self.gives(row, column.saturating_sub(1))
+    }
+
+    fn has_fed_join(&self, row: usize, column: usize) -> bool
+        requires row { row < 2 ^ 62 }
+        requires column { column < 2 ^ 62 }
+        ensures { result ≡ has_fed_join (layout_of self.now) row column }
+    {
+        let end = row + self.upright_len(row, column);
+        (row..end).any(|k| self.is_fed(column, k))
+    }
+
+    fn no_source(&self, row: usize, column: usize) -> bool
+        requires row { row < 2 ^ 62 }
+        requires column { column < 2 ^ 62 }
+        ensures { result ≡ no_source (layout_of self.now) row column }
+    {
+        let mark = self.mark(row, column);
+        ((mark == Mark::Wire || self.is_first_of_symbol(row, column))
+            && !self.gives(row, column.saturating_sub(1)))
+            || (is_vertical(mark)
+                && !is_vertical(self.mark(row.saturating_sub(1), column))
+                && !self.has_fed_join(row, column))
+    }
+
+    fn has_fault(&self, fault: PlaceFault, row: usize, column: usize) -> bool
+        requires row { row < 2 ^ 62 }
+        requires column { column < 2 ^ 61 }
+        ensures { result ≡ has_fault fault (layout_of self.now) row column }
+    {
+        match fault {
+            PlaceFault::BadMark => self.bad_mark(row, column),
+            PlaceFault::Crossing => self.crossing(row, column),
+            PlaceFault::NoSource => self.no_source(row, column),
+        }
+    }
+
+    fn fault_in_row(&self, fault: PlaceFault, row: usize) -> Option<usize>
+        requires { row < 2 ^ 62 }
+        ensures none { IfNone result
+            ((c : ℕ) → c ≤ width self.now → IsFalse (has_fault fault (layout_of self.now) row c)) }
+        ensures inside { IfSome result (λ c. c ≤ width self.now) }
+        ensures some { IfSome result (λ c. IsTrue (has_fault fault (layout_of self.now) row c)) }
+    {
+        for column in 0..self.last() + 1 {
+            if self.has_fault(fault, row, column) {
+                return Some(column);
+            }
+        }
+        None
+    }
+
+    /// The first place with a fault.
+    pub fn first_fault(&self, fault: PlaceFault) -> Option<Place>
+        ensures none { IfNone result (Nowhere self.now (has_fault fault (layout_of self.now))) }
+        ensures some { IfSome result (λ p. IsFoundAt self.now (has_fault fault (layout_of self.now)) p.row p.column) }
+    {
+        for row in 0..self.row_end() {
+            if let Some(column) = self.fault_in_row(fault, row) {
+                return Some(Place { row, column });
+            }
+        }
+        None
+    }
+}

@@ -1,0 +1,264 @@
+//! The places of a text: what stands where, from the characters alone.
+
+ghost use Rattle.std.specs.Prelude.{◌≡◌, ◌∷◌, ◌+◌, ◌-◌, ◌<◌, ◌≤◌, ◌^◌, IfOk, IfErr, IfNone, IfSome, length, vec_len, slice_index_or, is_some, is_none};
+ghost use Rattle.ladder_text.specs.Rows.{char_at, width, height};
+ghost use Rattle.ladder_text.specs.Chars.{contact_kind, coil_kind, is_word_char};
+ghost use Rattle.ladder_text.specs.Boxes.{begins_box, cut, left_column, outlines};
+ghost use Rattle.ladder_text.specs.Places.{layout_of, contact_at, coil_at, in_box, in_contact, in_coil, is_taken, may_be_rail, has_right_rail, in_operand, is_right_pin};
+ghost use Rattle.ladder_text.specs.Names.{tops};
+ghost use Rattle.ladder_text.specs.Faults.{blind_left, blind_right, bad_box, boxes_apart, has_stray_operand, Nowhere, IsFoundAt};
+ghost use Rattle.std.specs.Str.{IsAscii};
+
+use crate::grid::Grid;
+use crate::outlines::{any_blind_left, any_blind_right, any_covers, any_operand_reaches, any_right_pin, first_bad_box, first_shared_box, first_stray_operand, outlines, tops};
+use crate::coil::CoilKind;
+use crate::contact::ContactKind;
+use crate::outline::Outline;
+use crate::place::Place;
+use crate::span::Span;
+use std::alloc::{AllocError, Global};
+use std::marker::Model;
+
+/// A text with its boxes.
+#[derive(Drop)]
+pub struct Sheet {
+    grid: Grid,
+    boxes: Vec<Outline>,
+}
+
+impl Model for Sheet {
+    ghost use Rattle.std.specs.Prelude.{◌≡◌};
+    ghost use Rattle.ladder_text.specs.Rows.{Rows};
+    ghost use Rattle.ladder_text.specs.Boxes.{outlines};
+
+    ghost Value = { Rows };
+
+    ghost view = { λ s. s.grid };
+
+    ghost invariant = { λ s. s.boxes.items ≡ outlines s.grid };
+}
+
+#[tactic(auto, unfolding(crate::specs::Chars::contact_kind))]
+fn contact_kind(c: u8) -> Option<ContactKind>
+    ensures { result ≡ contact_kind c }
+{
+    match c {
+        b' ' => Some(ContactKind::Plain),
+        b'/' => Some(ContactKind::Negated),
+        b'P' | b'p' => Some(ContactKind::Rise),
+        b'N' | b'n' => Some(ContactKind::Fall),
+        _ => None,
+    }
+}
+
+#[tactic(auto, unfolding(crate::specs::Chars::coil_kind))]
+fn coil_kind(c: u8) -> Option<CoilKind>
+    ensures { result ≡ coil_kind c }
+{
+    match c {
+        b' ' => Some(CoilKind::Plain),
+        b'/' => Some(CoilKind::Negated),
+        b'S' | b's' => Some(CoilKind::Set),
+        b'R' | b'r' => Some(CoilKind::Reset),
+        b'P' | b'p' => Some(CoilKind::Rise),
+        b'N' | b'n' => Some(CoilKind::Fall),
+        _ => None,
+    }
+}
+
+impl Sheet {
+    pub fn new(alloc: Global, grid: Grid) -> Result<Sheet, AllocError>
+        ensures { IfOk result (λ s. s ≡ grid) }
+    {
+        let boxes = outlines(alloc, &grid)?;
+        Ok(Sheet { grid, boxes })
+    }
+
+    /// The first place at which a box begins that isn't as it should be.
+    pub fn first_bad_box(&self, alloc: Global) -> Result<Option<Place>, AllocError>
+        ensures none { IfOk result (λ found. IfNone found (Nowhere self.now (bad_box self.now))) }
+        ensures some { IfOk result (λ found. IfSome found (λ p. IsFoundAt self.now (bad_box self.now) p.row p.column)) }
+    {
+        first_bad_box(alloc, &self.grid)
+    }
+
+    #[tactic(auto, unfolding(crate::specs::Places::layout_of))]
+    pub fn boxes(&self) -> &[Outline]
+        ensures { result.now ≡ outlines self.now }
+    {
+        &self.boxes
+    }
+
+    /// The corner of the first box that shares a place with one before it.
+    #[tactic(auto, unfolding(crate::specs::Places::layout_of))]
+    pub fn first_shared_box(&self) -> Option<Place>
+        ensures { is_none result ≡ boxes_apart (layout_of self.now) }
+    {
+        first_shared_box(&self.boxes)
+    }
+
+    /// The first place of a stray operand.
+    #[tactic(auto, unfolding(crate::specs::Places::layout_of, crate::specs::Faults::has_stray_operand))]
+    pub fn first_stray_operand(&self) -> Option<Place>
+        ensures { is_some result ≡ has_stray_operand (layout_of self.now) }
+    {
+        first_stray_operand(&self.boxes)
+    }
+
+    pub fn at(&self, row: usize, column: usize) -> u8
+        ensures { result ≡ char_at self.now row column }
+    {
+        self.grid.at(row, column)
+    }
+
+    /// The characters of a row from one column up to, and without, another.
+    pub fn cut(&self, row: usize, from: usize, to: usize) -> &[u8]
+        ensures value { result.now ≡ cut self.now row from to }
+        ensures ascii { IsAscii result.now }
+    {
+        self.grid.cut(row, from, to)
+    }
+
+    pub fn left(&self) -> usize
+        ensures { result ≡ left_column self.now }
+    {
+        self.grid.left()
+    }
+
+    pub fn last(&self) -> usize
+        ensures last { result ≡ width self.now }
+        ensures narrow { result ≤ 240 }
+    {
+        self.grid.last()
+    }
+
+    /// One more than the number of rows.
+    pub fn row_end(&self) -> usize
+        ensures rows { result ≡ length self.now }
+        ensures few { result ≤ 2001 }
+    {
+        self.grid.row_end()
+    }
+
+    #[tactic(auto, unfolding(crate::specs::Places::layout_of))]
+    pub fn in_box(&self, row: usize, column: usize) -> bool
+        ensures { result ≡ in_box (layout_of self.now) row column }
+    {
+        any_covers(&self.boxes, row, column)
+    }
+
+    #[tactic(auto, unfolding(crate::specs::Places::layout_of))]
+    pub fn in_operand(&self, row: usize, column: usize) -> bool
+        ensures { result ≡ in_operand (layout_of self.now) row column }
+    {
+        any_operand_reaches(&self.boxes, row, column)
+    }
+
+    #[tactic(auto, unfolding(crate::specs::Places::layout_of))]
+    pub fn is_right_pin(&self, row: usize, column: usize) -> bool
+        ensures { result ≡ is_right_pin (outlines self.now) row column }
+    {
+        any_right_pin(&self.boxes, row, column)
+    }
+
+    #[tactic(auto, unfolding(crate::specs::Places::layout_of))]
+    pub fn blind_right(&self, row: usize, column: usize) -> bool
+        requires { column < 2 ^ 62 }
+        ensures { result ≡ blind_right (layout_of self.now) row column }
+    {
+        any_blind_right(&self.boxes, row, column)
+    }
+
+    #[tactic(auto, unfolding(crate::specs::Places::layout_of))]
+    pub fn blind_left(&self, row: usize, column: usize) -> bool
+        ensures { result ≡ blind_left (layout_of self.now) row column }
+    {
+        any_blind_left(&self.boxes, row, column)
+    }
+
+    #[tactic(auto, unfolding(crate::specs::Places::layout_of, crate::specs::Places::contact_at))]
+    pub fn contact_at(&self, row: usize, column: usize) -> Option<ContactKind>
+        requires { column < 2 ^ 63 }
+        ensures { result ≡ contact_at (layout_of self.now) row column }
+    {
+        let before = self.at(row, column.saturating_sub(1));
+        let open = (before == b'-' || before == b'+')
+            && self.at(row, column) == b'|'
+            && self.at(row, column + 2) == b'|'
+            && !(self.in_box(row, column)
+                || self.in_box(row, column + 1)
+                || self.in_box(row, column + 2));
+        if open {
+            contact_kind(self.at(row, column + 1))
+        } else {
+            None
+        }
+    }
+
+    #[tactic(auto, unfolding(crate::specs::Places::layout_of, crate::specs::Places::coil_at))]
+    pub fn coil_at(&self, row: usize, column: usize) -> Option<CoilKind>
+        requires { column < 2 ^ 63 }
+        ensures { result ≡ coil_at (layout_of self.now) row column }
+    {
+        let round = self.at(row, column) == b'('
+            && self.at(row, column + 2) == b')'
+            && !(self.in_box(row, column)
+                || self.in_box(row, column + 1)
+                || self.in_box(row, column + 2));
+        if round {
+            coil_kind(self.at(row, column + 1))
+        } else {
+            None
+        }
+    }
+
+    pub fn in_contact(&self, row: usize, column: usize) -> bool
+        requires { column < 2 ^ 63 }
+        ensures { result ≡ in_contact (layout_of self.now) row column }
+    {
+        self.contact_at(row, column).is_some()
+            || self.contact_at(row, column.saturating_sub(1)).is_some()
+            || self.contact_at(row, column.saturating_sub(2)).is_some()
+    }
+
+    pub fn in_coil(&self, row: usize, column: usize) -> bool
+        requires { column < 2 ^ 63 }
+        ensures { result ≡ in_coil (layout_of self.now) row column }
+    {
+        self.coil_at(row, column).is_some()
+            || self.coil_at(row, column.saturating_sub(1)).is_some()
+            || self.coil_at(row, column.saturating_sub(2)).is_some()
+    }
+
+    pub fn is_taken(&self, row: usize, column: usize) -> bool
+        requires { column < 2 ^ 63 }
+        ensures { result ≡ is_taken (layout_of self.now) row column }
+    {
+        self.in_box(row, column) || self.in_contact(row, column) || self.in_coil(row, column)
+    }
+
+    /// Whether the place of the last column is blank, or a rail's character outside boxes and symbols.
+    #[tactic(auto, unfolding(crate::specs::Places::layout_of, crate::specs::Places::may_be_rail))]
+    fn may_be_rail(&self, row: usize) -> bool
+        ensures { result ≡ may_be_rail (layout_of self.now) row }
+    {
+        let last = self.last();
+        let mark = self.at(row, last);
+        mark == b' ' || ((mark == b'|' || mark == b'+') && !self.is_taken(row, last))
+    }
+
+    #[tactic(auto, unfolding(crate::specs::Places::layout_of, crate::specs::Places::has_right_rail))]
+    pub fn has_right_rail(&self) -> bool
+        ensures { result ≡ has_right_rail (layout_of self.now) }
+    {
+        self.left() < self.last() && (1..self.row_end()).all(|row| self.may_be_rail(row))
+    }
+
+    /// The top sides of the boxes that begin in a row.
+    #[tactic(auto, unfolding(crate::specs::Places::layout_of, crate::specs::Names::tops))]
+    pub fn tops(&self, alloc: Global, row: usize) -> Result<Vec<Span>, AllocError>
+        ensures { IfOk result (λ v. v.items ≡ tops (layout_of self.now) row) }
+    {
+        tops(alloc, &self.boxes, row)
+    }
+}

@@ -1,0 +1,273 @@
+//! The words of a row, and the symbols that they name.
+
+ghost use Rattle.std.specs.Prelude.{[], MatchOption, IfNone, IfSome, IsFalse, not, option_copied, find, min, is_some, ◌≡◌, ◌+◌, ◌-◌, ◌<◌, ◌≤◌, ◌^◌, IfOk, IsTrue, count_by, length};
+ghost use Rattle.std.specs.List.{list_any};
+ghost use Rattle.ladder_text.specs.Rows.{width, run};
+ghost use Rattle.ladder_text.specs.Places.{layout_of};
+ghost use Rattle.ladder_text.specs.Names.{in_word, word_at, words, symbol_at, symbols, tops, things, overlap, word_text, found_text, name_above};
+ghost use Rattle.ladder_text.specs.Faults.{has_earlier, is_second, stray_name, name_missing, IsNames};
+ghost use Rattle.std.specs.Str.{IsAscii};
+
+use crate::names::{is_name, is_plain_name, is_word_char};
+use crate::page::Page;
+use crate::span::Span;
+use crate::text::Text;
+use std::alloc::{AllocError, Global};
+
+fn overlap(a: &Span, b: &Span) -> bool
+    ensures { result ≡ overlap a.now b.now }
+{
+    a.first < b.end && b.first < a.end
+}
+
+fn has_earlier(word: &Span, words: &[Span], thing: &Span) -> bool
+    ensures { result ≡ has_earlier word.now words.now thing.now }
+{
+    words
+        .iter()
+        .any(|other| overlap(other, thing) && other.first < word.first)
+}
+
+/// Whether some thing that the word overlaps has a word before it.
+fn is_second(word: &Span, words: &[Span], things: &[Span]) -> bool
+    ensures { result ≡ is_second word.now words.now things.now }
+{
+    things.iter().any(|thing| overlap(word, thing) && has_earlier(word, words, thing))
+}
+
+fn overlaps_any(word: &Span, things: &[Span]) -> bool
+    ensures { result ≡ list_any (overlap word.now) things.now }
+{
+    things.iter().any(|thing| overlap(word, thing))
+}
+
+fn count_overlaps(word: &Span, things: &[Span]) -> usize
+    ensures count { result ≡ count_by (overlap word.now) things.now }
+    ensures few { result ≤ length things.now }
+{
+    things.iter().filter(|thing| overlap(word, thing)).count()
+}
+
+#[tactic(auto, unfolding(crate::specs::Places::layout_of, crate::specs::Names::in_word))]
+fn in_word(page: &Page, row: usize, column: usize) -> bool
+    requires { column < 2 ^ 62 }
+    ensures { result ≡ in_word (layout_of page.now) row column }
+{
+    let sheet = page.sheet();
+    is_word_char(sheet.at(row, column))
+        && !page.is_taken(row, column)
+        && !sheet.in_operand(row, column)
+}
+
+/// The end of the word that goes on behind a column.
+fn word_end(page: &Page, row: usize, column: usize) -> usize
+    requires { column < 2 ^ 61 }
+    ensures { result ≡ column + 1 + run (in_word (layout_of page.now) row) (column + 1) (width page.now) }
+{
+    let limit = page.last();
+    let mut n = 0;
+    while n < limit && in_word(page, row, column + 1 + n) {
+        n += 1;
+    }
+    column + 1 + n
+}
+
+#[tactic(auto, unfolding(crate::specs::Places::layout_of, crate::specs::Names::word_at))]
+fn word_at(page: &Page, row: usize, column: usize) -> Option<Span>
+    requires { column < 2 ^ 61 }
+    ensures { result ≡ word_at (layout_of page.now) row column }
+{
+    if in_word(page, row, column) && !in_word(page, row, column.saturating_sub(1)) {
+        Some(Span {
+            first: column,
+            end: word_end(page, row, column),
+        })
+    } else {
+        None
+    }
+}
+
+/// The words of a row.
+pub fn words(alloc: Global, page: &Page, row: usize) -> Result<Vec<Span>, AllocError>
+    ensures { IfOk result (λ v. v.items ≡ words (layout_of page.now) row) }
+{
+    let mut words = Vec::new(alloc);
+    for column in 0..page.last() {
+        if let Some(word) = word_at(page, row, column + 1) {
+            words.push(word)?;
+        }
+    }
+    Ok(words)
+}
+
+#[tactic(auto, unfolding(crate::specs::Places::layout_of, crate::specs::Names::symbol_at))]
+fn symbol_at(page: &Page, row: usize, column: usize) -> Option<Span>
+    requires { column < 2 ^ 61 }
+    ensures { result ≡ symbol_at (layout_of page.now) row column }
+{
+    let sheet = page.sheet();
+    if sheet.contact_at(row, column).is_some() || sheet.coil_at(row, column).is_some() {
+        Some(Span {
+            first: column,
+            end: column + 3,
+        })
+    } else {
+        None
+    }
+}
+
+/// The three columns of each symbol of a row.
+pub fn symbols(alloc: Global, page: &Page, row: usize) -> Result<Vec<Span>, AllocError>
+    ensures { IfOk result (λ v. v.items ≡ symbols (layout_of page.now) row) }
+{
+    let mut symbols = Vec::new(alloc);
+    for column in 0..page.last() {
+        if let Some(symbol) = symbol_at(page, row, column + 1) {
+            symbols.push(symbol)?;
+        }
+    }
+    Ok(symbols)
+}
+
+/// What words name in a row: its symbols and the boxes that begin there.
+#[tactic(auto, unfolding(crate::specs::Names::things))]
+fn things(alloc: Global, page: &Page, row: usize) -> Result<Vec<Span>, AllocError>
+    ensures { IfOk result (λ v. v.items ≡ things (layout_of page.now) row) }
+{
+    let mut things = symbols(alloc, page, row)?;
+    let tops = page.tops(alloc, row)?;
+    things.extend_from_slice(&tops)?;
+    Ok(things)
+}
+
+/// The text of a word.
+#[tactic(auto, unfolding(crate::specs::Places::layout_of))]
+fn word_text<'a>(page: &'a Page, row: usize, word: &Span) -> &'a [u8]
+    ensures value { result.now ≡ word_text (layout_of page.now) row word.now }
+    ensures ascii { IsAscii result.now }
+{
+    page.sheet().cut(row, word.first, word.end)
+}
+
+/// The words of a row, and what they may name in the row below it.
+#[derive(Drop)]
+struct Names {
+    words: Vec<Span>,
+    symbols: Vec<Span>,
+    tops: Vec<Span>,
+    things: Vec<Span>,
+}
+
+fn read_names(alloc: Global, page: &Page, row: usize) -> Result<Names, AllocError>
+    requires { row < 2 ^ 62 }
+    ensures { IfOk result (λ n. IsNames (layout_of page.now) row n.words.items n.symbols.items n.tops.items n.things.items) }
+{
+    Ok(Names {
+        words: words(alloc, page, row)?,
+        symbols: symbols(alloc, page, row + 1)?,
+        tops: page.tops(alloc, row + 1)?,
+        things: things(alloc, page, row + 1)?,
+    })
+}
+
+/// Whether a word of a row is stray.
+#[tactic(auto, unfolding(crate::specs::Faults::stray_name))]
+fn is_stray(page: &Page, row: usize, word: &Span, names: &Names) -> bool
+    requires { IsNames (layout_of page.now) row names.now.words.items names.now.symbols.items names.now.tops.items names.now.things.items }
+    ensures { result ≡ stray_name (layout_of page.now) row word.now }
+{
+    let text = word_text(page, row, word);
+    count_overlaps(word, &names.things) != 1
+        || is_second(word, &names.words, &names.things)
+        || (overlaps_any(word, &names.symbols) && !is_name(text))
+        || (overlaps_any(word, &names.tops) && !is_plain_name(text))
+}
+
+/// The first column of a word of a row that is stray.
+pub fn stray_in_row(alloc: Global, page: &Page, row: usize) -> Result<Option<usize>, AllocError>
+    requires { row < 2 ^ 62 }
+    ensures none { IfOk result (λ found. IfNone found
+        (IsFalse (list_any (stray_name (layout_of page.now) row) (words (layout_of page.now) row)))) }
+    ensures some { IfOk result (λ found. IfSome found
+        (λ _. IsTrue (list_any (stray_name (layout_of page.now) row) (words (layout_of page.now) row)))) }
+{
+    let names = read_names(alloc, page, row)?;
+    for word in &names.words {
+        if is_stray(page, row, word, &names) {
+            return Ok(Some(word.first));
+        }
+    }
+    Ok(None)
+}
+
+#[tactic(auto, unfolding(crate::specs::Faults::name_missing))]
+fn is_unnamed(page: &Page, row: usize, thing: &Span, above: &[Span]) -> bool
+    requires { above.now ≡ words (layout_of page.now) (row - 1) }
+    ensures { result ≡ name_missing (layout_of page.now) row thing.now }
+{
+    let _ = page.last();
+    let _ = row;
+    !overlaps_any(thing, above)
+}
+
+/// The first column of a symbol or box of a row that has no name.
+pub fn unnamed_in_row(alloc: Global, page: &Page, row: usize) -> Result<Option<usize>, AllocError>
+    ensures none { IfOk result (λ found. IfNone found
+        (IsFalse (list_any (name_missing (layout_of page.now) row) (things (layout_of page.now) row)))) }
+    ensures some { IfOk result (λ found. IfSome found
+        (λ _. IsTrue (list_any (name_missing (layout_of page.now) row) (things (layout_of page.now) row)))) }
+{
+    let above = words(alloc, page, row.saturating_sub(1))?;
+    let here = things(alloc, page, row)?;
+    let mut first = None;
+    for thing in &here {
+        if is_unnamed(page, row, thing, &above) {
+            first = Some(least(first, thing.first));
+        }
+    }
+    Ok(first)
+}
+
+fn least(found: Option<usize>, column: usize) -> usize
+    ensures { MatchOption found (result ≡ column) (λ other. result ≡ min column other) }
+{
+    found.map_or(column, |other| column.min(other))
+}
+
+fn find_overlap<'a>(span: &Span, above: &'a [Span]) -> Option<&'a Span>
+    ensures { option_copied result ≡ find (overlap span.now) above.now }
+{
+    above.iter().find(|word| overlap(span, word))
+}
+
+fn first_overlap(span: &Span, above: &[Span]) -> Option<Span>
+    ensures { result ≡ find (overlap span.now) above.now }
+{
+    find_overlap(span, above).copied()
+}
+
+fn found_text(page: &Page, row: usize, found: Option<Span>) -> &[u8]
+    ensures value { result.now ≡ found_text (layout_of page.now) row found }
+    ensures ascii { IsAscii result.now }
+{
+    match found {
+        Some(word) => word_text(page, row, &word),
+        None => &[],
+    }
+}
+
+/// The name of what stands at a span of a row.
+#[tactic(auto, unfolding(crate::specs::Names::name_above))]
+pub fn name_above(
+    alloc: Global,
+    page: &Page,
+    row: usize,
+    span: &Span,
+    above: &[Span],
+) -> Result<Text, AllocError>
+    requires { above.now ≡ words (layout_of page.now) (row - 1) }
+    ensures { IfOk result (λ t. t ≡ name_above (layout_of page.now) row span.now) }
+{
+    let found = first_overlap(span, above);
+    Text::from_ascii(alloc, found_text(page, row.saturating_sub(1), found))
+}
