@@ -1,0 +1,4 @@
+pub mod Spreading
+pub mod Spots
+pub mod NumberLemmas
+pub mod Neighbours

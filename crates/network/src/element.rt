@@ -1,0 +1,38 @@
+use ladder_text::{Coil, Contact, DrawnBox, Place};
+
+/// A graphic element outside the rails.
+#[derive(Drop)]
+pub enum Element {
+    Wire(Place),
+    Join(Place),
+    Upright(Place),
+    Contact(Contact),
+    Coil(Coil),
+    Box(DrawnBox),
+}
+
+impl Element {
+    ghost use Rattle.std.specs.Prelude.{◌≡◌};
+    ghost use Rattle.network.specs.Apart.{first_place};
+
+    /// The place itself, the first place of a symbol, or the top left corner of a box.
+    pub fn first_place(&self) -> Place
+        ensures { result ≡ first_place self.now }
+    {
+        match self {
+            Element::Wire(at) | Element::Join(at) | Element::Upright(at) => *at,
+            Element::Contact(contact) => Place {
+                row: contact.row,
+                column: contact.column,
+            },
+            Element::Coil(coil) => Place {
+                row: coil.row,
+                column: coil.column,
+            },
+            Element::Box(drawn) => Place {
+                row: drawn.top,
+                column: drawn.left,
+            },
+        }
+    }
+}

@@ -1,0 +1,6 @@
+use Rattle.std.proofs.Common.{take}
+use Rattle.power_flow.specs.Findings.{findings, IsFirstOf}
+use Rattle.power_flow.proofs.bind.first_finding.Given as goal
+
+abbrev pub invariant-loop-network : goal.invariant-loop-network
+invariant-loop-network l = IsFirstOf (findings l.declarations (take l.network-index l.networks)) l.first

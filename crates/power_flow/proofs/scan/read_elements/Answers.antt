@@ -1,0 +1,26 @@
+use Rattle.std.proofs.Common.{◌≡◌, ℕ, slice_index_or, None, arith, get_or, ◌∙◌, ap, sym, false}
+use Rattle.std.proofs.lemmas.Option.{slice_get_within}
+use Rattle.power_flow.specs.Reach.{bit_at}
+use Rattle.power_flow.specs.Steps.{is_operand_on, conducts_at, memory_read}
+use Rattle.power_flow.proofs.Stepping.{each_more, rest_more}
+use Rattle.power_flow.proofs.scan.read_elements.Goals as goal
+
+pub loop-k-preserved : goal.loop-k-preserved
+loop-k-preserved c =
+    let es = c.args.elements.now in
+    let k = c.loop-k.k in
+    let old = c.args.memories.now in
+    let here = c.index-elements-k.result in
+    record {
+      gates = each_more es c.loop-k.gates k c.conducts.result (λ j e. conducts_at (is_operand_on c.args.slots.now (slice_index_or c.args.operands.now j None)) (bit_at old j) e) here (omega arith) c.index-elements-k.is c.loop-k.invariant.gates
+          (c.conducts.ensures ∙ ap (λ on. conducts_at on (bit_at c.loop-k.memories k) here) c.is_operand_on-on.ensures ∙ ap (λ m. conducts_at (is_operand_on c.args.slots.now (slice_index_or c.args.operands.now k None)) m here) (c.loop-k.invariant.rest k (omega arith)));
+      memories = each_more es c.loop-k.memories k c.read_memory.result (λ j e. memory_read (is_operand_on c.args.slots.now (slice_index_or c.args.operands.now j None)) (bit_at old j) e) c.index-elements-k-in-loop-k.result (omega arith) c.index-elements-k-in-loop-k.is c.loop-k.invariant.memories
+          (c.read_memory.ensures ∙ ap (λ on. memory_read on (bit_at c.loop-k.memories k) c.index-elements-k-in-loop-k.result) c.is_operand_on-on.ensures ∙ ap (λ m. memory_read (is_operand_on c.args.slots.now (slice_index_or c.args.operands.now k None)) m c.index-elements-k-in-loop-k.result) (c.loop-k.invariant.rest k (omega arith)));
+      rest = rest_more c.loop-k.memories old k _ c.loop-k.invariant.rest;
+    }
+
+pub returns-clause-gates : goal.returns-clause-gates
+returns-clause-gates c = λ k e at. let lt = slice_get_within _ k e at in c.loop-k.invariant.gates k e (omega arith) at
+
+pub returns-clause-memories : goal.returns-clause-memories
+returns-clause-memories c = λ k e at. let lt = slice_get_within _ k e at in c.loop-k.invariant.memories k e (omega arith) at

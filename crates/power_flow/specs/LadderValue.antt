@@ -1,0 +1,38 @@
+use Rattle.std.specs.Prelude.{◌≡◌, ℕ, List, Option, Some, None, slice_get, length, map, sum_by}
+use Rattle.std.specs.Option.{option_and_then}
+use Rattle.network.specs.Links.{Diagram}
+use Rattle.network.specs.GraphValue.{GraphValue, diagram}
+use Rattle.power_flow.specs.declared.declarations.Declaration.{Declaration}
+use Rattle.power_flow.specs.declared.declarations.Declared.{Declared}
+use Rattle.power_flow.specs.declared.declarations.Declared.TheVariants.{Input, Output, Local, Instance}
+use Rattle.power_flow.specs.StateValue.{StateValue, AreSlotsOf}
+use Rattle.power_flow.specs.Names.{place_of}
+
+-- a ladder: its declarations, its networks in order, and how many waiting places a scan needs
+pub record LadderValue : Type 0 where
+  pub declarations : List Declaration
+  pub networks : List Diagram
+  pub waiting_gates : ℕ
+  pub waiting_bits : ℕ
+
+-- the networks of a graph, each with the places of the left rail
+abbrev pub diagrams : GraphValue → List Diagram
+diagrams graph = map (diagram graph.rails) graph.networks
+
+-- a state has the ladder's slots with their kinds, its memories and its waiting places
+pub record Fits (l : LadderValue) (s : StateValue) : Type 0 where
+  pub slots : AreSlotsOf l.declarations s.slots
+  pub memories : length s.memories ≡ sum_by (λ d. length d.elements) l.networks
+  pub waiting_gates : s.waiting_gates ≡ l.waiting_gates
+  pub waiting_bits : s.waiting_bits ≡ l.waiting_bits
+
+-- the place, if a variable is declared there
+abbrev pub place_if_variable : ℕ → Declared → Option ℕ
+place_if_variable k (Input kind) = Some k
+place_if_variable k (Output kind) = Some k
+place_if_variable k (Local kind) = Some k
+place_if_variable k (Instance b) = None
+
+-- the place of a variable by its name
+unfoldable pub variable_place : List Declaration → List ℕ → Option ℕ
+variable_place ds name = option_and_then (λ k. option_and_then (λ (e : Declaration). place_if_variable k e.declared) (slice_get ds k)) (place_of ds name)

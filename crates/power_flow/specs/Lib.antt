@@ -1,0 +1,16 @@
+pub mod Power
+pub mod Meaning
+pub mod Reach
+pub mod Table
+pub mod StateValue
+pub mod LadderValue
+pub mod Names
+pub mod Steps
+pub mod Circuit
+pub mod Scan
+pub mod Binding
+pub mod First
+pub mod Folded
+pub mod Findings
+pub mod PinKinds
+pub mod Guess

@@ -1,0 +1,16 @@
+use ladder_text::Place;
+use network::{Element, Link};
+
+/// A network made ready for scans: its elements, the places to which state can come, and the links between them.
+#[derive(Drop)]
+pub struct Circuit {
+    pub elements: Vec<Element>,
+    /// The place of each symbol's variable.
+    pub operands: Vec<Option<usize>>,
+    /// Where each element begins in the list of places.
+    pub firsts: Vec<usize>,
+    pub places: Vec<Place>,
+    /// Which places follow the left rail.
+    pub starts: Vec<bool>,
+    pub links: Vec<Link>,
+}

@@ -1,0 +1,246 @@
+ghost use Rattle.std.specs.Prelude.{◌≡◌, ◌≤◌, IfOk, map, length};
+ghost use Rattle.std.specs.Str.{str_to_ascii_lowercase};
+
+use indexmap::IndexMap;
+use ladder_text::Text;
+use std::alloc::{AllocError, Global};
+use std::marker::Model;
+use std_blocks::BlockType;
+
+/// The kinds of a variable.
+#[derive(Clone, Copy, Debug, PartialEq, Eq)]
+pub enum Kind {
+    Bool,
+    /// From -32,768 to 32,767.
+    Int,
+    /// In milliseconds.
+    Time,
+}
+
+/// What a name is declared as.
+#[derive(Clone, Copy, Debug, PartialEq, Eq)]
+pub enum Declared {
+    /// A variable that the ladder reads and never writes.
+    Input(Kind),
+    /// A variable that others may read.
+    Output(Kind),
+    /// A variable of the ladder alone.
+    Local(Kind),
+    /// An instance of a standard function block.
+    Instance(BlockType),
+}
+
+/// A name as it was declared, and what it is.
+#[derive(Debug, Drop)]
+pub struct Declaration {
+    pub name: Text,
+    pub declared: Declared,
+}
+
+/// Why a name is not declared.
+#[derive(Clone, Copy, Debug, PartialEq, Eq)]
+pub enum DeclareFault {
+    /// The name is declared already, in either case.
+    Twice,
+    /// There was no memory.
+    Memory,
+}
+
+/// The declared names in order, each once without regard to case.
+#[derive(Drop)]
+pub struct Declarations {
+    entries: IndexMap<Vec<u8>, Declaration>,
+}
+
+impl Model for Declarations {
+    ghost use Rattle.std.specs.Prelude.{List};
+    ghost use Rattle.indexmap.specs.IndexMap.{values};
+    ghost use Rattle.power_flow.specs.declared.declarations.Declaration.{Declaration};
+    ghost use Rattle.power_flow.specs.Folded.{AreFolded};
+
+    ghost Value = { List Declaration };
+
+    ghost view = { λ d. values d.entries };
+
+    ghost invariant = { λ d. AreFolded d.entries.entries };
+}
+
+/// Longer names are sought one by one. No word of a drawing is longer.
+const LONGEST_WORD: usize = 240;
+
+/// The name in small letters, by which it is found.
+fn key_of(alloc: Global, name: &str) -> Result<Vec<u8>, AllocError>
+    ensures { IfOk result (λ key. key.items ≡ str_to_ascii_lowercase name.now) }
+{
+    let mut key = Vec::from_slice(alloc, name.as_bytes())?;
+    key.as_mut_slice().make_ascii_lowercase();
+    Ok(key)
+}
+
+impl Declarations {
+    ghost use Rattle.std.specs.Prelude.{◌≡◌, ◌++◌, [], ◌∷◌, OnOk, OnErr, MatchOption, slice_get, slice_index_or, length, ◌<◌, ◌↔◌, IsTrue, None};
+    ghost use Rattle.std.specs.Str.{str_eq_ignore_ascii_case};
+    ghost use Rattle.power_flow.specs.declared.declarations.Declaration.{Declaration};
+    ghost use Rattle.power_flow.specs.Names.{place_of, IsDeclared};
+
+    /// No declarations.
+    pub fn new(alloc: Global) -> Self
+        ensures { result ≡ [] }
+    {
+        Declarations {
+            entries: IndexMap::new(alloc),
+        }
+    }
+
+    /// Declares a name at the end; the name is copied. After an error the declarations are as before.
+    pub fn add(&mut self, name: &str, declared: Declared) -> Result<(), DeclareFault>
+        ensures ok { OnOk result (self.new ≡ self.old ++ record { name = name.now; declared = declared } ∷ []) }
+        ensures twice { IsDeclared self.old name.now → result ≡ Err DeclareFault.Twice }
+        ensures only { result ≡ Err DeclareFault.Twice → IsDeclared self.old name.now }
+        ensures err { OnErr result (self.new ≡ self.old) }
+    {
+        if self.position(name).is_some() {
+            return Err(DeclareFault::Twice);
+        }
+        self.push(name, declared)
+            .map_err(|_fault| DeclareFault::Memory)
+    }
+
+    /// How many names are declared.
+    pub fn len(&self) -> usize
+        ensures { result ≡ length self.now }
+    {
+        self.entries.len()
+    }
+
+    /// Whether no name is declared.
+    pub fn is_empty(&self) -> bool
+        ensures { IsTrue result ↔ (self.now ≡ []) }
+    {
+        self.entries.is_empty()
+    }
+
+    /// The position of a name, in either case.
+    pub fn position(&self, name: &str) -> Option<usize>
+        ensures { result ≡ place_of self.now name.now }
+    {
+        if name.len() > LONGEST_WORD {
+            self.search(name)
+        } else {
+            self.look_up(name)
+        }
+    }
+
+    /// The name as it was declared and what it is, by its position from 0.
+    pub fn entry(&self, i: usize) -> Option<(&str, Declared)>
+        ensures { MatchOption result (slice_get self.now i ≡ None) (λ e. slice_get self.now i ≡ Some record { name = e.0.now; declared = e.1 }) }
+    {
+        match self.entries.get_index(i) {
+            Some((_, entry)) => Some((entry.name.as_str(), entry.declared)),
+            None => None,
+        }
+    }
+
+    /// Declares a new name at the end.
+    fn push(&mut self, name: &str, declared: Declared) -> Result<(), AllocError>
+        requires { place_of self.old name.now ≡ None }
+        ensures ok { OnOk result (self.new ≡ self.old ++ record { name = name.now; declared = declared } ∷ []) }
+        ensures err { OnErr result (self.new ≡ self.old) }
+    {
+        let alloc = *self.entries.allocator();
+        let key = key_of(alloc, name)?;
+        let name = Text::new(alloc, name)?;
+        self.entries.insert(key, Declaration { name, declared })?;
+        Ok(())
+    }
+
+    /// The position of a name that is no longer than a word of a drawing.
+    fn look_up(&self, name: &str) -> Option<usize>
+        requires { length name.now ≤ LONGEST_WORD }
+        ensures { result ≡ place_of self.now name.now }
+    {
+        let mut letters = [0; LONGEST_WORD];
+        let letters = &mut letters[..name.len()];
+        letters.copy_from_slice(name.as_bytes());
+        letters.make_ascii_lowercase();
+        self.entries.get_index_of(&*letters)
+    }
+
+    /// The position of a name, sought one by one.
+    fn search(&self, name: &str) -> Option<usize>
+        ensures { result ≡ place_of self.now name.now }
+    {
+        for i in 0..self.len() {
+            if self.is_named(i, name) {
+                return Some(i);
+            }
+        }
+        None
+    }
+
+    /// Whether the declaration at a position has the name.
+    fn is_named(&self, i: usize, name: &str) -> bool
+        requires { i < length self.now }
+        ensures { (d : Declaration) → result ≡ str_eq_ignore_ascii_case (slice_index_or self.now i d).name name.now }
+    {
+        match self.entry(i) {
+            Some((entry, _)) => entry.eq_ignore_ascii_case(name),
+            None => false,
+        }
+    }
+}
+
+#[cfg(test)]
+mod tests {
+    use super::*;
+    use std::test::Fail;
+
+    #[test]
+    fn names_differ_by_more_than_case(rt: HostRuntime) -> Result<(), Fail> {
+        let mut declarations = Declarations::new(rt.alloc());
+        assert!(rt; declarations.is_empty());
+        assert_eq!(rt; declarations.add("A", Declared::Input(Kind::Bool)), Ok(()));
+        assert_eq!(rt;
+            declarations.add("a", Declared::Local(Kind::Int)),
+            Err(DeclareFault::Twice)
+        );
+        assert_eq!(rt;
+            declarations.add("a_1", Declared::Instance(BlockType::TON)),
+            Ok(())
+        );
+        assert_eq!(rt; declarations.len(), 2);
+        assert_eq!(rt;
+            declarations.entry(0),
+            Some(("A", Declared::Input(Kind::Bool)))
+        );
+        assert_eq!(rt;
+            declarations.entry(1),
+            Some(("a_1", Declared::Instance(BlockType::TON)))
+        );
+        assert_eq!(rt; declarations.entry(2), None);
+        assert_eq!(rt; declarations.position("A_1"), Some(1));
+        assert_eq!(rt; declarations.position("b"), None);
+        Ok(())
+    }
+
+    #[test]
+    fn names_longer_than_a_word_of_a_drawing(rt: HostRuntime) -> Result<(), Fail> {
+        let mut long = String::new(rt.alloc());
+        for _ in 0..LONGEST_WORD + 1 {
+            long.push('x')?;
+        }
+        let mut declarations = Declarations::new(rt.alloc());
+        assert_eq!(rt; declarations.add("x", Declared::Local(Kind::Bool)), Ok(()));
+        assert_eq!(rt;
+            declarations.add(long.as_str(), Declared::Local(Kind::Time)),
+            Ok(())
+        );
+        long.make_ascii_uppercase();
+        assert_eq!(rt;
+            declarations.add(long.as_str(), Declared::Local(Kind::Time)),
+            Err(DeclareFault::Twice)
+        );
+        assert_eq!(rt; declarations.position(long.as_str()), Some(1));
+        Ok(())
+    }
+}

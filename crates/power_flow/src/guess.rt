@@ -1,0 +1,316 @@
+ghost use Rattle.std.specs.Prelude.{◌≡◌, ◌++◌, ◌∷◌, [], map, take, filter, OnOk, IfOk, if◌then◌else◌};
+ghost use Rattle.std.specs.List.{list_any, flat_map};
+ghost use Rattle.std.specs.List.Sorted.{IsPermutation, IsSortedBy, IsStableBy};
+ghost use Rattle.std.specs.Str.{str_eq_ignore_ascii_case};
+ghost use Rattle.power_flow.specs.Guess.{is_plain, name_use, word_uses, pin_uses, element_uses, uses_of, is_before, declaration_of, first_uses, AreGuessed};
+
+use crate::declarations::{Declarations, DeclareFault, Declared, Kind};
+use crate::kinds::{block_type, kind_of_pin};
+use crate::name_use::NameUse;
+use ladder_text::{DrawnPin, Text};
+use network::{Element, Graph, Network};
+use std::alloc::{AllocError, Global};
+use std_blocks::BlockType;
+
+/// Whether a word is a name by itself: no number, no duration, and without a dot.
+fn is_plain_name(word: &str) -> bool
+    ensures { result ≡ is_plain word.now }
+{
+    let letters = word.as_bytes();
+    match letters {
+        [] => false,
+        [first, ..] => !first.is_ascii_digit()
+            && !letters.contains(&b'.')
+            && !letters.contains(&b'#'),
+    }
+}
+
+fn push_use(
+    uses: &mut Vec<NameUse>,
+    row: usize,
+    column: usize,
+    name: &Text,
+    declared: Declared,
+) -> Result<(), AllocError>
+    ensures { OnOk result (uses.new.items ≡ uses.old.items ++ name_use row column name.now declared ∷ []) }
+{
+    let name = name.try_copy(*uses.allocator())?;
+    uses.push(NameUse {
+        row,
+        column,
+        name,
+        declared,
+    })?;
+    Ok(())
+}
+
+fn push_word(
+    uses: &mut Vec<NameUse>,
+    row: usize,
+    column: usize,
+    word: &Text,
+    declared: Declared,
+) -> Result<(), AllocError>
+    ensures { OnOk result (uses.new.items ≡ uses.old.items ++ word_uses row column word.now declared) }
+{
+    if is_plain_name(word.as_str()) {
+        push_use(uses, row, column, word, declared)?;
+    }
+    Ok(())
+}
+
+fn push_pin(uses: &mut Vec<NameUse>, block: BlockType, pin: &DrawnPin) -> Result<(), AllocError>
+    ensures { OnOk result (uses.new.items ≡ uses.old.items ++ pin_uses block pin.now) }
+{
+    if let Some(operand) = &pin.operand {
+        let declared = Declared::Local(kind_of_pin(block, pin));
+        push_word(uses, pin.row, operand.column, &operand.text, declared)?;
+    }
+    Ok(())
+}
+
+fn push_pins(uses: &mut Vec<NameUse>, block: BlockType, pins: &[DrawnPin]) -> Result<(), AllocError>
+    ensures { OnOk result (uses.new.items ≡ uses.old.items ++ flat_map (pin_uses block) pins.now) }
+{
+    for pin in pins {
+        push_pin(uses, block, pin)?;
+    }
+    Ok(())
+}
+
+fn push_element(uses: &mut Vec<NameUse>, element: &Element) -> Result<(), AllocError>
+    ensures { OnOk result (uses.new.items ≡ uses.old.items ++ element_uses element.now) }
+{
+    match element {
+        Element::Wire(_) | Element::Join(_) | Element::Upright(_) => {}
+        Element::Contact(contact) => push_word(
+            uses,
+            contact.row,
+            contact.column,
+            &contact.name,
+            Declared::Local(Kind::Bool),
+        )?,
+        Element::Coil(coil) => push_word(
+            uses,
+            coil.row,
+            coil.column,
+            &coil.name,
+            Declared::Local(Kind::Bool),
+        )?,
+        Element::Box(drawn) => {
+            let block = block_type(drawn.block);
+            push_use(
+                uses,
+                drawn.top,
+                drawn.left,
+                &drawn.instance,
+                Declared::Instance(block),
+            )?;
+            push_pins(uses, block, drawn.pins.as_slice())?;
+        }
+    }
+    Ok(())
+}
+
+fn push_elements(uses: &mut Vec<NameUse>, elements: &[Element]) -> Result<(), AllocError>
+    ensures { OnOk result (uses.new.items ≡ uses.old.items ++ flat_map element_uses elements.now) }
+{
+    for element in elements {
+        push_element(uses, element)?;
+    }
+    Ok(())
+}
+
+/// All uses of names, network after network.
+fn all_uses(alloc: Global, networks: &[Network]) -> Result<Vec<NameUse>, AllocError>
+    ensures { IfOk result (λ uses. uses.items ≡ uses_of networks.now) }
+{
+    let mut uses = Vec::new(alloc);
+    for network in networks {
+        push_elements(&mut uses, network.elements())?;
+    }
+    Ok(uses)
+}
+
+/// Puts the uses in order by row and then column.
+fn sort_uses(uses: &mut Vec<NameUse>) -> Result<(), AllocError>
+    ensures permutation { IsPermutation uses.old.items uses.new.items }
+    ensures sorted { OnOk result (IsSortedBy is_before uses.new.items) }
+    ensures stable { OnOk result (IsStableBy is_before uses.old.items uses.new.items) }
+{
+    uses.sort_by_key(|name_use: &NameUse| (name_use.row, name_use.column))?;
+    Ok(())
+}
+
+/// Declares the name of a use, unless it is declared already.
+fn declare(declarations: &mut Declarations, first: &NameUse) -> Result<(), AllocError>
+    ensures { OnOk result (declarations.new ≡ (if list_any (λ d. str_eq_ignore_ascii_case d.name first.now.name) declarations.old
+        then declarations.old else declarations.old ++ declaration_of first.now ∷ [])) }
+{
+    match declarations.add(first.name.as_str(), first.declared) {
+        Ok(()) => Ok(()),
+        Err(DeclareFault::Twice) => Ok(()),
+        Err(DeclareFault::Memory) => Err(AllocError),
+    }
+}
+
+/// The declarations of the first use of each name.
+fn declare_all(alloc: Global, uses: &[NameUse]) -> Result<Declarations, AllocError>
+    ensures { IfOk result (λ ds. ds ≡ first_uses uses.now) }
+{
+    let mut declarations = Declarations::new(alloc);
+    for name_use in uses {
+        declare(&mut declarations, name_use)?;
+    }
+    Ok(declarations)
+}
+
+impl Declarations {
+    /// The names of a drawing, declared by their use in the order of their first appearance by row and then column.
+    /// A box's name is an instance of its type, a name at a pin is a local of the pin's kind (BOOL if the type has no such pin on that side),
+    /// and any other name is a local BOOL. The first use decides. A dotted name, a number or a duration declares nothing.
+    pub fn guess(alloc: Global, graph: &Graph) -> Result<Declarations, AllocError>
+        ensures { IfOk result (AreGuessed graph.now) }
+    {
+        let mut uses = all_uses(alloc, graph.networks())?;
+        sort_uses(&mut uses)?;
+        declare_all(alloc, &uses)
+    }
+}
+
+#[cfg(test)]
+mod tests {
+    use super::*;
+    use ladder_text::{
+        BlockName, Coil, CoilKind, Contact, ContactKind, DrawnBox, Operand, Pins, Side,
+    };
+    use std::test::Fail;
+
+    fn contact(
+        alloc: Global,
+        row: usize,
+        column: usize,
+        name: &str,
+    ) -> Result<Element, AllocError> {
+        Ok(Element::Contact(Contact {
+            row,
+            column,
+            kind: ContactKind::Plain,
+            name: Text::new(alloc, name)?,
+        }))
+    }
+
+    fn coil(alloc: Global, row: usize, column: usize, name: &str) -> Result<Element, AllocError> {
+        Ok(Element::Coil(Coil {
+            row,
+            column,
+            kind: CoilKind::Plain,
+            name: Text::new(alloc, name)?,
+        }))
+    }
+
+    fn pin(
+        alloc: Global,
+        row: usize,
+        side: Side,
+        name: &str,
+        operand: Option<(&str, usize)>,
+    ) -> Result<DrawnPin, AllocError> {
+        let operand = match operand {
+            Some((text, column)) => Some(Operand {
+                text: Text::new(alloc, text)?,
+                column,
+            }),
+            None => None,
+        };
+        Ok(DrawnPin {
+            row,
+            side,
+            name: Text::new(alloc, name)?,
+            operand,
+        })
+    }
+
+    /// A timer `T1` at 2:8 whose preset is at 4:6 and whose elapsed time goes to a name at 4:20.
+    fn timer(alloc: Global, preset: &str) -> Result<Element, AllocError> {
+        let mut pins = Pins::new(alloc);
+        pins.push(pin(alloc, 3, Side::Left, "IN", None)?)?;
+        pins.push(pin(alloc, 3, Side::Right, "Q", None)?)?;
+        pins.push(pin(alloc, 4, Side::Left, "PT", Some((preset, 6)))?)?;
+        pins.push(pin(alloc, 4, Side::Right, "ET", Some(("Elapsed", 20)))?)?;
+        Ok(Element::Box(DrawnBox {
+            top: 2,
+            left: 8,
+            bottom: 5,
+            right: 16,
+            block: BlockName::Ton,
+            instance: Text::new(alloc, "T1")?,
+            pins,
+        }))
+    }
+
+    fn guessed(alloc: Global, elements: &[Element]) -> Result<Declarations, AllocError> {
+        let mut uses = Vec::new(alloc);
+        push_elements(&mut uses, elements)?;
+        sort_uses(&mut uses)?;
+        declare_all(alloc, &uses)
+    }
+
+    #[test]
+    fn names_come_by_row_and_then_column(rt: HostRuntime) -> Result<(), Fail> {
+        let alloc = rt.alloc();
+        let mut elements = Vec::new(alloc);
+        elements.push(contact(alloc, 3, 3, "start")?)?;
+        elements.push(contact(alloc, 6, 3, "START")?)?;
+        elements.push(timer(alloc, "Delay")?)?;
+        elements.push(coil(alloc, 3, 20, "Run")?)?;
+        elements.push(coil(alloc, 6, 20, "Elapsed")?)?;
+        let declarations = guessed(alloc, &elements)?;
+        assert_eq!(rt; declarations.len(), 5);
+        assert_eq!(rt;
+            declarations.entry(0),
+            Some(("T1", Declared::Instance(BlockType::TON)))
+        );
+        assert_eq!(rt;
+            declarations.entry(1),
+            Some(("start", Declared::Local(Kind::Bool)))
+        );
+        assert_eq!(rt;
+            declarations.entry(2),
+            Some(("Run", Declared::Local(Kind::Bool)))
+        );
+        assert_eq!(rt;
+            declarations.entry(3),
+            Some(("Delay", Declared::Local(Kind::Time)))
+        );
+        assert_eq!(rt;
+            declarations.entry(4),
+            Some(("Elapsed", Declared::Local(Kind::Time)))
+        );
+        Ok(())
+    }
+
+    #[test]
+    fn numbers_durations_and_dotted_names_declare_nothing(rt: HostRuntime) -> Result<(), Fail> {
+        let alloc = rt.alloc();
+        let mut elements = Vec::new(alloc);
+        elements.push(contact(alloc, 1, 3, "T1.Q")?)?;
+        elements.push(contact(alloc, 1, 7, "7")?)?;
+        elements.push(timer(alloc, "T#1s500ms")?)?;
+        let declarations = guessed(alloc, &elements)?;
+        assert_eq!(rt; declarations.len(), 2);
+        assert_eq!(rt; declarations.position("t1"), Some(0));
+        assert_eq!(rt; declarations.position("ELAPSED"), Some(1));
+        Ok(())
+    }
+
+    #[test]
+    fn a_pin_on_the_wrong_side_is_bool(rt: HostRuntime) -> Result<(), Fail> {
+        let alloc = rt.alloc();
+        let wrong = pin(alloc, 4, Side::Right, "PV", None)?;
+        assert_eq!(rt; kind_of_pin(BlockType::CTU, &wrong), Kind::Bool);
+        let right = pin(alloc, 4, Side::Left, "pv", None)?;
+        assert_eq!(rt; kind_of_pin(BlockType::CTU, &right), Kind::Int);
+        Ok(())
+    }
+}
