@@ -1,13 +1,13 @@
 -- Every character of a text that was looked at is ASCII.
-use Rattle.std.proofs.Common.{ℕ, ◌+◌, ◌-◌, ◌<◌, ◌≤◌, ◌≡◌, List, [], ◌∷◌, length, take, drop, get_or, true, false, sym, ◌∙◌, refl, arith, rules, tests, ◌⊎◌, inl, inr}
+use Rattle.std.proofs.Common.{ℕ, ◌-◌, ◌<◌, ◌≡◌, List, [], ◌∷◌, length, drop, get_or, true, arith, rules, tests, inl, inr}
 use Rattle.std.proofs.lemmas.Bool.{cases_lt}
 use Rattle.std.proofs.lemmas.List.{get_or_default}
 use Rattle.std.proofs.lemmas.Str.{IsAscii-take, IsAscii-drop}
 use Rattle.std.proofs.lemmas.Str.Ascii.{IsAscii-from_reads, IsAscii-nil, IsAscii-cons}
 use Rattle.std.proofs.Math.ListN.{get_or-eq_default}
 use Rattle.std.specs.Str.{IsAscii}
-use Rattle.ladder_text.specs.Rows.{Rows, char_at, width}
-use Rattle.ladder_text.specs.Chars.{between, is_letter_or_digit, is_rest, is_identifier}
+use Rattle.ladder_text.specs.Rows.{Rows, char_at}
+use Rattle.ladder_text.specs.Chars.{is_letter_or_digit, is_rest, is_identifier}
 use Rattle.ladder_text.specs.Boxes.{cut}
 use Rattle.ladder_text.specs.Faults.{Nowhere, not_ascii}
 use Rattle.ladder_text.proofs.WidthLemmas.{row-narrow}

@@ -70,7 +70,7 @@ outline_parts d r c o e =
     (elim_some_of (begins_box d r c) (outline_at d r c) o e) (omega arith) (omega arith)
     (inner_pins d r c)
 
-outlines_placed : (d : Rows) → IsPlaced (λ (o : Outline). o.top) (λ (o : Outline). o.left) (box_at d)
+pub outlines_placed : (d : Rows) → IsPlaced (λ (o : Outline). o.top) (λ (o : Outline). o.left) (box_at d)
 outlines_placed d r c o e = let w = outline_parts d r c o e in (w.top, w.left)
 
 outlines_once : (d : Rows) → IsAlikeOnce (λ (a : Outline) (b : Outline). (a.top ≡ b.top) × (a.left ≡ b.left)) (outlines d)
@@ -148,16 +148,16 @@ outlines_sharing d apart j k a b x y r c s t =
     outlines_once d j k a b x y (same_corner_of a b r c v s t)
 
 -- the outline of a box that is listed
-record IsOfOutline (d : Rows) (k : ℕ) (x : DrawnBox) : Type 0 where
-  outline : Outline
-  listed : slice_get (outlines d) k ≡ Some outline
-  top : x.top ≡ outline.top
-  left : x.left ≡ outline.left
-  bottom : x.bottom ≡ outline.bottom
-  right : x.right ≡ outline.right
-  pins : x.pins ≡ outline.pins
+pub record IsOfOutline (d : Rows) (k : ℕ) (x : DrawnBox) : Type 0 where
+  pub outline : Outline
+  pub listed : slice_get (outlines d) k ≡ Some outline
+  pub top : x.top ≡ outline.top
+  pub left : x.left ≡ outline.left
+  pub bottom : x.bottom ≡ outline.bottom
+  pub right : x.right ≡ outline.right
+  pub pins : x.pins ≡ outline.pins
 
-drawn_box_item : (d : Rows) (k : ℕ) (x : DrawnBox) → slice_get (drawn_boxes (layout_of d)) k ≡ Some x → IsOfOutline d k x
+pub drawn_box_item : (d : Rows) (k : ℕ) (x : DrawnBox) → slice_get (drawn_boxes (layout_of d)) k ≡ Some x → IsOfOutline d k x
 unfolding drawn_boxes layout_of
 drawn_box_item d k x e =
     let w = map_item _ (outlines d) k x e in

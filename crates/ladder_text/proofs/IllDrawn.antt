@@ -6,8 +6,7 @@ use Rattle.ladder_text.specs.declared.place_fault.PlaceFault.{PlaceFault}
 use Rattle.ladder_text.specs.Rows.{Rows, width}
 use Rattle.ladder_text.specs.Places.{layout_of}
 use Rattle.ladder_text.specs.Names.{words, things}
-use Rattle.ladder_text.specs.Boxes.{begins_box}
-use Rattle.ladder_text.specs.Faults.{Nowhere, IsWellDrawn, IsIllDrawn, IsFoundAt, bad_box, boxes_apart, has_stray_operand, has_fault, not_ascii, no_left_rail, name_missing, stray_name}
+use Rattle.ladder_text.specs.Faults.{IsIllDrawn, IsFoundAt, bad_box, boxes_apart, has_stray_operand, has_fault, not_ascii, no_left_rail, name_missing, stray_name}
 
 pub clash : (b : Bool) → b ≡ true → b ≡ false → ⊥
 clash b t f = true≢false (sym t ∙ f)

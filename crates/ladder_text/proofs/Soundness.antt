@@ -1,18 +1,13 @@
 -- A well drawn text's picture is sound.
 use Rattle.std.proofs.Common.{ℕ, List, ◌≡◌}
-use Rattle.ladder_text.specs.declared.mark.Mark.{Mark}
-use Rattle.ladder_text.specs.declared.contact.Contact.{Contact}
-use Rattle.ladder_text.specs.declared.coil.Coil.{Coil}
-use Rattle.ladder_text.specs.declared.drawn_box.DrawnBox.{DrawnBox}
-use Rattle.ladder_text.specs.Rows.{Rows, rows_of, height, width}
-use Rattle.ladder_text.specs.Boxes.{left_column}
-use Rattle.ladder_text.specs.Names.{contacts, coils, drawn_boxes}
+use Rattle.ladder_text.specs.Rows.{Rows, rows_of}
 use Rattle.ladder_text.specs.Places.{layout_of}
 use Rattle.ladder_text.specs.Faults.{IsWellDrawn}
-use Rattle.ladder_text.specs.Picture.{picture, marks_of, picture_of, IsSound}
+use Rattle.ladder_text.specs.Picture.{Picture, picture_of, IsSound}
 use Rattle.ladder_text.proofs.LeftLemmas.{left_above, left_within}
 use Rattle.ladder_text.proofs.SymbolItems.{mark_at-contact, mark_at-coil, contacts_sharing, coils_sharing}
 use Rattle.ladder_text.proofs.PictureLemmas.{mark_at-drawn}
+use Rattle.ladder_text.proofs.RisingItems.{boxes_rising_of}
 use Rattle.ladder_text.proofs.BoxPlaces.{mark_at-box, boxes_sharing, box_whole}
 
 pub sound_of_text : (line : ℕ) (text : List ℕ) → IsWellDrawn (rows_of text) → IsSound (picture_of line (layout_of (rows_of text)))
@@ -30,6 +25,7 @@ sound_of_text line text well =
       coils_apart = coils_sharing (layout_of d);
       boxes = mark_at-box line d;
       boxes_apart = boxes_sharing d well.boxes_apart;
+      boxes_rising = boxes_rising_of d;
       boxes_whole = box_whole d;
     }
 
@@ -37,10 +33,6 @@ sound_of_text line text well =
 pub sound_of : (line : ℕ) (d : Rows) (text : List ℕ) → d ≡ rows_of text → IsWellDrawn d → IsSound (picture_of line (layout_of d))
 sound_of line d text e well = rw e (sound_of_text line text (rw e at well))
 
--- the same, of a picture by its parts
-pub sound_parts : (line rows columns left : ℕ) (ms : List (List Mark)) (cs : List Contact) (ks : List Coil) (bs : List DrawnBox) (d : Rows) (text : List ℕ)
-    → d ≡ rows_of text → IsWellDrawn d → rows ≡ height d → columns ≡ width d → left ≡ left_column d
-    → ms ≡ marks_of (layout_of d) → cs ≡ contacts (layout_of d) → ks ≡ coils (layout_of d) → bs ≡ drawn_boxes (layout_of d)
-    → IsSound (picture line rows columns left ms cs ks bs)
-unfolding picture_of layout_of
-sound_parts line rows columns left ms cs ks bs d text e well er ec el em e1 e2 e3 = rw (er, ec, el, em, e1, e2, e3) (sound_of line d text e well)
+-- the same, of a picture that is a text's
+pub sound_picture : (g : Picture) (line : ℕ) (text : List ℕ) → g ≡ picture_of line (layout_of (rows_of text)) → IsWellDrawn (rows_of text) → IsSound g
+sound_picture g line text e well = rw e (sound_of_text line text well)

@@ -1,6 +1,5 @@
 -- A drawing is well drawn, from what was checked.
-use Rattle.std.proofs.Common.{ℕ, ◌<◌, ◌≤◌, ◌≡◌, length, arith, IsFalse, IsTrue}
-use Rattle.std.specs.List.{list_any}
+use Rattle.std.proofs.Common.{ℕ, ◌<◌, ◌≤◌, length, arith, IsFalse, IsTrue}
 use Rattle.ladder_text.specs.declared.place_fault.PlaceFault.{PlaceFault}
 use Rattle.ladder_text.specs.Rows.{Rows, width}
 use Rattle.ladder_text.specs.Places.{layout_of}

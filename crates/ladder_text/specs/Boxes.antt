@@ -1,5 +1,5 @@
 -- Where boxes begin, and what they are.
-use Rattle.std.specs.Prelude.{ℕ, zero, suc, ◌+◌, ◌-◌, List, [], ◌∷◌, ◌++◌, ◌==◌, if◌then◌else◌, length, slice_index_or, take, drop, Bool, true, false, ◌&&◌, ◌||◌, not, nat_lt, nat_le, reverse, Option, Some, None, is_some, option_and_then, option_map}
+use Rattle.std.specs.Prelude.{ℕ, zero, suc, ◌+◌, ◌-◌, List, [], ◌∷◌, ◌++◌, ◌==◌, if◌then◌else◌, length, slice_index_or, take, drop, Bool, true, false, ◌&&◌, ◌||◌, not, nat_lt, nat_le, Option, Some, None, is_some}
 use Rattle.std.specs.List.{slice_split, list_all, filter}
 use Rattle.ladder_text.specs.declared.drawn_box.BlockName.{BlockName}
 use Rattle.ladder_text.specs.declared.drawn_box.DrawnPin.{DrawnPin}
@@ -9,6 +9,7 @@ use Rattle.ladder_text.specs.declared.drawn_box.Side.TheVariants as side
 use Rattle.ladder_text.specs.Rows.{Rows, char_at, height, width, run, run_back, upto, trimmed}
 use Rattle.ladder_text.specs.Chars.{block_name, is_identifier, is_word_char}
 
+-- nothing is drawn in column c
 abbrev pub is_blank_column : Rows → ℕ → Bool
 is_blank_column d c = list_all (λ row. slice_index_or row c 32 == 32) d
 
@@ -55,13 +56,19 @@ begins_box d r c =
 abbrev pub bottom_row : Rows → ℕ → ℕ → ℕ
 bottom_row d r c = r + 1 + run (has_sides d c (top_end d r c)) (r + 1) (height d - r)
 
+-- (r, c) is a place of the box
 abbrev pub covers : ℕ → ℕ → Outline → Bool
 covers r c b = nat_le b.top r && nat_le r b.bottom && nat_le b.left c && nat_le c b.right
+
+-- the row r is one of the box's
+abbrev pub meets_row : ℕ → Outline → Bool
+meets_row r b = nat_le b.top r && nat_le r b.bottom
 
 -- the first column of the word that ends at (r, e), and of the word that ends before b
 abbrev pub word_start : Rows → ℕ → ℕ → ℕ
 word_start d r e = e + 1 - run_back (λ k. is_word_char (char_at d r k)) e e
 
+-- the end of the word that begins at (r, s)
 abbrev pub word_end : Rows → ℕ → ℕ → ℕ
 word_end d r s = s + run (λ k. is_word_char (char_at d r k)) s (width d)
 
@@ -71,14 +78,17 @@ left_operand d r c =
     let e = c - 1 - run_back (λ k. char_at d r k == 45) (c - 1) c in
     if is_word_char (char_at d r e) then Some (record { text = cut d r (word_start d r e) (e + 1); column = word_start d r e }) else None
 
+-- the operand of a right pin, behind a run of dashes to the right of column c
 abbrev pub right_operand : Rows → ℕ → ℕ → Option Operand
 right_operand d r c =
     let s = c + 1 + dashes_after d r c in
     if is_word_char (char_at d r s) then Some (record { text = cut d r s (word_end d r s); column = s }) else None
 
+-- a left pin of the side at column c, by its name
 abbrev pub left_pin : Rows → ℕ → ℕ → List ℕ → DrawnPin
 left_pin d r c name = record { row = r; side = side.Left; name = name; operand = left_operand d r c }
 
+-- a right pin of the side at column c, by its name
 abbrev pub right_pin : Rows → ℕ → ℕ → List ℕ → DrawnPin
 right_pin d r c name = record { row = r; side = side.Right; name = name; operand = right_operand d r c }
 
@@ -86,6 +96,7 @@ right_pin d r c name = record { row = r; side = side.Right; name = name; operand
 abbrev pub blanks_before : List ℕ → ℕ
 blanks_before text = length text - length (without_leading text)
 
+-- the blanks behind the last character that is none
 abbrev pub blanks_behind : List ℕ → ℕ
 blanks_behind text = length text - length (trimmed text)
 
@@ -102,6 +113,7 @@ pins_from d r a e (w ∷ []) = if is_identifier w then Some (nearer_pin d r a e 
 pins_from d r a e (w ∷ v ∷ []) = if is_identifier w && is_identifier v then Some (left_pin d r a w ∷ right_pin d r e v ∷ []) else None
 pins_from d r a e (w ∷ v ∷ u ∷ more) = None
 
+-- the pins of the inner row r between the sides a and e
 abbrev pub row_pins : Rows → ℕ → ℕ → ℕ → Option (List DrawnPin)
 row_pins d a e r = pins_from d r a e (blank_words (cut d r (a + 1) e))
 
@@ -127,11 +139,13 @@ outline_with d r c bottom e (Some block) (Some pins) =
 outline_with d r c bottom e None pins = None
 outline_with d r c bottom e (Some block) None = None
 
+-- the box that begins at (r, c), as the rows below it say
 unfoldable pub outline_at : Rows → ℕ → ℕ → Option Outline
 outline_at d r c =
     outline_with d r c (bottom_row d r c) (top_end d r c) (block_in d r c)
     (pins_of_rows d c (top_end d r c) (r + 2) (bottom_row d r c - (r + 2)))
 
+-- what is there, as a list of at most one
 abbrev pub option_list : {A : Type 0} → Option A → List A
 option_list None = []
 option_list (Some x) = x ∷ []
@@ -140,6 +154,7 @@ option_list (Some x) = x ∷ []
 unfoldable pub box_at : Rows → ℕ → ℕ → Option Outline
 box_at d r c = elim (begins_box d r c) [ true ↦ outline_at d r c | false ↦ None ]
 
+-- the boxes that begin in row r, by column
 unfoldable pub row_outlines : Rows → ℕ → List Outline
 row_outlines d r = upto (width d) (λ c. option_list (box_at d r c))
 

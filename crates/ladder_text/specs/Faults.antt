@@ -1,5 +1,5 @@
 -- The faults, each as a test of a place, and when a drawing is well drawn.
-use Rattle.std.specs.Prelude.{ℕ, true, false, ◌+◌, ◌-◌, ◌≡◌, ◌≤◌, ◌<◌, IsTrue, IsFalse, List, [], ◌∷◌, ◌==◌, if◌then◌else◌, length, Bool, ◌&&◌, ◌||◌, not, nat_lt, nat_le, Option, Some, None, is_some, is_none}
+use Rattle.std.specs.Prelude.{ℕ, false, ◌+◌, ◌-◌, ◌≡◌, ◌≤◌, ◌<◌, IsTrue, IsFalse, List, ◌==◌, if◌then◌else◌, length, Bool, ◌&&◌, ◌||◌, not, nat_lt, nat_le, Option, Some, None, is_some, is_none}
 use Rattle.std.specs.List.{list_all, list_any, range_with_len, count_by}
 use Rattle.ladder_text.specs.declared.span.Span.{Span}
 use Rattle.ladder_text.specs.declared.drawn_box.Operand.{Operand}
@@ -23,23 +23,27 @@ not_ascii d r c = not (between 32 (char_at d r c) 126)
 abbrev pub no_left_rail : Rows → ℕ → Bool
 no_left_rail d r = let c = char_at d r (left_column d) in not (c == 32 || is_rail_char c)
 
--- a box begins, and isn't as it should be; or two boxes share a place
+-- a box begins, and isn't as it should be
 abbrev pub bad_box : Rows → ℕ → ℕ → Bool
 bad_box d r c = begins_box d r c && is_none (outline_at d r c)
 
+-- two boxes are the same one
 abbrev pub same_corner : Outline → Outline → Bool
 same_corner a b = a.top == b.top && a.left == b.left
 
+-- two boxes have a place in common
 abbrev pub share_place : Outline → Outline → Bool
 share_place a b = nat_le a.top b.bottom && nat_le b.top a.bottom && nat_le a.left b.right && nat_le b.left a.right
 
+-- a box shares no place with another one
 abbrev pub is_apart : List Outline → Outline → Bool
 is_apart bs a = list_all (λ b. same_corner a b || not (share_place a b)) bs
 
+-- no two boxes share a place
 abbrev pub boxes_apart : Layout → Bool
 boxes_apart p = list_all (is_apart p.boxes) p.boxes
 
--- a character without a meaning, or a line that ends at a box's side where there is no pin
+-- a blank, a line's character, a rail's, or one of a word
 abbrev pub has_meaning : ℕ → Bool
 has_meaning c = c == 32 || c == 45 || is_rail_char c || is_word_char c
 
@@ -47,15 +51,19 @@ has_meaning c = c == 32 || c == 45 || is_rail_char c || is_word_char c
 abbrev pub blind_right_of : ℕ → ℕ → Outline → Bool
 blind_right_of r c b = covers r (c + 1) b && c + 1 == b.left && not (list_any (pin_on side.Left r) b.pins)
 
+-- the place on the left of (r, c) is the right side of a box, on a row without a right pin
 abbrev pub blind_left_of : ℕ → ℕ → Outline → Bool
 blind_left_of r c b = covers r (c - 1) b && nat_lt 0 c && c - 1 == b.right && not (list_any (pin_on side.Right r) b.pins)
 
+-- the same for some box on the right
 abbrev pub blind_right : Layout → ℕ → ℕ → Bool
 blind_right p r c = list_any (blind_right_of r c) p.boxes
 
+-- the same for some box on the left
 abbrev pub blind_left : Layout → ℕ → ℕ → Bool
 blind_left p r c = list_any (blind_left_of r c) p.boxes
 
+-- a contact or coil begins at (r, c)
 abbrev pub is_first_of_symbol : Layout → ℕ → ℕ → Bool
 is_first_of_symbol p r c = is_some (contact_at p r c) || is_some (coil_at p r c)
 
@@ -68,29 +76,33 @@ abbrev pub is_blind : Layout → ℕ → ℕ → Bool
 is_blind p r c =
     (is_wire (mark p r c) || is_join (mark p r c) || is_first_of_symbol p r c) && (blind_left p r c || blind_right p r (line_end p r c))
 
+-- a character without a meaning, or a line that meets a box where there is no pin
 abbrev pub bad_mark : Layout → ℕ → ℕ → Bool
 bad_mark p r c = (not (is_taken p r c) && not (has_meaning (char_at p.rows r c))) || is_blind p r c
 
--- an Upright place beside a line or a box, or at the end of its upright
+-- a line or a box is at (r, c)
 abbrev pub touches : Layout → ℕ → ℕ → Bool
 touches p r c = let m = mark p r c in is_line m || is_box_part m
 
+-- an Upright place beside a line or a box, or at the end of its upright
 abbrev pub crossing : Layout → ℕ → ℕ → Bool
 crossing p r c =
     is_upright (mark p r c)
     && (touches p r (c - 1) || touches p r (c + 1) || not (is_vertical (mark p (r - 1) c)) || not (is_vertical (mark p (r + 1) c)))
 
--- a line that state never enters
 -- how far the upright at (r, c) goes down
 abbrev pub upright_len : Layout → ℕ → ℕ → ℕ
 upright_len p r c = run (λ k. is_vertical (mark p k c)) r (height p.rows)
 
+-- a Join that state enters from its left
 abbrev pub is_fed : Layout → ℕ → ℕ → Bool
 is_fed p c k = is_join (mark p k c) && gives p k (c - 1)
 
+-- some Join of the upright at (r, c) is entered from its left
 abbrev pub has_fed_join : Layout → ℕ → ℕ → Bool
 has_fed_join p r c = list_any (is_fed p c) (range_with_len r (upright_len p r c))
 
+-- a Wire or a symbol that state does not enter, or the topmost place of an upright without a fed Join
 abbrev pub no_source : Layout → ℕ → ℕ → Bool
 no_source p r c =
     ((is_wire (mark p r c) || is_first_of_symbol p r c) && not (gives p r (c - 1)))
@@ -100,11 +112,11 @@ no_source p r c =
 unfoldable pub name_missing : Layout → ℕ → Span → Bool
 name_missing p r s = not (list_any (overlap s) (words p (r - 1)))
 
--- a word that isn't of the form wanted, or belongs to nothing, to two things, or to a thing that has one before it
 -- some word before w overlaps s
 abbrev pub has_earlier : Span → List Span → Span → Bool
 has_earlier w ws s = list_any (λ v. overlap v s && nat_lt v.first w.first) ws
 
+-- a word before w names one of the things that w overlaps
 abbrev pub is_second : Span → List Span → List Span → Bool
 is_second w ws things = list_any (λ s. overlap w s && has_earlier w ws s) things
 
@@ -115,6 +127,7 @@ pub record IsNames (p : Layout) (r : ℕ) (ws ss ts all : List Span) : Type 0 wh
   pub are_tops : ts ≡ tops p (r + 1)
   pub are_things : all ≡ things p (r + 1)
 
+-- a word that names nothing, two things or a thing that has a name before it, or isn't of the form wanted
 unfoldable pub stray_name : Layout → ℕ → Span → Bool
 stray_name p r w =
     not (count_by (overlap w) (things p (r + 1)) == 1)
@@ -129,6 +142,7 @@ takes_word s r c q = pin_on s r q && begins_at c q.operand where
   begins_at c None = false
   begins_at c (Some o) = o.column == c
 
+-- whether the operand of some pin on side s begins at (r, c)
 unfoldable pub some_takes_word : List Outline → Side → ℕ → ℕ → Bool
 some_takes_word bs s r c = list_any (λ b. list_any (takes_word s r c) b.pins) bs
 
@@ -137,9 +151,11 @@ abbrev pub is_stray_operand : List Outline → ℕ → Option Operand → Bool
 is_stray_operand bs r None = false
 is_stray_operand bs r (Some o) = not (is_operand o.text) || (some_takes_word bs side.Left r o.column && some_takes_word bs side.Right r o.column)
 
+-- a box has a pin with a stray operand
 abbrev pub has_stray_pin : List Outline → Outline → Bool
 has_stray_pin bs b = list_any (λ q. is_stray_operand bs q.row q.operand) b.pins
 
+-- some box has a pin with a stray operand
 unfoldable pub has_stray_operand : Layout → Bool
 has_stray_operand p = list_any (has_stray_pin p.boxes) p.boxes
 

@@ -6,3 +6,4 @@ pub mod Names
 pub mod Faults
 pub mod Picture
 pub mod Figures
+pub mod RowBoxes

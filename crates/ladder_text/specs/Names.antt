@@ -13,6 +13,7 @@ use Rattle.ladder_text.specs.Chars.{is_word_char}
 use Rattle.ladder_text.specs.Boxes.{cut, option_list}
 use Rattle.ladder_text.specs.Places.{Layout, contact_at, coil_at, is_taken, in_operand}
 
+-- two spans have a column in common
 abbrev pub overlap : Span → Span → Bool
 overlap a b = nat_lt a.first b.end && nat_lt b.first a.end
 
@@ -37,9 +38,11 @@ symbol_at p r c = if is_some (contact_at p r c) || is_some (coil_at p r c) then 
 unfoldable pub symbols : Layout → ℕ → List Span
 symbols p r = upto (width p.rows) (λ c. option_list (symbol_at p r c))
 
+-- the columns of the top side of a box
 abbrev pub top_span : Outline → Span
 top_span b = record { first = b.left; end = b.right + 1 }
 
+-- the top sides of the boxes that begin in a row
 unfoldable pub tops : Layout → ℕ → List Span
 tops p r = map top_span (filter (λ b. b.top == r) p.boxes)
 
@@ -47,6 +50,7 @@ tops p r = map top_span (filter (λ b. b.top == r) p.boxes)
 unfoldable pub things : Layout → ℕ → List Span
 things p r = symbols p r ++ tops p r
 
+-- the characters of a word
 abbrev pub word_text : Layout → ℕ → Span → List ℕ
 word_text p r w = cut p.rows r w.first w.end
 
@@ -68,16 +72,20 @@ contact_with p r c (Some k) = Some (record { row = r; column = c; kind = k; name
 unfoldable pub row_contacts : Layout → ℕ → List Contact
 row_contacts p r = upto (width p.rows) (λ c. option_list (contact_with p r c (contact_at p r c)))
 
+-- the contacts, by row and then column
 unfoldable pub contacts : Layout → List Contact
 contacts p = upto (height p.rows) (row_contacts p)
 
+-- the coil at a place, by its kind
 abbrev pub coil_with : Layout → ℕ → ℕ → Option CoilKind → Option Coil
 coil_with p r c None = None
 coil_with p r c (Some k) = Some (record { row = r; column = c; kind = k; name = name_above p r (record { first = c; end = c + 3 }) })
 
+-- the coils of a row, by column
 unfoldable pub row_coils : Layout → ℕ → List Coil
 row_coils p r = upto (width p.rows) (λ c. option_list (coil_with p r c (coil_at p r c)))
 
+-- the coils, by row and then column
 unfoldable pub coils : Layout → List Coil
 coils p = upto (height p.rows) (row_coils p)
 

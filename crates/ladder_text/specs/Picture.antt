@@ -1,5 +1,5 @@
 -- A drawing as the crates above see it.
-use Rattle.std.specs.Prelude.{ℕ, ◌+◌, ◌<◌, ◌≤◌, ◌≡◌, List, [], ◌∷◌, Some, slice_get, slice_index_or, All}
+use Rattle.std.specs.Prelude.{ℕ, ◌+◌, ◌<◌, ◌≤◌, ◌≡◌, List, [], ◌∷◌, Some, slice_get, slice_index_or, All, ◌⊎◌}
 use Rattle.ladder_text.specs.declared.mark.Mark.{Mark}
 use Rattle.ladder_text.specs.declared.mark.Mark.TheVariants.{Blank, ContactPart, CoilPart, BoxPart}
 use Rattle.ladder_text.specs.declared.contact.Contact.{Contact}
@@ -9,6 +9,7 @@ use Rattle.ladder_text.specs.Rows.{width, height, upto}
 use Rattle.ladder_text.specs.Places.{Layout, mark}
 use Rattle.ladder_text.specs.Names.{contacts, coils, drawn_boxes}
 
+-- a drawing: its size, its marks behind a margin, and its symbols and boxes
 pub record Picture : Type 0 where
   pub first_line : ℕ
   pub rows : ℕ
@@ -22,7 +23,15 @@ pub record Picture : Type 0 where
 -- a picture of its parts
 abbrev pub picture : ℕ → ℕ → ℕ → ℕ → List (List Mark) → List Contact → List Coil → List DrawnBox → Picture
 picture first_line rows columns left marks contacts coils boxes = record {
-  first_line = first_line; rows = rows; columns = columns; left = left; marks = marks; contacts = contacts; coils = coils; boxes = boxes }
+  first_line = first_line;
+  rows = rows;
+  columns = columns;
+  left = left;
+  marks = marks;
+  contacts = contacts;
+  coils = coils;
+  boxes = boxes;
+}
 
 -- the mark at a place, counted from 1; outside the drawing it is blank
 unfoldable pub mark_at : Picture → ℕ → ℕ → Mark
@@ -69,4 +78,6 @@ pub record IsSound (g : Picture) : Type 0 where
   pub boxes : (k : ℕ) (x : DrawnBox) → slice_get g.boxes k ≡ Some x → (r c : ℕ) → IsBoxPlace x r c → mark_at g r c ≡ BoxPart
   pub boxes_apart : (j k : ℕ) (x y : DrawnBox) → slice_get g.boxes j ≡ Some x → slice_get g.boxes k ≡ Some y
       → (r c : ℕ) → IsBoxPlace x r c → IsBoxPlace y r c → j ≡ k
+  pub boxes_rising : (j k : ℕ) (x y : DrawnBox) → j < k → slice_get g.boxes j ≡ Some x → slice_get g.boxes k ≡ Some y
+      → (x.top < y.top) ⊎ ((x.top ≡ y.top) × (x.left < y.left))
   pub boxes_whole : (k : ℕ) (x : DrawnBox) → slice_get g.boxes k ≡ Some x → IsWhole x

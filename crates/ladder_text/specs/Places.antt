@@ -13,7 +13,7 @@ use Rattle.ladder_text.specs.declared.place.Place.{Place}
 use Rattle.ladder_text.specs.declared.outline.Outline.{Outline}
 use Rattle.ladder_text.specs.Rows.{Rows, char_at, height, width}
 use Rattle.ladder_text.specs.Chars.{contact_kind, coil_kind}
-use Rattle.ladder_text.specs.Boxes.{outlines, covers, left_column}
+use Rattle.ladder_text.specs.Boxes.{outlines, covers, meets_row, left_column}
 
 -- the rows of a text with what is found first: the left rail's column and the boxes
 pub record Layout : Type 0 where
@@ -30,6 +30,7 @@ abbrev pub or_earlier : Place → Option Place → Place
 or_earlier p None = p
 or_earlier p (Some q) = if is_before q p then q else p
 
+-- (r, c) is a place of a box
 abbrev pub in_box : Layout → ℕ → ℕ → Bool
 in_box p r c = list_any (covers r c) p.boxes
 
@@ -50,9 +51,11 @@ coil_at p r c =
 abbrev pub within_three : {A : Type 0} → (ℕ → ℕ → Option A) → ℕ → ℕ → Bool
 within_three f r c = is_some (f r c) || is_some (f r (c - 1)) || is_some (f r (c - 2))
 
+-- (r, c) is a place of a contact
 abbrev pub in_contact : Layout → ℕ → ℕ → Bool
 in_contact p = within_three (contact_at p)
 
+-- (r, c) is a place of a coil
 abbrev pub in_coil : Layout → ℕ → ℕ → Bool
 in_coil p = within_three (coil_at p)
 
@@ -83,16 +86,23 @@ operand_reaches b r c None s = false
 operand_reaches b r c (Some o) side.Left = nat_le o.column c && nat_lt c b.left
 operand_reaches b r c (Some o) side.Right = nat_lt b.right c && nat_lt c (o.column + length o.text)
 
+-- the same for a pin, whose row is r
 abbrev pub pin_reaches : Outline → ℕ → ℕ → DrawnPin → Bool
 pin_reaches b r c q = q.row == r && operand_reaches b r c q.operand q.side
 
+-- the same of all pins of a box
+abbrev pub box_reaches : ℕ → ℕ → Outline → Bool
+box_reaches r c b = meets_row r b && list_any (pin_reaches b r c) b.pins
+
+-- the operand of some pin, or a dash on its way there, is at (r, c)
 abbrev pub in_operand : Layout → ℕ → ℕ → Bool
-in_operand p r c = list_any (λ b. list_any (pin_reaches b r c) b.pins) p.boxes
+in_operand p r c = list_any (box_reaches r c) p.boxes
 
 -- what `-`, `+` and `|` mean outside boxes, symbols and rails
 abbrev pub line_mark : ℕ → Bool → Mark
 line_mark c operand = if c == 43 then Join else (if c == 124 then Upright else (if c == 45 && not operand then Wire else Blank))
 
+-- what stands at (r, c)
 unfoldable pub mark : Layout → ℕ → ℕ → Mark
 mark p r c =
     if in_box p r c then BoxPart
@@ -101,26 +111,32 @@ mark p r c =
     else (if is_rail_column p c && is_rail_char (char_at p.rows r c) then Rail
     else line_mark (char_at p.rows r c) (in_operand p r c))))
 
+-- it is a Wire
 abbrev pub is_wire : Mark → Bool
 is_wire Wire = true
 is_wire _ = false
 
+-- it is a Join
 abbrev pub is_join : Mark → Bool
 is_join Join = true
 is_join _ = false
 
+-- it is an Upright place
 abbrev pub is_upright : Mark → Bool
 is_upright Upright = true
 is_upright _ = false
 
+-- it is a Rail
 abbrev pub is_rail : Mark → Bool
 is_rail Rail = true
 is_rail _ = false
 
+-- it belongs to a box
 abbrev pub is_box_part : Mark → Bool
 is_box_part BoxPart = true
 is_box_part _ = false
 
+-- it belongs to a contact or a coil
 abbrev pub is_symbol : Mark → Bool
 is_symbol ContactPart = true
 is_symbol CoilPart = true
@@ -134,6 +150,7 @@ is_vertical m = is_join m || is_upright m
 abbrev pub is_line : Mark → Bool
 is_line m = is_wire m || is_join m || is_symbol m
 
+-- two sides are the same one
 abbrev pub same_side : Side → Side → Bool
 same_side side.Left side.Left = true
 same_side side.Left side.Right = false
@@ -145,11 +162,20 @@ abbrev pub pin_on : Side → ℕ → DrawnPin → Bool
 pin_on s r q = q.row == r && same_side q.side s
 
 -- (r, c) is on the right side of a box on the row of a right pin
-abbrev pub is_right_pin : List Outline → ℕ → ℕ → Bool
-is_right_pin bs r c = list_any (λ b. c == b.right && list_any (pin_on side.Right r) b.pins) bs
+abbrev pub right_pin_at : ℕ → ℕ → Outline → Bool
+right_pin_at r c b = meets_row r b && c == b.right && list_any (pin_on side.Right r) b.pins
 
+-- the same for some box
+abbrev pub is_right_pin : List Outline → ℕ → ℕ → Bool
+is_right_pin bs r c = list_any (right_pin_at r c) bs
+
+-- (r, c) is on the left side of a box on the row of a left pin
+abbrev pub left_pin_at : ℕ → ℕ → Outline → Bool
+left_pin_at r c b = meets_row r b && c == b.left && list_any (pin_on side.Left r) b.pins
+
+-- the same for some box
 abbrev pub is_left_pin : List Outline → ℕ → ℕ → Bool
-is_left_pin bs r c = list_any (λ b. c == b.left && list_any (pin_on side.Left r) b.pins) bs
+is_left_pin bs r c = list_any (left_pin_at r c) bs
 
 -- state may leave (r, c) to its right
 unfoldable pub gives : Layout → ℕ → ℕ → Bool
@@ -161,5 +187,6 @@ gives p r c =
 unfoldable pub takes : Layout → ℕ → ℕ → Bool
 takes p r c = is_line (mark p r c) || is_left_pin p.boxes r c
 
+-- the layout of some rows
 unfoldable pub layout_of : Rows → Layout
 layout_of d = record { rows = d; left = left_column d; boxes = outlines d }

@@ -4,7 +4,7 @@ ghost use Rattle.std.specs.Prelude.{◌≡◌, ◌≢◌, ◌<◌, ◌≤◌, �
 ghost use Rattle.ladder_text.specs.Rows.{rows_of};
 ghost use Rattle.ladder_text.specs.Places.{layout_of};
 ghost use Rattle.ladder_text.specs.Faults.{IsWellDrawn, IsRefusable};
-ghost use Rattle.ladder_text.specs.Picture.{mark_at, picture_of, IsSound};
+ghost use Rattle.ladder_text.specs.Picture.{IsSound, mark_at, picture_of};
 ghost use Rattle.ladder_text.specs.declared.drawing.DrawFaultKind.TheVariants.{Memory};
 
 use crate::coil::Coil;
@@ -33,7 +33,7 @@ pub struct Drawing {
 }
 
 impl Model for Drawing {
-    ghost use Rattle.ladder_text.specs.Picture.{Picture, picture, IsSound};
+    ghost use Rattle.ladder_text.specs.Picture.{Picture, IsSound, picture};
 
     ghost Value = { Picture };
 
@@ -132,7 +132,8 @@ fn read_drawing(alloc: Global, text: &str, first_line: u64) -> Result<Drawing, R
 impl Drawing {
     /// Reads a text whose first line has the number `first_line`, from 1 to 9,223,372,036,854,775,807.
     ///
-    /// A text is refused by the first fault of the first kind of `DrawFaultKind` that it has.
+    /// A text is refused by the first fault, by row and then column, of the first kind of `DrawFaultKind` that it has.
+    /// A text in which a box begins is refused as BadBox. Without memory the fault is Memory, at line 0 and column 0.
     pub fn read(alloc: Global, text: &str, first_line: u64) -> Result<Drawing, DrawFault>
         requires { (1 ≤ first_line) × (first_line < 2 ^ 63) }
         ensures well_drawn { IfOk result (λ _. IsWellDrawn (rows_of text.now)) }

@@ -1,4 +1,4 @@
-ghost use Rattle.std.specs.Prelude.{◌≡◌, [], ◌∷◌, ◌++◌, IfOk, OnOk};
+ghost use Rattle.std.specs.Prelude.{◌≡◌, [], ◌∷◌, ◌++◌, IfOk, OnErr, OnOk};
 
 use crate::text::Text;
 use std::alloc::{AllocError, Global};
@@ -24,7 +24,7 @@ pub enum Side {
     Right,
 }
 
-/// What is written at a pin, and its first column.
+/// A name, a number or a duration at a pin, and its first column.
 #[derive(Debug, Drop)]
 pub struct Operand {
     pub text: Text,
@@ -34,9 +34,12 @@ pub struct Operand {
 /// A pin, as it is drawn.
 #[derive(Debug, Drop)]
 pub struct DrawnPin {
+    /// The row, from 1 on.
     pub row: usize,
     pub side: Side,
+    /// The word inside the box, an identifier.
     pub name: Text,
+    /// The word outside the box, behind the dashes of its row.
     pub operand: Option<Operand>,
 }
 
@@ -84,6 +87,7 @@ impl Model for Pins {
 }
 
 impl Pins {
+    /// No pins.
     pub fn new(alloc: Global) -> Pins
         ensures { result ≡ [] }
     {
@@ -92,14 +96,17 @@ impl Pins {
         }
     }
 
+    /// The pins in order.
     pub fn as_slice(&self) -> &[DrawnPin]
         ensures { result.now ≡ self.now }
     {
         &self.pins
     }
 
+    /// Adds a pin behind the others; where there is no memory, the pins stay as they were.
     pub fn push(&mut self, pin: DrawnPin) -> Result<(), AllocError>
-        ensures { OnOk result (self.new ≡ self.old ++ pin ∷ []) }
+        ensures added { OnOk result (self.new ≡ self.old ++ pin ∷ []) }
+        ensures unchanged { OnErr result (self.new ≡ self.old) }
     {
         self.pins.push(pin)?;
         Ok(())
@@ -132,6 +139,7 @@ pub struct DrawnBox {
     pub bottom: usize,
     pub right: usize,
     pub block: BlockName,
+    /// The word above the top side, an identifier.
     pub instance: Text,
     pub pins: Pins,
 }

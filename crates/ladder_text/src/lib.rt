@@ -1,6 +1,17 @@
-//! Ladders drawn in characters.
+//! Ladders drawn in characters, as IEC 61131-3 draws them:
+//!
+//! ```text
+//! |  START      STOP     RUN
+//! +--| |----+---|/|------( )
+//! |  RUN    |
+//! +--| |----+
+//! ```
+//!
+//! [`Drawing::read`] reads a text, or answers its first fault. A drawing gives its size, the mark at each place, and
+//! its contacts, coils and boxes with their names. Rows and columns count from 1.
 #![tactic(auto)]
 
+mod box_test;
 mod coil;
 mod contact;
 mod drawing;
@@ -19,11 +30,14 @@ mod place_fault;
 mod railed_sheet;
 mod reading;
 mod refusal;
+mod row_boxes;
 mod rows;
 mod sheet;
 mod span;
 mod spans;
 mod symbols;
+#[cfg(test)]
+mod tests;
 mod text;
 
 pub use coil::{Coil, CoilKind};

@@ -4,23 +4,25 @@ ghost use Rattle.std.specs.Prelude.{◌≡◌, ◌==◌, ◌∷◌, ◌++◌, �
 ghost use Rattle.ladder_text.specs.Rows.{char_at, width, height, run, run_back, upto};
 ghost use Rattle.std.specs.List.{list_any, list_all, filter};
 ghost use Rattle.std.specs.Prelude.{map, not, ◌||◌, ◌&&◌, nat_le, is_some, is_none};
-ghost use Rattle.ladder_text.specs.Places.{operand_reaches, pin_reaches, is_right_pin, is_left_pin, pin_on};
+ghost use Rattle.ladder_text.specs.Places.{operand_reaches, pin_reaches, box_reaches, right_pin_at, pin_on};
+ghost use Rattle.ladder_text.specs.RowBoxes.{box_test};
 ghost use Rattle.ladder_text.specs.Names.{top_span};
 ghost use Rattle.ladder_text.specs.Faults.{bad_box, Nowhere, IsFoundAt, same_corner, share_place, is_apart, takes_word, some_takes_word, is_stray_operand, has_stray_pin, blind_right_of, blind_left_of};
 ghost use Rattle.ladder_text.specs.declared.drawn_box.Side.{Side};
 ghost use Rattle.ladder_text.specs.declared.drawn_box.Side.TheVariants as side;
 ghost use Rattle.ladder_text.specs.Chars.{is_word_char, is_identifier};
-ghost use Rattle.ladder_text.specs.Boxes.{covers, begins_box, blank_words, dashes_after, top_end, has_sides, block_in, bottom_row, word_start, word_end, left_operand, right_operand, left_pin, right_pin, nearer_pin, blanks_before, blanks_behind, pins_from, row_pins, pins_of_rows, is_edge, outline_with, outline_at, box_at, row_outlines, outlines};
+ghost use Rattle.ladder_text.specs.Boxes.{covers, meets_row, begins_box, blank_words, dashes_after, top_end, has_sides, block_in, bottom_row, word_start, word_end, left_operand, right_operand, left_pin, right_pin, nearer_pin, blanks_before, blanks_behind, pins_from, row_pins, pins_of_rows, is_edge, outline_with, outline_at, box_at, row_outlines, outlines};
 ghost use Rattle.std.specs.Str.{IsAscii};
 
+use crate::box_test::BoxTest;
+use crate::drawn_box::{DrawnPin, Operand, Pins, Side};
 use crate::grid::{Grid, without_leading};
 use crate::names::{is_identifier, is_operand, is_word_char};
-use crate::drawn_box::{DrawnPin, Operand, Pins, Side};
 use crate::outline::Outline;
 use crate::place::{Place, or_earlier};
+use crate::rows::trimmed;
 use crate::span::Span;
 use crate::text::Text;
-use crate::rows::trimmed;
 use std::alloc::{AllocError, Global};
 
 /// The words between blanks.
@@ -406,6 +408,13 @@ pub fn first_bad_box(alloc: Global, grid: &Grid) -> Result<Option<Place>, AllocE
     Ok(None)
 }
 
+/// Whether a row is one of the box's.
+pub fn meets_row(outline: &Outline, row: usize) -> bool
+    ensures { result ≡ meets_row row outline.now }
+{
+    outline.top <= row && row <= outline.bottom
+}
+
 fn covers(outline: &Outline, row: usize, column: usize) -> bool
     ensures { result ≡ covers row column outline.now }
 {
@@ -415,16 +424,13 @@ fn covers(outline: &Outline, row: usize, column: usize) -> bool
         && column <= outline.right as usize
 }
 
-pub fn any_covers(boxes: &[Outline], row: usize, column: usize) -> bool
-    ensures { result ≡ list_any (covers row column) boxes.now }
-{
-    boxes.iter().any(|outline| covers(outline, row, column))
-}
-
 fn share_place(a: &Outline, b: &Outline) -> bool
     ensures { result ≡ share_place a.now b.now }
 {
-    a.top <= b.bottom && b.top <= a.bottom && a.left <= b.right as usize && b.left <= a.right as usize
+    a.top <= b.bottom
+        && b.top <= a.bottom
+        && a.left <= b.right as usize
+        && b.left <= a.right as usize
 }
 
 fn same_corner(a: &Outline, b: &Outline) -> bool
@@ -436,7 +442,9 @@ fn same_corner(a: &Outline, b: &Outline) -> bool
 fn is_apart(boxes: &[Outline], a: &Outline) -> bool
     ensures { result ≡ is_apart boxes.now a.now }
 {
-    boxes.iter().all(|b| same_corner(a, b) || !share_place(a, b))
+    boxes
+        .iter()
+        .all(|b| same_corner(a, b) || !share_place(a, b))
 }
 
 fn are_apart(boxes: &[Outline]) -> bool
@@ -465,16 +473,20 @@ fn pin_reaches(outline: &Outline, row: usize, column: usize, pin: &DrawnPin) -> 
     }
 }
 
-fn box_reaches(outline: &Outline, row: usize, column: usize) -> bool
+fn any_pin_reaches(outline: &Outline, row: usize, column: usize) -> bool
     ensures { result ≡ list_any (pin_reaches outline.now row column) outline.now.pins }
 {
-    outline.pins.as_slice().iter().any(|pin| pin_reaches(outline, row, column, pin))
+    outline
+        .pins
+        .as_slice()
+        .iter()
+        .any(|pin| pin_reaches(outline, row, column, pin))
 }
 
-pub fn any_operand_reaches(boxes: &[Outline], row: usize, column: usize) -> bool
-    ensures { result ≡ list_any (λ b. list_any (pin_reaches b row column) b.pins) boxes.now }
+fn box_reaches(outline: &Outline, row: usize, column: usize) -> bool
+    ensures { result ≡ box_reaches row column outline.now }
 {
-    boxes.iter().any(|outline| box_reaches(outline, row, column))
+    meets_row(outline, row) && any_pin_reaches(outline, row, column)
 }
 
 fn pin_on(side: Side, row: usize, pin: &DrawnPin) -> bool
@@ -486,29 +498,28 @@ fn pin_on(side: Side, row: usize, pin: &DrawnPin) -> bool
 fn has_pin(outline: &Outline, side: Side, row: usize) -> bool
     ensures { result ≡ list_any (pin_on side row) outline.now.pins }
 {
-    outline.pins.as_slice().iter().any(|pin| pin_on(side, row, pin))
+    outline
+        .pins
+        .as_slice()
+        .iter()
+        .any(|pin| pin_on(side, row, pin))
 }
 
-pub fn any_right_pin(boxes: &[Outline], row: usize, column: usize) -> bool
-    ensures { result ≡ is_right_pin boxes.now row column }
+fn right_pin_at(outline: &Outline, row: usize, column: usize) -> bool
+    ensures { result ≡ right_pin_at row column outline.now }
 {
-    boxes.iter().any(|outline| column == outline.right as usize && has_pin(outline, Side::Right, row))
+    meets_row(outline, row)
+        && column == outline.right as usize
+        && has_pin(outline, Side::Right, row)
 }
 
 fn blind_right_of(outline: &Outline, row: usize, column: usize) -> bool
-    requires { column < 2 ^ 62 }
+    requires { column < 2 ^ 63 }
     ensures { result ≡ blind_right_of row column outline.now }
 {
     covers(outline, row, column + 1)
         && column + 1 == outline.left
         && !has_pin(outline, Side::Left, row)
-}
-
-pub fn any_blind_right(boxes: &[Outline], row: usize, column: usize) -> bool
-    requires { column < 2 ^ 62 }
-    ensures { result ≡ list_any (blind_right_of row column) boxes.now }
-{
-    boxes.iter().any(|outline| blind_right_of(outline, row, column))
 }
 
 fn blind_left_of(outline: &Outline, row: usize, column: usize) -> bool
@@ -520,10 +531,18 @@ fn blind_left_of(outline: &Outline, row: usize, column: usize) -> bool
         && !has_pin(outline, Side::Right, row)
 }
 
-pub fn any_blind_left(boxes: &[Outline], row: usize, column: usize) -> bool
-    ensures { result ≡ list_any (blind_left_of row column) boxes.now }
+/// Whether a box passes a test at a place.
+pub fn box_test(outline: &Outline, test: BoxTest, row: usize, column: usize) -> bool
+    requires { column < 2 ^ 63 }
+    ensures { result ≡ box_test test row column outline.now }
 {
-    boxes.iter().any(|outline| blind_left_of(outline, row, column))
+    match test {
+        BoxTest::Covers => covers(outline, row, column),
+        BoxTest::Reaches => box_reaches(outline, row, column),
+        BoxTest::RightPin => right_pin_at(outline, row, column),
+        BoxTest::BlindLeft => blind_left_of(outline, row, column),
+        BoxTest::BlindRight => blind_right_of(outline, row, column),
+    }
 }
 
 /// The top sides of the boxes that begin in a row.
@@ -555,14 +574,20 @@ fn takes_word(pin: &DrawnPin, side: Side, row: usize, column: usize) -> bool
 fn box_takes_word(outline: &Outline, side: Side, row: usize, column: usize) -> bool
     ensures { result ≡ list_any (takes_word side row column) outline.now.pins }
 {
-    outline.pins.as_slice().iter().any(|pin| takes_word(pin, side, row, column))
+    outline
+        .pins
+        .as_slice()
+        .iter()
+        .any(|pin| takes_word(pin, side, row, column))
 }
 
 #[tactic(auto, unfolding(crate::specs::Faults::some_takes_word))]
 fn some_takes_word(boxes: &[Outline], side: Side, row: usize, column: usize) -> bool
     ensures { result ≡ some_takes_word boxes.now side row column }
 {
-    boxes.iter().any(|outline| box_takes_word(outline, side, row, column))
+    boxes
+        .iter()
+        .any(|outline| box_takes_word(outline, side, row, column))
 }
 
 /// The place of the operand of a pin, where it isn't as it should be or belongs to another pin too.
@@ -614,7 +639,11 @@ pub fn first_stray_operand(boxes: &[Outline]) -> Option<Place>
 /// The corner of the first box that shares a place with one before it.
 fn shared_place(boxes: &[Outline]) -> Place {
     for (i, outline) in boxes.iter().enumerate() {
-        if boxes.iter().take(i).any(|other| share_place(other, outline)) {
+        if boxes
+            .iter()
+            .take(i)
+            .any(|other| share_place(other, outline))
+        {
             return Place {
                 row: outline.top,
                 column: outline.left,
@@ -628,5 +657,9 @@ fn shared_place(boxes: &[Outline]) -> Place {
 pub fn first_shared_box(boxes: &[Outline]) -> Option<Place>
     ensures { is_none result ≡ list_all (is_apart boxes.now) boxes.now }
 {
-    if are_apart(boxes) { None } else { Some(shared_place(boxes)) }
+    if are_apart(boxes) {
+        None
+    } else {
+        Some(shared_place(boxes))
+    }
 }

@@ -12,9 +12,9 @@ use crate::mark::Mark;
 use crate::mark_row::MarkRow;
 use crate::place::Place;
 use crate::place_fault::PlaceFault;
-use crate::span::Span;
 use crate::railed_sheet::RailedSheet;
 use crate::sheet::Sheet;
+use crate::span::Span;
 use std::alloc::{AllocError, Global};
 use std::marker::Model;
 
@@ -110,7 +110,7 @@ impl Page {
 
     /// What stands at a place.
     pub fn mark(&self, row: usize, column: usize) -> Mark
-        requires { column < 2 ^ 63 }
+        requires { column < 2 ^ 62 }
         ensures { result ≡ mark (layout_of self.now) row column }
     {
         if row == 0 || column == 0 || self.last() < column {
@@ -125,7 +125,7 @@ impl Page {
     /// Whether a place is in a box or a symbol.
     #[tactic(auto, using(crate::proofs::MarkLemmas::taken_by_mark))]
     pub fn is_taken(&self, row: usize, column: usize) -> bool
-        requires { column < 2 ^ 63 }
+        requires { column < 2 ^ 62 }
         ensures { result ≡ is_taken (layout_of self.now) row column }
     {
         matches!(
@@ -136,7 +136,7 @@ impl Page {
 
     #[tactic(auto, unfolding(crate::specs::Places::layout_of, crate::specs::Places::gives))]
     pub fn gives(&self, row: usize, column: usize) -> bool
-        requires { column < 2 ^ 63 }
+        requires { column < 2 ^ 62 }
         ensures { result ≡ gives (layout_of self.now) row column }
     {
         let mark = self.mark(row, column);
@@ -146,7 +146,7 @@ impl Page {
     }
 
     fn touches(&self, row: usize, column: usize) -> bool
-        requires { column < 2 ^ 63 }
+        requires { column < 2 ^ 62 }
         ensures { result ≡ touches (layout_of self.now) row column }
     {
         let mark = self.mark(row, column);
@@ -155,7 +155,7 @@ impl Page {
 
     fn crossing(&self, row: usize, column: usize) -> bool
         requires row { row < 2 ^ 62 }
-        requires column { column < 2 ^ 62 }
+        requires column { column < 2 ^ 61 }
         ensures { result ≡ crossing (layout_of self.now) row column }
     {
         self.mark(row, column) == Mark::Upright
@@ -169,7 +169,8 @@ impl Page {
         requires { column < 2 ^ 62 }
         ensures { result ≡ is_first_of_symbol (layout_of self.now) row column }
     {
-        self.sheet().contact_at(row, column).is_some() || self.sheet().coil_at(row, column).is_some()
+        self.sheet().contact_at(row, column).is_some()
+            || self.sheet().coil_at(row, column).is_some()
     }
 
     /// The last place of the line that begins at a place.
@@ -178,7 +179,11 @@ impl Page {
         ensures value { result ≡ line_end (layout_of self.now) row column }
         ensures near { result ≤ column + 2 }
     {
-        if self.is_first_of_symbol(row, column) { column + 2 } else { column }
+        if self.is_first_of_symbol(row, column) {
+            column + 2
+        } else {
+            column
+        }
     }
 
     /// Whether a line begins at a place, and meets a box where there is no pin.

@@ -70,7 +70,7 @@ impl RailedSheet {
     /// What stands at a place.
     #[tactic(auto, unfolding(crate::specs::Places::layout_of, crate::specs::Places::mark))]
     pub fn mark(&self, row: usize, column: usize) -> Mark
-        requires { column < 2 ^ 63 }
+        requires { column < 2 ^ 62 }
         ensures { result ≡ mark (layout_of self.now) row column }
     {
         let sheet = &self.sheet;

@@ -6,15 +6,19 @@ ghost use Rattle.ladder_text.specs.Chars.{contact_kind, coil_kind, is_word_char}
 ghost use Rattle.ladder_text.specs.Boxes.{begins_box, cut, left_column, outlines};
 ghost use Rattle.ladder_text.specs.Places.{layout_of, contact_at, coil_at, in_box, in_contact, in_coil, is_taken, may_be_rail, has_right_rail, in_operand, is_right_pin};
 ghost use Rattle.ladder_text.specs.Names.{tops};
+ghost use Rattle.ladder_text.specs.RowBoxes.{box_test};
+ghost use Rattle.std.specs.List.{list_any};
 ghost use Rattle.ladder_text.specs.Faults.{blind_left, blind_right, bad_box, boxes_apart, has_stray_operand, Nowhere, IsFoundAt};
 ghost use Rattle.std.specs.Str.{IsAscii};
 
-use crate::grid::Grid;
-use crate::outlines::{any_blind_left, any_blind_right, any_covers, any_operand_reaches, any_right_pin, first_bad_box, first_shared_box, first_stray_operand, outlines, tops};
+use crate::box_test::BoxTest;
 use crate::coil::CoilKind;
 use crate::contact::ContactKind;
+use crate::grid::Grid;
 use crate::outline::Outline;
+use crate::outlines::{first_bad_box, first_shared_box, first_stray_operand, outlines, tops};
 use crate::place::Place;
+use crate::row_boxes::{RowBoxes, any_on_row, row_boxes};
 use crate::span::Span;
 use std::alloc::{AllocError, Global};
 use std::marker::Model;
@@ -24,18 +28,20 @@ use std::marker::Model;
 pub struct Sheet {
     grid: Grid,
     boxes: Vec<Outline>,
+    by_row: Vec<RowBoxes>,
 }
 
 impl Model for Sheet {
     ghost use Rattle.std.specs.Prelude.{◌≡◌};
-    ghost use Rattle.ladder_text.specs.Rows.{Rows};
+    ghost use Rattle.ladder_text.specs.Rows.{Rows, height};
     ghost use Rattle.ladder_text.specs.Boxes.{outlines};
+    ghost use Rattle.ladder_text.specs.RowBoxes.{numbers_by_row};
 
     ghost Value = { Rows };
 
     ghost view = { λ s. s.grid };
 
-    ghost invariant = { λ s. s.boxes.items ≡ outlines s.grid };
+    ghost invariant = { λ s. (s.boxes.items ≡ outlines s.grid) × (s.by_row.items ≡ numbers_by_row s.boxes.items (height s.grid)) };
 }
 
 #[tactic(auto, unfolding(crate::specs::Chars::contact_kind))]
@@ -71,7 +77,12 @@ impl Sheet {
         ensures { IfOk result (λ s. s ≡ grid) }
     {
         let boxes = outlines(alloc, &grid)?;
-        Ok(Sheet { grid, boxes })
+        let by_row = row_boxes(alloc, &boxes, grid.row_end().saturating_sub(1))?;
+        Ok(Sheet {
+            grid,
+            boxes,
+            by_row,
+        })
     }
 
     /// The first place at which a box begins that isn't as it should be.
@@ -140,45 +151,58 @@ impl Sheet {
         self.grid.row_end()
     }
 
+    /// Whether a box passes a test at a place.
+    #[tactic(auto, using(crate::proofs::RowBoxLemmas::by_row_whole))]
+    fn any_box(&self, test: BoxTest, row: usize, column: usize) -> bool
+        requires { column < 2 ^ 63 }
+        ensures { result ≡ list_any (box_test test row column) (outlines self.now) }
+    {
+        any_on_row(&self.boxes, &self.by_row, test, row, column)
+    }
+
     #[tactic(auto, unfolding(crate::specs::Places::layout_of))]
     pub fn in_box(&self, row: usize, column: usize) -> bool
+        requires { column < 2 ^ 63 }
         ensures { result ≡ in_box (layout_of self.now) row column }
     {
-        any_covers(&self.boxes, row, column)
+        self.any_box(BoxTest::Covers, row, column)
     }
 
     #[tactic(auto, unfolding(crate::specs::Places::layout_of))]
     pub fn in_operand(&self, row: usize, column: usize) -> bool
+        requires { column < 2 ^ 63 }
         ensures { result ≡ in_operand (layout_of self.now) row column }
     {
-        any_operand_reaches(&self.boxes, row, column)
+        self.any_box(BoxTest::Reaches, row, column)
     }
 
     #[tactic(auto, unfolding(crate::specs::Places::layout_of))]
     pub fn is_right_pin(&self, row: usize, column: usize) -> bool
+        requires { column < 2 ^ 63 }
         ensures { result ≡ is_right_pin (outlines self.now) row column }
     {
-        any_right_pin(&self.boxes, row, column)
+        self.any_box(BoxTest::RightPin, row, column)
     }
 
     #[tactic(auto, unfolding(crate::specs::Places::layout_of))]
     pub fn blind_right(&self, row: usize, column: usize) -> bool
-        requires { column < 2 ^ 62 }
+        requires { column < 2 ^ 63 }
         ensures { result ≡ blind_right (layout_of self.now) row column }
     {
-        any_blind_right(&self.boxes, row, column)
+        self.any_box(BoxTest::BlindRight, row, column)
     }
 
     #[tactic(auto, unfolding(crate::specs::Places::layout_of))]
     pub fn blind_left(&self, row: usize, column: usize) -> bool
+        requires { column < 2 ^ 63 }
         ensures { result ≡ blind_left (layout_of self.now) row column }
     {
-        any_blind_left(&self.boxes, row, column)
+        self.any_box(BoxTest::BlindLeft, row, column)
     }
 
     #[tactic(auto, unfolding(crate::specs::Places::layout_of, crate::specs::Places::contact_at))]
     pub fn contact_at(&self, row: usize, column: usize) -> Option<ContactKind>
-        requires { column < 2 ^ 63 }
+        requires { column < 2 ^ 62 }
         ensures { result ≡ contact_at (layout_of self.now) row column }
     {
         let before = self.at(row, column.saturating_sub(1));
@@ -197,7 +221,7 @@ impl Sheet {
 
     #[tactic(auto, unfolding(crate::specs::Places::layout_of, crate::specs::Places::coil_at))]
     pub fn coil_at(&self, row: usize, column: usize) -> Option<CoilKind>
-        requires { column < 2 ^ 63 }
+        requires { column < 2 ^ 62 }
         ensures { result ≡ coil_at (layout_of self.now) row column }
     {
         let round = self.at(row, column) == b'('
@@ -213,7 +237,7 @@ impl Sheet {
     }
 
     pub fn in_contact(&self, row: usize, column: usize) -> bool
-        requires { column < 2 ^ 63 }
+        requires { column < 2 ^ 62 }
         ensures { result ≡ in_contact (layout_of self.now) row column }
     {
         self.contact_at(row, column).is_some()
@@ -222,7 +246,7 @@ impl Sheet {
     }
 
     pub fn in_coil(&self, row: usize, column: usize) -> bool
-        requires { column < 2 ^ 63 }
+        requires { column < 2 ^ 62 }
         ensures { result ≡ in_coil (layout_of self.now) row column }
     {
         self.coil_at(row, column).is_some()
@@ -231,7 +255,7 @@ impl Sheet {
     }
 
     pub fn is_taken(&self, row: usize, column: usize) -> bool
-        requires { column < 2 ^ 63 }
+        requires { column < 2 ^ 62 }
         ensures { result ≡ is_taken (layout_of self.now) row column }
     {
         self.in_box(row, column) || self.in_contact(row, column) || self.in_coil(row, column)

@@ -4,11 +4,11 @@ ghost use Rattle.std.specs.Prelude.{◌≡◌, ◌+◌, ◌-◌, ◌<◌, ◌^�
 ghost use Rattle.ladder_text.specs.Places.{layout_of, contact_at, coil_at};
 ghost use Rattle.ladder_text.specs.Names.{contact_with, coil_with, row_contacts, row_coils, words, contacts, coils, drawn_box, drawn_boxes};
 
+use crate::coil::Coil;
+use crate::contact::Contact;
 use crate::drawn_box::DrawnBox;
 use crate::outline::Outline;
 use crate::page::Page;
-use crate::coil::Coil;
-use crate::contact::Contact;
 use crate::span::Span;
 use crate::spans::{name_above, words};
 use std::alloc::{AllocError, Global};

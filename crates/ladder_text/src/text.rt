@@ -27,7 +27,7 @@ impl Text {
         Ok(Text { text })
     }
 
-    /// A copy of some ASCII characters.
+    /// A copy of ASCII characters.
     #[tactic(auto, using(crate::proofs::TextLemmas::utf8_from_ascii))]
     pub(crate) fn from_ascii(alloc: Global, bytes: &[u8]) -> Result<Text, AllocError>
         requires { IsAscii bytes.now }
@@ -37,12 +37,14 @@ impl Text {
         Ok(Text { text })
     }
 
+    /// The characters.
     pub fn as_str(&self) -> &str
         ensures { result.now ≡ self.now }
     {
         self.text.as_str()
     }
 
+    /// A copy with memory of its own.
     pub fn try_copy(&self, alloc: Global) -> Result<Text, AllocError>
         ensures { IfOk result (λ t. t ≡ self.now) }
     {

@@ -1,4 +1,14 @@
 pub mod Spreading
+pub mod Basics
+pub mod Sharing
+pub mod RailLemmas
+pub mod SymbolLemmas
+pub mod ListLemmas
+pub mod PairLemmas
+pub mod FoundLemmas
+pub mod TopLemmas
+pub mod SplitLemmas
+pub mod WholeGraph
 pub mod Spots
 pub mod NumberLemmas
 pub mod Neighbours

@@ -1,91 +1,151 @@
-use Rattle.std.proofs.Common.{◌≡◌, ℕ, ◌+◌, ◌≤◌, ◌<◌, inl, inr, List, Bool, true, false, All, length, get_or, set, length-set, take, sum_by, arith, refl, sym, ◌∙◌}
-use Rattle.std.proofs.lemmas.List.{get_or-set_same, get_or-set_other}
-use Rattle.std.proofs.lemmas.List.Sums.{sum_by-set}
-use Rattle.std.proofs.lemmas.List.Elements.{All-more, Contains-get_or, All-contains}
-use Rattle.std.proofs.lemmas.Bool.{cases_eq}
+use Rattle.std.proofs.Common.{◌≡◌, ℕ, ◌+◌, ◌≤◌, ◌<◌, ◌⊎◌, inl, inr, List, All, Contains, length, get_or, set, length-set, arith, refl, sym, ap, ◌∙◌}
+use Rattle.std.proofs.lemmas.List.{get_or-set_same, get_or-set_other, get_or_past}
+use Rattle.std.proofs.lemmas.Bool.{cases_eq, cases_lt}
 use Rattle.network.specs.declared.labels.Pair.{Pair}
-use Rattle.network.specs.Joined.{Joined, IsSymmetric, AreChained}
-use Rattle.network.specs.Joined.Joined.{here, along}
-
--- the first n pairs were followed once
-pub record Spread (pairs : List Pair) (old new : List ℕ) (changed : Bool) (n : ℕ) : Type 0 where
-  pub long : length new ≡ length old
-  pub chained : AreChained pairs old → AreChained pairs new
-  pub fewer : changed ≡ true → sum_by (λ x. x) new < sum_by (λ x. x) old
-  pub same : changed ≡ false → new ≡ old
-  pub settled : changed ≡ false → All (λ p. get_or new p.other 0 ≤ get_or new p.one 0) (take n pairs)
-
-pub Spread-none : (pairs : List Pair) (old : List ℕ) → Spread pairs old old false 0
-Spread-none pairs old = record { long = refl; chained = λ h. h; fewer = λ e. cc; same = λ e. refl; settled = λ e k d h. absurd (omega arith) }
-
-pub Spread-skip : (pairs : List Pair) (old new : List ℕ) (changed : Bool) (n : ℕ) (d : Pair) → Spread pairs old new changed n → n < length pairs
-    → get_or new (get_or pairs n d).other 0 ≤ get_or new (get_or pairs n d).one 0 → Spread pairs old new changed (n + 1)
-Spread-skip pairs old new changed n d s in' here' = record {
-  long = s.long;
-  chained = s.chained;
-  fewer = s.fewer;
-  same = s.same;
-  settled = λ e. All-more (λ p. get_or new p.other 0 ≤ get_or new p.one 0) pairs n d in' (s.settled e) here';
-}
-
-pub Spread-set : (pairs : List Pair) (old new : List ℕ) (changed : Bool) (n : ℕ) (d : Pair) → Spread pairs old new changed n → n < length pairs
-    → get_or new (get_or pairs n d).one 0 < get_or new (get_or pairs n d).other 0 → (get_or pairs n d).one < length new → (get_or pairs n d).other < length new
-    → Spread pairs old (set new (get_or pairs n d).other (get_or new (get_or pairs n d).one 0)) true (n + 1)
-Spread-set pairs old new changed n d s in' less room_one room = record {
-  long = length-set new (get_or pairs n d).other (get_or new (get_or pairs n d).one 0) ∙ s.long;
-  chained = λ h k lt. chain (s.chained h) k (let e = length-set new (get_or pairs n d).other (get_or new (get_or pairs n d).one 0) in omega arith);
-  fewer = λ e. falls changed refl;
-  same = λ e. cc;
-  settled = λ e. cc;
-}
-  where
-    p : Pair
-    p = get_or pairs n d
-
-    chain : AreChained pairs new → (k : ℕ) → k < length new → Joined pairs (get_or (set new p.other (get_or new p.one 0)) k 0) k
-    chain h k lt = elim (cases_eq k p.other) [
-      | inl e ↦ rw (e, get_or-set_same new p.other (get_or new p.one 0) 0 room) (along (Contains-get_or pairs n d in') (h p.one room_one))
-      | inr ne ↦ rw (get_or-set_other new p.other k (get_or new p.one 0) 0 ne) (h k lt)
-    ]
-
-    step : sum_by (λ x. x) (set new p.other (get_or new p.one 0)) < sum_by (λ x. x) new
-    step = let e = sum_by-set (λ (x : ℕ). x) new p.other (get_or new p.one 0) 0 room in omega (arith, e)
-
-    falls : (c : Bool) → changed ≡ c → sum_by (λ x. x) (set new p.other (get_or new p.one 0)) < sum_by (λ x. x) old
-    falls true e = let a = s.fewer e in let b = step in omega arith
-    falls false e = let a = s.same e in rw (sym a) step
+use Rattle.network.specs.Joined.{Joined, AreChained, AreFalling, IsOneAlong, KeepsClasses}
+use Rattle.network.specs.Joined.Joined.{here, along, back}
 
 -- chains go both ways, and follow one another
 pub Joined-trans : (pairs : List Pair) {i j k : ℕ} → Joined pairs i j → Joined pairs j k → Joined pairs i k
 Joined-trans pairs one here = one
 Joined-trans pairs one (along in' two) = along in' (Joined-trans pairs one two)
+Joined-trans pairs one (back in' two) = back in' (Joined-trans pairs one two)
 
-pub Joined-sym : (pairs : List Pair) → IsSymmetric pairs → {i j : ℕ} → Joined pairs i j → Joined pairs j i
-Joined-sym pairs both here = here
-Joined-sym pairs both (along {i} {p} in' one) =
-    let q = both p in' in
-    let step : Joined pairs q.0.one q.0.other = along q.1 here in
-    let back : Joined pairs p.other p.one = move q.2 q.3 step in
-    Joined-trans pairs back (Joined-sym pairs both one)
+pub Joined-sym : (pairs : List Pair) {i j : ℕ} → Joined pairs i j → Joined pairs j i
+Joined-sym pairs here = here
+Joined-sym pairs (along in' one) = Joined-trans pairs (back in' here) (Joined-sym pairs one)
+Joined-sym pairs (back in' one) = Joined-trans pairs (along in' here) (Joined-sym pairs one)
+
+-- what has one value at both ends of each pair has one value along a chain
+pub Joined-one : (pairs : List Pair) (f : ℕ → ℕ) → ((p : Pair) → Contains pairs p → f p.one ≡ f p.other) → {i j : ℕ} → Joined pairs i j → f i ≡ f j
+Joined-one pairs f both here = refl
+Joined-one pairs f both (along {i} {p} in' one) = Joined-one pairs f both one ∙ both p in'
+Joined-one pairs f both (back {i} {p} in' one) = Joined-one pairs f both one ∙ sym (both p in')
+
+pub classes_same : (labels : List ℕ) → KeepsClasses labels labels
+classes_same labels = record { long = refl; falling = λ h. h; chained = λ pairs h. h; kept = λ f h. h; roots = λ k h. h }
+
+pub classes_then : (a b c : List ℕ) → KeepsClasses a b → KeepsClasses b c → KeepsClasses a c
+classes_then a b c one two = record {
+  long = two.long ∙ one.long;
+  falling = λ h. two.falling (one.falling h);
+  chained = λ pairs h. two.chained pairs (one.chained pairs h);
+  kept = λ f h. one.kept f (two.kept f h);
+  roots = λ k h. two.roots k (one.roots k h);
+}
+
+-- one label more is followed twice
+module _ (labels : List ℕ) (falling : AreFalling labels) (at : ℕ) (within : at < length labels) where
+  short : List ℕ
+  short = set labels at (get_or labels (get_or labels at 0) 0)
+
+  pub short_here : get_or (set labels at (get_or labels (get_or labels at 0) 0)) at 0 ≡ get_or labels (get_or labels at 0) 0
+  short_here = get_or-set_same labels at (get_or labels (get_or labels at 0) 0) 0 within
+
+  pub short_other : (k : ℕ) → (k ≡ at → ⊥) → get_or (set labels at (get_or labels (get_or labels at 0) 0)) k 0 ≡ get_or labels k 0
+  short_other k ne = get_or-set_other labels at k (get_or labels (get_or labels at 0) 0) 0 ne
+
+  pub short_long : length (set labels at (get_or labels (get_or labels at 0) 0)) ≡ length labels
+  short_long = length-set labels at (get_or labels (get_or labels at 0) 0)
+
+  pub short_root : (k : ℕ) → get_or labels k 0 ≡ k → get_or (set labels at (get_or labels (get_or labels at 0) 0)) k 0 ≡ k
+  short_root k e = elim (cases_eq k at) [
+    | inl same ↦ ap (λ x. get_or (set labels at (get_or labels (get_or labels at 0) 0)) x 0) same ∙ short_here ∙ ap (λ x. get_or labels (get_or labels x 0) 0) (sym same) ∙ ap (λ x. get_or labels x 0) e ∙ e
+    | inr ne ↦ short_other k ne ∙ e
+  ]
+
+  pub short_one : (f : ℕ → ℕ) → IsOneAlong f (set labels at (get_or labels (get_or labels at 0) 0)) → f at ≡ f (get_or labels at 0)
+  short_one f one = elim (cases_eq (get_or labels at 0) at) [
+    | inl same ↦ ap f (sym same)
+    | inr ne ↦ (let low = falling at in
+        let a : f (get_or labels (get_or labels at 0) 0) ≡ f at = ap f (sym short_here) ∙ one at (let l = short_long in omega arith) in
+        let b : f (get_or labels (get_or labels at 0) 0) ≡ f (get_or labels at 0) = ap f (sym (short_other (get_or labels at 0) ne)) ∙ one (get_or labels at 0) (let l = short_long in omega arith) in
+        sym a ∙ b)
+  ]
+
+  pub short_keeps : KeepsClasses labels (set labels at (get_or labels (get_or labels at 0) 0))
+  short_keeps = record {
+    long = short_long;
+    falling = λ h k. elim (cases_eq k at) [
+      | inl same ↦ rw (same, short_here) (let a = h at in let b = h (get_or labels at 0) in omega arith)
+      | inr ne ↦ rw (short_other k ne) (h k)
+    ];
+    chained = λ pairs h k lt. elim (cases_eq k at) [
+      | inl same ↦ rw (same, short_here) (Joined-trans pairs (h (get_or labels at 0) (let a = falling at in omega arith)) (h at within))
+      | inr ne ↦ rw (short_other k ne) (h k (let l = short_long in omega arith))
+    ];
+    kept = λ f one k lt. elim (cases_eq k at) [
+      | inl same ↦ rw same (sym (short_one f one))
+      | inr ne ↦ ap f (sym (short_other k ne)) ∙ one k (let l = short_long in omega arith)
+    ];
+    roots = short_root;
+  }
+
+-- a root gets the label of another
+module _ (labels : List ℕ) (falling : AreFalling labels) (one other : ℕ) (within : one < length labels) (within' : other < length labels) (root : get_or labels one 0 ≡ one) (low : other ≤ one) where
+  link_long : length (set labels one other) ≡ length labels
+  link_long = length-set labels one other
+
+  link_here : get_or (set labels one other) one 0 ≡ other
+  link_here = get_or-set_same labels one other 0 within
+
+  link_other : (k : ℕ) → (k ≡ one → ⊥) → get_or (set labels one other) k 0 ≡ get_or labels k 0
+  link_other k ne = get_or-set_other labels one k other 0 ne
+
+  pub link_falling : AreFalling (set labels one other)
+  link_falling k = elim (cases_eq k one) [ inl same ↦ rw (same, link_here) low | inr ne ↦ rw (link_other k ne) (falling k) ]
+
+  pub link_chained : (pairs : List Pair) → Joined pairs other one → AreChained pairs labels → AreChained pairs (set labels one other)
+  link_chained pairs joined h k lt = elim (cases_eq k one) [
+    | inl same ↦ rw (same, link_here) joined
+    | inr ne ↦ rw (link_other k ne) (h k (let l = link_long in omega arith))
+  ]
+
+  pub link_kept : (f : ℕ → ℕ) → IsOneAlong f (set labels one other) → IsOneAlong f labels
+  link_kept f h k lt = elim (cases_eq k one) [
+    | inl same ↦ rw (same, root) refl
+    | inr ne ↦ ap f (sym (link_other k ne)) ∙ h k (let l = link_long in omega arith)
+  ]
+
+  pub link_one : (f : ℕ → ℕ) → IsOneAlong f (set labels one other) → f other ≡ f one
+  link_one f h = ap f (sym link_here) ∙ h one (let l = link_long in omega arith)
+
+-- the first n labels are the last ones of their ways
+abbrev pub AreFlatTo : List ℕ → ℕ → Type 0
+AreFlatTo labels n = (k : ℕ) → k < n → get_or labels (get_or labels k 0) 0 ≡ get_or labels k 0
+
+pub flat_more : (labels : List ℕ) (n : ℕ) → AreFalling labels → n < length labels → AreFlatTo labels n → AreFlatTo (set labels n (get_or labels (get_or labels n 0) 0)) (n + 1)
+flat_more labels n falling within flat k lt = elim (cases_eq k n) [
+  | inl same ↦ rw (same, short_here labels falling n within) last
+  | inr ne ↦ (let low = falling k in rw (short_other labels falling n within k ne, short_other labels falling n within (get_or labels k 0) (λ e. omega arith)) (flat k (omega arith)))
+]
   where
-    move : {a b c d : ℕ} → a ≡ c → b ≡ d → Joined pairs a b → Joined pairs c d
-    move e f j = rw (← e, ← f) j
+    last : get_or (set labels n (get_or labels (get_or labels n 0) 0)) (get_or labels (get_or labels n 0) 0) 0 ≡ get_or labels (get_or labels n 0) 0
+    last = elim (cases_eq (get_or labels n 0) n) [
+      | inl same ↦ short_root labels falling n within (get_or labels (get_or labels n 0) 0) (ap (λ x. get_or labels (get_or labels x 0) 0) same ∙ refl)
+      | inr ne ↦ (let low = falling n in
+          let root = flat (get_or labels n 0) (omega arith) in
+          short_root labels falling n within (get_or labels (get_or labels n 0) 0) root)
+    ]
 
--- labels that no pair lowers are the same along a chain
-pub Joined-label : (pairs : List Pair) (labels : List ℕ) → IsSymmetric pairs → All (λ p. get_or labels p.other 0 ≤ get_or labels p.one 0) pairs
-    → {i j : ℕ} → Joined pairs i j → get_or labels i 0 ≡ get_or labels j 0
-Joined-label pairs labels both settled here = refl
-Joined-label pairs labels both settled (along {i} {p} in' one) =
-    let q = both p in' in
-    let down = All-contains (λ p. get_or labels p.other 0 ≤ get_or labels p.one 0) pairs p settled in' in
-    let up = All-contains (λ p. get_or labels p.other 0 ≤ get_or labels p.one 0) pairs q.0 settled q.1 in
-    let up' : get_or labels p.one 0 ≤ get_or labels p.other 0 = rw (q.2, q.3) at up in
-    let before = Joined-label pairs labels both settled one in
-    omega arith
+-- labels that agree on each pair, and are joined to their elements, tell who is joined
+pub labels_tell : (pairs : List Pair) (labels : List ℕ) → AreChained pairs labels → ((p : Pair) → Contains pairs p → get_or labels p.one 0 ≡ get_or labels p.other 0)
+    → (i j : ℕ) → i < length labels → j < length labels → (get_or labels i 0 ≡ get_or labels j 0 → Joined pairs i j) × (Joined pairs i j → get_or labels i 0 ≡ get_or labels j 0)
+labels_tell pairs labels chained both i j lt lt' =
+    ((λ e. Joined-trans pairs (Joined-sym pairs (chained i lt)) (rw e (chained j lt'))), (λ h. Joined-one pairs (λ k. get_or labels k 0) both h))
 
--- equal labels: joined
-pub joined_from_label : (pairs : List Pair) (labels : List ℕ) → IsSymmetric pairs → AreChained pairs labels → (i j : ℕ) → i < length labels → j < length labels
-    → get_or labels i 0 ≡ get_or labels j 0 → Joined pairs i j
-joined_from_label pairs labels both chained i j lt lt' e =
-    let to_j : Joined pairs (get_or labels i 0) j = rw e (chained j lt') in
-    Joined-trans pairs (Joined-sym pairs both (chained i lt)) to_j
+-- what is known of two roots, once both are found
+pub record AreRoots (l0 l1 l2 : List ℕ) (one other a b : ℕ) : Type 0 where
+  pub first : KeepsClasses l0 l1
+  pub second : KeepsClasses l1 l2
+  pub found : (f : ℕ → ℕ) → IsOneAlong f l1 → f a ≡ f one
+  pub found' : (f : ℕ → ℕ) → IsOneAlong f l2 → f b ≡ f other
+  pub chained : (pairs : List Pair) → AreChained pairs l0 → Joined pairs a one
+  pub chained' : (pairs : List Pair) → AreChained pairs l1 → Joined pairs b other
+
+pub roots_joined : (l0 l1 l2 : List ℕ) (p : Pair) (a b : ℕ) → AreRoots l0 l1 l2 p.one p.other a b → (pairs : List Pair) → Contains pairs p → AreChained pairs l0 → Joined pairs a b
+roots_joined l0 l1 l2 p a b r pairs in' h = Joined-trans pairs (along in' (r.chained pairs h)) (Joined-sym pairs (r.chained' pairs (r.first.chained pairs h)))
+
+-- the pair is at one label, whichever root got the other's
+pub roots_united : (l0 l1 l2 l3 : List ℕ) (one other a b : ℕ) → AreRoots l0 l1 l2 one other a b → (f : ℕ → ℕ) → IsOneAlong f l2 → f a ≡ f b → f one ≡ f other
+roots_united l0 l1 l2 l3 one other a b r f h e = sym (r.found f (r.second.kept f h)) ∙ e ∙ r.found' f h

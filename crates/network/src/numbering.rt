@@ -31,7 +31,7 @@ impl Model for Numbering {
 
 impl Numbering {
     ghost use Rattle.network.specs.declared.numbering.Spot.{Spot};
-    ghost use Rattle.std.specs.Prelude.{◌≡◌, ◌⊎◌, ◌↔◌, ℕ, [], ◌∷◌, ◌++◌, Some, IfOk, OnOk, slice_get, length};
+    ghost use Rattle.std.specs.Prelude.{◌≡◌, ◌⊎◌, ◌↔◌, ℕ, [], ◌∷◌, ◌++◌, Some, IfOk, OnOk, MatchOption, slice_get, length};
     ghost use Rattle.network.specs.Numbers.{IsSpot};
 
     pub fn new(alloc: Global) -> Self
@@ -48,6 +48,15 @@ impl Numbering {
         ensures { (k : ℕ) → (result ≡ Some k) ↔ IsSpot self.now k place }
     {
         self.numbers.get(&(place.row, place.column)).copied()
+    }
+
+    /// The number of the element that a place belongs to.
+    pub fn owner(&self, place: Place) -> Option<usize>
+        ensures at { MatchOption result ((k : ℕ) → IsSpot self.now k place → ⊥) (λ e. (k : ℕ) × (slice_get self.now k ≡ Some (record { place = place; element = e }))) }
+        ensures only { (k e : ℕ) → slice_get self.now k ≡ Some (record { place = place; element = e }) → result ≡ Some e }
+    {
+        let number = self.find(place)?;
+        Some(self.spots[number].element)
     }
 
     /// All places in the order of their numbers.

@@ -1,18 +1,16 @@
-use Rattle.std.proofs.Common.{◌≡◌, ℕ, zero, suc, ◌+◌, ◌≤◌, ◌<◌, List, [], ◌∷◌, Bool, true, false, Option, Some, None, Result, Ok, Err, All, slice_get, slice_index_or, get_or, length, take, drop, map, ltb, arith, refl, sym, ap, ◌∙◌}
+use Rattle.std.proofs.Common.{◌≡◌, ℕ, ◌+◌, ◌≤◌, List, [], Bool, true, false, Option, Some, None, All, slice_get, slice_index_or, get_or, length, map, arith, refl, sym, ap, ◌∙◌}
 use Rattle.std.specs.Option.{option_and_then, option_map}
 use Rattle.std.specs.List.{before_first, after_first, position_or_len}
 use Rattle.std.proofs.lemmas.Bool.{ltb-false}
 use Rattle.std.proofs.lemmas.List.{length-take, take_all, drop_all}
-use Rattle.std.proofs.lemmas.Option.{slice_get-map, get_or_from_slice_get, slice_get-get_or, slice_get_within}
-use Rattle.std_blocks.specs.declared.value.Value.TheVariants.{Bool as BoolValue}
+use Rattle.std.proofs.lemmas.Option.{slice_get-map, get_or_from_slice_get, slice_get_within}
 use Rattle.network.specs.declared.element.Element.{Element}
 use Rattle.network.specs.declared.element.Element.TheVariants.{Wire, Join, Upright, Contact, Coil, Box}
 use Rattle.power_flow.specs.declared.bind.BindKind.{BindKind}
-use Rattle.power_flow.specs.declared.bind.BindKind.TheVariants.{UnknownName, WrongKind}
 use Rattle.power_flow.specs.declared.declarations.Declaration.{Declaration}
 use Rattle.power_flow.specs.declared.declarations.Declared.{Declared}
 use Rattle.power_flow.specs.Names.{place_of, is_dot}
-use Rattle.power_flow.specs.Binding.{IsBound, element_fault, fault_with, variable_declared, declared_at, as_variable, is_dotted, read_fault, write_fault}
+use Rattle.power_flow.specs.Binding.{IsBound, fault_with, variable_declared, declared_at, as_variable, is_dotted, read_fault, write_fault}
 use Rattle.power_flow.specs.Circuit.{IsNamed, IsNamedBy, operand_at}
 
 -- a name whose first part is all of it has no dot

@@ -1,6 +1,6 @@
-use Rattle.std.proofs.Common.{◌≡◌, ℕ, zero, suc, ◌+◌, ◌<◌, ◌≤◌, ◌⊎◌, ◌↔◌, inl, inr, List, [], ◌∷◌, ◌++◌, map, Bool, true, false, Option, Some, None, IsTrue, Contains, Any, get_or, length, slice_get, slice_index, slice_index_or, arith, refl, sym, ap, ◌∙◌, subst}
-use Rattle.std.specs.List.{enumerate_from, flat_map, before_first, after_first}
-use Rattle.std.specs.Option.{option_and_then, option_map}
+use Rattle.std.proofs.Common.{◌≡◌, ℕ, zero, suc, ◌+◌, ◌<◌, ◌↔◌, inl, inr, List, [], ◌∷◌, map, Bool, true, Option, Some, None, Contains, length, slice_get, slice_index, slice_index_or, arith, refl, sym, ap, ◌∙◌}
+use Rattle.std.specs.List.{enumerate_from, flat_map}
+use Rattle.std.specs.Option.{option_map}
 use Rattle.std.proofs.lemmas.Option.{slice_get-get_or, slice_get_within}
 use Rattle.std.proofs.lemmas.List.{length-map}
 use Rattle.std_blocks.specs.declared.value.Value.{Value}
@@ -12,18 +12,15 @@ use Rattle.network.specs.declared.element.Element.TheVariants.{Wire, Join, Uprig
 use Rattle.network.specs.Links.{Diagram}
 use Rattle.power_flow.specs.declared.declarations.Declaration.{Declaration}
 use Rattle.power_flow.specs.declared.state.Slot.{Slot}
-use Rattle.power_flow.specs.declared.state.Instance.{Instance}
 use Rattle.network.specs.declared.link.Link.{Link}
-use Rattle.power_flow.specs.declared.circuit.Circuit.{Circuit}
 use Rattle.power_flow.specs.Reach.{bit_at, Reached}
-use Rattle.power_flow.specs.Power.{SymbolEndsAt, EndsAt}
+use Rattle.power_flow.specs.Power.{SymbolEndsAt}
 use Rattle.power_flow.specs.Table.{IsTable, IsOutside, FollowsSource}
-use Rattle.power_flow.specs.Names.{place_of, value_of, value_at, slot_value, is_true, is_on_at, is_dot}
-use Rattle.power_flow.specs.Meaning.{Moment, moment, HasPower, IsSource, IsOutputOn, BlocksStep, conducts, element_conducts, AreLinks, NetworkMeaning, next_memory, stored, stores, coil_stores, result_stores, first_place, contact_conducts, contact_memory, coil_memory, coil_value, store}
+use Rattle.power_flow.specs.Names.{place_of, value_of, is_true, is_on_at}
+use Rattle.power_flow.specs.Meaning.{Moment, moment, HasPower, IsSource, IsOutputOn, conducts, element_conducts, NetworkMeaning, next_memory, stored, stores, coil_stores, result_stores, first_place, contact_conducts, contact_memory, coil_memory, coil_value, store}
 use Rattle.power_flow.specs.Steps.{is_operand_on, conducts_at, memory_read, memory_stored, coil_stores_at, table_stores}
-use Rattle.power_flow.specs.Circuit.{IsCircuit, IsNamed, IsNamedBy}
+use Rattle.power_flow.specs.Circuit.{IsNamed, IsNamedBy}
 use Rattle.power_flow.proofs.TableLemmas.{on_from_reached, reached_from_on}
-use Rattle.power_flow.proofs.Lists.{Contains-slice_get, same_by_slice_get}
 
 -- a name without a dot stands for its variable
 named_value : (ds : List Declaration) (slots : List Slot) (name : List ℕ) (place : ℕ) → IsNamed ds name place → is_true (value_of ds slots name) ≡ is_on_at slots place

@@ -1,4 +1,4 @@
-use Rattle.std.proofs.Common.{◌≡◌, ℕ, ◌+◌, ◌⊎◌, inl, inr, List, Bool, IsTrue, arith, refl, ◌∙◌}
+use Rattle.std.proofs.Common.{◌≡◌, ℕ, inl, inr, Bool, IsTrue, refl, ◌∙◌}
 use Rattle.ladder_text.specs.declared.place.Place.{Place}
 use Rattle.network.specs.Links.{Diagram, Passes, PassesRight, PassesUpright}
 use Rattle.power_flow.specs.Power.{SymbolEndsAt, IsOn}

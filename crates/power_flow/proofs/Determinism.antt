@@ -1,4 +1,4 @@
-use Rattle.std.proofs.Common.{◌≡◌, ℕ, zero, suc, ◌+◌, ◌<◌, ◌≤◌, ◌⊎◌, ◌↔◌, inl, inr, List, [], ◌∷◌, ◌++◌, take, drop, take-append-drop, Bool, true, false, Option, Some, None, IsTrue, Contains, Any, MatchOption, ℤ, get_or, length, slice_get, arith, refl, sym, ap, ◌∙◌, subst, map}
+use Rattle.std.proofs.Common.{◌≡◌, ℕ, zero, suc, ◌<◌, ◌≤◌, ◌⊎◌, ◌↔◌, inl, inr, List, [], ◌∷◌, ◌++◌, take, drop, take-append-drop, Bool, Option, Some, None, IsTrue, Contains, MatchOption, ℤ, length, slice_get, arith, refl, sym, ap, ◌∙◌, subst, map}
 use Rattle.std.specs.Option.{option_and_then}
 use Rattle.std.specs.List.{enumerate_from}
 use Rattle.power_flow.specs.Reach.{bit_at}
@@ -12,7 +12,7 @@ use Rattle.network.specs.declared.element.Element.TheVariants.{Wire, Join, Uprig
 use Rattle.network.specs.Links.{Diagram}
 use Rattle.std_blocks.specs.declared.block_type.BlockType.{BlockType}
 use Rattle.std_blocks.specs.declared.pins.PinsIn.{PinsIn}
-use Rattle.std_blocks.specs.declared.pin.Field.TheVariants.{Bit, Int, Time}
+use Rattle.std_blocks.specs.declared.pin.Field.TheVariants.{Bit}
 use Rattle.std_blocks.specs.Blocks.{bit, after, outputs_after}
 use Rattle.power_flow.specs.declared.declarations.Declaration.{Declaration}
 use Rattle.power_flow.specs.declared.state.Instance.{Instance}

@@ -1,4 +1,4 @@
-use Rattle.std.proofs.Common.{◌≡◌, ℕ, zero, suc, ◌+◌, ◌<◌, ◌≤◌, ◌⊎◌, ◌≢◌, inl, inr, List, [], ◌∷◌, ◌++◌, Bool, Option, Some, None, All, Contains, set, length-set, get_or, take, drop, length, slice_get, map, sum_by, refl, sym, ap, ◌∙◌, subst, arith}
+use Rattle.std.proofs.Common.{◌≡◌, ℕ, ◌+◌, ◌<◌, ◌⊎◌, ◌≢◌, inl, inr, List, [], ◌∷◌, ◌++◌, Bool, Option, Some, None, All, Contains, set, length-set, get_or, take, drop, length, slice_get, map, sum_by, refl, sym, ap, ◌∙◌, subst, arith}
 use Rattle.std.specs.Option.{option_map}
 use Rattle.std.specs.List.{AllByRecursion, flat_map, enumerate_from}
 use Rattle.std.proofs.lemmas.Bool.{cases_eq}
@@ -26,7 +26,7 @@ use Rattle.power_flow.specs.declared.circuit.Circuit.{Circuit}
 use Rattle.power_flow.specs.Circuit.{circuit_diagram}
 use Rattle.power_flow.specs.LadderValue.{LadderValue, Fits}
 use Rattle.power_flow.specs.Binding.{IsBound, CanBind, write_fault}
-use Rattle.power_flow.specs.Meaning.{Moment, moment, NetworkMeaning, BlocksStep, stored, stores, store, coil_stores, coil_value, result_stores}
+use Rattle.power_flow.specs.Meaning.{Moment, moment, NetworkMeaning, stored, stores, store, coil_stores, coil_value, result_stores}
 use Rattle.power_flow.specs.Scan.{ScanMeaning}
 use Rattle.power_flow.proofs.Lists.{same_by_slice_get}
 use Rattle.power_flow.proofs.BindingLemmas.{IsVariable, variable_is}

@@ -1,6 +1,6 @@
-use Rattle.std.proofs.Common.{◌≡◌, ℕ, ◌+◌, ◌≤◌, ◌<◌, ◌⊎◌, inl, inr, List, [], ◌∷◌, Bool, IsTrue, arith, refl}
+use Rattle.std.proofs.Common.{ℕ, ◌≤◌, inl, inr, List, [], ◌∷◌, Bool, IsTrue, arith}
 use Rattle.ladder_text.specs.declared.place.Place.{Place}
-use Rattle.network.specs.Links.{Diagram, Passes, PassesRight, PassesUpright}
+use Rattle.network.specs.Links.{Diagram, Passes}
 use Rattle.power_flow.specs.Power.{IsWalk, SymbolEndsAt, AllConduct, IsOn}
 
 -- a step never goes left

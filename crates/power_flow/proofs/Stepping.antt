@@ -1,9 +1,9 @@
-use Rattle.std.proofs.Common.{◌≡◌, ℕ, zero, suc, ◌+◌, ◌<◌, ◌≤◌, ◌⊎◌, inl, inr, List, [], ◌∷◌, ◌++◌, Bool, true, false, Option, Some, None, get_or, set, length, slice_get, slice_index, slice_index_or, drop, arith, refl, sym, ap, ◌∙◌}
-use Rattle.std.specs.List.{enumerate_from, flat_map}
+use Rattle.std.proofs.Common.{◌≡◌, ℕ, suc, ◌+◌, ◌<◌, ◌≤◌, inl, inr, List, [], ◌∷◌, ◌++◌, Bool, false, Option, Some, None, get_or, set, length, slice_get, slice_index, slice_index_or, drop, arith, refl, sym, ap, ◌∙◌}
+use Rattle.std.specs.List.{enumerate_from}
 use Rattle.std.proofs.lemmas.Bool.{cases_eq}
 use Rattle.std.proofs.lemmas.List.{get_or-set_same, get_or-set_other, drop_all}
 use Rattle.std.proofs.lemmas.Option.{get_or_from_slice_get}
-use Rattle.std.proofs.Common.{drop-cons, add-one, append_assoc}
+use Rattle.std.proofs.Common.{drop-cons, add-one}
 use Rattle.std_blocks.specs.declared.value.Value.{Value}
 use Rattle.network.specs.declared.element.Element.{Element}
 use Rattle.power_flow.specs.declared.state.Slot.{Slot}

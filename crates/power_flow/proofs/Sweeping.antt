@@ -1,9 +1,8 @@
-use Rattle.std.proofs.Common.{◌≡◌, ℕ, ◌+◌, ◌≤◌, ◌<◌, ◌⊎◌, ◌↔◌, inl, inr, List, [], ◌∷◌, Bool, true, false, not, cond, All, Contains, length, get_or, set, take, count_by, sum_by, arith, refl, sym, ap, ◌∙◌}
+use Rattle.std.proofs.Common.{◌≡◌, ℕ, ◌+◌, ◌≤◌, ◌<◌, ◌⊎◌, inl, inr, List, Bool, true, false, not, cond, length, get_or, set, take, count_by, arith, refl, sym, ap, ◌∙◌}
 use Rattle.std.proofs.lemmas.List.{get_or-set_same, get_or-set_other}
 use Rattle.std.proofs.lemmas.List.Sums.{sum_by-set}
 use Rattle.std.proofs.lemmas.List.Elements.{All-more, Contains-get_or, All-contains}
 use Rattle.std.proofs.lemmas.Bool.{cases_eq}
-use Rattle.std.specs.Bool.{OnTrue, OnFalse}
 use Rattle.network.specs.declared.link.Link.{Link}
 use Rattle.power_flow.specs.Reach.{bit_at, is_open, IsClosed, Reached}
 use Rattle.power_flow.specs.Reach.Reached.{start, along}

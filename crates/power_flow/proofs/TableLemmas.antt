@@ -1,11 +1,11 @@
-use Rattle.std.proofs.Common.{◌≡◌, ℕ, ◌+◌, ◌≤◌, ◌<◌, ◌⊎◌, ◌↔◌, inl, inr, List, [], ◌∷◌, Bool, true, false, Option, Some, None, IsTrue, Contains, Any, slice_get, IfSome, arith, refl, sym, ◌∙◌, ap, subst}
+use Rattle.std.proofs.Common.{◌≡◌, ℕ, ◌⊎◌, ◌↔◌, inl, inr, List, Bool, true, Option, Some, None, IsTrue, slice_get, IfSome, refl, sym, ◌∙◌}
 use Rattle.ladder_text.specs.declared.place.Place.{Place}
-use Rattle.network.specs.Links.{Diagram, Passes, PassesRight, PassesUpright, Takes, Stands}
+use Rattle.network.specs.Links.{Diagram, Passes}
 use Rattle.network.specs.declared.link.Link.{Link}
-use Rattle.power_flow.specs.Power.{IsWalk, SymbolEndsAt, AllConduct, IsOn}
+use Rattle.power_flow.specs.Power.{SymbolEndsAt, IsOn}
 use Rattle.power_flow.specs.Reach.{bit_at, is_open, Reached}
 use Rattle.power_flow.specs.Reach.Reached.{start, along}
-use Rattle.power_flow.specs.Table.{IsTable, IsStep, IsOutside, FollowsSource, CanHold}
+use Rattle.power_flow.specs.Table.{IsTable, IsOutside, FollowsSource}
 use Rattle.power_flow.proofs.PowerLemmas.{on_source, on_step, on_induction}
 
 module _ (d : Diagram) (places : List Place) (links : List Link) (gates starts : List Bool) (conducts : ℕ → Bool) (IsSource : Place → Type 0)

@@ -1,4 +1,4 @@
-use Rattle.std.proofs.Common.{◌≡◌, ℕ, zero, suc, ◌+◌, ◌≤◌, ◌<◌, ◌⊎◌, ◌↔◌, inl, inr, List, [], ◌∷◌, Bool, true, Option, Some, None, All, IfSome, Contains, Any, slice_get, slice_index, get_or, length, map, arith, refl, sym, ap, ◌∙◌}
+use Rattle.std.proofs.Common.{◌≡◌, ℕ, zero, suc, ◌<◌, ◌⊎◌, ◌↔◌, inl, inr, List, [], ◌∷◌, Bool, true, Option, Some, None, All, IfSome, Contains, Any, slice_get, slice_index, get_or, length, map, arith, refl, sym, ap, ◌∙◌}
 use Rattle.std.proofs.lemmas.Option.{slice_get_within, slice_get-get_or, get_or_from_slice_get}
 use Rattle.std.proofs.lemmas.List.Elements.{Contains-get_or}
 use Rattle.ladder_text.specs.declared.place.Place.{Place}
@@ -7,7 +7,7 @@ use Rattle.network.specs.declared.element.Element.TheVariants.{Wire, Join, Uprig
 use Rattle.network.specs.declared.numbering.Spot.{Spot}
 use Rattle.network.specs.declared.link.Link.{Link}
 use Rattle.network.specs.Links.{Diagram, Passes, Takes, Stands}
-use Rattle.network.specs.Apart.{AreApart, Has, first_place}
+use Rattle.network.specs.Apart.{Has, first_place}
 use Rattle.network.specs.GraphValue.{diagram, IsSoundNetwork}
 use Rattle.network.specs.Numbers.{IsSpot}
 use Rattle.network.specs.Numbered.{NumberedTo, LinkedFrom, places_of}

@@ -1,4 +1,4 @@
-use Rattle.std.specs.Prelude.{◌≡◌, ℕ, ◌+◌, ◌<◌, ◌⊎◌, ◌↔◌, List, [], ◌∷◌, ◌++◌, map, fold, Bool, true, false, not, ◌&&◌, if◌then◌else◌, Option, Some, None, IsTrue, Contains, Any, slice_get, slice_set, length, MatchOption}
+use Rattle.std.specs.Prelude.{◌≡◌, ℕ, ◌<◌, ◌⊎◌, ◌↔◌, List, [], ◌∷◌, ◌++◌, map, Bool, true, false, not, ◌&&◌, if◌then◌else◌, Option, Some, None, IsTrue, Contains, Any, slice_get, slice_set, length, MatchOption}
 use Rattle.std.specs.List.{flat_map, enumerate_from}
 use Rattle.std.specs.Option.{option_map_or, option_map, option_and_then}
 use Rattle.ladder_text.specs.declared.place.Place.{Place}

@@ -1,4 +1,4 @@
-use Rattle.std.specs.Prelude.{◌≡◌, ℕ, ◌<◌, ◌⊎◌, List, Bool, true, false, Option, Some, None, slice_index_or, length, Contains, IfSome, All}
+use Rattle.std.specs.Prelude.{◌≡◌, ℕ, ◌<◌, List, Bool, true, false, Option, Some, None, slice_index_or, length, Contains, IfSome, All}
 use Rattle.network.specs.declared.link.Link.{Link}
 
 abbrev pub bit_at : List Bool → ℕ → Bool

@@ -1,5 +1,4 @@
-ghost use Rattle.std.specs.Prelude.{◌≡◌, ◌≤◌, ℕ, List, All, IfOk, Some, slice_get, length, map};
-ghost use Rattle.std.specs.List.{AllByRecursion};
+ghost use Rattle.std.specs.Prelude.{◌≡◌, ℕ, List, All, IfOk, Some, slice_get, length, map};
 ghost use Rattle.network.specs.declared.element.Element.{Element};
 ghost use Rattle.network.specs.declared.numbering.Spot.{Spot};
 ghost use Rattle.network.specs.GraphValue.{diagram, IsSoundNetwork};

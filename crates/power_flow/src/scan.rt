@@ -1,4 +1,4 @@
-ghost use Rattle.std.specs.Prelude.{◌≡◌, ℕ, ◌<◌, ◌≤◌, length, List, ◌∷◌, slice_get, slice_index, slice_index_or, flat_map, Some, None, sum_by, map};
+ghost use Rattle.std.specs.Prelude.{◌≡◌, ℕ, ◌<◌, length, List, slice_get, slice_index, slice_index_or, Some, None, sum_by, map};
 ghost use Rattle.std.specs.List.{enumerate_from, AllByRecursion};
 ghost use Rattle.network.specs.declared.element.Element.{Element};
 ghost use Rattle.power_flow.specs.Reach.{bit_at};

@@ -1,11 +1,13 @@
-use Rattle.std.proofs.Common.{arith}
-use Rattle.ladder_text.proofs.Soundness.{sound_parts}
+use Rattle.std.proofs.Common.{rules}
+use Rattle.ladder_text.specs.Rows.{rows_of}
+use Rattle.ladder_text.specs.Places.{layout_of}
+use Rattle.ladder_text.specs.Faults.{IsWellDrawn}
+use Rattle.ladder_text.specs.Picture.{picture_of}
+use Rattle.ladder_text.proofs.Soundness.{sound_picture}
 use Rattle.ladder_text.proofs.drawing.read_drawing.Goals as goal
 
 pub invariant_of-result : goal.invariant_of-result
+unfolding picture_of layout_of
 invariant_of-result c =
-    sound_parts c.args.first_line c.saturating_sub.result c.last.result c.left.result
-    c.into_marks.result.items c.in_ok-contacts.contacts.items c.in_ok-coils.coils.items c.in_ok-boxes.boxes.items
-    c.in_ok-page.page c.args.text.now c.in_ok-page.ensures.same c.in_ok-page.ensures.well_drawn
-    (omega (arith, c.row_end.ensures.rows, c.saturating_sub.ensures)) c.last.ensures.last c.left.ensures
-    c.into_marks.ensures c.in_ok-contacts.ensures c.in_ok-coils.ensures c.in_ok-boxes.ensures
+    let well : IsWellDrawn (rows_of c.args.text.now) = rw c.in_ok-page.ensures.same at c.in_ok-page.ensures.well_drawn in
+    sound_picture _ c.args.first_line c.args.text.now (search rules) well

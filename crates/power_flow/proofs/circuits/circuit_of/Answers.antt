@@ -1,8 +1,5 @@
-use Rattle.std.proofs.Common.{◌≡◌, List, refl, length, map, sym, ap, ◌∙◌, arith, All}
-use Rattle.network.specs.declared.element.Element.{Element}
-use Rattle.network.specs.GraphValue.{diagram}
-use Rattle.power_flow.specs.Binding.{IsBound}
-use Rattle.power_flow.specs.Circuit.{operand_at, IsWired}
+use Rattle.std.proofs.Common.{map, sym, ap, ◌∙◌}
+use Rattle.power_flow.specs.Circuit.{operand_at}
 use Rattle.power_flow.proofs.BindingLemmas.{all_named}
 use Rattle.power_flow.proofs.circuits.circuit_of.Goals as goal
 

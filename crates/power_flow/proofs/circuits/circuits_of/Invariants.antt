@@ -1,5 +1,4 @@
-use Rattle.std.proofs.Common.{◌≡◌, List, All, map, length}
-use Rattle.network.specs.declared.element.Element.{Element}
+use Rattle.std.proofs.Common.{◌≡◌, All, map}
 use Rattle.power_flow.specs.declared.circuit.Circuit.{Circuit}
 use Rattle.power_flow.specs.Binding.{IsBound}
 use Rattle.power_flow.specs.Circuit.{AreCircuits, HasShape}

@@ -1,7 +1,6 @@
-use Rattle.std.proofs.Common.{◌≡◌, refl, length, map, sym, ap, ◌∙◌, arith}
+use Rattle.std.proofs.Common.{◌≡◌, length, sym, ap, ◌∙◌}
 use Rattle.std.proofs.lemmas.List.{length-map}
 use Rattle.network.specs.declared.numbering.Spot.{Spot}
-use Rattle.network.specs.GraphValue.{diagram}
 use Rattle.power_flow.proofs.WholeTable.{wired_is, first_within, links_within}
 use Rattle.power_flow.proofs.circuits.tables_of.Goals as goal
 

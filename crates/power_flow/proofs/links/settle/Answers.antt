@@ -1,4 +1,3 @@
-use Rattle.std.proofs.Common.{rules, ◌≡◌, ℕ, true, arith}
 use Rattle.power_flow.proofs.Sweeping.{Reached-again, Reached-closed}
 use Rattle.power_flow.specs.Reach.Reached.{start}
 use Rattle.power_flow.specs.Reach.{IsClosed}

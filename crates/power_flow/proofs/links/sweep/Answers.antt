@@ -1,9 +1,9 @@
-use Rattle.std.proofs.Common.{rules, ◌≡◌, ℕ, ◌<◌, All, length, true, false, get_or, Bool, arith}
-use Rattle.std.specs.Bool.{OnTrue, OnFalse}
-use Rattle.power_flow.specs.Reach.{Reached, IsClosed, IsWithin, bit_at, is_open}
-use Rattle.power_flow.proofs.Sweeping.{Swept, Swept-none, Swept-skip, Swept-set}
+use Rattle.std.proofs.Common.{◌≡◌, true, false, Bool, arith}
+use Rattle.std.specs.Bool.{OnFalse}
+use Rattle.power_flow.specs.Reach.{IsClosed}
+use Rattle.power_flow.proofs.Sweeping.{Swept-none, Swept-skip, Swept-set}
 use Rattle.power_flow.proofs.links.sweep.Goals.{then-bits-link+then-not-bits-link+then-lets_through, else-bits-link, else-bits-link-via-then-bits-link+then-not-bits-link+else-lets_through, else-bits-link-via-then-bits-link+else-not-bits-link, else-bits-link-via-else-bits-link}
-use Rattle.std.proofs.Common.{Option, Some, None, sym, ◌∙◌, subst, refl, List, take}
+use Rattle.std.proofs.Common.{None, sym, ◌∙◌, subst, refl, List}
 use Rattle.std.proofs.lemmas.Bool.{false≢true}
 use Rattle.std.proofs.lemmas.List.{take_all}
 use Rattle.network.specs.declared.link.Link.{Link}

@@ -1,4 +1,4 @@
-use Rattle.std.proofs.Common.{◌≡◌, ◌-◌, ◌<◌, None, sym, ◌∙◌, arith}
+use Rattle.std.proofs.Common.{◌-◌, None, sym, ◌∙◌, arith}
 use Rattle.network.specs.declared.link.Link.{Link}
 use Rattle.power_flow.proofs.Sweeping.{Followed-none, Followed-set}
 use Rattle.power_flow.proofs.links.sweep_back.Goals as goal

@@ -1,4 +1,4 @@
-use Rattle.std.proofs.Common.{◌≤◌, ◌≡◌, ℕ, List, All, take, length, subst, arith}
+use Rattle.std.proofs.Common.{◌≤◌, List, All, length, subst, arith}
 use Rattle.std.proofs.lemmas.List.{take_all}
 use Rattle.power_flow.specs.declared.circuit.Circuit.{Circuit}
 use Rattle.power_flow.proofs.Binds.{most_more}

@@ -1,4 +1,4 @@
-use Rattle.std.proofs.Common.{◌≡◌, ℕ, slice_index_or, None, arith, get_or, ◌∙◌, ap, sym, false}
+use Rattle.std.proofs.Common.{slice_index_or, None, arith, ◌∙◌, ap}
 use Rattle.std.proofs.lemmas.Option.{slice_get_within}
 use Rattle.power_flow.specs.Reach.{bit_at}
 use Rattle.power_flow.specs.Steps.{is_operand_on, conducts_at, memory_read}

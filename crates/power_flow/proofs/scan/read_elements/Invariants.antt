@@ -1,4 +1,4 @@
-use Rattle.std.proofs.Common.{◌≡◌, ℕ, ◌<◌, ◌≤◌, slice_get, slice_index_or, Option, Some, None}
+use Rattle.std.proofs.Common.{◌≡◌, ℕ, ◌<◌, ◌≤◌, slice_get, slice_index_or, Some, None}
 use Rattle.network.specs.declared.element.Element.{Element}
 use Rattle.power_flow.specs.Reach.{bit_at}
 use Rattle.power_flow.specs.Steps.{is_operand_on, conducts_at, memory_read}

@@ -1,5 +1,4 @@
-use Rattle.std.proofs.Common.{◌≡◌, ℕ, arith, refl, sym, ap, ◌∙◌}
-use Rattle.power_flow.specs.Circuit.{IsCircuit}
+use Rattle.std.proofs.Common.{arith}
 use Rattle.power_flow.proofs.CircuitLemmas.{circuit_meaning}
 use Rattle.power_flow.proofs.scan.scan_circuit.Goals as goal
 

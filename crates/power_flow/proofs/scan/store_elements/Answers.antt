@@ -1,4 +1,4 @@
-use Rattle.std.proofs.Common.{◌≡◌, ℕ, ◌+◌, ◌++◌, slice_index, slice_index_or, None, arith, get_or, ◌∙◌, ap, sym, false, drop, length}
+use Rattle.std.proofs.Common.{◌+◌, slice_index, slice_index_or, None, arith, ◌∙◌, ap, sym, drop}
 use Rattle.std.specs.List.{enumerate_from}
 use Rattle.std.proofs.lemmas.Option.{slice_get_within}
 use Rattle.power_flow.specs.Reach.{bit_at}

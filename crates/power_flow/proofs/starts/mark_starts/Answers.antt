@@ -1,4 +1,4 @@
-use Rattle.std.proofs.Common.{◌≡◌, ◌<◌, ℕ, Option, Some, None, get_or, take, length, sym, ◌∙◌, arith, ◌↔◌, subst, List}
+use Rattle.std.proofs.Common.{get_or, take, arith, subst, List}
 use Rattle.std.proofs.lemmas.List.{take_more, take_all}
 use Rattle.std.proofs.lemmas.List.Elements.{Contains-get_or}
 use Rattle.ladder_text.specs.declared.place.Place.{Place}

@@ -1,4 +1,4 @@
-use Rattle.std.proofs.Common.{◌≡◌, ◌+◌, ◌≤◌, ◌∙◌, ◌<◌, ℕ, Option, Some, None, slice_get, get_or, length, sym, refl, rules, arith}
+use Rattle.std.proofs.Common.{◌∙◌, ◌<◌, get_or, length, sym, refl, rules, arith}
 use Rattle.std.proofs.lemmas.Option.{slice_get-get_or, slice_get_within, slice_get_read}
 use Rattle.std.proofs.lemmas.Bool.{false≢true}
 use Rattle.network.specs.GraphValue.{diagram}

@@ -1,5 +1,4 @@
-use Rattle.std.proofs.Common.{◌≡◌, ◌∙◌, ◌<◌, ◌≤◌, ◌-◌, [], length, get_or, arith, rules}
-use Rattle.ladder_text.specs.Rows.{height}
+use Rattle.std.proofs.Common.{◌≡◌, ◌∙◌, ◌<◌, ◌-◌, [], length, get_or, arith, rules}
 use Rattle.ladder_text.specs.Places.{layout_of}
 use Rattle.ladder_text.specs.Picture.{marks_of}
 use Rattle.ladder_text.proofs.MarkLemmas.{marks-inside, length-marks}

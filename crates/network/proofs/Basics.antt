@@ -1,0 +1,37 @@
+use Rattle.std.proofs.Common.{◌≡◌, ℕ, ◌<◌, ◌⊎◌, MatchOption, List, [], ◌∷◌, Option, Some, None, Contains, map, slice_get, zero, suc, length, refl, sym, ap, ◌∙◌, arith}
+use Rattle.std.proofs.lemmas.Option.{slice_get_within, slice_get-get_or, get_or_from_slice_get, slice_get-map}
+use Rattle.std.specs.Option.{option_map}
+use Rattle.ladder_text.specs.declared.place.Place.{Place}
+
+pub some_is : {A : Type 0} (a b : A) → Some a ≡ Some b → a ≡ b
+some_is a b e = cc
+
+-- what stands at one number of a list is one thing
+pub one_at : {A : Type 0} (xs : List A) (j k : ℕ) (a b : A) → j ≡ k → slice_get xs j ≡ Some a → slice_get xs k ≡ Some b → a ≡ b
+one_at xs j k a b e f h = some_is a b (sym f ∙ ap (slice_get xs) e ∙ h)
+
+pub contains_at : {A : Type 0} (xs : List A) (k : ℕ) (x : A) → slice_get xs k ≡ Some x → Contains xs x
+contains_at xs k x at = (k, slice_get_within xs k x at, get_or_from_slice_get xs k x x at)
+
+pub at_contains : {A : Type 0} (xs : List A) (x : A) → Contains xs x → (k : ℕ) × (slice_get xs k ≡ Some x)
+at_contains xs x in' = (in'.0, slice_get-get_or xs in'.0 x in'.1 ∙ ap Some in'.2)
+
+pub get_map : {A B : Type 0} (f : A → B) (xs : List A) (k : ℕ) (x : A) → slice_get xs k ≡ Some x → slice_get (map f xs) k ≡ Some (f x)
+get_map f xs k x at = slice_get-map f xs k ∙ ap (option_map f) at
+
+pub map_get : {A B : Type 0} (f : A → B) (xs : List A) (k : ℕ) (b : B) → slice_get (map f xs) k ≡ Some b → (x : A) × (slice_get xs k ≡ Some x) × (f x ≡ b)
+map_get f [] k b h = absurd (cc)
+map_get f (x ∷ xs) zero b h = (x, refl, some_is (f x) b h)
+map_get f (x ∷ xs) (suc k) b h = map_get f xs k b h
+
+pub place_same : (a b : Place) → a.row ≡ b.row → a.column ≡ b.column → a ≡ b
+place_same a b r c = ap (λ (x : ℕ). record { row = x; column = a.column }) r ∙ ap (λ (x : ℕ). record { row = b.row; column = x }) c
+
+-- what a clause by cases says of the case at hand
+pub match_some : {A : Type 0} (P : Type 0) (Q : A → Type 0) (o : Option A) (x : A) → o ≡ Some x → MatchOption o P Q → Q x
+match_some P Q None x e h = absurd (cc)
+match_some P Q (Some y) x e h = rw (← some_is y x e) h
+
+pub match_none : {A : Type 0} (P : Type 0) (Q : A → Type 0) (o : Option A) → o ≡ None → MatchOption o P Q → P
+match_none P Q None e h = h
+match_none P Q (Some y) e h = absurd (cc)

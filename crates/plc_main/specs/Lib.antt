@@ -1,0 +1,4 @@
+pub mod Refusals
+pub mod Rows
+pub mod Lines
+pub mod EvalText

@@ -1,0 +1,35 @@
+-- What a line shows: the variables after a scan.
+use Rattle.std.specs.Prelude.{ℕ, ◌++◌, if◌then◌else◌, List, [], ◌∷◌, codes}
+use Rattle.std.specs.List.{join_with_byte}
+use Rattle.std.specs.Fmt.{decimal, signed_decimal}
+use Rattle.std_blocks.specs.declared.value.Value.{Value}
+use Rattle.std_blocks.specs.declared.value.Value.TheVariants.{Bool as BoolValue, Int as IntValue, Time as TimeValue}
+use Rattle.power_flow.specs.declared.declarations.Declaration.{Declaration}
+use Rattle.power_flow.specs.declared.state.Slot.{Slot}
+use Rattle.power_flow.specs.declared.state.Slot.TheVariants.{Variable, Block}
+
+-- a BOOL is 0 or 1, an INT a decimal number, a TIME its milliseconds
+abbrev pub value_text : Value → List ℕ
+value_text (BoolValue on) = if on then codes "1" else codes "0"
+value_text (IntValue n) = signed_decimal n
+value_text (TimeValue t) = codes "T#" ++ decimal t ++ codes "ms"
+
+-- NAME=VALUE
+abbrev pub item_text : List ℕ → Value → List ℕ
+item_text name value = name ++ codes "=" ++ value_text value
+
+-- the variables in order of declaration; instances are left out
+abbrev pub items_of : List Declaration → List Slot → List (List ℕ)
+items_of [] slots = []
+items_of (d ∷ ds) [] = []
+items_of (d ∷ ds) (Variable value ∷ slots) = item_text d.name value ∷ items_of ds slots
+items_of (d ∷ ds) (Block block ∷ slots) = items_of ds slots
+
+-- one line: the variables with one blank between, and a line feed
+abbrev pub line_of : List Declaration → List Slot → List ℕ
+line_of ds slots = join_with_byte 32 (items_of ds slots) ++ codes "\n"
+
+-- a line that goes on: behind a blank, but at its beginning
+abbrev pub ready : List ℕ → List ℕ
+ready [] = []
+ready (c ∷ line) = (c ∷ line) ++ codes " "

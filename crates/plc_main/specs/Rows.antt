@@ -1,0 +1,77 @@
+-- What the words NAME=BITS say.
+use Rattle.std.specs.Prelude.{◌≡◌, ℕ, ◌<◌, ◌≤◌, ◌==◌, ◌||◌, List, Bool, true, false, Some, IsTrue, All, length, slice_get, slice_index_or, fold, max, map}
+use Rattle.std.specs.Borrow.{Bor}
+use Rattle.std.specs.List.{before_first, after_first, AllZip}
+use Rattle.power_flow.specs.declared.declarations.Declaration.{Declaration}
+use Rattle.power_flow.specs.declared.declarations.Declared.{Declared}
+use Rattle.power_flow.specs.declared.declarations.Declared.TheVariants.{Input, Output, Local, Instance}
+use Rattle.power_flow.specs.declared.declarations.Kind.{Kind}
+use Rattle.power_flow.specs.declared.declarations.Kind.TheVariants as kind
+use Rattle.power_flow.specs.Names.{place_of}
+
+-- the place of a BOOL variable, and a digit for each of the first scans
+pub record RowValue : Type 0 where
+  pub place : ℕ
+  pub digits : List ℕ
+
+abbrev pub row_value : ℕ → List ℕ → RowValue
+row_value place digits = record { place = place; digits = digits }
+
+abbrev pub is_equals : ℕ → Bool
+is_equals c = c == 61
+
+-- what stands in a word before its first `=`, and what behind it
+abbrev pub name_in : List ℕ → List ℕ
+name_in word = before_first is_equals word
+
+abbrev pub digits_in : List ℕ → List ℕ
+digits_in word = after_first is_equals word
+
+abbrev pub is_digit : ℕ → Bool
+is_digit c = c == 48 || c == 49
+
+abbrev pub is_bool_kind : Kind → Bool
+is_bool_kind kind.Bool = true
+is_bool_kind kind.Int = false
+is_bool_kind kind.Time = false
+
+-- a BOOL variable, and no instance of a block
+abbrev pub is_bool : Declared → Bool
+is_bool (Input k) = is_bool_kind k
+is_bool (Output k) = is_bool_kind k
+is_bool (Local k) = is_bool_kind k
+is_bool (Instance block) = false
+
+-- a BOOL variable is declared at the place
+abbrev pub IsBoolAt : List Declaration → ℕ → Type 0
+IsBoolAt ds place = (e : Declaration) × (slice_get ds place ≡ Some e) × IsTrue (is_bool e.declared)
+
+-- 1 to 1,000 digits 0 or 1
+pub record AreDigits (digits : List ℕ) : Type 0 where
+  pub some : 0 < length digits
+  pub few : length digits ≤ 1000
+  pub each : All (λ c. IsTrue (is_digit c)) digits
+
+-- the word names a BOOL variable, and gives it a row of digits
+pub record IsRow (ds : List Declaration) (word : List ℕ) (row : RowValue) : Type 0 where
+  pub named : place_of ds (name_in word) ≡ Some row.place
+  pub bool : IsBoolAt ds row.place
+  pub digits : row.digits ≡ digits_in word
+  pub lawful : AreDigits row.digits
+
+-- no two rows are of the same variable
+abbrev pub AreApart : List RowValue → Type 0
+AreApart rows = (j k : ℕ) (d : RowValue) → j < length rows → k < length rows → (slice_index_or rows j d).place ≡ (slice_index_or rows k d).place → j ≡ k
+
+-- the words are these rows, one by one, each of another variable
+pub record AreRows (ds : List Declaration) (words : List (List ℕ)) (rows : List RowValue) : Type 0 where
+  pub each : AllZip (IsRow ds) words rows
+  pub apart : AreApart rows
+
+-- as many scans as the longest row has digits, and one if there are no rows
+abbrev pub scans_of : List RowValue → ℕ
+scans_of rows = fold (λ most row. max most (length row.digits)) 1 rows
+
+-- the texts of a list of words
+abbrev pub texts : List (Bor (List ℕ)) → List (List ℕ)
+texts words = map (λ w. w.now) words

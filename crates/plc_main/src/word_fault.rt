@@ -1,0 +1,20 @@
+use thiserror::Error;
+
+/// What is wrong with a word NAME=BITS.
+#[derive(Clone, Copy, Debug, PartialEq, Eq, Error)]
+pub enum WordFaultKind {
+    #[error("the drawing has no BOOL variable of this name")]
+    NoVariable,
+    #[error("BITS are 1 to 1,000 digits, each 0 or 1")]
+    BadDigits,
+    #[error("another word names the same variable")]
+    Twice,
+}
+
+/// A word that is refused, by its number; words count from 0.
+#[derive(Clone, Copy, Debug, PartialEq, Eq, Error)]
+#[error("{kind}")]
+pub struct WordFault {
+    pub number: usize,
+    pub kind: WordFaultKind,
+}

@@ -1,0 +1,127 @@
+ghost use Rattle.std.specs.Prelude.{◌≡◌, IfSome};
+ghost use Rattle.std.specs.Str.Parse.{IsNumeral, digits_value};
+
+use clap::error::ErrorKind;
+use clap::{Arg, ArgAction, ArgMatches, Command, Error};
+use std::alloc::{AllocError, Global};
+
+/// What the words of the command line ask for.
+#[derive(Drop)]
+pub enum Request<'a> {
+    /// The scans of a drawing, each `dt` milliseconds after the one before; the words set its variables.
+    Eval {
+        drawing: &'a str,
+        dt: u32,
+        words: Vec<&'a str>,
+    },
+}
+
+const EVAL_HELP: &str = "\
+Each word NAME=BITS gives the BOOL variable NAME its values: BITS is a row of digits 0 and 1, one for each
+scan. Before scan k the variable is set to the k-th digit, or left alone if there is none. There are as many
+scans as the longest row has digits (at most 1,000), and one if there are no words. A name that the drawing
+uses is a variable; it is written in either case.
+
+After each scan one line of all variables is written, in the order in which they appear in the drawing.
+
+Example, for the drawing examples/start_stop.ladder:
+
+  $ plc eval examples/start_stop.ladder START=100 STOP=001
+  START=1 STOP=0 RUN=1
+  START=0 STOP=0 RUN=1
+  START=0 STOP=1 RUN=0
+
+The exit status is 0; 1 if the text of the drawing is refused, with FILE:LINE:COLUMN: Kind on standard error;
+2 if a word is refused; 3 if the file can't be read, the output can't be written or there is no memory left.";
+
+fn drawing_arg<'a>(alloc: Global) -> Arg<'a> {
+    Arg::new(alloc, "DRAWING")
+        .required(true)
+        .action(ArgAction::Set)
+        .help("The file of the drawing")
+}
+
+fn dt_arg<'a>(alloc: Global) -> Arg<'a> {
+    Arg::new(alloc, "dt")
+        .long("dt")
+        .value_name("MS")
+        .action(ArgAction::Set)
+        .help("The time between two scans in milliseconds, 0 to 4294967295 [default: 0]")
+}
+
+fn rows_arg<'a>(alloc: Global) -> Arg<'a> {
+    Arg::new(alloc, "words")
+        .value_name("NAME=BITS")
+        .action(ArgAction::Append)
+        .num_args(0..)
+        .help("The values of a variable, a digit for each scan")
+}
+
+fn eval_command<'a>(alloc: Global) -> Result<Command<'a>, AllocError> {
+    Command::new(alloc, "eval")
+        .about("Evaluates a drawing, scan by scan, and writes its variables after each scan")
+        .after_help(EVAL_HELP)
+        .arg(drawing_arg(alloc))?
+        .arg(dt_arg(alloc))?
+        .arg(rows_arg(alloc))
+}
+
+/// The commands of the program.
+pub fn commands<'a>(alloc: Global) -> Result<Command<'a>, AllocError> {
+    Command::new(alloc, "plc")
+        .bin_name("plc")?
+        .about("Runs ladder diagrams drawn in characters (IEC 61131-3)")
+        .subcommand_required(true)
+        .subcommand(eval_command(alloc)?)
+}
+
+/// A number of decimal digits alone, at most 4294967295.
+pub fn number(text: &str) -> Option<u32>
+    ensures { IfSome result (λ n. IsNumeral 10 text.now × (n ≡ digits_value 10 text.now)) }
+{
+    if text.is_empty() || !text.bytes().all(|b| b.is_ascii_digit()) {
+        return None;
+    }
+    text.parse::<u32>().ok()
+}
+
+fn number_of<'a>(
+    command: &mut Command<'a>,
+    matches: &ArgMatches<'a>,
+    id: &str,
+) -> Result<u32, Error> {
+    match matches.get_str(id) {
+        None => Ok(0),
+        Some(text) => match number(text) {
+            Some(n) => Ok(n),
+            None => Err(command.error(
+                ErrorKind::ValueValidation,
+                "MS of --dt is a number from 0 to 4294967295",
+            )?),
+        },
+    }
+}
+
+fn words_of<'a>(alloc: Global, matches: &ArgMatches<'a>) -> Result<Vec<&'a str>, AllocError> {
+    let mut words = Vec::new(alloc);
+    if let Some(all) = matches.get_strs("words") {
+        for word in all {
+            words.push(*word)?;
+        }
+    }
+    Ok(words)
+}
+
+/// Reads the words, of which the first is the program's own name.
+pub fn read_words<'a>(alloc: Global, words: &'a [String]) -> Result<Request<'a>, Error> {
+    let mut command = commands(alloc)?;
+    let matches = command.try_get_matches_from_mut(words)?;
+    let Some((_, inner)) = matches.subcommand() else {
+        return Err(command.error(ErrorKind::MissingSubcommand, "a command is missing")?);
+    };
+    Ok(Request::Eval {
+        drawing: inner.get_str("DRAWING").unwrap_or(""),
+        dt: number_of(&mut command, inner, "dt")?,
+        words: words_of(alloc, inner)?,
+    })
+}
