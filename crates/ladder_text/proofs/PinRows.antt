@@ -52,4 +52,4 @@ pins_of_rows_from d a e r (suc n) pins q =
     both_parts (IsFromTo r (r + suc n)) (pins_of_rows d a e r n) (row_pins d a e (r + n)) pins q
     (λ xs h. All-weaker (IsFromTo r (r + n)) (IsFromTo r (r + suc n)) (λ p w. (w.0, omega (arith, w.1))) xs (pins_of_rows_from d a e r n xs h))
     (λ ys h. All-weaker (IsOn (r + n)) (IsFromTo r (r + suc n)) (λ p w. (omega (arith, w), omega (arith, w))) ys
-        (pins_from_on d (r + n) a e (blank_words (cut d (r + n) (a + 1) e)) ys h))
+    (pins_from_on d (r + n) a e (blank_words (cut d (r + n) (a + 1) e)) ys h))

@@ -25,8 +25,10 @@ upto_rising key IsBelow f keyed rising (suc n) j k x y h a b = elim (slice_get-a
   ]
   | inr v ↦ elim (slice_get-append (upto n f) (f (suc n)) k) [
     | inl w ↦ absurd (omega (arith, v.1, w.0))
-    | inr w ↦ inr (omega (arith, keyed (suc n) v.0 x (sym v.2 ∙ a), keyed (suc n) w.0 y (sym w.2 ∙ b)),
-        rising (suc n) v.0 w.0 x y (omega (arith, v.1, w.1)) (sym v.2 ∙ a) (sym w.2 ∙ b))
+    | inr w ↦ inr (
+      omega (arith, keyed (suc n) v.0 x (sym v.2 ∙ a), keyed (suc n) w.0 y (sym w.2 ∙ b)),
+      rising (suc n) v.0 w.0 x y (omega (arith, v.1, w.1)) (sym v.2 ∙ a) (sym w.2 ∙ b),
+    )
   ]
 ]
 

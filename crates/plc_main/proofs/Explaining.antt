@@ -1,11 +1,17 @@
 -- Why a command ended, from why a part of it did.
-use Rattle.std.proofs.Common.{ℕ, List, Option, inl, inr}
+use Rattle.std.proofs.Common.{◌≡◌, ℕ, List, Option, Result, Ok, Err, OnOk, OnErr, IfErr, inl, inr}
 use Rattle.std.proofs.KnownBytes.{Keeps-refl}
 use Rattle.network.specs.Links.{Diagram}
 use Rattle.power_flow.specs.declared.declarations.Declaration.{Declaration}
+use Rattle.std.specs.Result.{IsErrAnd}
+use Rattle.power_flow.specs.declared.bind.BindFault.{BindFault}
+use Rattle.power_flow.specs.declared.bind.BindKind.TheVariants.{Memory as BindMemory}
+use Rattle.plc_main.specs.declared.text_fault.TextFault.TheVariants.{Bind}
+use Rattle.plc_main.specs.Refusals.{GivenFor}
+use Rattle.plc_main.specs.Rows.{RowValue, AreRows}
 use Rattle.plc_main.specs.declared.command_fault.CommandFault.{CommandFault}
 use Rattle.plc_main.specs.declared.command_fault.CommandFault.TheVariants.{Text, Word, Write, Memory}
-use Rattle.plc_main.specs.EvalText.{IsLadderOf, Asked, WritesSomeScans, RefusesLadder, RefusesRows, IsLate, Explains}
+use Rattle.plc_main.specs.EvalText.{IsLadderOf, Asked, WritesAll, WritesScans, WritesSomeScans, RefusesLadder, RefusesNames, RefusesRows, IsLate, Explains}
 
 pub explain_ladder : (drawing : List ℕ) (words : List (List ℕ)) (dt : ℕ) (old : Option (List ℕ)) (fault : CommandFault) → RefusesLadder drawing fault
     → Explains drawing words dt old old fault
@@ -27,3 +33,26 @@ explain_scans drawing words dt old new asked (Text fault) written late = absurd 
 explain_scans drawing words dt old new asked (Word fault) written late = absurd late
 explain_scans drawing words dt old new asked Write written late = (asked, written)
 explain_scans drawing words dt old new asked Memory written late = inr (asked, written)
+
+-- the scans of the ladder that was asked for
+asked_of : (drawing : List ℕ) (words : List (List ℕ)) (ds : List Declaration) (networks : List Diagram) (rows : List RowValue) → IsLadderOf drawing ds networks → AreRows ds words rows → Asked drawing words
+asked_of drawing words ds networks rows ladder read = record { declarations = ds; networks = networks; ladder = ladder; rows = rows; read = read }
+
+pub all_written : {T E : Type 0} (drawing : List ℕ) (words : List (List ℕ)) (dt : ℕ) (old new : Option (List ℕ)) (ds : List Declaration) (networks : List Diagram) (rows : List RowValue) (r : Result T E)
+    → IsLadderOf drawing ds networks → AreRows ds words rows → OnOk r (WritesScans ds networks dt rows old new) → OnOk r (WritesAll drawing words dt old new)
+unfolding asked_of
+all_written drawing words dt old new ds networks rows (Ok x) ladder read written = (asked_of drawing words ds networks rows ladder read, written)
+all_written drawing words dt old new ds networks rows (Err e) ladder read written = tt
+
+pub part_written : {T : Type 0} (drawing : List ℕ) (words : List (List ℕ)) (dt : ℕ) (old new : Option (List ℕ)) (ds : List Declaration) (networks : List Diagram) (rows : List RowValue) (r : Result T CommandFault)
+    → IsLadderOf drawing ds networks → AreRows ds words rows → OnErr r (WritesSomeScans ds networks dt rows old new) → IfErr r IsLate
+    → IfErr r (Explains drawing words dt old new)
+unfolding asked_of
+part_written drawing words dt old new ds networks rows (Ok x) ladder read written late = tt
+part_written drawing words dt old new ds networks rows (Err fault) ladder read written late = explain_scans drawing words dt old new (asked_of drawing words ds networks rows ladder read) fault written late
+
+-- a refusal by binding is one of the text, or of memory
+pub names_refused : {T : Type 0} (drawing : List ℕ) (found : BindFault) (r : Result T CommandFault) → IsErrAnd r (GivenFor (found.kind ≡ BindMemory) (Bind found))
+    → ((found.kind ≡ BindMemory → ⊥) → RefusesNames drawing found) → IfErr r (RefusesLadder drawing)
+names_refused drawing found (Ok x) given names = tt
+names_refused drawing found (Err fault) given names = elim given [ inl w ↦ rw w.1 tt | inr w ↦ rw w.1 (names w.0) ]

@@ -1,0 +1,22 @@
+use Rattle.std.proofs.Common.{◌≡◌, ℕ, List, All, subst, sym, OnOk, IfErr}
+use Rattle.power_flow.specs.declared.declarations.Declaration.{Declaration}
+use Rattle.plc_main.specs.Rows.{RowValue, AreRows, IsBoolAt, texts}
+use Rattle.plc_main.specs.EvalText.{Asked}
+use Rattle.plc_main.proofs.RowLemmas.{all_bool}
+use Rattle.plc_main.proofs.Explaining.{all_written, part_written}
+use Rattle.plc_main.proofs.eval_command.eval.Goals as goal
+
+pub write_scans-requires : goal.write_scans-requires
+write_scans-requires g c =
+    let read = rw (c.declarations.ensures.list, ← c.deref.ensures.value) at c.in_ok-rows.ensures.ok in
+    all_bool c.in_ok-ladder.ladder.declarations (texts c.args.words.now) c.deref.result.now read
+
+pub returns-clause-ok : goal.returns-clause-ok
+returns-clause-ok g c =
+    let read = rw (c.declarations.ensures.list, ← c.deref.ensures.value) at c.in_ok-rows.ensures.ok in
+    all_written c.args.drawing.now (texts c.args.words.now) c.args.dt _ _ c.in_ok-ladder.ladder.declarations c.in_ok-ladder.ladder.networks c.deref.result.now _ c.in_ok-ladder.ensures.ok read c.write_scans.ensures.ok
+
+pub returns-clause-fault : goal.returns-clause-fault
+returns-clause-fault g c =
+    let read = rw (c.declarations.ensures.list, ← c.deref.ensures.value) at c.in_ok-rows.ensures.ok in
+    part_written c.args.drawing.now (texts c.args.words.now) c.args.dt _ _ c.in_ok-ladder.ladder.declarations c.in_ok-ladder.ladder.networks c.deref.result.now _ c.in_ok-ladder.ensures.ok read c.write_scans.ensures.part c.write_scans.ensures.late

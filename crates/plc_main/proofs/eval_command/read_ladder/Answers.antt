@@ -1,0 +1,16 @@
+use Rattle.plc_main.proofs.Explaining.{names_refused}
+use Rattle.plc_main.proofs.eval_command.read_ladder.Goals as goal
+
+pub returns-in_err-bind-clause-err : goal.returns-in_err-bind-clause-err
+returns-in_err-bind-clause-err c =
+    names_refused c.args.drawing.now c.in_err-bind.field-0.0 c.from_residual-in_err-bind.result c.from_residual-in_err-bind.ensures.1
+    (λ other. record {
+      picture = c.in_ok-drawing.drawing;
+      graph = c.in_ok-graph.graph;
+      declarations = c.in_ok-declarations.declarations;
+      drawn = record { well_drawn = c.in_ok-drawing.ensures.well_drawn; picture = c.in_ok-drawing.ensures.drawing };
+      built = c.in_ok-graph.ensures.ok.0;
+      guessed = c.in_ok-declarations.ensures;
+      refused = c.in_err-bind.ensures.only other;
+      first = c.in_err-bind.ensures.first other;
+    })
