@@ -196,7 +196,3 @@ pub record IsWellDrawn (d : Rows) : Type 0 where
 -- a text that isn't well drawn
 abbrev pub IsIllDrawn : Rows → Type 0
 IsIllDrawn d = IsWellDrawn d → ⊥
-
--- a text that isn't well drawn, or has a box
-abbrev pub IsRefusable : Rows → Type 0
-IsRefusable d = Nowhere d (begins_box d) → IsIllDrawn d

@@ -3,7 +3,7 @@
 ghost use Rattle.std.specs.Prelude.{◌≡◌, ◌≢◌, ◌<◌, ◌≤◌, ◌+◌, ◌-◌, ◌^◌, IfOk, IfErr, min};
 ghost use Rattle.ladder_text.specs.Rows.{rows_of};
 ghost use Rattle.ladder_text.specs.Places.{layout_of};
-ghost use Rattle.ladder_text.specs.Faults.{IsWellDrawn, IsRefusable};
+ghost use Rattle.ladder_text.specs.Faults.{IsWellDrawn, IsIllDrawn};
 ghost use Rattle.ladder_text.specs.Picture.{IsSound, mark_at, picture_of};
 ghost use Rattle.ladder_text.specs.declared.drawing.DrawFaultKind.TheVariants.{Memory};
 
@@ -111,7 +111,7 @@ impl Refusal {
 fn read_drawing(alloc: Global, text: &str, first_line: u64) -> Result<Drawing, Refusal>
     ensures well_drawn { IfOk result (λ _. IsWellDrawn (rows_of text.now)) }
     ensures drawing { IfOk result (λ g. g ≡ picture_of first_line (layout_of (rows_of text.now))) }
-    ensures refused { IfErr result (λ e. e.kind ≢ Memory → IsRefusable (rows_of text.now)) }
+    ensures refused { IfErr result (λ e. e.kind ≢ Memory → IsIllDrawn (rows_of text.now)) }
 {
     let page = read_page(alloc, text)?;
     let contacts = contacts(alloc, &page)?;
@@ -138,7 +138,7 @@ impl Drawing {
         requires { (1 ≤ first_line) × (first_line < 2 ^ 63) }
         ensures well_drawn { IfOk result (λ _. IsWellDrawn (rows_of text.now)) }
         ensures drawing { IfOk result (λ g. g ≡ picture_of first_line (layout_of (rows_of text.now))) }
-        ensures refused { IfErr result (λ e. e.kind ≢ Memory → IsRefusable (rows_of text.now)) }
+        ensures refused { IfErr result (λ e. e.kind ≢ Memory → IsIllDrawn (rows_of text.now)) }
         ensures memory { IfErr result (λ e. e.kind ≡ Memory → (e.line ≡ 0) × (e.column ≡ 0)) }
     {
         match read_drawing(alloc, text, first_line) {

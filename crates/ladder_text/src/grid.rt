@@ -166,34 +166,6 @@ impl Grid {
             && self.block_in(row, column).is_some()
     }
 
-    /// The first column of a row in which a box begins.
-    fn box_in_row(&self, row: usize) -> Option<usize>
-        requires { row < 2 ^ 62 }
-        ensures none { IfNone result ((c : ℕ) → c ≤ width self.now → IsFalse (begins_box self.now row c)) }
-        ensures inside { IfSome result (λ c. c ≤ width self.now) }
-        ensures some { IfSome result (λ c. IsTrue (begins_box self.now row c)) }
-    {
-        for column in 0..self.last() + 1 {
-            if self.begins_box(row, column) {
-                return Some(column);
-            }
-        }
-        None
-    }
-
-    /// The first place at which a box begins.
-    pub fn first_box(&self) -> Option<Place>
-        ensures none { IfNone result (Nowhere self.now (begins_box self.now)) }
-        ensures some { IfSome result (λ p. IsFoundAt self.now (begins_box self.now) p.row p.column) }
-    {
-        for row in 0..self.row_end() {
-            if let Some(column) = self.box_in_row(row) {
-                return Some(Place { row, column });
-            }
-        }
-        None
-    }
-
     /// The grid of some rows, or the first place beyond the limits.
     pub fn new(rows: Vec<Row>) -> Result<Grid, Place>
         requires { Nowhere rows.items (not_ascii rows.items) }

@@ -6,7 +6,7 @@ ghost use Rattle.ladder_text.specs.Rows.{rows_of, width};
 ghost use Rattle.ladder_text.specs.Boxes.{begins_box};
 ghost use Rattle.ladder_text.specs.Places.{layout_of};
 ghost use Rattle.ladder_text.specs.Names.{words, things};
-ghost use Rattle.ladder_text.specs.Faults.{IsWellDrawn, IsIllDrawn, IsRefusable, Nowhere, has_fault, not_ascii, no_left_rail, bad_box, boxes_apart, name_missing, stray_name, has_stray_operand};
+ghost use Rattle.ladder_text.specs.Faults.{IsWellDrawn, IsIllDrawn, Nowhere, has_fault, not_ascii, no_left_rail, bad_box, boxes_apart, name_missing, stray_name, has_stray_operand};
 ghost use Rattle.ladder_text.specs.declared.drawing.DrawFaultKind.TheVariants.{Memory};
 
 use crate::drawing::DrawFaultKind;
@@ -117,17 +117,6 @@ fn read_grid(alloc: Global, text: &str) -> Result<Grid, Refusal>
     Ok(grid)
 }
 
-/// Boxes are not read: the first place at which one begins is BadBox.
-fn refuse_boxes(grid: &Grid) -> Result<(), Refusal>
-    ensures none { OnOk result (Nowhere grid.now (begins_box grid.now)) }
-    ensures refused { IfErr result (λ _. Nowhere grid.now (begins_box grid.now) → ⊥) }
-{
-    match grid.first_box() {
-        None => Ok(()),
-        Some(place) => Err(fault(DrawFaultKind::BadBox, place)),
-    }
-}
-
 #[tactic(auto, using(crate::proofs::IllDrawn::ill_box, crate::proofs::IllDrawn::ill_apart))]
 fn read_sheet(alloc: Global, grid: Grid) -> Result<Sheet, Refusal>
     ensures same { IfOk result (λ s. s ≡ grid) }
@@ -150,10 +139,9 @@ fn read_sheet(alloc: Global, grid: Grid) -> Result<Sheet, Refusal>
 pub fn read_page(alloc: Global, text: &str) -> Result<Page, Refusal>
     ensures same { IfOk result (λ p. p ≡ rows_of text.now) }
     ensures well_drawn { IfOk result (λ p. IsWellDrawn p) }
-    ensures refused { IfErr result (λ e. e.kind ≢ Memory → IsRefusable (rows_of text.now)) }
+    ensures refused { IfErr result (λ e. e.kind ≢ Memory → IsIllDrawn (rows_of text.now)) }
 {
     let grid = read_grid(alloc, text)?;
-    refuse_boxes(&grid)?;
     let sheet = read_sheet(alloc, grid)?;
     let page = Page::new(alloc, sheet)?;
     check_places(&page)?;

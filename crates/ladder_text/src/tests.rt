@@ -91,18 +91,47 @@ fn reads_rails(rt: HostRuntime) -> Result<(), Fail> {
 }
 
 #[test]
+fn reads_a_box(rt: HostRuntime) -> Result<(), Fail> {
+    let text =
+        "|             T1\n|         +-------+\n|  GO     |  ton  |   Y\n+--| |----|IN    Q|---( )\n| T#30ms--|PT   ET|--E\n|         +-------+";
+    let drawing = Drawing::read(rt.alloc(), text, 1)?;
+    assert_eq!(rt; drawing.boxes().len(), 1);
+    let drawn = &drawing.boxes()[0];
+    assert_eq!(rt;
+        (drawn.top, drawn.left, drawn.bottom, drawn.right),
+        (2, 11, 6, 19)
+    );
+    assert_eq!(rt; drawn.block, BlockName::Ton);
+    assert_eq!(rt; drawn.instance.as_str(), "T1");
+    let pins = drawn.pins.as_slice();
+    assert_eq!(rt; pins.len(), 4);
+    for (pin, row, side, name) in [
+        (&pins[0], 4, Side::Left, "IN"),
+        (&pins[1], 4, Side::Right, "Q"),
+        (&pins[2], 5, Side::Left, "PT"),
+        (&pins[3], 5, Side::Right, "ET"),
+    ] {
+        assert_eq!(rt; pin.row, row);
+        assert_eq!(rt; pin.side, side);
+        assert_eq!(rt; pin.name.as_str(), name);
+    }
+    let preset = pins[2].operand.as_ref().ok_or("no operand")?;
+    assert_eq!(rt; preset.text.as_str(), "T#30ms");
+    assert_eq!(rt; preset.column, 3);
+    assert!(rt; pins[0].operand.is_none());
+    assert_eq!(rt; drawing.mark(5, 9), Mark::Blank);
+    assert_eq!(rt; drawing.mark(4, 9), Mark::Wire);
+    assert_eq!(rt; drawing.mark(3, 14), Mark::BoxPart);
+    Ok(())
+}
+
+#[test]
 fn refuses_at_the_first_place(rt: HostRuntime) {
     for (text, kind, line, column) in [
         ("|\n+-\t", DrawFaultKind::NotAscii, 2, 3),
         ("+-\r\r\n", DrawFaultKind::NotAscii, 1, 3),
         ("", DrawFaultKind::NoLeftRail, 1, 1),
         ("|\n A\n-", DrawFaultKind::NoLeftRail, 3, 1),
-        (
-            "|   T1\n|  +-----+\n|  | TON |\n|  +-----+",
-            DrawFaultKind::BadBox,
-            2,
-            4,
-        ),
         (
             "|   T1\n|  +-----+\n|  | ton |",
             DrawFaultKind::BadBox,

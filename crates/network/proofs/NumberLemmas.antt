@@ -12,7 +12,7 @@ use Rattle.network.specs.Links.{place, Takes, Stands, IsSymbolPlace, IsPinPlace}
 use Rattle.network.specs.Apart.{Has, first_place}
 use Rattle.network.specs.declared.numbering.Spot.{Spot}
 use Rattle.network.specs.Numbers.{IsSpot}
-use Rattle.network.specs.Numbered.{Grows, NumberedTo}
+use Rattle.network.specs.Numbered.{Grows, NumberedTo, IsStop}
 use Rattle.network.proofs.Spots.{push_here, push_old}
 
 place_same : (a b : Place) → a.row ≡ b.row → a.column ≡ b.column → a ≡ b
@@ -37,7 +37,7 @@ pub symbol_whole : {E : Type 0} (r : Result ℕ E) (e : Element) (spots : List S
 symbol_whole (Ok n) e spots first takes one two three = λ p t. symbol_spot spots first p (takes p t) (n, one) two three
 symbol_whole (Err x) e spots first takes one two three = tt
 
-pub symbol_grows : {E : Type 0} (r : Result ℕ E) (e : Element) (k : ℕ) (old new : List Spot) (first : Place) → ((p : Place) → IsSymbolPlace first p → Has e p)
+pub symbol_grows : {E : Type 0} (r : Result ℕ E) (e : Element) (k : ℕ) (old new : List Spot) (first : Place) → ((p : Place) → IsSymbolPlace first p → IsStop e p)
     → OnOk r ((k : ℕ) (s : Spot) → slice_get old k ≡ Some s → slice_get new k ≡ Some s)
     → OnOk r ((j : ℕ) (s : Spot) → slice_get new j ≡ Some s → (slice_get old j ≡ Some s) ⊎ ((s.element ≡ k) × IsSymbolPlace first s.place))
     → OnOk r (Grows e k old new)
@@ -47,12 +47,17 @@ symbol_grows (Ok n) e k old new first has kept each = record {
 }
 symbol_grows (Err x) e k old new first has kept each = tt
 
+stop_has : (e : Element) (p : Place) → IsStop e p → Has e p
+stop_has e p (inl first) = inl first
+stop_has e p (inr stop) = inr (inr stop)
+
 -- one element more
 pub numbered_more : (es : List Element) (old new : List Spot) (firsts : List ℕ) (n first : ℕ) (e : Element) → slice_get es n ≡ Some e
     → Grows e n old new → ((p : Place) → Takes e p ⊎ Stands e p → (k : ℕ) × IsSpot new k p) → IsSpot new first (first_place e)
     → NumberedTo es old firsts n → NumberedTo es new (firsts ++ first ∷ []) (n + 1)
 numbered_more es old new firsts n first e at grows whole is_first done = record {
-  owned = λ k s at'. elim (grows.each k s at') [ inl was ↦ done.owned k s was | inr f ↦ (e, ap (slice_get es) f.0 ∙ at, f.1) ];
+  owned = λ k s at'. elim (grows.each k s at') [ inl was ↦ done.owned k s was | inr f ↦ (e, ap (slice_get es) f.0 ∙ at, stop_has e s.place f.1) ];
+  stops = λ k s at'. elim (grows.each k s at') [ inl was ↦ done.stops k s was | inr f ↦ (e, ap (slice_get es) f.0 ∙ at, f.1) ];
   whole = λ j f p lt at' t. elim (cases_eq j n) [
     | inl same ↦ (let one : f ≡ e = some_is f e (sym at' ∙ ap (slice_get es) same ∙ at) in whole p (rw one at t))
     | inr ne ↦ (let w = done.whole j f p (omega arith) at' t in (w.0, (w.1.0, grows.kept w.0 w.1.0 w.1.1, w.1.2)))
@@ -77,6 +82,7 @@ numbered_more es old new firsts n first e at grows whole is_first done = record 
 pub numbered_none : (es : List Element) (spots : List Spot) → spots ≡ [] → NumberedTo es spots [] 0
 numbered_none es spots e = record {
   owned = λ k s at. (let h : ◌≡◌ {A = Option Spot} None (Some s) = sym (ap (λ (x : List Spot). slice_get x k) e) ∙ at in absurd (cc));
+  stops = λ k s at. (let h : ◌≡◌ {A = Option Spot} None (Some s) = sym (ap (λ (x : List Spot). slice_get x k) e) ∙ at in absurd (cc));
   whole = λ j f p lt. absurd (omega arith);
   first = λ j f lt. absurd (omega arith);
   long = refl;

@@ -2,7 +2,8 @@ use Rattle.std.proofs.Common.{◌≡◌, ℕ, ◌+◌, ◌<◌, ◌≤◌, ◌�
 use Rattle.std.proofs.lemmas.Bool.{cases_eq, cases_lt}
 use Rattle.std.proofs.lemmas.Option.{slice_get_within, slice_get-get_or, get_or_from_slice_get}
 use Rattle.std.specs.Result.{is_ok}
-use Rattle.std.specs.Str.{str_eq_ignore_ascii_case}
+use Rattle.std.specs.Str.{str_eq_ignore_ascii_case, str_to_ascii_lowercase}
+use Rattle.std.proofs.lemmas.Slice.Eq.{bytes_eq-Decides}
 use Rattle.ladder_text.specs.Picture.{Picture, IsSound}
 use Rattle.ladder_text.specs.declared.mark.Mark.TheVariants.{Rail}
 use Rattle.ladder_text.specs.declared.place.Place.{Place}
@@ -36,6 +37,13 @@ pub none_such : (P Q : Place → Type 0) (places : List Place) → ((q : Place) 
 none_such P Q places there are none p such =
     let w = at_contains places p (are.whole p (there p such)) in
     let h : slice_get [] w.0 ≡ Some p = ap (λ (x : List Place). slice_get x w.0) (sym none) ∙ w.1 in cc
+
+-- names that are equal without regard to case are so either way round
+same_name_back : (a b : List ℕ) → IsTrue (str_eq_ignore_ascii_case a b) → IsTrue (str_eq_ignore_ascii_case b a)
+same_name_back a b same =
+    let x = str_to_ascii_lowercase a in
+    let y = str_to_ascii_lowercase b in
+    (bytes_eq-Decides y x).1 (sym ((bytes_eq-Decides x y).0 same))
 
 linked_back : (e f : Element) → AreLinked e f → AreLinked f e
 linked_back e f l = (l.1, l.0, elim l.2 [ inl a ↦ inr a | inr b ↦ inl b ])
@@ -211,8 +219,35 @@ module _ (g : Picture) (sound : IsSound g) (es : List Element) (are : AreElement
                 let f = first_in s.1.0 s.0 (get_or es i x) s.1.2 in
                 (f.0, (s.1.0, s.1.1, f.1))
 
-    pub sound_graph : (first : ℕ) (rails : List Place) → AreLeftRails g rails → IsSoundGraph (graph_value first rails networks)
-    sound_graph first rails ra = record {
+    -- a box further left comes before
+    by_column : (m i j : ℕ) (a b : DrawnBox) → IsIn networks m i (Box a) → IsIn networks m j (Box b) → a.left < b.left → i < j
+    by_column m i j a b is is' left = elim (cases_lt i j) [
+      | inl lt ↦ lt
+      | inr ge ↦ absurd (elim (cases_lt j i) [
+        | inl lt ↦ (let w = sp.rising m j i (Box b) (Box a) lt is' is in elim (are.rising w.0 w.1 (Box b) (Box a) w.2 w.3 w.4) [ inl h ↦ omega arith | inr h ↦ (let c = h.0 in omega arith) ])
+        | inr le ↦ same_left i j (omega arith) is is'
+      ])
+    ]
+      where
+        same_left : (i j : ℕ) → i ≡ j → IsIn networks m i (Box a) → IsIn networks m j (Box b) → ⊥
+        same_left i j e is is' = (let at = ap (λ (x : List Element). slice_get x i) (one_at networks m m is.0 is'.0 refl is.1 is'.1) in
+            let one : a.left ≡ b.left = ap (λ (x : Element). (first_place x).column) (one_at is'.0 i j (Box a) (Box b) e (sym at ∙ is.2) is'.2) in omega arith)
+
+    -- two boxes of one name are one box
+    one_box : Nowhere (IsTwiceAt g) → (a b : DrawnBox) → Contains g.boxes a → Contains g.boxes b → IsTrue (str_eq_ignore_ascii_case a.instance b.instance) → a ≡ b
+    one_box once a b is is' named =
+        let v = at_contains g.boxes a is in
+        let w = at_contains g.boxes b is' in
+        elim (cases_lt v.0 w.0) [
+          | inl lt ↦ absurd (once (place b.top b.left) (a, b, is, is', sound.boxes_rising v.0 w.0 a b lt v.1 w.1, named, refl))
+          | inr ge ↦ elim (cases_lt w.0 v.0) [
+            | inl lt ↦ absurd (once (place a.top a.left) (b, a, is', is, sound.boxes_rising w.0 v.0 b a lt w.1 v.1, same_name_back a.instance b.instance named, refl))
+            | inr le ↦ one_at g.boxes v.0 w.0 a b (omega arith) v.1 w.1
+          ]
+        ]
+
+    pub sound_graph : (first : ℕ) (rails : List Place) → AreLeftRails g rails → Nowhere (IsTwiceAt g) → IsSoundGraph (graph_value first rails networks)
+    sound_graph first rails ra named_once = record {
       networks = λ m ns at. record {
         apart = record {
           elements = λ j k e f p at_e at_f h i. (let a = sp.each m j e (ns, at, at_e) in let b = sp.each m k f (ns, at, at_f) in
@@ -225,6 +260,10 @@ module _ (g : Picture) (sound : IsSound g) (es : List Element) (are : AreElement
             ((let x = on.0 in let few = sound.few_rows in omega arith), (let x = on.2 in let few = sound.few_columns in omega arith)));
         wide = λ b in'. (let w = at_contains ns (Box b) in' in let a = sp.each m w.0 (Box b) (ns, at, w.1) in let is = at_contains g.boxes b (are.drawn a.0 (Box b) a.2) in
             (sound.boxes_whole is.0 b is.1).wide);
+        by_column = λ i j a b at_a at_b left. by_column m i j a b (ns, at, at_a) (ns, at, at_b) left;
+        names = λ i j a b at_a at_b named. (let v = sp.each m i (Box a) (ns, at, at_a) in let w = sp.each m j (Box b) (ns, at, at_b) in
+            let same = one_box named_once a b (are.drawn v.0 (Box a) v.2) (are.drawn w.0 (Box b) w.2) named in
+            (once m m i j (Box b) (ns, at, at_a ∙ ap (λ (x : DrawnBox). Some (Box x)) same) (ns, at, at_b)).1);
       };
     }
 

@@ -12,10 +12,14 @@ use Rattle.network.specs.Table.{IsStep}
 unfoldable pub places_of : List Spot → List Place
 places_of spots = map (λ (s : Spot). s.place) spots
 
+-- state can come to the place p of this element, or the element begins there
+abbrev pub IsStop : Element → Place → Type 0
+IsStop e p = (first_place e ≡ p) ⊎ (Takes e p ⊎ Stands e p)
+
 -- the list keeps its places, and grows by places of this element alone
 pub record Grows (e : Element) (n : ℕ) (old new : List Spot) : Type 0 where
   pub kept : (k : ℕ) (s : Spot) → slice_get old k ≡ Some s → slice_get new k ≡ Some s
-  pub each : (k : ℕ) (s : Spot) → slice_get new k ≡ Some s → (slice_get old k ≡ Some s) ⊎ ((s.element ≡ n) × Has e s.place)
+  pub each : (k : ℕ) (s : Spot) → slice_get new k ≡ Some s → (slice_get old k ≡ Some s) ⊎ ((s.element ≡ n) × IsStop e s.place)
 
 -- each place belongs to its element
 abbrev pub AreOwned : List Element → List Spot → Type 0
@@ -24,6 +28,7 @@ AreOwned elements spots = (k : ℕ) (s : Spot) → slice_get spots k ≡ Some s 
 -- the places of the first n elements have their numbers
 pub record NumberedTo (elements : List Element) (spots : List Spot) (firsts : List ℕ) (n : ℕ) : Type 0 where
   pub owned : AreOwned elements spots
+  pub stops : (k : ℕ) (s : Spot) → slice_get spots k ≡ Some s → (e : Element) × (slice_get elements s.element ≡ Some e) × IsStop e s.place
   pub whole : (j : ℕ) (e : Element) (p : Place) → j < n → slice_get elements j ≡ Some e → Takes e p ⊎ Stands e p → (k : ℕ) × IsSpot spots k p
   pub first : (j : ℕ) (e : Element) → j < n → slice_get elements j ≡ Some e → IsSpot spots (slice_index firsts j) (first_place e)
   pub long : length firsts ≡ n

@@ -4,7 +4,7 @@ use Rattle.std.specs.Io.KnownBytes.{Appends, Keeps}
 use Rattle.ladder_text.specs.Rows.{rows_of}
 use Rattle.ladder_text.specs.Places.{layout_of}
 use Rattle.ladder_text.specs.Picture.{Picture, picture_of}
-use Rattle.ladder_text.specs.Faults.{IsWellDrawn, IsRefusable}
+use Rattle.ladder_text.specs.Faults.{IsWellDrawn, IsIllDrawn}
 use Rattle.network.specs.Links.{Diagram}
 use Rattle.network.specs.GraphValue.{GraphValue}
 use Rattle.network.specs.Networks.{AreNetworks}
@@ -116,7 +116,7 @@ pub record RefusesNames (drawing : List ℕ) (fault : BindFault) : Type 0 where
 
 -- what holds after a refusal by the text
 abbrev pub RefusesText : List ℕ → TextFault → Type 0
-RefusesText drawing (Draw fault) = IsRefusable (rows_of drawing)
+RefusesText drawing (Draw fault) = IsIllDrawn (rows_of drawing)
 RefusesText drawing (Graph fault) = (picture : Picture) × IsDrawn drawing picture
 RefusesText drawing (Bind fault) = RefusesNames drawing fault
 

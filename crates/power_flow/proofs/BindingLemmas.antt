@@ -1,17 +1,25 @@
-use Rattle.std.proofs.Common.{◌≡◌, ℕ, ◌+◌, ◌≤◌, List, [], Bool, true, false, Option, Some, None, All, slice_get, slice_index_or, get_or, length, map, arith, refl, sym, ap, ◌∙◌}
+use Rattle.std.proofs.Common.{◌≡◌, ℕ, ◌+◌, ◌≤◌, List, [], Bool, true, false, Option, Some, None, Contains, slice_get, slice_index_or, length, map, arith, refl, sym, ap, ◌∙◌}
 use Rattle.std.specs.Option.{option_and_then, option_map}
 use Rattle.std.specs.List.{before_first, after_first, position_or_len}
 use Rattle.std.proofs.lemmas.Bool.{ltb-false}
 use Rattle.std.proofs.lemmas.List.{length-take, take_all, drop_all}
-use Rattle.std.proofs.lemmas.Option.{slice_get-map, get_or_from_slice_get, slice_get_within}
+use Rattle.std.proofs.lemmas.Option.{slice_get-map, get_or_from_slice_get}
 use Rattle.network.specs.declared.element.Element.{Element}
-use Rattle.network.specs.declared.element.Element.TheVariants.{Wire, Join, Upright, Contact, Coil, Box}
+use Rattle.network.specs.declared.element.Element.TheVariants.{Box}
 use Rattle.power_flow.specs.declared.bind.BindKind.{BindKind}
 use Rattle.power_flow.specs.declared.declarations.Declaration.{Declaration}
 use Rattle.power_flow.specs.declared.declarations.Declared.{Declared}
 use Rattle.power_flow.specs.Names.{place_of, is_dot}
-use Rattle.power_flow.specs.Binding.{IsBound, fault_with, variable_declared, declared_at, as_variable, is_dotted, read_fault, write_fault}
-use Rattle.power_flow.specs.Circuit.{IsNamed, IsNamedBy, operand_at}
+use Rattle.power_flow.specs.Binding.{IsBound, IsBoundNetwork, fault_with, variable_declared, as_variable}
+use Rattle.power_flow.specs.Lookup.{declared_at, is_dotted}
+use Rattle.power_flow.proofs.BoxesFaults.{named_box}
+use Rattle.ladder_text.specs.declared.drawn_box.DrawnBox.{DrawnBox}
+use Rattle.power_flow.specs.Circuit.{IsNamed}
+use Rattle.power_flow.specs.declared.source.Source.{Source}
+use Rattle.power_flow.specs.declared.source.Source.TheVariants as source
+use Rattle.power_flow.specs.Sources.{element_source}
+use Rattle.power_flow.specs.BoxFaults.{IsNamedBox}
+use Rattle.std.proofs.lemmas.List.Elements.{All-contains}
 
 -- a name whose first part is all of it has no dot
 no_dot : (name : List ℕ) → is_dotted name ≡ false → (before_first is_dot name ≡ name) × (after_first is_dot name ≡ [])
@@ -61,23 +69,13 @@ module _ (ds : List Declaration) (name : List ℕ) (fault : Declared → Option 
   unfolding variable_declared
   variable_is h = as_found (is_dotted name) (declared_at ds (before_first is_dot name)) refl refl h
 
--- the operand of a bound symbol is the place of its name
-pub named_by : (ds : List Declaration) (e : Element) → IsBound ds e → IsNamedBy ds e (operand_at ds e)
-named_by ds (Wire at) h = tt
-named_by ds (Join at) h = tt
-named_by ds (Upright at) h = tt
-named_by ds (Contact c) h = let v = variable_is ds c.name read_fault h in (v.place, v.named.at, v.named)
-named_by ds (Coil c) h = let v = variable_is ds c.name write_fault h in (v.place, v.named.at, v.named)
-named_by ds (Box b) h = absurd (cc)
+-- the source of an element stands at its number
+pub all_named : (ds : List Declaration) (es : List Element) (sources : List Source) → sources ≡ map (element_source ds) es
+    → (k : ℕ) (e : Element) → slice_get es k ≡ Some e → slice_index_or sources k source.Nothing ≡ element_source ds e
+all_named ds es sources same k e at =
+    let there : slice_get sources k ≡ Some (element_source ds e) = ap (λ os. slice_get os k) same ∙ slice_get-map (element_source ds) es k ∙ ap (option_map (element_source ds)) at in
+    get_or_from_slice_get sources k (element_source ds e) source.Nothing there
 
-pub all_named : (ds : List Declaration) (es : List Element) (operands : List (Option ℕ)) → operands ≡ map (operand_at ds) es → All (IsBound ds) es
-    → (k : ℕ) (e : Element) → slice_get es k ≡ Some e → IsNamedBy ds e (slice_index_or operands k None)
-all_named ds es operands same bound k e at =
-    let there : slice_get operands k ≡ Some (operand_at ds e) = ap (λ os. slice_get os k) same ∙ slice_get-map (operand_at ds) es k ∙ ap (option_map (operand_at ds)) at in
-    let is : slice_index_or operands k None ≡ operand_at ds e = get_or_from_slice_get operands k (operand_at ds e) None there in
-    let one : IsBound ds (get_or es k e) = bound k e (slice_get_within es k e at) in
-    let same_e : get_or es k e ≡ e = get_or_from_slice_get es k e e at in
-    moved e (get_or es k e) (slice_index_or operands k None) same_e (sym is) one
-  where
-    moved : (e f : Element) (o : Option ℕ) → f ≡ e → operand_at ds e ≡ o → IsBound ds f → IsNamedBy ds e o
-    moved e f o one is h = rw (← is) (named_by ds e (rw one at h))
+-- the boxes of a bound network have the names that their table needs
+pub named_box_of : (ds : List Declaration) (es : List Element) (b : DrawnBox) → IsBoundNetwork ds es → Contains es (Box b) → IsNamedBox ds b
+named_box_of ds es b bound in' = named_box ds es b (All-contains (IsBound ds es) es (Box b) bound in')

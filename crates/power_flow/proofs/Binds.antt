@@ -8,7 +8,7 @@ use Rattle.network.specs.Links.{Diagram}
 use Rattle.network.specs.GraphValue.{diagram, IsSoundNetwork}
 use Rattle.power_flow.specs.declared.circuit.Circuit.{Circuit}
 use Rattle.power_flow.specs.declared.declarations.Declaration.{Declaration}
-use Rattle.power_flow.specs.Binding.{IsBound, CanBind}
+use Rattle.power_flow.specs.Binding.{IsBoundNetwork, CanBind}
 use Rattle.power_flow.specs.Circuit.{IsCircuit, AreCircuits, HasShape, HasRoom, circuit_diagram}
 use Rattle.power_flow.specs.Scan.{AllAreWide}
 
@@ -20,10 +20,10 @@ elements_more circuits yielded c network was here =
     map-append (λ (c : Circuit). c.elements.items) circuits (c ∷ []) ∙ ap (λ x. x ++ c.elements.items ∷ []) was ∙ ap (λ n. yielded ++ n ∷ []) here
 
 pub circuits_more : (ds : List Declaration) (rails : List Place) (circuits : List Circuit) (yielded : List (List Element)) (c : Circuit) (network : List Element)
-    → (All (All (IsBound ds)) yielded → AreCircuits ds rails circuits) → (All (IsBound ds) network → IsCircuit ds (diagram rails network) c) → c.elements.items ≡ network
-    → All (All (IsBound ds)) (yielded ++ network ∷ []) → AreCircuits ds rails (circuits ++ c ∷ [])
+    → (All (IsBoundNetwork ds) yielded → AreCircuits ds rails circuits) → (IsBoundNetwork ds network → IsCircuit ds (diagram rails network) c) → c.elements.items ≡ network
+    → All (IsBoundNetwork ds) (yielded ++ network ∷ []) → AreCircuits ds rails (circuits ++ c ∷ [])
 circuits_more ds rails circuits yielded c network were here same bound =
-    let parts = All-pop (All (IsBound ds)) (yielded ++ network ∷ []) yielded (Some network) refl bound in
+    let parts = All-pop (IsBoundNetwork ds) (yielded ++ network ∷ []) yielded (Some network) refl bound in
     let one : IsCircuit ds (circuit_diagram rails c) c = moved network c.elements.items (sym same) (here parts.1) in
     let P : Circuit → Type 0 = λ c. IsCircuit ds (circuit_diagram rails c) c in
     recursion_from_All P (circuits ++ c ∷ []) (All-push P circuits c (All-from_recursion P circuits (were parts.0)) one)
@@ -41,18 +41,18 @@ most_more f circuits n old new c lt is were more here =
     All-more (λ x. f x ≤ new) circuits n c lt (All-weaker (λ x. f x ≤ old) (λ x. f x ≤ new) (λ x h. omega arith) (take n circuits) were)
     (let e = ap f is in omega arith)
 
-pub room_of : (circuits : List Circuit) (gates bits : ℕ) → All HasShape circuits → All (λ (c : Circuit). length c.elements.items ≤ gates) circuits → All (λ (c : Circuit). length c.places.items ≤ bits) circuits
-    → AllByRecursion (HasRoom gates bits) circuits
-room_of circuits gates bits shapes most_gates most_bits =
-    recursion_from_All (HasRoom gates bits) circuits (λ k d lt. record { shape = shapes k d lt; gates_in = most_gates k d lt; bits_in = most_bits k d lt })
+pub room_of : (circuits : List Circuit) (gates bits results : ℕ) → All HasShape circuits → All (λ (c : Circuit). length c.elements.items ≤ gates) circuits → All (λ (c : Circuit). length c.places.items ≤ bits) circuits
+    → All (λ (c : Circuit). length c.boxes.items ≤ results) circuits → AllByRecursion (HasRoom gates bits results) circuits
+room_of circuits gates bits results shapes most_gates most_bits most_results =
+    recursion_from_All (HasRoom gates bits results) circuits (λ k d lt. record { shape = shapes k d lt; gates_in = most_gates k d lt; bits_in = most_bits k d lt; results_in = most_results k d lt })
 
 abbrev pub elements_of : Circuit → List Element
 elements_of c = c.elements.items
 
-pub can_bind_circuits : (ds : List Declaration) (rails : List Place) (circuits : List Circuit) → All (All (IsBound ds)) (map elements_of circuits) → CanBind ds (map (circuit_diagram rails) circuits)
-can_bind_circuits ds rails [] h = All-nil (λ (d : Diagram). All (IsBound ds) d.elements)
-can_bind_circuits ds rails (c ∷ circuits) h = All-cons (λ (d : Diagram). All (IsBound ds) d.elements) (circuit_diagram rails c) (map (circuit_diagram rails) circuits)
-    (All-head (All (IsBound ds)) (elements_of c) (map elements_of circuits) h) (can_bind_circuits ds rails circuits (All-tail (All (IsBound ds)) (elements_of c) (map elements_of circuits) h))
+pub can_bind_circuits : (ds : List Declaration) (rails : List Place) (circuits : List Circuit) → All (IsBoundNetwork ds) (map elements_of circuits) → CanBind ds (map (circuit_diagram rails) circuits)
+can_bind_circuits ds rails [] h = All-nil (λ (d : Diagram). IsBoundNetwork ds d.elements)
+can_bind_circuits ds rails (c ∷ circuits) h = All-cons (λ (d : Diagram). IsBoundNetwork ds d.elements) (circuit_diagram rails c) (map (circuit_diagram rails) circuits)
+    (All-head (IsBoundNetwork ds) (elements_of c) (map elements_of circuits) h) (can_bind_circuits ds rails circuits (All-tail (IsBoundNetwork ds) (elements_of c) (map elements_of circuits) h))
 
 pub wide_circuits : (rails : List Place) (circuits : List Circuit) → ((k : ℕ) (es : List Element) → slice_get (map elements_of circuits) k ≡ Some es → IsSoundNetwork (diagram rails es))
     → AllAreWide (map (circuit_diagram rails) circuits)
@@ -67,5 +67,5 @@ networks_are rails circuits networks same = same_diagrams circuits ∙ ap (map (
     same_diagrams [] = refl
     same_diagrams (c ∷ cs) = ap (λ x. diagram rails (elements_of c) ∷ x) (same_diagrams cs)
 
-pub can_bind_from : (ds : List Declaration) (rails : List Place) (networks : List (List Element)) → All (All (IsBound ds)) networks → CanBind ds (map (diagram rails) networks)
-can_bind_from ds rails networks h = All-map (λ (d : Diagram). All (IsBound ds) d.elements) (diagram rails) networks h
+pub can_bind_from : (ds : List Declaration) (rails : List Place) (networks : List (List Element)) → All (IsBoundNetwork ds) networks → CanBind ds (map (diagram rails) networks)
+can_bind_from ds rails networks h = All-map (λ (d : Diagram). IsBoundNetwork ds d.elements) (diagram rails) networks h

@@ -173,6 +173,16 @@ instance_cases ds (e ∷ es) k = go e (instance_cases ds es k)
       | inr not_at ↦ inr (none_more (Box b) (λ b' e' at. not_at (ap (λ n. place_of ds n) (ap instance_of e') ∙ at)) none)
     ]
 
+-- at a place stands the block of some box, or of none
+pub box_cases : (ds : List Declaration) (es : List Element) (slots : List Slot) (k : ℕ)
+    → ((b : DrawnBox) × (i : Instance) × Contains es (Box b) × (place_of ds b.instance ≡ Some k) × (slice_get slots k ≡ Some (Block i)))
+    ⊎ ((b : DrawnBox) (i : Instance) → Contains es (Box b) → place_of ds b.instance ≡ Some k → slice_get slots k ≡ Some (Block i) → ⊥)
+unfolding InstanceAt NoneAt
+box_cases ds es slots k = elim (instance_cases ds es k) [
+  | inl h ↦ elim (block_cases slots k) [ inl held ↦ inl (h.0, held.0, h.1, h.2, held.1) | inr none ↦ inr (λ b i in' at was. none i was) ]
+  | inr none ↦ inr (λ b i in' at was. none b in' at)
+]
+
 -- the block results of a network are determined
 pub between_same : (ds : List Declaration) (d : Diagram) (dt : ℕ) (old : Moment) (x y : List Slot) → AreWide d → BlocksStep ds d dt old x → BlocksStep ds d dt old y → x ≡ y
 unfolding Agrees InstanceAt NoneAt

@@ -1,18 +1,16 @@
 use Rattle.std.proofs.Common.{◌≡◌, ℕ, ◌+◌, ◌<◌, ◌≤◌, ◌⊎◌, inl, inr, List, [], ◌∷◌, ◌++◌, Option, Some, None, All, Contains, get_or, take, length, map, refl, sym, ap, ◌∙◌, arith}
-use Rattle.std.specs.Option.{option_map}
 use Rattle.std.specs.List.{flat_map}
-use Rattle.std.proofs.lemmas.List.{take_more, map-append, append-nil}
+use Rattle.std.proofs.lemmas.List.{take_more, append-nil}
 use Rattle.std.proofs.lemmas.Grind.{flat_map-append}
 use Rattle.std.proofs.lemmas.List.Elements.{All-append, All-weaker, All-nil, All-cons, All-head, All-tail, All-contains, Contains-append_left, Contains-append_right}
 use Rattle.ladder_text.specs.declared.place.Place.{Place}
 use Rattle.network.specs.declared.element.Element.{Element}
 use Rattle.network.specs.Links.{Diagram}
 use Rattle.network.specs.GraphValue.{diagram}
-use Rattle.power_flow.specs.declared.bind.BindKind.{BindKind}
 use Rattle.power_flow.specs.declared.bind.Finding.{Finding}
 use Rattle.power_flow.specs.declared.declarations.Declaration.{Declaration}
-use Rattle.power_flow.specs.Binding.{IsBound, CanBind, element_fault}
-use Rattle.power_flow.specs.Findings.{kind_rank, IsUpTo, finding_at, findings, IsFirstOf, IsEarlier}
+use Rattle.power_flow.specs.Binding.{IsBoundNetwork, CanBind, element_findings}
+use Rattle.power_flow.specs.Findings.{kind_rank, IsUpTo, network_findings, findings, IsFirstOf, IsEarlier}
 
 up_to_trans : (f g h : Finding) → IsUpTo f g → IsUpTo g h → IsUpTo f h
 up_to_trans f g h (inl a) (inl b) = inl (omega arith)
@@ -53,60 +51,62 @@ first_one (Some f) = ((0, omega arith, refl), All-cons (NoneBefore f) (Some f) [
         let column = ap (λ (x : Finding). x.column) same in
         inr (ap (λ (x : Finding). kind_rank x.kind) same, inr (ap (λ (x : Finding). x.row) same, omega arith))
 
-pub first_element : (ds : List Declaration) (es : List Element) (n : ℕ) (e : Element) (r s t : Option Finding) → n < length es → e ≡ get_or es n e
-    → IsFirstOf (map (finding_at ds) (take n es)) r → s ≡ finding_at ds e → IsEarlier r s t → IsFirstOf (map (finding_at ds) (take (n + 1) es)) t
-first_element ds es n e r s t lt at was is earlier =
-    let here : take (n + 1) es ≡ take n es ++ e ∷ [] = take_more es n e lt ∙ ap (λ x. take n es ++ x ∷ []) (sym at) in
-    let split : map (finding_at ds) (take (n + 1) es) ≡ map (finding_at ds) (take n es) ++ s ∷ [] =
-    ap (map (finding_at ds)) here ∙ map-append (finding_at ds) (take n es) (e ∷ []) ∙ ap (λ x. map (finding_at ds) (take n es) ++ x ∷ []) (sym is) in
-    rw split (first_more (map (finding_at ds) (take n es)) (s ∷ []) r s t was (first_one s) earlier)
+pub first_empty : IsFirstOf [] None
+first_empty = All-nil (λ o. o ≡ None)
+
+-- the first of three is the earlier one of the first two and the third
+pub first_three : (a b c r t : Option Finding) → IsEarlier a b r → IsEarlier r c t → IsFirstOf (a ∷ b ∷ c ∷ []) t
+first_three a b c r t e f = first_more (a ∷ b ∷ []) (c ∷ []) r c t (first_more (a ∷ []) (b ∷ []) a b r (first_one a) (first_one b) e) (first_one c) f
+
+-- one more list of a list of lists
+pub first_flat : {X : Type 0} (F : X → List (Option Finding)) (xs : List X) (n : ℕ) (x : X) (r s t : Option Finding) → n < length xs → x ≡ get_or xs n x
+    → IsFirstOf (flat_map F (take n xs)) r → IsFirstOf (F x) s → IsEarlier r s t → IsFirstOf (flat_map F (take (n + 1) xs)) t
+first_flat F xs n x r s t lt at was is earlier =
+    let here : take (n + 1) xs ≡ take n xs ++ x ∷ [] = take_more xs n x lt ∙ ap (λ y. take n xs ++ y ∷ []) (sym at) in
+    let split : flat_map F (take (n + 1) xs) ≡ flat_map F (take n xs) ++ F x =
+    ap (flat_map F) here ∙ flat_map-append F (take n xs) (x ∷ []) ∙ ap (λ y. flat_map F (take n xs) ++ y) (append-nil (F x)) in
+    rw split (first_more (flat_map F (take n xs)) (F x) r s t was is earlier)
 
 pub first_network : (ds : List Declaration) (networks : List (List Element)) (n : ℕ) (es : List Element) (r s t : Option Finding) → n < length networks → es ≡ get_or networks n es
-    → IsFirstOf (findings ds (take n networks)) r → IsFirstOf (map (finding_at ds) es) s → IsEarlier r s t → IsFirstOf (findings ds (take (n + 1) networks)) t
+    → IsFirstOf (findings ds (take n networks)) r → IsFirstOf (network_findings ds es) s → IsEarlier r s t → IsFirstOf (findings ds (take (n + 1) networks)) t
 unfolding findings
-first_network ds networks n es r s t lt at was is earlier =
-    let here : take (n + 1) networks ≡ take n networks ++ es ∷ [] = take_more networks n es lt ∙ ap (λ x. take n networks ++ x ∷ []) (sym at) in
-    let split : findings ds (take (n + 1) networks) ≡ findings ds (take n networks) ++ map (finding_at ds) es =
-    ap (flat_map (map (finding_at ds))) here ∙ flat_map-append (map (finding_at ds)) (take n networks) (es ∷ []) ∙ ap (λ x. flat_map (map (finding_at ds)) (take n networks) ++ x) (append-nil (map (finding_at ds) es)) in
-    rw split (first_more (findings ds (take n networks)) (map (finding_at ds) es) r s t was is earlier)
+first_network ds networks n es r s t lt at was is earlier = first_flat (network_findings ds) networks n es r s t lt at was is earlier
 
 pub first_none : (ds : List Declaration) (networks : List (List Element)) → IsFirstOf (findings ds (take 0 networks)) None
 unfolding findings
 first_none ds networks = All-nil (λ o. o ≡ None)
 
--- no fault: nothing is wrong
-none_of : (o : Option BindKind) (g : BindKind → Finding) → option_map g o ≡ None → o ≡ None
-none_of None g h = refl
-none_of (Some k) g h = absurd (cc)
-
-parts : (xs ys : List (Option Finding)) → All (λ o. o ≡ None) (xs ++ ys) → All (λ o. o ≡ None) xs × All (λ o. o ≡ None) ys
+pub parts : (xs ys : List (Option Finding)) → All (λ o. o ≡ None) (xs ++ ys) → All (λ o. o ≡ None) xs × All (λ o. o ≡ None) ys
 parts [] ys h = (All-nil (λ o. o ≡ None), h)
 parts (x ∷ xs) ys h =
     let rest = parts xs ys (All-tail (λ o. o ≡ None) x (xs ++ ys) h) in
     (All-cons (λ o. o ≡ None) x xs (All-head (λ o. o ≡ None) x (xs ++ ys) h) rest.0, rest.1)
 
-bound_elements : (ds : List Declaration) (es : List Element) → All (λ o. o ≡ None) (map (finding_at ds) es) → All (IsBound ds) es
-bound_elements ds [] h = All-nil (IsBound ds)
-bound_elements ds (e ∷ es) h = All-cons (IsBound ds) e es (none_of (element_fault ds e) _ (All-head (λ o. o ≡ None) (finding_at ds e) (map (finding_at ds) es) h))
-    (bound_elements ds es (All-tail (λ o. o ≡ None) (finding_at ds e) (map (finding_at ds) es) h))
+-- no fault in all lists is no fault in each
+abbrev NoneIn : List (Option Finding) → Type 0
+NoneIn xs = All (λ o. o ≡ None) xs
 
-pub bound_from_none : (ds : List Declaration) (networks : List (List Element)) → IsFirstOf (findings ds networks) None → All (All (IsBound ds)) networks
+none_in_each : {X : Type 0} (F : X → List (Option Finding)) (xs : List X) → NoneIn (flat_map F xs) → All (λ x. NoneIn (F x)) xs
+none_in_each F [] h = All-nil (λ x. NoneIn (F x))
+none_in_each F (x ∷ xs) h = let p = parts (F x) (flat_map F xs) h in All-cons (λ y. NoneIn (F y)) x xs p.0 (none_in_each F xs p.1)
+
+none_in_all : {X : Type 0} (F : X → List (Option Finding)) (xs : List X) → All (λ x. NoneIn (F x)) xs → NoneIn (flat_map F xs)
+none_in_all F [] h = All-nil (λ o. o ≡ None)
+none_in_all F (x ∷ xs) h = All-append (λ o. o ≡ None) (F x) (flat_map F xs) (All-head (λ y. NoneIn (F y)) x xs h) (none_in_all F xs (All-tail (λ y. NoneIn (F y)) x xs h))
+
+pub bound_from_none : (ds : List Declaration) (networks : List (List Element)) → IsFirstOf (findings ds networks) None → All (IsBoundNetwork ds) networks
 unfolding findings
-bound_from_none ds [] h = All-nil (All (IsBound ds))
-bound_from_none ds (es ∷ networks) h =
-    let p = parts (map (finding_at ds) es) (flat_map (map (finding_at ds)) networks) h in
-    All-cons (All (IsBound ds)) es networks (bound_elements ds es p.0) (bound_from_none ds networks p.1)
-
-no_findings : (ds : List Declaration) (es : List Element) → All (IsBound ds) es → All (λ o. o ≡ None) (map (finding_at ds) es)
-no_findings ds [] h = All-nil (λ o. o ≡ None)
-no_findings ds (e ∷ es) h = All-cons (λ o. o ≡ None) (finding_at ds e) (map (finding_at ds) es) (ap (option_map _) (All-head (IsBound ds) e es h)) (no_findings ds es (All-tail (IsBound ds) e es h))
+bound_from_none ds networks h = All-weaker (λ es. NoneIn (network_findings ds es)) (IsBoundNetwork ds) (λ es none. none_in_each (element_findings ds es) es none) networks (none_in_each (network_findings ds) networks h)
 
 no_faults : (ds : List Declaration) (rails : List Place) (networks : List (List Element)) → CanBind ds (map (diagram rails) networks) → All (λ o. o ≡ None) (findings ds networks)
 unfolding findings
-no_faults ds rails [] h = All-nil (λ o. o ≡ None)
-no_faults ds rails (es ∷ ns) h = All-append (λ o. o ≡ None) (map (finding_at ds) es) (flat_map (map (finding_at ds)) ns)
-    (no_findings ds es (All-head (λ (d : Diagram). All (IsBound ds) d.elements) (diagram rails es) (map (diagram rails) ns) h))
-    (no_faults ds rails ns (All-tail (λ (d : Diagram). All (IsBound ds) d.elements) (diagram rails es) (map (diagram rails) ns) h))
+no_faults ds rails networks h = none_in_all (network_findings ds) networks (each networks h)
+  where
+    each : (ns : List (List Element)) → CanBind ds (map (diagram rails) ns) → All (λ es. NoneIn (network_findings ds es)) ns
+    each [] can = All-nil (λ es. NoneIn (network_findings ds es))
+    each (es ∷ ns) can = All-cons (λ es. NoneIn (network_findings ds es)) es ns
+        (none_in_all (element_findings ds es) es (All-head (λ (d : Diagram). IsBoundNetwork ds d.elements) (diagram rails es) (map (diagram rails) ns) can))
+        (each ns (All-tail (λ (d : Diagram). IsBoundNetwork ds d.elements) (diagram rails es) (map (diagram rails) ns) can))
 
 -- where a fault was found, no ladder can be made
 pub not_bound : (ds : List Declaration) (rails : List Place) (networks : List (List Element)) (f : Finding) → Contains (findings ds networks) (Some f) → CanBind ds (map (diagram rails) networks) → ⊥

@@ -1,9 +1,9 @@
-use Rattle.std.proofs.Common.{◌≡◌, ℕ, ◌+◌, ◌<◌, ◌⊎◌, ◌≢◌, inl, inr, List, [], ◌∷◌, ◌++◌, Bool, Option, Some, None, All, Contains, set, length-set, get_or, take, drop, length, slice_get, map, sum_by, refl, sym, ap, ◌∙◌, subst, arith}
+use Rattle.std.proofs.Common.{◌≡◌, ℕ, suc, ◌+◌, ◌<◌, ◌⊎◌, ◌≢◌, inl, inr, List, [], ◌∷◌, ◌++◌, Bool, true, false, cond, Option, Some, None, Contains, set, length-set, get_or, take, drop, length, slice_get, map, sum_by, refl, sym, ap, ◌∙◌, subst, arith}
 use Rattle.std.specs.Option.{option_map}
 use Rattle.std.specs.List.{AllByRecursion, flat_map, enumerate_from}
 use Rattle.std.proofs.lemmas.Bool.{cases_eq}
 use Rattle.std.proofs.lemmas.List.{get_or-set_same, get_or-set_other}
-use Rattle.std.proofs.lemmas.List.Elements.{recursion_from_All, All-contains}
+use Rattle.std.proofs.lemmas.List.Elements.{recursion_from_All}
 use Rattle.std.proofs.lemmas.Option.{slice_get-get_or, get_or_from_slice_get, slice_get_within}
 use Rattle.std_blocks.specs.declared.value.Value.{Value}
 use Rattle.std_blocks.specs.declared.value.Value.TheVariants.{Bool as BoolValue}
@@ -18,19 +18,41 @@ use Rattle.power_flow.specs.declared.declarations.Kind.TheVariants as kind
 use Rattle.power_flow.specs.declared.state.Slot.{Slot}
 use Rattle.power_flow.specs.declared.state.Slot.TheVariants.{Variable}
 use Rattle.power_flow.specs.Reach.{bit_at}
-use Rattle.power_flow.specs.Names.{place_of}
-use Rattle.power_flow.specs.StateValue.{StateValue, IsSlotOf, AreSlotsOf}
+use Rattle.power_flow.specs.Names.{place_of, value_at, slot_value, is_dot}
+use Rattle.power_flow.specs.StateValue.{StateValue, IsSlotOf, AreSlotsOf, kind_of}
 use Rattle.ladder_text.specs.declared.place.Place.{Place}
 use Rattle.std.proofs.lemmas.List.Sums.{sum_by-cons}
 use Rattle.power_flow.specs.declared.circuit.Circuit.{Circuit}
 use Rattle.power_flow.specs.Circuit.{circuit_diagram}
 use Rattle.power_flow.specs.LadderValue.{LadderValue, Fits}
-use Rattle.power_flow.specs.Binding.{IsBound, CanBind, write_fault}
-use Rattle.power_flow.specs.Meaning.{Moment, moment, NetworkMeaning, stored, stores, store, coil_stores, coil_value, result_stores}
+use Rattle.power_flow.specs.Binding.{IsBound, IsBoundNetwork, CanBind, write_fault, fault_with, as_variable, variable_declared}
+use Rattle.power_flow.specs.declared.bind.BindKind.{BindKind}
+use Rattle.power_flow.specs.declared.bind.BindKind.TheVariants.{WritesInput, WrongKind}
+use Rattle.power_flow.specs.declared.declarations.Kind.{Kind}
+use Rattle.power_flow.specs.declared.state.Instance.{Instance as InstanceRecord}
+use Rattle.power_flow.specs.declared.state.Slot.TheVariants.{Block}
+use Rattle.power_flow.specs.Lookup.{declared_at, is_dotted}
+use Rattle.power_flow.specs.Literals.{literal_value}
+use Rattle.power_flow.specs.PinKinds.{type_of, field_kind}
+use Rattle.power_flow.specs.BoxFaults.{IsFaultless, IsNamedBox, same_kind, store_declared_fault, store_name_fault, store_fault_by, store_fault_at, operand_fault, own_field, field_on, kind_at}
+use Rattle.std_blocks.specs.declared.pin.Field.{Field}
+use Rattle.std_blocks.specs.declared.pin.Field.TheVariants.{Bit, Int, Time}
+use Rattle.std_blocks.specs.declared.pins.PinsOut.{PinsOut}
+use Rattle.std_blocks.specs.Pins.{pin_of, output, field_value}
+use Rattle.std_blocks.specs.Blocks.{after, outputs_after}
+use Rattle.ladder_text.specs.declared.drawn_box.DrawnPin.{DrawnPin}
+use Rattle.ladder_text.specs.declared.drawn_box.Operand.{Operand}
+use Rattle.ladder_text.specs.declared.drawn_box.Side.{Side}
+use Rattle.ladder_text.specs.declared.drawn_box.Side.TheVariants.{Left, Right}
+use Rattle.std.specs.Option.{option_and_then, option_map_or}
+use Rattle.std.specs.List.{before_first}
+use Rattle.power_flow.proofs.BoxesFaults.{here_none, named_box, pins_right, operand_right}
+use Rattle.power_flow.proofs.BoxesBinding.{declared_place}
+use Rattle.power_flow.proofs.BoxesSources.{contains_at, block_at, pin_value, block_kept}
+use Rattle.power_flow.proofs.Determinism.{box_cases}
+use Rattle.power_flow.specs.Meaning.{Moment, moment, NetworkMeaning, BlocksStep, stored, stores, store, coil_stores, coil_value, result_stores, side_stores}
 use Rattle.power_flow.specs.Scan.{ScanMeaning}
-use Rattle.power_flow.proofs.Lists.{same_by_slice_get}
 use Rattle.power_flow.proofs.BindingLemmas.{IsVariable, variable_is}
-use Rattle.power_flow.proofs.CircuitLemmas.{no_results}
 
 -- what is stored is of the declared kind
 abbrev IsRight : List Declaration → ℕ × Value → Type 0
@@ -89,38 +111,171 @@ coil_right ds name value v = by (place_of ds name) value v.named.at
       tt,
     )
 
-coils_right : (ds : List Declaration) (old : Moment) (links : List Bool) (n : ℕ) (es : List Element) → AllByRecursion (IsBound ds) es
+coils_right : (ds : List Declaration) (old : Moment) (links : List Bool) (n : ℕ) (all es : List Element) → AllByRecursion (IsBound ds all) es
     → AllByRecursion (IsRight ds) (flat_map (λ e. coil_stores ds old links e.0 e.1) (enumerate_from n es))
-coils_right ds old links n [] bound = tt
-coils_right ds old links n (e ∷ es) bound = both ds (coil_stores ds old links n e) (flat_map (λ e. coil_stores ds old links e.0 e.1) (enumerate_from (n + 1) es)) (one e bound.0) (coils_right ds old links (n + 1) es bound.1)
+coils_right ds old links n all [] bound = tt
+coils_right ds old links n all (e ∷ es) bound = both ds (coil_stores ds old links n e) (flat_map (λ e. coil_stores ds old links e.0 e.1) (enumerate_from (n + 1) es)) (one e bound.0) (coils_right ds old links (n + 1) all es bound.1)
   where
-    one : (e : Element) → IsBound ds e → AllByRecursion (IsRight ds) (coil_stores ds old links n e)
+    one : (e : Element) → IsBound ds all e → AllByRecursion (IsRight ds) (coil_stores ds old links n e)
     one (Wire at) h = tt
     one (Join at) h = tt
     one (Upright at) h = tt
     one (Contact c) h = tt
-    one (Coil c) h = coil_right ds c.name (coil_value c.kind (bit_at links n) (bit_at old.memories n)) (variable_is ds c.name write_fault h)
-    one (Box b) h = absurd (cc)
+    one (Coil c) h = coil_right ds c.name (coil_value c.kind (bit_at links n) (bit_at old.memories n)) (variable_is ds c.name write_fault (here_none _ _ (h 0 None (omega arith))))
+    one (Box b) h = tt
 
--- a network without boxes leaves the slots of the kinds that are declared
-meaning_keeps : (ds : List Declaration) (d : Diagram) (dt : ℕ) (old new : Moment) → All (IsBound ds) d.elements → NetworkMeaning ds d dt old new
+-- a step of a block leaves one of its type
+between_keeps : (ds : List Declaration) (d : Diagram) (dt : ℕ) (old : Moment) (between : List Slot) → BlocksStep ds d dt old between → AreSlotsOf ds old.slots → AreSlotsOf ds between
+between_keeps ds d dt old between step fits = record { long = step.same_length ∙ fits.long; each = λ k e s declared found. by k e s declared found (box_cases ds d.elements old.slots k) }
+  where
+    block_right : (w : Declared) (i j : InstanceRecord) → j.state.block ≡ i.state.block → IsSlotOf w (Block i) → IsSlotOf w (Block j)
+    block_right (Input k) i j same h = h
+    block_right (Output k) i j same h = h
+    block_right (Local k) i j same h = h
+    block_right (Instance b) i j same h = same ∙ h
+
+    by : (k : ℕ) (e : Declaration) (s : Slot) → slice_get ds k ≡ Some e → slice_get between k ≡ Some s
+        → ((b : DrawnBox) × (i : InstanceRecord) × Contains d.elements (Box b) × (place_of ds b.instance ≡ Some k) × (slice_get old.slots k ≡ Some (Block i)))
+        ⊎ ((b : DrawnBox) (i : InstanceRecord) → Contains d.elements (Box b) → place_of ds b.instance ≡ Some k → slice_get old.slots k ≡ Some (Block i) → ⊥)
+        → IsSlotOf e.declared s
+    by k e s declared found (inl h) =
+        let i = h.1 in
+        let made = step.stepped h.0 k i h.2 h.3 h.4 in
+        let new : InstanceRecord = record { state = after i.state made.0 dt; outputs = outputs_after i.state made.0 dt } in
+        let is : Some s ≡ Some (Block new) = sym found ∙ made.2 in
+        let one : s ≡ Block new = cc in
+        subst (IsSlotOf e.declared) (sym one) (block_right e.declared i new (block_kept i.state made.0 dt) (fits.each k e (Block i) declared h.4))
+    by k e s declared found (inr none) = fits.each k e s declared (sym (step.others k none) ∙ found)
+
+-- the fault of a store is that of its variable
+same_fault : (want : Option Kind) (dotted : Bool) (o : Option Declared) → store_name_fault want dotted o ≡ fault_with (store_declared_fault want) (as_variable dotted o)
+same_fault want dotted None = refl
+same_fault want true (Some w) = refl
+same_fault want false (Some w) = refl
+
+kinds_same : (j k : Kind) → same_kind j k ≡ true → j ≡ k
+kinds_same kind.Bool kind.Bool e = refl
+kinds_same kind.Int kind.Int e = refl
+kinds_same kind.Time kind.Time e = refl
+kinds_same j k e = cc
+
+stored_slot : (w : Declared) (field : Field) (v : Value) → store_declared_fault (Some (field_kind field)) w ≡ None → kind_of v ≡ field_kind field → IsSlotOf w (Variable v)
+stored_slot (Input k) field v h is = go (same_kind (field_kind field) k) h
+  where
+    go : (x : Bool) → ◌≡◌ {A = Option BindKind} (cond x (Some WritesInput) (Some WrongKind)) None → kind_of v ≡ k
+    go true e = absurd (cc)
+    go false e = absurd (cc)
+stored_slot (Output k) field v h is = is ∙ go (same_kind (field_kind field) k) refl h
+  where
+    go : (x : Bool) → same_kind (field_kind field) k ≡ x → ◌≡◌ {A = Option BindKind} (cond x None (Some WrongKind)) None → field_kind field ≡ k
+    go true same e = kinds_same (field_kind field) k same
+    go false same e = absurd (cc)
+stored_slot (Local k) field v h is = is ∙ go (same_kind (field_kind field) k) refl h
+  where
+    go : (x : Bool) → same_kind (field_kind field) k ≡ x → ◌≡◌ {A = Option BindKind} (cond x None (Some WrongKind)) None → field_kind field ≡ k
+    go true same e = kinds_same (field_kind field) k same
+    go false same e = absurd (cc)
+stored_slot (Instance b) field v h is = absurd (cc)
+
+field_value_kind : (out : PinsOut) (field : Field) → kind_of (field_value out field) ≡ field_kind field
+field_value_kind out (Bit k) = refl
+field_value_kind out Int = refl
+field_value_kind out Time = refl
+
+-- a store at an operand at which nothing is wrong is of the declared kind
+operand_store : (ds : List Declaration) (text : List ℕ) (field : Field) (v : Value) → store_fault_at ds (Some (field_kind field)) text ≡ None → kind_of v ≡ field_kind field
+    → AllByRecursion (IsRight ds) (store (place_of ds text) (Some v))
+unfolding store_fault_at variable_declared
+operand_store ds text field v h is = by (place_of ds text) variable.named.at
+  where
+    named : (o : Option Value) → store_fault_by (Some (field_kind field)) o (store_name_fault (Some (field_kind field)) (is_dotted text) (declared_at ds (before_first is_dot text))) ≡ None
+        → store_name_fault (Some (field_kind field)) (is_dotted text) (declared_at ds (before_first is_dot text)) ≡ None
+    named None e = e
+    named (Some w) e = absurd (cc)
+
+    variable : IsVariable ds text (store_declared_fault (Some (field_kind field)))
+    variable = variable_is ds text (store_declared_fault (Some (field_kind field))) (sym (same_fault (Some (field_kind field)) (is_dotted text) (declared_at ds (before_first is_dot text))) ∙ named (literal_value text) h)
+
+    by : (place : Option ℕ) → place ≡ Some variable.place → AllByRecursion (IsRight ds) (store place (Some v))
+    by None at = absurd (cc)
+    by (Some place) at = (
+      λ e there.
+          (let same : place ≡ variable.place = cc in
+          let entry : Some variable.entry ≡ Some e = sym variable.there ∙ ap (slice_get ds) (sym same) ∙ there in
+          let one : variable.entry ≡ e = cc in
+          stored_slot e.declared field v (ap (λ (x : Declaration). store_declared_fault (Some (field_kind field)) x.declared) (sym one) ∙ variable.right) is),
+      tt,
+    )
+
+-- the stores of a box without faults are of the declared kinds
+box_right : (ds : List Declaration) (es : List Element) (between : List Slot) (b : DrawnBox) → AreSlotsOf ds between → IsFaultless ds es b
+    → (pins : List DrawnPin) → ((pin : DrawnPin) → Contains pins pin → Contains b.pins pin) → AllByRecursion (IsRight ds) (flat_map (λ pin. side_stores ds between b pin pin.side) pins)
+box_right ds es between b fits fine [] within = tt
+box_right ds es between b fits fine (pin ∷ pins) within =
+    both ds (side_stores ds between b pin pin.side) (flat_map (λ p. side_stores ds between b p p.side) pins)
+    (side pin.side refl)
+    (box_right ds es between b fits fine pins (λ p in'. within p (later in')))
+  where
+    later : {p : DrawnPin} → Contains pins p → Contains (pin ∷ pins) p
+    later (k, lt, at) = (suc k, (let long : length (pin ∷ pins) ≡ suc (length pins) = refl in omega arith), at)
+
+    names : IsNamedBox ds b
+    names = named_box ds es b fine
+
+    value : (field : Field) → pin_of (type_of b.block) pin.name ≡ Some (output field) → (out : PinsOut) × (value_at ds between b.instance pin.name ≡ Some (field_value out field))
+    value field named' =
+        let n = named_box ds es b fine in
+        let at = declared_place ds b.instance (Instance (type_of b.block)) n.instance in
+        let block = block_at ds between at.0 (type_of b.block) fits (record { entry = at.1; at = at.3; is = at.4 }) in (
+          block.0.outputs,
+          ap (option_and_then (λ k. option_and_then (λ s. slot_value s pin.name) (slice_get between k))) at.2 ∙ ap (option_and_then (λ s. slot_value s pin.name)) block.1
+              ∙ pin_value block.0 (type_of b.block) pin.name field block.2 named',
+        )
+
+    side : (s : Side) → pin.side ≡ s → AllByRecursion (IsRight ds) (side_stores ds between b pin s)
+    side Left is = tt
+    side Right is = operand pin.operand refl
+      where
+        operand : (o : Option Operand) → pin.operand ≡ o → AllByRecursion (IsRight ds) (option_map_or (λ w. store (place_of ds w.text) (value_at ds between b.instance pin.name)) o [])
+        operand None e = tt
+        operand (Some o) e =
+            let in' = within pin (0, (let long : length (pin ∷ pins) ≡ suc (length pins) = refl in omega arith), refl) in
+            let at = contains_at b.pins pin in' in
+            let right = pins_right ds es b fine at.0 pin at.1 in
+            let n = named_box ds es b fine in
+            let out = n.outputs pin in' is in
+            let own : own_field b pin ≡ Some out.0 = ap (field_on pin.side) out.1 ∙ ap (λ x. field_on x (Some (output out.0))) is in
+            let fault = operand_right ds b pin pin.operand o right.operand e in
+            let here : store_fault_at ds (Some (field_kind out.0)) o.text ≡ None = (let P : Option Field → Type 0 = λ f. operand_fault ds pin.side (kind_at f) o.text ≡ None in
+            let Q : Side → Type 0 = λ s. operand_fault ds s (kind_at (Some out.0)) o.text ≡ None in subst Q is (subst P own fault)) in
+            let v = value out.0 out.1 in
+            rw v.1 (operand_store ds o.text out.0 (field_value v.0 out.0) here (field_value_kind v.0 out.0))
+
+results_right : (ds : List Declaration) (all : List Element) (between : List Slot) → AreSlotsOf ds between → (es : List Element) → AllByRecursion (IsBound ds all) es
+    → AllByRecursion (IsRight ds) (flat_map (result_stores ds between) es)
+results_right ds all between fits [] bound = tt
+results_right ds all between fits (e ∷ es) bound = both ds (result_stores ds between e) (flat_map (result_stores ds between) es) (one e bound.0) (results_right ds all between fits es bound.1)
+  where
+    one : (e : Element) → IsBound ds all e → AllByRecursion (IsRight ds) (result_stores ds between e)
+    one (Wire at) h = tt
+    one (Join at) h = tt
+    one (Upright at) h = tt
+    one (Contact c) h = tt
+    one (Coil c) h = tt
+    one (Box b) h = box_right ds all between b fits h b.pins (λ pin in'. in')
+
+-- a network leaves the slots of the kinds that are declared
+pub meaning_keeps : (ds : List Declaration) (d : Diagram) (dt : ℕ) (old new : Moment) → IsBoundNetwork ds d.elements → NetworkMeaning ds d dt old new
     → AreSlotsOf ds old.slots → AreSlotsOf ds new.slots
 unfolding stores
 meaning_keeps ds d dt old new bound m h =
-    let right : AllByRecursion (IsRight ds) (flat_map (result_stores ds m.between) d.elements ++ flat_map (λ e. coil_stores ds old m.links e.0 e.1) (enumerate_from 0 d.elements)) =
-    rw (no_results ds m.between d.elements no_box) (coils_right ds old m.links 0 d.elements (recursion_from_All (IsBound ds) d.elements bound)) in
-    subst (AreSlotsOf ds) (sym m.slots) (stored_keeps ds m.between _ right (subst (AreSlotsOf ds) (sym between) h))
-  where
-    no_box : (b : DrawnBox) → Contains d.elements (Box b) → ⊥
-    no_box b in' = clash (All-contains (IsBound ds) d.elements (Box b) bound in')
-      where
-        clash : IsBound ds (Box b) → ⊥
-        clash h = absurd (cc)
+    let between = between_keeps ds d dt old m.between m.blocks h in
+    let each = recursion_from_All (IsBound ds d.elements) d.elements bound in
+    let right = both ds (flat_map (result_stores ds m.between) d.elements) (flat_map (λ e. coil_stores ds old m.links e.0 e.1) (enumerate_from 0 d.elements))
+    (results_right ds d.elements m.between between d.elements each) (coils_right ds old m.links 0 d.elements d.elements each) in
+    subst (AreSlotsOf ds) (sym m.slots) (stored_keeps ds m.between _ right between)
 
-    between : m.between ≡ old.slots
-    between = same_by_slice_get m.between old.slots (λ k. m.blocks.others k (λ b i in' at was. no_box b in'))
-
-pub scan_keeps : (ds : List Declaration) (dt : ℕ) (networks : List Diagram) (slots slots' : List Slot) (ms ms' : List Bool) → AllByRecursion (λ d. All (IsBound ds) d.elements) networks
+pub scan_keeps : (ds : List Declaration) (dt : ℕ) (networks : List Diagram) (slots slots' : List Slot) (ms ms' : List Bool) → AllByRecursion (λ d. IsBoundNetwork ds d.elements) networks
     → ScanMeaning ds dt networks slots ms slots' ms' → AreSlotsOf ds slots → AreSlotsOf ds slots'
 scan_keeps ds dt [] slots slots' ms ms' bound m h = subst (AreSlotsOf ds) (sym m.0) h
 scan_keeps ds dt (d ∷ networks) slots slots' ms ms' bound m h =
@@ -131,12 +286,13 @@ scan_keeps ds dt (d ∷ networks) slots slots' ms ms' bound m h =
 -- a scan leaves a state that fits
 pub fits_after : (l : LadderValue) (old new : StateValue) (dt : ℕ) → CanBind l.declarations l.networks → Fits l old
     → ScanMeaning l.declarations dt l.networks old.slots old.memories new.slots new.memories
-    → length new.memories ≡ length old.memories → new.waiting_gates ≡ old.waiting_gates → new.waiting_bits ≡ old.waiting_bits → Fits l new
-fits_after l old new dt bound fits meaning memories gates bits = record {
-  slots = scan_keeps l.declarations dt l.networks old.slots new.slots old.memories new.memories (recursion_from_All (λ (d : Diagram). All (IsBound l.declarations) d.elements) l.networks bound) meaning fits.slots;
+    → length new.memories ≡ length old.memories → new.waiting_gates ≡ old.waiting_gates → new.waiting_bits ≡ old.waiting_bits → new.waiting_results ≡ old.waiting_results → Fits l new
+fits_after l old new dt bound fits meaning memories gates bits results = record {
+  slots = scan_keeps l.declarations dt l.networks old.slots new.slots old.memories new.memories (recursion_from_All (λ (d : Diagram). IsBoundNetwork l.declarations d.elements) l.networks bound) meaning fits.slots;
   memories = memories ∙ fits.memories;
   waiting_gates = gates ∙ fits.waiting_gates;
   waiting_bits = bits ∙ fits.waiting_bits;
+  waiting_results = results ∙ fits.waiting_results;
 }
 
 pub sum_diagrams : (rails : List Place) (circuits : List Circuit) → sum_by (λ (d : Diagram). length d.elements) (map (circuit_diagram rails) circuits) ≡ sum_by (λ (c : Circuit). length c.elements.items) circuits

@@ -6,7 +6,6 @@ pub mod Columns
 pub mod CircuitLemmas
 pub mod Stepping
 pub mod Determinism
-pub mod TableLemmas
 pub mod WholeTable
 pub mod Starting
 pub mod BindingLemmas
@@ -16,4 +15,13 @@ pub mod Slots
 pub mod Binds
 pub mod KeptSlots
 pub mod FindingLemmas
+pub mod BoxesStepping
+pub mod BoxesWalks
+pub mod BoxesSources
+pub mod BoxesMeaning
+pub mod BoxesFaults
+pub mod BoxesBinding
+pub mod WordLemmas
+pub mod LiteralLemmas
+pub mod BoxesTable
 pub mod GuessLemmas

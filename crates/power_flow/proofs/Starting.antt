@@ -5,7 +5,7 @@ use Rattle.std.proofs.lemmas.List.{get_or-set_same, get_or-set_other}
 use Rattle.ladder_text.specs.declared.place.Place.{Place}
 use Rattle.network.specs.declared.element.Element.{Element}
 use Rattle.network.specs.declared.numbering.Spot.{Spot}
-use Rattle.network.specs.Links.{Diagram, PassesRight, Takes}
+use Rattle.network.specs.Links.{Diagram, PassesRight, Takes, Gives}
 use Rattle.network.specs.Apart.{AreApart, AreOnPage, Has}
 use Rattle.network.specs.Numbers.{IsSpot}
 use Rattle.network.specs.Numbered.{AreOwned}
@@ -19,7 +19,7 @@ place_same a b r c = ap (λ (x : ℕ). record { row = x; column = a.column }) r 
 some_is : {A : Type 0} (a b : A) → Some a ≡ Some b → a ≡ b
 some_is a b e = cc
 
-module _ (d : Diagram) (apart : AreApart d) (spots : List Spot) (owned : AreOwned d.elements spots) (page : AreOnPage d.elements) (rail next : Place) (in' : Contains d.rails rail)
+module _ (d : Diagram) (apart : AreApart d) (spots : List Spot) (owned : AreOwned d.elements spots) (page : AreOnPage d.elements) (rail next : Place) (gives : Contains d.rails rail ⊎ Any (λ e. Gives e rail) d.elements)
     (row : next.row ≡ rail.row) (column : rail.column + 1 ≤ 240 → next.column ≡ rail.column + 1) (back : next.column ≤ 240 → next.column ≡ rail.column + 1)
     (found : Option ℕ) (finds : (k : ℕ) → (found ≡ Some k) ↔ IsSpot spots k next) where
   near : (k : ℕ) (p : Place) → IsSpot spots k p → p.column ≤ 240
@@ -77,7 +77,7 @@ module _ (d : Diagram) (apart : AreApart d) (spots : List Spot) (owned : AreOwne
             rw one record {
               row = row;
               column = back low;
-              gives = inl in';
+              gives = gives;
               takes = (s.element, e, slice_get_within d.elements s.element e at_e, get_or_from_slice_get d.elements s.element e e at_e, takes);
             }
 

@@ -1,4 +1,4 @@
-use Rattle.std.proofs.Common.{◌≡◌, ℕ, suc, ◌+◌, ◌<◌, ◌≤◌, inl, inr, List, [], ◌∷◌, ◌++◌, Bool, false, Option, Some, None, get_or, set, length, slice_get, slice_index, slice_index_or, drop, arith, refl, sym, ap, ◌∙◌}
+use Rattle.std.proofs.Common.{◌≡◌, ℕ, suc, ◌+◌, ◌<◌, ◌≤◌, inl, inr, List, [], ◌∷◌, ◌++◌, Bool, false, Some, get_or, set, length, slice_get, slice_index, slice_index_or, drop, arith, refl, sym, ap, ◌∙◌}
 use Rattle.std.specs.List.{enumerate_from}
 use Rattle.std.proofs.lemmas.Bool.{cases_eq}
 use Rattle.std.proofs.lemmas.List.{get_or-set_same, get_or-set_other, drop_all}
@@ -8,6 +8,9 @@ use Rattle.std_blocks.specs.declared.value.Value.{Value}
 use Rattle.network.specs.declared.element.Element.{Element}
 use Rattle.power_flow.specs.declared.state.Slot.{Slot}
 use Rattle.power_flow.specs.declared.state.Slot.TheVariants.{Variable}
+use Rattle.power_flow.specs.declared.source.Source.{Source}
+use Rattle.power_flow.specs.declared.source.Source.TheVariants as source
+use Rattle.power_flow.specs.Sources.{source_place}
 use Rattle.power_flow.specs.Reach.{bit_at}
 use Rattle.power_flow.specs.Meaning.{stored}
 use Rattle.power_flow.specs.Steps.{table_stores, coil_stores_at}
@@ -34,16 +37,16 @@ stored-append slots [] ys = refl
 stored-append slots (x ∷ xs) ys = stored-append (set slots x.0 (Variable x.1)) xs ys
 
 -- the stores from k on are those of the element at k, and then those from k + 1 on
-pub table_stores_at : (operands : List (Option ℕ)) (firsts : List ℕ) (bits memories : List Bool) (es : List Element) (k : ℕ) (here : Element) → k < length es → here ≡ get_or es k here
-    → table_stores operands firsts bits memories (enumerate_from k (drop k es))
-    ≡ coil_stores_at (slice_index_or operands k None) (bit_at bits (slice_index firsts k)) (bit_at memories k) here ++ table_stores operands firsts bits memories (enumerate_from (k + 1) (drop (k + 1) es))
+pub table_stores_at : (sources : List Source) (firsts : List ℕ) (bits memories : List Bool) (es : List Element) (k : ℕ) (here : Element) → k < length es → here ≡ get_or es k here
+    → table_stores sources firsts bits memories (enumerate_from k (drop k es))
+    ≡ coil_stores_at (source_place (slice_index_or sources k source.Nothing)) (bit_at bits (slice_index firsts k)) (bit_at memories k) here ++ table_stores sources firsts bits memories (enumerate_from (k + 1) (drop (k + 1) es))
 unfolding table_stores
-table_stores_at operands firsts bits memories es k here lt is =
+table_stores_at sources firsts bits memories es k here lt is =
     let front : drop k es ≡ here ∷ drop (k + 1) es = rw add-one (drop-cons es k here lt ∙ ap (λ e. e ∷ drop (suc k) es) (sym is)) in
     rw front refl
 
 -- the stores from the end on are none
-pub table_stores_end : (operands : List (Option ℕ)) (firsts : List ℕ) (bits memories : List Bool) (es : List Element) (k : ℕ) → length es ≤ k
-    → table_stores operands firsts bits memories (enumerate_from k (drop k es)) ≡ []
+pub table_stores_end : (sources : List Source) (firsts : List ℕ) (bits memories : List Bool) (es : List Element) (k : ℕ) → length es ≤ k
+    → table_stores sources firsts bits memories (enumerate_from k (drop k es)) ≡ []
 unfolding table_stores
-table_stores_end operands firsts bits memories es k le = rw (drop_all k es le) refl
+table_stores_end sources firsts bits memories es k le = rw (drop_all k es le) refl

@@ -1,9 +1,12 @@
-use Rattle.std.specs.Prelude.{◌≡◌, ℕ, List, Bool, Option, Some, None, Result, Ok, Err, if◌then◌else◌, nat_lt, All, slice_get, length}
-use Rattle.std.specs.Option.{option_and_then, option_map}
+use Rattle.std.specs.Prelude.{◌≡◌, ℕ, List, [], ◌∷◌, Bool, Option, Some, None, Result, Ok, Err, if◌then◌else◌, All}
 use Rattle.std.specs.List.{before_first}
 use Rattle.network.specs.declared.element.Element.{Element}
 use Rattle.network.specs.declared.element.Element.TheVariants.{Wire, Join, Upright, Contact, Coil, Box}
-use Rattle.network.specs.Links.{Diagram}
+use Rattle.network.specs.Links.{Diagram, place}
+use Rattle.power_flow.specs.declared.bind.Finding.{Finding}
+use Rattle.power_flow.specs.BoxFaults.{fault_here, read_name_fault, name_kind, box_findings}
+unfoldable pub use Rattle.power_flow.specs.Lookup.{declared_at}
+pub use Rattle.power_flow.specs.Lookup.{is_dotted}
 use Rattle.power_flow.specs.declared.bind.BindKind.{BindKind}
 use Rattle.power_flow.specs.declared.bind.BindKind.TheVariants.{UnknownName, WrongKind, WritesInput}
 use Rattle.power_flow.specs.declared.declarations.Declaration.{Declaration}
@@ -11,20 +14,13 @@ use Rattle.power_flow.specs.declared.declarations.Declared.{Declared}
 use Rattle.power_flow.specs.declared.declarations.Declared.TheVariants.{Input, Output, Local, Instance}
 use Rattle.power_flow.specs.declared.declarations.Kind.{Kind}
 use Rattle.power_flow.specs.declared.declarations.Kind.TheVariants as kind
-use Rattle.power_flow.specs.Names.{place_of, is_dot}
+use Rattle.power_flow.specs.Names.{is_dot}
 
--- a contact reads a BOOL
+-- a coil writes a BOOL
 abbrev pub kind_fault : Kind → Option BindKind
 kind_fault kind.Bool = None
 kind_fault kind.Int = Some WrongKind
 kind_fault kind.Time = Some WrongKind
-
--- what is wrong with what a contact reads
-abbrev pub read_fault : Declared → Option BindKind
-read_fault (Input k) = kind_fault k
-read_fault (Output k) = kind_fault k
-read_fault (Local k) = kind_fault k
-read_fault (Instance b) = Some WrongKind
 
 -- what is wrong with what a coil writes
 abbrev pub write_fault : Declared → Option BindKind
@@ -34,14 +30,6 @@ write_fault (Input kind.Time) = Some WrongKind
 write_fault (Output k) = kind_fault k
 write_fault (Local k) = kind_fault k
 write_fault (Instance b) = Some WrongKind
-
--- what is declared at a name
-unfoldable pub declared_at : List Declaration → List ℕ → Option Declared
-declared_at ds name = option_map (λ (e : Declaration). e.declared) (option_and_then (slice_get ds) (place_of ds name))
-
--- a name with a dot: its first part isn't all of it
-abbrev pub is_dotted : List ℕ → Bool
-is_dotted name = nat_lt (length (before_first is_dot name)) (length name)
 
 -- what was found at the first part of a name is a variable only if that is all of the name
 abbrev pub as_variable : Bool → Option Declared → Result Declared BindKind
@@ -57,19 +45,23 @@ abbrev pub fault_with : (Declared → Option BindKind) → Result Declared BindK
 fault_with fault (Ok declared) = fault declared
 fault_with fault (Err k) = Some k
 
--- what is wrong with the name of an element
-abbrev pub element_fault : List Declaration → Element → Option BindKind
-element_fault ds (Wire at) = None
-element_fault ds (Join at) = None
-element_fault ds (Upright at) = None
-element_fault ds (Contact c) = fault_with read_fault (variable_declared ds c.name)
-element_fault ds (Coil c) = fault_with write_fault (variable_declared ds c.name)
-element_fault ds (Box b) = Some WrongKind
+-- the faults of an element, each with its kind and place
+abbrev pub element_findings : List Declaration → List Element → Element → List (Option Finding)
+element_findings ds elements (Wire at) = []
+element_findings ds elements (Join at) = []
+element_findings ds elements (Upright at) = []
+element_findings ds elements (Contact c) = fault_here (read_name_fault (Some kind.Bool) (name_kind ds c.name)) (place c.row c.column) ∷ []
+element_findings ds elements (Coil c) = fault_here (fault_with write_fault (variable_declared ds c.name)) (place c.row c.column) ∷ []
+element_findings ds elements (Box b) = box_findings ds elements b
 
--- nothing is wrong with the name of an element
-abbrev pub IsBound : List Declaration → Element → Type 0
-IsBound ds e = element_fault ds e ≡ None
+-- nothing is wrong with an element of a network
+abbrev pub IsBound : List Declaration → List Element → Element → Type 0
+IsBound ds elements e = All (λ o. o ≡ None) (element_findings ds elements e)
+
+-- nothing is wrong with a network
+abbrev pub IsBoundNetwork : List Declaration → List Element → Type 0
+IsBoundNetwork ds elements = All (IsBound ds elements) elements
 
 -- a ladder can be made of these networks
 abbrev pub CanBind : List Declaration → List Diagram → Type 0
-CanBind ds networks = All (λ d. All (IsBound ds) d.elements) networks
+CanBind ds networks = All (λ d. IsBoundNetwork ds d.elements) networks

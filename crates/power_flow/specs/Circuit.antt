@@ -1,8 +1,7 @@
-use Rattle.std.specs.Prelude.{◌≡◌, ℕ, ◌<◌, ◌≤◌, ◌↔◌, List, [], Bool, true, Option, Some, All, Contains, IfSome, None, slice_get, slice_index, slice_index_or, length}
+use Rattle.std.specs.Prelude.{◌≡◌, ℕ, ◌<◌, ◌≤◌, ◌↔◌, List, [], Bool, true, Some, All, Contains, IfSome, slice_get, slice_index, slice_index_or, length}
 use Rattle.std.specs.List.{before_first, after_first, AllByRecursion}
 use Rattle.ladder_text.specs.declared.place.Place.{Place}
 use Rattle.network.specs.declared.element.Element.{Element}
-use Rattle.network.specs.declared.element.Element.TheVariants.{Wire, Join, Upright, Contact, Coil, Box}
 use Rattle.network.specs.Links.{Diagram}
 use Rattle.network.specs.GraphValue.{diagram}
 use Rattle.power_flow.specs.declared.declarations.Declaration.{Declaration}
@@ -10,7 +9,10 @@ use Rattle.power_flow.specs.declared.circuit.Circuit.{Circuit}
 use Rattle.network.specs.declared.link.Link.{Link}
 use Rattle.power_flow.specs.Reach.{bit_at}
 use Rattle.power_flow.specs.Table.{IsTable, IsOutside, FollowsSource}
+use Rattle.power_flow.specs.declared.source.Source.TheVariants as source
 use Rattle.power_flow.specs.Names.{place_of, is_dot}
+use Rattle.power_flow.specs.Sources.{element_source}
+use Rattle.power_flow.specs.BoxTable.{AreBoundBoxes}
 use Rattle.power_flow.specs.Meaning.{first_place}
 
 -- the numbers of a link stand for elements and places
@@ -21,10 +23,11 @@ pub record IsLinkIn (elements places : ℕ) (l : Link) : Type 0 where
 
 -- the lists of a circuit fit each other
 pub record HasShape (c : Circuit) : Type 0 where
-  pub operands : length c.operands.items ≡ length c.elements.items
+  pub sources : length c.sources.items ≡ length c.elements.items
   pub firsts : length c.firsts.items ≡ length c.elements.items
   pub starts : length c.starts.items ≡ length c.places.items
   pub first_in : (k : ℕ) → k < length c.elements.items → slice_index c.firsts.items k < length c.places.items
+  pub nexts_in : All (λ e. All (λ o. IfSome o.next (λ k. k < length c.places.items)) e.outputs.items) c.boxes.items
   pub links_in : All (λ l. IsLinkIn (length c.elements.items) (length c.places.items) l) c.links.items
 
 -- the name is that of the variable at this place
@@ -32,24 +35,6 @@ pub record IsNamed (ds : List Declaration) (name : List ℕ) (place : ℕ) : Typ
   pub at : place_of ds name ≡ Some place
   pub base : before_first is_dot name ≡ name
   pub no_pin : after_first is_dot name ≡ []
-
--- where the name of a symbol is declared
-abbrev pub operand_at : List Declaration → Element → Option ℕ
-operand_at ds (Wire at) = None
-operand_at ds (Join at) = None
-operand_at ds (Upright at) = None
-operand_at ds (Contact c) = place_of ds c.name
-operand_at ds (Coil c) = place_of ds c.name
-operand_at ds (Box b) = None
-
--- a symbol's operand is the place of its variable
-abbrev pub IsNamedBy : List Declaration → Element → Option ℕ → Type 0
-IsNamedBy ds (Wire at) operand = Unit {0}
-IsNamedBy ds (Join at) operand = Unit {0}
-IsNamedBy ds (Upright at) operand = Unit {0}
-IsNamedBy ds (Contact c) operand = (place : ℕ) × (operand ≡ Some place) × IsNamed ds c.name place
-IsNamedBy ds (Coil c) operand = (place : ℕ) × (operand ≡ Some place) × IsNamed ds c.name place
-IsNamedBy ds (Box b) operand = ⊥
 
 -- the table is that of the diagram, with the places that follow the left rail and the places at which the elements begin
 pub record IsWired (d : Diagram) (places : List Place) (links : List Link) (starts : List Bool) (firsts : List ℕ) : Type 0 where
@@ -62,13 +47,15 @@ pub record IsWired (d : Diagram) (places : List Place) (links : List Link) (star
 pub record IsCircuit (ds : List Declaration) (d : Diagram) (c : Circuit) : Type 0 where
   pub elements : d.elements ≡ c.elements.items
   pub wired : IsWired d c.places.items c.links.items c.starts.items c.firsts.items
-  pub named : (k : ℕ) (e : Element) → slice_get d.elements k ≡ Some e → IsNamedBy ds e (slice_index_or c.operands.items k None)
+  pub named : (k : ℕ) (e : Element) → slice_get d.elements k ≡ Some e → slice_index_or c.sources.items k source.Nothing ≡ element_source ds e
+  pub boxes : AreBoundBoxes ds d c.places.items c.boxes.items
 
 -- there is room for a scan of the circuit
-pub record HasRoom (gates bits : ℕ) (c : Circuit) : Type 0 where
+pub record HasRoom (gates bits results : ℕ) (c : Circuit) : Type 0 where
   pub shape : HasShape c
   pub gates_in : length c.elements.items ≤ gates
   pub bits_in : length c.places.items ≤ bits
+  pub results_in : length c.boxes.items ≤ results
 
 -- what a circuit is made of, with the places of the left rail
 abbrev pub circuit_diagram : List Place → Circuit → Diagram

@@ -1,15 +1,13 @@
-use Rattle.std.specs.Prelude.{◌≡◌, ℕ, ◌+◌, ◌-◌, min, ◌<◌, ◌≤◌, ◌⊎◌, List, Option, Some, None, All, Contains, map}
+use Rattle.std.specs.Prelude.{◌≡◌, ℕ, ◌+◌, ◌-◌, min, ◌<◌, ◌≤◌, ◌⊎◌, List, Option, Some, None, All, Contains}
 use Rattle.std.specs.List.{flat_map}
-use Rattle.std.specs.Option.{option_map}
 use Rattle.network.specs.declared.element.Element.{Element}
-use Rattle.network.specs.Apart.{first_place}
 use Rattle.network.specs.GraphValue.{GraphValue}
 use Rattle.power_flow.specs.declared.bind.BindKind.{BindKind}
 use Rattle.power_flow.specs.declared.bind.BindKind.TheVariants.{UnknownName, WrongKind, WritesInput, UnknownPin, PinMissing, LiteralOutOfRange, Memory}
 use Rattle.power_flow.specs.declared.bind.Finding.{Finding}
 use Rattle.power_flow.specs.declared.bind.BindFault.{BindFault}
 use Rattle.power_flow.specs.declared.declarations.Declaration.{Declaration}
-use Rattle.power_flow.specs.Binding.{element_fault}
+use Rattle.power_flow.specs.Binding.{element_findings}
 
 -- the order in which the kinds are sought
 abbrev pub kind_rank : BindKind → ℕ
@@ -26,13 +24,13 @@ abbrev pub IsUpTo : Finding → Finding → Type 0
 IsUpTo f g = (kind_rank f.kind < kind_rank g.kind)
     ⊎ ((kind_rank f.kind ≡ kind_rank g.kind) × ((f.row < g.row) ⊎ ((f.row ≡ g.row) × (f.column ≤ g.column))))
 
--- the fault of an element, with its first place
-abbrev pub finding_at : List Declaration → Element → Option Finding
-finding_at ds e = option_map (λ k. record { kind = k; row = (first_place e).row; column = (first_place e).column }) (element_fault ds e)
+-- the faults of a network, element by element
+abbrev pub network_findings : List Declaration → List Element → List (Option Finding)
+network_findings ds elements = flat_map (element_findings ds elements) elements
 
 -- the faults of all networks
 unfoldable pub findings : List Declaration → List (List Element) → List (Option Finding)
-findings ds networks = flat_map (map (finding_at ds)) networks
+findings ds networks = flat_map (network_findings ds) networks
 
 -- there is no fault in the list, or this is the first one by kind and place
 abbrev pub IsFirstOf : List (Option Finding) → Option Finding → Type 0

@@ -14,6 +14,7 @@ pub record LadderValue : Type 0 where
   pub networks : List Diagram
   pub waiting_gates : ℕ
   pub waiting_bits : ℕ
+  pub waiting_results : ℕ
 
 -- the networks of a graph, each with the places of the left rail
 abbrev pub diagrams : GraphValue → List Diagram
@@ -25,6 +26,7 @@ pub record Fits (l : LadderValue) (s : StateValue) : Type 0 where
   pub memories : length s.memories ≡ sum_by (λ d. length d.elements) l.networks
   pub waiting_gates : s.waiting_gates ≡ l.waiting_gates
   pub waiting_bits : s.waiting_bits ≡ l.waiting_bits
+  pub waiting_results : s.waiting_results ≡ l.waiting_results
 
 -- the place, if a variable is declared there
 abbrev pub place_if_variable : ℕ → Declared → Option ℕ

@@ -13,4 +13,11 @@ pub mod First
 pub mod Folded
 pub mod Findings
 pub mod PinKinds
+pub mod Sources
+pub mod BoxSteps
+pub mod BoxTable
+pub mod BoxFaults
+pub mod Literals
+pub mod Chars
+pub mod Lookup
 pub mod Guess

@@ -28,6 +28,7 @@ use Rattle.power_flow.specs.declared.state.Slot.TheVariants.{Variable, Block}
 use Rattle.power_flow.specs.Reach.{bit_at}
 use Rattle.power_flow.specs.Power.{IsOn}
 use Rattle.power_flow.specs.Names.{place_of, value_at, value_of, is_true, int_or_zero, time_or_zero}
+use Rattle.power_flow.specs.Literals.{text_value}
 pub use Rattle.network.specs.Apart.{first_place}
 
 -- what a network reads and leaves: the slots of all declared names, and a memory for each of its elements
@@ -88,7 +89,7 @@ IsInputBit ds d old between b pin v =
 
 -- the value of a pin's operand, none where it has none
 abbrev pub operand_value : List Declaration → Moment → DrawnPin → Option Value
-operand_value ds old pin = option_and_then (λ o. value_of ds old.slots o.text) pin.operand
+operand_value ds old pin = option_and_then (λ o. text_value ds old.slots o.text) pin.operand
 
 -- the inputs of a box: each drawn pin has its state or value, and an undrawn one is OFF or 0
 pub record AreInputs (ds : List Declaration) (d : Diagram) (old : Moment) (between : List Slot) (b : DrawnBox) (block : BlockType) (pins : PinsIn) : Type 0 where

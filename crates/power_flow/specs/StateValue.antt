@@ -16,6 +16,7 @@ pub record StateValue : Type 0 where
   pub memories : List Bool
   pub waiting_gates : ℕ
   pub waiting_bits : ℕ
+  pub waiting_results : ℕ
 
 -- waiting places do not count where states are compared
 pub record IsSame (a b : StateValue) : Type 0 where

@@ -1,19 +1,15 @@
-use Rattle.std.specs.Prelude.{ℕ, List, [], Bool, true, false, Option, Some, None, slice_index, slice_index_or}
+use Rattle.std.specs.Prelude.{ℕ, List, [], Bool, true, Option, slice_index, slice_index_or}
 use Rattle.std.specs.Option.{option_map}
 use Rattle.std.specs.List.{flat_map}
 use Rattle.std_blocks.specs.declared.value.Value.{Value}
 use Rattle.std_blocks.specs.declared.value.Value.TheVariants.{Bool as BoolValue}
 use Rattle.network.specs.declared.element.Element.{Element}
 use Rattle.network.specs.declared.element.Element.TheVariants.{Wire, Join, Upright, Contact, Coil, Box}
-use Rattle.power_flow.specs.declared.state.Slot.{Slot}
 use Rattle.power_flow.specs.Reach.{bit_at}
-use Rattle.power_flow.specs.Names.{is_on_at}
+use Rattle.power_flow.specs.declared.source.Source.{Source}
+use Rattle.power_flow.specs.declared.source.Source.TheVariants as source
+use Rattle.power_flow.specs.Sources.{source_place}
 use Rattle.power_flow.specs.Meaning.{contact_conducts, contact_memory, coil_value, coil_memory, store}
-
--- whether the variable of an operand is TRUE
-abbrev pub is_operand_on : List Slot → Option ℕ → Bool
-is_operand_on slots None = false
-is_operand_on slots (Some place) = is_on_at slots place
 
 -- an element conducts, whose variable is on or off
 abbrev pub conducts_at : Bool → Bool → Element → Bool
@@ -52,6 +48,6 @@ coil_stores_at operand link memory (Coil c) = store operand (option_map BoolValu
 coil_stores_at operand link memory (Box b) = []
 
 -- the stores of the coils, by the places of their names and the table's places where they begin
-unfoldable pub table_stores : List (Option ℕ) → List ℕ → List Bool → List Bool → List (ℕ × Element) → List (ℕ × Value)
-table_stores operands firsts bits memories elements =
-    flat_map (λ e. coil_stores_at (slice_index_or operands e.0 None) (bit_at bits (slice_index firsts e.0)) (bit_at memories e.0) e.1) elements
+unfoldable pub table_stores : List Source → List ℕ → List Bool → List Bool → List (ℕ × Element) → List (ℕ × Value)
+table_stores sources firsts bits memories elements =
+    flat_map (λ e. coil_stores_at (source_place (slice_index_or sources e.0 source.Nothing)) (bit_at bits (slice_index firsts e.0)) (bit_at memories e.0) e.1) elements

@@ -1,11 +1,14 @@
-ghost use Rattle.std.specs.Prelude.{◌≡◌, map};
+ghost use Rattle.std.specs.Prelude.{◌≡◌, Some};
 ghost use Rattle.std.specs.Bool.{OnTrue, OnFalse};
 ghost use Rattle.std.specs.List.{before_first};
 ghost use Rattle.power_flow.specs.Names.{is_dot};
-ghost use Rattle.power_flow.specs.Binding.{kind_fault, read_fault, write_fault, declared_at, variable_declared, element_fault};
-ghost use Rattle.power_flow.specs.Findings.{kind_rank, IsUpTo, IsEarlier, IsFirstOf, finding_at, findings, bind_fault};
+ghost use Rattle.power_flow.specs.Binding.{kind_fault, write_fault, fault_with, declared_at, variable_declared, element_findings};
+ghost use Rattle.power_flow.specs.Findings.{kind_rank, IsUpTo, IsEarlier, IsFirstOf, network_findings, findings, bind_fault};
+ghost use Rattle.power_flow.specs.BoxFaults.{read_name_fault, name_kind};
 
+use crate::box_faults::{box_finding, fault_here, name_kind, read_name_fault};
 use crate::declarations::{Declarations, Declared, Kind};
+use ladder_text::Place;
 use network::{Element, Network};
 use std::alloc::AllocError;
 
@@ -65,15 +68,6 @@ fn kind_fault(kind: Kind) -> Option<BindKind>
     }
 }
 
-fn read_fault(declared: Declared) -> Option<BindKind>
-    ensures { result ≡ read_fault declared }
-{
-    match declared {
-        Declared::Input(kind) | Declared::Output(kind) | Declared::Local(kind) => kind_fault(kind),
-        Declared::Instance(_) => Some(BindKind::WrongKind),
-    }
-}
-
 fn write_fault(declared: Declared) -> Option<BindKind>
     ensures { result ≡ write_fault declared }
 {
@@ -85,8 +79,8 @@ fn write_fault(declared: Declared) -> Option<BindKind>
     }
 }
 
-#[tactic(auto, unfolding(crate::specs::Binding::declared_at))]
-fn declared_at(declarations: &Declarations, name: &str) -> Option<Declared>
+#[tactic(auto, unfolding(crate::specs::Lookup::declared_at))]
+pub fn declared_at(declarations: &Declarations, name: &str) -> Option<Declared>
     ensures { result ≡ declared_at declarations.now name.now }
 {
     let place = declarations.position(name)?;
@@ -95,7 +89,7 @@ fn declared_at(declarations: &Declarations, name: &str) -> Option<Declared>
 }
 
 /// The part of a name before its dot.
-fn first_part(name: &str) -> &str
+pub fn first_part(name: &str) -> &str
     ensures { result.now ≡ before_first is_dot name.now }
 {
     match name.split_once('.') {
@@ -119,20 +113,20 @@ fn variable_declared(declarations: &Declarations, name: &str) -> Result<Declared
     Ok(declared)
 }
 
-fn element_fault(declarations: &Declarations, element: &Element) -> Option<BindKind>
-    ensures { result ≡ element_fault declarations.now element.now }
+/// What is wrong with what a contact reads.
+fn contact_fault(declarations: &Declarations, name: &str) -> Option<BindKind>
+    ensures { result ≡ read_name_fault (Some Kind.Bool) (name_kind declarations.now name.now) }
 {
-    match element {
-        Element::Wire(_) | Element::Join(_) | Element::Upright(_) => None,
-        Element::Contact(contact) => match variable_declared(declarations, contact.name.as_str()) {
-            Ok(declared) => read_fault(declared),
-            Err(kind) => Some(kind),
-        },
-        Element::Coil(coil) => match variable_declared(declarations, coil.name.as_str()) {
-            Ok(declared) => write_fault(declared),
-            Err(kind) => Some(kind),
-        },
-        Element::Box(_) => Some(BindKind::WrongKind),
+    read_name_fault(Some(Kind::Bool), name_kind(declarations, name))
+}
+
+/// What is wrong with what a coil writes.
+fn coil_fault(declarations: &Declarations, name: &str) -> Option<BindKind>
+    ensures { result ≡ fault_with write_fault (variable_declared declarations.now name.now) }
+{
+    match variable_declared(declarations, name) {
+        Ok(declared) => write_fault(declared),
+        Err(kind) => Some(kind),
     }
 }
 
@@ -168,7 +162,7 @@ fn is_up_to(one: Finding, other: Finding) -> bool
 }
 
 /// The one that comes first.
-fn earlier(one: Option<Finding>, other: Option<Finding>) -> Option<Finding>
+pub fn earlier(one: Option<Finding>, other: Option<Finding>) -> Option<Finding>
     ensures { IsEarlier one other result }
 {
     match (one, other) {
@@ -184,25 +178,41 @@ fn earlier(one: Option<Finding>, other: Option<Finding>) -> Option<Finding>
     }
 }
 
-fn finding_of(declarations: &Declarations, element: &Element) -> Option<Finding>
-    ensures { result ≡ finding_at declarations.now element.now }
+/// The first fault of an element.
+fn element_finding(
+    declarations: &Declarations,
+    elements: &[Element],
+    element: &Element,
+) -> Option<Finding>
+    ensures { IsFirstOf (element_findings declarations.now elements.now element.now) result }
 {
-    let kind = element_fault(declarations, element)?;
-    let place = element.first_place();
-    Some(Finding {
-        kind,
-        row: place.row,
-        column: place.column,
-    })
+    match element {
+        Element::Wire(_) | Element::Join(_) | Element::Upright(_) => None,
+        Element::Contact(contact) => {
+            let place = Place {
+                row: contact.row,
+                column: contact.column,
+            };
+            fault_here(contact_fault(declarations, contact.name.as_str()), place)
+        }
+        Element::Coil(coil) => {
+            let place = Place {
+                row: coil.row,
+                column: coil.column,
+            };
+            fault_here(coil_fault(declarations, coil.name.as_str()), place)
+        }
+        Element::Box(drawn) => box_finding(declarations, elements, drawn),
+    }
 }
 
 /// The first fault of a network.
 fn network_finding(declarations: &Declarations, elements: &[Element]) -> Option<Finding>
-    ensures { IsFirstOf (map (finding_at declarations.now) elements.now) result }
+    ensures { IsFirstOf (network_findings declarations.now elements.now) result }
 {
     let mut first = None;
     for element in elements {
-        first = earlier(first, finding_of(declarations, element));
+        first = earlier(first, element_finding(declarations, elements, element));
     }
     first
 }

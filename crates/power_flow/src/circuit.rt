@@ -1,3 +1,5 @@
+use crate::bound_box::BoundBox;
+use crate::source::Source;
 use ladder_text::Place;
 use network::{Element, Link};
 
@@ -5,12 +7,14 @@ use network::{Element, Link};
 #[derive(Drop)]
 pub struct Circuit {
     pub elements: Vec<Element>,
-    /// The place of each symbol's variable.
-    pub operands: Vec<Option<usize>>,
+    /// What each symbol reads or stores.
+    pub sources: Vec<Source>,
     /// Where each element begins in the list of places.
     pub firsts: Vec<usize>,
     pub places: Vec<Place>,
     /// Which places follow the left rail.
     pub starts: Vec<bool>,
     pub links: Vec<Link>,
+    /// The boxes among the elements, in their order.
+    pub boxes: Vec<BoundBox>,
 }

@@ -1,39 +1,50 @@
-ghost use Rattle.std.specs.Prelude.{◌≡◌, ℕ, List, All, IfOk, Some, slice_get, length, map};
+ghost use Rattle.std.specs.Prelude.{◌≡◌, ◌≤◌, ℕ, List, All, Contains, IfOk, Some, slice_get, length, map};
+ghost use Rattle.std.specs.List.{AllByRecursion};
 ghost use Rattle.network.specs.declared.element.Element.{Element};
 ghost use Rattle.network.specs.declared.numbering.Spot.{Spot};
 ghost use Rattle.network.specs.GraphValue.{diagram, IsSoundNetwork};
-ghost use Rattle.power_flow.specs.Binding.{IsBound};
-ghost use Rattle.power_flow.specs.Circuit.{operand_at, IsWired, HasShape, IsCircuit, AreCircuits};
+ghost use Rattle.power_flow.specs.Binding.{IsBoundNetwork};
+ghost use Rattle.power_flow.specs.Circuit.{IsWired, HasShape, IsCircuit, AreCircuits};
 ghost use Rattle.power_flow.specs.declared.circuit.Circuit.{Circuit};
+ghost use Rattle.power_flow.specs.Sources.{element_source};
+ghost use Rattle.ladder_text.specs.declared.drawn_box.DrawnBox.{DrawnBox};
+ghost use Rattle.power_flow.specs.BoxFaults.{IsNamedBox};
+ghost use Rattle.power_flow.specs.BoxTable.{AreBoundBoxes};
 
+use crate::box_binding::bind_boxes;
 use crate::circuit::Circuit;
 use crate::declarations::Declarations;
+use crate::names::name_source;
+use crate::source::Source;
 use crate::starts::starts_of;
 use ladder_text::Place;
 use network::{Element, Network, Numbering, Spot, links_of, number_elements};
 use std::alloc::{AllocError, Global};
 
-/// The place of a symbol's variable.
-fn operand_of(declarations: &Declarations, element: &Element) -> Option<usize>
-    ensures { result ≡ operand_at declarations.now element.now }
+/// What a symbol reads or stores.
+fn source_of(declarations: &Declarations, element: &Element) -> Source
+    ensures { result ≡ element_source declarations.now element.now }
 {
     match element {
-        Element::Contact(contact) => declarations.position(contact.name.as_str()),
-        Element::Coil(coil) => declarations.position(coil.name.as_str()),
-        _ => None,
+        Element::Contact(contact) => name_source(declarations, contact.name.as_str()),
+        Element::Coil(coil) => match declarations.position(coil.name.as_str()) {
+            Some(place) => Source::Variable(place),
+            None => Source::Nothing,
+        },
+        _ => Source::Nothing,
     }
 }
 
-fn operands_of(
+fn sources_of(
     alloc: Global,
     declarations: &Declarations,
     elements: &[Element],
-) -> Result<Vec<Option<usize>>, AllocError>
-    ensures { IfOk result (λ operands. operands.items ≡ map (operand_at declarations.now) elements.now) }
+) -> Result<Vec<Source>, AllocError>
+    ensures { IfOk result (λ sources. sources.items ≡ map (element_source declarations.now) elements.now) }
 {
     elements
         .iter()
-        .map(|element| operand_of(declarations, element))
+        .map(|element| source_of(declarations, element))
         .collect(alloc)
 }
 
@@ -47,13 +58,16 @@ fn copy_places(alloc: Global, spots: &[Spot]) -> Result<Vec<Place>, AllocError>
 fn tables_of(
     alloc: Global,
     rails: &[Place],
-    operands: Vec<Option<usize>>,
+    declarations: &Declarations,
+    sources: Vec<Source>,
     elements: Vec<Element>,
 ) -> Result<Circuit, AllocError>
     requires sound { IsSoundNetwork (diagram rails.now elements.items) }
-    requires operands { length operands.items ≡ length elements.items }
+    requires sources { length sources.items ≡ length elements.items }
     ensures elements { IfOk result (λ c. c.elements.items ≡ elements.items) }
-    ensures operands { IfOk result (λ c. c.operands.items ≡ operands.items) }
+    ensures sources { IfOk result (λ c. c.sources.items ≡ sources.items) }
+    ensures boxes { IfOk result (λ c. ((b : DrawnBox) → Contains elements.items (Element.Box b) → IsNamedBox declarations.now b)
+        → AreBoundBoxes declarations.now (diagram rails.now elements.items) c.places.items c.boxes.items) }
     ensures wired { IfOk result (λ c. IsWired (diagram rails.now elements.items) c.places.items c.links.items c.starts.items c.firsts.items) }
     ensures shape { IfOk result (λ c. HasShape c) }
 {
@@ -61,14 +75,16 @@ fn tables_of(
     let firsts = number_elements(alloc, &mut numbering, &elements)?;
     let links = links_of(alloc, &numbering, &elements)?;
     let starts = starts_of(alloc, rails, &numbering, &elements)?;
+    let boxes = bind_boxes(alloc, declarations, &numbering, &elements)?;
     let places = copy_places(alloc, numbering.spots())?;
     Ok(Circuit {
         elements,
-        operands,
+        sources,
         firsts,
         places,
         starts,
         links,
+        boxes,
     })
 }
 
@@ -81,12 +97,12 @@ fn circuit_of(
 ) -> Result<Circuit, AllocError>
     requires { IsSoundNetwork (diagram rails.now network) }
     ensures elements { IfOk result (λ c. c.elements.items ≡ network) }
-    ensures circuit { IfOk result (λ c. All (IsBound declarations.now) network → IsCircuit declarations.now (diagram rails.now network) c) }
+    ensures circuit { IfOk result (λ c. IsBoundNetwork declarations.now network → IsCircuit declarations.now (diagram rails.now network) c) }
     ensures shape { IfOk result (λ c. HasShape c) }
 {
     let elements = network.into_elements();
-    let operands = operands_of(alloc, declarations, &elements)?;
-    let circuit = tables_of(alloc, rails, operands, elements)?;
+    let sources = sources_of(alloc, declarations, &elements)?;
+    let circuit = tables_of(alloc, rails, declarations, sources, elements)?;
     Ok(circuit)
 }
 
@@ -99,7 +115,7 @@ pub fn circuits_of(
 ) -> Result<Vec<Circuit>, AllocError>
     requires { (k : ℕ) (elements : List Element) → slice_get networks.items k ≡ Some elements → IsSoundNetwork (diagram rails.now elements) }
     ensures elements { IfOk result (λ circuits. map (λ (c : Circuit). c.elements.items) circuits.items ≡ networks.items) }
-    ensures circuits { IfOk result (λ circuits. All (All (IsBound declarations.now)) networks.items → AreCircuits declarations.now rails.now circuits.items) }
+    ensures circuits { IfOk result (λ circuits. All (IsBoundNetwork declarations.now) networks.items → AreCircuits declarations.now rails.now circuits.items) }
     ensures shape { IfOk result (λ circuits. All HasShape circuits.items) }
 {
     let mut circuits = Vec::new(alloc);

@@ -2,6 +2,10 @@
 #![tactic(auto)]
 
 mod bind;
+mod bound_box;
+mod box_binding;
+mod box_faults;
+mod boxes;
 mod circuit;
 mod circuits;
 mod declarations;
@@ -11,11 +15,15 @@ mod kinds;
 mod ladder;
 mod laws;
 mod links;
+mod literal;
 mod name_use;
+mod names;
 mod room;
 mod scan;
+mod source;
 mod starts;
 mod state;
+mod words;
 
 pub use bind::{BindFault, BindKind};
 pub use declarations::{Declaration, Declarations, DeclareFault, Declared, Kind};

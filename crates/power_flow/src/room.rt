@@ -38,3 +38,14 @@ pub fn most_places(circuits: &[Circuit]) -> usize
     }
     most
 }
+
+/// At least as many as any circuit has boxes.
+pub fn most_boxes(circuits: &[Circuit]) -> usize
+    ensures { All (λ c. length c.boxes.items ≤ result) circuits.now }
+{
+    let mut most = 0usize;
+    for circuit in circuits {
+        most = most.max(circuit.boxes.len());
+    }
+    most
+}

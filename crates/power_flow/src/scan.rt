@@ -1,31 +1,26 @@
-ghost use Rattle.std.specs.Prelude.{◌≡◌, ℕ, ◌<◌, length, List, slice_get, slice_index, slice_index_or, Some, None, sum_by, map};
+ghost use Rattle.std.specs.Prelude.{◌≡◌, ℕ, ◌<◌, ◌≤◌, length, List, ◌∷◌, slice_get, slice_index, slice_index_or, flat_map, Some, None, sum_by, map};
 ghost use Rattle.std.specs.List.{enumerate_from, AllByRecursion};
 ghost use Rattle.network.specs.declared.element.Element.{Element};
 ghost use Rattle.power_flow.specs.Reach.{bit_at};
-ghost use Rattle.power_flow.specs.Names.{is_on_at};
-ghost use Rattle.power_flow.specs.Meaning.{contact_conducts, contact_memory, coil_value, coil_memory, store, stored, NetworkMeaning, moment};
+ghost use Rattle.power_flow.specs.Names.{is_true};
+ghost use Rattle.power_flow.specs.Sources.{source_value};
+ghost use Rattle.power_flow.specs.StateValue.{AreSlotsOf};
+ghost use Rattle.power_flow.specs.Meaning.{contact_conducts, contact_memory, coil_value, coil_memory, stored, NetworkMeaning, moment};
 ghost use Rattle.network.specs.Links.{Diagram};
 ghost use Rattle.power_flow.specs.declared.declarations.Declaration.{Declaration};
 ghost use Rattle.power_flow.specs.Circuit.{HasShape, IsCircuit, HasRoom, AreCircuits, circuit_diagram};
-ghost use Rattle.power_flow.specs.Scan.{ScanMeaning};
+ghost use Rattle.power_flow.specs.Scan.{AreWide, AllAreWide, ScanMeaning};
+ghost use Rattle.power_flow.specs.Binding.{CanBind};
 ghost use Rattle.ladder_text.specs.declared.place.Place.{Place};
-ghost use Rattle.power_flow.specs.Steps.{is_operand_on, conducts_at, memory_read, memory_stored, coil_stores_at, table_stores};
+ghost use Rattle.power_flow.specs.Steps.{conducts_at, memory_read, memory_stored, coil_stores_at, table_stores};
 
+use crate::boxes::{step_boxes, store_blocks, store_outputs, store_value};
 use crate::circuit::Circuit;
-use crate::links::settle;
-use crate::state::{Slot, State};
+use crate::source::Source;
+use crate::state::{Instance, Slot, State};
 use ladder_text::{CoilKind, ContactKind};
 use network::Element;
 use std_blocks::Value;
-
-fn is_on(slots: &[Slot], place: usize) -> bool
-    ensures { result ≡ is_on_at slots.now place }
-{
-    match slots.get(place) {
-        Some(Slot::Variable(Value::Bool(on))) => *on,
-        _ => false,
-    }
-}
 
 fn lets_state(kind: ContactKind, on: bool, memory: bool) -> bool
     ensures { result ≡ contact_conducts kind on memory }
@@ -96,40 +91,13 @@ fn stored_memory(element: &Element, link: bool, memory: bool) -> bool
     }
 }
 
-/// Whether the variable of an operand is ON.
-fn is_operand_on(slots: &[Slot], operand: Option<usize>) -> bool
-    ensures { result ≡ is_operand_on slots.now operand }
-{
-    match operand {
-        Some(place) => is_on(slots, place),
-        None => false,
-    }
-}
-
-/// Stores a value at a place, if there is one.
-fn store_bool(slots: &mut [Slot], operand: Option<usize>, on: bool)
-    ensures { slots.new ≡ stored slots.old (store operand (Some (Value.Bool on))) }
-{
-    if let Some(place) = operand {
-        if place < slots.len() {
-            slots[place] = Slot::Variable(Value::Bool(on));
-        }
-    }
-}
-
 /// Stores what an element stores, if it is a coil.
-fn store_coil(
-    slots: &mut [Slot],
-    element: &Element,
-    operand: Option<usize>,
-    link: bool,
-    memory: bool,
-)
-    ensures { slots.new ≡ stored slots.old (coil_stores_at operand link memory element.now) }
+fn store_coil(slots: &mut [Slot], element: &Element, place: Option<usize>, link: bool, memory: bool)
+    ensures { slots.new ≡ stored slots.old (coil_stores_at place link memory element.now) }
 {
     if let Element::Coil(coil) = element {
         if let Some(on) = value_of_coil(coil.kind, link, memory) {
-            store_bool(slots, operand, on);
+            store_value(slots, place, Value::Bool(on));
         }
     }
 }
@@ -137,21 +105,21 @@ fn store_coil(
 /// Reads what each element reads: whether it conducts, and the memories of the contacts.
 fn read_elements(
     elements: &[Element],
-    operands: &[Option<usize>],
+    sources: &[Source],
     slots: &[Slot],
     memories: &mut [bool],
     gates: &mut [bool],
 )
-    requires operands { length operands.now ≡ length elements.now }
+    requires sources { length sources.now ≡ length elements.now }
     requires memories { length memories.old ≡ length elements.now }
     requires gates { length gates.old ≡ length elements.now }
     ensures gates { (k : ℕ) (e : Element) → slice_get elements.now k ≡ Some e
-        → bit_at gates.new k ≡ conducts_at (is_operand_on slots.now (slice_index_or operands.now k None)) (bit_at memories.old k) e }
+        → bit_at gates.new k ≡ conducts_at (is_true (source_value slots.now (slice_index_or sources.now k Source.Nothing))) (bit_at memories.old k) e }
     ensures memories { (k : ℕ) (e : Element) → slice_get elements.now k ≡ Some e
-        → bit_at memories.new k ≡ memory_read (is_operand_on slots.now (slice_index_or operands.now k None)) (bit_at memories.old k) e }
+        → bit_at memories.new k ≡ memory_read (is_true (source_value slots.now (slice_index_or sources.now k Source.Nothing))) (bit_at memories.old k) e }
 {
     for k in 0..elements.len() {
-        let on = is_operand_on(slots, operands[k]);
+        let on = sources[k].is_true(slots);
         gates[k] = conducts(&elements[k], on, memories[k]);
         memories[k] = read_memory(&elements[k], on, memories[k]);
     }
@@ -160,48 +128,61 @@ fn read_elements(
 /// Stores the coils in their order, and their memories.
 fn store_elements(
     elements: &[Element],
-    operands: &[Option<usize>],
+    sources: &[Source],
     firsts: &[usize],
     bits: &[bool],
     memories: &mut [bool],
     slots: &mut [Slot],
 )
-    requires operands { length operands.now ≡ length elements.now }
+    requires sources { length sources.now ≡ length elements.now }
     requires firsts { length firsts.now ≡ length elements.now }
     requires memories { length memories.old ≡ length elements.now }
     requires bits { (k : ℕ) → k < length elements.now → slice_index firsts.now k < length bits.now }
-    ensures slots { slots.new ≡ stored slots.old (table_stores operands.now firsts.now bits.now memories.old (enumerate_from 0 elements.now)) }
+    ensures slots { slots.new ≡ stored slots.old (table_stores sources.now firsts.now bits.now memories.old (enumerate_from 0 elements.now)) }
     ensures memories { (k : ℕ) (e : Element) → slice_get elements.now k ≡ Some e
         → bit_at memories.new k ≡ memory_stored (bit_at bits.now (slice_index firsts.now k)) (bit_at memories.old k) e }
 {
     for k in 0..elements.len() {
         let link = bits[firsts[k]];
-        store_coil(slots, &elements[k], operands[k], link, memories[k]);
+        store_coil(slots, &elements[k], sources[k].place(), link, memories[k]);
         memories[k] = stored_memory(&elements[k], link, memories[k]);
     }
 }
 
-/// One scan of a network without boxes.
+/// One scan of a network, dt milliseconds after the one before.
 fn scan_circuit(
     circuit: &Circuit,
     slots: &mut [Slot],
     memories: &mut [bool],
     gates: &mut [bool],
     bits: &mut [bool],
+    results: &mut [Instance],
+    dt: u32,
 )
     requires shape { HasShape circuit.now }
     requires memories { length memories.old ≡ length circuit.now.elements.items }
     requires gates { length gates.old ≡ length circuit.now.elements.items }
     requires bits { length bits.old ≡ length circuit.now.places.items }
-    ensures { (ds : List Declaration) (d : Diagram) (dt : ℕ) → IsCircuit ds d circuit.now
+    requires results { length results.old ≡ length circuit.now.boxes.items }
+    ensures { (ds : List Declaration) (d : Diagram) → IsCircuit ds d circuit.now → AreWide d → AreSlotsOf ds slots.old
         → NetworkMeaning ds d dt (moment slots.old memories.old) (moment slots.new memories.new) }
 {
-    read_elements(&circuit.elements, &circuit.operands, slots, memories, gates);
+    read_elements(&circuit.elements, &circuit.sources, slots, memories, gates);
     bits.copy_from_slice(&circuit.starts);
-    settle(&circuit.links, gates, bits);
+    step_boxes(
+        &circuit.boxes,
+        &circuit.links,
+        slots,
+        gates,
+        bits,
+        results,
+        dt,
+    );
+    store_blocks(&circuit.boxes, results, slots);
+    store_outputs(&circuit.boxes, results, slots);
     store_elements(
         &circuit.elements,
-        &circuit.operands,
+        &circuit.sources,
         &circuit.firsts,
         bits,
         memories,
@@ -216,15 +197,19 @@ pub fn scan_circuits(
     memories: &mut [bool],
     gates: &mut [bool],
     bits: &mut [bool],
+    results: &mut [Instance],
+    dt: u32,
 )
-    requires room { AllByRecursion (HasRoom (length gates.old) (length bits.old)) circuits.now }
+    requires room { AllByRecursion (HasRoom (length gates.old) (length bits.old) (length results.old)) circuits.now }
     requires memories { length memories.old ≡ sum_by (λ c. length c.elements.items) circuits.now }
-    ensures { (ds : List Declaration) (rails : List Place) (dt : ℕ) → AreCircuits ds rails circuits.now
+    ensures { (ds : List Declaration) (rails : List Place) → AreCircuits ds rails circuits.now
+        → AllAreWide (map (circuit_diagram rails) circuits.now) → CanBind ds (map (circuit_diagram rails) circuits.now) → AreSlotsOf ds slots.old
         → ScanMeaning ds dt (map (circuit_diagram rails) circuits.now) slots.old memories.old slots.new memories.new }
 {
     if let Some((first, rest)) = circuits.split_first() {
         let elements = first.elements.len();
         let places = first.places.len();
+        let boxes = first.boxes.len();
         let (here, later) = memories.split_at_mut(elements);
         scan_circuit(
             first,
@@ -232,22 +217,26 @@ pub fn scan_circuits(
             here,
             &mut gates[..elements],
             &mut bits[..places],
+            &mut results[..boxes],
+            dt,
         );
-        scan_circuits(rest, slots, later, gates, bits);
+        scan_circuits(rest, slots, later, gates, bits, results, dt);
     }
 }
 
 impl State {
     /// One scan of these networks.
-    pub(crate) fn run(&mut self, circuits: &[Circuit])
-        requires room { AllByRecursion (HasRoom self.old.waiting_gates self.old.waiting_bits) circuits.now }
+    pub(crate) fn run(&mut self, circuits: &[Circuit], dt: u32)
+        requires room { AllByRecursion (HasRoom self.old.waiting_gates self.old.waiting_bits self.old.waiting_results) circuits.now }
         requires memories { length self.old.memories ≡ sum_by (λ c. length c.elements.items) circuits.now }
-        ensures meaning { (ds : List Declaration) (rails : List Place) (dt : ℕ) → AreCircuits ds rails circuits.now
+        ensures meaning { (ds : List Declaration) (rails : List Place) → AreCircuits ds rails circuits.now
+            → AllAreWide (map (circuit_diagram rails) circuits.now) → CanBind ds (map (circuit_diagram rails) circuits.now) → AreSlotsOf ds self.old.slots
             → ScanMeaning ds dt (map (circuit_diagram rails) circuits.now) self.old.slots self.old.memories self.new.slots self.new.memories }
         ensures slots { length self.new.slots ≡ length self.old.slots }
         ensures memories { length self.new.memories ≡ length self.old.memories }
         ensures gates { self.new.waiting_gates ≡ self.old.waiting_gates }
         ensures bits { self.new.waiting_bits ≡ self.old.waiting_bits }
+        ensures results { self.new.waiting_results ≡ self.old.waiting_results }
     {
         scan_circuits(
             circuits,
@@ -255,6 +244,8 @@ impl State {
             self.memories.as_mut_slice(),
             self.gates.as_mut_slice(),
             self.bits.as_mut_slice(),
+            self.results.as_mut_slice(),
+            dt,
         );
     }
 }

@@ -1,6 +1,6 @@
-ghost use Rattle.std.specs.Prelude.{◌≡◌, ◌<◌, ◌↔◌, ℕ, List, IfOk, IfSome, Some, Contains, length, true, false};
+ghost use Rattle.std.specs.Prelude.{◌≡◌, ◌<◌, ◌⊎◌, ◌↔◌, Any, ℕ, List, IfOk, IfSome, Some, Contains, length, true, false};
 ghost use Rattle.ladder_text.specs.declared.place.Place.{Place};
-ghost use Rattle.network.specs.Links.{PassesRight};
+ghost use Rattle.network.specs.Links.{PassesRight, Gives};
 ghost use Rattle.network.specs.Apart.{AreApart, AreOnPage};
 ghost use Rattle.network.specs.GraphValue.{diagram};
 ghost use Rattle.network.specs.Numbers.{IsSpot};
@@ -12,17 +12,17 @@ use ladder_text::Place;
 use network::{Element, Numbering, takes};
 use std::alloc::{AllocError, Global};
 
-/// The number of the place that follows a place of the left rail.
-fn start_after(rail: Place, numbering: &Numbering, elements: &[Element]) -> Option<usize>
+/// The number of the place on the right of one that gives state, if state passes there.
+pub fn place_after(from: Place, numbering: &Numbering, elements: &[Element]) -> Option<usize>
     requires owned { AreOwned elements.now numbering.now }
     requires page { AreOnPage elements.now }
     ensures within { IfSome result (λ k. k < length numbering.now) }
-    ensures exact { (rails : List Place) → Contains rails rail → AreApart (diagram rails elements.now)
-        → (k : ℕ) (p : Place) → IsSpot numbering.now k p → (result ≡ Some k) ↔ PassesRight (diagram rails elements.now) rail p }
+    ensures exact { (rails : List Place) → Contains rails from ⊎ Any (λ e. Gives e from) elements.now → AreApart (diagram rails elements.now)
+        → (k : ℕ) (p : Place) → IsSpot numbering.now k p → (result ≡ Some k) ↔ PassesRight (diagram rails elements.now) from p }
 {
     let next = Place {
-        column: rail.column.saturating_add(1),
-        ..rail
+        column: from.column.saturating_add(1),
+        ..from
     };
     let number = numbering.find(next)?;
     let spot = numbering.spots()[number];
@@ -42,7 +42,7 @@ fn mark_starts(rails: &[Place], numbering: &Numbering, elements: &[Element], sta
         AreApart d → (k : ℕ) (p : Place) → IsSpot numbering.now k p → (bit_at starts.new k ≡ true) ↔ FollowsSource d (Contains rails.now) p }
 {
     for rail in rails {
-        if let Some(number) = start_after(*rail, numbering, elements) {
+        if let Some(number) = place_after(*rail, numbering, elements) {
             starts[number] = true;
         }
     }

@@ -1,6 +1,8 @@
-use Rattle.std.proofs.Common.{map, take}
-use Rattle.power_flow.specs.Findings.{finding_at, IsFirstOf}
+use Rattle.std.proofs.Common.{take}
+use Rattle.std.specs.List.{flat_map}
+use Rattle.power_flow.specs.Binding.{element_findings}
+use Rattle.power_flow.specs.Findings.{IsFirstOf}
 use Rattle.power_flow.proofs.bind.network_finding.Given as goal
 
 abbrev pub invariant-loop-element : goal.invariant-loop-element
-invariant-loop-element l = IsFirstOf (map (finding_at l.declarations) (take l.element-index l.elements)) l.first
+invariant-loop-element l = IsFirstOf (flat_map (element_findings l.declarations l.elements) (take l.element-index l.elements)) l.first

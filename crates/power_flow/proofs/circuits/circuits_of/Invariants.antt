@@ -1,12 +1,12 @@
 use Rattle.std.proofs.Common.{◌≡◌, All, map}
 use Rattle.power_flow.specs.declared.circuit.Circuit.{Circuit}
-use Rattle.power_flow.specs.Binding.{IsBound}
+use Rattle.power_flow.specs.Binding.{IsBoundNetwork}
 use Rattle.power_flow.specs.Circuit.{AreCircuits, HasShape}
 use Rattle.power_flow.proofs.circuits.circuits_of.Given as goal
 
 abbrev pub invariant-loop-network : goal.invariant-loop-network
 invariant-loop-network l = record {
   elements : map (λ (c : Circuit). c.elements.items) l.circuits.items ≡ l.yielded;
-  circuits : All (All (IsBound l.declarations)) l.yielded → AreCircuits l.declarations l.rails l.circuits.items;
+  circuits : All (IsBoundNetwork l.declarations) l.yielded → AreCircuits l.declarations l.rails l.circuits.items;
   shape : All HasShape l.circuits.items;
 }

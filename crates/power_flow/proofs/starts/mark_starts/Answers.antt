@@ -1,4 +1,4 @@
-use Rattle.std.proofs.Common.{get_or, take, arith, subst, List}
+use Rattle.std.proofs.Common.{inl, get_or, take, arith, subst, List}
 use Rattle.std.proofs.lemmas.List.{take_more, take_all}
 use Rattle.std.proofs.lemmas.List.Elements.{Contains-get_or}
 use Rattle.ladder_text.specs.declared.place.Place.{Place}
@@ -16,9 +16,9 @@ loop-rail-preserved c = λ apart.
     let lt = c.loop-rail-test.true in
     let d : Diagram = diagram rails c.args.elements.now in
     let was = c.loop-rail.invariant apart in
-    let exact = c.start_after.ensures.exact rails (Contains-get_or rails n none lt) apart in
-    rw (take_more rails n none lt) (elim c.match-start_after.branch [
-      | in-Some w ↦ (let room = rw w.in-Some.is at c.start_after.ensures.within in
+    let exact = c.place_after.ensures.exact rails (inl (Contains-get_or rails n none lt)) apart in
+    rw (take_more rails n none lt) (elim c.match-place_after.branch [
+      | in-Some w ↦ (let room = rw w.in-Some.is at c.place_after.ensures.within in
           rw w.starts-is (marked_set d c.args.numbering.now (take n rails) (get_or rails n none) c.loop-rail.starts w.in-Some.number (omega (arith, room)) (rw w.in-Some.is at exact) was))
       | in_default w ↦ rw w.starts-is (marked_skip d c.args.numbering.now (take n rails) (get_or rails n none) c.loop-rail.starts (λ k p spot right. w.in_default.not-Some k ((exact k p spot).1 right)) was)
     ])

@@ -1,0 +1,104 @@
+"""Drawings to be timed."""
+
+COLUMNS = 240
+CELL = 6
+CELLS = 39
+NAMES = 1000
+BLOCKS = 250
+
+
+def rung(joins):
+    """The line of a rung: contacts one after the other, and a coil at its end."""
+    line = list(("+" + "-| |--" * CELLS).ljust(COLUMNS - 3, "-") + "( )")
+    for cell in joins:
+        line[1 + cell * CELL] = "+"
+    return "".join(line)
+
+
+def names(number, uprights):
+    """The line above a rung: the name of each contact and of the coil, and the uprights to the rung before."""
+    line = list("|".ljust(COLUMNS))
+    for cell in range(CELLS):
+        name = f"X{(number * CELLS + cell) % NAMES:03}"
+        at = 2 + cell * CELL
+        line[at : at + len(name)] = name
+    name = f"Y{number % NAMES:03}"
+    line[COLUMNS - len(name) :] = name
+    for cell in uprights:
+        line[1 + cell * CELL] = "|"
+    return "".join(line)
+
+
+def rungs(lines):
+    """So many lines: rungs in pairs, of which two of three contacts have an upright to the other rung before them."""
+    joins = [cell for cell in range(CELLS) if cell % 3 < 2]
+    made = []
+    for number in range(lines // 2):
+        made.append(names(number, joins if number % 2 else []))
+        made.append(rung(joins))
+    return "\n".join(made) + "\n"
+
+
+def rung_inputs():
+    """The names of the contacts of the rungs."""
+    return [f"X{number:03}" for number in range(NAMES)]
+
+
+def timers():
+    """On-delay timers, each in a network of its own, that run for as long as GO is on."""
+    made = []
+    for number in range(BLOCKS):
+        made += [
+            f"|             T{number:03}",
+            "|         +-------+",
+            f"|  GO     |  TON  |   Y{number:03}",
+            "+--| |----|IN    Q|---( )",
+            f"| T#24d---|PT   ET|--E{number:03}",
+            "|         +-------+",
+        ]
+    return "\n".join(made) + "\n"
+
+
+def counters():
+    """Counters, each in a network of its own, and before them a variable that changes with each scan, which they count."""
+    made = ["|  X        X", "+--|/|-----( )"]
+    for number in range(BLOCKS):
+        made += [
+            f"|             C{number:03}",
+            "|         +-------+",
+            f"|  X      |  CTU  |   Y{number:03}",
+            "+--| |----|CU    Q|---( )",
+            f"| 32767---|PV   CV|--N{number:03}",
+            "|         +-------+",
+        ]
+    return "\n".join(made) + "\n"
+
+
+def chain(contacts):
+    """A rung of contacts one after the other, and a coil."""
+    above = "|" + "".join(f"  X{number:02}" for number in range(contacts)) + "   Y"
+    return above + "\n+" + "--| |" * contacts + "--( )\n"
+
+
+def chain_inputs(contacts):
+    """The names of its contacts."""
+    return [f"X{number:02}" for number in range(contacts)]
+
+
+def path_down(rows):
+    """A network of so many rows, whose single path goes down by one row in each column: a contact first, a coil last."""
+    made = ["|  A", "+--| |+"]
+    for row in range(1, rows):
+        made.append("|".ljust(5 + row) + "++")
+    made[-2] += "   Y"
+    made[-1] += "--( )"
+    return "\n".join(made) + "\n"
+
+
+def path_up(rows):
+    """The same from the lowest row upwards."""
+    made = ["|".ljust(5 + row) + "++" for row in range(rows - 1, 0, -1)]
+    made[0] += "--( )"
+    made[-1] = "|  A " + made[-1][5:]
+    above = "|".ljust(5 + rows + 3) + "Y"
+    return "\n".join([above] + made + ["+--| |+"]) + "\n"

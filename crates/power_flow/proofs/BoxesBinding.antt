@@ -1,0 +1,133 @@
+use Rattle.std.proofs.Common.{◌≡◌, ℕ, zero, suc, ◌+◌, ◌<◌, ◌↔◌, List, [], ◌∷◌, ◌++◌, Option, Some, None, All, Contains, Any, MatchOption, IfSome, slice_get, get_or, take, length, arith, refl, sym, ap, ◌∙◌}
+use Rattle.std.specs.List.{AllZip, cons_option}
+use Rattle.std.specs.Option.{option_and_then, option_map}
+use Rattle.power_flow.specs.Lookup.{declared_at}
+use Rattle.power_flow.specs.declared.declarations.Declared.{Declared}
+use Rattle.power_flow.specs.declared.source.Source.{Source}
+use Rattle.power_flow.specs.declared.source.Source.TheVariants as source
+use Rattle.std.proofs.lemmas.List.{take_more, append-nil}
+use Rattle.std.proofs.lemmas.List.Elements.{filter_map-append, All-nil, All-cons}
+use Rattle.std_blocks.specs.declared.block_type.BlockType.{BlockType}
+use Rattle.std_blocks.specs.declared.pin.Field.{Field}
+use Rattle.std_blocks.specs.Pins.{pin_of, input, output}
+use Rattle.ladder_text.specs.declared.place.Place.{Place}
+use Rattle.ladder_text.specs.declared.drawn_box.DrawnBox.{DrawnBox}
+use Rattle.ladder_text.specs.declared.drawn_box.DrawnPin.{DrawnPin}
+use Rattle.ladder_text.specs.declared.drawn_box.Operand.{Operand}
+use Rattle.ladder_text.specs.declared.drawn_box.Side.{Side}
+use Rattle.ladder_text.specs.declared.drawn_box.Side.TheVariants.{Left, Right}
+use Rattle.network.specs.declared.element.Element.{Element}
+use Rattle.network.specs.declared.element.Element.TheVariants.{Wire, Join, Upright, Contact, Coil, Box}
+use Rattle.network.specs.declared.numbering.Spot.{Spot}
+use Rattle.network.specs.Links.{Diagram, PassesRight, Gives}
+use Rattle.network.specs.Numbers.{IsSpot}
+use Rattle.network.specs.Numbered.{places_of}
+use Rattle.network.proofs.Neighbours.{place_at, spot_from_place}
+use Rattle.power_flow.specs.declared.declarations.Declaration.{Declaration}
+use Rattle.power_flow.specs.declared.bound_box.BoundOutput.{BoundOutput}
+use Rattle.power_flow.specs.Names.{place_of}
+use Rattle.power_flow.specs.Meaning.{IsDrawn}
+use Rattle.power_flow.specs.BoxFaults.{IsDrawnOnce, AreInRange, IsInRange}
+use Rattle.power_flow.specs.BoxTable.{IsBoundOutput, right_place, right_pin, right_pins, output_if, box_of, boxes_of}
+use Rattle.power_flow.proofs.BoxesStepping.{some_same}
+use Rattle.power_flow.proofs.BoxesSources.{contains_at, element_at}
+
+-- an input is drawn once
+pub same_drawn : (b : DrawnBox) (block : BlockType) (field : Field) (p q : DrawnPin) → IsDrawnOnce b block → IsDrawn b block field p → IsDrawn b block field q → p ≡ q
+same_drawn b block field p q once is is' =
+    let one = contains_at b.pins p is.drawn in
+    let other = contains_at b.pins q is'.drawn in
+    let same = once one.0 other.0 p q (input field) one.1 other.1 is.named is'.named in
+    some_same (sym one.1 ∙ ap (slice_get b.pins) same ∙ other.1)
+
+pub in_range_of : (b : DrawnBox) (pin : DrawnPin) → AreInRange b → Contains b.pins pin → MatchOption pin.operand (Unit {0}) (λ o. IsInRange o.text)
+in_range_of b pin fine in' = go pin.operand refl
+  where
+    go : (o : Option Operand) → pin.operand ≡ o → MatchOption o (Unit {0}) (λ w. IsInRange w.text)
+    go None e = tt
+    go (Some w) e = fine pin w in' e
+
+-- the place of a number
+pub spot_place : (spots : List Spot) (k : ℕ) (p : Place) → IsSpot spots k p → slice_get (places_of spots) k ≡ Some p
+spot_place spots k p spot = place_at spots k spot.0 spot.1 ∙ ap Some spot.2
+
+-- an output pin is bound by its field, the place on its right, and the variable at which it stores
+pub output_is : (ds : List Declaration) (d : Diagram) (spots : List Spot) (b : DrawnBox) (block : BlockType) (pin : DrawnPin) (field found : Field) (next store : Option ℕ)
+    → pin_of block pin.name ≡ Some (output field) → found ≡ field → IfSome next (λ k. k < length spots)
+    → ((k : ℕ) (p : Place) → IsSpot spots k p → (next ≡ Some k) ↔ PassesRight d (right_place b pin) p)
+    → store ≡ option_and_then (λ w. place_of ds w.text) pin.operand
+    → IsBoundOutput ds d (places_of spots) b block pin (record { field = found; next = next; store = store })
+output_is ds d spots b block pin field found next store named same within exact stores = record {
+  named = named ∙ ap (λ f. Some (output f)) (sym same);
+  next = λ k e.
+      let lt : k < length spots = rw e at within in
+      let s = element_at spots k lt in
+      (s.0.place, place_at spots k s.0 s.1, (exact k s.0.place (s.0, s.1, refl)).0 e);
+  every = λ k q at passes. (exact k q (spot_from_place spots k q at)).1 passes;
+  store = stores;
+}
+
+-- a right pin gives state
+pub pin_gives : (elements : List Element) (b : DrawnBox) (pin : DrawnPin) → Contains elements (Box b) → Contains b.pins pin → pin.side ≡ Right → Any (λ e. Gives e (right_place b pin)) elements
+pin_gives elements b pin in' drawn right = (in'.0, Box b, in'.1, in'.2, (refl, (drawn.0, pin, drawn.1, drawn.2, (right, refl))))
+
+pub zip_push : {A B : Type 0} (R : A → B → Type 0) (xs : List A) (ys : List B) (x : A) (y : B) → AllZip R xs ys → R x y → AllZip R (xs ++ x ∷ []) (ys ++ y ∷ [])
+zip_push R [] [] x y z r = (r, tt)
+zip_push R [] (y' ∷ ys) x y z r = absurd z
+zip_push R (x' ∷ xs) [] x y z r = absurd z
+zip_push R (x' ∷ xs) (y' ∷ ys) x y z r = (z.0, zip_push R xs ys x y z.1 r)
+
+-- one more pin
+pub outputs_more : (R : DrawnPin → BoundOutput → Type 0) (pins : List DrawnPin) (i : ℕ) (pin : DrawnPin) (outputs : List BoundOutput) (o : BoundOutput) → i < length pins → pin ≡ get_or pins i pin
+    → (pin.side ≡ Right → R pin o) → AllZip R (right_pins (take i pins)) outputs → AllZip R (right_pins (take (i + 1) pins)) (outputs ++ output_if pin.side o)
+outputs_more R pins i pin outputs o lt is here before =
+    let front : take (i + 1) pins ≡ take i pins ++ pin ∷ [] = take_more pins i pin lt ∙ ap (λ p. take i pins ++ p ∷ []) (sym is) in
+    rw front (rw (filter_map-append (λ p. right_pin p p.side) (take i pins) (pin ∷ [])) (go pin.side refl))
+  where
+    go : (s : Side) → pin.side ≡ s → AllZip R (right_pins (take i pins) ++ cons_option (right_pin pin s) []) (outputs ++ output_if s o)
+    go Left e = rw (append-nil, append-nil) before
+    go Right e = zip_push R (right_pins (take i pins)) outputs pin o before (here e)
+
+-- what holds of four sources holds of each by its number
+pub four : (P : ℕ → Source → Type 0) (a b c d : Source) → P 0 a → P 1 b → P 2 c → P 3 d → (k : ℕ) → k < 4 → P k (get_or (a ∷ b ∷ c ∷ d ∷ []) k source.Nothing)
+four P a b c d pa pb pc pd zero lt = pa
+four P a b c d pa pb pc pd (suc zero) lt = pb
+four P a b c d pa pb pc pd (suc (suc zero)) lt = pc
+four P a b c d pa pb pc pd (suc (suc (suc zero))) lt = pd
+four P a b c d pa pb pc pd (suc (suc (suc (suc k)))) lt = absurd (omega arith)
+
+-- where a name is declared
+pub declared_place : (ds : List Declaration) (name : List ℕ) (w : Declared) → declared_at ds name ≡ Some w → (k : ℕ) × (e : Declaration) × (place_of ds name ≡ Some k) × (slice_get ds k ≡ Some e) × (e.declared ≡ w)
+unfolding declared_at
+declared_place ds name w is = go (place_of ds name) refl is
+  where
+    at : (k : ℕ) (o : Option Declaration) → place_of ds name ≡ Some k → slice_get ds k ≡ o → option_map (λ (e : Declaration). e.declared) o ≡ Some w
+        → (k : ℕ) × (e : Declaration) × (place_of ds name ≡ Some k) × (slice_get ds k ≡ Some e) × (e.declared ≡ w)
+    at k None place here is' = cc
+    at k (Some e) place here is' = (k, e, place, here, some_same is')
+
+    go : (o : Option ℕ) → place_of ds name ≡ o → option_map (λ (e : Declaration). e.declared) (option_and_then (slice_get ds) o) ≡ Some w
+        → (k : ℕ) × (e : Declaration) × (place_of ds name ≡ Some k) × (slice_get ds k ≡ Some e) × (e.declared ≡ w)
+    go None place is' = cc
+    go (Some k) place is' = at k (slice_get ds k) place refl is'
+
+pub output_within : (P : BoundOutput → Type 0) (s : Side) (o : BoundOutput) → P o → All P (output_if s o)
+output_within P Left o p = All-nil P
+output_within P Right o p = All-cons P o [] p (All-nil P)
+
+pub pin_in : (pins : List DrawnPin) (i : ℕ) (pin : DrawnPin) → i < length pins → pin ≡ get_or pins i pin → Contains pins pin
+pin_in pins i pin lt is = (i, lt, sym is)
+
+-- an element that is no box adds none
+pub none_pushed : (e : Element) → ((b : DrawnBox) → e ≡ Box b → ⊥) → boxes_of (e ∷ []) ≡ []
+none_pushed (Wire p) h = refl
+none_pushed (Join p) h = refl
+none_pushed (Upright p) h = refl
+none_pushed (Contact c) h = refl
+none_pushed (Coil c) h = refl
+none_pushed (Box b) h = absurd (h b refl)
+
+pub boxes_more : (es : List Element) (i : ℕ) (e : Element) → i < length es → e ≡ get_or es i e → boxes_of (take (i + 1) es) ≡ boxes_of (take i es) ++ boxes_of (e ∷ [])
+boxes_more es i e lt is =
+    let front : take (i + 1) es ≡ take i es ++ e ∷ [] = take_more es i e lt ∙ ap (λ p. take i es ++ p ∷ []) (sym is) in
+    ap boxes_of front ∙ filter_map-append box_of (take i es) (e ∷ [])

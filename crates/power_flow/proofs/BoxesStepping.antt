@@ -1,0 +1,231 @@
+use Rattle.std.proofs.Common.{◌≡◌, ℕ, zero, suc, ◌+◌, ◌<◌, ◌≤◌, ◌⊎◌, ◌↔◌, inl, inr, List, [], ◌∷◌, ◌++◌, Bool, true, Some, Any, length, slice_get, get_or, set, take, drop, drop-cons, add-one, arith, refl, sym, ap, ◌∙◌, subst}
+use Rattle.std.proofs.lemmas.Bool.{cases_eq}
+use Rattle.std.proofs.lemmas.List.{get_or-take, length-take}
+use Rattle.std.proofs.lemmas.Option.{slice_get-get_or}
+use Rattle.std_blocks.specs.declared.pins.PinsOut.{PinsOut}
+use Rattle.std_blocks.specs.Pins.{field_value}
+use Rattle.power_flow.specs.declared.state.Instance.{Instance}
+use Rattle.power_flow.specs.declared.state.Slot.{Slot}
+use Rattle.power_flow.specs.declared.state.Slot.TheVariants.{Block}
+use Rattle.network.specs.declared.link.Link.{Link}
+use Rattle.power_flow.specs.declared.bound_box.BoundBox.{BoundBox}
+use Rattle.power_flow.specs.declared.bound_box.BoundOutput.{BoundOutput}
+use Rattle.power_flow.specs.Names.{is_true}
+use Rattle.power_flow.specs.Reach.{bit_at, Reached}
+use Rattle.power_flow.specs.Reach.Reached.{start as begins, along as follows}
+use Rattle.power_flow.specs.BoxSteps.{box_result, ReachedFrom, IsMarked, IsBeginning, AreSettled, IsStepped, AreApartBoxes, pin_stores, output_stores}
+use Rattle.power_flow.specs.BoxSteps.ReachedFrom.{start, along}
+
+pub slice_get-set_same : {X : Type 0} (xs : List X) (i : ℕ) (a : X) → i < length xs → slice_get (set xs i a) i ≡ Some a
+slice_get-set_same [] i a lt = absurd (omega arith)
+slice_get-set_same (x ∷ xs) zero a lt = refl
+slice_get-set_same (x ∷ xs) (suc i) a lt = slice_get-set_same xs i a (let long : suc i < suc (length xs) = lt in omega arith)
+
+pub slice_get-set_other : {X : Type 0} (xs : List X) (i j : ℕ) (a : X) → (j ≡ i → ⊥) → slice_get (set xs i a) j ≡ slice_get xs j
+slice_get-set_other [] i j a ne = refl
+slice_get-set_other (x ∷ xs) zero zero a ne = absurd (ne refl)
+slice_get-set_other (x ∷ xs) zero (suc j) a ne = refl
+slice_get-set_other (x ∷ xs) (suc i) zero a ne = refl
+slice_get-set_other (x ∷ xs) (suc i) (suc j) a ne = slice_get-set_other xs i j a (λ e. ne (ap suc e))
+
+pub some_same : {X : Type 0} {a b : X} → Some a ≡ Some b → a ≡ b
+some_same e = cc
+
+-- one more pin
+any_more : {X : Type 0} (P : X → Type 0) (xs : List X) (i : ℕ) (d : X) → i < length xs → Any P (take i xs) ⊎ P (get_or xs i d) → Any P (take (i + 1) xs)
+any_more P xs i d lt (inl (k, x, in', at, p)) =
+    let long = length-take i xs in
+    let more = length-take (i + 1) xs in
+    (k, x, omega arith, get_or-take (i + 1) xs k x (omega arith) ∙ sym (get_or-take i xs k x (omega arith)) ∙ at, p)
+any_more P xs i d lt (inr p) =
+    let more = length-take (i + 1) xs in
+    let there = slice_get-get_or xs i d lt in
+    (i, get_or xs i d, omega arith, get_or-take (i + 1) xs i (get_or xs i d) (omega arith) ∙ some_same (sym (slice_get-get_or xs i (get_or xs i d) lt) ∙ there), p)
+
+any_less : {X : Type 0} (P : X → Type 0) (xs : List X) (i : ℕ) (d : X) → i < length xs → Any P (take (i + 1) xs) → Any P (take i xs) ⊎ P (get_or xs i d)
+any_less P xs i d lt (k, x, in', at, p) =
+    let long = length-take i xs in
+    let more = length-take (i + 1) xs in
+    let there : get_or xs k x ≡ x = sym (get_or-take (i + 1) xs k x (omega arith)) ∙ at in
+    elim (cases_eq k i) [
+      | inl e ↦
+          let here : get_or xs i x ≡ x = rw e at there in
+          inr (subst P (sym here ∙ some_same (sym (slice_get-get_or xs i x lt) ∙ slice_get-get_or xs i d lt)) p)
+      | inr ne ↦ inl (k, x, omega arith, get_or-take i xs k x (omega arith) ∙ there, p)
+    ]
+
+abbrev Marks : PinsOut → ℕ → BoundOutput → Type 0
+Marks values k o = (o.next ≡ Some k) × (is_true (Some (field_value values o.field)) ≡ true)
+
+pub mark_more : (pins : List BoundOutput) (values : PinsOut) (i : ℕ) (d : BoundOutput) (old bits new : List Bool) → i < length pins
+    → ((k : ℕ) → (bit_at bits k ≡ true) ↔ ((bit_at old k ≡ true) ⊎ IsMarked (take i pins) values k))
+    → ((k : ℕ) → (bit_at new k ≡ true) ↔ ((bit_at bits k ≡ true) ⊎ (((get_or pins i d).next ≡ Some k) × (is_true (Some (field_value values (get_or pins i d).field)) ≡ true))))
+    → (k : ℕ) → (bit_at new k ≡ true) ↔ ((bit_at old k ≡ true) ⊎ IsMarked (take (i + 1) pins) values k)
+mark_more pins values i d old bits new lt was one k = (there, back)
+  where
+    there : bit_at new k ≡ true → (bit_at old k ≡ true) ⊎ IsMarked (take (i + 1) pins) values k
+    there h = elim ((one k).0 h) [
+      | inl b ↦ elim ((was k).0 b) [ inl o ↦ inl o | inr m ↦ inr (any_more (Marks values k) pins i d lt (inl m)) ]
+      | inr p ↦ inr (any_more (Marks values k) pins i d lt (inr p))
+    ]
+
+    back : (bit_at old k ≡ true) ⊎ IsMarked (take (i + 1) pins) values k → bit_at new k ≡ true
+    back (inl o) = (one k).1 (inl ((was k).1 (inl o)))
+    back (inr m) = elim (any_less (Marks values k) pins i d lt m) [ inl less ↦ (one k).1 (inl ((was k).1 (inr less))) | inr p ↦ (one k).1 (inr p) ]
+
+-- what is reached from some beginnings is reached from more
+pub reached_weaken : (links : List Link) (gates : List Bool) (S T : ℕ → Type 0) → ((k : ℕ) → S k → T k) → {k : ℕ} → ReachedFrom links gates S k → ReachedFrom links gates T k
+reached_weaken links gates S T more (start s) = start (more _ s)
+reached_weaken links gates S T more (along in' gate r) = along in' gate (reached_weaken links gates S T more r)
+
+pub from_reached : (links : List Link) (gates bits : List Bool) (S : ℕ → Type 0) → ((k : ℕ) → bit_at bits k ≡ true → ReachedFrom links gates S k) → {k : ℕ} → Reached links gates bits k → ReachedFrom links gates S k
+from_reached links gates bits S was (begins h) = was _ h
+from_reached links gates bits S was (follows in' gate r) = along in' gate (from_reached links gates bits S was r)
+
+pub to_reached : (links : List Link) (gates bits : List Bool) (S : ℕ → Type 0) → ((k : ℕ) → S k → bit_at bits k ≡ true) → {k : ℕ} → ReachedFrom links gates S k → Reached links gates bits k
+to_reached links gates bits S on (start s) = begins (on _ s)
+to_reached links gates bits S on (along in' gate r) = follows in' gate (to_reached links gates bits S on r)
+
+-- before any box has a result, state begins at the starts
+pub settled_first : (links : List Link) (gates starts bits : List Bool) (boxes : List BoundBox) (results : List Instance)
+    → ((k : ℕ) → (bit_at bits k ≡ true) ↔ Reached links gates starts k) → AreSettled links gates starts boxes results 0 bits
+settled_first links gates starts bits boxes results exact k = (
+  λ h. from_reached links gates starts (IsBeginning starts boxes results 0) (λ j on. start (inl on)) ((exact k).0 h),
+  λ r. (exact k).1 (to_reached links gates starts (IsBeginning starts boxes results 0) only r),
+)
+  where
+    only : (j : ℕ) → IsBeginning starts boxes results 0 j → bit_at starts j ≡ true
+    only j (inl on) = on
+    only j (inr f) = let lt = f.before in absurd (omega arith)
+
+-- a result at n leaves what begins at the boxes before n
+begins_kept : (starts : List Bool) (boxes : List BoundBox) (results : List Instance) (n : ℕ) (v : Instance) (j : ℕ) → j ≤ n → (k : ℕ)
+    → IsBeginning starts boxes results j k → IsBeginning starts boxes (set results n v) j k
+begins_kept starts boxes results n v j le k (inl on) = inl on
+begins_kept starts boxes results n v j le k (inr f) = inr (record {
+  index = f.index;
+  before = f.before;
+  box = f.box;
+  result = f.result;
+  box_at = f.box_at;
+  result_at = slice_get-set_other results n f.index v (λ e. let lt = f.before in omega arith) ∙ f.result_at;
+  marked = f.marked;
+})
+
+begins_back : (starts : List Bool) (boxes : List BoundBox) (results : List Instance) (n : ℕ) (v : Instance) (j : ℕ) → j ≤ n → (k : ℕ)
+    → IsBeginning starts boxes (set results n v) j k → IsBeginning starts boxes results j k
+begins_back starts boxes results n v j le k (inl on) = inl on
+begins_back starts boxes results n v j le k (inr f) = inr (record {
+  index = f.index;
+  before = f.before;
+  box = f.box;
+  result = f.result;
+  box_at = f.box_at;
+  result_at = sym (slice_get-set_other results n f.index v (λ e. let lt = f.before in omega arith)) ∙ f.result_at;
+  marked = f.marked;
+})
+
+begins_more : (starts : List Bool) (boxes : List BoundBox) (results : List Instance) (n k : ℕ) → IsBeginning starts boxes results n k → IsBeginning starts boxes results (n + 1) k
+begins_more starts boxes results n k (inl on) = inl on
+begins_more starts boxes results n k (inr f) = inr (record {
+  index = f.index;
+  before = (let lt = f.before in omega arith);
+  box = f.box;
+  result = f.result;
+  box_at = f.box_at;
+  result_at = f.result_at;
+  marked = f.marked;
+})
+
+settled_kept : (links : List Link) (gates starts : List Bool) (boxes : List BoundBox) (results : List Instance) (n : ℕ) (v : Instance) (j : ℕ) (bits : List Bool) → j ≤ n
+    → AreSettled links gates starts boxes results j bits → AreSettled links gates starts boxes (set results n v) j bits
+settled_kept links gates starts boxes results n v j bits le s k = (
+  λ h. reached_weaken links gates (IsBeginning starts boxes results j) (IsBeginning starts boxes (set results n v) j) (begins_kept starts boxes results n v j le) ((s k).0 h),
+  λ r. (s k).1 (reached_weaken links gates (IsBeginning starts boxes (set results n v) j) (IsBeginning starts boxes results j) (begins_back starts boxes results n v j le) r),
+)
+
+-- once box n has its result, the bits that follow from its output pins are those of the first n + 1 boxes
+pub settled_more : (links : List Link) (gates starts : List Bool) (boxes : List BoundBox) (results : List Instance) (n : ℕ) (e : BoundBox) (v : Instance) (bits marked new : List Bool)
+    → slice_get boxes n ≡ Some e → n < length results → AreSettled links gates starts boxes results n bits
+    → ((k : ℕ) → (bit_at marked k ≡ true) ↔ ((bit_at bits k ≡ true) ⊎ IsMarked e.outputs.items v.outputs k))
+    → ((k : ℕ) → (bit_at new k ≡ true) ↔ Reached links gates marked k)
+    → AreSettled links gates starts boxes (set results n v) (n + 1) new
+settled_more links gates starts boxes results n e v bits marked new box lt settled marks exact k =
+    (λ h. from_reached links gates marked (IsBeginning starts boxes (set results n v) (n + 1)) each ((exact k).0 h), λ r. (exact k).1 (to_reached links gates marked (IsBeginning starts boxes (set results n v) (n + 1)) on r))
+  where
+    each : (j : ℕ) → bit_at marked j ≡ true → ReachedFrom links gates (IsBeginning starts boxes (set results n v) (n + 1)) j
+    each j h = elim ((marks j).0 h) [
+      | inl b ↦ reached_weaken links gates (IsBeginning starts boxes results n) (IsBeginning starts boxes (set results n v) (n + 1))
+          (λ i s. begins_more starts boxes (set results n v) n i (begins_kept starts boxes results n v n (omega arith) i s)) ((settled j).0 b)
+      | inr m ↦ start (inr (record { index = n; before = omega arith; box = e; result = v; box_at = box; result_at = slice_get-set_same results n v lt; marked = m }))
+    ]
+
+    on : (j : ℕ) → IsBeginning starts boxes (set results n v) (n + 1) j → bit_at marked j ≡ true
+    on j (inl h) = (marks j).1 (inl ((settled j).1 (start (inl h))))
+    on j (inr f) = elim (cases_eq f.index n) [
+      | inl same ↦
+          let is : Some f.box ≡ Some e = sym f.box_at ∙ ap (slice_get boxes) same ∙ box in
+          let has : Some f.result ≡ Some v = sym f.result_at ∙ ap (slice_get (set results n v)) same ∙ slice_get-set_same results n v lt in
+          let P : BoundBox → Type 0 = λ b. IsMarked b.outputs.items f.result.outputs j in
+          let Q : Instance → Type 0 = λ i. IsMarked e.outputs.items i.outputs j in
+          (marks j).1 (inr (subst Q (some_same has) (subst P (some_same is) f.marked)))
+      | inr ne ↦
+          let before = f.before in
+          (marks j).1 (inl ((settled j).1 (start (inr (record {
+            index = f.index;
+            before = omega arith;
+            box = f.box;
+            result = f.result;
+            box_at = f.box_at;
+            result_at = sym (slice_get-set_other results n f.index v ne) ∙ f.result_at;
+            marked = f.marked;
+          })))))
+    ]
+
+-- and each box up to n has the result of its step
+pub stepped_more : (links : List Link) (gates starts : List Bool) (slots : List Slot) (dt : ℕ) (boxes : List BoundBox) (results : List Instance) (n : ℕ) (here : BoundBox) (v : Instance) (bits : List Bool)
+    → slice_get boxes n ≡ Some here → n < length results → v ≡ box_result here slots dt bits → AreSettled links gates starts boxes results n bits
+    → ((j : ℕ) (e : BoundBox) → j < n → slice_get boxes j ≡ Some e → IsStepped links gates starts slots dt boxes results j e)
+    → (j : ℕ) (e : BoundBox) → j < n + 1 → slice_get boxes j ≡ Some e → IsStepped links gates starts slots dt boxes (set results n v) j e
+stepped_more links gates starts slots dt boxes results n here v bits box lt made settled before j e in' at = elim (cases_eq j n) [
+  | inl same ↦
+      let is : Some e ≡ Some here = sym at ∙ ap (slice_get boxes) same ∙ box in
+      let P : ℕ → Type 0 = λ i. IsStepped links gates starts slots dt boxes (set results n v) i e in
+      subst P (sym same) (record {
+        bits = bits;
+        settled = settled_kept links gates starts boxes results n v n bits (omega arith) settled;
+        result = slice_get-set_same results n v lt ∙ ap Some (made ∙ ap (λ b. box_result b slots dt bits) (sym (some_same is)));
+      })
+  | inr ne ↦
+      let s = before j e (omega arith) at in
+      record {
+        bits = s.bits;
+        settled = settled_kept links gates starts boxes results n v j s.bits (omega arith) s.settled;
+        result = slice_get-set_other results n j v ne ∙ s.result;
+      }
+]
+
+-- one more block is put back
+pub placed_more : (boxes : List BoundBox) (results : List Instance) (slots : List Slot) (n long : ℕ) (here : BoundBox) (v : Instance)
+    → slice_get boxes n ≡ Some here → slice_get results n ≡ Some v → length slots ≡ long → AreApartBoxes boxes
+    → ((j : ℕ) (e : BoundBox) (i : Instance) → j < n → slice_get boxes j ≡ Some e → slice_get results j ≡ Some i → e.instance < long → slice_get slots e.instance ≡ Some (Block i))
+    → (j : ℕ) (e : BoundBox) (i : Instance) → j < n + 1 → slice_get boxes j ≡ Some e → slice_get results j ≡ Some i → e.instance < long
+    → slice_get (set slots here.instance (Block v)) e.instance ≡ Some (Block i)
+placed_more boxes results slots n long here v box result room apart before j e i in' at has lt = elim (cases_eq j n) [
+  | inl same ↦
+      let is : e ≡ here = some_same (sym at ∙ ap (slice_get boxes) same ∙ box) in
+      let was : i ≡ v = some_same (sym has ∙ ap (slice_get results) same ∙ result) in
+      let P : BoundBox → Type 0 = λ b. b.instance < long in
+      let less : here.instance < long = subst P is lt in
+      ap (slice_get (set slots here.instance (Block v))) (ap (λ (b : BoundBox). b.instance) is) ∙ slice_get-set_same slots here.instance (Block v) (omega arith) ∙ ap (λ w. Some (Block w)) (sym was)
+  | inr ne ↦ slice_get-set_other slots here.instance e.instance (Block v) (λ one. ne (apart j n e here at box one)) ∙ before j e i (omega arith) at has lt
+]
+
+-- the stores from box k on are those of box k, and then those from box k + 1 on
+pub output_stores_at : (boxes : List BoundBox) (results : List Instance) (k : ℕ) (here : BoundBox) (v : Instance) → k < length boxes → k < length results
+    → slice_get boxes k ≡ Some here → slice_get results k ≡ Some v
+    → output_stores (drop k boxes) (drop k results) ≡ pin_stores v.outputs here.outputs.items ++ output_stores (drop (k + 1) boxes) (drop (k + 1) results)
+output_stores_at boxes results k here v lt less box result =
+    let front : drop k boxes ≡ here ∷ drop (k + 1) boxes = rw add-one (drop-cons boxes k here lt ∙ ap (λ e. e ∷ drop (suc k) boxes) (some_same (sym (slice_get-get_or boxes k here lt) ∙ box))) in
+    let first : drop k results ≡ v ∷ drop (k + 1) results = rw add-one (drop-cons results k v less ∙ ap (λ e. e ∷ drop (suc k) results) (some_same (sym (slice_get-get_or results k v less) ∙ result))) in
+    rw (front, first) refl

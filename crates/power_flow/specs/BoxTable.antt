@@ -1,0 +1,104 @@
+-- What the names of a drawing with boxes are bound to.
+use Rattle.std.specs.Prelude.{◌≡◌, ℕ, ◌<◌, List, [], ◌∷◌, Option, Some, None, Contains, MatchOption, slice_get}
+use Rattle.std.specs.List.{AllZip, filter_map}
+use Rattle.std.specs.Option.{option_and_then}
+use Rattle.ladder_text.specs.declared.place.Place.{Place}
+use Rattle.ladder_text.specs.declared.drawn_box.DrawnBox.{DrawnBox}
+use Rattle.ladder_text.specs.declared.drawn_box.DrawnPin.{DrawnPin}
+use Rattle.ladder_text.specs.declared.drawn_box.Side.{Side}
+use Rattle.ladder_text.specs.declared.drawn_box.Side.TheVariants.{Left, Right}
+use Rattle.network.specs.declared.element.Element.{Element}
+use Rattle.network.specs.declared.element.Element.TheVariants.{Wire, Join, Upright, Contact, Coil, Box}
+use Rattle.network.specs.Links.{Diagram, PassesRight}
+use Rattle.std_blocks.specs.declared.block_type.BlockType.{BlockType}
+use Rattle.std_blocks.specs.declared.pin.Field.TheVariants.{Bit, Int, Time}
+use Rattle.std_blocks.specs.Pins.{pin_of, output}
+use Rattle.power_flow.specs.declared.declarations.Declaration.{Declaration}
+use Rattle.power_flow.specs.declared.declarations.Declared.TheVariants as declared
+use Rattle.power_flow.specs.declared.source.Source.{Source}
+use Rattle.power_flow.specs.declared.source.Source.TheVariants as source
+use Rattle.power_flow.specs.declared.bound_box.BoundBox.{BoundBox}
+use Rattle.power_flow.specs.declared.bound_box.BoundOutput.{BoundOutput}
+use Rattle.power_flow.specs.Names.{place_of}
+use Rattle.power_flow.specs.Meaning.{IsDrawn}
+use Rattle.power_flow.specs.Sources.{name_source, pin_source}
+use Rattle.power_flow.specs.Table.{IsOutside}
+use Rattle.power_flow.specs.BoxSteps.{bit_source, AreApartBoxes}
+
+-- a block of this type is declared at the place
+pub record IsBlockAt (ds : List Declaration) (place : ℕ) (block : BlockType) : Type 0 where
+  pub entry : Declaration
+  pub at : slice_get ds place ≡ Some entry
+  pub is : entry.declared ≡ declared.Instance block
+
+-- the place of a pin
+abbrev pub left_place : DrawnBox → DrawnPin → Place
+left_place b pin = record { row = pin.row; column = b.left }
+
+abbrev pub right_place : DrawnBox → DrawnPin → Place
+right_place b pin = record { row = pin.row; column = b.right }
+
+-- the source is the place with this number in the table
+pub record IsPlaceSource (places : List Place) (p : Place) (s : Source) : Type 0 where
+  pub number : ℕ
+  pub is : s ≡ source.Power number
+  pub at : slice_get places number ≡ Some p
+
+-- a Boolean pin is read at its operand, or at its place
+abbrev pub IsBitSource : List Declaration → List Place → DrawnBox → DrawnPin → Source → Type 0
+IsBitSource ds places b pin s = MatchOption pin.operand (IsPlaceSource places (left_place b pin) s) (λ o. s ≡ name_source ds o.text)
+
+-- the output pin shows this output, passes state to this place of the table, and stores at its operand
+pub record IsBoundOutput (ds : List Declaration) (d : Diagram) (places : List Place) (b : DrawnBox) (block : BlockType) (pin : DrawnPin) (o : BoundOutput) : Type 0 where
+  pub named : pin_of block pin.name ≡ Some (output o.field)
+  pub next : (k : ℕ) → o.next ≡ Some k → (q : Place) × (slice_get places k ≡ Some q) × PassesRight d (right_place b pin) q
+  pub every : (k : ℕ) (q : Place) → slice_get places k ≡ Some q → PassesRight d (right_place b pin) q → o.next ≡ Some k
+  pub store : o.store ≡ option_and_then (λ w. place_of ds w.text) pin.operand
+
+-- the pins of the right side, in their order
+abbrev pub right_pin : DrawnPin → Side → Option DrawnPin
+right_pin pin Left = None
+right_pin pin Right = Some pin
+
+abbrev pub right_pins : List DrawnPin → List DrawnPin
+right_pins pins = filter_map (λ pin. right_pin pin pin.side) pins
+
+-- an output pin, if it is of the right side
+abbrev pub output_if : Side → BoundOutput → List BoundOutput
+output_if Left o = []
+output_if Right o = o ∷ []
+
+-- the box is bound: its instance, the source of each input, and its output pins
+pub record IsBoundBox (ds : List Declaration) (d : Diagram) (places : List Place) (b : DrawnBox) (e : BoundBox) : Type 0 where
+  pub place : place_of ds b.instance ≡ Some e.instance
+  pub declared : IsBlockAt ds e.instance e.block
+  pub bits : (k : ℕ) (pin : DrawnPin) → k < 4 → IsDrawn b e.block (Bit k) pin → IsBitSource ds places b pin (bit_source e k)
+  pub no_bit : (k : ℕ) → k < 4 → ((pin : DrawnPin) → IsDrawn b e.block (Bit k) pin → ⊥) → bit_source e k ≡ source.Nothing
+  pub int : (pin : DrawnPin) → IsDrawn b e.block Int pin → e.int ≡ pin_source ds pin
+  pub no_int : ((pin : DrawnPin) → IsDrawn b e.block Int pin → ⊥) → e.int ≡ source.Nothing
+  pub time : (pin : DrawnPin) → IsDrawn b e.block Time pin → e.time ≡ pin_source ds pin
+  pub no_time : ((pin : DrawnPin) → IsDrawn b e.block Time pin → ⊥) → e.time ≡ source.Nothing
+  pub outputs : AllZip (IsBoundOutput ds d places b e.block) (right_pins b.pins) e.outputs.items
+
+-- the boxes among the elements, in their order
+abbrev pub box_of : Element → Option DrawnBox
+box_of (Wire at) = None
+box_of (Join at) = None
+box_of (Upright at) = None
+box_of (Contact c) = None
+box_of (Coil c) = None
+box_of (Box b) = Some b
+
+abbrev pub boxes_of : List Element → List DrawnBox
+boxes_of elements = filter_map box_of elements
+
+-- a box further left comes before
+abbrev pub AreByColumn : List DrawnBox → Type 0
+AreByColumn boxes = (i j : ℕ) (a b : DrawnBox) → slice_get boxes i ≡ Some a → slice_get boxes j ≡ Some b → a.left < b.left → i < j
+
+-- the boxes of a diagram are bound, by column, each with an instance of its own; their right pins lie outside the table
+pub record AreBoundBoxes (ds : List Declaration) (d : Diagram) (places : List Place) (boxes : List BoundBox) : Type 0 where
+  pub bound : AllZip (IsBoundBox ds d places) (boxes_of d.elements) boxes
+  pub by_column : AreByColumn (boxes_of d.elements)
+  pub apart : AreApartBoxes boxes
+  pub outside : (b : DrawnBox) (pin : DrawnPin) → Contains d.elements (Box b) → Contains b.pins pin → pin.side ≡ Right → IsOutside d places (right_place b pin)
