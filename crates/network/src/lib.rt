@@ -1,4 +1,3 @@
-// see /work/h_b/NOTE_FROM_THE_FOUNDER.txt (then drop this line)
 //! What is drawn, network by network.
 #![tactic(auto)]
 
