@@ -1,6 +1,6 @@
 //! What a drawing gives, and where its first fault is.
 
-use crate::{CoilKind, ContactKind, DrawFault, DrawFaultKind, Drawing, Mark};
+use crate::{BlockName, CoilKind, ContactKind, DrawFault, DrawFaultKind, Drawing, Mark, Side};
 use std::alloc::{AllocError, Global};
 use std::test::Fail;
 
