@@ -18,7 +18,9 @@ use Rattle.ladder_text.specs.Picture.{mark_at, picture_of, IsBoxPlace, IsWhole}
 use Rattle.ladder_text.proofs.ItemLemmas.{IsPlaced, IsAlikeOnce, found_item, found_once, map_item}
 use Rattle.ladder_text.proofs.SymbolPlaces.{cond_some_of, drawn_inside, drawn_in_row}
 use Rattle.ladder_text.proofs.PictureLemmas.{mark_at-inside}
-use Rattle.ladder_text.proofs.PinRows.{IsFromTo, pins_of_rows_from}
+use Rattle.ladder_text.proofs.PinRows.{IsFromTo, pins_of_rows_from, pins_of_rows_rising}
+use Rattle.ladder_text.specs.RowBoxes.{row_of_pin}
+use Rattle.std.specs.List.Sorted.{IsNonDecreasingBy}
 use Rattle.std.specs.List.{All}
 use Rattle.std.proofs.lemmas.List.Elements.{All-weaker}
 use Rattle.std.proofs.Common.{subst}
@@ -31,10 +33,11 @@ pub record IsOutlineAt (d : Rows) (r c : ℕ) (o : Outline) : Type 0 where
   pub wide : c < o.right
   pub corner : char_at d o.bottom o.right ≡ 43
   pub pins : All (IsFromTo (o.top + 1) o.bottom) o.pins
+  pub by_row : IsNonDecreasingBy row_of_pin o.pins
 
 outline_with_parts : (d : Rows) (r c bottom e : ℕ) (block : Option BlockName) (pins : Option (List DrawnPin)) (o : Outline)
     → outline_with d r c bottom e block pins ≡ Some o → r < bottom → c < e
-    → ((ps : List DrawnPin) → pins ≡ Some ps → All (IsFromTo (r + 1) bottom) ps) → IsOutlineAt d r c o
+    → ((ps : List DrawnPin) → pins ≡ Some ps → All (IsFromTo (r + 1) bottom) ps × IsNonDecreasingBy row_of_pin ps) → IsOutlineAt d r c o
 outline_with_parts d r c bottom e None pins o q h w f = absurd (none-some o q)
 outline_with_parts d r c bottom e (Some block) None o q h w f = absurd (none-some o q)
 outline_with_parts d r c bottom e (Some block) (Some pins) o q h w f =
@@ -48,7 +51,8 @@ outline_with_parts d r c bottom e (Some block) (Some pins) o q h w f =
       high = omega arith;
       wide = omega arith;
       corner = rw (down, across) (eqb-true _ _ (and_parts _ _ s.0).1);
-      pins = subst (λ (b : Outline). All (IsFromTo (b.top + 1) b.bottom) b.pins) t (f pins refl);
+      pins = subst (λ (b : Outline). All (IsFromTo (b.top + 1) b.bottom) b.pins) t (f pins refl).0;
+      by_row = subst (λ (b : Outline). IsNonDecreasingBy row_of_pin b.pins) t (f pins refl).1;
     }
 
 elim_some_of : {A : Type 0} (b : Bool) (o : Option A) (x : A) → elim b [ true ↦ o | false ↦ None ] ≡ Some x → o ≡ Some x
@@ -68,7 +72,7 @@ outline_parts d r c o e =
     outline_with_parts d r c (bottom_row d r c) (top_end d r c) (block_in d r c)
     (pins_of_rows d c (top_end d r c) (r + 2) (bottom_row d r c - (r + 2))) o
     (elim_some_of (begins_box d r c) (outline_at d r c) o e) (omega arith) (omega arith)
-    (inner_pins d r c)
+    (λ ps h. (inner_pins d r c ps h, pins_of_rows_rising d c (top_end d r c) (r + 2) (bottom_row d r c - (r + 2)) ps h))
 
 pub outlines_placed : (d : Rows) → IsPlaced (λ (o : Outline). o.top) (λ (o : Outline). o.left) (box_at d)
 outlines_placed d r c o e = let w = outline_parts d r c o e in (w.top, w.left)
@@ -86,6 +90,7 @@ pub record IsBoxThere (d : Rows) (o : Outline) : Type 0 where
   pub row_within : o.bottom ≤ height d
   pub column_within : o.right ≤ width d
   pub pins : All (IsFromTo (o.top + 1) o.bottom) o.pins
+  pub by_row : IsNonDecreasingBy row_of_pin o.pins
 
 pub box_there : (d : Rows) (k : ℕ) (o : Outline) → slice_get (outlines d) k ≡ Some o → IsBoxThere d o
 unfolding outlines row_outlines
@@ -102,6 +107,7 @@ box_there d k o e =
       row_within = omega arith;
       column_within = drawn_inside d o.bottom o.right ink;
       pins = w.pins;
+      by_row = w.by_row;
     }
 
 -- (r, c) is a place of the box o

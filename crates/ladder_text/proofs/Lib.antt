@@ -20,3 +20,6 @@ pub mod FigureLemmas
 pub mod RowBoxLemmas
 pub mod PinRows
 pub mod RisingItems
+pub mod NumberLemmas
+pub mod RowPins
+pub mod BoxOrder

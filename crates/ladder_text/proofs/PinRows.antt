@@ -1,5 +1,5 @@
 -- The pins of a box stand on its inner rows.
-use Rattle.std.proofs.Common.{ℕ, zero, suc, ◌+◌, ◌-◌, ◌<◌, ◌≤◌, ◌≡◌, Bool, true, false, ◌&&◌, cond, List, [], ◌∷◌, ◌++◌, Option, Some, None, refl, sym, arith, subst}
+use Rattle.std.proofs.Common.{ℕ, zero, suc, ◌+◌, ◌<◌, ◌≤◌, ◌≡◌, Bool, true, false, ◌&&◌, cond, List, [], ◌∷◌, Option, Some, None, refl, arith, subst}
 use Rattle.std.specs.List.{All}
 use Rattle.std.proofs.lemmas.List.Elements.{All-nil, All-cons, All-append, All-weaker}
 use Rattle.std.proofs.lemmas.Option.{none-some, same_Some}
@@ -8,6 +8,10 @@ use Rattle.ladder_text.specs.Rows.{Rows}
 use Rattle.ladder_text.specs.Chars.{is_identifier}
 use Rattle.ladder_text.specs.Boxes.{nearer_pin, left_pin, right_pin, pins_from, row_pins, both, pins_of_rows, blank_words, cut, blanks_before, blanks_behind}
 use Rattle.std.proofs.Common.{nat_le}
+use Rattle.std.specs.List.Sorted.{IsNonDecreasingBy}
+use Rattle.std.proofs.lemmas.List.Sorted.{IsNonDecreasingBy-short}
+use Rattle.ladder_text.specs.RowBoxes.{row_of_pin}
+use Rattle.ladder_text.proofs.RowPins.{rising-append}
 use Rattle.ladder_text.proofs.SymbolPlaces.{cond_some_of}
 
 -- the pin is on row r
@@ -53,3 +57,26 @@ pins_of_rows_from d a e r (suc n) pins q =
     (λ xs h. All-weaker (IsFromTo r (r + n)) (IsFromTo r (r + suc n)) (λ p w. (w.0, omega (arith, w.1))) xs (pins_of_rows_from d a e r n xs h))
     (λ ys h. All-weaker (IsOn (r + n)) (IsFromTo r (r + suc n)) (λ p w. (omega (arith, w), omega (arith, w))) ys
     (pins_from_on d (r + n) a e (blank_words (cut d (r + n) (a + 1) e)) ys h))
+
+-- pins of one row stand row by row
+level_rising : (r : ℕ) (pins : List DrawnPin) → All (IsOn r) pins → IsNonDecreasingBy row_of_pin pins
+level_rising r pins h i j d l k = omega (arith, h i d (omega arith), h j d k)
+
+both_rising : (t : ℕ) (x y : Option (List DrawnPin)) (zs : List DrawnPin) → both x y ≡ Some zs
+    → ((xs : List DrawnPin) → x ≡ Some xs → IsNonDecreasingBy row_of_pin xs × All (λ (q : DrawnPin). q.row ≤ t) xs)
+    → ((ys : List DrawnPin) → y ≡ Some ys → IsNonDecreasingBy row_of_pin ys × All (λ (q : DrawnPin). t ≤ q.row) ys) → IsNonDecreasingBy row_of_pin zs
+both_rising t None y zs e f g = absurd (none-some zs e)
+both_rising t (Some xs) None zs e f g = absurd (none-some zs e)
+both_rising t (Some xs) (Some ys) zs e f g =
+    let v = f xs refl in
+    let w = g ys refl in
+    subst (IsNonDecreasingBy row_of_pin) (same_Some _ zs e) (rising-append row_of_pin t xs ys v.0 w.0 (λ k d h. v.1 k d h) (λ k d h. w.1 k d h))
+
+-- the pins of some rows stand row by row
+pub pins_of_rows_rising : (d : Rows) (a e r n : ℕ) (pins : List DrawnPin) → pins_of_rows d a e r n ≡ Some pins → IsNonDecreasingBy row_of_pin pins
+pins_of_rows_rising d a e r zero pins q = subst (IsNonDecreasingBy row_of_pin) (same_Some [] pins q) (IsNonDecreasingBy-short row_of_pin [] (omega arith))
+pins_of_rows_rising d a e r (suc n) pins q =
+    both_rising (r + n) (pins_of_rows d a e r n) (row_pins d a e (r + n)) pins q
+    (λ xs h. (pins_of_rows_rising d a e r n xs h, All-weaker (IsFromTo r (r + n)) (λ (q : DrawnPin). q.row ≤ r + n) (λ p w. omega (arith, w.1)) xs (pins_of_rows_from d a e r n xs h)))
+    (λ ys h. let on = pins_from_on d (r + n) a e (blank_words (cut d (r + n) (a + 1) e)) ys h in
+    (level_rising (r + n) ys on, All-weaker (IsOn (r + n)) (λ (q : DrawnPin). r + n ≤ q.row) (λ p w. omega (arith, w)) ys on))

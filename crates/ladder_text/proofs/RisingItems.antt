@@ -1,7 +1,7 @@
 -- The items of lists that are put one after the other, in order.
-use Rattle.std.proofs.Common.{ℕ, zero, suc, ◌+◌, ◌<◌, ◌≤◌, ◌≡◌, List, [], ◌∷◌, ◌++◌, length, Option, Some, None, refl, sym, ◌∙◌, arith, ◌⊎◌, inl, inr}
+use Rattle.std.proofs.Common.{ℕ, zero, suc, ◌<◌, ◌≡◌, List, Option, Some, sym, ◌∙◌, arith, ◌⊎◌, inl, inr}
 use Rattle.std.specs.List.{slice_get}
-use Rattle.std.proofs.lemmas.Option.{none-some, same_Some}
+use Rattle.std.proofs.lemmas.Option.{none-some}
 use Rattle.ladder_text.specs.declared.drawn_box.DrawnBox.{DrawnBox}
 use Rattle.ladder_text.specs.declared.outline.Outline.{Outline}
 use Rattle.ladder_text.specs.Rows.{Rows, upto, height, width}
@@ -50,7 +50,7 @@ found_rising {A} row column f placed h w =
     w j k x y l a b))
     h
 
-outlines_rising : (d : Rows) → IsRising (IsBefore (λ (o : Outline). o.top) (λ (o : Outline). o.left)) (outlines d)
+pub outlines_rising : (d : Rows) → IsRising (IsBefore (λ (o : Outline). o.top) (λ (o : Outline). o.left)) (outlines d)
 unfolding outlines row_outlines
 outlines_rising d = found_rising (λ (o : Outline). o.top) (λ (o : Outline). o.left) (box_at d) (outlines_placed d) (height d) (width d)
 

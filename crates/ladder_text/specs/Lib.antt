@@ -1,5 +1,6 @@
 pub mod Rows
 pub mod Chars
+pub mod Numbers
 pub mod Boxes
 pub mod Places
 pub mod Names

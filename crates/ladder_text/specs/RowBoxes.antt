@@ -1,12 +1,18 @@
 -- The boxes of a row by their numbers, and what is asked of boxes at a place.
-use Rattle.std.specs.Prelude.{ℕ, zero, suc, List, [], ◌∷◌, ◌++◌, if◌then◌else◌, length, slice_get, Bool, false, Option, Some, None}
+use Rattle.std.specs.Prelude.{ℕ, zero, suc, ◌+◌, ◌≡◌, ◌<◌, ◌≤◌, List, [], ◌∷◌, ◌++◌, ◌==◌, if◌then◌else◌, length, take, slice_get, slice_index_or, Bool, true, false, Option, Some, None, ◌⊎◌}
+use Rattle.std.specs.List.{All, list_any}
+use Rattle.std.specs.List.Sorted.{IsNonDecreasingBy}
 use Rattle.ladder_text.specs.declared.outline.Outline.{Outline}
+use Rattle.ladder_text.specs.declared.drawn_box.DrawnPin.{DrawnPin}
+use Rattle.ladder_text.specs.declared.drawn_box.Side.{Side}
 use Rattle.ladder_text.specs.declared.box_test.BoxTest.{BoxTest}
 use Rattle.ladder_text.specs.declared.box_test.BoxTest.TheVariants.{Covers, Reaches, RightPin, BlindLeft, BlindRight}
-use Rattle.ladder_text.specs.Rows.{upto}
+use Rattle.ladder_text.specs.declared.place.Place.{Place}
+use Rattle.ladder_text.specs.declared.span.Span.{Span}
 use Rattle.ladder_text.specs.Boxes.{covers, meets_row}
+use Rattle.ladder_text.specs.Names.{top_span}
 use Rattle.ladder_text.specs.Places.{box_reaches, right_pin_at}
-use Rattle.ladder_text.specs.Faults.{blind_left_of, blind_right_of}
+use Rattle.ladder_text.specs.Faults.{blind_left_of, blind_right_of, share_place, takes_word}
 
 -- what a test asks of a box at (r, c)
 abbrev pub box_test : BoxTest → ℕ → ℕ → Outline → Bool
@@ -15,6 +21,32 @@ box_test Reaches r c = box_reaches r c
 box_test RightPin r c = right_pin_at r c
 box_test BlindLeft r c = blind_left_of r c
 box_test BlindRight r c = blind_right_of r c
+
+-- the row of a pin
+abbrev pub row_of_pin : DrawnPin → ℕ
+row_of_pin q = q.row
+
+-- whether the operand of a pin on side s of a box begins at (r, c)
+abbrev pub word_test : Side → ℕ → ℕ → Outline → Bool
+word_test s r c b = list_any (takes_word s r c) b.pins
+
+-- the pins of each box stand row by row
+pub record HavePinsByRow (bs : List Outline) : Type 0 where
+  pub each : (k : ℕ) (b : Outline) → slice_get bs k ≡ Some b → IsNonDecreasingBy row_of_pin b.pins
+
+-- a box has its rows among the first n, and its pins stand row by row on them
+pub record IsInRows (n : ℕ) (b : Outline) : Type 0 where
+  pub above : 0 < b.top
+  pub high : b.top ≤ b.bottom
+  pub within : b.bottom ≤ n
+  pub pins : All (λ q. (b.top ≤ q.row) × (q.row ≤ b.bottom)) b.pins
+  pub by_row : IsNonDecreasingBy row_of_pin b.pins
+
+-- boxes on the first n rows, by row and then column of their corners
+pub record AreInOrder (n : ℕ) (bs : List Outline) : Type 0 where
+  pub each : (k : ℕ) (b : Outline) → slice_get bs k ≡ Some b → IsInRows n b
+  pub rising : (j k : ℕ) (a b : Outline) → j < k → slice_get bs j ≡ Some a → slice_get bs k ≡ Some b
+      → (a.top < b.top) ⊎ ((a.top ≡ b.top) × (a.left < b.left))
 
 -- the box is there and passes
 abbrev pub holds : (Outline → Bool) → Option Outline → Bool
@@ -34,6 +66,29 @@ numbers_below p (suc n) = numbers_below p n ++ (if p n then n ∷ [] else [])
 unfoldable pub numbers_on : List Outline → ℕ → List ℕ
 numbers_on bs r = numbers_below (holds_at bs (meets_row r)) (length bs)
 
--- these for n rows, from the first on
-unfoldable pub numbers_by_row : List Outline → ℕ → List (List ℕ)
-numbers_by_row bs n = upto n (λ r. numbers_on bs r ∷ [])
+-- for each row from the first on, the numbers of its boxes below n
+abbrev pub AreNumbered : List Outline → ℕ → List (List ℕ) → Type 0
+AreNumbered bs n numbers = (k : ℕ) → k < length numbers → slice_index_or numbers k [] ≡ numbers_below (holds_at bs (meets_row (k + 1))) n
+
+-- the top side of a box that begins in row r
+abbrev pub top_in : ℕ → Option Outline → Option Span
+top_in r None = None
+top_in r (Some b) = if b.top == r then Some (top_span b) else None
+
+-- the top side of the box with the number i, if it begins in row r
+abbrev pub top_at : List Outline → ℕ → ℕ → Option Span
+top_at bs r i = top_in r (slice_get bs i)
+
+-- the box b shares a place with one of those before the number k
+abbrev pub shares_before : List Outline → ℕ → Outline → Bool
+shares_before bs k b = list_any (share_place b) (take k bs)
+
+-- the corner of the first box that shares a place with one before it
+pub record IsFirstShared (bs : List Outline) (p : Place) : Type 0 where
+  pub number : ℕ
+  pub outline : Outline
+  pub listed : slice_get bs number ≡ Some outline
+  pub row : p.row ≡ outline.top
+  pub column : p.column ≡ outline.left
+  pub shares : shares_before bs number outline ≡ true
+  pub first : (j : ℕ) (b : Outline) → j < number → slice_get bs j ≡ Some b → shares_before bs j b ≡ false

@@ -133,7 +133,6 @@ impl Drawing {
     /// Reads a text whose first line has the number `first_line`, from 1 to 9,223,372,036,854,775,807.
     ///
     /// A text is refused by the first fault, by row and then column, of the first kind of `DrawFaultKind` that it has.
-    /// A text in which a box begins is refused as BadBox. Without memory the fault is Memory, at line 0 and column 0.
     pub fn read(alloc: Global, text: &str, first_line: u64) -> Result<Drawing, DrawFault>
         requires { (1 ≤ first_line) × (first_line < 2 ^ 63) }
         ensures well_drawn { IfOk result (λ _. IsWellDrawn (rows_of text.now)) }

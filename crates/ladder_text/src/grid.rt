@@ -1,13 +1,13 @@
 //! The characters of a text, and where boxes begin.
 
-ghost use Rattle.std.specs.Prelude.{◌≡◌, ◌∷◌, ◌+◌, ◌-◌, ◌<◌, ◌≤◌, ◌^◌, ℕ, IsFalse, IsTrue, IfNone, IfSome, IfOk, IfErr, OnOk, length, slice_index_or};
-ghost use Rattle.ladder_text.specs.Rows.{char_at, width, height};
-ghost use Rattle.ladder_text.specs.Chars.{block_name};
+ghost use Rattle.std.specs.Prelude.{◌≡◌, ◌<◌, ◌≤◌, ◌^◌, ℕ, IsFalse, IsTrue, IfNone, IfSome, IfOk, IfErr, length};
+ghost use Rattle.ladder_text.specs.Rows.{char_at, width};
 ghost use Rattle.ladder_text.specs.Boxes.{left_column, begins_box, dashes_after, without_leading, cut, has_sides, block_in};
-ghost use Rattle.ladder_text.specs.Faults.{Nowhere, IsFoundAt, not_ascii, no_left_rail};
+ghost use Rattle.ladder_text.specs.Faults.{Nowhere, not_ascii, no_left_rail, first_long, first_beyond};
 ghost use Rattle.std.specs.Str.{IsAscii};
 
 use crate::drawn_box::BlockName;
+use crate::names::block_name;
 use crate::place::Place;
 use crate::rows::{Row, char_at, cut, left_column, trimmed, width};
 use std::marker::Model;
@@ -43,34 +43,18 @@ pub fn without_leading(text: &[u8]) -> &[u8]
     &text[from..]
 }
 
-#[tactic(auto, unfolding(crate::specs::Chars::block_name))]
-pub fn block_name(word: &[u8]) -> Option<BlockName>
-    ensures { result ≡ block_name word.now }
+/// The first row of 2000 that is longer than 240 characters.
+fn first_long(rows: &[Row]) -> Option<usize>
+    ensures { result ≡ first_long rows.now }
 {
-    if word.eq_ignore_ascii_case(b"SR") {
-        Some(BlockName::Sr)
-    } else if word.eq_ignore_ascii_case(b"RS") {
-        Some(BlockName::Rs)
-    } else if word.eq_ignore_ascii_case(b"CTU") {
-        Some(BlockName::Ctu)
-    } else if word.eq_ignore_ascii_case(b"CTD") {
-        Some(BlockName::Ctd)
-    } else if word.eq_ignore_ascii_case(b"CTUD") {
-        Some(BlockName::Ctud)
-    } else if word.eq_ignore_ascii_case(b"TP") {
-        Some(BlockName::Tp)
-    } else if word.eq_ignore_ascii_case(b"TON") {
-        Some(BlockName::Ton)
-    } else if word.eq_ignore_ascii_case(b"TOF") {
-        Some(BlockName::Tof)
-    } else {
-        None
-    }
+    rows.iter().take(2001).position(|row| row.len() > 241)
 }
 
 /// The first place beyond the limits: column 241 of a row that is too long, or the row after the last that may be there.
-fn first_beyond(rows: &[Row]) -> Place {
-    match rows.iter().take(2001).position(|row| row.len() > 241) {
+fn first_beyond(rows: &[Row]) -> Place
+    ensures { result ≡ first_beyond rows.now }
+{
+    match first_long(rows) {
         Some(row) => Place { row, column: 241 },
         None => Place {
             row: 2001,
@@ -173,6 +157,7 @@ impl Grid {
         ensures low { IfOk result (λ g. length g ≤ 2001) }
         ensures narrow { IfOk result (λ g. width g ≤ 240) }
         ensures refused { IfErr result (λ _. length rows.items ≤ 2001 → width rows.items ≤ 240 → ⊥) }
+        ensures place { IfErr result (λ p. p ≡ first_beyond rows.items) }
     {
         let last = width(&rows);
         if rows.len() > 2001 || last > 240 {

@@ -12,16 +12,19 @@
 #![tactic(auto)]
 
 mod box_test;
+mod boxes;
 mod coil;
 mod contact;
 mod drawing;
 mod drawn_box;
+mod durations;
 #[cfg(test)]
 mod figures;
 mod grid;
 mod mark;
 mod mark_row;
 mod names;
+mod numbers;
 mod outline;
 mod outlines;
 mod page;
@@ -30,7 +33,7 @@ mod place_fault;
 mod railed_sheet;
 mod reading;
 mod refusal;
-mod row_boxes;
+mod row_numbers;
 mod rows;
 mod sheet;
 mod span;
@@ -39,11 +42,16 @@ mod symbols;
 #[cfg(test)]
 mod tests;
 mod text;
+#[cfg(test)]
+mod word_tests;
 
 pub use coil::{Coil, CoilKind};
 pub use contact::{Contact, ContactKind};
 pub use drawing::{DrawFault, DrawFaultKind, Drawing};
 pub use drawn_box::{BlockName, DrawnBox, DrawnPin, Operand, Pins, Side};
+pub use durations::{duration_up_to, is_duration};
 pub use mark::Mark;
+pub use names::{block_name, is_identifier, is_plain_name};
+pub use numbers::{is_number, number_up_to};
 pub use place::Place;
 pub use text::Text;

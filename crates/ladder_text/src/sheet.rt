@@ -6,19 +6,19 @@ ghost use Rattle.ladder_text.specs.Chars.{contact_kind, coil_kind, is_word_char}
 ghost use Rattle.ladder_text.specs.Boxes.{begins_box, cut, left_column, outlines};
 ghost use Rattle.ladder_text.specs.Places.{layout_of, contact_at, coil_at, in_box, in_contact, in_coil, is_taken, may_be_rail, has_right_rail, in_operand, is_right_pin};
 ghost use Rattle.ladder_text.specs.Names.{tops};
-ghost use Rattle.ladder_text.specs.RowBoxes.{box_test};
+ghost use Rattle.ladder_text.specs.RowBoxes.{box_test, IsFirstShared};
 ghost use Rattle.std.specs.List.{list_any};
 ghost use Rattle.ladder_text.specs.Faults.{blind_left, blind_right, bad_box, boxes_apart, has_stray_operand, Nowhere, IsFoundAt};
 ghost use Rattle.std.specs.Str.{IsAscii};
 
 use crate::box_test::BoxTest;
+use crate::boxes::Boxes;
 use crate::coil::CoilKind;
 use crate::contact::ContactKind;
 use crate::grid::Grid;
 use crate::outline::Outline;
-use crate::outlines::{first_bad_box, first_shared_box, first_stray_operand, outlines, tops};
+use crate::outlines::first_bad_box;
 use crate::place::Place;
-use crate::row_boxes::{RowBoxes, any_on_row, row_boxes};
 use crate::span::Span;
 use std::alloc::{AllocError, Global};
 use std::marker::Model;
@@ -27,21 +27,19 @@ use std::marker::Model;
 #[derive(Drop)]
 pub struct Sheet {
     grid: Grid,
-    boxes: Vec<Outline>,
-    by_row: Vec<RowBoxes>,
+    boxes: Boxes,
 }
 
 impl Model for Sheet {
     ghost use Rattle.std.specs.Prelude.{◌≡◌};
-    ghost use Rattle.ladder_text.specs.Rows.{Rows, height};
+    ghost use Rattle.ladder_text.specs.Rows.{Rows};
     ghost use Rattle.ladder_text.specs.Boxes.{outlines};
-    ghost use Rattle.ladder_text.specs.RowBoxes.{numbers_by_row};
 
     ghost Value = { Rows };
 
     ghost view = { λ s. s.grid };
 
-    ghost invariant = { λ s. (s.boxes.items ≡ outlines s.grid) × (s.by_row.items ≡ numbers_by_row s.boxes.items (height s.grid)) };
+    ghost invariant = { λ s. s.boxes ≡ outlines s.grid };
 }
 
 #[tactic(auto, unfolding(crate::specs::Chars::contact_kind))]
@@ -76,13 +74,8 @@ impl Sheet {
     pub fn new(alloc: Global, grid: Grid) -> Result<Sheet, AllocError>
         ensures { IfOk result (λ s. s ≡ grid) }
     {
-        let boxes = outlines(alloc, &grid)?;
-        let by_row = row_boxes(alloc, &boxes, grid.row_end().saturating_sub(1))?;
-        Ok(Sheet {
-            grid,
-            boxes,
-            by_row,
-        })
+        let boxes = Boxes::new(alloc, &grid)?;
+        Ok(Sheet { grid, boxes })
     }
 
     /// The first place at which a box begins that isn't as it should be.
@@ -97,15 +90,16 @@ impl Sheet {
     pub fn boxes(&self) -> &[Outline]
         ensures { result.now ≡ outlines self.now }
     {
-        &self.boxes
+        self.boxes.as_slice()
     }
 
     /// The corner of the first box that shares a place with one before it.
     #[tactic(auto, unfolding(crate::specs::Places::layout_of))]
     pub fn first_shared_box(&self) -> Option<Place>
-        ensures { is_none result ≡ boxes_apart (layout_of self.now) }
+        ensures none { is_none result ≡ boxes_apart (layout_of self.now) }
+        ensures some { IfSome result (λ p. IsFirstShared (outlines self.now) p) }
     {
-        first_shared_box(&self.boxes)
+        self.boxes.first_shared()
     }
 
     /// The first place of a stray operand.
@@ -113,7 +107,7 @@ impl Sheet {
     pub fn first_stray_operand(&self) -> Option<Place>
         ensures { is_some result ≡ has_stray_operand (layout_of self.now) }
     {
-        first_stray_operand(&self.boxes)
+        self.boxes.first_stray_operand()
     }
 
     pub fn at(&self, row: usize, column: usize) -> u8
@@ -152,12 +146,11 @@ impl Sheet {
     }
 
     /// Whether a box passes a test at a place.
-    #[tactic(auto, using(crate::proofs::RowBoxLemmas::by_row_whole))]
     fn any_box(&self, test: BoxTest, row: usize, column: usize) -> bool
         requires { column < 2 ^ 63 }
         ensures { result ≡ list_any (box_test test row column) (outlines self.now) }
     {
-        any_on_row(&self.boxes, &self.by_row, test, row, column)
+        self.boxes.any(test, row, column)
     }
 
     #[tactic(auto, unfolding(crate::specs::Places::layout_of))]
@@ -283,6 +276,6 @@ impl Sheet {
     pub fn tops(&self, alloc: Global, row: usize) -> Result<Vec<Span>, AllocError>
         ensures { IfOk result (λ v. v.items ≡ tops (layout_of self.now) row) }
     {
-        tops(alloc, &self.boxes, row)
+        self.boxes.tops(alloc, row)
     }
 }

@@ -138,6 +138,13 @@ fn refuses_at_the_first_place(rt: HostRuntime) {
             2,
             4,
         ),
+        // The second box has its left side where the first has its right one.
+        (
+            "|   A   B\n|  +---+---+\n|  | SR| SR|\n|  +---+---+",
+            DrawFaultKind::BadBox,
+            2,
+            8,
+        ),
         (
             "|   T1\n|  +-----+\n|  |     |\n|  +-----+",
             DrawFaultKind::NoSource,

@@ -1,4 +1,4 @@
-use Rattle.std.proofs.Common.{◌≡◌, ℕ, ◌+◌, ◌-◌, ◌^◌, ◌<◌, ◌≤◌, ◌⊎◌, inl, inr, List, [], ◌∷◌, ◌++◌, Option, Some, None, Any, Contains, IsTrue, min, max, slice_get, length, refl, sym, ap, ◌∙◌, arith}
+use Rattle.std.proofs.Common.{◌≡◌, ℕ, ◌+◌, ◌<◌, ◌≤◌, ◌⊎◌, inl, inr, List, [], ◌∷◌, ◌++◌, Option, Some, None, Any, Contains, IsTrue, min, max, slice_get, length, refl, sym, ap, ◌∙◌, arith}
 use Rattle.std.proofs.lemmas.Bool.{cases_eq, cases_lt}
 use Rattle.std.proofs.lemmas.Option.{slice_get_within, slice_get-get_or, get_or_from_slice_get}
 use Rattle.std.proofs.lemmas.List.Elements.{Contains-append_left, Contains-push}
@@ -11,7 +11,7 @@ use Rattle.network.specs.Apart.{first_place}
 use Rattle.network.specs.Networks.{IsBefore, lowest_row}
 use Rattle.network.specs.Ranks.{ArePlaces, IsUnmetAt, IsTall, IsTallAt, IsFirstOf}
 use Rattle.network.specs.Twice.{IsTwiceIn}
-use Rattle.network.proofs.Basics.{some_is, one_at, contains_at, at_contains}
+use Rattle.network.proofs.Basics.{one_at, contains_at, at_contains}
 use Rattle.network.proofs.Spots.{push_cases}
 
 -- the first of the first n places
@@ -19,11 +19,11 @@ pub record FirstTo (places : List Place) (least : Place) (n : ℕ) : Type 0 wher
   pub there : Contains places least
   pub first : (k : ℕ) (q : Place) → k < n → slice_get places k ≡ Some q → IsBefore q least → ⊥
 
-before_self : (p : Place) → IsBefore p p → ⊥
+pub before_self : (p : Place) → IsBefore p p → ⊥
 before_self p (inl h) = omega arith
 before_self p (inr h) = let c = h.1 in omega arith
 
-before_then : (p q r : Place) → IsBefore p q → IsBefore q r → IsBefore p r
+pub before_then : (p q r : Place) → IsBefore p q → IsBefore q r → IsBefore p r
 before_then p q r (inl a) (inl b) = inl (omega arith)
 before_then p q r (inl a) (inr b) = inl (let e = b.0 in omega arith)
 before_then p q r (inr a) (inl b) = inl (let e = a.0 in omega arith)

@@ -6,6 +6,7 @@ pub mod SymbolLemmas
 pub mod ListLemmas
 pub mod PairLemmas
 pub mod FoundLemmas
+pub mod CornerLemmas
 pub mod TopLemmas
 pub mod SplitLemmas
 pub mod WholeGraph

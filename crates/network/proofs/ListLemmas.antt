@@ -1,14 +1,14 @@
-use Rattle.std.proofs.Common.{◌≡◌, ℕ, ◌+◌, ◌<◌, ◌≤◌, ◌⊎◌, inl, inr, List, [], ◌∷◌, ◌++◌, Some, None, Contains, slice_get, length, refl, sym, ap, ◌∙◌, arith}
-use Rattle.std.proofs.lemmas.Bool.{cases_eq, cases_lt}
+use Rattle.std.proofs.Common.{◌≡◌, ℕ, ◌+◌, ◌<◌, ◌⊎◌, inl, inr, List, [], ◌∷◌, ◌++◌, Some, length, refl, sym, ap, ◌∙◌, arith}
+use Rattle.std.proofs.lemmas.Bool.{cases_eq}
 use Rattle.std.proofs.lemmas.Option.{slice_get_within}
 use Rattle.ladder_text.specs.Picture.{Picture, IsSound}
 use Rattle.ladder_text.specs.declared.place.Place.{Place}
 use Rattle.network.specs.declared.element.Element.{Element}
 use Rattle.network.specs.Links.{place}
 use Rattle.network.specs.Apart.{first_place}
-use Rattle.network.specs.Networks.{IsElementOf, Precedes}
+use Rattle.network.specs.Networks.{Precedes}
 use Rattle.network.specs.Listing.{AreElementsBefore, AreElementsOf, IsTheElementAt, IsNoElementAt}
-use Rattle.network.proofs.Basics.{some_is, one_at, place_same}
+use Rattle.network.proofs.Basics.{place_same}
 use Rattle.network.proofs.Spots.{push_old, push_here, push_cases}
 use Rattle.network.proofs.Sharing.{begins, has_on_page, has_row}
 

@@ -1,4 +1,4 @@
-use Rattle.std.proofs.Common.{◌≡◌, ℕ, ◌+◌, ◌<◌, ◌≤◌, ◌⊎◌, ◌↔◌, inl, inr, List, [], ◌∷◌, ◌++◌, Option, Some, None, IfSome, Contains, All, take, drop, get_or, slice_get, slice_index, length, refl, sym, ap, ◌∙◌, arith}
+use Rattle.std.proofs.Common.{◌≡◌, ℕ, ◌+◌, ◌<◌, ◌≤◌, ◌⊎◌, ◌↔◌, inl, inr, List, [], ◌++◌, Option, Some, None, IfSome, Contains, All, take, drop, get_or, slice_get, slice_index, length, refl, sym, ap, ◌∙◌, arith}
 use Rattle.std.proofs.lemmas.Bool.{cases_eq}
 use Rattle.std.proofs.lemmas.List.{append-nil, drop_all, take_all}
 use Rattle.std.proofs.lemmas.List.Elements.{Contains-append_left, Contains-push, Contains-push_cases, Contains-get_or}
@@ -13,7 +13,7 @@ use Rattle.network.specs.declared.element.Element.TheVariants.{Wire, Join, Uprig
 use Rattle.network.specs.declared.numbering.Spot.{Spot}
 use Rattle.network.specs.declared.labels.Pair.{Pair}
 use Rattle.network.specs.Links.{Gives, Takes, Stands, IsPinPlace}
-use Rattle.network.specs.Apart.{first_place, Has, Steps, StepsRight, StepsUpright}
+use Rattle.network.specs.Apart.{first_place, Has, Steps}
 use Rattle.network.specs.Numbers.{IsSpot}
 use Rattle.network.specs.Numbered.{AreOwned, NumberedTo}
 use Rattle.network.specs.Networks.{IsElementOf, AreLinked, Chained}
@@ -22,7 +22,7 @@ use Rattle.network.specs.Joined.{Joined, IsWithin}
 use Rattle.network.specs.Joined.Joined.{here as joined_here, along as joined_along, back as joined_back}
 use Rattle.network.specs.Listing.{AreElementsOf}
 use Rattle.network.specs.Pairs.{AreAllNumbered, IsPairOf, IsNext, IsStepOf, pair_of, IsPairTo, ArePairsTo, AreLabels}
-use Rattle.network.proofs.Basics.{some_is, one_at, contains_at, place_same}
+use Rattle.network.proofs.Basics.{some_is, one_at, place_same}
 use Rattle.network.proofs.Spreading.{Joined-trans, Joined-sym}
 use Rattle.network.proofs.Sharing.{same_number, apart_of}
 

@@ -1,4 +1,4 @@
-use Rattle.std.proofs.Common.{◌≡◌, ℕ, ◌+◌, ◌<◌, ◌≤◌, ◌⊎◌, inl, inr, List, [], ◌∷◌, ◌++◌, Some, None, Option, Contains, slice_get, length, refl, sym, ap, ◌∙◌, arith}
+use Rattle.std.proofs.Common.{◌≡◌, ℕ, ◌+◌, ◌<◌, inl, inr, List, [], ◌∷◌, ◌++◌, Some, Contains, slice_get, length, refl, sym, ap, ◌∙◌, arith}
 use Rattle.std.proofs.lemmas.Bool.{cases_eq}
 use Rattle.std.proofs.lemmas.Option.{slice_get_within}
 use Rattle.std.proofs.lemmas.List.Elements.{Contains-append_left}
@@ -7,8 +7,8 @@ use Rattle.ladder_text.specs.declared.mark.Mark.TheVariants.{Rail}
 use Rattle.ladder_text.specs.declared.place.Place.{Place}
 use Rattle.network.specs.Links.{place}
 use Rattle.network.specs.Networks.{IsLeftRail, AreLeftRails}
-use Rattle.network.proofs.Basics.{some_is, contains_at, place_same}
-use Rattle.network.proofs.Spots.{push_old, push_here, push_cases}
+use Rattle.network.proofs.Basics.{contains_at, place_same}
+use Rattle.network.proofs.Spots.{push_here, push_cases}
 use Rattle.network.proofs.Sharing.{rail_row}
 
 -- the places of the left rail in the rows above n

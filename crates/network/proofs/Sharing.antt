@@ -1,7 +1,6 @@
 -- No two elements of a drawing share a place.
-use Rattle.std.proofs.Common.{◌≡◌, ℕ, ◌+◌, ◌<◌, ◌≤◌, ◌⊎◌, inl, inr, List, Some, Any, Contains, slice_get, length, refl, sym, ap, ◌∙◌, arith}
+use Rattle.std.proofs.Common.{◌≡◌, ℕ, ◌<◌, ◌≤◌, ◌⊎◌, inl, inr, List, Some, Any, Contains, slice_get, refl, sym, ap, ◌∙◌, arith}
 use Rattle.std.proofs.lemmas.Bool.{cases_eq, cases_lt}
-use Rattle.std.proofs.lemmas.Option.{slice_get-get_or}
 use Rattle.ladder_text.specs.Picture.{Picture, IsSound, IsBoxPlace, mark_at}
 use Rattle.ladder_text.specs.Picture.{IsSymbolPlace as IsPlaceOf}
 use Rattle.ladder_text.specs.declared.mark.Mark.{Mark}
@@ -12,12 +11,11 @@ use Rattle.ladder_text.specs.declared.drawn_box.Side.{Side}
 use Rattle.ladder_text.specs.declared.drawn_box.Side.TheVariants.{Left, Right}
 use Rattle.network.specs.declared.element.Element.{Element}
 use Rattle.network.specs.declared.element.Element.TheVariants.{Wire, Join, Upright, Contact, Coil, Box}
-use Rattle.network.specs.Links.{place, Diagram, IsSymbolPlace, IsPinPlace}
-use Rattle.network.specs.Apart.{first_place, Has, AreApart, AreOnPage}
-use Rattle.network.specs.GraphValue.{diagram, AreWide, IsSoundNetwork}
-use Rattle.network.specs.Networks.{IsElementOf, IsLeftRail, Precedes, AreLeftRails}
+use Rattle.network.specs.Links.{place, IsSymbolPlace}
+use Rattle.network.specs.Apart.{first_place, Has, AreOnPage}
+use Rattle.network.specs.Networks.{IsElementOf, IsLeftRail, Precedes}
 use Rattle.network.specs.Listing.{AreElementsOf, IsTheElementAt, IsNoElementAt}
-use Rattle.network.proofs.Basics.{some_is, one_at, contains_at, at_contains, place_same}
+use Rattle.network.proofs.Basics.{one_at, at_contains}
 
 -- the mark at each place of an element
 abbrev pub mark_of : Element → Mark

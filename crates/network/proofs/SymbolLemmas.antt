@@ -1,4 +1,4 @@
-use Rattle.std.proofs.Common.{◌≡◌, ℕ, ◌+◌, ◌<◌, ◌≤◌, ◌⊎◌, inl, inr, List, [], Some, None, Contains, map, slice_get, length, refl, sym, ap, ◌∙◌, arith}
+use Rattle.std.proofs.Common.{◌≡◌, ℕ, ◌+◌, ◌<◌, ◌≤◌, ◌⊎◌, inl, inr, List, [], Some, slice_get, length, sym, ap, ◌∙◌, arith}
 use Rattle.std.proofs.lemmas.Bool.{cases_eq}
 use Rattle.std.proofs.lemmas.Option.{slice_get_within}
 use Rattle.ladder_text.specs.Picture.{Picture, IsSound, mark_at}
@@ -9,7 +9,7 @@ use Rattle.ladder_text.specs.declared.contact.Contact.{Contact as ContactRecord}
 use Rattle.ladder_text.specs.declared.coil.Coil.{Coil as CoilRecord}
 use Rattle.ladder_text.specs.declared.drawn_box.DrawnBox.{DrawnBox}
 use Rattle.network.specs.declared.element.Element.{Element}
-use Rattle.network.specs.declared.element.Element.TheVariants.{Wire, Join, Upright, Contact, Coil, Box}
+use Rattle.network.specs.declared.element.Element.TheVariants.{Contact, Coil, Box}
 use Rattle.network.specs.declared.numbering.Spot.{Spot}
 use Rattle.network.specs.declared.symbols.Symbols.{Symbols}
 use Rattle.network.specs.Numbers.{IsSpot}
@@ -17,8 +17,8 @@ use Rattle.network.specs.Links.{place}
 use Rattle.network.specs.Apart.{first_place}
 use Rattle.network.specs.Networks.{IsElementOf}
 use Rattle.network.specs.Listing.{IsIndex, IsTheElementAt, IsNoElementAt}
-use Rattle.network.specs.Symbols.{contact_places, coil_places, box_places, AreSymbols}
-use Rattle.network.proofs.Basics.{some_is, one_at, at_contains, contains_at, get_map, map_get}
+use Rattle.network.specs.Symbols.{AreSymbols}
+use Rattle.network.proofs.Basics.{one_at, at_contains, contains_at, get_map, map_get}
 use Rattle.network.proofs.Sharing.{mark_of, has_mark, begins, the_element}
 
 -- the first n places have their positions

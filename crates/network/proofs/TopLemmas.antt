@@ -1,4 +1,4 @@
-use Rattle.std.proofs.Common.{◌≡◌, ℕ, ◌+◌, ◌<◌, ◌≤◌, ◌⊎◌, inl, inr, List, [], ◌∷◌, ◌++◌, Option, Some, None, Any, Contains, get_or, set, length-set, length-append, slice_get, slice_index, length, refl, sym, ap, ◌∙◌, arith}
+use Rattle.std.proofs.Common.{◌≡◌, ℕ, ◌+◌, ◌<◌, ◌≤◌, ◌⊎◌, inl, inr, List, [], ◌∷◌, ◌++◌, Option, Some, None, Any, get_or, set, length-set, length-append, slice_get, slice_index, length, refl, sym, ap, ◌∙◌, arith}
 use Rattle.std.proofs.lemmas.Bool.{cases_eq, cases_lt}
 use Rattle.std.proofs.lemmas.Option.{slice_get_within, slice_get-get_or, get_or_from_slice_get}
 use Rattle.std.proofs.lemmas.List.{get_or-set_same, get_or-set_other}
@@ -12,7 +12,7 @@ use Rattle.network.specs.Networks.Chained.{here, along}
 use Rattle.network.specs.Listing.{AreElementsOf}
 use Rattle.network.specs.Pairs.{AreLabels}
 use Rattle.network.specs.Ranks.{AreTops, AreRanksOf, AreEntries, AreRanks}
-use Rattle.network.proofs.Basics.{some_is, one_at, contains_at, at_contains, place_same}
+use Rattle.network.proofs.Basics.{some_is, one_at, at_contains, place_same}
 use Rattle.network.proofs.Spots.{push_old, push_here, push_cases}
 
 pub chained_is : (g : Picture) {e f : Element} → IsElementOf g e → Chained g e f → IsElementOf g f

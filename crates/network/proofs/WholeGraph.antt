@@ -1,24 +1,23 @@
-use Rattle.std.proofs.Common.{◌≡◌, ℕ, ◌+◌, ◌<◌, ◌≤◌, ◌⊎◌, ◌↔◌, inl, inr, List, [], ◌∷◌, true, false, Option, Some, None, Result, Ok, Err, MatchResult, IfOk, IsTrue, Any, Contains, get_or, slice_get, length, refl, sym, ap, ◌∙◌, arith}
-use Rattle.std.proofs.lemmas.Bool.{cases_eq, cases_lt}
+use Rattle.std.proofs.Common.{◌≡◌, ℕ, ◌+◌, ◌<◌, inl, inr, List, [], ◌∷◌, true, false, Option, Some, None, Result, Ok, Err, MatchResult, IfOk, IsTrue, Contains, get_or, slice_get, length, refl, sym, ap, ◌∙◌, arith}
+use Rattle.std.proofs.lemmas.Bool.{cases_lt}
 use Rattle.std.proofs.lemmas.Option.{slice_get_within, slice_get-get_or, get_or_from_slice_get}
 use Rattle.std.specs.Result.{is_ok}
 use Rattle.std.specs.Str.{str_eq_ignore_ascii_case, str_to_ascii_lowercase}
 use Rattle.std.proofs.lemmas.Slice.Eq.{bytes_eq-Decides}
 use Rattle.ladder_text.specs.Picture.{Picture, IsSound}
-use Rattle.ladder_text.specs.declared.mark.Mark.TheVariants.{Rail}
 use Rattle.ladder_text.specs.declared.place.Place.{Place}
 use Rattle.ladder_text.specs.declared.drawn_box.DrawnBox.{DrawnBox}
 use Rattle.network.specs.declared.element.Element.{Element}
 use Rattle.network.specs.declared.element.Element.TheVariants.{Box}
-use Rattle.network.specs.Links.{place, Takes}
-use Rattle.network.specs.Apart.{first_place, Has}
-use Rattle.network.specs.GraphValue.{GraphValue, graph_value, diagram, IsSoundNetwork, IsSoundGraph}
-use Rattle.network.specs.Networks.{IsElementOf, AreLinked, Chained, MeetsAt, IsTop, AreLeftRails, Precedes, AreNetworks, IsUnattachedAt, IsTooTallAt, IsTwiceAt, IsBefore, IsFirst, Nowhere, lowest_row}
+use Rattle.network.specs.Links.{place}
+use Rattle.network.specs.Apart.{first_place}
+use Rattle.network.specs.GraphValue.{graph_value, IsSoundGraph}
+use Rattle.network.specs.Networks.{IsElementOf, AreLinked, Chained, MeetsAt, IsTop, AreLeftRails, AreNetworks, IsUnattachedAt, IsTooTallAt, IsTwiceAt, IsFirst, Nowhere}
 use Rattle.network.specs.Networks.Chained.{here, along}
 use Rattle.network.specs.Listing.{AreElementsOf}
-use Rattle.network.specs.Ranks.{AreRanks, AreSplit, IsIn, ArePlaces, IsUnmetAt, IsTall, IsTallAt, IsFirstOf}
+use Rattle.network.specs.Ranks.{AreRanks, AreSplit, IsIn, ArePlaces, IsUnmetAt, IsTallAt, IsFirstOf}
 use Rattle.network.specs.Twice.{IsTwiceIn}
-use Rattle.network.proofs.Basics.{some_is, one_at, contains_at, at_contains}
+use Rattle.network.proofs.Basics.{one_at, contains_at, at_contains}
 use Rattle.network.proofs.Sharing.{shared, has_mark, has_on_page, precedes_not, marks_no_rail}
 use Rattle.network.proofs.TopLemmas.{chained_is, chained_then}
 

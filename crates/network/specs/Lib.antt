@@ -10,4 +10,5 @@ pub mod Listing
 pub mod Symbols
 pub mod Pairs
 pub mod Ranks
+pub mod Corners
 pub mod Twice

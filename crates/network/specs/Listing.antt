@@ -1,13 +1,11 @@
 -- Elements of a drawing in a list.
-use Rattle.std.specs.Prelude.{◌≡◌, ℕ, ◌+◌, ◌<◌, ◌≤◌, List, Option, Some, None, Contains, slice_get, length}
+use Rattle.std.specs.Prelude.{◌≡◌, ℕ, ◌<◌, List, Some, slice_get}
 use Rattle.ladder_text.specs.Picture.{Picture}
 use Rattle.ladder_text.specs.declared.place.Place.{Place}
 use Rattle.network.specs.declared.element.Element.{Element}
 use Rattle.network.specs.declared.numbering.Spot.{Spot}
 use Rattle.network.specs.Numbers.{IsSpot}
-use Rattle.network.specs.Links.{Diagram}
 use Rattle.network.specs.Apart.{first_place}
-use Rattle.network.specs.GraphValue.{diagram, IsSoundNetwork}
 use Rattle.network.specs.Networks.{IsElementOf, Precedes}
 
 -- each of these places has its position as owner

@@ -1,5 +1,5 @@
 -- Pairs of elements between which state passes, by their numbers.
-use Rattle.std.specs.Prelude.{◌≡◌, ◌+◌, ◌<◌, ◌↔◌, ◌⊎◌, ℕ, List, Option, Some, None, IfSome, Contains, slice_get, slice_index, length}
+use Rattle.std.specs.Prelude.{◌≡◌, ◌+◌, ◌<◌, ◌↔◌, ◌⊎◌, ℕ, List, Option, Some, IfSome, Contains, slice_get, slice_index, length}
 use Rattle.ladder_text.specs.Picture.{Picture}
 use Rattle.ladder_text.specs.declared.place.Place.{Place}
 use Rattle.network.specs.declared.element.Element.{Element}

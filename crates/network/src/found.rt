@@ -1,37 +1,15 @@
-ghost use Rattle.std.specs.Prelude.{◌≡◌, ◌+◌, max, ◌≤◌, ◌↔◌, ◌⊎◌, ℕ, IfOk, OnOk, IsTrue, Any, Contains, MatchOption, Option, Some, [], slice_get, length};
-ghost use Rattle.std.specs.Str.{str_eq_ignore_ascii_case};
-ghost use Rattle.ladder_text.specs.declared.drawn_box.DrawnBox.{DrawnBox};
+ghost use Rattle.std.specs.Prelude.{◌≡◌, ◌+◌, max, ◌≤◌, ◌↔◌, ◌⊎◌, ℕ, IfOk, OnOk, IsTrue, Any, Contains, Option, Some, slice_get, length};
 ghost use Rattle.ladder_text.specs.declared.place.Place.{Place};
-ghost use Rattle.network.specs.Links.{place};
 ghost use Rattle.network.specs.Apart.{first_place};
-ghost use Rattle.network.specs.Networks.{IsBefore, lowest_row};
-ghost use Rattle.network.specs.Ranks.{ArePlaces, IsUnmetAt, IsTall, IsTallAt, IsFirstOf};
+ghost use Rattle.network.specs.Networks.{lowest_row};
+ghost use Rattle.network.specs.Ranks.{ArePlaces, IsUnmetAt, IsTall, IsTallAt};
 ghost use Rattle.network.specs.Twice.{IsTwiceIn};
 
+use crate::corners::{corner_of, corners_of, is_twice};
 use crate::element::Element;
 use crate::graph::Network;
 use ladder_text::{DrawnBox, Place};
 use std::alloc::{AllocError, Global};
-
-/// Whether one place comes before another, by row and then column.
-fn is_before(place: Place, other: Place) -> bool
-    ensures { IsTrue result ↔ IsBefore place other }
-{
-    place.row < other.row || (place.row == other.row && place.column < other.column)
-}
-
-/// The first of some places, by row and then column.
-pub fn first_of(places: &[Place]) -> Option<Place>
-    ensures { MatchOption result (places.now ≡ []) (IsFirstOf places.now) }
-{
-    let mut first = *places.first()?;
-    for place in places {
-        if is_before(*place, first) {
-            first = *place;
-        }
-    }
-    Some(first)
-}
 
 /// Where the elements without a rank begin.
 pub fn unmet_places(
@@ -105,35 +83,17 @@ pub fn tall_places(alloc: Global, networks: &[Network]) -> Result<Vec<Place>, Al
     Ok(places)
 }
 
-/// Whether an earlier box has the box's name, case aside.
-fn is_twice(boxes: &[DrawnBox], drawn: &DrawnBox) -> bool
-    ensures { IsTrue result ↔ Any (λ b. IsBefore (place b.top b.left) (place drawn.now.top drawn.now.left) × IsTrue (str_eq_ignore_ascii_case b.instance drawn.now.instance)) boxes.now }
-{
-    let corner = Place {
-        row: drawn.top,
-        column: drawn.left,
-    };
-    let name = drawn.instance.as_str();
-    boxes.iter().any(|other| {
-        let place = Place {
-            row: other.top,
-            column: other.left,
-        };
-        is_before(place, corner) && other.instance.as_str().eq_ignore_ascii_case(name)
-    })
-}
-
 /// The corners of the boxes with the name of an earlier one.
 pub fn twice_places(alloc: Global, boxes: &[DrawnBox]) -> Result<Vec<Place>, AllocError>
     ensures { IfOk result (λ places. ArePlaces (IsTwiceIn boxes.now (length boxes.now)) places.items) }
 {
+    let corners = corners_of(alloc, boxes)?;
     let mut places = Vec::new(alloc);
     for k in 0..boxes.len() {
         let drawn = &boxes[k];
-        if is_twice(boxes, drawn) {
-            let row = drawn.top;
-            let column = drawn.left;
-            places.push(Place { row, column })?;
+        let twice = is_twice(alloc, &corners, drawn)?;
+        if twice {
+            places.push(corner_of(drawn))?;
         }
     }
     Ok(places)

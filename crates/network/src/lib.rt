@@ -2,6 +2,7 @@
 #![tactic(auto)]
 
 mod copies;
+mod corners;
 mod element;
 mod elements;
 mod fault;
@@ -12,10 +13,13 @@ mod link;
 mod links;
 mod numbering;
 mod pairs;
+mod places;
 mod rails;
 mod ranks;
 mod symbols;
 mod tables;
+#[cfg(test)]
+mod tests;
 
 pub use element::Element;
 pub use fault::{GraphFault, GraphFaultKind};

@@ -1,4 +1,4 @@
-use Rattle.std.proofs.Common.{◌≡◌, ℕ, suc, ◌+◌, ◌<◌, ◌≤◌, Some, slice_get, take, List, [], ◌∷◌, ◌++◌, All, map, length, get_or, sym, ap, ◌∙◌, refl, arith}
+use Rattle.std.proofs.Common.{◌≡◌, ℕ, suc, ◌+◌, ◌<◌, ◌≤◌, Some, slice_get, take, List, [], ◌∷◌, ◌++◌, All, map, max, length, get_or, sym, ap, ◌∙◌, refl, arith}
 use Rattle.std.proofs.lemmas.List.Elements.{All-from_recursion, recursion_from_All, All-push, All-pop, All-more, All-weaker, All-nil, All-cons, All-head, All-tail, All-map}
 use Rattle.std.specs.List.{AllByRecursion}
 use Rattle.std.proofs.lemmas.List.{map-append}
@@ -40,6 +40,15 @@ pub most_more : (f : Circuit → ℕ) (circuits : List Circuit) (n old new : ℕ
 most_more f circuits n old new c lt is were more here =
     All-more (λ x. f x ≤ new) circuits n c lt (All-weaker (λ x. f x ≤ old) (λ x. f x ≤ new) (λ x h. omega arith) (take n circuits) were)
     (let e = ap f is in omega arith)
+
+-- the least bound of all circuits, once one more is looked at
+pub least_more : (f : Circuit → ℕ) (circuits : List Circuit) (k old new : ℕ) (c : Circuit) → k < length circuits → c ≡ get_or circuits k c
+    → ((n : ℕ) → All (λ x. f x ≤ n) circuits → old ≤ n) → new ≡ max old (f c) → (n : ℕ) → All (λ x. f x ≤ n) circuits → new ≤ n
+least_more f circuits k old new c lt is was made n h =
+    let e = ap f is in
+    let here = h k c lt in
+    let before = was n h in
+    omega arith
 
 pub room_of : (circuits : List Circuit) (gates bits results : ℕ) → All HasShape circuits → All (λ (c : Circuit). length c.elements.items ≤ gates) circuits → All (λ (c : Circuit). length c.places.items ≤ bits) circuits
     → All (λ (c : Circuit). length c.boxes.items ≤ results) circuits → AllByRecursion (HasRoom gates bits results) circuits

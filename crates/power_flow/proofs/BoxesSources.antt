@@ -1,6 +1,6 @@
-use Rattle.std.proofs.Common.{◌≡◌, ℕ, zero, suc, ◌<◌, ◌≤◌, inl, inr, List, [], ◌∷◌, Bool, Option, Some, None, Contains, length, slice_get, arith, refl, sym, ap, ◌∙◌, subst}
+use Rattle.std.proofs.Common.{◌≡◌, ℕ, zero, suc, ◌<◌, ◌≤◌, inl, inr, List, [], ◌∷◌, Bool, true, false, Option, Some, None, Contains, length, slice_get, arith, refl, sym, ap, ◌∙◌, subst}
 use Rattle.std.specs.List.{AllZip, cons_option, before_first, after_first}
-use Rattle.std.specs.Option.{option_and_then, option_map, option_map_or}
+use Rattle.std.specs.Option.{option_and_then, option_map_or}
 use Rattle.std.proofs.lemmas.Bool.{cases_lt}
 use Rattle.std.proofs.lemmas.Option.{slice_get-get_or, slice_get_within, slice_get_past}
 use Rattle.ladder_text.specs.declared.place.Place.{Place}
@@ -30,9 +30,9 @@ use Rattle.power_flow.specs.declared.state.Slot.TheVariants.{Variable, Block}
 use Rattle.power_flow.specs.declared.source.Source.{Source}
 use Rattle.power_flow.specs.declared.source.Source.TheVariants as source
 use Rattle.power_flow.specs.declared.bound_box.BoundBox.{BoundBox}
-use Rattle.power_flow.specs.Names.{place_of, value_of, slot_value, is_true, is_dot}
+use Rattle.power_flow.specs.Names.{place_of, value_of, slot_value, shown_at, is_true, is_dot}
 use Rattle.power_flow.specs.Literals.{literal_value, text_value, value_or}
-use Rattle.power_flow.specs.Sources.{source_value, source_bit, slot_output, declared_source, name_source, operand_source, pin_source}
+use Rattle.power_flow.specs.Sources.{source_value, source_bit, slot_output, output_source, declared_source, name_source, operand_source, pin_source}
 use Rattle.power_flow.specs.StateValue.{variable_of}
 use Rattle.power_flow.specs.StateValue.{IsSlotOf, AreSlotsOf}
 use Rattle.power_flow.specs.BoxTable.{IsBlockAt, IsBoundBox, right_pin, right_pins, boxes_of}
@@ -138,7 +138,7 @@ no_pin TOF field e = cc
 pub pin_value : (i : Instance) (block : BlockType) (name : List ℕ) (field : Field) → i.state.block ≡ block → pin_of block name ≡ Some (output field) → slot_value (Block i) name ≡ Some (field_value i.outputs field)
 pin_value i block [] field is at = absurd (no_pin block field at)
 pin_value i block (c ∷ name) field is at =
-    ap (λ b. option_map (λ found. field_value i.outputs found.field) (pin_of b (c ∷ name))) is ∙ ap (option_map (λ found. field_value i.outputs found.field)) at
+    ap (λ b. option_and_then (shown_at i.outputs) (pin_of b (c ∷ name))) is ∙ ap (option_and_then (shown_at i.outputs)) at
 
 pub element_at : {X : Type 0} (xs : List X) (k : ℕ) → k < length xs → (x : X) × (slice_get xs k ≡ Some x)
 element_at [] k lt = absurd (omega arith)
@@ -178,11 +178,15 @@ declared_value slots k (declared.Local kind) (Block i) pin at is = absurd is
 declared_value slots k (declared.Instance b) (Variable v) pin at is = absurd is
 declared_value slots k (declared.Instance b) (Block i) [] at is = refl
 declared_value slots k (declared.Instance b) (Block i) (c ∷ pin) at is =
-    ap (λ t. option_map (λ found. field_value i.outputs found.field) (pin_of t (c ∷ pin))) is ∙ go (pin_of b (c ∷ pin))
+    ap (λ t. option_and_then (shown_at i.outputs) (pin_of t (c ∷ pin))) is ∙ go (pin_of b (c ∷ pin))
   where
-    go : (o : Option Pin) → option_map (λ found. field_value i.outputs found.field) o ≡ source_value slots (option_map_or (λ found. source.Output k found.field) o source.Nothing)
+    side : (left : Bool) (field : Field) → shown_at i.outputs (record { left = left; field = field }) ≡ source_value slots (output_source k (record { left = left; field = field }))
+    side true field = refl
+    side false field = sym (ap (option_and_then (slot_output field)) at)
+
+    go : (o : Option Pin) → option_and_then (shown_at i.outputs) o ≡ source_value slots (option_map_or (output_source k) o source.Nothing)
     go None = refl
-    go (Some found) = sym (ap (option_and_then (slot_output found.field)) at)
+    go (Some found) = side found.left found.field
 
 -- a name's value is that of its source
 pub name_value : (ds : List Declaration) (slots : List Slot) (name : List ℕ) → AreSlotsOf ds slots → value_of ds slots name ≡ source_value slots (name_source ds name)
@@ -230,9 +234,13 @@ declared_read (declared.Local kind) k (c ∷ pin) = tt
 declared_read (declared.Instance b) k [] = tt
 declared_read (declared.Instance b) k (c ∷ pin) = go (pin_of b (c ∷ pin))
   where
-    go : (o : Option Pin) → IsRead (option_map_or (λ found. source.Output k found.field) o source.Nothing)
+    side : (left : Bool) (field : Field) → IsRead (output_source k (record { left = left; field = field }))
+    side true field = tt
+    side false field = tt
+
+    go : (o : Option Pin) → IsRead (option_map_or (output_source k) o source.Nothing)
     go None = tt
-    go (Some found) = tt
+    go (Some found) = side found.left found.field
 
 name_read : (ds : List Declaration) (name : List ℕ) → IsRead (name_source ds name)
 unfolding name_source

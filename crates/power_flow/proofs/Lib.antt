@@ -2,7 +2,6 @@ pub mod PowerLemmas
 pub mod Sweeping
 pub mod Lists
 pub mod Scanning
-pub mod Columns
 pub mod CircuitLemmas
 pub mod Stepping
 pub mod Determinism
@@ -13,15 +12,15 @@ pub mod FoldedLemmas
 pub mod Places
 pub mod Slots
 pub mod Binds
+pub mod SameNetworks
 pub mod KeptSlots
 pub mod FindingLemmas
+pub mod FaultKinds
 pub mod BoxesStepping
 pub mod BoxesWalks
 pub mod BoxesSources
 pub mod BoxesMeaning
 pub mod BoxesFaults
 pub mod BoxesBinding
-pub mod WordLemmas
-pub mod LiteralLemmas
 pub mod BoxesTable
 pub mod GuessLemmas

@@ -18,6 +18,5 @@ pub mod BoxSteps
 pub mod BoxTable
 pub mod BoxFaults
 pub mod Literals
-pub mod Chars
 pub mod Lookup
 pub mod Guess

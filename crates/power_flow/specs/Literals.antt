@@ -1,40 +1,12 @@
--- The values of numbers and durations.
-use Rattle.std.specs.Prelude.{ℕ, zero, suc, ◌+◌, ◌-◌, ◌*◌, ◌==◌, List, [], ◌∷◌, drop, take_while, length, if◌then◌else◌, Option, Some, None, pos}
+-- The values of operands.
+use Rattle.std.specs.Prelude.{ℕ, List, if◌then◌else◌, Option, Some, None, pos}
 use Rattle.std_blocks.specs.declared.value.Value.{Value}
 use Rattle.std_blocks.specs.declared.value.Value.TheVariants.{Int as IntValue, Time as TimeValue}
+use Rattle.ladder_text.specs.Chars.{is_number, is_duration}
+use Rattle.ladder_text.specs.Numbers.{number_value, duration_value}
 use Rattle.power_flow.specs.declared.declarations.Declaration.{Declaration}
 use Rattle.power_flow.specs.declared.state.Slot.{Slot}
 use Rattle.power_flow.specs.Names.{value_of}
-use Rattle.power_flow.specs.Chars.{is_digit_or_score, is_number, is_duration, is_duration_behind, unit_rank, part_unit, part_more, without_score, codes}
-
--- a number with one more digit; an underscore counts for nothing
-abbrev pub with_digit : ℕ → ℕ → ℕ
-with_digit n c = if c == 95 then n else 10 * n + (c - 48)
-
--- a number with more digits behind it
-abbrev pub digits_value : ℕ → List ℕ → ℕ
-digits_value n [] = n
-digits_value n (c ∷ more) = digits_value (with_digit n c) more
-
--- how much a number is
-abbrev pub number_value : List ℕ → ℕ
-number_value w = digits_value 0 w
-
--- how many milliseconds a unit is, by its rank: d, h, m, s, ms
-abbrev pub unit_length : ℕ → ℕ
-unit_length rank =
-    if rank == 1 then 86400000 else (if rank == 2 then 3600000 else (if rank == 3 then 60000 else (if rank == 4 then 1000 else 1)))
-
--- the milliseconds of at most n parts, each a number and a unit
-abbrev pub parts_value : ℕ → List ℕ → ℕ
-parts_value zero w = 0
-parts_value (suc n) w =
-    number_value (take_while is_digit_or_score w) * unit_length (unit_rank (part_unit w))
-    + (if length (part_more w) == 0 then 0 else parts_value n (without_score (part_more w)))
-
--- how many milliseconds a duration is, after T# or TIME#
-unfoldable pub duration_value : List ℕ → ℕ
-duration_value w = if is_duration_behind (codes "T#") 2 w then parts_value (length w) (drop 2 w) else parts_value (length w) (drop 5 w)
 
 -- the value of a number or a duration; a name has none
 unfoldable pub literal_value : List ℕ → Option Value

@@ -1,9 +1,11 @@
-use Rattle.std.specs.Prelude.{ℤ, pos, ℕ, List, [], ◌∷◌, Bool, false, ◌==◌, Option, Some, None, slice_get, position, IsTrue, Any}
+use Rattle.std.specs.Prelude.{ℤ, pos, ℕ, List, [], ◌∷◌, Bool, false, ◌==◌, Option, Some, None, if◌then◌else◌, slice_get, position, IsTrue, Any}
 use Rattle.std.specs.List.{before_first, after_first}
-use Rattle.std.specs.Option.{option_and_then, option_map}
+use Rattle.std.specs.Option.{option_and_then}
 use Rattle.std.specs.Str.{str_eq_ignore_ascii_case}
 use Rattle.std_blocks.specs.declared.value.Value.{Value}
 use Rattle.std_blocks.specs.declared.value.Value.TheVariants.{Bool as BoolValue, Int, Time}
+use Rattle.std_blocks.specs.declared.pin.Pin.{Pin}
+use Rattle.std_blocks.specs.declared.pins.PinsOut.{PinsOut}
 use Rattle.std_blocks.specs.Pins.{pin_of, field_value}
 use Rattle.power_flow.specs.declared.declarations.Declaration.{Declaration}
 use Rattle.power_flow.specs.declared.state.Slot.{Slot}
@@ -20,14 +22,18 @@ IsDeclared ds name = Any (λ e. IsTrue (str_eq_ignore_ascii_case e.name name)) d
 abbrev pub is_dot : ℕ → Bool
 is_dot c = c == 46
 
--- the value of a variable, or of an output of an instance
+-- what an output pin shows; an input pin shows nothing
+abbrev pub shown_at : PinsOut → Pin → Option Value
+shown_at outputs pin = if pin.left then None else Some (field_value outputs pin.field)
+
+-- the value of a variable, or of an output pin of an instance
 abbrev pub slot_value : Slot → List ℕ → Option Value
 slot_value (Variable v) [] = Some v
 slot_value (Variable v) (c ∷ pin) = None
 slot_value (Block b) [] = None
-slot_value (Block b) (c ∷ pin) = option_map (λ found. field_value b.outputs found.field) (pin_of b.state.block (c ∷ pin))
+slot_value (Block b) (c ∷ pin) = option_and_then (shown_at b.outputs) (pin_of b.state.block (c ∷ pin))
 
--- the value at a name, and at a pin of it where it is an instance
+-- the value at a name, or at an output pin of it where it is an instance
 abbrev pub value_at : List Declaration → List Slot → List ℕ → List ℕ → Option Value
 value_at declarations slots name pin =
     option_and_then (λ k. option_and_then (λ s. slot_value s pin) (slice_get slots k)) (place_of declarations name)

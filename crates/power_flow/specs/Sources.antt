@@ -1,4 +1,4 @@
-use Rattle.std.specs.Prelude.{ℕ, List, [], ◌∷◌, Bool, false, Option, Some, None, slice_get}
+use Rattle.std.specs.Prelude.{ℕ, List, [], ◌∷◌, Bool, false, Option, Some, None, if◌then◌else◌, slice_get}
 use Rattle.std.specs.Option.{option_and_then, option_map_or}
 use Rattle.std.specs.List.{before_first, after_first}
 use Rattle.ladder_text.specs.declared.drawn_box.DrawnPin.{DrawnPin}
@@ -6,6 +6,7 @@ use Rattle.network.specs.declared.element.Element.{Element}
 use Rattle.network.specs.declared.element.Element.TheVariants.{Wire, Join, Upright, Contact, Coil, Box}
 use Rattle.std_blocks.specs.declared.value.Value.{Value}
 use Rattle.std_blocks.specs.declared.pin.Field.{Field}
+use Rattle.std_blocks.specs.declared.pin.Pin.{Pin}
 use Rattle.std_blocks.specs.Pins.{field_value, pin_of}
 use Rattle.power_flow.specs.declared.declarations.Declaration.{Declaration}
 use Rattle.power_flow.specs.declared.declarations.Declared.{Declared}
@@ -40,7 +41,11 @@ source_bit slots bits (source.Variable k) = is_true (source_value slots (source.
 source_bit slots bits (source.Output k field) = is_true (source_value slots (source.Output k field))
 source_bit slots bits (source.Literal v) = is_true (Some v)
 
--- the source of what is declared at a place: the variable, or an output of the block
+-- the source of an output pin of the block at a place; an input pin is none
+abbrev pub output_source : ℕ → Pin → Source
+output_source k pin = if pin.left then source.Nothing else source.Output k pin.field
+
+-- the source of what is declared at a place: the variable, or an output pin of the block
 abbrev pub declared_source : Declared → ℕ → List ℕ → Source
 declared_source (declared.Input kind) k [] = source.Variable k
 declared_source (declared.Input kind) k (c ∷ pin) = source.Nothing
@@ -49,7 +54,7 @@ declared_source (declared.Output kind) k (c ∷ pin) = source.Nothing
 declared_source (declared.Local kind) k [] = source.Variable k
 declared_source (declared.Local kind) k (c ∷ pin) = source.Nothing
 declared_source (declared.Instance b) k [] = source.Nothing
-declared_source (declared.Instance b) k (c ∷ pin) = option_map_or (λ found. source.Output k found.field) (pin_of b (c ∷ pin)) source.Nothing
+declared_source (declared.Instance b) k (c ∷ pin) = option_map_or (output_source k) (pin_of b (c ∷ pin)) source.Nothing
 
 -- the source of what a name stands for, as `A` or `T1.Q`
 unfoldable pub name_source : List Declaration → List ℕ → Source

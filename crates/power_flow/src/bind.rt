@@ -42,7 +42,7 @@ pub struct BindFault {
 
 /// A lack of memory.
 pub fn no_memory(_fault: AllocError) -> BindFault
-    ensures { result.kind ≡ BindKind.Memory }
+    ensures { result ≡ record { kind = BindKind.Memory; line = 0; column = 0 } }
 {
     BindFault {
         kind: BindKind::Memory,

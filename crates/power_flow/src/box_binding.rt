@@ -32,17 +32,6 @@ use network::{Element, Numbering};
 use std::alloc::{AllocError, Global};
 use std_blocks::{BlockType, Field, Pin};
 
-fn is_same_field(field: Field, other: Field) -> bool
-    ensures { IsTrue result ↔ (field ≡ other) }
-{
-    match (field, other) {
-        (Field::Bit(k), Field::Bit(other)) => k == other,
-        (Field::Int, Field::Int) => true,
-        (Field::Time, Field::Time) => true,
-        _ => false,
-    }
-}
-
 /// Whether a name is that of this input of a block.
 fn is_input(block: BlockType, name: &str, field: Field) -> bool
     ensures { IsTrue result ↔ (pin_of block name.now ≡ Some (input field)) }
@@ -53,7 +42,7 @@ fn is_input(block: BlockType, name: &str, field: Field) -> bool
                 left: true,
                 field: found,
             },
-        ) => is_same_field(found, field),
+        ) => found == field,
         _ => false,
     }
 }

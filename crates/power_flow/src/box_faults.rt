@@ -4,19 +4,18 @@ ghost use Rattle.std_blocks.specs.Pins.{pin_of};
 ghost use Rattle.ladder_text.specs.declared.drawn_box.DrawnPin.{DrawnPin};
 ghost use Rattle.power_flow.specs.PinKinds.{type_of};
 ghost use Rattle.power_flow.specs.Names.{is_dot};
-ghost use Rattle.power_flow.specs.StateValue.{kind_of};
 ghost use Rattle.power_flow.specs.Lookup.{declared_at, is_dotted};
 ghost use Rattle.power_flow.specs.Findings.{IsFirstOf};
 ghost use Rattle.power_flow.specs.BoxFaults.{same_kind, wants, output_kind, declared_kind, name_kind, read_name_fault, literal_of, literal_fault, literal_kind_fault, store_name_fault, read_fault_at, store_declared_fault, store_fault_at, operand_fault, field_on, own_field, kind_at, fault_here, fault_if, type_number, instance_fault, same_side, is_bit, has_bit, same_field, same_pin, is_among, pin_fault, operand_finding, is_beside, has_line, line_fault, pin_findings, corner_findings, pins_findings, box_findings, side_place, corner};
 
 use crate::bind::{BindKind, Finding, declared_at, earlier, first_part};
 use crate::declarations::{Declarations, Declared, Kind};
-use crate::kinds::{block_type, is_on_side, kind_of_field};
+use crate::kinds::{block_type, is_on_side, kind_of, kind_of_field};
 use crate::literal::{Literal, read_literal};
 use crate::names::parts;
 use ladder_text::{DrawnBox, DrawnPin, Place, Side};
 use network::Element;
-use std_blocks::{BlockType, Field, Pin, Value};
+use std_blocks::{BlockType, Field, Pin};
 
 fn is_same_kind(kind: Kind, other: Kind) -> bool
     ensures { result ≡ same_kind kind other }
@@ -111,16 +110,6 @@ pub fn read_name_fault(want: Option<Kind>, name: Result<Option<Kind>, BindKind>)
             !is_same_kind(wanted, kind),
             BindKind::WrongKind,
         ),
-    }
-}
-
-fn kind_of(value: Value) -> Kind
-    ensures { result ≡ kind_of value }
-{
-    match value {
-        Value::Bool(_) => Kind::Bool,
-        Value::Int(_) => Kind::Int,
-        Value::Time(_) => Kind::Time,
     }
 }
 

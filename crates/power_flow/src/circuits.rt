@@ -1,10 +1,10 @@
-ghost use Rattle.std.specs.Prelude.{◌≡◌, ◌≤◌, ℕ, List, All, Contains, IfOk, Some, slice_get, length, map};
+ghost use Rattle.std.specs.Prelude.{◌≡◌, ◌≤◌, ◌⊎◌, ◌↔◌, ℕ, List, [], All, Contains, IfOk, IsTrue, Some, slice_get, length, map};
 ghost use Rattle.std.specs.List.{AllByRecursion};
 ghost use Rattle.network.specs.declared.element.Element.{Element};
 ghost use Rattle.network.specs.declared.numbering.Spot.{Spot};
 ghost use Rattle.network.specs.GraphValue.{diagram, IsSoundNetwork};
 ghost use Rattle.power_flow.specs.Binding.{IsBoundNetwork};
-ghost use Rattle.power_flow.specs.Circuit.{IsWired, HasShape, IsCircuit, AreCircuits};
+ghost use Rattle.power_flow.specs.Circuit.{IsWired, HasShape, IsCircuit, AreCircuits, circuit_diagram};
 ghost use Rattle.power_flow.specs.declared.circuit.Circuit.{Circuit};
 ghost use Rattle.power_flow.specs.Sources.{element_source};
 ghost use Rattle.ladder_text.specs.declared.drawn_box.DrawnBox.{DrawnBox};
@@ -15,6 +15,7 @@ use crate::box_binding::bind_boxes;
 use crate::circuit::Circuit;
 use crate::declarations::Declarations;
 use crate::names::name_source;
+use crate::same_elements::{are_same_elements, are_same_places};
 use crate::source::Source;
 use crate::starts::starts_of;
 use ladder_text::Place;
@@ -124,4 +125,38 @@ pub fn circuits_of(
         circuits.push(circuit)?;
     }
     Ok(circuits)
+}
+
+/// Whether the circuits of two lists are made of the same elements.
+fn have_same_elements(circuits: &[Circuit], others: &[Circuit]) -> bool
+    ensures { IsTrue result ↔ (map (λ (c : Circuit). c.elements.items) circuits.now ≡ map (λ (c : Circuit). c.elements.items) others.now) }
+{
+    if circuits.len() != others.len() {
+        return false;
+    }
+    for i in 0..circuits.len() {
+        if !are_same_elements(&circuits[i].elements, &others[i].elements) {
+            return false;
+        }
+    }
+    true
+}
+
+/// Whether there is no circuit, or the places of the left rail are the same.
+fn have_same_rails(circuits: &[Circuit], rails: &[Place], other_rails: &[Place]) -> bool
+    ensures { IsTrue result ↔ ((circuits.now ≡ []) ⊎ (rails.now ≡ other_rails.now)) }
+{
+    circuits.is_empty() || are_same_places(rails, other_rails)
+}
+
+/// Whether the circuits of two lists are those of the same networks, each list with the places of its left rail.
+pub fn are_same_networks(
+    rails: &[Place],
+    circuits: &[Circuit],
+    other_rails: &[Place],
+    others: &[Circuit],
+) -> bool
+    ensures { IsTrue result ↔ (map (circuit_diagram rails.now) circuits.now ≡ map (circuit_diagram other_rails.now) others.now) }
+{
+    have_same_rails(circuits, rails, other_rails) && have_same_elements(circuits, others)
 }

@@ -120,6 +120,32 @@ impl Declarations {
         self.entries.is_empty()
     }
 
+    /// Whether both declare the same names, letter by letter, as the same things in the same order.
+    pub fn same(&self, other: &Self) -> bool
+        ensures { IsTrue result ↔ (self.now ≡ other.now) }
+    {
+        if self.len() != other.len() {
+            return false;
+        }
+        for i in 0..self.len() {
+            if !self.is_same_entry(other, i) {
+                return false;
+            }
+        }
+        true
+    }
+
+    /// Whether both have the same declaration at a position, or none.
+    fn is_same_entry(&self, other: &Self, i: usize) -> bool
+        ensures { IsTrue result ↔ (slice_get self.now i ≡ slice_get other.now i) }
+    {
+        match (self.entry(i), other.entry(i)) {
+            (Some((name, declared)), Some((other, what))) => name == other && declared == what,
+            (None, None) => true,
+            _ => false,
+        }
+    }
+
     /// The position of a name, in either case.
     pub fn position(&self, name: &str) -> Option<usize>
         ensures { result ≡ place_of self.now name.now }

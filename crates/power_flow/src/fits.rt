@@ -1,19 +1,9 @@
 ghost use Rattle.std.specs.Prelude.{◌≡◌, ◌↔◌, IsTrue};
-ghost use Rattle.power_flow.specs.StateValue.{kind_of, IsSlotOf, AreSlotsOf};
+ghost use Rattle.power_flow.specs.StateValue.{IsSlotOf, AreSlotsOf};
 
-use crate::declarations::{Declarations, Declared, Kind};
+use crate::declarations::{Declarations, Declared};
+use crate::kinds::kind_of;
 use crate::state::Slot;
-use std_blocks::Value;
-
-fn kind_of(value: Value) -> Kind
-    ensures { result ≡ kind_of value }
-{
-    match value {
-        Value::Bool(_) => Kind::Bool,
-        Value::Int(_) => Kind::Int,
-        Value::Time(_) => Kind::Time,
-    }
-}
 
 /// Whether a variable of the declared kind stands there, or a block of the declared type.
 fn is_slot_of(declared: Declared, slot: &Slot) -> bool

@@ -7,16 +7,22 @@ use crate::declarations::Kind;
 use ladder_text::{BlockName, DrawnPin, Side};
 use std_blocks::{BlockType, Field, Pin, Value};
 
+/// The kind of a value.
+pub fn kind_of(value: Value) -> Kind
+    ensures { result ≡ kind_of value }
+{
+    match value {
+        Value::Bool(_) => Kind::Bool,
+        Value::Int(_) => Kind::Int,
+        Value::Time(_) => Kind::Time,
+    }
+}
+
 /// Whether two values are of one kind.
 pub fn is_of_kind(value: Value, other: Value) -> bool
     ensures { IsTrue result ↔ (kind_of value ≡ kind_of other) }
 {
-    match (value, other) {
-        (Value::Bool(_), Value::Bool(_)) => true,
-        (Value::Int(_), Value::Int(_)) => true,
-        (Value::Time(_), Value::Time(_)) => true,
-        _ => false,
-    }
+    kind_of(value) == kind_of(other)
 }
 
 /// FALSE, 0 or T#0ms.

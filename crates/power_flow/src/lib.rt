@@ -19,14 +19,17 @@ mod literal;
 mod name_use;
 mod names;
 mod room;
+mod same_elements;
 mod scan;
 mod source;
 mod starts;
 mod state;
-mod words;
+#[cfg(test)]
+mod tests;
 
 pub use bind::{BindFault, BindKind};
 pub use declarations::{Declaration, Declarations, DeclareFault, Declared, Kind};
+pub use kinds::block_type;
 pub use ladder::Ladder;
 pub use laws::one_scan;
 pub use state::{Instance, Slot, State};

@@ -1,13 +1,11 @@
-ghost use Rattle.std.specs.Prelude.{◌≡◌, ◌<◌, ◌≤◌, ◌+◌, ◌-◌, ◌*◌, ℕ, pos, min, Some, List, length, drop, take_while};
-ghost use Rattle.power_flow.specs.Chars.{is_digit_or_score, unit_rank};
-ghost use Rattle.power_flow.specs.Literals.{with_digit, digits_value, unit_length, parts_value, duration_value, literal_value};
+ghost use Rattle.std.specs.Prelude.{◌≡◌, pos, Some, IsTrue};
+ghost use Rattle.ladder_text.specs.Chars.{is_number, is_duration};
+ghost use Rattle.ladder_text.specs.Numbers.{number_value, duration_value};
+ghost use Rattle.power_flow.specs.Literals.{literal_value};
 ghost use Rattle.power_flow.specs.BoxFaults.{IsInRange, literal_of};
 
 use crate::declarations::Kind;
-use crate::words::{
-    behind, digits, is_duration, is_duration_behind, is_number, part_more, part_unit, unit_rank,
-    without_score,
-};
+use ladder_text::{duration_up_to, is_duration, is_number, number_up_to};
 use std_blocks::Value;
 
 /// What an operand is by itself.
@@ -21,90 +19,27 @@ pub enum Literal {
     TooLarge(Kind),
 }
 
-/// Above every limit of a literal.
-const CEILING: u64 = 4_294_967_296;
-
-/// The number that goes on with a digit, but not above the ceiling. An underscore counts for nothing.
-fn next_digit(number: u64, digit: u8) -> u64
-    requires { number ≤ 4294967296 }
-    ensures { result ≡ min 4294967296 (with_digit number digit) }
+/// A number: an INT is at most 32767.
+#[tactic(auto, unfolding(ladder_text::specs::Numbers::number_up_to))]
+fn int_of(word: &[u8]) -> Literal
+    requires { IsTrue (is_number word.now) }
+    ensures { result ≡ literal_of (Some (Value.Int (pos (number_value word.now)))) }
 {
-    if digit == b'_' {
-        number
-    } else {
-        (10 * number + u64::from(digit.saturating_sub(b'0'))).min(CEILING)
+    match number_up_to(word, 32_767) {
+        Some(number) => Literal::Value(Value::Int(number as i16)),
+        None => Literal::TooLarge(Kind::Int),
     }
 }
 
-/// A number with these digits behind it, but not above the ceiling.
-fn number_with(number: u64, word: &[u8]) -> u64
-    requires { number ≤ 4294967296 }
-    ensures { result ≡ min 4294967296 (digits_value number word.now) }
+/// A duration: it is at most 2147483647 ms.
+#[tactic(auto, unfolding(ladder_text::specs::Numbers::duration_up_to))]
+fn time_of(word: &[u8]) -> Literal
+    requires { IsTrue (is_duration word.now) }
+    ensures { result ≡ literal_of (Some (Value.Time (duration_value word.now))) }
 {
-    match word {
-        [] => number,
-        [digit, ..] => number_with(next_digit(number, *digit), &word[1..]),
-    }
-}
-
-/// How many milliseconds a unit is.
-fn length_of(unit: &[u8]) -> u64
-    ensures value { result ≡ unit_length (unit_rank unit.now) }
-    ensures high { result ≤ 86400000 }
-    ensures low { 0 < result }
-{
-    match unit_rank(unit) {
-        1 => 86_400_000,
-        2 => 3_600_000,
-        3 => 60_000,
-        4 => 1_000,
-        _ => 1,
-    }
-}
-
-/// The milliseconds of the parts of a duration, but not above the ceiling.
-fn milliseconds(most: usize, word: &[u8]) -> u64
-    ensures { result ≡ min 4294967296 (parts_value most word.now) }
-{
-    if most == 0 {
-        return 0;
-    }
-    let here = number_with(0, digits(word)) * length_of(part_unit(word));
-    let more = part_more(word);
-    if more.is_empty() {
-        return here.min(CEILING);
-    }
-    (here + milliseconds(most - 1, without_score(more))).min(CEILING)
-}
-
-#[tactic(auto, unfolding(crate::specs::Literals::duration_value))]
-fn duration(word: &[u8]) -> u64
-    ensures { result ≡ min 4294967296 (duration_value word.now) }
-{
-    if is_duration_behind(b"T#", 2, word) {
-        milliseconds(word.len(), behind(word, 2))
-    } else {
-        milliseconds(word.len(), behind(word, 5))
-    }
-}
-
-fn int_of(number: u64) -> Literal
-    ensures { (n : ℕ) → number ≡ min 4294967296 n → result ≡ literal_of (Some (Value.Int (pos n))) }
-{
-    if number <= 32_767 {
-        Literal::Value(Value::Int(number as i16))
-    } else {
-        Literal::TooLarge(Kind::Int)
-    }
-}
-
-fn time_of(number: u64) -> Literal
-    ensures { (n : ℕ) → number ≡ min 4294967296 n → result ≡ literal_of (Some (Value.Time n)) }
-{
-    if number <= 2_147_483_647 {
-        Literal::Value(Value::Time(number as u32))
-    } else {
-        Literal::TooLarge(Kind::Time)
+    match duration_up_to(word, 2_147_483_647) {
+        Some(milliseconds) => Literal::Value(Value::Time(milliseconds as u32)),
+        None => Literal::TooLarge(Kind::Time),
     }
 }
 
@@ -115,10 +50,10 @@ pub fn read_literal(text: &str) -> Literal
 {
     let word = text.as_bytes();
     if is_number(word) {
-        return int_of(number_with(0, word));
+        return int_of(word);
     }
     if is_duration(word) {
-        return time_of(duration(word));
+        return time_of(word);
     }
     Literal::Absent
 }

@@ -17,15 +17,15 @@ pub fn parts(name: &str) -> (&str, &str)
     }
 }
 
-/// The source of what is declared at a place, or of an output of the block there.
+/// The source of what is declared at a place, or of an output pin of the block there.
 fn declared_source(declared: Declared, place: usize, pin: &str) -> Source
     ensures { result ≡ declared_source declared place pin.now }
 {
     match declared {
         Declared::Instance(_) if pin.is_empty() => Source::Nothing,
         Declared::Instance(block) => match block.pin(pin) {
-            Some(found) => Source::Output(place, found.field),
-            None => Source::Nothing,
+            Some(found) if !found.left => Source::Output(place, found.field),
+            _ => Source::Nothing,
         },
         _ if pin.is_empty() => Source::Variable(place),
         _ => Source::Nothing,

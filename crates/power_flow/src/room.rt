@@ -1,4 +1,4 @@
-ghost use Rattle.std.specs.Prelude.{◌≡◌, ◌≤◌, All, IfOk, length, sum_by};
+ghost use Rattle.std.specs.Prelude.{◌≡◌, ◌≤◌, ℕ, All, IfOk, length, sum_by};
 
 use crate::circuit::Circuit;
 use std::alloc::AllocError;
@@ -17,9 +17,10 @@ pub fn count_elements(circuits: &[Circuit]) -> Result<usize, AllocError>
     Ok(count)
 }
 
-/// At least as many as any circuit has elements.
+/// How many elements the circuit with the most of them has; 0 where there is none.
 pub fn most_elements(circuits: &[Circuit]) -> usize
-    ensures { All (λ c. length c.elements.items ≤ result) circuits.now }
+    ensures enough { All (λ c. length c.elements.items ≤ result) circuits.now }
+    ensures least { (n : ℕ) → All (λ c. length c.elements.items ≤ n) circuits.now → result ≤ n }
 {
     let mut most = 0usize;
     for circuit in circuits {
@@ -28,9 +29,10 @@ pub fn most_elements(circuits: &[Circuit]) -> usize
     most
 }
 
-/// At least as many as any circuit has places.
+/// How many places the circuit with the most of them has; 0 where there is none.
 pub fn most_places(circuits: &[Circuit]) -> usize
-    ensures { All (λ c. length c.places.items ≤ result) circuits.now }
+    ensures enough { All (λ c. length c.places.items ≤ result) circuits.now }
+    ensures least { (n : ℕ) → All (λ c. length c.places.items ≤ n) circuits.now → result ≤ n }
 {
     let mut most = 0usize;
     for circuit in circuits {
@@ -39,9 +41,10 @@ pub fn most_places(circuits: &[Circuit]) -> usize
     most
 }
 
-/// At least as many as any circuit has boxes.
+/// How many boxes the circuit with the most of them has; 0 where there is none.
 pub fn most_boxes(circuits: &[Circuit]) -> usize
-    ensures { All (λ c. length c.boxes.items ≤ result) circuits.now }
+    ensures enough { All (λ c. length c.boxes.items ≤ result) circuits.now }
+    ensures least { (n : ℕ) → All (λ c. length c.boxes.items ≤ n) circuits.now → result ≤ n }
 {
     let mut most = 0usize;
     for circuit in circuits {

@@ -1,4 +1,4 @@
-use Rattle.std.proofs.Common.{◌≡◌, ◌+◌, ap, sym, arith}
+use Rattle.std.proofs.Common.{arith}
 use Rattle.network.specs.Links.{place}
 use Rattle.network.specs.Listing.{IsNoElementAt, IsTheElementAt}
 use Rattle.network.proofs.Basics.{match_some, match_none}

@@ -1,8 +1,5 @@
-use Rattle.std.proofs.Common.{◌≡◌, ◌∙◌, ◌≤◌, ◌<◌, ◌+◌, ◌-◌, ℕ, IsTrue, leb, Some, length, slice_get, min, max, refl, sym, ap, rules, tests, arith}
-use Rattle.std.proofs.lemmas.Bool.Decides.{nat_tests}
+use Rattle.std.proofs.Common.{◌≡◌, ◌∙◌, ◌≤◌, ◌-◌, ℕ, IsTrue, leb, Some, length, slice_get, min, max, refl, ap, rules, tests, arith}
 use Rattle.std.proofs.lemmas.Option.{slice_get_read}
-use Rattle.network.specs.Apart.{first_place}
-use Rattle.network.specs.Networks.{lowest_row}
 use Rattle.ladder_text.specs.declared.place.Place.{Place}
 use Rattle.network.proofs.FoundLemmas.{rows_more, tall_from, far_from}
 use Rattle.network.proofs.found.is_tall.Goals as goal

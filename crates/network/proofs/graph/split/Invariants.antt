@@ -1,4 +1,4 @@
-use Rattle.std.proofs.Common.{◌≡◌, ◌<◌, ℕ, List, length}
+use Rattle.std.proofs.Common.{◌≡◌, length}
 use Rattle.network.specs.Ranks.{AreSplit}
 use Rattle.network.proofs.graph.split.Given as goal
 

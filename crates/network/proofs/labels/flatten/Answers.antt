@@ -1,4 +1,4 @@
-use Rattle.std.proofs.Common.{◌≡◌, ◌<◌, length, arith}
+use Rattle.std.proofs.Common.{◌<◌, length, arith}
 use Rattle.network.proofs.Spreading.{classes_then, short_keeps, flat_more}
 use Rattle.network.proofs.labels.flatten.Goals as goal
 

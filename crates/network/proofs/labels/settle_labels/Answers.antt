@@ -1,9 +1,8 @@
-use Rattle.std.proofs.Common.{◌≡◌, ◌∙◌, ◌+◌, ◌<◌, ◌≤◌, ℕ, Some, slice_get, length, get_or, arith, sym, ap, refl, inl, inr}
+use Rattle.std.proofs.Common.{◌≡◌, ◌∙◌, ℕ, Some, slice_get, length, get_or, arith, refl, inl, inr}
 use Rattle.std.proofs.lemmas.Bool.{cases_eq, cases_lt}
 use Rattle.std.proofs.lemmas.List.{get_or_past}
 use Rattle.std.proofs.lemmas.Option.{slice_get-get_or, slice_get_within}
 use Rattle.network.specs.declared.labels.Pair.{Pair}
-use Rattle.network.specs.Joined.{AreFalling, AreChained, IsOneAlong}
 use Rattle.network.specs.Joined.Joined.{here}
 use Rattle.network.proofs.Basics.{one_at, contains_at, at_contains}
 use Rattle.network.proofs.Spreading.{labels_tell}

@@ -1,6 +1,6 @@
-use Rattle.std.proofs.Common.{◌≡◌, ◌∙◌, ◌<◌, ◌≤◌, length, arith, sym}
+use Rattle.std.proofs.Common.{◌<◌, ◌≤◌, length, arith, sym}
 use Rattle.network.specs.Joined.{AreFalling}
-use Rattle.network.proofs.Spreading.{AreRoots, roots_joined, roots_united, Joined-sym, link_falling, link_chained, link_kept, link_one}
+use Rattle.network.proofs.Spreading.{AreRoots, roots_joined, roots_united, Joined-sym, link_chained, link_kept, link_one}
 use Rattle.network.proofs.labels.unite.Goals as goal
 
 roots-then : (c : goal.Then-one-other) → AreRoots c.args.labels.now c.root_of-one.new.labels c.root_of-other.new.labels c.args.pair.one c.args.pair.other c.root_of-one.result c.root_of-other.result

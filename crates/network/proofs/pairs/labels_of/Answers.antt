@@ -1,4 +1,4 @@
-use Rattle.std.proofs.Common.{◌≡◌, ◌∙◌, ◌<◌, ◌↔◌, ℕ, slice_index, length, refl, sym, ap, arith}
+use Rattle.std.proofs.Common.{◌≡◌, ◌∙◌, ◌<◌, ◌↔◌, ℕ, slice_index, length, ap, arith}
 use Rattle.network.specs.Joined.{Joined}
 use Rattle.network.proofs.PairLemmas.{labels_are, all_within, written_over}
 use Rattle.network.proofs.pairs.labels_of.Goals as goal

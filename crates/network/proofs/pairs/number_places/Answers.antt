@@ -1,6 +1,5 @@
-use Rattle.std.proofs.Common.{◌≡◌, ◌∙◌, Some, length, slice_get, refl, sym, ap, arith}
+use Rattle.std.proofs.Common.{◌≡◌, ◌∙◌, Some, length, slice_get, refl, ap}
 use Rattle.std.proofs.lemmas.Option.{slice_get_read}
-use Rattle.network.specs.declared.element.Element.TheVariants.{Box}
 use Rattle.network.proofs.PairLemmas.{outputs_none, outputs_skip, outputs_more, outputs_all}
 use Rattle.network.proofs.pairs.number_places.Goals.{in-Box+in_ok-number_pins, in_default}
 use Rattle.network.proofs.pairs.number_places.Goals as goal

@@ -1,8 +1,8 @@
-use Rattle.std.proofs.Common.{◌≡◌, ◌+◌, ◌≤◌, ◌∙◌, ◌<◌, ℕ, sym, refl, arith, get_or, Some, slice_get, length}
-use Rattle.std.proofs.lemmas.Option.{slice_get-get_or, slice_get_within}
+use Rattle.std.proofs.Common.{◌≡◌, refl, arith, get_or, Some, slice_get}
+use Rattle.std.proofs.lemmas.Option.{slice_get-get_or}
 use Rattle.network.specs.declared.numbering.Spot.{Spot}
 use Rattle.network.proofs.PairLemmas.{pairs_more}
-use Rattle.network.proofs.Neighbours.{no_spot, owned_at}
+use Rattle.network.proofs.Neighbours.{no_spot}
 use Rattle.network.proofs.pairs.push_pairs_from.Goals as goal
 
 pub returns : goal.returns

@@ -1,9 +1,7 @@
-use Rattle.std.proofs.Common.{rules, ◌≡◌, ◌∙◌, ◌+◌, sym, ap, arith}
+use Rattle.std.proofs.Common.{rules, ◌∙◌, sym, arith}
 use denote.Enum.Bare.{same_true, same_false}
 use Rattle.ladder_text.specs.contracts.mark.Mark.{the_type}
-use Rattle.ladder_text.specs.declared.mark.Mark.TheVariants.{Rail}
-use Rattle.ladder_text.specs.Picture.{mark_at}
-use Rattle.network.proofs.RailLemmas.{RailsTo, rails_none, rails_skip, rails_more, rails_all}
+use Rattle.network.proofs.RailLemmas.{rails_none, rails_skip, rails_more, rails_all}
 use Rattle.network.proofs.rails.rails_of.Goals.{then-eq+in_ok-push, else-eq}
 use Rattle.network.proofs.rails.rails_of.Goals as goal
 

@@ -1,4 +1,3 @@
-use Rattle.std.proofs.Common.{◌≡◌}
 use Rattle.network.proofs.RailLemmas.{RailsTo}
 use Rattle.network.proofs.rails.rails_of.Given as goal
 

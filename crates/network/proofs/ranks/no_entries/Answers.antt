@@ -1,4 +1,4 @@
-use Rattle.std.proofs.Common.{◌≡◌, ℕ, ◌+◌, List, [], ◌∷◌, ◌++◌, Option, Some, None, length, slice_get, arith, length-append, ap, ◌∙◌, refl, inl, inr}
+use Rattle.std.proofs.Common.{◌≡◌, ℕ, List, [], ◌∷◌, ◌++◌, Option, Some, None, length, slice_get, arith, length-append, ap, inl, inr}
 use Rattle.network.proofs.Spots.{push_cases}
 use Rattle.network.proofs.ranks.no_entries.Goals as goal
 

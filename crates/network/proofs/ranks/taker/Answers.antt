@@ -1,4 +1,4 @@
-use Rattle.std.proofs.Common.{◌≡◌, ◌∙◌, ◌<◌, ℕ, List, Option, Some, None, IsTrue, false, ap, sym, refl, rules, arith, length, slice_get, get_or, inl, inr}
+use Rattle.std.proofs.Common.{◌≡◌, ◌∙◌, ◌<◌, ℕ, List, Some, IsTrue, false, ap, sym, refl, rules, length, slice_get, inl, inr}
 use Rattle.std.proofs.lemmas.Option.{slice_get_within, slice_get-get_or, get_or_from_slice_get}
 use Rattle.ladder_text.specs.Picture.{Picture, IsSound}
 use Rattle.ladder_text.specs.declared.place.Place.{Place}

@@ -1,4 +1,4 @@
-use Rattle.std.proofs.Common.{◌≡◌, ◌∙◌, ◌+◌, ◌<◌, ℕ, List, Option, Some, None, ap, sym, refl, arith, length, get_or, slice_get, inl, inr}
+use Rattle.std.proofs.Common.{◌≡◌, ◌+◌, Some, refl, arith, get_or, slice_get, inl, inr}
 use Rattle.std.proofs.lemmas.Option.{slice_get-get_or}
 use Rattle.ladder_text.specs.declared.place.Place.{Place}
 use Rattle.network.proofs.TopLemmas.{tops_none, tops_skip, tops_had, tops_more, tops_all}

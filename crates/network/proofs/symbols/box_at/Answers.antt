@@ -1,6 +1,5 @@
-use Rattle.std.proofs.Common.{rules, ◌≡◌, ◌∙◌, ◌<◌, Some, length, slice_get, sym, refl, ap}
+use Rattle.std.proofs.Common.{rules, ◌≡◌, ◌∙◌, ◌<◌, Some, length, slice_get, sym, refl}
 use Rattle.std.proofs.lemmas.Option.{slice_get_within, slice_get_read}
-use Rattle.network.specs.declared.element.Element.TheVariants.{Box}
 use Rattle.network.proofs.Basics.{some_is}
 use Rattle.network.proofs.SymbolLemmas.{box_there, no_box, a_box}
 use Rattle.network.proofs.symbols.box_at.Goals as goal

@@ -1,6 +1,5 @@
-use Rattle.std.proofs.Common.{rules, ◌≡◌, ◌∙◌, ◌<◌, Some, length, slice_get, sym, refl, ap}
+use Rattle.std.proofs.Common.{rules, ◌≡◌, ◌∙◌, ◌<◌, Some, length, slice_get, sym, refl}
 use Rattle.std.proofs.lemmas.Option.{slice_get_within, slice_get_read}
-use Rattle.network.specs.declared.element.Element.TheVariants.{Coil}
 use Rattle.network.proofs.Basics.{some_is}
 use Rattle.network.proofs.SymbolLemmas.{coil_there, no_coil, a_coil}
 use Rattle.network.proofs.symbols.coil_at.Goals as goal

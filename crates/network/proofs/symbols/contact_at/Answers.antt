@@ -1,6 +1,5 @@
-use Rattle.std.proofs.Common.{rules, ◌≡◌, ◌∙◌, ◌<◌, Some, length, slice_get, sym, refl, ap}
+use Rattle.std.proofs.Common.{rules, ◌≡◌, ◌∙◌, ◌<◌, Some, length, slice_get, sym, refl}
 use Rattle.std.proofs.lemmas.Option.{slice_get_within, slice_get_read}
-use Rattle.network.specs.declared.element.Element.TheVariants.{Contact}
 use Rattle.network.proofs.Basics.{some_is}
 use Rattle.network.proofs.SymbolLemmas.{contact_there, no_contact, a_contact}
 use Rattle.network.proofs.symbols.contact_at.Goals as goal

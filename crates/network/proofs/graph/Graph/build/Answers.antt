@@ -1,4 +1,4 @@
-use Rattle.std.proofs.Common.{◌≡◌, ◌∙◌, ℕ, List, Vec, Global, Option, length, sym, ap}
+use Rattle.std.proofs.Common.{◌∙◌, Vec, Global, length, sym}
 use Rattle.ladder_text.specs.Picture.{Picture, IsSound}
 use Rattle.ladder_text.specs.declared.place.Place.{Place}
 use Rattle.network.specs.declared.element.Element.{Element}

@@ -1,0 +1,5 @@
+use Rattle.network.specs.Corners.{AreFirstCorners}
+use Rattle.network.proofs.corners.corners_of.Given as goal
+
+abbrev pub invariant-loop-drawn : goal.invariant-loop-drawn
+invariant-loop-drawn l = AreFirstCorners l.boxes l.corners l.drawn-index

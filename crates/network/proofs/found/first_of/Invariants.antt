@@ -1,6 +1,0 @@
-use Rattle.std.proofs.Common.{◌≡◌}
-use Rattle.network.proofs.FoundLemmas.{FirstTo}
-use Rattle.network.proofs.found.first_of.Given as goal
-
-abbrev pub invariant-loop-place : goal.invariant-loop-place
-invariant-loop-place l = FirstTo l.places l.first l.place-index

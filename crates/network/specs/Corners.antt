@@ -1,0 +1,28 @@
+-- The first corner of the boxes of each name.
+use Rattle.std.specs.Prelude.{◌≡◌, ◌<◌, ◌⊎◌, ℕ, List, Option, Some, None, String, slice_get}
+use Rattle.std.specs.Global.{Global}
+use Rattle.std.specs.BTreeMap.{BTreeMap, get_by_text}
+use Rattle.std.specs.Str.{str_to_ascii_lowercase}
+use Rattle.ladder_text.specs.declared.place.Place.{Place}
+use Rattle.ladder_text.specs.declared.drawn_box.DrawnBox.{DrawnBox}
+use Rattle.network.specs.Links.{place}
+use Rattle.network.specs.Networks.{IsBefore}
+
+-- the corner of one of the first n boxes, whose name in small letters is this
+abbrev pub IsCornerOf : List DrawnBox → ℕ → List ℕ → Place → Type 0
+IsCornerOf boxes n name p = (k : ℕ) × (b : DrawnBox) × (k < n) × (slice_get boxes k ≡ Some b) × (str_to_ascii_lowercase b.instance ≡ name) × (place b.top b.left ≡ p)
+
+-- each name of the first n boxes has the first of their corners, and other names have none
+pub record AreFirstCorners (boxes : List DrawnBox) (corners : BTreeMap (String Global) Place) (n : ℕ) : Type 0 where
+  pub there : (name : List ℕ) (p : Place) → get_by_text corners name ≡ Some p → IsCornerOf boxes n name p
+  pub first : (name : List ℕ) (q : Place) → IsCornerOf boxes n name q → (p : Place) × (get_by_text corners name ≡ Some p) × (IsBefore q p → ⊥)
+
+-- p is the corner that is known where it is earlier, else the other one
+abbrev pub IsEarlier : Option Place → Place → Place → Type 0
+IsEarlier None corner p = p ≡ corner
+IsEarlier (Some known) corner p = (IsBefore known corner × (p ≡ known)) ⊎ ((IsBefore known corner → ⊥) × (p ≡ corner))
+
+-- the name has the earlier of its corner and this one; other names keep theirs
+pub record TakesCorner (old : BTreeMap (String Global) Place) (name : List ℕ) (corner : Place) (new : BTreeMap (String Global) Place) : Type 0 where
+  pub here : (p : Place) × (get_by_text new name ≡ Some p) × IsEarlier (get_by_text old name) corner p
+  pub others : (other : List ℕ) → (other ≡ name → ⊥) → get_by_text new other ≡ get_by_text old other

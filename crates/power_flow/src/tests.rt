@@ -1,0 +1,364 @@
+//! What drawings do, scan by scan, with values taken from the block table and the meaning of a network by hand.
+
+use crate::{BindFault, BindKind, Declarations, Ladder, State};
+use ladder_text::Drawing;
+use network::Graph;
+use std::alloc::Global;
+use std::process::Abort;
+use std::test::Fail;
+use std_blocks::Value;
+
+const START_STOP: &str =
+    "|  START      STOP     RUN\n+--| |----+---|/|------( )\n|  RUN    |\n+--| |----+\n";
+
+const RISING_CONTACT: &str = "|  A    B     Y\n+--| |--|P|---( )\n";
+
+const ON_DELAY: &str = "|             T1
+|         +-------+
+|  GO     |  TON  |   Y
++--| |----|IN    Q|---( )
+| T#30ms--|PT   ET|--E
+|         +-------+
+";
+
+const UP_COUNTER: &str = "|             C1
+|         +-------+
+|  UP     |  CTU  |   FULL
++--| |----|CU    Q|---( )
+|    CLR--|R    CV|--N
+|  32767--|PV     |
+|         +-------+
+";
+
+/// The ladder of a drawing, its names declared by their use; or the first fault of its names.
+fn bind(alloc: Global, drawing: &str) -> Result<Result<Ladder, BindFault>, Fail> {
+    let drawing = Drawing::read(alloc, drawing, 1).ok().ok_or("not drawn")?;
+    let graph = Graph::build(alloc, &drawing).ok().ok_or("no networks")?;
+    let declarations = Declarations::guess(alloc, &graph)?;
+    Ok(Ladder::bind(alloc, graph, declarations))
+}
+
+fn ladder_of(alloc: Global, drawing: &str) -> Result<Ladder, Fail> {
+    let ladder = bind(alloc, drawing)?.ok().ok_or("not bound")?;
+    Ok(ladder)
+}
+
+/// Sets a BOOL by its name.
+fn set(rt: &impl Abort, ladder: &Ladder, state: &mut State, name: &str, on: bool) {
+    let is_set = match ladder.place(name) {
+        Some(place) => state.set(place, Value::Bool(on)),
+        None => false,
+    };
+    assert!(rt; is_set, "no BOOL {name}");
+}
+
+/// The value of a variable by its name: 0 or 1, an INT, or milliseconds.
+fn number(ladder: &Ladder, state: &State, name: &str) -> Option<i64> {
+    match state.get(ladder.place(name)?)? {
+        Value::Bool(on) => Some(i64::from(on)),
+        Value::Int(number) => Some(i64::from(number)),
+        Value::Time(time) => Some(i64::from(time)),
+    }
+}
+
+fn scan(rt: &impl Abort, ladder: &Ladder, state: &mut State, dt: u32) {
+    assert!(rt; ladder.fits(state));
+    ladder.scan(state, dt);
+}
+
+/// Scans a drawing, dt milliseconds apart: before scan k each BOOL is set to its k-th digit, and after it each variable has its k-th value.
+fn compare(
+    rt: &impl Abort,
+    alloc: Global,
+    drawing: &str,
+    dt: u32,
+    digits: &[(&str, &str)],
+    shown: &[(&str, &[i64])],
+) -> Result<(), Fail> {
+    let ladder = ladder_of(alloc, drawing)?;
+    let mut state = ladder.initial(alloc)?;
+    let scans = match shown {
+        [(_, values), ..] => values.len(),
+        [] => 0,
+    };
+    for k in 0..scans {
+        for &(name, row) in digits {
+            set(
+                rt,
+                &ladder,
+                &mut state,
+                name,
+                row.as_bytes().get(k) == Some(&b'1'),
+            );
+        }
+        scan(rt, &ladder, &mut state, dt);
+        for &(name, values) in shown {
+            assert_eq!(rt;
+                number(&ladder, &state, name),
+                values.get(k).copied(),
+                "{name}, scan {k}"
+            );
+        }
+    }
+    Ok(())
+}
+
+#[test]
+fn a_start_stop_circuit_holds_itself(rt: HostRuntime) -> Result<(), Fail> {
+    let digits = [("START", "100"), ("STOP", "001")];
+    compare(
+        &rt,
+        rt.alloc(),
+        START_STOP,
+        0,
+        &digits,
+        &[("RUN", &[1, 1, 0])],
+    )
+}
+
+#[test]
+fn a_rising_contact_conducts_for_one_scan(rt: HostRuntime) -> Result<(), Fail> {
+    for (a, shown) in [("11", [1, 0]), ("01", [0, 0])] {
+        let digits = [("A", a), ("B", "11")];
+        compare(
+            &rt,
+            rt.alloc(),
+            RISING_CONTACT,
+            0,
+            &digits,
+            &[("Y", &shown)],
+        )?;
+    }
+    Ok(())
+}
+
+#[test]
+fn latches_by_their_dominant_input(rt: HostRuntime) -> Result<(), Fail> {
+    let set_dominant = "|            B1
+|          +--------+
+|   A      |  SR    |
++---| |----|S1    Q1|--Y
+|       B--|R       |
+|          +--------+
+";
+    let reset_dominant = "|            B1
+|          +--------+
+|   A      |  RS    |
++---| |----|S     Q1|--Y
+|       B--|R1      |
+|          +--------+
+";
+    for (drawing, on) in [(set_dominant, 1), (reset_dominant, 0)] {
+        let digits = [("A", "1"), ("B", "1")];
+        compare(&rt, rt.alloc(), drawing, 0, &digits, &[("Y", &[on])])?;
+    }
+    Ok(())
+}
+
+#[test]
+fn a_down_counter_counts_from_its_preset(rt: HostRuntime) -> Result<(), Fail> {
+    let drawing = "|            B1
+|          +--------+
+|   A      |  CTD   |
++---| |----|CD     Q|--Y
+|       B--|LD    CV|--N
+|       2--|PV      |
+|          +--------+
+";
+    let digits = [("A", "0101"), ("B", "1000")];
+    let shown: [(&str, &[i64]); 2] = [("N", &[2, 1, 1, 0]), ("Y", &[0, 0, 0, 1])];
+    compare(&rt, rt.alloc(), drawing, 0, &digits, &shown)
+}
+
+#[test]
+fn an_up_down_counter_stays_where_both_rise(rt: HostRuntime) -> Result<(), Fail> {
+    let drawing = "|            B1
+|          +--------+
+|   A      |  CTUD  |
++---| |----|CU    QU|--Y
+|       B--|CD    QD|--Z
+|       1--|PV    CV|--N
+|          +--------+
+";
+    let digits = [("A", "1011"), ("B", "0010")];
+    let shown: [(&str, &[i64]); 1] = [("N", &[1, 1, 1, 1])];
+    compare(&rt, rt.alloc(), drawing, 0, &digits, &shown)
+}
+
+#[test]
+fn an_off_delay_and_a_pulse(rt: HostRuntime) -> Result<(), Fail> {
+    let off_delay = "|            B1
+|          +--------+
+|   A      |  TOF   |
++---| |----|IN     Q|--Y
+|  T#20ms--|PT    ET|--E
+|          +--------+
+";
+    let pulse = "|            B1
+|          +--------+
+|   A      |  TP    |
++---| |----|IN     Q|--Y
+|  T#20ms--|PT    ET|--E
+|          +--------+
+";
+    let off_delayed: [(&str, &[i64]); 2] = [("Y", &[1, 1, 1, 0]), ("E", &[0, 0, 10, 20])];
+    compare(
+        &rt,
+        rt.alloc(),
+        off_delay,
+        10,
+        &[("A", "1000")],
+        &off_delayed,
+    )?;
+    let pulsed: [(&str, &[i64]); 2] = [("Y", &[1, 1, 0, 0]), ("E", &[0, 10, 20, 20])];
+    compare(&rt, rt.alloc(), pulse, 10, &[("A", "1011")], &pulsed)
+}
+
+#[test]
+fn an_on_delay_and_its_output_one_network_later(rt: HostRuntime) -> Result<(), Fail> {
+    let mut drawing = String::from_str(rt.alloc(), ON_DELAY)?;
+    drawing.push_str("|  T1.Q   Z\n+--| |----( )\n")?;
+    let shown: [(&str, &[i64]); 3] = [
+        ("Y", &[0, 0, 0, 1]),
+        ("E", &[0, 10, 20, 30]),
+        ("Z", &[0, 0, 0, 1]),
+    ];
+    compare(
+        &rt,
+        rt.alloc(),
+        drawing.as_str(),
+        10,
+        &[("GO", "1111")],
+        &shown,
+    )
+}
+
+#[test]
+fn an_on_delay_of_zero_turns_on_at_once(rt: HostRuntime) -> Result<(), Fail> {
+    let drawing = "|             T1
+|         +-------+
+|  GO     |  TON  |   Y
++--| |----|IN    Q|---( )
+| T#0ms---|PT   ET|--E
+|         +-------+
+";
+    let shown: [(&str, &[i64]); 2] = [("Y", &[1]), ("E", &[0])];
+    compare(&rt, rt.alloc(), drawing, 10, &[("GO", "1")], &shown)
+}
+
+/// Turns UP on and off again, with a scan after each.
+fn count_up(rt: &impl Abort, ladder: &Ladder, state: &mut State) {
+    for on in [true, false] {
+        set(rt, ladder, state, "UP", on);
+        scan(rt, ladder, state, 0);
+    }
+}
+
+#[test]
+fn an_up_counter_stops_at_the_greatest_number(rt: HostRuntime) -> Result<(), Fail> {
+    let ladder = ladder_of(rt.alloc(), UP_COUNTER)?;
+    let mut state = ladder.initial(rt.alloc())?;
+    for _ in 0..32_766 {
+        count_up(&rt, &ladder, &mut state);
+    }
+    assert_eq!(rt; number(&ladder, &state, "N"), Some(32_766));
+    assert_eq!(rt; number(&ladder, &state, "FULL"), Some(0));
+    for _ in 0..2 {
+        count_up(&rt, &ladder, &mut state);
+        assert_eq!(rt; number(&ladder, &state, "N"), Some(32_767));
+        assert_eq!(rt; number(&ladder, &state, "FULL"), Some(1));
+    }
+    set(&rt, &ladder, &mut state, "UP", true);
+    set(&rt, &ladder, &mut state, "CLR", true);
+    scan(&rt, &ladder, &mut state, 0);
+    assert_eq!(rt; number(&ladder, &state, "N"), Some(0));
+    assert_eq!(rt; number(&ladder, &state, "FULL"), Some(0));
+    Ok(())
+}
+
+#[test]
+fn faults_of_names_stand_at_their_places(rt: HostRuntime) -> Result<(), Fail> {
+    let too_large = "|             T1
+|         +-------+
+|  GO     |  TON  |   Y
++--| |----|IN    Q|---( )
+| T#30d---|PT   ET|--E
+|         +-------+
+";
+    let unknown_pin = "|             T1
+|         +-------+
+|  GO     |  TON  |   Y
++--| |----|IN    Q|---( )
+| T#30ms--|PX   ET|--E
+|         +-------+
+";
+    for (drawing, kind, column) in [
+        (too_large, BindKind::LiteralOutOfRange, 3),
+        (unknown_pin, BindKind::UnknownPin, 11),
+    ] {
+        let fault = BindFault {
+            kind,
+            line: 5,
+            column,
+        };
+        assert_eq!(rt; bind(rt.alloc(), drawing)?.err(), Some(fault));
+    }
+    Ok(())
+}
+
+#[test]
+fn a_copy_of_a_state_is_the_same(rt: HostRuntime) -> Result<(), Fail> {
+    let ladder = ladder_of(rt.alloc(), START_STOP)?;
+    let mut state = ladder.initial(rt.alloc())?;
+    set(&rt, &ladder, &mut state, "START", true);
+    scan(&rt, &ladder, &mut state, 0);
+    let mut copy = state.try_copy()?;
+    assert!(rt; copy.same(&state));
+    for (name, shown) in [("START", 1), ("STOP", 0), ("RUN", 1)] {
+        assert_eq!(rt; number(&ladder, &copy, name), Some(shown));
+    }
+    set(&rt, &ladder, &mut copy, "STOP", true);
+    assert!(rt; !copy.same(&state));
+    Ok(())
+}
+
+#[test]
+fn states_that_differ_where_no_variable_shows_it(rt: HostRuntime) -> Result<(), Fail> {
+    for (drawing, name) in [(RISING_CONTACT, "B"), (ON_DELAY, "GO")] {
+        let ladder = ladder_of(rt.alloc(), drawing)?;
+        let first = ladder.initial(rt.alloc())?;
+        let mut state = first.try_copy()?;
+        set(&rt, &ladder, &mut state, name, true);
+        scan(&rt, &ladder, &mut state, 10);
+        set(&rt, &ladder, &mut state, name, false);
+        for place in 0..ladder.declarations().len() {
+            assert_eq!(rt; state.get(place), first.get(place));
+        }
+        assert!(rt; !state.same(&first), "{name} leaves a mark");
+    }
+    Ok(())
+}
+
+#[test]
+fn ladders_of_one_drawing_are_the_same(rt: HostRuntime) -> Result<(), Fail> {
+    let ladder = ladder_of(rt.alloc(), ON_DELAY)?;
+    assert!(rt; ladder.same(&ladder_of(rt.alloc(), ON_DELAY)?));
+    let other_preset = "|             T1
+|         +-------+
+|  GO     |  TON  |   Y
++--| |----|IN    Q|---( )
+| T#40ms--|PT   ET|--E
+|         +-------+
+";
+    let other_case = "|             T1
+|         +-------+
+|  go     |  TON  |   Y
++--| |----|IN    Q|---( )
+| T#30ms--|PT   ET|--E
+|         +-------+
+";
+    for drawing in [START_STOP, other_preset, other_case] {
+        assert!(rt; !ladder.same(&ladder_of(rt.alloc(), drawing)?));
+    }
+    Ok(())
+}
