@@ -1,0 +1,43 @@
+-- Lists of what a resource declares, one item more at a time, and what is found in a draft.
+use Rattle.std.proofs.Common.{◌≡◌, ℕ, ◌+◌, ◌<◌, List, [], ◌∷◌, ◌++◌, Bool, Option, Some, None, IsTrue, length, map, take, get_or, refl, sym, ap, ◌∙◌}
+use Rattle.std.specs.Borrow.{Bor}
+use Rattle.std.specs.Prelude.{slice_get, IfSome}
+use Rattle.std.specs.List.{flat_map, filter}
+use Rattle.std.proofs.lemmas.List.{take_more, map-append, flat_map_more}
+use Rattle.std.proofs.lemmas.List.Elements.{filter-append}
+use Rattle.power_flow.specs.declared.declarations.Kind.{Kind}
+use Rattle.power_flow.specs.Names.{place_of}
+use Rattle.plant.specs.declared.tree.Use.{Use}
+use Rattle.plant.specs.declared.tree.Item.{Item}
+use Rattle.plant.specs.declared.tree.Item.TheVariants as item
+use Rattle.plant.specs.Names.{is_named}
+use Rattle.plant.specs.Faultless.{use_of}
+use Rattle.plant.specs.Reading.{TypeValue}
+use Rattle.plant.specs.PlantValue.{ProgramValue, CodeValue}
+use Rattle.plant.specs.Drafts.{programs_in, IsTypeAt, IsProgramOf, IsPlacedAt, IsOutputAt}
+use Rattle.plant.proofs.NameLemmas.{at_place}
+
+-- an instance that the task runs is added
+pub run_pushed : (olds news : List (Bor Use)) (u : Bor Use) (x : Item) (task : List ℕ) → news ≡ olds ++ u ∷ [] → x ≡ item.Use u.now → IsTrue (is_named u.now.task task)
+    → map (λ (v : Bor Use). v.now) news ≡ map (λ (v : Bor Use). v.now) olds ++ filter (λ (v : Use). is_named v.task task) (use_of x)
+run_pushed olds news u x task e is named = rw (e, map-append (λ (v : Bor Use). v.now) olds (u ∷ []), is, named) refl
+
+-- one more line of a resource
+pub runs_more : (p : Use → Bool) (items : List Item) (i : ℕ) (x : Item) (olds news : List Use) → i < length items → x ≡ get_or items i x
+    → olds ≡ filter p (flat_map use_of (take i items)) → news ≡ olds ++ filter p (use_of x) → news ≡ filter p (flat_map use_of (take (i + 1) items))
+runs_more p items i x olds news lt is e f =
+    let front : take (i + 1) items ≡ take i items ++ x ∷ [] = take_more items i x lt ∙ ap (λ y. take i items ++ y ∷ []) (sym is) in
+    let flat : flat_map use_of (take (i + 1) items) ≡ flat_map use_of (take i items) ++ use_of x = ap (flat_map use_of) front ∙ sym (flat_map_more use_of [] (take i items) x) in
+    rw (flat, filter-append p (flat_map use_of (take i items)) (use_of x)) (f ∙ ap (λ l. l ++ filter p (use_of x)) e)
+
+-- a program of a type that was found
+pub program_made : (types : List TypeValue) (u : Use) (t : TypeValue) (p : ProgramValue) → IsTypeAt types u.program t → p.name ≡ u.instance → p.ladder ≡ t.ladder → IsProgramOf (programs_in types) u p
+program_made types u t p at named same = record { name_is = named; place = at.place; type = t.program; type_is = at.type_is; ladder_is = rw same at.ladder_is }
+
+-- an output that was found by its place
+pub output_found : (c : CodeValue) (program : ℕ) (name : List ℕ) (owner : ProgramValue) (place : ℕ) (r : Option (ℕ × Kind)) → slice_get c.programs program ≡ Some owner
+    → place_of owner.ladder.declarations name ≡ Some place → IfSome r (λ x. IsPlacedAt c.outputs program place x.0 x.1) → IfSome r (λ x. IsOutputAt c program name x.0 x.1)
+output_found c program name owner place None own at given = tt
+output_found c program name owner place (Some x) own at given =
+    let v = at_place owner.ladder.declarations name place at in
+    record { owner = owner; place = place; variable = v.0; owner_is = own; variable_is = v.1; given_is = given }

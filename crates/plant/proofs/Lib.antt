@@ -1,0 +1,24 @@
+pub mod GapLemmas
+pub mod WordLemmas
+pub mod FrontLemmas
+pub mod LineLemmas
+pub mod SpellingLemmas
+pub mod ImageLemmas
+pub mod NameLemmas
+pub mod Zips
+pub mod DraftLemmas
+pub mod ProducerLemmas
+pub mod LinkLemmas
+pub mod StandLemmas
+pub mod FindLemmas
+mod Moments
+mod Ordered
+mod Planned
+pub mod Apart
+pub mod WordLists
+pub mod ItemLemmas
+pub mod TypeLemmas
+pub mod VariableLemmas
+pub mod TreeLemmas
+pub mod KnownWords
+pub mod SameCode

@@ -1,0 +1,98 @@
+-- Lists in order, and what stands in them.
+use Rattle.std.proofs.Common.{◌≡◌, ℕ, zero, suc, ◌<◌, Bool, true, false, cond, List, [], ◌∷◌, ◌++◌, length, get_or, map, All, refl, sym, ap, subst, ◌∙◌, ◌⊎◌, inl, inr, arith}
+use Rattle.std.specs.Prelude.{AllPairs, Contains}
+use Rattle.std.specs.List.{filter}
+use Rattle.std.specs.Cmp.{IsTotalOrder}
+use Rattle.std.specs.Ordering.{ordering_reverse}
+use Rattle.std.specs.declared.cmp.Ordering.{Ordering}
+use Rattle.std.specs.declared.cmp.Ordering.TheVariants.{Less, Equal, Greater}
+use Rattle.std.proofs.lemmas.List.{length-map, get_or-map}
+use Rattle.std.proofs.lemmas.List.Elements.{All-append, All-map, All-head, All-tail}
+use Rattle.std.proofs.lemmas.List.Kept.{AllPairs-cons}
+use Rattle.std.proofs.lemmas.Cmp.{tied_itself}
+
+pub pairs_head : {X : Type 0} (R : X → X → Type 0) (x : X) (xs : List X) → AllPairs R (x ∷ xs) → All (R x) xs
+pairs_head R x xs pairs = λ k d lt. pairs 0 (suc k) d (omega arith) (omega (arith, lt))
+
+pub pairs_tail : {X : Type 0} (R : X → X → Type 0) (x : X) (xs : List X) → AllPairs R (x ∷ xs) → AllPairs R xs
+pairs_tail R x xs pairs = λ i j d lt below. pairs (suc i) (suc j) d (omega (arith, lt)) (omega (arith, below))
+
+-- each of the one list before each of the other
+pub pairs_append : {X : Type 0} (R : X → X → Type 0) (xs ys : List X) → AllPairs R xs → AllPairs R ys → All (λ x. All (R x) ys) xs → AllPairs R (xs ++ ys)
+pairs_append R [] ys first second across = second
+pairs_append R (x ∷ xs) ys first second across =
+    AllPairs-cons R x (xs ++ ys) (All-append (R x) xs ys (pairs_head R x xs first) (All-head (λ z. All (R z) ys) x xs across))
+    (pairs_append R xs ys (pairs_tail R x xs first) second (All-tail (λ z. All (R z) ys) x xs across))
+
+pub pairs_map : {X Y : Type 0} (R : Y → Y → Type 0) (f : X → Y) (xs : List X) → AllPairs (λ a b. R (f a) (f b)) xs → AllPairs R (map f xs)
+pairs_map R f [] pairs = λ i j d lt below. absurd (omega (arith, below))
+pairs_map R f (x ∷ xs) pairs =
+    AllPairs-cons R (f x) (map f xs) (All-map (R (f x)) f xs (pairs_head (λ a b. R (f a) (f b)) x xs pairs)) (pairs_map R f xs (pairs_tail (λ a b. R (f a) (f b)) x xs pairs))
+
+pub contains_map : {X Y : Type 0} (f : X → Y) (xs : List X) (x : X) → Contains xs x → Contains (map f xs) (f x)
+contains_map f xs x there = (there.0, simp length-map there.1, get_or-map f xs there.0 x (f x) there.1 ∙ ap f there.2)
+
+further : {X : Type 0} (y : X) (ys : List X) (x : X) → Contains ys x → Contains (y ∷ ys) x
+further y ys x there = (suc there.0, omega (arith, there.1), there.2)
+
+filter_at : {X : Type 0} (p : X → Bool) (xs : List X) (k : ℕ) (x : X) → k < length xs → get_or xs k x ≡ x → p x ≡ true → Contains (filter p xs) x
+filter_at p [] k x lt is passes = absurd (omega (arith, lt))
+filter_at p (y ∷ ys) zero x lt is passes = let here : p y ≡ true = ap p is ∙ passes in rw here (0, omega arith, is)
+filter_at p (y ∷ ys) (suc k) x lt is passes =
+    let more = filter_at p ys k x (omega (arith, lt)) is passes in
+    elim (p y) as (λ b. Contains (cond b (y ∷ filter p ys) (filter p ys)) x) [ true ↦ further y (filter p ys) x more | false ↦ more ]
+
+pub contains_filter : {X : Type 0} (p : X → Bool) (xs : List X) (x : X) → Contains xs x → p x ≡ true → Contains (filter p xs) x
+contains_filter p xs x there passes = filter_at p xs there.0 x there.1 there.2 passes
+
+-- the first element, or one of the others
+cases_at : {X : Type 0} (y : X) (ys : List X) (k : ℕ) (x : X) → k < length (y ∷ ys) → get_or (y ∷ ys) k x ≡ x → (y ≡ x) ⊎ Contains ys x
+cases_at y ys zero x lt is = inl is
+cases_at y ys (suc k) x lt is = inr (k, omega (arith, lt), is)
+
+contains_cases : {X : Type 0} (y : X) (ys : List X) (x : X) → Contains (y ∷ ys) x → (y ≡ x) ⊎ Contains ys x
+contains_cases y ys x there = cases_at y ys there.0 x there.1 there.2
+
+here : {X : Type 0} (y : X) (ys : List X) → Contains (y ∷ ys) y
+here y ys = (0, omega arith, refl)
+
+none_here : {X : Type 0} (x : X) → Contains [] x → ⊥
+none_here x there = omega (arith, there.1)
+
+-- the first stands before each of the others
+after_first : {X : Type 0} (R : X → X → Ordering) (y : X) (ys : List X) (x : X) → AllPairs (λ a b. R a b ≡ Less) (y ∷ ys) → Contains ys x → R y x ≡ Less
+after_first R y ys x pairs there = subst (λ z. R y z ≡ Less) there.2 (pairs_head (λ a b. R a b ≡ Less) y ys pairs there.0 x there.1)
+
+not_both : {X : Type 0} (R : X → X → Ordering) → IsTotalOrder R → (x y : X) → R x y ≡ Less → R y x ≡ Less → ⊥
+not_both R o x y one other = let flips = o.antisymm x y in let e : Less ≡ Greater = sym one ∙ flips ∙ ap (λ r. ordering_reverse r) other in cc
+
+not_itself : {X : Type 0} (R : X → X → Ordering) → IsTotalOrder R → (x : X) → R x x ≡ Less → ⊥
+not_itself R o x less = let e : Less ≡ Equal = sym less ∙ tied_itself o x in cc
+
+same_first : {X : Type 0} (R : X → X → Ordering) → IsTotalOrder R → (x y : X) (xs ys : List X) → AllPairs (λ a b. R a b ≡ Less) (x ∷ xs) → AllPairs (λ a b. R a b ≡ Less) (y ∷ ys)
+    → Contains (y ∷ ys) x → Contains (x ∷ xs) y → x ≡ y
+same_first R o x y xs ys rising rising' in-ys in-xs =
+    elim (contains_cases y ys x in-ys) [
+      | inl e ↦ sym e
+      | inr later ↦ elim (contains_cases x xs y in-xs) [ inl e ↦ e | inr later' ↦ absurd (not_both R o x y (after_first R x xs y rising later') (after_first R y ys x rising' later)) ]
+    ]
+
+rest_in : {X : Type 0} (R : X → X → Ordering) → IsTotalOrder R → (x y : X) (xs ys : List X) → x ≡ y → AllPairs (λ a b. R a b ≡ Less) (x ∷ xs)
+    → ((z : X) → Contains (x ∷ xs) z → Contains (y ∷ ys) z) → (z : X) → Contains xs z → Contains ys z
+rest_in R o x y xs ys same rising within z there =
+    elim (contains_cases y ys z (within z (further x xs z there))) [
+      | inl e ↦ absurd (not_itself R o z (subst (λ w. R w z ≡ Less) (same ∙ e) (after_first R x xs z rising there)))
+      | inr later ↦ later
+    ]
+
+-- rising lists of the same elements are one
+pub rising_same : {X : Type 0} (R : X → X → Ordering) → IsTotalOrder R → (xs ys : List X) → AllPairs (λ a b. R a b ≡ Less) xs → AllPairs (λ a b. R a b ≡ Less) ys
+    → ((z : X) → Contains xs z → Contains ys z) → ((z : X) → Contains ys z → Contains xs z) → xs ≡ ys
+rising_same R o [] [] rising rising' within within' = refl
+rising_same R o [] (y ∷ ys) rising rising' within within' = absurd (none_here y (within' y (here y ys)))
+rising_same R o (x ∷ xs) [] rising rising' within within' = absurd (none_here x (within x (here x xs)))
+rising_same R o (x ∷ xs) (y ∷ ys) rising rising' within within' =
+    let same = same_first R o x y xs ys rising rising' (within x (here x xs)) (within' y (here y ys)) in
+    let rest = rising_same R o xs ys (pairs_tail (λ a b. R a b ≡ Less) x xs rising) (pairs_tail (λ a b. R a b ≡ Less) y ys rising')
+    (rest_in R o x y xs ys same rising within) (rest_in R o y x ys xs (sym same) rising' within') in
+    rw (same, rest) refl

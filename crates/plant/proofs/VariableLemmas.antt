@@ -1,0 +1,36 @@
+-- A program's variables, one by one.
+use Rattle.std.proofs.Common.{◌≡◌, ℕ, ◌<◌, ◌≤◌, ◌++◌, map, List, [], ◌∷◌, length, subst, sym, arith, Result, Ok, Err}
+use Rattle.std.specs.Prelude.{OnOk, OnErr, All}
+use Rattle.power_flow.specs.declared.declarations.Declaration.{Declaration}
+use Rattle.power_flow.specs.declared.declarations.Declared.{Declared}
+use Rattle.power_flow.specs.declared.declarations.DeclareFault.{DeclareFault}
+use Rattle.power_flow.specs.declared.declarations.DeclareFault.TheVariants.{Twice}
+use Rattle.power_flow.specs.Names.{IsDeclared}
+use Rattle.power_flow.specs.LadderValue.{LadderValue}
+use Rattle.plant.specs.declared.tree.Program.{Program}
+use Rattle.plant.specs.Faultless.{variables, IsBlockLawful, IsLadderOf, IsProgramLawful}
+use Rattle.plant.specs.Names.{AreApart}
+use Rattle.plant.specs.ReadParts.{AreVariables}
+use Rattle.plant.proofs.Apart.{named_back, any_with, apart_more}
+use Rattle.plant.proofs.WordLists.{grown}
+
+-- what was declared at the end is new, or nothing was
+pub variables_more : (old new : List Declaration) (name : List ℕ) (declared : Declared) (r : Result (Unit {0}) DeclareFault) → OnOk r (new ≡ old ++ record { name = name; declared = declared } ∷ []) → (IsDeclared old name → r ≡ Err Twice) → OnErr r (new ≡ old)
+    → AreVariables old → length old < 1000 → AreVariables new
+variables_more old new name declared (Ok u) ok twice err are room =
+    let d : Declaration = record { name = name; declared = declared } in
+    record {
+      apart = apart_more (λ (v : Declaration). v.name) old new d ok are.apart (λ some. let no : Ok u ≡ Err Twice = twice (any_with _ _ old (λ v h. named_back name v.name h) some) in absurd cc);
+      few = omega (arith, room, grown old new d ok);
+    }
+variables_more old new name declared (Err e) ok twice err are room = subst AreVariables (sym err) are
+
+-- a program whose variables and blocks are lawful, and which has a ladder
+pub program_lawful : (p : Program) (ds : List Declaration) (l : LadderValue) → ds ≡ variables p → AreVariables ds → All IsBlockLawful p.blocks.items → IsLadderOf p l → IsProgramLawful p
+program_lawful p ds l is are blocks drawn = record {
+  apart = subst (λ vs. AreApart (map (λ (v : Declaration). v.name) vs)) is are.apart;
+  few = subst (λ vs. length vs ≤ 1000) is are.few;
+  blocks_are = blocks;
+  ladder = l;
+  drawn = drawn;
+}

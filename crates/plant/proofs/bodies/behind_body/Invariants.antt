@@ -1,0 +1,9 @@
+use Rattle.std.proofs.Common.{ℕ, List, length}
+use Rattle.plant.specs.Lexing.{IsBehindBody}
+use Rattle.plant.proofs.bodies.behind_body.Given as goal
+
+abbrev pub invariant-lines : goal.invariant-lines
+invariant-lines l = (r : List ℕ) → IsBehindBody l.rest r → IsBehindBody l.text r
+
+abbrev pub decreases-lines : goal.decreases-lines
+decreases-lines l = length l.rest

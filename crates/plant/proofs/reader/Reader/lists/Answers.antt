@@ -1,0 +1,18 @@
+use Rattle.plant.specs.Faultless.{list_variables, IsListLawful}
+use Rattle.plant.specs.Grammar.{list_words}
+use Rattle.plant.proofs.WordLists.{words_more, declared_more, all_more, lists_done}
+use Rattle.plant.proofs.reader.Reader.lists.Goals as goal
+
+pub lists-preserved : goal.lists-preserved
+lists-preserved c = record {
+  words = words_more list_words c.lists.lists.items c.push.new.self.items c.in_ok-list.list c.args.self.now c.lists.self c.list.new.self c.in_ok-push.ensures.items c.lists.invariant.words c.in_ok-list.ensures.ok;
+  declared = declared_more (list_variables c.args.section) c.lists.lists.items c.push.new.self.items c.in_ok-list.list c.args.variables.now c.lists.variables c.list.new.variables c.in_ok-push.ensures.items c.lists.invariant.declared c.in_ok-list.ensures.declared;
+  lawful = all_more (IsListLawful c.args.section) c.lists.lists.items c.push.new.self.items c.in_ok-list.list c.in_ok-push.ensures.items c.lists.invariant.lawful c.in_ok-list.ensures.lawful;
+}
+
+pub returns : goal.returns
+returns c = record {
+  ok = lists_done c.lists.lists.items c.args.self.now c.lists.self c.keyword.new.self c.lists.invariant.words c.in_ok-keyword.ensures.ok;
+  declared = c.lists.invariant.declared;
+  lawful = c.lists.invariant.lawful;
+}

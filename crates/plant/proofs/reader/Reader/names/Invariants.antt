@@ -1,0 +1,12 @@
+use Rattle.std.proofs.Common.{◌≡◌, ◌++◌, ◌<◌, length}
+use Rattle.plant.specs.Grammar.{name_words}
+use Rattle.plant.proofs.reader.Reader.names.Given as goal
+
+abbrev pub invariant-names : goal.invariant-names
+invariant-names l = record {
+  some : 0 < length l.names.items;
+  words : l.fn.self ≡ name_words l.names.items ++ l.self;
+}
+
+abbrev pub decreases-names : goal.decreases-names
+decreases-names l = length l.self

@@ -1,0 +1,7 @@
+use Rattle.std.proofs.Common.{subst, sym}
+use Rattle.plant.specs.Reading.{TypeValue}
+use Rattle.plant.specs.ReadParts.{IsNew}
+use Rattle.plant.proofs.reader.Reader.program.Goals as goal
+
+pub returns-clause-new : goal.returns-clause-new
+returns-clause-new c = subst (λ (t : TypeValue). IsNew (λ (x : TypeValue). x.program.name) c.args.before.now t.program.name) (sym c.new-2.ensures) c.in_ok-name.ensures.new

@@ -1,0 +1,9 @@
+use Rattle.ladder_text.specs.Rows.{without_last}
+use Rattle.plant.proofs.SpellingLemmas.{read_next, read_all}
+use Rattle.plant.proofs.words.read_words.Goals as goal
+
+pub words-preserved : goal.words-preserved
+words-preserved c = read_next (without_last 13 c.args.text.now) c.words.words.items c.push.new.self.items c.in-Some.word c.words.lexer c.next.new.self c.in_ok-push.ensures.items c.words.invariant (rw c.in-Some.is at c.in_ok-word.ensures.word)
+
+pub returns : goal.returns
+returns c = read_all (without_last 13 c.args.text.now) c.words.words.items c.words.lexer c.words.invariant (rw c.in_default.is at c.in_ok-word.ensures.word)

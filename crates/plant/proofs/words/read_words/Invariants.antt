@@ -1,0 +1,10 @@
+use Rattle.std.proofs.Common.{length}
+use Rattle.ladder_text.specs.Rows.{without_last}
+use Rattle.plant.proofs.SpellingLemmas.{IsReadTo}
+use Rattle.plant.proofs.words.read_words.Given as goal
+
+abbrev pub invariant-words : goal.invariant-words
+invariant-words l = IsReadTo (without_last 13 l.text) l.words.items l.lexer
+
+abbrev pub decreases-words : goal.decreases-words
+decreases-words l = length l.lexer

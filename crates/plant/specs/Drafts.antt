@@ -1,0 +1,181 @@
+-- What is known of a plant while its sources are resolved. Its codes have programs and outputs, and no bindings yet.
+use Rattle.std.specs.Prelude.{◌≡◌, ℕ, ◌<◌, List, [], ◌∷◌, map, slice_get, length, Some, All, Contains}
+use Rattle.std.specs.List.{flat_map, AllZip}
+use Rattle.power_flow.specs.declared.declarations.Kind.{Kind}
+use Rattle.power_flow.specs.declared.declarations.Declaration.{Declaration}
+use Rattle.power_flow.specs.Names.{place_of}
+use Rattle.plant.specs.declared.binding.Source.{Source}
+use Rattle.plant.specs.declared.binding.Source.TheVariants as source
+use Rattle.plant.specs.declared.binding.Binding.{Binding}
+use Rattle.plant.specs.declared.task_ref.TaskRef.{TaskRef}
+use Rattle.plant.specs.declared.task_output.TaskOutput.{TaskOutput}
+use Rattle.plant.specs.declared.tree.Program.{Program}
+use Rattle.plant.specs.declared.tree.TaskLine.{TaskLine}
+use Rattle.plant.specs.declared.tree.SourceName.{SourceName}
+use Rattle.plant.specs.declared.tree.SourceName.TheVariants as named
+use Rattle.plant.specs.declared.tree.Bind.{Bind}
+use Rattle.plant.specs.declared.tree.Use.{Use}
+use Rattle.plant.specs.declared.tree.Resource.{Resource}
+use Rattle.plant.specs.declared.feed.Origin.{Origin}
+use Rattle.plant.specs.declared.feed.Origin.TheVariants as origin
+use Rattle.plant.specs.declared.feed.Feed.{Feed}
+use Rattle.plant.specs.Names.{IsAt, AreApart}
+use Rattle.plant.specs.Faultless.{IsLadderOf, tasks_of, uses_of, binds_of}
+use Rattle.plant.specs.Reading.{TypeValue}
+use Rattle.plant.specs.PlantValue.{ProgramValue, CodeValue, ResourceValue, PlantValue, code_at, image_kinds, outputs_of, input_kind_at, kind_of_space, source_kind, bindings_at, IsSoundCode, AreProducersOf}
+use Rattle.plant.specs.StandsFor.{runs_in, IsOrigin, IsSourceOf, firsts, mention, task_value}
+
+-- the plant that drafts of resources are
+abbrev pub drafted : List ResourceValue → PlantValue
+drafted rs = record { resources = rs }
+
+-- the programs of types
+abbrev pub programs_in : List TypeValue → List Program
+programs_in types = map (λ (t : TypeValue). t.program) types
+
+-- a type of this name, and its ladder
+pub record IsTypeAt (types : List TypeValue) (name : List ℕ) (t : TypeValue) : Type 0 where
+  pub place : ℕ
+  pub type_is : IsAt (λ (t : Program). t.name) (programs_in types) name place t.program
+  pub ladder_is : IsLadderOf t.program t.ladder
+
+-- an instance's name, and the ladder of its type
+pub record IsProgramOf (programs : List Program) (u : Use) (p : ProgramValue) : Type 0 where
+  pub name_is : p.name ≡ u.instance
+  pub place : ℕ
+  pub type : Program
+  pub type_is : IsAt (λ (t : Program). t.name) programs u.program place type
+  pub ladder_is : IsLadderOf type p.ladder
+
+-- a task's instances in order, and their outputs
+pub record IsDraftOf (programs : List Program) (r : Resource) (t : TaskLine) (c : CodeValue) : Type 0 where
+  pub programs_are : AllZip (IsProgramOf programs) (runs_in r t) c.programs
+  pub outputs_are : c.outputs ≡ outputs_of c.programs
+
+-- a resource's name, and a draft of each task
+pub record IsResourceDraft (programs : List Program) (r : Resource) (v : ResourceValue) : Type 0 where
+  pub name_is : v.name ≡ r.name
+  pub codes_are : AllZip (IsDraftOf programs r) (tasks_of r) v.codes
+
+-- the instance binds no input twice
+abbrev pub IsOnceBound : Use → Type 0
+IsOnceBound u = AreApart (map (λ b. b.input) (binds_of u))
+
+-- what resolution takes of a lawful resource: no interval is 0, and no instance binds an input twice
+pub record IsReady (r : Resource) : Type 0 where
+  pub intervals : All (λ t. 0 < t.interval) (tasks_of r)
+  pub apart : All IsOnceBound (uses_of r)
+
+-- at position k of the outputs stands the one of this program, place and kind
+abbrev pub IsPlacedAt : List TaskOutput → ℕ → ℕ → ℕ → Kind → Type 0
+IsPlacedAt outputs program place k kind = slice_get outputs k ≡ Some (record { program = program; place = place; kind = kind })
+
+-- the output of this name, of a program of the task, stands at place k of its image
+pub record IsOutputAt (c : CodeValue) (program : ℕ) (name : List ℕ) (k : ℕ) (kind : Kind) : Type 0 where
+  pub owner : ProgramValue
+  pub place : ℕ
+  pub variable : Declaration
+  pub owner_is : slice_get c.programs program ≡ Some owner
+  pub variable_is : IsAt (λ (v : Declaration). v.name) owner.ladder.declarations name place variable
+  pub given_is : IsPlacedAt c.outputs program place k kind
+
+-- the instance of this name is program j of task k
+pub record IsInstanceAt (codes : List CodeValue) (name : List ℕ) (k j : ℕ) : Type 0 where
+  pub code : CodeValue
+  pub program : ProgramValue
+  pub code_is : slice_get codes k ≡ Some code
+  pub program_is : IsAt (λ (p : ProgramValue). p.name) code.programs name j program
+
+-- value k of the task's image is of this kind
+pub record IsImageKind (plant : PlantValue) (t : TaskRef) (k : ℕ) (kind : Kind) : Type 0 where
+  pub code : CodeValue
+  pub code_is : code_at plant t ≡ Some code
+  pub kind_is : slice_get (image_kinds code) k ≡ Some kind
+
+-- a source is the address that is written, or the value that the names mean, and gives values of this kind
+abbrev pub IsOriginOf : PlantValue → SourceName → Origin → Kind → Type 0
+IsOriginOf plant (named.Field a) (origin.Field b) kind = (a ≡ b) × (kind_of_space b.space ≡ kind)
+IsOriginOf plant (named.Field a) (origin.Output t k) kind = ⊥
+IsOriginOf plant (named.Output r i o) (origin.Field b) kind = ⊥
+IsOriginOf plant (named.Output r i o) (origin.Output t k) kind = IsOrigin plant r i o t k × IsImageKind plant t k kind
+
+-- a bind by its names: the input's place, its kind, and a source of that kind
+pub record IsFeedOf (plant : PlantValue) (ds : List Declaration) (b : Bind) (f : Feed) : Type 0 where
+  pub input_is : place_of ds b.input ≡ Some f.place
+  pub input_kind_is : input_kind_at ds f.place ≡ Some f.kind
+  pub origin_is : IsOriginOf plant b.source f.origin f.kind
+
+-- R holds of the items of three lists, place by place
+abbrev pub Triples : {A B C : Type 0} → (A → B → C → Type 0) → List A → List B → List C → Type 0
+Triples {A} {B} {C} R xs ys zs = (k : ℕ) (x : A) (y : B) (z : C) → slice_get xs k ≡ Some x → slice_get ys k ≡ Some y → slice_get zs k ≡ Some z → R x y z
+
+-- the binds of an instance are resolved, by the variables of its program
+abbrev pub AreFeedsOf : PlantValue → Use → ProgramValue → List Feed → Type 0
+AreFeedsOf plant u p fs = AllZip (IsFeedOf plant p.ladder.declarations) (binds_of u) fs
+
+-- the task from which a bound input takes
+abbrev pub tasks_taken : Feed → List TaskRef
+tasks_taken f = of_origin f.origin where
+  of_origin : Origin → List TaskRef
+  of_origin (origin.Field a) = []
+  of_origin (origin.Output t k) = t ∷ []
+
+-- the tasks from which the instances of a task take, in order
+abbrev pub all_taken : List (List Feed) → List TaskRef
+all_taken fs = flat_map (λ f. flat_map tasks_taken f) fs
+
+-- each task from which a bound input takes is one of the producers
+abbrev pub IsTakenFrom : List TaskRef → Feed → Type 0
+IsTakenFrom producers f = All (Contains producers) (tasks_taken f)
+
+-- a task of the plant
+pub record IsTaskOf (plant : PlantValue) (t : TaskRef) : Type 0 where
+  pub code : CodeValue
+  pub code_is : code_at plant t ≡ Some code
+
+-- the kinds of the image of a task
+pub record AreKindsOf (plant : PlantValue) (t : TaskRef) (kinds : List Kind) : Type 0 where
+  pub code : CodeValue
+  pub code_is : code_at plant t ≡ Some code
+  pub kinds_are : kinds ≡ image_kinds code
+
+-- the same source, its task by its place among the producers
+abbrev pub IsPlacedSource : List TaskRef → Origin → Source → Type 0
+IsPlacedSource producers (origin.Field a) (source.Field b) = a ≡ b
+IsPlacedSource producers (origin.Field a) (source.Given p k) = ⊥
+IsPlacedSource producers (origin.Output t k) (source.Field b) = ⊥
+IsPlacedSource producers (origin.Output t k) (source.Given p j) = (slice_get producers p ≡ Some t) × (j ≡ k)
+
+-- the binding of a bound input
+pub record IsPlaced (producers : List TaskRef) (f : Feed) (b : Binding) : Type 0 where
+  pub place_is : b.place ≡ f.place
+  pub source_is : IsPlacedSource producers f.origin b.source
+
+-- a code has the programs and outputs of a draft
+pub record HasPrograms (draft code : CodeValue) : Type 0 where
+  pub programs_are : code.programs ≡ draft.programs
+  pub outputs_are : code.outputs ≡ draft.outputs
+
+-- a binding by the variables of its program: the input's place, and a source that gives values of the input's kind
+pub record IsBindingBy (plant : PlantValue) (c : CodeValue) (ds : List Declaration) (b : Bind) (found : Binding) : Type 0 where
+  pub input_is : place_of ds b.input ≡ Some found.place
+  pub source_is : IsSourceOf plant c b.source found.source
+  pub kind : Kind
+  pub input_kind_is : input_kind_at ds found.place ≡ Some kind
+  pub source_kind_is : source_kind c found.source ≡ Some kind
+
+-- the code of a draft with its sources resolved
+pub record IsLinked (plant : PlantValue) (us : List Use) (draft code : CodeValue) : Type 0 where
+  pub same : HasPrograms draft code
+  pub bound : (i : ℕ) (u : Use) (p : ProgramValue) → slice_get us i ≡ Some u → slice_get code.programs i ≡ Some p
+      → AllZip (IsBindingBy plant code p.ladder.declarations) (binds_of u) (bindings_at code i)
+  pub producers_are : code.producers ≡ firsts (flat_map (λ bs. flat_map (mention code.producers) bs) code.bindings)
+  pub sound : IsSoundCode code
+  pub taken : AreProducersOf plant code
+
+-- a resource with its tasks, and the code of each draft
+pub record IsResourceLinked (plant : PlantValue) (r : Resource) (draft v : ResourceValue) : Type 0 where
+  pub name_is : v.name ≡ r.name
+  pub tasks_are : v.tasks ≡ map task_value (tasks_of r)
+  pub many : length v.codes ≡ length (tasks_of r)
+  pub codes_are : Triples (λ t d c. IsLinked plant (runs_in r t) d c) (tasks_of r) draft.codes v.codes

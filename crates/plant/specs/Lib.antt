@@ -1,0 +1,17 @@
+pub mod Words
+pub mod Spelling
+pub mod Gaps
+pub mod Lexing
+pub mod PlantValue
+pub mod Names
+pub mod Grammar
+pub mod Faultless
+pub mod Reading
+pub mod StandsFor
+pub mod PlantText
+pub mod Drafts
+pub mod Find
+pub mod OutputNames
+pub mod Slots
+pub mod Plan
+pub mod ReadParts

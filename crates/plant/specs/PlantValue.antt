@@ -1,0 +1,164 @@
+-- A plant and the codes of its tasks, as values.
+use Rattle.std.specs.Prelude.{◌≡◌, ℕ, zero, suc, ◌<◌, ◌++◌, List, [], ◌∷◌, Option, Some, None, length, map, slice_get, slice_index_or, All}
+use Rattle.std.specs.Option.{option_and_then, option_map}
+use Rattle.power_flow.specs.declared.declarations.Kind.{Kind}
+use Rattle.power_flow.specs.declared.declarations.Kind.TheVariants as kind
+use Rattle.power_flow.specs.declared.declarations.Declared.{Declared}
+use Rattle.power_flow.specs.declared.declarations.Declared.TheVariants.{Input, Output, Local, Instance}
+use Rattle.power_flow.specs.declared.declarations.Declaration.{Declaration}
+use Rattle.power_flow.specs.LadderValue.{LadderValue}
+use Rattle.plant.specs.declared.address.Space.{Space}
+use Rattle.plant.specs.declared.address.Space.TheVariants.{Bit, Word}
+use Rattle.plant.specs.declared.binding.Source.{Source}
+use Rattle.plant.specs.declared.binding.Source.TheVariants.{Field, Given}
+use Rattle.plant.specs.declared.binding.Binding.{Binding}
+use Rattle.plant.specs.declared.task_ref.TaskRef.{TaskRef}
+use Rattle.plant.specs.declared.task_output.TaskOutput.{TaskOutput}
+
+-- a task as it is declared
+pub record TaskValue : Type 0 where
+  pub name : List ℕ
+  pub interval : ℕ
+  pub priority : ℕ
+
+-- a program of a task: the instance's name, and its ladder
+pub record ProgramValue : Type 0 where
+  pub name : List ℕ
+  pub ladder : LadderValue
+
+-- The code of a task: its programs in order, the bound inputs of each, the tasks from which it takes, the kinds expected of the image of each, and its own outputs.
+pub record CodeValue : Type 0 where
+  pub programs : List ProgramValue
+  pub bindings : List (List Binding)
+  pub producers : List TaskRef
+  pub expected : List (List Kind)
+  pub outputs : List TaskOutput
+
+-- a resource: its name, its tasks, and the code of each
+pub record ResourceValue : Type 0 where
+  pub name : List ℕ
+  pub tasks : List TaskValue
+  pub codes : List CodeValue
+
+-- the resources of a plant in order
+pub record PlantValue : Type 0 where
+  pub resources : List ResourceValue
+
+-- the items of a list that may be missing
+abbrev pub items_or_none : {A : Type 0} → Option (List A) → List A
+items_or_none None = []
+items_or_none (Some xs) = xs
+
+-- the tasks of a resource; none where there is no such resource
+abbrev pub tasks_at : PlantValue → ℕ → List TaskValue
+tasks_at plant resource = items_or_none (option_map (λ (r : ResourceValue). r.tasks) (slice_get plant.resources resource))
+
+-- the codes of a resource's tasks
+abbrev pub codes_at : PlantValue → ℕ → List CodeValue
+codes_at plant resource = items_or_none (option_map (λ (r : ResourceValue). r.codes) (slice_get plant.resources resource))
+
+-- the code of a task
+abbrev pub code_at : PlantValue → TaskRef → Option CodeValue
+code_at plant t = slice_get (codes_at plant t.resource) t.task
+
+-- the tasks from which a task takes; none where there is no such task
+abbrev pub producers_at : PlantValue → TaskRef → List TaskRef
+producers_at plant t = items_or_none (option_map (λ (c : CodeValue). c.producers) (code_at plant t))
+
+-- the kind of a variable that is an input
+abbrev pub input_kind : Declared → Option Kind
+input_kind (Input k) = Some k
+input_kind (Output k) = None
+input_kind (Local k) = None
+input_kind (Instance b) = None
+
+-- the kind of a variable that is an output
+abbrev pub output_kind : Declared → Option Kind
+output_kind (Input k) = None
+output_kind (Output k) = Some k
+output_kind (Local k) = None
+output_kind (Instance b) = None
+
+-- what a space of addresses holds
+abbrev pub kind_of_space : Space → Kind
+kind_of_space Bit = kind.Bool
+kind_of_space Word = kind.Int
+
+-- the output that a variable is, if it is one
+abbrev pub output_at : ℕ → ℕ → Option Declaration → List TaskOutput
+output_at i k None = []
+output_at i k (Some d) = items_or_none (option_map (λ kind. (record { program = i; place = k; kind = kind }) ∷ []) (output_kind d.declared))
+
+-- the outputs among the first n variables of program i
+abbrev pub outputs_within : ℕ → List Declaration → ℕ → List TaskOutput
+outputs_within i ds zero = []
+outputs_within i ds (suc n) = outputs_within i ds n ++ output_at i n (slice_get ds n)
+
+-- the outputs of one program, in order of declaration
+abbrev pub outputs_in : ℕ → Option ProgramValue → List TaskOutput
+outputs_in i None = []
+outputs_in i (Some p) = outputs_within i p.ladder.declarations (length p.ladder.declarations)
+
+-- the outputs of the first n programs
+abbrev pub outputs_before : List ProgramValue → ℕ → List TaskOutput
+outputs_before ps zero = []
+outputs_before ps (suc n) = outputs_before ps n ++ outputs_in n (slice_get ps n)
+
+-- the outputs of a task: programs, and then outputs, in order of declaration
+abbrev pub outputs_of : List ProgramValue → List TaskOutput
+outputs_of ps = outputs_before ps (length ps)
+
+-- the kinds of the values of a task's image
+abbrev pub image_kinds : CodeValue → List Kind
+image_kinds c = map (λ (o : TaskOutput). o.kind) c.outputs
+
+-- the bound inputs of program i; none where there is no such program
+abbrev pub bindings_at : CodeValue → ℕ → List Binding
+bindings_at c i = items_or_none (slice_get c.bindings i)
+
+-- the kinds expected of the image of producer p; none where there is no such producer
+abbrev pub expected_at : CodeValue → ℕ → List Kind
+expected_at c p = items_or_none (slice_get c.expected p)
+
+-- the kind of what a source gives
+abbrev pub source_kind : CodeValue → Source → Option Kind
+source_kind c (Field a) = Some (kind_of_space a.space)
+source_kind c (Given p o) = slice_get (expected_at c p) o
+
+-- the kind of the input at a place
+abbrev pub input_kind_at : List Declaration → ℕ → Option Kind
+input_kind_at ds place = option_and_then (λ (d : Declaration). input_kind d.declared) (slice_get ds place)
+
+-- an input stands at the binding's place, and its source gives values of its kind
+abbrev pub IsBindingSound : CodeValue → ProgramValue → Binding → Type 0
+IsBindingSound c p b = (k : Kind) × (input_kind_at p.ladder.declarations b.place ≡ Some k) × (source_kind c b.source ≡ Some k)
+
+-- no place is bound twice
+abbrev pub AreOnce : List Binding → Type 0
+AreOnce bs = (j k : ℕ) (d : Binding) → j < length bs → k < length bs → (slice_index_or bs j d).place ≡ (slice_index_or bs k d).place → j ≡ k
+
+-- the output is a VAR_OUTPUT of one of the programs
+pub record IsOutputOf (c : CodeValue) (o : TaskOutput) : Type 0 where
+  pub program : ProgramValue
+  pub variable : Declaration
+  pub run : slice_get c.programs o.program ≡ Some program
+  pub declared : slice_get program.ladder.declarations o.place ≡ Some variable
+  pub kind_is : output_kind variable.declared ≡ Some o.kind
+
+-- A code by itself: each program has its bindings, each producer its kinds, and the outputs are those of the programs.
+pub record IsSoundCode (c : CodeValue) : Type 0 where
+  pub each_bound : length c.bindings ≡ length c.programs
+  pub each_expected : length c.expected ≡ length c.producers
+  pub outputs_are : c.outputs ≡ outputs_of c.programs
+  pub each_output : (k : ℕ) (o : TaskOutput) → slice_get c.outputs k ≡ Some o → IsOutputOf c o
+  pub sound : (i : ℕ) (p : ProgramValue) → slice_get c.programs i ≡ Some p → All (IsBindingSound c p) (bindings_at c i)
+  pub once : (i : ℕ) → AreOnce (bindings_at c i)
+
+-- each task from which a code takes is a task of the plant, and its image has the kinds that are expected
+abbrev pub AreProducersOf : PlantValue → CodeValue → Type 0
+AreProducersOf plant c = (k : ℕ) (t : TaskRef) → slice_get c.producers k ≡ Some t → (p : CodeValue) × (code_at plant t ≡ Some p) × (slice_get c.expected k ≡ Some (image_kinds p))
+
+-- a plant: each task has its code, and takes from tasks of the plant
+pub record IsSoundPlant (plant : PlantValue) : Type 0 where
+  pub coded : (r : ResourceValue) (k : ℕ) → slice_get plant.resources k ≡ Some r → length r.codes ≡ length r.tasks
+  pub taken : (t : TaskRef) (c : CodeValue) → code_at plant t ≡ Some c → AreProducersOf plant c

@@ -1,0 +1,64 @@
+-- What is known of the parts of a plant's text while it is read.
+use Rattle.std.specs.Prelude.{◌≡◌, ℕ, ◌+◌, ◌<◌, ◌≤◌, Bool, true, false, IsTrue, List, [], length, map, take, slice_get, Some, All, Any}
+use Rattle.std.specs.List.{flat_map}
+use Rattle.plant.specs.declared.tree.Use.{Use}
+use Rattle.power_flow.specs.declared.declarations.Declaration.{Declaration}
+use Rattle.plant.specs.declared.tree.Program.{Program}
+use Rattle.plant.specs.declared.tree.Item.{Item}
+use Rattle.plant.specs.declared.tree.Item.TheVariants as item
+use Rattle.plant.specs.declared.tree.Resource.{Resource}
+use Rattle.plant.specs.Grammar.{Tree}
+use Rattle.plant.specs.Names.{is_named, AreApart}
+use Rattle.plant.specs.Faultless.{task_of, use_of, binds_of, IsProgramLawful, IsUseLawful, IsResourceLawful}
+use Rattle.plant.specs.Reading.{TypeValue}
+
+-- how many instances and binds were read
+pub record TallyValue : Type 0 where
+  pub instances : ℕ
+  pub binds : ℕ
+
+-- these instances counted too, with their binds
+abbrev pub tally_with : TallyValue → List Use → TallyValue
+tally_with t us = record { instances = t.instances + length us; binds = t.binds + length (flat_map binds_of us) }
+
+-- the program types alone
+abbrev pub types_alone : List TypeValue → Tree
+types_alone types = record { programs = map (λ (t : TypeValue). t.program) types; name = []; resources = [] }
+
+-- each name once, and at most 1,000
+pub record AreVariables (variables : List Declaration) : Type 0 where
+  pub apart : AreApart (map (λ v. v.name) variables)
+  pub few : length variables ≤ 1000
+
+-- program types: at most 64, their names apart, and each lawful
+pub record AreProgramsLawful (programs : List Program) : Type 0 where
+  pub few : length programs ≤ 64
+  pub apart : AreApart (map (λ p. p.name) programs)
+  pub lawful : All IsProgramLawful programs
+
+-- nothing in the list has this name
+abbrev pub IsNew : {A : Type 0} → (A → List ℕ) → List A → List ℕ → Type 0
+IsNew name_of xs name = Any (λ x. IsTrue (is_named name (name_of x))) xs → ⊥
+
+abbrev pub is_task_line : Item → Bool
+is_task_line (item.Task t) = true
+is_task_line (item.Use u) = false
+
+-- a task or an instance that may follow these
+abbrev pub MayFollow : Tree → List Item → Item → Type 0
+MayFollow tree before (item.Task t) = IsNew (λ t. t.name) (flat_map task_of before) t.name × (length (flat_map task_of before) < 16) × (0 < t.interval)
+MayFollow tree before (item.Use u) = IsNew (λ u. u.instance) (flat_map use_of before) u.instance × IsUseLawful tree before u
+
+-- the lines of a resource: at most 16 tasks, none of interval 0, names apart, and lawful instances
+pub record AreItemsLawful (tree : Tree) (items : List Item) : Type 0 where
+  pub tasks_apart : AreApart (map (λ t. t.name) (flat_map task_of items))
+  pub few_tasks : length (flat_map task_of items) ≤ 16
+  pub intervals : All (λ t. 0 < t.interval) (flat_map task_of items)
+  pub instances_apart : AreApart (map (λ u. u.instance) (flat_map use_of items))
+  pub uses_lawful : (k : ℕ) (u : Use) → slice_get items k ≡ Some (item.Use u) → IsUseLawful tree (take k items) u
+
+-- resources: at most 16, their names apart, and each lawful
+pub record AreResourcesLawful (tree : Tree) (resources : List Resource) : Type 0 where
+  pub few : length resources ≤ 16
+  pub apart : AreApart (map (λ r. r.name) resources)
+  pub lawful : All (IsResourceLawful tree) resources

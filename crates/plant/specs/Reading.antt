@@ -1,0 +1,28 @@
+-- What is known of a plant's text once it is read, its sources not yet resolved.
+use Rattle.std.specs.Prelude.{◌≡◌, ℕ, List, ◌++◌, map, All}
+use Rattle.power_flow.specs.LadderValue.{LadderValue}
+use Rattle.plant.specs.declared.tree.Program.{Program}
+use Rattle.plant.specs.declared.tree.Resource.{Resource}
+use Rattle.plant.specs.declared.token.Token.{Token}
+use Rattle.plant.specs.Grammar.{Tree, words_of}
+use Rattle.plant.specs.Faultless.{IsLadderOf, IsFaultless}
+
+-- a program type, and its ladder
+pub record TypeValue : Type 0 where
+  pub program : Program
+  pub ladder : LadderValue
+
+pub record ReadingValue : Type 0 where
+  pub types : List TypeValue
+  pub resources : List Resource
+
+-- what is written, under the configuration's name
+abbrev pub tree_of : List ℕ → ReadingValue → Tree
+tree_of name r = record { programs = map (λ (t : TypeValue). t.program) r.types; name = name; resources = r.resources }
+
+-- The words begin with those of a tree without a fault, its sources aside, and the rest is left. Each type has its ladder.
+pub record IsReadingOf (words : List Token) (reading : ReadingValue) (rest : List Token) : Type 0 where
+  pub name : List ℕ
+  pub written : words ≡ words_of (tree_of name reading) ++ rest
+  pub faultless : IsFaultless (tree_of name reading)
+  pub ladders : All (λ t. IsLadderOf t.program t.ladder) reading.types

@@ -1,0 +1,64 @@
+ghost use Rattle.std.specs.Prelude.{◌≡◌, ℕ, MatchOption, Contains};
+ghost use Rattle.plant.specs.declared.task_ref.TaskRef.{TaskRef};
+ghost use Rattle.plant.specs.Names.{IsAt};
+ghost use Rattle.plant.specs.PlantValue.{TaskValue};
+ghost use Rattle.plant.specs.Find.{ArePartsOf, IsTaskAt, IsTaskNamed};
+
+use crate::plant::Plant;
+use crate::task::Task;
+use crate::task_ref::TaskRef;
+
+/// The position of the first task of a name.
+fn find_task(tasks: &[Task], name: &str) -> Option<usize>
+    ensures { MatchOption result ((k : ℕ) (t : TaskValue) → IsAt (λ (t : TaskValue). t.name) tasks.now name.now k t → ⊥) (λ k. (t : TaskValue) × IsAt (λ (t : TaskValue). t.name) tasks.now name.now k t) }
+{
+    for (k, task) in tasks.iter().enumerate() {
+        if name.eq_ignore_ascii_case(task.name()) {
+            return Some(k);
+        }
+    }
+    None
+}
+
+/// The parts of a name before and behind its first dot.
+fn parts(name: &str) -> Option<(&str, &str)>
+    ensures { MatchOption result (Contains name.now 46 → ⊥) (λ x. ArePartsOf name.now x.0.now x.1.now) }
+{
+    name.split_once('.')
+}
+
+impl Plant {
+    /// The position of a task in a resource, if that has the other name.
+    fn task_in(&self, resource: usize, owner: &str, task: &str) -> Option<usize>
+        ensures { MatchOption result ((k : ℕ) → IsTaskAt self.now owner.now task.now (record { resource = resource; task = k }) → ⊥) (λ k. IsTaskAt self.now owner.now task.now (record { resource = resource; task = k })) }
+    {
+        let name = self.resource_name(resource)?;
+        if !owner.eq_ignore_ascii_case(name) {
+            return None;
+        }
+        find_task(self.tasks(resource), task)
+    }
+
+    /// The task of two names, its resource's and its own.
+    fn task_of(&self, owner: &str, task: &str) -> Option<TaskRef>
+        ensures { MatchOption result ((t : TaskRef) → IsTaskAt self.now owner.now task.now t → ⊥) (λ t. IsTaskAt self.now owner.now task.now t) }
+    {
+        for resource in 0..self.resources() {
+            match self.task_in(resource, owner, task) {
+                Some(task) => return Some(TaskRef { resource, task }),
+                None => {}
+            }
+        }
+        None
+    }
+
+    /// The task of a name such as `R1.MAIN`: the resource's name, a dot, and the task's, in either case.
+    pub fn find(&self, name: &str) -> Option<TaskRef>
+        ensures { MatchOption result ((t : TaskRef) → IsTaskNamed self.now name.now t → ⊥) (λ t. IsTaskNamed self.now name.now t) }
+    {
+        match parts(name) {
+            Some((owner, task)) => self.task_of(owner, task),
+            None => None,
+        }
+    }
+}

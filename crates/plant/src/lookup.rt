@@ -1,0 +1,93 @@
+//! What stands under a name: resources, program types, instances and their outputs.
+
+ghost use Rattle.std.specs.Prelude.{◌≡◌, ℕ, IfSome, slice_get};
+ghost use Rattle.plant.specs.declared.task_output.TaskOutput.{TaskOutput};
+ghost use Rattle.plant.specs.Names.{IsAt};
+ghost use Rattle.plant.specs.Faultless.{IsLadderOf};
+ghost use Rattle.plant.specs.PlantValue.{ResourceValue, ProgramValue};
+ghost use Rattle.plant.specs.Drafts.{programs_in, IsTypeAt, IsInstanceAt, IsPlacedAt, IsOutputAt};
+
+use crate::program_instance::ProgramInstance;
+use crate::program_type::ProgramType;
+use crate::resource_draft::ResourceDraft;
+use crate::task_draft::TaskDraft;
+use crate::task_output::TaskOutput;
+use power_flow::Kind;
+
+/// The position of the resource of a name.
+pub fn find_resource(resources: &[ResourceDraft], name: &str) -> Option<usize>
+    ensures { IfSome result (λ k. (owner : ResourceValue) × IsAt (λ (r : ResourceValue). r.name) resources.now name.now k owner) }
+{
+    for (k, resource) in resources.iter().enumerate() {
+        if name.eq_ignore_ascii_case(resource.name()) {
+            return Some(k);
+        }
+    }
+    None
+}
+
+/// The program type of a name.
+pub fn find_type<'a>(types: &'a [ProgramType], name: &str) -> Option<&'a ProgramType>
+    ensures { IfSome result (λ t. IsTypeAt types.now name.now t.now) }
+{
+    for found in types {
+        if name.eq_ignore_ascii_case(found.program().name.as_str()) {
+            return Some(found);
+        }
+    }
+    None
+}
+
+/// The position of the program of a name.
+fn find_program(programs: &[ProgramInstance], name: &str) -> Option<usize>
+    ensures { IfSome result (λ k. (p : ProgramValue) × IsAt (λ (p : ProgramValue). p.name) programs.now name.now k p) }
+{
+    for (k, program) in programs.iter().enumerate() {
+        if name.eq_ignore_ascii_case(program.name()) {
+            return Some(k);
+        }
+    }
+    None
+}
+
+/// The positions of the task that runs the instance of a name, and of its program there.
+pub fn find_instance(tasks: &[TaskDraft], name: &str) -> Option<(usize, usize)>
+    ensures { IfSome result (λ x. IsInstanceAt tasks.now name.now x.0 x.1) }
+{
+    for (k, task) in tasks.iter().enumerate() {
+        if let Some(program) = find_program(task.programs(), name) {
+            return Some((k, program));
+        }
+    }
+    None
+}
+
+/// The position of the output of a program at a place, and its kind. Outputs stand in order of program and place, so that halving finds it.
+fn output_position(outputs: &[TaskOutput], program: usize, place: usize) -> Option<(usize, Kind)>
+    ensures { IfSome result (λ x. IsPlacedAt outputs.now program place x.0 x.1) }
+{
+    let mut low = 0;
+    let mut high = outputs.len();
+    'halving: while low < high {
+        let middle = low + (high - low) / 2;
+        let output = outputs[middle];
+        if output.program == program && output.place == place {
+            return Some((middle, output.kind));
+        }
+        if output.program < program || output.program == program && output.place < place {
+            low = middle + 1;
+        } else {
+            high = middle;
+        }
+    }
+    None
+}
+
+/// The position in a task's image of an output of a program by its name, and its kind.
+pub fn find_output(task: &TaskDraft, program: usize, name: &str) -> Option<(usize, Kind)>
+    ensures { IfSome result (λ x. IsOutputAt task.now program name.now x.0 x.1) }
+{
+    let owner = task.programs().get(program)?;
+    let place = owner.ladder().declarations().position(name)?;
+    output_position(task.outputs(), program, place)
+}

@@ -1,0 +1,25 @@
+ghost use Rattle.std.specs.Prelude.{IfOk};
+ghost use Rattle.plant.specs.PlantText.{IsPlantText};
+
+use crate::plant::Plant;
+use crate::plant_fault::PlantFault;
+use crate::read_tree::read_tree;
+use crate::reader::Reader;
+use crate::resolve::resolve;
+use crate::words::read_words;
+use std::alloc::Global;
+
+impl Plant {
+    /// Reads the text of a plant. The first fault met from top to bottom is answered, with its line; a word that the grammar doesn't have there, or that is no word,
+    /// is met where it stands, a program's drawing at its END_PROGRAM, and the sources of bound inputs at END_CONFIGURATION.
+    pub fn read(alloc: Global, text: &str) -> Result<Plant, PlantFault>
+        ensures { IfOk result (λ p. IsPlantText text.now p) }
+    {
+        let words = read_words(alloc, text)?;
+        let mut reader = Reader::new(words.words(), words.last());
+        let reading = read_tree(alloc, &mut reader)?;
+        let plant = resolve(alloc, &reading)?;
+        reader.end()?;
+        Ok(plant)
+    }
+}

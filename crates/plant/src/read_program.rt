@@ -1,0 +1,247 @@
+//! The rules of the grammar from names to programs.
+
+ghost use Rattle.std.specs.Prelude.{◌≡◌, ◌∷◌, ◌++◌, ◌<◌, IfOk, OnOk, All, map, length};
+ghost use Rattle.std.specs.List.{flat_map};
+ghost use Rattle.plant.specs.declared.token.Token.TheVariants as token;
+ghost use Rattle.plant.specs.Grammar.{section_word, kind_word, type_word, name_words, list_words, lists_words, block_words, program_words};
+ghost use Rattle.plant.specs.Faultless.{list_variables, block_variables, variables, IsTypeLawful, IsListLawful, IsBlockLawful, IsProgramLawful, IsLadderOf};
+ghost use Rattle.plant.specs.ReadParts.{IsNew, AreProgramsLawful};
+
+use crate::declared_names::{check_new, is_type};
+use crate::name::Name;
+use crate::plant_fault::{PlantFault, PlantFaultKind};
+use crate::program_type::ProgramType;
+use crate::reader::Reader;
+use crate::token::{Keyword, Punctuation};
+use crate::tree::{NameList, Program, Section, TypeName, VarBlock};
+use crate::variables::Variables;
+use ladder_text::Drawing;
+use network::Graph;
+use power_flow::{Declarations, Kind, Ladder};
+use std::alloc::Global;
+use std::sync::Arc;
+
+/// How many program types a plant may have.
+const MOST_TYPES: usize = 64;
+
+/// The greatest line on which a drawing may begin.
+const LAST_LINE: u64 = 9_223_372_036_854_775_807;
+
+impl<'a> Reader<'a> {
+    /// A further name of a program, behind the variables and the names of the same list.
+    fn variable(
+        &mut self,
+        alloc: Global,
+        variables: &Variables,
+        before: &[Name],
+    ) -> Result<Name, PlantFault>
+        ensures ok { IfOk result (λ name. self.old ≡ token.Name name ∷ self.new) }
+    {
+        let name = self.name(alloc)?;
+        variables.check(before, &name)?;
+        Ok(name)
+    }
+
+    /// Names with commas between them.
+    fn names(&mut self, alloc: Global, variables: &Variables) -> Result<Vec<Name>, PlantFault>
+        ensures ok { IfOk result (λ names. self.old ≡ name_words names.items ++ self.new) }
+        ensures some { IfOk result (λ names. 0 < length names.items) }
+    {
+        let mut names = Vec::new(alloc);
+        names.push(self.variable(alloc, variables, &names)?)?;
+        'names: while self.sees_punctuation(Punctuation::Comma) {
+            self.punctuation(Punctuation::Comma)?;
+            names.push(self.variable(alloc, variables, &names)?)?;
+        }
+        Ok(names)
+    }
+
+    /// BOOL, INT or TIME.
+    fn kind(&mut self) -> Result<Kind, PlantFault>
+        ensures ok { IfOk result (λ kind. self.old ≡ kind_word kind ∷ self.new) }
+    {
+        if self.sees_keyword(Keyword::Int) {
+            self.keyword(Keyword::Int)?;
+            Ok(Kind::Int)
+        } else if self.sees_keyword(Keyword::Time) {
+            self.keyword(Keyword::Time)?;
+            Ok(Kind::Time)
+        } else {
+            self.keyword(Keyword::Bool)?;
+            Ok(Kind::Bool)
+        }
+    }
+
+    /// The type of names of a section.
+    fn type_name(&mut self, section: Section) -> Result<TypeName, PlantFault>
+        ensures ok { IfOk result (λ t. self.old ≡ type_word t ∷ self.new) }
+        ensures lawful { IfOk result (λ t. IsTypeLawful section t) }
+    {
+        if !self.sees_block_type() {
+            return Ok(TypeName::Elementary(self.kind()?));
+        }
+        match section {
+            Section::Local => Ok(TypeName::Block(self.block_type()?)),
+            _ => Err(PlantFault::at(PlantFaultKind::WrongKind, self.line())),
+        }
+    }
+
+    /// A list of names of one type. They are declared.
+    #[tactic(auto, unfolding(crate::specs::Grammar::list_words))]
+    fn list(
+        &mut self,
+        alloc: Global,
+        section: Section,
+        variables: &mut Variables,
+    ) -> Result<NameList, PlantFault>
+        ensures ok { IfOk result (λ l. self.old ≡ list_words l ++ self.new) }
+        ensures declared { IfOk result (λ l. variables.new ≡ variables.old ++ list_variables section l) }
+        ensures lawful { IfOk result (λ l. IsListLawful section l) }
+    {
+        let names = self.names(alloc, variables)?;
+        self.punctuation(Punctuation::Colon)?;
+        let type_name = self.type_name(section)?;
+        self.punctuation(Punctuation::Semicolon)?;
+        let list = NameList { names, type_name };
+        variables.add_list(section, &list)?;
+        Ok(list)
+    }
+
+    /// The lists of a block, up to its end. They are declared.
+    #[tactic(auto, using(crate::proofs::WordLists::list_has_words))]
+    fn lists(
+        &mut self,
+        alloc: Global,
+        section: Section,
+        variables: &mut Variables,
+    ) -> Result<Vec<NameList>, PlantFault>
+        ensures ok { IfOk result (λ ls. self.old ≡ lists_words ls.items ++ self.new) }
+        ensures declared { IfOk result (λ ls. variables.new ≡ variables.old ++ flat_map (list_variables section) ls.items) }
+        ensures lawful { IfOk result (λ ls. All (IsListLawful section) ls.items) }
+    {
+        let mut lists = Vec::new(alloc);
+        'lists: while !self.sees_keyword(Keyword::EndVar) {
+            let list = self.list(alloc, section, variables)?;
+            lists.push(list)?;
+        }
+        self.keyword(Keyword::EndVar)?;
+        Ok(lists)
+    }
+
+    /// Whether a block begins.
+    fn sees_section(&self) -> bool {
+        self.sees_keyword(Keyword::VarInput)
+            || self.sees_keyword(Keyword::VarOutput)
+            || self.sees_keyword(Keyword::Var)
+    }
+
+    /// VAR_INPUT, VAR_OUTPUT or VAR.
+    fn section(&mut self) -> Result<Section, PlantFault>
+        ensures ok { IfOk result (λ s. self.old ≡ section_word s ∷ self.new) }
+    {
+        if self.sees_keyword(Keyword::VarInput) {
+            self.keyword(Keyword::VarInput)?;
+            Ok(Section::Input)
+        } else if self.sees_keyword(Keyword::VarOutput) {
+            self.keyword(Keyword::VarOutput)?;
+            Ok(Section::Output)
+        } else {
+            self.keyword(Keyword::Var)?;
+            Ok(Section::Local)
+        }
+    }
+
+    /// A block. Its names are declared.
+    #[tactic(auto, unfolding(crate::specs::Grammar::block_words))]
+    fn block(&mut self, alloc: Global, variables: &mut Variables) -> Result<VarBlock, PlantFault>
+        ensures ok { IfOk result (λ b. self.old ≡ block_words b ++ self.new) }
+        ensures declared { IfOk result (λ b. variables.new ≡ variables.old ++ block_variables b) }
+        ensures lawful { IfOk result (λ b. IsBlockLawful b) }
+    {
+        let section = self.section()?;
+        let lists = self.lists(alloc, section, variables)?;
+        Ok(VarBlock { section, lists })
+    }
+
+    /// The blocks of a program. Their names are declared.
+    #[tactic(auto, using(crate::proofs::WordLists::block_has_words))]
+    fn blocks(
+        &mut self,
+        alloc: Global,
+        variables: &mut Variables,
+    ) -> Result<Vec<VarBlock>, PlantFault>
+        ensures ok { IfOk result (λ bs. self.old ≡ flat_map block_words bs.items ++ self.new) }
+        ensures declared { IfOk result (λ bs. variables.new ≡ variables.old ++ flat_map block_variables bs.items) }
+        ensures lawful { IfOk result (λ bs. All IsBlockLawful bs.items) }
+    {
+        let mut blocks = Vec::new(alloc);
+        'sections: while self.sees_section() {
+            let block = self.block(alloc, variables)?;
+            blocks.push(block)?;
+        }
+        Ok(blocks)
+    }
+
+    /// A new name of a program type, behind these.
+    fn new_type(&mut self, alloc: Global, before: &[ProgramType]) -> Result<Name, PlantFault>
+        ensures ok { IfOk result (λ name. self.old ≡ token.Name name ∷ self.new) }
+        ensures new { IfOk result (λ name. IsNew (λ t. t.program.name) before.now name) }
+        ensures few { OnOk result (length before.now < 64) }
+    {
+        let name = self.name(alloc)?;
+        check_new(&name, is_type(before, &name), before.len() >= MOST_TYPES)?;
+        Ok(name)
+    }
+
+    /// A program type, behind these. Its drawing is read, its networks are built, and its names are bound.
+    #[tactic(auto, unfolding(crate::specs::Grammar::program_words))]
+    fn program(&mut self, alloc: Global, before: &[ProgramType]) -> Result<ProgramType, PlantFault>
+        ensures ok { IfOk result (λ t. self.old ≡ program_words t.program ++ self.new) }
+        ensures new { IfOk result (λ t. IsNew (λ t. t.program.name) before.now t.program.name) }
+        ensures few { OnOk result (length before.now < 64) }
+        ensures lawful { IfOk result (λ t. IsProgramLawful t.program) }
+        ensures ladder { IfOk result (λ t. IsLadderOf t.program t.ladder) }
+    {
+        self.keyword(Keyword::Program)?;
+        let name = self.new_type(alloc, before)?;
+        let mut variables = Variables::new(alloc);
+        let blocks = self.blocks(alloc, &mut variables)?;
+        let first_line = self.line();
+        let body = self.body(alloc)?;
+        self.keyword(Keyword::EndProgram)?;
+        let program = Program { name, blocks, body };
+        let ladder = ladder_of(alloc, &program, first_line, variables.into_declarations())?;
+        Ok(ProgramType::new(program, Arc::new(alloc, ladder)?))
+    }
+
+    /// The program types.
+    #[tactic(auto, using(crate::proofs::WordLists::program_has_words, crate::proofs::TypeLemmas::no_programs))]
+    pub fn programs(&mut self, alloc: Global) -> Result<Vec<ProgramType>, PlantFault>
+        ensures ok { IfOk result (λ ts. self.old ≡ flat_map program_words (map (λ t. t.program) ts.items) ++ self.new) }
+        ensures lawful { IfOk result (λ ts. AreProgramsLawful (map (λ t. t.program) ts.items)) }
+        ensures ladders { IfOk result (λ ts. All (λ t. IsLadderOf t.program t.ladder) ts.items) }
+    {
+        let mut types = Vec::new(alloc);
+        'programs: while self.sees_keyword(Keyword::Program) {
+            let program = self.program(alloc, &types)?;
+            types.push(program)?;
+        }
+        Ok(types)
+    }
+}
+
+/// The ladder of a program with these variables and a body that begins on a line.
+fn ladder_of(
+    alloc: Global,
+    program: &Program,
+    first_line: u64,
+    declarations: Declarations,
+) -> Result<Ladder, PlantFault>
+    requires { declarations ≡ variables program.now }
+    ensures { IfOk result (λ l. IsLadderOf program.now l) }
+{
+    let first_line = first_line.clamp(1, LAST_LINE);
+    let drawing = Drawing::read(alloc, program.body.as_str(), first_line)?;
+    let graph = Graph::build(alloc, &drawing)?;
+    Ok(Ladder::bind(alloc, graph, declarations)?)
+}

@@ -1,0 +1,25 @@
+ghost use Rattle.std.specs.Prelude.{ℕ, List, IfOk};
+ghost use Rattle.plant.specs.Faultless.{IsFaultless};
+ghost use Rattle.plant.specs.Reading.{tree_of};
+ghost use Rattle.plant.specs.StandsFor.{IsPlantOf};
+
+use crate::draft::draft_resources;
+use crate::feeds::check_sources;
+use crate::link::link_resources;
+use crate::plant::Plant;
+use crate::plant_fault::PlantFault;
+use crate::reading::Reading;
+use std::alloc::Global;
+
+/// The plant that is read, with each source resolved. The first source with a fault is answered, in order of the text.
+pub fn resolve(alloc: Global, reading: &Reading) -> Result<Plant, PlantFault>
+    requires { (name : List ℕ) × IsFaultless (tree_of name reading.now) }
+    ensures { IfOk result (λ p. (name : List ℕ) → IsPlantOf (tree_of name reading.now) p) }
+{
+    let types = reading.types();
+    let resources = reading.resources();
+    let drafts = draft_resources(alloc, types, resources)?;
+    check_sources(drafts.as_slice(), types, resources)?;
+    let linked = link_resources(alloc, drafts.as_slice(), resources)?;
+    Ok(Plant::new(linked))
+}
