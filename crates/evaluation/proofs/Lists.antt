@@ -1,0 +1,116 @@
+-- Lists, by their places.
+use Rattle.std.proofs.Common.{◌≡◌, ℕ, zero, suc, ◌+◌, ◌<◌, ◌≤◌, ◌≢◌, ◌⊎◌, inl, inr, List, [], ◌∷◌, length, map, slice_get, set, length-set, Option, Some, None, arith, refl, sym, ap, ◌∙◌, subst, Bool, true, false}
+use Rattle.std.specs.Bool.{OnTrue}
+use Rattle.std.specs.Option.{option_map}
+use Rattle.std.proofs.lemmas.Bool.{cases_eq}
+use Rattle.std.proofs.lemmas.List.{get_or-set_same}
+use Rattle.std.proofs.lemmas.Option.{slice_get-get_or, slice_get_within, same_Some}
+
+pub same_by_slice_get : {X : Type 0} (xs ys : List X) → ((k : ℕ) → slice_get xs k ≡ slice_get ys k) → xs ≡ ys
+same_by_slice_get [] [] h = refl
+same_by_slice_get [] (y ∷ ys) h = let e = h 0 in cc
+same_by_slice_get (x ∷ xs) [] h = let e = h 0 in cc
+same_by_slice_get (x ∷ xs) (y ∷ ys) h = let e = h 0 in let rest = same_by_slice_get xs ys (λ k. h (suc k)) in cc
+
+-- an index within a list finds something
+pub slice_get_some : {X : Type 0} (xs : List X) (k : ℕ) → k < length xs → (x : X) × (slice_get xs k ≡ Some x)
+slice_get_some [] k lt = absurd (omega arith)
+slice_get_some (x ∷ xs) zero lt = (x, refl)
+slice_get_some (x ∷ xs) (suc k) lt = slice_get_some xs k (omega arith)
+
+-- lists of one length are equal where the elements at each place are
+pub same_by_each : {X : Type 0} (xs ys : List X) → length xs ≡ length ys → ((k : ℕ) (x y : X) → slice_get xs k ≡ Some x → slice_get ys k ≡ Some y → x ≡ y) → xs ≡ ys
+same_by_each [] [] l h = refl
+same_by_each [] (y ∷ ys) l h = absurd (omega arith)
+same_by_each (x ∷ xs) [] l h = absurd (omega arith)
+same_by_each (x ∷ xs) (y ∷ ys) l h =
+    let first : x ≡ y = h 0 x y refl refl in
+    let rest : xs ≡ ys = same_by_each xs ys (omega arith) (λ k. h (suc k)) in
+    cc
+
+-- a list mapped is the other, where that is so at each place
+pub map_by_each : {X Y : Type 0} (f : X → Y) (xs : List X) (ys : List Y) → length xs ≡ length ys
+    → ((k : ℕ) (x : X) (y : Y) → slice_get xs k ≡ Some x → slice_get ys k ≡ Some y → f x ≡ y) → map f xs ≡ ys
+map_by_each f [] [] l h = refl
+map_by_each f [] (y ∷ ys) l h = absurd (omega arith)
+map_by_each f (x ∷ xs) [] l h = absurd (omega arith)
+map_by_each f (x ∷ xs) (y ∷ ys) l h =
+    let first : f x ≡ y = h 0 x y refl refl in
+    let rest : map f xs ≡ ys = map_by_each f xs ys (omega arith) (λ k. h (suc k)) in
+    cc
+
+-- and the other way round
+pub map_at : {X Y : Type 0} (f : X → Y) (xs : List X) (ys : List Y) → map f xs ≡ ys → (k : ℕ) (x : X) (y : Y) → slice_get xs k ≡ Some x → slice_get ys k ≡ Some y → f x ≡ y
+map_at f xs ys e k x y at found = same_Some (f x) y (sym (here xs k at) ∙ ap (λ (l : List _). slice_get l k) e ∙ found)
+  where
+    here : (zs : List _) (k : ℕ) → slice_get zs k ≡ Some x → slice_get (map f zs) k ≡ Some (f x)
+    here [] k h = absurd cc
+    here (z ∷ zs) zero h = cc
+    here (z ∷ zs) (suc k) h = here zs k h
+
+-- what holds of the elements at n, and of those before
+pub one_more : {X Y : Type 0} (P : ℕ → X → Y → Type 0) (xs : List X) (ys : List Y) (n : ℕ) (x : X) (y : Y)
+    → slice_get xs n ≡ Some x → slice_get ys n ≡ Some y → P n x y
+    → ((k : ℕ) (a : X) (b : Y) → k < n → slice_get xs k ≡ Some a → slice_get ys k ≡ Some b → P k a b)
+    → (k : ℕ) (a : X) (b : Y) → k < n + 1 → slice_get xs k ≡ Some a → slice_get ys k ≡ Some b → P k a b
+one_more P xs ys n x y at found here below k a b lt at' found' = by (cases_eq k n)
+  where
+    by : (k ≡ n) ⊎ (k ≢ n) → P k a b
+    by (inl same) =
+        let one : x ≡ a = same_Some x a (sym at ∙ ap (slice_get xs) (sym same) ∙ at') in
+        let other : y ≡ b = same_Some y b (sym found ∙ ap (slice_get ys) (sym same) ∙ found') in
+        subst (λ (i : ℕ). P i a b) (sym same) (subst (λ v. P n v b) one (subst (λ w. P n x w) other here))
+    by (inr ne) = below k a b (omega arith) at' found'
+
+pub slice_get-set_same : {X : Type 0} (xs : List X) (i : ℕ) (a : X) → i < length xs → slice_get (set xs i a) i ≡ Some a
+slice_get-set_same xs i a lt = slice_get-get_or (set xs i a) i a (omega (arith, length-set xs i a)) ∙ ap (λ x. Some x) (get_or-set_same xs i a a lt)
+
+pub slice_get-set_other : {X : Type 0} (xs : List X) (i j : ℕ) (a : X) → (j ≡ i → ⊥) → slice_get (set xs i a) j ≡ slice_get xs j
+slice_get-set_other [] i j a ne = refl
+slice_get-set_other (x ∷ xs) zero zero a ne = absurd (ne refl)
+slice_get-set_other (x ∷ xs) zero (suc j) a ne = refl
+slice_get-set_other (x ∷ xs) (suc i) zero a ne = refl
+slice_get-set_other (x ∷ xs) (suc i) (suc j) a ne = slice_get-set_other xs i j a (λ e. ne (ap suc e))
+
+-- what a mapped option comes from
+pub option_map_some : {X Y : Type 0} (f : X → Y) (o : Option X) (y : Y) → option_map f o ≡ Some y → (x : X) × (o ≡ Some x) × (f x ≡ y)
+option_map_some f None y e = absurd cc
+option_map_some f (Some x) y e = (x, refl, same_Some (f x) y e)
+
+pub option_map_none : {X Y : Type 0} (f : X → Y) (o : Option X) → option_map f o ≡ None → o ≡ None
+option_map_none f None e = refl
+option_map_none f (Some x) e = absurd cc
+
+pub found_not_none : {X : Type 0} (xs : List X) (k : ℕ) → k < length xs → slice_get xs k ≡ None → ⊥
+found_not_none xs k lt e = let found = slice_get_some xs k lt in let some : None ≡ Some found.0 = sym e ∙ found.1 in cc
+
+-- the first n elements of a list were changed as P says, and the others not yet
+pub record InPlace {X : Type 0} (P : ℕ → X → X → Type 0) (n : ℕ) (old now : List X) : Type 0 where
+  pub many : length now ≡ length old
+  pub done : (k : ℕ) (s t : X) → k < n → slice_get old k ≡ Some s → slice_get now k ≡ Some t → P k s t
+  pub rest : (k : ℕ) → n ≤ k → slice_get now k ≡ slice_get old k
+
+pub in_place_none : {X : Type 0} (P : ℕ → X → X → Type 0) (xs : List X) → InPlace P 0 xs xs
+in_place_none P xs = record { many = refl; done = λ k s t lt. absurd (omega arith); rest = λ k le. refl }
+
+pub in_place_more : {X : Type 0} (P : ℕ → X → X → Type 0) (n : ℕ) (old now : List X) (x y : X) → InPlace P n old now → slice_get now n ≡ Some x → P n x y → InPlace P (n + 1) old (set now n y)
+in_place_more {X} P n old now x y h at here = record {
+  many = length-set now n y ∙ h.many;
+  done = λ k s t lt was is. by k s t lt was is (cases_eq k n);
+  rest = λ k le. slice_get-set_other now n k y (λ e. omega arith) ∙ h.rest k (omega arith);
+}
+  where
+    by : (k : ℕ) (s t : X) → k < n + 1 → slice_get old k ≡ Some s → slice_get (set now n y) k ≡ Some t → (k ≡ n) ⊎ (k ≢ n) → P k s t
+    by k s t lt was is (inl same) =
+        let from : x ≡ s = same_Some x s (sym at ∙ h.rest n (omega arith) ∙ ap (slice_get old) (sym same) ∙ was) in
+        let to : y ≡ t = same_Some y t (sym (slice_get-set_same now n y (slice_get_within now n x at)) ∙ ap (slice_get (set now n y)) (sym same) ∙ is) in
+        subst (λ (i : ℕ). P i s t) (sym same) (subst (λ v. P n v t) from (subst (λ w. P n x w) to here))
+    by k s t lt was is (inr ne) = h.done k s t (omega arith) was (sym (slice_get-set_other now n k y ne) ∙ is)
+
+pub in_place_all : {X : Type 0} (P : ℕ → X → X → Type 0) (n : ℕ) (old now : List X) → InPlace P n old now → n ≡ length old
+    → (k : ℕ) (s t : X) → slice_get old k ≡ Some s → slice_get now k ≡ Some t → P k s t
+in_place_all P n old now h all k s t was is = h.done k s t (let lt = slice_get_within old k s was in omega arith) was is
+
+pub on_true : (b : Bool) (P : Type 0) → b ≡ true → OnTrue b P → P
+on_true true P e h = h
+on_true false P e h = absurd cc

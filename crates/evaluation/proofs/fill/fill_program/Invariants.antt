@@ -1,0 +1,5 @@
+use Rattle.evaluation.proofs.FillLemmas.{FilledTo}
+use Rattle.evaluation.proofs.fill.fill_program.Given as goal
+
+abbrev pub invariant-loop-binding : goal.invariant-loop-binding
+invariant-loop-binding l = FilledTo l.inputs l.takes l.bindings l.binding-index l.fn.state l.state

@@ -1,0 +1,6 @@
+use Rattle.evaluation.proofs.Lists.{InPlace}
+use Rattle.evaluation.proofs.ScanLemmas.{ScansProgram}
+use Rattle.evaluation.proofs.scan.scan_programs.Given as goal
+
+abbrev pub invariant-loop-i : goal.invariant-loop-i
+invariant-loop-i l = InPlace (ScansProgram l.code l.dt) l.i l.fn.states l.states

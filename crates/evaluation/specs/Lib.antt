@@ -1,0 +1,8 @@
+pub mod Names
+pub mod Inputs
+pub mod Takes
+pub mod States
+pub mod Meaning
+pub mod Laws
+pub mod Filling
+pub mod InputTexts

@@ -1,0 +1,178 @@
+use crate::image::Image;
+use crate::inputs::Inputs;
+use crate::name::Name;
+use crate::take::{Take, are_same_takes};
+use crate::task_state::TaskState;
+use plant::TaskCode;
+use std::alloc::{AllocError, Global};
+use std::marker::Model;
+use std::sync::Arc;
+
+/// One evaluation of a task: what it was asked, what it took, the state before, what it gave, and the state after. It does not change.
+#[derive(Drop)]
+pub struct Evaluation {
+    ticket: u64,
+    name: Name,
+    dt: u32,
+    inputs: Inputs,
+    takes: Vec<Take>,
+    before: TaskState,
+    outputs: Image,
+    after: TaskState,
+    code: Arc<TaskCode>,
+}
+
+impl Model for Evaluation {
+    ghost use Rattle.evaluation.specs.Meaning.{Evaluated, IsMeant, IsWhole};
+
+    ghost Value = { Evaluated };
+
+    ghost view = { λ e. record { ticket = e.ticket; name = e.name; dt = e.dt; inputs = e.inputs; takes = e.takes.items; before = e.before; outputs = e.outputs; after = e.after; code = e.code.value } };
+
+    ghost invariant = { λ e. IsMeant (record { ticket = e.ticket; name = e.name; dt = e.dt; inputs = e.inputs; takes = e.takes.items; before = e.before; outputs = e.outputs; after = e.after; code = e.code.value }) × IsWhole (record { ticket = e.ticket; name = e.name; dt = e.dt; inputs = e.inputs; takes = e.takes.items; before = e.before; outputs = e.outputs; after = e.after; code = e.code.value }) };
+}
+
+ghost use Rattle.std.specs.Prelude.{◌≡◌, ◌↔◌, IsTrue, IfOk, map};
+ghost use Rattle.power_flow.specs.StateValue.{kind_of};
+ghost use Rattle.plant.specs.PlantValue.{image_kinds};
+ghost use Rattle.evaluation.specs.Takes.{AreTakesOf};
+ghost use Rattle.evaluation.specs.States.{AreStatesOf};
+ghost use Rattle.evaluation.specs.Meaning.{Means, IsMeant, IsWhole, IsAsked, IsSameEvaluation};
+
+/// The outputs and the state after.
+#[tactic(auto, unfolding(crate::specs::Meaning::Means))]
+fn outcome(
+    alloc: Global,
+    code: &TaskCode,
+    inputs: &Inputs,
+    takes: &[Take],
+    dt: u32,
+    before: &TaskState,
+) -> Result<(Image, TaskState), AllocError>
+    requires fits { AreStatesOf code.now before.now }
+    requires suits { AreTakesOf code.now takes.now }
+    ensures meant { IfOk result (λ r. Means code.now inputs.now takes.now dt before.now r.0 r.1) }
+    ensures fits { IfOk result (λ r. AreStatesOf code.now r.1) }
+    ensures kinds { IfOk result (λ r. map kind_of r.0 ≡ image_kinds code.now) }
+{
+    let mut after = before.try_copy()?;
+    after.fill(code, inputs, takes);
+    after.scan(code, dt);
+    let outputs = after.image(alloc, code)?;
+    Ok((outputs, after))
+}
+
+impl Evaluation {
+    /// Evaluates a task: its outputs and the state after are computed here, and nowhere else. `dt` is the elapsed time in milliseconds.
+    pub fn make(
+        alloc: Global,
+        ticket: u64,
+        name: Name,
+        dt: u32,
+        inputs: Inputs,
+        takes: Vec<Take>,
+        before: TaskState,
+        code: Arc<TaskCode>,
+    ) -> Result<Evaluation, AllocError>
+        requires fits { AreStatesOf code.value before }
+        requires suits { AreTakesOf code.value takes.items }
+        ensures { IfOk result (λ e. IsAsked ticket name dt inputs takes.items before code.value e) }
+    {
+        let (outputs, after) = outcome(alloc, &code, &inputs, takes.as_slice(), dt, &before)?;
+        Ok(Evaluation {
+            ticket,
+            name,
+            dt,
+            inputs,
+            takes,
+            before,
+            outputs,
+            after,
+            code,
+        })
+    }
+
+    /// The ticket by which it was asked.
+    pub fn ticket(&self) -> u64
+        ensures { result ≡ self.now.ticket }
+    {
+        self.ticket
+    }
+
+    /// Its name.
+    pub fn name(&self) -> Name
+        ensures { result ≡ self.now.name }
+    {
+        self.name
+    }
+
+    /// The time since the evaluation before, in milliseconds.
+    pub fn dt(&self) -> u32
+        ensures { result ≡ self.now.dt }
+    {
+        self.dt
+    }
+
+    /// The field inputs.
+    pub fn inputs(&self) -> &Inputs
+        ensures { result.now ≡ self.now.inputs }
+    {
+        &self.inputs
+    }
+
+    /// What it took from each producer, in order.
+    pub fn takes(&self) -> &[Take]
+        ensures value { result.now ≡ self.now.takes }
+        ensures whole { IsWhole self.now }
+    {
+        self.takes.as_slice()
+    }
+
+    /// The state before.
+    pub fn before(&self) -> &TaskState
+        ensures value { result.now ≡ self.now.before }
+        ensures whole { IsWhole self.now }
+    {
+        &self.before
+    }
+
+    /// What it gave.
+    pub fn outputs(&self) -> &Image
+        ensures value { result.now ≡ self.now.outputs }
+        ensures meant { IsMeant self.now }
+        ensures whole { IsWhole self.now }
+    {
+        &self.outputs
+    }
+
+    /// The state after.
+    pub fn after(&self) -> &TaskState
+        ensures value { result.now ≡ self.now.after }
+        ensures meant { IsMeant self.now }
+        ensures whole { IsWhole self.now }
+    {
+        &self.after
+    }
+
+    /// The code that was run.
+    pub fn code(&self) -> &Arc<TaskCode>
+        ensures { result.now.value ≡ self.now.code }
+    {
+        &self.code
+    }
+
+    /// Whether both have the same contents. Places for a scan to work in do not count.
+    pub fn same(&self, other: &Self) -> bool
+        ensures { IsTrue result ↔ IsSameEvaluation self.now other.now }
+    {
+        self.ticket == other.ticket
+            && self.name.same(&other.name)
+            && self.dt == other.dt
+            && self.inputs.same(&other.inputs)
+            && are_same_takes(self.takes.as_slice(), other.takes.as_slice())
+            && self.before.same(&other.before)
+            && self.outputs.same(&other.outputs)
+            && self.after.same(&other.after)
+            && self.code.same(&other.code)
+    }
+}

@@ -1,0 +1,73 @@
+use crate::evaluation::Evaluation;
+use crate::image::Image;
+use crate::name::Name;
+use std::alloc::{AllocError, Global};
+use std::marker::Model;
+use std::sync::Arc;
+
+/// A shared evaluation, as it is exchanged. It does not change.
+#[derive(Drop)]
+pub struct Frame {
+    shared: Arc<Evaluation>,
+}
+
+impl Model for Frame {
+    ghost use Rattle.evaluation.specs.Meaning.{Evaluated};
+
+    ghost Value = { Evaluated };
+
+    ghost view = { λ f. f.shared.value };
+}
+
+ghost use Rattle.std.specs.Prelude.{◌≡◌, ◌↔◌, IsTrue, IfOk};
+ghost use Rattle.evaluation.specs.Meaning.{IsMeant, IsWhole, IsSameEvaluation};
+
+impl Frame {
+    /// A frame of an evaluation.
+    pub fn new(alloc: Global, evaluation: Evaluation) -> Result<Frame, AllocError>
+        ensures { IfOk result (λ f. f ≡ evaluation) }
+    {
+        Ok(Frame {
+            shared: Arc::new(alloc, evaluation)?,
+        })
+    }
+
+    /// One more share of the same evaluation.
+    pub fn try_clone(&self) -> Result<Frame, AllocError>
+        ensures { IfOk result (λ f. f ≡ self.now) }
+    {
+        Ok(Frame {
+            shared: Arc::try_clone(&self.shared)?,
+        })
+    }
+
+    /// The evaluation.
+    pub fn evaluation(&self) -> &Evaluation
+        ensures { result.now ≡ self.now }
+    {
+        &*self.shared
+    }
+
+    /// The evaluation's name.
+    pub fn name(&self) -> Name
+        ensures { result ≡ self.now.name }
+    {
+        self.shared.name()
+    }
+
+    /// What the evaluation gave: the meaning of its own code on its own inputs, takes, elapsed time and state before.
+    pub fn outputs(&self) -> &Image
+        ensures value { result.now ≡ self.now.outputs }
+        ensures meant { IsMeant self.now }
+        ensures whole { IsWhole self.now }
+    {
+        self.shared.outputs()
+    }
+
+    /// Whether both share evaluations with the same contents. Places for a scan to work in do not count.
+    pub fn same(&self, other: &Self) -> bool
+        ensures { IsTrue result ↔ IsSameEvaluation self.now other.now }
+    {
+        self.shared.same(&other.shared)
+    }
+}

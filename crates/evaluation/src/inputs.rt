@@ -1,0 +1,89 @@
+use crate::field_input::FieldInput;
+use plant::Address;
+use std::alloc::AllocError;
+use std::marker::Model;
+use std_blocks::Value;
+
+/// Field inputs: the listed addresses with their values, in order.
+#[derive(Drop)]
+pub struct Inputs {
+    listed: Vec<FieldInput>,
+}
+
+impl Model for Inputs {
+    ghost use Rattle.std.specs.Prelude.{List};
+    ghost use Rattle.evaluation.specs.declared.field_input.FieldInput.{FieldInput};
+
+    ghost Value = { List FieldInput };
+
+    ghost view = { λ i. i.listed.items };
+}
+
+ghost use Rattle.std.specs.Prelude.{◌≡◌, ◌↔◌, IsTrue, IfOk};
+ghost use Rattle.std.specs.List.{find};
+ghost use Rattle.std.specs.Option.{option_map};
+ghost use Rattle.evaluation.specs.Inputs.{field_value, address_of, same_address};
+
+impl Inputs {
+    /// Inputs that list these.
+    pub(crate) fn of(listed: Vec<FieldInput>) -> Inputs
+        ensures { result ≡ listed.items }
+    {
+        Inputs { listed }
+    }
+
+    /// The listed addresses with their values.
+    pub fn listed(&self) -> &[FieldInput]
+        ensures { result.now ≡ self.now }
+    {
+        self.listed.as_slice()
+    }
+
+    /// The first listed input at an address.
+    fn find(&self, address: Address) -> Option<&FieldInput>
+        ensures { option_map (λ i. i.now) result ≡ find (λ i. same_address (address_of i) address) self.now }
+    {
+        self.listed.iter().find(|input| input.is_at(address))
+    }
+
+    /// The value at an address; FALSE or 0 where it isn't listed.
+    #[tactic(auto, unfolding(crate::specs::Inputs::field_value))]
+    pub fn get(&self, address: Address) -> Value
+        ensures { result ≡ field_value self.now address }
+    {
+        match self.find(address) {
+            Some(input) => input.value(),
+            None => crate::kinds::first_value(crate::kinds::kind_of_space(address.space)),
+        }
+    }
+
+    /// Inputs that list the same.
+    pub fn try_copy(&self) -> Result<Inputs, AllocError>
+        ensures { IfOk result (λ copy. copy ≡ self.now) }
+    {
+        Ok(Inputs {
+            listed: self.listed.clone()?,
+        })
+    }
+
+    /// Whether both list the same addresses with the same values in the same order.
+    pub fn same(&self, other: &Self) -> bool
+        ensures { IsTrue result ↔ (self.now ≡ other.now) }
+    {
+        are_same(self.listed.as_slice(), other.listed.as_slice())
+    }
+}
+
+fn are_same(listed: &[FieldInput], others: &[FieldInput]) -> bool
+    ensures { IsTrue result ↔ (listed.now ≡ others.now) }
+{
+    if listed.len() != others.len() {
+        return false;
+    }
+    for i in 0..listed.len() {
+        if !listed[i].same(&others[i]) {
+            return false;
+        }
+    }
+    true
+}

@@ -1,0 +1,33 @@
+//! One evaluation of a task: what it was asked, what it took, what it gave and what it left.
+#![tactic(auto)]
+
+mod evaluation;
+mod field_input;
+mod fill;
+mod fits;
+mod frame;
+mod image;
+mod input_fault;
+mod inputs;
+mod kinds;
+mod laws;
+mod name;
+mod outputs;
+mod read_inputs;
+mod scan;
+mod take;
+mod task_state;
+#[cfg(test)]
+mod tests;
+
+pub use evaluation::Evaluation;
+pub use field_input::FieldInput;
+pub use fits::{fits_state, suits_takes};
+pub use frame::Frame;
+pub use image::Image;
+pub use input_fault::InputFault;
+pub use inputs::Inputs;
+pub use laws::one_meaning;
+pub use name::Name;
+pub use take::Take;
+pub use task_state::TaskState;

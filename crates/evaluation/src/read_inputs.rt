@@ -1,0 +1,159 @@
+//! Texts of field inputs.
+
+ghost use Rattle.std.specs.Prelude.{◌≡◌, ◌+◌, ◌*◌, ◌↔◌, ◌≢◌, ◌≤◌, IfOk, IfErr, IsFalse, Some, map, slice_get, pos, ◌-ℤ◌};
+ghost use Rattle.evaluation.specs.declared.field_input.FieldInput.{FieldInput};
+ghost use Rattle.evaluation.specs.InputTexts.{words_of, bit_value, is_below_zero, value_below, value_above, word_value, input_at, sign_of, input_of, AreApart, IsRead, IsFaultOf, IsWordFault};
+
+use crate::field_input::FieldInput;
+use crate::input_fault::InputFault;
+use crate::inputs::Inputs;
+use ladder_text::number_up_to;
+use plant::{Address, Space};
+use std::alloc::{AllocError, Global};
+use std::collections::BTreeSet;
+
+/// The words between blanks and tabs.
+fn words_of(alloc: Global, text: &[u8]) -> Result<Vec<&[u8]>, AllocError>
+    ensures { IfOk result (λ v. map (λ w. w.now) v.items ≡ words_of text.now) }
+{
+    let mut words = Vec::new(alloc);
+    for word in text.split(|c| *c == b' ' || *c == b'\t') {
+        if !word.is_empty() {
+            words.push(word)?;
+        }
+    }
+    Ok(words)
+}
+
+/// The value of a bit: 0 or 1.
+#[tactic(auto, unfolding(crate::specs::InputTexts::bit_value))]
+fn bit_value(word: &[u8]) -> Option<bool>
+    ensures { result ≡ bit_value word.now }
+{
+    match number_up_to(word, 1) {
+        Some(number) => Some(number == 1),
+        None => None,
+    }
+}
+
+/// Whether a sign stands before a number.
+fn is_below_zero(word: &[u8]) -> bool
+    ensures { result ≡ is_below_zero word.now }
+{
+    match word {
+        [first, ..] => *first == b'-',
+        [] => false,
+    }
+}
+
+/// A number behind a sign, down to -32,768.
+#[tactic(auto, unfolding(ladder_text::specs::Numbers::number_up_to))]
+fn value_below(digits: &[u8]) -> Option<i16>
+    ensures { result ≡ value_below digits.now }
+{
+    match number_up_to(digits, 32_768) {
+        Some(number) => Some((0 - number as i32) as i16),
+        None => None,
+    }
+}
+
+/// A number without a sign, up to 32,767.
+#[tactic(auto, unfolding(ladder_text::specs::Numbers::number_up_to))]
+fn value_above(digits: &[u8]) -> Option<i16>
+    ensures { result ≡ value_above digits.now }
+{
+    match number_up_to(digits, 32_767) {
+        Some(number) => Some(number as i16),
+        None => None,
+    }
+}
+
+/// The value of a word, from -32,768 to 32,767.
+#[tactic(auto, unfolding(crate::specs::InputTexts::word_value))]
+fn word_value(word: &[u8]) -> Option<i16>
+    ensures { result ≡ word_value word.now }
+{
+    if is_below_zero(word) {
+        value_below(&word[1..])
+    } else {
+        value_above(word)
+    }
+}
+
+/// The input at an address with a value that is written.
+fn input_at(address: Address, word: &[u8]) -> Option<FieldInput>
+    ensures { result ≡ input_at address word.now }
+{
+    let number = address.number;
+    match address.space {
+        Space::Bit => match bit_value(word) {
+            Some(value) => Some(FieldInput::Bit { number, value }),
+            None => None,
+        },
+        Space::Word => match word_value(word) {
+            Some(value) => Some(FieldInput::Word { number, value }),
+            None => None,
+        },
+    }
+}
+
+/// Where the first `=` stands.
+fn sign_of(word: &[u8]) -> Option<usize>
+    ensures { result ≡ sign_of word.now }
+{
+    word.iter().position(|c| *c == b'=')
+}
+
+/// The input that a word is.
+#[tactic(auto, unfolding(crate::specs::InputTexts::input_of))]
+fn input_of(word: &[u8]) -> Option<FieldInput>
+    ensures { result ≡ input_of word.now }
+{
+    let sign = sign_of(word)?;
+    let address = Address::of_word(&word[..sign])?;
+    input_at(address, &word[sign + 1..])
+}
+
+/// The inputs that the words are.
+fn inputs_of(alloc: Global, words: &[&[u8]]) -> Result<Vec<FieldInput>, InputFault>
+    ensures read { IfOk result (λ inputs. map input_of (map (λ w. w.now) words.now) ≡ map (λ i. Some i) inputs.items) }
+    ensures fault { IfErr result (λ fault. IsWordFault (map (λ w. w.now) words.now) fault) }
+{
+    let mut inputs = Vec::new(alloc);
+    for word in words {
+        match input_of(word) {
+            Some(input) => inputs.push(input)?,
+            None => return Err(InputFault::Syntax),
+        }
+    }
+    Ok(inputs)
+}
+
+/// Whether an address comes twice.
+fn has_twice(alloc: Global, inputs: &[FieldInput]) -> Result<bool, AllocError>
+    ensures { IfOk result (λ twice. IsFalse twice ↔ AreApart inputs.now) }
+{
+    let mut known = BTreeSet::new(alloc);
+    for input in inputs {
+        if !known.insert(input.key())? {
+            return Ok(true);
+        }
+    }
+    Ok(false)
+}
+
+impl Inputs {
+    /// Reads words `ADDRESS=VALUE`, such as `%IX0=1` and `%IW2=-7`, that are parted by blanks or tabs. A bit is 0 or 1, a word from -32,768 to 32,767.
+    /// Syntax: some word isn't one. Twice: each word is one, and an address comes twice.
+    pub fn read(alloc: Global, text: &str) -> Result<Inputs, InputFault>
+        ensures ok { IfOk result (λ inputs. IsRead text.now inputs) }
+        ensures fault { IfErr result (λ fault. IsFaultOf text.now fault) }
+    {
+        let words = words_of(alloc, text.as_bytes())?;
+        let inputs = inputs_of(alloc, words.as_slice())?;
+        if has_twice(alloc, inputs.as_slice())? {
+            return Err(InputFault::Twice);
+        }
+        Ok(Inputs::of(inputs))
+    }
+}
