@@ -6,12 +6,14 @@ use Rattle.power_flow.specs.declared.declarations.Declaration.{Declaration}
 use Rattle.std.specs.Result.{IsErrAnd}
 use Rattle.power_flow.specs.declared.bind.BindFault.{BindFault}
 use Rattle.power_flow.specs.declared.bind.BindKind.TheVariants.{Memory as BindMemory}
-use Rattle.plc_main.specs.declared.text_fault.TextFault.TheVariants.{Bind}
+use Rattle.network.specs.declared.fault.GraphFault.{GraphFault}
+use Rattle.network.specs.declared.fault.GraphFaultKind.TheVariants.{Memory as GraphMemory}
+use Rattle.plc_main.specs.declared.text_fault.TextFault.TheVariants.{Bind, Graph}
 use Rattle.plc_main.specs.Refusals.{GivenFor}
 use Rattle.plc_main.specs.Rows.{RowValue, AreRows}
 use Rattle.plc_main.specs.declared.command_fault.CommandFault.{CommandFault}
 use Rattle.plc_main.specs.declared.command_fault.CommandFault.TheVariants.{Text, Word, Write, Memory}
-use Rattle.plc_main.specs.EvalText.{IsLadderOf, Asked, WritesAll, WritesScans, WritesSomeScans, RefusesLadder, RefusesNames, RefusesRows, IsLate, Explains}
+use Rattle.plc_main.specs.EvalText.{IsLadderOf, Asked, WritesAll, WritesScans, WritesSomeScans, RefusesLadder, RefusesNames, RefusesNetworks, RefusesRows, IsLate, Explains}
 
 pub explain_ladder : (drawing : List ℕ) (words : List (List ℕ)) (dt : ℕ) (old : Option (List ℕ)) (fault : CommandFault) → RefusesLadder drawing fault
     → Explains drawing words dt old old fault
@@ -56,3 +58,9 @@ pub names_refused : {T : Type 0} (drawing : List ℕ) (found : BindFault) (r : R
     → ((found.kind ≡ BindMemory → ⊥) → RefusesNames drawing found) → IfErr r (RefusesLadder drawing)
 names_refused drawing found (Ok x) given names = tt
 names_refused drawing found (Err fault) given names = elim given [ inl w ↦ rw w.1 tt | inr w ↦ rw w.1 (names w.0) ]
+
+-- a refusal by the networks is one of the text, or of memory
+pub networks_refused : {T : Type 0} (drawing : List ℕ) (found : GraphFault) (r : Result T CommandFault) → IsErrAnd r (GivenFor (found.kind ≡ GraphMemory) (Graph found))
+    → ((found.kind ≡ GraphMemory → ⊥) → RefusesNetworks drawing found) → IfErr r (RefusesLadder drawing)
+networks_refused drawing found (Ok x) given networks = tt
+networks_refused drawing found (Err fault) given networks = elim given [ inl w ↦ rw w.1 tt | inr w ↦ rw w.1 (networks w.0) ]

@@ -3,3 +3,7 @@ pub mod Setting
 pub mod Scanning
 pub mod RowLemmas
 pub mod Explaining
+pub mod Counting
+pub mod Sending
+pub mod PlantBounds
+pub mod PlanExplaining

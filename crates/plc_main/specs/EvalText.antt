@@ -5,9 +5,11 @@ use Rattle.ladder_text.specs.Rows.{rows_of}
 use Rattle.ladder_text.specs.Places.{layout_of}
 use Rattle.ladder_text.specs.Picture.{Picture, picture_of}
 use Rattle.ladder_text.specs.Faults.{IsWellDrawn, IsIllDrawn}
+use Rattle.ladder_text.specs.declared.place.Place.{Place}
 use Rattle.network.specs.Links.{Diagram}
 use Rattle.network.specs.GraphValue.{GraphValue}
-use Rattle.network.specs.Networks.{AreNetworks}
+use Rattle.network.specs.Networks.{AreNetworks, IsFaultAt, IsFoundAt}
+use Rattle.network.specs.declared.fault.GraphFault.{GraphFault}
 use Rattle.std_blocks.specs.declared.value.Value.TheVariants.{Bool as BoolValue}
 use Rattle.power_flow.specs.declared.declarations.Declaration.{Declaration}
 use Rattle.power_flow.specs.declared.state.Slot.{Slot}
@@ -22,7 +24,7 @@ use Rattle.power_flow.specs.declared.bind.BindFault.{BindFault}
 use Rattle.plc_main.specs.declared.command_fault.CommandFault.{CommandFault}
 use Rattle.plc_main.specs.declared.command_fault.CommandFault.TheVariants.{Text, Word, Write, Memory}
 use Rattle.plc_main.specs.declared.text_fault.TextFault.{TextFault}
-use Rattle.plc_main.specs.declared.text_fault.TextFault.TheVariants.{Draw, Graph, Bind}
+use Rattle.plc_main.specs.declared.text_fault.TextFault.TheVariants.{Draw, Graph, Bind, Plant, TooLong}
 use Rattle.plc_main.specs.Rows.{RowValue, AreRows, scans_of}
 use Rattle.plc_main.specs.Lines.{line_of}
 
@@ -114,11 +116,21 @@ pub record RefusesNames (drawing : List ℕ) (fault : BindFault) : Type 0 where
   pub refused : CanBind declarations (diagrams_of graph) → ⊥
   pub first : IsFirstFault declarations graph fault
 
+-- the networks of the drawing have this fault at some place, the first by its kind, row and column
+pub record RefusesNetworks (drawing : List ℕ) (fault : GraphFault) : Type 0 where
+  pub picture : Picture
+  pub drawn : IsDrawn drawing picture
+  pub place : Place
+  pub first : IsFaultAt picture fault.kind place
+  pub found : IsFoundAt picture.first_line place fault
+
 -- what holds after a refusal by the text
 abbrev pub RefusesText : List ℕ → TextFault → Type 0
 RefusesText drawing (Draw fault) = IsIllDrawn (rows_of drawing)
-RefusesText drawing (Graph fault) = (picture : Picture) × IsDrawn drawing picture
+RefusesText drawing (Graph fault) = RefusesNetworks drawing fault
 RefusesText drawing (Bind fault) = RefusesNames drawing fault
+RefusesText drawing (Plant fault) = ⊥
+RefusesText drawing TooLong = ⊥
 
 -- no ladder was made: the text is refused, or memory
 abbrev pub RefusesLadder : List ℕ → CommandFault → Type 0

@@ -2,3 +2,5 @@ pub mod Refusals
 pub mod Rows
 pub mod Lines
 pub mod EvalText
+pub mod CheckText
+pub mod PlanText

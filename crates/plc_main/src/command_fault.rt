@@ -5,6 +5,7 @@ use crate::text_output::WriteFault;
 use crate::word_fault::WordFault;
 use ladder_text::{DrawFault, DrawFaultKind};
 use network::{GraphFault, GraphFaultKind};
+use plant::{PlanFault, PlantFault, PlantFaultKind};
 use power_flow::{BindFault, BindKind};
 use std::alloc::{AllocError, AllocFailed};
 use thiserror::Error;
@@ -97,6 +98,36 @@ impl From<BindFault> for CommandFault {
         match fault.kind {
             BindKind::Memory => CommandFault::Memory,
             _ => CommandFault::Text(TextFault::Bind(fault)),
+        }
+    }
+}
+
+impl From<PlantFault> for CommandFault {
+    ghost use Rattle.plc_main.specs.Refusals.{GivenFor};
+    ghost use Rattle.plant.specs.declared.plant_fault.PlantFaultKind.TheVariants as plant;
+    ghost use Rattle.plc_main.specs.declared.text_fault.TextFault.TheVariants.{Plant};
+
+    ghost from_gives = { λ found fault. GivenFor (found.kind ≡ plant.Memory) (Plant found) fault };
+
+    fn from(fault: PlantFault) -> CommandFault {
+        match fault.kind {
+            PlantFaultKind::Memory => CommandFault::Memory,
+            _ => CommandFault::Text(TextFault::Plant(fault)),
+        }
+    }
+}
+
+impl From<PlanFault> for CommandFault {
+    ghost use Rattle.plc_main.specs.Refusals.{GivenFor};
+    ghost use Rattle.plant.specs.declared.plan_fault.PlanFault.TheVariants as plan;
+    ghost use Rattle.plc_main.specs.declared.text_fault.TextFault.TheVariants.{TooLong};
+
+    ghost from_gives = { λ found fault. GivenFor (found ≡ plan.Memory) TooLong fault };
+
+    fn from(fault: PlanFault) -> CommandFault {
+        match fault {
+            PlanFault::Memory => CommandFault::Memory,
+            PlanFault::TooLong => CommandFault::Text(TextFault::TooLong),
         }
     }
 }

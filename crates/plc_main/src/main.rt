@@ -1,9 +1,12 @@
 //! The program `plc`.
 #![tactic(auto)]
 
+mod check_command;
 mod command_fault;
 mod eval_command;
 mod line;
+mod plan_command;
+mod plant_counts;
 mod row;
 mod rows;
 mod text_fault;
@@ -11,12 +14,15 @@ mod text_output;
 mod word_fault;
 mod words;
 
+use check_command::check;
 use command_fault::CommandFault;
 use eval_command::eval;
+use plan_command::plan_text;
 use std::io::ErrorKind;
 use std::process::ExitCode;
 use std::rt::{Env, Files};
 use std::{env, fs, io};
+use text_fault::TextFault;
 use words::{Request, read_words};
 
 /// The status after a text is refused.
@@ -58,6 +64,10 @@ fn print_fault<R: Eprint>(
     fault: CommandFault,
 ) -> io::Result<u8> {
     match fault {
+        CommandFault::Text(TextFault::TooLong) => {
+            eprintln!(rt; "plan: TooLong")?;
+            Ok(TEXT_REFUSED)
+        }
         CommandFault::Text(fault) => {
             eprintln!(rt; "{file}:{fault}")?;
             Ok(TEXT_REFUSED)
@@ -74,22 +84,43 @@ fn print_fault<R: Eprint>(
     }
 }
 
-fn eval_file<R: Files + Print + Eprint + AllocGlobal>(
+/// The text of a file, or the status after its fault was told.
+fn file_text<R: Files + Eprint + AllocGlobal>(
     rt: &R,
     file: &str,
-    dt: u32,
-    words: &[&str],
-) -> io::Result<u8> {
-    let text = match fs::read_to_string(rt, file) {
-        Ok(text) => text,
+) -> io::Result<Result<String, u8>> {
+    match fs::read_to_string(rt, file) {
+        Ok(text) => Ok(Ok(text)),
         Err(error) => {
             eprintln!(rt; "plc: {file}: {error}")?;
-            return Ok(FAILED);
+            Ok(Err(FAILED))
         }
+    }
+}
+
+/// Does what the words ask for with the text of the file.
+fn obey<R: Print + AllocGlobal>(
+    rt: &R,
+    request: &Request<'_>,
+    text: &str,
+) -> Result<(), CommandFault> {
+    let mut writer = io::writer(rt);
+    match request {
+        Request::Eval { dt, words, .. } => eval(rt.alloc(), text, words, *dt, &mut writer),
+        Request::Check { .. } => check(rt.alloc(), text, &mut writer),
+        Request::Plan { until, .. } => plan_text(rt.alloc(), text, *until, &mut writer),
+    }
+}
+
+fn run<R: Files + Print + Eprint + AllocGlobal>(rt: &R, request: &Request<'_>) -> io::Result<u8> {
+    let file = request.file();
+    let text = match file_text(rt, file)? {
+        Ok(text) => text,
+        Err(status) => return Ok(status),
     };
-    match eval(rt.alloc(), text.as_str(), words, dt, &mut io::writer(rt)) {
+    match obey(rt, request, text.as_str()) {
         Ok(()) => Ok(0),
-        Err(fault) => print_fault(rt, file, words, fault),
+        Err(fault) => print_fault(rt, file, request.words(), fault),
     }
 }
 
@@ -99,7 +130,7 @@ fn answer<R: Env + Files + Print + Eprint + AllocGlobal>(rt: &R) -> io::Result<u
         Err(error) => return print_given_fault(rt, &error),
     };
     match read_words(rt.alloc(), given.as_slice()) {
-        Ok(Request::Eval { drawing, dt, words }) => eval_file(rt, drawing, dt, &words),
+        Ok(request) => run(rt, &request),
         Err(error) => print_usage(rt, &error),
     }
 }

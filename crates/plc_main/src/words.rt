@@ -14,6 +14,34 @@ pub enum Request<'a> {
         dt: u32,
         words: Vec<&'a str>,
     },
+    /// How many resources, tasks, programs and connections a plant has.
+    Check {
+        plant: &'a str,
+    },
+    /// When the tasks of a plant are due, up to and with `until` (in ms).
+    Plan {
+        plant: &'a str,
+        until: u32,
+    },
+}
+
+impl<'a> Request<'a> {
+    /// The file that is to be read.
+    pub fn file(&self) -> &'a str {
+        match self {
+            Request::Eval { drawing, .. } => drawing,
+            Request::Check { plant } => plant,
+            Request::Plan { plant, .. } => plant,
+        }
+    }
+
+    /// The words NAME=BITS.
+    pub fn words(&self) -> &[&'a str] {
+        match self {
+            Request::Eval { words, .. } => words.as_slice(),
+            Request::Check { .. } | Request::Plan { .. } => &[],
+        }
+    }
 }
 
 const EVAL_HELP: &str = "\
@@ -33,6 +61,36 @@ Example, for the drawing examples/start_stop.ladder:
 
 The exit status is 0; 1 if the text of the drawing is refused, with FILE:LINE:COLUMN: Kind on standard error;
 2 if a word is refused; 3 if the file can't be read, the output can't be written or there is no memory left.";
+
+const CHECK_HELP: &str = "\
+Four lines are written: how many resources, tasks, program instances and bound inputs the plant has.
+
+Example:
+
+  $ plc check examples/pair.plant
+  resources 2
+  tasks 2
+  programs 2
+  connections 3
+
+The exit status is 0; 1 if the text of the plant is refused, with FILE:LINE: Kind on standard error (and the kind of what
+is wrong in a program's drawing behind it, as FILE:LINE: Bind WritesInput); 2 if a word is refused; 3 if the file can't
+be read, the output can't be written or there is no memory left.";
+
+const PLAN_HELP: &str = "\
+A task is due at each multiple of its INTERVAL, from once the INTERVAL on, up to and with MS. A line is written for each
+moment and task, ordered by moment, priority (0 is the highest), resource and task.
+
+Example:
+
+  $ plc plan examples/pair.plant --until 20
+  10 R1.FAST
+  20 R1.FAST
+  20 R2.SLOW
+
+The exit status is 0; 1 if the text of the plant is refused, with FILE:LINE: Kind on standard error, or if the plan has
+more than 100,000 lines, with plan: TooLong; 2 if a word is refused; 3 if the file can't be read, the output can't be
+written or there is no memory left.";
 
 fn drawing_arg<'a>(alloc: Global) -> Arg<'a> {
     Arg::new(alloc, "DRAWING")
@@ -66,13 +124,46 @@ fn eval_command<'a>(alloc: Global) -> Result<Command<'a>, AllocError> {
         .arg(rows_arg(alloc))
 }
 
+fn plant_arg<'a>(alloc: Global) -> Arg<'a> {
+    Arg::new(alloc, "PLANT")
+        .required(true)
+        .action(ArgAction::Set)
+        .help("The file of the plant")
+}
+
+fn until_arg<'a>(alloc: Global) -> Arg<'a> {
+    Arg::new(alloc, "until")
+        .long("until")
+        .value_name("MS")
+        .required(true)
+        .action(ArgAction::Set)
+        .help("The last moment of the plan in milliseconds, 0 to 4294967295")
+}
+
+fn check_command<'a>(alloc: Global) -> Result<Command<'a>, AllocError> {
+    Command::new(alloc, "check")
+        .about("Reads a plant, and writes how many parts it has")
+        .after_help(CHECK_HELP)
+        .arg(plant_arg(alloc))
+}
+
+fn plan_command<'a>(alloc: Global) -> Result<Command<'a>, AllocError> {
+    Command::new(alloc, "plan")
+        .about("Reads a plant, and writes when its tasks are due")
+        .after_help(PLAN_HELP)
+        .arg(plant_arg(alloc))?
+        .arg(until_arg(alloc))
+}
+
 /// The commands of the program.
 pub fn commands<'a>(alloc: Global) -> Result<Command<'a>, AllocError> {
     Command::new(alloc, "plc")
         .bin_name("plc")?
         .about("Runs ladder diagrams drawn in characters (IEC 61131-3)")
         .subcommand_required(true)
-        .subcommand(eval_command(alloc)?)
+        .subcommand(eval_command(alloc)?)?
+        .subcommand(check_command(alloc)?)?
+        .subcommand(plan_command(alloc)?)
 }
 
 /// A number of decimal digits alone, at most 4294967295.
@@ -89,15 +180,13 @@ fn number_of<'a>(
     command: &mut Command<'a>,
     matches: &ArgMatches<'a>,
     id: &str,
+    refusal: &'static str,
 ) -> Result<u32, Error> {
     match matches.get_str(id) {
         None => Ok(0),
         Some(text) => match number(text) {
             Some(n) => Ok(n),
-            None => Err(command.error(
-                ErrorKind::ValueValidation,
-                "MS of --dt is a number from 0 to 4294967295",
-            )?),
+            None => Err(command.error(ErrorKind::ValueValidation, refusal)?),
         },
     }
 }
@@ -112,16 +201,48 @@ fn words_of<'a>(alloc: Global, matches: &ArgMatches<'a>) -> Result<Vec<&'a str>,
     Ok(words)
 }
 
+fn eval_request<'a>(
+    alloc: Global,
+    command: &mut Command<'a>,
+    inner: &ArgMatches<'a>,
+) -> Result<Request<'a>, Error> {
+    Ok(Request::Eval {
+        drawing: inner.get_str("DRAWING").unwrap_or(""),
+        dt: number_of(
+            command,
+            inner,
+            "dt",
+            "MS of --dt is a number from 0 to 4294967295",
+        )?,
+        words: words_of(alloc, inner)?,
+    })
+}
+
+fn plan_request<'a>(
+    command: &mut Command<'a>,
+    inner: &ArgMatches<'a>,
+) -> Result<Request<'a>, Error> {
+    Ok(Request::Plan {
+        plant: inner.get_str("PLANT").unwrap_or(""),
+        until: number_of(
+            command,
+            inner,
+            "until",
+            "MS of --until is a number from 0 to 4294967295",
+        )?,
+    })
+}
+
 /// Reads the words, of which the first is the program's own name.
 pub fn read_words<'a>(alloc: Global, words: &'a [String]) -> Result<Request<'a>, Error> {
     let mut command = commands(alloc)?;
     let matches = command.try_get_matches_from_mut(words)?;
-    let Some((_, inner)) = matches.subcommand() else {
-        return Err(command.error(ErrorKind::MissingSubcommand, "a command is missing")?);
-    };
-    Ok(Request::Eval {
-        drawing: inner.get_str("DRAWING").unwrap_or(""),
-        dt: number_of(&mut command, inner, "dt")?,
-        words: words_of(alloc, inner)?,
-    })
+    match matches.subcommand() {
+        Some(("check", inner)) => Ok(Request::Check {
+            plant: inner.get_str("PLANT").unwrap_or(""),
+        }),
+        Some(("plan", inner)) => plan_request(&mut command, inner),
+        Some((_, inner)) => eval_request(alloc, &mut command, inner),
+        None => Err(command.error(ErrorKind::MissingSubcommand, "a command is missing")?),
+    }
 }

@@ -1,4 +1,4 @@
-use Rattle.plc_main.proofs.Explaining.{names_refused}
+use Rattle.plc_main.proofs.Explaining.{names_refused, networks_refused}
 use Rattle.plc_main.proofs.eval_command.read_ladder.Goals as goal
 
 pub returns-in_err-bind-clause-err : goal.returns-in_err-bind-clause-err
@@ -13,4 +13,15 @@ returns-in_err-bind-clause-err c =
       guessed = c.in_ok-declarations.ensures;
       refused = c.in_err-bind.ensures.only other;
       first = c.in_err-bind.ensures.first other;
+    })
+
+pub returns-in_err-graph-clause-err : goal.returns-in_err-graph-clause-err
+returns-in_err-graph-clause-err c =
+    networks_refused c.args.drawing.now c.in_err-graph.field-0.0 c.from_residual-in_err-graph.result c.from_residual-in_err-graph.ensures.1
+    (λ other. let fault = c.in_err-graph.ensures.fault other in record {
+      picture = c.in_ok-drawing.drawing;
+      drawn = record { well_drawn = c.in_ok-drawing.ensures.well_drawn; picture = c.in_ok-drawing.ensures.drawing };
+      place = fault.0;
+      first = fault.1;
+      found = fault.2;
     })

@@ -1,0 +1,99 @@
+ghost use Rattle.std.specs.Prelude.{◌≡◌, ℕ, ◌++◌, OnOk, OnErr, IfOk, IfErr, string_bytes, take};
+ghost use Rattle.std.specs.Io.KnownBytes.{Appends};
+ghost use Rattle.plant.specs.Plan.{IsPlan};
+ghost use Rattle.plc_main.specs.EvalText.{IsLate};
+ghost use Rattle.plc_main.specs.PlanText.{resource_name, task_name, due_line, plan_lines, Sends, SendsPart, RefusesPlanOf, WritesPlan, ExplainsPlan};
+
+use crate::check_command::read_plant;
+use crate::command_fault::CommandFault;
+use crate::text_output::{WriteFault, write_text};
+use plant::{Due, Plant, TaskRef, plan};
+use std::alloc::{AllocError, Global};
+use std::fmt::Write as _;
+use std::io::Write;
+
+/// Lines are written once so many bytes of them are made.
+const FULL: usize = 65_536;
+
+fn resource_name(plant: &Plant, task: TaskRef) -> &str
+    ensures { result.now ≡ resource_name plant.now task }
+{
+    match plant.resource_name(task.resource) {
+        Some(name) => name,
+        None => "",
+    }
+}
+
+fn task_name(plant: &Plant, task: TaskRef) -> &str
+    ensures { result.now ≡ task_name plant.now task }
+{
+    match plant.tasks(task.resource).get(task.task) {
+        Some(found) => found.name(),
+        None => "",
+    }
+}
+
+fn push_due(lines: &mut String, plant: &Plant, due: Due) -> Result<(), AllocError>
+    ensures { OnOk result (string_bytes lines.new ≡ string_bytes lines.old ++ due_line plant.now due) }
+{
+    let moment = due.moment;
+    let resource = resource_name(plant, due.task);
+    let task = task_name(plant, due.task);
+    write!(lines, "{moment} {resource}.{task}\n")
+}
+
+/// Writes the lines and empties them, if there are many.
+fn send_full<W: Write>(lines: &mut String, writer: &mut W) -> Result<(), WriteFault>
+    ensures ok { OnOk result (Sends (string_bytes lines.old) (string_bytes lines.new) (W.contents writer.old) (W.contents writer.new)) }
+    ensures part { OnErr result ((k : ℕ) × Appends (W.contents writer.old) (W.contents writer.new) (take k (string_bytes lines.old))) }
+{
+    if lines.len() >= FULL {
+        write_text(writer, lines.as_str())?;
+        lines.clear();
+    }
+    Ok(())
+}
+
+/// Writes a line for each entry.
+fn write_dues<W: Write>(
+    alloc: Global,
+    plant: &Plant,
+    dues: &[Due],
+    writer: &mut W,
+) -> Result<(), CommandFault>
+    ensures ok { OnOk result (Appends (W.contents writer.old) (W.contents writer.new) (plan_lines plant.now dues.now)) }
+    ensures part { OnErr result (SendsPart (plan_lines plant.now dues.now) (W.contents writer.old) (W.contents writer.new)) }
+    ensures late { IfErr result IsLate }
+{
+    let mut lines = String::new(alloc);
+    for due in dues {
+        push_due(&mut lines, plant, *due)?;
+        send_full(&mut lines, writer)?;
+    }
+    Ok(write_text(writer, lines.as_str())?)
+}
+
+/// The plan of a plant.
+fn plan_of(alloc: Global, plant: &Plant, until: u32) -> Result<Vec<Due>, CommandFault>
+    ensures ok { IfOk result (λ dues. IsPlan plant.now until dues.items) }
+    ensures err { IfErr result (RefusesPlanOf plant.now until) }
+{
+    Ok(plan(alloc, plant, until)?)
+}
+
+/// Reads a plant, and writes its plan up to and with `until` (in ms), a line for each entry, as `10 R1.FAST`.
+///
+/// `Text` comes before anything is written. After `Write` and `Memory` what went out is a prefix.
+pub fn plan_text<W: Write>(
+    alloc: Global,
+    plant: &str,
+    until: u32,
+    writer: &mut W,
+) -> Result<(), CommandFault>
+    ensures ok { OnOk result (WritesPlan plant.now until (W.contents writer.old) (W.contents writer.new)) }
+    ensures fault { IfErr result (ExplainsPlan plant.now until (W.contents writer.old) (W.contents writer.new)) }
+{
+    let plant = read_plant(alloc, plant)?;
+    let dues = plan_of(alloc, &plant, until)?;
+    write_dues(alloc, &plant, &dues, writer)
+}
