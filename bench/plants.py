@@ -1,0 +1,65 @@
+"""Plants to be timed."""
+import re
+
+from drawings import rungs
+
+RESOURCES = 16
+TASKS = 16
+TYPES = 64
+INSTANCES = 64
+CONNECTIONS = 4096
+INPUTS = 900
+OUTPUTS = 100
+
+
+def body(lines):
+    """Lines of 240 columns with as many names as a program type may declare."""
+    text = re.sub(r"X(\d{3})", lambda it: f"X{int(it[1]) % INPUTS:03}", rungs(lines))
+    return re.sub(r"Y(\d{3})", lambda it: f"Y{int(it[1]) % OUTPUTS:03}", text)
+
+
+def program(number, drawing):
+    inputs = ", ".join(f"X{it:03}" for it in range(INPUTS))
+    outputs = ", ".join(f"Y{it:03}" for it in range(OUTPUTS))
+    return (
+        f"PROGRAM TYPE{number:02}\nVAR_INPUT {inputs} : BOOL; END_VAR\nVAR_OUTPUT {outputs} : BOOL; END_VAR\n"
+        f"{drawing}END_PROGRAM\n"
+    )
+
+
+def binds(number):
+    """The bound inputs of an instance: every other one takes from another instance, on another resource."""
+    other = (number + 1) % INSTANCES
+    source = f"RESOURCE{other % RESOURCES:02}.INSTANCE{other:02}"
+    some = [f"%IX{it}" if it % 2 else f"{source}.Y{it % OUTPUTS:03}" for it in range(CONNECTIONS // INSTANCES)]
+    return ",\n      ".join(f"X{it:03} := {what}" for it, what in enumerate(some))
+
+
+def resource(number):
+    lines = [f"  RESOURCE RESOURCE{number:02} ON NODE"]
+    lines += [f"    TASK TASK{it:02}(INTERVAL := T#{10 + it}ms, PRIORITY := {it});" for it in range(TASKS)]
+    for it in range(number, INSTANCES, RESOURCES):
+        lines.append(f"    PROGRAM INSTANCE{it:02} WITH TASK{it % TASKS:02} : TYPE{it:02}({binds(it)});")
+    return "\n".join(lines) + "\n  END_RESOURCE\n"
+
+
+def largest(lines):
+    """A plant of as many parts as there may be, with bodies of so many lines; with 2,000 it is the largest lawful one."""
+    drawing = body(lines)
+    programs = "".join(program(it, drawing) for it in range(TYPES))
+    return programs + "CONFIGURATION LARGEST\n" + "".join(resource(it) for it in range(RESOURCES)) + "END_CONFIGURATION\n"
+
+
+def frequent(tasks, others):
+    """A plant whose first task is due at each moment, and the others only much later."""
+    lines = ["CONFIGURATION FREQUENT"]
+    left = tasks - 1
+    for number in range(RESOURCES):
+        lines.append(f"  RESOURCE R{number} ON NODE")
+        if number == 0:
+            lines.append("    TASK EACH(INTERVAL := T#1ms, PRIORITY := 0);")
+        for it in range(min(left, TASKS - (number == 0))):
+            lines.append(f"    TASK T{it}(INTERVAL := {others}, PRIORITY := 1);")
+            left -= 1
+        lines.append("  END_RESOURCE")
+    return "\n".join(lines + ["END_CONFIGURATION"]) + "\n"
