@@ -341,7 +341,7 @@ fn check_most(
     let mut text = listed(alloc, head, item, most, tail)?;
     text.push_str(end)?;
     assert_eq!(rt; fault_of(alloc, text.as_str()), None, "{item}");
-    let mut text = listed(alloc, head, item, most + 1, tail)?;
+    let mut text = listed(alloc, head, item, most.saturating_add(1), tail)?;
     text.push_str(end)?;
     assert_eq!(rt;
         fault_of(alloc, text.as_str()),
