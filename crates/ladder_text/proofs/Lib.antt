@@ -23,3 +23,4 @@ pub mod RisingItems
 pub mod NumberLemmas
 pub mod RowPins
 pub mod BoxOrder
+pub mod SpanRows

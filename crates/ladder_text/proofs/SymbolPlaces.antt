@@ -1,7 +1,7 @@
 -- The places of contacts and coils.
 use Rattle.std.proofs.Common.{ℕ, ◌+◌, ◌-◌, ◌<◌, ◌≤◌, ◌≡◌, ◌≢◌, ◌==◌, Bool, true, false, not, ◌&&◌, ◌||◌, cond, List, [], length, get_or, Option, Some, None, refl, sym, ap, ◌∙◌, arith, ◌⊎◌, inl, inr}
 use Rattle.std.specs.Option.{is_some}
-use Rattle.std.proofs.lemmas.Bool.{and_parts, or_parts, or_cases, or_from, or_left, or_right, not-true, eqb-true, cases_lt}
+use Rattle.std.proofs.lemmas.Bool.{and_parts, or_parts, or_cases, or_from, or_left, or_right, not-true, eqb-true, cases_lt, both_ways}
 use Rattle.std.proofs.lemmas.Option.{none-some}
 use Rattle.std.proofs.lemmas.List.{get_or_past}
 use Rattle.ladder_text.specs.declared.mark.Mark.TheVariants.{ContactPart, CoilPart}
@@ -9,7 +9,8 @@ use Rattle.ladder_text.specs.declared.contact.ContactKind.{ContactKind}
 use Rattle.ladder_text.specs.declared.coil.CoilKind.{CoilKind}
 use Rattle.ladder_text.specs.Rows.{Rows, char_at, width}
 use Rattle.ladder_text.specs.Chars.{contact_kind, coil_kind}
-use Rattle.ladder_text.specs.Places.{Layout, contact_at, coil_at, in_box, in_contact, in_coil, within_three, mark}
+use Rattle.ladder_text.specs.Places.{Layout, contact_at, coil_at, in_box, in_contact, in_coil, within_three, mark, is_symbol}
+use Rattle.ladder_text.specs.Faults.{is_first_of_symbol}
 use Rattle.ladder_text.proofs.WidthLemmas.{row-narrow}
 
 -- a contact of kind k begins at (r, c)
@@ -201,6 +202,48 @@ mark-coil p r s c k e a b =
     = λ i u v. not_some (contact_at p r i) (λ l q. contact_off_coil p r i s l k (contact_parts p r i l q) x u v) in
     let outside : in_contact p r c ≡ false = or_from _ _ (or_from _ _ (none c (omega arith) (omega arith)) (none (c - 1) (omega arith) (omega arith))) (none (c - 2) (omega arith) (omega arith)) in
     rw (free, outside, inside) refl
+
+pub begins_no_contact : (p : Layout) (r c : ℕ) → char_at p.rows r c ≢ 124 → is_some (contact_at p r c) ≡ false
+begins_no_contact p r c h = not_some (contact_at p r c) (λ k e. h (contact_parts p r c k e).first)
+
+pub begins_no_coil : (p : Layout) (r c : ℕ) → char_at p.rows r c ≢ 40 → is_some (coil_at p r c) ≡ false
+begins_no_coil p r c h = not_some (coil_at p r c) (λ k e. h (coil_parts p r c k e).first)
+
+-- a place of a contact is a bar, or stands behind one
+pub no_contact : (p : Layout) (r c : ℕ) → char_at p.rows r c ≢ 124 → char_at p.rows r (c - 1) ≢ 124 → in_contact p r c ≡ false
+no_contact p r c here before =
+    or_from _ _
+    (or_from _ _ (not_some (contact_at p r c) (λ k e. here (contact_parts p r c k e).first)) (not_some (contact_at p r (c - 1)) (λ k e. before (contact_parts p r (c - 1) k e).first)))
+    (not_some (contact_at p r (c - 2)) (λ k e.
+    let x = contact_parts p r (c - 2) k e in
+    elim (cases_lt 1 c) [
+      | inl h ↦ let q : c ≡ c - 2 + 2 = omega arith in here (ap (char_at p.rows r) q ∙ x.last)
+      | inr h ↦ let q : c - 1 ≡ c - 2 = omega arith in before (ap (char_at p.rows r) q ∙ x.first)
+    ]))
+
+-- a place of a coil is a bracket, or stands behind one
+pub no_coil : (p : Layout) (r c : ℕ) → char_at p.rows r c ≢ 40 → char_at p.rows r c ≢ 41 → char_at p.rows r (c - 1) ≢ 40 → in_coil p r c ≡ false
+no_coil p r c here last before =
+    or_from _ _
+    (or_from _ _ (not_some (coil_at p r c) (λ k e. here (coil_parts p r c k e).first)) (not_some (coil_at p r (c - 1)) (λ k e. before (coil_parts p r (c - 1) k e).first)))
+    (not_some (coil_at p r (c - 2)) (λ k e.
+    let x = coil_parts p r (c - 2) k e in
+    elim (cases_lt 1 c) [
+      | inl h ↦ let q : c ≡ c - 2 + 2 = omega arith in last (ap (char_at p.rows r) q ∙ x.last)
+      | inr h ↦ let q : c - 1 ≡ c - 2 = omega arith in before (ap (char_at p.rows r) q ∙ x.first)
+    ]))
+
+-- where the mark isn't that of a symbol, none begins
+pub first_by_mark : (p : Layout) (r c : ℕ) → is_symbol (mark p r c) ≡ false → is_first_of_symbol p r c ≡ false
+first_by_mark p r c h =
+    or_from _ _
+    (not_some (contact_at p r c) (λ k e. both_ways (is_symbol (mark p r c)) h (ap is_symbol (mark-contact p r c c k e (omega arith) (omega arith)))))
+    (not_some (coil_at p r c) (λ k e. both_ways (is_symbol (mark p r c)) h (ap is_symbol (mark-coil p r c c k e (omega arith) (omega arith)))))
+
+-- no symbol begins at a blank
+pub no_symbol : (p : Layout) (r c : ℕ) → char_at p.rows r c ≡ 32 → is_first_of_symbol p r c ≡ false
+no_symbol p r c e =
+    or_from _ _ (not_some (contact_at p r c) (λ k q. omega (arith, e, (contact_parts p r c k q).first))) (not_some (coil_at p r c) (λ k q. omega (arith, e, (coil_parts p r c k q).first)))
 
 -- a place with a character that is no blank is inside
 pub drawn_inside : (d : Rows) (r c : ℕ) → char_at d r c ≢ 32 → c ≤ width d

@@ -134,10 +134,8 @@ has_earlier w ws s = list_any (λ v. overlap v s && nat_lt v.first w.first) ws
 abbrev pub is_second : Span → List Span → List Span → Bool
 is_second w ws things = list_any (λ s. overlap w s && has_earlier w ws s) things
 
--- the words of row r, and the symbols, boxes and all things of the row below it
-pub record IsNames (p : Layout) (r : ℕ) (ws ss ts all : List Span) : Type 0 where
-  pub are_words : ws ≡ words p r
-  pub are_symbols : ss ≡ symbols p (r + 1)
+-- what words of row r may name: the boxes and all things of the row below it
+pub record AreNamed (p : Layout) (r : ℕ) (ts all : List Span) : Type 0 where
   pub are_tops : ts ≡ tops p (r + 1)
   pub are_things : all ≡ things p (r + 1)
 

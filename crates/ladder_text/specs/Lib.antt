@@ -8,3 +8,4 @@ pub mod Faults
 pub mod Picture
 pub mod Figures
 pub mod RowBoxes
+pub mod RowSpans

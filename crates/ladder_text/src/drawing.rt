@@ -16,8 +16,8 @@ use crate::reading::read_page;
 use crate::refusal::Refusal;
 use crate::symbols::{coils, contacts, drawn_boxes};
 use std::alloc::Global;
-use std::fmt;
 use std::marker::Model;
+use thiserror::Error;
 
 /// A ladder drawn in characters: what stands at each place, and its contacts, coils and boxes.
 #[derive(Drop)]
@@ -68,19 +68,14 @@ pub enum DrawFaultKind {
 }
 
 /// Why a text is no drawing, and where: the first fault of the first kind that there is.
-#[derive(Clone, Copy, Debug, PartialEq, Eq)]
+#[derive(Clone, Copy, Debug, PartialEq, Eq, Error)]
+#[error("{line}:{column}: {kind:?}")]
 pub struct DrawFault {
     pub kind: DrawFaultKind,
     /// The number of the line, counted on from that of the first.
     pub line: u64,
     /// The column, from 1 on.
     pub column: usize,
-}
-
-impl fmt::Display for DrawFault {
-    fn fmt<W: fmt::Write>(&self, f: &mut fmt::Formatter<W>) -> fmt::Result {
-        write!(f, "{:?}", self.kind)
-    }
 }
 
 impl Refusal {
@@ -117,11 +112,12 @@ fn read_drawing(alloc: Global, text: &str, first_line: u64) -> Result<Drawing, R
     let contacts = contacts(alloc, &page)?;
     let coils = coils(alloc, &page)?;
     let boxes = drawn_boxes(alloc, &page)?;
+    let sheet = page.sheet();
     Ok(Drawing {
         first_line,
-        rows: page.row_end().saturating_sub(1),
-        columns: page.last(),
-        left: page.left(),
+        rows: sheet.row_end().saturating_sub(1),
+        columns: sheet.last(),
+        left: sheet.left(),
         marks: page.into_marks(),
         contacts,
         coils,

@@ -37,6 +37,7 @@ mod row_numbers;
 mod rows;
 mod sheet;
 mod span;
+mod span_row;
 mod spans;
 mod symbols;
 #[cfg(test)]
@@ -44,6 +45,7 @@ mod tests;
 mod text;
 #[cfg(test)]
 mod word_tests;
+mod worded_page;
 
 pub use coil::{Coil, CoilKind};
 pub use contact::{Contact, ContactKind};

@@ -1,4 +1,4 @@
-ghost use Rattle.std.specs.Prelude.{◌≡◌, [], ◌∷◌, ◌++◌, IfOk, OnOk, slice_index_or};
+ghost use Rattle.std.specs.Prelude.{◌≡◌, ◌<◌, ◌^◌, [], ◌∷◌, ◌++◌, IfOk, OnOk, slice_index_or};
 
 use crate::mark::Mark;
 use std::alloc::{AllocError, Global};
@@ -20,11 +20,12 @@ impl Model for MarkRow {
 }
 
 impl MarkRow {
-    /// The margin alone.
-    pub fn new(alloc: Global) -> Result<MarkRow, AllocError>
+    /// The margin alone, with room for so many columns.
+    pub fn with_room(alloc: Global, columns: usize) -> Result<MarkRow, AllocError>
+        requires { columns < 2 ^ 62 }
         ensures { IfOk result (λ r. r ≡ Mark.Blank ∷ []) }
     {
-        let mut marks = Vec::new(alloc);
+        let mut marks = Vec::with_capacity(alloc, columns + 1)?;
         marks.push(Mark::Blank)?;
         Ok(MarkRow { marks })
     }

@@ -1,12 +1,10 @@
 //! The marks of a text, and the faults of single places.
 
-ghost use Rattle.std.specs.Prelude.{◌≡◌, ◌∷◌, ◌+◌, ◌-◌, ◌<◌, ◌≤◌, ◌^◌, ℕ, IsTrue, IsFalse, IfNone, IfSome, IfOk, length};
+ghost use Rattle.std.specs.Prelude.{◌≡◌, ◌||◌, ◌∷◌, ◌+◌, ◌-◌, ◌<◌, ◌≤◌, ◌^◌, ℕ, IsTrue, IsFalse, IfNone, IfSome, IfOk, length};
 ghost use Rattle.ladder_text.specs.Rows.{char_at, width, height};
-ghost use Rattle.ladder_text.specs.Boxes.{left_column};
-ghost use Rattle.ladder_text.specs.Places.{layout_of, is_line, is_vertical, is_taken, mark, gives};
+ghost use Rattle.ladder_text.specs.Places.{layout_of, is_line, is_vertical, is_box_part, is_symbol, is_taken, gives, mark as place_mark};
 ghost use Rattle.ladder_text.specs.Picture.{marks_of};
-ghost use Rattle.ladder_text.specs.Faults.{has_meaning, has_fed_join, is_first_of_symbol, is_blind, line_end, touches, is_fed, upright_len, bad_mark, crossing, no_source, has_fault, Nowhere, IsFoundAt};
-ghost use Rattle.ladder_text.specs.Names.{tops};
+ghost use Rattle.ladder_text.specs.Faults.{has_meaning, has_fed_join, is_first_of_symbol, is_blind, touches, is_fed, upright_len, bad_mark, crossing, no_source, has_fault, Nowhere, IsFoundAt};
 
 use crate::mark::Mark;
 use crate::mark_row::MarkRow;
@@ -14,7 +12,6 @@ use crate::place::Place;
 use crate::place_fault::PlaceFault;
 use crate::railed_sheet::RailedSheet;
 use crate::sheet::Sheet;
-use crate::span::Span;
 use std::alloc::{AllocError, Global};
 use std::marker::Model;
 
@@ -59,6 +56,12 @@ fn is_vertical(mark: Mark) -> bool
     matches!(mark, Mark::Join | Mark::Upright)
 }
 
+fn is_taken(mark: Mark) -> bool
+    ensures { result ≡ (is_box_part mark || is_symbol mark) }
+{
+    matches!(mark, Mark::BoxPart | Mark::ContactPart | Mark::CoilPart)
+}
+
 impl Page {
     pub fn new(alloc: Global, sheet: Sheet) -> Result<Page, AllocError>
         ensures { IfOk result (λ p. p ≡ sheet) }
@@ -81,23 +84,11 @@ impl Page {
         self.sheet.sheet()
     }
 
-    pub fn tops(&self, alloc: Global, row: usize) -> Result<Vec<Span>, AllocError>
-        ensures { IfOk result (λ v. v.items ≡ tops (layout_of self.now) row) }
-    {
-        self.sheet().tops(alloc, row)
-    }
-
     pub fn last(&self) -> usize
         ensures last { result ≡ width self.now }
         ensures narrow { result ≤ 240 }
     {
         self.sheet().last()
-    }
-
-    pub fn left(&self) -> usize
-        ensures { result ≡ left_column self.now }
-    {
-        self.sheet().left()
     }
 
     /// One more than the number of rows.
@@ -111,7 +102,7 @@ impl Page {
     /// What stands at a place.
     pub fn mark(&self, row: usize, column: usize) -> Mark
         requires { column < 2 ^ 62 }
-        ensures { result ≡ mark (layout_of self.now) row column }
+        ensures { result ≡ place_mark (layout_of self.now) row column }
     {
         if row == 0 || column == 0 || self.last() < column {
             return self.sheet.mark(row, column);
@@ -128,10 +119,7 @@ impl Page {
         requires { column < 2 ^ 62 }
         ensures { result ≡ is_taken (layout_of self.now) row column }
     {
-        matches!(
-            self.mark(row, column),
-            Mark::BoxPart | Mark::ContactPart | Mark::CoilPart
-        )
+        is_taken(self.mark(row, column))
     }
 
     #[tactic(auto, unfolding(crate::specs::Places::layout_of, crate::specs::Places::gives))]
@@ -153,59 +141,61 @@ impl Page {
         is_line(mark) || mark == Mark::BoxPart
     }
 
-    fn crossing(&self, row: usize, column: usize) -> bool
+    fn crossing(&self, mark: Mark, row: usize, column: usize) -> bool
         requires row { row < 2 ^ 62 }
         requires column { column < 2 ^ 61 }
+        requires mark { mark ≡ place_mark (layout_of self.now) row column }
         ensures { result ≡ crossing (layout_of self.now) row column }
     {
-        self.mark(row, column) == Mark::Upright
+        mark == Mark::Upright
             && (self.touches(row, column.saturating_sub(1))
                 || self.touches(row, column + 1)
                 || !is_vertical(self.mark(row.saturating_sub(1), column))
                 || !is_vertical(self.mark(row + 1, column)))
     }
 
-    fn is_first_of_symbol(&self, row: usize, column: usize) -> bool
+    /// Whether a contact or a coil begins at a place with a mark.
+    #[tactic(auto, using(crate::proofs::SymbolPlaces::first_by_mark))]
+    fn begins_symbol(&self, mark: Mark, row: usize, column: usize) -> bool
+        requires column { column < 2 ^ 62 }
+        requires mark { mark ≡ place_mark (layout_of self.now) row column }
+        ensures { result ≡ is_first_of_symbol (layout_of self.now) row column }
+    {
+        matches!(mark, Mark::ContactPart | Mark::CoilPart)
+            && (self.sheet().contact_at(row, column).is_some()
+                || self.sheet().coil_at(row, column).is_some())
+    }
+
+    /// Whether a contact or a coil begins at a place.
+    pub fn is_first_of_symbol(&self, row: usize, column: usize) -> bool
         requires { column < 2 ^ 62 }
         ensures { result ≡ is_first_of_symbol (layout_of self.now) row column }
     {
-        self.sheet().contact_at(row, column).is_some()
-            || self.sheet().coil_at(row, column).is_some()
+        self.begins_symbol(self.mark(row, column), row, column)
     }
 
-    /// The last place of the line that begins at a place.
-    fn line_end(&self, row: usize, column: usize) -> usize
-        requires { column < 2 ^ 61 }
-        ensures value { result ≡ line_end (layout_of self.now) row column }
-        ensures near { result ≤ column + 2 }
-    {
-        if self.is_first_of_symbol(row, column) {
-            column + 2
-        } else {
-            column
-        }
-    }
-
-    /// Whether a line begins at a place, and meets a box where there is no pin.
-    fn is_blind(&self, row: usize, column: usize) -> bool
-        requires { column < 2 ^ 61 }
+    /// Whether a line begins at a place with a mark, and meets a box where there is no pin.
+    fn is_blind(&self, mark: Mark, row: usize, column: usize) -> bool
+        requires column { column < 2 ^ 61 }
+        requires mark { mark ≡ place_mark (layout_of self.now) row column }
         ensures { result ≡ is_blind (layout_of self.now) row column }
     {
-        let mark = self.mark(row, column);
-        if !(mark == Mark::Wire || mark == Mark::Join || self.is_first_of_symbol(row, column)) {
+        let begins_symbol = self.begins_symbol(mark, row, column);
+        if !(mark == Mark::Wire || mark == Mark::Join || begins_symbol) {
             return false;
         }
-        self.sheet().blind_left(row, column)
-            || self.sheet().blind_right(row, self.line_end(row, column))
+        let end = if begins_symbol { column + 2 } else { column };
+        self.sheet().blind_left(row, column) || self.sheet().blind_right(row, end)
     }
 
-    #[tactic(auto, unfolding(crate::specs::Places::layout_of))]
-    fn bad_mark(&self, row: usize, column: usize) -> bool
-        requires { column < 2 ^ 61 }
+    #[tactic(auto, unfolding(crate::specs::Places::layout_of), using(crate::proofs::MarkLemmas::taken_by_mark))]
+    fn bad_mark(&self, mark: Mark, row: usize, column: usize) -> bool
+        requires column { column < 2 ^ 61 }
+        requires mark { mark ≡ place_mark (layout_of self.now) row column }
         ensures { result ≡ bad_mark (layout_of self.now) row column }
     {
-        (!self.is_taken(row, column) && !has_meaning(self.sheet().at(row, column)))
-            || self.is_blind(row, column)
+        (!is_taken(mark) && !has_meaning(self.sheet().at(row, column)))
+            || self.is_blind(mark, row, column)
     }
 
     /// How far the upright at a place goes down.
@@ -239,13 +229,13 @@ impl Page {
         (row..end).any(|k| self.is_fed(column, k))
     }
 
-    fn no_source(&self, row: usize, column: usize) -> bool
+    fn no_source(&self, mark: Mark, row: usize, column: usize) -> bool
         requires row { row < 2 ^ 62 }
         requires column { column < 2 ^ 62 }
+        requires mark { mark ≡ place_mark (layout_of self.now) row column }
         ensures { result ≡ no_source (layout_of self.now) row column }
     {
-        let mark = self.mark(row, column);
-        ((mark == Mark::Wire || self.is_first_of_symbol(row, column))
+        ((mark == Mark::Wire || self.begins_symbol(mark, row, column))
             && !self.gives(row, column.saturating_sub(1)))
             || (is_vertical(mark)
                 && !is_vertical(self.mark(row.saturating_sub(1), column))
@@ -257,10 +247,11 @@ impl Page {
         requires column { column < 2 ^ 61 }
         ensures { result ≡ has_fault fault (layout_of self.now) row column }
     {
+        let mark = self.mark(row, column);
         match fault {
-            PlaceFault::BadMark => self.bad_mark(row, column),
-            PlaceFault::Crossing => self.crossing(row, column),
-            PlaceFault::NoSource => self.no_source(row, column),
+            PlaceFault::BadMark => self.bad_mark(mark, row, column),
+            PlaceFault::Crossing => self.crossing(mark, row, column),
+            PlaceFault::NoSource => self.no_source(mark, row, column),
         }
     }
 

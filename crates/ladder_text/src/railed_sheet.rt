@@ -1,9 +1,9 @@
 //! What stands at each place.
 
 ghost use Rattle.std.specs.Prelude.{◌≡◌, ◌∷◌, ◌<◌, ◌≤◌, ◌^◌, IfOk, length};
-ghost use Rattle.ladder_text.specs.Rows.{width};
+ghost use Rattle.ladder_text.specs.Rows.{char_at, width};
 ghost use Rattle.ladder_text.specs.Boxes.{left_column};
-ghost use Rattle.ladder_text.specs.Places.{layout_of, is_rail_column, mark};
+ghost use Rattle.ladder_text.specs.Places.{layout_of, is_rail_column, in_contact, in_coil, mark};
 ghost use Rattle.ladder_text.specs.Picture.{row_marks, marks_of};
 
 use crate::mark::Mark;
@@ -67,19 +67,21 @@ impl RailedSheet {
         column == self.sheet.left() || (column == self.sheet.last() && right_rail)
     }
 
-    /// What stands at a place.
+    /// What stands at a place with a character, of which it is known whether it is in a contact or a coil.
     #[tactic(auto, unfolding(crate::specs::Places::layout_of, crate::specs::Places::mark))]
-    pub fn mark(&self, row: usize, column: usize) -> Mark
-        requires { column < 2 ^ 62 }
+    fn mark_with(&self, c: u8, row: usize, column: usize, contact: bool, coil: bool) -> Mark
+        requires column { column < 2 ^ 62 }
+        requires char { c ≡ char_at self.now row column }
+        requires contact { contact ≡ in_contact (layout_of self.now) row column }
+        requires coil { coil ≡ in_coil (layout_of self.now) row column }
         ensures { result ≡ mark (layout_of self.now) row column }
     {
         let sheet = &self.sheet;
-        let c = sheet.at(row, column);
         if sheet.in_box(row, column) {
             Mark::BoxPart
-        } else if sheet.in_contact(row, column) {
+        } else if contact {
             Mark::ContactPart
-        } else if sheet.in_coil(row, column) {
+        } else if coil {
             Mark::CoilPart
         } else if self.is_rail_column(column) && (c == b'|' || c == b'+') {
             Mark::Rail
@@ -94,14 +96,39 @@ impl RailedSheet {
         }
     }
 
-    /// The marks of a row.
+    /// What stands at a place.
+    pub fn mark(&self, row: usize, column: usize) -> Mark
+        requires { column < 2 ^ 62 }
+        ensures { result ≡ mark (layout_of self.now) row column }
+    {
+        let sheet = &self.sheet;
+        let c = sheet.at(row, column);
+        let in_contact = sheet.in_contact(row, column);
+        self.mark_with(c, row, column, in_contact, sheet.in_coil(row, column))
+    }
+
+    /// The marks of a row, found from what begins in each column and in the two before it.
     #[tactic(auto, unfolding(crate::specs::Places::layout_of))]
     fn row_marks(&self, alloc: Global, row: usize) -> Result<MarkRow, AllocError>
         ensures { IfOk result (λ m. m ≡ row_marks (layout_of self.now) row) }
     {
-        let mut marks = MarkRow::new(alloc)?;
+        let sheet = &self.sheet;
+        let mut marks = MarkRow::with_room(alloc, self.last())?;
+        let mut contact = sheet.contact_at(row, 0).is_some();
+        let mut earlier_contact = contact;
+        let mut coil = sheet.coil_at(row, 0).is_some();
+        let mut earlier_coil = coil;
         for column in 0..self.last() {
-            marks.push(self.mark(row, column + 1))?;
+            let c = sheet.at(row, column + 1);
+            let next_contact = sheet.begins_contact(c, row, column + 1);
+            let next_coil = sheet.begins_coil(c, row, column + 1);
+            let in_contact = next_contact || contact || earlier_contact;
+            let in_coil = next_coil || coil || earlier_coil;
+            marks.push(self.mark_with(c, row, column + 1, in_contact, in_coil))?;
+            earlier_contact = contact;
+            contact = next_contact;
+            earlier_coil = coil;
+            coil = next_coil;
         }
         Ok(marks)
     }

@@ -18,6 +18,7 @@ use crate::refusal::Refusal;
 use crate::rows::{first_not_ascii, rows_of};
 use crate::sheet::Sheet;
 use crate::spans::{stray_in_row, unnamed_in_row};
+use crate::worded_page::WordedPage;
 use std::alloc::{AllocError, Global};
 
 fn fault(kind: DrawFaultKind, place: Place) -> Refusal
@@ -43,12 +44,12 @@ fn check_places(page: &Page) -> Result<(), Refusal>
 }
 
 #[tactic(auto, using(crate::proofs::IllDrawn::ill_missing))]
-fn check_names(alloc: Global, page: &Page) -> Result<(), Refusal>
+fn check_names(alloc: Global, page: &WordedPage) -> Result<(), Refusal>
     ensures named { IfOk result (λ _. (r : ℕ) → r < length page.now
         → IsFalse (list_any (name_missing (layout_of page.now) r) (things (layout_of page.now) r))) }
     ensures refused { IfErr result (λ e. e.kind ≢ Memory → IsIllDrawn page.now) }
 {
-    for row in 0..page.row_end() {
+    for row in 0..page.sheet().row_end() {
         if let Some(column) = unnamed_in_row(alloc, page, row)? {
             return Err(fault(DrawFaultKind::NameMissing, Place { row, column }));
         }
@@ -57,14 +58,14 @@ fn check_names(alloc: Global, page: &Page) -> Result<(), Refusal>
 }
 
 /// The first stray word that is no operand.
-fn first_stray_word(alloc: Global, page: &Page) -> Result<Option<Place>, AllocError>
+fn first_stray_word(alloc: Global, page: &WordedPage) -> Result<Option<Place>, AllocError>
     ensures none { IfOk result (λ found. IfNone found ((r : ℕ) → r < length page.now
         → IsFalse (list_any (stray_name (layout_of page.now) r) (words (layout_of page.now) r)))) }
     ensures inside { IfOk result (λ found. IfSome found (λ p. p.row < length page.now)) }
     ensures some { IfOk result (λ found. IfSome found
         (λ p. IsTrue (list_any (stray_name (layout_of page.now) p.row) (words (layout_of page.now) p.row)))) }
 {
-    for row in 0..page.row_end() {
+    for row in 0..page.sheet().row_end() {
         if let Some(column) = stray_in_row(alloc, page, row)? {
             return Ok(Some(Place { row, column }));
         }
@@ -73,7 +74,7 @@ fn first_stray_word(alloc: Global, page: &Page) -> Result<Option<Place>, AllocEr
 }
 
 #[tactic(auto, using(crate::proofs::IllDrawn::ill_stray, crate::proofs::IllDrawn::ill_operand))]
-fn check_strays(alloc: Global, page: &Page) -> Result<(), Refusal>
+fn check_strays(alloc: Global, page: &WordedPage) -> Result<(), Refusal>
     ensures words { IfOk result (λ _. (r : ℕ) → r < length page.now
         → IsFalse (list_any (stray_name (layout_of page.now) r) (words (layout_of page.now) r))) }
     ensures operands { IfOk result (λ _. IsFalse (has_stray_operand (layout_of page.now))) }
@@ -136,7 +137,7 @@ fn read_sheet(alloc: Global, grid: Grid) -> Result<Sheet, Refusal>
 }
 
 /// The page of a text that is well drawn.
-pub fn read_page(alloc: Global, text: &str) -> Result<Page, Refusal>
+pub fn read_page(alloc: Global, text: &str) -> Result<WordedPage, Refusal>
     ensures same { IfOk result (λ p. p ≡ rows_of text.now) }
     ensures well_drawn { IfOk result (λ p. IsWellDrawn p) }
     ensures refused { IfErr result (λ e. e.kind ≢ Memory → IsIllDrawn (rows_of text.now)) }
@@ -145,7 +146,8 @@ pub fn read_page(alloc: Global, text: &str) -> Result<Page, Refusal>
     let sheet = read_sheet(alloc, grid)?;
     let page = Page::new(alloc, sheet)?;
     check_places(&page)?;
-    check_names(alloc, &page)?;
-    check_strays(alloc, &page)?;
-    Ok(page)
+    let worded = WordedPage::new(alloc, page)?;
+    check_names(alloc, &worded)?;
+    check_strays(alloc, &worded)?;
+    Ok(worded)
 }

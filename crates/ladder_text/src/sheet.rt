@@ -198,9 +198,11 @@ impl Sheet {
         requires { column < 2 ^ 62 }
         ensures { result ≡ contact_at (layout_of self.now) row column }
     {
+        if self.at(row, column) != b'|' {
+            return None;
+        }
         let before = self.at(row, column.saturating_sub(1));
         let open = (before == b'-' || before == b'+')
-            && self.at(row, column) == b'|'
             && self.at(row, column + 2) == b'|'
             && !(self.in_box(row, column)
                 || self.in_box(row, column + 1)
@@ -229,19 +231,50 @@ impl Sheet {
         }
     }
 
+    /// Whether a contact begins at a place with a character.
+    #[tactic(auto, unfolding(crate::specs::Places::layout_of), using(crate::proofs::SymbolPlaces::begins_no_contact))]
+    pub fn begins_contact(&self, c: u8, row: usize, column: usize) -> bool
+        requires column { column < 2 ^ 62 }
+        requires char { c ≡ char_at self.now row column }
+        ensures { result ≡ is_some (contact_at (layout_of self.now) row column) }
+    {
+        c == b'|' && self.contact_at(row, column).is_some()
+    }
+
+    /// Whether a coil begins at a place with a character.
+    #[tactic(auto, unfolding(crate::specs::Places::layout_of), using(crate::proofs::SymbolPlaces::begins_no_coil))]
+    pub fn begins_coil(&self, c: u8, row: usize, column: usize) -> bool
+        requires column { column < 2 ^ 62 }
+        requires char { c ≡ char_at self.now row column }
+        ensures { result ≡ is_some (coil_at (layout_of self.now) row column) }
+    {
+        c == b'(' && self.coil_at(row, column).is_some()
+    }
+
+    #[tactic(auto, unfolding(crate::specs::Places::layout_of), using(crate::proofs::SymbolPlaces::no_contact))]
     pub fn in_contact(&self, row: usize, column: usize) -> bool
         requires { column < 2 ^ 62 }
         ensures { result ≡ in_contact (layout_of self.now) row column }
     {
+        let before = self.at(row, column.saturating_sub(1));
+        if self.at(row, column) != b'|' && before != b'|' {
+            return false;
+        }
         self.contact_at(row, column).is_some()
             || self.contact_at(row, column.saturating_sub(1)).is_some()
             || self.contact_at(row, column.saturating_sub(2)).is_some()
     }
 
+    #[tactic(auto, unfolding(crate::specs::Places::layout_of), using(crate::proofs::SymbolPlaces::no_coil))]
     pub fn in_coil(&self, row: usize, column: usize) -> bool
         requires { column < 2 ^ 62 }
         ensures { result ≡ in_coil (layout_of self.now) row column }
     {
+        let c = self.at(row, column);
+        let before = self.at(row, column.saturating_sub(1));
+        if c != b'(' && c != b')' && before != b'(' {
+            return false;
+        }
         self.coil_at(row, column).is_some()
             || self.coil_at(row, column.saturating_sub(1)).is_some()
             || self.coil_at(row, column.saturating_sub(2)).is_some()

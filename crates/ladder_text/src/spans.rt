@@ -4,14 +4,15 @@ ghost use Rattle.std.specs.Prelude.{[], MatchOption, IfNone, IfSome, IsFalse, no
 ghost use Rattle.std.specs.List.{list_any};
 ghost use Rattle.ladder_text.specs.Rows.{width, run};
 ghost use Rattle.ladder_text.specs.Places.{layout_of};
-ghost use Rattle.ladder_text.specs.Names.{in_word, word_at, words, symbol_at, symbols, tops, things, overlap, word_text, found_text, name_above};
-ghost use Rattle.ladder_text.specs.Faults.{has_earlier, is_second, stray_name, name_missing, IsNames};
+ghost use Rattle.ladder_text.specs.Names.{in_word, words, symbol_at, symbols, tops, things, overlap, word_text, found_text, name_above};
+ghost use Rattle.ladder_text.specs.Faults.{has_earlier, is_second, stray_name, name_missing, AreNamed};
 ghost use Rattle.std.specs.Str.{IsAscii};
 
 use crate::names::{is_name, is_plain_name, is_word_char};
 use crate::page::Page;
 use crate::span::Span;
 use crate::text::Text;
+use crate::worded_page::WordedPage;
 use std::alloc::{AllocError, Global};
 
 fn overlap(a: &Span, b: &Span) -> bool
@@ -72,29 +73,21 @@ fn word_end(page: &Page, row: usize, column: usize) -> usize
     column + 1 + n
 }
 
-#[tactic(auto, unfolding(crate::specs::Places::layout_of, crate::specs::Names::word_at))]
-fn word_at(page: &Page, row: usize, column: usize) -> Option<Span>
-    requires { column < 2 ^ 61 }
-    ensures { result ≡ word_at (layout_of page.now) row column }
-{
-    if in_word(page, row, column) && !in_word(page, row, column.saturating_sub(1)) {
-        Some(Span {
-            first: column,
-            end: word_end(page, row, column),
-        })
-    } else {
-        None
-    }
-}
-
 /// The words of a row.
+#[tactic(auto, unfolding(crate::specs::Places::layout_of, crate::specs::Names::word_at))]
 pub fn words(alloc: Global, page: &Page, row: usize) -> Result<Vec<Span>, AllocError>
     ensures { IfOk result (λ v. v.items ≡ words (layout_of page.now) row) }
 {
     let mut words = Vec::new(alloc);
+    let mut inside = in_word(page, row, 0);
     for column in 0..page.last() {
-        if let Some(word) = word_at(page, row, column + 1) {
-            words.push(word)?;
+        let before = inside;
+        inside = in_word(page, row, column + 1);
+        if inside && !before {
+            words.push(Span {
+                first: column + 1,
+                end: word_end(page, row, column + 1),
+            })?;
         }
     }
     Ok(words)
@@ -105,8 +98,7 @@ fn symbol_at(page: &Page, row: usize, column: usize) -> Option<Span>
     requires { column < 2 ^ 61 }
     ensures { result ≡ symbol_at (layout_of page.now) row column }
 {
-    let sheet = page.sheet();
-    if sheet.contact_at(row, column).is_some() || sheet.coil_at(row, column).is_some() {
+    if page.is_first_of_symbol(row, column) {
         Some(Span {
             first: column,
             end: column + 3,
@@ -131,69 +123,71 @@ pub fn symbols(alloc: Global, page: &Page, row: usize) -> Result<Vec<Span>, Allo
 
 /// What words name in a row: its symbols and the boxes that begin there.
 #[tactic(auto, unfolding(crate::specs::Names::things))]
-fn things(alloc: Global, page: &Page, row: usize) -> Result<Vec<Span>, AllocError>
+fn things(alloc: Global, page: &WordedPage, row: usize) -> Result<Vec<Span>, AllocError>
     ensures { IfOk result (λ v. v.items ≡ things (layout_of page.now) row) }
 {
-    let mut things = symbols(alloc, page, row)?;
-    let tops = page.tops(alloc, row)?;
+    let mut things = Vec::new(alloc);
+    things.extend_from_slice(page.symbols(row))?;
+    let tops = page.sheet().tops(alloc, row)?;
     things.extend_from_slice(&tops)?;
     Ok(things)
 }
 
 /// The text of a word.
 #[tactic(auto, unfolding(crate::specs::Places::layout_of))]
-fn word_text<'a>(page: &'a Page, row: usize, word: &Span) -> &'a [u8]
+fn word_text<'a>(page: &'a WordedPage, row: usize, word: &Span) -> &'a [u8]
     ensures value { result.now ≡ word_text (layout_of page.now) row word.now }
     ensures ascii { IsAscii result.now }
 {
     page.sheet().cut(row, word.first, word.end)
 }
 
-/// The words of a row, and what they may name in the row below it.
+/// What the words of a row may name in the row below it.
 #[derive(Drop)]
-struct Names {
-    words: Vec<Span>,
-    symbols: Vec<Span>,
+struct Named {
     tops: Vec<Span>,
     things: Vec<Span>,
 }
 
-fn read_names(alloc: Global, page: &Page, row: usize) -> Result<Names, AllocError>
+fn named_below(alloc: Global, page: &WordedPage, row: usize) -> Result<Named, AllocError>
     requires { row < 2 ^ 62 }
-    ensures { IfOk result (λ n. IsNames (layout_of page.now) row n.words.items n.symbols.items n.tops.items n.things.items) }
+    ensures { IfOk result (λ n. AreNamed (layout_of page.now) row n.tops.items n.things.items) }
 {
-    Ok(Names {
-        words: words(alloc, page, row)?,
-        symbols: symbols(alloc, page, row + 1)?,
-        tops: page.tops(alloc, row + 1)?,
+    Ok(Named {
+        tops: page.sheet().tops(alloc, row + 1)?,
         things: things(alloc, page, row + 1)?,
     })
 }
 
 /// Whether a word of a row is stray.
 #[tactic(auto, unfolding(crate::specs::Faults::stray_name))]
-fn is_stray(page: &Page, row: usize, word: &Span, names: &Names) -> bool
-    requires { IsNames (layout_of page.now) row names.now.words.items names.now.symbols.items names.now.tops.items names.now.things.items }
+fn is_stray(page: &WordedPage, row: usize, word: &Span, named: &Named) -> bool
+    requires row { row < 2 ^ 62 }
+    requires named { AreNamed (layout_of page.now) row named.now.tops.items named.now.things.items }
     ensures { result ≡ stray_name (layout_of page.now) row word.now }
 {
     let text = word_text(page, row, word);
-    count_overlaps(word, &names.things) != 1
-        || is_second(word, &names.words, &names.things)
-        || (overlaps_any(word, &names.symbols) && !is_name(text))
-        || (overlaps_any(word, &names.tops) && !is_plain_name(text))
+    count_overlaps(word, &named.things) != 1
+        || is_second(word, page.words(row), &named.things)
+        || (!is_name(text) && overlaps_any(word, page.symbols(row + 1)))
+        || (!is_plain_name(text) && overlaps_any(word, &named.tops))
 }
 
 /// The first column of a word of a row that is stray.
-pub fn stray_in_row(alloc: Global, page: &Page, row: usize) -> Result<Option<usize>, AllocError>
+pub fn stray_in_row(
+    alloc: Global,
+    page: &WordedPage,
+    row: usize,
+) -> Result<Option<usize>, AllocError>
     requires { row < 2 ^ 62 }
     ensures none { IfOk result (λ found. IfNone found
         (IsFalse (list_any (stray_name (layout_of page.now) row) (words (layout_of page.now) row)))) }
     ensures some { IfOk result (λ found. IfSome found
         (λ _. IsTrue (list_any (stray_name (layout_of page.now) row) (words (layout_of page.now) row)))) }
 {
-    let names = read_names(alloc, page, row)?;
-    for word in &names.words {
-        if is_stray(page, row, word, &names) {
+    let named = named_below(alloc, page, row)?;
+    for word in page.words(row) {
+        if is_stray(page, row, word, &named) {
             return Ok(Some(word.first));
         }
     }
@@ -201,27 +195,27 @@ pub fn stray_in_row(alloc: Global, page: &Page, row: usize) -> Result<Option<usi
 }
 
 #[tactic(auto, unfolding(crate::specs::Faults::name_missing))]
-fn is_unnamed(page: &Page, row: usize, thing: &Span, above: &[Span]) -> bool
-    requires { above.now ≡ words (layout_of page.now) (row - 1) }
+fn is_unnamed(page: &WordedPage, row: usize, thing: &Span) -> bool
     ensures { result ≡ name_missing (layout_of page.now) row thing.now }
 {
-    let _ = page.last();
-    let _ = row;
-    !overlaps_any(thing, above)
+    !overlaps_any(thing, page.words(row.saturating_sub(1)))
 }
 
 /// The first column of a symbol or box of a row that has no name.
-pub fn unnamed_in_row(alloc: Global, page: &Page, row: usize) -> Result<Option<usize>, AllocError>
+pub fn unnamed_in_row(
+    alloc: Global,
+    page: &WordedPage,
+    row: usize,
+) -> Result<Option<usize>, AllocError>
     ensures none { IfOk result (λ found. IfNone found
         (IsFalse (list_any (name_missing (layout_of page.now) row) (things (layout_of page.now) row)))) }
     ensures some { IfOk result (λ found. IfSome found
         (λ _. IsTrue (list_any (name_missing (layout_of page.now) row) (things (layout_of page.now) row)))) }
 {
-    let above = words(alloc, page, row.saturating_sub(1))?;
     let here = things(alloc, page, row)?;
     let mut first = None;
     for thing in &here {
-        if is_unnamed(page, row, thing, &above) {
+        if is_unnamed(page, row, thing) {
             first = Some(least(first, thing.first));
         }
     }
@@ -246,7 +240,7 @@ fn first_overlap(span: &Span, above: &[Span]) -> Option<Span>
     find_overlap(span, above).copied()
 }
 
-fn found_text(page: &Page, row: usize, found: Option<Span>) -> &[u8]
+fn found_text(page: &WordedPage, row: usize, found: Option<Span>) -> &[u8]
     ensures value { result.now ≡ found_text (layout_of page.now) row found }
     ensures ascii { IsAscii result.now }
 {
@@ -260,14 +254,13 @@ fn found_text(page: &Page, row: usize, found: Option<Span>) -> &[u8]
 #[tactic(auto, unfolding(crate::specs::Names::name_above))]
 pub fn name_above(
     alloc: Global,
-    page: &Page,
+    page: &WordedPage,
     row: usize,
     span: &Span,
-    above: &[Span],
 ) -> Result<Text, AllocError>
-    requires { above.now ≡ words (layout_of page.now) (row - 1) }
     ensures { IfOk result (λ t. t ≡ name_above (layout_of page.now) row span.now) }
 {
-    let found = first_overlap(span, above);
-    Text::from_ascii(alloc, found_text(page, row.saturating_sub(1), found))
+    let above = row.saturating_sub(1);
+    let found = first_overlap(span, page.words(above));
+    Text::from_ascii(alloc, found_text(page, above, found))
 }
