@@ -89,6 +89,24 @@ module _ (d : Diagram) (apart : AreApart d) where
       let one : ends.0 ≡ e = some_is ends.0 e (sym ends.1 ∙ ap (slice_get d.elements) same ∙ at) in
       (same, rw (← one) ends.2)
 
+-- where state doesn't leave a place for q, there is no link
+pub no_leaving : (d : Diagram) → AreApart d → (spots : List Spot) → AreOwned d.elements spots → (from : ℕ) (here : Spot) (q : Place) (e : Element) → slice_get spots from ≡ Some here
+    → slice_get d.elements here.element ≡ Some e → ((f : Element) → Steps e here.place f q → ⊥) → IsLinkTo d spots from q None
+no_leaving d apart spots owned from here q e at_from at_e never = record {
+  found = tt;
+  whole = λ p b is_p is_q passes.
+      let o = owned from here at_from in
+      let o' = owned b is_q.0 is_q.1 in
+      let one : o.0 ≡ e = some_is o.0 e (sym o.1 ∙ at_e) in
+      let from_is : here.place ≡ p = ap (λ (x : Spot). x.place) (some_is here is_p.0 (sym at_from ∙ is_p.1)) ∙ is_p.2 in
+      let has : Has o'.0 q = moved o'.0 is_q.0.place q is_q.2 o'.2 in
+      let passes' : Passes d here.place q = rw (← from_is) at passes in
+      absurd (never o'.0 (steps_from_passes d apart here.place q here.element is_q.0.element e o'.0 at_e o'.1 (rw (← one) o.2) has passes'));
+}
+  where
+    moved : (f : Element) (p r : Place) → p ≡ r → Has f p → Has f r
+    moved f p r same has = rw same at has
+
 -- the places by number
 pub place_at : (spots : List Spot) (k : ℕ) (s : Spot) → slice_get spots k ≡ Some s → slice_get (places_of spots) k ≡ Some s.place
 unfolding places_of

@@ -247,3 +247,15 @@ all_within es spots pairs n m e are k d lt = let w = pairs_within es spots pairs
 -- a list that was written over as a whole
 pub written_over : (n : ℕ) (xs ys : List ℕ) → length xs ≡ length ys → n ≡ length ys → take n (xs ++ drop (length xs) ys) ≡ xs
 written_over n xs ys e f = ap (λ t. take n (xs ++ t)) (drop_all (length xs) ys (omega arith)) ∙ ap (take n) (append-nil xs) ∙ take_all n xs (omega arith)
+
+-- where state doesn't leave a place for q, there is no pair
+pub no_leaving_pair : (es : List Element) (spots : List Spot) (s : Spot) (q : Place) (e : Element) → slice_get es s.element ≡ Some e → ((f : Element) → Steps e s.place f q → ⊥) → IsPairTo es spots s q None
+no_leaving_pair es spots s q e at never = record {
+  found = tt;
+  whole = λ b t at_t is step.
+      let one : step.0 ≡ e = some_e step.0 e (sym step.2 ∙ at) in
+      absurd (never step.1 (rw (← one, ← is) step.4));
+}
+  where
+    some_e : (a b : Element) → Some a ≡ Some b → a ≡ b
+    some_e a b h = cc

@@ -1,13 +1,8 @@
-use Rattle.std.proofs.Common.{◌≡◌, ℕ, ◌⊎◌, inl, inr, List, [], ◌∷◌, ◌++◌, Bool, true, false, Option, Some, None, cond, slice_get, suc, zero, length, refl, sym, ap, ◌∙◌}
-use Rattle.std.specs.BTreeMap.{BTreeMap}
-use Rattle.std.specs.BTreeMap as tree
-use Rattle.std.specs.Map.{lookup}
-use Rattle.std.proofs.lemmas.Map.Lookups.{exact_pairs, exact_unsigned}
-use Rattle.std.proofs.lemmas.Map.Views.{tells_apart}
-use Rattle.std.specs.Ordering.{nat_cmp}
+use Rattle.std.proofs.Common.{◌≡◌, ◌≢◌, ℕ, ◌⊎◌, Bool, true, false, ◌&&◌, nat_eq, None, inl, inr, List, [], ◌∷◌, ◌++◌, Option, Some, slice_get, suc, zero, length, refl, sym, ap, ◌∙◌}
+use Rattle.std.proofs.lemmas.Bool.{eqb-true, eq-eqb}
 use Rattle.ladder_text.specs.declared.place.Place.{Place}
 use Rattle.network.specs.declared.numbering.Spot.{Spot}
-use Rattle.network.specs.Numbers.{AreNumbers, IsSpot, place_cmp}
+use Rattle.network.specs.Numbers.{AreNumbers, IsSpot, number_at}
 
 -- one more at the end of a list
 pub push_old : {A : Type 0} (xs : List A) (x : A) (k : ℕ) (s : A) → slice_get xs k ≡ Some s → slice_get (xs ++ x ∷ []) k ≡ Some s
@@ -29,73 +24,74 @@ push_cases (y ∷ xs) x (suc k) s h = elim (push_cases xs x k s h) [ inl old ↦
 pub spot-push_old : (spots : List Spot) (s : Spot) (k : ℕ) (p : Place) → IsSpot spots k p → IsSpot (spots ++ s ∷ []) k p
 spot-push_old spots s k p f = (f.0, push_old spots s k f.0 f.1, f.2)
 
--- the map of a list that grows by a new place
-pub AreNumbers-push : (spots : List Spot) (m n : BTreeMap (ℕ × ℕ) ℕ) (p : Place) (s : Spot) → AreNumbers spots m → s.place ≡ p
-    → tree.Updates place_cmp m n (p.row, p.column) (Some (length spots)) → tree.get place_cmp m (p.row, p.column) ≡ None
-    → AreNumbers (spots ++ s ∷ []) n
-AreNumbers-push spots m n p s are is_p up new = record { sound = sound; whole = whole }
-  where
-    key : ℕ × ℕ
-    key = (p.row, p.column)
+-- what is written at other places than p stays
+abbrev pub StaysBeside : Place → List (List ℕ) → List (List ℕ) → Type 0
+StaysBeside p old new = (q : Place) (n : ℕ) → q ≢ p → number_at old q ≡ Some n → number_at new q ≡ Some n
 
-    same_place : (q : Place) → tree.is_at (place_cmp key) (q.row, q.column) ≡ true → q ≡ p
-    same_place q e =
-        let k : key ≡ (q.row, q.column) = tells_apart (exact_pairs nat_cmp nat_cmp exact_unsigned exact_unsigned) key (q.row, q.column) e in
-        let r : q.row ≡ p.row = sym (ap (λ (x : ℕ × ℕ). x.0) k) in
-        let c : q.column ≡ p.column = sym (ap (λ (x : ℕ × ℕ). x.1) k) in
-        place_same q p r c
-      where
-        place_same : (a b : Place) → a.row ≡ b.row → a.column ≡ b.column → a ≡ b
-        place_same a b r c = ap (λ (x : ℕ). record { row = x; column = a.column }) r ∙ ap (λ (x : ℕ). record { row = b.row; column = x }) c
-
-    sound : (q : Place) (k : ℕ) → tree.get place_cmp n (q.row, q.column) ≡ Some k → IsSpot (spots ++ s ∷ []) k q
-    sound q k h = go (tree.is_at (place_cmp key) (q.row, q.column)) refl
-      where
-        go : (b : Bool) → tree.is_at (place_cmp key) (q.row, q.column) ≡ b → IsSpot (spots ++ s ∷ []) k q
-        go true e =
-            let is : q ≡ p = same_place q e in
-            let at : ◌≡◌ {A = Option ℕ} (Some (length spots)) (Some k) = sym (ap (λ b. cond b (Some (length spots)) (tree.get place_cmp m (q.row, q.column))) e) ∙ sym (up.0 (q.row, q.column)) ∙ h in
-            let num : length spots ≡ k = cc in
-            (s, ap (slice_get (spots ++ s ∷ [])) (sym num) ∙ push_here spots s, is_p ∙ sym is)
-        go false e = spot-push_old spots s k q (are.sound q k (sym (up.2 (q.row, q.column) e) ∙ h))
-
-    whole : (q : Place) (k : ℕ) → IsSpot (spots ++ s ∷ []) k q → tree.get place_cmp n (q.row, q.column) ≡ Some k
-    whole q k f = elim (push_cases spots s k f.0 f.1) [
-      | inl old ↦ go (tree.is_at (place_cmp key) (q.row, q.column)) refl (f.0, old, f.2)
-      | inr here ↦
-          let e : p ≡ q = sym is_p ∙ sym (ap (λ (x : Spot). x.place) here.1) ∙ f.2 in
-          let at : tree.get place_cmp n key ≡ Some (length spots) = up.1 in
-          ap (λ (x : Place). tree.get place_cmp n (x.row, x.column)) (sym e) ∙ at ∙ ap Some (sym here.0)
-    ]
-      where
-        go : (b : Bool) → tree.is_at (place_cmp key) (q.row, q.column) ≡ b → IsSpot spots k q → tree.get place_cmp n (q.row, q.column) ≡ Some k
-        go true e was =
-            let is : q ≡ p = same_place q e in
-            let had : tree.get place_cmp m (q.row, q.column) ≡ Some k = are.whole q k was in
-            let none : tree.get place_cmp m (q.row, q.column) ≡ None = ap (λ (x : Place). tree.get place_cmp m (x.row, x.column)) is ∙ new in
-            absurd (cc)
-        go false e was = up.2 (q.row, q.column) e ∙ are.whole q k was
-
--- what a map finds is where the place is in the list
-pub find_is : (spots now : List Spot) (m : BTreeMap (ℕ × ℕ) ℕ) (p : Place) (r : Option ℕ) → spots ≡ now → AreNumbers spots m → r ≡ tree.get place_cmp m (p.row, p.column)
-    → (k : ℕ) → (r ≡ Some k → IsSpot now k p) × (IsSpot now k p → r ≡ Some k)
-find_is spots now m p r same are is k =
-    (λ h. rw (← same) (are.sound p k (sym is ∙ h)), λ f. is ∙ are.whole p k (rw (← same) at f))
-
--- a place that is not in the list has no number
-pub none_from : (spots now : List Spot) (m : BTreeMap (ℕ × ℕ) ℕ) (p : Place) → spots ≡ now → AreNumbers spots m → ((k : ℕ) → IsSpot now k p → ⊥) → tree.get place_cmp m (p.row, p.column) ≡ None
-none_from spots now m p same are never = go (tree.get place_cmp m (p.row, p.column)) refl
-  where
-    go : (o : Option ℕ) → tree.get place_cmp m (p.row, p.column) ≡ o → tree.get place_cmp m (p.row, p.column) ≡ None
-    go None e = e
-    go (Some k) e = absurd (never k (rw (← same) (are.sound p k e)))
-
--- the same entries find the same
-pub AreNumbers-same : (spots spots' : List Spot) (m n : BTreeMap (ℕ × ℕ) ℕ) → AreNumbers spots m → spots' ≡ spots → n.entries ≡ m.entries → AreNumbers spots' n
-AreNumbers-same spots spots' m n are e f = record {
-  sound = λ p k h. rw e (are.sound p k (sym (get_same p) ∙ h));
-  whole = λ p k h. get_same p ∙ are.whole p k (rw e at h);
+-- what is written at a place that has no number doesn't matter
+pub AreNumbers-beside : (spots : List Spot) (old new : List (List ℕ)) (p : Place) → AreNumbers spots old → ((k : ℕ) → IsSpot spots k p → ⊥) → StaysBeside p old new → AreNumbers spots new
+AreNumbers-beside spots old new p are never stays = record {
+  whole = λ q k f. stays q k (λ e. never k (f.0, f.1, f.2 ∙ e)) (are.whole q k f);
 }
+
+-- a list that grows by a new place, whose number is written there
+pub AreNumbers-push : (spots : List Spot) (old new : List (List ℕ)) (p : Place) (s : Spot) → AreNumbers spots old → s.place ≡ p → ((k : ℕ) → IsSpot spots k p → ⊥)
+    → StaysBeside p old new → number_at new p ≡ Some (length spots) → AreNumbers (spots ++ s ∷ []) new
+AreNumbers-push spots old new p s are is_p never stays here = record {
+  whole = λ q k f. elim (push_cases spots s k f.0 f.1) [
+    | inl was ↦ stays q k (λ e. never k (f.0, was, f.2 ∙ e)) (are.whole q k (f.0, was, f.2))
+    | inr end ↦
+        let e : p ≡ q = sym is_p ∙ sym (ap (λ (x : Spot). x.place) end.1) ∙ f.2 in
+        ap (number_at new) (sym e) ∙ here ∙ ap Some (sym end.0)
+  ];
+}
+
+pub same_place : (a b : Place) → true ≡ (nat_eq a.row b.row && nat_eq a.column b.column) → a ≡ b
+same_place a b h = go (nat_eq a.row b.row) (nat_eq a.column b.column) refl refl h
   where
-    get_same : (p : Place) → tree.get place_cmp n (p.row, p.column) ≡ tree.get place_cmp m (p.row, p.column)
-    get_same p = ap (λ es. lookup (tree.is_at (place_cmp (p.row, p.column))) es) f
+    go : (r c : Bool) → nat_eq a.row b.row ≡ r → nat_eq a.column b.column ≡ c → true ≡ (r && c) → a ≡ b
+    go true true r c h = ap (λ (x : ℕ). record { row = x; column = a.column }) (eqb-true a.row b.row r) ∙ ap (λ (x : ℕ). record { row = b.row; column = x }) (eqb-true a.column b.column c)
+    go true false r c h = absurd (cc)
+    go false true r c h = absurd (cc)
+    go false false r c h = absurd (cc)
+
+pub other_place : (a b : Place) → false ≡ (nat_eq a.row b.row && nat_eq a.column b.column) → a ≡ b → ⊥
+other_place a b h e =
+    let r : nat_eq a.row b.row ≡ true = eq-eqb a.row b.row (ap (λ (x : Place). x.row) e) in
+    let c : nat_eq a.column b.column ≡ true = eq-eqb a.column b.column (ap (λ (x : Place). x.column) e) in
+    let x : false ≡ (true && true) = h ∙ ap (λ y. y && nat_eq a.column b.column) r ∙ ap (λ y. true && y) c in
+    absurd (cc)
+
+-- nothing is written at a place without a number
+pub never_unwritten : (spots : List Spot) (rows : List (List ℕ)) (p : Place) → AreNumbers spots rows → number_at rows p ≡ None → (k : ℕ) → IsSpot spots k p → ⊥
+never_unwritten spots rows p are none k f =
+    let h : ◌≡◌ {A = Option ℕ} None (Some k) = sym none ∙ are.whole p k f in
+    absurd (cc)
+
+-- what is written there is the number of no place
+pub never_beyond : (spots : List Spot) (rows : List (List ℕ)) (p : Place) (n : ℕ) → AreNumbers spots rows → number_at rows p ≡ Some n → slice_get spots n ≡ None → (k : ℕ) → IsSpot spots k p → ⊥
+never_beyond spots rows p n are at none k f =
+    let h : ◌≡◌ {A = Option ℕ} (Some n) (Some k) = sym at ∙ are.whole p k f in
+    let same : n ≡ k = cc in
+    let there : ◌≡◌ {A = Option Spot} None (Some f.0) = sym none ∙ ap (slice_get spots) same ∙ f.1 in
+    absurd (cc)
+
+-- what is written there is the number of another place
+pub never_other : (spots : List Spot) (rows : List (List ℕ)) (p : Place) (n : ℕ) (s : Spot) → AreNumbers spots rows → number_at rows p ≡ Some n → slice_get spots n ≡ Some s → (s.place ≡ p → ⊥)
+    → (k : ℕ) → IsSpot spots k p → ⊥
+never_other spots rows p n s are at is other k f =
+    let h : ◌≡◌ {A = Option ℕ} (Some n) (Some k) = sym at ∙ are.whole p k f in
+    let same : n ≡ k = cc in
+    let there : ◌≡◌ {A = Option Spot} (Some s) (Some f.0) = sym is ∙ ap (slice_get spots) same ∙ f.1 in
+    let one : s ≡ f.0 = cc in
+    other (ap (λ (x : Spot). x.place) one ∙ f.2)
+
+-- a place without a number is not found
+pub finds_none : (spots : List Spot) (p : Place) (r : Option ℕ) → r ≡ None → ((k : ℕ) → IsSpot spots k p → ⊥) → (k : ℕ) → (r ≡ Some k → IsSpot spots k p) × (IsSpot spots k p → r ≡ Some k)
+finds_none spots p r none never k = (λ h. (let x : ◌≡◌ {A = Option ℕ} None (Some k) = sym none ∙ h in absurd (cc)), λ f. absurd (never k f))
+
+-- a place is found by the number that is written there
+pub finds_number : (spots : List Spot) (rows : List (List ℕ)) (p : Place) (n : ℕ) (s : Spot) → AreNumbers spots rows → number_at rows p ≡ Some n → slice_get spots n ≡ Some s → s.place ≡ p
+    → (k : ℕ) → (◌≡◌ {A = Option ℕ} (Some n) (Some k) → IsSpot spots k p) × (IsSpot spots k p → ◌≡◌ {A = Option ℕ} (Some n) (Some k))
+finds_number spots rows p n s are at is here k =
+    (λ h. (let same : n ≡ k = cc in (s, ap (slice_get spots) (sym same) ∙ is, here)), λ f. sym at ∙ are.whole p k f)

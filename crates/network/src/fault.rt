@@ -1,5 +1,6 @@
 use ladder_text::Place;
 use std::alloc::AllocError;
+use thiserror::Error;
 
 /// Why a drawing has no networks, in the order in which it is sought.
 #[derive(Clone, Copy, Debug, PartialEq, Eq)]
@@ -17,10 +18,13 @@ pub enum GraphFaultKind {
 /// Why a drawing has no networks, and where: at the first place of a network, or at the corner of the later box.
 ///
 /// Where memory ran out, line and column are 0.
-#[derive(Clone, Copy, Debug, PartialEq, Eq)]
+#[derive(Clone, Copy, Debug, PartialEq, Eq, Error)]
+#[error("{line}:{column}: {kind:?}")]
 pub struct GraphFault {
     pub kind: GraphFaultKind,
+    /// The number of the line, counted on from that of the drawing's first.
     pub line: u64,
+    /// The column, from 1 on.
     pub column: usize,
 }
 

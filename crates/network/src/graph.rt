@@ -29,15 +29,14 @@ impl Model for Network {
 }
 
 impl Network {
-    ghost use Rattle.std.specs.Prelude.{◌≡◌, [], ◌∷◌, ◌++◌, OnOk};
+    ghost use Rattle.std.specs.Prelude.{◌≡◌, [], ◌∷◌, ◌++◌, IfOk, OnOk};
 
-    /// A network without elements.
-    fn new(alloc: Global) -> Self
-        ensures { result ≡ [] }
+    /// A network without elements, with room for so many.
+    fn with_capacity(alloc: Global, capacity: usize) -> Result<Self, AllocError>
+        ensures { IfOk result (λ network. network ≡ []) }
     {
-        Network {
-            elements: Vec::new(alloc),
-        }
+        let elements = Vec::with_capacity(alloc, capacity)?;
+        Ok(Network { elements })
     }
 
     /// Adds an element at the end.
@@ -64,14 +63,29 @@ impl Network {
     }
 }
 
-/// Networks without elements.
-fn empty_networks(alloc: Global, count: usize) -> Result<Vec<Network>, AllocError>
-    ensures long { IfOk result (λ networks. length networks.items ≡ count) }
+/// How many elements have each rank.
+fn sizes_of(alloc: Global, ranks: &[Option<usize>], count: usize) -> Result<Vec<usize>, AllocError>
+    requires { (i m : ℕ) → slice_get ranks.now i ≡ Some (Some m) → m < count }
+    ensures { IfOk result (λ sizes. length sizes.items ≡ count) }
+{
+    let mut sizes: Vec<usize> = Vec::new(alloc);
+    sizes.resize(count, 0)?;
+    for k in 0..ranks.len() {
+        if let Some(rank) = ranks[k] {
+            sizes[rank] = sizes[rank].saturating_add(1);
+        }
+    }
+    Ok(sizes)
+}
+
+/// Networks without elements, with room for so many in each.
+fn empty_networks(alloc: Global, sizes: &[usize]) -> Result<Vec<Network>, AllocError>
+    ensures long { IfOk result (λ networks. length networks.items ≡ length sizes.now) }
     ensures empty { IfOk result (λ networks. (m : ℕ) (es : List Element) → slice_get networks.items m ≡ Some es → es ≡ []) }
 {
-    let mut networks = Vec::new(alloc);
-    for _network in 0..count {
-        networks.push(Network::new(alloc))?;
+    let mut networks = Vec::with_capacity(alloc, sizes.len())?;
+    for size in sizes {
+        networks.push(Network::with_capacity(alloc, *size)?)?;
     }
     Ok(networks)
 }
@@ -98,7 +112,8 @@ fn split(
     requires within { (i m : ℕ) → slice_get ranks.now i ≡ Some (Some m) → m < count }
     ensures { IfOk result (λ networks. AreSplit elements.items ranks.now count networks.items (length elements.items)) }
 {
-    let mut networks = empty_networks(alloc, count)?;
+    let sizes = sizes_of(alloc, ranks, count)?;
+    let mut networks = empty_networks(alloc, &sizes)?;
     let mut k = 0;
     for element in elements {
         put(&mut networks, ranks[k], element)?;

@@ -11,6 +11,7 @@ mod graph;
 mod labels;
 mod link;
 mod links;
+mod number_row;
 mod numbering;
 mod pairs;
 mod places;

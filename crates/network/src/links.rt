@@ -3,6 +3,7 @@ ghost use Rattle.ladder_text.specs.declared.drawn_box.Side.TheVariants.{Left, Ri
 ghost use Rattle.network.specs.Links.{Gives, Takes, Stands, IsSymbolPlace, IsPinPlace, Passes, PassesRight, PassesUpright};
 ghost use Rattle.network.specs.Table.{EndsAt};
 ghost use Rattle.network.specs.Apart.{Steps, StepsRight, StepsUpright};
+ghost use Rattle.network.specs.declared.element.Element.{Element};
 
 use crate::element::Element;
 use ladder_text::{DrawnBox, Place, Side};
@@ -110,6 +111,17 @@ pub fn steps(element: &Element, from: Place, other: &Element, to: Place) -> bool
     ensures { IsTrue result ↔ Steps element.now from other.now to }
 {
     steps_right(element, from, other, to) || steps_upright(element, from, other, to)
+}
+
+/// Whether state could pass from this place of the element to another place, if there were an element that takes it.
+pub fn leaves(element: &Element, from: Place, to: Place) -> bool
+    ensures { (other : Element) → Steps element.now from other to → IsTrue result }
+{
+    if from.row == to.row {
+        gives(element, from)
+    } else {
+        stands(element, from)
+    }
 }
 
 fn steps_right(element: &Element, from: Place, other: &Element, to: Place) -> bool

@@ -1,6 +1,10 @@
+ghost use Rattle.std.specs.Prelude.{◌≡◌, ◌≢◌, ◌≤◌, ℕ, List, OnOk, Some, length, slice_get};
+ghost use Rattle.ladder_text.specs.declared.place.Place.{Place};
+ghost use Rattle.network.specs.Numbers.{number_at};
+
+use crate::number_row::NumberRow;
 use ladder_text::Place;
 use std::alloc::{AllocError, Global};
-use std::collections::BTreeMap;
 use std::marker::Model;
 
 /// A place to which state can come, with the number of the element that it belongs to.
@@ -13,8 +17,10 @@ pub struct Spot {
 /// The places to which state can come, each once, found by row and column.
 #[derive(Drop)]
 pub struct Numbering {
+    alloc: Global,
     spots: Vec<Spot>,
-    numbers: BTreeMap<(usize, usize), usize>,
+    /// The number of each place, by row and column; elsewhere any number.
+    rows: Vec<NumberRow>,
 }
 
 impl Model for Numbering {
@@ -26,7 +32,46 @@ impl Model for Numbering {
 
     ghost view = { λ n. n.spots.items };
 
-    ghost invariant = { λ n. AreNumbers n.spots.items n.numbers };
+    ghost invariant = { λ n. AreNumbers n.spots.items n.rows.items };
+}
+
+/// Adds rows without numbers, until there are so many.
+fn add_rows(alloc: Global, rows: &mut Vec<NumberRow>, count: usize) -> Result<(), AllocError>
+    ensures kept { (k : ℕ) (row : List ℕ) → slice_get rows.old.items k ≡ Some row → slice_get rows.new.items k ≡ Some row }
+    ensures many { OnOk result (count ≤ length rows.new.items) }
+{
+    for _row in rows.len()..count {
+        rows.push(NumberRow::new(alloc))?;
+    }
+    Ok(())
+}
+
+/// Writes the number of a place into its row.
+fn put_number(
+    alloc: Global,
+    rows: &mut Vec<NumberRow>,
+    place: Place,
+    number: usize,
+) -> Result<(), AllocError>
+    ensures here { OnOk result (number_at rows.new.items place ≡ Some number) }
+    ensures kept { (p : Place) (n : ℕ) → p ≢ place → number_at rows.old.items p ≡ Some n → number_at rows.new.items p ≡ Some n }
+{
+    add_rows(alloc, rows, place.row.saturating_add(1))?;
+    rows[place.row].put(place.column, number)?;
+    Ok(())
+}
+
+/// The number that is written at a place.
+fn number_at(rows: &[NumberRow], place: Place) -> Option<usize>
+    ensures { result ≡ number_at rows.now place }
+{
+    rows.get(place.row)?.get(place.column)
+}
+
+fn spot_at(spots: &[Spot], number: usize) -> Option<Spot>
+    ensures { result ≡ slice_get spots.now number }
+{
+    spots.get(number).copied()
 }
 
 impl Numbering {
@@ -38,8 +83,9 @@ impl Numbering {
         ensures { result ≡ [] }
     {
         Numbering {
+            alloc,
             spots: Vec::new(alloc),
-            numbers: BTreeMap::new(alloc),
+            rows: Vec::new(alloc),
         }
     }
 
@@ -47,7 +93,13 @@ impl Numbering {
     pub fn find(&self, place: Place) -> Option<usize>
         ensures { (k : ℕ) → (result ≡ Some k) ↔ IsSpot self.now k place }
     {
-        self.numbers.get(&(place.row, place.column)).copied()
+        let number = number_at(&self.rows, place)?;
+        let spot = spot_at(&self.spots, number)?;
+        if spot.place == place {
+            Some(number)
+        } else {
+            None
+        }
     }
 
     /// The number of the element that a place belongs to.
@@ -76,8 +128,7 @@ impl Numbering {
             return Ok(number);
         }
         let number = self.spots.len();
-        self.spots.reserve(1)?;
-        self.numbers.insert((place.row, place.column), number)?;
+        put_number(self.alloc, &mut self.rows, place, number)?;
         self.spots.push(Spot { place, element })?;
         Ok(number)
     }

@@ -8,7 +8,7 @@ ghost use Rattle.network.specs.Pairs.{AreAllNumbered, IsPairTo, ArePairsTo, AreL
 
 use crate::element::Element;
 use crate::labels::{Pair, settle_labels};
-use crate::links::steps;
+use crate::links::{leaves, steps};
 use crate::numbering::{Numbering, Spot};
 use crate::tables::{number_elements, number_pins};
 use ladder_text::{Place, Side};
@@ -35,8 +35,12 @@ fn pair_to(numbering: &Numbering, elements: &[Element], from: Spot, to: Place) -
     requires owned { AreOwned elements.now numbering.now }
     ensures { IsPairTo elements.now numbering.now from to result }
 {
+    let element = &elements[from.element];
+    if !leaves(element, from.place, to) {
+        return None;
+    }
     let other = numbering.owner(to)?;
-    if steps(&elements[from.element], from.place, &elements[other], to) {
+    if steps(element, from.place, &elements[other], to) {
         Some(Pair {
             one: from.element,
             other,

@@ -10,7 +10,7 @@ ghost use Rattle.network.specs.Numbered.{Grows, AreOwned, NumberedTo, IsLinkTo, 
 
 use crate::element::Element;
 use crate::link::Link;
-use crate::links::{ends_at, steps};
+use crate::links::{ends_at, leaves, steps};
 use crate::numbering::Numbering;
 use ladder_text::{DrawnBox, Place, Side};
 use std::alloc::{AllocError, Global};
@@ -50,9 +50,12 @@ fn link_to(numbering: &Numbering, elements: &[Element], from: usize, to: Place) 
 {
     let spots = numbering.spots();
     let here = spots[from];
+    let element = &elements[here.element];
+    if !leaves(element, here.place, to) {
+        return None;
+    }
     let number = numbering.find(to)?;
     let there = spots[number];
-    let element = &elements[here.element];
     if !steps(element, here.place, &elements[there.element], there.place) {
         return None;
     }
@@ -127,6 +130,7 @@ pub fn links_of(
     for from in 0..numbering.spots().len() {
         push_links_from(&mut links, numbering, elements, from)?;
     }
+    links.shrink_to_fit();
     Ok(links)
 }
 
@@ -219,5 +223,6 @@ pub fn number_elements(
         let first = number_element(numbering, &elements[k], k)?;
         firsts.push(first)?;
     }
+    firsts.shrink_to_fit();
     Ok(firsts)
 }

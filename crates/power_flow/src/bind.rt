@@ -11,6 +11,7 @@ use crate::declarations::{Declarations, Declared, Kind};
 use ladder_text::Place;
 use network::{Element, Network};
 use std::alloc::AllocError;
+use thiserror::Error;
 
 /// The kinds of faults of names, in the order in which they are sought.
 #[derive(Clone, Copy, Debug, PartialEq, Eq)]
@@ -32,11 +33,13 @@ pub enum BindKind {
 }
 
 /// What is wrong with a name, and where. A lack of memory has line 0 and column 0.
-#[derive(Clone, Copy, Debug, PartialEq, Eq)]
+#[derive(Clone, Copy, Debug, PartialEq, Eq, Error)]
+#[error("{line}:{column}: {kind:?}")]
 pub struct BindFault {
     pub kind: BindKind,
-    /// The line of the text, counted from 1.
+    /// The number of the line, counted on from that of the drawing's first.
     pub line: u64,
+    /// The column, from 1 on.
     pub column: usize,
 }
 

@@ -6,6 +6,7 @@ use ladder_text::Text;
 use std::alloc::{AllocError, Global};
 use std::marker::Model;
 use std_blocks::BlockType;
+use thiserror::Error;
 
 /// The kinds of a variable.
 #[derive(Clone, Copy, Debug, PartialEq, Eq)]
@@ -38,11 +39,13 @@ pub struct Declaration {
 }
 
 /// Why a name is not declared.
-#[derive(Clone, Copy, Debug, PartialEq, Eq)]
+#[derive(Clone, Copy, Debug, PartialEq, Eq, Error)]
 pub enum DeclareFault {
     /// The name is declared already, in either case.
+    #[error("Twice")]
     Twice,
     /// There was no memory.
+    #[error("Memory")]
     Memory,
 }
 

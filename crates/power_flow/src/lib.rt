@@ -29,7 +29,7 @@ mod tests;
 
 pub use bind::{BindFault, BindKind};
 pub use declarations::{Declaration, Declarations, DeclareFault, Declared, Kind};
-pub use kinds::block_type;
+pub use kinds::{block_type, first_value, kind_of};
 pub use ladder::Ladder;
 pub use laws::one_scan;
 pub use state::{Instance, Slot, State};

@@ -1,7 +1,7 @@
 use Rattle.std.proofs.Common.{◌≡◌, ◌∙◌, ℕ, ◌<◌, rules, sym, refl, Some, None, Option, length, get_or}
 use Rattle.std.proofs.lemmas.Option.{slice_get-get_or, slice_get_within, slice_get_read}
 use Rattle.std.proofs.lemmas.Bool.{false≢true}
-use Rattle.network.proofs.Neighbours.{owned_at, no_link, a_link, not_there, no_spot}
+use Rattle.network.proofs.Neighbours.{owned_at, no_link, a_link, not_there, no_spot, no_leaving}
 use Rattle.network.proofs.tables.link_to.Goals as goal
 
 pub returns-in_err-number : goal.returns-in_err-number
@@ -97,3 +97,15 @@ returns-else-ends_at c = λ rails apart.
     c.index-elements-here.result c.index-elements-there.result None (slice_get_read es (length es) here.element c.index-elements-here.result refl o here_is)
     (slice_get_read es (length es) there.element c.index-elements-there.result refl o' there_is)
     (st.0 c.if-not-steps.false) (λ h. absurd (false≢true (sym c.if-ends_at.false ∙ en.1 h))) tt
+
+pub returns-then-not-leaves : goal.returns-then-not-leaves
+returns-then-not-leaves c = λ rails apart.
+    let spots = c.args.numbering.now in
+    let es = c.args.elements.now in
+    let here = get_or spots c.args.from no_spot in
+    let here_is = rw c.spots-spots.ensures at c.index-elements-here.is in
+    let o = owned_at es spots c.args.from no_spot c.requires.owned c.requires.from in
+    let leaves = rw c.spots-spots.ensures at c.leaves.ensures in
+    no_leaving (record { rails = rails; elements = es }) apart spots c.requires.owned c.args.from here c.args.to c.index-elements-here.result
+    (slice_get-get_or spots c.args.from no_spot c.requires.from) (slice_get_read es (length es) here.element c.index-elements-here.result refl o here_is)
+    (λ f s. false≢true (sym c.if-not-leaves.true ∙ leaves f s))
