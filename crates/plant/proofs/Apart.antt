@@ -10,7 +10,7 @@ use Rattle.std.specs.Prelude.{Any}
 use Rattle.std.specs.List.{flat_map, list_any}
 use Rattle.std.specs.Str.{str_to_ascii_lowercase}
 use Rattle.plant.specs.Names.{is_named, AreApart}
-use Rattle.plant.specs.ReadParts.{IsNew}
+use Rattle.plant.specs.Steps.ReadParts.{IsNew}
 
 -- one name is another either way round
 pub named_back : (a b : List ℕ) → IsTrue (is_named a b) → IsTrue (is_named b a)

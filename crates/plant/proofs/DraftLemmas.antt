@@ -1,8 +1,11 @@
 -- Lists of what a resource declares, one item more at a time, and what is found in a draft.
-use Rattle.std.proofs.Common.{◌≡◌, ℕ, ◌+◌, ◌<◌, List, [], ◌∷◌, ◌++◌, Bool, Option, Some, None, IsTrue, length, map, take, get_or, refl, sym, ap, ◌∙◌}
+use Rattle.std.proofs.Common.{◌≡◌, ℕ, ◌+◌, ◌<◌, List, [], ◌∷◌, ◌++◌, Bool, true, false, cond, suc, subst, Option, Some, None, IsTrue, length, map, take, get_or, refl, sym, ap, ◌∙◌}
 use Rattle.std.specs.Borrow.{Bor}
 use Rattle.std.specs.Prelude.{slice_get, IfSome}
-use Rattle.std.specs.List.{flat_map, filter}
+use Rattle.std.specs.List.{flat_map, filter, find}
+use Rattle.std.specs.Option.{option_map}
+use Rattle.std.proofs.lemmas.Option.{slice_get-map}
+use Rattle.plant.proofs.Zips.{some_same}
 use Rattle.std.proofs.lemmas.List.{take_more, map-append, flat_map_more}
 use Rattle.std.proofs.lemmas.List.Elements.{filter-append}
 use Rattle.power_flow.specs.declared.declarations.Kind.{Kind}
@@ -11,10 +14,10 @@ use Rattle.plant.specs.declared.tree.Use.{Use}
 use Rattle.plant.specs.declared.tree.Item.{Item}
 use Rattle.plant.specs.declared.tree.Item.TheVariants as item
 use Rattle.plant.specs.Names.{is_named}
-use Rattle.plant.specs.Faultless.{use_of}
-use Rattle.plant.specs.Reading.{TypeValue}
+use Rattle.plant.specs.Faultless.{use_of, IsLadderOf}
+use Rattle.plant.specs.Steps.Reading.{TypeValue}
 use Rattle.plant.specs.PlantValue.{ProgramValue, CodeValue}
-use Rattle.plant.specs.Drafts.{programs_in, IsTypeAt, IsProgramOf, IsPlacedAt, IsOutputAt}
+use Rattle.plant.specs.Steps.Drafts.{programs_in, IsProgramOf, IsPlacedAt, IsOutputAt}
 use Rattle.plant.proofs.NameLemmas.{at_place}
 
 -- an instance that the task runs is added
@@ -30,9 +33,28 @@ runs_more p items i x olds news lt is e f =
     let flat : flat_map use_of (take (i + 1) items) ≡ flat_map use_of (take i items) ++ use_of x = ap (flat_map use_of) front ∙ sym (flat_map_more use_of [] (take i items) x) in
     rw (flat, filter-append p (flat_map use_of (take i items)) (use_of x)) (f ∙ ap (λ l. l ++ filter p (use_of x)) e)
 
+-- what is found stands somewhere, and passes
+found_place : {A : Type 0} (p : A → Bool) (xs : List A) (x : A) → find p xs ≡ Some x → (k : ℕ) × (slice_get xs k ≡ Some x) × IsTrue (p x)
+found_place p [] x e = absurd cc
+found_place {A = A} p (y ∷ ys) x e = by_first (p y) refl e (found_place p ys x)
+  where
+    by_first : (b : Bool) → p y ≡ b → cond b (Some y) (find p ys) ≡ Some x → (find p ys ≡ Some x → (k : ℕ) × (slice_get ys k ≡ Some x) × IsTrue (p x))
+        → (k : ℕ) × (slice_get (y ∷ ys) k ≡ Some x) × IsTrue (p x)
+    by_first true is e later = (0, e, subst (λ (z : A). IsTrue (p z)) (some_same e) is)
+    by_first false is e later = let at = later e in (suc at.0, at.1, at.2)
+
 -- a program of a type that was found
-pub program_made : (types : List TypeValue) (u : Use) (t : TypeValue) (p : ProgramValue) → IsTypeAt types u.program t → p.name ≡ u.instance → p.ladder ≡ t.ladder → IsProgramOf (programs_in types) u p
-program_made types u t p at named same = record { name_is = named; place = at.place; type = t.program; type_is = at.type_is; ladder_is = rw same at.ladder_is }
+pub program_made : (types : List TypeValue) (u : Use) (t : TypeValue) (p : ProgramValue) → find (λ (t : TypeValue). is_named u.program t.program.name) types ≡ Some t → IsLadderOf t.program t.ladder
+    → p.name ≡ u.instance → p.ladder ≡ t.ladder → IsProgramOf (programs_in types) u p
+program_made types u t p found drawn named same =
+    let at = found_place (λ (t : TypeValue). is_named u.program t.program.name) types t found in
+    record {
+      name_is = named;
+      place = at.0;
+      type = t.program;
+      type_is = record { stands = slice_get-map (λ (t : TypeValue). t.program) types at.0 ∙ ap (option_map (λ (t : TypeValue). t.program)) at.1; named = at.2 };
+      ladder_is = rw same drawn;
+    }
 
 -- an output that was found by its place
 pub output_found : (c : CodeValue) (program : ℕ) (name : List ℕ) (owner : ProgramValue) (place : ℕ) (r : Option (ℕ × Kind)) → slice_get c.programs program ≡ Some owner

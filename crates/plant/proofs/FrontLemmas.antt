@@ -18,8 +18,8 @@ use Rattle.plant.specs.declared.token.Keyword.{Keyword}
 use Rattle.plant.specs.declared.token.Punctuation.{Punctuation}
 use Rattle.plant.specs.Words.{is_word_char, or_else, program_keyword, configuration_keyword, task_keyword, keyword, punctuation, address, name, fixed_word, value_word, word_of}
 use Rattle.plant.specs.Spelling.{is_parted}
-use Rattle.plant.specs.Gaps.{behind_space}
-use Rattle.plant.specs.Lexing.{is_run_char, letters}
+use Rattle.plant.specs.Steps.Gaps.{behind_space}
+use Rattle.plant.specs.Steps.Lexing.{is_run_char, letters}
 use Rattle.plant.proofs.GapLemmas.{cases_of_cond}
 
 -- all are letters, digits and underscores

@@ -5,7 +5,7 @@ use Rattle.std.proofs.lemmas.Bool.{eqb-true, and_parts, or_cases, and_right}
 use Rattle.std.proofs.lemmas.List.{length-append, append-nil}
 use Rattle.std.proofs.lemmas.Grind.{flat_map-append}
 use Rattle.plant.specs.Spelling.{ends_comment, IsSpace, IsGap}
-use Rattle.plant.specs.Gaps.{behind_comment, behind_star, behind_feed, behind_space, IsBehindGap}
+use Rattle.plant.specs.Steps.Gaps.{behind_comment, behind_star, behind_feed, behind_space, IsBehindGap}
 
 -- which branch was taken
 pub cases_of_cond : {A : Type 0} (b : Bool) (x y z : A) → cond b x y ≡ z → ((b ≡ true) × (x ≡ z)) ⊎ ((b ≡ false) × (y ≡ z))

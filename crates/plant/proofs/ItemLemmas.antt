@@ -17,7 +17,7 @@ use Rattle.plant.specs.declared.tree.Resource.{Resource}
 use Rattle.plant.specs.Grammar.{Tree}
 use Rattle.plant.specs.Names.{AreApart}
 use Rattle.plant.specs.Faultless.{task_of, use_of, binds_of, IsUseLawful, IsResourceLawful}
-use Rattle.plant.specs.ReadParts.{TallyValue, tally_with, is_task_line, IsNew, MayFollow, AreItemsLawful, AreResourcesLawful}
+use Rattle.plant.specs.Steps.ReadParts.{TallyValue, tally_with, is_task_line, IsNew, MayFollow, AreItemsLawful, AreResourcesLawful}
 use Rattle.plant.proofs.Apart.{apart_more, apart_none}
 use Rattle.plant.proofs.WordLists.{flat_map-push, flat_map-grown, flat_map-append, grown}
 

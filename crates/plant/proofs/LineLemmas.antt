@@ -8,8 +8,8 @@ use Rattle.plant.specs.declared.token.Keyword.{Keyword}
 use Rattle.plant.specs.declared.token.Keyword.TheVariants as key
 use Rattle.plant.specs.Words.{is_word_char, keyword, word_of}
 use Rattle.plant.specs.Spelling.{ends_comment, is_parted, first_line, is_one_line, IsGap, IsEndLine, BeginsNoBlock}
-use Rattle.plant.specs.Gaps.{behind_comment, behind_star, behind_feed, behind_space, IsBehindGap}
-use Rattle.plant.specs.Lexing.{letters, begins_block, may_run_on, IsBlankLine, IsBehindBody}
+use Rattle.plant.specs.Steps.Gaps.{behind_comment, behind_star, behind_feed, behind_space, IsBehindGap}
+use Rattle.plant.specs.Steps.Lexing.{letters, begins_block, may_run_on, IsBlankLine, IsBehindBody}
 use Rattle.plant.proofs.GapLemmas.{cases_of_cond, gap_unique, IsGap-append, IsGap-one}
 use Rattle.plant.proofs.FrontLemmas.{keyword_letters, word_of-keyword, keyword-word_of, letters_end, parted_letters, letters_begin, letter_begins, take_while-yes, take_while-no}
 

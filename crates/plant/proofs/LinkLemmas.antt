@@ -24,7 +24,7 @@ use Rattle.plant.specs.Names.{is_named, AreApart}
 use Rattle.plant.specs.Faultless.{binds_of}
 use Rattle.plant.specs.PlantValue.{ProgramValue, CodeValue, PlantValue, image_kinds, outputs_of, input_kind_at, kind_of_space, source_kind, expected_at, items_or_none, AreOnce, IsBindingSound, IsSoundCode}
 use Rattle.plant.specs.StandsFor.{IsOrigin, IsSourceOf, firsts, mention}
-use Rattle.plant.specs.Drafts.{IsOriginOf, AreKindsOf, IsFeedOf, AreFeedsOf, IsPlaced, IsPlacedSource, IsBindingBy, IsLinked, IsOnceBound, Triples, tasks_taken, all_taken, IsTakenFrom, IsTaskOf}
+use Rattle.plant.specs.Steps.Drafts.{IsOriginOf, AreKindsOf, IsFeedOf, AreFeedsOf, IsPlaced, IsPlacedSource, IsBindingBy, IsLinked, IsOnceBound, Triples, tasks_taken, all_taken, IsTakenFrom, IsTaskOf}
 use Rattle.plant.proofs.NameLemmas.{one_name}
 use Rattle.plant.proofs.ImageLemmas.{outputs_placed}
 use Rattle.plant.proofs.ProducerLemmas.{firsts_all, firsts_hold, all_flat, flat_all}

@@ -11,7 +11,7 @@ use Rattle.std.proofs.lemmas.List.Sorted.{All-permutation}
 use Rattle.plant.specs.declared.slot.Slot.{Slot}
 use Rattle.plant.specs.declared.plan_fault.PlanFault.{PlanFault}
 use Rattle.plant.specs.PlantValue.{TaskValue, PlantValue, tasks_at}
-use Rattle.plant.specs.Slots.{slot_of, slots_within, slots_before, is_due, NoneDue, dues_at, dues_until}
+use Rattle.plant.specs.Steps.Slots.{slot_of, slots_within, slots_before, is_due, NoneDue, dues_at, dues_until}
 
 -- between two moments at which no task is due
 none_due : (order : List Slot) (from to m : ℕ) → AllByRecursion (λ s. NoneDue s from to) order → from < m → m < to → dues_at order m ≡ []

@@ -25,7 +25,7 @@ use Rattle.plant.specs.declared.due.Due.{Due}
 use Rattle.plant.specs.declared.plan_fault.PlanFault.{PlanFault}
 use Rattle.plant.specs.declared.plan_fault.PlanFault.TheVariants.{TooLong}
 use Rattle.plant.specs.PlantValue.{TaskValue, PlantValue, tasks_at}
-use Rattle.plant.specs.Slots.{slot_of, slot_at, slots_within, slots_before, slots_of, is_due, due_of, dues_at, dues_until, slot_cmp}
+use Rattle.plant.specs.Steps.Slots.{slot_of, slot_at, slots_within, slots_before, slots_of, is_due, due_of, dues_at, dues_until, slot_cmp}
 use Rattle.plant.specs.Plan.{IsDue, priority_at, due_cmp, IsPlan}
 use Rattle.plant.proofs.Ordered.{pairs_append, pairs_map, contains_map, contains_filter, rising_same}
 

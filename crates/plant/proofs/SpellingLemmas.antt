@@ -7,8 +7,8 @@ use Rattle.plant.specs.declared.token.Token.{Token}
 use Rattle.plant.specs.declared.token.Token.TheVariants as token
 use Rattle.plant.specs.Words.{word_of}
 use Rattle.plant.specs.Spelling.{is_parted, first_line, IsGap, IsEndLine, IsBody, BeginsNoBlock, Spells}
-use Rattle.plant.specs.Gaps.{IsBehindGap}
-use Rattle.plant.specs.Lexing.{IsWordThen, IsBlankLine, IsBehindBody, IsFirstWord}
+use Rattle.plant.specs.Steps.Gaps.{IsBehindGap}
+use Rattle.plant.specs.Steps.Lexing.{IsWordThen, IsBlankLine, IsBehindBody, IsFirstWord}
 use Rattle.plant.proofs.FrontLemmas.{word_of-body}
 
 -- a word behind a gap

@@ -23,7 +23,7 @@ use Rattle.plant.specs.Names.{is_named, IsAt}
 use Rattle.plant.specs.Faultless.{variables, IsLadderOf, tasks_of, use_of, binds_of, IsResourceLawful}
 use Rattle.plant.specs.PlantValue.{TaskValue, ProgramValue, CodeValue, ResourceValue, PlantValue, code_at, bindings_at, IsSoundPlant, AreProducersOf}
 use Rattle.plant.specs.StandsFor.{runs_in, IsOrigin, IsSourceOf, IsBindingOf, IsCodeOf, IsResourceOf, IsPlantOf, task_value}
-use Rattle.plant.specs.Drafts.{drafted, IsProgramOf, IsDraftOf, IsResourceDraft, IsReady, IsOnceBound, IsBindingBy, IsLinked, IsResourceLinked, HasPrograms, Triples}
+use Rattle.plant.specs.Steps.Drafts.{drafted, IsProgramOf, IsDraftOf, IsResourceDraft, IsReady, IsOnceBound, IsBindingBy, IsLinked, IsResourceLinked, HasPrograms, Triples}
 use Rattle.plant.proofs.Zips.{some_same, zip_at, zip_back, zip_length, zip_imply, item_at}
 
 -- two lists of one length whose items go together by place

@@ -8,8 +8,8 @@ use Rattle.plant.specs.declared.token.Keyword.TheVariants as key
 use Rattle.plant.specs.declared.tree.Resource.{Resource}
 use Rattle.plant.specs.Grammar.{key_word, program_words, resources_words, words_of}
 use Rattle.plant.specs.Faultless.{uses_of, binds_of, IsResourceLawful, IsFaultless, IsLadderOf}
-use Rattle.plant.specs.Reading.{TypeValue, tree_of, IsReadingOf}
-use Rattle.plant.specs.ReadParts.{TallyValue, tally_with, types_alone, AreProgramsLawful, AreResourcesLawful}
+use Rattle.plant.specs.Steps.Reading.{TypeValue, tree_of, IsReadingOf}
+use Rattle.plant.specs.Steps.ReadParts.{TallyValue, tally_with, types_alone, AreProgramsLawful, AreResourcesLawful}
 
 -- a resource is lawful in each tree of these program types
 lawful_in : (types : List TypeValue) (rs : List Resource) (name : List ℕ) (r : Resource) → IsResourceLawful (types_alone types) r → IsResourceLawful (tree_of name (record { types = types; resources = rs })) r

@@ -10,10 +10,10 @@ use Rattle.plant.specs.declared.tree.Program.{Program}
 use Rattle.plant.specs.Grammar.{program_words}
 use Rattle.plant.specs.Faultless.{IsProgramLawful}
 use Rattle.plant.specs.Names.{is_named}
-use Rattle.plant.specs.ReadParts.{IsNew, AreProgramsLawful}
+use Rattle.plant.specs.Steps.ReadParts.{IsNew, AreProgramsLawful}
 use Rattle.plant.proofs.Apart.{map-push, apart_more, apart_none}
 use Rattle.plant.proofs.WordLists.{words_more, all_more, grown}
-use Rattle.plant.specs.Reading.{TypeValue}
+use Rattle.plant.specs.Steps.Reading.{TypeValue}
 
 either : {A : Type 0} (b : Bool) (x : A) (r : Option A) (s : Bool) → is_some r ≡ s → is_some (cond b (Some x) r) ≡ (b || s)
 either true x r s e = refl
@@ -38,7 +38,7 @@ known_type types name t at =
     Any-from_list_any (λ p. is_named name p.name) (map (λ (t : TypeValue). t.program) types)
     (list_any-map (λ (t : TypeValue). t.program) (λ p. is_named name p.name) types ∙ sym (found_is is types) ∙ ap is_some at)
 
-map-grown : {A B : Type 0} (f : A → B) (xs ys : List A) (y : A) → ys ≡ xs ++ y ∷ [] → map f ys ≡ map f xs ++ f y ∷ []
+pub map-grown : {A B : Type 0} (f : A → B) (xs ys : List A) (y : A) → ys ≡ xs ++ y ∷ [] → map f ys ≡ map f xs ++ f y ∷ []
 map-grown f xs ys y e = ap (λ zs. map f zs) e ∙ map-push f xs y
 
 -- what isn't among the types isn't among the programs

@@ -1,16 +1,17 @@
 -- A program's variables, one by one.
-use Rattle.std.proofs.Common.{◌≡◌, ℕ, ◌<◌, ◌≤◌, ◌++◌, map, List, [], ◌∷◌, length, subst, sym, arith, Result, Ok, Err}
+use Rattle.std.proofs.Common.{◌≡◌, ◌↔◌, ℕ, ◌<◌, ◌≤◌, ◌++◌, map, List, [], ◌∷◌, length, refl, subst, sym, arith, IsTrue, Option, Some, None, is_some, Result, Ok, Err}
 use Rattle.std.specs.Prelude.{OnOk, OnErr, All}
 use Rattle.power_flow.specs.declared.declarations.Declaration.{Declaration}
 use Rattle.power_flow.specs.declared.declarations.Declared.{Declared}
 use Rattle.power_flow.specs.declared.declarations.DeclareFault.{DeclareFault}
 use Rattle.power_flow.specs.declared.declarations.DeclareFault.TheVariants.{Twice}
-use Rattle.power_flow.specs.Names.{IsDeclared}
+use Rattle.power_flow.specs.Names.{IsDeclared, place_of}
+use Rattle.power_flow.proofs.Places.{declared_place, place_declared}
 use Rattle.power_flow.specs.LadderValue.{LadderValue}
 use Rattle.plant.specs.declared.tree.Program.{Program}
 use Rattle.plant.specs.Faultless.{variables, IsBlockLawful, IsLadderOf, IsProgramLawful}
 use Rattle.plant.specs.Names.{AreApart}
-use Rattle.plant.specs.ReadParts.{AreVariables}
+use Rattle.plant.specs.Steps.ReadParts.{AreVariables}
 use Rattle.plant.proofs.Apart.{named_back, any_with, apart_more}
 use Rattle.plant.proofs.WordLists.{grown}
 
@@ -34,3 +35,11 @@ program_lawful p ds l is are blocks drawn = record {
   ladder = l;
   drawn = drawn;
 }
+
+-- a place is found exactly where the name is declared
+pub found_declared : (ds : List Declaration) (name : List ℕ) → IsTrue (is_some (place_of ds name)) ↔ IsDeclared ds name
+found_declared ds name = by_place (place_of ds name) refl
+  where
+    by_place : (o : Option ℕ) → place_of ds name ≡ o → IsTrue (is_some o) ↔ IsDeclared ds name
+    by_place None e = ((λ no. absurd cc), (λ declared. absurd (declared_place ds name declared e)))
+    by_place (Some k) e = ((λ _. place_declared ds name k e), (λ _. refl))

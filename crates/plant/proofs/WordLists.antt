@@ -1,5 +1,5 @@
 -- Lists of words that grow at their end.
-use Rattle.std.proofs.Common.{◌≡◌, ℕ, ◌+◌, ◌<◌, List, [], ◌∷◌, ◌++◌, length, refl, sym, ap, ◌∙◌, append_assoc, subst, arith}
+use Rattle.std.proofs.Common.{◌≡◌, ℕ, ◌+◌, ◌<◌, List, [], ◌∷◌, ◌++◌, length, map, get_or, refl, sym, ap, ◌∙◌, append_assoc, subst, arith}
 use Rattle.std.specs.Prelude.{All}
 use Rattle.std.proofs.lemmas.List.Elements.{All-push}
 use Rattle.std.specs.List.{flat_map}
@@ -18,6 +18,7 @@ use Rattle.plant.specs.declared.tree.Resource.{Resource}
 use Rattle.plant.specs.declared.tree.NameList.{NameList}
 use Rattle.plant.specs.declared.tree.VarBlock.{VarBlock}
 use Rattle.plant.specs.declared.tree.Program.{Program}
+use Rattle.plant.specs.Steps.Lines.{WordValue}
 use Rattle.plant.specs.Grammar.{mark, key_word, bind_words, with_commas, item_words, items_words, task_words, use_words, resource_words, resources_words, name_words, list_words, lists_words, type_word, block_words, program_words}
 
 pub flat_map-push : {A B : Type 0} (f : A → List B) (xs : List A) (y : A) → flat_map f (xs ++ y ∷ []) ≡ flat_map f xs ++ f y
@@ -127,3 +128,8 @@ block_has_words b rest = omega (arith, length-append (block_words b) rest)
 pub program_has_words : (p : Program) (rest : List Token) → length rest < length (program_words p ++ rest)
 unfolding program_words
 program_has_words p rest = omega (arith, length-append (program_words p) rest)
+
+-- the word in front of a list of words with their lines
+pub front_word : (ws : List WordValue) (w : WordValue) → 0 < length ws → w ≡ get_or ws 0 w → (rest : List Token) × (map (λ (v : WordValue). v.token) ws ≡ w.token ∷ rest)
+front_word [] w lt is = absurd (omega arith)
+front_word (v ∷ vs) w lt is = (map (λ (v : WordValue). v.token) vs, ap (λ (u : WordValue). u.token ∷ map (λ (v : WordValue). v.token) vs) (sym is))

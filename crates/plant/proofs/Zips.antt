@@ -2,12 +2,12 @@
 use Rattle.std.proofs.Common.{◌≡◌, ℕ, zero, suc, ◌+◌, ◌<◌, Bool, true, false, List, [], ◌∷◌, ◌++◌, length, map, take, get_or, Some, ◌⊎◌, inl, inr, refl, sym, ap, ◌∙◌, subst, arith}
 use Rattle.std.specs.Borrow.{Bor}
 use Rattle.std.specs.Prelude.{slice_get, All}
-use Rattle.std.specs.List.{AllZip, filter}
-use Rattle.std.proofs.lemmas.List.Elements.{All-nil, All-cons}
+use Rattle.std.specs.List.{AllZip, filter, flat_map}
+use Rattle.std.proofs.lemmas.List.Elements.{All-nil, All-cons, All-append, All-push}
 use Rattle.std.specs.Option.{option_map}
 use Rattle.std.proofs.lemmas.Option.{slice_get_read, slice_get-map, slice_get-get_or, slice_get_within, get_or_from_slice_get}
-use Rattle.plant.specs.Drafts.{Triples}
-use Rattle.std.proofs.lemmas.List.{take_more, map-append, length-map}
+use Rattle.plant.specs.Steps.Drafts.{Triples}
+use Rattle.std.proofs.lemmas.List.{take_more, map-append, length-map, flat_map_more}
 
 pub some_same : {A : Type 0} {x y : A} → Some x ≡ Some y → x ≡ y
 some_same e = cc
@@ -131,3 +131,17 @@ all_filter P p (x ∷ xs) h = by (p x) refl (all_filter P p xs (all_from P xs (�
     by : (b : Bool) → p x ≡ b → All P (filter p xs) → All P (filter p (x ∷ xs))
     by true e rest = rw e (All-cons P x (filter p xs) (all_at P (x ∷ xs) h 0 x refl) rest)
     by false e rest = rw e rest
+
+-- what holds of the parts of the first items holds of those of one more
+pub all_flat_more : {A B : Type 0} (P : B → Type 0) (f : A → List B) (xs : List A) (n : ℕ) (x : A) → n < length xs → x ≡ get_or xs n x
+    → All P (flat_map f (take n xs)) → All P (f x) → All P (flat_map f (take (n + 1) xs))
+all_flat_more P f xs n x lt is before last =
+    let front : take (n + 1) xs ≡ take n xs ++ x ∷ [] = take_more xs n x lt ∙ ap (λ p. take n xs ++ p ∷ []) (sym is) in
+    let flat : flat_map f (take (n + 1) xs) ≡ flat_map f (take n xs) ++ f x = ap (flat_map f) front ∙ sym (flat_map_more f [] (take n xs) x) in
+    rw flat (All-append P (flat_map f (take n xs)) (f x) before last)
+
+-- what holds of the first items holds of one more
+pub all_next : {A : Type 0} (P : A → Type 0) (xs : List A) (n : ℕ) (x : A) → n < length xs → x ≡ get_or xs n x → All P (take n xs) → P x → All P (take (n + 1) xs)
+all_next P xs n x lt is before last =
+    let front : take (n + 1) xs ≡ take n xs ++ x ∷ [] = take_more xs n x lt ∙ ap (λ p. take n xs ++ p ∷ []) (sym is) in
+    rw front (All-push P (take n xs) x before last)

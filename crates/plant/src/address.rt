@@ -1,5 +1,8 @@
 ghost use Rattle.std.specs.Prelude.{◌≡◌};
 ghost use Rattle.plant.specs.Words.{address};
+ghost use Rattle.plant.specs.PlantValue.{kind_of_space};
+
+use power_flow::Kind;
 
 /// What a field address counts: bits or words. The two do not overlap.
 #[derive(Clone, Copy, Debug, PartialEq, Eq)]
@@ -8,6 +11,18 @@ pub enum Space {
     Bit,
     /// `%IW`: INT.
     Word,
+}
+
+impl Space {
+    /// The kind of the values that a space holds: bits are BOOL, words INT.
+    pub fn kind(self) -> Kind
+        ensures { result ≡ kind_of_space self }
+    {
+        match self {
+            Space::Bit => Kind::Bool,
+            Space::Word => Kind::Int,
+        }
+    }
 }
 
 /// A field address, such as `%IX0` or `%IW2`.

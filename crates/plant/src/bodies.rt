@@ -5,7 +5,7 @@ ghost use Rattle.ladder_text.specs.Rows.{without_last};
 ghost use Rattle.plant.specs.declared.token.Keyword.TheVariants as key;
 ghost use Rattle.plant.specs.Words.{keyword};
 ghost use Rattle.plant.specs.Spelling.{first_line, IsGap, IsEndLine, BeginsNoBlock};
-ghost use Rattle.plant.specs.Lexing.{begins_block, may_run_on, IsBlankLine, IsBehindBody};
+ghost use Rattle.plant.specs.Steps.Lexing.{begins_block, may_run_on, IsBlankLine, IsBehindBody};
 
 use crate::front_word::{behind, letters};
 use crate::gaps::behind_gap;

@@ -1,11 +1,12 @@
 //! Whether a name is declared already, without regard to case.
 
-ghost use Rattle.std.specs.Prelude.{◌≡◌, ◌↔◌, ◌<◌, IsTrue, IsFalse, Any, OnOk, length};
+ghost use Rattle.std.specs.Prelude.{◌≡◌, ◌↔◌, ◌<◌, IsTrue, IsFalse, Any, OnOk, IfErr, length};
+ghost use Rattle.plant.specs.declared.plant_fault.PlantFaultKind.TheVariants.{NameTwice, TooMany};
 ghost use Rattle.std.specs.List.{flat_map, find};
 ghost use Rattle.std.specs.Option.{option_map, option_and_then};
 ghost use Rattle.power_flow.specs.Names.{place_of};
 ghost use Rattle.plant.specs.PlantValue.{input_kind_at};
-ghost use Rattle.plant.specs.ReadParts.{is_task_line};
+ghost use Rattle.plant.specs.Steps.ReadParts.{is_task_line};
 ghost use Rattle.plant.specs.Names.{is_named};
 ghost use Rattle.plant.specs.Faultless.{task_of, use_of};
 
@@ -17,7 +18,9 @@ use power_flow::{Declared, Kind};
 
 /// A new name, if it isn't declared twice and there may be one more.
 pub fn check_new(name: &Name, is_twice: bool, is_full: bool) -> Result<(), PlantFault>
-    ensures { OnOk result (IsFalse is_twice × IsFalse is_full) }
+    ensures ok { OnOk result (IsFalse is_twice × IsFalse is_full) }
+    ensures twice { IfErr result (λ e. IsTrue is_twice → e.kind ≡ NameTwice) }
+    ensures full { IfErr result (λ e. IsFalse is_twice → IsTrue is_full × (e.kind ≡ TooMany)) }
 {
     if is_twice {
         Err(PlantFault::at(PlantFaultKind::NameTwice, name.line()))

@@ -5,9 +5,9 @@ ghost use Rattle.std.specs.List.{AllZip, filter};
 ghost use Rattle.plant.specs.Names.{is_named};
 ghost use Rattle.plant.specs.Faultless.{tasks_of, uses_of, task_of, use_of};
 ghost use Rattle.plant.specs.StandsFor.{runs_in};
-ghost use Rattle.plant.specs.Drafts.{programs_in, IsProgramOf, IsDraftOf, IsResourceDraft};
+ghost use Rattle.plant.specs.Steps.Drafts.{programs_in, IsProgramOf, IsDraftOf, IsResourceDraft};
 
-use crate::lookup::find_type;
+use crate::declared_names::type_named;
 use crate::plant_fault::{PlantFault, PlantFaultKind};
 use crate::program_instance::ProgramInstance;
 use crate::program_type::ProgramType;
@@ -77,7 +77,7 @@ fn draft_program(
 ) -> Result<ProgramInstance, PlantFault>
     ensures { IfOk result (λ p. IsProgramOf (programs_in types.now) run.now p) }
 {
-    let Some(found) = find_type(types, run.program.as_str()) else {
+    let Some(found) = type_named(types, &run.program) else {
         return Err(PlantFault::at(PlantFaultKind::UnknownName, run.program.line()));
     };
     let name = run.instance.try_text(alloc)?;

@@ -1,16 +1,16 @@
 //! The binds of instances, each with its input and its source found by name.
 
-ghost use Rattle.std.specs.Prelude.{◌≡◌, IfOk, IfSome, Some, length, map};
-ghost use Rattle.std.specs.List.{AllZip};
+ghost use Rattle.std.specs.Prelude.{◌≡◌, All, IfOk, IfSome, OnOk, Some, length, map};
+ghost use Rattle.std.specs.List.{AllZip, flat_map};
 ghost use Rattle.power_flow.specs.Names.{place_of};
-ghost use Rattle.plant.specs.Faultless.{binds_of};
-ghost use Rattle.plant.specs.PlantValue.{PlantValue, input_kind_at, kind_of_space};
+ghost use Rattle.plant.specs.Faultless.{binds_of, use_of, uses_of};
+ghost use Rattle.plant.specs.PlantValue.{PlantValue, input_kind_at};
 ghost use Rattle.plant.specs.StandsFor.{IsOrigin};
-ghost use Rattle.plant.specs.Drafts.{drafted, IsOriginOf, IsImageKind, IsFeedOf, AreFeedsOf, Triples};
+ghost use Rattle.plant.specs.Steps.Drafts.{drafted, IsOriginOf, IsImageKind, IsFeedOf, HasFeed, AreFeedsOf, IsUseResolved, Triples};
 
-use crate::address::Space;
+use crate::declared_names::type_named;
 use crate::feed::{Feed, Origin};
-use crate::lookup::{find_instance, find_output, find_resource, find_type};
+use crate::lookup::{find_instance, find_output, find_resource};
 use crate::name::Name;
 use crate::plant_fault::{PlantFault, PlantFaultKind};
 use crate::program_instance::ProgramInstance;
@@ -24,16 +24,6 @@ use std::alloc::Global;
 /// The fault of a name that isn't declared where it is sought.
 fn unknown(name: &Name) -> PlantFault {
     PlantFault::at(PlantFaultKind::UnknownName, name.line())
-}
-
-/// What a space of addresses holds.
-fn kind_of(space: Space) -> Kind
-    ensures { result ≡ kind_of_space space }
-{
-    match space {
-        Space::Bit => Kind::Bool,
-        Space::Word => Kind::Int,
-    }
 }
 
 /// The value of a task's image that names mean, and its kind.
@@ -67,7 +57,7 @@ fn find_origin(drafts: &[ResourceDraft], source: &SourceName) -> Result<(Origin,
     ensures { IfOk result (λ x. IsOriginOf (drafted drafts.now) source.now x.0 x.1) }
 {
     match source {
-        SourceName::Field(address) => Ok((Origin::Field(*address), kind_of(address.space))),
+        SourceName::Field(address) => Ok((Origin::Field(*address), address.space.kind())),
         SourceName::Output {
             resource,
             instance,
@@ -167,15 +157,42 @@ pub fn feeds_of(
     Ok(all)
 }
 
-/// Answers the first fault among the binds of an instance.
-fn check_use(drafts: &[ResourceDraft], types: &[ProgramType], run: &Use) -> Result<(), PlantFault> {
-    let Some(found) = find_type(types, run.program.as_str()) else {
-        return Err(unknown(&run.program));
-    };
-    for bind in binds_of(run) {
-        feed(drafts, found.ladder().declarations(), bind)?;
+/// Answers the first fault among binds of inputs that are declared.
+fn check_binds(
+    drafts: &[ResourceDraft],
+    declarations: &Declarations,
+    binds: &[Bind],
+) -> Result<(), PlantFault>
+    ensures { OnOk result (All (HasFeed (drafted drafts.now) declarations.now) binds.now) }
+{
+    for bind in binds {
+        feed(drafts, declarations, bind)?;
     }
     Ok(())
+}
+
+/// Answers the first fault among the binds of an instance.
+fn check_use(drafts: &[ResourceDraft], types: &[ProgramType], run: &Use) -> Result<(), PlantFault>
+    ensures { OnOk result (IsUseResolved (drafted drafts.now) types.now run.now) }
+{
+    let Some(found) = type_named(types, &run.program) else {
+        return Err(unknown(&run.program));
+    };
+    check_binds(drafts, found.ladder().declarations(), binds_of(run))
+}
+
+/// Answers the first fault among the binds of a line of a resource.
+fn check_item(
+    drafts: &[ResourceDraft],
+    types: &[ProgramType],
+    item: &Item,
+) -> Result<(), PlantFault>
+    ensures { OnOk result (All (IsUseResolved (drafted drafts.now) types.now) (use_of item.now)) }
+{
+    match item {
+        Item::Task(_) => Ok(()),
+        Item::Use(run) => check_use(drafts, types, run),
+    }
 }
 
 /// Answers the first fault among the binds of a resource.
@@ -183,11 +200,11 @@ fn check_resource(
     drafts: &[ResourceDraft],
     types: &[ProgramType],
     resource: &Resource,
-) -> Result<(), PlantFault> {
+) -> Result<(), PlantFault>
+    ensures { OnOk result (All (IsUseResolved (drafted drafts.now) types.now) (uses_of resource.now)) }
+{
     for item in &resource.items {
-        if let Item::Use(run) = item {
-            check_use(drafts, types, run)?;
-        }
+        check_item(drafts, types, item)?;
     }
     Ok(())
 }
@@ -197,7 +214,9 @@ pub fn check_sources(
     drafts: &[ResourceDraft],
     types: &[ProgramType],
     resources: &[Resource],
-) -> Result<(), PlantFault> {
+) -> Result<(), PlantFault>
+    ensures { OnOk result (All (IsUseResolved (drafted drafts.now) types.now) (flat_map uses_of resources.now)) }
+{
     for resource in resources {
         check_resource(drafts, types, resource)?;
     }

@@ -3,7 +3,7 @@
 ghost use Rattle.std.specs.Prelude.{◌≡◌, ◌≤◌, ◌<◌, IsTrue, length, take, drop, take_while};
 ghost use Rattle.plant.specs.Words.{is_word_char};
 ghost use Rattle.plant.specs.Spelling.{is_parted};
-ghost use Rattle.plant.specs.Lexing.{is_run_char, letters};
+ghost use Rattle.plant.specs.Steps.Lexing.{is_run_char, letters};
 
 /// A letter, a digit or an underscore.
 fn is_word_char(c: u8) -> bool

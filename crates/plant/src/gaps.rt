@@ -2,7 +2,7 @@
 
 ghost use Rattle.std.specs.Prelude.{◌≡◌, ◌<◌, IfSome, length};
 ghost use Rattle.std.specs.Option.{option_map};
-ghost use Rattle.plant.specs.Gaps.{behind_comment, behind_star, behind_feed, behind_space, IsBehindGap};
+ghost use Rattle.plant.specs.Steps.Gaps.{behind_comment, behind_star, behind_feed, behind_space, IsBehindGap};
 
 /// What is left behind the first `*)`.
 fn behind_comment(text: &[u8]) -> Option<&[u8]>

@@ -4,8 +4,8 @@ ghost use Rattle.std.specs.Prelude.{◌≡◌, ◌≢◌, ◌<◌, ◌-◌, List
 ghost use Rattle.ladder_text.specs.Rows.{without_last};
 ghost use Rattle.plant.specs.declared.token.Token.TheVariants as token;
 ghost use Rattle.plant.specs.Spelling.{IsGap, BeginsNoBlock};
-ghost use Rattle.plant.specs.Gaps.{IsBehindGap};
-ghost use Rattle.plant.specs.Lexing.{IsWordThen, IsFirstWord};
+ghost use Rattle.plant.specs.Steps.Gaps.{IsBehindGap};
+ghost use Rattle.plant.specs.Steps.Lexing.{IsWordThen, IsFirstWord};
 
 use crate::bodies::{
     begins_no_block, behind_blank_line, behind_body, is_blank_line, without_return,
@@ -128,7 +128,7 @@ impl<'a> Lexer<'a> {
 
     /// What is no word, at a line: the last word.
     fn stop(&mut self, line: u64) -> Word
-        ensures unknown { result ≡ token.Unknown }
+        ensures unknown { result.token ≡ token.Unknown }
         ensures end { self.new ≡ [] }
     {
         self.rest = &[];
@@ -138,7 +138,7 @@ impl<'a> Lexer<'a> {
     /// The word that stands in front.
     fn word(&mut self, alloc: Global) -> Result<Word, AllocError>
         requires { 0 < length self.old }
-        ensures word { IfOk result (λ t. t ≢ token.Unknown → IsWordThen self.old t self.new) }
+        ensures word { IfOk result (λ w. w.token ≢ token.Unknown → IsWordThen self.old w.token self.new) }
         ensures shorter { OnOk result (length self.new < length self.old) }
     {
         let line = self.line;
@@ -157,7 +157,7 @@ impl<'a> Lexer<'a> {
     fn body(&mut self, alloc: Global) -> Result<Word, AllocError>
         requires begins_no_block { BeginsNoBlock self.old }
         requires some { 0 < length self.old }
-        ensures word { IfOk result (λ t. IsFirstWord self.old t self.new) }
+        ensures word { IfOk result (λ w. IsFirstWord self.old w.token self.new) }
         ensures shorter { OnOk result (length self.new < length self.old) }
     {
         let line = self.line;
@@ -182,7 +182,7 @@ impl<'a> Lexer<'a> {
 
     /// The word behind a gap.
     fn word_behind_gap(&mut self, alloc: Global) -> Result<Option<Word>, AllocError>
-        ensures word { IfOk result (λ w. MatchOption w (IsGap self.old) (λ t. IsFirstWord self.old t self.new)) }
+        ensures word { IfOk result (λ w. MatchOption w (IsGap self.old) (λ t. IsFirstWord self.old t.token self.new)) }
         ensures shorter { IfOk result (λ w. IfSome w (λ _. length self.new < length self.old)) }
     {
         let rest = behind_gap(self.rest);
@@ -199,7 +199,7 @@ impl<'a> Lexer<'a> {
 
     /// The next word. `None`: there is no further one. Behind `Unknown` there is none.
     pub fn next(&mut self, alloc: Global) -> Result<Option<Word>, AllocError>
-        ensures word { IfOk result (λ w. MatchOption w (IsGap self.old) (λ t. IsFirstWord self.old t self.new)) }
+        ensures word { IfOk result (λ w. MatchOption w (IsGap self.old) (λ t. IsFirstWord self.old t.token self.new)) }
         ensures shorter { IfOk result (λ w. IfSome w (λ _. length self.new < length self.old)) }
     {
         if !self.is_body_due() {

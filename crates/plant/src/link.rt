@@ -5,7 +5,7 @@ ghost use Rattle.std.specs.List.{AllZip};
 ghost use Rattle.plant.specs.declared.tree.Program.{Program};
 ghost use Rattle.plant.specs.Faultless.{tasks_of, uses_of};
 ghost use Rattle.plant.specs.StandsFor.{runs_in, task_value};
-ghost use Rattle.plant.specs.Drafts.{drafted, IsDraftOf, IsResourceDraft, IsReady, IsOnceBound, IsLinked, IsResourceLinked, Triples};
+ghost use Rattle.plant.specs.Steps.Drafts.{drafted, IsDraftOf, IsResourceDraft, IsReady, IsOnceBound, IsLinked, IsResourceLinked, Triples};
 
 use crate::draft::{runs_in, tasks_of};
 use crate::feeds::feeds_of;

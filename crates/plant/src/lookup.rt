@@ -1,14 +1,12 @@
-//! What stands under a name: resources, program types, instances and their outputs.
+//! What stands under a name: resources, instances and their outputs.
 
 ghost use Rattle.std.specs.Prelude.{◌≡◌, ℕ, IfSome, slice_get};
 ghost use Rattle.plant.specs.declared.task_output.TaskOutput.{TaskOutput};
 ghost use Rattle.plant.specs.Names.{IsAt};
-ghost use Rattle.plant.specs.Faultless.{IsLadderOf};
 ghost use Rattle.plant.specs.PlantValue.{ResourceValue, ProgramValue};
-ghost use Rattle.plant.specs.Drafts.{programs_in, IsTypeAt, IsInstanceAt, IsPlacedAt, IsOutputAt};
+ghost use Rattle.plant.specs.Steps.Drafts.{IsInstanceAt, IsPlacedAt, IsOutputAt};
 
 use crate::program_instance::ProgramInstance;
-use crate::program_type::ProgramType;
 use crate::resource_draft::ResourceDraft;
 use crate::task_draft::TaskDraft;
 use crate::task_output::TaskOutput;
@@ -21,18 +19,6 @@ pub fn find_resource(resources: &[ResourceDraft], name: &str) -> Option<usize>
     for (k, resource) in resources.iter().enumerate() {
         if name.eq_ignore_ascii_case(resource.name()) {
             return Some(k);
-        }
-    }
-    None
-}
-
-/// The program type of a name.
-pub fn find_type<'a>(types: &'a [ProgramType], name: &str) -> Option<&'a ProgramType>
-    ensures { IfSome result (λ t. IsTypeAt types.now name.now t.now) }
-{
-    for found in types {
-        if name.eq_ignore_ascii_case(found.program().name.as_str()) {
-            return Some(found);
         }
     }
     None

@@ -1,5 +1,5 @@
 ghost use Rattle.std.specs.Prelude.{◌≡◌, ℕ, List, ◌<◌, ◌≤◌, ◌++◌, length, IfOk, IfErr, OnOk, All};
-ghost use Rattle.plant.specs.Slots.{slots_within, slots_of, is_due, dues_at, dues_until, NoneDue};
+ghost use Rattle.plant.specs.Steps.Slots.{slots_within, slots_of, is_due, dues_at, dues_until, NoneDue};
 ghost use Rattle.plant.specs.Plan.{IsPlan};
 ghost use Rattle.plant.specs.declared.due.Due.{Due};
 ghost use Rattle.plant.specs.declared.plan_fault.PlanFault.TheVariants.{Memory, TooLong};

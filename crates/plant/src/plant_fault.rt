@@ -1,10 +1,11 @@
-ghost use Rattle.std.specs.Prelude.{◌≡◌};
+ghost use Rattle.std.specs.Prelude.{◌≡◌, None};
 
 use ladder_text::DrawFaultKind;
 use network::GraphFaultKind;
 use power_flow::BindKind;
 use std::alloc::{AllocError, AllocFailed};
 use std::fmt;
+use thiserror::Error;
 
 /// The kinds of faults of a plant's text.
 #[derive(Clone, Copy, Debug, PartialEq, Eq)]
@@ -32,10 +33,13 @@ pub enum PlantFaultKind {
 }
 
 /// The fault of a program's body, by the layer that refused it.
-#[derive(Clone, Copy, Debug, PartialEq, Eq)]
+#[derive(Clone, Copy, Debug, PartialEq, Eq, Error)]
 pub enum BodyFault {
+    #[error("{0:?}")]
     Drawing(DrawFaultKind),
+    #[error("{0:?}")]
     Graph(GraphFaultKind),
+    #[error("{0:?}")]
     Bind(BindKind),
 }
 
@@ -52,7 +56,7 @@ pub struct PlantFault {
 impl PlantFault {
     /// A fault of a word on a line.
     pub(crate) fn at(kind: PlantFaultKind, line: u64) -> PlantFault
-        ensures { result.kind ≡ kind }
+        ensures { result ≡ record { kind = kind; line = line; inner = None } }
     {
         PlantFault {
             kind,
@@ -85,10 +89,8 @@ impl<T: Drop> From<AllocFailed<T>> for PlantFault {
 impl fmt::Display for PlantFault {
     fn fmt<W: fmt::Write>(&self, f: &mut fmt::Formatter<W>) -> fmt::Result {
         match self.inner {
-            None => write!(f, "{:?}", self.kind),
-            Some(BodyFault::Drawing(kind)) => write!(f, "{:?} {:?}", self.kind, kind),
-            Some(BodyFault::Graph(kind)) => write!(f, "{:?} {:?}", self.kind, kind),
-            Some(BodyFault::Bind(kind)) => write!(f, "{:?} {:?}", self.kind, kind),
+            None => write!(f, "{}: {:?}", self.line, self.kind),
+            Some(inner) => write!(f, "{}: {:?} {inner}", self.line, self.kind),
         }
     }
 }

@@ -5,7 +5,7 @@ ghost use Rattle.std.specs.List.{AllZip, flat_map};
 ghost use Rattle.plant.specs.declared.task_ref.TaskRef.{TaskRef};
 ghost use Rattle.plant.specs.PlantValue.{code_at};
 ghost use Rattle.plant.specs.StandsFor.{firsts};
-ghost use Rattle.plant.specs.Drafts.{drafted, tasks_taken, all_taken, AreKindsOf, IsPlaced, IsTakenFrom, IsTaskOf};
+ghost use Rattle.plant.specs.Steps.Drafts.{drafted, tasks_taken, all_taken, AreKindsOf, IsPlaced, IsTakenFrom, IsTaskOf};
 
 use crate::binding::{Binding, Source};
 use crate::feed::{Feed, Origin};

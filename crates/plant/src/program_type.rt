@@ -1,5 +1,5 @@
 ghost use Rattle.std.specs.Prelude.{◌≡◌};
-ghost use Rattle.plant.specs.Reading.{TypeValue};
+ghost use Rattle.plant.specs.Steps.Reading.{TypeValue};
 ghost use Rattle.plant.specs.Faultless.{IsLadderOf};
 
 use crate::tree::Program;
@@ -15,7 +15,7 @@ pub struct ProgramType {
 }
 
 impl Model for ProgramType {
-    ghost use Rattle.plant.specs.Reading.{TypeValue};
+    ghost use Rattle.plant.specs.Steps.Reading.{TypeValue};
     ghost use Rattle.plant.specs.Faultless.{IsLadderOf};
 
     ghost Value = { TypeValue };
@@ -36,15 +36,15 @@ impl ProgramType {
 
     /// The type as it is written.
     pub fn program(&self) -> &Program
-        ensures written { result.now ≡ self.now.program }
-        ensures ladder { IsLadderOf self.now.program self.now.ladder }
+        ensures { result.now ≡ self.now.program }
     {
         &self.program
     }
 
     /// Its ladder.
     pub fn ladder(&self) -> &Arc<Ladder>
-        ensures { result.now.value ≡ self.now.ladder }
+        ensures ladder { result.now.value ≡ self.now.ladder }
+        ensures drawn { IsLadderOf self.now.program self.now.ladder }
     {
         &self.ladder
     }

@@ -1,11 +1,11 @@
 //! The rules of the grammar from names to programs.
 
-ghost use Rattle.std.specs.Prelude.{◌≡◌, ◌∷◌, ◌++◌, ◌<◌, IfOk, OnOk, All, map, length};
+ghost use Rattle.std.specs.Prelude.{◌≡◌, ◌∷◌, ◌++◌, ◌<◌, List, IfOk, OnOk, IsTrue, IsFalse, All, map, length};
 ghost use Rattle.std.specs.List.{flat_map};
 ghost use Rattle.plant.specs.declared.token.Token.TheVariants as token;
 ghost use Rattle.plant.specs.Grammar.{section_word, kind_word, type_word, name_words, list_words, lists_words, block_words, program_words};
 ghost use Rattle.plant.specs.Faultless.{list_variables, block_variables, variables, IsTypeLawful, IsListLawful, IsBlockLawful, IsProgramLawful, IsLadderOf};
-ghost use Rattle.plant.specs.ReadParts.{IsNew, AreProgramsLawful};
+ghost use Rattle.plant.specs.Steps.ReadParts.{IsNew, AreProgramsLawful};
 
 use crate::declared_names::{check_new, is_type};
 use crate::name::Name;
@@ -28,6 +28,9 @@ const MOST_TYPES: usize = 64;
 const LAST_LINE: u64 = 9_223_372_036_854_775_807;
 
 impl<'a> Reader<'a> {
+    ghost use Rattle.plant.specs.declared.token.Token.{Token};
+    ghost use Rattle.plant.specs.declared.tree.Section.{Section};
+
     /// A further name of a program, behind the variables and the names of the same list.
     fn variable(
         &mut self,
@@ -35,7 +38,7 @@ impl<'a> Reader<'a> {
         variables: &Variables,
         before: &[Name],
     ) -> Result<Name, PlantFault>
-        ensures ok { IfOk result (λ name. self.old ≡ token.Name name ∷ self.new) }
+        ensures ok { IfOk result (λ name. self.old.words ≡ token.Name name ∷ self.new.words) }
     {
         let name = self.name(alloc)?;
         variables.check(before, &name)?;
@@ -44,7 +47,7 @@ impl<'a> Reader<'a> {
 
     /// Names with commas between them.
     fn names(&mut self, alloc: Global, variables: &Variables) -> Result<Vec<Name>, PlantFault>
-        ensures ok { IfOk result (λ names. self.old ≡ name_words names.items ++ self.new) }
+        ensures ok { IfOk result (λ names. self.old.words ≡ name_words names.items ++ self.new.words) }
         ensures some { IfOk result (λ names. 0 < length names.items) }
     {
         let mut names = Vec::new(alloc);
@@ -58,7 +61,7 @@ impl<'a> Reader<'a> {
 
     /// BOOL, INT or TIME.
     fn kind(&mut self) -> Result<Kind, PlantFault>
-        ensures ok { IfOk result (λ kind. self.old ≡ kind_word kind ∷ self.new) }
+        ensures ok { IfOk result (λ kind. self.old.words ≡ kind_word kind ∷ self.new.words) }
     {
         if self.sees_keyword(Keyword::Int) {
             self.keyword(Keyword::Int)?;
@@ -74,7 +77,7 @@ impl<'a> Reader<'a> {
 
     /// The type of names of a section.
     fn type_name(&mut self, section: Section) -> Result<TypeName, PlantFault>
-        ensures ok { IfOk result (λ t. self.old ≡ type_word t ∷ self.new) }
+        ensures ok { IfOk result (λ t. self.old.words ≡ type_word t ∷ self.new.words) }
         ensures lawful { IfOk result (λ t. IsTypeLawful section t) }
     {
         if !self.sees_block_type() {
@@ -94,7 +97,7 @@ impl<'a> Reader<'a> {
         section: Section,
         variables: &mut Variables,
     ) -> Result<NameList, PlantFault>
-        ensures ok { IfOk result (λ l. self.old ≡ list_words l ++ self.new) }
+        ensures ok { IfOk result (λ l. self.old.words ≡ list_words l ++ self.new.words) }
         ensures declared { IfOk result (λ l. variables.new ≡ variables.old ++ list_variables section l) }
         ensures lawful { IfOk result (λ l. IsListLawful section l) }
     {
@@ -115,7 +118,7 @@ impl<'a> Reader<'a> {
         section: Section,
         variables: &mut Variables,
     ) -> Result<Vec<NameList>, PlantFault>
-        ensures ok { IfOk result (λ ls. self.old ≡ lists_words ls.items ++ self.new) }
+        ensures ok { IfOk result (λ ls. self.old.words ≡ lists_words ls.items ++ self.new.words) }
         ensures declared { IfOk result (λ ls. variables.new ≡ variables.old ++ flat_map (list_variables section) ls.items) }
         ensures lawful { IfOk result (λ ls. All (IsListLawful section) ls.items) }
     {
@@ -129,7 +132,10 @@ impl<'a> Reader<'a> {
     }
 
     /// Whether a block begins.
-    fn sees_section(&self) -> bool {
+    fn sees_section(&self) -> bool
+        ensures yes { IsTrue result → (s : Section) × (rest : List Token) × (self.now.words ≡ section_word s ∷ rest) }
+        ensures no { IsFalse result → (s : Section) (rest : List Token) → self.now.words ≡ section_word s ∷ rest → ⊥ }
+    {
         self.sees_keyword(Keyword::VarInput)
             || self.sees_keyword(Keyword::VarOutput)
             || self.sees_keyword(Keyword::Var)
@@ -137,7 +143,7 @@ impl<'a> Reader<'a> {
 
     /// VAR_INPUT, VAR_OUTPUT or VAR.
     fn section(&mut self) -> Result<Section, PlantFault>
-        ensures ok { IfOk result (λ s. self.old ≡ section_word s ∷ self.new) }
+        ensures ok { IfOk result (λ s. self.old.words ≡ section_word s ∷ self.new.words) }
     {
         if self.sees_keyword(Keyword::VarInput) {
             self.keyword(Keyword::VarInput)?;
@@ -154,7 +160,7 @@ impl<'a> Reader<'a> {
     /// A block. Its names are declared.
     #[tactic(auto, unfolding(crate::specs::Grammar::block_words))]
     fn block(&mut self, alloc: Global, variables: &mut Variables) -> Result<VarBlock, PlantFault>
-        ensures ok { IfOk result (λ b. self.old ≡ block_words b ++ self.new) }
+        ensures ok { IfOk result (λ b. self.old.words ≡ block_words b ++ self.new.words) }
         ensures declared { IfOk result (λ b. variables.new ≡ variables.old ++ block_variables b) }
         ensures lawful { IfOk result (λ b. IsBlockLawful b) }
     {
@@ -170,7 +176,7 @@ impl<'a> Reader<'a> {
         alloc: Global,
         variables: &mut Variables,
     ) -> Result<Vec<VarBlock>, PlantFault>
-        ensures ok { IfOk result (λ bs. self.old ≡ flat_map block_words bs.items ++ self.new) }
+        ensures ok { IfOk result (λ bs. self.old.words ≡ flat_map block_words bs.items ++ self.new.words) }
         ensures declared { IfOk result (λ bs. variables.new ≡ variables.old ++ flat_map block_variables bs.items) }
         ensures lawful { IfOk result (λ bs. All IsBlockLawful bs.items) }
     {
@@ -184,7 +190,7 @@ impl<'a> Reader<'a> {
 
     /// A new name of a program type, behind these.
     fn new_type(&mut self, alloc: Global, before: &[ProgramType]) -> Result<Name, PlantFault>
-        ensures ok { IfOk result (λ name. self.old ≡ token.Name name ∷ self.new) }
+        ensures ok { IfOk result (λ name. self.old.words ≡ token.Name name ∷ self.new.words) }
         ensures new { IfOk result (λ name. IsNew (λ t. t.program.name) before.now name) }
         ensures few { OnOk result (length before.now < 64) }
     {
@@ -196,7 +202,7 @@ impl<'a> Reader<'a> {
     /// A program type, behind these. Its drawing is read, its networks are built, and its names are bound.
     #[tactic(auto, unfolding(crate::specs::Grammar::program_words))]
     fn program(&mut self, alloc: Global, before: &[ProgramType]) -> Result<ProgramType, PlantFault>
-        ensures ok { IfOk result (λ t. self.old ≡ program_words t.program ++ self.new) }
+        ensures ok { IfOk result (λ t. self.old.words ≡ program_words t.program ++ self.new.words) }
         ensures new { IfOk result (λ t. IsNew (λ t. t.program.name) before.now t.program.name) }
         ensures few { OnOk result (length before.now < 64) }
         ensures lawful { IfOk result (λ t. IsProgramLawful t.program) }
@@ -217,7 +223,7 @@ impl<'a> Reader<'a> {
     /// The program types.
     #[tactic(auto, using(crate::proofs::WordLists::program_has_words, crate::proofs::TypeLemmas::no_programs))]
     pub fn programs(&mut self, alloc: Global) -> Result<Vec<ProgramType>, PlantFault>
-        ensures ok { IfOk result (λ ts. self.old ≡ flat_map program_words (map (λ t. t.program) ts.items) ++ self.new) }
+        ensures ok { IfOk result (λ ts. self.old.words ≡ flat_map program_words (map (λ t. t.program) ts.items) ++ self.new.words) }
         ensures lawful { IfOk result (λ ts. AreProgramsLawful (map (λ t. t.program) ts.items)) }
         ensures ladders { IfOk result (λ ts. All (λ t. IsLadderOf t.program t.ladder) ts.items) }
     {

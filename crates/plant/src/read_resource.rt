@@ -8,11 +8,11 @@ ghost use Rattle.plant.specs.declared.token.Punctuation.TheVariants.{Close};
 ghost use Rattle.plant.specs.Grammar.{interval_words, priority_words, settings, task_words, source_words, bind_words, with_commas, binds_words, listed, use_words, item_words, items_words, resource_words, resources_words};
 ghost use Rattle.plant.specs.Names.{is_named, AreApart};
 ghost use Rattle.plant.specs.Faultless.{task_of, use_of, uses_of, binds_of, IsUseLawful, IsResourceLawful};
-ghost use Rattle.plant.specs.ReadParts.{types_alone, tally_with, IsNew, MayFollow, AreItemsLawful, AreResourcesLawful};
+ghost use Rattle.plant.specs.Steps.ReadParts.{types_alone, tally_with, IsNew, MayFollow, AreItemsLawful, AreResourcesLawful};
 ghost use Rattle.plant.specs.declared.tree.Item.TheVariants as item;
 ghost use Rattle.plant.specs.PlantValue.{items_or_none, kind_of_space};
 
-use crate::address::{Address, Space};
+use crate::address::Address;
 use crate::declared_names::{
     check_new, count_tasks, input_kind, is_bound, is_instance, is_resource, is_task, type_named,
 };
@@ -35,7 +35,7 @@ const MOST_RESOURCES: usize = 16;
 impl<'a> Reader<'a> {
     /// A task's interval, in ms. It isn't 0.
     fn interval(&mut self) -> Result<u32, PlantFault>
-        ensures ok { IfOk result (λ n. self.old ≡ interval_words n ++ self.new) }
+        ensures ok { IfOk result (λ n. self.old.words ≡ interval_words n ++ self.new.words) }
         ensures positive { IfOk result (λ n. 0 < n) }
     {
         self.keyword(Keyword::Interval)?;
@@ -51,7 +51,7 @@ impl<'a> Reader<'a> {
 
     /// A task's priority.
     fn priority(&mut self) -> Result<u16, PlantFault>
-        ensures ok { IfOk result (λ n. self.old ≡ priority_words n ++ self.new) }
+        ensures ok { IfOk result (λ n. self.old.words ≡ priority_words n ++ self.new.words) }
     {
         self.keyword(Keyword::Priority)?;
         self.punctuation(Punctuation::Assign)?;
@@ -60,7 +60,7 @@ impl<'a> Reader<'a> {
 
     /// The two settings of a task, in either order.
     fn settings(&mut self) -> Result<(Order, u32, u16), PlantFault>
-        ensures ok { IfOk result (λ s. self.old ≡ settings s.0 s.1 s.2 ++ self.new) }
+        ensures ok { IfOk result (λ s. self.old.words ≡ settings s.0 s.1 s.2 ++ self.new.words) }
         ensures positive { IfOk result (λ s. 0 < s.1) }
     {
         if self.sees_keyword(Keyword::Interval) {
@@ -78,7 +78,7 @@ impl<'a> Reader<'a> {
 
     /// A new name of a task, behind these lines of its resource.
     fn task_name(&mut self, alloc: Global, before: &[Item]) -> Result<Name, PlantFault>
-        ensures ok { IfOk result (λ name. self.old ≡ token.Name name ∷ self.new) }
+        ensures ok { IfOk result (λ name. self.old.words ≡ token.Name name ∷ self.new.words) }
         ensures new { IfOk result (λ name. IsNew (λ t. t.name) (flat_map task_of before.now) name) }
         ensures few { OnOk result (length (flat_map task_of before.now) < 16) }
     {
@@ -94,7 +94,7 @@ impl<'a> Reader<'a> {
     /// A task, behind these lines of its resource.
     #[tactic(auto, unfolding(crate::specs::Grammar::task_words))]
     fn task(&mut self, alloc: Global, before: &[Item]) -> Result<TaskLine, PlantFault>
-        ensures ok { IfOk result (λ t. self.old ≡ task_words t ++ self.new) }
+        ensures ok { IfOk result (λ t. self.old.words ≡ task_words t ++ self.new.words) }
         ensures new { IfOk result (λ t. IsNew (λ t. t.name) (flat_map task_of before.now) t.name) }
         ensures few { OnOk result (length (flat_map task_of before.now) < 16) }
         ensures positive { IfOk result (λ t. 0 < t.interval) }
@@ -115,11 +115,12 @@ impl<'a> Reader<'a> {
 
     /// A field address of a kind.
     fn address_of(&mut self, kind: Kind) -> Result<Address, PlantFault>
-        ensures ok { IfOk result (λ a. self.old ≡ token.Address a ∷ self.new) }
+        ensures ok { IfOk result (λ a. self.old.words ≡ token.Address a ∷ self.new.words) }
+        ensures kind { IfOk result (λ a. kind_of_space a.space ≡ kind) }
     {
         let other = PlantFault::at(PlantFaultKind::WrongKind, self.line());
         let address = self.address()?;
-        if kind_of(address) == kind {
+        if address.space.kind() == kind {
             Ok(address)
         } else {
             Err(other)
@@ -128,7 +129,7 @@ impl<'a> Reader<'a> {
 
     /// The source of an input of a kind.
     fn source(&mut self, alloc: Global, kind: Kind) -> Result<SourceName, PlantFault>
-        ensures ok { IfOk result (λ s. self.old ≡ source_words s ++ self.new) }
+        ensures ok { IfOk result (λ s. self.old.words ≡ source_words s ++ self.new.words) }
     {
         if self.sees_address() {
             Ok(SourceName::Field(self.address_of(kind)?))
@@ -155,7 +156,7 @@ impl<'a> Reader<'a> {
         before: &[Bind],
         tally: &mut Tally,
     ) -> Result<Bind, PlantFault>
-        ensures ok { IfOk result (λ b. self.old ≡ bind_words b ++ self.new) }
+        ensures ok { IfOk result (λ b. self.old.words ≡ bind_words b ++ self.new.words) }
         ensures new { IfOk result (λ b. IsNew (λ b. b.input) before.now b.input) }
         ensures tally { OnOk result (tally.new ≡ record { instances = tally.old.instances; binds = tally.old.binds + 1 }) }
     {
@@ -179,7 +180,7 @@ impl<'a> Reader<'a> {
         program: &ProgramType,
         tally: &mut Tally,
     ) -> Result<Vec<Bind>, PlantFault>
-        ensures ok { IfOk result (λ binds. self.old ≡ with_commas binds.items ++ token.Punctuation Close ∷ self.new) }
+        ensures ok { IfOk result (λ binds. self.old.words ≡ with_commas binds.items ++ token.Punctuation Close ∷ self.new.words) }
         ensures apart { IfOk result (λ binds. AreApart (map (λ b. b.input) binds.items)) }
         ensures tally { IfOk result (λ binds. tally.new ≡ record { instances = tally.old.instances; binds = tally.old.binds + length binds.items }) }
     {
@@ -202,7 +203,7 @@ impl<'a> Reader<'a> {
         program: &ProgramType,
         tally: &mut Tally,
     ) -> Result<Option<Vec<Bind>>, PlantFault>
-        ensures ok { IfOk result (λ binds. self.old ≡ binds_words (listed binds) ++ self.new) }
+        ensures ok { IfOk result (λ binds. self.old.words ≡ binds_words (listed binds) ++ self.new.words) }
         ensures apart { IfOk result (λ binds. AreApart (map (λ b. b.input) (items_or_none (listed binds)))) }
         ensures tally { IfOk result (λ binds. tally.new ≡ record { instances = tally.old.instances; binds = tally.old.binds + length (items_or_none (listed binds)) }) }
     {
@@ -221,7 +222,7 @@ impl<'a> Reader<'a> {
         before: &[Item],
         tally: &mut Tally,
     ) -> Result<Name, PlantFault>
-        ensures ok { IfOk result (λ name. self.old ≡ token.Name name ∷ self.new) }
+        ensures ok { IfOk result (λ name. self.old.words ≡ token.Name name ∷ self.new.words) }
         ensures new { IfOk result (λ name. IsNew (λ u. u.instance) (flat_map use_of before.now) name) }
         ensures tally { OnOk result (tally.new ≡ record { instances = tally.old.instances + 1; binds = tally.old.binds }) }
     {
@@ -233,7 +234,7 @@ impl<'a> Reader<'a> {
 
     /// The name of a task of these lines.
     fn known_task(&mut self, alloc: Global, before: &[Item]) -> Result<Name, PlantFault>
-        ensures ok { IfOk result (λ name. self.old ≡ token.Name name ∷ self.new) }
+        ensures ok { IfOk result (λ name. self.old.words ≡ token.Name name ∷ self.new.words) }
         ensures known { IfOk result (λ name. Any (λ t. IsTrue (is_named name t.name)) (flat_map task_of before.now)) }
     {
         let name = self.name(alloc)?;
@@ -253,7 +254,7 @@ impl<'a> Reader<'a> {
         before: &[Item],
         tally: &mut Tally,
     ) -> Result<Use, PlantFault>
-        ensures ok { IfOk result (λ u. self.old ≡ use_words u ++ self.new) }
+        ensures ok { IfOk result (λ u. self.old.words ≡ use_words u ++ self.new.words) }
         ensures new { IfOk result (λ u. IsNew (λ u. u.instance) (flat_map use_of before.now) u.instance) }
         ensures lawful { IfOk result (λ u. IsUseLawful (types_alone types.now) before.now u) }
         ensures tally { IfOk result (λ u. tally.new ≡ tally_with tally.old (u ∷ [])) }
@@ -285,7 +286,7 @@ impl<'a> Reader<'a> {
         before: &[Item],
         tally: &mut Tally,
     ) -> Result<Item, PlantFault>
-        ensures ok { IfOk result (λ x. self.old ≡ item_words x ++ self.new) }
+        ensures ok { IfOk result (λ x. self.old.words ≡ item_words x ++ self.new.words) }
         ensures lawful { IfOk result (λ x. MayFollow (types_alone types.now) before.now x) }
         ensures tally { IfOk result (λ x. tally.new ≡ tally_with tally.old (use_of x)) }
     {
@@ -304,7 +305,7 @@ impl<'a> Reader<'a> {
         types: &[ProgramType],
         tally: &mut Tally,
     ) -> Result<Vec<Item>, PlantFault>
-        ensures ok { IfOk result (λ xs. self.old ≡ items_words xs.items ++ self.new) }
+        ensures ok { IfOk result (λ xs. self.old.words ≡ items_words xs.items ++ self.new.words) }
         ensures lawful { IfOk result (λ xs. AreItemsLawful (types_alone types.now) xs.items) }
         ensures tally { IfOk result (λ xs. tally.new ≡ tally_with tally.old (flat_map use_of xs.items)) }
     {
@@ -319,7 +320,7 @@ impl<'a> Reader<'a> {
 
     /// A new name of a resource, behind these.
     fn resource_name(&mut self, alloc: Global, before: &[Resource]) -> Result<Name, PlantFault>
-        ensures ok { IfOk result (λ name. self.old ≡ token.Name name ∷ self.new) }
+        ensures ok { IfOk result (λ name. self.old.words ≡ token.Name name ∷ self.new.words) }
         ensures new { IfOk result (λ name. IsNew (λ r. r.name) before.now name) }
         ensures few { OnOk result (length before.now < 16) }
     {
@@ -341,7 +342,7 @@ impl<'a> Reader<'a> {
         before: &[Resource],
         tally: &mut Tally,
     ) -> Result<Resource, PlantFault>
-        ensures ok { IfOk result (λ r. self.old ≡ resource_words r ++ self.new) }
+        ensures ok { IfOk result (λ r. self.old.words ≡ resource_words r ++ self.new.words) }
         ensures new { IfOk result (λ r. IsNew (λ r. r.name) before.now r.name) }
         ensures few { OnOk result (length before.now < 16) }
         ensures lawful { IfOk result (λ r. IsResourceLawful (types_alone types.now) r) }
@@ -363,7 +364,7 @@ impl<'a> Reader<'a> {
         types: &[ProgramType],
         tally: &mut Tally,
     ) -> Result<Vec<Resource>, PlantFault>
-        ensures ok { IfOk result (λ rs. self.old ≡ resources_words rs.items ++ self.new) }
+        ensures ok { IfOk result (λ rs. self.old.words ≡ resources_words rs.items ++ self.new.words) }
         ensures some { IfOk result (λ rs. 0 < length rs.items) }
         ensures lawful { IfOk result (λ rs. AreResourcesLawful (types_alone types.now) rs.items) }
         ensures tally { IfOk result (λ rs. tally.new ≡ tally_with tally.old (flat_map uses_of rs.items)) }
@@ -375,15 +376,5 @@ impl<'a> Reader<'a> {
         }
         self.keyword(Keyword::EndConfiguration)?;
         Ok(resources)
-    }
-}
-
-/// The kind of the values at an address.
-fn kind_of(address: Address) -> Kind
-    ensures { result ≡ kind_of_space address.space }
-{
-    match address.space {
-        Space::Bit => Kind::Bool,
-        Space::Word => Kind::Int,
     }
 }

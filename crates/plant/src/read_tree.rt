@@ -1,7 +1,7 @@
 //! The whole of a plant's text, but for its sources.
 
 ghost use Rattle.std.specs.Prelude.{IfOk};
-ghost use Rattle.plant.specs.Reading.{IsReadingOf};
+ghost use Rattle.plant.specs.Steps.Reading.{IsReadingOf};
 
 use crate::plant_fault::PlantFault;
 use crate::reader::Reader;
@@ -15,7 +15,7 @@ use std::alloc::Global;
 /// What stands behind the configuration is left in the reader.
 #[tactic(auto, unfolding(crate::specs::Grammar::words_of))]
 pub fn read_tree<'a>(alloc: Global, reader: &mut Reader<'a>) -> Result<Reading, PlantFault>
-    ensures { IfOk result (λ reading. IsReadingOf reader.old reading reader.new) }
+    ensures { IfOk result (λ reading. IsReadingOf reader.old.words reading reader.new.words) }
 {
     let types = reader.programs(alloc)?;
     reader.keyword(Keyword::Configuration)?;

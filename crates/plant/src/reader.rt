@@ -1,5 +1,7 @@
-ghost use Rattle.std.specs.Prelude.{◌≡◌, ◌∷◌, List, OnOk, IfOk, IsTrue, IsFalse};
+ghost use Rattle.std.specs.Prelude.{◌≡◌, ◌≢◌, ◌∷◌, List, map, OnOk, IfOk, OnErr, IfErr, IsTrue, IsFalse};
 ghost use Rattle.plant.specs.declared.token.Token.TheVariants as token;
+ghost use Rattle.plant.specs.declared.plant_fault.PlantFaultKind.TheVariants.{Memory};
+ghost use Rattle.plant.specs.Steps.Lines.{next_line, syntax_at};
 
 use crate::address::Address;
 use crate::name::Name;
@@ -11,7 +13,7 @@ use std::alloc::Global;
 use std::marker::Model;
 use std_blocks::BlockType;
 
-/// The words that are left to be read, and the line on which the text ends. Contracts see the words.
+/// The words that are left to be read, and the line on which the text ends. Contracts see the words and their lines.
 ///
 /// Each method takes the words of its rule from the front.
 #[derive(Drop)]
@@ -21,29 +23,31 @@ pub struct Reader<'a> {
 }
 
 impl<'a> Model for Reader<'a> {
-    ghost use Rattle.std.specs.Prelude.{List};
-    ghost use Rattle.plant.specs.declared.token.Token.{Token};
+    ghost use Rattle.std.specs.Prelude.{map};
+    ghost use Rattle.plant.specs.Steps.Lines.{ReaderValue};
 
-    ghost Value = { List Token };
+    ghost Value = { ReaderValue };
 
-    ghost view = { λ r. r.words.now };
+    ghost view = { λ r. record { words = map (λ w. w.token) r.words.now; lines = map (λ w. w.line) r.words.now; last = r.last } };
 }
 
 impl<'a> Reader<'a> {
-    ghost use Rattle.std.specs.Prelude.{[]};
+    ghost use Rattle.std.specs.Prelude.{[], ℕ};
     ghost use Rattle.plant.specs.declared.token.Token.{Token};
     ghost use Rattle.plant.specs.declared.address.Address.{Address};
     ghost use Rattle.std_blocks.specs.declared.block_type.BlockType.{BlockType};
 
     /// A reader of all the words of a text that ends on a line.
     pub fn new(words: &'a [Word], last: u64) -> Reader<'a>
-        ensures { result ≡ words.now }
+        ensures { result ≡ record { words = map (λ w. w.token) words.now; lines = map (λ w. w.line) words.now; last = last } }
     {
         Reader { words, last }
     }
 
     /// The line of the next word, or that on which the text ends.
-    pub fn line(&self) -> u64 {
+    pub fn line(&self) -> u64
+        ensures { result ≡ next_line self.now }
+    {
         match self.words {
             [word, ..] => word.line(),
             [] => self.last,
@@ -51,13 +55,16 @@ impl<'a> Reader<'a> {
     }
 
     /// The fault of a word that the grammar doesn't have there.
-    pub fn syntax(&self) -> PlantFault {
+    pub fn syntax(&self) -> PlantFault
+        ensures { result ≡ syntax_at self.now }
+    {
         PlantFault::at(PlantFaultKind::Syntax, self.line())
     }
 
     /// No further word.
     pub fn end(&self) -> Result<(), PlantFault>
-        ensures { OnOk result (self.now ≡ []) }
+        ensures ok { OnOk result (self.now.words ≡ []) }
+        ensures err { IfErr result (λ e. (e ≡ syntax_at self.now) × (self.now.words ≢ [])) }
     {
         match self.words {
             [] => Ok(()),
@@ -67,7 +74,9 @@ impl<'a> Reader<'a> {
 
     /// A keyword.
     pub fn keyword(&mut self, keyword: Keyword) -> Result<(), PlantFault>
-        ensures ok { OnOk result (self.old ≡ token.Keyword keyword ∷ self.new) }
+        ensures ok { OnOk result (self.old.words ≡ token.Keyword keyword ∷ self.new.words) }
+        ensures err { IfErr result (λ e. (e ≡ syntax_at self.old) × (self.new ≡ self.old)) }
+        ensures other { OnErr result ((rest : List Token) → self.old.words ≡ token.Keyword keyword ∷ rest → ⊥) }
     {
         match self.words {
             [word, rest @ ..] if word.is_keyword(keyword) => {
@@ -80,7 +89,9 @@ impl<'a> Reader<'a> {
 
     /// A mark.
     pub fn punctuation(&mut self, punctuation: Punctuation) -> Result<(), PlantFault>
-        ensures ok { OnOk result (self.old ≡ token.Punctuation punctuation ∷ self.new) }
+        ensures ok { OnOk result (self.old.words ≡ token.Punctuation punctuation ∷ self.new.words) }
+        ensures err { IfErr result (λ e. (e ≡ syntax_at self.old) × (self.new ≡ self.old)) }
+        ensures other { OnErr result ((rest : List Token) → self.old.words ≡ token.Punctuation punctuation ∷ rest → ⊥) }
     {
         match self.words {
             [word, rest @ ..] if word.is_punctuation(punctuation) => {
@@ -93,7 +104,9 @@ impl<'a> Reader<'a> {
 
     /// A name.
     pub fn name(&mut self, alloc: Global) -> Result<Name, PlantFault>
-        ensures ok { IfOk result (λ name. self.old ≡ token.Name name ∷ self.new) }
+        ensures ok { IfOk result (λ name. self.old.words ≡ token.Name name ∷ self.new.words) }
+        ensures err { IfErr result (λ e. e.kind ≢ Memory → e ≡ syntax_at self.old) }
+        ensures kept { OnErr result (self.new ≡ self.old) }
     {
         match self.words {
             [word, rest @ ..] => match word.token() {
@@ -110,7 +123,9 @@ impl<'a> Reader<'a> {
 
     /// The lines of a body.
     pub fn body(&mut self, alloc: Global) -> Result<Text, PlantFault>
-        ensures ok { IfOk result (λ body. self.old ≡ token.Body body ∷ self.new) }
+        ensures ok { IfOk result (λ body. self.old.words ≡ token.Body body ∷ self.new.words) }
+        ensures err { IfErr result (λ e. e.kind ≢ Memory → e ≡ syntax_at self.old) }
+        ensures kept { OnErr result (self.new ≡ self.old) }
     {
         match self.words {
             [word, rest @ ..] => match word.token() {
@@ -127,7 +142,9 @@ impl<'a> Reader<'a> {
 
     /// A duration, in ms.
     pub fn duration(&mut self) -> Result<u32, PlantFault>
-        ensures ok { IfOk result (λ n. self.old ≡ token.Duration n ∷ self.new) }
+        ensures ok { IfOk result (λ n. self.old.words ≡ token.Duration n ∷ self.new.words) }
+        ensures err { IfErr result (λ e. (e ≡ syntax_at self.old) × (self.new ≡ self.old)) }
+        ensures other { OnErr result ((n : ℕ) (rest : List Token) → self.old.words ≡ token.Duration n ∷ rest → ⊥) }
     {
         match self.words {
             [word, rest @ ..] => match word.token() {
@@ -143,7 +160,9 @@ impl<'a> Reader<'a> {
 
     /// A number.
     pub fn number(&mut self) -> Result<u16, PlantFault>
-        ensures ok { IfOk result (λ n. self.old ≡ token.Number n ∷ self.new) }
+        ensures ok { IfOk result (λ n. self.old.words ≡ token.Number n ∷ self.new.words) }
+        ensures err { IfErr result (λ e. (e ≡ syntax_at self.old) × (self.new ≡ self.old)) }
+        ensures other { OnErr result ((n : ℕ) (rest : List Token) → self.old.words ≡ token.Number n ∷ rest → ⊥) }
     {
         match self.words {
             [word, rest @ ..] => match word.token() {
@@ -159,7 +178,9 @@ impl<'a> Reader<'a> {
 
     /// A field address.
     pub fn address(&mut self) -> Result<Address, PlantFault>
-        ensures ok { IfOk result (λ a. self.old ≡ token.Address a ∷ self.new) }
+        ensures ok { IfOk result (λ a. self.old.words ≡ token.Address a ∷ self.new.words) }
+        ensures err { IfErr result (λ e. (e ≡ syntax_at self.old) × (self.new ≡ self.old)) }
+        ensures other { OnErr result ((a : Address) (rest : List Token) → self.old.words ≡ token.Address a ∷ rest → ⊥) }
     {
         match self.words {
             [word, rest @ ..] => match word.token() {
@@ -175,7 +196,9 @@ impl<'a> Reader<'a> {
 
     /// The type of a standard block.
     pub fn block_type(&mut self) -> Result<BlockType, PlantFault>
-        ensures ok { IfOk result (λ b. self.old ≡ token.Block b ∷ self.new) }
+        ensures ok { IfOk result (λ b. self.old.words ≡ token.Block b ∷ self.new.words) }
+        ensures err { IfErr result (λ e. (e ≡ syntax_at self.old) × (self.new ≡ self.old)) }
+        ensures other { OnErr result ((b : BlockType) (rest : List Token) → self.old.words ≡ token.Block b ∷ rest → ⊥) }
     {
         match self.words {
             [word, rest @ ..] => match word.token() {
@@ -191,8 +214,8 @@ impl<'a> Reader<'a> {
 
     /// Whether the next word is a keyword.
     pub fn sees_keyword(&self, keyword: Keyword) -> bool
-        ensures yes { IsTrue result → (rest : List Token) × (self.now ≡ token.Keyword keyword ∷ rest) }
-        ensures no { IsFalse result → (rest : List Token) → self.now ≡ token.Keyword keyword ∷ rest → ⊥ }
+        ensures yes { IsTrue result → (rest : List Token) × (self.now.words ≡ token.Keyword keyword ∷ rest) }
+        ensures no { IsFalse result → (rest : List Token) → self.now.words ≡ token.Keyword keyword ∷ rest → ⊥ }
     {
         match self.words {
             [word, ..] => word.is_keyword(keyword),
@@ -202,8 +225,8 @@ impl<'a> Reader<'a> {
 
     /// Whether the next word is a mark.
     pub fn sees_punctuation(&self, punctuation: Punctuation) -> bool
-        ensures yes { IsTrue result → (rest : List Token) × (self.now ≡ token.Punctuation punctuation ∷ rest) }
-        ensures no { IsFalse result → (rest : List Token) → self.now ≡ token.Punctuation punctuation ∷ rest → ⊥ }
+        ensures yes { IsTrue result → (rest : List Token) × (self.now.words ≡ token.Punctuation punctuation ∷ rest) }
+        ensures no { IsFalse result → (rest : List Token) → self.now.words ≡ token.Punctuation punctuation ∷ rest → ⊥ }
     {
         match self.words {
             [word, ..] => word.is_punctuation(punctuation),
@@ -213,8 +236,8 @@ impl<'a> Reader<'a> {
 
     /// Whether the next word is a field address.
     pub fn sees_address(&self) -> bool
-        ensures yes { IsTrue result → (a : Address) × (rest : List Token) × (self.now ≡ token.Address a ∷ rest) }
-        ensures no { IsFalse result → (a : Address) (rest : List Token) → self.now ≡ token.Address a ∷ rest → ⊥ }
+        ensures yes { IsTrue result → (a : Address) × (rest : List Token) × (self.now.words ≡ token.Address a ∷ rest) }
+        ensures no { IsFalse result → (a : Address) (rest : List Token) → self.now.words ≡ token.Address a ∷ rest → ⊥ }
     {
         match self.words {
             [word, ..] => word.is_address(),
@@ -224,8 +247,8 @@ impl<'a> Reader<'a> {
 
     /// Whether the next word is the type of a standard block.
     pub fn sees_block_type(&self) -> bool
-        ensures yes { IsTrue result → (b : BlockType) × (rest : List Token) × (self.now ≡ token.Block b ∷ rest) }
-        ensures no { IsFalse result → (b : BlockType) (rest : List Token) → self.now ≡ token.Block b ∷ rest → ⊥ }
+        ensures yes { IsTrue result → (b : BlockType) × (rest : List Token) × (self.now.words ≡ token.Block b ∷ rest) }
+        ensures no { IsFalse result → (b : BlockType) (rest : List Token) → self.now.words ≡ token.Block b ∷ rest → ⊥ }
     {
         match self.words {
             [word, ..] => word.is_block_type(),

@@ -1,5 +1,5 @@
 ghost use Rattle.std.specs.Prelude.{◌≡◌, List, ℕ};
-ghost use Rattle.plant.specs.Reading.{ReadingValue, tree_of};
+ghost use Rattle.plant.specs.Steps.Reading.{ReadingValue, tree_of};
 ghost use Rattle.plant.specs.Faultless.{IsFaultless};
 
 use crate::program_type::ProgramType;
@@ -14,7 +14,7 @@ pub struct Reading {
 }
 
 impl Model for Reading {
-    ghost use Rattle.plant.specs.Reading.{ReadingValue};
+    ghost use Rattle.plant.specs.Steps.Reading.{ReadingValue};
 
     ghost Value = { ReadingValue };
 

@@ -1,6 +1,6 @@
 ghost use Rattle.std.specs.Prelude.{ℕ, List, IfOk};
 ghost use Rattle.plant.specs.Faultless.{IsFaultless};
-ghost use Rattle.plant.specs.Reading.{tree_of};
+ghost use Rattle.plant.specs.Steps.Reading.{tree_of};
 ghost use Rattle.plant.specs.StandsFor.{IsPlantOf};
 
 use crate::draft::draft_resources;

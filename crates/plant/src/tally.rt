@@ -1,4 +1,5 @@
-ghost use Rattle.std.specs.Prelude.{◌≡◌, ◌≤◌, ◌+◌, OnOk};
+ghost use Rattle.std.specs.Prelude.{◌≡◌, ◌≤◌, ◌+◌, OnOk, IfErr};
+ghost use Rattle.plant.specs.declared.plant_fault.PlantFaultKind.TheVariants.{TooMany};
 
 use crate::name::Name;
 use crate::plant_fault::{PlantFault, PlantFaultKind};
@@ -19,7 +20,7 @@ pub struct Tally {
 
 impl Model for Tally {
     ghost use Rattle.std.specs.Prelude.{◌≤◌};
-    ghost use Rattle.plant.specs.ReadParts.{TallyValue};
+    ghost use Rattle.plant.specs.Steps.ReadParts.{TallyValue};
 
     ghost Value = { TallyValue };
 
@@ -29,7 +30,7 @@ impl Model for Tally {
 }
 
 impl Tally {
-    ghost use Rattle.plant.specs.ReadParts.{TallyValue};
+    ghost use Rattle.plant.specs.Steps.ReadParts.{TallyValue};
 
     /// None yet.
     pub fn new() -> Tally
@@ -59,7 +60,8 @@ impl Tally {
 
     /// Counts a program instance of a name, if there may be one more.
     pub fn add_instance(&mut self, name: &Name) -> Result<(), PlantFault>
-        ensures { OnOk result (self.new ≡ record { instances = self.old.instances + 1; binds = self.old.binds }) }
+        ensures ok { OnOk result (self.new ≡ record { instances = self.old.instances + 1; binds = self.old.binds }) }
+        ensures err { IfErr result (λ e. (e.kind ≡ TooMany) × (self.new ≡ self.old) × (self.old.instances ≡ 64)) }
     {
         if self.instances >= MOST_INSTANCES {
             return Err(PlantFault::at(PlantFaultKind::TooMany, name.line()));
@@ -70,7 +72,8 @@ impl Tally {
 
     /// Counts a bind of an input, if there may be one more.
     pub fn add_bind(&mut self, input: &Name) -> Result<(), PlantFault>
-        ensures { OnOk result (self.new ≡ record { instances = self.old.instances; binds = self.old.binds + 1 }) }
+        ensures ok { OnOk result (self.new ≡ record { instances = self.old.instances; binds = self.old.binds + 1 }) }
+        ensures err { IfErr result (λ e. (e.kind ≡ TooMany) × (self.new ≡ self.old) × (self.old.binds ≡ 4096)) }
     {
         if self.binds >= MOST_BINDS {
             return Err(PlantFault::at(PlantFaultKind::TooMany, input.line()));

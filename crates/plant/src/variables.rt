@@ -1,7 +1,8 @@
 ghost use Rattle.std.specs.Prelude.{◌≡◌, ◌↔◌, ◌+◌, ◌<◌, ◌≤◌, ◌++◌, [], ◌∷◌, IsTrue, Any, OnOk, length};
+ghost use Rattle.power_flow.specs.Names.{IsDeclared};
 ghost use Rattle.plant.specs.Names.{is_named};
 ghost use Rattle.plant.specs.Faultless.{declared_as, list_variables};
-ghost use Rattle.plant.specs.ReadParts.{AreVariables};
+ghost use Rattle.plant.specs.Steps.ReadParts.{AreVariables};
 
 use crate::declared_names::check_new;
 use crate::name::Name;
@@ -23,7 +24,7 @@ pub struct Variables {
 impl Model for Variables {
     ghost use Rattle.std.specs.Prelude.{List};
     ghost use Rattle.power_flow.specs.declared.declarations.Declaration.{Declaration};
-    ghost use Rattle.plant.specs.ReadParts.{AreVariables};
+    ghost use Rattle.plant.specs.Steps.ReadParts.{AreVariables};
 
     ghost Value = { List Declaration };
 
@@ -75,12 +76,15 @@ impl Variables {
     }
 
     /// Whether the name is declared.
-    fn has(&self, name: &Name) -> bool {
+    fn has(&self, name: &Name) -> bool
+        ensures { IsTrue result ↔ IsDeclared self.now name.now }
+    {
         self.declarations.position(name.as_str()).is_some()
     }
 
     /// Refuses a name that is declared, or that stands among `more`, which are to be declared next; and one too many.
     pub fn check(&self, more: &[Name], name: &Name) -> Result<(), PlantFault>
+        ensures undeclared { OnOk result (IsDeclared self.now name.now → ⊥) }
         ensures new { OnOk result (Any (λ n. IsTrue (is_named name.now n)) more.now → ⊥) }
         ensures few { OnOk result (length self.now + length more.now < 1000) }
     {

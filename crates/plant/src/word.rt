@@ -6,7 +6,7 @@ ghost use Rattle.std_blocks.specs.declared.block_type.BlockType.{BlockType};
 use crate::token::{Keyword, Punctuation, Token};
 use std::marker::Model;
 
-/// A word, and the line that it begins on. Contracts see what the word is.
+/// A word, and the line that it begins on. Contracts see both.
 #[derive(Debug, Drop)]
 pub struct Word {
     token: Token,
@@ -14,36 +14,38 @@ pub struct Word {
 }
 
 impl Model for Word {
-    ghost use Rattle.plant.specs.declared.token.Token.{Token};
+    ghost use Rattle.plant.specs.Steps.Lines.{WordValue};
 
-    ghost Value = { Token };
+    ghost Value = { WordValue };
 
-    ghost view = { λ w. w.token };
+    ghost view = { λ w. record { token = w.token; line = w.line } };
 }
 
 impl Word {
     /// A word that begins on a line.
     pub fn new(token: Token, line: u64) -> Word
-        ensures { result ≡ token }
+        ensures { result ≡ record { token = token; line = line } }
     {
         Word { token, line }
     }
 
     /// What the word is.
     pub fn token(&self) -> &Token
-        ensures { result.now ≡ self.now }
+        ensures { result.now ≡ self.now.token }
     {
         &self.token
     }
 
     /// The number of the line.
-    pub fn line(&self) -> u64 {
+    pub fn line(&self) -> u64
+        ensures { result ≡ self.now.line }
+    {
         self.line
     }
 
     /// Whether it is a keyword.
     pub fn is_keyword(&self, keyword: Keyword) -> bool
-        ensures { IsTrue result ↔ self.now ≡ token.Keyword keyword }
+        ensures { IsTrue result ↔ self.now.token ≡ token.Keyword keyword }
     {
         match self.token {
             Token::Keyword(mine) => mine == keyword,
@@ -53,7 +55,7 @@ impl Word {
 
     /// Whether it is a mark.
     pub fn is_punctuation(&self, punctuation: Punctuation) -> bool
-        ensures { IsTrue result ↔ self.now ≡ token.Punctuation punctuation }
+        ensures { IsTrue result ↔ self.now.token ≡ token.Punctuation punctuation }
     {
         match self.token {
             Token::Punctuation(mine) => mine == punctuation,
@@ -63,14 +65,14 @@ impl Word {
 
     /// Whether it is a field address.
     pub fn is_address(&self) -> bool
-        ensures { IsTrue result ↔ (a : Address) × (self.now ≡ token.Address a) }
+        ensures { IsTrue result ↔ (a : Address) × (self.now.token ≡ token.Address a) }
     {
         matches!(self.token, Token::Address(_))
     }
 
     /// Whether it is the type of a standard block.
     pub fn is_block_type(&self) -> bool
-        ensures { IsTrue result ↔ (b : BlockType) × (self.now ≡ token.Block b) }
+        ensures { IsTrue result ↔ (b : BlockType) × (self.now.token ≡ token.Block b) }
     {
         matches!(self.token, Token::Block(_))
     }

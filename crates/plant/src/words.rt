@@ -1,4 +1,4 @@
-ghost use Rattle.std.specs.Prelude.{◌≡◌, ◌≢◌, IfOk, All};
+ghost use Rattle.std.specs.Prelude.{◌≡◌, ◌≢◌, IfOk, All, map};
 ghost use Rattle.ladder_text.specs.Rows.{without_last};
 ghost use Rattle.plant.specs.declared.token.Token.TheVariants as token;
 ghost use Rattle.plant.specs.Spelling.{Spells};
@@ -8,7 +8,7 @@ use crate::word::Word;
 use std::alloc::{AllocError, Global};
 use std::marker::Model;
 
-/// The words of a text, in order. Contracts see what each word is.
+/// The words of a text, in order. Contracts see them with their lines.
 #[derive(Debug, Drop)]
 pub struct Words {
     words: Vec<Word>,
@@ -17,9 +17,9 @@ pub struct Words {
 
 impl Model for Words {
     ghost use Rattle.std.specs.Prelude.{List};
-    ghost use Rattle.plant.specs.declared.token.Token.{Token};
+    ghost use Rattle.plant.specs.Steps.Lines.{WordValue};
 
-    ghost Value = { List Token };
+    ghost Value = { List WordValue };
 
     ghost view = { λ w. w.words.items };
 }
@@ -41,7 +41,7 @@ impl Words {
 /// Reads the words of a plant's text. What is no word ends them as `Unknown`: an unknown character, an unfinished
 /// comment, a number out of its limits, a body without an end, the body of a 66th program.
 pub fn read_words(alloc: Global, text: &str) -> Result<Words, AllocError>
-    ensures { IfOk result (λ ws. All (λ t. t ≢ token.Unknown) ws → Spells (without_last 13 text.now) ws) }
+    ensures { IfOk result (λ ws. All (λ t. t ≢ token.Unknown) (map (λ w. w.token) ws) → Spells (without_last 13 text.now) (map (λ w. w.token) ws)) }
 {
     let mut lexer = Lexer::new(text);
     let last = lexer.last();

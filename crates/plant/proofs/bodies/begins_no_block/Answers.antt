@@ -1,7 +1,7 @@
 use Rattle.std.proofs.Common.{◌≡◌, false, sym, ap, ◌∙◌}
 use Rattle.std.proofs.lemmas.Bool.{not-true}
 use Rattle.plant.specs.Words.{keyword}
-use Rattle.plant.specs.Lexing.{begins_block}
+use Rattle.plant.specs.Steps.Lexing.{begins_block}
 use Rattle.plant.proofs.LineLemmas.{begins_none}
 use Rattle.plant.proofs.bodies.begins_no_block.Goals as goal
 

@@ -1,5 +1,5 @@
 use Rattle.std.proofs.Common.{ℕ, List, length}
-use Rattle.plant.specs.Lexing.{IsBehindBody}
+use Rattle.plant.specs.Steps.Lexing.{IsBehindBody}
 use Rattle.plant.proofs.bodies.behind_body.Given as goal
 
 abbrev pub invariant-lines : goal.invariant-lines

@@ -1,6 +1,6 @@
 use Rattle.std.proofs.Common.{rules, ◌≡◌, ◌∙◌, sym}
 use Rattle.std.specs.List.{count_by}
-use Rattle.plant.specs.ReadParts.{is_task_line}
+use Rattle.plant.specs.Steps.ReadParts.{is_task_line}
 use Rattle.plant.proofs.ItemLemmas.{tasks_counted}
 use Rattle.plant.proofs.declared_names.count_tasks.Goals as goal
 

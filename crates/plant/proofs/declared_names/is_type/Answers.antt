@@ -1,7 +1,7 @@
 use Rattle.std.proofs.Common.{rules, ◌≡◌, Bool, is_some}
 use Rattle.std.specs.List.{find}
 use Rattle.plant.specs.Names.{is_named}
-use Rattle.plant.specs.Reading.{TypeValue}
+use Rattle.plant.specs.Steps.Reading.{TypeValue}
 use Rattle.plant.proofs.TypeLemmas.{found_any}
 use Rattle.plant.proofs.declared_names.is_type.Goals as goal
 

@@ -1,4 +1,4 @@
-use Rattle.plant.specs.Drafts.{programs_in, IsProgramOf}
+use Rattle.plant.specs.Steps.Drafts.{programs_in, IsProgramOf}
 use Rattle.plant.proofs.Zips.{zip_more_at}
 use Rattle.plant.proofs.draft.draft_programs.Goals as goal
 

@@ -2,7 +2,7 @@ use Rattle.std.proofs.Common.{take, map}
 use Rattle.std.specs.List.{AllZip}
 use Rattle.std.specs.Borrow.{Bor}
 use Rattle.plant.specs.declared.tree.Use.{Use}
-use Rattle.plant.specs.Drafts.{programs_in, IsProgramOf}
+use Rattle.plant.specs.Steps.Drafts.{programs_in, IsProgramOf}
 use Rattle.plant.proofs.draft.draft_programs.Given as goal
 
 abbrev pub invariant-loop-run : goal.invariant-loop-run

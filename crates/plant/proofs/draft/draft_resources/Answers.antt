@@ -1,4 +1,4 @@
-use Rattle.plant.specs.Drafts.{programs_in, IsResourceDraft}
+use Rattle.plant.specs.Steps.Drafts.{programs_in, IsResourceDraft}
 use Rattle.plant.proofs.Zips.{zip_more}
 use Rattle.plant.proofs.draft.draft_resources.Goals as goal
 

@@ -1,6 +1,6 @@
 use Rattle.std.proofs.Common.{take}
 use Rattle.std.specs.List.{AllZip}
-use Rattle.plant.specs.Drafts.{programs_in, IsResourceDraft}
+use Rattle.plant.specs.Steps.Drafts.{programs_in, IsResourceDraft}
 use Rattle.plant.proofs.draft.draft_resources.Given as goal
 
 abbrev pub invariant-loop-resource : goal.invariant-loop-resource

@@ -1,4 +1,4 @@
-use Rattle.plant.specs.Drafts.{programs_in, IsDraftOf}
+use Rattle.plant.specs.Steps.Drafts.{programs_in, IsDraftOf}
 use Rattle.plant.proofs.Zips.{zip_more_at}
 use Rattle.plant.proofs.draft.draft_tasks.Goals as goal
 

@@ -1,4 +1,4 @@
-use Rattle.plant.specs.Drafts.{drafted, IsFeedOf}
+use Rattle.plant.specs.Steps.Drafts.{drafted, IsFeedOf}
 use Rattle.plant.proofs.Zips.{zip_more}
 use Rattle.plant.proofs.feeds.feeds.Goals as goal
 

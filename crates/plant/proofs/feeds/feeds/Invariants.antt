@@ -1,6 +1,6 @@
 use Rattle.std.proofs.Common.{take}
 use Rattle.std.specs.List.{AllZip}
-use Rattle.plant.specs.Drafts.{drafted, IsFeedOf}
+use Rattle.plant.specs.Steps.Drafts.{drafted, IsFeedOf}
 use Rattle.plant.proofs.feeds.feeds.Given as goal
 
 abbrev pub invariant-loop-bind : goal.invariant-loop-bind

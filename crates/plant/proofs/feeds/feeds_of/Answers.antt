@@ -6,7 +6,7 @@ use Rattle.std.proofs.lemmas.List.{length_push}
 use Rattle.std.proofs.lemmas.Option.{slice_get_read, slice_get-map}
 use Rattle.plant.specs.declared.tree.Use.{Use}
 use Rattle.plant.specs.declared.feed.Feed.{Feed}
-use Rattle.plant.specs.Drafts.{drafted, AreFeedsOf}
+use Rattle.plant.specs.Steps.Drafts.{drafted, AreFeedsOf}
 use Rattle.plant.proofs.Zips.{triples_more}
 use Rattle.plant.proofs.feeds.feeds_of.Goals as goal
 

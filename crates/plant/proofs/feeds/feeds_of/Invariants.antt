@@ -1,7 +1,7 @@
 use Rattle.std.proofs.Common.{◌≡◌, length, map}
 use Rattle.std.specs.Borrow.{Bor}
 use Rattle.plant.specs.declared.tree.Use.{Use}
-use Rattle.plant.specs.Drafts.{drafted, AreFeedsOf, Triples}
+use Rattle.plant.specs.Steps.Drafts.{drafted, AreFeedsOf, Triples}
 use Rattle.plant.proofs.feeds.feeds_of.Given as goal
 
 abbrev pub invariant-loop-i : goal.invariant-loop-i

@@ -1,5 +1,5 @@
 use Rattle.std.proofs.Common.{◌≡◌, length}
-use Rattle.plant.specs.Gaps.{behind_comment}
+use Rattle.plant.specs.Steps.Gaps.{behind_comment}
 use Rattle.plant.proofs.gaps.behind_comment.Given as goal
 
 abbrev pub invariant-chars : goal.invariant-chars

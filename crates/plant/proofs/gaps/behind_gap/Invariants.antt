@@ -1,5 +1,5 @@
 use Rattle.std.proofs.Common.{ℕ, List, length}
-use Rattle.plant.specs.Gaps.{IsBehindGap}
+use Rattle.plant.specs.Steps.Gaps.{IsBehindGap}
 use Rattle.plant.proofs.gaps.behind_gap.Given as goal
 
 abbrev pub invariant-pieces : goal.invariant-pieces

@@ -5,7 +5,7 @@ use Rattle.std.specs.declared.sync.Arc.{Arc}
 use Rattle.std.proofs.lemmas.List.{length-map}
 use Rattle.plant.specs.declared.task_code.TaskCode.{TaskCode}
 use Rattle.plant.specs.declared.tree.TaskLine.{TaskLine}
-use Rattle.plant.specs.Drafts.{drafted}
+use Rattle.plant.specs.Steps.Drafts.{drafted}
 use Rattle.plant.proofs.StandLemmas.{resource_made}
 use Rattle.plant.proofs.link.link_resource.Goals as goal
 

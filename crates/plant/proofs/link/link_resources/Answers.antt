@@ -1,7 +1,7 @@
 use Rattle.std.proofs.Common.{◌≡◌, ◌∙◌, ◌<◌, ap, sym, subst, Some, length, refl, arith, slice_get}
 use Rattle.std.proofs.lemmas.List.{length_push}
 use Rattle.std.proofs.lemmas.Option.{slice_get_read}
-use Rattle.plant.specs.Drafts.{drafted, IsReady, IsResourceDraft, IsResourceLinked}
+use Rattle.plant.specs.Steps.Drafts.{drafted, IsReady, IsResourceDraft, IsResourceLinked}
 use Rattle.plant.proofs.Zips.{some_same, zip_at, zip_length, triples_push, all_at}
 use Rattle.plant.proofs.link.link_resources.Goals as goal
 

@@ -1,5 +1,5 @@
 use Rattle.std.proofs.Common.{◌≡◌, length}
-use Rattle.plant.specs.Drafts.{drafted, IsResourceLinked, Triples}
+use Rattle.plant.specs.Steps.Drafts.{drafted, IsResourceLinked, Triples}
 use Rattle.plant.proofs.link.link_resources.Given as goal
 
 abbrev pub invariant-loop-i : goal.invariant-loop-i

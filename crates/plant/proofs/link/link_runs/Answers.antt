@@ -6,7 +6,7 @@ use Rattle.power_flow.specs.declared.declarations.Kind.{Kind}
 use Rattle.plant.specs.declared.binding.Binding.{Binding}
 use Rattle.plant.specs.declared.feed.Feed.{Feed}
 use Rattle.plant.specs.declared.tree.Use.{Use}
-use Rattle.plant.specs.Drafts.{drafted, IsLinked}
+use Rattle.plant.specs.Steps.Drafts.{drafted, IsLinked}
 use Rattle.plant.proofs.LinkLemmas.{linked_copy, producers_known, taken_known}
 use Rattle.plant.proofs.link.link_runs.Goals as goal
 

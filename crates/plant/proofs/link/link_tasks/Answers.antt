@@ -10,7 +10,7 @@ use Rattle.plant.specs.declared.tree.Use.{Use}
 use Rattle.plant.specs.Names.{is_named}
 use Rattle.plant.specs.Faultless.{uses_of}
 use Rattle.plant.specs.StandsFor.{runs_in}
-use Rattle.plant.specs.Drafts.{drafted, IsDraftOf, IsLinked, IsOnceBound}
+use Rattle.plant.specs.Steps.Drafts.{drafted, IsDraftOf, IsLinked, IsOnceBound}
 use Rattle.plant.proofs.StandLemmas.{runs_many}
 use Rattle.plant.proofs.Zips.{zip_length, ref_at, triples_more, all_filter}
 use Rattle.plant.proofs.link.link_tasks.Goals as goal

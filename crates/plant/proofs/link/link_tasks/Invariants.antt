@@ -2,7 +2,7 @@ use Rattle.std.proofs.Common.{◌≡◌, length, map}
 use Rattle.std.specs.Borrow.{Bor}
 use Rattle.plant.specs.declared.tree.TaskLine.{TaskLine}
 use Rattle.plant.specs.StandsFor.{runs_in}
-use Rattle.plant.specs.Drafts.{drafted, IsLinked, Triples}
+use Rattle.plant.specs.Steps.Drafts.{drafted, IsLinked, Triples}
 use Rattle.plant.proofs.link.link_tasks.Given as goal
 
 abbrev pub invariant-loop-i : goal.invariant-loop-i

@@ -1,5 +1,5 @@
 use Rattle.std.proofs.Common.{◌≡◌, ◌<◌, ◌++◌, length, ap, sym, ◌∙◌, arith, rules}
-use Rattle.plant.specs.Slots.{dues_at, dues_until}
+use Rattle.plant.specs.Steps.Slots.{dues_at, dues_until}
 use Rattle.plant.specs.declared.plan_fault.PlanFault.TheVariants.{TooLong}
 use Rattle.plant.proofs.Moments.{dues_go_on, dues_with, dues_grow, kept_fault}
 use Rattle.plant.proofs.planning.dues_until.Goals as goal

@@ -1,5 +1,5 @@
 use Rattle.std.proofs.Common.{◌≡◌, ◌<◌, ◌≤◌, ◌-◌, ◌+◌, length}
-use Rattle.plant.specs.Slots.{dues_until}
+use Rattle.plant.specs.Steps.Slots.{dues_until}
 use Rattle.plant.proofs.planning.dues_until.Given as goal
 
 abbrev pub invariant-moments : goal.invariant-moments

@@ -1,6 +1,6 @@
 use Rattle.std.proofs.Common.{ℕ, ◌<◌, ◌≤◌, slice_index_or}
 use Rattle.plant.specs.declared.slot.Slot.{Slot}
-use Rattle.plant.specs.Slots.{NoneDue}
+use Rattle.plant.specs.Steps.Slots.{NoneDue}
 use Rattle.plant.proofs.planning.first_after.Given as goal
 
 abbrev pub invariant-loop-slot : goal.invariant-loop-slot

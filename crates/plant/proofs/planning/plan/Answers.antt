@@ -1,6 +1,6 @@
 use Rattle.std.proofs.Common.{subst}
 use Rattle.std.specs.List.Sorted.{IsPermutation}
-use Rattle.plant.specs.Slots.{dues_until}
+use Rattle.plant.specs.Steps.Slots.{dues_until}
 use Rattle.plant.proofs.Moments.{positive_kept}
 use Rattle.plant.proofs.Planned.{plan_is, plan_is_one, plan_short, plan_long}
 use Rattle.plant.proofs.planning.plan.Goals as goal

@@ -1,5 +1,5 @@
 use Rattle.std.proofs.Common.{◌≡◌, ◌++◌, ◌≤◌, length, take}
-use Rattle.plant.specs.Slots.{dues_at}
+use Rattle.plant.specs.Steps.Slots.{dues_at}
 use Rattle.plant.proofs.planning.push_dues.Given as goal
 
 abbrev pub invariant-loop-slot : goal.invariant-loop-slot

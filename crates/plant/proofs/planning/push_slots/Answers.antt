@@ -1,7 +1,7 @@
 use Rattle.std.proofs.Common.{◌≡◌, ◌++◌, ◌<◌, ◌∷◌, [], ap, sym, ◌∙◌, append_assoc, rules}
 use Rattle.std.proofs.lemmas.List.Elements.{All-push}
 use Rattle.plant.specs.PlantValue.{TaskValue}
-use Rattle.plant.specs.Slots.{slots_within, slot_of}
+use Rattle.plant.specs.Steps.Slots.{slots_within, slot_of}
 use Rattle.plant.proofs.Moments.{slots_more}
 use Rattle.plant.proofs.planning.push_slots.Goals as goal
 

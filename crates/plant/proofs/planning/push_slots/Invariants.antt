@@ -1,5 +1,5 @@
 use Rattle.std.proofs.Common.{◌≡◌, ◌++◌, ◌<◌, All}
-use Rattle.plant.specs.Slots.{slots_within}
+use Rattle.plant.specs.Steps.Slots.{slots_within}
 use Rattle.plant.proofs.planning.push_slots.Given as goal
 
 abbrev pub invariant-loop-task : goal.invariant-loop-task

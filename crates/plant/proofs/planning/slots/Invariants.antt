@@ -1,5 +1,5 @@
 use Rattle.std.proofs.Common.{◌≡◌, ◌<◌, All}
-use Rattle.plant.specs.Slots.{slots_before}
+use Rattle.plant.specs.Steps.Slots.{slots_before}
 use Rattle.plant.proofs.planning.slots.Given as goal
 
 abbrev pub invariant-loop-resource : goal.invariant-loop-resource

@@ -3,7 +3,7 @@ use Rattle.power_flow.specs.declared.declarations.Kind.TheVariants as kind
 use Rattle.plant.specs.declared.address.Space.TheVariants as space
 use Rattle.plant.specs.declared.feed.Feed.{Feed}
 use Rattle.plant.specs.declared.feed.Origin.TheVariants as origin
-use Rattle.plant.specs.Drafts.{IsPlaced}
+use Rattle.plant.specs.Steps.Drafts.{IsPlaced}
 use Rattle.plant.proofs.Zips.{zip_more, at_itself}
 use Rattle.plant.proofs.producers.bindings.Goals as goal
 

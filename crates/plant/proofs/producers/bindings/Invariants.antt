@@ -1,6 +1,6 @@
 use Rattle.std.proofs.Common.{take}
 use Rattle.std.specs.List.{AllZip}
-use Rattle.plant.specs.Drafts.{IsPlaced}
+use Rattle.plant.specs.Steps.Drafts.{IsPlaced}
 use Rattle.plant.proofs.producers.bindings.Given as goal
 
 abbrev pub invariant-loop-feed : goal.invariant-loop-feed

@@ -6,7 +6,7 @@ use Rattle.std.specs.Global.{Global}
 use Rattle.std.specs.List.{AllZip}
 use Rattle.plant.specs.declared.binding.Binding.{Binding}
 use Rattle.plant.specs.declared.feed.Feed.{Feed}
-use Rattle.plant.specs.Drafts.{IsPlaced, IsTakenFrom}
+use Rattle.plant.specs.Steps.Drafts.{IsPlaced, IsTakenFrom}
 use Rattle.plant.proofs.Zips.{zip_more_map, all_at}
 use Rattle.plant.proofs.producers.bindings_of.Goals as goal
 

@@ -1,6 +1,6 @@
 use Rattle.std.proofs.Common.{take, map}
 use Rattle.std.specs.List.{AllZip}
-use Rattle.plant.specs.Drafts.{IsPlaced}
+use Rattle.plant.specs.Steps.Drafts.{IsPlaced}
 use Rattle.plant.proofs.producers.bindings_of.Given as goal
 
 abbrev pub invariant-loop-of_program : goal.invariant-loop-of_program

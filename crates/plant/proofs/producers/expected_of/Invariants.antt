@@ -1,6 +1,6 @@
 use Rattle.std.proofs.Common.{take, map}
 use Rattle.std.specs.List.{AllZip}
-use Rattle.plant.specs.Drafts.{drafted, AreKindsOf}
+use Rattle.plant.specs.Steps.Drafts.{drafted, AreKindsOf}
 use Rattle.plant.proofs.producers.expected_of.Given as goal
 
 abbrev pub invariant-loop-producer : goal.invariant-loop-producer

@@ -1,6 +1,6 @@
 use Rattle.std.proofs.Common.{◌≡◌, take, map}
 use Rattle.plant.specs.StandsFor.{firsts}
-use Rattle.plant.specs.Drafts.{all_taken}
+use Rattle.plant.specs.Steps.Drafts.{all_taken}
 use Rattle.plant.proofs.producers.producers_of.Given as goal
 
 abbrev pub invariant-loop-of_program : goal.invariant-loop-of_program

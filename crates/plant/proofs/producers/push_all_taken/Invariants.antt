@@ -2,7 +2,7 @@ use Rattle.std.proofs.Common.{◌≡◌, ◌++◌, List, take}
 use Rattle.std.specs.List.{flat_map}
 use Rattle.plant.specs.declared.task_ref.TaskRef.{TaskRef}
 use Rattle.plant.specs.StandsFor.{firsts}
-use Rattle.plant.specs.Drafts.{tasks_taken}
+use Rattle.plant.specs.Steps.Drafts.{tasks_taken}
 use Rattle.plant.proofs.producers.push_all_taken.Given as goal
 
 abbrev pub invariant-loop-feed : goal.invariant-loop-feed

@@ -1,8 +1,8 @@
 use Rattle.std.proofs.Common.{◌∙◌, ap, sym, subst, length}
 use Rattle.plant.specs.Faultless.{IsResourceLawful}
-use Rattle.plant.specs.Reading.{tree_of}
+use Rattle.plant.specs.Steps.Reading.{tree_of}
 use Rattle.plant.specs.StandsFor.{IsPlantOf}
-use Rattle.plant.specs.Drafts.{programs_in, IsReady}
+use Rattle.plant.specs.Steps.Drafts.{programs_in, IsReady}
 use Rattle.plant.proofs.Zips.{all_at, all_from}
 use Rattle.plant.proofs.StandLemmas.{ready_from, stands, sound}
 use Rattle.plant.proofs.resolve.resolve.Goals as goal

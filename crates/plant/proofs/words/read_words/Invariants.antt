@@ -1,10 +1,11 @@
-use Rattle.std.proofs.Common.{length}
+use Rattle.std.proofs.Common.{length, map}
+use Rattle.plant.specs.Steps.Lines.{WordValue}
 use Rattle.ladder_text.specs.Rows.{without_last}
 use Rattle.plant.proofs.SpellingLemmas.{IsReadTo}
 use Rattle.plant.proofs.words.read_words.Given as goal
 
 abbrev pub invariant-words : goal.invariant-words
-invariant-words l = IsReadTo (without_last 13 l.text) l.words.items l.lexer
+invariant-words l = IsReadTo (without_last 13 l.text) (map (λ (w : WordValue). w.token) l.words.items) l.lexer
 
 abbrev pub decreases-words : goal.decreases-words
 decreases-words l = length l.lexer

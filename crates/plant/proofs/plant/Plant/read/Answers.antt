@@ -1,11 +1,12 @@
-use Rattle.std.proofs.Common.{◌≡◌, ◌≢◌, List, [], ◌++◌, All, ap, sym, subst, ◌∙◌}
+use Rattle.std.proofs.Common.{◌≡◌, ◌≢◌, List, [], ◌++◌, All, map, ap, sym, subst, ◌∙◌}
 use Rattle.std.proofs.lemmas.List.{append-nil}
 use Rattle.ladder_text.specs.Rows.{without_last}
 use Rattle.plant.specs.declared.token.Token.{Token}
 use Rattle.plant.specs.declared.token.Token.TheVariants as token
 use Rattle.plant.specs.Spelling.{Spells}
 use Rattle.plant.specs.Grammar.{words_of}
-use Rattle.plant.specs.Reading.{tree_of}
+use Rattle.plant.specs.Steps.Reading.{tree_of}
+use Rattle.plant.specs.Steps.Lines.{WordValue, ReaderValue}
 use Rattle.plant.proofs.KnownWords.{words_known}
 use Rattle.plant.proofs.plant.Plant.read.Goals as goal
 
@@ -13,9 +14,10 @@ pub returns : goal.returns
 returns c =
     let read = c.in_ok-reading.ensures in
     let tree = tree_of read.name c.in_ok-reading.reading in
-    let words : c.in_ok-words.words ≡ words_of tree =
-    sym c.words-2.ensures ∙ sym c.new-reader.ensures ∙ read.written ∙ ap (λ (rest : List Token). words_of tree ++ rest) c.in_ok-end.ensures ∙ append-nil (words_of tree) in
-    let known : All (λ w. w ≢ token.Unknown) c.in_ok-words.words = subst (λ (ws : List Token). All (λ w. w ≢ token.Unknown) ws) (sym words) (words_known tree) in
+    let spelled = map (λ (w : WordValue). w.token) c.in_ok-words.words in
+    let words : spelled ≡ words_of tree =
+    ap (λ (ws : List WordValue). map (λ (w : WordValue). w.token) ws) (sym c.words-2.ensures) ∙ ap (λ (r : ReaderValue). r.words) (sym c.new-reader.ensures) ∙ read.written ∙ ap (λ (rest : List Token). words_of tree ++ rest) c.in_ok-end.ensures.ok ∙ append-nil (words_of tree) in
+    let known : All (λ w. w ≢ token.Unknown) spelled = subst (λ (ws : List Token). All (λ w. w ≢ token.Unknown) ws) (sym words) (words_known tree) in
     record {
       tree = tree;
       spelled = subst (λ (ws : List Token). Spells (without_last 13 c.args.text.now) ws) words (c.in_ok-words.ensures known);

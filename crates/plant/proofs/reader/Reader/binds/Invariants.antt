@@ -6,10 +6,10 @@ use Rattle.plant.proofs.reader.Reader.binds.Given as goal
 abbrev pub invariant-binds : goal.invariant-binds
 invariant-binds l = record {
   some : 0 < length l.binds.items;
-  words : l.fn.self ≡ with_commas l.binds.items ++ l.self;
+  words : l.fn.self.words ≡ with_commas l.binds.items ++ l.self.words;
   apart : AreApart (map (λ b. b.input) l.binds.items);
   tally : l.tally ≡ record { instances = l.fn.tally.instances; binds = l.fn.tally.binds + length l.binds.items };
 }
 
 abbrev pub decreases-binds : goal.decreases-binds
-decreases-binds l = length l.self
+decreases-binds l = length l.self.words

@@ -5,7 +5,7 @@ use Rattle.plant.proofs.reader.Reader.blocks.Goals as goal
 
 pub sections-preserved : goal.sections-preserved
 sections-preserved c = record {
-  words = words_more block_words c.sections.blocks.items c.push.new.self.items c.in_ok-block.block c.args.self.now c.sections.self c.block.new.self c.in_ok-push.ensures.items c.sections.invariant.words c.in_ok-block.ensures.ok;
+  words = words_more block_words c.sections.blocks.items c.push.new.self.items c.in_ok-block.block c.args.self.now.words c.sections.self.words c.block.new.self.words c.in_ok-push.ensures.items c.sections.invariant.words c.in_ok-block.ensures.ok;
   declared = declared_more block_variables c.sections.blocks.items c.push.new.self.items c.in_ok-block.block c.args.variables.now c.sections.variables c.block.new.variables c.in_ok-push.ensures.items c.sections.invariant.declared c.in_ok-block.ensures.declared;
   lawful = all_more IsBlockLawful c.sections.blocks.items c.push.new.self.items c.in_ok-block.block c.in_ok-push.ensures.items c.sections.invariant.lawful c.in_ok-block.ensures.lawful;
 }

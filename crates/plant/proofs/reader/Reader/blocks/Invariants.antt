@@ -7,10 +7,10 @@ use Rattle.plant.proofs.reader.Reader.blocks.Given as goal
 
 abbrev pub invariant-sections : goal.invariant-sections
 invariant-sections l = record {
-  words : l.fn.self ≡ flat_map block_words l.blocks.items ++ l.self;
+  words : l.fn.self.words ≡ flat_map block_words l.blocks.items ++ l.self.words;
   declared : l.variables ≡ l.fn.variables ++ flat_map block_variables l.blocks.items;
   lawful : All IsBlockLawful l.blocks.items;
 }
 
 abbrev pub decreases-sections : goal.decreases-sections
-decreases-sections l = length l.self
+decreases-sections l = length l.self.words

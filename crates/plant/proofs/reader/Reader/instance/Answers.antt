@@ -1,7 +1,7 @@
 use Rattle.std.proofs.Common.{rules, ◌≡◌, Some}
 use Rattle.std.specs.List.{find}
 use Rattle.plant.specs.Names.{is_named}
-use Rattle.plant.specs.Reading.{TypeValue}
+use Rattle.plant.specs.Steps.Reading.{TypeValue}
 use Rattle.plant.proofs.TypeLemmas.{known_type}
 use Rattle.plant.proofs.reader.Reader.instance.Goals as goal
 

@@ -5,14 +5,14 @@ use Rattle.plant.proofs.reader.Reader.lists.Goals as goal
 
 pub lists-preserved : goal.lists-preserved
 lists-preserved c = record {
-  words = words_more list_words c.lists.lists.items c.push.new.self.items c.in_ok-list.list c.args.self.now c.lists.self c.list.new.self c.in_ok-push.ensures.items c.lists.invariant.words c.in_ok-list.ensures.ok;
+  words = words_more list_words c.lists.lists.items c.push.new.self.items c.in_ok-list.list c.args.self.now.words c.lists.self.words c.list.new.self.words c.in_ok-push.ensures.items c.lists.invariant.words c.in_ok-list.ensures.ok;
   declared = declared_more (list_variables c.args.section) c.lists.lists.items c.push.new.self.items c.in_ok-list.list c.args.variables.now c.lists.variables c.list.new.variables c.in_ok-push.ensures.items c.lists.invariant.declared c.in_ok-list.ensures.declared;
   lawful = all_more (IsListLawful c.args.section) c.lists.lists.items c.push.new.self.items c.in_ok-list.list c.in_ok-push.ensures.items c.lists.invariant.lawful c.in_ok-list.ensures.lawful;
 }
 
 pub returns : goal.returns
 returns c = record {
-  ok = lists_done c.lists.lists.items c.args.self.now c.lists.self c.keyword.new.self c.lists.invariant.words c.in_ok-keyword.ensures.ok;
+  ok = lists_done c.lists.lists.items c.args.self.now.words c.lists.self.words c.keyword.new.self.words c.lists.invariant.words c.in_ok-keyword.ensures.ok;
   declared = c.lists.invariant.declared;
   lawful = c.lists.invariant.lawful;
 }

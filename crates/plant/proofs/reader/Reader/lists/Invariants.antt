@@ -7,10 +7,10 @@ use Rattle.plant.proofs.reader.Reader.lists.Given as goal
 
 abbrev pub invariant-lists : goal.invariant-lists
 invariant-lists l = record {
-  words : l.fn.self ≡ flat_map list_words l.lists.items ++ l.self;
+  words : l.fn.self.words ≡ flat_map list_words l.lists.items ++ l.self.words;
   declared : l.variables ≡ l.fn.variables ++ flat_map (list_variables l.fn.section) l.lists.items;
   lawful : All (IsListLawful l.fn.section) l.lists.items;
 }
 
 abbrev pub decreases-lists : goal.decreases-lists
-decreases-lists l = length l.self
+decreases-lists l = length l.self.words

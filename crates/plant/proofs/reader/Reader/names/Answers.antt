@@ -5,6 +5,6 @@ use Rattle.plant.proofs.reader.Reader.names.Goals as goal
 pub names-preserved : goal.names-preserved
 names-preserved c = record {
   some = omega (arith, grown c.names.names.items c.push-in-names.new.self.items c.in_ok-variable-2.field-0 c.in_ok-push-2.ensures.items);
-  words = names_more c.names.names.items c.push-in-names.new.self.items c.in_ok-variable-2.field-0 c.args.self.now c.names.self c.punctuation.new.self c.variable-in-names.new.self
+  words = names_more c.names.names.items c.push-in-names.new.self.items c.in_ok-variable-2.field-0 c.args.self.now.words c.names.self.words c.punctuation.new.self.words c.variable-in-names.new.self.words
       c.names.invariant.some c.in_ok-push-2.ensures.items c.names.invariant.words c.in_ok-punctuation.ensures.ok c.in_ok-variable-2.ensures.ok;
 }

@@ -5,8 +5,8 @@ use Rattle.plant.proofs.reader.Reader.names.Given as goal
 abbrev pub invariant-names : goal.invariant-names
 invariant-names l = record {
   some : 0 < length l.names.items;
-  words : l.fn.self ≡ name_words l.names.items ++ l.self;
+  words : l.fn.self.words ≡ name_words l.names.items ++ l.self.words;
 }
 
 abbrev pub decreases-names : goal.decreases-names
-decreases-names l = length l.self
+decreases-names l = length l.self.words

@@ -1,6 +1,6 @@
 use Rattle.std.proofs.Common.{subst, sym}
-use Rattle.plant.specs.Reading.{TypeValue}
-use Rattle.plant.specs.ReadParts.{IsNew}
+use Rattle.plant.specs.Steps.Reading.{TypeValue}
+use Rattle.plant.specs.Steps.ReadParts.{IsNew}
 use Rattle.plant.proofs.reader.Reader.program.Goals as goal
 
 pub returns-clause-new : goal.returns-clause-new

@@ -2,18 +2,18 @@ use Rattle.std.proofs.Common.{◌<◌, length, subst}
 use Rattle.plant.specs.declared.tree.Resource.{Resource}
 use Rattle.plant.specs.Faultless.{uses_of}
 use Rattle.plant.specs.Grammar.{resource_words}
-use Rattle.plant.specs.ReadParts.{types_alone, IsNew}
+use Rattle.plant.specs.Steps.ReadParts.{types_alone, IsNew}
 use Rattle.plant.proofs.WordLists.{words_more, resources_done}
 use Rattle.plant.proofs.ItemLemmas.{resources_more, tally_more}
 use Rattle.plant.proofs.reader.Reader.resources.Goals as goal
 
 pub resources-preserved : goal.resources-preserved
 resources-preserved c = record {
-  words = words_more resource_words c.resources.resources.items c.push.new.self.items c.in_ok-resource.resource c.args.self.now c.resources.self c.resource.new.self c.in_ok-push.ensures.items c.resources.invariant.words c.in_ok-resource.ensures.ok;
+  words = words_more resource_words c.resources.resources.items c.push.new.self.items c.in_ok-resource.resource c.args.self.now.words c.resources.self.words c.resource.new.self.words c.in_ok-push.ensures.items c.resources.invariant.words c.in_ok-resource.ensures.ok;
   lawful = resources_more (types_alone c.args.types.now) c.resources.resources.items c.push.new.self.items c.in_ok-resource.resource c.in_ok-push.ensures.items c.resources.invariant.lawful
       (subst (λ rs. IsNew (λ (r : Resource). r.name) rs c.in_ok-resource.resource.name) c.deref.ensures.value c.in_ok-resource.ensures.new) (subst (λ rs. length rs < 16) c.deref.ensures.value c.in_ok-resource.ensures.few) c.in_ok-resource.ensures.lawful;
   tally = tally_more uses_of c.resources.resources.items c.push.new.self.items c.in_ok-resource.resource c.args.tally.now c.resources.tally c.resource.new.tally c.in_ok-push.ensures.items c.resources.invariant.tally c.in_ok-resource.ensures.tally;
 }
 
 pub returns-clause-ok : goal.returns-clause-ok
-returns-clause-ok c = resources_done c.resources.resources.items c.args.self.now c.resources.self c.keyword.new.self c.resources.invariant.words c.in_ok-keyword.ensures.ok
+returns-clause-ok c = resources_done c.resources.resources.items c.args.self.now.words c.resources.self.words c.keyword.new.self.words c.resources.invariant.words c.in_ok-keyword.ensures.ok

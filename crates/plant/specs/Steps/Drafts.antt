@@ -1,6 +1,6 @@
 -- What is known of a plant while its sources are resolved. Its codes have programs and outputs, and no bindings yet.
 use Rattle.std.specs.Prelude.{◌≡◌, ℕ, ◌<◌, List, [], ◌∷◌, map, slice_get, length, Some, All, Contains}
-use Rattle.std.specs.List.{flat_map, AllZip}
+use Rattle.std.specs.List.{flat_map, find, AllZip}
 use Rattle.power_flow.specs.declared.declarations.Kind.{Kind}
 use Rattle.power_flow.specs.declared.declarations.Declaration.{Declaration}
 use Rattle.power_flow.specs.Names.{place_of}
@@ -19,9 +19,9 @@ use Rattle.plant.specs.declared.tree.Resource.{Resource}
 use Rattle.plant.specs.declared.feed.Origin.{Origin}
 use Rattle.plant.specs.declared.feed.Origin.TheVariants as origin
 use Rattle.plant.specs.declared.feed.Feed.{Feed}
-use Rattle.plant.specs.Names.{IsAt, AreApart}
+use Rattle.plant.specs.Names.{is_named, IsAt, AreApart}
 use Rattle.plant.specs.Faultless.{IsLadderOf, tasks_of, uses_of, binds_of}
-use Rattle.plant.specs.Reading.{TypeValue}
+use Rattle.plant.specs.Steps.Reading.{TypeValue}
 use Rattle.plant.specs.PlantValue.{ProgramValue, CodeValue, ResourceValue, PlantValue, code_at, image_kinds, outputs_of, input_kind_at, kind_of_space, source_kind, bindings_at, IsSoundCode, AreProducersOf}
 use Rattle.plant.specs.StandsFor.{runs_in, IsOrigin, IsSourceOf, firsts, mention, task_value}
 
@@ -32,12 +32,6 @@ drafted rs = record { resources = rs }
 -- the programs of types
 abbrev pub programs_in : List TypeValue → List Program
 programs_in types = map (λ (t : TypeValue). t.program) types
-
--- a type of this name, and its ladder
-pub record IsTypeAt (types : List TypeValue) (name : List ℕ) (t : TypeValue) : Type 0 where
-  pub place : ℕ
-  pub type_is : IsAt (λ (t : Program). t.name) (programs_in types) name place t.program
-  pub ladder_is : IsLadderOf t.program t.ladder
 
 -- an instance's name, and the ladder of its type
 pub record IsProgramOf (programs : List Program) (u : Use) (p : ProgramValue) : Type 0 where
@@ -104,6 +98,16 @@ pub record IsFeedOf (plant : PlantValue) (ds : List Declaration) (b : Bind) (f :
   pub input_is : place_of ds b.input ≡ Some f.place
   pub input_kind_is : input_kind_at ds f.place ≡ Some f.kind
   pub origin_is : IsOriginOf plant b.source f.origin f.kind
+
+-- a bind has an input, and a source of its kind
+abbrev pub HasFeed : PlantValue → List Declaration → Bind → Type 0
+HasFeed plant ds b = (f : Feed) × IsFeedOf plant ds b f
+
+-- each bind of an instance has an input of the instance's type, and a source of that input's kind
+pub record IsUseResolved (plant : PlantValue) (types : List TypeValue) (u : Use) : Type 0 where
+  pub type : TypeValue
+  pub type_is : find (λ (t : TypeValue). is_named u.program t.program.name) types ≡ Some type
+  pub each : All (HasFeed plant type.ladder.declarations) (binds_of u)
 
 -- R holds of the items of three lists, place by place
 abbrev pub Triples : {A B C : Type 0} → (A → B → C → Type 0) → List A → List B → List C → Type 0

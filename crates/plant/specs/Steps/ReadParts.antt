@@ -10,7 +10,7 @@ use Rattle.plant.specs.declared.tree.Resource.{Resource}
 use Rattle.plant.specs.Grammar.{Tree}
 use Rattle.plant.specs.Names.{is_named, AreApart}
 use Rattle.plant.specs.Faultless.{task_of, use_of, binds_of, IsProgramLawful, IsUseLawful, IsResourceLawful}
-use Rattle.plant.specs.Reading.{TypeValue}
+use Rattle.plant.specs.Steps.Reading.{TypeValue}
 
 -- how many instances and binds were read
 pub record TallyValue : Type 0 where

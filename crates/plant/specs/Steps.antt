@@ -1,0 +1,8 @@
+-- Steps of the proofs: what is known of a plant halfway. Only contracts inside this crate cite them, so no reader has to believe them.
+pub mod Drafts
+pub mod Gaps
+pub mod Lexing
+pub mod Lines
+pub mod ReadParts
+pub mod Reading
+pub mod Slots
