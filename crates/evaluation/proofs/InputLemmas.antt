@@ -1,5 +1,5 @@
 -- Field inputs that are read.
-use Rattle.std.proofs.Common.{◌≡◌, ◌≢◌, ◌≤◌, ◌&&◌, Bool, true, false, cond, Option, None, IsTrue, nat_cmp, rules, tests, ℕ, ◌+◌, ◌*◌, ◌<◌, ◌⊎◌, ◌↔◌, inl, inr, List, [], ◌∷◌, length, map, slice_get, Some, arith, refl, sym, ap, ◌∙◌, subst}
+use Rattle.std.proofs.Common.{◌≡◌, ◌≢◌, ◌≤◌, Bool, true, false, cond, None, IsTrue, nat_cmp, rules, tests, ℕ, ◌+◌, ◌*◌, ◌<◌, ◌⊎◌, ◌↔◌, inl, inr, List, [], ◌∷◌, length, map, slice_get, Some, arith, refl, sym, ap, ◌∙◌}
 use Rattle.std.proofs.lemmas.Bool.{cases_eq}
 use Rattle.std.proofs.lemmas.Option.{slice_get_within, same_Some}
 use Rattle.plant.specs.declared.address.Address.{Address}
@@ -10,7 +10,6 @@ use Rattle.evaluation.specs.InputTexts.{AreApart}
 use Rattle.std.specs.Ordering.{is_eq}
 use Rattle.std.specs.declared.cmp.Ordering.TheVariants.{Less, Equal, Greater}
 use Rattle.std.specs.Cmp.{nat_cmp_is}
-use Rattle.std.specs.BTreeSet.{contains}
 use Rattle.std.proofs.lemmas.Bool.{cases_lt}
 use Rattle.ladder_text.specs.Chars.{is_number}
 use Rattle.ladder_text.specs.Numbers.{number_value, limited, number_up_to}

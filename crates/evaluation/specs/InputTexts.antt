@@ -1,5 +1,5 @@
 -- The texts of field inputs: words such as `%IX0=1` and `%IW2=-7`, parted by blanks or tabs.
-use Rattle.std.specs.Prelude.{◌≡◌, ◌≢◌, ℕ, ◌+◌, ◌==◌, ◌||◌, Bool, false, not, if◌then◌else◌, List, [], ◌∷◌, map, take, drop, length, slice_get, position, Option, Some, None, ℤ, pos, ◌-ℤ◌}
+use Rattle.std.specs.Prelude.{◌≡◌, ℕ, ◌+◌, ◌==◌, ◌||◌, Bool, false, not, if◌then◌else◌, List, [], ◌∷◌, map, take, drop, length, slice_get, position, Option, Some, None, ℤ, pos, ◌-ℤ◌}
 use Rattle.std.specs.List.{slice_split, filter}
 use Rattle.std.specs.Option.{option_map, option_and_then}
 use Rattle.ladder_text.specs.Numbers.{number_up_to}

@@ -1,5 +1,4 @@
-use crate::kinds::{first_value, kind_of};
-use power_flow::Kind;
+use power_flow::{Kind, first_value, kind_of};
 use std::alloc::{AllocError, Global};
 use std::marker::Model;
 use std_blocks::Value;

@@ -1,5 +1,6 @@
 use crate::field_input::FieldInput;
 use plant::Address;
+use power_flow::first_value;
 use std::alloc::AllocError;
 use std::marker::Model;
 use std_blocks::Value;
@@ -53,7 +54,7 @@ impl Inputs {
     {
         match self.find(address) {
             Some(input) => input.value(),
-            None => crate::kinds::first_value(crate::kinds::kind_of_space(address.space)),
+            None => first_value(address.space.kind()),
         }
     }
 

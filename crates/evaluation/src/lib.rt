@@ -9,11 +9,12 @@ mod frame;
 mod image;
 mod input_fault;
 mod inputs;
-mod kinds;
 mod laws;
 mod name;
 mod outputs;
 mod read_inputs;
+#[cfg(test)]
+mod same_tests;
 mod scan;
 mod take;
 mod task_state;

@@ -76,10 +76,37 @@ const SLOW: TaskRef = TaskRef {
     task: 0,
 };
 
-fn code_of(alloc: Global, plant: &str, task: TaskRef) -> Result<Arc<TaskCode>, Fail> {
+/// The code of a task of a plant.
+pub fn code_of(alloc: Global, plant: &str, task: TaskRef) -> Result<Arc<TaskCode>, Fail> {
     let plant = Plant::read(alloc, plant).ok().ok_or("no plant")?;
     let code = plant.code(task).ok_or("no task")?;
     Ok(Arc::try_clone(code)?)
+}
+
+/// An evaluation of a task from a state, under a ticket.
+pub fn evaluation_from(
+    alloc: Global,
+    ticket: u64,
+    task: TaskRef,
+    inputs: &str,
+    takes: Vec<Take>,
+    before: TaskState,
+    code: Arc<TaskCode>,
+) -> Result<Evaluation, Fail> {
+    let name = Name {
+        task,
+        incarnation: 1,
+        number: 1,
+    };
+    let inputs = Inputs::read(alloc, inputs).ok().ok_or("no inputs")?;
+    if !fits_state(&code, &before) {
+        return Err("the state does not fit".into());
+    }
+    if !suits_takes(&code, takes.as_slice()) {
+        return Err("the takes do not suit".into());
+    }
+    let evaluation = Evaluation::make(alloc, ticket, name, 10, inputs, takes, before, code)?;
+    Ok(evaluation)
 }
 
 /// The first evaluation of a task, under a ticket.
@@ -91,18 +118,8 @@ fn first_evaluation(
     takes: Vec<Take>,
     code: Arc<TaskCode>,
 ) -> Result<Evaluation, Fail> {
-    let name = Name {
-        task,
-        incarnation: 1,
-        number: 1,
-    };
-    let inputs = Inputs::read(alloc, inputs).ok().ok_or("no inputs")?;
     let before = TaskState::initial(alloc, &code)?;
-    if !suits_takes(&code, takes.as_slice()) {
-        return Err("the takes do not suit".into());
-    }
-    let evaluation = Evaluation::make(alloc, ticket, name, 10, inputs, takes, before, code)?;
-    Ok(evaluation)
+    evaluation_from(alloc, ticket, task, inputs, takes, before, code)
 }
 
 /// The counter, evaluated once.

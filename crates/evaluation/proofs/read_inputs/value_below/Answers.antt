@@ -1,4 +1,4 @@
-use Rattle.std.proofs.Common.{◌≡◌, ◌≤◌, ◌-ℤ◌, Some, pos, ap, arith, ◌∙◌}
+use Rattle.std.proofs.Common.{◌-ℤ◌, Some, pos, ap, arith, ◌∙◌}
 use Rattle.std.specs.Option.{option_map}
 use Rattle.std.proofs.lemmas.Int.{ints}
 use Rattle.evaluation.proofs.InputLemmas.{number_within}
