@@ -25,7 +25,7 @@ explain_ladder drawing words dt old Memory refused = inl (Keeps-refl old)
 pub explain_rows : (drawing : List ℕ) (words : List (List ℕ)) (dt : ℕ) (old : Option (List ℕ)) (ds : List Declaration) (networks : List Diagram) (fault : CommandFault)
     → IsLadderOf drawing ds networks → RefusesRows ds words fault → Explains drawing words dt old old fault
 explain_rows drawing words dt old ds networks (Text fault) ladder refused = absurd refused
-explain_rows drawing words dt old ds networks (Word fault) ladder refused = (record { declarations = ds; networks = networks; ladder = ladder; refused = refused }, Keeps-refl old)
+explain_rows drawing words dt old ds networks (Word fault) ladder refused = (record { declarations = ds; networks = networks; ladder = ladder; refused = refused.0; first = refused.1 }, Keeps-refl old)
 explain_rows drawing words dt old ds networks Write ladder refused = absurd refused
 explain_rows drawing words dt old ds networks Memory ladder refused = inl (Keeps-refl old)
 

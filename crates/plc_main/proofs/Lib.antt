@@ -7,3 +7,4 @@ pub mod Counting
 pub mod Sending
 pub mod PlantBounds
 pub mod PlanExplaining
+pub mod Matching

@@ -3,11 +3,14 @@ use Rattle.std.proofs.Common.{◌≡◌, ℕ, ◌+◌, ◌-◌, ◌≤◌, ◌<�
 use Rattle.std.proofs.Math.Seq.{get_or-append_right}
 use Rattle.std.proofs.lemmas.List.{get_or-map, get_or_append_left, take_more, get_or-take, length-append, length-map, length-take}
 use Rattle.std.proofs.lemmas.Bool.{cases_lt}
+use Rattle.std.proofs.lemmas.Option.{slice_get-get_or}
 use Rattle.std.specs.Borrow.{Bor}
-use Rattle.std.specs.Prelude.{All, Any}
+use Rattle.std.specs.Prelude.{All, Any, Some, slice_get}
 use Rattle.std.specs.List.{AllZip}
 use Rattle.power_flow.specs.declared.declarations.Declaration.{Declaration}
-use Rattle.plc_main.specs.Rows.{RowValue, IsRow, AreRows, AreApart, IsBoolAt, texts}
+use Rattle.plc_main.specs.declared.word_fault.WordFaultKind.{WordFaultKind}
+use Rattle.plc_main.specs.declared.word_fault.WordFaultKind.TheVariants.{NoVariable, BadDigits, Twice}
+use Rattle.plc_main.specs.Rows.{RowValue, IsRow, AreRows, AreApart, IsBoolAt, IsRefusedFor, IsFirstRefused, texts}
 
 zip_at : {X Y : Type 0} (R : X → Y → Type 0) (xs : List X) (ys : List Y) (i : ℕ) (d : X) (e : Y) → AllZip R xs ys → i < length ys → R (get_or xs i d) (get_or ys i e)
 zip_at R [] [] i d e each lt = absurd (omega arith)
@@ -60,6 +63,27 @@ refuse_twice ds words n d before row lt each is (j, s, within, at, same) rows ar
     let places : (get_or rows j s).place ≡ (get_or rows n s).place = same_place ds _ _ _ early held ∙ same ∙ same_place ds _ _ _ is late in
     let equal = are.apart j n s (omega arith) (omega arith) places in
     omega arith
+
+-- what is wrong with a word by itself is wrong with it behind other rows
+refused_behind : (ds : List Declaration) (rows : List RowValue) (word : List ℕ) (kind : WordFaultKind) → IsRefusedFor ds [] word kind → IsRefusedFor ds rows word kind
+refused_behind ds rows word NoVariable refused = refused
+refused_behind ds rows word BadDigits refused = refused
+refused_behind ds rows word Twice (row, is, (j, other, within, at, same)) = absurd (omega arith)
+
+-- the words before are rows, and this one is refused
+pub first_refused : (ds : List Declaration) (words : List (Bor (List ℕ))) (n : ℕ) (d : Bor (List ℕ)) (before : List RowValue) (kind : WordFaultKind) → n < length words
+    → AllZip (IsRow ds) (take n (texts words)) before → AreApart before → IsRefusedFor ds before (get_or words n d).now kind
+    → IsFirstRefused ds (texts words) (record { number = n; kind = kind })
+first_refused ds words n d before kind lt each apart refused =
+    let texts-long = length-map words (λ (w : Bor (List ℕ)). w.now) in
+    let inside : n < length (texts words) = omega arith in
+    let at : slice_get (texts words) n ≡ Some (get_or words n d).now = slice_get-get_or (texts words) n [] inside ∙ ap (λ w. Some w) (word_at words n d lt) in
+    record { word = (get_or words n d).now; at = at; rows = before; before = record { each = each; apart = apart }; refused = refused }
+
+pub first_bad : (ds : List Declaration) (words : List (Bor (List ℕ))) (n : ℕ) (d : Bor (List ℕ)) (before : List RowValue) (kind : WordFaultKind) → n < length words
+    → AllZip (IsRow ds) (take n (texts words)) before → AreApart before → IsRefusedFor ds [] (get_or words n d).now kind
+    → IsFirstRefused ds (texts words) (record { number = n; kind = kind })
+first_bad ds words n d before kind lt each apart refused = first_refused ds words n d before kind lt each apart (refused_behind ds before (get_or words n d).now kind refused)
 
 -- the next word is a row of another variable
 pub each_push : (ds : List Declaration) (words : List (Bor (List ℕ))) (n : ℕ) (d : Bor (List ℕ)) (before : List RowValue) (row : RowValue) → n < length words

@@ -1,9 +1,10 @@
 -- What `plc check` writes.
-use Rattle.std.specs.Prelude.{ℕ, ◌<◌, ◌^◌, ◌++◌, List, Option, length, codes, take, sum_by}
+use Rattle.std.specs.Prelude.{◌≢◌, ℕ, ◌<◌, ◌^◌, ◌++◌, List, Option, length, codes, take, sum_by}
 use Rattle.std.specs.Fmt.{decimal}
 use Rattle.std.specs.Io.KnownBytes.{Appends, Keeps}
 use Rattle.plant.specs.PlantValue.{CodeValue, ResourceValue, PlantValue}
 use Rattle.plant.specs.PlantText.{IsPlantText}
+use Rattle.plant.specs.declared.plant_fault.PlantFaultKind.TheVariants as plant
 use Rattle.plc_main.specs.declared.command_fault.CommandFault.{CommandFault}
 use Rattle.plc_main.specs.declared.command_fault.CommandFault.TheVariants.{Text, Word, Write, Memory}
 use Rattle.plc_main.specs.declared.text_fault.TextFault.{TextFault}
@@ -50,12 +51,12 @@ WritesCheck text old new = (plant : PlantValue) × IsPlantText text plant × App
 abbrev pub WritesCheckPart : List ℕ → Option (List ℕ) → Option (List ℕ) → Type 0
 WritesCheckPart text old new = (plant : PlantValue) × IsPlantText text plant × (written : ℕ) × Appends old new (take written (check_lines plant))
 
--- only the reader of plants refuses a text here
+-- only the reader of plants refuses a text here, and want of memory is none of its refusals
 abbrev pub IsOfPlant : TextFault → Type 0
 IsOfPlant (Draw fault) = ⊥
 IsOfPlant (Graph fault) = ⊥
 IsOfPlant (Bind fault) = ⊥
-IsOfPlant (Plant fault) = Unit {0}
+IsOfPlant (Plant fault) = fault.kind ≢ plant.Memory
 IsOfPlant TooLong = ⊥
 
 -- no plant was read: its text is refused, or memory

@@ -1,11 +1,12 @@
 -- What `plc eval` writes.
-use Rattle.std.specs.Prelude.{◌≡◌, ℕ, ◌+◌, ◌++◌, ◌==◌, ◌≤◌, ◌⊎◌, List, [], Bool, false, Option, Some, None, All, length, map, fold, sum_by, slice_get, slice_set, take}
+use Rattle.std.specs.Prelude.{◌≡◌, ◌≢◌, ℕ, ◌+◌, ◌++◌, ◌==◌, ◌≤◌, ◌⊎◌, List, [], Bool, false, Option, Some, None, All, length, map, fold, sum_by, slice_get, slice_set, take}
 use Rattle.std.specs.Io.KnownBytes.{Appends, Keeps}
 use Rattle.ladder_text.specs.Rows.{rows_of}
 use Rattle.ladder_text.specs.Places.{layout_of}
 use Rattle.ladder_text.specs.Picture.{Picture, picture_of}
 use Rattle.ladder_text.specs.Faults.{IsWellDrawn, IsIllDrawn}
 use Rattle.ladder_text.specs.declared.place.Place.{Place}
+use Rattle.ladder_text.specs.declared.drawing.DrawFaultKind.TheVariants as draw
 use Rattle.network.specs.Links.{Diagram}
 use Rattle.network.specs.GraphValue.{GraphValue}
 use Rattle.network.specs.Networks.{AreNetworks, IsFaultAt, IsFoundAt}
@@ -21,11 +22,12 @@ use Rattle.power_flow.specs.Scan.{ScanMeaning}
 use Rattle.power_flow.specs.LadderValue.{diagrams as diagrams_of}
 use Rattle.power_flow.specs.Findings.{IsFirstFault}
 use Rattle.power_flow.specs.declared.bind.BindFault.{BindFault}
+use Rattle.plc_main.specs.declared.word_fault.WordFault.{WordFault}
 use Rattle.plc_main.specs.declared.command_fault.CommandFault.{CommandFault}
 use Rattle.plc_main.specs.declared.command_fault.CommandFault.TheVariants.{Text, Word, Write, Memory}
 use Rattle.plc_main.specs.declared.text_fault.TextFault.{TextFault}
 use Rattle.plc_main.specs.declared.text_fault.TextFault.TheVariants.{Draw, Graph, Bind, Plant, TooLong}
-use Rattle.plc_main.specs.Rows.{RowValue, AreRows, scans_of}
+use Rattle.plc_main.specs.Rows.{RowValue, AreRows, IsFirstRefused, scans_of}
 use Rattle.plc_main.specs.Lines.{line_of}
 
 -- the text of a drawing is read as this picture
@@ -98,12 +100,13 @@ WritesAll drawing words dt old new = (asked : Asked drawing words) × WritesScan
 abbrev pub WritesPart : List ℕ → List (List ℕ) → ℕ → Option (List ℕ) → Option (List ℕ) → Type 0
 WritesPart drawing words dt old new = (asked : Asked drawing words) × WritesSomeScans asked.declarations asked.networks dt asked.rows old new
 
--- the words are no rows of the drawing's ladder
-pub record RefusesWords (drawing : List ℕ) (words : List (List ℕ)) : Type 0 where
+-- the words are no rows of the drawing's ladder, and this is the first fault
+pub record RefusesWords (drawing : List ℕ) (words : List (List ℕ)) (fault : WordFault) : Type 0 where
   pub declarations : List Declaration
   pub networks : List Diagram
   pub ladder : IsLadderOf drawing declarations networks
   pub refused : (rows : List RowValue) → AreRows declarations words rows → ⊥
+  pub first : IsFirstRefused declarations words fault
 
 -- the names of the drawing's networks can't be bound, and this is the first fault
 pub record RefusesNames (drawing : List ℕ) (fault : BindFault) : Type 0 where
@@ -126,7 +129,7 @@ pub record RefusesNetworks (drawing : List ℕ) (fault : GraphFault) : Type 0 wh
 
 -- what holds after a refusal by the text
 abbrev pub RefusesText : List ℕ → TextFault → Type 0
-RefusesText drawing (Draw fault) = IsIllDrawn (rows_of drawing)
+RefusesText drawing (Draw fault) = IsIllDrawn (rows_of drawing) × (fault.kind ≢ draw.Memory)
 RefusesText drawing (Graph fault) = RefusesNetworks drawing fault
 RefusesText drawing (Bind fault) = RefusesNames drawing fault
 RefusesText drawing (Plant fault) = ⊥
@@ -142,7 +145,7 @@ RefusesLadder drawing Memory = Unit {0}
 -- no rows were made: a word is refused, or memory
 abbrev pub RefusesRows : List Declaration → List (List ℕ) → CommandFault → Type 0
 RefusesRows ds words (Text fault) = ⊥
-RefusesRows ds words (Word fault) = (rows : List RowValue) → AreRows ds words rows → ⊥
+RefusesRows ds words (Word fault) = ((rows : List RowValue) → AreRows ds words rows → ⊥) × IsFirstRefused ds words fault
 RefusesRows ds words Write = ⊥
 RefusesRows ds words Memory = Unit {0}
 
@@ -156,6 +159,6 @@ IsLate Memory = Unit {0}
 -- why there was a fault, and what was written before: nothing before a fault of the text or of the words
 abbrev pub Explains : List ℕ → List (List ℕ) → ℕ → Option (List ℕ) → Option (List ℕ) → CommandFault → Type 0
 Explains drawing words dt old new (Text fault) = RefusesText drawing fault × Keeps old new
-Explains drawing words dt old new (Word fault) = RefusesWords drawing words × Keeps old new
+Explains drawing words dt old new (Word fault) = RefusesWords drawing words fault × Keeps old new
 Explains drawing words dt old new Write = WritesPart drawing words dt old new
 Explains drawing words dt old new Memory = Keeps old new ⊎ WritesPart drawing words dt old new

@@ -4,3 +4,4 @@ pub mod Lines
 pub mod EvalText
 pub mod CheckText
 pub mod PlanText
+pub mod CommandLine

@@ -1,13 +1,16 @@
 -- What the words NAME=BITS say.
-use Rattle.std.specs.Prelude.{◌≡◌, ℕ, ◌<◌, ◌≤◌, ◌==◌, ◌||◌, List, Bool, true, false, Some, IsTrue, All, length, slice_get, slice_index_or, fold, max, map}
+use Rattle.std.specs.Prelude.{◌≡◌, ℕ, ◌<◌, ◌≤◌, ◌==◌, ◌||◌, ◌⊎◌, List, Bool, true, false, Some, IsTrue, All, Any, length, take, slice_get, slice_index_or, fold, max, map}
 use Rattle.std.specs.Borrow.{Bor}
-use Rattle.std.specs.List.{before_first, after_first, AllZip}
+use Rattle.std.specs.List.{position_or_len, before_first, after_first, AllZip}
 use Rattle.power_flow.specs.declared.declarations.Declaration.{Declaration}
 use Rattle.power_flow.specs.declared.declarations.Declared.{Declared}
 use Rattle.power_flow.specs.declared.declarations.Declared.TheVariants.{Input, Output, Local, Instance}
 use Rattle.power_flow.specs.declared.declarations.Kind.{Kind}
 use Rattle.power_flow.specs.declared.declarations.Kind.TheVariants as kind
 use Rattle.power_flow.specs.Names.{place_of}
+use Rattle.plc_main.specs.declared.word_fault.WordFault.{WordFault}
+use Rattle.plc_main.specs.declared.word_fault.WordFaultKind.{WordFaultKind}
+use Rattle.plc_main.specs.declared.word_fault.WordFaultKind.TheVariants.{NoVariable, BadDigits, Twice}
 
 -- the place of a BOOL variable, and a digit for each of the first scans
 pub record RowValue : Type 0 where
@@ -19,6 +22,9 @@ row_value place digits = record { place = place; digits = digits }
 
 abbrev pub is_equals : ℕ → Bool
 is_equals c = c == 61
+
+abbrev pub HasEquals : List ℕ → Type 0
+HasEquals word = position_or_len is_equals word < length word
 
 -- what stands in a word before its first `=`, and what behind it
 abbrev pub name_in : List ℕ → List ℕ
@@ -67,6 +73,24 @@ AreApart rows = (j k : ℕ) (d : RowValue) → j < length rows → k < length ro
 pub record AreRows (ds : List Declaration) (words : List (List ℕ)) (rows : List RowValue) : Type 0 where
   pub each : AllZip (IsRow ds) words rows
   pub apart : AreApart rows
+
+-- a BOOL variable has the name in the word
+abbrev pub NamesBool : List Declaration → List ℕ → Type 0
+NamesBool ds word = (place : ℕ) × (place_of ds (name_in word) ≡ Some place) × IsBoolAt ds place
+
+-- why a word behind these rows is refused: for the name before its `=`; for want of a `=`, or for the digits behind a good name; for a variable that a row has
+abbrev pub IsRefusedFor : List Declaration → List RowValue → List ℕ → WordFaultKind → Type 0
+IsRefusedFor ds rows word NoVariable = HasEquals word × (NamesBool ds word → ⊥)
+IsRefusedFor ds rows word BadDigits = (HasEquals word → ⊥) ⊎ (NamesBool ds word × (AreDigits (digits_in word) → ⊥))
+IsRefusedFor ds rows word Twice = (row : RowValue) × IsRow ds word row × Any (λ other. other.place ≡ row.place) rows
+
+-- the fault is of the first word that is refused: those before it are rows
+pub record IsFirstRefused (ds : List Declaration) (words : List (List ℕ)) (fault : WordFault) : Type 0 where
+  pub word : List ℕ
+  pub at : slice_get words fault.number ≡ Some word
+  pub rows : List RowValue
+  pub before : AreRows ds (take fault.number words) rows
+  pub refused : IsRefusedFor ds rows word fault.kind
 
 -- as many scans as the longest row has digits, and one if there are no rows
 abbrev pub scans_of : List RowValue → ℕ

@@ -1,6 +1,6 @@
-ghost use Rattle.std.specs.Prelude.{◌≡◌, ◌↔◌, IfOk, OnErr, IsTrue, MatchOption, ℕ, Any, Some, slice_get};
+ghost use Rattle.std.specs.Prelude.{◌≡◌, ◌↔◌, IfOk, IfErr, OnErr, IsTrue, MatchOption, ℕ, [], Any, Some, slice_get};
 ghost use Rattle.power_flow.specs.Names.{place_of};
-ghost use Rattle.plc_main.specs.Rows.{RowValue, IsRow, IsBoolAt, AreDigits, is_bool, is_digit};
+ghost use Rattle.plc_main.specs.Rows.{RowValue, IsRow, IsBoolAt, IsRefusedFor, AreDigits, is_bool, is_digit};
 
 use crate::word_fault::WordFaultKind;
 use power_flow::{Declarations, Declared, Kind};
@@ -81,6 +81,7 @@ fn are_digits(text: &str) -> bool
 pub fn read_row<'a>(declarations: &Declarations, word: &'a str) -> Result<Row<'a>, WordFaultKind>
     ensures ok { IfOk result (IsRow declarations.now word.now) }
     ensures err { OnErr result ((row : RowValue) → IsRow declarations.now word.now row → ⊥) }
+    ensures kind { IfErr result (IsRefusedFor declarations.now [] word.now) }
 {
     let Some((name, digits)) = word.split_once('=') else {
         return Err(WordFaultKind::BadDigits);

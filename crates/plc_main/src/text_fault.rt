@@ -8,16 +8,16 @@ use thiserror::Error;
 #[derive(Clone, Copy, Debug, PartialEq, Eq, Error)]
 pub enum TextFault {
     /// It isn't well drawn.
-    #[error("{}:{}: {:?}", .0.line, .0.column, .0.kind)]
+    #[error(transparent)]
     Draw(DrawFault),
     /// Its networks can't be evaluated.
-    #[error("{}:{}: {:?}", .0.line, .0.column, .0.kind)]
+    #[error(transparent)]
     Graph(GraphFault),
     /// Its names can't be bound.
-    #[error("{}:{}: {:?}", .0.line, .0.column, .0.kind)]
+    #[error(transparent)]
     Bind(BindFault),
     /// It is no plant.
-    #[error("{}: {}", .0.line, .0)]
+    #[error(transparent)]
     Plant(PlantFault),
     /// The plant's plan has more than 100,000 entries.
     #[error("plan: TooLong")]

@@ -1,5 +1,8 @@
-ghost use Rattle.std.specs.Prelude.{◌≡◌, IfSome};
-ghost use Rattle.std.specs.Str.Parse.{IsNumeral, digits_value};
+ghost use Rattle.std.specs.Prelude.{◌≡◌, ◌≢◌, ◌⊎◌, false, [], IfOk, IfErr, MatchOption, codes, map, unwrap_or, string_bytes};
+ghost use Rattle.std.specs.Str.Parse.{digits_value};
+ghost use Rattle.clap.specs.Words.{app_of, rule_of, rows_of, found_of, first_of, all_of, kind_of, subcommand_of};
+ghost use Rattle.plc_main.specs.CommandLine.{drawing_rule, dt_rule, rows_rule, plant_rule, until_rule, eval_app, check_app, plan_app, plc_app};
+ghost use Rattle.plc_main.specs.CommandLine.{IsNumber, GivesNumber, AsksEval, AsksPlan, IsAsked, word_of, file_of, words_in};
 
 use clap::error::ErrorKind;
 use clap::{Arg, ArgAction, ArgMatches, Command, Error};
@@ -27,7 +30,9 @@ pub enum Request<'a> {
 
 impl<'a> Request<'a> {
     /// The file that is to be read.
-    pub fn file(&self) -> &'a str {
+    pub fn file(&self) -> &'a str
+        ensures { result.now ≡ file_of self.now }
+    {
         match self {
             Request::Eval { drawing, .. } => drawing,
             Request::Check { plant } => plant,
@@ -36,7 +41,9 @@ impl<'a> Request<'a> {
     }
 
     /// The words NAME=BITS.
-    pub fn words(&self) -> &[&'a str] {
+    pub fn words(&self) -> &[&'a str]
+        ensures { map (λ w. w.now) result.now ≡ words_in self.now }
+    {
         match self {
             Request::Eval { words, .. } => words.as_slice(),
             Request::Check { .. } | Request::Plan { .. } => &[],
@@ -92,14 +99,20 @@ The exit status is 0; 1 if the text of the plant is refused, with FILE:LINE: Kin
 more than 100,000 lines, with plan: TooLong; 2 if a word is refused; 3 if the file can't be read, the output can't be
 written or there is no memory left.";
 
-fn drawing_arg<'a>(alloc: Global) -> Arg<'a> {
+fn drawing_arg<'a>(alloc: Global) -> Arg<'a>
+    ensures rule { rule_of result ≡ drawing_rule }
+    ensures local { result.global ≡ false }
+{
     Arg::new(alloc, "DRAWING")
         .required(true)
         .action(ArgAction::Set)
         .help("The file of the drawing")
 }
 
-fn dt_arg<'a>(alloc: Global) -> Arg<'a> {
+fn dt_arg<'a>(alloc: Global) -> Arg<'a>
+    ensures rule { rule_of result ≡ dt_rule }
+    ensures local { result.global ≡ false }
+{
     Arg::new(alloc, "dt")
         .long("dt")
         .value_name("MS")
@@ -107,7 +120,10 @@ fn dt_arg<'a>(alloc: Global) -> Arg<'a> {
         .help("The time between two scans in milliseconds, 0 to 4294967295 [default: 0]")
 }
 
-fn rows_arg<'a>(alloc: Global) -> Arg<'a> {
+fn rows_arg<'a>(alloc: Global) -> Arg<'a>
+    ensures rule { rule_of result ≡ rows_rule }
+    ensures local { result.global ≡ false }
+{
     Arg::new(alloc, "words")
         .value_name("NAME=BITS")
         .action(ArgAction::Append)
@@ -115,7 +131,9 @@ fn rows_arg<'a>(alloc: Global) -> Arg<'a> {
         .help("The values of a variable, a digit for each scan")
 }
 
-fn eval_command<'a>(alloc: Global) -> Result<Command<'a>, AllocError> {
+fn eval_command<'a>(alloc: Global) -> Result<Command<'a>, AllocError>
+    ensures { IfOk result (λ c. app_of c ≡ eval_app) }
+{
     Command::new(alloc, "eval")
         .about("Evaluates a drawing, scan by scan, and writes its variables after each scan")
         .after_help(EVAL_HELP)
@@ -124,14 +142,20 @@ fn eval_command<'a>(alloc: Global) -> Result<Command<'a>, AllocError> {
         .arg(rows_arg(alloc))
 }
 
-fn plant_arg<'a>(alloc: Global) -> Arg<'a> {
+fn plant_arg<'a>(alloc: Global) -> Arg<'a>
+    ensures rule { rule_of result ≡ plant_rule }
+    ensures local { result.global ≡ false }
+{
     Arg::new(alloc, "PLANT")
         .required(true)
         .action(ArgAction::Set)
         .help("The file of the plant")
 }
 
-fn until_arg<'a>(alloc: Global) -> Arg<'a> {
+fn until_arg<'a>(alloc: Global) -> Arg<'a>
+    ensures rule { rule_of result ≡ until_rule }
+    ensures local { result.global ≡ false }
+{
     Arg::new(alloc, "until")
         .long("until")
         .value_name("MS")
@@ -140,14 +164,18 @@ fn until_arg<'a>(alloc: Global) -> Arg<'a> {
         .help("The last moment of the plan in milliseconds, 0 to 4294967295")
 }
 
-fn check_command<'a>(alloc: Global) -> Result<Command<'a>, AllocError> {
+fn check_command<'a>(alloc: Global) -> Result<Command<'a>, AllocError>
+    ensures { IfOk result (λ c. app_of c ≡ check_app) }
+{
     Command::new(alloc, "check")
         .about("Reads a plant, and writes how many parts it has")
         .after_help(CHECK_HELP)
         .arg(plant_arg(alloc))
 }
 
-fn plan_command<'a>(alloc: Global) -> Result<Command<'a>, AllocError> {
+fn plan_command<'a>(alloc: Global) -> Result<Command<'a>, AllocError>
+    ensures { IfOk result (λ c. app_of c ≡ plan_app) }
+{
     Command::new(alloc, "plan")
         .about("Reads a plant, and writes when its tasks are due")
         .after_help(PLAN_HELP)
@@ -156,7 +184,9 @@ fn plan_command<'a>(alloc: Global) -> Result<Command<'a>, AllocError> {
 }
 
 /// The commands of the program.
-pub fn commands<'a>(alloc: Global) -> Result<Command<'a>, AllocError> {
+pub fn commands<'a>(alloc: Global) -> Result<Command<'a>, AllocError>
+    ensures { IfOk result (λ c. app_of c ≡ plc_app) }
+{
     Command::new(alloc, "plc")
         .bin_name("plc")?
         .about("Runs ladder diagrams drawn in characters (IEC 61131-3)")
@@ -168,9 +198,9 @@ pub fn commands<'a>(alloc: Global) -> Result<Command<'a>, AllocError> {
 
 /// A number of decimal digits alone, at most 4294967295.
 pub fn number(text: &str) -> Option<u32>
-    ensures { IfSome result (λ n. IsNumeral 10 text.now × (n ≡ digits_value 10 text.now)) }
+    ensures { MatchOption result (IsNumber text.now → ⊥) (λ n. IsNumber text.now × (n ≡ digits_value 10 text.now)) }
 {
-    if text.is_empty() || !text.bytes().all(|b| b.is_ascii_digit()) {
+    if text.starts_with('+') {
         return None;
     }
     text.parse::<u32>().ok()
@@ -181,7 +211,9 @@ fn number_of<'a>(
     matches: &ArgMatches<'a>,
     id: &str,
     refusal: &'static str,
-) -> Result<u32, Error> {
+) -> Result<u32, Error>
+    ensures { IfOk result (GivesNumber (first_of id.now (rows_of (found_of matches.now)))) }
+{
     match matches.get_str(id) {
         None => Ok(0),
         Some(text) => match number(text) {
@@ -191,23 +223,34 @@ fn number_of<'a>(
     }
 }
 
-fn words_of<'a>(alloc: Global, matches: &ArgMatches<'a>) -> Result<Vec<&'a str>, AllocError> {
-    let mut words = Vec::new(alloc);
-    if let Some(all) = matches.get_strs("words") {
-        for word in all {
-            words.push(*word)?;
-        }
+/// The word that stands for an argument.
+fn given_word<'a>(matches: &ArgMatches<'a>, id: &str) -> &'a str
+    ensures { result.now ≡ word_of id.now (rows_of (found_of matches.now)) }
+{
+    match matches.get_str(id) {
+        Some(word) => word,
+        None => "",
     }
-    Ok(words)
+}
+
+fn words_of<'a>(alloc: Global, matches: &ArgMatches<'a>) -> Result<Vec<&'a str>, AllocError>
+    ensures { IfOk result (λ words. map (λ w. w.now) words.items ≡ unwrap_or (all_of (codes "words") (rows_of (found_of matches.now))) []) }
+{
+    match matches.get_strs("words") {
+        Some(words) => Vec::from_slice(alloc, words),
+        None => Ok(Vec::new(alloc)),
+    }
 }
 
 fn eval_request<'a>(
     alloc: Global,
     command: &mut Command<'a>,
     inner: &ArgMatches<'a>,
-) -> Result<Request<'a>, Error> {
+) -> Result<Request<'a>, Error>
+    ensures { IfOk result (AsksEval (rows_of (found_of inner.now))) }
+{
     Ok(Request::Eval {
-        drawing: inner.get_str("DRAWING").unwrap_or(""),
+        drawing: given_word(inner, "DRAWING"),
         dt: number_of(
             command,
             inner,
@@ -218,12 +261,11 @@ fn eval_request<'a>(
     })
 }
 
-fn plan_request<'a>(
-    command: &mut Command<'a>,
-    inner: &ArgMatches<'a>,
-) -> Result<Request<'a>, Error> {
+fn plan_request<'a>(command: &mut Command<'a>, inner: &ArgMatches<'a>) -> Result<Request<'a>, Error>
+    ensures { IfOk result (AsksPlan (rows_of (found_of inner.now))) }
+{
     Ok(Request::Plan {
-        plant: inner.get_str("PLANT").unwrap_or(""),
+        plant: given_word(inner, "PLANT"),
         until: number_of(
             command,
             inner,
@@ -234,15 +276,17 @@ fn plan_request<'a>(
 }
 
 /// Reads the words, of which the first is the program's own name.
-pub fn read_words<'a>(alloc: Global, words: &'a [String]) -> Result<Request<'a>, Error> {
+pub fn read_words<'a>(alloc: Global, words: &'a [String]) -> Result<Request<'a>, Error>
+    ensures { IfOk result (IsAsked (subcommand_of plc_app (map (λ word. string_bytes word) words.now))) }
+{
     let mut command = commands(alloc)?;
     let matches = command.try_get_matches_from_mut(words)?;
     match matches.subcommand() {
+        Some(("eval", inner)) => eval_request(alloc, &mut command, inner),
         Some(("check", inner)) => Ok(Request::Check {
-            plant: inner.get_str("PLANT").unwrap_or(""),
+            plant: given_word(inner, "PLANT"),
         }),
         Some(("plan", inner)) => plan_request(&mut command, inner),
-        Some((_, inner)) => eval_request(alloc, &mut command, inner),
-        None => Err(command.error(ErrorKind::MissingSubcommand, "a command is missing")?),
+        _ => Err(command.error(ErrorKind::MissingSubcommand, "a command is missing")?),
     }
 }

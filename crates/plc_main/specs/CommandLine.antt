@@ -1,0 +1,106 @@
+-- What the words of the command line ask for.
+use Rattle.std.specs.Prelude.{◌≡◌, ℕ, ◌^◌, ◌<◌, ◌⊎◌, List, [], ◌∷◌, ◌++◌, Option, Some, None, true, codes, map, unwrap_or}
+use Rattle.std.specs.Str.Parse.{IsNumeral, digits_value}
+use Rattle.clap.specs.Lexer.{usize_max}
+use Rattle.clap.specs.Words.{App, Shape, Row, Rule, Text, new_app, new_rule, with_rule, with_subcommand, first_of, all_of}
+use Rattle.clap.specs.declared.builder.action.ArgAction.TheVariants.{Set, Append}
+use Rattle.plc_main.specs.declared.words.Request.{Request}
+use Rattle.plc_main.specs.declared.words.Request.TheVariants.{Eval, Check, Plan}
+
+-- a word that must be given
+abbrev pub needed_word : Text → Rule
+needed_word id = record (new_rule id) { action = Some Set; required = true }
+
+-- an option `--id MS`
+abbrev pub option_ms : Text → Rule
+option_ms id = record (new_rule id) { action = Some Set; long = Some id; value_names = 1 }
+
+abbrev pub drawing_rule : Rule
+drawing_rule = needed_word (codes "DRAWING")
+
+abbrev pub plant_rule : Rule
+plant_rule = needed_word (codes "PLANT")
+
+abbrev pub dt_rule : Rule
+dt_rule = option_ms (codes "dt")
+
+abbrev pub until_rule : Rule
+until_rule = record (option_ms (codes "until")) { required = true }
+
+-- any number of words NAME=BITS
+abbrev pub rows_rule : Rule
+rows_rule = record (new_rule (codes "words")) {
+  action = Some Append;
+  range = Some (record { start_inclusive = 0; end_inclusive = usize_max });
+  value_names = 1;
+}
+
+-- `eval DRAWING [--dt MS] [NAME=BITS]..`
+abbrev pub eval_app : App
+eval_app = with_rule (with_rule (with_rule (new_app (codes "eval")) drawing_rule) dt_rule) rows_rule
+
+-- `check PLANT`
+abbrev pub check_app : App
+check_app = with_rule (new_app (codes "check")) plant_rule
+
+-- `plan PLANT --until MS`
+abbrev pub plan_app : App
+plan_app = with_rule (with_rule (new_app (codes "plan")) plant_rule) until_rule
+
+abbrev pub commanded : App → App
+commanded a = record a { top = record a.top { subcommand_required = true } }
+
+-- `plc`, and one of the three
+abbrev pub plc_app : App
+plc_app = with_subcommand (with_subcommand (with_subcommand (commanded (new_app (codes "plc"))) eval_app.top) check_app.top) plan_app.top
+
+-- digits alone are a number of 32 bits
+abbrev pub IsNumber : List ℕ → Type 0
+IsNumber text = IsNumeral 10 text × (digits_value 10 text < 2 ^ 32)
+
+-- the number of an option, 0 where it isn't given
+abbrev pub GivesNumber : Option (List ℕ) → ℕ → Type 0
+GivesNumber None n = n ≡ 0
+GivesNumber (Some text) n = IsNumber text × (n ≡ digits_value 10 text)
+
+-- the option's word is no number
+abbrev pub GivesNone : Option (List ℕ) → Type 0
+GivesNone None = ⊥
+GivesNone (Some text) = IsNumber text → ⊥
+
+-- what stands for a word by its id in what was found
+abbrev pub word_of : Text → List Row → List ℕ
+word_of id found = unwrap_or (first_of id found) []
+
+abbrev pub AsksEval : List Row → Request → Type 0
+AsksEval found (Eval drawing dt words) = (drawing.now ≡ word_of (codes "DRAWING") found) × GivesNumber (first_of (codes "dt") found) dt
+    × (map (λ w. w.now) words.items ≡ unwrap_or (all_of (codes "words") found) [])
+AsksEval found (Check plant) = ⊥
+AsksEval found (Plan plant until) = ⊥
+
+abbrev pub AsksCheck : List Row → Request → Type 0
+AsksCheck found (Eval drawing dt words) = ⊥
+AsksCheck found (Check plant) = plant.now ≡ word_of (codes "PLANT") found
+AsksCheck found (Plan plant until) = ⊥
+
+abbrev pub AsksPlan : List Row → Request → Type 0
+AsksPlan found (Eval drawing dt words) = ⊥
+AsksPlan found (Check plant) = ⊥
+AsksPlan found (Plan plant until) = (plant.now ≡ word_of (codes "PLANT") found) × GivesNumber (first_of (codes "until") found) until
+
+-- the request is what the subcommand asks for, with what was found for its options
+abbrev pub IsAsked : Option (Text × List Row) → Request → Type 0
+IsAsked None request = ⊥
+IsAsked (Some (name, found)) request = ((name ≡ codes "eval") × AsksEval found request) ⊎ (((name ≡ codes "check") × AsksCheck found request) ⊎ ((name ≡ codes "plan") × AsksPlan found request))
+
+-- the file that is to be read
+abbrev pub file_of : Request → List ℕ
+file_of (Eval drawing dt words) = drawing.now
+file_of (Check plant) = plant.now
+file_of (Plan plant until) = plant.now
+
+-- the words NAME=BITS
+abbrev pub words_in : Request → List (List ℕ)
+words_in (Eval drawing dt words) = map (λ w. w.now) words.items
+words_in (Check plant) = []
+words_in (Plan plant until) = []
