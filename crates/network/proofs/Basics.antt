@@ -1,4 +1,6 @@
-use Rattle.std.proofs.Common.{◌≡◌, ℕ, MatchOption, List, [], ◌∷◌, Option, Some, None, Contains, map, slice_get, zero, suc, refl, sym, ap, ◌∙◌}
+use Rattle.std.proofs.Common.{◌≡◌, ℕ, ◌⊎◌, inl, inr, MatchOption, List, [], ◌∷◌, Option, Some, None, Contains, get_or, set, length-set, map, slice_get, zero, suc, refl, sym, ap, ◌∙◌, arith}
+use Rattle.std.proofs.lemmas.Bool.{cases_eq}
+use Rattle.std.proofs.lemmas.List.{get_or-set_same, get_or-set_other}
 use Rattle.std.proofs.lemmas.Option.{slice_get_within, slice_get-get_or, get_or_from_slice_get, slice_get-map}
 use Rattle.std.specs.Option.{option_map}
 use Rattle.ladder_text.specs.declared.place.Place.{Place}
@@ -35,3 +37,14 @@ match_some P Q (Some y) x e h = rw (← some_is y x e) h
 pub match_none : {A : Type 0} (P : Type 0) (Q : A → Type 0) (o : Option A) → o ≡ None → MatchOption o P Q → P
 match_none P Q None e h = h
 match_none P Q (Some y) e h = absurd (cc)
+
+-- what stands in a list after a write
+pub get_set : {A : Type 0} (xs : List A) (i k : ℕ) (x y : A) → slice_get (set xs i x) k ≡ Some y → ((k ≡ i) × (y ≡ x)) ⊎ ((k ≡ i → ⊥) × (slice_get xs k ≡ Some y))
+get_set xs i k x y h = elim (cases_eq k i) [
+  | inl e ↦ inl (e, sym (get_or_from_slice_get (set xs i x) k y x h) ∙ ap (λ j. get_or (set xs i x) j x) e ∙ get_or-set_same xs i x x (let w = slice_get_within (set xs i x) k y h in let l = length-set xs i x in omega arith))
+  | inr ne ↦ inr (
+    ne,
+    (let w = slice_get_within (set xs i x) k y h in let l = length-set xs i x in
+        slice_get-get_or xs k y (omega arith) ∙ ap Some (sym (get_or-set_other xs i k x y ne) ∙ get_or_from_slice_get (set xs i x) k y y h)),
+  )
+]

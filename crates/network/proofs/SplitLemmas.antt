@@ -4,9 +4,8 @@ use Rattle.std.proofs.lemmas.List.{get_or-set_same, get_or-set_other}
 use Rattle.std.proofs.lemmas.Option.{slice_get_within, slice_get-get_or, get_or_from_slice_get}
 use Rattle.network.specs.declared.element.Element.{Element}
 use Rattle.network.specs.Ranks.{IsIn, AreSplit, IsPut}
-use Rattle.network.proofs.Basics.{some_is, one_at}
+use Rattle.network.proofs.Basics.{some_is, one_at, get_set}
 use Rattle.network.proofs.Spots.{push_old, push_here, push_cases}
-use Rattle.network.proofs.TopLemmas.{get_set}
 
 set_get : {A : Type 0} (xs : List A) (i : ℕ) (x : A) → i < length xs → slice_get (set xs i x) i ≡ Some x
 set_get xs i x lt = slice_get-get_or (set xs i x) i x (let l = length-set xs i x in omega arith) ∙ ap Some (get_or-set_same xs i x x lt)

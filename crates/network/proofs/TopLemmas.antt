@@ -1,7 +1,6 @@
-use Rattle.std.proofs.Common.{◌≡◌, ℕ, ◌+◌, ◌<◌, ◌≤◌, ◌⊎◌, inl, inr, List, [], ◌∷◌, ◌++◌, Option, Some, None, Any, get_or, set, length-set, length-append, slice_get, slice_index, length, refl, sym, ap, ◌∙◌, arith}
+use Rattle.std.proofs.Common.{◌≡◌, ℕ, ◌+◌, ◌<◌, ◌≤◌, inl, inr, List, [], ◌∷◌, ◌++◌, Option, Some, None, Any, get_or, length-append, slice_get, slice_index, length, refl, sym, ap, ◌∙◌, arith}
 use Rattle.std.proofs.lemmas.Bool.{cases_eq, cases_lt}
 use Rattle.std.proofs.lemmas.Option.{slice_get_within, slice_get-get_or, get_or_from_slice_get}
-use Rattle.std.proofs.lemmas.List.{get_or-set_same, get_or-set_other}
 use Rattle.ladder_text.specs.Picture.{Picture, IsSound, mark_at}
 use Rattle.ladder_text.specs.declared.place.Place.{Place}
 use Rattle.network.specs.declared.element.Element.{Element}
@@ -154,51 +153,9 @@ tops_all g es labels rails ra tops n all done = record {
       done.whole i there.0 e (place row g.left) at (let lt = slice_get_within rails there.0 (place row g.left) there.1 in omega arith) there.1 meets);
 }
 
--- the first n tops have their entries
-pub record TableTo (tops : List Top) (table : List (Option ℕ)) (n : ℕ) : Type 0 where
-  pub met : (l k : ℕ) → slice_get table l ≡ Some (Some k) → (t : Top) × (slice_get tops k ≡ Some t) × (t.label ≡ l)
-  pub unmet : (l k : ℕ) (t : Top) → k < n → slice_get table l ≡ Some None → slice_get tops k ≡ Some t → t.label ≡ l → ⊥
-
-pub table_none : (tops : List Top) (table : List (Option ℕ)) → ((l : ℕ) (r : Option ℕ) → slice_get table l ≡ Some r → r ≡ None) → TableTo tops table 0
-table_none tops table none = record { met = λ l k at. absurd (let h = none l (Some k) at in cc); unmet = λ l k t lt. absurd (omega arith) }
-
-pub table_skip : (tops : List Top) (table : List (Option ℕ)) (n : ℕ) (t : Top) → slice_get tops n ≡ Some t → length table ≤ t.label → TableTo tops table n → TableTo tops table (n + 1)
-table_skip tops table n t at out done = record {
-  met = done.met;
-  unmet = λ l k s lt none at' is. elim (cases_eq k n) [
-    | inl same ↦ (let one : s.label ≡ t.label = ap (λ (x : Top). x.label) (one_at tops k n s t same at' at) in let w = slice_get_within table l None none in omega arith)
-    | inr ne ↦ done.unmet l k s (omega arith) none at' is
-  ];
-}
-
--- what stands in a list after a write
-pub get_set : {A : Type 0} (xs : List A) (i k : ℕ) (x y : A) → slice_get (set xs i x) k ≡ Some y → ((k ≡ i) × (y ≡ x)) ⊎ ((k ≡ i → ⊥) × (slice_get xs k ≡ Some y))
-get_set xs i k x y h = elim (cases_eq k i) [
-  | inl e ↦ inl (e, sym (get_or_from_slice_get (set xs i x) k y x h) ∙ ap (λ j. get_or (set xs i x) j x) e ∙ get_or-set_same xs i x x (let w = slice_get_within (set xs i x) k y h in let l = length-set xs i x in omega arith))
-  | inr ne ↦ inr (
-    ne,
-    (let w = slice_get_within (set xs i x) k y h in let l = length-set xs i x in
-        slice_get-get_or xs k y (omega arith) ∙ ap Some (sym (get_or-set_other xs i k x y ne) ∙ get_or_from_slice_get (set xs i x) k y y h)),
-  )
-]
-
-pub table_more : (tops : List Top) (table : List (Option ℕ)) (n : ℕ) (t : Top) → slice_get tops n ≡ Some t → TableTo tops table n → TableTo tops (set table t.label (Some n)) (n + 1)
-table_more tops table n t at done = record {
-  met = λ l k at'. elim (get_set table t.label l (Some n) (Some k) at') [
-    | inl h ↦ (t, ap (slice_get tops) (some_is k n h.1) ∙ at, sym h.0)
-    | inr h ↦ done.met l k h.1
-  ];
-  unmet = λ l k s lt none at' is. elim (get_set table t.label l (Some n) None none) [
-    | inl h ↦ (let clash = h.1 in cc)
-    | inr h ↦ elim (cases_eq k n) [
-      | inl same ↦ h.0 (sym is ∙ ap (λ (x : Top). x.label) (one_at tops k n s t same at' at))
-      | inr ne ↦ done.unmet l k s (omega arith) h.1 at' is
-    ]
-  ];
-}
-
-pub table_all : (tops : List Top) (table : List (Option ℕ)) (n : ℕ) → length tops ≤ n → TableTo tops table n → AreRanksOf tops table
-table_all tops table n all done = record { met = done.met; unmet = λ l k t none at. done.unmet l k t (let w = slice_get_within tops k t at in omega arith) none at }
+-- a table without entries has those of no tops
+pub ranks_none : (table : List (Option ℕ)) → ((l : ℕ) (r : Option ℕ) → slice_get table l ≡ Some r → r ≡ None) → AreRanksOf [] table
+ranks_none table none = record { met = λ l k at. absurd (let h = none l (Some k) at in cc); unmet = λ l k t at at'. absurd (cc) }
 
 -- the first n labels have their entries
 pub record EntriesTo (table : List (Option ℕ)) (labels : List ℕ) (ranks : List (Option ℕ)) (n : ℕ) : Type 0 where

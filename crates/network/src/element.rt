@@ -1,6 +1,7 @@
-use ladder_text::{Coil, Contact, DrawnBox, Place};
+use crate::element_box::ElementBox;
+use ladder_text::{Coil, Contact, Place};
 
-/// A graphic element outside the rails.
+/// A graphic element outside the rails. Each takes 56 bytes, since a box lies apart.
 #[derive(Drop)]
 pub enum Element {
     Wire(Place),
@@ -8,7 +9,7 @@ pub enum Element {
     Upright(Place),
     Contact(Contact),
     Coil(Coil),
-    Box(DrawnBox),
+    Box(ElementBox),
 }
 
 impl Element {
@@ -29,10 +30,13 @@ impl Element {
                 row: coil.row,
                 column: coil.column,
             },
-            Element::Box(drawn) => Place {
-                row: drawn.top,
-                column: drawn.left,
-            },
+            Element::Box(boxed) => {
+                let drawn = boxed.drawn();
+                Place {
+                    row: drawn.top,
+                    column: drawn.left,
+                }
+            }
         }
     }
 }

@@ -33,7 +33,7 @@ fn lowest_row_of(element: &Element) -> usize
     ensures { result ≡ lowest_row element.now }
 {
     match element {
-        Element::Box(drawn) => drawn.bottom,
+        Element::Box(boxed) => boxed.drawn().bottom,
         _ => element.first_place().row,
     }
 }

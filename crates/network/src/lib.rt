@@ -4,6 +4,7 @@
 mod copies;
 mod corners;
 mod element;
+mod element_box;
 mod elements;
 mod fault;
 mod found;
@@ -23,10 +24,12 @@ mod tables;
 mod tests;
 
 pub use element::Element;
+pub use element_box::ElementBox;
 pub use fault::{GraphFault, GraphFaultKind};
 pub use graph::{Graph, Network};
 pub use labels::{Pair, settle_labels};
 pub use link::Link;
 pub use links::{ends_at, gives, passes, stands, steps, takes};
 pub use numbering::{Numbering, Spot};
+pub use symbols::index_of;
 pub use tables::{links_of, number_elements};

@@ -33,7 +33,8 @@ pub fn gives(element: &Element, place: Place) -> bool
         Element::Upright(_) => false,
         Element::Contact(_) => is_symbol_place(element.first_place(), place),
         Element::Coil(_) => is_symbol_place(element.first_place(), place),
-        Element::Box(drawn) => {
+        Element::Box(boxed) => {
+            let drawn = boxed.drawn();
             place.column == drawn.right && has_pin(drawn, Side::Right, place.row)
         }
     }
@@ -48,7 +49,10 @@ pub fn takes(element: &Element, place: Place) -> bool
         Element::Upright(_) => false,
         Element::Contact(_) => is_symbol_place(element.first_place(), place),
         Element::Coil(_) => is_symbol_place(element.first_place(), place),
-        Element::Box(drawn) => place.column == drawn.left && has_pin(drawn, Side::Left, place.row),
+        Element::Box(boxed) => {
+            let drawn = boxed.drawn();
+            place.column == drawn.left && has_pin(drawn, Side::Left, place.row)
+        }
     }
 }
 

@@ -89,6 +89,25 @@ impl Numbering {
         }
     }
 
+    /// Without numbers, with room for so many.
+    pub fn with_capacity(alloc: Global, capacity: usize) -> Result<Self, AllocError>
+        ensures { IfOk result (λ n. n ≡ []) }
+    {
+        let spots = Vec::with_capacity(alloc, capacity)?;
+        Ok(Numbering {
+            alloc,
+            spots,
+            rows: Vec::new(alloc),
+        })
+    }
+
+    /// Drops all numbers, and keeps the room for them.
+    pub fn clear(&mut self)
+        ensures { self.new ≡ [] }
+    {
+        self.spots.clear();
+    }
+
     /// The number of a place.
     pub fn find(&self, place: Place) -> Option<usize>
         ensures { (k : ℕ) → (result ≡ Some k) ↔ IsSpot self.now k place }

@@ -19,11 +19,11 @@ pub fn number_places(alloc: Global, elements: &[Element]) -> Result<Numbering, A
     requires { AreOnPage elements.now }
     ensures { IfOk result (λ numbering. AreAllNumbered elements.now numbering) }
 {
-    let mut numbering = Numbering::new(alloc);
+    let mut numbering = Numbering::with_capacity(alloc, elements.len())?;
     number_elements(alloc, &mut numbering, elements)?;
     for k in 0..elements.len() {
-        if let Element::Box(drawn) = &elements[k] {
-            number_pins(&mut numbering, drawn, Side::Right, k)?;
+        if let Element::Box(boxed) = &elements[k] {
+            number_pins(&mut numbering, boxed.drawn(), Side::Right, k)?;
         }
     }
     Ok(numbering)
@@ -99,8 +99,9 @@ fn pairs_of(
     requires page { AreOnPage elements.now }
     ensures { IfOk result (λ pairs. ArePairsTo elements.now numbering.now pairs.items (length numbering.now)) }
 {
-    let mut pairs = Vec::new(alloc);
-    for from in 0..numbering.spots().len() {
+    let count = numbering.spots().len();
+    let mut pairs = Vec::with_capacity(alloc, count)?;
+    for from in 0..count {
         push_pairs_from(&mut pairs, numbering, elements, from)?;
     }
     Ok(pairs)
@@ -110,7 +111,7 @@ fn own_labels(alloc: Global, count: usize) -> Result<Vec<usize>, AllocError>
     ensures long { IfOk result (λ labels. length labels.items ≡ count) }
     ensures own { IfOk result (λ labels. (k : ℕ) → k < count → slice_index labels.items k ≡ k) }
 {
-    let mut labels = Vec::new(alloc);
+    let mut labels = Vec::with_capacity(alloc, count)?;
     for k in 0..count {
         labels.push(k)?;
     }

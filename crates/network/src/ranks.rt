@@ -45,35 +45,48 @@ fn taker(numbering: &Numbering, elements: &[Element], place: Place) -> Option<us
     }
 }
 
-/// Adds a label and its row, unless the label is there.
-fn push_top(tops: &mut Vec<Top>, label: usize, row: usize) -> Result<(), AllocError>
-    ensures { OnOk result ((Any (λ t. t.label ≡ label) tops.old.items × (tops.new.items ≡ tops.old.items))
+/// Adds a label and its row, unless the label is there. The table has the position of each label.
+fn push_top(
+    tops: &mut Vec<Top>,
+    table: &mut [Option<usize>],
+    label: usize,
+    row: usize,
+) -> Result<(), AllocError>
+    requires label { label < length table.old }
+    requires table { AreRanksOf tops.old.items table.old }
+    ensures tops { OnOk result ((Any (λ t. t.label ≡ label) tops.old.items × (tops.new.items ≡ tops.old.items))
         ⊎ ((Any (λ t. t.label ≡ label) tops.old.items → ⊥) × (tops.new.items ≡ tops.old.items ++ record { label = label; row = row } ∷ []))) }
+    ensures table { OnOk result (AreRanksOf tops.new.items table.new) }
 {
-    if !tops.iter().any(|top| top.label == label) {
+    if table[label].is_none() {
+        table[label] = Some(tops.len());
         tops.push(Top { label, row })?;
     }
     Ok(())
 }
 
-/// The labels of the networks that meet the left rail, by the topmost row of each.
+/// The labels of the networks that meet the left rail, by the topmost row of each. Writes the position of each label into the table.
 fn tops_of(
     alloc: Global,
     rails: &[Place],
     numbering: &Numbering,
     elements: &[Element],
     labels: &[usize],
+    table: &mut [Option<usize>],
 ) -> Result<Vec<Top>, AllocError>
     requires numbered { AreAllNumbered elements.now numbering.now }
     requires long { length labels.now ≡ length elements.now }
-    ensures { IfOk result (λ tops. (g : Picture) → IsSound g → AreElementsOf g elements.now → AreLeftRails g rails.now → AreLabels g elements.now labels.now → AreTops g elements.now labels.now tops.items) }
+    requires within { (k : ℕ) → k < length labels.now → slice_index labels.now k < length table.old }
+    requires none { (l : ℕ) (r : Option ℕ) → slice_get table.old l ≡ Some r → r ≡ None }
+    ensures tops { IfOk result (λ tops. (g : Picture) → IsSound g → AreElementsOf g elements.now → AreLeftRails g rails.now → AreLabels g elements.now labels.now → AreTops g elements.now labels.now tops.items) }
+    ensures table { IfOk result (λ tops. AreRanksOf tops.items table.new) }
 {
     let mut tops = Vec::new(alloc);
     for rail in rails {
         let row = rail.row;
         let column = rail.column.saturating_add(1);
         if let Some(element) = taker(numbering, elements, Place { row, column }) {
-            push_top(&mut tops, labels[element], row)?;
+            push_top(&mut tops, table, labels[element], row)?;
         }
     }
     Ok(tops)
@@ -83,24 +96,9 @@ fn no_entries(alloc: Global, count: usize) -> Result<Vec<Option<usize>>, AllocEr
     ensures long { IfOk result (λ table. length table.items ≡ count) }
     ensures none { IfOk result (λ table. (l : ℕ) (r : Option ℕ) → slice_get table.items l ≡ Some r → r ≡ None) }
 {
-    let mut table = Vec::new(alloc);
+    let mut table = Vec::with_capacity(alloc, count)?;
     for _entry in 0..count {
         table.push(None)?;
-    }
-    Ok(table)
-}
-
-/// The position of each label among the tops.
-fn table_of(alloc: Global, tops: &[Top], count: usize) -> Result<Vec<Option<usize>>, AllocError>
-    ensures long { IfOk result (λ table. length table.items ≡ count) }
-    ensures ranks { IfOk result (λ table. AreRanksOf tops.now table.items) }
-{
-    let mut table = no_entries(alloc, count)?;
-    for k in 0..tops.len() {
-        let label = tops[k].label;
-        if label < table.len() {
-            table[label] = Some(k);
-        }
     }
     Ok(table)
 }
@@ -114,7 +112,7 @@ fn entries_of(
     requires { (k : ℕ) → k < length labels.now → slice_index labels.now k < length table.now }
     ensures { IfOk result (λ ranks. AreEntries table.now labels.now ranks.items) }
 {
-    let mut ranks = Vec::new(alloc);
+    let mut ranks = Vec::with_capacity(alloc, labels.len())?;
     for k in 0..labels.len() {
         ranks.push(table[labels[k]])?;
     }
@@ -128,8 +126,8 @@ pub fn ranks_of(alloc: Global, rails: &[Place], elements: &[Element]) -> Result<
 {
     let numbering = number_places(alloc, elements)?;
     let labels = labels_of(alloc, &numbering, elements)?;
-    let tops = tops_of(alloc, rails, &numbering, elements, &labels)?;
-    let table = table_of(alloc, &tops, labels.len())?;
+    let mut table = no_entries(alloc, labels.len())?;
+    let tops = tops_of(alloc, rails, &numbering, elements, &labels, &mut table)?;
     let ranks = entries_of(alloc, &table, &labels)?;
     Ok(Ranks {
         count: tops.len(),

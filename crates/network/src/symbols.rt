@@ -8,6 +8,7 @@ ghost use Rattle.network.specs.Symbols.{contact_places, coil_places, box_places,
 
 use crate::copies::{copy_box, copy_coil, copy_contact};
 use crate::element::Element;
+use crate::element_box::ElementBox;
 use crate::numbering::Numbering;
 use ladder_text::{Coil, Contact, Drawing, DrawnBox, Mark, Place};
 use std::alloc::{AllocError, Global};
@@ -21,10 +22,10 @@ pub struct Symbols {
 }
 
 /// The places with their positions.
-fn index_of(alloc: Global, places: &[Place]) -> Result<Numbering, AllocError>
+pub fn index_of(alloc: Global, places: &[Place]) -> Result<Numbering, AllocError>
     ensures { IfOk result (λ index. IsIndex places.now index) }
 {
-    let mut index = Numbering::new(alloc);
+    let mut index = Numbering::with_capacity(alloc, places.len())?;
     for k in 0..places.len() {
         index.number(places[k], k)?;
     }
@@ -126,7 +127,8 @@ fn box_at(
         return Ok(None);
     };
     let drawn = copy_box(alloc, &drawing.boxes()[k])?;
-    Ok(Some(Element::Box(drawn)))
+    let boxed = ElementBox::new(alloc, drawn)?;
+    Ok(Some(Element::Box(boxed)))
 }
 
 /// The element that begins at a place.

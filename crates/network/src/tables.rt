@@ -126,11 +126,14 @@ pub fn links_of(
     ensures { IfOk result (λ links. (rails : List Place) → let d : Diagram = record { rails = rails; elements = elements.now } in
         AreApart d → LinkedFrom d numbering.now links.items (length numbering.now)) }
 {
-    let mut links = Vec::new(alloc);
-    for from in 0..numbering.spots().len() {
+    let count = numbering.spots().len();
+    let mut links = Vec::with_capacity(alloc, count)?;
+    for from in 0..count {
         push_links_from(&mut links, numbering, elements, from)?;
     }
-    links.shrink_to_fit();
+    if count < links.len() {
+        links.shrink_to_fit();
+    }
     Ok(links)
 }
 
@@ -204,25 +207,24 @@ fn number_element(
             };
             number_symbol(numbering, first, k)
         }
-        Element::Box(drawn) => number_box(numbering, drawn, k),
+        Element::Box(boxed) => number_box(numbering, boxed.drawn(), k),
     }
 }
 
-/// Numbers the places of all elements. Answers where each element begins.
+/// Numbers the places of all elements, and no others. Answers where each element begins.
 pub fn number_elements(
     alloc: Global,
     numbering: &mut Numbering,
     elements: &[Element],
 ) -> Result<Vec<usize>, AllocError>
-    requires page { AreOnPage elements.now }
-    requires new { numbering.old ≡ [] }
+    requires { AreOnPage elements.now }
     ensures { IfOk result (λ firsts. NumberedTo elements.now numbering.new firsts.items (length elements.now)) }
 {
-    let mut firsts = Vec::new(alloc);
+    numbering.clear();
+    let mut firsts = Vec::with_capacity(alloc, elements.len())?;
     for k in 0..elements.len() {
         let first = number_element(numbering, &elements[k], k)?;
         firsts.push(first)?;
     }
-    firsts.shrink_to_fit();
     Ok(firsts)
 }

@@ -1,7 +1,8 @@
-use Rattle.std.proofs.Common.{◌≡◌, ℕ, ◌+◌, ◌≤◌, ◌<◌, ◌⊎◌, ◌↔◌, inl, inr, List, [], ◌∷◌, ◌++◌, Bool, true, false, Option, Some, None, Contains, Any, slice_get, set, length, arith, sym, ap, ◌∙◌}
+use Rattle.std.proofs.Common.{◌≡◌, ℕ, ◌+◌, ◌≤◌, ◌<◌, ◌⊎◌, ◌↔◌, inl, inr, List, [], ◌∷◌, ◌++◌, Bool, true, false, Option, Some, None, Contains, Any, IsTrue, is_some, slice_get, length, length-append, arith, refl, sym, ap, ◌∙◌}
 use Rattle.std.proofs.lemmas.Option.{slice_get_within, slice_get-get_or, get_or_from_slice_get}
 use Rattle.std.proofs.lemmas.Bool.{cases_eq}
-use Rattle.std.proofs.lemmas.List.{get_or-set_same, get_or-set_other}
+use Rattle.std.proofs.lemmas.List.{get_or_append_left}
+use Rattle.std.proofs.Math.Seq.{get_or-append_seam}
 use Rattle.ladder_text.specs.declared.place.Place.{Place}
 use Rattle.network.specs.declared.element.Element.{Element}
 use Rattle.network.specs.declared.numbering.Spot.{Spot}
@@ -9,9 +10,10 @@ use Rattle.network.specs.Links.{Diagram, PassesRight, Takes, Gives}
 use Rattle.network.specs.Apart.{AreApart, AreOnPage, Has}
 use Rattle.network.specs.Numbers.{IsSpot}
 use Rattle.network.specs.Numbered.{AreOwned}
-use Rattle.std.proofs.lemmas.List.Elements.{Contains-append_left, Contains-push, Contains-push_cases}
+use Rattle.network.specs.Listing.{IsIndex}
+use Rattle.network.proofs.Basics.{at_contains, contains_at}
 use Rattle.power_flow.specs.Reach.{bit_at}
-use Rattle.power_flow.specs.Table.{FollowsSource}
+use Rattle.power_flow.specs.Table.{FollowsRail, FollowsSource}
 
 place_same : (a b : Place) → a.row ≡ b.row → a.column ≡ b.column → a ≡ b
 place_same a b r c = ap (λ (x : ℕ). record { row = x; column = a.column }) r ∙ ap (λ (x : ℕ). record { row = b.row; column = x }) c
@@ -89,34 +91,78 @@ module _ (d : Diagram) (apart : AreApart d) (spots : List Spot) (owned : AreOwne
           absurd (never (owner_takes next_takes)),
     )
 
--- the starts are the places that follow these rails
-abbrev pub IsMarked : Diagram → List Spot → List Place → List Bool → Type 0
-IsMarked d spots rails starts = (k : ℕ) (p : Place) → IsSpot spots k p → (bit_at starts k ≡ true) ↔ FollowsSource d (Contains rails) p
-
-follows_push : (d : Diagram) (rails : List Place) (r p : Place) → FollowsSource d (Contains (rails ++ r ∷ [])) p → FollowsSource d (Contains rails) p ⊎ PassesRight d r p
-follows_push d rails r p f = elim (Contains-push_cases rails r f.0 f.1) [ inl was ↦ inl (f.0, was, f.2) | inr e ↦ inr (rw e f.2) ]
-
-follows_old : (d : Diagram) (rails : List Place) (r p : Place) → FollowsSource d (Contains rails) p → FollowsSource d (Contains (rails ++ r ∷ [])) p
-follows_old d rails r p f = (f.0, Contains-append_left rails (r ∷ []) f.0 f.1, f.2)
-
-pub marked_skip : (d : Diagram) (spots : List Spot) (rails : List Place) (r : Place) (starts : List Bool)
-    → ((k : ℕ) (p : Place) → IsSpot spots k p → PassesRight d r p → ⊥) → IsMarked d spots rails starts → IsMarked d spots (rails ++ r ∷ []) starts
-marked_skip d spots rails r starts never was = λ k p spot. (
-  λ on. follows_old d rails r p ((was k p spot).0 on),
-  λ f. elim (follows_push d rails r p f) [ inl old ↦ (was k p spot).1 old | inr here ↦ absurd (never k p spot here) ],
-)
-
-pub marked_set : (d : Diagram) (spots : List Spot) (rails : List Place) (r : Place) (starts : List Bool) (number : ℕ) → number < length starts
-    → ((k : ℕ) (p : Place) → IsSpot spots k p → (◌≡◌ {A = Option ℕ} (Some number) (Some k)) ↔ PassesRight d r p) → IsMarked d spots rails starts
-    → IsMarked d spots (rails ++ r ∷ []) (set starts number true)
-marked_set d spots rails r starts number room exact was = λ k p spot. elim (cases_eq k number) [
-  | inl e ↦ (λ on. (r, Contains-push rails r, (exact k p spot).0 (ap Some (sym e))), λ f. rw e (get_or-set_same starts number true false room))
-  | inr ne ↦ (let other : bit_at (set starts number true) k ≡ bit_at starts k = get_or-set_other starts number k true false ne in (
-    λ on. follows_old d rails r p ((was k p spot).0 (sym other ∙ on)),
-    λ f. other ∙ old k p spot ne (follows_push d rails r p f),
-  ))
-]
+-- a place that is numbered follows a rail where its element takes state from one
+pub follows_is : (d : Diagram) → AreApart d → (spots : List Spot) → AreOwned d.elements spots → (k : ℕ) (s : Spot) (e : Element) → slice_get spots k ≡ Some s → slice_get d.elements s.element ≡ Some e
+    → FollowsRail d.rails e s.place ↔ FollowsSource d (Contains d.rails) s.place
+follows_is d apart spots owned k s e at at_e = (there, back)
   where
-    old : (k : ℕ) (p : Place) → IsSpot spots k p → (k ≡ number → ⊥) → FollowsSource d (Contains rails) p ⊎ PassesRight d r p → bit_at starts k ≡ true
-    old k p spot ne (inl f) = (was k p spot).1 f
-    old k p spot ne (inr here) = absurd (ne (sym (some_is number k ((exact k p spot).1 here))))
+    there : FollowsRail d.rails e s.place → FollowsSource d (Contains d.rails) s.place
+    there f = (
+      f.rail,
+      f.stands,
+      record {
+        row = f.row;
+        column = f.column;
+        gives = inl f.stands;
+        takes = (s.element, e, slice_get_within d.elements s.element e at_e, get_or_from_slice_get d.elements s.element e e at_e, f.takes);
+      },
+    )
+
+    owner_takes : Any (λ x. Takes x s.place) d.elements → Takes e s.place
+    owner_takes any =
+        let o = owned k s at in
+        let there : slice_get d.elements any.0 ≡ Some any.1 = slice_get-get_or d.elements any.0 any.1 any.2 ∙ ap Some any.3 in
+        let same : any.0 ≡ s.element = apart.elements any.0 s.element any.1 o.0 s.place there o.1 (inr (inr (inl any.4))) o.2 in
+        let one : any.1 ≡ e = some_is any.1 e (sym there ∙ ap (slice_get d.elements) same ∙ at_e) in
+        rw (← one) any.4
+
+    back : FollowsSource d (Contains d.rails) s.place → FollowsRail d.rails e s.place
+    back f = record { rail = f.0; stands = f.1; row = f.2.row; column = f.2.column; takes = owner_takes f.2.takes }
+
+-- the first n places are marked where they follow a rail
+pub record StartsTo (d : Diagram) (spots : List Spot) (starts : List Bool) (n : ℕ) : Type 0 where
+  pub long : length starts ≡ n
+  pub marked : AreApart d → (k : ℕ) (s : Spot) → k < n → slice_get spots k ≡ Some s → (bit_at starts k ≡ true) ↔ FollowsSource d (Contains d.rails) s.place
+
+pub starts_none : (d : Diagram) (spots : List Spot) → StartsTo d spots [] 0
+starts_none d spots = record { long = refl; marked = λ apart k s lt. absurd (omega arith) }
+
+pub starts_more : (d : Diagram) (spots : List Spot) → AreOwned d.elements spots → (starts : List Bool) (n : ℕ) (s : Spot) (e : Element) (b : Bool) → slice_get spots n ≡ Some s → slice_get d.elements s.element ≡ Some e
+    → (b ≡ true) ↔ FollowsRail d.rails e s.place → StartsTo d spots starts n → StartsTo d spots (starts ++ b ∷ []) (n + 1)
+starts_more d spots owned starts n s e b at at_e exact done = record {
+  long = (let l = done.long in omega (arith, length-append starts (b ∷ [])));
+  marked = λ apart k t lt at'. elim (cases_eq k n) [
+    | inl same ↦
+        let one : s ≡ t = some_is s t (sym at ∙ ap (slice_get spots) (sym same) ∙ at') in
+        let bit : bit_at (starts ++ b ∷ []) k ≡ b = ap (bit_at (starts ++ b ∷ [])) (same ∙ sym done.long) ∙ get_or-append_seam starts b [] false in
+        let is = follows_is d apart spots owned n s e at at_e in
+        rw (← one) (λ on. is.0 (exact.0 (sym bit ∙ on)), λ f. bit ∙ exact.1 (is.1 f))
+    | inr ne ↦
+        let lt' : k < length starts = (let l = done.long in omega arith) in
+        let bit : bit_at (starts ++ b ∷ []) k ≡ bit_at starts k = get_or_append_left starts (b ∷ []) false k lt' in
+        let was = done.marked apart k t (omega arith) at' in
+        (λ on. was.0 (sym bit ∙ on), λ f. bit ∙ was.1 f)
+  ];
+}
+
+pub starts_all : (d : Diagram) (spots : List Spot) (starts : List Bool) (n : ℕ) → length spots ≤ n → StartsTo d spots starts n → AreApart d
+    → (k : ℕ) (p : Place) → IsSpot spots k p → (bit_at starts k ≡ true) ↔ FollowsSource d (Contains d.rails) p
+starts_all d spots starts n all done apart k p spot =
+    let within = slice_get_within spots k spot.0 spot.1 in
+    rw (← spot.2) (done.marked apart k spot.0 (omega arith) spot.1)
+
+-- an index finds the places that it is made of
+pub finds_rail : (places : List Place) (spots : List Spot) → IsIndex places spots → (p : Place) (found : Option ℕ) → ((k : ℕ) → (found ≡ Some k) ↔ IsSpot spots k p) → (b : Bool) → b ≡ is_some found
+    → IsTrue b ↔ Contains places p
+finds_rail places spots index p None finds b is = (
+  λ on. absurd (cc),
+  λ in'.
+      let there = at_contains places p in' in
+      let w = index.whole there.0 p there.1 in
+      let clash : ◌≡◌ {A = Option ℕ} None (Some w.0) = (finds w.0).1 w.1 in
+      absurd (cc),
+)
+finds_rail places spots index p (Some k) finds b is = (
+  λ on. (let spot = (finds k).0 refl in contains_at places spot.0.element p (index.owned k spot.0 spot.1 ∙ ap Some spot.2)),
+  λ in'. is,
+)

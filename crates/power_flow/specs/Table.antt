@@ -1,8 +1,9 @@
-use Rattle.std.specs.Prelude.{◌≡◌, ℕ, ◌⊎◌, List, Some, slice_get, Contains, Any}
+use Rattle.std.specs.Prelude.{◌≡◌, ℕ, ◌+◌, ◌⊎◌, List, Some, slice_get, Contains, Any}
 use Rattle.ladder_text.specs.declared.place.Place.{Place}
 use Rattle.network.specs.Links.{Diagram, Passes, PassesRight, Takes, Stands}
 use Rattle.power_flow.specs.Power.{SymbolEndsAt}
 use Rattle.network.specs.declared.link.Link.{Link}
+use Rattle.network.specs.declared.element.Element.{Element}
 pub use Rattle.network.specs.Table.{IsStep}
 
 -- state can come to p
@@ -25,3 +26,11 @@ pub record IsOutside (d : Diagram) (places : List Place) (p : Place) : Type 0 wh
 -- p is right of a source
 abbrev pub FollowsSource : Diagram → (Place → Type 0) → Place → Type 0
 FollowsSource d IsSource p = (r : Place) × IsSource r × PassesRight d r p
+
+-- p is directly right of one of these rails, and state passes there to this element
+pub record FollowsRail (rails : List Place) (e : Element) (p : Place) : Type 0 where
+  pub rail : Place
+  pub stands : Contains rails rail
+  pub row : p.row ≡ rail.row
+  pub column : p.column ≡ rail.column + 1
+  pub takes : Takes e p

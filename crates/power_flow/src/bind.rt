@@ -205,7 +205,7 @@ fn element_finding(
             };
             fault_here(coil_fault(declarations, coil.name.as_str()), place)
         }
-        Element::Box(drawn) => box_finding(declarations, elements, drawn),
+        Element::Box(boxed) => box_finding(declarations, elements, boxed.drawn()),
     }
 }
 

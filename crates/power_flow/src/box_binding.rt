@@ -297,8 +297,8 @@ fn push_box(
         → AllZip (IsBoundBox declarations.now d (places_of numbering.now)) (before ++ boxes_of (element.now ∷ [])) boxes.new.items) }
 {
     match element {
-        Element::Box(drawn) => {
-            let bound = bind_box(alloc, declarations, numbering, elements, drawn)?;
+        Element::Box(boxed) => {
+            let bound = bind_box(alloc, declarations, numbering, elements, boxed.drawn())?;
             boxes.push(bound)?;
             Ok(())
         }

@@ -15,6 +15,7 @@ use crate::box_binding::bind_boxes;
 use crate::circuit::Circuit;
 use crate::declarations::Declarations;
 use crate::names::name_source;
+use crate::rails::Rails;
 use crate::same_elements::{are_same_elements, are_same_places};
 use crate::source::Source;
 use crate::starts::starts_of;
@@ -55,10 +56,11 @@ fn copy_places(alloc: Global, spots: &[Spot]) -> Result<Vec<Place>, AllocError>
     spots.iter().map(|spot| spot.place).collect(alloc)
 }
 
-/// The elements with the table of their places.
+/// The elements with the table of their places. The numbering is made anew.
 fn tables_of(
     alloc: Global,
-    rails: &[Place],
+    numbering: &mut Numbering,
+    rails: &Rails,
     declarations: &Declarations,
     sources: Vec<Source>,
     elements: Vec<Element>,
@@ -72,11 +74,10 @@ fn tables_of(
     ensures wired { IfOk result (λ c. IsWired (diagram rails.now elements.items) c.places.items c.links.items c.starts.items c.firsts.items) }
     ensures shape { IfOk result (λ c. HasShape c) }
 {
-    let mut numbering = Numbering::new(alloc);
-    let firsts = number_elements(alloc, &mut numbering, &elements)?;
-    let links = links_of(alloc, &numbering, &elements)?;
-    let starts = starts_of(alloc, rails, &numbering, &elements)?;
-    let boxes = bind_boxes(alloc, declarations, &numbering, &elements)?;
+    let firsts = number_elements(alloc, numbering, &elements)?;
+    let links = links_of(alloc, numbering, &elements)?;
+    let starts = starts_of(alloc, rails, numbering, &elements)?;
+    let boxes = bind_boxes(alloc, declarations, numbering, &elements)?;
     let places = copy_places(alloc, numbering.spots())?;
     Ok(Circuit {
         elements,
@@ -89,10 +90,11 @@ fn tables_of(
     })
 }
 
-/// A network made ready for scans.
+/// A network made ready for scans. The numbering is made anew.
 fn circuit_of(
     alloc: Global,
-    rails: &[Place],
+    numbering: &mut Numbering,
+    rails: &Rails,
     declarations: &Declarations,
     network: Network,
 ) -> Result<Circuit, AllocError>
@@ -103,7 +105,7 @@ fn circuit_of(
 {
     let elements = network.into_elements();
     let sources = sources_of(alloc, declarations, &elements)?;
-    let circuit = tables_of(alloc, rails, declarations, sources, elements)?;
+    let circuit = tables_of(alloc, numbering, rails, declarations, sources, elements)?;
     Ok(circuit)
 }
 
@@ -119,9 +121,11 @@ pub fn circuits_of(
     ensures circuits { IfOk result (λ circuits. All (IsBoundNetwork declarations.now) networks.items → AreCircuits declarations.now rails.now circuits.items) }
     ensures shape { IfOk result (λ circuits. All HasShape circuits.items) }
 {
-    let mut circuits = Vec::new(alloc);
+    let rails = Rails::new(alloc, rails)?;
+    let mut numbering = Numbering::new(alloc);
+    let mut circuits = Vec::with_capacity(alloc, networks.len())?;
     for network in networks {
-        let circuit = circuit_of(alloc, rails, declarations, network)?;
+        let circuit = circuit_of(alloc, &mut numbering, &rails, declarations, network)?;
         circuits.push(circuit)?;
     }
     Ok(circuits)

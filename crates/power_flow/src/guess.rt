@@ -97,7 +97,8 @@ fn push_element(uses: &mut Vec<NameUse>, element: &Element) -> Result<(), AllocE
             &coil.name,
             Declared::Local(Kind::Bool),
         )?,
-        Element::Box(drawn) => {
+        Element::Box(boxed) => {
+            let drawn = boxed.drawn();
             let block = block_type(drawn.block);
             push_use(
                 uses,
@@ -184,6 +185,7 @@ mod tests {
     use ladder_text::{
         BlockName, Coil, CoilKind, Contact, ContactKind, DrawnBox, Operand, Pins, Side,
     };
+    use network::ElementBox;
     use std::test::Fail;
 
     fn contact(
@@ -238,7 +240,7 @@ mod tests {
         pins.push(pin(alloc, 3, Side::Right, "Q", None)?)?;
         pins.push(pin(alloc, 4, Side::Left, "PT", Some((preset, 6)))?)?;
         pins.push(pin(alloc, 4, Side::Right, "ET", Some(("Elapsed", 20)))?)?;
-        Ok(Element::Box(DrawnBox {
+        let drawn = DrawnBox {
             top: 2,
             left: 8,
             bottom: 5,
@@ -246,7 +248,8 @@ mod tests {
             block: BlockName::Ton,
             instance: Text::new(alloc, "T1")?,
             pins,
-        }))
+        };
+        Ok(Element::Box(ElementBox::new(alloc, drawn)?))
     }
 
     fn guessed(alloc: Global, elements: &[Element]) -> Result<Declarations, AllocError> {

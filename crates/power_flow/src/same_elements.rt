@@ -88,7 +88,7 @@ fn is_same_element(element: &Element, other: &Element) -> bool
         (Element::Upright(at), Element::Upright(other)) => at == other,
         (Element::Contact(contact), Element::Contact(other)) => are_same_contacts(contact, other),
         (Element::Coil(coil), Element::Coil(other)) => are_same_coils(coil, other),
-        (Element::Box(drawn), Element::Box(other)) => are_same_boxes(drawn, other),
+        (Element::Box(boxed), Element::Box(other)) => are_same_boxes(boxed.drawn(), other.drawn()),
         _ => false,
     }
 }

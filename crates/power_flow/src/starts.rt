@@ -1,4 +1,4 @@
-ghost use Rattle.std.specs.Prelude.{◌≡◌, ◌<◌, ◌⊎◌, ◌↔◌, Any, ℕ, List, IfOk, IfSome, Some, Contains, length, true, false};
+ghost use Rattle.std.specs.Prelude.{◌≡◌, ◌<◌, ◌⊎◌, ◌↔◌, Any, ℕ, List, IfOk, IfSome, IsTrue, Some, Contains, length, true};
 ghost use Rattle.ladder_text.specs.declared.place.Place.{Place};
 ghost use Rattle.network.specs.Links.{PassesRight, Gives};
 ghost use Rattle.network.specs.Apart.{AreApart, AreOnPage};
@@ -6,8 +6,9 @@ ghost use Rattle.network.specs.GraphValue.{diagram};
 ghost use Rattle.network.specs.Numbers.{IsSpot};
 ghost use Rattle.network.specs.Numbered.{AreOwned};
 ghost use Rattle.power_flow.specs.Reach.{bit_at};
-ghost use Rattle.power_flow.specs.Table.{FollowsSource};
+ghost use Rattle.power_flow.specs.Table.{FollowsRail, FollowsSource};
 
+use crate::rails::Rails;
 use ladder_text::Place;
 use network::{Element, Numbering, takes};
 use std::alloc::{AllocError, Global};
@@ -32,37 +33,34 @@ pub fn place_after(from: Place, numbering: &Numbering, elements: &[Element]) -> 
     Some(number)
 }
 
-/// Marks the places that follow the left rail.
-fn mark_starts(rails: &[Place], numbering: &Numbering, elements: &[Element], starts: &mut [bool])
-    requires long { length starts.old ≡ length numbering.now }
-    requires owned { AreOwned elements.now numbering.now }
-    requires page { AreOnPage elements.now }
-    requires off { (k : ℕ) → bit_at starts.old k ≡ false }
-    ensures { let d = diagram rails.now elements.now in
-        AreApart d → (k : ℕ) (p : Place) → IsSpot numbering.now k p → (bit_at starts.new k ≡ true) ↔ FollowsSource d (Contains rails.now) p }
+/// Whether a place stands directly right of the left rail, and state passes to it.
+fn follows_rail(rails: &Rails, element: &Element, place: Place) -> bool
+    ensures { IsTrue result ↔ FollowsRail rails.now element.now place }
 {
-    for rail in rails {
-        if let Some(number) = place_after(*rail, numbering, elements) {
-            starts[number] = true;
-        }
-    }
+    let left = Place {
+        column: place.column.saturating_sub(1),
+        ..place
+    };
+    left.column < place.column && rails.has(left) && takes(element, place)
 }
 
 /// Which places follow the left rail.
 pub fn starts_of(
     alloc: Global,
-    rails: &[Place],
+    rails: &Rails,
     numbering: &Numbering,
     elements: &[Element],
 ) -> Result<Vec<bool>, AllocError>
-    requires owned { AreOwned elements.now numbering.now }
-    requires page { AreOnPage elements.now }
+    requires { AreOwned elements.now numbering.now }
     ensures long { IfOk result (λ starts. length starts.items ≡ length numbering.now) }
     ensures marked { IfOk result (λ starts. let d = diagram rails.now elements.now in
         AreApart d → (k : ℕ) (p : Place) → IsSpot numbering.now k p → (bit_at starts.items k ≡ true) ↔ FollowsSource d (Contains rails.now) p) }
 {
-    let mut starts = Vec::new(alloc);
-    starts.resize(numbering.spots().len(), false)?;
-    mark_starts(rails, numbering, elements, starts.as_mut_slice());
+    let spots = numbering.spots();
+    let mut starts = Vec::with_capacity(alloc, spots.len())?;
+    for spot in spots {
+        let follows = follows_rail(rails, &elements[spot.element], spot.place);
+        starts.push(follows)?;
+    }
     Ok(starts)
 }

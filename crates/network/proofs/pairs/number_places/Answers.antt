@@ -14,8 +14,8 @@ loop-k-preserved c =
     let e = c.index-elements-k.result in
     let at : slice_get es k ≡ Some e = slice_get_read es (length es) k e refl c.loop-k-test.true c.index-elements-k.is in
     elim c.match-elements-k.branch [
-      | in-Box+in_ok-number_pins w ↦ rw w.numbering-is (outputs_more es c.loop-k.numbering w.number_pins.new.numbering k w.in-Box.drawn (at ∙ ap Some w.in-Box.is)
-          w.in_ok-number_pins.ensures.kept w.in_ok-number_pins.ensures.each w.in_ok-number_pins.ensures.whole c.loop-k.invariant)
+      | in-Box+in_ok-number_pins w ↦ rw w.numbering-is (outputs_more es c.loop-k.numbering w.number_pins.new.numbering k w.in-Box.boxed (at ∙ ap Some w.in-Box.is)
+          w.in_ok-number_pins.ensures.kept (rw w.drawn.ensures at w.in_ok-number_pins.ensures.each) (rw w.drawn.ensures at w.in_ok-number_pins.ensures.whole) c.loop-k.invariant)
       | in_default w ↦ rw w.numbering-is (outputs_skip es c.loop-k.numbering k e at w.in_default.not-Box c.loop-k.invariant)
     ]
 

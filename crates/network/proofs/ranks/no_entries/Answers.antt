@@ -9,7 +9,7 @@ none_more : (xs : List (Option ℕ)) → ((i : ℕ) (r : Option ℕ) → slice_g
 none_more xs none i r at = elim (push_cases xs None i r at) [ inl old ↦ none i r old | inr h ↦ h.1 ]
 
 pub loop-entry-init : goal.loop-entry-init
-loop-entry-init c = (ap length c.new-table.ensures.items, none_in c.new-table.result.items c.new-table.ensures.items)
+loop-entry-init c = (ap length c.in_ok-table.ensures.items, none_in c.in_ok-table.table.items c.in_ok-table.ensures.items)
 
 pub loop-entry-preserved : goal.loop-entry-preserved
 loop-entry-preserved c =

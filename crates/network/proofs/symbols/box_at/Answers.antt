@@ -27,4 +27,4 @@ returns c =
     let x = c.index-boxes-k.result in
     let read : slice_get g.boxes c.in-Some.k ≡ Some x = slice_get_read g.boxes (length g.boxes) c.in-Some.k x refl lt is in
     let one : there.0 ≡ x = some_is there.0 x (sym there.1 ∙ read) in
-    rw c.in_ok-drawn.ensures (a_box g c.requires.sound c.args.symbols.now c.requires.symbols c.args.at c.in-Some.k x read (rw one at there.2))
+    rw (c.in_ok-boxed.ensures, c.in_ok-drawn.ensures) (a_box g c.requires.sound c.args.symbols.now c.requires.symbols c.args.at c.in-Some.k x read (rw one at there.2))

@@ -9,7 +9,7 @@ number_element-requires c =
     let es = c.args.elements.now in
     let e = c.index-elements-k.result in
     let at : slice_get es c.loop-k.k ≡ Some e = slice_get_read es (length es) c.loop-k.k e refl c.loop-k-test.true c.index-elements-k.is in
-    let near = c.requires.page c.loop-k.k e (first_place e) at (inl refl) in
+    let near = c.requires c.loop-k.k e (first_place e) at (inl refl) in
     record { page = near.1 }
 
 pub loop-k-preserved : goal.loop-k-preserved

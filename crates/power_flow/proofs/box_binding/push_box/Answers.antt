@@ -17,9 +17,9 @@ pub returns-in_ok-push-in-Box-clause-bound : goal.returns-in_ok-push-in-Box-clau
 returns-in_ok-push-in-Box-clause-bound c = λ rails before apart in' ready zip.
     let ds = c.args.declarations.now in
     let es = c.args.elements.now in
-    let b = c.in-Box.drawn in
+    let b = c.in-Box.boxed in
     let e = c.in_ok-bound-in-Box.bound in
     let drawn : Contains es (Box b) = subst (Contains es) c.in-Box.is in' in
     let R = IsBoundBox ds (diagram rails es) (places_of c.args.numbering.now) in
-    let bound = c.in_ok-bound-in-Box.ensures.bound rails apart drawn (ready.named b drawn) (λ p. ready.numbered b p drawn) in
+    let bound = (rw c.drawn.ensures at c.in_ok-bound-in-Box.ensures.bound) rails apart drawn (ready.named b drawn) (λ p. ready.numbered b p drawn) in
     rw (c.in-Box.is, c.in_ok-push-in-Box.ensures.items) (zip_push R before c.args.boxes.now.items b e zip bound)

@@ -12,15 +12,16 @@ circuit_of-requires c =
     let network = c.in-Some.network in
     let v = YieldsList-from_vec {s = c.into_iter-network-iterator.result} all g.0 (g.1 ∙ c.args.networks.ok.0) in
     let t = YieldsList-turn v c.loop-network.yielded c.loop-network.network-iterator c.loop-network.yielded_by c.next.result c.next.new.self network c.in-Some.is c.next.ensures.steps in
-    c.requires (length c.loop-network.yielded) network (slice_get_read all (length all) (length c.loop-network.yielded) network refl t.0 t.1)
+    rw c.in_ok-rails.ensures (c.requires (length c.loop-network.yielded) network (slice_get_read all (length all) (length c.loop-network.yielded) network refl t.0 t.1))
 
 pub loop-network-preserved : goal.loop-network-preserved
 loop-network-preserved c =
     let circuit = c.in_ok-circuit.circuit in
     let one = c.loop-network.invariant in
     let pushed = c.in_ok-push.ensures.items in
+    let made = rw c.in_ok-rails.ensures at c.in_ok-circuit.ensures.circuit in
     rw pushed record {
       elements = elements_more c.loop-network.circuits.items c.loop-network.yielded circuit c.in-Some.network one.elements c.in_ok-circuit.ensures.elements;
-      circuits = circuits_more c.args.declarations.now c.args.rails.now c.loop-network.circuits.items c.loop-network.yielded circuit c.in-Some.network one.circuits c.in_ok-circuit.ensures.circuit c.in_ok-circuit.ensures.elements;
+      circuits = circuits_more c.args.declarations.now c.args.rails.now c.loop-network.circuits.items c.loop-network.yielded circuit c.in-Some.network one.circuits made c.in_ok-circuit.ensures.elements;
       shape = shapes_more c.loop-network.circuits.items circuit one.shape c.in_ok-circuit.ensures.shape;
     }

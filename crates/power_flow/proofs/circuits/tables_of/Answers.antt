@@ -9,14 +9,11 @@ use Rattle.power_flow.proofs.BoxesTable.{bound_boxes_are, ready_boxes, places_ar
 use Rattle.power_flow.proofs.WholeTable.{wired_is, first_within, links_within}
 use Rattle.power_flow.proofs.circuits.tables_of.Goals as goal
 
-pub number_elements-requires-clause-page : goal.number_elements-requires-clause-page
-number_elements-requires-clause-page c = rw c.deref.ensures.value c.requires.sound.on_page
+pub number_elements-requires : goal.number_elements-requires
+number_elements-requires c = rw c.deref.ensures.value c.requires.sound.on_page
 
 pub links_of-requires-clause-page : goal.links_of-requires-clause-page
 links_of-requires-clause-page c = rw c.deref-2.ensures.value c.requires.sound.on_page
-
-pub starts_of-requires-clause-page : goal.starts_of-requires-clause-page
-starts_of-requires-clause-page c = rw c.deref-3.ensures.value c.requires.sound.on_page
 
 pub returns-clause-wired : goal.returns-clause-wired
 returns-clause-wired c =
