@@ -7,7 +7,10 @@ use Rattle.std.proofs.lemmas.Bool.{cases_lt, eqb-true}
 use Rattle.std.proofs.lemmas.List.Sums.{passes_at_first, fails_before_first}
 use Rattle.power_flow.specs.Names.{is_dot}
 use Rattle.plant.specs.declared.task_ref.TaskRef.{TaskRef}
-use Rattle.plant.specs.PlantValue.{PlantValue}
+use Rattle.std.proofs.lemmas.Option.{get_or_from_slice_get}
+use Rattle.plant.specs.Names.{IsAt}
+use Rattle.plant.specs.PlantValue.{PlantValue, CodeValue, ProgramValue}
+use Rattle.plant.specs.Steps.Drafts.{IsInstanceAt}
 use Rattle.plant.specs.Find.{ArePartsOf, IsTaskAt, IsTaskNamed}
 
 -- no task of the resources so far, and none of the next
@@ -18,6 +21,20 @@ tasks_more P n here before t lt p =
       | inr more ↦
           let same : t.resource ≡ n = omega arith in
           here t.task (subst (λ (r : ℕ). P (record { resource = r; task = t.task })) same p)
+    ]
+
+-- no task so far runs an instance of the name, nor does the next
+pub instances_more : (codes : List CodeValue) (name : List ℕ) (n : ℕ) (code : CodeValue) → code ≡ get_or codes n code
+    → ((j : ℕ) (p : ProgramValue) → IsAt (λ (p : ProgramValue). p.name) code.programs name j p → ⊥)
+    → ((k j : ℕ) → k < n → IsInstanceAt codes name k j → ⊥) → (k j : ℕ) → k < n + 1 → IsInstanceAt codes name k j → ⊥
+instances_more codes name n code is here before k j lt at =
+    elim (cases_lt k n) [
+      | inl less ↦ before k j less at
+      | inr more ↦
+          let same : k ≡ n = omega arith in
+          let one : get_or codes k code ≡ at.code = get_or_from_slice_get codes k at.code code at.code_is in
+          let two : code ≡ at.code = is ∙ ap (λ (i : ℕ). get_or codes i code) (sym same) ∙ one in
+          here j at.program (subst (λ (c : CodeValue). IsAt (λ (p : ProgramValue). p.name) c.programs name j at.program) (sym two) at.program_is)
     ]
 
 -- the parts at the first dot

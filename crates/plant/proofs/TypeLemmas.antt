@@ -1,18 +1,15 @@
 -- Program types that are sought by name.
 use Rattle.std.proofs.Common.{◌≡◌, ℕ, ◌<◌, ◌++◌, length, arith, ◌||◌, ◌↔◌, Bool, true, false, IsTrue, List, [], ◌∷◌, map, cond, Option, Some, is_some, refl, sym, ap, ◌∙◌}
 use Rattle.std.proofs.lemmas.List.Folds.{Any-from_list_any, list_any-from_Any}
-use Rattle.std.specs.Prelude.{Any}
+use Rattle.std.specs.Prelude.{All, Any}
+use Rattle.std.proofs.lemmas.List.Elements.{All-nil, All-cons, All-head, All-tail}
 use Rattle.std.specs.List.{list_any, find}
-use Rattle.std.specs.List.{flat_map}
-use Rattle.std.proofs.lemmas.List.{length-map}
-use Rattle.plant.specs.declared.token.Token.{Token}
 use Rattle.plant.specs.declared.tree.Program.{Program}
-use Rattle.plant.specs.Grammar.{program_words}
-use Rattle.plant.specs.Faultless.{IsProgramLawful}
+use Rattle.plant.specs.Faultless.{IsProgramLawful, IsLadderOf}
 use Rattle.plant.specs.Names.{is_named}
-use Rattle.plant.specs.Steps.ReadParts.{IsNew, AreProgramsLawful}
+use Rattle.plant.specs.Steps.ReadParts.{IsNew, IsProgramDeclared, AreProgramsDeclared}
 use Rattle.plant.proofs.Apart.{map-push, apart_more, apart_none}
-use Rattle.plant.proofs.WordLists.{words_more, all_more, grown}
+use Rattle.plant.proofs.WordLists.{all_more, grown}
 use Rattle.plant.specs.Steps.Reading.{TypeValue}
 
 either : {A : Type 0} (b : Bool) (x : A) (r : Option A) (s : Bool) → is_some r ≡ s → is_some (cond b (Some x) r) ≡ (b || s)
@@ -41,34 +38,32 @@ known_type types name t at =
 pub map-grown : {A B : Type 0} (f : A → B) (xs ys : List A) (y : A) → ys ≡ xs ++ y ∷ [] → map f ys ≡ map f xs ++ f y ∷ []
 map-grown f xs ys y e = ap (λ zs. map f zs) e ∙ map-push f xs y
 
--- what isn't among the types isn't among the programs
-new_program : (types : List TypeValue) (name : List ℕ) → IsNew (λ (t : TypeValue). t.program.name) types name → IsNew (λ (p : Program). p.name) (map (λ (t : TypeValue). t.program) types) name
-new_program types name new some =
-    let is : Program → Bool = λ p. is_named name p.name in
-    new (Any-from_list_any (λ (t : TypeValue). is t.program) types (sym (list_any-map (λ (t : TypeValue). t.program) is types) ∙ list_any-from_Any is (map (λ (t : TypeValue). t.program) types) some))
-
 -- a program was read
-pub programs_words_more : (xs ys : List TypeValue) (y : TypeValue) (start now new : List Token) → ys ≡ xs ++ y ∷ [] → start ≡ flat_map program_words (map (λ (t : TypeValue). t.program) xs) ++ now → now ≡ program_words y.program ++ new
-    → start ≡ flat_map program_words (map (λ (t : TypeValue). t.program) ys) ++ new
-programs_words_more xs ys y start now new e h1 h2 =
-    words_more program_words (map (λ (t : TypeValue). t.program) xs) (map (λ (t : TypeValue). t.program) ys) y.program start now new (map-grown (λ (t : TypeValue). t.program) xs ys y e) h1 h2
+pub programs_more : (ps qs : List Program) (p : Program) → qs ≡ ps ++ p ∷ [] → AreProgramsDeclared ps → IsNew (λ (p : Program). p.name) ps p.name → length ps < 64 → IsProgramDeclared p → AreProgramsDeclared qs
+programs_more ps qs p longer before new few last = record {
+  few = omega (arith, few, grown ps qs p longer);
+  apart = apart_more (λ (p : Program). p.name) ps qs p longer before.apart new;
+  declared = all_more IsProgramDeclared ps qs p longer before.declared last;
+}
 
-pub programs_more : (xs ys : List TypeValue) (y : TypeValue) → ys ≡ xs ++ y ∷ [] → AreProgramsLawful (map (λ (t : TypeValue). t.program) xs) → IsNew (λ (t : TypeValue). t.program.name) xs y.program.name → length xs < 64 → IsProgramLawful y.program
-    → AreProgramsLawful (map (λ (t : TypeValue). t.program) ys)
-programs_more xs ys y e lawful new few last =
-    let ps = map (λ (t : TypeValue). t.program) xs in
-    let qs = map (λ (t : TypeValue). t.program) ys in
-    let longer = map-grown (λ (t : TypeValue). t.program) xs ys y e in
-    let long : length ps ≡ length xs = length-map xs (λ (t : TypeValue). t.program) in
-    record {
-      few = omega (arith, few, grown ps qs y.program longer);
-      apart = apart_more (λ (p : Program). p.name) ps qs y.program longer lawful.apart (new_program xs y.program.name new);
-      lawful = all_more IsProgramLawful ps qs y.program longer lawful.lawful last;
-    }
-
-pub no_programs : AreProgramsLawful []
+pub no_programs : AreProgramsDeclared []
 no_programs = record {
   few = omega arith;
   apart = apart_none;
-  lawful = λ k d lt. absurd (omega (arith, lt));
+  declared = All-nil IsProgramDeclared;
 }
+
+-- programs whose bodies are drawn are lawful
+pub lawful_drawn : (types : List TypeValue) → All IsProgramDeclared (map (λ (t : TypeValue). t.program) types) → All (λ (t : TypeValue). IsLadderOf t.program t.ladder) types → All IsProgramLawful (map (λ (t : TypeValue). t.program) types)
+lawful_drawn [] declared drawn = All-nil IsProgramLawful
+lawful_drawn (t ∷ ts) declared drawn =
+    let rest = map (λ (t : TypeValue). t.program) ts in
+    let first = All-head IsProgramDeclared t.program rest declared in
+    let lawful : IsProgramLawful t.program = record {
+      apart = first.are_variables.apart;
+      few = first.are_variables.few;
+      blocks_are = first.blocks_are;
+      ladder = t.ladder;
+      drawn = All-head (λ (t : TypeValue). IsLadderOf t.program t.ladder) t ts drawn;
+    } in
+    All-cons IsProgramLawful t.program rest lawful (lawful_drawn ts (All-tail IsProgramDeclared t.program rest declared) (All-tail (λ (t : TypeValue). IsLadderOf t.program t.ladder) t ts drawn))

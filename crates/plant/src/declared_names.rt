@@ -12,6 +12,7 @@ ghost use Rattle.plant.specs.Faultless.{task_of, use_of};
 
 use crate::name::Name;
 use crate::plant_fault::{PlantFault, PlantFaultKind};
+use crate::program_text::ProgramText;
 use crate::program_type::ProgramType;
 use crate::tree::{Bind, Item, Resource};
 use power_flow::{Declared, Kind};
@@ -31,11 +32,19 @@ pub fn check_new(name: &Name, is_twice: bool, is_full: bool) -> Result<(), Plant
     }
 }
 
-/// Whether a program type has the name.
-pub fn is_type(types: &[ProgramType], name: &Name) -> bool
-    ensures { IsTrue result ↔ Any (λ t. IsTrue (is_named name.now t.program.name)) types.now }
+/// The first program of the name.
+fn program_named<'a>(texts: &'a [ProgramText], name: &Name) -> Option<&'a ProgramText>
+    ensures { option_map (λ p. p.now) result ≡ find (λ p. is_named name.now p.name) texts.now }
 {
-    type_named(types, name).is_some()
+    let name = name.as_str();
+    texts.iter().find(|text| name.eq_ignore_ascii_case(text.program().name.as_str()))
+}
+
+/// Whether a program has the name.
+pub fn is_program(texts: &[ProgramText], name: &Name) -> bool
+    ensures { IsTrue result ↔ Any (λ p. IsTrue (is_named name.now p.name)) texts.now }
+{
+    program_named(texts, name).is_some()
 }
 
 /// The first program type of the name.

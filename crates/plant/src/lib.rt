@@ -2,11 +2,13 @@
 #![tactic(auto)]
 
 mod address;
+mod batch;
 mod binding;
 mod bodies;
 mod body_faults;
 mod declared_names;
 mod draft;
+mod drawn;
 mod due;
 mod feed;
 mod feeds;
@@ -25,6 +27,7 @@ mod plant_fault;
 mod plant_resource;
 mod producers;
 mod program_instance;
+mod program_text;
 mod program_type;
 mod read;
 mod read_program;

@@ -1,6 +1,6 @@
 //! What stands under a name: resources, instances and their outputs.
 
-ghost use Rattle.std.specs.Prelude.{◌≡◌, ℕ, IfSome, slice_get};
+ghost use Rattle.std.specs.Prelude.{◌≡◌, ℕ, IfSome, MatchOption, slice_get};
 ghost use Rattle.plant.specs.declared.task_output.TaskOutput.{TaskOutput};
 ghost use Rattle.plant.specs.Names.{IsAt};
 ghost use Rattle.plant.specs.PlantValue.{ResourceValue, ProgramValue};
@@ -14,7 +14,7 @@ use power_flow::Kind;
 
 /// The position of the resource of a name.
 pub fn find_resource(resources: &[ResourceDraft], name: &str) -> Option<usize>
-    ensures { IfSome result (λ k. (owner : ResourceValue) × IsAt (λ (r : ResourceValue). r.name) resources.now name.now k owner) }
+    ensures { MatchOption result ((k : ℕ) (r : ResourceValue) → IsAt (λ (r : ResourceValue). r.name) resources.now name.now k r → ⊥) (λ k. (owner : ResourceValue) × IsAt (λ (r : ResourceValue). r.name) resources.now name.now k owner) }
 {
     for (k, resource) in resources.iter().enumerate() {
         if name.eq_ignore_ascii_case(resource.name()) {
@@ -26,7 +26,7 @@ pub fn find_resource(resources: &[ResourceDraft], name: &str) -> Option<usize>
 
 /// The position of the program of a name.
 fn find_program(programs: &[ProgramInstance], name: &str) -> Option<usize>
-    ensures { IfSome result (λ k. (p : ProgramValue) × IsAt (λ (p : ProgramValue). p.name) programs.now name.now k p) }
+    ensures { MatchOption result ((k : ℕ) (p : ProgramValue) → IsAt (λ (p : ProgramValue). p.name) programs.now name.now k p → ⊥) (λ k. (p : ProgramValue) × IsAt (λ (p : ProgramValue). p.name) programs.now name.now k p) }
 {
     for (k, program) in programs.iter().enumerate() {
         if name.eq_ignore_ascii_case(program.name()) {
@@ -38,7 +38,7 @@ fn find_program(programs: &[ProgramInstance], name: &str) -> Option<usize>
 
 /// The positions of the task that runs the instance of a name, and of its program there.
 pub fn find_instance(tasks: &[TaskDraft], name: &str) -> Option<(usize, usize)>
-    ensures { IfSome result (λ x. IsInstanceAt tasks.now name.now x.0 x.1) }
+    ensures { MatchOption result ((k j : ℕ) → IsInstanceAt tasks.now name.now k j → ⊥) (λ x. IsInstanceAt tasks.now name.now x.0 x.1) }
 {
     for (k, task) in tasks.iter().enumerate() {
         if let Some(program) = find_program(task.programs(), name) {

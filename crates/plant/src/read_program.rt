@@ -1,31 +1,25 @@
 //! The rules of the grammar from names to programs.
 
-ghost use Rattle.std.specs.Prelude.{◌≡◌, ◌∷◌, ◌++◌, ◌<◌, List, IfOk, OnOk, IsTrue, IsFalse, All, map, length};
+ghost use Rattle.std.specs.Prelude.{◌≡◌, ◌∷◌, ◌++◌, ◌<◌, List, IfOk, OnOk, OnErr, IsTrue, IsFalse, All, length};
 ghost use Rattle.std.specs.List.{flat_map};
 ghost use Rattle.plant.specs.declared.token.Token.TheVariants as token;
 ghost use Rattle.plant.specs.Grammar.{section_word, kind_word, type_word, name_words, list_words, lists_words, block_words, program_words};
-ghost use Rattle.plant.specs.Faultless.{list_variables, block_variables, variables, IsTypeLawful, IsListLawful, IsBlockLawful, IsProgramLawful, IsLadderOf};
-ghost use Rattle.plant.specs.Steps.ReadParts.{IsNew, AreProgramsLawful};
+ghost use Rattle.plant.specs.Faultless.{list_variables, block_variables, IsTypeLawful, IsListLawful, IsBlockLawful};
+ghost use Rattle.plant.specs.Steps.ReadParts.{IsNew, IsProgramDeclared, AreProgramsDeclared};
 
-use crate::declared_names::{check_new, is_type};
+use crate::declared_names::{check_new, is_program};
 use crate::name::Name;
 use crate::plant_fault::{PlantFault, PlantFaultKind};
-use crate::program_type::ProgramType;
+use crate::program_text::ProgramText;
 use crate::reader::Reader;
 use crate::token::{Keyword, Punctuation};
 use crate::tree::{NameList, Program, Section, TypeName, VarBlock};
 use crate::variables::Variables;
-use ladder_text::Drawing;
-use network::Graph;
-use power_flow::{Declarations, Kind, Ladder};
+use power_flow::Kind;
 use std::alloc::Global;
-use std::sync::Arc;
 
 /// How many program types a plant may have.
 const MOST_TYPES: usize = 64;
-
-/// The greatest line on which a drawing may begin.
-const LAST_LINE: u64 = 9_223_372_036_854_775_807;
 
 impl<'a> Reader<'a> {
     ghost use Rattle.plant.specs.declared.token.Token.{Token};
@@ -189,24 +183,23 @@ impl<'a> Reader<'a> {
     }
 
     /// A new name of a program type, behind these.
-    fn new_type(&mut self, alloc: Global, before: &[ProgramType]) -> Result<Name, PlantFault>
+    fn new_type(&mut self, alloc: Global, before: &[ProgramText]) -> Result<Name, PlantFault>
         ensures ok { IfOk result (λ name. self.old.words ≡ token.Name name ∷ self.new.words) }
-        ensures new { IfOk result (λ name. IsNew (λ t. t.program.name) before.now name) }
+        ensures new { IfOk result (λ name. IsNew (λ p. p.name) before.now name) }
         ensures few { OnOk result (length before.now < 64) }
     {
         let name = self.name(alloc)?;
-        check_new(&name, is_type(before, &name), before.len() >= MOST_TYPES)?;
+        check_new(&name, is_program(before, &name), before.len() >= MOST_TYPES)?;
         Ok(name)
     }
 
-    /// A program type, behind these. Its drawing is read, its networks are built, and its names are bound.
+    /// A program type, behind these. Its body isn't drawn.
     #[tactic(auto, unfolding(crate::specs::Grammar::program_words))]
-    fn program(&mut self, alloc: Global, before: &[ProgramType]) -> Result<ProgramType, PlantFault>
-        ensures ok { IfOk result (λ t. self.old.words ≡ program_words t.program ++ self.new.words) }
-        ensures new { IfOk result (λ t. IsNew (λ t. t.program.name) before.now t.program.name) }
+    fn program(&mut self, alloc: Global, before: &[ProgramText]) -> Result<ProgramText, PlantFault>
+        ensures ok { IfOk result (λ p. self.old.words ≡ program_words p ++ self.new.words) }
+        ensures new { IfOk result (λ p. IsNew (λ p. p.name) before.now p.name) }
         ensures few { OnOk result (length before.now < 64) }
-        ensures lawful { IfOk result (λ t. IsProgramLawful t.program) }
-        ensures ladder { IfOk result (λ t. IsLadderOf t.program t.ladder) }
+        ensures declared { IfOk result (λ p. IsProgramDeclared p) }
     {
         self.keyword(Keyword::Program)?;
         let name = self.new_type(alloc, before)?;
@@ -216,38 +209,25 @@ impl<'a> Reader<'a> {
         let body = self.body(alloc)?;
         self.keyword(Keyword::EndProgram)?;
         let program = Program { name, blocks, body };
-        let ladder = ladder_of(alloc, &program, first_line, variables.into_declarations())?;
-        Ok(ProgramType::new(program, Arc::new(alloc, ladder)?))
+        Ok(ProgramText::new(program, first_line, variables.into_declarations()))
     }
 
-    /// The program types.
-    #[tactic(auto, using(crate::proofs::WordLists::program_has_words, crate::proofs::TypeLemmas::no_programs))]
-    pub fn programs(&mut self, alloc: Global) -> Result<Vec<ProgramType>, PlantFault>
-        ensures ok { IfOk result (λ ts. self.old.words ≡ flat_map program_words (map (λ t. t.program) ts.items) ++ self.new.words) }
-        ensures lawful { IfOk result (λ ts. AreProgramsLawful (map (λ t. t.program) ts.items)) }
-        ensures ladders { IfOk result (λ ts. All (λ t. IsLadderOf t.program t.ladder) ts.items) }
+    /// The program types, their bodies not drawn. They are added to `texts`; after a fault, those before it.
+    #[tactic(auto, using(crate::proofs::WordLists::program_has_words))]
+    pub fn programs(
+        &mut self,
+        alloc: Global,
+        texts: &mut Vec<ProgramText>,
+    ) -> Result<(), PlantFault>
+        requires { AreProgramsDeclared texts.old.items }
+        ensures ok { OnOk result (flat_map program_words texts.old.items ++ self.old.words ≡ flat_map program_words texts.new.items ++ self.new.words) }
+        ensures err { OnErr result ((rest : List Token) × (flat_map program_words texts.old.items ++ self.old.words ≡ flat_map program_words texts.new.items ++ rest)) }
+        ensures declared { AreProgramsDeclared texts.new.items }
     {
-        let mut types = Vec::new(alloc);
         'programs: while self.sees_keyword(Keyword::Program) {
-            let program = self.program(alloc, &types)?;
-            types.push(program)?;
+            let text = self.program(alloc, texts.as_slice())?;
+            texts.push(text)?;
         }
-        Ok(types)
+        Ok(())
     }
-}
-
-/// The ladder of a program with these variables and a body that begins on a line.
-fn ladder_of(
-    alloc: Global,
-    program: &Program,
-    first_line: u64,
-    declarations: Declarations,
-) -> Result<Ladder, PlantFault>
-    requires { declarations ≡ variables program.now }
-    ensures { IfOk result (λ l. IsLadderOf program.now l) }
-{
-    let first_line = first_line.clamp(1, LAST_LINE);
-    let drawing = Drawing::read(alloc, program.body.as_str(), first_line)?;
-    let graph = Graph::build(alloc, &drawing)?;
-    Ok(Ladder::bind(alloc, graph, declarations)?)
 }

@@ -1,6 +1,6 @@
 //! The rules of the grammar from tasks to resources.
 
-ghost use Rattle.std.specs.Prelude.{◌≡◌, [], ◌∷◌, ◌++◌, ◌+◌, ◌<◌, ◌≤◌, IfOk, OnOk, All, Any, map, length, IsTrue};
+ghost use Rattle.std.specs.Prelude.{◌≡◌, [], ◌∷◌, ◌++◌, ◌+◌, ◌<◌, ◌≤◌, IfOk, OnOk, All, Any, Some, map, length, IsTrue};
 ghost use Rattle.std.specs.List.{flat_map};
 ghost use Rattle.plant.specs.declared.token.Token.TheVariants as token;
 ghost use Rattle.plant.specs.declared.token.Keyword.TheVariants as key;
@@ -8,7 +8,7 @@ ghost use Rattle.plant.specs.declared.token.Punctuation.TheVariants.{Close};
 ghost use Rattle.plant.specs.Grammar.{interval_words, priority_words, settings, task_words, source_words, bind_words, with_commas, binds_words, listed, use_words, item_words, items_words, resource_words, resources_words};
 ghost use Rattle.plant.specs.Names.{is_named, AreApart};
 ghost use Rattle.plant.specs.Faultless.{task_of, use_of, uses_of, binds_of, IsUseLawful, IsResourceLawful};
-ghost use Rattle.plant.specs.Steps.ReadParts.{types_alone, tally_with, IsNew, MayFollow, AreItemsLawful, AreResourcesLawful};
+ghost use Rattle.plant.specs.Steps.ReadParts.{types_alone, tally_with, input_kind_of, HasFieldKind, IsNew, MayFollow, AreItemsLawful, AreResourcesLawful};
 ghost use Rattle.plant.specs.declared.tree.Item.TheVariants as item;
 ghost use Rattle.plant.specs.PlantValue.{items_or_none, kind_of_space};
 
@@ -130,6 +130,7 @@ impl<'a> Reader<'a> {
     /// The source of an input of a kind.
     fn source(&mut self, alloc: Global, kind: Kind) -> Result<SourceName, PlantFault>
         ensures ok { IfOk result (λ s. self.old.words ≡ source_words s ++ self.new.words) }
+        ensures kind { IfOk result (HasFieldKind kind) }
     {
         if self.sees_address() {
             Ok(SourceName::Field(self.address_of(kind)?))
@@ -158,6 +159,7 @@ impl<'a> Reader<'a> {
     ) -> Result<Bind, PlantFault>
         ensures ok { IfOk result (λ b. self.old.words ≡ bind_words b ++ self.new.words) }
         ensures new { IfOk result (λ b. IsNew (λ b. b.input) before.now b.input) }
+        ensures kind { IfOk result (λ b. (kind : Kind) × (input_kind_of program.now.ladder.declarations b.input ≡ Some kind) × HasFieldKind kind b.source) }
         ensures tally { OnOk result (tally.new ≡ record { instances = tally.old.instances; binds = tally.old.binds + 1 }) }
     {
         let input = self.name(alloc)?;

@@ -1,9 +1,12 @@
 //! The whole of a plant's text, but for its sources.
 
 ghost use Rattle.std.specs.Prelude.{IfOk};
+ghost use Rattle.plant.specs.Steps.Drawn.{Draws};
 ghost use Rattle.plant.specs.Steps.Reading.{IsReadingOf};
 
 use crate::plant_fault::PlantFault;
+use crate::program_text::ProgramText;
+use crate::program_type::ProgramType;
 use crate::reader::Reader;
 use crate::reading::Reading;
 use crate::tally::Tally;
@@ -12,12 +15,24 @@ use std::alloc::Global;
 
 /// Reads program types and a configuration, up to the word that ends it. The first fault that is met is answered; sources aren't resolved.
 ///
+/// `draw` draws the bodies. Those before the fault of a word are drawn too, as their faults are met first.
 /// What stands behind the configuration is left in the reader.
-#[tactic(auto, unfolding(crate::specs::Grammar::words_of))]
-pub fn read_tree<'a>(alloc: Global, reader: &mut Reader<'a>) -> Result<Reading, PlantFault>
+#[tactic(auto, using(crate::proofs::TypeLemmas::no_programs), unfolding(crate::specs::Grammar::words_of))]
+pub fn read_tree<'a, D>(
+    alloc: Global,
+    reader: &mut Reader<'a>,
+    draw: D,
+) -> Result<Reading, PlantFault>
+where
+    D: FnOnce(Vec<ProgramText>) -> Result<Vec<ProgramType>, PlantFault>,
+    requires callable { D.IsAlwaysCallable draw }
+    requires draws { Draws (D.post draw) }
     ensures { IfOk result (λ reading. IsReadingOf reader.old.words reading reader.new.words) }
 {
-    let types = reader.programs(alloc)?;
+    let mut texts = Vec::new(alloc);
+    let programs = reader.programs(alloc, &mut texts);
+    let types = draw(texts)?;
+    programs?;
     reader.keyword(Keyword::Configuration)?;
     let _name = reader.name(alloc)?;
     let mut tally = Tally::new();

@@ -21,6 +21,7 @@ use plan_command::plan_text;
 use std::io::ErrorKind;
 use std::process::ExitCode;
 use std::rt::{Env, Files};
+use std::thread::Threads;
 use std::{env, fs, io};
 use text_fault::TextFault;
 use words::{Request, read_words};
@@ -99,7 +100,7 @@ fn file_text<R: Files + Eprint + AllocGlobal>(
 }
 
 /// Does what the words ask for with the text of the file.
-fn obey<R: Print + AllocGlobal>(
+fn obey<R: Print + AllocGlobal + Threads + Sync>(
     rt: &R,
     request: &Request<'_>,
     text: &str,
@@ -107,12 +108,15 @@ fn obey<R: Print + AllocGlobal>(
     let mut writer = io::writer(rt);
     match request {
         Request::Eval { dt, words, .. } => eval(rt.alloc(), text, words, *dt, &mut writer),
-        Request::Check { .. } => check(rt.alloc(), text, &mut writer),
-        Request::Plan { until, .. } => plan_text(rt.alloc(), text, *until, &mut writer),
+        Request::Check { .. } => check(rt, rt.alloc(), text, &mut writer),
+        Request::Plan { until, .. } => plan_text(rt, rt.alloc(), text, *until, &mut writer),
     }
 }
 
-fn run<R: Files + Print + Eprint + AllocGlobal>(rt: &R, request: &Request<'_>) -> io::Result<u8> {
+fn run<R: Files + Print + Eprint + AllocGlobal + Threads + Sync>(
+    rt: &R,
+    request: &Request<'_>,
+) -> io::Result<u8> {
     let file = request.file();
     let text = match file_text(rt, file)? {
         Ok(text) => text,
@@ -124,7 +128,9 @@ fn run<R: Files + Print + Eprint + AllocGlobal>(rt: &R, request: &Request<'_>) -
     }
 }
 
-fn answer<R: Env + Files + Print + Eprint + AllocGlobal>(rt: &R) -> io::Result<u8> {
+fn answer<R: Env + Files + Print + Eprint + AllocGlobal + Threads + Sync>(
+    rt: &R,
+) -> io::Result<u8> {
     let given = match given_words(rt) {
         Ok(given) => given,
         Err(error) => return print_given_fault(rt, &error),

@@ -11,6 +11,7 @@ use plant::{Due, Plant, TaskRef, plan};
 use std::alloc::{AllocError, Global};
 use std::fmt::Write as _;
 use std::io::Write;
+use std::thread::Threads;
 
 /// Lines are written once so many bytes of them are made.
 const FULL: usize = 65_536;
@@ -84,7 +85,8 @@ fn plan_of(alloc: Global, plant: &Plant, until: u32) -> Result<Vec<Due>, Command
 /// Reads a plant, and writes its plan up to and with `until` (in ms), a line for each entry, as `10 R1.FAST`.
 ///
 /// `Text` comes before anything is written. After `Write` and `Memory` what went out is a prefix.
-pub fn plan_text<W: Write>(
+pub fn plan_text<R: Threads + Sync, W: Write>(
+    rt: &R,
     alloc: Global,
     plant: &str,
     until: u32,
@@ -93,7 +95,7 @@ pub fn plan_text<W: Write>(
     ensures ok { OnOk result (WritesPlan plant.now until (W.contents writer.old) (W.contents writer.new)) }
     ensures fault { IfErr result (ExplainsPlan plant.now until (W.contents writer.old) (W.contents writer.new)) }
 {
-    let plant = read_plant(alloc, plant)?;
+    let plant = read_plant(rt, alloc, plant)?;
     let dues = plan_of(alloc, &plant, until)?;
     write_dues(alloc, &plant, &dues, writer)
 }

@@ -1,5 +1,6 @@
 -- What is known of the parts of a plant's text while it is read.
-use Rattle.std.specs.Prelude.{◌≡◌, ℕ, ◌+◌, ◌<◌, ◌≤◌, Bool, true, false, IsTrue, List, [], length, map, take, slice_get, Some, All, Any}
+use Rattle.std.specs.Prelude.{◌≡◌, ℕ, ◌+◌, ◌<◌, ◌≤◌, Bool, true, false, IsTrue, List, [], length, map, take, slice_get, Option, Some, All, Any, option_and_then}
+use Rattle.power_flow.specs.Names.{place_of}
 use Rattle.std.specs.List.{flat_map}
 use Rattle.plant.specs.declared.tree.Use.{Use}
 use Rattle.power_flow.specs.declared.declarations.Declaration.{Declaration}
@@ -7,9 +8,13 @@ use Rattle.plant.specs.declared.tree.Program.{Program}
 use Rattle.plant.specs.declared.tree.Item.{Item}
 use Rattle.plant.specs.declared.tree.Item.TheVariants as item
 use Rattle.plant.specs.declared.tree.Resource.{Resource}
+use Rattle.plant.specs.declared.tree.SourceName.{SourceName}
+use Rattle.plant.specs.declared.tree.SourceName.TheVariants as source
+use Rattle.power_flow.specs.declared.declarations.Kind.{Kind}
+use Rattle.plant.specs.PlantValue.{kind_of_space, input_kind_at}
 use Rattle.plant.specs.Grammar.{Tree}
 use Rattle.plant.specs.Names.{is_named, AreApart}
-use Rattle.plant.specs.Faultless.{task_of, use_of, binds_of, IsProgramLawful, IsUseLawful, IsResourceLawful}
+use Rattle.plant.specs.Faultless.{variables, task_of, use_of, binds_of, IsBlockLawful, IsUseLawful, IsResourceLawful}
 use Rattle.plant.specs.Steps.Reading.{TypeValue}
 
 -- how many instances and binds were read
@@ -30,11 +35,16 @@ pub record AreVariables (variables : List Declaration) : Type 0 where
   pub apart : AreApart (map (λ v. v.name) variables)
   pub few : length variables ≤ 1000
 
--- program types: at most 64, their names apart, and each lawful
-pub record AreProgramsLawful (programs : List Program) : Type 0 where
+-- a program type whose body isn't drawn: each name once, at most 1,000 of them, and blocks in VAR alone
+pub record IsProgramDeclared (p : Program) : Type 0 where
+  pub are_variables : AreVariables (variables p)
+  pub blocks_are : All IsBlockLawful p.blocks.items
+
+-- program types whose bodies aren't drawn: at most 64, their names apart, and each lawful so far
+pub record AreProgramsDeclared (programs : List Program) : Type 0 where
   pub few : length programs ≤ 64
   pub apart : AreApart (map (λ p. p.name) programs)
-  pub lawful : All IsProgramLawful programs
+  pub declared : All IsProgramDeclared programs
 
 -- nothing in the list has this name
 abbrev pub IsNew : {A : Type 0} → (A → List ℕ) → List A → List ℕ → Type 0
@@ -62,3 +72,12 @@ pub record AreResourcesLawful (tree : Tree) (resources : List Resource) : Type 0
   pub few : length resources ≤ 16
   pub apart : AreApart (map (λ r. r.name) resources)
   pub lawful : All (IsResourceLawful tree) resources
+
+-- the kind of the input of this name
+abbrev pub input_kind_of : List Declaration → List ℕ → Option Kind
+input_kind_of ds name = option_and_then (input_kind_at ds) (place_of ds name)
+
+-- an address has the kind; what a named output gives is known only when the source is resolved
+abbrev pub HasFieldKind : Kind → SourceName → Type 0
+HasFieldKind kind (source.Field a) = kind_of_space a.space ≡ kind
+HasFieldKind kind (source.Output resource instance output) = Unit

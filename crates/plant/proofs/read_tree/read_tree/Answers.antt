@@ -1,19 +1,27 @@
-use Rattle.std.proofs.Common.{◌∙◌, ap, sym, subst}
+use Rattle.std.proofs.Common.{rules, ◌≡◌, ◌++◌, ◌∙◌, ap, sym, subst}
 use Rattle.std.specs.List.{flat_map}
 use Rattle.plant.specs.Faultless.{uses_of}
+use Rattle.plant.specs.Grammar.{program_words}
+use Rattle.plant.specs.Steps.Drawn.{AreDrawn}
 use Rattle.plant.specs.Steps.Reading.{IsReadingOf}
 use Rattle.plant.specs.Steps.ReadParts.{tally_with, types_alone, AreResourcesLawful}
 use Rattle.plant.proofs.TreeLemmas.{reading_is}
 use Rattle.plant.proofs.read_tree.read_tree.Goals as goal
 
 pub returns : goal.returns
-returns c =
+returns g c =
+    let texts = c.programs-programs.new.texts.items in
     let types = c.in_ok-types.types.items in
     let resources = c.in_ok-resources.resources.items in
-    subst (λ r. IsReadingOf c.args.reader.now.words r c.resources.new.self.words) (sym c.new.ensures)
-    (reading_is types resources c.in_ok-_name._name c.resources.new.tally c.args.reader.now.words c.programs.new.self.words c.keyword.new.self.words c.name.new.self.words c.resources.new.self.words
-    c.in_ok-types.ensures.ok c.in_ok-keyword.ensures.ok c.in_ok-_name.ensures.ok c.in_ok-resources.ensures.ok
-    c.in_ok-types.ensures.lawful c.in_ok-types.ensures.ladders c.in_ok-resources.ensures.some
+    let start = c.args.reader.now.words in
+    let one = c.programs-programs.new.self.words in
+    let written = subst (λ ts. flat_map program_words ts ++ start ≡ flat_map program_words texts ++ one) c.new-texts.ensures.items c.in_ok-programs.ensures.ok in
+    let all = c.requires.draws c.programs-programs.new.texts c.draw.result c.draw.ensures in
+    let drawn : AreDrawn texts types = search rules in
+    subst (λ r. IsReadingOf start r c.resources.new.self.words) (sym c.new.ensures)
+    (reading_is texts types resources c.in_ok-_name._name c.resources.new.tally start one c.keyword.new.self.words c.name.new.self.words c.resources.new.self.words
+    written c.in_ok-keyword.ensures.ok c.in_ok-_name.ensures.ok c.in_ok-resources.ensures.ok
+    c.programs-programs.ensures.declared drawn c.in_ok-resources.ensures.some
     (subst (λ ts. AreResourcesLawful (types_alone ts) resources) c.deref.ensures.value c.in_ok-resources.ensures.lawful)
     (c.in_ok-resources.ensures.tally ∙ ap (λ t. tally_with t (flat_map uses_of resources)) c.new-tally.ensures)
     c.instances-instances.ensures.few c.binds-binds.ensures.few)

@@ -1,4 +1,4 @@
-use Rattle.std.proofs.Common.{◌≡◌, ◌≢◌, List, [], ◌++◌, All, map, ap, sym, subst, ◌∙◌}
+use Rattle.std.proofs.Common.{◌≡◌, ◌≢◌, List, ◌++◌, All, map, ap, sym, subst, ◌∙◌}
 use Rattle.std.proofs.lemmas.List.{append-nil}
 use Rattle.ladder_text.specs.Rows.{without_last}
 use Rattle.plant.specs.declared.token.Token.{Token}
@@ -8,10 +8,10 @@ use Rattle.plant.specs.Grammar.{words_of}
 use Rattle.plant.specs.Steps.Reading.{tree_of}
 use Rattle.plant.specs.Steps.Lines.{WordValue, ReaderValue}
 use Rattle.plant.proofs.KnownWords.{words_known}
-use Rattle.plant.proofs.plant.Plant.read.Goals as goal
+use Rattle.plant.proofs.read.read_by.Goals as goal
 
 pub returns : goal.returns
-returns c =
+returns g c =
     let read = c.in_ok-reading.ensures in
     let tree = tree_of read.name c.in_ok-reading.reading in
     let spelled = map (λ (w : WordValue). w.token) c.in_ok-words.words in

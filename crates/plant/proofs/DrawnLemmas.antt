@@ -1,0 +1,56 @@
+-- Program types that are drawn one by one, and in batches.
+use Rattle.std.proofs.Common.{◌≡◌, ℕ, suc, ◌<◌, List, [], ◌∷◌, ◌++◌, length, map, Result, Ok, Err, IsOk, IfOk, slice_index_or, refl, sym, ap, ◌∙◌, subst, append_assoc, arith}
+use Rattle.std.specs.Prelude.{All}
+use Rattle.std.specs.Global.{Vec}
+use Rattle.std.specs.List.{flat_map}
+use Rattle.std.proofs.lemmas.List.{map-append}
+use Rattle.std.proofs.lemmas.List.Concat.{flat_map-cons}
+use Rattle.std.proofs.lemmas.List.Elements.{All-nil, All-cons, All-append, All-tail, All-head}
+use Rattle.plant.specs.declared.plant_fault.PlantFault.{PlantFault}
+use Rattle.plant.specs.declared.tree.Program.{Program}
+use Rattle.plant.specs.Faultless.{IsLadderOf}
+use Rattle.plant.specs.Steps.Drawn.{AreDrawn, types_in}
+use Rattle.plant.specs.Steps.Reading.{TypeValue}
+use Rattle.plant.proofs.TypeLemmas.{map-grown}
+
+-- a program was drawn
+pub drawn_more : (ps : List Program) (xs ys : List TypeValue) (x : TypeValue) (p : Program) (left now : List Program) → ys ≡ xs ++ x ∷ [] → x.program ≡ p → left ≡ p ∷ now → map (λ (t : TypeValue). t.program) xs ++ left ≡ ps
+    → map (λ (t : TypeValue). t.program) ys ++ now ≡ ps
+drawn_more ps xs ys x p left now more same front before =
+    let programs = map (λ (t : TypeValue). t.program) xs in
+    ap (λ qs. qs ++ now) (map-grown (λ (t : TypeValue). t.program) xs ys x more) ∙ append_assoc programs (x.program ∷ []) now ∙ ap (λ q. programs ++ q ∷ now) same ∙ ap (λ r. programs ++ r) (sym front) ∙ before
+
+-- the types of a batch were added
+pub joined_more : (all xs ys : List TypeValue) (v : Vec TypeValue) (left now : List (Result (Vec TypeValue) PlantFault)) → ys ≡ xs ++ v.items → left ≡ Ok v ∷ now → xs ++ flat_map types_in left ≡ all → ys ++ flat_map types_in now ≡ all
+joined_more all xs ys v left now more front before =
+    ap (λ zs. zs ++ flat_map types_in now) more ∙ append_assoc xs v.items (flat_map types_in now) ∙ ap (λ zs. xs ++ zs) (sym (flat_map-cons types_in (Ok v) now) ∙ ap (λ rs. flat_map types_in rs) (sym front)) ∙ before
+
+-- no batch failed, if none of those behind this one did
+pub none_failed_more : (all left now : List (Result (Vec TypeValue) PlantFault)) (v : Vec TypeValue) → left ≡ Ok v ∷ now → (All IsOk left → All IsOk all) → All IsOk now → All IsOk all
+none_failed_more all left now v front before ok = before (subst (All IsOk) (sym front) (All-cons IsOk (Ok v) now refl ok))
+
+drawn_both : (ps qs : List Program) (xs ys : List TypeValue) → AreDrawn ps xs → AreDrawn qs ys → AreDrawn (ps ++ qs) (xs ++ ys)
+drawn_both ps qs xs ys one two = record {
+  programs_are = map-append (λ (t : TypeValue). t.program) xs ys ∙ ap (λ rs. rs ++ map (λ (t : TypeValue). t.program) ys) one.programs_are ∙ ap (λ rs. ps ++ rs) two.programs_are;
+  ladders = All-append (λ (t : TypeValue). IsLadderOf t.program t.ladder) xs ys one.ladders two.ladders;
+}
+
+-- batches that are drawn, each by itself, are drawn in all
+pub drawn_in_batches : (bs : List (List Program)) (rs : List (Result (Vec TypeValue) PlantFault)) → length rs ≡ length bs → All IsOk rs
+    → ((i : ℕ) (b : List Program) (r : Result (Vec TypeValue) PlantFault) → i < length bs → IfOk (slice_index_or rs i r) (λ v. AreDrawn (slice_index_or bs i b) v.items))
+    → AreDrawn (flat_map (λ b. b) bs) (flat_map types_in rs)
+drawn_in_batches [] [] len ok each = record { programs_are = refl; ladders = All-nil (λ (t : TypeValue). IsLadderOf t.program t.ladder) }
+drawn_in_batches [] (r ∷ rs) len ok each = absurd (omega (arith, len))
+drawn_in_batches (b ∷ bs) [] len ok each = absurd (omega (arith, len))
+drawn_in_batches (b ∷ bs) (Err e ∷ rs) len ok each = let no = All-head IsOk (Err e) rs ok in cc
+drawn_in_batches (b ∷ bs) (Ok v ∷ rs) len ok each =
+    let rest = drawn_in_batches bs rs (omega (arith, len)) (All-tail IsOk (Ok v) rs ok) (λ i b' r lt. each (suc i) b' r (omega (arith, lt))) in
+    let both = drawn_both b (flat_map (λ b. b) bs) v.items (flat_map types_in rs) (each 0 b (Ok v) (omega arith)) rest in
+    rw (flat_map-cons (λ (b : List Program). b) b bs, flat_map-cons types_in (Ok v) rs) both
+
+-- the same of the list that joins them
+pub drawn_joined : (bs : List (List Program)) (rs : List (Result (Vec TypeValue) PlantFault)) (joined : Result (Vec TypeValue) PlantFault) → length rs ≡ length bs
+    → ((i : ℕ) (b : List Program) (r : Result (Vec TypeValue) PlantFault) → i < length bs → IfOk (slice_index_or rs i r) (λ v. AreDrawn (slice_index_or bs i b) v.items))
+    → IfOk joined (λ types. (types.items ≡ flat_map types_in rs) × All IsOk rs) → IfOk joined (λ types. AreDrawn (flat_map (λ b. b) bs) types.items)
+drawn_joined bs rs (Err e) len each is = tt
+drawn_joined bs rs (Ok types) len each is = subst (AreDrawn (flat_map (λ b. b) bs)) (sym is.0) (drawn_in_batches bs rs len is.1 each)
