@@ -1,5 +1,5 @@
 -- Program types that are drawn one by one, and in batches.
-use Rattle.std.proofs.Common.{◌≡◌, ℕ, suc, ◌<◌, List, [], ◌∷◌, ◌++◌, length, map, Result, Ok, Err, IsOk, IfOk, slice_index_or, refl, sym, ap, ◌∙◌, subst, append_assoc, arith}
+use Rattle.std.proofs.Common.{◌≡◌, ◌≢◌, ℕ, Some, IfErr, suc, ◌<◌, List, [], ◌∷◌, ◌++◌, length, map, Result, Ok, Err, IsOk, IfOk, slice_index_or, refl, sym, ap, ◌∙◌, subst, append_assoc, arith}
 use Rattle.std.specs.Prelude.{All}
 use Rattle.std.specs.Global.{Vec}
 use Rattle.std.specs.List.{flat_map}
@@ -7,9 +7,10 @@ use Rattle.std.proofs.lemmas.List.{map-append}
 use Rattle.std.proofs.lemmas.List.Concat.{flat_map-cons}
 use Rattle.std.proofs.lemmas.List.Elements.{All-nil, All-cons, All-append, All-tail, All-head}
 use Rattle.plant.specs.declared.plant_fault.PlantFault.{PlantFault}
+use Rattle.plant.specs.declared.plant_fault.PlantFaultKind.TheVariants.{Memory}
 use Rattle.plant.specs.declared.tree.Program.{Program}
 use Rattle.plant.specs.Faultless.{IsLadderOf}
-use Rattle.plant.specs.Steps.Drawn.{AreDrawn, types_in}
+use Rattle.plant.specs.Steps.Drawn.{AreDrawn, IsBodyFault, IsFirstBodyFault, types_in, first_fault}
 use Rattle.plant.specs.Steps.Reading.{TypeValue}
 use Rattle.plant.proofs.TypeLemmas.{map-grown}
 
@@ -19,6 +20,19 @@ pub drawn_more : (ps : List Program) (xs ys : List TypeValue) (x : TypeValue) (p
 drawn_more ps xs ys x p left now more same front before =
     let programs = map (λ (t : TypeValue). t.program) xs in
     ap (λ qs. qs ++ now) (map-grown (λ (t : TypeValue). t.program) xs ys x more) ∙ append_assoc programs (x.program ∷ []) now ∙ ap (λ q. programs ++ q ∷ now) same ∙ ap (λ r. programs ++ r) (sym front) ∙ before
+
+-- the program behind those that are drawn is the first one that is refused
+pub first_refused : (ps : List Program) (types : List TypeValue) (p : Program) (left now : List Program) (fault : PlantFault) → left ≡ p ∷ now → map (λ (t : TypeValue). t.program) types ++ left ≡ ps
+    → All (λ t. IsLadderOf t.program t.ladder) types → IsBodyFault p fault → IsFirstBodyFault ps fault
+first_refused ps types p left now fault front all ladders is = record {
+  before = map (λ (t : TypeValue). t.program) types;
+  faulty = p;
+  behind = now;
+  parts = sym all ∙ ap (λ qs. map (λ (t : TypeValue). t.program) types ++ qs) front;
+  types = types;
+  drawn = record { programs_are = refl; ladders = ladders };
+  fault_is = is;
+}
 
 -- the types of a batch were added
 pub joined_more : (all xs ys : List TypeValue) (v : Vec TypeValue) (left now : List (Result (Vec TypeValue) PlantFault)) → ys ≡ xs ++ v.items → left ≡ Ok v ∷ now → xs ++ flat_map types_in left ≡ all → ys ++ flat_map types_in now ≡ all
@@ -54,3 +68,53 @@ pub drawn_joined : (bs : List (List Program)) (rs : List (Result (Vec TypeValue)
     → IfOk joined (λ types. (types.items ≡ flat_map types_in rs) × All IsOk rs) → IfOk joined (λ types. AreDrawn (flat_map (λ b. b) bs) types.items)
 drawn_joined bs rs (Err e) len each is = tt
 drawn_joined bs rs (Ok types) len each is = subst (AreDrawn (flat_map (λ b. b) bs)) (sym is.0) (drawn_in_batches bs rs len is.1 each)
+
+-- a program that is refused, behind a batch that is drawn
+behind_drawn : (ps qs : List Program) (types : List TypeValue) (fault : PlantFault) → AreDrawn ps types → IsFirstBodyFault qs fault → IsFirstBodyFault (ps ++ qs) fault
+behind_drawn ps qs types fault drawn is = record {
+  before = ps ++ is.before;
+  faulty = is.faulty;
+  behind = is.behind;
+  parts = ap (λ rs. ps ++ rs) is.parts ∙ sym (append_assoc ps is.before (is.faulty ∷ is.behind));
+  types = types ++ is.types;
+  drawn = drawn_both ps is.before types is.types drawn is.drawn;
+  fault_is = is.fault_is;
+}
+
+-- a program that is refused, before other batches
+before_others : (ps qs : List Program) (fault : PlantFault) → IsFirstBodyFault ps fault → IsFirstBodyFault (ps ++ qs) fault
+before_others ps qs fault is = record {
+  before = is.before;
+  faulty = is.faulty;
+  behind = is.behind ++ qs;
+  parts = ap (λ rs. rs ++ qs) is.parts ∙ append_assoc is.before (is.faulty ∷ is.behind) qs;
+  types = is.types;
+  drawn = is.drawn;
+  fault_is = is.fault_is;
+}
+
+-- what is known of the answer for a batch
+abbrev pub IsAnswerFor : List Program → Result (Vec TypeValue) PlantFault → Type 0
+IsAnswerFor b r = IfOk r (λ v. AreDrawn b v.items) × IfErr r (λ fault. fault.kind ≢ Memory → IsFirstBodyFault b fault)
+
+-- the first fault of batches that are drawn, each by itself, is that of the first program that is refused
+pub first_in_batches : (bs : List (List Program)) (rs : List (Result (Vec TypeValue) PlantFault)) (fault : PlantFault) → length rs ≡ length bs → first_fault rs ≡ Some fault → fault.kind ≢ Memory
+    → ((i : ℕ) (b : List Program) (r : Result (Vec TypeValue) PlantFault) → i < length bs → IsAnswerFor (slice_index_or bs i b) (slice_index_or rs i r))
+    → IsFirstBodyFault (flat_map (λ b. b) bs) fault
+first_in_batches [] [] fault len is other each = absurd cc
+first_in_batches [] (r ∷ rs) fault len is other each = absurd (omega (arith, len))
+first_in_batches (b ∷ bs) [] fault len is other each = absurd (omega (arith, len))
+first_in_batches (b ∷ bs) (Err e ∷ rs) fault len is other each =
+    let same : e ≡ fault = cc in
+    let here = subst (λ f. f.kind ≢ Memory → IsFirstBodyFault b f) same (each 0 b (Err e) (omega arith)).1 other in
+    rw (flat_map-cons (λ (b : List Program). b) b bs) (before_others b (flat_map (λ b. b) bs) fault here)
+first_in_batches (b ∷ bs) (Ok v ∷ rs) fault len is other each =
+    let rest = first_in_batches bs rs fault (omega (arith, len)) is other (λ i b' r lt. each (suc i) b' r (omega (arith, lt))) in
+    rw (flat_map-cons (λ (b : List Program). b) b bs) (behind_drawn b (flat_map (λ b. b) bs) v.items fault (each 0 b (Ok v) (omega arith)).0 rest)
+
+-- the same of the answer that joins them
+pub refused_joined : (bs : List (List Program)) (rs : List (Result (Vec TypeValue) PlantFault)) (joined : Result (Vec TypeValue) PlantFault) → length rs ≡ length bs
+    → ((i : ℕ) (b : List Program) (r : Result (Vec TypeValue) PlantFault) → i < length bs → IsAnswerFor (slice_index_or bs i b) (slice_index_or rs i r))
+    → IfErr joined (λ fault. fault.kind ≢ Memory → first_fault rs ≡ Some fault) → IfErr joined (λ fault. fault.kind ≢ Memory → IsFirstBodyFault (flat_map (λ b. b) bs) fault)
+refused_joined bs rs (Ok types) len each is = tt
+refused_joined bs rs (Err fault) len each is = λ other. first_in_batches bs rs fault len (is other) other each

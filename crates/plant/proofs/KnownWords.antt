@@ -1,10 +1,8 @@
 -- The words of a tree are words.
-use Rattle.std.proofs.Common.{◌≡◌, ◌≢◌, ℕ, List, [], ◌∷◌, ◌++◌, Option, Some, None, All, map, sym, subst}
-use Rattle.std.specs.Global.{Vec}
+use Rattle.std.proofs.Common.{◌≡◌, ◌≢◌, ℕ, List, [], ◌∷◌, ◌++◌, Option, Some, None, All, sym, subst}
 use Rattle.std.specs.List.{flat_map}
 use Rattle.std.proofs.lemmas.List.Elements.{All-nil, All-cons, All-append}
 use Rattle.std.proofs.lemmas.List.Concat.{flat_map-cons}
-use Rattle.power_flow.specs.declared.declarations.Kind.{Kind}
 use Rattle.power_flow.specs.declared.declarations.Kind.TheVariants as kind
 use Rattle.plant.specs.declared.token.Token.{Token}
 use Rattle.plant.specs.declared.token.Token.TheVariants as token
@@ -29,7 +27,7 @@ use Rattle.plant.specs.declared.tree.Use.{Use}
 use Rattle.plant.specs.declared.tree.Item.{Item}
 use Rattle.plant.specs.declared.tree.Item.TheVariants as item
 use Rattle.plant.specs.declared.tree.Resource.{Resource}
-use Rattle.plant.specs.Grammar.{Tree, key_word, mark, section_word, kind_word, type_word, name_words, list_words, lists_words, block_words, program_words, interval_words, priority_words, settings, task_words, source_words, bind_words, with_commas, binds_words, listed, use_words, item_words, items_words, resource_words, resources_words, words_of}
+use Rattle.plant.specs.Grammar.{Tree, key_word, mark, section_word, type_word, name_words, list_words, lists_words, block_words, program_words, interval_words, priority_words, settings, task_words, source_words, bind_words, with_commas, binds_words, listed, use_words, item_words, items_words, resource_words, resources_words, words_of}
 
 abbrev IsKnown : Token → Type 0
 IsKnown t = t ≢ token.Unknown

@@ -18,6 +18,7 @@ pub mod Apart
 pub mod WordLists
 pub mod ItemLemmas
 pub mod TypeLemmas
+pub mod BodyLemmas
 pub mod DrawnLemmas
 pub mod VariableLemmas
 pub mod TreeLemmas

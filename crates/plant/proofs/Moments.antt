@@ -9,7 +9,6 @@ use Rattle.std.specs.List.{AllByRecursion}
 use Rattle.std.specs.List.Sorted.{IsPermutation}
 use Rattle.std.proofs.lemmas.List.Sorted.{All-permutation}
 use Rattle.plant.specs.declared.slot.Slot.{Slot}
-use Rattle.plant.specs.declared.plan_fault.PlanFault.{PlanFault}
 use Rattle.plant.specs.PlantValue.{TaskValue, PlantValue, tasks_at}
 use Rattle.plant.specs.Steps.Slots.{slot_of, slots_within, slots_before, is_due, NoneDue, dues_at, dues_until}
 
@@ -54,7 +53,7 @@ filter_left p (x ∷ xs) (suc i) d lt is =
 pub dues_left : (order : List Slot) (m i : ℕ) (d : Slot) → i < length order → is_due m (get_or order i d) ≡ true → length (dues_at (take i order) m) < length (dues_at order m)
 dues_left order m i d lt is = simp length-map (filter_left (is_due m) order i d lt is)
 
-pub kept_fault : {T : Type 0} (e : PlanFault) (P : PlanFault → Type 0) (r : Result T PlanFault) → IsErrAnd r (λ fault. fault ≡ e) → P e → IfErr r P
+pub kept_fault : {T E : Type 0} (e : E) (P : E → Type 0) (r : Result T E) → IsErrAnd r (λ fault. fault ≡ e) → P e → IfErr r P
 kept_fault e P (Ok x) is h = tt
 kept_fault e P (Err fault) is h = subst P (sym is) h
 

@@ -1,8 +1,9 @@
 //! Batches of programs, which threads draw.
 
-ghost use Rattle.std.specs.Prelude.{◌≡◌, ◌++◌, [], ◌∷◌, IfOk, OnOk};
+ghost use Rattle.std.specs.Prelude.{◌≡◌, ◌≢◌, ◌++◌, [], ◌∷◌, IfOk, IfErr, OnOk};
 ghost use Rattle.std.specs.List.{flat_map};
-ghost use Rattle.plant.specs.Steps.Drawn.{AreDrawn};
+ghost use Rattle.plant.specs.declared.plant_fault.PlantFaultKind.TheVariants.{Memory};
+ghost use Rattle.plant.specs.Steps.Drawn.{AreDrawn, IsFirstBodyFault};
 
 use crate::drawn::draw_all;
 use crate::plant_fault::PlantFault;
@@ -52,7 +53,8 @@ impl Batch {
 
     /// The types of its programs. The first fault is answered.
     pub fn draw(self, alloc: Global) -> Result<Vec<ProgramType>, PlantFault>
-        ensures { IfOk result (λ types. AreDrawn self types.items) }
+        ensures ok { IfOk result (λ types. AreDrawn self types.items) }
+        ensures fault { IfErr result (λ fault. fault.kind ≢ Memory → IsFirstBodyFault self fault) }
     {
         draw_all(alloc, self.texts)
     }

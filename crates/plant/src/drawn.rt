@@ -1,8 +1,9 @@
 //! The bodies of program types, drawn one after the other or in threads.
 
-ghost use Rattle.std.specs.Prelude.{◌≡◌, ◌<◌, ◌++◌, List, All, IfOk, IsOk};
+ghost use Rattle.std.specs.Prelude.{◌≡◌, ◌≢◌, ◌<◌, ◌++◌, List, All, IfOk, IfErr, IsOk, Some};
 ghost use Rattle.std.specs.List.{flat_map};
-ghost use Rattle.plant.specs.Steps.Drawn.{AreDrawn, types_in};
+ghost use Rattle.plant.specs.declared.plant_fault.PlantFaultKind.TheVariants.{Memory};
+ghost use Rattle.plant.specs.Steps.Drawn.{AreDrawn, IsFirstBodyFault, types_in, first_fault};
 
 use crate::batch::{Batch, cut};
 use crate::plant_fault::PlantFault;
@@ -17,7 +18,8 @@ const WORTH_THREADS: usize = 100_000;
 
 /// The types of these programs. The first fault is answered.
 pub fn draw_all(alloc: Global, texts: Vec<ProgramText>) -> Result<Vec<ProgramType>, PlantFault>
-    ensures { IfOk result (λ types. AreDrawn texts.items types.items) }
+    ensures ok { IfOk result (λ types. AreDrawn texts.items types.items) }
+    ensures fault { IfErr result (λ fault. fault.kind ≢ Memory → IsFirstBodyFault texts.items fault) }
 {
     let mut types = Vec::new(alloc);
     for text in texts {
@@ -31,7 +33,8 @@ fn join(
     alloc: Global,
     batches: Vec<Result<Vec<ProgramType>, PlantFault>>,
 ) -> Result<Vec<ProgramType>, PlantFault>
-    ensures { IfOk result (λ types. (types.items ≡ flat_map types_in batches.items) × All IsOk batches.items) }
+    ensures ok { IfOk result (λ types. (types.items ≡ flat_map types_in batches.items) × All IsOk batches.items) }
+    ensures fault { IfErr result (λ fault. fault.kind ≢ Memory → first_fault batches.items ≡ Some fault) }
 {
     let mut types = Vec::new(alloc);
     for batch in batches {
@@ -46,7 +49,8 @@ fn draw_batches<R: Threads + Sync>(
     alloc: Global,
     batches: Vec<Batch>,
 ) -> Result<Vec<ProgramType>, PlantFault>
-    ensures { IfOk result (λ types. AreDrawn (flat_map (λ b. b) batches.items) types.items) }
+    ensures ok { IfOk result (λ types. AreDrawn (flat_map (λ b. b) batches.items) types.items) }
+    ensures fault { IfErr result (λ fault. fault.kind ≢ Memory → IsFirstBodyFault (flat_map (λ b. b) batches.items) fault) }
 {
     let drawn = thread::map_vec(rt, batches, &|batch: Batch| batch.draw(alloc))?;
     join(alloc, drawn)
@@ -75,7 +79,8 @@ pub fn draw_in_threads<R: Threads + Sync>(
     alloc: Global,
     texts: Vec<ProgramText>,
 ) -> Result<Vec<ProgramType>, PlantFault>
-    ensures { IfOk result (λ types. AreDrawn texts.items types.items) }
+    ensures ok { IfOk result (λ types. AreDrawn texts.items types.items) }
+    ensures fault { IfErr result (λ fault. fault.kind ≢ Memory → IsFirstBodyFault texts.items fault) }
 {
     let len = len_of(&texts);
     if len < WORTH_THREADS {

@@ -1,5 +1,7 @@
-ghost use Rattle.std.specs.Prelude.{◌≡◌, IfOk};
+ghost use Rattle.std.specs.Prelude.{◌≡◌, ◌≢◌, IfOk, IfErr};
+ghost use Rattle.plant.specs.declared.plant_fault.PlantFaultKind.TheVariants.{Memory};
 ghost use Rattle.plant.specs.Faultless.{variables, IsLadderOf};
+ghost use Rattle.plant.specs.Steps.Drawn.{IsBodyFault};
 
 use crate::plant_fault::PlantFault;
 use crate::program_type::ProgramType;
@@ -64,6 +66,7 @@ impl ProgramText {
     pub fn draw(self, alloc: Global) -> Result<ProgramType, PlantFault>
         ensures program { IfOk result (λ t. t.program ≡ self) }
         ensures ladder { IfOk result (λ t. IsLadderOf t.program t.ladder) }
+        ensures fault { IfErr result (λ fault. fault.kind ≢ Memory → IsBodyFault self fault) }
     {
         let first_line = self.first_line.clamp(1, LAST_LINE);
         let drawing = Drawing::read(alloc, self.program.body.as_str(), first_line)?;

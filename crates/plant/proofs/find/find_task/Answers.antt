@@ -1,7 +1,6 @@
-use Rattle.std.proofs.Common.{◌≡◌, ◌∙◌, ◌<◌, ap, sym, true, length, arith, IsTrue}
+use Rattle.std.proofs.Common.{◌≡◌, ◌∙◌, ◌<◌, ap, sym, true, arith}
 use Rattle.std.specs.Str.{str_to_ascii_lowercase}
 use Rattle.std.proofs.lemmas.Option.{slice_get_within}
-use Rattle.plant.specs.Names.{is_named}
 use Rattle.plant.specs.PlantValue.{TaskValue}
 use Rattle.plant.proofs.NameLemmas.{at_index, named_alike, same_letters, none_more}
 use Rattle.plant.proofs.find.find_task.Goals as goal

@@ -1,4 +1,4 @@
-use Rattle.std.proofs.Common.{◌≡◌, length, refl, sym, ap, arith, ◌∙◌}
+use Rattle.std.proofs.Common.{◌≡◌, length, refl, ap, arith}
 use Rattle.plant.proofs.SameCode.{same_by_items}
 use Rattle.plant.proofs.same_code.have_same_expected.Goals as goal
 

@@ -1,0 +1,30 @@
+use Rattle.std.proofs.Common.{◌≡◌, ◌∙◌, ap}
+use Rattle.plant.specs.declared.tree.Program.{Program}
+use Rattle.ladder_text.specs.Rows.{rows_of}
+use Rattle.ladder_text.specs.Places.{layout_of}
+use Rattle.ladder_text.specs.Picture.{picture_of}
+use Rattle.plant.specs.Faultless.{variables}
+use Rattle.plant.proofs.BodyLemmas.{networks_refused, names_refused}
+use Rattle.plant.proofs.program_text.ProgramText.draw.Goals as goal
+
+pub returns-in_err-graph-clause-fault : goal.returns-in_err-graph-clause-fault
+returns-in_err-graph-clause-fault c =
+    let body : c.as_str.result.now ≡ c.args.self.body = c.as_str.ensures ∙ ap (λ (p : Program). p.body) c.self.view_is in
+    let well = rw body at c.in_ok-drawing.ensures.well_drawn in
+    let drawing : c.in_ok-drawing.drawing ≡ picture_of c.clamp-first_line.result (layout_of (rows_of c.args.self.body)) = rw body at c.in_ok-drawing.ensures.drawing in
+    networks_refused c.args.self c.clamp-first_line.result c.in_err-graph.field-0.0 c.from_residual-in_err-graph.result well c.from_residual-in_err-graph.ensures.1 (rw drawing at c.in_err-graph.ensures.fault)
+
+pub returns-in_err-ladder-clause-fault : goal.returns-in_err-ladder-clause-fault
+returns-in_err-ladder-clause-fault c =
+    let body : c.as_str.result.now ≡ c.args.self.body = c.as_str.ensures ∙ ap (λ (p : Program). p.body) c.self.view_is in
+    let well = rw body at c.in_ok-drawing.ensures.well_drawn in
+    let drawing : c.in_ok-drawing.drawing ≡ picture_of c.clamp-first_line.result (layout_of (rows_of c.args.self.body)) = rw body at c.in_ok-drawing.ensures.drawing in
+    let declared : c.self.inside.declarations ≡ variables c.args.self = c.self.invariant ∙ ap variables c.self.view_is in
+    names_refused c.args.self c.in_err-ladder.field-0.0 c.from_residual-in_err-ladder.result well c.from_residual-in_err-ladder.ensures.1
+    (λ other. record {
+      first_line = c.clamp-first_line.result;
+      graph = c.in_ok-graph.graph;
+      built = rw drawing at c.in_ok-graph.ensures.ok.0;
+      refused = rw declared at c.in_err-ladder.ensures.only other;
+      first = rw declared at c.in_err-ladder.ensures.first other;
+    })
