@@ -13,13 +13,9 @@ mod laws;
 mod name;
 mod outputs;
 mod read_inputs;
-#[cfg(test)]
-mod same_tests;
 mod scan;
 mod take;
 mod task_state;
-#[cfg(test)]
-mod tests;
 
 pub use evaluation::Evaluation;
 pub use field_input::FieldInput;

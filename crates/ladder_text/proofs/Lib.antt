@@ -16,7 +16,6 @@ pub mod SymbolItems
 pub mod BoxPlaces
 pub mod LeftLemmas
 pub mod Soundness
-pub mod FigureLemmas
 pub mod RowBoxLemmas
 pub mod PinRows
 pub mod RisingItems

@@ -6,6 +6,5 @@ pub mod Places
 pub mod Names
 pub mod Faults
 pub mod Picture
-pub mod Figures
 pub mod RowBoxes
 pub mod RowSpans

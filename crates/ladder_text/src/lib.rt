@@ -18,8 +18,6 @@ mod contact;
 mod drawing;
 mod drawn_box;
 mod durations;
-#[cfg(test)]
-mod figures;
 mod grid;
 mod mark;
 mod mark_row;
@@ -40,11 +38,7 @@ mod span;
 mod span_row;
 mod spans;
 mod symbols;
-#[cfg(test)]
-mod tests;
 mod text;
-#[cfg(test)]
-mod word_tests;
 mod worded_page;
 
 pub use coil::{Coil, CoilKind};

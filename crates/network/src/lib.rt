@@ -20,8 +20,6 @@ mod rails;
 mod ranks;
 mod symbols;
 mod tables;
-#[cfg(test)]
-mod tests;
 
 pub use element::Element;
 pub use element_box::ElementBox;

@@ -36,8 +36,6 @@ mod read_tree;
 mod reader;
 mod reading;
 mod resolve;
-#[cfg(test)]
-mod resolve_tests;
 mod resource_draft;
 mod same_code;
 mod slot;
@@ -47,15 +45,11 @@ mod task_code;
 mod task_draft;
 mod task_output;
 mod task_ref;
-#[cfg(test)]
-mod tests_reading;
 mod token;
 mod tree;
 mod variables;
 mod word;
 mod word_kinds;
-#[cfg(test)]
-mod word_tests;
 mod words;
 
 pub use address::{Address, Space};

@@ -25,8 +25,6 @@ mod scan;
 mod source;
 mod starts;
 mod state;
-#[cfg(test)]
-mod tests;
 
 pub use bind::{BindFault, BindKind};
 pub use declarations::{Declaration, Declarations, DeclareFault, Declared, Kind};

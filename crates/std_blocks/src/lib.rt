@@ -5,8 +5,6 @@ mod block_state;
 mod block_type;
 mod pin;
 mod pins;
-#[cfg(test)]
-mod tests;
 mod value;
 
 pub use block_state::BlockState;

@@ -1,52 +1,15 @@
-//! A counter and a watcher, evaluated, and texts of field inputs.
+//! A counter and a watcher, evaluated.
 
-use crate::{
-    Evaluation, FieldInput, Frame, Image, InputFault, Inputs, Name, Take, TaskState, fits_state,
-    suits_takes,
+use crate::worked::PAIR;
+use evaluation::{
+    Evaluation, Frame, Image, Inputs, Name, Take, TaskState, fits_state, suits_takes,
 };
-use plant::{Address, Plant, Space, TaskCode, TaskRef};
+use plant::{Plant, TaskCode, TaskRef};
 use std::alloc::Global;
 use std::process::Abort;
 use std::sync::Arc;
 use std::test::Fail;
 use std_blocks::Value;
-
-/// A fast task that counts up to 3, and a slow one that watches it.
-const PAIR: &str = "PROGRAM COUNT
-VAR_INPUT UP : BOOL; END_VAR
-VAR_OUTPUT N : INT; FULL : BOOL; END_VAR
-VAR C1 : CTU; END_VAR
-|            C1
-|         +-------+
-|  UP     |  CTU  |   FULL
-+--| |----|CU    Q|---( )
-|      3--|PV   CV|--N
-|         +-------+
-END_PROGRAM
-PROGRAM WATCH
-VAR_INPUT N : INT; FULL : BOOL; END_VAR
-VAR_OUTPUT SEEN : INT; HIT : BOOL; END_VAR
-VAR C2 : CTD; END_VAR
-|            C2
-|         +-------+
-|         |  CTD  |
-+---------|LD    Q|
-|      N--|PV   CV|--SEEN
-|         +-------+
-|  FULL     HIT
-+--| |------( )
-END_PROGRAM
-CONFIGURATION PAIR
-  RESOURCE R1 ON NODE
-    TASK FAST(INTERVAL := T#10ms, PRIORITY := 1);
-    PROGRAM A WITH FAST : COUNT(UP := %IX0);
-  END_RESOURCE
-  RESOURCE R2 ON NODE
-    TASK SLOW(INTERVAL := T#20ms, PRIORITY := 1);
-    PROGRAM B WITH SLOW : WATCH(N := R1.A.N, FULL := R1.A.FULL);
-  END_RESOURCE
-END_CONFIGURATION
-";
 
 /// Two programs of one type, of which the second leaves an input unbound.
 const TWO_PROGRAMS: &str = "PROGRAM SHOW
@@ -78,7 +41,7 @@ const SLOW: TaskRef = TaskRef {
 
 /// The code of a task of a plant.
 pub fn code_of(alloc: Global, plant: &str, task: TaskRef) -> Result<Arc<TaskCode>, Fail> {
-    let plant = Plant::read(alloc, plant).ok().ok_or("no plant")?;
+    let plant = Plant::read(alloc, plant)?;
     let code = plant.code(task).ok_or("no task")?;
     Ok(Arc::try_clone(code)?)
 }
@@ -98,7 +61,7 @@ pub fn evaluation_from(
         incarnation: 1,
         number: 1,
     };
-    let inputs = Inputs::read(alloc, inputs).ok().ok_or("no inputs")?;
+    let inputs = Inputs::read(alloc, inputs)?;
     if !fits_state(&code, &before) {
         return Err("the state does not fit".into());
     }
@@ -232,90 +195,6 @@ fn copies_and_shares_are_the_same(rt: HostRuntime) -> Result<(), Fail> {
     assert!(rt; !other_ticket.same(&frame));
     let other_inputs = Frame::new(rt.alloc(), counted(rt.alloc(), 1, "%IX0=0")?)?;
     assert!(rt; !other_inputs.same(&frame));
-    Ok(())
-}
-
-fn fault_of(alloc: Global, text: &str) -> Option<InputFault> {
-    Inputs::read(alloc, text).err()
-}
-
-#[test]
-fn inputs_are_refused(rt: HostRuntime) -> Result<(), Fail> {
-    let alloc = rt.alloc();
-    for text in [
-        "%IX0=2",
-        "%IX0",
-        "=1",
-        "%IX0=",
-        "IX0=1",
-        "%IX0=-0",
-        "%IX0=+1",
-        "%IW0=--1",
-        "%IW0=+1",
-        "%IW0=32768",
-        "%IW0=-32769",
-        "%IX65536=1",
-        "%IX0 =1",
-        "%IX0=1=1",
-        "%QX0=1",
-        "%IX0=1 %IX0=0 %IX1=x",
-    ] {
-        assert_eq!(rt; fault_of(alloc, text), Some(InputFault::Syntax), "{text}");
-    }
-    for text in ["%IX0=1 %IX0=0", "%ix01=1 %IX1=1", "%IW7=1\t%IX7=1 %iw0_7=1"] {
-        assert_eq!(rt; fault_of(alloc, text), Some(InputFault::Twice), "{text}");
-    }
-    Ok(())
-}
-
-/// What an address holds.
-fn held(inputs: &Inputs, space: Space, number: u16) -> Value {
-    inputs.get(Address { space, number })
-}
-
-#[test]
-fn inputs_are_read(rt: HostRuntime) -> Result<(), Fail> {
-    let inputs = Inputs::read(rt.alloc(), "%IW2=-7").ok().ok_or("no inputs")?;
-    let copy = inputs.try_copy()?;
-    for inputs in [&inputs, &copy] {
-        assert_eq!(rt; held(inputs, Space::Word, 2), Value::Int(-7));
-        assert_eq!(rt; held(inputs, Space::Word, 3), Value::Int(0));
-        assert_eq!(rt; held(inputs, Space::Bit, 2), Value::Bool(false));
-    }
-    let text = " \t%iX1=0_1  %Iw3=-32768\t%IW65535=32767 %IW0=-0 %IX3=00 ";
-    let inputs = Inputs::read(rt.alloc(), text).ok().ok_or("no inputs")?;
-    assert_eq!(rt; inputs.listed().len(), 5);
-    assert_eq!(rt; held(&inputs, Space::Bit, 1), Value::Bool(true));
-    assert_eq!(rt; held(&inputs, Space::Word, 3), Value::Int(-32768));
-    assert_eq!(rt; held(&inputs, Space::Word, 65535), Value::Int(32767));
-    assert_eq!(rt; held(&inputs, Space::Word, 0), Value::Int(0));
-    assert_eq!(rt; held(&inputs, Space::Bit, 3), Value::Bool(false));
-    assert!(rt; !inputs.same(&copy));
-    assert_eq!(rt;
-        inputs.listed()[3],
-        FieldInput::Word {
-            number: 0,
-            value: 0
-        }
-    );
-    let nothing = Inputs::read(rt.alloc(), " \t").ok().ok_or("no inputs")?;
-    assert_eq!(rt; nothing.listed().len(), 0);
-    Ok(())
-}
-
-#[test]
-fn the_order_of_inputs_counts(rt: HostRuntime) -> Result<(), Fail> {
-    let one = Inputs::read(rt.alloc(), "%IX0=1 %IX1=0")
-        .ok()
-        .ok_or("no inputs")?;
-    let other = Inputs::read(rt.alloc(), "%IX1=0 %IX0=1")
-        .ok()
-        .ok_or("no inputs")?;
-    let again = Inputs::read(rt.alloc(), "%ix0=1\t%ix1=0")
-        .ok()
-        .ok_or("no inputs")?;
-    assert!(rt; !one.same(&other));
-    assert!(rt; one.same(&again));
     Ok(())
 }
 

@@ -1,9 +1,6 @@
 //! Sources of binds, found by name: which plant they make, and which fault is answered on which line.
 
-use crate::binding::{Binding, Source};
-use crate::plant::Plant;
-use crate::plant_fault::{PlantFault, PlantFaultKind};
-use crate::task_ref::TaskRef;
+use plant::{Binding, Plant, PlantFault, PlantFaultKind, Source, TaskRef};
 use std::alloc::Global;
 use std::test::Fail;
 
@@ -28,7 +25,7 @@ fn read(alloc: Global, configuration: &str) -> Result<Result<Plant, PlantFault>,
 }
 
 fn plant(alloc: Global, configuration: &str) -> Result<Plant, Fail> {
-    Ok(read(alloc, configuration)?.ok().ok_or("a fault")?)
+    Ok(read(alloc, configuration)??)
 }
 
 fn fault(alloc: Global, configuration: &str) -> Result<(PlantFaultKind, u64), Fail> {

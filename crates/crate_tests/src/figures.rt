@@ -2,13 +2,11 @@
 
 ghost use Rattle.ladder_text.specs.Rows.{rows_of};
 ghost use Rattle.ladder_text.specs.Faults.{IsIllDrawn};
-ghost use Rattle.ladder_text.specs.Figures.{IsDrawnAs, IsBranchesListed, IsOnDelayListed, branches, branches_marks, start_stop, start_stop_marks, rising_contact, rising_contact_marks, on_delay, on_delay_marks, parallel_wire, parallel_wire_marks, unattached_box, unattached_box_marks, wire_beside_box, box_without_type, box_without_bottom, cut_drawing, two_words, word_of_two, loose_upright, loose_contact};
-
-use std::test::Fail;
+ghost use Rattle.crate_tests.specs.Figures.{IsDrawnAs, IsBranchesListed, IsOnDelayListed, branches, branches_marks, start_stop, start_stop_marks, rising_contact, rising_contact_marks, on_delay, on_delay_marks, parallel_wire, parallel_wire_marks, unattached_box, unattached_box_marks, wire_beside_box, box_without_type, box_without_bottom, cut_drawing, two_words, word_of_two, loose_upright, loose_contact};
 
 /// The worked drawings are well drawn, and have the marks that are shown.
 #[tactic(auto, using(crate::proofs::FigureLemmas::branches_drawn, crate::proofs::FigureLemmas::start_stop_drawn, crate::proofs::FigureLemmas::rising_contact_drawn, crate::proofs::FigureLemmas::on_delay_drawn, crate::proofs::FigureLemmas::parallel_wire_drawn, crate::proofs::FigureLemmas::unattached_box_drawn))]
-fn are_drawn()
+pub fn are_drawn()
     ensures branches { IsDrawnAs branches branches_marks }
     ensures start_stop { IsDrawnAs start_stop start_stop_marks }
     ensures rising_contact { IsDrawnAs rising_contact rising_contact_marks }
@@ -19,14 +17,14 @@ fn are_drawn()
 
 /// The contacts, coils and boxes of two of them.
 #[tactic(auto, using(crate::proofs::FigureLemmas::branches_listed, crate::proofs::FigureLemmas::on_delay_listed))]
-fn are_listed()
+pub fn are_listed()
     ensures branches { IsBranchesListed }
     ensures on_delay { IsOnDelayListed }
 {}
 
 /// Drawings with a fault aren't well drawn.
 #[tactic(auto, using(crate::proofs::FigureLemmas::wire_beside_box_refused, crate::proofs::FigureLemmas::box_without_type_refused, crate::proofs::FigureLemmas::box_without_bottom_refused, crate::proofs::FigureLemmas::cut_drawing_refused, crate::proofs::FigureLemmas::two_words_refused, crate::proofs::FigureLemmas::word_of_two_refused, crate::proofs::FigureLemmas::loose_upright_refused, crate::proofs::FigureLemmas::loose_contact_refused))]
-fn are_refused()
+pub fn are_refused()
     ensures wire_beside_box { IsIllDrawn (rows_of wire_beside_box) }
     ensures box_without_type { IsIllDrawn (rows_of box_without_type) }
     ensures box_without_bottom { IsIllDrawn (rows_of box_without_bottom) }
@@ -36,11 +34,3 @@ fn are_refused()
     ensures loose_upright { IsIllDrawn (rows_of loose_upright) }
     ensures loose_contact { IsIllDrawn (rows_of loose_contact) }
 {}
-
-#[test]
-fn figures_meet_the_definitions(_rt: HostRuntime) -> Result<(), Fail> {
-    are_drawn();
-    are_listed();
-    are_refused();
-    Ok(())
-}

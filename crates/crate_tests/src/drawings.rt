@@ -1,6 +1,8 @@
 //! What a drawing gives, and where its first fault is.
 
-use crate::{BlockName, CoilKind, ContactKind, DrawFault, DrawFaultKind, Drawing, Mark, Side};
+use ladder_text::{
+    BlockName, CoilKind, ContactKind, DrawFault, DrawFaultKind, Drawing, Mark, Side,
+};
 use std::alloc::{AllocError, Global};
 use std::test::Fail;
 
@@ -179,11 +181,13 @@ fn refuses_at_the_first_place(rt: HostRuntime) {
 }
 
 #[test]
-fn counts_lines_from_the_first(rt: HostRuntime) -> Result<(), Fail> {
-    let fault = Drawing::read(rt.alloc(), "|\n+--*", 7).err().ok_or("read")?;
-    assert_eq!(rt; fault.line, 8);
-    assert_eq!(rt; fault.column, 4);
-    Ok(())
+fn counts_lines_from_the_first(rt: HostRuntime) {
+    let fault = DrawFault {
+        kind: DrawFaultKind::BadMark,
+        line: 8,
+        column: 4,
+    };
+    assert_eq!(rt; Drawing::read(rt.alloc(), "|\n+--*", 7).err(), Some(fault));
 }
 
 #[test]

@@ -1,7 +1,7 @@
 -- The worked drawings, by computation.
-use Rattle.std.proofs.Common.{ℕ, zero, suc, ◌+◌, ◌<◌, ◌≡◌, length, Bool, true, false, ◌&&◌, not, leb, ltb, refl, arith, below_more, IsFalse}
+use Rattle.std.proofs.Common.{ℕ, zero, suc, ◌+◌, ◌<◌, ◌≡◌, length, Bool, true, false, ◌&&◌, not, leb, ltb, refl, arith, below_more, sym, ◌∙◌, IsTrue, IsFalse}
 use Rattle.std.specs.List.{list_any}
-use Rattle.std.proofs.lemmas.Bool.{and_parts, not-true, leb-true, ltb-true}
+use Rattle.std.proofs.lemmas.Bool.{and_parts, not-true, leb-true, ltb-true, true≢false}
 use Rattle.ladder_text.specs.declared.place_fault.PlaceFault.{PlaceFault}
 use Rattle.ladder_text.specs.declared.place_fault.PlaceFault.TheVariants.{BadMark, Crossing, NoSource}
 use Rattle.ladder_text.specs.Rows.{Rows, rows_of, char_at, height, width}
@@ -9,10 +9,22 @@ use Rattle.ladder_text.specs.Chars.{block_name, is_value_word, is_program_word, 
 use Rattle.ladder_text.specs.Boxes.{left_column, begins_box, nearer_pin, outline_at, box_at, row_outlines, outlines}
 use Rattle.ladder_text.specs.Places.{contact_at, coil_at, may_be_rail, has_right_rail, mark, gives, takes, layout_of}
 use Rattle.ladder_text.specs.Names.{in_word, word_at, words, symbol_at, symbols, tops, things, name_above, row_contacts, contacts, row_coils, coils, drawn_boxes}
-use Rattle.ladder_text.specs.Faults.{IsWellDrawn, IsIllDrawn, Nowhere, has_fault, not_ascii, no_left_rail, bad_box, boxes_apart, name_missing, stray_name, some_takes_word, has_stray_operand}
+use Rattle.ladder_text.specs.Faults.{IsWellDrawn, IsIllDrawn, IsFoundAt, Nowhere, has_fault, not_ascii, no_left_rail, bad_box, boxes_apart, name_missing, stray_name, some_takes_word, has_stray_operand}
 use Rattle.ladder_text.specs.Picture.{marks_of, picture_of}
-use Rattle.ladder_text.specs.Figures.{IsDrawnAs, IsBranchesListed, IsOnDelayListed, branches, branches_marks, start_stop, start_stop_marks, rising_contact, rising_contact_marks, on_delay, on_delay_marks, parallel_wire, parallel_wire_marks, unattached_box, unattached_box_marks, wire_beside_box, box_without_type, box_without_bottom, cut_drawing, two_words, word_of_two, loose_upright, loose_contact}
-use Rattle.ladder_text.proofs.IllDrawn.{ill_box, ill_place, ill_stray}
+use Rattle.crate_tests.specs.Figures.{IsDrawnAs, IsBranchesListed, IsOnDelayListed, branches, branches_marks, start_stop, start_stop_marks, rising_contact, rising_contact_marks, on_delay, on_delay_marks, parallel_wire, parallel_wire_marks, unattached_box, unattached_box_marks, wire_beside_box, box_without_type, box_without_bottom, cut_drawing, two_words, word_of_two, loose_upright, loose_contact}
+
+-- nothing is true and false
+clash : (b : Bool) → b ≡ true → b ≡ false → ⊥
+clash b t f = true≢false (sym t ∙ f)
+
+ill_place : (d : Rows) (f : PlaceFault) (r c : ℕ) → IsFoundAt d (has_fault f (layout_of d)) r c → IsIllDrawn d
+ill_place d f r c w well = clash (has_fault f (layout_of d) r c) w.passes (well.places f r c w.in_rows w.in_columns)
+
+ill_box : (d : Rows) (r c : ℕ) → IsFoundAt d (bad_box d) r c → IsIllDrawn d
+ill_box d r c w well = clash (bad_box d r c) w.passes (well.boxes_whole r c w.in_rows w.in_columns)
+
+ill_stray : (d : Rows) (r : ℕ) → r < length d → IsTrue (list_any (stray_name (layout_of d) r) (words (layout_of d) r)) → IsIllDrawn d
+ill_stray d r h t well = clash (list_any (stray_name (layout_of d) r) (words (layout_of d) r)) t (well.named.no_stray_name r h)
 
 -- the test passes at each number below n
 abbrev below : (ℕ → Bool) → ℕ → Bool

@@ -1,25 +1,10 @@
 //! Which networks a drawing has, and where its first fault is.
 
-use crate::{Element, Graph, GraphFault, GraphFaultKind, Network};
+use crate::worked::{BRANCHES, PARALLEL_WIRE, START_STOP, UNATTACHED_BOX};
 use ladder_text::Drawing;
+use network::{Element, Graph, GraphFault, GraphFaultKind, Network};
 use std::alloc::{AllocError, Global};
 use std::test::Fail;
-
-const BRANCHES: &str = "\
-|  A           Y
-+--| |--+------( )
-|       |
-|       +--+
-|  C       |   X
-+--| |-----+---( )
-";
-
-const START_STOP: &str = "\
-|  START      STOP     RUN
-+--| |----+---|/|------( )
-|  RUN    |
-+--| |----+
-";
 
 // A timer under its name.
 const NAMELESS_TIMER: &str = "\
@@ -28,20 +13,6 @@ const NAMELESS_TIMER: &str = "\
 +--| |----|IN    Q|---( )
 | T#30ms--|PT   ET|--E
 |         +-------+
-";
-
-const PARALLEL_WIRE: &str = "\
-|             Y
-+--+-----+----( )
-|  |     |
-|  +-----+
-";
-
-const UNATTACHED_BOX: &str = "\
-|   T1
-|  +-----+
-|  | TON |
-|  +-----+
 ";
 
 // The second network reaches up above the first one, and meets the rail below it.

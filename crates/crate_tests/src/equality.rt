@@ -1,7 +1,7 @@
 //! States, evaluations and frames that differ in one value, one memory or one block, where no output shows it.
 
-use crate::tests::{code_of, evaluation_from};
-use crate::{Evaluation, Frame, TaskState};
+use crate::evaluations::{code_of, evaluation_from};
+use evaluation::{Evaluation, Frame, TaskState};
 use plant::{TaskCode, TaskRef};
 use std::alloc::Global;
 use std::process::Abort;

@@ -1,25 +1,11 @@
 //! What drawings do, scan by scan, with values taken from the block table and the meaning of a network by hand.
 
-use crate::{BindFault, BindKind, Declarations, Ladder, State};
-use ladder_text::Drawing;
-use network::Graph;
+use crate::ladders::{ladder_of, number, scan, set};
+use crate::worked::{ON_DELAY, RISING_CONTACT, START_STOP};
+use power_flow::{Ladder, State};
 use std::alloc::Global;
 use std::process::Abort;
 use std::test::Fail;
-use std_blocks::Value;
-
-const START_STOP: &str =
-    "|  START      STOP     RUN\n+--| |----+---|/|------( )\n|  RUN    |\n+--| |----+\n";
-
-const RISING_CONTACT: &str = "|  A    B     Y\n+--| |--|P|---( )\n";
-
-const ON_DELAY: &str = "|             T1
-|         +-------+
-|  GO     |  TON  |   Y
-+--| |----|IN    Q|---( )
-| T#30ms--|PT   ET|--E
-|         +-------+
-";
 
 const UP_COUNTER: &str = "|             C1
 |         +-------+
@@ -29,42 +15,6 @@ const UP_COUNTER: &str = "|             C1
 |  32767--|PV     |
 |         +-------+
 ";
-
-/// The ladder of a drawing, its names declared by their use; or the first fault of its names.
-fn bind(alloc: Global, drawing: &str) -> Result<Result<Ladder, BindFault>, Fail> {
-    let drawing = Drawing::read(alloc, drawing, 1).ok().ok_or("not drawn")?;
-    let graph = Graph::build(alloc, &drawing).ok().ok_or("no networks")?;
-    let declarations = Declarations::guess(alloc, &graph)?;
-    Ok(Ladder::bind(alloc, graph, declarations))
-}
-
-fn ladder_of(alloc: Global, drawing: &str) -> Result<Ladder, Fail> {
-    let ladder = bind(alloc, drawing)?.ok().ok_or("not bound")?;
-    Ok(ladder)
-}
-
-/// Sets a BOOL by its name.
-fn set(rt: &impl Abort, ladder: &Ladder, state: &mut State, name: &str, on: bool) {
-    let is_set = match ladder.place(name) {
-        Some(place) => state.set(place, Value::Bool(on)),
-        None => false,
-    };
-    assert!(rt; is_set, "no BOOL {name}");
-}
-
-/// The value of a variable by its name: 0 or 1, an INT, or milliseconds.
-fn number(ladder: &Ladder, state: &State, name: &str) -> Option<i64> {
-    match state.get(ladder.place(name)?)? {
-        Value::Bool(on) => Some(i64::from(on)),
-        Value::Int(number) => Some(i64::from(number)),
-        Value::Time(time) => Some(i64::from(time)),
-    }
-}
-
-fn scan(rt: &impl Abort, ladder: &Ladder, state: &mut State, dt: u32) {
-    assert!(rt; ladder.fits(state));
-    ladder.scan(state, dt);
-}
 
 /// Scans a drawing, dt milliseconds apart: before scan k each BOOL is set to its k-th digit, and after it each variable has its k-th value.
 fn compare(
@@ -273,92 +223,5 @@ fn an_up_counter_stops_at_the_greatest_number(rt: HostRuntime) -> Result<(), Fai
     scan(&rt, &ladder, &mut state, 0);
     assert_eq!(rt; number(&ladder, &state, "N"), Some(0));
     assert_eq!(rt; number(&ladder, &state, "FULL"), Some(0));
-    Ok(())
-}
-
-#[test]
-fn faults_of_names_stand_at_their_places(rt: HostRuntime) -> Result<(), Fail> {
-    let too_large = "|             T1
-|         +-------+
-|  GO     |  TON  |   Y
-+--| |----|IN    Q|---( )
-| T#30d---|PT   ET|--E
-|         +-------+
-";
-    let unknown_pin = "|             T1
-|         +-------+
-|  GO     |  TON  |   Y
-+--| |----|IN    Q|---( )
-| T#30ms--|PX   ET|--E
-|         +-------+
-";
-    for (drawing, kind, column) in [
-        (too_large, BindKind::LiteralOutOfRange, 3),
-        (unknown_pin, BindKind::UnknownPin, 11),
-    ] {
-        let fault = BindFault {
-            kind,
-            line: 5,
-            column,
-        };
-        assert_eq!(rt; bind(rt.alloc(), drawing)?.err(), Some(fault));
-    }
-    Ok(())
-}
-
-#[test]
-fn a_copy_of_a_state_is_the_same(rt: HostRuntime) -> Result<(), Fail> {
-    let ladder = ladder_of(rt.alloc(), START_STOP)?;
-    let mut state = ladder.initial(rt.alloc())?;
-    set(&rt, &ladder, &mut state, "START", true);
-    scan(&rt, &ladder, &mut state, 0);
-    let mut copy = state.try_copy()?;
-    assert!(rt; copy.same(&state));
-    for (name, shown) in [("START", 1), ("STOP", 0), ("RUN", 1)] {
-        assert_eq!(rt; number(&ladder, &copy, name), Some(shown));
-    }
-    set(&rt, &ladder, &mut copy, "STOP", true);
-    assert!(rt; !copy.same(&state));
-    Ok(())
-}
-
-#[test]
-fn states_that_differ_where_no_variable_shows_it(rt: HostRuntime) -> Result<(), Fail> {
-    for (drawing, name) in [(RISING_CONTACT, "B"), (ON_DELAY, "GO")] {
-        let ladder = ladder_of(rt.alloc(), drawing)?;
-        let first = ladder.initial(rt.alloc())?;
-        let mut state = first.try_copy()?;
-        set(&rt, &ladder, &mut state, name, true);
-        scan(&rt, &ladder, &mut state, 10);
-        set(&rt, &ladder, &mut state, name, false);
-        for place in 0..ladder.declarations().len() {
-            assert_eq!(rt; state.get(place), first.get(place));
-        }
-        assert!(rt; !state.same(&first), "{name} leaves a mark");
-    }
-    Ok(())
-}
-
-#[test]
-fn ladders_of_one_drawing_are_the_same(rt: HostRuntime) -> Result<(), Fail> {
-    let ladder = ladder_of(rt.alloc(), ON_DELAY)?;
-    assert!(rt; ladder.same(&ladder_of(rt.alloc(), ON_DELAY)?));
-    let other_preset = "|             T1
-|         +-------+
-|  GO     |  TON  |   Y
-+--| |----|IN    Q|---( )
-| T#40ms--|PT   ET|--E
-|         +-------+
-";
-    let other_case = "|             T1
-|         +-------+
-|  go     |  TON  |   Y
-+--| |----|IN    Q|---( )
-| T#30ms--|PT   ET|--E
-|         +-------+
-";
-    for drawing in [START_STOP, other_preset, other_case] {
-        assert!(rt; !ladder.same(&ladder_of(rt.alloc(), drawing)?));
-    }
     Ok(())
 }

@@ -1,6 +1,6 @@
 //! What numbers, durations and names are.
 
-use crate::{
+use ladder_text::{
     BlockName, block_name, duration_up_to, is_duration, is_identifier, is_number, is_plain_name,
     number_up_to,
 };

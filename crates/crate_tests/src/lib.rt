@@ -1,0 +1,44 @@
+//! Tests of the libraries, by their public calls alone, and drawings worked by the definitions of `ladder_text`.
+#![tactic(auto)]
+
+#[cfg(test)]
+mod counters;
+#[cfg(test)]
+mod declarations;
+#[cfg(test)]
+mod drawing_words;
+#[cfg(test)]
+mod drawings;
+#[cfg(test)]
+mod equality;
+#[cfg(test)]
+mod evaluations;
+mod figures;
+#[cfg(test)]
+mod guesses;
+#[cfg(test)]
+mod inputs;
+#[cfg(test)]
+mod ladders;
+#[cfg(test)]
+mod networks;
+#[cfg(test)]
+mod pins;
+#[cfg(test)]
+mod plant_limits;
+#[cfg(test)]
+mod plant_words;
+#[cfg(test)]
+mod plants;
+#[cfg(test)]
+mod scans;
+#[cfg(test)]
+mod sources;
+#[cfg(test)]
+mod states;
+#[cfg(test)]
+mod timers;
+#[cfg(test)]
+mod worked;
+
+pub use figures::{are_drawn, are_listed, are_refused};

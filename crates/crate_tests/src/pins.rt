@@ -1,0 +1,135 @@
+//! Where the pins of blocks are found, and which values, states and outputs are the same.
+
+use std_blocks::{BlockState, BlockType, Field, Pin, PinsOut, Value};
+
+fn input(field: Field) -> Option<Pin> {
+    Some(Pin { left: true, field })
+}
+
+fn output(field: Field) -> Option<Pin> {
+    Some(Pin { left: false, field })
+}
+
+#[test]
+fn finds_pins_of_latches_and_counters(rt: HostRuntime) {
+    let table = [
+        (BlockType::SR, "s1", input(Field::Bit(0))),
+        (BlockType::SR, "R", input(Field::Bit(1))),
+        (BlockType::SR, "q1", output(Field::Bit(0))),
+        (BlockType::SR, "S", None),
+        (BlockType::RS, "s", input(Field::Bit(0))),
+        (BlockType::RS, "r1", input(Field::Bit(1))),
+        (BlockType::RS, "Q1", output(Field::Bit(0))),
+        (BlockType::RS, "q", None),
+        (BlockType::CTU, "cu", input(Field::Bit(0))),
+        (BlockType::CTU, "r", input(Field::Bit(1))),
+        (BlockType::CTU, "pv", input(Field::Int)),
+        (BlockType::CTU, "q", output(Field::Bit(0))),
+        (BlockType::CTU, "cv", output(Field::Int)),
+        (BlockType::CTU, "CD", None),
+        (BlockType::CTD, "Cd", input(Field::Bit(0))),
+        (BlockType::CTD, "lD", input(Field::Bit(1))),
+        (BlockType::CTD, "Pv", input(Field::Int)),
+        (BlockType::CTD, "Q", output(Field::Bit(0))),
+        (BlockType::CTD, "cV", output(Field::Int)),
+        (BlockType::CTD, "", None),
+    ];
+    for (row, &(block, name, pin)) in table.iter().enumerate() {
+        assert_eq!(rt; block.pin(name), pin, "row {row}");
+    }
+}
+
+#[test]
+fn finds_pins_of_both_ways_and_timers(rt: HostRuntime) {
+    let table = [
+        (BlockType::CTUD, "cu", input(Field::Bit(0))),
+        (BlockType::CTUD, "cd", input(Field::Bit(1))),
+        (BlockType::CTUD, "r", input(Field::Bit(2))),
+        (BlockType::CTUD, "ld", input(Field::Bit(3))),
+        (BlockType::CTUD, "pv", input(Field::Int)),
+        (BlockType::CTUD, "qu", output(Field::Bit(0))),
+        (BlockType::CTUD, "qd", output(Field::Bit(1))),
+        (BlockType::CTUD, "cv", output(Field::Int)),
+        (BlockType::CTUD, "q", None),
+        (BlockType::TP, "in", input(Field::Bit(0))),
+        (BlockType::TP, "pt", input(Field::Time)),
+        (BlockType::TP, "q", output(Field::Bit(0))),
+        (BlockType::TP, "et", output(Field::Time)),
+        (BlockType::TP, "cv", None),
+        (BlockType::TON, "IN", input(Field::Bit(0))),
+        (BlockType::TON, "Et", output(Field::Time)),
+        (BlockType::TON, "PX", None),
+        (BlockType::TOF, "Pt", input(Field::Time)),
+        (BlockType::TOF, "Q", output(Field::Bit(0))),
+        (BlockType::TOF, "IN1", None),
+    ];
+    for (row, &(block, name, pin)) in table.iter().enumerate() {
+        assert_eq!(rt; block.pin(name), pin, "row {row}");
+    }
+}
+
+#[test]
+fn values_are_same_by_kind_and_contents(rt: HostRuntime) {
+    assert!(rt; Value::Bool(true).same(&Value::Bool(true)));
+    assert!(rt; !Value::Bool(true).same(&Value::Bool(false)));
+    assert!(rt; Value::Int(-7).same(&Value::Int(-7)));
+    assert!(rt; !Value::Int(-7).same(&Value::Int(7)));
+    assert!(rt; Value::Time(7).same(&Value::Time(7)));
+    assert!(rt; !Value::Time(7).same(&Value::Time(8)));
+    assert!(rt; !Value::Time(7).same(&Value::Int(7)));
+}
+
+#[test]
+fn states_are_same_in_all_fields(rt: HostRuntime) {
+    let state = BlockState::initial(BlockType::CTUD);
+    assert!(rt; state.same(&BlockState::initial(BlockType::CTUD)));
+    let others = [
+        BlockState::initial(BlockType::CTU),
+        BlockState { on: true, ..state },
+        BlockState {
+            last_in: true,
+            ..state
+        },
+        BlockState {
+            last_cu: true,
+            ..state
+        },
+        BlockState {
+            last_cd: true,
+            ..state
+        },
+        BlockState { count: 1, ..state },
+        BlockState {
+            elapsed: 1,
+            ..state
+        },
+    ];
+    for (place, other) in others.iter().enumerate() {
+        assert!(rt; !state.same(other), "at {place}");
+    }
+}
+
+#[test]
+fn outputs_are_same_in_all_fields(rt: HostRuntime) {
+    let shown = PinsOut {
+        bits: [true, false],
+        int: 3,
+        time: 4,
+    };
+    assert!(rt; shown.same(&PinsOut { ..shown }));
+    let others = [
+        PinsOut {
+            bits: [false, false],
+            ..shown
+        },
+        PinsOut {
+            bits: [true, true],
+            ..shown
+        },
+        PinsOut { int: 4, ..shown },
+        PinsOut { time: 3, ..shown },
+    ];
+    for (place, other) in others.iter().enumerate() {
+        assert!(rt; !shown.same(other), "at {place}");
+    }
+}

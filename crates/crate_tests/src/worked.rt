@@ -1,0 +1,89 @@
+//! Drawings and a plant that several tests read.
+
+/// Two branches that join.
+pub const BRANCHES: &str = "\
+|  A           Y
++--| |--+------( )
+|       |
+|       +--+
+|  C       |   X
++--| |-----+---( )
+";
+
+/// A motor's start and stop.
+pub const START_STOP: &str = "\
+|  START      STOP     RUN
++--| |----+---|/|------( )
+|  RUN    |
++--| |----+
+";
+
+/// A contact that sees a rise.
+pub const RISING_CONTACT: &str = "\
+|  A    B     Y
++--| |--|P|---( )
+";
+
+/// A timer with operands on its pins.
+pub const ON_DELAY: &str = "\
+|             T1
+|         +-------+
+|  GO     |  TON  |   Y
++--| |----|IN    Q|---( )
+| T#30ms--|PT   ET|--E
+|         +-------+
+";
+
+/// A wire beside a wire, which is no box.
+pub const PARALLEL_WIRE: &str = "\
+|             Y
++--+-----+----( )
+|  |     |
+|  +-----+
+";
+
+/// A box that no line reaches.
+pub const UNATTACHED_BOX: &str = "\
+|   T1
+|  +-----+
+|  | TON |
+|  +-----+
+";
+
+/// A fast task that counts up to 3, and a slow one that watches it.
+pub const PAIR: &str = "\
+PROGRAM COUNT
+VAR_INPUT UP : BOOL; END_VAR
+VAR_OUTPUT N : INT; FULL : BOOL; END_VAR
+VAR C1 : CTU; END_VAR
+|            C1
+|         +-------+
+|  UP     |  CTU  |   FULL
++--| |----|CU    Q|---( )
+|      3--|PV   CV|--N
+|         +-------+
+END_PROGRAM
+PROGRAM WATCH
+VAR_INPUT N : INT; FULL : BOOL; END_VAR
+VAR_OUTPUT SEEN : INT; HIT : BOOL; END_VAR
+VAR C2 : CTD; END_VAR
+|            C2
+|         +-------+
+|         |  CTD  |
++---------|LD    Q|
+|      N--|PV   CV|--SEEN
+|         +-------+
+|  FULL     HIT
++--| |------( )
+END_PROGRAM
+CONFIGURATION PAIR
+  RESOURCE R1 ON NODE
+    TASK FAST(INTERVAL := T#10ms, PRIORITY := 1);
+    PROGRAM A WITH FAST : COUNT(UP := %IX0);
+  END_RESOURCE
+  RESOURCE R2 ON NODE
+    TASK SLOW(INTERVAL := T#20ms, PRIORITY := 1);
+    PROGRAM B WITH SLOW : WATCH(N := R1.A.N, FULL := R1.A.FULL);
+  END_RESOURCE
+END_CONFIGURATION
+";
