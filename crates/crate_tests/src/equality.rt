@@ -80,6 +80,19 @@ fn evaluated(
     evaluation_from(alloc, 1, task, inputs, Vec::new(alloc), before, code)
 }
 
+/// The state after an evaluation with these inputs.
+fn state_behind(
+    alloc: Global,
+    task: TaskRef,
+    code: &Arc<TaskCode>,
+    inputs: &str,
+    before: TaskState,
+) -> Result<TaskState, Fail> {
+    let evaluation = evaluated(alloc, task, code, inputs, before)?;
+    let after = evaluation.after().try_copy()?;
+    Ok(after)
+}
+
 /// The state after two evaluations with these inputs.
 fn state_after(
     alloc: Global,
@@ -89,11 +102,8 @@ fn state_after(
     second: &str,
 ) -> Result<TaskState, Fail> {
     let before = TaskState::initial(alloc, code)?;
-    let evaluation = evaluated(alloc, task, code, first, before)?;
-    let between = evaluation.after().try_copy()?;
-    let evaluation = evaluated(alloc, task, code, second, between)?;
-    let after = evaluation.after().try_copy()?;
-    Ok(after)
+    let between = state_behind(alloc, task, code, first, before)?;
+    state_behind(alloc, task, code, second, between)
 }
 
 /// Whether all variables of the only programs have the same values.
