@@ -95,3 +95,9 @@ pub finds_number : (spots : List Spot) (rows : List (List ℕ)) (p : Place) (n :
     → (k : ℕ) → (◌≡◌ {A = Option ℕ} (Some n) (Some k) → IsSpot spots k p) × (IsSpot spots k p → ◌≡◌ {A = Option ℕ} (Some n) (Some k))
 finds_number spots rows p n s are at is here k =
     (λ h. (let same : n ≡ k = cc in (s, ap (slice_get spots) (sym same) ∙ is, here)), λ f. sym at ∙ are.whole p k f)
+
+-- each place has one number
+pub one_number : (spots : List Spot) (rows : List (List ℕ)) → AreNumbers spots rows → (i j : ℕ) (p : Place) → IsSpot spots i p → IsSpot spots j p → i ≡ j
+one_number spots rows are i j p f g =
+    let h : Some i ≡ Some j = sym (are.whole p i f) ∙ are.whole p j g in
+    cc

@@ -130,9 +130,10 @@ impl Numbering {
         Some(self.spots[number].element)
     }
 
-    /// All places in the order of their numbers.
+    /// All places in the order of their numbers, each once.
     pub fn spots(&self) -> &[Spot]
-        ensures { result.now ≡ self.now }
+        ensures value { result.now ≡ self.now }
+        ensures once { (i j : ℕ) (p : Place) → IsSpot self.now i p → IsSpot self.now j p → i ≡ j }
     {
         self.spots.as_slice()
     }

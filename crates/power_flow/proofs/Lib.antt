@@ -12,6 +12,7 @@ pub mod FoldedLemmas
 pub mod Places
 pub mod Slots
 pub mod Binds
+pub mod LeastRoom
 pub mod SameNetworks
 pub mod KeptSlots
 pub mod FindingLemmas

@@ -10,12 +10,13 @@ use Rattle.network.specs.Links.{Diagram, Passes, Takes, Stands}
 use Rattle.network.specs.Apart.{Has, first_place}
 use Rattle.network.specs.GraphValue.{diagram, IsSoundNetwork}
 use Rattle.network.specs.Numbers.{IsSpot}
-use Rattle.network.specs.Numbered.{NumberedTo, LinkedFrom, places_of}
+use Rattle.network.specs.Numbered.{NumberedTo, LinkedFrom, IsStop, places_of}
 use Rattle.network.specs.Table.{EndsAt, SymbolEndsAt}
 use Rattle.network.proofs.Neighbours.{place_at, spot_from_place}
 use Rattle.power_flow.specs.Table.{IsTable, IsStep, IsOutside, CanHold, FollowsSource}
 use Rattle.power_flow.specs.Reach.{bit_at}
 use Rattle.power_flow.specs.Circuit.{IsWired, IsLinkIn}
+use Rattle.power_flow.specs.Waiting.{AreStops}
 
 -- numbered places with their links are the table of the diagram
 pub table_is : (d : Diagram) (spots : List Spot) (firsts : List ℕ) (links : List Link)
@@ -67,6 +68,9 @@ element_at (x ∷ xs) (suc k) lt = element_at xs k (let long : suc k < suc (leng
 
 moved_to : (e : Element) (p q : Place) → p ≡ q → Has e p → Has e q
 moved_to e p q same h = rw (← same) h
+
+stop_moved : (e : Element) (p q : Place) → p ≡ q → IsStop e p → IsStop e q
+stop_moved e p q same h = rw (← same) h
 
 module _ (rails : List Place) (es : List Element) (spots seen : List Spot) (firsts : List ℕ) (links : List Link) (starts : List Bool) (places : List Place)
     (sound : IsSoundNetwork (diagram rails es))
@@ -121,3 +125,26 @@ module _ (rails : List Place) (es : List Element) (spots seen : List Spot) (firs
         to = within l.to s.1 (spot_from_place spots l.to s.1 step.to);
         symbol = symbol_within s.0 l.symbol step.ends;
       }
+
+  stop_in : (k : ℕ) (p : Place) → IsSpot spots k p → Contains places p
+  stop_in k p s = contains_at places k p (ap (λ ps. slice_get ps k) places_are ∙ place_at spots k s.0 s.1 ∙ ap Some s.2)
+
+  stop_from : (j : ℕ) (e : Element) (p : Place) → j < length es → slice_get es j ≡ Some e → IsStop e p → Contains places p
+  stop_from j e p lt at (inl first) = (let w = numbered.first j e lt at in stop_in (slice_index firsts j) p (w.0, w.1, w.2 ∙ first))
+  stop_from j e p lt at (inr stop) = (let w = numbered.whole j e p lt at stop in stop_in w.0 p w.1)
+
+  stop_of : (k : ℕ) (p : Place) → slice_get places k ≡ Some p → Any (λ e. IsStop e p) es
+  stop_of k p at =
+      let s = spot_at k p at in
+      let o = numbered.stops k s.0 s.1 in
+      (s.0.element, o.0, slice_get_within es s.0.element o.0 o.1, get_or_from_slice_get es s.0.element o.0 o.0 o.1, stop_moved o.0 s.0.place p s.2 o.2)
+
+  -- the places are those at which state is kept, each once
+  pub stops_are : ((i j : ℕ) (p : Place) → IsSpot spots i p → IsSpot spots j p → i ≡ j) → AreStops d places
+  stops_are one = record {
+    each = λ p. (
+      λ in'. stop_of in'.0 p (slice_get-get_or places in'.0 p in'.1 ∙ ap Some in'.2),
+      λ any. stop_from any.0 any.1 p any.2 (slice_get-get_or es any.0 any.1 any.2 ∙ ap Some any.3) any.4,
+    );
+    once = λ i j p at at'. one i j p (spot_at i p at) (spot_at j p at');
+  }

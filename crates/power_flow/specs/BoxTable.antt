@@ -7,8 +7,7 @@ use Rattle.ladder_text.specs.declared.drawn_box.DrawnBox.{DrawnBox}
 use Rattle.ladder_text.specs.declared.drawn_box.DrawnPin.{DrawnPin}
 use Rattle.ladder_text.specs.declared.drawn_box.Side.{Side}
 use Rattle.ladder_text.specs.declared.drawn_box.Side.TheVariants.{Left, Right}
-use Rattle.network.specs.declared.element.Element.{Element}
-use Rattle.network.specs.declared.element.Element.TheVariants.{Wire, Join, Upright, Contact, Coil, Box}
+use Rattle.network.specs.declared.element.Element.TheVariants.{Box}
 use Rattle.network.specs.Links.{Diagram, PassesRight}
 use Rattle.std_blocks.specs.declared.block_type.BlockType.{BlockType}
 use Rattle.std_blocks.specs.declared.pin.Field.TheVariants.{Bit, Int, Time}
@@ -23,6 +22,7 @@ use Rattle.power_flow.specs.Names.{place_of}
 use Rattle.power_flow.specs.Meaning.{IsDrawn}
 use Rattle.power_flow.specs.Sources.{name_source, pin_source}
 use Rattle.power_flow.specs.Table.{IsOutside}
+pub use Rattle.power_flow.specs.Waiting.{box_of, boxes_of}
 use Rattle.power_flow.specs.BoxSteps.{bit_source, AreApartBoxes}
 
 -- a block of this type is declared at the place
@@ -79,18 +79,6 @@ pub record IsBoundBox (ds : List Declaration) (d : Diagram) (places : List Place
   pub time : (pin : DrawnPin) → IsDrawn b e.block Time pin → e.time ≡ pin_source ds pin
   pub no_time : ((pin : DrawnPin) → IsDrawn b e.block Time pin → ⊥) → e.time ≡ source.Nothing
   pub outputs : AllZip (IsBoundOutput ds d places b e.block) (right_pins b.pins) e.outputs.items
-
--- the boxes among the elements, in their order
-abbrev pub box_of : Element → Option DrawnBox
-box_of (Wire at) = None
-box_of (Join at) = None
-box_of (Upright at) = None
-box_of (Contact c) = None
-box_of (Coil c) = None
-box_of (Box b) = Some b
-
-abbrev pub boxes_of : List Element → List DrawnBox
-boxes_of elements = filter_map box_of elements
 
 -- a box further left comes before
 abbrev pub AreByColumn : List DrawnBox → Type 0

@@ -4,6 +4,7 @@ pub mod Reach
 pub mod Table
 pub mod StateValue
 pub mod LadderValue
+pub mod Waiting
 pub mod Names
 pub mod Steps
 pub mod Circuit

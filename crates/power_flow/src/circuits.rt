@@ -10,6 +10,7 @@ ghost use Rattle.power_flow.specs.Sources.{element_source};
 ghost use Rattle.ladder_text.specs.declared.drawn_box.DrawnBox.{DrawnBox};
 ghost use Rattle.power_flow.specs.BoxFaults.{IsNamedBox};
 ghost use Rattle.power_flow.specs.BoxTable.{AreBoundBoxes};
+ghost use Rattle.power_flow.specs.Waiting.{AreStops};
 
 use crate::box_binding::bind_boxes;
 use crate::circuit::Circuit;
@@ -73,6 +74,7 @@ fn tables_of(
         → AreBoundBoxes declarations.now (diagram rails.now elements.items) c.places.items c.boxes.items) }
     ensures wired { IfOk result (λ c. IsWired (diagram rails.now elements.items) c.places.items c.links.items c.starts.items c.firsts.items) }
     ensures shape { IfOk result (λ c. HasShape c) }
+    ensures stops { IfOk result (λ c. AreStops (diagram rails.now elements.items) c.places.items) }
 {
     let firsts = number_elements(alloc, numbering, &elements)?;
     let links = links_of(alloc, numbering, &elements)?;
@@ -102,6 +104,7 @@ fn circuit_of(
     ensures elements { IfOk result (λ c. c.elements.items ≡ network) }
     ensures circuit { IfOk result (λ c. IsBoundNetwork declarations.now network → IsCircuit declarations.now (diagram rails.now network) c) }
     ensures shape { IfOk result (λ c. HasShape c) }
+    ensures stops { IfOk result (λ c. AreStops (diagram rails.now network) c.places.items) }
 {
     let elements = network.into_elements();
     let sources = sources_of(alloc, declarations, &elements)?;
@@ -120,6 +123,7 @@ pub fn circuits_of(
     ensures elements { IfOk result (λ circuits. map (λ (c : Circuit). c.elements.items) circuits.items ≡ networks.items) }
     ensures circuits { IfOk result (λ circuits. All (IsBoundNetwork declarations.now) networks.items → AreCircuits declarations.now rails.now circuits.items) }
     ensures shape { IfOk result (λ circuits. All HasShape circuits.items) }
+    ensures stops { IfOk result (λ circuits. All (λ c. AreStops (circuit_diagram rails.now c) c.places.items) circuits.items) }
 {
     let rails = Rails::new(alloc, rails)?;
     let mut numbering = Numbering::new(alloc);

@@ -12,31 +12,31 @@ returns-in_err-number c = λ rails apart.
 pub bounds-spots-number : goal.bounds-spots-number
 bounds-spots-number c =
     let f = (c.find.ensures c.in_ok-number.number).0 c.in_ok-number.was in
-    rw c.spots-spots.ensures (slice_get_within c.args.numbering.now c.in_ok-number.number f.0 f.1)
+    rw c.spots-spots.ensures.value (slice_get_within c.args.numbering.now c.in_ok-number.number f.0 f.1)
 
 pub offset_bounds-spots-number : goal.offset_bounds-spots-number
 offset_bounds-spots-number c =
     let f = (c.find.ensures c.in_ok-number.number).0 c.in_ok-number.was in
-    let lt : c.in_ok-number.number < length c.spots-spots.result.now = rw c.spots-spots.ensures (slice_get_within c.args.numbering.now c.in_ok-number.number f.0 f.1) in
+    let lt : c.in_ok-number.number < length c.spots-spots.result.now = rw c.spots-spots.ensures.value (slice_get_within c.args.numbering.now c.in_ok-number.number f.0 f.1) in
     search rules
 
 pub bounds-elements-here : goal.bounds-elements-here
-bounds-elements-here c = rw c.spots-spots.ensures (owned_at c.args.elements.now c.args.numbering.now c.args.from no_spot c.requires.owned c.requires.from)
+bounds-elements-here c = rw c.spots-spots.ensures.value (owned_at c.args.elements.now c.args.numbering.now c.args.from no_spot c.requires.owned c.requires.from)
 
 pub offset_bounds-elements-here : goal.offset_bounds-elements-here
 offset_bounds-elements-here c =
-    let lt : (get_or c.spots-spots.result.now c.args.from no_spot).element < length c.args.elements.now = rw c.spots-spots.ensures (owned_at c.args.elements.now c.args.numbering.now c.args.from no_spot c.requires.owned c.requires.from) in
+    let lt : (get_or c.spots-spots.result.now c.args.from no_spot).element < length c.args.elements.now = rw c.spots-spots.ensures.value (owned_at c.args.elements.now c.args.numbering.now c.args.from no_spot c.requires.owned c.requires.from) in
     search rules
 
 pub bounds-elements-there : goal.bounds-elements-there
 bounds-elements-there c =
     let f = (c.find.ensures c.in_ok-number.number).0 c.in_ok-number.was in
-    rw c.spots-spots.ensures (owned_at c.args.elements.now c.args.numbering.now c.in_ok-number.number no_spot c.requires.owned (slice_get_within c.args.numbering.now c.in_ok-number.number f.0 f.1))
+    rw c.spots-spots.ensures.value (owned_at c.args.elements.now c.args.numbering.now c.in_ok-number.number no_spot c.requires.owned (slice_get_within c.args.numbering.now c.in_ok-number.number f.0 f.1))
 
 pub offset_bounds-elements-there : goal.offset_bounds-elements-there
 offset_bounds-elements-there c =
     let f = (c.find.ensures c.in_ok-number.number).0 c.in_ok-number.was in
-    let lt : (get_or c.spots-spots.result.now c.in_ok-number.number no_spot).element < length c.args.elements.now = rw c.spots-spots.ensures (owned_at c.args.elements.now c.args.numbering.now c.in_ok-number.number no_spot c.requires.owned (slice_get_within c.args.numbering.now c.in_ok-number.number f.0 f.1)) in
+    let lt : (get_or c.spots-spots.result.now c.in_ok-number.number no_spot).element < length c.args.elements.now = rw c.spots-spots.ensures.value (owned_at c.args.elements.now c.args.numbering.now c.in_ok-number.number no_spot c.requires.owned (slice_get_within c.args.numbering.now c.in_ok-number.number f.0 f.1)) in
     search rules
 
 pub returns-then-not-steps : goal.returns-then-not-steps
@@ -47,9 +47,9 @@ returns-then-not-steps c = λ rails apart.
     let f = (c.find.ensures number).0 c.in_ok-number.was in
     let here = get_or spots c.args.from no_spot in
     let there = get_or spots number no_spot in
-    let here_is = rw c.spots-spots.ensures at c.index-elements-here.is in
-    let there_is = rw c.spots-spots.ensures at c.index-elements-there.is in
-    let st = rw c.spots-spots.ensures at c.steps.ensures in
+    let here_is = rw c.spots-spots.ensures.value at c.index-elements-here.is in
+    let there_is = rw c.spots-spots.ensures.value at c.index-elements-there.is in
+    let st = rw c.spots-spots.ensures.value at c.steps.ensures in
     let o = owned_at es spots c.args.from no_spot c.requires.owned c.requires.from in
     let o' = owned_at es spots number no_spot c.requires.owned (slice_get_within spots number f.0 f.1) in
     no_link (record { rails = rails; elements = es }) apart spots c.requires.owned c.args.from number here there c.args.to
@@ -66,13 +66,13 @@ returns-then-ends_at c = λ rails apart.
     let f = (c.find.ensures number).0 c.in_ok-number.was in
     let here = get_or spots c.args.from no_spot in
     let there = get_or spots number no_spot in
-    let here_is = rw c.spots-spots.ensures at c.index-elements-here.is in
-    let there_is = rw c.spots-spots.ensures at c.index-elements-there.is in
-    let st = rw c.spots-spots.ensures at c.steps.ensures in
-    let en = rw c.spots-spots.ensures at c.ends_at.ensures in
+    let here_is = rw c.spots-spots.ensures.value at c.index-elements-here.is in
+    let there_is = rw c.spots-spots.ensures.value at c.index-elements-there.is in
+    let st = rw c.spots-spots.ensures.value at c.steps.ensures in
+    let en = rw c.spots-spots.ensures.value at c.ends_at.ensures in
     let o = owned_at es spots c.args.from no_spot c.requires.owned c.requires.from in
     let o' = owned_at es spots number no_spot c.requires.owned (slice_get_within spots number f.0 f.1) in
-    rw c.spots-spots.ensures (a_link (record { rails = rails; elements = es }) apart spots c.requires.owned c.args.from number here there c.args.to
+    rw c.spots-spots.ensures.value (a_link (record { rails = rails; elements = es }) apart spots c.requires.owned c.args.from number here there c.args.to
     (slice_get-get_or spots c.args.from no_spot c.requires.from) (λ k. rw c.in_ok-number.was at (c.find.ensures k)) (slice_get-get_or spots number no_spot (slice_get_within spots number f.0 f.1))
     c.index-elements-here.result c.index-elements-there.result (Some here.element) (slice_get_read es (length es) here.element c.index-elements-here.result refl o here_is)
     (slice_get_read es (length es) there.element c.index-elements-there.result refl o' there_is)
@@ -86,10 +86,10 @@ returns-else-ends_at c = λ rails apart.
     let f = (c.find.ensures number).0 c.in_ok-number.was in
     let here = get_or spots c.args.from no_spot in
     let there = get_or spots number no_spot in
-    let here_is = rw c.spots-spots.ensures at c.index-elements-here.is in
-    let there_is = rw c.spots-spots.ensures at c.index-elements-there.is in
-    let st = rw c.spots-spots.ensures at c.steps.ensures in
-    let en = rw c.spots-spots.ensures at c.ends_at.ensures in
+    let here_is = rw c.spots-spots.ensures.value at c.index-elements-here.is in
+    let there_is = rw c.spots-spots.ensures.value at c.index-elements-there.is in
+    let st = rw c.spots-spots.ensures.value at c.steps.ensures in
+    let en = rw c.spots-spots.ensures.value at c.ends_at.ensures in
     let o = owned_at es spots c.args.from no_spot c.requires.owned c.requires.from in
     let o' = owned_at es spots number no_spot c.requires.owned (slice_get_within spots number f.0 f.1) in
     a_link (record { rails = rails; elements = es }) apart spots c.requires.owned c.args.from number here there c.args.to
@@ -103,9 +103,9 @@ returns-then-not-leaves c = λ rails apart.
     let spots = c.args.numbering.now in
     let es = c.args.elements.now in
     let here = get_or spots c.args.from no_spot in
-    let here_is = rw c.spots-spots.ensures at c.index-elements-here.is in
+    let here_is = rw c.spots-spots.ensures.value at c.index-elements-here.is in
     let o = owned_at es spots c.args.from no_spot c.requires.owned c.requires.from in
-    let leaves = rw c.spots-spots.ensures at c.leaves.ensures in
+    let leaves = rw c.spots-spots.ensures.value at c.leaves.ensures in
     no_leaving (record { rails = rails; elements = es }) apart spots c.requires.owned c.args.from here c.args.to c.index-elements-here.result
     (slice_get-get_or spots c.args.from no_spot c.requires.from) (slice_get_read es (length es) here.element c.index-elements-here.result refl o here_is)
     (λ f s. false≢true (sym c.if-not-leaves.true ∙ leaves f s))

@@ -15,23 +15,23 @@ returns-in_err-number-clause-exact c = λ rails in' apart.
 pub bounds-spots-number : goal.bounds-spots-number
 bounds-spots-number c =
     let f = (c.find.ensures c.in_ok-number.number).0 c.in_ok-number.was in
-    rw c.spots.ensures (slice_get_within c.args.numbering.now c.in_ok-number.number f.0 f.1)
+    rw c.spots.ensures.value (slice_get_within c.args.numbering.now c.in_ok-number.number f.0 f.1)
 
 pub offset_bounds-spots-number : goal.offset_bounds-spots-number
 offset_bounds-spots-number c =
     let f = (c.find.ensures c.in_ok-number.number).0 c.in_ok-number.was in
-    let lt : c.in_ok-number.number < length c.spots.result.now = rw c.spots.ensures (slice_get_within c.args.numbering.now c.in_ok-number.number f.0 f.1) in
+    let lt : c.in_ok-number.number < length c.spots.result.now = rw c.spots.ensures.value (slice_get_within c.args.numbering.now c.in_ok-number.number f.0 f.1) in
     search rules
 
 pub bounds-elements-spot : goal.bounds-elements-spot
 bounds-elements-spot c =
     let f = (c.find.ensures c.in_ok-number.number).0 c.in_ok-number.was in
-    rw c.spots.ensures (owned_at c.args.elements.now c.args.numbering.now c.in_ok-number.number no_spot c.requires.owned (slice_get_within c.args.numbering.now c.in_ok-number.number f.0 f.1))
+    rw c.spots.ensures.value (owned_at c.args.elements.now c.args.numbering.now c.in_ok-number.number no_spot c.requires.owned (slice_get_within c.args.numbering.now c.in_ok-number.number f.0 f.1))
 
 pub offset_bounds-elements-spot : goal.offset_bounds-elements-spot
 offset_bounds-elements-spot c =
     let f = (c.find.ensures c.in_ok-number.number).0 c.in_ok-number.was in
-    let lt : (get_or c.spots.result.now c.in_ok-number.number no_spot).element < length c.args.elements.now = rw c.spots.ensures (owned_at c.args.elements.now c.args.numbering.now c.in_ok-number.number no_spot c.requires.owned (slice_get_within c.args.numbering.now c.in_ok-number.number f.0 f.1)) in
+    let lt : (get_or c.spots.result.now c.in_ok-number.number no_spot).element < length c.args.elements.now = rw c.spots.ensures.value (owned_at c.args.elements.now c.args.numbering.now c.in_ok-number.number no_spot c.requires.owned (slice_get_within c.args.numbering.now c.in_ok-number.number f.0 f.1)) in
     search rules
 
 pub returns-then-not-takes-clause-exact : goal.returns-then-not-takes-clause-exact
@@ -43,7 +43,7 @@ returns-then-not-takes-clause-exact c = λ rails in' apart.
     let f = (c.find.ensures number).0 c.in_ok-number.was in
     let lt = slice_get_within spots number f.0 f.1 in
     let there = get_or spots number no_spot in
-    let there_is = rw c.spots.ensures at c.index-elements-spot.is in
+    let there_is = rw c.spots.ensures.value at c.index-elements-spot.is in
     let o = owned_at es spots number no_spot c.requires.owned lt in
     not_start (diagram rails es) apart spots c.requires.owned c.requires.page rail (record { row = rail.row; column = c.saturating_add.result }) in' refl
     (λ h. omega (arith, c.saturating_add.ensures)) (λ h. omega (arith, c.saturating_add.ensures)) c.find.result c.find.ensures number c.in_ok-number.was
@@ -64,7 +64,7 @@ returns-clause-exact c = λ rails in' apart.
     let f = (c.find.ensures number).0 c.in_ok-number.was in
     let lt = slice_get_within spots number f.0 f.1 in
     let there = get_or spots number no_spot in
-    let there_is = rw c.spots.ensures at c.index-elements-spot.is in
+    let there_is = rw c.spots.ensures.value at c.index-elements-spot.is in
     let o = owned_at es spots number no_spot c.requires.owned lt in
     a_start (diagram rails es) apart spots c.requires.owned c.requires.page rail (record { row = rail.row; column = c.saturating_add.result }) in' refl
     (λ h. omega (arith, c.saturating_add.ensures)) (λ h. omega (arith, c.saturating_add.ensures)) c.find.result c.find.ensures number c.in_ok-number.was

@@ -13,11 +13,11 @@ loop-spot-preserved c =
     let n = c.loop-spot.spot-index in
     let lt : n < length spots = c.loop-spot-test.true in
     let spot : Spot = get_or spots n no_spot in
-    let owned = rw (← c.spots-spots.ensures) at c.requires in
+    let owned = rw (← c.spots-spots.ensures.value) at c.requires in
     let e = c.index-elements-spot.result in
     let at = slice_get_read es (length es) spot.element e refl (owned_at es spots n no_spot owned lt) c.index-elements-spot.is in
     rw c.in_ok-push.ensures.items (starts_more (diagram c.args.rails.now es) spots owned c.loop-spot.starts.items n spot e c.follows_rail-follows.result
     (slice_get-get_or spots n no_spot lt) at c.follows_rail-follows.ensures c.loop-spot.invariant)
 
 pub returns-clause-marked : goal.returns-clause-marked
-returns-clause-marked c = rw (← c.spots-spots.ensures) (starts_all (diagram c.args.rails.now c.args.elements.now) c.spots-spots.result.now c.loop-spot.starts.items c.loop-spot.spot-index c.loop-spot-test.false c.loop-spot.invariant)
+returns-clause-marked c = rw (← c.spots-spots.ensures.value) (starts_all (diagram c.args.rails.now c.args.elements.now) c.spots-spots.result.now c.loop-spot.starts.items c.loop-spot.spot-index c.loop-spot-test.false c.loop-spot.invariant)
