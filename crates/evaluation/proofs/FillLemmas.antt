@@ -28,7 +28,7 @@ use Rattle.evaluation.specs.Takes.{AreTakesOf}
 use Rattle.evaluation.specs.Meaning.{given, IsFilled, AllFilled}
 use Rattle.evaluation.specs.Filling.{AreReady}
 use Rattle.evaluation.specs.States.{AreStatesOf}
-use Rattle.power_flow.specs.LadderValue.{Fits}
+use Rattle.power_flow.specs.LadderValue.{LadderValue, Fits}
 use Rattle.evaluation.proofs.Lists.{slice_get_some, slice_get-set_same, slice_get-set_other, option_map_some, InPlace, in_place_more, in_place_all}
 
 -- a variable at a place is the slot there
@@ -197,7 +197,7 @@ filled_all inputs takes bindings n s t h all = record {
     bound = λ j b at. h.bound j b (let lt = slice_get_within bindings j b at in omega arith) at;
     unbound = λ place free. h.unbound place (λ j b lt at. free j b at);
   };
-  rest = h.rest;
+  memories = ap (λ (x : StateValue). x.memories) h.rest;
 }
 
 -- what the filling of program k does to its state
@@ -205,14 +205,13 @@ abbrev pub FillsProgram : CodeValue → List FieldInput → List Take → ℕ �
 FillsProgram c inputs takes k s t = IsFilled inputs takes (bindings_at c k) s t × ((p : ProgramValue) → slice_get c.programs k ≡ Some p → Fits p.ladder t)
 
 -- a filled state still fits
-fits_filled : (p : ProgramValue) (inputs : List FieldInput) (takes : List Take) (bindings : List Binding) (s t : StateValue) → Fits p.ladder s → IsFilled inputs takes bindings s t
-    → ((ds : List Declaration) → AreSlotsOf ds s.slots → AreSlotsOf ds t.slots) → Fits p.ladder t
-fits_filled p inputs takes bindings s t h is keeps = record {
-  slots = keeps p.ladder.declarations h.slots;
-  memories = ap (λ (x : StateValue). length x.memories) is.rest ∙ h.memories;
-  waiting_gates = ap (λ (x : StateValue). x.waiting_gates) is.rest ∙ h.waiting_gates;
-  waiting_bits = ap (λ (x : StateValue). x.waiting_bits) is.rest ∙ h.waiting_bits;
-  waiting_results = ap (λ (x : StateValue). x.waiting_results) is.rest ∙ h.waiting_results;
+pub filled_fits : (inputs : List FieldInput) (takes : List Take) (bindings : List Binding) (n : ℕ) (s t : StateValue) (l : LadderValue) → FilledTo inputs takes bindings n s t → Fits l s → Fits l t
+filled_fits inputs takes bindings n s t l h fits = record {
+  slots = h.declared l.declarations fits.slots;
+  memories = ap (λ (x : StateValue). length x.memories) h.rest ∙ fits.memories;
+  waiting_gates = ap (λ (x : StateValue). x.waiting_gates) h.rest ∙ fits.waiting_gates;
+  waiting_bits = ap (λ (x : StateValue). x.waiting_bits) h.rest ∙ fits.waiting_bits;
+  waiting_results = ap (λ (x : StateValue). x.waiting_results) h.rest ∙ fits.waiting_results;
 }
 
 -- the state that comes next is still as it was, and fits
@@ -222,10 +221,10 @@ next_fits c inputs takes i p old now s fits h is at = fits.each i p s at (sym (h
 
 pub fill_more : (c : CodeValue) (inputs : List FieldInput) (takes : List Take) (i : ℕ) (old now : List StateValue) (s t : StateValue) → AreStatesOf c old
     → InPlace (FillsProgram c inputs takes) i old now → slice_get now i ≡ Some s → IsFilled inputs takes (bindings_at c i) s t
-    → ((ds : List Declaration) → AreSlotsOf ds s.slots → AreSlotsOf ds t.slots) → InPlace (FillsProgram c inputs takes) (i + 1) old (set now i t)
+    → ((l : LadderValue) → Fits l s → Fits l t) → InPlace (FillsProgram c inputs takes) (i + 1) old (set now i t)
 fill_more c inputs takes i old now s t fits h is filled keeps =
     in_place_more (FillsProgram c inputs takes) i old now s t h is
-    (filled, λ p at. fits_filled p inputs takes (bindings_at c i) s t (next_fits c inputs takes i p old now s fits h is at) filled keeps)
+    (filled, λ p at. keeps p.ladder (next_fits c inputs takes i p old now s fits h is at))
 
 pub fill_all : (c : CodeValue) (inputs : List FieldInput) (takes : List Take) (i : ℕ) (old now : List StateValue) → InPlace (FillsProgram c inputs takes) i old now → i ≡ length old
     → AllFilled c inputs takes old now

@@ -1,20 +1,23 @@
 -- The task meaning has one result.
-use Rattle.std.proofs.Common.{◌≡◌, ◌≢◌, ◌⊎◌, ℕ, zero, suc, inl, inr, List, [], ◌∷◌, slice_get, map, Some, arith, refl, sym, ap, ◌∙◌, subst}
+use Rattle.std.proofs.Common.{◌≡◌, ◌≢◌, ◌⊎◌, ℕ, zero, suc, inl, inr, List, [], ◌∷◌, slice_get, map, Bool, Option, Some, None, arith, refl, sym, ap, ◌∙◌, subst}
 use Rattle.std.proofs.lemmas.Bool.{cases_eq}
 use Rattle.std.proofs.lemmas.Option.{slice_get_within, same_Some}
 use Rattle.power_flow.specs.declared.state.Slot.{Slot}
-use Rattle.power_flow.specs.StateValue.{StateValue}
+use Rattle.power_flow.specs.StateValue.{StateValue, IsSame, variable_at}
+use Rattle.power_flow.specs.Scan.{ScanMeaning}
+use Rattle.std.specs.Option.{option_and_then}
 use Rattle.power_flow.specs.LadderValue.{LadderValue}
 use Rattle.power_flow.proofs.Determinism.{scan_same}
 use Rattle.plant.specs.declared.binding.Binding.{Binding}
+use Rattle.plant.specs.declared.task_output.TaskOutput.{TaskOutput}
 use Rattle.plant.specs.PlantValue.{CodeValue, bindings_at}
 use Rattle.evaluation.specs.declared.field_input.FieldInput.{FieldInput}
-use Rattle.evaluation.specs.declared.name.Name.{Name}
 use Rattle.evaluation.specs.declared.take.Take.{Take}
 use Rattle.evaluation.specs.Meaning.{Evaluated, IsUnbound, AreFilled, IsFilled, IsScanned, AllFilled, AllScanned, Means, IsMeant, IsAsked, evaluated, output_value}
-use Rattle.evaluation.specs.Laws.{OneMeaning}
-use Rattle.evaluation.proofs.Lists.{same_by_slice_get, same_by_each, slice_get_some}
-use Rattle.evaluation.proofs.StateLemmas.{same_states}
+use Rattle.evaluation.specs.Laws.{OneMeaning, OneEvaluation}
+use Rattle.evaluation.specs.States.{AreStatesOf, AreSame}
+use Rattle.evaluation.proofs.Lists.{same_by_slice_get, slice_get_some, found_not_none}
+use Rattle.evaluation.proofs.StateLemmas.{same_as_itself, states_of_one}
 
 -- a place is bound by some binding, or by none
 bound_or_not : (bindings : List Binding) (place : ℕ) → ((j : ℕ) × (b : Binding) × (slice_get bindings j ≡ Some b) × (b.place ≡ place)) ⊎ IsUnbound bindings place
@@ -30,35 +33,74 @@ bound_or_not (a ∷ more) place = by (cases_eq a.place place) (bound_or_not more
       each zero b at same = ne (ap (λ (x : Binding). x.place) (same_Some a b at) ∙ same)
       each (suc j) b at same = none j b at same
 
-slots_same : (inputs : List FieldInput) (takes : List Take) (bindings : List Binding) (slots x y : List Slot) → AreFilled inputs takes bindings slots x → AreFilled inputs takes bindings slots y → x ≡ y
-slots_same inputs takes bindings slots x y a b = same_by_slice_get x y (λ place. by place (bound_or_not bindings place))
+slots_same : (inputs : List FieldInput) (takes : List Take) (bindings : List Binding) (slots slots2 x y : List Slot) → slots ≡ slots2
+    → AreFilled inputs takes bindings slots x → AreFilled inputs takes bindings slots2 y → x ≡ y
+slots_same inputs takes bindings slots slots2 x y same a b = same_by_slice_get x y (λ place. by place (bound_or_not bindings place))
   where
     by : (place : ℕ) → ((j : ℕ) × (b : Binding) × (slice_get bindings j ≡ Some b) × (b.place ≡ place)) ⊎ IsUnbound bindings place → slice_get x place ≡ slice_get y place
     by place (inl found) = subst (λ (k : ℕ). slice_get x k ≡ slice_get y k) found.3 (a.bound found.0 found.1 found.2 ∙ sym (b.bound found.0 found.1 found.2))
-    by place (inr none) = a.unbound place none ∙ sym (b.unbound place none)
+    by place (inr none) = a.unbound place none ∙ ap (λ (l : List Slot). slice_get l place) same ∙ sym (b.unbound place none)
 
-filled_same : (inputs : List FieldInput) (takes : List Take) (bindings : List Binding) (s x y : StateValue) → IsFilled inputs takes bindings s x → IsFilled inputs takes bindings s y → x ≡ y
-filled_same inputs takes bindings s x y a b =
-    a.rest ∙ ap (λ (l : List Slot). record s { slots = l }) (slots_same inputs takes bindings s.slots x.slots y.slots a.slots b.slots) ∙ sym b.rest
+filled_same : (inputs : List FieldInput) (takes : List Take) (bindings : List Binding) (s s2 x y : StateValue) → IsSame s s2
+    → IsFilled inputs takes bindings s x → IsFilled inputs takes bindings s2 y → IsSame x y
+filled_same inputs takes bindings s s2 x y same a b = record {
+  slots = slots_same inputs takes bindings s.slots s2.slots x.slots y.slots same.slots a.slots b.slots;
+  memories = a.memories ∙ same.memories ∙ sym b.memories;
+}
 
-all_filled_same : (c : CodeValue) (inputs : List FieldInput) (takes : List Take) (before x y : List StateValue) → AllFilled c inputs takes before x → AllFilled c inputs takes before y → x ≡ y
-all_filled_same c inputs takes before x y a b = same_by_each x y (a.many ∙ sym b.many) (λ k s t at found.
-    let was = slice_get_some before k (let lt = slice_get_within x k s at in let many = a.many in omega arith) in
-    filled_same inputs takes (bindings_at c k) was.0 s t (a.each k was.0 s was.1 at) (b.each k was.0 t was.1 found))
+all_filled_same : (c : CodeValue) (inputs : List FieldInput) (takes : List Take) (before before2 x y : List StateValue) → AreSame before before2
+    → AllFilled c inputs takes before x → AllFilled c inputs takes before2 y → AreSame x y
+all_filled_same c inputs takes before before2 x y same a b = record {
+  many = a.many ∙ same.many ∙ sym b.many;
+  each = λ k s t at found.
+      let lt = slice_get_within x k s at in
+      let a_many = a.many in
+      let many = same.many in
+      let was = slice_get_some before k (omega arith) in
+      let was2 = slice_get_some before2 k (omega arith) in
+      filled_same inputs takes (bindings_at c k) was.0 was2.0 s t (same.each k was.0 was2.0 was.1 was2.1) (a.each k was.0 s was.1 at) (b.each k was2.0 t was2.1 found);
+}
 
-scanned_same : (l : LadderValue) (dt : ℕ) (s x y : StateValue) → IsScanned l dt s x → IsScanned l dt s y → x ≡ y
-scanned_same l dt s x y a b =
-    let same = scan_same l.declarations dt l.networks s.slots s.memories x.slots y.slots x.memories y.memories a.wide a.scan b.scan in
-    same_states x y same.0 same.1 (a.waiting_gates ∙ sym b.waiting_gates) (a.waiting_bits ∙ sym b.waiting_bits) (a.waiting_results ∙ sym b.waiting_results)
+scanned_same : (l : LadderValue) (dt : ℕ) (s s2 x y : StateValue) → IsSame s s2 → IsScanned l dt s x → IsScanned l dt s2 y → IsSame x y
+scanned_same l dt s s2 x y same a b =
+    let memories : ScanMeaning l.declarations dt l.networks s2.slots s.memories y.slots y.memories =
+    subst (λ (ms : List Bool). ScanMeaning l.declarations dt l.networks s2.slots ms y.slots y.memories) (sym same.memories) b.scan in
+    let slots : ScanMeaning l.declarations dt l.networks s.slots s.memories y.slots y.memories =
+    subst (λ (x : List Slot). ScanMeaning l.declarations dt l.networks x s.memories y.slots y.memories) (sym same.slots) memories in
+    let one = scan_same l.declarations dt l.networks s.slots s.memories x.slots y.slots x.memories y.memories a.wide a.scan slots in
+    record { slots = one.0; memories = one.1 }
 
-all_scanned_same : (c : CodeValue) (dt : ℕ) (filled x y : List StateValue) → AllScanned c dt filled x → AllScanned c dt filled y → x ≡ y
-all_scanned_same c dt filled x y a b = same_by_each x y (a.as_many ∙ sym b.as_many) (λ k s t at found.
-    let lt = slice_get_within x k s at in
-    let as_many = a.as_many in
-    let many = a.many in
-    let was = slice_get_some filled k (omega arith) in
-    let p = slice_get_some c.programs k (omega arith) in
-    scanned_same (p.0).ladder dt was.0 s t (a.each k p.0 was.0 s p.1 was.1 at) (b.each k p.0 was.0 t p.1 was.1 found))
+all_scanned_same : (c : CodeValue) (dt : ℕ) (filled filled2 x y : List StateValue) → AreSame filled filled2 → AllScanned c dt filled x → AllScanned c dt filled2 y → AreSame x y
+all_scanned_same c dt filled filled2 x y same a b = record {
+  many = a.as_many ∙ same.many ∙ sym b.as_many;
+  each = λ k s t at found.
+      let lt = slice_get_within x k s at in
+      let as_many = a.as_many in
+      let many = a.many in
+      let both = same.many in
+      let was = slice_get_some filled k (omega arith) in
+      let was2 = slice_get_some filled2 k (omega arith) in
+      let p = slice_get_some c.programs k (omega arith) in
+      scanned_same (p.0).ladder dt was.0 was2.0 s t (same.each k was.0 was2.0 was.1 was2.1) (a.each k p.0 was.0 s p.1 was.1 at) (b.each k p.0 was2.0 t p.1 was2.1 found);
+}
+
+-- an output has one value in states that are the same
+output_same : (a b : List StateValue) (o : TaskOutput) → AreSame a b → output_value a o ≡ output_value b o
+output_same a b o same = by (slice_get a o.program) (slice_get b o.program) refl refl
+  where
+    by : (p q : Option StateValue) → slice_get a o.program ≡ p → slice_get b o.program ≡ q → output_value a o ≡ output_value b o
+    by None None e f = ap (option_and_then (λ (s : StateValue). variable_at s.slots o.place)) (e ∙ sym f)
+    by None (Some t) e f = (let lt = slice_get_within b o.program t f in let many = same.many in absurd (found_not_none a o.program (omega arith) e))
+    by (Some s) None e f = (let lt = slice_get_within a o.program s e in let many = same.many in absurd (found_not_none b o.program (omega arith) f))
+    by (Some s) (Some t) e f =
+        ap (option_and_then (λ (s : StateValue). variable_at s.slots o.place)) e
+        ∙ ap (λ (slots : List Slot). variable_at slots o.place) (same.each o.program s t e f).slots
+        ∙ sym (ap (option_and_then (λ (s : StateValue). variable_at s.slots o.place)) f)
+
+outputs_same : (a b : List StateValue) → AreSame a b → (outputs : List TaskOutput) → map (output_value a) outputs ≡ map (output_value b) outputs
+outputs_same a b same [] = refl
+outputs_same a b same (o ∷ outputs) =
+    ap (λ v. v ∷ map (output_value a) outputs) (output_same a b o same) ∙ ap (λ vs. output_value b o ∷ vs) (outputs_same a b same outputs)
 
 somes_same : {X : Type 0} (xs ys : List X) → map (λ v. Some v) xs ≡ map (λ v. Some v) ys → xs ≡ ys
 somes_same [] [] e = refl
@@ -72,20 +114,23 @@ somes_same (x ∷ xs) (y ∷ ys) e =
 
 pub one_meaning : OneMeaning
 unfolding Means
-one_meaning c inputs takes dt before outputs outputs2 after after2 a b =
-    let filled : a.filled ≡ b.filled = all_filled_same c inputs takes before a.filled b.filled a.inputs_filled b.inputs_filled in
-    let scanned : AllScanned c dt a.filled after2 = subst (λ (f : List StateValue). AllScanned c dt f after2) (sym filled) b.programs_scanned in
-    let same : after ≡ after2 = all_scanned_same c dt a.filled after after2 a.programs_scanned scanned in
-    (somes_same outputs outputs2 (a.outputs_read ∙ ap (λ (states : List StateValue). map (output_value states) c.outputs) same ∙ sym b.outputs_read), same)
+one_meaning c inputs takes dt before before2 outputs outputs2 after after2 same a b =
+    let filled = all_filled_same c inputs takes before before2 a.filled b.filled same a.inputs_filled b.inputs_filled in
+    let left = all_scanned_same c dt a.filled b.filled after after2 filled a.programs_scanned b.programs_scanned in
+    (somes_same outputs outputs2 (a.outputs_read ∙ outputs_same after after2 left c.outputs ∙ sym b.outputs_read), left)
 
--- two evaluations of which the same was asked are one
-pub one_evaluation : (ticket : ℕ) (name : Name) (dt : ℕ) (inputs : List FieldInput) (takes : List Take) (before : List StateValue) (code : CodeValue) (x y : Evaluated)
-    → IsAsked ticket name dt inputs takes before code x → IsAsked ticket name dt inputs takes before code y → x ≡ y
+pub one_evaluation : OneEvaluation
 one_evaluation ticket name dt inputs takes before code x y a b =
-    a.is ∙ ap (λ o. evaluated ticket name dt inputs takes before code o x.after) same.0 ∙ ap (λ s. evaluated ticket name dt inputs takes before code y.outputs s) same.1 ∙ sym b.is
+    a.is ∙ ap (λ o. evaluated ticket name dt inputs takes before code o x.after) same.0 ∙ ap (λ s. evaluated ticket name dt inputs takes before code y.outputs s) left ∙ sym b.is
   where
     means : (z : Evaluated) → IsAsked ticket name dt inputs takes before code z → Means code inputs takes dt before z.outputs z.after
     means z c = subst IsMeant c.is c.meant
 
-    same : (x.outputs ≡ y.outputs) × (x.after ≡ y.after)
-    same = one_meaning code inputs takes dt before x.outputs y.outputs x.after y.after (means x a) (means y b)
+    fits : (z : Evaluated) → IsAsked ticket name dt inputs takes before code z → AreStatesOf code z.after
+    fits z c = subst (λ (k : CodeValue). AreStatesOf k z.after) (ap (λ (e : Evaluated). e.code) c.is) c.whole.after_fits
+
+    same : (x.outputs ≡ y.outputs) × AreSame x.after y.after
+    same = one_meaning code inputs takes dt before before x.outputs y.outputs x.after y.after (same_as_itself before) (means x a) (means y b)
+
+    left : x.after ≡ y.after
+    left = states_of_one code x.after y.after (fits x a) (fits y b) same.1

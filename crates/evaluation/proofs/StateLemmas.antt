@@ -1,24 +1,16 @@
 -- States, and the state before the first evaluation.
-use Rattle.std.proofs.Common.{◌≡◌, ℕ, List, [], ◌∷◌, length, slice_get, map, replicate, All, Bool, false, Some, refl, sym, ap, ◌∙◌, subst}
+use Rattle.std.proofs.Common.{◌≡◌, ℕ, List, [], ◌∷◌, length, slice_get, map, replicate, All, Bool, false, Some, refl, sym, ap, ◌∙◌, subst, arith}
 use Rattle.std.proofs.lemmas.List.Elements.{All-head, All-tail}
-use Rattle.std.proofs.lemmas.Option.{slice_get-map, same_Some}
+use Rattle.std.proofs.lemmas.Option.{slice_get-map, slice_get_within, same_Some}
 use Rattle.std.specs.Option.{option_map}
 use Rattle.power_flow.specs.declared.declarations.Declaration.{Declaration}
 use Rattle.power_flow.specs.First.{slot_first}
-use Rattle.power_flow.specs.LadderValue.{LadderValue, Fits}
+use Rattle.power_flow.specs.LadderValue.{LadderValue, Fits, holding}
+use Rattle.power_flow.proofs.FittingStates.{holds, fitting_states}
 use Rattle.power_flow.specs.StateValue.{StateValue}
 use Rattle.plant.specs.PlantValue.{ProgramValue, CodeValue}
-use Rattle.evaluation.specs.States.{initial_state_of, initial_state, AreStatesOf}
-
--- states are equal where all their parts are
-pub same_states : (s t : StateValue) → s.slots ≡ t.slots → s.memories ≡ t.memories → s.waiting_gates ≡ t.waiting_gates → s.waiting_bits ≡ t.waiting_bits
-    → s.waiting_results ≡ t.waiting_results → s ≡ t
-same_states s t a b c d e =
-    ap (λ x. record s { slots = x }) a
-    ∙ ap (λ x. record s { slots = t.slots; memories = x }) b
-    ∙ ap (λ x. record s { slots = t.slots; memories = t.memories; waiting_gates = x }) c
-    ∙ ap (λ x. record s { slots = t.slots; memories = t.memories; waiting_gates = t.waiting_gates; waiting_bits = x }) d
-    ∙ ap (λ x. record t { waiting_results = x }) e
+use Rattle.evaluation.specs.States.{initial_state_of, initial_state, AreStatesOf, AreSame}
+use Rattle.evaluation.proofs.Lists.{same_by_each, slice_get_some}
 
 all_off : (ms : List Bool) → All (λ m. m ≡ false) ms → ms ≡ replicate (length ms) false
 all_off [] h = refl
@@ -31,7 +23,8 @@ pub initial_is : (l : LadderValue) (s : StateValue) → Fits l s → s.slots ≡
     → s ≡ initial_state_of l
 unfolding initial_state_of
 initial_is l s fits slots off =
-    same_states s (initial_state_of l) slots (all_off s.memories off ∙ ap (λ n. replicate n false) fits.memories) fits.waiting_gates fits.waiting_bits fits.waiting_results
+    holds l s fits ∙ ap (λ x. holding l x s.memories) slots
+    ∙ ap (holding l (map (λ (d : Declaration). slot_first d.declared) l.declarations)) (all_off s.memories off ∙ ap (λ n. replicate n false) fits.memories)
 
 pub initial_fits : (c : CodeValue) (states : List StateValue) → states ≡ initial_state c → ((i : ℕ) (p : ProgramValue) → slice_get c.programs i ≡ Some p → Fits p.ladder (initial_state_of p.ladder))
     → length states ≡ length c.programs → AreStatesOf c states
@@ -42,3 +35,19 @@ initial_fits c states is fits many = record {
       ap (λ (l : List StateValue). slice_get l i) is ∙ slice_get-map (λ (p : ProgramValue). initial_state_of p.ladder) c.programs i ∙ ap (option_map (λ (p : ProgramValue). initial_state_of p.ladder)) at in
       subst (Fits p.ladder) (same_Some (initial_state_of p.ladder) s (sym there ∙ found)) (fits i p at);
 }
+
+-- states are the same as themselves
+pub same_as_itself : (states : List StateValue) → AreSame states states
+same_as_itself states = record {
+  many = refl;
+  each = λ i s t at found. (let same : s ≡ t = same_Some s t (sym at ∙ found) in
+      record { slots = ap (λ (x : StateValue). x.slots) same; memories = ap (λ (x : StateValue). x.memories) same });
+}
+
+-- states of one code are equal where they are the same
+pub states_of_one : (c : CodeValue) (a b : List StateValue) → AreStatesOf c a → AreStatesOf c b → AreSame a b → a ≡ b
+states_of_one c a b one other same = same_by_each a b same.many (λ k s t at found.
+    let lt = slice_get_within a k s at in
+    let many = one.many in
+    let p = slice_get_some c.programs k (omega arith) in
+    fitting_states (p.0).ladder s t (one.each k p.0 s p.1 at) (other.each k p.0 t p.1 found) (same.each k s t at found))

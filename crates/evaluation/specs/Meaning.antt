@@ -45,18 +45,15 @@ pub record AreFilled (inputs : List FieldInput) (takes : List Take) (bindings : 
   pub bound : (j : ℕ) (b : Binding) → slice_get bindings j ≡ Some b → slice_get filled b.place ≡ option_map (λ v. Variable v) (given inputs takes b.source)
   pub unbound : (place : ℕ) → IsUnbound bindings place → slice_get filled place ≡ slice_get slots place
 
--- a program's state with its bound inputs filled, and all else as it was
+-- a program's state with its bound inputs filled, and all memories as they were
 pub record IsFilled (inputs : List FieldInput) (takes : List Take) (bindings : List Binding) (s t : StateValue) : Type 0 where
   pub slots : AreFilled inputs takes bindings s.slots t.slots
-  pub rest : t ≡ record s { slots = t.slots }
+  pub memories : t.memories ≡ s.memories
 
 -- one scan of a ladder, from a state to a state (a ladder's boxes are wide)
 pub record IsScanned (l : LadderValue) (dt : ℕ) (s t : StateValue) : Type 0 where
   pub wide : AllAreWide l.networks
   pub scan : ScanMeaning l.declarations dt l.networks s.slots s.memories t.slots t.memories
-  pub waiting_gates : t.waiting_gates ≡ s.waiting_gates
-  pub waiting_bits : t.waiting_bits ≡ s.waiting_bits
-  pub waiting_results : t.waiting_results ≡ s.waiting_results
 
 -- all bound inputs of all programs are filled
 pub record AllFilled (c : CodeValue) (inputs : List FieldInput) (takes : List Take) (before filled : List StateValue) : Type 0 where

@@ -2,7 +2,7 @@
 use Rattle.std.specs.Prelude.{◌≡◌, ℕ, List, Some, length, map, slice_get, replicate, false, sum_by}
 use Rattle.power_flow.specs.declared.declarations.Declaration.{Declaration}
 use Rattle.power_flow.specs.First.{slot_first}
-use Rattle.power_flow.specs.LadderValue.{LadderValue, Fits}
+use Rattle.power_flow.specs.LadderValue.{LadderValue, Fits, holding}
 use Rattle.power_flow.specs.StateValue.{StateValue, IsSame}
 use Rattle.plant.specs.PlantValue.{ProgramValue, CodeValue}
 
@@ -13,13 +13,7 @@ pub record AreStatesOf (c : CodeValue) (states : List StateValue) : Type 0 where
 
 -- the state of a ladder before the first scan: all values FALSE, 0 and T#0ms, all blocks before their first step, all memories OFF
 unfoldable pub initial_state_of : LadderValue → StateValue
-initial_state_of l = record {
-  slots = map (λ (d : Declaration). slot_first d.declared) l.declarations;
-  memories = replicate (sum_by (λ n. length n.elements) l.networks) false;
-  waiting_gates = l.waiting_gates;
-  waiting_bits = l.waiting_bits;
-  waiting_results = l.waiting_results;
-}
+initial_state_of l = holding l (map (λ (d : Declaration). slot_first d.declared) l.declarations) (replicate (sum_by (λ n. length n.elements) l.networks) false)
 
 -- the state of a task before its first evaluation
 abbrev pub initial_state : CodeValue → List StateValue

@@ -1,6 +1,5 @@
-ghost use Rattle.std.specs.Prelude.{◌≡◌, ℕ, List, Some, slice_get};
-ghost use Rattle.power_flow.specs.declared.declarations.Declaration.{Declaration};
-ghost use Rattle.power_flow.specs.StateValue.{AreSlotsOf};
+ghost use Rattle.std.specs.Prelude.{◌≡◌};
+ghost use Rattle.power_flow.specs.LadderValue.{LadderValue, Fits};
 ghost use Rattle.plant.specs.PlantValue.{AreOnce, IsSoundCode};
 ghost use Rattle.plant.specs.declared.binding.Binding.{Binding};
 ghost use Rattle.evaluation.specs.Takes.{AreTakesOf};
@@ -32,7 +31,7 @@ fn fill_program(inputs: &Inputs, takes: &[Take], bindings: &[Binding], state: &m
     requires once { AreOnce bindings.now }
     requires ready { AreReady inputs.now takes.now bindings.now state.old.slots }
     ensures filled { IsFilled inputs.now takes.now bindings.now state.old state.new }
-    ensures declared { (ds : List Declaration) → AreSlotsOf ds state.old.slots → AreSlotsOf ds state.new.slots }
+    ensures fits { (l : LadderValue) → Fits l state.old → Fits l state.new }
 {
     for binding in bindings {
         if let Some(value) = given(inputs, takes, binding.source) {

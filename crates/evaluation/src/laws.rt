@@ -1,6 +1,11 @@
-ghost use Rattle.evaluation.specs.Laws.{OneMeaning};
+ghost use Rattle.evaluation.specs.Laws.{OneMeaning, OneEvaluation};
 
-/// An evaluation of the same code, with the same inputs, takes, elapsed time and state before, gives the same outputs and leaves the same state.
+/// Evaluations of the same code with the same inputs, takes and elapsed time, from states with the same values, blocks and memories, give the same outputs and leave states with the same values, blocks and memories.
 pub fn one_meaning()
     ensures { OneMeaning }
+{}
+
+/// Two evaluations of which the same was asked are equal.
+pub fn one_evaluation()
+    ensures { OneEvaluation }
 {}

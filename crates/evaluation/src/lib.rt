@@ -24,7 +24,7 @@ pub use frame::Frame;
 pub use image::Image;
 pub use input_fault::InputFault;
 pub use inputs::Inputs;
-pub use laws::one_meaning;
+pub use laws::{one_evaluation, one_meaning};
 pub use name::Name;
 pub use take::Take;
 pub use task_state::TaskState;

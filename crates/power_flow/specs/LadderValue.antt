@@ -1,10 +1,11 @@
-use Rattle.std.specs.Prelude.{◌≡◌, ℕ, List, Option, Some, None, slice_get, length, map, sum_by}
+use Rattle.std.specs.Prelude.{◌≡◌, ℕ, List, Bool, Option, Some, None, slice_get, length, map, sum_by}
 use Rattle.std.specs.Option.{option_and_then}
 use Rattle.network.specs.Links.{Diagram}
 use Rattle.network.specs.GraphValue.{GraphValue, diagram}
 use Rattle.power_flow.specs.declared.declarations.Declaration.{Declaration}
 use Rattle.power_flow.specs.declared.declarations.Declared.{Declared}
 use Rattle.power_flow.specs.declared.declarations.Declared.TheVariants.{Input, Output, Local, Instance}
+use Rattle.power_flow.specs.declared.state.Slot.{Slot}
 use Rattle.power_flow.specs.StateValue.{StateValue, AreSlotsOf}
 use Rattle.power_flow.specs.Names.{place_of}
 
@@ -27,6 +28,16 @@ pub record Fits (l : LadderValue) (s : StateValue) : Type 0 where
   pub waiting_gates : s.waiting_gates ≡ l.waiting_gates
   pub waiting_bits : s.waiting_bits ≡ l.waiting_bits
   pub waiting_results : s.waiting_results ≡ l.waiting_results
+
+-- the state that holds these values, blocks and memories and fits the ladder, as far as they do
+abbrev pub holding : LadderValue → List Slot → List Bool → StateValue
+holding l slots memories = record {
+  slots = slots;
+  memories = memories;
+  waiting_gates = l.waiting_gates;
+  waiting_bits = l.waiting_bits;
+  waiting_results = l.waiting_results;
+}
 
 -- the place, if a variable is declared there
 abbrev pub place_if_variable : ℕ → Declared → Option ℕ

@@ -7,7 +7,7 @@ use Rattle.plant.specs.declared.binding.Binding.{Binding}
 use Rattle.std_blocks.specs.declared.value.Value.{Value}
 use Rattle.evaluation.specs.Meaning.{given}
 use Rattle.evaluation.proofs.Lists.{on_true}
-use Rattle.evaluation.proofs.FillLemmas.{FilledTo, filled_more, filled_all, next_kind}
+use Rattle.evaluation.proofs.FillLemmas.{FilledTo, filled_more, filled_all, filled_fits, next_kind}
 use Rattle.evaluation.proofs.fill.fill_program.Goals as goal
 use Rattle.evaluation.proofs.fill.fill_program.Goals.{in-Some, in_default}
 
@@ -39,3 +39,6 @@ loop-binding-preserved c =
 pub returns-clause-filled : goal.returns-clause-filled
 returns-clause-filled c =
     filled_all c.args.inputs.now c.args.takes.now c.args.bindings.now c.loop-binding.binding-index c.args.state.now c.loop-binding.state c.loop-binding.invariant (omega arith)
+
+pub returns-clause-fits : goal.returns-clause-fits
+returns-clause-fits c = λ l fits. filled_fits c.args.inputs.now c.args.takes.now c.args.bindings.now c.loop-binding.binding-index c.args.state.now c.loop-binding.state l c.loop-binding.invariant fits

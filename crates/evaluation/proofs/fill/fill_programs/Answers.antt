@@ -31,7 +31,7 @@ loop-i-preserved c =
     let is : slice_get states i ≡ Some s = slice_get-get_or states i c.index-states-i.result in_states in
     fill_more code c.args.inputs.now c.args.takes.now i c.args.states.now states s c.fill_program.new.state c.requires.fits c.loop-i.invariant is
     (subst (λ (bs : List Binding). IsFilled c.args.inputs.now c.args.takes.now bs s c.fill_program.new.state) c.bindings.ensures c.fill_program.ensures.filled)
-    c.fill_program.ensures.declared
+    c.fill_program.ensures.fits
 
 pub returns-clause-filled : goal.returns-clause-filled
 returns-clause-filled c =
