@@ -13,6 +13,7 @@ pub mod Places
 pub mod Slots
 pub mod Binds
 pub mod LeastRoom
+pub mod OneLadder
 pub mod FittingStates
 pub mod SameNetworks
 pub mod KeptSlots

@@ -29,7 +29,7 @@ pub record Fits (l : LadderValue) (s : StateValue) : Type 0 where
   pub waiting_bits : s.waiting_bits ≡ l.waiting_bits
   pub waiting_results : s.waiting_results ≡ l.waiting_results
 
--- the state that holds these values, blocks and memories and fits the ladder, as far as they do
+-- the state with these values, blocks and memories, and with the ladder's waiting places
 abbrev pub holding : LadderValue → List Slot → List Bool → StateValue
 holding l slots memories = record {
   slots = slots;

@@ -30,5 +30,5 @@ pub use bind::{BindFault, BindKind};
 pub use declarations::{Declaration, Declarations, DeclareFault, Declared, Kind};
 pub use kinds::{block_type, first_value, kind_of};
 pub use ladder::Ladder;
-pub use laws::{fitting_states_are_equal, one_scan};
+pub use laws::{fitting_states_are_equal, one_ladder, one_scan};
 pub use state::{Instance, Slot, State};
