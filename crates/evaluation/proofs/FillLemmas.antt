@@ -26,7 +26,7 @@ use Rattle.evaluation.specs.declared.take.Take.{Take}
 use Rattle.evaluation.specs.Inputs.{address_of, value_of, same_address, same_space, value_or_first, field_value}
 use Rattle.evaluation.specs.Takes.{AreTakesOf}
 use Rattle.evaluation.specs.Meaning.{given, IsFilled, AllFilled}
-use Rattle.evaluation.specs.Filling.{AreReady}
+use Rattle.evaluation.specs.Steps.Filling.{AreReady}
 use Rattle.evaluation.specs.States.{AreStatesOf}
 use Rattle.power_flow.specs.LadderValue.{LadderValue, Fits}
 use Rattle.evaluation.proofs.Lists.{slice_get_some, slice_get-set_same, slice_get-set_other, option_map_some, InPlace, in_place_more, in_place_all}

@@ -4,5 +4,5 @@ pub mod Takes
 pub mod States
 pub mod Meaning
 pub mod Laws
-pub mod Filling
 pub mod InputTexts
+pub mod Steps

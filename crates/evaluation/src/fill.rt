@@ -5,7 +5,7 @@ ghost use Rattle.plant.specs.declared.binding.Binding.{Binding};
 ghost use Rattle.evaluation.specs.Takes.{AreTakesOf};
 ghost use Rattle.evaluation.specs.States.{AreStatesOf};
 ghost use Rattle.evaluation.specs.Meaning.{given, IsFilled, AllFilled};
-ghost use Rattle.evaluation.specs.Filling.{AreReady};
+ghost use Rattle.evaluation.specs.Steps.Filling.{AreReady};
 
 use crate::inputs::Inputs;
 use crate::take::Take;

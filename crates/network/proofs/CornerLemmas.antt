@@ -10,7 +10,7 @@ use Rattle.ladder_text.specs.declared.place.Place.{Place}
 use Rattle.ladder_text.specs.declared.drawn_box.DrawnBox.{DrawnBox}
 use Rattle.network.specs.Links.{place}
 use Rattle.network.specs.Networks.{IsBefore}
-use Rattle.network.specs.Corners.{IsCornerOf, AreFirstCorners, IsEarlier, TakesCorner}
+use Rattle.network.specs.Steps.Corners.{IsCornerOf, AreFirstCorners, IsEarlier, TakesCorner}
 use Rattle.network.proofs.Basics.{some_is, one_at}
 use Rattle.network.proofs.FoundLemmas.{before_self, before_then}
 

@@ -9,8 +9,8 @@ use Rattle.network.specs.declared.element.Element.{Element}
 use Rattle.network.specs.Links.{place}
 use Rattle.network.specs.Apart.{first_place}
 use Rattle.network.specs.Networks.{IsBefore, lowest_row}
-use Rattle.network.specs.Ranks.{ArePlaces, IsUnmetAt, IsTall, IsTallAt, IsFirstOf}
-use Rattle.network.specs.Twice.{IsTwiceIn}
+use Rattle.network.specs.Steps.Ranks.{ArePlaces, IsUnmetAt, IsTall, IsTallAt, IsFirstOf}
+use Rattle.network.specs.Steps.Twice.{IsTwiceIn}
 use Rattle.network.proofs.Basics.{one_at, contains_at, at_contains}
 use Rattle.network.proofs.Spots.{push_cases}
 

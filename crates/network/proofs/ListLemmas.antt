@@ -7,7 +7,7 @@ use Rattle.network.specs.declared.element.Element.{Element}
 use Rattle.network.specs.Links.{place}
 use Rattle.network.specs.Apart.{first_place}
 use Rattle.network.specs.Networks.{Precedes}
-use Rattle.network.specs.Listing.{AreElementsBefore, AreElementsOf, IsTheElementAt, IsNoElementAt}
+use Rattle.network.specs.Steps.Listing.{AreElementsBefore, AreElementsOf, IsTheElementAt, IsNoElementAt}
 use Rattle.network.proofs.Basics.{place_same}
 use Rattle.network.proofs.Spots.{push_old, push_here, push_cases}
 use Rattle.network.proofs.Sharing.{begins, has_on_page, has_row}

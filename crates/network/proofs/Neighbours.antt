@@ -11,8 +11,8 @@ use Rattle.network.specs.Links.{Diagram, Passes, Gives, Takes, Stands}
 use Rattle.network.specs.Apart.{Has, AreApart, Steps}
 use Rattle.network.specs.declared.numbering.Spot.{Spot}
 use Rattle.network.specs.declared.link.Link.{Link}
-use Rattle.network.specs.Numbers.{IsSpot}
-use Rattle.network.specs.Numbered.{AreOwned, places_of, IsLinkTo, LinkedFrom}
+use Rattle.network.specs.Steps.Numbers.{IsSpot}
+use Rattle.network.specs.Steps.Numbered.{AreOwned, places_of, IsLinkTo, LinkedFrom}
 use Rattle.network.specs.Table.{EndsAt, SymbolEndsAt}
 use Rattle.network.specs.Table.{IsStep}
 

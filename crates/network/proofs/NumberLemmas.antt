@@ -9,10 +9,10 @@ use Rattle.ladder_text.specs.declared.drawn_box.Side.{Side}
 use Rattle.ladder_text.specs.declared.drawn_box.Side.TheVariants.{Left, Right}
 use Rattle.network.specs.declared.element.Element.{Element}
 use Rattle.network.specs.Links.{place, Takes, Stands, IsSymbolPlace, IsPinPlace}
-use Rattle.network.specs.Apart.{Has, first_place}
+use Rattle.network.specs.Apart.{Has, first_place, IsStop}
 use Rattle.network.specs.declared.numbering.Spot.{Spot}
-use Rattle.network.specs.Numbers.{IsSpot}
-use Rattle.network.specs.Numbered.{Grows, NumberedTo, IsStop}
+use Rattle.network.specs.Steps.Numbers.{IsSpot}
+use Rattle.network.specs.Steps.Numbered.{Grows, NumberedTo}
 use Rattle.network.proofs.Spots.{push_here, push_old}
 
 place_same : (a b : Place) → a.row ≡ b.row → a.column ≡ b.column → a ≡ b

@@ -14,14 +14,14 @@ use Rattle.network.specs.declared.numbering.Spot.{Spot}
 use Rattle.network.specs.declared.labels.Pair.{Pair}
 use Rattle.network.specs.Links.{Gives, Takes, Stands, IsPinPlace}
 use Rattle.network.specs.Apart.{first_place, Has, Steps}
-use Rattle.network.specs.Numbers.{IsSpot}
-use Rattle.network.specs.Numbered.{AreOwned, NumberedTo}
+use Rattle.network.specs.Steps.Numbers.{IsSpot}
+use Rattle.network.specs.Steps.Numbered.{AreOwned, NumberedTo}
 use Rattle.network.specs.Networks.{IsElementOf, AreLinked, Chained}
 use Rattle.network.specs.Networks.Chained.{here, along}
-use Rattle.network.specs.Joined.{Joined, IsWithin}
-use Rattle.network.specs.Joined.Joined.{here as joined_here, along as joined_along, back as joined_back}
-use Rattle.network.specs.Listing.{AreElementsOf}
-use Rattle.network.specs.Pairs.{AreAllNumbered, IsPairOf, IsNext, IsStepOf, pair_of, IsPairTo, ArePairsTo, AreLabels}
+use Rattle.network.specs.Steps.Joined.{Joined, IsWithin}
+use Rattle.network.specs.Steps.Joined.Joined.{here as joined_here, along as joined_along, back as joined_back}
+use Rattle.network.specs.Steps.Listing.{AreElementsOf}
+use Rattle.network.specs.Steps.Pairs.{AreAllNumbered, IsPairOf, IsNext, IsStepOf, pair_of, IsPairTo, ArePairsTo, AreLabels}
 use Rattle.network.proofs.Basics.{some_is, one_at, place_same}
 use Rattle.network.proofs.Spreading.{Joined-trans, Joined-sym}
 use Rattle.network.proofs.Sharing.{same_number, apart_of}

@@ -14,7 +14,7 @@ use Rattle.network.specs.declared.element.Element.TheVariants.{Wire, Join, Uprig
 use Rattle.network.specs.Links.{place, IsSymbolPlace}
 use Rattle.network.specs.Apart.{first_place, Has, AreOnPage}
 use Rattle.network.specs.Networks.{IsElementOf, IsLeftRail, Precedes}
-use Rattle.network.specs.Listing.{AreElementsOf, IsTheElementAt, IsNoElementAt}
+use Rattle.network.specs.Steps.Listing.{AreElementsOf, IsTheElementAt, IsNoElementAt}
 use Rattle.network.proofs.Basics.{one_at, at_contains}
 
 -- the mark at each place of an element

@@ -3,7 +3,7 @@ use Rattle.std.proofs.lemmas.Bool.{cases_eq}
 use Rattle.std.proofs.lemmas.List.{get_or-set_same, get_or-set_other}
 use Rattle.std.proofs.lemmas.Option.{slice_get_within, slice_get-get_or, get_or_from_slice_get}
 use Rattle.network.specs.declared.element.Element.{Element}
-use Rattle.network.specs.Ranks.{IsIn, AreSplit, IsPut}
+use Rattle.network.specs.Steps.Ranks.{IsIn, AreSplit, IsPut}
 use Rattle.network.proofs.Basics.{some_is, one_at, get_set}
 use Rattle.network.proofs.Spots.{push_old, push_here, push_cases}
 

@@ -2,7 +2,7 @@ use Rattle.std.proofs.Common.{◌≡◌, ◌≢◌, ℕ, ◌⊎◌, Bool, true, 
 use Rattle.std.proofs.lemmas.Bool.{eqb-true, eq-eqb}
 use Rattle.ladder_text.specs.declared.place.Place.{Place}
 use Rattle.network.specs.declared.numbering.Spot.{Spot}
-use Rattle.network.specs.Numbers.{AreNumbers, IsSpot, number_at}
+use Rattle.network.specs.Steps.Numbers.{AreNumbers, IsSpot, number_at}
 
 -- one more at the end of a list
 pub push_old : {A : Type 0} (xs : List A) (x : A) (k : ℕ) (s : A) → slice_get xs k ≡ Some s → slice_get (xs ++ x ∷ []) k ≡ Some s

@@ -2,8 +2,8 @@ use Rattle.std.proofs.Common.{◌≡◌, ℕ, ◌+◌, ◌≤◌, ◌<◌, inl, 
 use Rattle.std.proofs.lemmas.List.{get_or-set_same, get_or-set_other}
 use Rattle.std.proofs.lemmas.Bool.{cases_eq}
 use Rattle.network.specs.declared.labels.Pair.{Pair}
-use Rattle.network.specs.Joined.{Joined, AreChained, AreFalling, IsOneAlong, KeepsClasses}
-use Rattle.network.specs.Joined.Joined.{here, along, back}
+use Rattle.network.specs.Steps.Joined.{Joined, AreChained, AreFalling, IsOneAlong, KeepsClasses}
+use Rattle.network.specs.Steps.Joined.Joined.{here, along, back}
 
 -- chains go both ways, and follow one another
 pub Joined-trans : (pairs : List Pair) {i j k : ℕ} → Joined pairs i j → Joined pairs j k → Joined pairs i k

@@ -12,12 +12,12 @@ use Rattle.network.specs.declared.element.Element.{Element}
 use Rattle.network.specs.declared.element.Element.TheVariants.{Contact, Coil, Box}
 use Rattle.network.specs.declared.numbering.Spot.{Spot}
 use Rattle.network.specs.declared.symbols.Symbols.{Symbols}
-use Rattle.network.specs.Numbers.{IsSpot}
+use Rattle.network.specs.Steps.Numbers.{IsSpot}
 use Rattle.network.specs.Links.{place}
 use Rattle.network.specs.Apart.{first_place}
 use Rattle.network.specs.Networks.{IsElementOf}
-use Rattle.network.specs.Listing.{IsIndex, IsTheElementAt, IsNoElementAt}
-use Rattle.network.specs.Symbols.{AreSymbols}
+use Rattle.network.specs.Steps.Listing.{IsIndex, IsTheElementAt, IsNoElementAt}
+use Rattle.network.specs.Steps.Symbols.{AreSymbols}
 use Rattle.network.proofs.Basics.{one_at, at_contains, contains_at, get_map, map_get}
 use Rattle.network.proofs.Sharing.{mark_of, has_mark, begins, the_element}
 

@@ -8,9 +8,9 @@ use Rattle.network.specs.declared.ranks.Top.{Top}
 use Rattle.network.specs.Links.{place, Takes}
 use Rattle.network.specs.Networks.{IsElementOf, Chained, MeetsAt, IsTop, IsLeftRail, AreLeftRails}
 use Rattle.network.specs.Networks.Chained.{here, along}
-use Rattle.network.specs.Listing.{AreElementsOf}
-use Rattle.network.specs.Pairs.{AreLabels}
-use Rattle.network.specs.Ranks.{AreTops, AreRanksOf, AreEntries, AreRanks}
+use Rattle.network.specs.Steps.Listing.{AreElementsOf}
+use Rattle.network.specs.Steps.Pairs.{AreLabels}
+use Rattle.network.specs.Steps.Ranks.{AreTops, AreRanksOf, AreEntries, AreRanks}
 use Rattle.network.proofs.Basics.{some_is, one_at, at_contains, place_same}
 use Rattle.network.proofs.Spots.{push_old, push_here, push_cases}
 

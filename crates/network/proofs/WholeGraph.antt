@@ -14,9 +14,9 @@ use Rattle.network.specs.Apart.{first_place}
 use Rattle.network.specs.GraphValue.{graph_value, IsSoundGraph}
 use Rattle.network.specs.Networks.{IsElementOf, AreLinked, Chained, MeetsAt, IsTop, AreLeftRails, AreNetworks, IsUnattachedAt, IsTooTallAt, IsTwiceAt, IsFirst, Nowhere}
 use Rattle.network.specs.Networks.Chained.{here, along}
-use Rattle.network.specs.Listing.{AreElementsOf}
-use Rattle.network.specs.Ranks.{AreRanks, AreSplit, IsIn, ArePlaces, IsUnmetAt, IsTallAt, IsFirstOf}
-use Rattle.network.specs.Twice.{IsTwiceIn}
+use Rattle.network.specs.Steps.Listing.{AreElementsOf}
+use Rattle.network.specs.Steps.Ranks.{AreRanks, AreSplit, IsIn, ArePlaces, IsUnmetAt, IsTallAt, IsFirstOf}
+use Rattle.network.specs.Steps.Twice.{IsTwiceIn}
 use Rattle.network.proofs.Basics.{one_at, contains_at, at_contains}
 use Rattle.network.proofs.Sharing.{shared, has_mark, has_on_page, precedes_not, marks_no_rail}
 use Rattle.network.proofs.TopLemmas.{chained_is, chained_then}

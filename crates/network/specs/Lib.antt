@@ -1,14 +1,6 @@
 pub mod Links
 pub mod Apart
 pub mod Table
-pub mod Numbers
-pub mod Numbered
-pub mod Joined
 pub mod GraphValue
 pub mod Networks
-pub mod Listing
-pub mod Symbols
-pub mod Pairs
-pub mod Ranks
-pub mod Corners
-pub mod Twice
+pub mod Steps

@@ -3,7 +3,7 @@ ghost use Rattle.std.specs.BTreeMap.{get_by_text};
 ghost use Rattle.std.specs.Str.{str_to_ascii_lowercase};
 ghost use Rattle.network.specs.Links.{place};
 ghost use Rattle.network.specs.Networks.{IsBefore};
-ghost use Rattle.network.specs.Corners.{AreFirstCorners, IsEarlier, TakesCorner};
+ghost use Rattle.network.specs.Steps.Corners.{AreFirstCorners, IsEarlier, TakesCorner};
 
 use crate::places::is_before;
 use ladder_text::{DrawnBox, Place};

@@ -2,8 +2,8 @@ ghost use Rattle.std.specs.Prelude.{◌≡◌, ◌+◌, ◌≤◌, ◌↔◌, �
 ghost use Rattle.ladder_text.specs.Picture.{IsSound};
 ghost use Rattle.ladder_text.specs.declared.mark.Mark.TheVariants.{Wire, Join, Upright};
 ghost use Rattle.network.specs.Links.{place};
-ghost use Rattle.network.specs.Listing.{AreElementsBefore, AreElementsOf};
-ghost use Rattle.network.specs.Symbols.{AreSymbols};
+ghost use Rattle.network.specs.Steps.Listing.{AreElementsBefore, AreElementsOf};
+ghost use Rattle.network.specs.Steps.Symbols.{AreSymbols};
 
 use crate::element::Element;
 use crate::symbols::{Symbols, element_at, symbols_of};

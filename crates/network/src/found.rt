@@ -2,8 +2,8 @@ ghost use Rattle.std.specs.Prelude.{◌≡◌, ◌+◌, max, ◌≤◌, ◌↔�
 ghost use Rattle.ladder_text.specs.declared.place.Place.{Place};
 ghost use Rattle.network.specs.Apart.{first_place};
 ghost use Rattle.network.specs.Networks.{lowest_row};
-ghost use Rattle.network.specs.Ranks.{ArePlaces, IsUnmetAt, IsTall, IsTallAt};
-ghost use Rattle.network.specs.Twice.{IsTwiceIn};
+ghost use Rattle.network.specs.Steps.Ranks.{ArePlaces, IsUnmetAt, IsTall, IsTallAt};
+ghost use Rattle.network.specs.Steps.Twice.{IsTwiceIn};
 
 use crate::corners::{corner_of, corners_of, is_twice};
 use crate::element::Element;

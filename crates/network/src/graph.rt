@@ -1,6 +1,6 @@
 ghost use Rattle.std.specs.Prelude.{◌≡◌, ◌<◌, ℕ, List, [], Some, IfOk, IfSome, OnOk, slice_get, length};
 ghost use Rattle.network.specs.declared.element.Element.{Element};
-ghost use Rattle.network.specs.Ranks.{AreSplit, IsPut};
+ghost use Rattle.network.specs.Steps.Ranks.{AreSplit, IsPut};
 
 use crate::element::Element;
 use crate::elements::elements_of;

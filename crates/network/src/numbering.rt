@@ -1,6 +1,6 @@
 ghost use Rattle.std.specs.Prelude.{◌≡◌, ◌≢◌, ◌≤◌, ℕ, List, OnOk, Some, length, slice_get};
 ghost use Rattle.ladder_text.specs.declared.place.Place.{Place};
-ghost use Rattle.network.specs.Numbers.{number_at};
+ghost use Rattle.network.specs.Steps.Numbers.{number_at};
 
 use crate::number_row::NumberRow;
 use ladder_text::Place;
@@ -26,7 +26,7 @@ pub struct Numbering {
 impl Model for Numbering {
     ghost use Rattle.std.specs.Prelude.{List};
     ghost use Rattle.network.specs.declared.numbering.Spot.{Spot};
-    ghost use Rattle.network.specs.Numbers.{AreNumbers};
+    ghost use Rattle.network.specs.Steps.Numbers.{AreNumbers};
 
     ghost Value = { List Spot };
 
@@ -77,7 +77,7 @@ fn spot_at(spots: &[Spot], number: usize) -> Option<Spot>
 impl Numbering {
     ghost use Rattle.network.specs.declared.numbering.Spot.{Spot};
     ghost use Rattle.std.specs.Prelude.{◌≡◌, ◌⊎◌, ◌↔◌, ℕ, [], ◌∷◌, ◌++◌, Some, IfOk, OnOk, MatchOption, slice_get, length};
-    ghost use Rattle.network.specs.Numbers.{IsSpot};
+    ghost use Rattle.network.specs.Steps.Numbers.{IsSpot};
 
     pub fn new(alloc: Global) -> Self
         ensures { result ≡ [] }

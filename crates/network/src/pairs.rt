@@ -2,9 +2,9 @@ ghost use Rattle.std.specs.Prelude.{◌≡◌, ◌+◌, ◌<◌, ◌++◌, ℕ, 
 ghost use Rattle.std.specs.Option.{option_to_list};
 ghost use Rattle.ladder_text.specs.Picture.{Picture, IsSound};
 ghost use Rattle.network.specs.Apart.{AreOnPage};
-ghost use Rattle.network.specs.Numbered.{AreOwned};
-ghost use Rattle.network.specs.Listing.{AreElementsOf};
-ghost use Rattle.network.specs.Pairs.{AreAllNumbered, IsPairTo, ArePairsTo, AreLabels};
+ghost use Rattle.network.specs.Steps.Numbered.{AreOwned};
+ghost use Rattle.network.specs.Steps.Listing.{AreElementsOf};
+ghost use Rattle.network.specs.Steps.Pairs.{AreAllNumbered, IsPairTo, ArePairsTo, AreLabels};
 
 use crate::element::Element;
 use crate::labels::{Pair, settle_labels};

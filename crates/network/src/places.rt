@@ -1,6 +1,6 @@
 ghost use Rattle.std.specs.Prelude.{◌≡◌, ◌↔◌, IsTrue, MatchOption, []};
 ghost use Rattle.network.specs.Networks.{IsBefore};
-ghost use Rattle.network.specs.Ranks.{IsFirstOf};
+ghost use Rattle.network.specs.Steps.Ranks.{IsFirstOf};
 
 use ladder_text::Place;
 

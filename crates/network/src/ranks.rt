@@ -4,9 +4,9 @@ ghost use Rattle.network.specs.declared.element.Element.{Element};
 ghost use Rattle.network.specs.Links.{Takes};
 ghost use Rattle.network.specs.Apart.{AreOnPage};
 ghost use Rattle.network.specs.Networks.{AreLeftRails};
-ghost use Rattle.network.specs.Listing.{AreElementsOf};
-ghost use Rattle.network.specs.Pairs.{AreAllNumbered, AreLabels};
-ghost use Rattle.network.specs.Ranks.{AreTops, AreRanksOf, AreEntries, AreRanks};
+ghost use Rattle.network.specs.Steps.Listing.{AreElementsOf};
+ghost use Rattle.network.specs.Steps.Pairs.{AreAllNumbered, AreLabels};
+ghost use Rattle.network.specs.Steps.Ranks.{AreTops, AreRanksOf, AreEntries, AreRanks};
 
 use crate::element::Element;
 use crate::links::takes;

@@ -3,8 +3,8 @@ ghost use Rattle.ladder_text.specs.Picture.{IsSound, mark_at};
 ghost use Rattle.ladder_text.specs.declared.mark.Mark.TheVariants.{ContactPart, CoilPart, BoxPart};
 ghost use Rattle.network.specs.Links.{place};
 ghost use Rattle.network.specs.Networks.{IsElementOf};
-ghost use Rattle.network.specs.Listing.{IsIndex, IsTheElementAt, IsNoElementAt};
-ghost use Rattle.network.specs.Symbols.{contact_places, coil_places, box_places, AreSymbols};
+ghost use Rattle.network.specs.Steps.Listing.{IsIndex, IsTheElementAt, IsNoElementAt};
+ghost use Rattle.network.specs.Steps.Symbols.{contact_places, coil_places, box_places, AreSymbols};
 
 use crate::copies::{copy_box, copy_coil, copy_contact};
 use crate::element::Element;

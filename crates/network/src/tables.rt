@@ -4,9 +4,9 @@ ghost use Rattle.network.specs.declared.element.Element.TheVariants.{Box};
 ghost use Rattle.network.specs.Links.{Diagram, place, Takes, Stands, IsSymbolPlace, IsPinPlace};
 ghost use Rattle.std.specs.Option.{option_to_list};
 ghost use Rattle.network.specs.Apart.{first_place, AreApart, AreOnPage};
-ghost use Rattle.network.specs.Numbers.{IsSpot};
+ghost use Rattle.network.specs.Steps.Numbers.{IsSpot};
 ghost use Rattle.network.specs.declared.numbering.Spot.{Spot};
-ghost use Rattle.network.specs.Numbered.{Grows, AreOwned, NumberedTo, IsLinkTo, LinkedFrom};
+ghost use Rattle.network.specs.Steps.Numbered.{Grows, AreOwned, NumberedTo, IsLinkTo, LinkedFrom};
 
 use crate::element::Element;
 use crate::link::Link;

@@ -14,11 +14,11 @@ use Rattle.power_flow.specs.Binding.{IsBound, IsBoundNetwork, fault_with, variab
 use Rattle.power_flow.specs.Lookup.{declared_at, is_dotted}
 use Rattle.power_flow.proofs.BoxesFaults.{named_box}
 use Rattle.ladder_text.specs.declared.drawn_box.DrawnBox.{DrawnBox}
-use Rattle.power_flow.specs.Circuit.{IsNamed}
+use Rattle.power_flow.specs.Steps.Circuit.{IsNamed}
 use Rattle.power_flow.specs.declared.source.Source.{Source}
 use Rattle.power_flow.specs.declared.source.Source.TheVariants as source
-use Rattle.power_flow.specs.Sources.{element_source}
-use Rattle.power_flow.specs.BoxFaults.{IsNamedBox}
+use Rattle.power_flow.specs.Steps.Sources.{element_source}
+use Rattle.power_flow.specs.Steps.NamedBox.{IsNamedBox}
 use Rattle.std.proofs.lemmas.List.Elements.{All-contains}
 
 -- a name whose first part is all of it has no dot

@@ -9,7 +9,7 @@ use Rattle.network.specs.GraphValue.{diagram, IsSoundNetwork}
 use Rattle.power_flow.specs.declared.circuit.Circuit.{Circuit}
 use Rattle.power_flow.specs.declared.declarations.Declaration.{Declaration}
 use Rattle.power_flow.specs.Binding.{IsBoundNetwork, CanBind}
-use Rattle.power_flow.specs.Circuit.{IsCircuit, AreCircuits, HasShape, HasRoom, circuit_diagram}
+use Rattle.power_flow.specs.Steps.Circuit.{IsCircuit, AreCircuits, HasShape, HasRoom, circuit_diagram}
 use Rattle.power_flow.specs.Scan.{AllAreWide}
 
 -- one network more

@@ -20,15 +20,15 @@ use Rattle.network.specs.declared.element.Element.{Element}
 use Rattle.network.specs.declared.element.Element.TheVariants.{Wire, Join, Upright, Contact, Coil, Box}
 use Rattle.network.specs.declared.numbering.Spot.{Spot}
 use Rattle.network.specs.Links.{Diagram, PassesRight, Gives}
-use Rattle.network.specs.Numbers.{IsSpot}
-use Rattle.network.specs.Numbered.{places_of}
+use Rattle.network.specs.Steps.Numbers.{IsSpot}
+use Rattle.network.specs.Steps.Numbered.{places_of}
 use Rattle.network.proofs.Neighbours.{place_at, spot_from_place}
 use Rattle.power_flow.specs.declared.declarations.Declaration.{Declaration}
 use Rattle.power_flow.specs.declared.bound_box.BoundOutput.{BoundOutput}
 use Rattle.power_flow.specs.Names.{place_of}
 use Rattle.power_flow.specs.Meaning.{IsDrawn}
-use Rattle.power_flow.specs.BoxFaults.{IsDrawnOnce, AreInRange, IsInRange}
-use Rattle.power_flow.specs.BoxTable.{IsBoundOutput, right_place, right_pin, right_pins, output_if, box_of, boxes_of}
+use Rattle.power_flow.specs.Steps.NamedBox.{IsDrawnOnce, AreInRange, IsInRange}
+use Rattle.power_flow.specs.Steps.BoxTable.{IsBoundOutput, right_place, right_pin, right_pins, output_if, box_of, boxes_of}
 use Rattle.power_flow.proofs.BoxesStepping.{some_same}
 use Rattle.power_flow.proofs.BoxesSources.{contains_at, element_at}
 

@@ -10,7 +10,8 @@ use Rattle.std.proofs.lemmas.Bool.{false≢true}
 use Rattle.std.proofs.lemmas.Bool.Decides.{Decides-eqb}
 use Rattle.network.specs.declared.element.Element.{Element}
 use Rattle.power_flow.proofs.FindingLemmas.{parts, first_more}
-use Rattle.power_flow.specs.Findings.{IsFirstOf, IsEarlier}
+use Rattle.power_flow.specs.Findings.{IsFirstOf}
+use Rattle.power_flow.specs.Steps.Earlier.{IsEarlier}
 use Rattle.power_flow.specs.declared.bind.Finding.{Finding}
 use Rattle.std.proofs.lemmas.List.{append-nil}
 use Rattle.power_flow.proofs.BoxesSources.{contains_at}
@@ -33,7 +34,8 @@ use Rattle.power_flow.specs.PinKinds.{type_of, field_kind}
 use Rattle.power_flow.specs.StateValue.{kind_of}
 use Rattle.power_flow.specs.Literals.{literal_value}
 use Rattle.power_flow.specs.Lookup.{declared_at, is_dotted}
-use Rattle.power_flow.specs.BoxFaults.{IsFaultless, IsNamedBox, fault_here, instance_fault, type_number, pin_fault, same_field, same_pin, is_among, operand_finding, pin_findings, pins_findings, corner_findings, box_findings, own_field, field_on, kind_at, operand_fault, read_fault_at, read_fault_by, store_fault_at, store_fault_by, literal_fault, in_range, same_kind, name_kind, store_name_fault}
+use Rattle.power_flow.specs.BoxFaults.{IsFaultless, fault_here, instance_fault, type_number, pin_fault, same_field, same_pin, is_among, operand_finding, pin_findings, pins_findings, corner_findings, box_findings, own_field, field_on, kind_at, operand_fault, read_fault_at, read_fault_by, store_fault_at, store_fault_by, literal_fault, in_range, same_kind, name_kind, store_name_fault}
+use Rattle.power_flow.specs.Steps.NamedBox.{IsNamedBox}
 use Rattle.power_flow.specs.Names.{is_dot}
 use Rattle.std.specs.List.{before_first}
 

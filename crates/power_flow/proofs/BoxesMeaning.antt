@@ -27,16 +27,16 @@ use Rattle.power_flow.specs.declared.state.Slot.{Slot}
 use Rattle.power_flow.specs.declared.state.Slot.TheVariants.{Block}
 use Rattle.power_flow.specs.declared.bound_box.BoundBox.{BoundBox}
 use Rattle.power_flow.specs.declared.bound_box.BoundOutput.{BoundOutput}
-use Rattle.power_flow.specs.Reach.{bit_at}
+use Rattle.power_flow.specs.Steps.Reach.{bit_at}
 use Rattle.power_flow.specs.Power.{IsOn, SymbolEndsAt}
-use Rattle.power_flow.specs.Table.{IsTable, IsOutside, FollowsSource}
+use Rattle.power_flow.specs.Steps.Table.{IsTable, IsOutside, FollowsSource}
 use Rattle.power_flow.specs.Names.{place_of, value_at, value_of, slot_value, is_true, int_or_zero, time_or_zero}
-use Rattle.power_flow.specs.Sources.{source_value, source_bit, name_source}
+use Rattle.power_flow.specs.Steps.Sources.{source_value, source_bit, name_source}
 use Rattle.power_flow.specs.Meaning.{Moment, moment, conducts, IsOutputOn, IsSource, HasPower, IsInputBit, AreInputs, BlocksStep, NetworkMeaning, next_memory, stored, stores, store, side_stores, result_stores, coil_stores, first_place}
 use Rattle.power_flow.specs.Scan.{AreWide}
-use Rattle.power_flow.specs.BoxSteps.{bit_source, box_inputs, box_result, state_in, IsBeginning, AreSettled, IsStepped, pin_store, pin_stores, output_stores}
+use Rattle.power_flow.specs.Steps.BoxSteps.{bit_source, box_inputs, box_result, state_in, IsBeginning, AreSettled, IsStepped, pin_store, pin_stores, output_stores}
 use Rattle.power_flow.specs.StateValue.{AreSlotsOf}
-use Rattle.power_flow.specs.BoxTable.{IsPlaceSource, IsBitSource, IsBoundOutput, IsBoundBox, AreBoundBoxes, right_place, left_place, right_pin, right_pins, boxes_of}
+use Rattle.power_flow.specs.Steps.BoxTable.{IsPlaceSource, IsBitSource, IsBoundOutput, IsBoundBox, AreBoundBoxes, right_place, left_place, right_pin, right_pins, boxes_of}
 use Rattle.power_flow.proofs.PowerLemmas.{on_sources}
 use Rattle.power_flow.proofs.Lists.{Contains-slice_get}
 use Rattle.power_flow.proofs.Stepping.{stored-append}

@@ -32,10 +32,10 @@ use Rattle.power_flow.specs.declared.source.Source.TheVariants as source
 use Rattle.power_flow.specs.declared.bound_box.BoundBox.{BoundBox}
 use Rattle.power_flow.specs.Names.{place_of, value_of, slot_value, shown_at, is_true, is_dot}
 use Rattle.power_flow.specs.Literals.{literal_value, text_value, value_or}
-use Rattle.power_flow.specs.Sources.{source_value, source_bit, slot_output, output_source, declared_source, name_source, operand_source, pin_source}
+use Rattle.power_flow.specs.Steps.Sources.{source_value, source_bit, slot_output, output_source, declared_source, name_source, operand_source, pin_source}
 use Rattle.power_flow.specs.StateValue.{variable_of}
 use Rattle.power_flow.specs.StateValue.{IsSlotOf, AreSlotsOf}
-use Rattle.power_flow.specs.BoxTable.{IsBlockAt, IsBoundBox, right_pin, right_pins, boxes_of}
+use Rattle.power_flow.specs.Steps.BoxTable.{IsBlockAt, IsBoundBox, right_pin, right_pins, boxes_of}
 use Rattle.power_flow.proofs.BoxesStepping.{some_same}
 
 -- lists that go together do so at each place

@@ -11,10 +11,10 @@ use Rattle.network.specs.declared.link.Link.{Link}
 use Rattle.power_flow.specs.declared.bound_box.BoundBox.{BoundBox}
 use Rattle.power_flow.specs.declared.bound_box.BoundOutput.{BoundOutput}
 use Rattle.power_flow.specs.Names.{is_true}
-use Rattle.power_flow.specs.Reach.{bit_at, Reached}
-use Rattle.power_flow.specs.Reach.Reached.{start as begins, along as follows}
-use Rattle.power_flow.specs.BoxSteps.{box_result, ReachedFrom, IsMarked, IsBeginning, AreSettled, IsStepped, AreApartBoxes, pin_stores, output_stores}
-use Rattle.power_flow.specs.BoxSteps.ReachedFrom.{start, along}
+use Rattle.power_flow.specs.Steps.Reach.{bit_at, Reached}
+use Rattle.power_flow.specs.Steps.Reach.Reached.{start as begins, along as follows}
+use Rattle.power_flow.specs.Steps.BoxSteps.{box_result, ReachedFrom, IsMarked, IsBeginning, AreSettled, IsStepped, AreApartBoxes, pin_stores, output_stores}
+use Rattle.power_flow.specs.Steps.BoxSteps.ReachedFrom.{start, along}
 
 pub slice_get-set_same : {X : Type 0} (xs : List X) (i : ℕ) (a : X) → i < length xs → slice_get (set xs i a) i ≡ Some a
 slice_get-set_same [] i a lt = absurd (omega arith)

@@ -2,7 +2,7 @@ use Rattle.std.proofs.Common.{◌≡◌, ℕ, zero, suc, ◌<◌, ◌≤◌, inl
 use Rattle.std.specs.Str.{str_eq_ignore_ascii_case, str_to_ascii_lowercase}
 use Rattle.std.proofs.lemmas.Slice.Eq.{bytes_eq-Decides}
 use Rattle.power_flow.proofs.Places.{place_at}
-use Rattle.power_flow.specs.BoxFaults.{IsNamedBox, AreReady}
+use Rattle.power_flow.specs.Steps.NamedBox.{IsNamedBox, AreReady}
 use Rattle.std.proofs.lemmas.Bool.{cases_lt}
 use Rattle.std.specs.List.{AllZip}
 use Rattle.std.proofs.lemmas.Option.{slice_get_within, slice_get-get_or}
@@ -14,17 +14,17 @@ use Rattle.network.specs.declared.element.Element.{Element}
 use Rattle.network.specs.declared.element.Element.TheVariants.{Wire, Join, Upright, Contact, Coil, Box}
 use Rattle.network.specs.declared.numbering.Spot.{Spot}
 use Rattle.network.specs.Links.{Stands}
-use Rattle.network.specs.Apart.{Has}
+use Rattle.network.specs.Apart.{Has, IsStop}
 use Rattle.network.specs.GraphValue.{diagram, IsSoundNetwork}
-use Rattle.network.specs.Numbered.{NumberedTo, IsStop, places_of}
+use Rattle.network.specs.Steps.Numbered.{NumberedTo, places_of}
 use Rattle.network.specs.Table.{EndsAt}
 use Rattle.network.proofs.Neighbours.{spot_from_place}
 use Rattle.power_flow.specs.declared.declarations.Declaration.{Declaration}
 use Rattle.power_flow.specs.declared.bound_box.BoundBox.{BoundBox}
 use Rattle.power_flow.specs.Names.{place_of}
-use Rattle.power_flow.specs.Table.{IsOutside}
-use Rattle.power_flow.specs.BoxSteps.{AreApartBoxes}
-use Rattle.power_flow.specs.BoxTable.{IsBoundBox, AreBoundBoxes, AreByColumn, boxes_of, right_place}
+use Rattle.power_flow.specs.Steps.Table.{IsOutside}
+use Rattle.power_flow.specs.Steps.BoxSteps.{AreApartBoxes}
+use Rattle.power_flow.specs.Steps.BoxTable.{IsBoundBox, AreBoundBoxes, AreByColumn, boxes_of, right_place}
 use Rattle.power_flow.proofs.BoxesStepping.{some_same}
 use Rattle.power_flow.proofs.BoxesSources.{contains_at, zip_back}
 

@@ -3,10 +3,10 @@ use Rattle.ladder_text.specs.declared.place.Place.{Place}
 use Rattle.network.specs.Links.{Diagram, Passes}
 use Rattle.network.specs.declared.link.Link.{Link}
 use Rattle.power_flow.specs.Power.{SymbolEndsAt, IsOn}
-use Rattle.power_flow.specs.Reach.{bit_at, is_open}
-use Rattle.power_flow.specs.BoxSteps.{ReachedFrom}
-use Rattle.power_flow.specs.BoxSteps.ReachedFrom.{start, along}
-use Rattle.power_flow.specs.Table.{IsTable, IsOutside, FollowsSource}
+use Rattle.power_flow.specs.Steps.Reach.{bit_at, is_open}
+use Rattle.power_flow.specs.Steps.BoxSteps.{ReachedFrom}
+use Rattle.power_flow.specs.Steps.BoxSteps.ReachedFrom.{start, along}
+use Rattle.power_flow.specs.Steps.Table.{IsTable, IsOutside, FollowsSource}
 use Rattle.power_flow.proofs.PowerLemmas.{on_source, on_step, on_induction}
 
 module _ (d : Diagram) (places : List Place) (links : List Link) (gates : List Bool) (IsStart : ℕ → Type 0) (conducts : ℕ → Bool) (IsSource : Place → Type 0)

@@ -12,21 +12,21 @@ use Rattle.power_flow.specs.declared.declarations.Declaration.{Declaration}
 use Rattle.power_flow.specs.declared.state.Slot.{Slot}
 use Rattle.power_flow.specs.declared.state.Instance.{Instance}
 use Rattle.network.specs.declared.link.Link.{Link}
-use Rattle.power_flow.specs.Reach.{bit_at}
+use Rattle.power_flow.specs.Steps.Reach.{bit_at}
 use Rattle.power_flow.specs.Power.{SymbolEndsAt}
 use Rattle.power_flow.specs.Names.{place_of, value_of, is_true}
 use Rattle.power_flow.specs.Meaning.{Moment, moment, conducts, element_conducts, NetworkMeaning, next_memory, stored, coil_stores, contact_conducts, contact_memory, coil_memory, coil_value, store}
-use Rattle.power_flow.specs.Steps.{conducts_at, memory_read, memory_stored, coil_stores_at, table_stores}
-use Rattle.power_flow.specs.Circuit.{IsWired}
+use Rattle.power_flow.specs.Steps.ElementSteps.{conducts_at, memory_read, memory_stored, coil_stores_at, table_stores}
+use Rattle.power_flow.specs.Steps.Circuit.{IsWired}
 use Rattle.power_flow.specs.Scan.{AreWide}
 use Rattle.power_flow.specs.StateValue.{AreSlotsOf}
 use Rattle.power_flow.specs.declared.state.Slot.TheVariants.{Block}
 use Rattle.power_flow.specs.declared.source.Source.{Source}
 use Rattle.power_flow.specs.declared.source.Source.TheVariants as source
 use Rattle.power_flow.specs.declared.bound_box.BoundBox.{BoundBox}
-use Rattle.power_flow.specs.Sources.{source_value, source_place, element_source}
-use Rattle.power_flow.specs.BoxSteps.{AreSettled, IsStepped, output_stores}
-use Rattle.power_flow.specs.BoxTable.{AreBoundBoxes}
+use Rattle.power_flow.specs.Steps.Sources.{source_value, source_place, element_source}
+use Rattle.power_flow.specs.Steps.BoxSteps.{AreSettled, IsStepped, output_stores}
+use Rattle.power_flow.specs.Steps.BoxTable.{AreBoundBoxes}
 use Rattle.power_flow.proofs.BoxesSources.{name_value}
 use Rattle.power_flow.proofs.BoxesMeaning.{boxes_meaning, bit-map}
 use Rattle.ladder_text.specs.declared.contact.Contact.{Contact as ContactRecord}

@@ -10,7 +10,8 @@ use Rattle.network.specs.GraphValue.{diagram}
 use Rattle.power_flow.specs.declared.bind.Finding.{Finding}
 use Rattle.power_flow.specs.declared.declarations.Declaration.{Declaration}
 use Rattle.power_flow.specs.Binding.{IsBoundNetwork, CanBind, element_findings}
-use Rattle.power_flow.specs.Findings.{kind_rank, IsUpTo, network_findings, findings, IsFirstOf, IsEarlier}
+use Rattle.power_flow.specs.Findings.{kind_rank, IsUpTo, network_findings, findings, IsFirstOf}
+use Rattle.power_flow.specs.Steps.Earlier.{IsEarlier}
 
 up_to_trans : (f g h : Finding) → IsUpTo f g → IsUpTo g h → IsUpTo f h
 up_to_trans f g h (inl a) (inl b) = inl (omega arith)

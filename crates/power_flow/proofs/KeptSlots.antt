@@ -17,13 +17,13 @@ use Rattle.power_flow.specs.declared.declarations.Declared.TheVariants.{Input, O
 use Rattle.power_flow.specs.declared.declarations.Kind.TheVariants as kind
 use Rattle.power_flow.specs.declared.state.Slot.{Slot}
 use Rattle.power_flow.specs.declared.state.Slot.TheVariants.{Variable}
-use Rattle.power_flow.specs.Reach.{bit_at}
+use Rattle.power_flow.specs.Steps.Reach.{bit_at}
 use Rattle.power_flow.specs.Names.{place_of, value_at, slot_value, is_dot}
 use Rattle.power_flow.specs.StateValue.{StateValue, IsSlotOf, AreSlotsOf, kind_of}
 use Rattle.ladder_text.specs.declared.place.Place.{Place}
 use Rattle.std.proofs.lemmas.List.Sums.{sum_by-cons}
 use Rattle.power_flow.specs.declared.circuit.Circuit.{Circuit}
-use Rattle.power_flow.specs.Circuit.{circuit_diagram}
+use Rattle.power_flow.specs.Steps.Circuit.{circuit_diagram}
 use Rattle.power_flow.specs.LadderValue.{LadderValue, Fits}
 use Rattle.power_flow.specs.Binding.{IsBound, IsBoundNetwork, CanBind, write_fault, fault_with, as_variable, variable_declared}
 use Rattle.power_flow.specs.declared.bind.BindKind.{BindKind}
@@ -34,7 +34,8 @@ use Rattle.power_flow.specs.declared.state.Slot.TheVariants.{Block}
 use Rattle.power_flow.specs.Lookup.{declared_at, is_dotted}
 use Rattle.power_flow.specs.Literals.{literal_value}
 use Rattle.power_flow.specs.PinKinds.{type_of, field_kind}
-use Rattle.power_flow.specs.BoxFaults.{IsFaultless, IsNamedBox, same_kind, store_declared_fault, store_name_fault, store_fault_by, store_fault_at, operand_fault, own_field, field_on, kind_at}
+use Rattle.power_flow.specs.BoxFaults.{IsFaultless, same_kind, store_declared_fault, store_name_fault, store_fault_by, store_fault_at, operand_fault, own_field, field_on, kind_at}
+use Rattle.power_flow.specs.Steps.NamedBox.{IsNamedBox}
 use Rattle.std_blocks.specs.declared.pin.Field.{Field}
 use Rattle.std_blocks.specs.declared.pin.Field.TheVariants.{Bit, Int, Time}
 use Rattle.std_blocks.specs.declared.pins.PinsOut.{PinsOut}

@@ -4,7 +4,7 @@ use Rattle.ladder_text.specs.declared.place.Place.{Place}
 use Rattle.network.specs.Links.{Diagram}
 use Rattle.network.specs.GraphValue.{diagram}
 use Rattle.power_flow.specs.declared.circuit.Circuit.{Circuit}
-use Rattle.power_flow.specs.Circuit.{circuit_diagram}
+use Rattle.power_flow.specs.Steps.Circuit.{circuit_diagram}
 use Rattle.power_flow.proofs.Binds.{elements_of, networks_are}
 
 -- the elements of two lists of circuits are the same where they are the same at each place

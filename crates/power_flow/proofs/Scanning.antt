@@ -5,7 +5,7 @@ use Rattle.power_flow.specs.declared.declarations.Declaration.{Declaration}
 use Rattle.power_flow.specs.declared.state.Slot.{Slot}
 use Rattle.power_flow.specs.declared.circuit.Circuit.{Circuit}
 use Rattle.power_flow.specs.Meaning.{NetworkMeaning, moment}
-use Rattle.power_flow.specs.Circuit.{IsCircuit, AreCircuits, circuit_diagram}
+use Rattle.power_flow.specs.Steps.Circuit.{IsCircuit, AreCircuits, circuit_diagram}
 use Rattle.power_flow.specs.Scan.{ScanMeaning, AreWide, AllAreWide}
 use Rattle.power_flow.specs.StateValue.{AreSlotsOf}
 use Rattle.power_flow.specs.Binding.{CanBind, IsBoundNetwork}

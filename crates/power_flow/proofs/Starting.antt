@@ -8,12 +8,12 @@ use Rattle.network.specs.declared.element.Element.{Element}
 use Rattle.network.specs.declared.numbering.Spot.{Spot}
 use Rattle.network.specs.Links.{Diagram, PassesRight, Takes, Gives}
 use Rattle.network.specs.Apart.{AreApart, AreOnPage, Has}
-use Rattle.network.specs.Numbers.{IsSpot}
-use Rattle.network.specs.Numbered.{AreOwned}
-use Rattle.network.specs.Listing.{IsIndex}
+use Rattle.network.specs.Steps.Numbers.{IsSpot}
+use Rattle.network.specs.Steps.Numbered.{AreOwned}
+use Rattle.network.specs.Steps.Listing.{IsIndex}
 use Rattle.network.proofs.Basics.{at_contains, contains_at}
-use Rattle.power_flow.specs.Reach.{bit_at}
-use Rattle.power_flow.specs.Table.{FollowsRail, FollowsSource}
+use Rattle.power_flow.specs.Steps.Reach.{bit_at}
+use Rattle.power_flow.specs.Steps.Table.{FollowsRail, FollowsSource}
 
 place_same : (a b : Place) → a.row ≡ b.row → a.column ≡ b.column → a ≡ b
 place_same a b r c = ap (λ (x : ℕ). record { row = x; column = a.column }) r ∙ ap (λ (x : ℕ). record { row = b.row; column = x }) c

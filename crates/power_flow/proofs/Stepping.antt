@@ -10,10 +10,10 @@ use Rattle.power_flow.specs.declared.state.Slot.{Slot}
 use Rattle.power_flow.specs.declared.state.Slot.TheVariants.{Variable}
 use Rattle.power_flow.specs.declared.source.Source.{Source}
 use Rattle.power_flow.specs.declared.source.Source.TheVariants as source
-use Rattle.power_flow.specs.Sources.{source_place}
-use Rattle.power_flow.specs.Reach.{bit_at}
+use Rattle.power_flow.specs.Steps.Sources.{source_place}
+use Rattle.power_flow.specs.Steps.Reach.{bit_at}
 use Rattle.power_flow.specs.Meaning.{stored}
-use Rattle.power_flow.specs.Steps.{table_stores, coil_stores_at}
+use Rattle.power_flow.specs.Steps.ElementSteps.{table_stores, coil_stores_at}
 
 -- a write at k carries what is known of each element below k on to k + 1
 pub each_more : (es : List Element) (bits : List Bool) (k : ℕ) (v : Bool) (F : ℕ → Element → Bool) (here : Element) → k < length bits → here ≡ get_or es k here

@@ -4,8 +4,8 @@ use Rattle.std.proofs.lemmas.List.Sums.{sum_by-set}
 use Rattle.std.proofs.lemmas.List.Elements.{All-more, Contains-get_or, All-contains}
 use Rattle.std.proofs.lemmas.Bool.{cases_eq}
 use Rattle.network.specs.declared.link.Link.{Link}
-use Rattle.power_flow.specs.Reach.{bit_at, is_open, IsClosed, Reached}
-use Rattle.power_flow.specs.Reach.Reached.{start, along}
+use Rattle.power_flow.specs.Steps.Reach.{bit_at, is_open, IsClosed, Reached}
+use Rattle.power_flow.specs.Steps.Reach.Reached.{start, along}
 
 -- the first n links were followed once
 pub record Swept (links : List Link) (gates old new : List Bool) (changed : Bool) (n : ℕ) : Type 0 where

@@ -7,15 +7,15 @@ use Rattle.network.specs.declared.element.Element.TheVariants.{Wire, Join, Uprig
 use Rattle.network.specs.declared.numbering.Spot.{Spot}
 use Rattle.network.specs.declared.link.Link.{Link}
 use Rattle.network.specs.Links.{Diagram, Passes, Takes, Stands}
-use Rattle.network.specs.Apart.{Has, first_place}
+use Rattle.network.specs.Apart.{Has, first_place, IsStop}
 use Rattle.network.specs.GraphValue.{diagram, IsSoundNetwork}
-use Rattle.network.specs.Numbers.{IsSpot}
-use Rattle.network.specs.Numbered.{NumberedTo, LinkedFrom, IsStop, places_of}
+use Rattle.network.specs.Steps.Numbers.{IsSpot}
+use Rattle.network.specs.Steps.Numbered.{NumberedTo, LinkedFrom, places_of}
 use Rattle.network.specs.Table.{EndsAt, SymbolEndsAt}
 use Rattle.network.proofs.Neighbours.{place_at, spot_from_place}
-use Rattle.power_flow.specs.Table.{IsTable, IsStep, IsOutside, CanHold, FollowsSource}
-use Rattle.power_flow.specs.Reach.{bit_at}
-use Rattle.power_flow.specs.Circuit.{IsWired, IsLinkIn}
+use Rattle.power_flow.specs.Steps.Table.{IsTable, IsStep, IsOutside, CanHold, FollowsSource}
+use Rattle.power_flow.specs.Steps.Reach.{bit_at}
+use Rattle.power_flow.specs.Steps.Circuit.{IsWired, IsLinkIn}
 use Rattle.power_flow.specs.Waiting.{AreStops}
 
 -- numbered places with their links are the table of the diagram

@@ -1,5 +1,5 @@
 -- What can be wrong with the names, numbers and durations of a box, and where.
-use Rattle.std.specs.Prelude.{◌≡◌, ℕ, ◌+◌, List, [], ◌∷◌, Bool, true, false, Option, Some, None, Result, Ok, Err, if◌then◌else◌, nat_le, pos, negsuc, Contains, All, slice_get, ◌==◌, ◌&&◌, ◌++◌, ◌-◌, not, nat_lt, take}
+use Rattle.std.specs.Prelude.{◌≡◌, ℕ, ◌+◌, List, [], ◌∷◌, Bool, true, false, Option, Some, None, Result, Ok, Err, if◌then◌else◌, nat_le, pos, negsuc, All, ◌==◌, ◌&&◌, ◌++◌, ◌-◌, not, nat_lt, take}
 use Rattle.std.specs.List.{before_first, after_first, list_any}
 use Rattle.std_blocks.specs.declared.value.Value.{Value}
 use Rattle.std_blocks.specs.declared.value.Value.TheVariants.{Bool as BoolValue, Int as IntValue, Time as TimeValue}
@@ -9,7 +9,7 @@ use Rattle.std_blocks.specs.declared.pin.Pin.{Pin}
 use Rattle.std_blocks.specs.declared.block_type.BlockType.{BlockType}
 use Rattle.std_blocks.specs.declared.block_type.BlockType.TheVariants as type
 use Rattle.power_flow.specs.declared.bind.Finding.{Finding}
-use Rattle.std_blocks.specs.Pins.{pin_of, output}
+use Rattle.std_blocks.specs.Pins.{pin_of}
 use Rattle.ladder_text.specs.declared.place.Place.{Place}
 use Rattle.ladder_text.specs.declared.drawn_box.DrawnBox.{DrawnBox}
 use Rattle.ladder_text.specs.declared.drawn_box.DrawnPin.{DrawnPin}
@@ -18,9 +18,7 @@ use Rattle.ladder_text.specs.declared.drawn_box.Side.{Side}
 use Rattle.ladder_text.specs.declared.drawn_box.Side.TheVariants.{Left, Right}
 use Rattle.network.specs.declared.element.Element.{Element}
 use Rattle.network.specs.declared.element.Element.TheVariants.{Wire, Join, Upright, Contact, Coil, Box}
-use Rattle.network.specs.Links.{place, IsPinPlace}
-use Rattle.network.specs.declared.numbering.Spot.{Spot}
-use Rattle.network.specs.Numbers.{IsSpot}
+use Rattle.network.specs.Links.{place}
 use Rattle.power_flow.specs.declared.bind.BindKind.{BindKind}
 use Rattle.power_flow.specs.declared.bind.BindKind.TheVariants.{UnknownName, WrongKind, WritesInput, UnknownPin, PinMissing, LiteralOutOfRange}
 use Rattle.power_flow.specs.declared.declarations.Declaration.{Declaration}
@@ -271,31 +269,3 @@ box_findings ds elements b = corner_findings ds b ++ pins_findings ds elements b
 -- nothing is wrong with a box
 abbrev pub IsFaultless : List Declaration → List Element → DrawnBox → Type 0
 IsFaultless ds elements b = All (λ o. o ≡ None) (box_findings ds elements b)
-
--- no pin of its type is drawn twice
-abbrev pub IsDrawnOnce : DrawnBox → BlockType → Type 0
-IsDrawnOnce b block = (i j : ℕ) (p q : DrawnPin) (pin : Pin) → slice_get b.pins i ≡ Some p → slice_get b.pins j ≡ Some q
-    → pin_of block p.name ≡ Some pin → pin_of block q.name ≡ Some pin → i ≡ j
-
--- what is drawn on the right are outputs
-abbrev pub AreOutputs : DrawnBox → BlockType → Type 0
-AreOutputs b block = (pin : DrawnPin) → Contains b.pins pin → pin.side ≡ Right → (field : Field) × (pin_of block pin.name ≡ Some (output field))
-
--- a literal is in its range
-abbrev pub IsInRange : List ℕ → Type 0
-IsInRange text = (v : Value) → literal_value text ≡ Some v → in_range v ≡ true
-
-abbrev pub AreInRange : DrawnBox → Type 0
-AreInRange b = (pin : DrawnPin) (o : Operand) → Contains b.pins pin → pin.operand ≡ Some o → IsInRange o.text
-
--- the facts that the table of a box needs
-pub record IsNamedBox (ds : List Declaration) (b : DrawnBox) : Type 0 where
-  pub instance : declared_at ds b.instance ≡ Some (declared.Instance (type_of b.block))
-  pub once : IsDrawnOnce b (type_of b.block)
-  pub outputs : AreOutputs b (type_of b.block)
-  pub literals : AreInRange b
-
--- each box has its names, and the places of its left pins have numbers
-pub record AreReady (ds : List Declaration) (elements : List Element) (spots : List Spot) : Type 0 where
-  pub named : (b : DrawnBox) → Contains elements (Box b) → IsNamedBox ds b
-  pub numbered : (b : DrawnBox) (p : Place) → Contains elements (Box b) → IsPinPlace Left b p → (n : ℕ) × IsSpot spots n p

@@ -37,12 +37,6 @@ abbrev pub IsFirstOf : List (Option Finding) → Option Finding → Type 0
 IsFirstOf found None = All (λ o. o ≡ None) found
 IsFirstOf found (Some f) = Contains found (Some f) × All (λ o. (g : Finding) → o ≡ Some g → IsUpTo f g) found
 
--- the earlier one of two faults
-abbrev pub IsEarlier : Option Finding → Option Finding → Option Finding → Type 0
-IsEarlier None other answer = answer ≡ other
-IsEarlier (Some f) None answer = answer ≡ Some f
-IsEarlier (Some f) (Some g) answer = (IsUpTo f g × (answer ≡ Some f)) ⊎ (IsUpTo g f × (answer ≡ Some g))
-
 -- a fault as it is answered, in a drawing whose first line has this number
 abbrev pub bind_fault : ℕ → Finding → BindFault
 bind_fault first_line f = record { kind = f.kind; line = min (first_line + f.row) 18446744073709551615 - 1; column = f.column }

@@ -1,4 +1,4 @@
-use Rattle.std.specs.Prelude.{◌≡◌, ℕ, ◌<◌, ◌⊎◌, ◌↔◌, List, [], ◌∷◌, ◌++◌, map, Bool, true, false, not, ◌&&◌, if◌then◌else◌, Option, Some, None, IsTrue, Contains, Any, slice_get, slice_set, length, MatchOption}
+use Rattle.std.specs.Prelude.{◌≡◌, ℕ, ◌<◌, ◌⊎◌, ◌↔◌, List, [], ◌∷◌, ◌++◌, map, Bool, true, false, not, ◌&&◌, if◌then◌else◌, Option, Some, None, IsTrue, Contains, Any, slice_get, slice_index_or, slice_set, length, MatchOption}
 use Rattle.std.specs.List.{flat_map, enumerate_from}
 use Rattle.std.specs.Option.{option_map_or, option_map, option_and_then}
 use Rattle.ladder_text.specs.declared.place.Place.{Place}
@@ -25,7 +25,6 @@ use Rattle.power_flow.specs.declared.declarations.Declaration.{Declaration}
 use Rattle.power_flow.specs.declared.state.Instance.{Instance}
 use Rattle.power_flow.specs.declared.state.Slot.{Slot}
 use Rattle.power_flow.specs.declared.state.Slot.TheVariants.{Variable, Block}
-use Rattle.power_flow.specs.Reach.{bit_at}
 use Rattle.power_flow.specs.Power.{IsOn}
 use Rattle.power_flow.specs.Names.{place_of, value_at, value_of, is_true, int_or_zero, time_or_zero}
 use Rattle.power_flow.specs.Literals.{text_value}
@@ -38,6 +37,10 @@ pub record Moment : Type 0 where
 
 abbrev pub moment : List Slot → List Bool → Moment
 moment slots memories = record { slots = slots; memories = memories }
+
+-- the bit at k, OFF beyond the last one
+abbrev pub bit_at : List Bool → ℕ → Bool
+bit_at bits k = slice_index_or bits k false
 
 -- whether a contact conducts, by its variable and its memory
 abbrev pub contact_conducts : ContactKind → Bool → Bool → Bool

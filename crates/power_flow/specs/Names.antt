@@ -60,7 +60,3 @@ time_or_zero None = 0
 time_or_zero (Some (BoolValue b)) = 0
 time_or_zero (Some (Int n)) = 0
 time_or_zero (Some (Time t)) = t
-
--- whether the variable at a place is TRUE
-abbrev pub is_on_at : List Slot → ℕ → Bool
-is_on_at slots place = is_true (option_and_then (λ s. slot_value s []) (slice_get slots place))

@@ -5,8 +5,8 @@ use Rattle.ladder_text.specs.declared.place.Place.{Place}
 use Rattle.ladder_text.specs.declared.drawn_box.DrawnBox.{DrawnBox}
 use Rattle.network.specs.declared.element.Element.{Element}
 use Rattle.network.specs.declared.element.Element.TheVariants.{Wire, Join, Upright, Contact, Coil, Box}
+use Rattle.network.specs.Apart.{IsStop}
 use Rattle.network.specs.Links.{Diagram}
-use Rattle.network.specs.Numbered.{IsStop}
 use Rattle.power_flow.specs.LadderValue.{LadderValue}
 
 -- the greatest of some numbers, 0 where there is none

@@ -3,7 +3,8 @@ ghost use Rattle.std.specs.Bool.{OnTrue, OnFalse};
 ghost use Rattle.std.specs.List.{before_first};
 ghost use Rattle.power_flow.specs.Names.{is_dot};
 ghost use Rattle.power_flow.specs.Binding.{kind_fault, write_fault, fault_with, declared_at, variable_declared, element_findings};
-ghost use Rattle.power_flow.specs.Findings.{kind_rank, IsUpTo, IsEarlier, IsFirstOf, network_findings, findings, bind_fault};
+ghost use Rattle.power_flow.specs.Findings.{kind_rank, IsUpTo, IsFirstOf, network_findings, findings, bind_fault};
+ghost use Rattle.power_flow.specs.Steps.Earlier.{IsEarlier};
 ghost use Rattle.power_flow.specs.BoxFaults.{read_name_fault, name_kind};
 
 use crate::box_faults::{box_finding, fault_here, name_kind, read_name_fault};

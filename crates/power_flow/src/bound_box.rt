@@ -1,5 +1,5 @@
 ghost use Rattle.std.specs.Prelude.{◌≡◌};
-ghost use Rattle.power_flow.specs.BoxSteps.{box_inputs, box_result, state_in};
+ghost use Rattle.power_flow.specs.Steps.BoxSteps.{box_inputs, box_result, state_in};
 ghost use Rattle.std.specs.Prelude.{slice_get};
 
 use crate::source::Source;
@@ -41,7 +41,7 @@ fn block_at(slots: &[Slot], place: usize, block: BlockType) -> BlockState
 }
 
 impl BoundBox {
-    #[tactic(auto, unfolding(crate::specs::BoxSteps::box_inputs))]
+    #[tactic(auto, unfolding(crate::specs::Steps::BoxSteps::box_inputs))]
     /// The inputs of the box, by the slots and the states of the places.
     fn inputs(&self, slots: &[Slot], bits: &[bool]) -> PinsIn
         ensures { result ≡ box_inputs self.now slots.now bits.now }
@@ -58,7 +58,7 @@ impl BoundBox {
         }
     }
 
-    #[tactic(auto, unfolding(crate::specs::BoxSteps::box_result))]
+    #[tactic(auto, unfolding(crate::specs::Steps::BoxSteps::box_result))]
     /// What a step of its block leaves, dt milliseconds after the one before.
     pub fn step(&self, slots: &[Slot], bits: &[bool], dt: u32) -> Instance
         ensures { result ≡ box_result self.now slots.now dt bits.now }

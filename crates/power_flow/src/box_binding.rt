@@ -10,15 +10,15 @@ ghost use Rattle.ladder_text.specs.declared.drawn_box.Side.TheVariants.{Left, Ri
 ghost use Rattle.network.specs.GraphValue.{diagram};
 ghost use Rattle.network.specs.Apart.{AreApart, AreOnPage};
 ghost use Rattle.network.specs.Links.{IsPinPlace};
-ghost use Rattle.network.specs.Numbers.{IsSpot};
-ghost use Rattle.network.specs.Numbered.{AreOwned, places_of};
+ghost use Rattle.network.specs.Steps.Numbers.{IsSpot};
+ghost use Rattle.network.specs.Steps.Numbered.{AreOwned, places_of};
 ghost use Rattle.ladder_text.specs.declared.drawn_box.DrawnBox.{DrawnBox};
-ghost use Rattle.power_flow.specs.BoxSteps.{AreNextsWithin};
+ghost use Rattle.power_flow.specs.Steps.BoxSteps.{AreNextsWithin};
 ghost use Rattle.power_flow.specs.Names.{place_of};
 ghost use Rattle.power_flow.specs.Meaning.{IsDrawn};
-ghost use Rattle.power_flow.specs.Sources.{operand_source, pin_source};
-ghost use Rattle.power_flow.specs.BoxFaults.{IsDrawnOnce, AreOutputs, IsInRange, AreInRange, IsNamedBox, AreReady};
-ghost use Rattle.power_flow.specs.BoxTable.{left_place, right_pins, boxes_of, output_if, IsBitSource, IsBoundOutput, IsBoundBox};
+ghost use Rattle.power_flow.specs.Steps.Sources.{operand_source, pin_source};
+ghost use Rattle.power_flow.specs.Steps.NamedBox.{IsDrawnOnce, AreOutputs, IsInRange, AreInRange, IsNamedBox, AreReady};
+ghost use Rattle.power_flow.specs.Steps.BoxTable.{left_place, right_pins, boxes_of, output_if, IsBitSource, IsBoundOutput, IsBoundBox};
 
 use crate::bound_box::{BoundBox, BoundOutput};
 use crate::declarations::Declarations;
@@ -119,7 +119,7 @@ fn bit_source(
 }
 
 /// The source of an operand that is in range: a literal, or what its name stands for.
-#[tactic(auto, unfolding(crate::specs::Sources::operand_source))]
+#[tactic(auto, unfolding(crate::specs::Steps::Sources::operand_source))]
 fn operand_source(declarations: &Declarations, text: &str) -> Source
     ensures { IsInRange text.now → result ≡ operand_source declarations.now text.now }
 {

@@ -4,9 +4,9 @@ ghost use Rattle.power_flow.specs.declared.bound_box.BoundBox.{BoundBox};
 ghost use Rattle.power_flow.specs.declared.state.Instance.{Instance};
 ghost use Rattle.power_flow.specs.declared.state.Slot.TheVariants.{Block};
 ghost use Rattle.power_flow.specs.Names.{is_true};
-ghost use Rattle.power_flow.specs.Reach.{IsWithin, bit_at};
+ghost use Rattle.power_flow.specs.Steps.Reach.{IsWithin, bit_at};
 ghost use Rattle.power_flow.specs.Meaning.{store, stored};
-ghost use Rattle.power_flow.specs.BoxSteps.{IsMarked, IsStepped, AreSettled, AreApartBoxes, pin_store, pin_stores, output_stores};
+ghost use Rattle.power_flow.specs.Steps.BoxSteps.{IsMarked, IsStepped, AreSettled, AreApartBoxes, pin_store, pin_stores, output_stores};
 
 use crate::bound_box::{BoundBox, BoundOutput};
 use crate::links::settle;

@@ -4,12 +4,12 @@ ghost use Rattle.network.specs.declared.element.Element.{Element};
 ghost use Rattle.network.specs.declared.numbering.Spot.{Spot};
 ghost use Rattle.network.specs.GraphValue.{diagram, IsSoundNetwork};
 ghost use Rattle.power_flow.specs.Binding.{IsBoundNetwork};
-ghost use Rattle.power_flow.specs.Circuit.{IsWired, HasShape, IsCircuit, AreCircuits, circuit_diagram};
+ghost use Rattle.power_flow.specs.Steps.Circuit.{IsWired, HasShape, IsCircuit, AreCircuits, circuit_diagram};
 ghost use Rattle.power_flow.specs.declared.circuit.Circuit.{Circuit};
-ghost use Rattle.power_flow.specs.Sources.{element_source};
+ghost use Rattle.power_flow.specs.Steps.Sources.{element_source};
 ghost use Rattle.ladder_text.specs.declared.drawn_box.DrawnBox.{DrawnBox};
-ghost use Rattle.power_flow.specs.BoxFaults.{IsNamedBox};
-ghost use Rattle.power_flow.specs.BoxTable.{AreBoundBoxes};
+ghost use Rattle.power_flow.specs.Steps.NamedBox.{IsNamedBox};
+ghost use Rattle.power_flow.specs.Steps.BoxTable.{AreBoundBoxes};
 ghost use Rattle.power_flow.specs.Waiting.{AreStops};
 
 use crate::box_binding::bind_boxes;

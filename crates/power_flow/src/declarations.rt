@@ -59,7 +59,7 @@ impl Model for Declarations {
     ghost use Rattle.std.specs.Prelude.{List};
     ghost use Rattle.indexmap.specs.IndexMap.{values};
     ghost use Rattle.power_flow.specs.declared.declarations.Declaration.{Declaration};
-    ghost use Rattle.power_flow.specs.Folded.{AreFolded};
+    ghost use Rattle.power_flow.specs.Steps.Folded.{AreFolded};
 
     ghost Value = { List Declaration };
 

@@ -1,6 +1,6 @@
 ghost use Rattle.std.specs.Prelude.{◌≡◌, ℕ, ◌<◌, ◌≤◌, ◌↔◌, All, IfSome, length, count_by, not, true};
 ghost use Rattle.std.specs.Bool.{OnTrue, OnFalse};
-ghost use Rattle.power_flow.specs.Reach.{Reached, IsClosed, IsWithin, bit_at, is_open};
+ghost use Rattle.power_flow.specs.Steps.Reach.{Reached, IsClosed, IsWithin, bit_at, is_open};
 
 use network::Link;
 

@@ -1,7 +1,7 @@
 ghost use Rattle.std.specs.Prelude.{◌≡◌};
 ghost use Rattle.std.specs.List.{before_first, after_first};
 ghost use Rattle.power_flow.specs.Names.{is_dot};
-ghost use Rattle.power_flow.specs.Sources.{declared_source, name_source};
+ghost use Rattle.power_flow.specs.Steps.Sources.{declared_source, name_source};
 
 use crate::declarations::{Declarations, Declared};
 use crate::source::Source;
@@ -33,7 +33,7 @@ fn declared_source(declared: Declared, place: usize, pin: &str) -> Source
 }
 
 /// The source of what a name stands for, as `A` or `T1.Q`.
-#[tactic(auto, unfolding(crate::specs::Sources::name_source))]
+#[tactic(auto, unfolding(crate::specs::Steps::Sources::name_source))]
 pub fn name_source(declarations: &Declarations, name: &str) -> Source
     ensures { result ≡ name_source declarations.now name.now }
 {

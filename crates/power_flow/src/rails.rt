@@ -15,7 +15,7 @@ pub struct Rails<'a> {
 impl<'a> Model for Rails<'a> {
     ghost use Rattle.std.specs.Prelude.{List};
     ghost use Rattle.ladder_text.specs.declared.place.Place.{Place};
-    ghost use Rattle.network.specs.Listing.{IsIndex};
+    ghost use Rattle.network.specs.Steps.Listing.{IsIndex};
 
     ghost Value = { List Place };
 

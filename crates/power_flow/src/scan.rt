@@ -1,18 +1,18 @@
 ghost use Rattle.std.specs.Prelude.{◌≡◌, ℕ, ◌<◌, ◌≤◌, length, List, ◌∷◌, slice_get, slice_index, slice_index_or, flat_map, Some, None, sum_by, map};
 ghost use Rattle.std.specs.List.{enumerate_from, AllByRecursion};
 ghost use Rattle.network.specs.declared.element.Element.{Element};
-ghost use Rattle.power_flow.specs.Reach.{bit_at};
+ghost use Rattle.power_flow.specs.Steps.Reach.{bit_at};
 ghost use Rattle.power_flow.specs.Names.{is_true};
-ghost use Rattle.power_flow.specs.Sources.{source_value};
+ghost use Rattle.power_flow.specs.Steps.Sources.{source_value};
 ghost use Rattle.power_flow.specs.StateValue.{AreSlotsOf};
 ghost use Rattle.power_flow.specs.Meaning.{contact_conducts, contact_memory, coil_value, coil_memory, stored, NetworkMeaning, moment};
 ghost use Rattle.network.specs.Links.{Diagram};
 ghost use Rattle.power_flow.specs.declared.declarations.Declaration.{Declaration};
-ghost use Rattle.power_flow.specs.Circuit.{HasShape, IsCircuit, HasRoom, AreCircuits, circuit_diagram};
+ghost use Rattle.power_flow.specs.Steps.Circuit.{HasShape, IsCircuit, HasRoom, AreCircuits, circuit_diagram};
 ghost use Rattle.power_flow.specs.Scan.{AreWide, AllAreWide, ScanMeaning};
 ghost use Rattle.power_flow.specs.Binding.{CanBind};
 ghost use Rattle.ladder_text.specs.declared.place.Place.{Place};
-ghost use Rattle.power_flow.specs.Steps.{conducts_at, memory_read, memory_stored, coil_stores_at, table_stores};
+ghost use Rattle.power_flow.specs.Steps.ElementSteps.{conducts_at, memory_read, memory_stored, coil_stores_at, table_stores};
 
 use crate::boxes::{step_boxes, store_blocks, store_outputs, store_value};
 use crate::circuit::Circuit;

@@ -1,7 +1,7 @@
 ghost use Rattle.std.specs.Prelude.{◌≡◌, Some};
 ghost use Rattle.std_blocks.specs.Pins.{field_value};
 ghost use Rattle.power_flow.specs.Names.{is_true, int_or_zero, time_or_zero};
-ghost use Rattle.power_flow.specs.Sources.{source_value, source_bit, source_place};
+ghost use Rattle.power_flow.specs.Steps.Sources.{source_value, source_bit, source_place};
 
 use crate::state::Slot;
 use std_blocks::{Field, PinsOut, Value};

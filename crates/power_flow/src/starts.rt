@@ -3,10 +3,10 @@ ghost use Rattle.ladder_text.specs.declared.place.Place.{Place};
 ghost use Rattle.network.specs.Links.{PassesRight, Gives};
 ghost use Rattle.network.specs.Apart.{AreApart, AreOnPage};
 ghost use Rattle.network.specs.GraphValue.{diagram};
-ghost use Rattle.network.specs.Numbers.{IsSpot};
-ghost use Rattle.network.specs.Numbered.{AreOwned};
-ghost use Rattle.power_flow.specs.Reach.{bit_at};
-ghost use Rattle.power_flow.specs.Table.{FollowsRail, FollowsSource};
+ghost use Rattle.network.specs.Steps.Numbers.{IsSpot};
+ghost use Rattle.network.specs.Steps.Numbered.{AreOwned};
+ghost use Rattle.power_flow.specs.Steps.Reach.{bit_at};
+ghost use Rattle.power_flow.specs.Steps.Table.{FollowsRail, FollowsSource};
 
 use crate::rails::Rails;
 use ladder_text::Place;

@@ -1,4 +1,4 @@
-use Rattle.network.specs.Corners.{AreFirstCorners}
+use Rattle.network.specs.Steps.Corners.{AreFirstCorners}
 use Rattle.network.proofs.corners.corners_of.Given as goal
 
 abbrev pub invariant-loop-drawn : goal.invariant-loop-drawn

@@ -1,5 +1,5 @@
 use Rattle.network.specs.Links.{place}
-use Rattle.network.specs.Listing.{AreElementsBefore}
+use Rattle.network.specs.Steps.Listing.{AreElementsBefore}
 use Rattle.network.proofs.elements.elements_of.Given as goal
 
 abbrev pub invariant-loop-column : goal.invariant-loop-column

@@ -1,6 +1,6 @@
 use Rattle.std.proofs.Common.{arith}
 use Rattle.network.specs.Links.{place}
-use Rattle.network.specs.Listing.{IsNoElementAt, IsTheElementAt}
+use Rattle.network.specs.Steps.Listing.{IsNoElementAt, IsTheElementAt}
 use Rattle.network.proofs.Basics.{match_some, match_none}
 use Rattle.network.proofs.ListLemmas.{elements_top, elements_skip, elements_more, elements_next}
 use Rattle.network.proofs.elements.push_column.Goals.{in-Some+in_ok-push, in_default}

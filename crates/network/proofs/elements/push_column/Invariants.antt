@@ -1,5 +1,5 @@
 use Rattle.network.specs.Links.{place}
-use Rattle.network.specs.Listing.{AreElementsBefore}
+use Rattle.network.specs.Steps.Listing.{AreElementsBefore}
 use Rattle.network.proofs.elements.push_column.Given as goal
 
 abbrev pub invariant-loop-row : goal.invariant-loop-row

@@ -1,4 +1,4 @@
-use Rattle.network.specs.Ranks.{ArePlaces, IsTallAt}
+use Rattle.network.specs.Steps.Ranks.{ArePlaces, IsTallAt}
 use Rattle.network.proofs.found.tall_places.Given as goal
 
 abbrev pub invariant-loop-k : goal.invariant-loop-k

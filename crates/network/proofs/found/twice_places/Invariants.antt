@@ -1,5 +1,5 @@
-use Rattle.network.specs.Ranks.{ArePlaces}
-use Rattle.network.specs.Twice.{IsTwiceIn}
+use Rattle.network.specs.Steps.Ranks.{ArePlaces}
+use Rattle.network.specs.Steps.Twice.{IsTwiceIn}
 use Rattle.network.proofs.found.twice_places.Given as goal
 
 abbrev pub invariant-loop-k : goal.invariant-loop-k

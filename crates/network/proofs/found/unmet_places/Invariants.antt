@@ -1,4 +1,4 @@
-use Rattle.network.specs.Ranks.{ArePlaces, IsUnmetAt}
+use Rattle.network.specs.Steps.Ranks.{ArePlaces, IsUnmetAt}
 use Rattle.network.proofs.found.unmet_places.Given as goal
 
 abbrev pub invariant-loop-k : goal.invariant-loop-k

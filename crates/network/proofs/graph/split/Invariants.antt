@@ -1,5 +1,5 @@
 use Rattle.std.proofs.Common.{◌≡◌, length}
-use Rattle.network.specs.Ranks.{AreSplit}
+use Rattle.network.specs.Steps.Ranks.{AreSplit}
 use Rattle.network.proofs.graph.split.Given as goal
 
 abbrev pub invariant-loop-element : goal.invariant-loop-element

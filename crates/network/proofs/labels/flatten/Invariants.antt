@@ -1,4 +1,4 @@
-use Rattle.network.specs.Joined.{AreFalling, KeepsClasses}
+use Rattle.network.specs.Steps.Joined.{AreFalling, KeepsClasses}
 use Rattle.network.proofs.Spreading.{AreFlatTo}
 use Rattle.network.proofs.labels.flatten.Given as goal
 

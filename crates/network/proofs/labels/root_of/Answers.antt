@@ -1,5 +1,5 @@
 use Rattle.std.proofs.Common.{◌∙◌, get_or, arith, refl, sym, ap}
-use Rattle.network.specs.Joined.Joined.{here}
+use Rattle.network.specs.Steps.Joined.Joined.{here}
 use Rattle.network.proofs.Spreading.{Joined-trans, classes_same, classes_then, short_here, short_long, short_keeps}
 use Rattle.network.proofs.labels.root_of.Goals as goal
 

@@ -1,6 +1,6 @@
 use Rattle.std.proofs.Common.{◌≡◌, ◌<◌, ℕ, List, length}
 use Rattle.network.specs.declared.labels.Pair.{Pair}
-use Rattle.network.specs.Joined.{Joined, AreChained, AreFalling, IsOneAlong, KeepsClasses}
+use Rattle.network.specs.Steps.Joined.{Joined, AreChained, AreFalling, IsOneAlong, KeepsClasses}
 use Rattle.network.proofs.labels.root_of.Given as goal
 
 abbrev pub invariant-loop-labels : goal.invariant-loop-labels

@@ -1,5 +1,5 @@
 use Rattle.std.proofs.Common.{◌<◌, ◌≤◌, length, arith, sym}
-use Rattle.network.specs.Joined.{AreFalling}
+use Rattle.network.specs.Steps.Joined.{AreFalling}
 use Rattle.network.proofs.Spreading.{AreRoots, roots_joined, roots_united, Joined-sym, link_chained, link_kept, link_one}
 use Rattle.network.proofs.labels.unite.Goals as goal
 

@@ -1,5 +1,5 @@
 use Rattle.std.proofs.Common.{◌≡◌, ◌∙◌, ◌<◌, ◌↔◌, ℕ, slice_index, length, ap, arith}
-use Rattle.network.specs.Joined.{Joined}
+use Rattle.network.specs.Steps.Joined.{Joined}
 use Rattle.network.proofs.PairLemmas.{labels_are, all_within, written_over}
 use Rattle.network.proofs.pairs.labels_of.Goals as goal
 

@@ -1,4 +1,4 @@
-use Rattle.network.specs.Pairs.{ArePairsTo}
+use Rattle.network.specs.Steps.Pairs.{ArePairsTo}
 use Rattle.network.proofs.pairs.pairs_of.Given as goal
 
 abbrev pub invariant-loop-from : goal.invariant-loop-from

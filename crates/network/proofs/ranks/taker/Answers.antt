@@ -6,8 +6,8 @@ use Rattle.network.specs.declared.element.Element.{Element}
 use Rattle.network.specs.declared.numbering.Spot.{Spot}
 use Rattle.network.specs.Links.{Takes}
 use Rattle.network.specs.Apart.{Has}
-use Rattle.network.specs.Listing.{AreElementsOf}
-use Rattle.network.specs.Pairs.{AreAllNumbered}
+use Rattle.network.specs.Steps.Listing.{AreElementsOf}
+use Rattle.network.specs.Steps.Pairs.{AreAllNumbered}
 use Rattle.network.proofs.Sharing.{apart_of}
 use Rattle.network.proofs.ranks.taker.Goals as goal
 

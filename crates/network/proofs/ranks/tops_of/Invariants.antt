@@ -1,8 +1,8 @@
 use Rattle.ladder_text.specs.Picture.{Picture, IsSound}
 use Rattle.network.specs.Networks.{AreLeftRails}
-use Rattle.network.specs.Listing.{AreElementsOf}
-use Rattle.network.specs.Pairs.{AreLabels}
-use Rattle.network.specs.Ranks.{AreRanksOf}
+use Rattle.network.specs.Steps.Listing.{AreElementsOf}
+use Rattle.network.specs.Steps.Pairs.{AreLabels}
+use Rattle.network.specs.Steps.Ranks.{AreRanksOf}
 use Rattle.network.proofs.TopLemmas.{TopsTo}
 use Rattle.network.proofs.ranks.tops_of.Given as goal
 

@@ -1,4 +1,4 @@
-use Rattle.network.specs.Numbered.{NumberedTo}
+use Rattle.network.specs.Steps.Numbered.{NumberedTo}
 use Rattle.network.proofs.tables.number_elements.Given as goal
 
 abbrev pub invariant-loop-k : goal.invariant-loop-k

@@ -2,14 +2,14 @@ use Rattle.std.proofs.Common.{◌≡◌, ℕ, ◌∙◌, ap, sym, subst, refl, S
 use Rattle.ladder_text.specs.declared.drawn_box.DrawnPin.{DrawnPin}
 use Rattle.std_blocks.specs.declared.block_type.BlockType.{BlockType}
 use Rattle.std_blocks.specs.declared.pin.Field.TheVariants.{Bit}
-use Rattle.network.specs.Numbered.{places_of}
+use Rattle.network.specs.Steps.Numbered.{places_of}
 use Rattle.power_flow.specs.declared.declarations.Declared.TheVariants as declared
 use Rattle.power_flow.specs.declared.source.Source.{Source}
 use Rattle.power_flow.specs.declared.source.Source.TheVariants as source
 use Rattle.power_flow.specs.Names.{place_of}
 use Rattle.power_flow.specs.Meaning.{IsDrawn}
-use Rattle.power_flow.specs.BoxFaults.{IsDrawnOnce, AreOutputs}
-use Rattle.power_flow.specs.BoxTable.{IsBitSource, left_place}
+use Rattle.power_flow.specs.Steps.NamedBox.{IsDrawnOnce, AreOutputs}
+use Rattle.power_flow.specs.Steps.BoxTable.{IsBitSource, left_place}
 use Rattle.power_flow.proofs.BoxesBinding.{four, declared_place}
 use Rattle.power_flow.proofs.box_binding.bind_box.Goals as goal
 

@@ -1,5 +1,5 @@
 use Rattle.std.proofs.Common.{take, sym}
-use Rattle.power_flow.specs.BoxTable.{boxes_of}
+use Rattle.power_flow.specs.Steps.BoxTable.{boxes_of}
 use Rattle.power_flow.proofs.BoxesBinding.{boxes_more}
 use Rattle.power_flow.proofs.box_binding.bind_boxes.Goals as goal
 

@@ -3,10 +3,10 @@ use Rattle.std.specs.List.{AllZip}
 use Rattle.ladder_text.specs.declared.place.Place.{Place}
 use Rattle.network.specs.Apart.{AreApart}
 use Rattle.network.specs.GraphValue.{diagram}
-use Rattle.network.specs.Numbered.{places_of}
-use Rattle.power_flow.specs.BoxFaults.{AreReady}
-use Rattle.power_flow.specs.BoxSteps.{AreNextsWithin}
-use Rattle.power_flow.specs.BoxTable.{boxes_of, IsBoundBox}
+use Rattle.network.specs.Steps.Numbered.{places_of}
+use Rattle.power_flow.specs.Steps.NamedBox.{AreReady}
+use Rattle.power_flow.specs.Steps.BoxSteps.{AreNextsWithin}
+use Rattle.power_flow.specs.Steps.BoxTable.{boxes_of, IsBoundBox}
 use Rattle.power_flow.proofs.box_binding.bind_boxes.Given as goal
 
 abbrev pub invariant-loop-element : goal.invariant-loop-element

@@ -1,9 +1,9 @@
 use Rattle.std.proofs.Common.{ℕ, subst}
 use Rattle.ladder_text.specs.declared.drawn_box.DrawnPin.{DrawnPin}
 use Rattle.std_blocks.specs.declared.pin.Field.TheVariants.{Bit}
-use Rattle.network.specs.Numbers.{IsSpot}
-use Rattle.network.specs.Numbered.{places_of}
-use Rattle.power_flow.specs.BoxTable.{left_place, IsBitSource}
+use Rattle.network.specs.Steps.Numbers.{IsSpot}
+use Rattle.network.specs.Steps.Numbered.{places_of}
+use Rattle.power_flow.specs.Steps.BoxTable.{left_place, IsBitSource}
 use Rattle.power_flow.proofs.BoxesBinding.{same_drawn}
 use Rattle.power_flow.proofs.box_binding.bit_source.Goals as goal
 

@@ -1,9 +1,9 @@
 use Rattle.std.proofs.Common.{◌<◌, IfSome, length}
 use Rattle.std.proofs.lemmas.List.Elements.{All-append}
 use Rattle.network.specs.GraphValue.{diagram}
-use Rattle.network.specs.Numbered.{places_of}
+use Rattle.network.specs.Steps.Numbered.{places_of}
 use Rattle.power_flow.specs.declared.bound_box.BoundOutput.{BoundOutput}
-use Rattle.power_flow.specs.BoxTable.{IsBoundOutput, output_if}
+use Rattle.power_flow.specs.Steps.BoxTable.{IsBoundOutput, output_if}
 use Rattle.power_flow.proofs.BoxesBinding.{outputs_more, output_within, pin_in}
 use Rattle.power_flow.proofs.box_binding.outputs_of.Goals as goal
 

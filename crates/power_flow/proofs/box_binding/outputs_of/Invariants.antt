@@ -4,9 +4,9 @@ use Rattle.ladder_text.specs.declared.place.Place.{Place}
 use Rattle.network.specs.declared.element.Element.TheVariants.{Box}
 use Rattle.network.specs.Apart.{AreApart}
 use Rattle.network.specs.GraphValue.{diagram}
-use Rattle.network.specs.Numbered.{places_of}
-use Rattle.power_flow.specs.BoxFaults.{AreOutputs}
-use Rattle.power_flow.specs.BoxTable.{right_pins, IsBoundOutput}
+use Rattle.network.specs.Steps.Numbered.{places_of}
+use Rattle.power_flow.specs.Steps.NamedBox.{AreOutputs}
+use Rattle.power_flow.specs.Steps.BoxTable.{right_pins, IsBoundOutput}
 use Rattle.power_flow.proofs.box_binding.outputs_of.Given as goal
 
 abbrev pub invariant-loop-pin : goal.invariant-loop-pin

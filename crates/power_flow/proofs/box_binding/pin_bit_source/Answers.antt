@@ -1,5 +1,5 @@
 use Rattle.power_flow.proofs.BoxesBinding.{spot_place}
-use Rattle.power_flow.specs.BoxTable.{left_place}
+use Rattle.power_flow.specs.Steps.BoxTable.{left_place}
 use Rattle.power_flow.proofs.box_binding.pin_bit_source.Goals as goal
 
 pub returns-in-None : goal.returns-in-None

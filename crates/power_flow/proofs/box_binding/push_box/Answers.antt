@@ -2,8 +2,8 @@ use Rattle.std.proofs.Common.{subst, Contains}
 use Rattle.network.specs.declared.element.Element.TheVariants.{Box}
 use Rattle.std.proofs.lemmas.List.{append-nil}
 use Rattle.network.specs.GraphValue.{diagram}
-use Rattle.network.specs.Numbered.{places_of}
-use Rattle.power_flow.specs.BoxTable.{IsBoundBox}
+use Rattle.network.specs.Steps.Numbered.{places_of}
+use Rattle.power_flow.specs.Steps.BoxTable.{IsBoundBox}
 use Rattle.power_flow.proofs.BoxesBinding.{none_pushed, zip_push}
 use Rattle.power_flow.proofs.box_binding.push_box.Goals as goal
 

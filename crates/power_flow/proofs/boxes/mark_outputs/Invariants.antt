@@ -1,6 +1,6 @@
 use Rattle.std.proofs.Common.{◌≡◌, ℕ, ◌⊎◌, ◌↔◌, true, take}
-use Rattle.power_flow.specs.Reach.{bit_at}
-use Rattle.power_flow.specs.BoxSteps.{IsMarked}
+use Rattle.power_flow.specs.Steps.Reach.{bit_at}
+use Rattle.power_flow.specs.Steps.BoxSteps.{IsMarked}
 use Rattle.power_flow.proofs.boxes.mark_outputs.Given as goal
 
 abbrev pub invariant-loop-pin : goal.invariant-loop-pin

@@ -1,8 +1,8 @@
 use Rattle.std.proofs.Common.{◌≡◌, ℕ, ◌<◌, ◌⊎◌, ◌↔◌, List, true, subst, Some, length, arith, sym, ap, ◌∙◌}
 use Rattle.std.proofs.lemmas.Option.{slice_get-get_or, slice_get_within}
 use Rattle.power_flow.specs.declared.bound_box.BoundOutput.{BoundOutput}
-use Rattle.power_flow.specs.Reach.{bit_at}
-use Rattle.power_flow.specs.BoxSteps.{IsMarked}
+use Rattle.power_flow.specs.Steps.Reach.{bit_at}
+use Rattle.power_flow.specs.Steps.BoxSteps.{IsMarked}
 use Rattle.power_flow.proofs.BoxesStepping.{settled_first, settled_more, stepped_more}
 use Rattle.power_flow.proofs.boxes.step_boxes.Goals as goal
 

@@ -1,6 +1,6 @@
 use Rattle.std.proofs.Common.{◌≡◌, ℕ, ◌<◌, Some, slice_get}
 use Rattle.power_flow.specs.declared.bound_box.BoundBox.{BoundBox}
-use Rattle.power_flow.specs.BoxSteps.{IsStepped, AreSettled}
+use Rattle.power_flow.specs.Steps.BoxSteps.{IsStepped, AreSettled}
 use Rattle.power_flow.proofs.boxes.step_boxes.Given as goal
 
 abbrev pub invariant-loop-k : goal.invariant-loop-k

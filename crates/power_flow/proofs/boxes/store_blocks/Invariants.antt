@@ -2,7 +2,7 @@ use Rattle.std.proofs.Common.{◌≡◌, ◌≢◌, ℕ, ◌<◌, All, Some, sli
 use Rattle.power_flow.specs.declared.bound_box.BoundBox.{BoundBox}
 use Rattle.power_flow.specs.declared.state.Instance.{Instance}
 use Rattle.power_flow.specs.declared.state.Slot.TheVariants.{Block}
-use Rattle.power_flow.specs.BoxSteps.{AreApartBoxes}
+use Rattle.power_flow.specs.Steps.BoxSteps.{AreApartBoxes}
 use Rattle.power_flow.proofs.boxes.store_blocks.Given as goal
 
 abbrev pub invariant-loop-k : goal.invariant-loop-k

@@ -1,7 +1,7 @@
 use Rattle.std.proofs.Common.{◌+◌, ◌<◌, drop, length, get_or, arith, sym, ap, ◌∙◌}
 use Rattle.std.proofs.lemmas.Option.{slice_get-get_or}
 use Rattle.power_flow.specs.Meaning.{stored}
-use Rattle.power_flow.specs.BoxSteps.{pin_stores, output_stores}
+use Rattle.power_flow.specs.Steps.BoxSteps.{pin_stores, output_stores}
 use Rattle.power_flow.proofs.Stepping.{stored-append}
 use Rattle.power_flow.proofs.BoxesStepping.{output_stores_at}
 use Rattle.power_flow.proofs.boxes.store_outputs.Goals as goal

@@ -1,6 +1,6 @@
 use Rattle.std.proofs.Common.{◌≡◌, drop}
 use Rattle.power_flow.specs.Meaning.{stored}
-use Rattle.power_flow.specs.BoxSteps.{output_stores}
+use Rattle.power_flow.specs.Steps.BoxSteps.{output_stores}
 use Rattle.power_flow.proofs.boxes.store_outputs.Given as goal
 
 abbrev pub invariant-loop-k : goal.invariant-loop-k

@@ -1,6 +1,6 @@
 use Rattle.std.proofs.Common.{◌≡◌, drop}
 use Rattle.power_flow.specs.Meaning.{stored}
-use Rattle.power_flow.specs.BoxSteps.{pin_stores}
+use Rattle.power_flow.specs.Steps.BoxSteps.{pin_stores}
 use Rattle.power_flow.proofs.boxes.store_pins.Given as goal
 
 abbrev pub invariant-loop-pin : goal.invariant-loop-pin

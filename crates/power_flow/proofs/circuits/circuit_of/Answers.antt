@@ -1,5 +1,5 @@
 use Rattle.std.proofs.Common.{map, sym, ap, ◌∙◌}
-use Rattle.power_flow.specs.Sources.{element_source}
+use Rattle.power_flow.specs.Steps.Sources.{element_source}
 use Rattle.power_flow.proofs.BindingLemmas.{all_named, named_box_of}
 use Rattle.power_flow.proofs.circuits.circuit_of.Goals as goal
 

@@ -1,7 +1,7 @@
 use Rattle.std.proofs.Common.{◌≡◌, All, map}
 use Rattle.power_flow.specs.declared.circuit.Circuit.{Circuit}
 use Rattle.power_flow.specs.Binding.{IsBoundNetwork}
-use Rattle.power_flow.specs.Circuit.{AreCircuits, HasShape, circuit_diagram}
+use Rattle.power_flow.specs.Steps.Circuit.{AreCircuits, HasShape, circuit_diagram}
 use Rattle.power_flow.specs.Waiting.{AreStops}
 use Rattle.power_flow.proofs.circuits.circuits_of.Given as goal
 

@@ -3,8 +3,8 @@ use Rattle.std.proofs.lemmas.List.{length-map}
 use Rattle.network.specs.declared.numbering.Spot.{Spot}
 use Rattle.network.specs.GraphValue.{diagram}
 use Rattle.ladder_text.specs.declared.place.Place.{Place}
-use Rattle.power_flow.specs.BoxSteps.{AreNextsWithin}
-use Rattle.power_flow.specs.BoxTable.{AreBoundBoxes}
+use Rattle.power_flow.specs.Steps.BoxSteps.{AreNextsWithin}
+use Rattle.power_flow.specs.Steps.BoxTable.{AreBoundBoxes}
 use Rattle.power_flow.proofs.BoxesTable.{bound_boxes_are, ready_boxes, places_are}
 use Rattle.power_flow.proofs.WholeTable.{wired_is, first_within, links_within, stops_are}
 use Rattle.power_flow.proofs.circuits.tables_of.Goals as goal

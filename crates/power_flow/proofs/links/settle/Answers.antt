@@ -1,6 +1,6 @@
 use Rattle.power_flow.proofs.Sweeping.{Reached-again, Reached-closed}
-use Rattle.power_flow.specs.Reach.Reached.{start}
-use Rattle.power_flow.specs.Reach.{IsClosed}
+use Rattle.power_flow.specs.Steps.Reach.Reached.{start}
+use Rattle.power_flow.specs.Steps.Reach.{IsClosed}
 use Rattle.power_flow.proofs.links.settle.Goals as goal
 
 pub loop-bits-init : goal.loop-bits-init

@@ -1,5 +1,5 @@
 use Rattle.std.proofs.Common.{◌≡◌, ℕ, count_by, not, true}
-use Rattle.power_flow.specs.Reach.{Reached, bit_at}
+use Rattle.power_flow.specs.Steps.Reach.{Reached, bit_at}
 use Rattle.power_flow.proofs.links.settle.Given as goal
 
 abbrev pub invariant-loop-bits : goal.invariant-loop-bits

@@ -1,6 +1,6 @@
 use Rattle.std.proofs.Common.{◌≡◌, true, false, Bool, arith}
 use Rattle.std.specs.Bool.{OnFalse}
-use Rattle.power_flow.specs.Reach.{IsClosed}
+use Rattle.power_flow.specs.Steps.Reach.{IsClosed}
 use Rattle.power_flow.proofs.Sweeping.{Swept-none, Swept-skip, Swept-set}
 use Rattle.power_flow.proofs.links.sweep.Goals.{then-bits-link+then-not-bits-link+then-lets_through, else-bits-link, else-bits-link-via-then-bits-link+then-not-bits-link+else-lets_through, else-bits-link-via-then-bits-link+else-not-bits-link, else-bits-link-via-else-bits-link}
 use Rattle.std.proofs.Common.{None, sym, ◌∙◌, subst, refl, List}

@@ -1,5 +1,5 @@
 use Rattle.std.proofs.Common.{arith}
-use Rattle.power_flow.specs.Circuit.{circuit_diagram}
+use Rattle.power_flow.specs.Steps.Circuit.{circuit_diagram}
 use Rattle.power_flow.proofs.Scanning.{scan_more}
 use Rattle.power_flow.proofs.scan.+scan_circuits.Goals as goal
 

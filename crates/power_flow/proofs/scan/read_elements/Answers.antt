@@ -1,10 +1,10 @@
 use Rattle.std.proofs.Common.{slice_index_or, arith, ◌∙◌, ap}
 use Rattle.std.proofs.lemmas.Option.{slice_get_within}
 use Rattle.power_flow.specs.declared.source.Source.TheVariants as source
-use Rattle.power_flow.specs.Sources.{source_value}
+use Rattle.power_flow.specs.Steps.Sources.{source_value}
 use Rattle.power_flow.specs.Names.{is_true}
-use Rattle.power_flow.specs.Reach.{bit_at}
-use Rattle.power_flow.specs.Steps.{conducts_at, memory_read}
+use Rattle.power_flow.specs.Steps.Reach.{bit_at}
+use Rattle.power_flow.specs.Steps.ElementSteps.{conducts_at, memory_read}
 use Rattle.power_flow.proofs.Stepping.{each_more, rest_more}
 use Rattle.power_flow.proofs.scan.read_elements.Goals as goal
 

@@ -2,10 +2,10 @@ use Rattle.std.proofs.Common.{◌+◌, slice_index, slice_index_or, arith, ◌�
 use Rattle.std.specs.List.{enumerate_from}
 use Rattle.std.proofs.lemmas.Option.{slice_get_within}
 use Rattle.power_flow.specs.declared.source.Source.TheVariants as source
-use Rattle.power_flow.specs.Sources.{source_place}
-use Rattle.power_flow.specs.Reach.{bit_at}
+use Rattle.power_flow.specs.Steps.Sources.{source_place}
+use Rattle.power_flow.specs.Steps.Reach.{bit_at}
 use Rattle.power_flow.specs.Meaning.{stored}
-use Rattle.power_flow.specs.Steps.{memory_stored, table_stores, coil_stores_at}
+use Rattle.power_flow.specs.Steps.ElementSteps.{memory_stored, table_stores, coil_stores_at}
 use Rattle.power_flow.proofs.Stepping.{each_more, rest_more, stored-append, table_stores_at, table_stores_end}
 use Rattle.power_flow.proofs.scan.store_elements.Goals as goal
 

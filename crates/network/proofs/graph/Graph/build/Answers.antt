@@ -5,9 +5,9 @@ use Rattle.network.specs.declared.element.Element.{Element}
 use Rattle.network.specs.declared.graph.Network.{Network}
 use Rattle.network.specs.declared.ranks.Ranks.{Ranks}
 use Rattle.network.specs.Networks.{AreLeftRails, IsUnattachedAt, IsTooTallAt, IsTwiceAt, Nowhere}
-use Rattle.network.specs.Listing.{AreElementsOf}
-use Rattle.network.specs.Ranks.{AreRanks, AreSplit, ArePlaces, IsUnmetAt, IsTallAt}
-use Rattle.network.specs.Twice.{IsTwiceIn}
+use Rattle.network.specs.Steps.Listing.{AreElementsOf}
+use Rattle.network.specs.Steps.Ranks.{AreRanks, AreSplit, ArePlaces, IsUnmetAt, IsTallAt}
+use Rattle.network.specs.Steps.Twice.{IsTwiceIn}
 use Rattle.network.proofs.Sharing.{on_page_of}
 use Rattle.network.proofs.WholeGraph.{ok_of, first_such, none_such, unmet_is, is_unmet, tall_is, is_tall_at, twice_is, is_twice_in, networks_are, sound_graph}
 use Rattle.network.proofs.graph.Graph.build.Goals as goal

@@ -1,5 +1,5 @@
 use Rattle.std.proofs.Common.{◌≡◌, ◌∙◌, Some, None, slice_get, sym, refl}
-use Rattle.network.specs.Numbers.{AreNumbers, number_at}
+use Rattle.network.specs.Steps.Numbers.{AreNumbers, number_at}
 use Rattle.network.proofs.Spots.{finds_none, finds_number, never_unwritten, never_beyond, never_other, same_place, other_place}
 use Rattle.network.proofs.numbering.Numbering.find.Goals as goal
 

@@ -1,6 +1,6 @@
 use Rattle.std.proofs.Common.{◌≡◌, ℕ, length, refl, inl, inr, arith}
 use Rattle.network.specs.declared.numbering.Spot.{Spot}
-use Rattle.network.specs.Numbers.{IsSpot}
+use Rattle.network.specs.Steps.Numbers.{IsSpot}
 use Rattle.network.proofs.Spots.{AreNumbers-beside, AreNumbers-push, push_here, push_old, push_cases}
 use Rattle.network.proofs.numbering.Numbering.number.Goals as goal
 

@@ -1,4 +1,4 @@
-use Rattle.network.specs.Numbers.{AreNumbers}
+use Rattle.network.specs.Steps.Numbers.{AreNumbers}
 use Rattle.network.proofs.Spots.{one_number}
 use Rattle.network.proofs.numbering.Numbering.spots.Goals as goal
 

@@ -3,7 +3,7 @@ use Rattle.std.specs.Map.{values_of}
 use Rattle.std.specs.Str.{str_to_ascii_lowercase}
 use Rattle.power_flow.specs.declared.declarations.Declaration.{Declaration}
 use Rattle.power_flow.specs.declared.declarations.Declared.{Declared}
-use Rattle.power_flow.specs.Folded.{AreFolded}
+use Rattle.power_flow.specs.Steps.Folded.{AreFolded}
 use Rattle.power_flow.specs.Names.{place_of}
 use Rattle.power_flow.proofs.FoldedLemmas.{same_key, insert_new, AreFolded-push, values_of-push}
 use Rattle.indexmap.specs.IndexMap.{insert_entry}

@@ -1,8 +1,6 @@
-use Rattle.std.specs.Prelude.{◌≡◌, ℕ, ◌<◌, List, Bool, true, false, Option, Some, None, slice_index_or, length, Contains, IfSome, All}
+use Rattle.std.specs.Prelude.{◌≡◌, ℕ, ◌<◌, List, Bool, true, Option, Some, None, length, Contains, IfSome, All}
 use Rattle.network.specs.declared.link.Link.{Link}
-
-abbrev pub bit_at : List Bool → ℕ → Bool
-bit_at bits k = slice_index_or bits k false
+pub use Rattle.power_flow.specs.Meaning.{bit_at}
 
 -- a link goes out of no symbol, or out of one that conducts
 abbrev pub is_open : List Bool → Option ℕ → Bool

@@ -20,10 +20,10 @@ use Rattle.power_flow.specs.declared.bound_box.BoundBox.{BoundBox}
 use Rattle.power_flow.specs.declared.bound_box.BoundOutput.{BoundOutput}
 use Rattle.power_flow.specs.Names.{place_of}
 use Rattle.power_flow.specs.Meaning.{IsDrawn}
-use Rattle.power_flow.specs.Sources.{name_source, pin_source}
-use Rattle.power_flow.specs.Table.{IsOutside}
+use Rattle.power_flow.specs.Steps.Sources.{name_source, pin_source}
+use Rattle.power_flow.specs.Steps.Table.{IsOutside}
 pub use Rattle.power_flow.specs.Waiting.{box_of, boxes_of}
-use Rattle.power_flow.specs.BoxSteps.{bit_source, AreApartBoxes}
+use Rattle.power_flow.specs.Steps.BoxSteps.{bit_source, AreApartBoxes}
 
 -- a block of this type is declared at the place
 pub record IsBlockAt (ds : List Declaration) (place : ℕ) (block : BlockType) : Type 0 where

@@ -5,8 +5,8 @@ use Rattle.ladder_text.specs.declared.place.Place.{Place}
 use Rattle.network.specs.declared.element.Element.{Element}
 use Rattle.network.specs.declared.numbering.Spot.{Spot}
 use Rattle.network.specs.declared.labels.Pair.{Pair}
-use Rattle.network.specs.Numbers.{IsSpot}
-use Rattle.network.specs.Numbered.{AreOwned}
+use Rattle.network.specs.Steps.Numbers.{IsSpot}
+use Rattle.network.specs.Steps.Numbered.{AreOwned}
 use Rattle.network.specs.Apart.{Has, Steps}
 use Rattle.network.specs.Networks.{AreLinked, Chained}
 

@@ -7,7 +7,7 @@ use Rattle.ladder_text.specs.declared.coil.Coil.{Coil}
 use Rattle.ladder_text.specs.declared.drawn_box.DrawnBox.{DrawnBox}
 use Rattle.network.specs.declared.symbols.Symbols.{Symbols}
 use Rattle.network.specs.Links.{place}
-use Rattle.network.specs.Listing.{IsIndex}
+use Rattle.network.specs.Steps.Listing.{IsIndex}
 
 abbrev pub contact_places : List Contact → List Place
 contact_places contacts = map (λ (c : Contact). place c.row c.column) contacts

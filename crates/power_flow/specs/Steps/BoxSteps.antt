@@ -15,9 +15,9 @@ use Rattle.power_flow.specs.declared.source.Source.TheVariants as source
 use Rattle.power_flow.specs.declared.bound_box.BoundBox.{BoundBox}
 use Rattle.power_flow.specs.declared.bound_box.BoundOutput.{BoundOutput}
 use Rattle.network.specs.declared.link.Link.{Link}
-use Rattle.power_flow.specs.Reach.{bit_at, is_open}
+use Rattle.power_flow.specs.Steps.Reach.{bit_at, is_open}
 use Rattle.power_flow.specs.Names.{is_true, int_or_zero, time_or_zero}
-use Rattle.power_flow.specs.Sources.{source_value, source_bit}
+use Rattle.power_flow.specs.Steps.Sources.{source_value, source_bit}
 
 -- the source of a Boolean input
 abbrev pub bit_source : BoundBox → ℕ → Source

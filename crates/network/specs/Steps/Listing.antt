@@ -4,7 +4,7 @@ use Rattle.ladder_text.specs.Picture.{Picture}
 use Rattle.ladder_text.specs.declared.place.Place.{Place}
 use Rattle.network.specs.declared.element.Element.{Element}
 use Rattle.network.specs.declared.numbering.Spot.{Spot}
-use Rattle.network.specs.Numbers.{IsSpot}
+use Rattle.network.specs.Steps.Numbers.{IsSpot}
 use Rattle.network.specs.Apart.{first_place}
 use Rattle.network.specs.Networks.{IsElementOf, Precedes}
 

@@ -2,19 +2,15 @@ use Rattle.std.specs.Prelude.{◌≡◌, ℕ, ◌<◌, ◌⊎◌, List, Option, 
 use Rattle.ladder_text.specs.declared.place.Place.{Place}
 use Rattle.network.specs.declared.element.Element.{Element}
 use Rattle.network.specs.Links.{Diagram, Takes, Stands, Passes}
-use Rattle.network.specs.Apart.{first_place, Has}
+use Rattle.network.specs.Apart.{first_place, Has, IsStop}
 use Rattle.network.specs.declared.numbering.Spot.{Spot}
 use Rattle.network.specs.declared.link.Link.{Link}
-use Rattle.network.specs.Numbers.{IsSpot}
+use Rattle.network.specs.Steps.Numbers.{IsSpot}
 use Rattle.network.specs.Table.{IsStep}
 
 -- the places in the order of their numbers
 unfoldable pub places_of : List Spot → List Place
 places_of spots = map (λ (s : Spot). s.place) spots
-
--- state can come to the place p of this element, or the element begins there
-abbrev pub IsStop : Element → Place → Type 0
-IsStop e p = (first_place e ≡ p) ⊎ (Takes e p ⊎ Stands e p)
 
 -- the list keeps its places, and grows by places of this element alone
 pub record Grows (e : Element) (n : ℕ) (old new : List Spot) : Type 0 where

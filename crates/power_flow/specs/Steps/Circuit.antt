@@ -7,12 +7,12 @@ use Rattle.network.specs.GraphValue.{diagram}
 use Rattle.power_flow.specs.declared.declarations.Declaration.{Declaration}
 use Rattle.power_flow.specs.declared.circuit.Circuit.{Circuit}
 use Rattle.network.specs.declared.link.Link.{Link}
-use Rattle.power_flow.specs.Reach.{bit_at}
-use Rattle.power_flow.specs.Table.{IsTable, IsOutside, FollowsSource}
+use Rattle.power_flow.specs.Steps.Reach.{bit_at}
+use Rattle.power_flow.specs.Steps.Table.{IsTable, IsOutside, FollowsSource}
 use Rattle.power_flow.specs.declared.source.Source.TheVariants as source
 use Rattle.power_flow.specs.Names.{place_of, is_dot}
-use Rattle.power_flow.specs.Sources.{element_source}
-use Rattle.power_flow.specs.BoxTable.{AreBoundBoxes}
+use Rattle.power_flow.specs.Steps.Sources.{element_source}
+use Rattle.power_flow.specs.Steps.BoxTable.{AreBoundBoxes}
 use Rattle.power_flow.specs.Meaning.{first_place}
 
 -- the numbers of a link stand for elements and places
