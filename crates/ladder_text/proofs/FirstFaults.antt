@@ -40,6 +40,7 @@ kind_of n =
     else (if n == 9 then kind.StrayName else kind.Memory))))))))
 
 kind_of-rank : (k : DrawFaultKind) → kind_of (rank k) ≡ k
+unfolding kind_of
 kind_of-rank kind.NotAscii = refl
 kind_of-rank kind.TooLarge = refl
 kind_of-rank kind.NoLeftRail = refl
@@ -231,3 +232,10 @@ faultless_of d well kind.NoSource r c w = none_found d (has_fault NoSource (layo
 faultless_of d well kind.NameMissing r c w = none_unnamed d well.named.things_named r c w
 faultless_of d well kind.StrayName r c w = none_stray d well.named.no_stray_name well.operands_good r c w
 faultless_of d well kind.Memory r c w = w
+
+-- the same of rows that are the same: of a sheet, of a page, and of a page with its words
+pub of_sheet : (d s : Rows) (k : DrawFaultKind) (r c : ℕ) → s ≡ d → Nowhere s (bad_box s) → IsTrue (boxes_apart (layout_of s)) → IsFirstFrom s 5 k r c → IsFirstFrom d 4 k r c
+of_sheet d s k r c e whole apart first = subst (λ (x : Rows). IsFirstFrom x 4 k r c) e (behind_boxes s k r c whole apart first)
+
+pub of_words : (p w : Rows) (k : DrawFaultKind) (r c : ℕ) → w ≡ p → ((f : PlaceFault) → Nowhere p (has_fault f (layout_of p))) → IsFirstFrom w 8 k r c → IsFirstFrom p 5 k r c
+of_words p w k r c e places first = behind_places p k r c places (subst (λ (x : Rows). IsFirstFrom x 8 k r c) e first)

@@ -4,7 +4,7 @@ ghost use Rattle.std.specs.Prelude.{◌≡◌, ◌≢◌, ◌<◌, ◌≤◌, �
 ghost use Rattle.ladder_text.specs.Rows.{rows_of};
 ghost use Rattle.ladder_text.specs.Places.{layout_of};
 ghost use Rattle.ladder_text.specs.Faults.{IsWellDrawn, IsIllDrawn};
-ghost use Rattle.ladder_text.specs.FirstFault.{IsFirstFault, TellsFirstFault};
+ghost use Rattle.ladder_text.specs.FirstFault.{IsFaultless, IsFirstFault, TellsFirstFault};
 ghost use Rattle.ladder_text.specs.Picture.{IsSound, mark_at, picture_of};
 ghost use Rattle.ladder_text.specs.declared.drawing.DrawFaultKind.TheVariants.{Memory};
 
@@ -131,9 +131,11 @@ impl Drawing {
     /// Reads a text whose first line has the number `first_line`, from 1 to 9,223,372,036,854,775,807.
     ///
     /// A text is refused by the first fault, by row and then column, of the first kind of `DrawFaultKind` that it has.
+    #[tactic(auto, using(crate::proofs::FirstFaults::faultless_of))]
     pub fn read(alloc: Global, text: &str, first_line: u64) -> Result<Drawing, DrawFault>
         requires { (1 ≤ first_line) × (first_line < 2 ^ 63) }
         ensures well_drawn { IfOk result (λ _. IsWellDrawn (rows_of text.now)) }
+        ensures faultless { IfOk result (λ _. IsFaultless (rows_of text.now)) }
         ensures drawing { IfOk result (λ g. g ≡ picture_of first_line (layout_of (rows_of text.now))) }
         ensures refused { IfErr result (λ e. e.kind ≢ Memory → IsIllDrawn (rows_of text.now)) }
         ensures memory { IfErr result (λ e. e.kind ≡ Memory → (e.line ≡ 0) × (e.column ≡ 0)) }
