@@ -1,6 +1,6 @@
 -- The first fault, from what was found and what was ruled out before.
-use Rattle.std.proofs.Common.{ℕ, zero, suc, ◌+◌, ◌-◌, ◌<◌, ◌≤◌, ◌≡◌, ◌==◌, if◌then◌else◌, List, [], ◌∷◌, length, get_or, Option, Some, None, refl, sym, ap, ◌∙◌, subst, arith, Bool, true, false, IsTrue, IsFalse, ◌⊎◌, inl, inr}
-use Rattle.std.specs.List.{slice_get, list_any, Any}
+use Rattle.std.proofs.Common.{ℕ, ◌+◌, ◌<◌, ◌≤◌, ◌≡◌, ◌==◌, if◌then◌else◌, length, Option, refl, sym, ap, ◌∙◌, subst, arith, Bool, true, IsTrue, IsFalse, inl, inr}
+use Rattle.std.specs.List.{list_any}
 use Rattle.std.proofs.lemmas.Bool.{cases_lt, both_ways}
 use Rattle.std.proofs.lemmas.List.Folds.{list_any_at}
 use Rattle.ladder_text.specs.declared.drawing.DrawFaultKind.{DrawFaultKind}
@@ -15,10 +15,10 @@ use Rattle.ladder_text.specs.Boxes.{left_column, outlines}
 use Rattle.ladder_text.specs.Places.{layout_of, or_earlier}
 use Rattle.ladder_text.specs.Names.{words, things}
 use Rattle.ladder_text.specs.Faults.{IsFoundAt, IsWellDrawn, Nowhere, has_fault, not_ascii, no_left_rail, bad_box, boxes_apart, name_missing, stray_name, is_stray_operand, has_stray_pin, has_stray_operand}
-use Rattle.ladder_text.specs.FirstFault.{IsFaultAt, IsFaultless, IsFirstAt, IsFirstFault, IsTooLargeAt, IsOffRailAt, IsSharedAt, IsUnnamedAt, IsStrayWordAt, IsStrayOperandAt, IsSpanAt, IsUpTo, shares_before, rank}
+use Rattle.ladder_text.specs.FirstFault.{IsFaultAt, IsFaultless, IsFirstAt, IsFirstFault, IsTooLargeAt, IsOffRailAt, IsSharedAt, IsUnnamedAt, IsStrayWordAt, IsStrayOperandAt, IsSpanAt, rank}
 use Rattle.ladder_text.specs.Steps.Search.{IsNone, IsFirstOf, IsFirstFrom, IsFirstColumn}
 use Rattle.ladder_text.proofs.BoxOrder.{boxes_in_order, not_apart}
-use Rattle.ladder_text.proofs.SearchLemmas.{no_span, row_first, either_first, second_first, found_first}
+use Rattle.ladder_text.proofs.SearchLemmas.{no_span, row_first, either_first, second_first}
 use Rattle.ladder_text.proofs.WidthLemmas.{row-narrow}
 
 rank_above : (k : DrawFaultKind) → 0 < rank k

@@ -1,8 +1,8 @@
 -- On the first of places and columns.
-use Rattle.std.proofs.Common.{ℕ, zero, suc, ◌+◌, ◌-◌, ◌<◌, ◌≤◌, ◌≡◌, ◌==◌, ◌||◌, ◌&&◌, List, [], ◌∷◌, ◌++◌, length, take, get_or, Option, Some, None, refl, sym, ap, ◌∙◌, subst, arith, rules, tests, Bool, true, false, cond, IsTrue, IsFalse, ◌⊎◌, inl, inr, nat_lt, length-take-le}
+use Rattle.std.proofs.Common.{ℕ, ◌+◌, ◌<◌, ◌≤◌, ◌≡◌, ◌||◌, List, length, take, get_or, Option, Some, None, refl, sym, ap, ◌∙◌, subst, arith, rules, tests, Bool, true, false, cond, IsTrue, IsFalse, ◌⊎◌, inl, inr, length-take-le}
 use Rattle.std.specs.Prelude.{min, MatchOption}
 use Rattle.std.specs.List.{Any, list_any}
-use Rattle.std.proofs.lemmas.Bool.{cases_lt, both_ways, ltb-true}
+use Rattle.std.proofs.lemmas.Bool.{cases_lt, both_ways}
 use Rattle.std.proofs.lemmas.List.{get_or-take, get_or_default, take_all}
 use Rattle.std.proofs.lemmas.List.Folds.{list_any_at, list_any_more}
 use Rattle.ladder_text.specs.declared.place.Place.{Place}

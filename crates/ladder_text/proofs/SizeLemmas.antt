@@ -1,5 +1,5 @@
 -- On the first place beyond the limits of a drawing.
-use Rattle.std.proofs.Common.{ℕ, zero, suc, ◌+◌, ◌-◌, ◌<◌, ◌≤◌, ◌≡◌, List, [], ◌∷◌, length, map, take, get_or, Option, Some, None, refl, sym, ap, ◌∙◌, subst, arith, Bool, true, false, nat_lt, ◌⊎◌, inl, inr, length-take-le}
+use Rattle.std.proofs.Common.{ℕ, suc, ◌<◌, ◌≤◌, ◌≡◌, List, [], ◌∷◌, length, map, take, get_or, Option, Some, None, refl, sym, ap, subst, arith, Bool, true, nat_lt, inl, inr, length-take-le}
 use Rattle.std.specs.Prelude.{max}
 use Rattle.std.specs.List.{fold, position, position_or_len}
 use Rattle.std.proofs.lemmas.Bool.{cases_lt, both_ways, ltb-true}
@@ -7,8 +7,7 @@ use Rattle.std.proofs.lemmas.Grind.{common_steps}
 use Rattle.std.proofs.lemmas.List.{get_or-take, get_or_past, take_all}
 use Rattle.std.proofs.lemmas.List.Sums.{fails_before_first}
 use Rattle.std.proofs.lemmas.List.Quantifiers.{position-Some}
-use Rattle.ladder_text.specs.declared.place.Place.{Place}
-use Rattle.ladder_text.specs.Rows.{Rows, width, longest}
+use Rattle.ladder_text.specs.Rows.{Rows, width}
 use Rattle.ladder_text.specs.Faults.{first_long, first_beyond, place_beyond}
 use Rattle.ladder_text.specs.FirstFault.{IsFirstAt, IsTooLargeAt}
 

@@ -1,12 +1,12 @@
 -- The words of a row stand by their first columns.
-use Rattle.std.proofs.Common.{ℕ, ◌+◌, ◌<◌, ◌≤◌, ◌≡◌, List, length, take, get_or, Option, Some, None, refl, sym, ap, ◌∙◌, subst, arith, Bool, true, false, IsTrue, IsFalse, ◌⊎◌, inl, inr, length-take-le}
-use Rattle.std.specs.List.{slice_get, list_any, Any}
+use Rattle.std.proofs.Common.{ℕ, ◌<◌, ◌≡◌, List, length, take, get_or, Some, refl, sym, ap, ◌∙◌, subst, arith, Bool, true, IsFalse, ◌⊎◌, inl, inr, length-take-le}
+use Rattle.std.specs.List.{slice_get, list_any}
 use Rattle.std.proofs.lemmas.Bool.{cases_lt, both_ways}
 use Rattle.std.proofs.lemmas.List.{get_or-take, get_or_default}
 use Rattle.std.proofs.lemmas.List.Folds.{list_any_at}
 use Rattle.std.proofs.lemmas.Option.{slice_get_read}
 use Rattle.ladder_text.specs.declared.span.Span.{Span}
-use Rattle.ladder_text.specs.Rows.{width, upto}
+use Rattle.ladder_text.specs.Rows.{width}
 use Rattle.ladder_text.specs.Boxes.{option_list}
 use Rattle.ladder_text.specs.Places.{Layout}
 use Rattle.ladder_text.specs.Names.{in_word, word_at, words}

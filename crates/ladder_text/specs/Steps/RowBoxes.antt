@@ -1,5 +1,5 @@
 -- The boxes of a row by their numbers, and what is asked of boxes at a place.
-use Rattle.std.specs.Prelude.{ℕ, zero, suc, ◌+◌, ◌≡◌, ◌<◌, ◌≤◌, List, [], ◌∷◌, ◌++◌, ◌==◌, if◌then◌else◌, length, take, slice_get, slice_index_or, Bool, true, false, Option, Some, None, ◌⊎◌}
+use Rattle.std.specs.Prelude.{ℕ, zero, suc, ◌+◌, ◌≡◌, ◌<◌, ◌≤◌, List, [], ◌∷◌, ◌++◌, ◌==◌, if◌then◌else◌, length, slice_get, slice_index_or, Bool, true, false, Option, Some, None, ◌⊎◌}
 use Rattle.std.specs.List.{All, list_any}
 use Rattle.std.specs.List.Sorted.{IsNonDecreasingBy}
 use Rattle.ladder_text.specs.declared.outline.Outline.{Outline}

@@ -1,5 +1,5 @@
 -- What the search for faults knows halfway.
-use Rattle.std.specs.Prelude.{ℕ, ◌≡◌, ◌<◌, ◌≤◌, List, Option, Some, None}
+use Rattle.std.specs.Prelude.{ℕ, ◌<◌, ◌≤◌, Option, Some, None}
 use Rattle.ladder_text.specs.declared.drawing.DrawFaultKind.{DrawFaultKind}
 use Rattle.ladder_text.specs.declared.place.Place.{Place}
 use Rattle.ladder_text.specs.Rows.{Rows}

@@ -1,5 +1,4 @@
-use Rattle.std.proofs.Common.{subst, List}
-use Rattle.ladder_text.specs.declared.outline.Outline.{Outline}
+use Rattle.std.proofs.Common.{subst}
 use Rattle.ladder_text.specs.Boxes.{outlines}
 use Rattle.ladder_text.specs.FirstFault.{IsFirstAt, IsStrayWordAt, IsStrayOperandAt}
 use Rattle.ladder_text.specs.Steps.Search.{IsFirstOf}

@@ -1,4 +1,4 @@
-use Rattle.std.proofs.Common.{sym, ◌∙◌, refl, Option, Some, ap, ℕ}
+use Rattle.std.proofs.Common.{sym, ◌∙◌, refl, Option, ap, ℕ}
 use Rattle.std.specs.Option.{is_some}
 use Rattle.ladder_text.specs.declared.span.Span.{Span}
 use Rattle.ladder_text.specs.Places.{layout_of}

@@ -1,4 +1,4 @@
-use Rattle.std.proofs.Common.{ℕ, ◌≡◌, take, is_some}
+use Rattle.std.proofs.Common.{◌≡◌, take, is_some}
 use Rattle.std.specs.List.{Any, list_any}
 use Rattle.ladder_text.specs.Faults.{has_stray_pin}
 use Rattle.ladder_text.specs.FirstFault.{IsStrayBoxAt}

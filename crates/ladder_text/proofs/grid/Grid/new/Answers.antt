@@ -1,4 +1,4 @@
-use Rattle.std.proofs.Common.{◌≤◌, ◌≡◌, ◌∙◌, length, arith, rules}
+use Rattle.std.proofs.Common.{◌≡◌, arith}
 use Rattle.ladder_text.specs.Rows.{width}
 use Rattle.ladder_text.proofs.SizeLemmas.{beyond_first}
 use Rattle.ladder_text.proofs.grid.Grid.new.Goals as goal
