@@ -27,3 +27,4 @@ pub mod SearchLemmas
 pub mod WordOrder
 pub mod SizeLemmas
 pub mod FirstFaults
+pub mod Faultless

@@ -1,6 +1,6 @@
 //! A drawing, and the faults of a text that is none.
 
-ghost use Rattle.std.specs.Prelude.{◌≡◌, ◌≢◌, ◌<◌, ◌≤◌, ◌+◌, ◌-◌, ◌^◌, IfOk, IfErr, min};
+ghost use Rattle.std.specs.Prelude.{◌≡◌, ◌≢◌, ◌↔◌, ◌<◌, ◌≤◌, ◌+◌, ◌-◌, ◌^◌, IfOk, IfErr, min};
 ghost use Rattle.ladder_text.specs.Rows.{rows_of};
 ghost use Rattle.ladder_text.specs.Places.{layout_of};
 ghost use Rattle.ladder_text.specs.Faults.{IsWellDrawn, IsIllDrawn};
@@ -131,15 +131,14 @@ impl Drawing {
     /// Reads a text whose first line has the number `first_line`, from 1 to 9,223,372,036,854,775,807.
     ///
     /// A text is refused by the first fault, by row and then column, of the first kind of `DrawFaultKind` that it has.
-    #[tactic(auto, using(crate::proofs::FirstFaults::faultless_of))]
     pub fn read(alloc: Global, text: &str, first_line: u64) -> Result<Drawing, DrawFault>
         requires { (1 ≤ first_line) × (first_line < 2 ^ 63) }
         ensures well_drawn { IfOk result (λ _. IsWellDrawn (rows_of text.now)) }
-        ensures faultless { IfOk result (λ _. IsFaultless (rows_of text.now)) }
         ensures drawing { IfOk result (λ g. g ≡ picture_of first_line (layout_of (rows_of text.now))) }
         ensures refused { IfErr result (λ e. e.kind ≢ Memory → IsIllDrawn (rows_of text.now)) }
         ensures memory { IfErr result (λ e. e.kind ≡ Memory → (e.line ≡ 0) × (e.column ≡ 0)) }
         ensures first { IfErr result (λ fault. TellsFirstFault text.now first_line fault) }
+        ensures same { IsWellDrawn (rows_of text.now) ↔ IsFaultless (rows_of text.now) }
     {
         match read_drawing(alloc, text, first_line) {
             Ok(drawing) => Ok(drawing),
