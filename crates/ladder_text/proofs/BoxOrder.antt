@@ -11,7 +11,8 @@ use Rattle.ladder_text.specs.declared.outline.Outline.{Outline}
 use Rattle.ladder_text.specs.Rows.{Rows, height}
 use Rattle.ladder_text.specs.Boxes.{outlines}
 use Rattle.ladder_text.specs.Faults.{is_apart, same_corner, share_place}
-use Rattle.ladder_text.specs.RowBoxes.{AreInOrder, shares_before}
+use Rattle.ladder_text.specs.Steps.RowBoxes.{AreInOrder}
+use Rattle.ladder_text.specs.FirstFault.{shares_before}
 use Rattle.ladder_text.proofs.PinRows.{IsFromTo}
 use Rattle.ladder_text.proofs.BoxPlaces.{box_there}
 use Rattle.ladder_text.proofs.RisingItems.{outlines_rising}

@@ -19,7 +19,7 @@ use Rattle.ladder_text.proofs.ItemLemmas.{IsPlaced, IsAlikeOnce, found_item, fou
 use Rattle.ladder_text.proofs.SymbolPlaces.{cond_some_of, drawn_inside, drawn_in_row}
 use Rattle.ladder_text.proofs.PictureLemmas.{mark_at-inside}
 use Rattle.ladder_text.proofs.PinRows.{IsFromTo, pins_of_rows_from, pins_of_rows_rising}
-use Rattle.ladder_text.specs.RowBoxes.{row_of_pin}
+use Rattle.ladder_text.specs.Steps.RowBoxes.{row_of_pin}
 use Rattle.std.specs.List.Sorted.{IsNonDecreasingBy}
 use Rattle.std.specs.List.{All}
 use Rattle.std.proofs.lemmas.List.Elements.{All-weaker}

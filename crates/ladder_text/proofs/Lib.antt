@@ -23,3 +23,8 @@ pub mod NumberLemmas
 pub mod RowPins
 pub mod BoxOrder
 pub mod SpanRows
+pub mod SearchLemmas
+pub mod WordOrder
+pub mod SizeLemmas
+pub mod FirstFaults
+pub mod Faultless

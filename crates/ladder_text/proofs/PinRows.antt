@@ -10,7 +10,7 @@ use Rattle.ladder_text.specs.Boxes.{nearer_pin, left_pin, right_pin, pins_from, 
 use Rattle.std.proofs.Common.{nat_le}
 use Rattle.std.specs.List.Sorted.{IsNonDecreasingBy}
 use Rattle.std.proofs.lemmas.List.Sorted.{IsNonDecreasingBy-short}
-use Rattle.ladder_text.specs.RowBoxes.{row_of_pin}
+use Rattle.ladder_text.specs.Steps.RowBoxes.{row_of_pin}
 use Rattle.ladder_text.proofs.RowPins.{rising-append}
 use Rattle.ladder_text.proofs.SymbolPlaces.{cond_some_of}
 

@@ -15,7 +15,8 @@ use Rattle.ladder_text.specs.declared.span.Span.{Span}
 use Rattle.ladder_text.specs.Boxes.{meets_row}
 use Rattle.ladder_text.specs.Names.{top_span}
 use Rattle.ladder_text.specs.Faults.{share_place, takes_word, some_takes_word}
-use Rattle.ladder_text.specs.RowBoxes.{box_test, word_test, HavePinsByRow, IsInRows, AreInOrder, holds, holds_at, numbers_below, numbers_on, AreNumbered, top_at, shares_before}
+use Rattle.ladder_text.specs.Steps.RowBoxes.{box_test, word_test, HavePinsByRow, IsInRows, AreInOrder, holds, holds_at, numbers_below, numbers_on, AreNumbered, top_at}
+use Rattle.ladder_text.specs.FirstFault.{shares_before}
 
 or-false : (b : Bool) → (b || false) ≡ b
 or-false true = refl

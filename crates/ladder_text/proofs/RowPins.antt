@@ -11,7 +11,7 @@ use Rattle.ladder_text.specs.declared.drawn_box.Side.{Side}
 use Rattle.ladder_text.specs.declared.outline.Outline.{Outline}
 use Rattle.ladder_text.specs.Places.{pin_reaches, pin_on}
 use Rattle.ladder_text.specs.Faults.{takes_word}
-use Rattle.ladder_text.specs.RowBoxes.{row_of_pin}
+use Rattle.ladder_text.specs.Steps.RowBoxes.{row_of_pin}
 
 -- the elements between two places, where those before are below t and those behind are above it
 pub filter-run : {X : Type 0} (n : X → ℕ) (t : ℕ) (xs : List X) (from len : ℕ)

@@ -6,5 +6,5 @@ pub mod Places
 pub mod Names
 pub mod Faults
 pub mod Picture
-pub mod RowBoxes
-pub mod RowSpans
+pub mod FirstFault
+pub mod Steps

@@ -6,7 +6,9 @@ ghost use Rattle.ladder_text.specs.declared.drawn_box.Side.TheVariants as side;
 ghost use Rattle.ladder_text.specs.Boxes.{outlines};
 ghost use Rattle.ladder_text.specs.Names.{top_span};
 ghost use Rattle.ladder_text.specs.Faults.{share_place, is_apart, some_takes_word, is_stray_operand, has_stray_pin};
-ghost use Rattle.ladder_text.specs.RowBoxes.{box_test, word_test, HavePinsByRow, holds_at, numbers_on, AreNumbered, top_at, shares_before, IsFirstShared};
+ghost use Rattle.ladder_text.specs.Steps.RowBoxes.{box_test, word_test, HavePinsByRow, holds_at, numbers_on, AreNumbered, top_at, IsFirstShared};
+ghost use Rattle.ladder_text.specs.FirstFault.{shares_before, IsSharedAt, IsStrayPinAt, IsStrayBoxAt, IsStrayOperandAt};
+ghost use Rattle.ladder_text.specs.Steps.Search.{IsFirstOf};
 
 use crate::box_test::BoxTest;
 use crate::drawn_box::{DrawnPin, Side};
@@ -30,7 +32,7 @@ pub struct Boxes {
 impl Model for Boxes {
     ghost use Rattle.std.specs.Prelude.{List, length};
     ghost use Rattle.ladder_text.specs.declared.outline.Outline.{Outline};
-    ghost use Rattle.ladder_text.specs.RowBoxes.{AreInOrder, AreNumbered};
+    ghost use Rattle.ladder_text.specs.Steps.RowBoxes.{AreInOrder, AreNumbered};
 
     ghost Value = { List Outline };
 
@@ -233,6 +235,7 @@ impl Boxes {
     pub fn first_shared(&self) -> Option<Place>
         ensures none { is_none result ≡ list_all (is_apart self.now) self.now }
         ensures some { IfSome result (λ p. IsFirstShared self.now p) }
+        ensures first { IsFirstOf (IsSharedAt self.now) result }
     {
         for (number, outline) in self.outlines.iter().enumerate() {
             if self.shares_before(number, outline) {
@@ -247,7 +250,8 @@ impl Boxes {
 
     /// The place of the operand of a pin, where it isn't as it should be or belongs to another pin too.
     fn stray_operand(&self, pin: &DrawnPin) -> Option<Place>
-        ensures { is_some result ≡ is_stray_operand self.now pin.now.row pin.now.operand }
+        ensures stray { is_some result ≡ is_stray_operand self.now pin.now.row pin.now.operand }
+        ensures first { IsFirstOf (IsStrayPinAt self.now pin.now) result }
     {
         match &pin.operand {
             None => None,
@@ -267,7 +271,8 @@ impl Boxes {
 
     /// The first place of a stray operand of a box.
     fn first_stray_pin(&self, outline: &Outline) -> Option<Place>
-        ensures { is_some result ≡ has_stray_pin self.now outline.now }
+        ensures stray { is_some result ≡ has_stray_pin self.now outline.now }
+        ensures first { IsFirstOf (IsStrayBoxAt self.now outline.now) result }
     {
         let mut first = None;
         for pin in outline.pins.as_slice() {
@@ -280,7 +285,8 @@ impl Boxes {
 
     /// The first place of a stray operand.
     pub fn first_stray_operand(&self) -> Option<Place>
-        ensures { is_some result ≡ list_any (has_stray_pin self.now) self.now }
+        ensures stray { is_some result ≡ list_any (has_stray_pin self.now) self.now }
+        ensures first { IsFirstOf (IsStrayOperandAt self.now) result }
     {
         let mut first = None;
         for outline in self.as_slice() {

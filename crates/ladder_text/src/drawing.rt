@@ -1,9 +1,10 @@
 //! A drawing, and the faults of a text that is none.
 
-ghost use Rattle.std.specs.Prelude.{◌≡◌, ◌≢◌, ◌<◌, ◌≤◌, ◌+◌, ◌-◌, ◌^◌, IfOk, IfErr, min};
+ghost use Rattle.std.specs.Prelude.{◌≡◌, ◌≢◌, ◌↔◌, ◌<◌, ◌≤◌, ◌+◌, ◌-◌, ◌^◌, IfOk, IfErr, min};
 ghost use Rattle.ladder_text.specs.Rows.{rows_of};
 ghost use Rattle.ladder_text.specs.Places.{layout_of};
 ghost use Rattle.ladder_text.specs.Faults.{IsWellDrawn, IsIllDrawn};
+ghost use Rattle.ladder_text.specs.FirstFault.{IsFaultless, IsFirstFault, TellsFirstFault};
 ghost use Rattle.ladder_text.specs.Picture.{IsSound, mark_at, picture_of};
 ghost use Rattle.ladder_text.specs.declared.drawing.DrawFaultKind.TheVariants.{Memory};
 
@@ -107,6 +108,7 @@ fn read_drawing(alloc: Global, text: &str, first_line: u64) -> Result<Drawing, R
     ensures well_drawn { IfOk result (λ _. IsWellDrawn (rows_of text.now)) }
     ensures drawing { IfOk result (λ g. g ≡ picture_of first_line (layout_of (rows_of text.now))) }
     ensures refused { IfErr result (λ e. e.kind ≢ Memory → IsIllDrawn (rows_of text.now)) }
+    ensures first { IfErr result (λ e. e.kind ≢ Memory → IsFirstFault (rows_of text.now) e.kind e.place.row e.place.column) }
 {
     let page = read_page(alloc, text)?;
     let contacts = contacts(alloc, &page)?;
@@ -135,6 +137,8 @@ impl Drawing {
         ensures drawing { IfOk result (λ g. g ≡ picture_of first_line (layout_of (rows_of text.now))) }
         ensures refused { IfErr result (λ e. e.kind ≢ Memory → IsIllDrawn (rows_of text.now)) }
         ensures memory { IfErr result (λ e. e.kind ≡ Memory → (e.line ≡ 0) × (e.column ≡ 0)) }
+        ensures first { IfErr result (λ fault. TellsFirstFault text.now first_line fault) }
+        ensures same { IsWellDrawn (rows_of text.now) ↔ IsFaultless (rows_of text.now) }
     {
         match read_drawing(alloc, text, first_line) {
             Ok(drawing) => Ok(drawing),

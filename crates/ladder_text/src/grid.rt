@@ -4,6 +4,7 @@ ghost use Rattle.std.specs.Prelude.{◌≡◌, ◌<◌, ◌≤◌, ◌^◌, ℕ,
 ghost use Rattle.ladder_text.specs.Rows.{char_at, width};
 ghost use Rattle.ladder_text.specs.Boxes.{left_column, begins_box, dashes_after, without_leading, cut, has_sides, block_in};
 ghost use Rattle.ladder_text.specs.Faults.{Nowhere, not_ascii, no_left_rail, first_long, first_beyond};
+ghost use Rattle.ladder_text.specs.FirstFault.{IsFirstAt, IsTooLargeAt};
 ghost use Rattle.std.specs.Str.{IsAscii};
 
 use crate::drawn_box::BlockName;
@@ -158,6 +159,7 @@ impl Grid {
         ensures narrow { IfOk result (λ g. width g ≤ 240) }
         ensures refused { IfErr result (λ _. length rows.items ≤ 2001 → width rows.items ≤ 240 → ⊥) }
         ensures place { IfErr result (λ p. p ≡ first_beyond rows.items) }
+        ensures first { IfErr result (λ p. IsFirstAt (IsTooLargeAt rows.items) p.row p.column) }
     {
         let last = width(&rows);
         if rows.len() > 2001 || last > 240 {
@@ -180,6 +182,7 @@ impl Grid {
         ensures none { IfNone result ((r : ℕ) → r < length self.now → IsFalse (no_left_rail self.now r)) }
         ensures inside { IfSome result (λ r. r < length self.now) }
         ensures some { IfSome result (λ r. IsTrue (no_left_rail self.now r)) }
+        ensures first { IfSome result (λ r. (k : ℕ) → k < r → IsFalse (no_left_rail self.now k)) }
     {
         for row in 0..self.row_end() {
             if self.is_off_rail(row) {

@@ -9,7 +9,7 @@ ghost use Rattle.ladder_text.specs.Boxes.{covers, meets_row};
 ghost use Rattle.ladder_text.specs.Places.{pin_reaches, box_reaches, right_pin_at, pin_on};
 ghost use Rattle.ladder_text.specs.Names.{top_span};
 ghost use Rattle.ladder_text.specs.Faults.{share_place, takes_word, blind_right_of, blind_left_of};
-ghost use Rattle.ladder_text.specs.RowBoxes.{box_test, row_of_pin};
+ghost use Rattle.ladder_text.specs.Steps.RowBoxes.{box_test, row_of_pin};
 
 use crate::box_test::BoxTest;
 use crate::drawn_box::{BlockName, DrawnPin, Pins, Side};

@@ -5,6 +5,7 @@ ghost use Rattle.ladder_text.specs.Rows.{char_at, width, height};
 ghost use Rattle.ladder_text.specs.Places.{layout_of, is_line, is_vertical, is_box_part, is_symbol, is_taken, gives, mark as place_mark};
 ghost use Rattle.ladder_text.specs.Picture.{marks_of};
 ghost use Rattle.ladder_text.specs.Faults.{has_meaning, has_fed_join, is_first_of_symbol, is_blind, touches, is_fed, upright_len, bad_mark, crossing, no_source, has_fault, Nowhere, IsFoundAt};
+ghost use Rattle.ladder_text.specs.FirstFault.{IsFirstAt};
 
 use crate::mark::Mark;
 use crate::mark_row::MarkRow;
@@ -261,6 +262,7 @@ impl Page {
             ((c : ℕ) → c ≤ width self.now → IsFalse (has_fault fault (layout_of self.now) row c)) }
         ensures inside { IfSome result (λ c. c ≤ width self.now) }
         ensures some { IfSome result (λ c. IsTrue (has_fault fault (layout_of self.now) row c)) }
+        ensures before { IfSome result (λ c. (k : ℕ) → k < c → IsFalse (has_fault fault (layout_of self.now) row k)) }
     {
         for column in 0..self.last() + 1 {
             if self.has_fault(fault, row, column) {
@@ -271,9 +273,11 @@ impl Page {
     }
 
     /// The first place with a fault.
+    #[tactic(auto, using(crate::proofs::SearchLemmas::found_first))]
     pub fn first_fault(&self, fault: PlaceFault) -> Option<Place>
         ensures none { IfNone result (Nowhere self.now (has_fault fault (layout_of self.now))) }
         ensures some { IfSome result (λ p. IsFoundAt self.now (has_fault fault (layout_of self.now)) p.row p.column) }
+        ensures first { IfSome result (λ p. IsFirstAt (IsFoundAt self.now (has_fault fault (layout_of self.now))) p.row p.column) }
     {
         for row in 0..self.row_end() {
             if let Some(column) = self.fault_in_row(fault, row) {

@@ -7,6 +7,8 @@ ghost use Rattle.ladder_text.specs.Boxes.{begins_box};
 ghost use Rattle.ladder_text.specs.Places.{layout_of};
 ghost use Rattle.ladder_text.specs.Names.{words, things};
 ghost use Rattle.ladder_text.specs.Faults.{IsWellDrawn, IsIllDrawn, Nowhere, has_fault, not_ascii, no_left_rail, bad_box, boxes_apart, name_missing, stray_name, has_stray_operand};
+ghost use Rattle.ladder_text.specs.FirstFault.{IsFirstFault, IsStrayWordAt};
+ghost use Rattle.ladder_text.specs.Steps.Search.{IsFirstFrom, IsFirstOf};
 ghost use Rattle.ladder_text.specs.declared.drawing.DrawFaultKind.TheVariants.{Memory};
 
 use crate::drawing::DrawFaultKind;
@@ -27,9 +29,11 @@ fn fault(kind: DrawFaultKind, place: Place) -> Refusal
     Refusal { kind, place }
 }
 
+#[tactic(auto, using(crate::proofs::FirstFaults::mark_first, crate::proofs::FirstFaults::crossing_first, crate::proofs::FirstFaults::source_first))]
 fn check_places(page: &Page) -> Result<(), Refusal>
     ensures none { IfOk result (λ _. (f : PlaceFault) → Nowhere page.now (has_fault f (layout_of page.now))) }
     ensures refused { IfErr result (λ _. IsIllDrawn page.now) }
+    ensures first { IfErr result (λ e. IsFirstFrom page.now 5 e.kind e.place.row e.place.column) }
 {
     if let Some(place) = page.first_fault(PlaceFault::BadMark) {
         return Err(fault(DrawFaultKind::BadMark, place));
@@ -43,11 +47,12 @@ fn check_places(page: &Page) -> Result<(), Refusal>
     Ok(())
 }
 
-#[tactic(auto, using(crate::proofs::IllDrawn::ill_missing))]
+#[tactic(auto, using(crate::proofs::IllDrawn::ill_missing, crate::proofs::FirstFaults::unnamed_first))]
 fn check_names(alloc: Global, page: &WordedPage) -> Result<(), Refusal>
     ensures named { IfOk result (λ _. (r : ℕ) → r < length page.now
         → IsFalse (list_any (name_missing (layout_of page.now) r) (things (layout_of page.now) r))) }
     ensures refused { IfErr result (λ e. e.kind ≢ Memory → IsIllDrawn page.now) }
+    ensures first { IfErr result (λ e. e.kind ≢ Memory → IsFirstFrom page.now 8 e.kind e.place.row e.place.column) }
 {
     for row in 0..page.sheet().row_end() {
         if let Some(column) = unnamed_in_row(alloc, page, row)? {
@@ -58,12 +63,14 @@ fn check_names(alloc: Global, page: &WordedPage) -> Result<(), Refusal>
 }
 
 /// The first stray word that is no operand.
+#[tactic(auto, using(crate::proofs::FirstFaults::word_first, crate::proofs::FirstFaults::none_word))]
 fn first_stray_word(alloc: Global, page: &WordedPage) -> Result<Option<Place>, AllocError>
     ensures none { IfOk result (λ found. IfNone found ((r : ℕ) → r < length page.now
         → IsFalse (list_any (stray_name (layout_of page.now) r) (words (layout_of page.now) r)))) }
     ensures inside { IfOk result (λ found. IfSome found (λ p. p.row < length page.now)) }
     ensures some { IfOk result (λ found. IfSome found
         (λ p. IsTrue (list_any (stray_name (layout_of page.now) p.row) (words (layout_of page.now) p.row)))) }
+    ensures first { IfOk result (λ found. IsFirstOf (IsStrayWordAt page.now) found) }
 {
     for row in 0..page.sheet().row_end() {
         if let Some(column) = stray_in_row(alloc, page, row)? {
@@ -73,12 +80,13 @@ fn first_stray_word(alloc: Global, page: &WordedPage) -> Result<Option<Place>, A
     Ok(None)
 }
 
-#[tactic(auto, using(crate::proofs::IllDrawn::ill_stray, crate::proofs::IllDrawn::ill_operand))]
+#[tactic(auto, using(crate::proofs::IllDrawn::ill_stray, crate::proofs::IllDrawn::ill_operand, crate::proofs::FirstFaults::stray_first, crate::proofs::FirstFaults::operand_first))]
 fn check_strays(alloc: Global, page: &WordedPage) -> Result<(), Refusal>
     ensures words { IfOk result (λ _. (r : ℕ) → r < length page.now
         → IsFalse (list_any (stray_name (layout_of page.now) r) (words (layout_of page.now) r))) }
     ensures operands { IfOk result (λ _. IsFalse (has_stray_operand (layout_of page.now))) }
     ensures refused { IfErr result (λ e. e.kind ≢ Memory → IsIllDrawn page.now) }
+    ensures first { IfErr result (λ e. e.kind ≢ Memory → IsFirstFrom page.now 9 e.kind e.place.row e.place.column) }
 {
     let operand = page.sheet().first_stray_operand();
     match first_stray_word(alloc, page)? {
@@ -90,7 +98,7 @@ fn check_strays(alloc: Global, page: &WordedPage) -> Result<(), Refusal>
     }
 }
 
-#[tactic(auto, using(crate::proofs::IllDrawn::ill_ascii, crate::proofs::IllDrawn::ill_large, crate::proofs::IllDrawn::ill_empty, crate::proofs::IllDrawn::ill_rail))]
+#[tactic(auto, using(crate::proofs::IllDrawn::ill_ascii, crate::proofs::IllDrawn::ill_large, crate::proofs::IllDrawn::ill_empty, crate::proofs::IllDrawn::ill_rail, crate::proofs::FirstFaults::ascii_first, crate::proofs::FirstFaults::large_first, crate::proofs::FirstFaults::empty_first, crate::proofs::FirstFaults::rail_first))]
 fn read_grid(alloc: Global, text: &str) -> Result<Grid, Refusal>
     ensures same { IfOk result (λ g. g ≡ rows_of text.now) }
     ensures ascii { IfOk result (λ g. Nowhere g (not_ascii g)) }
@@ -99,6 +107,7 @@ fn read_grid(alloc: Global, text: &str) -> Result<Grid, Refusal>
     ensures drawn { IfOk result (λ g. 0 < width g) }
     ensures left_rail { IfOk result (λ g. (r : ℕ) → r < length g → IsFalse (no_left_rail g r)) }
     ensures refused { IfErr result (λ e. e.kind ≢ Memory → IsIllDrawn (rows_of text.now)) }
+    ensures first { IfErr result (λ e. e.kind ≢ Memory → IsFirstFault (rows_of text.now) e.kind e.place.row e.place.column) }
 {
     let rows = rows_of(alloc, text)?;
     if let Some(place) = first_not_ascii(&rows) {
@@ -118,12 +127,13 @@ fn read_grid(alloc: Global, text: &str) -> Result<Grid, Refusal>
     Ok(grid)
 }
 
-#[tactic(auto, using(crate::proofs::IllDrawn::ill_box, crate::proofs::IllDrawn::ill_apart))]
+#[tactic(auto, using(crate::proofs::IllDrawn::ill_box, crate::proofs::IllDrawn::ill_apart, crate::proofs::FirstFaults::box_first, crate::proofs::FirstFaults::shared_first))]
 fn read_sheet(alloc: Global, grid: Grid) -> Result<Sheet, Refusal>
     ensures same { IfOk result (λ s. s ≡ grid) }
     ensures whole { IfOk result (λ s. Nowhere s (bad_box s)) }
     ensures apart { IfOk result (λ s. IsTrue (boxes_apart (layout_of s))) }
     ensures refused { IfErr result (λ e. e.kind ≢ Memory → IsIllDrawn grid) }
+    ensures first { IfErr result (λ e. e.kind ≢ Memory → IsFirstFrom grid 4 e.kind e.place.row e.place.column) }
 {
     let sheet = Sheet::new(alloc, grid)?;
     let shared = sheet.first_shared_box();
@@ -141,6 +151,7 @@ pub fn read_page(alloc: Global, text: &str) -> Result<WordedPage, Refusal>
     ensures same { IfOk result (λ p. p ≡ rows_of text.now) }
     ensures well_drawn { IfOk result (λ p. IsWellDrawn p) }
     ensures refused { IfErr result (λ e. e.kind ≢ Memory → IsIllDrawn (rows_of text.now)) }
+    ensures first { IfErr result (λ e. e.kind ≢ Memory → IsFirstFault (rows_of text.now) e.kind e.place.row e.place.column) }
 {
     let grid = read_grid(alloc, text)?;
     let sheet = read_sheet(alloc, grid)?;

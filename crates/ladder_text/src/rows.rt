@@ -5,6 +5,7 @@ ghost use Rattle.ladder_text.specs.Rows.{without_last, trimmed, rows_of, char_at
 ghost use Rattle.ladder_text.specs.Boxes.{cut, is_blank_column, left_column};
 ghost use Rattle.ladder_text.specs.Chars.{between};
 ghost use Rattle.ladder_text.specs.Faults.{not_ascii, IsFoundAt};
+ghost use Rattle.ladder_text.specs.FirstFault.{IsFirstAt};
 
 use crate::place::Place;
 use std::alloc::{AllocError, Global};
@@ -78,6 +79,7 @@ impl Row {
         ensures none { IfNone result ((c : ℕ) → IsTrue (between 32 (slice_index_or self.now c 32) 126)) }
         ensures inside { IfSome result (λ c. c < length self.now) }
         ensures some { IfSome result (λ c. IsFalse (between 32 (slice_index_or self.now c 32) 126)) }
+        ensures before { IfSome result (λ c. (k : ℕ) → k < c → IsTrue (between 32 (slice_index_or self.now k 32) 126)) }
     {
         for (column, c) in self.cells.iter().enumerate() {
             if !(32 <= *c && *c <= 126) {
@@ -154,6 +156,7 @@ pub fn left_column(rows: &[Row], last: usize) -> usize
 pub fn first_not_ascii(rows: &[Row]) -> Option<Place>
     ensures none { IfNone result ((r c : ℕ) → r < length rows.now → IsFalse (not_ascii rows.now r c)) }
     ensures some { IfSome result (λ p. IsFoundAt rows.now (not_ascii rows.now) p.row p.column) }
+    ensures first { IfSome result (λ p. IsFirstAt (IsFoundAt rows.now (not_ascii rows.now)) p.row p.column) }
 {
     for (row, cells) in rows.iter().enumerate() {
         if let Some(column) = cells.first_unprintable() {

@@ -6,9 +6,11 @@ ghost use Rattle.ladder_text.specs.Chars.{contact_kind, coil_kind, is_word_char}
 ghost use Rattle.ladder_text.specs.Boxes.{begins_box, cut, left_column, outlines};
 ghost use Rattle.ladder_text.specs.Places.{layout_of, contact_at, coil_at, in_box, in_contact, in_coil, is_taken, may_be_rail, has_right_rail, in_operand, is_right_pin};
 ghost use Rattle.ladder_text.specs.Names.{tops};
-ghost use Rattle.ladder_text.specs.RowBoxes.{box_test, IsFirstShared};
+ghost use Rattle.ladder_text.specs.Steps.RowBoxes.{box_test, IsFirstShared};
 ghost use Rattle.std.specs.List.{list_any};
 ghost use Rattle.ladder_text.specs.Faults.{blind_left, blind_right, bad_box, boxes_apart, has_stray_operand, Nowhere, IsFoundAt};
+ghost use Rattle.ladder_text.specs.FirstFault.{IsFirstAt, IsSharedAt, IsStrayOperandAt};
+ghost use Rattle.ladder_text.specs.Steps.Search.{IsFirstOf};
 ghost use Rattle.std.specs.Str.{IsAscii};
 
 use crate::box_test::BoxTest;
@@ -82,6 +84,7 @@ impl Sheet {
     pub fn first_bad_box(&self, alloc: Global) -> Result<Option<Place>, AllocError>
         ensures none { IfOk result (λ found. IfNone found (Nowhere self.now (bad_box self.now))) }
         ensures some { IfOk result (λ found. IfSome found (λ p. IsFoundAt self.now (bad_box self.now) p.row p.column)) }
+        ensures first { IfOk result (λ found. IfSome found (λ p. IsFirstAt (IsFoundAt self.now (bad_box self.now)) p.row p.column)) }
     {
         first_bad_box(alloc, &self.grid)
     }
@@ -98,6 +101,7 @@ impl Sheet {
     pub fn first_shared_box(&self) -> Option<Place>
         ensures none { is_none result ≡ boxes_apart (layout_of self.now) }
         ensures some { IfSome result (λ p. IsFirstShared (outlines self.now) p) }
+        ensures first { IsFirstOf (IsSharedAt (outlines self.now)) result }
     {
         self.boxes.first_shared()
     }
@@ -105,7 +109,8 @@ impl Sheet {
     /// The first place of a stray operand.
     #[tactic(auto, unfolding(crate::specs::Places::layout_of, crate::specs::Faults::has_stray_operand))]
     pub fn first_stray_operand(&self) -> Option<Place>
-        ensures { is_some result ≡ has_stray_operand (layout_of self.now) }
+        ensures stray { is_some result ≡ has_stray_operand (layout_of self.now) }
+        ensures first { IsFirstOf (IsStrayOperandAt (outlines self.now)) result }
     {
         self.boxes.first_stray_operand()
     }

@@ -6,6 +6,8 @@ ghost use Rattle.ladder_text.specs.Rows.{width, run};
 ghost use Rattle.ladder_text.specs.Places.{layout_of};
 ghost use Rattle.ladder_text.specs.Names.{in_word, words, symbol_at, symbols, tops, things, overlap, word_text, found_text, name_above};
 ghost use Rattle.ladder_text.specs.Faults.{has_earlier, is_second, stray_name, name_missing, AreNamed};
+ghost use Rattle.ladder_text.specs.FirstFault.{IsSpanAt};
+ghost use Rattle.ladder_text.specs.Steps.Search.{IsFirstColumnOf};
 ghost use Rattle.std.specs.Str.{IsAscii};
 
 use crate::names::{is_name, is_plain_name, is_word_char};
@@ -184,6 +186,7 @@ pub fn stray_in_row(
         (IsFalse (list_any (stray_name (layout_of page.now) row) (words (layout_of page.now) row)))) }
     ensures some { IfOk result (λ found. IfSome found
         (λ _. IsTrue (list_any (stray_name (layout_of page.now) row) (words (layout_of page.now) row)))) }
+    ensures first { IfOk result (λ found. IsFirstColumnOf (IsSpanAt (words (layout_of page.now) row) (stray_name (layout_of page.now) row)) found) }
 {
     let named = named_below(alloc, page, row)?;
     for word in page.words(row) {
@@ -211,6 +214,7 @@ pub fn unnamed_in_row(
         (IsFalse (list_any (name_missing (layout_of page.now) row) (things (layout_of page.now) row)))) }
     ensures some { IfOk result (λ found. IfSome found
         (λ _. IsTrue (list_any (name_missing (layout_of page.now) row) (things (layout_of page.now) row)))) }
+    ensures first { IfOk result (λ found. IsFirstColumnOf (IsSpanAt (things (layout_of page.now) row) (name_missing (layout_of page.now) row)) found) }
 {
     let here = things(alloc, page, row)?;
     let mut first = None;

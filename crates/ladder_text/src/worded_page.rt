@@ -4,7 +4,7 @@ ghost use Rattle.std.specs.Prelude.{◌≡◌, IfOk, length};
 ghost use Rattle.ladder_text.specs.Places.{layout_of};
 ghost use Rattle.ladder_text.specs.Names.{words, symbols};
 ghost use Rattle.ladder_text.specs.Picture.{marks_of};
-ghost use Rattle.ladder_text.specs.RowSpans.{AreOfRows};
+ghost use Rattle.ladder_text.specs.Steps.RowSpans.{AreOfRows};
 
 use crate::mark_row::MarkRow;
 use crate::page::Page;
@@ -28,7 +28,7 @@ impl Model for WordedPage {
     ghost use Rattle.ladder_text.specs.Rows.{Rows};
     ghost use Rattle.ladder_text.specs.Places.{layout_of};
     ghost use Rattle.ladder_text.specs.Names.{words as row_words, symbols as row_symbols};
-    ghost use Rattle.ladder_text.specs.RowSpans.{AreOfRows};
+    ghost use Rattle.ladder_text.specs.Steps.RowSpans.{AreOfRows};
 
     ghost Value = { Rows };
 

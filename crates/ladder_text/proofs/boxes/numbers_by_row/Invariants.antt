@@ -1,5 +1,5 @@
 use Rattle.std.proofs.Common.{◌≡◌, length}
-use Rattle.ladder_text.specs.RowBoxes.{AreNumbered}
+use Rattle.ladder_text.specs.Steps.RowBoxes.{AreNumbered}
 use Rattle.ladder_text.proofs.boxes.numbers_by_row.Given as goal
 
 abbrev pub invariant-loop-number : goal.invariant-loop-number

@@ -1,7 +1,7 @@
 use Rattle.std.proofs.Common.{◌≡◌, ◌≤◌, ◌<◌, ◌∙◌, sym, ap, refl, length, get_or, rules, tests, Some}
 use Rattle.std.specs.List.{slice_get}
 use Rattle.std.proofs.lemmas.Option.{slice_get_read}
-use Rattle.ladder_text.specs.RowBoxes.{word_test, holds}
+use Rattle.ladder_text.specs.Steps.RowBoxes.{word_test, holds}
 use Rattle.ladder_text.proofs.RowBoxLemmas.{slice_get-past}
 use Rattle.ladder_text.proofs.boxes.takes_word_at.Goals as goal
 

@@ -2,7 +2,7 @@ use Rattle.std.proofs.Common.{arith, rules, tests, leb}
 use Rattle.std.proofs.lemmas.Bool.{leb-true, leb-false}
 use Rattle.std.proofs.lemmas.List.Sorted.{IsPartitionPoint-from_clause, IsPartitionedBy-leb}
 use Rattle.ladder_text.specs.declared.drawn_box.DrawnPin.{DrawnPin}
-use Rattle.ladder_text.specs.RowBoxes.{row_of_pin}
+use Rattle.ladder_text.specs.Steps.RowBoxes.{row_of_pin}
 use Rattle.ladder_text.proofs.outline.count_to.Goals as goal
 
 pub returns-clause-above : goal.returns-clause-above

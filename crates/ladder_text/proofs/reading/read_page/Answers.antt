@@ -1,4 +1,9 @@
-use Rattle.std.proofs.Common.{◌≡◌, ◌∙◌}
+use Rattle.std.proofs.Common.{◌≡◌, ◌≢◌, ◌∙◌, subst, rules}
+use Rattle.ladder_text.specs.declared.drawing.DrawFaultKind.TheVariants.{Memory}
+use Rattle.ladder_text.specs.Rows.{Rows, rows_of}
+use Rattle.ladder_text.specs.FirstFault.{IsFirstFault}
+use Rattle.ladder_text.specs.Steps.Search.{IsFirstFrom}
+use Rattle.ladder_text.proofs.FirstFaults.{behind_grid, behind_names, of_sheet, of_words}
 use Rattle.ladder_text.proofs.WellDrawn.{well_drawn_checked}
 use Rattle.ladder_text.proofs.reading.read_page.Goals as goal
 
@@ -10,3 +15,54 @@ returns-clause-well_drawn c =
     let f = c.in_ok-grid.ensures in
     well_drawn_checked c.in_ok-worded.worded (rw g f.ascii) (rw g f.low) (rw g f.narrow) (rw g f.drawn) (rw g f.left_rail) (rw s c.in_ok-sheet.ensures.whole) (rw s c.in_ok-sheet.ensures.apart)
     (rw w c.in_ok-check_places.ensures.none) (record { things_named = c.in_ok-check_names.ensures.named; no_stray_name = c.in_ok-check_strays.ensures.words }) c.in_ok-check_strays.ensures.operands
+
+pub returns-in_err-sheet-clause-first : goal.returns-in_err-sheet-clause-first
+returns-in_err-sheet-clause-first c =
+    let g = c.in_ok-grid.ensures in
+    let k = c.in_err-sheet.field-0.0.kind in
+    let p = c.in_err-sheet.field-0.0.place in
+    let first : k ≢ Memory → IsFirstFault (rows_of c.args.text.now) k p.row p.column
+    = λ n. subst (λ (d : Rows). IsFirstFault d k p.row p.column) g.same (behind_grid c.in_ok-grid.grid k p.row p.column g.ascii g.low g.narrow g.drawn g.left_rail (c.in_err-sheet.ensures.first n)) in
+    search (rules, first)
+
+pub returns-in_err-check_places-clause-first : goal.returns-in_err-check_places-clause-first
+returns-in_err-check_places-clause-first c =
+    let g = c.in_ok-grid.ensures in
+    let s = c.in_ok-sheet.ensures in
+    let k = c.in_err-check_places.field-0.0.kind in
+    let p = c.in_err-check_places.field-0.0.place in
+    let places : IsFirstFrom c.in_ok-sheet.sheet 5 k p.row p.column = subst (λ (d : Rows). IsFirstFrom d 5 k p.row p.column) c.in_ok-page.ensures c.in_err-check_places.ensures.first in
+    let sheet : IsFirstFrom c.in_ok-grid.grid 4 k p.row p.column = of_sheet c.in_ok-grid.grid c.in_ok-sheet.sheet k p.row p.column s.same s.whole s.apart places in
+    let first : k ≢ Memory → IsFirstFault (rows_of c.args.text.now) k p.row p.column
+    = λ n. subst (λ (d : Rows). IsFirstFault d k p.row p.column) g.same (behind_grid c.in_ok-grid.grid k p.row p.column g.ascii g.low g.narrow g.drawn g.left_rail sheet) in
+    search (rules, first)
+
+pub returns-in_err-check_names-clause-first : goal.returns-in_err-check_names-clause-first
+returns-in_err-check_names-clause-first c =
+    let g = c.in_ok-grid.ensures in
+    let s = c.in_ok-sheet.ensures in
+    let k = c.in_err-check_names.field-0.0.kind in
+    let p = c.in_err-check_names.field-0.0.place in
+    let first : k ≢ Memory → IsFirstFault (rows_of c.args.text.now) k p.row p.column
+    = λ n.
+        let words : IsFirstFrom c.in_ok-page.page 5 k p.row p.column
+        = of_words c.in_ok-page.page c.in_ok-worded.worded k p.row p.column c.in_ok-worded.ensures c.in_ok-check_places.ensures.none (c.in_err-check_names.ensures.first n) in
+        let places : IsFirstFrom c.in_ok-sheet.sheet 5 k p.row p.column = subst (λ (d : Rows). IsFirstFrom d 5 k p.row p.column) c.in_ok-page.ensures words in
+        let sheet : IsFirstFrom c.in_ok-grid.grid 4 k p.row p.column = of_sheet c.in_ok-grid.grid c.in_ok-sheet.sheet k p.row p.column s.same s.whole s.apart places in
+        subst (λ (d : Rows). IsFirstFault d k p.row p.column) g.same (behind_grid c.in_ok-grid.grid k p.row p.column g.ascii g.low g.narrow g.drawn g.left_rail sheet) in
+    search (rules, first)
+
+pub returns-in_err-check_strays-clause-first : goal.returns-in_err-check_strays-clause-first
+returns-in_err-check_strays-clause-first c =
+    let g = c.in_ok-grid.ensures in
+    let s = c.in_ok-sheet.ensures in
+    let k = c.in_err-check_strays.field-0.0.kind in
+    let p = c.in_err-check_strays.field-0.0.place in
+    let first : k ≢ Memory → IsFirstFault (rows_of c.args.text.now) k p.row p.column
+    = λ n.
+        let names : IsFirstFrom c.in_ok-worded.worded 8 k p.row p.column = behind_names c.in_ok-worded.worded k p.row p.column c.in_ok-check_names.ensures.named (c.in_err-check_strays.ensures.first n) in
+        let words : IsFirstFrom c.in_ok-page.page 5 k p.row p.column = of_words c.in_ok-page.page c.in_ok-worded.worded k p.row p.column c.in_ok-worded.ensures c.in_ok-check_places.ensures.none names in
+        let places : IsFirstFrom c.in_ok-sheet.sheet 5 k p.row p.column = subst (λ (d : Rows). IsFirstFrom d 5 k p.row p.column) c.in_ok-page.ensures words in
+        let sheet : IsFirstFrom c.in_ok-grid.grid 4 k p.row p.column = of_sheet c.in_ok-grid.grid c.in_ok-sheet.sheet k p.row p.column s.same s.whole s.apart places in
+        subst (λ (d : Rows). IsFirstFault d k p.row p.column) g.same (behind_grid c.in_ok-grid.grid k p.row p.column g.ascii g.low g.narrow g.drawn g.left_rail sheet) in
+    search (rules, first)

@@ -1,7 +1,7 @@
 use Rattle.std.proofs.Common.{◌∙◌, List, ap}
 use Rattle.std.specs.List.{list_any}
 use Rattle.ladder_text.specs.declared.outline.Outline.{Outline}
-use Rattle.ladder_text.specs.RowBoxes.{box_test, holds_at}
+use Rattle.ladder_text.specs.Steps.RowBoxes.{box_test, holds_at}
 use Rattle.ladder_text.proofs.RowBoxLemmas.{any_test}
 use Rattle.ladder_text.proofs.boxes.Boxes.any.Goals as goal
 

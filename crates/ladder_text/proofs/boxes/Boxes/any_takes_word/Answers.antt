@@ -1,7 +1,7 @@
 use Rattle.std.proofs.Common.{◌∙◌, List, length, ap, subst}
 use Rattle.std.specs.List.{list_any}
 use Rattle.ladder_text.specs.declared.outline.Outline.{Outline}
-use Rattle.ladder_text.specs.RowBoxes.{AreInOrder, word_test, holds_at}
+use Rattle.ladder_text.specs.Steps.RowBoxes.{AreInOrder, word_test, holds_at}
 use Rattle.ladder_text.proofs.RowBoxLemmas.{any_word}
 use Rattle.ladder_text.proofs.boxes.Boxes.any_takes_word.Goals as goal
 

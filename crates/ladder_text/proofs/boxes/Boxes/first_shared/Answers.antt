@@ -2,7 +2,7 @@ use Rattle.std.proofs.Common.{◌∙◌, List, length, sym, ap, subst, refl, ari
 use Rattle.std.specs.List.{slice_get}
 use Rattle.std.proofs.lemmas.Option.{slice_get_read}
 use Rattle.ladder_text.specs.declared.outline.Outline.{Outline}
-use Rattle.ladder_text.specs.RowBoxes.{AreInOrder}
+use Rattle.ladder_text.specs.Steps.RowBoxes.{AreInOrder}
 use Rattle.ladder_text.proofs.BoxOrder.{all_apart, not_apart, none_more}
 use Rattle.ladder_text.proofs.boxes.Boxes.first_shared.Goals as goal
 

@@ -1,7 +1,7 @@
 use Rattle.std.proofs.Common.{◌≡◌, ℕ, ◌<◌, Some, false}
 use Rattle.std.specs.List.{slice_get}
 use Rattle.ladder_text.specs.declared.outline.Outline.{Outline}
-use Rattle.ladder_text.specs.RowBoxes.{shares_before}
+use Rattle.ladder_text.specs.FirstFault.{shares_before}
 use Rattle.ladder_text.proofs.boxes.Boxes.first_shared.Given as goal
 
 abbrev pub invariant-loop-number : goal.invariant-loop-number

@@ -1,5 +1,5 @@
 use Rattle.std.proofs.Common.{◌≡◌, ◌≤◌, ◌<◌, ◌-◌, ◌∙◌, [], List, ℕ, length, get_or, sym, ap, subst, arith, rules, tests, inl, inr}
-use Rattle.ladder_text.specs.RowBoxes.{AreInOrder, numbers_on}
+use Rattle.ladder_text.specs.Steps.RowBoxes.{AreInOrder, numbers_on}
 use Rattle.ladder_text.proofs.RowBoxLemmas.{none_on, numbers-at}
 use Rattle.ladder_text.proofs.boxes.Boxes.on_row.Goals as goal
 

@@ -2,7 +2,7 @@ use Rattle.std.proofs.Common.{◌∙◌, ◌&&◌, ℕ, List, length, nat_lt, ap
 use Rattle.std.specs.List.{list_any}
 use Rattle.ladder_text.specs.declared.outline.Outline.{Outline}
 use Rattle.ladder_text.specs.Faults.{share_place}
-use Rattle.ladder_text.specs.RowBoxes.{AreInOrder, holds_at}
+use Rattle.ladder_text.specs.Steps.RowBoxes.{AreInOrder, holds_at}
 use Rattle.ladder_text.proofs.RowBoxLemmas.{any_shared}
 use Rattle.ladder_text.proofs.boxes.Boxes.shares_before.Goals as goal
 

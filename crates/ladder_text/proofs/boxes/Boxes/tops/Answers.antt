@@ -3,7 +3,7 @@ use Rattle.std.specs.List.{filter_map}
 use Rattle.std.specs.Prelude.{IfOk}
 use Rattle.ladder_text.specs.declared.outline.Outline.{Outline}
 use Rattle.ladder_text.specs.declared.span.Span.{Span}
-use Rattle.ladder_text.specs.RowBoxes.{AreInOrder, top_at}
+use Rattle.ladder_text.specs.Steps.RowBoxes.{AreInOrder, top_at}
 use Rattle.ladder_text.proofs.RowBoxLemmas.{tops_on}
 use Rattle.ladder_text.proofs.boxes.Boxes.tops.Goals as goal
 

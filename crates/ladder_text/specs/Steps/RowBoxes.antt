@@ -1,5 +1,5 @@
 -- The boxes of a row by their numbers, and what is asked of boxes at a place.
-use Rattle.std.specs.Prelude.{ℕ, zero, suc, ◌+◌, ◌≡◌, ◌<◌, ◌≤◌, List, [], ◌∷◌, ◌++◌, ◌==◌, if◌then◌else◌, length, take, slice_get, slice_index_or, Bool, true, false, Option, Some, None, ◌⊎◌}
+use Rattle.std.specs.Prelude.{ℕ, zero, suc, ◌+◌, ◌≡◌, ◌<◌, ◌≤◌, List, [], ◌∷◌, ◌++◌, ◌==◌, if◌then◌else◌, length, slice_get, slice_index_or, Bool, true, false, Option, Some, None, ◌⊎◌}
 use Rattle.std.specs.List.{All, list_any}
 use Rattle.std.specs.List.Sorted.{IsNonDecreasingBy}
 use Rattle.ladder_text.specs.declared.outline.Outline.{Outline}
@@ -12,7 +12,8 @@ use Rattle.ladder_text.specs.declared.span.Span.{Span}
 use Rattle.ladder_text.specs.Boxes.{covers, meets_row}
 use Rattle.ladder_text.specs.Names.{top_span}
 use Rattle.ladder_text.specs.Places.{box_reaches, right_pin_at}
-use Rattle.ladder_text.specs.Faults.{blind_left_of, blind_right_of, share_place, takes_word}
+use Rattle.ladder_text.specs.Faults.{blind_left_of, blind_right_of, takes_word}
+use Rattle.ladder_text.specs.FirstFault.{shares_before}
 
 -- what a test asks of a box at (r, c)
 abbrev pub box_test : BoxTest → ℕ → ℕ → Outline → Bool
@@ -78,10 +79,6 @@ top_in r (Some b) = if b.top == r then Some (top_span b) else None
 -- the top side of the box with the number i, if it begins in row r
 abbrev pub top_at : List Outline → ℕ → ℕ → Option Span
 top_at bs r i = top_in r (slice_get bs i)
-
--- the box b shares a place with one of those before the number k
-abbrev pub shares_before : List Outline → ℕ → Outline → Bool
-shares_before bs k b = list_any (share_place b) (take k bs)
 
 -- the corner of the first box that shares a place with one before it
 pub record IsFirstShared (bs : List Outline) (p : Place) : Type 0 where

@@ -1,0 +1,11 @@
+use Rattle.std.proofs.Common.{sym, ◌∙◌, refl}
+use Rattle.ladder_text.specs.Places.{layout_of}
+use Rattle.ladder_text.specs.Faults.{stray_name}
+use Rattle.ladder_text.proofs.WordOrder.{first_of_words}
+use Rattle.ladder_text.proofs.spans.stray_in_row.Goals as goal
+
+pub returns-then-is_stray-clause-first : goal.returns-then-is_stray-clause-first
+returns-then-is_stray-clause-first c =
+    let p = layout_of c.args.page.now in
+    let test = stray_name p c.args.row in
+    first_of_words p c.args.row test c.words-word-items.result.now c.loop-word.word-index _ (record { first = 0; end = 0 }) c.words-word-items.ensures c.loop-word-test.true refl c.loop-word.invariant (sym c.is_stray.ensures ∙ c.if-is_stray.true)

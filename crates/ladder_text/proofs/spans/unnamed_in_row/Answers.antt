@@ -1,0 +1,31 @@
+use Rattle.std.proofs.Common.{sym, ◌∙◌, refl, Option, ap, ℕ}
+use Rattle.std.specs.Option.{is_some}
+use Rattle.ladder_text.specs.declared.span.Span.{Span}
+use Rattle.ladder_text.specs.Places.{layout_of}
+use Rattle.ladder_text.specs.Faults.{name_missing}
+use Rattle.ladder_text.proofs.SearchLemmas.{span_found, span_passed, any_found, any_passed}
+use Rattle.ladder_text.proofs.spans.unnamed_in_row.Goals as goal
+use Rattle.ladder_text.proofs.spans.unnamed_in_row.Goals.{then-is_unnamed, else-is_unnamed}
+
+pub loop-thing-preserved : goal.loop-thing-preserved
+loop-thing-preserved c =
+    let test = name_missing (layout_of c.args.page.now) c.args.row in
+    let xs = c.deref-thing-items.result.now in
+    let i = c.loop-thing.thing-index in
+    let h = c.loop-thing-test.true in
+    let before = c.loop-thing.invariant in
+    let none : Span = record { first = 0; end = 0 } in
+    elim c.if-is_unnamed.branch [
+      | then-is_unnamed w ↦ 
+          let t = sym c.is_unnamed.ensures ∙ w.if-is_unnamed.true in
+          record {
+            any = ap (λ (o : Option ℕ). is_some o) w.first-is ∙ sym (any_found test xs i none h t);
+            first = rw w.first-is (span_found test xs i _ none c.loop-thing.first w.least.result h refl before.first t w.least.ensures);
+          }
+      | else-is_unnamed w ↦ 
+          let t = sym c.is_unnamed.ensures ∙ w.if-is_unnamed.false in
+          record {
+            any = ap (λ (o : Option ℕ). is_some o) w.first-is ∙ before.any ∙ sym (any_passed test xs i none h t);
+            first = rw w.first-is (span_passed test xs i _ none c.loop-thing.first h refl before.first t);
+          }
+    ]

@@ -1,0 +1,114 @@
+-- The first fault of a text: each kind of fault as a property of a place, and which of all faults is told.
+use Rattle.std.specs.Prelude.{ℕ, ◌+◌, ◌-◌, ◌≡◌, ◌≢◌, ◌<◌, ◌≤◌, ◌⊎◌, IsTrue, List, [], length, take, min, slice_get, slice_index_or, Bool, Some}
+use Rattle.std.specs.List.{Any, list_any}
+use Rattle.ladder_text.specs.declared.drawing.DrawFault.{DrawFault}
+use Rattle.ladder_text.specs.declared.drawing.DrawFaultKind.{DrawFaultKind}
+use Rattle.ladder_text.specs.declared.drawing.DrawFaultKind.TheVariants as kind
+use Rattle.ladder_text.specs.declared.drawn_box.DrawnPin.{DrawnPin}
+use Rattle.ladder_text.specs.declared.drawn_box.Operand.{Operand}
+use Rattle.ladder_text.specs.declared.outline.Outline.{Outline}
+use Rattle.ladder_text.specs.declared.span.Span.{Span}
+use Rattle.ladder_text.specs.Rows.{Rows, rows_of, width}
+use Rattle.ladder_text.specs.Boxes.{left_column, outlines}
+use Rattle.ladder_text.specs.Places.{layout_of}
+use Rattle.ladder_text.specs.Names.{words, things}
+use Rattle.ladder_text.specs.Faults.{IsFoundAt, not_ascii, no_left_rail, bad_box, share_place, bad_mark, crossing, no_source, name_missing, stray_name, is_stray_operand}
+
+-- row 2001, column 1, if there is such a row; or column 241 of a row that reaches it
+abbrev pub IsTooLargeAt : Rows → ℕ → ℕ → Type 0
+IsTooLargeAt d r c = ((2001 < length d) × (r ≡ 2001) × (c ≡ 1)) ⊎ ((241 < length (slice_index_or d r [])) × (c ≡ 241))
+
+-- row 1, column 1, if nothing is drawn; or a character of the left rail's column that is no rail's
+abbrev pub IsOffRailAt : Rows → ℕ → ℕ → Type 0
+IsOffRailAt d r c = ((width d ≡ 0) × (r ≡ 1) × (c ≡ 1)) ⊎ ((0 < width d) × (r < length d) × (c ≡ left_column d) × IsTrue (no_left_rail d r))
+
+-- the box b shares a place with one of those before the number k
+abbrev pub shares_before : List Outline → ℕ → Outline → Bool
+shares_before bs k b = list_any (share_place b) (take k bs)
+
+-- (r, c) is the corner of a box that shares a place with one before it, by row and column of their corners
+pub record IsSharedAt (bs : List Outline) (r c : ℕ) : Type 0 where
+  pub number : ℕ
+  pub box : Outline
+  pub listed : slice_get bs number ≡ Some box
+  pub row : box.top ≡ r
+  pub column : box.left ≡ c
+  pub shares : IsTrue (shares_before bs number box)
+
+-- one of the spans begins at c and passes the test
+abbrev pub IsSpanAt : List Span → (Span → Bool) → ℕ → Type 0
+IsSpanAt spans test c = Any (λ s. (s.first ≡ c) × IsTrue (test s)) spans
+
+-- the pin has an operand that begins at (r, c), and it is stray
+pub record IsStrayPinAt (bs : List Outline) (q : DrawnPin) (r c : ℕ) : Type 0 where
+  pub operand : Operand
+  pub drawn : q.operand ≡ Some operand
+  pub row : q.row ≡ r
+  pub column : operand.column ≡ c
+  pub stray : IsTrue (is_stray_operand bs q.row q.operand)
+
+-- a stray operand of some pin of the box begins at (r, c)
+abbrev pub IsStrayBoxAt : List Outline → Outline → ℕ → ℕ → Type 0
+IsStrayBoxAt bs b r c = Any (λ q. IsStrayPinAt bs q r c) b.pins
+
+-- a stray operand of some pin of some box begins at (r, c)
+abbrev pub IsStrayOperandAt : List Outline → ℕ → ℕ → Type 0
+IsStrayOperandAt bs r c = Any (λ b. IsStrayBoxAt bs b r c) bs
+
+-- a symbol or box of the row r that begins at c has no word above it
+abbrev pub IsUnnamedAt : Rows → ℕ → ℕ → Type 0
+IsUnnamedAt d r c = (r < length d) × IsSpanAt (things (layout_of d) r) (name_missing (layout_of d) r) c
+
+-- a word of the row r that begins at c is stray
+abbrev pub IsStrayWordAt : Rows → ℕ → ℕ → Type 0
+IsStrayWordAt d r c = (r < length d) × IsSpanAt (words (layout_of d) r) (stray_name (layout_of d) r) c
+
+-- a fault of the kind is at (r, c)
+abbrev pub IsFaultAt : Rows → DrawFaultKind → ℕ → ℕ → Type 0
+IsFaultAt d kind.NotAscii r c = IsFoundAt d (not_ascii d) r c
+IsFaultAt d kind.TooLarge r c = IsTooLargeAt d r c
+IsFaultAt d kind.NoLeftRail r c = IsOffRailAt d r c
+IsFaultAt d kind.BadBox r c = IsFoundAt d (bad_box d) r c ⊎ IsSharedAt (outlines d) r c
+IsFaultAt d kind.BadMark r c = IsFoundAt d (bad_mark (layout_of d)) r c
+IsFaultAt d kind.Crossing r c = IsFoundAt d (crossing (layout_of d)) r c
+IsFaultAt d kind.NoSource r c = IsFoundAt d (no_source (layout_of d)) r c
+IsFaultAt d kind.NameMissing r c = IsUnnamedAt d r c
+IsFaultAt d kind.StrayName r c = IsStrayWordAt d r c ⊎ IsStrayOperandAt (outlines d) r c
+IsFaultAt d kind.Memory r c = ⊥
+
+-- no fault of any kind is anywhere
+abbrev pub IsFaultless : Rows → Type 0
+IsFaultless d = (k : DrawFaultKind) (r c : ℕ) → IsFaultAt d k r c → ⊥
+
+-- the kinds by the order in which they are sought
+abbrev pub rank : DrawFaultKind → ℕ
+rank kind.NotAscii = 1
+rank kind.TooLarge = 2
+rank kind.NoLeftRail = 3
+rank kind.BadBox = 4
+rank kind.BadMark = 5
+rank kind.Crossing = 6
+rank kind.NoSource = 7
+rank kind.NameMissing = 8
+rank kind.StrayName = 9
+rank kind.Memory = 10
+
+-- (r, c) comes before (i, j), by row and then column, or is the same place
+abbrev pub IsUpTo : ℕ → ℕ → ℕ → ℕ → Type 0
+IsUpTo r c i j = (r < i) ⊎ ((r ≡ i) × (c ≤ j))
+
+-- (r, c) is the first of the places that are such
+pub record IsFirstAt (IsSuch : ℕ → ℕ → Type 0) (r c : ℕ) : Type 0 where
+  pub such : IsSuch r c
+  pub first : (i j : ℕ) → IsSuch i j → IsUpTo r c i j
+
+-- (r, c) is the first place with a fault of the kind, and no fault of a kind before it is anywhere
+pub record IsFirstFault (d : Rows) (k : DrawFaultKind) (r c : ℕ) : Type 0 where
+  pub place : IsFirstAt (IsFaultAt d k) r c
+  pub before : (earlier : DrawFaultKind) → rank earlier < rank k → (i j : ℕ) → IsFaultAt d earlier i j → ⊥
+
+-- The fault of a text is its first one, with the lines counted on from that of its first (the greatest number, where that is greater).
+-- Where there was no memory left, line and column are 0.
+pub record TellsFirstFault (text : List ℕ) (first_line : ℕ) (fault : DrawFault) : Type 0 where
+  pub memory : fault.kind ≡ kind.Memory → (fault.line ≡ 0) × (fault.column ≡ 0)
+  pub first : fault.kind ≢ kind.Memory → (row : ℕ) × IsFirstFault (rows_of text) fault.kind row fault.column × (fault.line ≡ min (first_line + row - 1) 18446744073709551615)

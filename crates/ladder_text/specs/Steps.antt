@@ -1,0 +1,4 @@
+-- Steps of the proofs: what the reading knows halfway. Only contracts inside this crate cite them, so no reader has to believe them.
+pub mod RowBoxes
+pub mod RowSpans
+pub mod Search
