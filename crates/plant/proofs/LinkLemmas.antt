@@ -22,12 +22,12 @@ use Rattle.plant.specs.declared.feed.Origin.TheVariants as origin
 use Rattle.plant.specs.declared.feed.Feed.{Feed}
 use Rattle.plant.specs.Names.{is_named, AreApart}
 use Rattle.plant.specs.Faultless.{binds_of}
-use Rattle.plant.specs.PlantValue.{ProgramValue, CodeValue, PlantValue, image_kinds, outputs_of, input_kind_at, kind_of_space, source_kind, expected_at, items_or_none, AreOnce, IsBindingSound, IsSoundCode}
+use Rattle.plant.specs.PlantValue.{ProgramValue, CodeValue, PlantValue, image_kinds, outputs_of, input_kind_at, kind_of_space, source_kind, expected_at, items_or_none, AreOnce, AreDistinct, IsBindingSound, IsSoundCode}
 use Rattle.plant.specs.StandsFor.{IsOrigin, IsSourceOf, firsts, mention}
 use Rattle.plant.specs.Steps.Drafts.{IsOriginOf, AreKindsOf, IsFeedOf, AreFeedsOf, IsPlaced, IsPlacedSource, IsBindingBy, IsLinked, IsOnceBound, Triples, tasks_taken, all_taken, IsTakenFrom, IsTaskOf}
 use Rattle.plant.proofs.NameLemmas.{one_name}
 use Rattle.plant.proofs.ImageLemmas.{outputs_placed}
-use Rattle.plant.proofs.ProducerLemmas.{firsts_all, firsts_hold, all_flat, flat_all}
+use Rattle.plant.proofs.ProducerLemmas.{firsts_all, firsts_hold, firsts_distinct, all_flat, flat_all}
 use Rattle.plant.proofs.Zips.{some_same, zip_at, zip_back, zip_length, item_at, all_from, all_at}
 
 -- a source is resolved, with its task by its place among the producers
@@ -171,6 +171,7 @@ module _ (plant : PlantValue) (us : List Use) (draft : CodeValue) (fs : List (Li
     each_output = outputs_placed code outputs-are;
     sound = sound_at;
     once = λ i. once_at i (slice_get bs i) refl;
+    distinct = subst AreDistinct (sym producers-are) (firsts_distinct (all_taken fs));
   }
 
   pub linked : IsLinked plant us draft code

@@ -1,6 +1,6 @@
 -- Tasks in order of first mention, one mention more at a time.
-use Rattle.std.proofs.Common.{◌≡◌, ℕ, zero, suc, ◌+◌, ◌==◌, ◌&&◌, Bool, true, false, not, cond, List, [], ◌∷◌, ◌++◌, length, get_or, refl, sym, ap, ◌∙◌, subst, arith}
-use Rattle.std.specs.Prelude.{All, Contains}
+use Rattle.std.proofs.Common.{◌≡◌, ℕ, zero, suc, ◌+◌, ◌==◌, ◌&&◌, ◌||◌, Bool, true, false, not, cond, List, [], ◌∷◌, ◌++◌, length, get_or, refl, sym, ap, ◌∙◌, subst, arith}
+use Rattle.std.specs.Prelude.{All, Contains, Some, slice_get}
 use Rattle.std.specs.List.{list_any, filter, flat_map}
 use Rattle.std.proofs.lemmas.Bool.Decides.{nat_tests}
 use Rattle.std.proofs.lemmas.List.{append-nil, length-append, get_or-append-add}
@@ -8,7 +8,8 @@ use Rattle.std.proofs.Math.ListN.{get_or-append}
 use Rattle.std.proofs.lemmas.List.Elements.{filter-append, All-append, All-nil, All-cons}
 use Rattle.plant.specs.declared.task_ref.TaskRef.{TaskRef}
 use Rattle.plant.specs.StandsFor.{firsts}
-use Rattle.plant.proofs.Zips.{all_filter}
+use Rattle.plant.specs.PlantValue.{AreDistinct}
+use Rattle.plant.proofs.Zips.{all_filter, some_same}
 
 -- one task
 abbrev pub is_same : TaskRef → TaskRef → Bool
@@ -99,6 +100,61 @@ firsts_hold (t ∷ ts) =
     by : (s : TaskRef) (b : Bool) → is_same s t ≡ b → Contains (firsts ts) s → Contains (firsts (t ∷ ts)) s
     by s true e has = (0, omega arith, sym (same_one s t e))
     by s false e has = let rest = kept (λ u. not (is_same u t)) s (ap not e) (firsts ts) has in (suc rest.0, omega (arith, rest.1), rest.2)
+
+-- no task is among those behind it
+abbrev IsOnce : List TaskRef → Type 0
+IsOnce [] = Unit {0}
+IsOnce (t ∷ ts) = (has t ts ≡ false) × IsOnce ts
+
+-- what is left out isn't among the others
+has_gone : (t : TaskRef) (ts : List TaskRef) → has t (without t ts) ≡ false
+has_gone t [] = refl
+has_gone t (s ∷ ts) = by (is_same s t) refl (has_gone t ts)
+  where
+    by : (a : Bool) → is_same s t ≡ a → has t (without t ts) ≡ false → has t (without t (s ∷ ts)) ≡ false
+    by true e rest = rw e rest
+    by false e rest = rw (e, e) rest
+
+has_fewer : (p : TaskRef → Bool) (t : TaskRef) (ts : List TaskRef) → has t ts ≡ false → has t (filter p ts) ≡ false
+has_fewer p t [] e = refl
+has_fewer p t (s ∷ ts) e = by (p s) (is_same s t) refl refl (has_fewer p t ts)
+  where
+    by : (a b : Bool) → p s ≡ a → is_same s t ≡ b → (has t ts ≡ false → has t (filter p ts) ≡ false) → has t (filter p (s ∷ ts)) ≡ false
+    by a true f g rest = let no : true ≡ false = sym (ap (λ b. b || has t ts) g) ∙ e in cc
+    by true false f g rest = let left : has t ts ≡ false = sym (ap (λ b. b || has t ts) g) ∙ e in rw (f, g) (rest left)
+    by false false f g rest = let left : has t ts ≡ false = sym (ap (λ b. b || has t ts) g) ∙ e in rw f (rest left)
+
+once_fewer : (p : TaskRef → Bool) (ts : List TaskRef) → IsOnce ts → IsOnce (filter p ts)
+once_fewer p [] is = tt
+once_fewer p (s ∷ ts) is = by (p s) refl (once_fewer p ts is.1)
+  where
+    by : (a : Bool) → p s ≡ a → IsOnce (filter p ts) → IsOnce (filter p (s ∷ ts))
+    by true e rest = rw e (has_fewer p s ts is.0, rest)
+    by false e rest = rw e rest
+
+firsts_once : (ts : List TaskRef) → IsOnce (firsts ts)
+firsts_once [] = tt
+firsts_once (t ∷ ts) = (has_gone t (firsts ts), once_fewer (λ s. not (is_same s t)) (firsts ts) (firsts_once ts))
+
+has_at : (ts : List TaskRef) (k : ℕ) (t : TaskRef) → slice_get ts k ≡ Some t → has t ts ≡ true
+has_at [] k t at = cc
+has_at (s ∷ ts) zero t at = let same : s ≡ t = some_same at in let yes : is_same s t ≡ true = rw same (same_itself t) in rw yes refl
+has_at (s ∷ ts) (suc k) t at = by (is_same s t) refl (has_at ts k t at)
+  where
+    by : (a : Bool) → is_same s t ≡ a → has t ts ≡ true → has t (s ∷ ts) ≡ true
+    by true e rest = rw e refl
+    by false e rest = rw e rest
+
+once_distinct : (ts : List TaskRef) → IsOnce ts → AreDistinct ts
+once_distinct [] is j k t at at' = cc
+once_distinct (s ∷ ts) is zero zero t at at' = refl
+once_distinct (s ∷ ts) is zero (suc k) t at at' = let same : s ≡ t = some_same at in let there = has_at ts k t at' in let no = is.0 in let yes : has s ts ≡ true = rw same there in cc
+once_distinct (s ∷ ts) is (suc j) zero t at at' = let same : s ≡ t = some_same at' in let there = has_at ts j t at in let no = is.0 in let yes : has s ts ≡ true = rw same there in cc
+once_distinct (s ∷ ts) is (suc j) (suc k) t at at' = ap suc (once_distinct ts is.1 j k t at at')
+
+-- no task is twice among the first mentions
+pub firsts_distinct : (ts : List TaskRef) → AreDistinct (firsts ts)
+firsts_distinct ts = once_distinct (firsts ts) (firsts_once ts)
 
 -- what holds of the pieces of each item holds of all pieces
 pub all_flat : {A B : Type 0} (P : B → Type 0) (f : A → List B) (xs : List A) → All (λ x. All P (f x)) xs → All P (flat_map f xs)

@@ -163,6 +163,10 @@ module _ (programs : List Program) (name : List ℕ) (rs : List Resource) (ds vs
         let v = code_found plant t c at in
         let r = zip_back (IsResourceOf tree plant) rs vs stands t.resource v.0 v.1 in
         (zip_back (IsCodeOf tree plant r.0) (tasks_of r.0) v.0.codes r.2.codes_are t.task c v.2).2.taken;
+    distinct = λ t c at.
+        let v = code_found plant t c at in
+        let r = zip_back (IsResourceOf tree plant) rs vs stands t.resource v.0 v.1 in
+        (zip_back (IsCodeOf tree plant r.0) (tasks_of r.0) v.0.codes r.2.codes_are t.task c v.2).2.sound.distinct;
   }
 
 -- what holds of each use by its line holds of the uses

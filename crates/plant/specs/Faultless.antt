@@ -6,7 +6,7 @@ use Rattle.ladder_text.specs.Places.{layout_of}
 use Rattle.ladder_text.specs.Picture.{picture_of}
 use Rattle.ladder_text.specs.Faults.{IsWellDrawn}
 use Rattle.network.specs.GraphValue.{GraphValue}
-use Rattle.network.specs.Networks.{AreNetworks}
+use Rattle.network.specs.Networks.{AreNetworks, IsFaultless as HasFaultlessNetworks}
 use Rattle.power_flow.specs.declared.declarations.Declared.{Declared}
 use Rattle.power_flow.specs.declared.declarations.Declared.TheVariants.{Input, Output, Local, Instance}
 use Rattle.power_flow.specs.declared.declarations.Declaration.{Declaration}
@@ -64,12 +64,14 @@ pub record IsListLawful (s : Section) (l : NameList) : Type 0 where
 abbrev pub IsBlockLawful : VarBlock → Type 0
 IsBlockLawful b = All (IsListLawful b.section) b.lists.items
 
--- the ladder of a program: its body is well drawn, its networks are those of the drawing, and its names are bound to its variables
+-- The ladder of a program: its body is well drawn, and its networks are those of the drawing. Each of these meets the left rail and has at most 200 rows,
+-- no two boxes have one name, and the names are bound to the program's variables.
 pub record IsLadderOf (p : Program) (l : LadderValue) : Type 0 where
   pub first_line : ℕ
   pub graph : GraphValue
   pub well_drawn : IsWellDrawn (rows_of p.body)
   pub built : AreNetworks (picture_of first_line (layout_of (rows_of p.body))) graph
+  pub networks_faultless : HasFaultlessNetworks (picture_of first_line (layout_of (rows_of p.body)))
   pub declared : l.declarations ≡ variables p
   pub networks_are : l.networks ≡ diagrams graph
   pub bound : CanBind (variables p) (diagrams graph)

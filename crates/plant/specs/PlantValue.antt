@@ -145,7 +145,11 @@ pub record IsOutputOf (c : CodeValue) (o : TaskOutput) : Type 0 where
   pub declared : slice_get program.ladder.declarations o.place ≡ Some variable
   pub kind_is : output_kind variable.declared ≡ Some o.kind
 
--- A code by itself: each program has its bindings, each producer its kinds, and the outputs are those of the programs.
+-- no task stands twice among them
+abbrev pub AreDistinct : List TaskRef → Type 0
+AreDistinct ts = (j k : ℕ) (t : TaskRef) → slice_get ts j ≡ Some t → slice_get ts k ≡ Some t → j ≡ k
+
+-- A code by itself: each program has its bindings, each producer its kinds, no task is a producer twice, and the outputs are those of the programs.
 pub record IsSoundCode (c : CodeValue) : Type 0 where
   pub each_bound : length c.bindings ≡ length c.programs
   pub each_expected : length c.expected ≡ length c.producers
@@ -153,12 +157,14 @@ pub record IsSoundCode (c : CodeValue) : Type 0 where
   pub each_output : (k : ℕ) (o : TaskOutput) → slice_get c.outputs k ≡ Some o → IsOutputOf c o
   pub sound : (i : ℕ) (p : ProgramValue) → slice_get c.programs i ≡ Some p → All (IsBindingSound c p) (bindings_at c i)
   pub once : (i : ℕ) → AreOnce (bindings_at c i)
+  pub distinct : AreDistinct c.producers
 
 -- each task from which a code takes is a task of the plant, and its image has the kinds that are expected
 abbrev pub AreProducersOf : PlantValue → CodeValue → Type 0
 AreProducersOf plant c = (k : ℕ) (t : TaskRef) → slice_get c.producers k ≡ Some t → (p : CodeValue) × (code_at plant t ≡ Some p) × (slice_get c.expected k ≡ Some (image_kinds p))
 
--- a plant: each task has its code, and takes from tasks of the plant
+-- a plant: each task has its code, and takes from tasks of the plant, of which none is its producer twice
 pub record IsSoundPlant (plant : PlantValue) : Type 0 where
   pub coded : (r : ResourceValue) (k : ℕ) → slice_get plant.resources k ≡ Some r → length r.codes ≡ length r.tasks
   pub taken : (t : TaskRef) (c : CodeValue) → code_at plant t ≡ Some c → AreProducersOf plant c
+  pub distinct : (t : TaskRef) (c : CodeValue) → code_at plant t ≡ Some c → AreDistinct c.producers

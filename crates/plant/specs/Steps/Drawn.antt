@@ -7,7 +7,7 @@ use Rattle.ladder_text.specs.Places.{layout_of}
 use Rattle.ladder_text.specs.Picture.{picture_of}
 use Rattle.ladder_text.specs.Faults.{IsWellDrawn, IsIllDrawn}
 use Rattle.network.specs.GraphValue.{GraphValue}
-use Rattle.network.specs.Networks.{AreNetworks, IsFaultAt}
+use Rattle.network.specs.Networks.{AreNetworks, IsFaultAt, IsFaultless as HasFaultlessNetworks}
 use Rattle.power_flow.specs.LadderValue.{diagrams}
 use Rattle.power_flow.specs.Binding.{CanBind}
 use Rattle.power_flow.specs.Findings.{IsFirstFault}
@@ -30,11 +30,12 @@ pub record AreDrawn (programs : List Program) (types : List TypeValue) : Type 0 
 abbrev pub Draws : (Vec Program → Result (Vec TypeValue) PlantFault → Type 0) → Type 0
 Draws answers = (texts : Vec Program) (types : Result (Vec TypeValue) PlantFault) → answers texts types → IfOk types (λ ts. AreDrawn texts.items ts.items)
 
--- the names of a program's networks can't be bound to its variables, and this is the first fault
+-- a program's networks have no fault, and their names can't be bound to its variables; this is the first fault
 pub record RefusesNames (p : Program) (fault : BindFault) : Type 0 where
   pub first_line : ℕ
   pub graph : GraphValue
   pub built : AreNetworks (picture_of first_line (layout_of (rows_of p.body))) graph
+  pub networks_faultless : HasFaultlessNetworks (picture_of first_line (layout_of (rows_of p.body)))
   pub refused : CanBind (variables p) (diagrams graph) → ⊥
   pub first : IsFirstFault (variables p) graph fault
 

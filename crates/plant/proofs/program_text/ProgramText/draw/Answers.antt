@@ -25,6 +25,7 @@ returns-in_err-ladder-clause-fault c =
       first_line = c.clamp-first_line.result;
       graph = c.in_ok-graph.graph;
       built = rw drawing at c.in_ok-graph.ensures.ok.0;
+      networks_faultless = rw drawing at c.in_ok-graph.ensures.ok.1;
       refused = rw declared at c.in_err-ladder.ensures.only other;
       first = rw declared at c.in_err-ladder.ensures.first other;
     })
