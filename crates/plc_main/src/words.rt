@@ -1,8 +1,8 @@
 ghost use Rattle.std.specs.Prelude.{◌≡◌, ◌≢◌, ◌⊎◌, false, [], IfOk, IfErr, MatchOption, codes, map, unwrap_or, string_bytes};
 ghost use Rattle.std.specs.Str.Parse.{digits_value};
 ghost use Rattle.clap.specs.Words.{app_of, rule_of, rows_of, found_of, first_of, all_of, kind_of, subcommand_of};
-ghost use Rattle.plc_main.specs.CommandLine.{drawing_rule, dt_rule, rows_rule, plant_rule, until_rule, eval_app, check_app, plan_app, plc_app};
-ghost use Rattle.plc_main.specs.CommandLine.{IsNumber, GivesNumber, AsksEval, AsksPlan, IsAsked, word_of, file_of, words_in};
+ghost use Rattle.plc_main.specs.CommandLine.{drawing_rule, dt_rule, rows_rule, plant_rule, until_rule, schedule_rule, max_number_rule, eval_app, check_app, plan_app, sim_app, plc_app};
+ghost use Rattle.plc_main.specs.CommandLine.{IsNumber, GivesNumber, AsksEval, AsksPlan, AsksSim, IsAsked, word_of, file_of, words_in};
 
 use clap::error::ErrorKind;
 use clap::{Arg, ArgAction, ArgMatches, Command, Error};
@@ -26,10 +26,16 @@ pub enum Request<'a> {
         plant: &'a str,
         until: u32,
     },
+    /// What each event of a schedule does to a plant; in one incarnation a task is evaluated `max_number` times at most.
+    Sim {
+        plant: &'a str,
+        schedule: &'a str,
+        max_number: u32,
+    },
 }
 
 impl<'a> Request<'a> {
-    /// The file that is to be read.
+    /// The file that is to be read first.
     pub fn file(&self) -> &'a str
         ensures { result.now ≡ file_of self.now }
     {
@@ -37,6 +43,7 @@ impl<'a> Request<'a> {
             Request::Eval { drawing, .. } => drawing,
             Request::Check { plant } => plant,
             Request::Plan { plant, .. } => plant,
+            Request::Sim { plant, .. } => plant,
         }
     }
 
@@ -46,7 +53,7 @@ impl<'a> Request<'a> {
     {
         match self {
             Request::Eval { words, .. } => words.as_slice(),
-            Request::Check { .. } | Request::Plan { .. } => &[],
+            Request::Check { .. } | Request::Plan { .. } | Request::Sim { .. } => &[],
         }
     }
 }
@@ -98,6 +105,33 @@ Example:
 The exit status is 0; 1 if the text of the plant is refused, with FILE:LINE: Kind on standard error, or if the plan has
 more than 100,000 lines, with plan: TooLong; 2 if a word is refused; 3 if the file can't be read, the output can't be
 written or there is no memory left.";
+
+const SIM_HELP: &str = "\
+The schedule says what happens in which order, one event a line; the program writes one line for each. Words are parted
+by blanks or tabs, and stand in either case; a line that is blank or begins with # is no event.
+
+  EVAL R1.FAST 10 %IX0=1   task FAST of resource R1 is evaluated, 10 ms after the time before, with these field inputs
+  DELIVER 1 R2             the message of the first evaluation reaches resource R2
+  RESTART R1               resource R1 restarts: it forgets all, and its incarnation is one more
+
+An evaluation takes, from each task that feeds it, the latest evaluation that reached its resource since that restarted
+last; an evaluation that is never delivered is lost, and one may be delivered twice, late or out of order. What names
+nothing that exists changes nothing and is written as REFUSED, with the number of the event and the reason.
+
+Example:
+
+  $ cat examples/one_delivery.schedule
+  EVAL R1.FAST 10 %IX0=1
+  DELIVER 1 R2
+  EVAL R2.SLOW 20
+  $ plc sim examples/pair.plant examples/one_delivery.schedule
+  EVAL 1 R1.FAST 1.1 TAKES - GIVES A.N=1 A.FULL=0
+  DELIVER 1 R2 taken
+  EVAL 2 R2.SLOW 1.1 TAKES R1.FAST=1.1 GIVES B.SEEN=1 B.HIT=0
+
+The exit status is 0; 1 if the text of the plant is refused, with FILE:LINE: Kind on standard error, or a line of the
+schedule is no event, with FILE:LINE: Syntax, after the lines of the events before it; 2 if a word is refused; 3 if a file
+can't be read, the output can't be written or there is no memory left.";
 
 fn drawing_arg<'a>(alloc: Global) -> Arg<'a>
     ensures rule { rule_of result ≡ drawing_rule }
@@ -164,6 +198,27 @@ fn until_arg<'a>(alloc: Global) -> Arg<'a>
         .help("The last moment of the plan in milliseconds, 0 to 4294967295")
 }
 
+fn schedule_arg<'a>(alloc: Global) -> Arg<'a>
+    ensures rule { rule_of result ≡ schedule_rule }
+    ensures local { result.global ≡ false }
+{
+    Arg::new(alloc, "SCHEDULE")
+        .required(true)
+        .action(ArgAction::Set)
+        .help("The file of the schedule")
+}
+
+fn max_number_arg<'a>(alloc: Global) -> Arg<'a>
+    ensures rule { rule_of result ≡ max_number_rule }
+    ensures local { result.global ≡ false }
+{
+    Arg::new(alloc, "max-number")
+        .long("max-number")
+        .value_name("N")
+        .action(ArgAction::Set)
+        .help("How often a task is evaluated in one incarnation at most, 0 to 4294967295 [default: 4294967295]")
+}
+
 fn check_command<'a>(alloc: Global) -> Result<Command<'a>, AllocError>
     ensures { IfOk result (λ c. app_of c ≡ check_app) }
 {
@@ -183,6 +238,17 @@ fn plan_command<'a>(alloc: Global) -> Result<Command<'a>, AllocError>
         .arg(until_arg(alloc))
 }
 
+fn sim_command<'a>(alloc: Global) -> Result<Command<'a>, AllocError>
+    ensures { IfOk result (λ c. app_of c ≡ sim_app) }
+{
+    Command::new(alloc, "sim")
+        .about("Runs a schedule of evaluations, deliveries and restarts over a plant, and writes what each did")
+        .after_help(SIM_HELP)
+        .arg(plant_arg(alloc))?
+        .arg(schedule_arg(alloc))?
+        .arg(max_number_arg(alloc))
+}
+
 /// The commands of the program.
 pub fn commands<'a>(alloc: Global) -> Result<Command<'a>, AllocError>
     ensures { IfOk result (λ c. app_of c ≡ plc_app) }
@@ -193,7 +259,8 @@ pub fn commands<'a>(alloc: Global) -> Result<Command<'a>, AllocError>
         .subcommand_required(true)
         .subcommand(eval_command(alloc)?)?
         .subcommand(check_command(alloc)?)?
-        .subcommand(plan_command(alloc)?)
+        .subcommand(plan_command(alloc)?)?
+        .subcommand(sim_command(alloc)?)
 }
 
 /// A number of decimal digits alone, at most 4294967295.
@@ -210,12 +277,13 @@ fn number_of<'a>(
     command: &mut Command<'a>,
     matches: &ArgMatches<'a>,
     id: &str,
+    otherwise: u32,
     refusal: &'static str,
 ) -> Result<u32, Error>
-    ensures { IfOk result (GivesNumber (first_of id.now (rows_of (found_of matches.now)))) }
+    ensures { IfOk result (GivesNumber otherwise (first_of id.now (rows_of (found_of matches.now)))) }
 {
     match matches.get_str(id) {
-        None => Ok(0),
+        None => Ok(otherwise),
         Some(text) => match number(text) {
             Some(n) => Ok(n),
             None => Err(command.error(ErrorKind::ValueValidation, refusal)?),
@@ -255,6 +323,7 @@ fn eval_request<'a>(
             command,
             inner,
             "dt",
+            0,
             "MS of --dt is a number from 0 to 4294967295",
         )?,
         words: words_of(alloc, inner)?,
@@ -270,7 +339,24 @@ fn plan_request<'a>(command: &mut Command<'a>, inner: &ArgMatches<'a>) -> Result
             command,
             inner,
             "until",
+            0,
             "MS of --until is a number from 0 to 4294967295",
+        )?,
+    })
+}
+
+fn sim_request<'a>(command: &mut Command<'a>, inner: &ArgMatches<'a>) -> Result<Request<'a>, Error>
+    ensures { IfOk result (AsksSim (rows_of (found_of inner.now))) }
+{
+    Ok(Request::Sim {
+        plant: given_word(inner, "PLANT"),
+        schedule: given_word(inner, "SCHEDULE"),
+        max_number: number_of(
+            command,
+            inner,
+            "max-number",
+            u32::MAX,
+            "N of --max-number is a number from 0 to 4294967295",
         )?,
     })
 }
@@ -287,6 +373,7 @@ pub fn read_words<'a>(alloc: Global, words: &'a [String]) -> Result<Request<'a>,
             plant: given_word(inner, "PLANT"),
         }),
         Some(("plan", inner)) => plan_request(&mut command, inner),
+        Some(("sim", inner)) => sim_request(&mut command, inner),
         _ => Err(command.error(ErrorKind::MissingSubcommand, "a command is missing")?),
     }
 }
