@@ -9,7 +9,7 @@ use Rattle.ladder_text.specs.declared.place.Place.{Place}
 use Rattle.ladder_text.specs.declared.drawing.DrawFaultKind.TheVariants as draw
 use Rattle.network.specs.Links.{Diagram}
 use Rattle.network.specs.GraphValue.{GraphValue}
-use Rattle.network.specs.Networks.{AreNetworks, IsFaultAt, IsFoundAt}
+use Rattle.network.specs.Networks.{AreNetworks, IsFaultless, IsFaultAt, IsFoundAt}
 use Rattle.network.specs.declared.fault.GraphFault.{GraphFault}
 use Rattle.std_blocks.specs.declared.value.Value.TheVariants.{Bool as BoolValue}
 use Rattle.power_flow.specs.declared.declarations.Declaration.{Declaration}
@@ -35,12 +35,14 @@ pub record IsDrawn (text : List ℕ) (drawn : Picture) : Type 0 where
   pub well_drawn : IsWellDrawn (rows_of text)
   pub picture : drawn ≡ picture_of 1 (layout_of (rows_of text))
 
--- the ladder of a drawing: its networks in order, and its names, declared by their use
+-- The ladder of a drawing: its networks in order, and its names, declared by their use. Each network meets the left rail and has at most 200 rows,
+-- no two boxes have one name, and the names can be bound.
 pub record IsLadderOf (text : List ℕ) (ds : List Declaration) (networks : List Diagram) : Type 0 where
   pub picture : Picture
   pub graph : GraphValue
   pub drawn : IsDrawn text picture
   pub built : AreNetworks picture graph
+  pub faultless : IsFaultless picture
   pub guessed : AreGuessed graph ds
   pub diagrams : networks ≡ diagrams_of graph
   pub bound : CanBind ds networks
@@ -108,13 +110,14 @@ pub record RefusesWords (drawing : List ℕ) (words : List (List ℕ)) (fault : 
   pub refused : (rows : List RowValue) → AreRows declarations words rows → ⊥
   pub first : IsFirstRefused declarations words fault
 
--- the names of the drawing's networks can't be bound, and this is the first fault
+-- the drawing's networks have no fault, and their names can't be bound; this is the first fault
 pub record RefusesNames (drawing : List ℕ) (fault : BindFault) : Type 0 where
   pub picture : Picture
   pub graph : GraphValue
   pub declarations : List Declaration
   pub drawn : IsDrawn drawing picture
   pub built : AreNetworks picture graph
+  pub faultless : IsFaultless picture
   pub guessed : AreGuessed graph declarations
   pub refused : CanBind declarations (diagrams_of graph) → ⊥
   pub first : IsFirstFault declarations graph fault

@@ -5,3 +5,4 @@ pub mod EvalText
 pub mod CheckText
 pub mod PlanText
 pub mod CommandLine
+pub mod Answers

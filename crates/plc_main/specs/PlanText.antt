@@ -1,5 +1,5 @@
 -- What `plc plan` writes.
-use Rattle.std.specs.Prelude.{◌≡◌, ◌≢◌, ℕ, ◌<◌, ◌++◌, ◌⊎◌, List, Option, length, codes, take, slice_get}
+use Rattle.std.specs.Prelude.{◌≡◌, ◌≢◌, ℕ, ◌<◌, ◌≤◌, ◌++◌, ◌⊎◌, List, Option, length, codes, take, slice_get}
 use Rattle.std.specs.Option.{option_map}
 use Rattle.std.specs.List.{flat_map}
 use Rattle.std.specs.Fmt.{decimal}
@@ -59,13 +59,13 @@ pub record Planned (text : List ℕ) (until : ℕ) : Type 0 where
   pub dues : List Due
   pub planned : IsPlan plant until dues
 
--- the lines of the plan were written
+-- the plan has at most 100,000 entries, and their lines were written
 abbrev pub WritesPlan : List ℕ → ℕ → Option (List ℕ) → Option (List ℕ) → Type 0
-WritesPlan text until old new = (p : Planned text until) × Appends old new (plan_lines p.plant p.dues)
+WritesPlan text until old new = (p : Planned text until) × (length p.dues ≤ 100000) × Appends old new (plan_lines p.plant p.dues)
 
--- no more than a beginning of the lines was written
+-- the plan has at most 100,000 entries, and no more than a beginning of their lines was written
 abbrev pub WritesPlanPart : List ℕ → ℕ → Option (List ℕ) → Option (List ℕ) → Type 0
-WritesPlanPart text until old new = (p : Planned text until) × SendsPart (plan_lines p.plant p.dues) old new
+WritesPlanPart text until old new = (p : Planned text until) × (length p.dues ≤ 100000) × SendsPart (plan_lines p.plant p.dues) old new
 
 -- what holds after a refusal by the text: a plan that is too long has more than 100,000 entries
 abbrev pub RefusesPlan : List ℕ → ℕ → TextFault → Type 0

@@ -14,11 +14,14 @@ mod text_output;
 mod word_fault;
 mod words;
 
+ghost use Rattle.std.specs.Prelude.{OnOk, IfErr};
+ghost use Rattle.plc_main.specs.Answers.{WritesAnswer, ExplainsAnswer};
+
 use check_command::check;
 use command_fault::CommandFault;
 use eval_command::eval;
 use plan_command::plan_text;
-use std::io::ErrorKind;
+use std::io::{ErrorKind, Write};
 use std::process::ExitCode;
 use std::rt::{Env, Files};
 use std::thread::Threads;
@@ -99,17 +102,20 @@ fn file_text<R: Files + Eprint + AllocGlobal>(
     }
 }
 
-/// Does what the words ask for with the text of the file.
-fn obey<R: Print + AllocGlobal + Threads + Sync>(
+/// Writes what the words ask for of the text of the file.
+fn obey<R: AllocGlobal + Threads + Sync, W: Write>(
     rt: &R,
     request: &Request<'_>,
     text: &str,
-) -> Result<(), CommandFault> {
-    let mut writer = io::writer(rt);
+    writer: &mut W,
+) -> Result<(), CommandFault>
+    ensures ok { OnOk result (WritesAnswer request.now text.now (W.contents writer.old) (W.contents writer.new)) }
+    ensures fault { IfErr result (ExplainsAnswer request.now text.now (W.contents writer.old) (W.contents writer.new)) }
+{
     match request {
-        Request::Eval { dt, words, .. } => eval(rt.alloc(), text, words, *dt, &mut writer),
-        Request::Check { .. } => check(rt, rt.alloc(), text, &mut writer),
-        Request::Plan { until, .. } => plan_text(rt, rt.alloc(), text, *until, &mut writer),
+        Request::Eval { dt, words, .. } => eval(rt.alloc(), text, words, *dt, writer),
+        Request::Check { .. } => check(rt, rt.alloc(), text, writer),
+        Request::Plan { until, .. } => plan_text(rt, rt.alloc(), text, *until, writer),
     }
 }
 
@@ -122,7 +128,8 @@ fn run<R: Files + Print + Eprint + AllocGlobal + Threads + Sync>(
         Ok(text) => text,
         Err(status) => return Ok(status),
     };
-    match obey(rt, request, text.as_str()) {
+    let mut writer = io::writer(rt);
+    match obey(rt, request, text.as_str(), &mut writer) {
         Ok(()) => Ok(0),
         Err(fault) => print_fault(rt, file, request.words(), fault),
     }

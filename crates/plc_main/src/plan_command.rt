@@ -1,4 +1,4 @@
-ghost use Rattle.std.specs.Prelude.{◌≡◌, ℕ, ◌++◌, OnOk, OnErr, IfOk, IfErr, string_bytes, take};
+ghost use Rattle.std.specs.Prelude.{◌≡◌, ℕ, ◌≤◌, ◌++◌, length, OnOk, OnErr, IfOk, IfErr, string_bytes, take};
 ghost use Rattle.std.specs.Io.KnownBytes.{Appends};
 ghost use Rattle.plant.specs.Plan.{IsPlan};
 ghost use Rattle.plc_main.specs.EvalText.{IsLate};
@@ -76,7 +76,7 @@ fn write_dues<W: Write>(
 
 /// The plan of a plant.
 fn plan_of(alloc: Global, plant: &Plant, until: u32) -> Result<Vec<Due>, CommandFault>
-    ensures ok { IfOk result (λ dues. IsPlan plant.now until dues.items) }
+    ensures ok { IfOk result (λ dues. IsPlan plant.now until dues.items × (length dues.items ≤ 100000)) }
     ensures err { IfErr result (RefusesPlanOf plant.now until) }
 {
     Ok(plan(alloc, plant, until)?)
@@ -84,7 +84,7 @@ fn plan_of(alloc: Global, plant: &Plant, until: u32) -> Result<Vec<Due>, Command
 
 /// Reads a plant, and writes its plan up to and with `until` (in ms), a line for each entry, as `10 R1.FAST`.
 ///
-/// `Text` comes before anything is written. After `Write` and `Memory` what went out is a prefix.
+/// `Text` comes before anything is written; `TooLong` exactly where there are more than 100,000 lines. After `Write` and `Memory` what went out is a prefix.
 pub fn plan_text<R: Threads + Sync, W: Write>(
     rt: &R,
     alloc: Global,

@@ -10,6 +10,7 @@ returns-in_err-bind-clause-err c =
       declarations = c.in_ok-declarations.declarations;
       drawn = record { well_drawn = c.in_ok-drawing.ensures.well_drawn; picture = c.in_ok-drawing.ensures.drawing };
       built = c.in_ok-graph.ensures.ok.0;
+      faultless = c.in_ok-graph.ensures.ok.1;
       guessed = c.in_ok-declarations.ensures;
       refused = c.in_err-bind.ensures.only other;
       first = c.in_err-bind.ensures.first other;
