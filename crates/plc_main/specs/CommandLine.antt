@@ -4,8 +4,10 @@ use Rattle.std.specs.Str.Parse.{IsNumeral, digits_value}
 use Rattle.clap.specs.Lexer.{usize_max}
 use Rattle.clap.specs.Words.{App, Shape, Row, Rule, Text, new_app, new_rule, with_rule, with_subcommand, first_of, all_of}
 use Rattle.clap.specs.declared.builder.action.ArgAction.TheVariants.{Set, Append}
-use Rattle.plc_main.specs.declared.words.Request.{Request}
-use Rattle.plc_main.specs.declared.words.Request.TheVariants.{Eval, Check, Plan, Sim}
+use Rattle.plc_main.specs.declared.request.TextRequest.{TextRequest}
+use Rattle.plc_main.specs.declared.request.TextRequest.TheVariants.{Eval, Check, Plan}
+use Rattle.plc_main.specs.declared.request.Request.{Request}
+use Rattle.plc_main.specs.declared.request.Request.TheVariants.{Text as OfText, Sim}
 
 -- a word that must be given
 abbrev pub needed_word : Text → Rule
@@ -83,28 +85,28 @@ abbrev pub word_of : Text → List Row → List ℕ
 word_of id found = unwrap_or (first_of id found) []
 
 abbrev pub AsksEval : List Row → Request → Type 0
-AsksEval found (Eval drawing dt words) = (drawing.now ≡ word_of (codes "DRAWING") found) × GivesNumber 0 (first_of (codes "dt") found) dt
+AsksEval found (OfText (Eval drawing dt words)) = (drawing.now ≡ word_of (codes "DRAWING") found) × GivesNumber 0 (first_of (codes "dt") found) dt
     × (map (λ w. w.now) words.items ≡ unwrap_or (all_of (codes "words") found) [])
-AsksEval found (Check plant) = ⊥
-AsksEval found (Plan plant until) = ⊥
+AsksEval found (OfText (Check plant)) = ⊥
+AsksEval found (OfText (Plan plant until)) = ⊥
 AsksEval found (Sim plant schedule max_number) = ⊥
 
 abbrev pub AsksCheck : List Row → Request → Type 0
-AsksCheck found (Eval drawing dt words) = ⊥
-AsksCheck found (Check plant) = plant.now ≡ word_of (codes "PLANT") found
-AsksCheck found (Plan plant until) = ⊥
+AsksCheck found (OfText (Eval drawing dt words)) = ⊥
+AsksCheck found (OfText (Check plant)) = plant.now ≡ word_of (codes "PLANT") found
+AsksCheck found (OfText (Plan plant until)) = ⊥
 AsksCheck found (Sim plant schedule max_number) = ⊥
 
 abbrev pub AsksPlan : List Row → Request → Type 0
-AsksPlan found (Eval drawing dt words) = ⊥
-AsksPlan found (Check plant) = ⊥
-AsksPlan found (Plan plant until) = (plant.now ≡ word_of (codes "PLANT") found) × GivesNumber 0 (first_of (codes "until") found) until
+AsksPlan found (OfText (Eval drawing dt words)) = ⊥
+AsksPlan found (OfText (Check plant)) = ⊥
+AsksPlan found (OfText (Plan plant until)) = (plant.now ≡ word_of (codes "PLANT") found) × GivesNumber 0 (first_of (codes "until") found) until
 AsksPlan found (Sim plant schedule max_number) = ⊥
 
 abbrev pub AsksSim : List Row → Request → Type 0
-AsksSim found (Eval drawing dt words) = ⊥
-AsksSim found (Check plant) = ⊥
-AsksSim found (Plan plant until) = ⊥
+AsksSim found (OfText (Eval drawing dt words)) = ⊥
+AsksSim found (OfText (Check plant)) = ⊥
+AsksSim found (OfText (Plan plant until)) = ⊥
 AsksSim found (Sim plant schedule max_number) =
     (plant.now ≡ word_of (codes "PLANT") found) × (schedule.now ≡ word_of (codes "SCHEDULE") found) × GivesNumber 4294967295 (first_of (codes "max-number") found) max_number
 
@@ -113,16 +115,14 @@ abbrev pub IsAsked : Option (Text × List Row) → Request → Type 0
 IsAsked None request = ⊥
 IsAsked (Some (name, found)) request = ((name ≡ codes "eval") × AsksEval found request) ⊎ (((name ≡ codes "check") × AsksCheck found request) ⊎ (((name ≡ codes "plan") × AsksPlan found request) ⊎ ((name ≡ codes "sim") × AsksSim found request)))
 
--- the file that is to be read first
-abbrev pub file_of : Request → List ℕ
+-- the file that is to be read
+abbrev pub file_of : TextRequest → List ℕ
 file_of (Eval drawing dt words) = drawing.now
 file_of (Check plant) = plant.now
 file_of (Plan plant until) = plant.now
-file_of (Sim plant schedule max_number) = plant.now
 
 -- the words NAME=BITS
-abbrev pub words_in : Request → List (List ℕ)
+abbrev pub words_in : TextRequest → List (List ℕ)
 words_in (Eval drawing dt words) = map (λ w. w.now) words.items
 words_in (Check plant) = []
 words_in (Plan plant until) = []
-words_in (Sim plant schedule max_number) = []

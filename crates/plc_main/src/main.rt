@@ -7,6 +7,7 @@ mod eval_command;
 mod line;
 mod plan_command;
 mod plant_counts;
+mod request;
 mod row;
 mod rows;
 mod text_fault;
@@ -21,13 +22,14 @@ use check_command::check;
 use command_fault::CommandFault;
 use eval_command::eval;
 use plan_command::plan_text;
+use request::{Request, TextRequest};
 use std::io::{ErrorKind, Write};
 use std::process::ExitCode;
 use std::rt::{Env, Files};
 use std::thread::Threads;
 use std::{env, fs, io};
 use text_fault::TextFault;
-use words::{Request, read_words};
+use words::read_words;
 
 /// The status after a text is refused.
 const TEXT_REFUSED: u8 = 1;
@@ -105,7 +107,7 @@ fn file_text<R: Files + Eprint + AllocGlobal>(
 /// Writes what the words ask for of the text of the file.
 fn obey<R: AllocGlobal + Threads + Sync, W: Write>(
     rt: &R,
-    request: &Request<'_>,
+    request: &TextRequest<'_>,
     text: &str,
     writer: &mut W,
 ) -> Result<(), CommandFault>
@@ -113,15 +115,16 @@ fn obey<R: AllocGlobal + Threads + Sync, W: Write>(
     ensures fault { IfErr result (ExplainsAnswer request.now text.now (W.contents writer.old) (W.contents writer.new)) }
 {
     match request {
-        Request::Eval { dt, words, .. } => eval(rt.alloc(), text, words, *dt, writer),
-        Request::Check { .. } => check(rt, rt.alloc(), text, writer),
-        Request::Plan { until, .. } => plan_text(rt, rt.alloc(), text, *until, writer),
+        TextRequest::Eval { dt, words, .. } => eval(rt.alloc(), text, words, *dt, writer),
+        TextRequest::Check { .. } => check(rt, rt.alloc(), text, writer),
+        TextRequest::Plan { until, .. } => plan_text(rt, rt.alloc(), text, *until, writer),
     }
 }
 
-fn run<R: Files + Print + Eprint + AllocGlobal + Threads + Sync>(
+/// Reads a file, and writes what is asked for of its text; the status.
+fn run_text<R: Files + Print + Eprint + AllocGlobal + Threads + Sync>(
     rt: &R,
-    request: &Request<'_>,
+    request: &TextRequest<'_>,
 ) -> io::Result<u8> {
     let file = request.file();
     let text = match file_text(rt, file)? {
@@ -143,7 +146,8 @@ fn answer<R: Env + Files + Print + Eprint + AllocGlobal + Threads + Sync>(
         Err(error) => return print_given_fault(rt, &error),
     };
     match read_words(rt.alloc(), given.as_slice()) {
-        Ok(request) => run(rt, &request),
+        Ok(Request::Text(request)) => run_text(rt, &request),
+        Ok(Request::Sim { .. }) => Ok(FAILED),
         Err(error) => print_usage(rt, &error),
     }
 }

@@ -2,61 +2,12 @@ ghost use Rattle.std.specs.Prelude.{◌≡◌, ◌≢◌, ◌⊎◌, false, [], 
 ghost use Rattle.std.specs.Str.Parse.{digits_value};
 ghost use Rattle.clap.specs.Words.{app_of, rule_of, rows_of, found_of, first_of, all_of, kind_of, subcommand_of};
 ghost use Rattle.plc_main.specs.CommandLine.{drawing_rule, dt_rule, rows_rule, plant_rule, until_rule, schedule_rule, max_number_rule, eval_app, check_app, plan_app, sim_app, plc_app};
-ghost use Rattle.plc_main.specs.CommandLine.{IsNumber, GivesNumber, AsksEval, AsksPlan, AsksSim, IsAsked, word_of, file_of, words_in};
+ghost use Rattle.plc_main.specs.CommandLine.{IsNumber, GivesNumber, AsksEval, AsksPlan, AsksSim, IsAsked, word_of};
 
+use crate::request::{Request, TextRequest};
 use clap::error::ErrorKind;
 use clap::{Arg, ArgAction, ArgMatches, Command, Error};
 use std::alloc::{AllocError, Global};
-
-/// What the words of the command line ask for.
-#[derive(Drop)]
-pub enum Request<'a> {
-    /// The scans of a drawing, each `dt` milliseconds after the one before; the words set its variables.
-    Eval {
-        drawing: &'a str,
-        dt: u32,
-        words: Vec<&'a str>,
-    },
-    /// How many resources, tasks, programs and connections a plant has.
-    Check {
-        plant: &'a str,
-    },
-    /// When the tasks of a plant are due, up to and with `until` (in ms).
-    Plan {
-        plant: &'a str,
-        until: u32,
-    },
-    /// What each event of a schedule does to a plant; in one incarnation a task is evaluated `max_number` times at most.
-    Sim {
-        plant: &'a str,
-        schedule: &'a str,
-        max_number: u32,
-    },
-}
-
-impl<'a> Request<'a> {
-    /// The file that is to be read first.
-    pub fn file(&self) -> &'a str
-        ensures { result.now ≡ file_of self.now }
-    {
-        match self {
-            Request::Eval { drawing, .. } => drawing,
-            Request::Check { plant } => plant,
-            Request::Plan { plant, .. } => plant,
-            Request::Sim { plant, .. } => plant,
-        }
-    }
-
-    /// The words NAME=BITS.
-    pub fn words(&self) -> &[&'a str]
-        ensures { map (λ w. w.now) result.now ≡ words_in self.now }
-    {
-        match self {
-            Request::Eval { words, .. } => words.as_slice(),
-            Request::Check { .. } | Request::Plan { .. } | Request::Sim { .. } => &[],
-        }
-    }
-}
 
 const EVAL_HELP: &str = "\
 Each word NAME=BITS gives the BOOL variable NAME its values: BITS is a row of digits 0 and 1, one for each
@@ -317,7 +268,7 @@ fn eval_request<'a>(
 ) -> Result<Request<'a>, Error>
     ensures { IfOk result (AsksEval (rows_of (found_of inner.now))) }
 {
-    Ok(Request::Eval {
+    Ok(Request::Text(TextRequest::Eval {
         drawing: given_word(inner, "DRAWING"),
         dt: number_of(
             command,
@@ -327,13 +278,13 @@ fn eval_request<'a>(
             "MS of --dt is a number from 0 to 4294967295",
         )?,
         words: words_of(alloc, inner)?,
-    })
+    }))
 }
 
 fn plan_request<'a>(command: &mut Command<'a>, inner: &ArgMatches<'a>) -> Result<Request<'a>, Error>
     ensures { IfOk result (AsksPlan (rows_of (found_of inner.now))) }
 {
-    Ok(Request::Plan {
+    Ok(Request::Text(TextRequest::Plan {
         plant: given_word(inner, "PLANT"),
         until: number_of(
             command,
@@ -342,7 +293,7 @@ fn plan_request<'a>(command: &mut Command<'a>, inner: &ArgMatches<'a>) -> Result
             0,
             "MS of --until is a number from 0 to 4294967295",
         )?,
-    })
+    }))
 }
 
 fn sim_request<'a>(command: &mut Command<'a>, inner: &ArgMatches<'a>) -> Result<Request<'a>, Error>
@@ -369,9 +320,9 @@ pub fn read_words<'a>(alloc: Global, words: &'a [String]) -> Result<Request<'a>,
     let matches = command.try_get_matches_from_mut(words)?;
     match matches.subcommand() {
         Some(("eval", inner)) => eval_request(alloc, &mut command, inner),
-        Some(("check", inner)) => Ok(Request::Check {
+        Some(("check", inner)) => Ok(Request::Text(TextRequest::Check {
             plant: given_word(inner, "PLANT"),
-        }),
+        })),
         Some(("plan", inner)) => plan_request(&mut command, inner),
         Some(("sim", inner)) => sim_request(&mut command, inner),
         _ => Err(command.error(ErrorKind::MissingSubcommand, "a command is missing")?),
