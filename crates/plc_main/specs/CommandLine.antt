@@ -89,26 +89,26 @@ AsksEval found (OfText (Eval drawing dt words)) = (drawing.now ≡ word_of (code
     × (map (λ w. w.now) words.items ≡ unwrap_or (all_of (codes "words") found) [])
 AsksEval found (OfText (Check plant)) = ⊥
 AsksEval found (OfText (Plan plant until)) = ⊥
-AsksEval found (Sim plant schedule max_number) = ⊥
+AsksEval found (Sim sim) = ⊥
 
 abbrev pub AsksCheck : List Row → Request → Type 0
 AsksCheck found (OfText (Eval drawing dt words)) = ⊥
 AsksCheck found (OfText (Check plant)) = plant.now ≡ word_of (codes "PLANT") found
 AsksCheck found (OfText (Plan plant until)) = ⊥
-AsksCheck found (Sim plant schedule max_number) = ⊥
+AsksCheck found (Sim sim) = ⊥
 
 abbrev pub AsksPlan : List Row → Request → Type 0
 AsksPlan found (OfText (Eval drawing dt words)) = ⊥
 AsksPlan found (OfText (Check plant)) = ⊥
 AsksPlan found (OfText (Plan plant until)) = (plant.now ≡ word_of (codes "PLANT") found) × GivesNumber 0 (first_of (codes "until") found) until
-AsksPlan found (Sim plant schedule max_number) = ⊥
+AsksPlan found (Sim sim) = ⊥
 
 abbrev pub AsksSim : List Row → Request → Type 0
 AsksSim found (OfText (Eval drawing dt words)) = ⊥
 AsksSim found (OfText (Check plant)) = ⊥
 AsksSim found (OfText (Plan plant until)) = ⊥
-AsksSim found (Sim plant schedule max_number) =
-    (plant.now ≡ word_of (codes "PLANT") found) × (schedule.now ≡ word_of (codes "SCHEDULE") found) × GivesNumber 4294967295 (first_of (codes "max-number") found) max_number
+AsksSim found (Sim sim) =
+    (sim.plant.now ≡ word_of (codes "PLANT") found) × (sim.schedule.now ≡ word_of (codes "SCHEDULE") found) × GivesNumber 4294967295 (first_of (codes "max-number") found) sim.max_number
 
 -- the request is what the subcommand asks for, with what was found for its options
 abbrev pub IsAsked : Option (Text × List Row) → Request → Type 0

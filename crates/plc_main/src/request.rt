@@ -44,15 +44,19 @@ impl<'a> TextRequest<'a> {
     }
 }
 
+/// What each event of a schedule does to a plant; in one incarnation a task is evaluated `max_number` times at most.
+#[derive(Clone, Copy)]
+pub struct SimRequest<'a> {
+    pub plant: &'a str,
+    pub schedule: &'a str,
+    pub max_number: u32,
+}
+
 /// What the words of the command line ask for.
 #[derive(Drop)]
 pub enum Request<'a> {
     /// What is done with the text of one file.
     Text(TextRequest<'a>),
-    /// What each event of a schedule does to a plant; in one incarnation a task is evaluated `max_number` times at most.
-    Sim {
-        plant: &'a str,
-        schedule: &'a str,
-        max_number: u32,
-    },
+    /// What a schedule does to a plant.
+    Sim(SimRequest<'a>),
 }

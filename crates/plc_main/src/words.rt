@@ -4,7 +4,7 @@ ghost use Rattle.clap.specs.Words.{app_of, rule_of, rows_of, found_of, first_of,
 ghost use Rattle.plc_main.specs.CommandLine.{drawing_rule, dt_rule, rows_rule, plant_rule, until_rule, schedule_rule, max_number_rule, eval_app, check_app, plan_app, sim_app, plc_app};
 ghost use Rattle.plc_main.specs.CommandLine.{IsNumber, GivesNumber, AsksEval, AsksPlan, AsksSim, IsAsked, word_of};
 
-use crate::request::{Request, TextRequest};
+use crate::request::{Request, SimRequest, TextRequest};
 use clap::error::ErrorKind;
 use clap::{Arg, ArgAction, ArgMatches, Command, Error};
 use std::alloc::{AllocError, Global};
@@ -299,7 +299,7 @@ fn plan_request<'a>(command: &mut Command<'a>, inner: &ArgMatches<'a>) -> Result
 fn sim_request<'a>(command: &mut Command<'a>, inner: &ArgMatches<'a>) -> Result<Request<'a>, Error>
     ensures { IfOk result (AsksSim (rows_of (found_of inner.now))) }
 {
-    Ok(Request::Sim {
+    Ok(Request::Sim(SimRequest {
         plant: given_word(inner, "PLANT"),
         schedule: given_word(inner, "SCHEDULE"),
         max_number: number_of(
@@ -309,7 +309,7 @@ fn sim_request<'a>(command: &mut Command<'a>, inner: &ArgMatches<'a>) -> Result<
             u32::MAX,
             "N of --max-number is a number from 0 to 4294967295",
         )?,
-    })
+    }))
 }
 
 /// Reads the words, of which the first is the program's own name.
