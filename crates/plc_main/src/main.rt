@@ -11,7 +11,6 @@ mod request;
 mod row;
 mod rows;
 mod text_fault;
-mod text_output;
 mod word_fault;
 mod words;
 
