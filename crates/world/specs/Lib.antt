@@ -4,3 +4,7 @@ pub mod World
 pub mod Step
 pub mod Laws
 pub mod Steps
+pub mod RunLines
+pub mod RunText
+pub mod ScheduleText
+pub mod Simulated

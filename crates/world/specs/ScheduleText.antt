@@ -33,28 +33,31 @@ pub record IsTaskWord (plant : PlantValue) (word : List ℕ) (t : TaskRef) : Typ
   pub named : IsTrue (is_plain_name name)
   pub task_is : t.task ≡ task_in plant t.resource name
 
--- EVAL, in either case, a task, the elapsed milliseconds, and field inputs
+-- the words behind EVAL: a task, the elapsed milliseconds, and field inputs
 abbrev pub SpellsEvaluate : PlantValue → TaskRef → ℕ → List FieldInput → List (List ℕ) → Type 0
-SpellsEvaluate plant task dt inputs (keyword ∷ first ∷ second ∷ more) =
-    IsTrue (same_word keyword (codes "EVAL")) × IsTaskWord plant first task × (number_up_to 4294967295 second ≡ Some dt) × AreInputs more inputs
-SpellsEvaluate plant task dt inputs words = ⊥
+SpellsEvaluate plant task dt inputs [] = ⊥
+SpellsEvaluate plant task dt inputs (first ∷ []) = ⊥
+SpellsEvaluate plant task dt inputs (first ∷ second ∷ more) = IsTaskWord plant first task × (number_up_to 4294967295 second ≡ Some dt) × AreInputs more inputs
 
--- DELIVER, in either case, a message, and a resource
+-- the words behind DELIVER: a message, and a resource
 abbrev pub SpellsDeliver : PlantValue → ℕ → ℕ → List (List ℕ) → Type 0
-SpellsDeliver plant message resource (keyword ∷ first ∷ second ∷ []) =
-    IsTrue (same_word keyword (codes "DELIVER")) × (number_up_to 18446744073709551615 first ≡ Some message) × IsResourceWord plant second resource
-SpellsDeliver plant message resource words = ⊥
+SpellsDeliver plant message resource [] = ⊥
+SpellsDeliver plant message resource (first ∷ []) = ⊥
+SpellsDeliver plant message resource (first ∷ second ∷ []) = (number_up_to 18446744073709551615 first ≡ Some message) × IsResourceWord plant second resource
+SpellsDeliver plant message resource (first ∷ second ∷ third ∷ more) = ⊥
 
--- RESTART, in either case, and a resource
+-- the words behind RESTART: a resource
 abbrev pub SpellsRestart : PlantValue → ℕ → List (List ℕ) → Type 0
-SpellsRestart plant resource (keyword ∷ first ∷ []) = IsTrue (same_word keyword (codes "RESTART")) × IsResourceWord plant first resource
-SpellsRestart plant resource words = ⊥
+SpellsRestart plant resource [] = ⊥
+SpellsRestart plant resource (first ∷ []) = IsResourceWord plant first resource
+SpellsRestart plant resource (first ∷ second ∷ more) = ⊥
 
--- the words of a line spell the event of this number, which is an evaluation's ticket
+-- the words of a line spell the event of this number, which is an evaluation's ticket; keywords stand in either case
 abbrev pub SpellsEvent : PlantValue → ℕ → Event → List (List ℕ) → Type 0
-SpellsEvent plant number (Evaluate ticket task dt inputs) words = (ticket ≡ number) × SpellsEvaluate plant task dt inputs words
-SpellsEvent plant number (Deliver message resource) words = SpellsDeliver plant message resource words
-SpellsEvent plant number (Restart resource) words = SpellsRestart plant resource words
+SpellsEvent plant number e [] = ⊥
+SpellsEvent plant number (Evaluate ticket task dt inputs) (keyword ∷ more) = IsTrue (same_word keyword (codes "EVAL")) × (ticket ≡ number) × SpellsEvaluate plant task dt inputs more
+SpellsEvent plant number (Deliver message resource) (keyword ∷ more) = IsTrue (same_word keyword (codes "DELIVER")) × SpellsDeliver plant message resource more
+SpellsEvent plant number (Restart resource) (keyword ∷ more) = IsTrue (same_word keyword (codes "RESTART")) × SpellsRestart plant resource more
 
 -- a word begins with `#`
 abbrev pub is_marked : List ℕ → Bool
