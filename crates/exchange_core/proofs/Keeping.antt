@@ -61,3 +61,7 @@ fits-last core p code is own found = by (known core.table p) refl where
   by : (o : Option Evaluated) → known core.table p ≡ o → FitsLast code o
   by None e = tt
   by (Some x) e = let entry = is.each p x e in entry.own own ∙ same_Some entry.code code (sym entry.found ∙ found)
+
+-- what may be known of a task has a place
+pub place-known : (core : CoreValue) (p : TaskRef) (x : Evaluated) → IsCore core → IsKnownOf core p x → has_place core.table p
+place-known core p x is may = place_of_code core.plant core.table p may.code is.shaped may.found

@@ -1,9 +1,9 @@
 -- The takes of a code.
-use Rattle.std.proofs.Common.{◌≡◌, ◌≢◌, ℕ, zero, suc, ◌+◌, ◌<◌, min, ◌++◌, List, [], ◌∷◌, length, get_or, take, slice_get, map, Option, Some, None, refl, ap, sym, ◌∙◌, subst, arith}
+use Rattle.std.proofs.Common.{◌≡◌, ◌≢◌, ℕ, zero, suc, ◌+◌, ◌<◌, ◌≤◌, min, ◌++◌, List, [], ◌∷◌, length, get_or, take, slice_get, map, Option, Some, None, refl, ap, sym, ◌∙◌, subst, arith}
 use Rattle.std.specs.List.{zip}
 use Rattle.std.specs.Option.{option_map}
 use Rattle.std.proofs.lemmas.Slice.Zip.{length-zip}
-use Rattle.std.proofs.lemmas.List.{take_more, map-append, length-map}
+use Rattle.std.proofs.lemmas.List.{take_more, take_all, map-append, length-map}
 use Rattle.std.proofs.lemmas.Option.{none-some, same_Some, slice_get_within, slice_get-map, get_or_from_slice_get}
 use Rattle.power_flow.specs.declared.declarations.Kind.{Kind}
 use Rattle.power_flow.specs.declared.declarations.Kind.TheVariants as kind
@@ -81,3 +81,8 @@ takes-suit core t code takes is sound found same = subst (AreTakesOf code) (sym 
       let is_it : take_of p (image_kinds giver.0) (known core.table p) ≡ u = same_Some (take_of p (image_kinds giver.0) (known core.table p)) u (sym taken ∙ at) in
       let kinds : image_kinds giver.0 ≡ expected_at code k = sym (ap items_or_none giver.2) in
       subst (λ ks. IsTakeOf p ks u) kinds (subst (IsTakeOf p (image_kinds giver.0)) is_it (take-suits core p giver.0 is giver.1))
+
+-- all takes
+pub takes-all : (last : TaskRef → Option Evaluated) (ps : List TaskRef) (es : List (List Kind)) (k : ℕ) → length ps ≤ k
+    → map (λ e. take_of e.0 e.1 (last e.0)) (take k (zip ps es)) ≡ map (λ e. take_of e.0 e.1 (last e.0)) (zip ps es)
+takes-all last ps es k past = ap (map (λ e. take_of e.0 e.1 (last e.0))) (take_all k (zip ps es) (simp length-zip (omega arith)))

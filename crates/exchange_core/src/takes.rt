@@ -45,7 +45,9 @@ pub fn takes_of(alloc: Global, table: &Known, code: &TaskCode) -> Result<Vec<Tak
     let producers = code.producers();
     let mut takes = Vec::with_capacity(alloc, producers.len())?;
     for k in 0..producers.len() {
-        takes.push(take_from(alloc, table, producers[k], code.expected(k))?)?;
+        let producer = producers[k];
+        let take = take_from(alloc, table, producer, code.expected(k))?;
+        takes.push(take)?;
     }
     Ok(takes)
 }

@@ -5,4 +5,4 @@ use Rattle.exchange_core.specs.Held.{known}
 use Rattle.exchange_core.proofs.takes.takes_of.Given as goal
 
 abbrev pub invariant-loop-k : goal.invariant-loop-k
-invariant-loop-k l = l.takes.items ≡ map (λ e. take_of e.0 e.1 (known l.table e.0)) (take l.k (zip l.code.producers l.code.expected))
+invariant-loop-k l = l.takes.items ≡ map (λ e. take_of e.0 e.1 (known l.fn.table e.0)) (take l.k (zip l.fn.code.producers l.fn.code.expected))
