@@ -1,1 +1,11 @@
 pub mod Latest
+pub mod Names
+pub mod Steps
+pub mod OneLog
+pub mod Takes
+pub mod Moves
+pub mod Worlds
+pub mod Starts
+pub mod Answered
+pub mod Pairs
+pub mod Holding
