@@ -1,7 +1,7 @@
 //! What the core of a resource keeps, takes and forgets.
 
 use crate::worked::{LOOP, PAIR};
-use evaluation::{Frame, Inputs, Name};
+use evaluation::{Frame, Image, Inputs, Name};
 use exchange_core::{Accepted, Core, CoreFault, EvalFault};
 use plant::{Plant, TaskRef};
 use std::alloc::Global;
@@ -46,6 +46,10 @@ fn counted(alloc: Global, incarnation: u32, count: usize) -> Result<Vec<Frame>, 
         frames.push(evaluated(alloc, &mut counter, inputs)?)?;
     }
     Ok(frames)
+}
+
+fn shows(rt: &impl Abort, image: &Image, values: &[Value]) {
+    assert_eq!(rt; image.values(), values);
 }
 
 fn held(core: &Core) -> Option<(u32, u32)> {
@@ -114,13 +118,13 @@ fn what_is_held_is_taken(rt: HostRuntime) -> Result<(), Fail> {
     let mut watcher = core(alloc, PAIR, 1, 1, u32::MAX)??;
     let before = evaluated(alloc, &mut watcher, "")?;
     assert!(rt; before.evaluation().takes()[0].from.is_none());
-    assert_eq!(rt; before.outputs().values(), &[Value::Int(0), Value::Bool(false)]);
+    shows(&rt, before.outputs(), &[Value::Int(0), Value::Bool(false)]);
     for frame in counted(alloc, 1, 5)? {
         watcher.accept(frame);
     }
     let after = evaluated(alloc, &mut watcher, "")?;
     assert_eq!(rt; after.evaluation().takes()[0].from, Some((1, 5)));
-    assert_eq!(rt; after.outputs().values(), &[Value::Int(3), Value::Bool(true)]);
+    shows(&rt, after.outputs(), &[Value::Int(3), Value::Bool(true)]);
     assert_eq!(rt; after.name(), Name { task: SLOW, incarnation: 1, number: 2 });
     Ok(())
 }
@@ -131,10 +135,10 @@ fn a_task_of_its_own_takes_the_last_one_made(rt: HostRuntime) -> Result<(), Fail
     let mut flip = core(alloc, LOOP, 0, 7, u32::MAX)??;
     let first = evaluated(alloc, &mut flip, "")?;
     assert!(rt; first.evaluation().takes()[0].from.is_none());
-    assert_eq!(rt; first.outputs().values(), &[Value::Bool(true)]);
+    shows(&rt, first.outputs(), &[Value::Bool(true)]);
     let second = evaluated(alloc, &mut flip, "")?;
     assert_eq!(rt; second.evaluation().takes()[0].from, Some((7, 1)));
-    assert_eq!(rt; second.outputs().values(), &[Value::Bool(false)]);
+    shows(&rt, second.outputs(), &[Value::Bool(false)]);
     assert!(rt; flip.held(FAST).is_none());
     Ok(())
 }
@@ -221,7 +225,7 @@ fn after_a_refusal_the_same_call_gives_the_same_frame(rt: HostRuntime) -> Result
     let mut counter = core(alloc, PAIR, 0, 1, u32::MAX)??;
     let first = asked_twice(alloc, &mut counter, &inputs)?;
     assert_eq!(rt; first.name().number, 1);
-    assert_eq!(rt; first.outputs().values(), &[Value::Int(1), Value::Bool(false)]);
+    shows(&rt, first.outputs(), &[Value::Int(1), Value::Bool(false)]);
     let second = asked_twice(alloc, &mut counter, &inputs)?;
     assert_eq!(rt; second.name().number, 2);
     assert!(rt; second.evaluation().before().same(first.evaluation().after()));

@@ -1,7 +1,7 @@
 //! What a list of events does to the resources of a plant.
 
 use crate::worked::PAIR;
-use evaluation::{Inputs, Name};
+use evaluation::{Image, Inputs, Name};
 use exchange_core::Accepted;
 use plant::{Plant, TaskRef};
 use std::alloc::Global;
@@ -58,6 +58,10 @@ fn restarting(alloc: Global) -> Result<Vec<Event>, Fail> {
     Ok(events)
 }
 
+fn shows(rt: &impl Abort, image: &Image, values: &[Value]) {
+    assert_eq!(rt; image.values(), values);
+}
+
 fn pair_of(name: Name) -> (u32, u32) {
     (name.incarnation, name.number)
 }
@@ -112,7 +116,7 @@ fn each_step_tells_what_it_did(rt: HostRuntime) -> Result<(), Fail> {
         assert_eq!(rt; pair_of(world.log()[at].name()), names[at]);
     }
     assert_eq!(rt; last_take(&world), Some((2, 1)));
-    assert_eq!(rt; world.log()[1].outputs().values(), &[Value::Int(1), Value::Bool(false)]);
+    shows(&rt, world.log()[1].outputs(), &[Value::Int(1), Value::Bool(false)]);
     Ok(())
 }
 

@@ -97,7 +97,10 @@ pub fn simulate<W: Write>(
     ensures ok { OnOk result (WritesRun plant.value max_number schedule.now (W.contents out.old) (W.contents out.new)) }
     ensures fault { IfErr result (EndsEarly plant.value max_number schedule.now (W.contents out.old) (W.contents out.new)) }
 {
-    let world = open(alloc, plant, max_number)?;
+    let world = match open(alloc, plant, max_number) {
+        Ok(world) => world,
+        Err(_) => return Err(SimFault::Memory),
+    };
     let mut simulation = Simulation {
         world,
         events: 0,
