@@ -14,7 +14,7 @@ use Rattle.exchange_core.specs.Held.{known}
 use Rattle.exchange_core.specs.CoreValue.{CoreValue, held_of}
 use Rattle.world.specs.declared.event.Event.{Event}
 use Rattle.world.specs.History.{Setting, history_of}
-use Rattle.world.specs.Run.{latest, last_among}
+use Rattle.world.specs.Run.{has_reached, latest, last_among}
 use Rattle.world.specs.World.{WorldValue, node_takes, latest_at, held_at}
 use Rattle.world.specs.Steps.Nodes.{kept_of, IsNode, IsWorld}
 
@@ -57,4 +57,4 @@ held-entry w n p x e = by (eqb p.resource n) (node_takes w.setting.plant n p) e 
   by : (b t : Bool) → cond b None (cond t (latest_at w n p) None) ≡ Some x → Contains w.log x
   by true t f = absurd (none-some x f)
   by false false f = absurd (none-some x f)
-  by false true f = subst (λ l. Contains l x) (reverse-reverse w.log) (last_in-log p _ (reverse w.log) x f)
+  by false true f = subst (λ l. Contains l x) (reverse-reverse w.log) (last_in-log p (has_reached n (history_of w.setting w.events)) (reverse w.log) x f)
