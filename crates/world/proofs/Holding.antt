@@ -1,6 +1,6 @@
 -- What a core holds is the latest.
 use Rattle.std.proofs.Common.{◌≡◌, ◌≤◌, ℕ, Bool, true, false, cond, ◌||◌, List, [], ◌∷◌, ◌++◌, length, Option, Some, None, refl, ap, sym, ◌∙◌, subst, eqb, ◌&&◌, suc}
-use Rattle.std.specs.Prelude.{slice_get, reverse, Contains}
+use Rattle.std.specs.Prelude.{slice_get, reverse, Contains, IfSome}
 use Rattle.std.specs.List.{list_any}
 use Rattle.std.specs.Option.{option_map}
 use Rattle.std.proofs.lemmas.List.{reverse-append, reverse-reverse}
@@ -58,3 +58,8 @@ held-entry w n p x e = by (eqb p.resource n) (node_takes w.setting.plant n p) e 
   by true t f = absurd (none-some x f)
   by false false f = absurd (none-some x f)
   by false true f = subst (λ l. Contains l x) (reverse-reverse w.log) (last_in-log p (has_reached n (history_of w.setting w.events)) (reverse w.log) x f)
+
+-- so is what a call hands out
+pub entry-given : {B : Type 0} (given : B → Evaluated) (o : Option B) (w : WorldValue) (n : ℕ) (p : TaskRef) → option_map given o ≡ held_at w n p → IfSome o (λ b. Contains w.log (given b))
+entry-given given None w n p e = tt
+entry-given given (Some b) w n p e = held-entry w n p (given b) (sym e)
