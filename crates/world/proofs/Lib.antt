@@ -1,1 +1,3 @@
-pub mod Latest
+pub mod ScheduleWords
+pub mod ScheduleLists
+pub mod ScheduleReading
