@@ -20,7 +20,6 @@ impl Model for Known {
 
 ghost use Rattle.std.specs.Prelude.{◌≡◌, IfOk, None, Some, replicate};
 ghost use Rattle.std.specs.Option.{option_copied};
-ghost use Rattle.plant.specs.PlantValue.{IsSoundPlant};
 ghost use Rattle.evaluation.specs.States.{AreStatesOf};
 ghost use Rattle.exchange_core.specs.Last.{state_of, last_number};
 ghost use Rattle.exchange_core.specs.Held.{known, has_place, with_known, empty_for};
@@ -32,8 +31,9 @@ impl Known {
     pub fn empty(alloc: Global, plant: &Plant) -> Result<Known, AllocError>
         ensures { IfOk result (λ table. table ≡ empty_for plant.now) }
     {
-        let mut rows = Vec::with_capacity(alloc, plant.resources())?;
-        for resource in 0..plant.resources() {
+        let resources = plant.resources();
+        let mut rows = Vec::with_capacity(alloc, resources)?;
+        for resource in 0..resources {
             rows.push(empty_row(alloc, plant.tasks(resource).len())?)?;
         }
         Ok(Known { rows })

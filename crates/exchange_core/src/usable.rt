@@ -23,6 +23,8 @@ fn expects_of(code: &TaskCode, task: TaskRef, image: &Image) -> bool
 pub fn expects(plant: &Plant, resource: usize, task: TaskRef, image: &Image) -> bool
     ensures { IsTrue result ↔ Expects plant.now resource task (map kind_of image.now) }
 {
+    // The getter hands out that each task has its code.
+    let _resources = plant.resources();
     for k in 0..plant.tasks(resource).len() {
         if let Some(code) = plant.code(TaskRef { resource, task: k }) {
             if expects_of(code, task, image) {
