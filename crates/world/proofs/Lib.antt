@@ -12,3 +12,4 @@ pub mod Holding
 pub mod ScheduleWords
 pub mod ScheduleLists
 pub mod ScheduleReading
+pub mod Telling

@@ -6,7 +6,7 @@ use Rattle.world.specs.declared.event.Event.{Event}
 use Rattle.world.specs.declared.event.Event.TheVariants.{Evaluate, Deliver, Restart}
 use Rattle.world.specs.declared.done.Done.{Done}
 use Rattle.world.specs.declared.done.Done.TheVariants.{Evaluated as MadeOne, Delivered, Restarted}
-use Rattle.world.specs.History.{history_of}
+use Rattle.world.specs.History.{history_of, after_events}
 use Rattle.world.specs.Run.{IsRun}
 use Rattle.world.specs.World.{WorldValue}
 use Rattle.world.specs.RunLines.{evaluation_line}
@@ -31,6 +31,6 @@ done_line plant log e done = []
 -- an event was done or refused, and this line tells it
 pub record IsTold (old new : WorldValue) (number : ℕ) (e : Event) (line : List ℕ) : Type 0 where
   pub setting : new.setting ≡ old.setting
-  pub history : history_of new.setting new.events ≡ history_of old.setting (old.events ++ e ∷ [])
+  pub history : history_of new.setting new.events ≡ after_events old.setting (history_of old.setting old.events) (e ∷ [])
   pub run : IsRun old.setting old.events old.log
   pub tells : Tells old number e line
