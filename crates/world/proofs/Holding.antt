@@ -1,6 +1,6 @@
 -- What a core holds is the latest.
 use Rattle.std.proofs.Common.{◌≡◌, ◌≤◌, ℕ, Bool, true, false, cond, ◌||◌, List, [], ◌∷◌, ◌++◌, length, Option, Some, None, refl, ap, sym, ◌∙◌, subst, eqb, ◌&&◌, suc}
-use Rattle.std.specs.Prelude.{slice_get, reverse, Contains}
+use Rattle.std.specs.Prelude.{slice_get, reverse, Contains, IfSome}
 use Rattle.std.specs.List.{list_any}
 use Rattle.std.specs.Option.{option_map}
 use Rattle.std.proofs.lemmas.List.{reverse-append, reverse-reverse}
@@ -14,7 +14,7 @@ use Rattle.exchange_core.specs.Held.{known}
 use Rattle.exchange_core.specs.CoreValue.{CoreValue, held_of}
 use Rattle.world.specs.declared.event.Event.{Event}
 use Rattle.world.specs.History.{Setting, history_of}
-use Rattle.world.specs.Run.{latest, last_among}
+use Rattle.world.specs.Run.{has_reached, latest, last_among}
 use Rattle.world.specs.World.{WorldValue, node_takes, latest_at, held_at}
 use Rattle.world.specs.Steps.Nodes.{kept_of, IsNode, IsWorld}
 
@@ -57,4 +57,9 @@ held-entry w n p x e = by (eqb p.resource n) (node_takes w.setting.plant n p) e 
   by : (b t : Bool) → cond b None (cond t (latest_at w n p) None) ≡ Some x → Contains w.log x
   by true t f = absurd (none-some x f)
   by false false f = absurd (none-some x f)
-  by false true f = subst (λ l. Contains l x) (reverse-reverse w.log) (last_in-log p _ (reverse w.log) x f)
+  by false true f = subst (λ l. Contains l x) (reverse-reverse w.log) (last_in-log p (has_reached n (history_of w.setting w.events)) (reverse w.log) x f)
+
+-- so is what a call hands out
+pub entry-given : {B : Type 0} (given : B → Evaluated) (o : Option B) (w : WorldValue) (n : ℕ) (p : TaskRef) → option_map given o ≡ held_at w n p → IfSome o (λ b. Contains w.log (given b))
+entry-given given None w n p e = tt
+entry-given given (Some b) w n p e = held-entry w n p (given b) (sym e)

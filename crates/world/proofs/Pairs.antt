@@ -40,7 +40,7 @@ rises-messages p (z ∷ older) j k x y rises first second own_x own_y lt =
       high = message-within (z ∷ older) k y second
 
       below : message older j ≡ Some x
-      below = sym (ap (λ b. cond b (Some z) (message older j)) (ne_eqb j (suc (length older)) (λ same. omega arith))) ∙ first
+      below = sym (ap (λ b. cond b (Some z) (message older j)) (ne_eqb j (suc (length older)) (λ same. omega (arith, high, same)))) ∙ first
 
       by : (b : Bool) → eqb k (suc (length older)) ≡ b → cond b (Some z) (message older k) ≡ Some y
           → (message older j ≡ Some x → message older k ≡ Some y → same_task x.name.task p ≡ true → same_task y.name.task p ≡ true → j < k → precedes x.name y.name ≡ true)

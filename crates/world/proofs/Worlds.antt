@@ -164,6 +164,20 @@ module _ (s : Setting) (events : List Event) (log : List Evaluated) (cores : Lis
       let found : code_at s.plant t ≡ code_at core.plant (own_task core t.task) = found-own s (history_of s events) (reverse log) core 0 t 0 [] all world.logged node (code_at core.plant (own_task core t.task)) refl in
       (ap is_some found ∙ cause.0, omega (arith, number, node.max_number, cause.1))
 
+  pub no_task_at : (t : TaskRef) (core : CoreValue) → t.resource < length cores → core ≡ get_or cores t.resource core → code_at core.plant (own_task core t.task) ≡ None
+      → (t.resource < length s.plant.resources) × (code_at s.plant t ≡ None)
+  no_task_at t core inside at none =
+      let node : IsNode s (history_of s events) (reverse log) t.resource core = world.nodes t.resource core (slice_get_read cores (length cores) t.resource core refl inside at) in
+      let sized = world.sized in
+      (omega (arith, sized), found-own s (history_of s events) (reverse log) core 0 t 0 [] (AllLawful-after s [] events tt) world.logged node None none)
+
+  pub incarnation_at : (n last : ℕ) (core : CoreValue) → n < length cores → core ≡ get_or cores n core → last ≡ core.incarnation → 4294967295 ≤ last
+      → (n < length s.plant.resources) × (4294967295 ≤ incarnation_of s n (history_of s events))
+  incarnation_at n last core inside at was high =
+      let node : IsNode s (history_of s events) (reverse log) n core = world.nodes n core (slice_get_read cores (length cores) n core refl inside at) in
+      let sized = world.sized in
+      (omega (arith, sized), subst (λ i. 4294967295 ≤ i) (was ∙ node.incarnation) high)
+
   pub restart-lawful_at : (n last : ℕ) (core : CoreValue) → n < length cores → core ≡ get_or cores n core → last ≡ core.incarnation → last < 4294967295 → is_lawful s (history_of s events) (Restart n) ≡ true
   restart-lawful_at n last core inside at was low =
       let node : IsNode s (history_of s events) (reverse log) n core = world.nodes n core (slice_get_read cores (length cores) n core refl inside at) in
