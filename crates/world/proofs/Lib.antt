@@ -9,3 +9,7 @@ pub mod Starts
 pub mod Answered
 pub mod Pairs
 pub mod Holding
+pub mod ScheduleWords
+pub mod ScheduleLists
+pub mod ScheduleReading
+pub mod Telling

@@ -7,8 +7,8 @@ mod lines;
 mod names;
 mod read_line;
 mod sim_fault;
-mod simulate;
+mod simulation;
 
 pub use evaluation_line::push_evaluation;
 pub use sim_fault::SimFault;
-pub use simulate::simulate;
+pub use simulation::simulate;

@@ -2,6 +2,7 @@
 
 ghost use Rattle.std.specs.Prelude.{◌≡◌, ◌++◌, OnOk, Some, length, map, slice_get, string_bytes, zip};
 ghost use Rattle.plant.specs.declared.task_output.TaskOutput.{TaskOutput};
+ghost use Rattle.world.specs.Steps.Telling.{gap_before};
 ghost use Rattle.world.specs.RunLines.{value_text, resource_text, task_name, task_text, pair_text, take_text, give_text, list_text, name_text, evaluation_line};
 
 use evaluation::{Evaluation, Take};
@@ -68,6 +69,17 @@ fn push_take(line: &mut String, plant: &Plant, take: &Take) -> Result<(), AllocE
     push_pair(line, take.from)
 }
 
+/// Makes a line ready for an item of a list: a blank behind the item before, if there is one.
+fn push_gap(line: &mut String, item: usize) -> Result<(), AllocError>
+    ensures { OnOk result (string_bytes line.new ≡ string_bytes line.old ++ gap_before item) }
+{
+    if item == 0 {
+        Ok(())
+    } else {
+        line.push_str(" ")
+    }
+}
+
 /// Writes what was taken, or `-` for nothing, behind a line.
 fn push_takes(line: &mut String, plant: &Plant, takes: &[Take]) -> Result<(), AllocError>
     ensures { OnOk result (string_bytes line.new ≡ string_bytes line.old ++ list_text (map (take_text plant.now) takes.now)) }
@@ -76,9 +88,7 @@ fn push_takes(line: &mut String, plant: &Plant, takes: &[Take]) -> Result<(), Al
         return line.push_str("-");
     }
     for i in 0..takes.len() {
-        if i > 0 {
-            line.push_str(" ")?;
-        }
+        push_gap(line, i)?;
         push_take(line, plant, &takes[i])?;
     }
     Ok(())
@@ -112,9 +122,7 @@ fn push_gives(line: &mut String, code: &TaskCode, values: &[Value]) -> Result<()
         return line.push_str("-");
     }
     for i in 0..values.len() {
-        if i > 0 {
-            line.push_str(" ")?;
-        }
+        push_gap(line, i)?;
         push_give(line, code, i, values[i])?;
     }
     Ok(())

@@ -86,7 +86,7 @@ fn push_made(
     message: u64,
     made: Option<&Frame>,
 ) -> Result<(), AllocError>
-    ensures { OnOk result (string_bytes line.new ≡ string_bytes line.old ++ made_line plant.now message (option_map (λ f. f.now) made)) }
+    ensures { OnOk result (string_bytes line.new ≡ string_bytes line.old ++ made_line plant.now message (option_map (λ f. f.now) made.entry)) }
 {
     match made {
         Some(frame) => push_evaluation(line, plant, message, frame.evaluation()),
@@ -135,7 +135,9 @@ pub fn tell(
     let log = world.log();
     match answer {
         Ok(done) => push_done(line, world.plant(), log, event, done),
-        Err(WorldFault::Memory) => Err(AllocError),
-        Err(cause) => push_refused(line, number, cause),
+        Err(cause) => match cause {
+            WorldFault::Memory => Err(AllocError),
+            _ => push_refused(line, number, cause),
+        },
     }
 }

@@ -1,23 +1,31 @@
 //! The places of named resources and tasks.
 
-ghost use Rattle.std.specs.Prelude.{◌≡◌, MatchOption, IfSome, position, ◌==◌, ◌<◌, length};
+ghost use Rattle.std.specs.Prelude.{◌≡◌, ◌<◌, ◌==◌, ℕ, IfSome, MatchOption, Some, length, position, slice_get};
 ghost use Rattle.ladder_text.specs.Chars.{same_word};
 ghost use Rattle.plant.specs.declared.task_ref.TaskRef.{TaskRef};
-ghost use Rattle.plant.specs.PlantValue.{TaskValue};
+ghost use Rattle.plant.specs.PlantValue.{ResourceValue, TaskValue};
 ghost use Rattle.world.specs.ScheduleText.{resource_named, task_in, IsTaskWord, IsResourceWord};
 
 use ladder_text::is_plain_name;
 use plant::{Plant, Task, TaskRef};
+
+/// Whether the resource at a place has this name, whatever the case of the letters.
+fn is_named(plant: &Plant, resource: usize, name: &[u8]) -> bool
+    ensures { (r : ResourceValue) → slice_get plant.now.resources resource ≡ Some r → result ≡ same_word name.now r.name }
+{
+    match plant.resource_name(resource) {
+        Some(found) => name.eq_ignore_ascii_case(found.as_bytes()),
+        None => false,
+    }
+}
 
 /// Where a resource of this name stands, whatever the case of the letters. Without one it is the number of resources, where none stands.
 fn resource_named(plant: &Plant, name: &[u8]) -> usize
     ensures { result ≡ resource_named plant.now name.now }
 {
     for k in 0..plant.resources() {
-        if let Some(found) = plant.resource_name(k) {
-            if name.eq_ignore_ascii_case(found.as_bytes()) {
-                return k;
-            }
+        if is_named(plant, k, name) {
+            return k;
         }
     }
     plant.resources()

@@ -1,4 +1,4 @@
-use std::alloc::{AllocError, AllocFailed};
+use std::alloc::AllocError;
 use thiserror::Error;
 
 /// Why a schedule isn't done to its end.
@@ -13,4 +13,15 @@ pub enum SimFault {
     /// There was no memory left.
     #[error("Memory")]
     Memory,
+}
+
+impl From<AllocError> for SimFault {
+    ghost use Rattle.std.specs.Prelude.{◌≡◌};
+    ghost use Rattle.world.specs.declared.schedule.sim_fault.SimFault.TheVariants.{Memory};
+
+    ghost from_gives = { λ _ fault. fault ≡ Memory };
+
+    fn from(_fault: AllocError) -> SimFault {
+        SimFault::Memory
+    }
 }
