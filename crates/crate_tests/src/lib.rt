@@ -2,6 +2,8 @@
 #![tactic(auto)]
 
 #[cfg(test)]
+mod cores;
+#[cfg(test)]
 mod counters;
 #[cfg(test)]
 mod declarations;
@@ -16,6 +18,8 @@ mod evaluations;
 mod figures;
 #[cfg(test)]
 mod guesses;
+#[cfg(test)]
+mod halting;
 #[cfg(test)]
 mod inputs;
 #[cfg(test)]
@@ -33,6 +37,8 @@ mod plants;
 #[cfg(test)]
 mod scans;
 #[cfg(test)]
+mod schedules;
+#[cfg(test)]
 mod sources;
 #[cfg(test)]
 mod states;
@@ -40,5 +46,7 @@ mod states;
 mod timers;
 #[cfg(test)]
 mod worked;
+#[cfg(test)]
+mod worlds;
 
 pub use figures::{are_drawn, are_listed, are_refused};

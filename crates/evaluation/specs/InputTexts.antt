@@ -57,9 +57,9 @@ input_of w = option_and_then (λ k. option_and_then (λ a. input_at a (drop (k +
 abbrev pub AreApart : List FieldInput → Type 0
 AreApart inputs = (j k : ℕ) (a b : FieldInput) → slice_get inputs j ≡ Some a → slice_get inputs k ≡ Some b → address_of a ≡ address_of b → j ≡ k
 
--- each word of the text is the input in its place, and no address comes twice
-pub record IsRead (text : List ℕ) (inputs : List FieldInput) : Type 0 where
-  pub words : map input_of (words_of text) ≡ map (λ i. Some i) inputs
+-- each word is the input in its place, and no address comes twice
+pub record AreInputs (words : List (List ℕ)) (inputs : List FieldInput) : Type 0 where
+  pub words_are : map input_of words ≡ map (λ i. Some i) inputs
   pub apart : AreApart inputs
 
 -- some word is no input
@@ -70,16 +70,24 @@ pub record HasBadWord (words : List (List ℕ)) : Type 0 where
   pub bad : input_of word ≡ None
 
 -- each word is an input, and two of them have one address
-pub record HasAddressTwice (text : List ℕ) : Type 0 where
+pub record HasAddressTwice (words : List (List ℕ)) : Type 0 where
   pub inputs : List FieldInput
-  pub words : map input_of (words_of text) ≡ map (λ i. Some i) inputs
+  pub words_are : map input_of words ≡ map (λ i. Some i) inputs
   pub twice : AreApart inputs → ⊥
 
--- what each refusal means
+-- what each refusal of words means
+abbrev pub IsFaultOfWords : List (List ℕ) → InputFault → Type 0
+IsFaultOfWords words Syntax = HasBadWord words
+IsFaultOfWords words Twice = HasAddressTwice words
+IsFaultOfWords words Memory = Unit {0}
+
+-- the words of the text are these inputs
+abbrev pub IsRead : List ℕ → List FieldInput → Type 0
+IsRead text inputs = AreInputs (words_of text) inputs
+
+-- what each refusal of a text means
 abbrev pub IsFaultOf : List ℕ → InputFault → Type 0
-IsFaultOf text Syntax = HasBadWord (words_of text)
-IsFaultOf text Twice = HasAddressTwice text
-IsFaultOf text Memory = Unit {0}
+IsFaultOf text fault = IsFaultOfWords (words_of text) fault
 
 -- what a refusal means while the words are read one by one
 abbrev pub IsWordFault : List (List ℕ) → InputFault → Type 0

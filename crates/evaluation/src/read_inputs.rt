@@ -2,7 +2,7 @@
 
 ghost use Rattle.std.specs.Prelude.{◌≡◌, ◌+◌, ◌*◌, ◌↔◌, ◌≢◌, ◌≤◌, IfOk, IfErr, IsFalse, Some, map, slice_get, pos, ◌-ℤ◌};
 ghost use Rattle.evaluation.specs.declared.field_input.FieldInput.{FieldInput};
-ghost use Rattle.evaluation.specs.InputTexts.{words_of, bit_value, is_below_zero, value_below, value_above, word_value, input_at, sign_of, input_of, AreApart, IsRead, IsFaultOf, IsWordFault};
+ghost use Rattle.evaluation.specs.InputTexts.{words_of, bit_value, is_below_zero, value_below, value_above, word_value, input_at, sign_of, input_of, AreApart, AreInputs, IsFaultOfWords, IsRead, IsFaultOf, IsWordFault};
 
 use crate::field_input::FieldInput;
 use crate::input_fault::InputFault;
@@ -12,8 +12,8 @@ use plant::{Address, Space};
 use std::alloc::{AllocError, Global};
 use std::collections::BTreeSet;
 
-/// The words between blanks and tabs.
-fn words_of(alloc: Global, text: &[u8]) -> Result<Vec<&[u8]>, AllocError>
+/// The words of a text: what stands between blanks and tabs.
+pub fn words_of(alloc: Global, text: &[u8]) -> Result<Vec<&[u8]>, AllocError>
     ensures { IfOk result (λ v. map (λ w. w.now) v.items ≡ words_of text.now) }
 {
     let mut words = Vec::new(alloc);
@@ -143,17 +143,25 @@ fn has_twice(alloc: Global, inputs: &[FieldInput]) -> Result<bool, AllocError>
 }
 
 impl Inputs {
-    /// Reads words `ADDRESS=VALUE`, such as `%IX0=1` and `%IW2=-7`, that are parted by blanks or tabs. A bit is 0 or 1, a word from -32,768 to 32,767.
+    /// Reads these words, each an `ADDRESS=VALUE` such as `%IX0=1` and `%IW2=-7`. A bit is 0 or 1, a word from -32,768 to 32,767.
     /// Syntax: some word isn't one. Twice: each word is one, and an address comes twice.
+    pub fn of_words(alloc: Global, words: &[&[u8]]) -> Result<Inputs, InputFault>
+        ensures ok { IfOk result (λ inputs. AreInputs (map (λ w. w.now) words.now) inputs) }
+        ensures fault { IfErr result (λ fault. IsFaultOfWords (map (λ w. w.now) words.now) fault) }
+    {
+        let inputs = inputs_of(alloc, words)?;
+        if has_twice(alloc, inputs.as_slice())? {
+            return Err(InputFault::Twice);
+        }
+        Ok(Inputs::of(inputs))
+    }
+
+    /// Reads words as [`Inputs::of_words`] does, parted by blanks or tabs.
     pub fn read(alloc: Global, text: &str) -> Result<Inputs, InputFault>
         ensures ok { IfOk result (λ inputs. IsRead text.now inputs) }
         ensures fault { IfErr result (λ fault. IsFaultOf text.now fault) }
     {
         let words = words_of(alloc, text.as_bytes())?;
-        let inputs = inputs_of(alloc, words.as_slice())?;
-        if has_twice(alloc, inputs.as_slice())? {
-            return Err(InputFault::Twice);
-        }
-        Ok(Inputs::of(inputs))
+        Inputs::of_words(alloc, words.as_slice())
     }
 }

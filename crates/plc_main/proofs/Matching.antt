@@ -18,12 +18,12 @@ plus_is_none (c ∷ text) plus number =
     let low : digit_value 43 < 10 = subst (λ d. digit_value d < 10) is number.0.1.0 in
     absurd (omega (arith, low))
 
-pub no_number : (r : Option (Bor (List ℕ))) (v w : Option (List ℕ)) → option_map (λ s. s.now) r ≡ v → v ≡ w → r ≡ None → GivesNumber w 0
-no_number r v w e f is = subst (λ t. GivesNumber t 0) (sym (ap (option_map (λ s. s.now)) is) ∙ e ∙ f) refl
+pub no_number : (otherwise : ℕ) (r : Option (Bor (List ℕ))) (v w : Option (List ℕ)) → option_map (λ s. s.now) r ≡ v → v ≡ w → r ≡ None → GivesNumber otherwise w otherwise
+no_number otherwise r v w e f is = subst (λ t. GivesNumber otherwise t otherwise) (sym (ap (option_map (λ s. s.now)) is) ∙ e ∙ f) refl
 
-pub one_number : (r : Option (Bor (List ℕ))) (v w : Option (List ℕ)) (text : Bor (List ℕ)) (n : ℕ) → option_map (λ s. s.now) r ≡ v → v ≡ w → r ≡ Some text
-    → IsNumber text.now × (n ≡ digits_value 10 text.now) → GivesNumber w n
-one_number r v w text n e f is number = subst (λ t. GivesNumber t n) (sym (ap (option_map (λ s. s.now)) is) ∙ e ∙ f) number
+pub one_number : (otherwise : ℕ) (r : Option (Bor (List ℕ))) (v w : Option (List ℕ)) (text : Bor (List ℕ)) (n : ℕ) → option_map (λ s. s.now) r ≡ v → v ≡ w → r ≡ Some text
+    → IsNumber text.now × (n ≡ digits_value 10 text.now) → GivesNumber otherwise w n
+one_number otherwise r v w text n e f is number = subst (λ t. GivesNumber otherwise t n) (sym (ap (option_map (λ s. s.now)) is) ∙ e ∙ f) number
 
 pub no_word : (r : Option (Bor (List ℕ))) (v w : Option (List ℕ)) → option_map (λ s. s.now) r ≡ v → v ≡ w → r ≡ None → [] ≡ unwrap_or w []
 no_word r v w e f is = subst (λ (t : Option (List ℕ)). [] ≡ unwrap_or t []) (sym (ap (option_map (λ s. s.now)) is) ∙ e ∙ f) refl

@@ -4,16 +4,18 @@ use Rattle.std.specs.Str.Parse.{IsNumeral, digits_value}
 use Rattle.clap.specs.Lexer.{usize_max}
 use Rattle.clap.specs.Words.{App, Shape, Row, Rule, Text, new_app, new_rule, with_rule, with_subcommand, first_of, all_of}
 use Rattle.clap.specs.declared.builder.action.ArgAction.TheVariants.{Set, Append}
-use Rattle.plc_main.specs.declared.words.Request.{Request}
-use Rattle.plc_main.specs.declared.words.Request.TheVariants.{Eval, Check, Plan}
+use Rattle.plc_main.specs.declared.request.TextRequest.{TextRequest}
+use Rattle.plc_main.specs.declared.request.TextRequest.TheVariants.{Eval, Check, Plan}
+use Rattle.plc_main.specs.declared.request.Request.{Request}
+use Rattle.plc_main.specs.declared.request.Request.TheVariants.{Text as OfText, Sim}
 
 -- a word that must be given
 abbrev pub needed_word : Text → Rule
 needed_word id = record (new_rule id) { action = Some Set; required = true }
 
--- an option `--id MS`
-abbrev pub option_ms : Text → Rule
-option_ms id = record (new_rule id) { action = Some Set; long = Some id; value_names = 1 }
+-- an option `--id NUMBER`
+abbrev pub option_of : Text → Rule
+option_of id = record (new_rule id) { action = Some Set; long = Some id; value_names = 1 }
 
 abbrev pub drawing_rule : Rule
 drawing_rule = needed_word (codes "DRAWING")
@@ -22,10 +24,16 @@ abbrev pub plant_rule : Rule
 plant_rule = needed_word (codes "PLANT")
 
 abbrev pub dt_rule : Rule
-dt_rule = option_ms (codes "dt")
+dt_rule = option_of (codes "dt")
 
 abbrev pub until_rule : Rule
-until_rule = record (option_ms (codes "until")) { required = true }
+until_rule = record (option_of (codes "until")) { required = true }
+
+abbrev pub schedule_rule : Rule
+schedule_rule = needed_word (codes "SCHEDULE")
+
+abbrev pub max_number_rule : Rule
+max_number_rule = option_of (codes "max-number")
 
 -- any number of words NAME=BITS
 abbrev pub rows_rule : Rule
@@ -47,21 +55,25 @@ check_app = with_rule (new_app (codes "check")) plant_rule
 abbrev pub plan_app : App
 plan_app = with_rule (with_rule (new_app (codes "plan")) plant_rule) until_rule
 
+-- `sim PLANT SCHEDULE [--max-number N]`
+abbrev pub sim_app : App
+sim_app = with_rule (with_rule (with_rule (new_app (codes "sim")) plant_rule) schedule_rule) max_number_rule
+
 abbrev pub commanded : App → App
 commanded a = record a { top = record a.top { subcommand_required = true } }
 
--- `plc`, and one of the three
+-- `plc`, and one of the four
 abbrev pub plc_app : App
-plc_app = with_subcommand (with_subcommand (with_subcommand (commanded (new_app (codes "plc"))) eval_app.top) check_app.top) plan_app.top
+plc_app = with_subcommand (with_subcommand (with_subcommand (with_subcommand (commanded (new_app (codes "plc"))) eval_app.top) check_app.top) plan_app.top) sim_app.top
 
 -- digits alone are a number of 32 bits
 abbrev pub IsNumber : List ℕ → Type 0
 IsNumber text = IsNumeral 10 text × (digits_value 10 text < 2 ^ 32)
 
--- the number of an option, 0 where it isn't given
-abbrev pub GivesNumber : Option (List ℕ) → ℕ → Type 0
-GivesNumber None n = n ≡ 0
-GivesNumber (Some text) n = IsNumber text × (n ≡ digits_value 10 text)
+-- the number of an option, and another where it isn't given
+abbrev pub GivesNumber : ℕ → Option (List ℕ) → ℕ → Type 0
+GivesNumber otherwise None n = n ≡ otherwise
+GivesNumber otherwise (Some text) n = IsNumber text × (n ≡ digits_value 10 text)
 
 -- the option's word is no number
 abbrev pub GivesNone : Option (List ℕ) → Type 0
@@ -73,34 +85,44 @@ abbrev pub word_of : Text → List Row → List ℕ
 word_of id found = unwrap_or (first_of id found) []
 
 abbrev pub AsksEval : List Row → Request → Type 0
-AsksEval found (Eval drawing dt words) = (drawing.now ≡ word_of (codes "DRAWING") found) × GivesNumber (first_of (codes "dt") found) dt
+AsksEval found (OfText (Eval drawing dt words)) = (drawing.now ≡ word_of (codes "DRAWING") found) × GivesNumber 0 (first_of (codes "dt") found) dt
     × (map (λ w. w.now) words.items ≡ unwrap_or (all_of (codes "words") found) [])
-AsksEval found (Check plant) = ⊥
-AsksEval found (Plan plant until) = ⊥
+AsksEval found (OfText (Check plant)) = ⊥
+AsksEval found (OfText (Plan plant until)) = ⊥
+AsksEval found (Sim sim) = ⊥
 
 abbrev pub AsksCheck : List Row → Request → Type 0
-AsksCheck found (Eval drawing dt words) = ⊥
-AsksCheck found (Check plant) = plant.now ≡ word_of (codes "PLANT") found
-AsksCheck found (Plan plant until) = ⊥
+AsksCheck found (OfText (Eval drawing dt words)) = ⊥
+AsksCheck found (OfText (Check plant)) = plant.now ≡ word_of (codes "PLANT") found
+AsksCheck found (OfText (Plan plant until)) = ⊥
+AsksCheck found (Sim sim) = ⊥
 
 abbrev pub AsksPlan : List Row → Request → Type 0
-AsksPlan found (Eval drawing dt words) = ⊥
-AsksPlan found (Check plant) = ⊥
-AsksPlan found (Plan plant until) = (plant.now ≡ word_of (codes "PLANT") found) × GivesNumber (first_of (codes "until") found) until
+AsksPlan found (OfText (Eval drawing dt words)) = ⊥
+AsksPlan found (OfText (Check plant)) = ⊥
+AsksPlan found (OfText (Plan plant until)) = (plant.now ≡ word_of (codes "PLANT") found) × GivesNumber 0 (first_of (codes "until") found) until
+AsksPlan found (Sim sim) = ⊥
+
+abbrev pub AsksSim : List Row → Request → Type 0
+AsksSim found (OfText (Eval drawing dt words)) = ⊥
+AsksSim found (OfText (Check plant)) = ⊥
+AsksSim found (OfText (Plan plant until)) = ⊥
+AsksSim found (Sim sim) =
+    (sim.plant.now ≡ word_of (codes "PLANT") found) × (sim.schedule.now ≡ word_of (codes "SCHEDULE") found) × GivesNumber 4294967295 (first_of (codes "max-number") found) sim.max_number
 
 -- the request is what the subcommand asks for, with what was found for its options
 abbrev pub IsAsked : Option (Text × List Row) → Request → Type 0
 IsAsked None request = ⊥
-IsAsked (Some (name, found)) request = ((name ≡ codes "eval") × AsksEval found request) ⊎ (((name ≡ codes "check") × AsksCheck found request) ⊎ ((name ≡ codes "plan") × AsksPlan found request))
+IsAsked (Some (name, found)) request = ((name ≡ codes "eval") × AsksEval found request) ⊎ (((name ≡ codes "check") × AsksCheck found request) ⊎ (((name ≡ codes "plan") × AsksPlan found request) ⊎ ((name ≡ codes "sim") × AsksSim found request)))
 
 -- the file that is to be read
-abbrev pub file_of : Request → List ℕ
+abbrev pub file_of : TextRequest → List ℕ
 file_of (Eval drawing dt words) = drawing.now
 file_of (Check plant) = plant.now
 file_of (Plan plant until) = plant.now
 
 -- the words NAME=BITS
-abbrev pub words_in : Request → List (List ℕ)
+abbrev pub words_in : TextRequest → List (List ℕ)
 words_in (Eval drawing dt words) = map (λ w. w.now) words.items
 words_in (Check plant) = []
 words_in (Plan plant until) = []

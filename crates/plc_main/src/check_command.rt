@@ -4,12 +4,12 @@ ghost use Rattle.plc_main.specs.CheckText.{count_line, check_lines, AreCounts, R
 
 use crate::command_fault::CommandFault;
 use crate::plant_counts::{count_connections, count_programs, count_tasks};
-use crate::text_output::write_text;
 use plant::Plant;
 use std::alloc::{AllocError, Global};
 use std::fmt::Write as _;
 use std::io::Write;
 use std::thread::Threads;
+use world::write_text;
 
 /// Reads the text of a plant.
 pub fn read_plant<R: Threads + Sync>(

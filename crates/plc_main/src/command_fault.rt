@@ -1,7 +1,6 @@
 ghost use Rattle.std.specs.Prelude.{◌≡◌};
 
 use crate::text_fault::TextFault;
-use crate::text_output::WriteFault;
 use crate::word_fault::WordFault;
 use ladder_text::{DrawFault, DrawFaultKind};
 use network::{GraphFault, GraphFaultKind};
@@ -9,6 +8,7 @@ use plant::{PlanFault, PlantFault, PlantFaultKind};
 use power_flow::{BindFault, BindKind};
 use std::alloc::{AllocError, AllocFailed};
 use thiserror::Error;
+use world::WriteFault;
 
 /// Why a command of the program ends without its answer.
 #[derive(Clone, Copy, Debug, PartialEq, Eq, Error)]

@@ -8,13 +8,13 @@ use crate::command_fault::CommandFault;
 use crate::line::state_line;
 use crate::row::Row;
 use crate::rows::{read_rows, scan_count};
-use crate::text_output::write_text;
 use ladder_text::Drawing;
 use network::Graph;
 use power_flow::{Declarations, Ladder, State};
 use std::alloc::Global;
 use std::io::Write;
 use std_blocks::Value;
+use world::write_text;
 
 /// The ladder of a drawing, its names declared by their use.
 fn read_ladder(alloc: Global, drawing: &str) -> Result<Ladder, CommandFault>

@@ -6,12 +6,12 @@ ghost use Rattle.plc_main.specs.PlanText.{resource_name, task_name, due_line, pl
 
 use crate::check_command::read_plant;
 use crate::command_fault::CommandFault;
-use crate::text_output::{WriteFault, write_text};
 use plant::{Due, Plant, TaskRef, plan};
 use std::alloc::{AllocError, Global};
 use std::fmt::Write as _;
 use std::io::Write;
 use std::thread::Threads;
+use world::{WriteFault, write_text};
 
 /// Lines are written once so many bytes of them are made.
 const FULL: usize = 65_536;

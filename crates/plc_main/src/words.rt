@@ -1,55 +1,13 @@
 ghost use Rattle.std.specs.Prelude.{◌≡◌, ◌≢◌, ◌⊎◌, false, [], IfOk, IfErr, MatchOption, codes, map, unwrap_or, string_bytes};
 ghost use Rattle.std.specs.Str.Parse.{digits_value};
 ghost use Rattle.clap.specs.Words.{app_of, rule_of, rows_of, found_of, first_of, all_of, kind_of, subcommand_of};
-ghost use Rattle.plc_main.specs.CommandLine.{drawing_rule, dt_rule, rows_rule, plant_rule, until_rule, eval_app, check_app, plan_app, plc_app};
-ghost use Rattle.plc_main.specs.CommandLine.{IsNumber, GivesNumber, AsksEval, AsksPlan, IsAsked, word_of, file_of, words_in};
+ghost use Rattle.plc_main.specs.CommandLine.{drawing_rule, dt_rule, rows_rule, plant_rule, until_rule, schedule_rule, max_number_rule, eval_app, check_app, plan_app, sim_app, plc_app};
+ghost use Rattle.plc_main.specs.CommandLine.{IsNumber, GivesNumber, AsksEval, AsksPlan, AsksSim, IsAsked, word_of};
 
+use crate::request::{Request, SimRequest, TextRequest};
 use clap::error::ErrorKind;
 use clap::{Arg, ArgAction, ArgMatches, Command, Error};
 use std::alloc::{AllocError, Global};
-
-/// What the words of the command line ask for.
-#[derive(Drop)]
-pub enum Request<'a> {
-    /// The scans of a drawing, each `dt` milliseconds after the one before; the words set its variables.
-    Eval {
-        drawing: &'a str,
-        dt: u32,
-        words: Vec<&'a str>,
-    },
-    /// How many resources, tasks, programs and connections a plant has.
-    Check {
-        plant: &'a str,
-    },
-    /// When the tasks of a plant are due, up to and with `until` (in ms).
-    Plan {
-        plant: &'a str,
-        until: u32,
-    },
-}
-
-impl<'a> Request<'a> {
-    /// The file that is to be read.
-    pub fn file(&self) -> &'a str
-        ensures { result.now ≡ file_of self.now }
-    {
-        match self {
-            Request::Eval { drawing, .. } => drawing,
-            Request::Check { plant } => plant,
-            Request::Plan { plant, .. } => plant,
-        }
-    }
-
-    /// The words NAME=BITS.
-    pub fn words(&self) -> &[&'a str]
-        ensures { map (λ w. w.now) result.now ≡ words_in self.now }
-    {
-        match self {
-            Request::Eval { words, .. } => words.as_slice(),
-            Request::Check { .. } | Request::Plan { .. } => &[],
-        }
-    }
-}
 
 const EVAL_HELP: &str = "\
 Each word NAME=BITS gives the BOOL variable NAME its values: BITS is a row of digits 0 and 1, one for each
@@ -98,6 +56,33 @@ Example:
 The exit status is 0; 1 if the text of the plant is refused, with FILE:LINE: Kind on standard error, or if the plan has
 more than 100,000 lines, with plan: TooLong; 2 if a word is refused; 3 if the file can't be read, the output can't be
 written or there is no memory left.";
+
+const SIM_HELP: &str = "\
+The schedule says what happens in which order, one event a line; the program writes one line for each. Words are parted
+by blanks or tabs, and stand in either case; a line that is blank or begins with # is no event.
+
+  EVAL R1.FAST 10 %IX0=1   task FAST of resource R1 is evaluated, 10 ms after the time before, with these field inputs
+  DELIVER 1 R2             the message of the first evaluation reaches resource R2
+  RESTART R1               resource R1 restarts: it forgets all, and its incarnation is one more
+
+An evaluation takes, from each task that feeds it, the latest evaluation that reached its resource since that restarted
+last; an evaluation that is never delivered is lost, and one may be delivered twice, late or out of order. What names
+nothing that exists changes nothing and is written as REFUSED, with the number of the event and the reason.
+
+Example:
+
+  $ cat examples/one_delivery.schedule
+  EVAL R1.FAST 10 %IX0=1
+  DELIVER 1 R2
+  EVAL R2.SLOW 20
+  $ plc sim examples/pair.plant examples/one_delivery.schedule
+  EVAL 1 R1.FAST 1.1 TAKES - GIVES A.N=1 A.FULL=0
+  DELIVER 1 R2 taken
+  EVAL 2 R2.SLOW 1.1 TAKES R1.FAST=1.1 GIVES B.SEEN=1 B.HIT=0
+
+The exit status is 0; 1 if the text of the plant is refused, with FILE:LINE: Kind on standard error, or a line of the
+schedule is no event, with FILE:LINE: Syntax, after the lines of the events before it; 2 if a word is refused; 3 if a file
+can't be read, the output can't be written or there is no memory left.";
 
 fn drawing_arg<'a>(alloc: Global) -> Arg<'a>
     ensures rule { rule_of result ≡ drawing_rule }
@@ -164,6 +149,27 @@ fn until_arg<'a>(alloc: Global) -> Arg<'a>
         .help("The last moment of the plan in milliseconds, 0 to 4294967295")
 }
 
+fn schedule_arg<'a>(alloc: Global) -> Arg<'a>
+    ensures rule { rule_of result ≡ schedule_rule }
+    ensures local { result.global ≡ false }
+{
+    Arg::new(alloc, "SCHEDULE")
+        .required(true)
+        .action(ArgAction::Set)
+        .help("The file of the schedule")
+}
+
+fn max_number_arg<'a>(alloc: Global) -> Arg<'a>
+    ensures rule { rule_of result ≡ max_number_rule }
+    ensures local { result.global ≡ false }
+{
+    Arg::new(alloc, "max-number")
+        .long("max-number")
+        .value_name("N")
+        .action(ArgAction::Set)
+        .help("How often a task is evaluated in one incarnation at most, 0 to 4294967295 [default: 4294967295]")
+}
+
 fn check_command<'a>(alloc: Global) -> Result<Command<'a>, AllocError>
     ensures { IfOk result (λ c. app_of c ≡ check_app) }
 {
@@ -183,6 +189,17 @@ fn plan_command<'a>(alloc: Global) -> Result<Command<'a>, AllocError>
         .arg(until_arg(alloc))
 }
 
+fn sim_command<'a>(alloc: Global) -> Result<Command<'a>, AllocError>
+    ensures { IfOk result (λ c. app_of c ≡ sim_app) }
+{
+    Command::new(alloc, "sim")
+        .about("Runs a schedule of evaluations, deliveries and restarts over a plant, and writes what each did")
+        .after_help(SIM_HELP)
+        .arg(plant_arg(alloc))?
+        .arg(schedule_arg(alloc))?
+        .arg(max_number_arg(alloc))
+}
+
 /// The commands of the program.
 pub fn commands<'a>(alloc: Global) -> Result<Command<'a>, AllocError>
     ensures { IfOk result (λ c. app_of c ≡ plc_app) }
@@ -193,7 +210,8 @@ pub fn commands<'a>(alloc: Global) -> Result<Command<'a>, AllocError>
         .subcommand_required(true)
         .subcommand(eval_command(alloc)?)?
         .subcommand(check_command(alloc)?)?
-        .subcommand(plan_command(alloc)?)
+        .subcommand(plan_command(alloc)?)?
+        .subcommand(sim_command(alloc)?)
 }
 
 /// A number of decimal digits alone, at most 4294967295.
@@ -210,12 +228,13 @@ fn number_of<'a>(
     command: &mut Command<'a>,
     matches: &ArgMatches<'a>,
     id: &str,
+    otherwise: u32,
     refusal: &'static str,
 ) -> Result<u32, Error>
-    ensures { IfOk result (GivesNumber (first_of id.now (rows_of (found_of matches.now)))) }
+    ensures { IfOk result (GivesNumber otherwise (first_of id.now (rows_of (found_of matches.now)))) }
 {
     match matches.get_str(id) {
-        None => Ok(0),
+        None => Ok(otherwise),
         Some(text) => match number(text) {
             Some(n) => Ok(n),
             None => Err(command.error(ErrorKind::ValueValidation, refusal)?),
@@ -249,30 +268,48 @@ fn eval_request<'a>(
 ) -> Result<Request<'a>, Error>
     ensures { IfOk result (AsksEval (rows_of (found_of inner.now))) }
 {
-    Ok(Request::Eval {
+    Ok(Request::Text(TextRequest::Eval {
         drawing: given_word(inner, "DRAWING"),
         dt: number_of(
             command,
             inner,
             "dt",
+            0,
             "MS of --dt is a number from 0 to 4294967295",
         )?,
         words: words_of(alloc, inner)?,
-    })
+    }))
 }
 
 fn plan_request<'a>(command: &mut Command<'a>, inner: &ArgMatches<'a>) -> Result<Request<'a>, Error>
     ensures { IfOk result (AsksPlan (rows_of (found_of inner.now))) }
 {
-    Ok(Request::Plan {
+    Ok(Request::Text(TextRequest::Plan {
         plant: given_word(inner, "PLANT"),
         until: number_of(
             command,
             inner,
             "until",
+            0,
             "MS of --until is a number from 0 to 4294967295",
         )?,
-    })
+    }))
+}
+
+fn sim_request<'a>(command: &mut Command<'a>, inner: &ArgMatches<'a>) -> Result<Request<'a>, Error>
+    ensures { IfOk result (AsksSim (rows_of (found_of inner.now))) }
+{
+    Ok(Request::Sim(SimRequest {
+        plant: given_word(inner, "PLANT"),
+        schedule: given_word(inner, "SCHEDULE"),
+        max_number: number_of(
+            command,
+            inner,
+            "max-number",
+            u32::MAX,
+            "N of --max-number is a number from 0 to 4294967295",
+        )?,
+    }))
 }
 
 /// Reads the words, of which the first is the program's own name.
@@ -283,10 +320,11 @@ pub fn read_words<'a>(alloc: Global, words: &'a [String]) -> Result<Request<'a>,
     let matches = command.try_get_matches_from_mut(words)?;
     match matches.subcommand() {
         Some(("eval", inner)) => eval_request(alloc, &mut command, inner),
-        Some(("check", inner)) => Ok(Request::Check {
+        Some(("check", inner)) => Ok(Request::Text(TextRequest::Check {
             plant: given_word(inner, "PLANT"),
-        }),
+        })),
         Some(("plan", inner)) => plan_request(&mut command, inner),
+        Some(("sim", inner)) => sim_request(&mut command, inner),
         _ => Err(command.error(ErrorKind::MissingSubcommand, "a command is missing")?),
     }
 }

@@ -10,4 +10,5 @@ returns c =
     let top : app_of c.subcommand_required.result ≡ commanded (new_app (codes "plc")) = search rules in
     let one = one_more _ _ _ _ _ c.in_ok-subcommand.ensures top c.in_ok-eval_command.ensures refl in
     let two = one_more _ _ _ _ _ c.in_ok-subcommand-2.ensures one c.in_ok-check_command.ensures refl in
-    IfOk-weaker c.subcommand-3.result _ _ (λ new added. one_more _ _ _ _ _ added two c.in_ok-plan_command.ensures refl) c.subcommand-3.ensures
+    let three = one_more _ _ _ _ _ c.in_ok-subcommand-3.ensures two c.in_ok-plan_command.ensures refl in
+    IfOk-weaker c.subcommand-4.result _ _ (λ new added. one_more _ _ _ _ _ added three c.in_ok-sim_command.ensures refl) c.subcommand-4.ensures

@@ -4,7 +4,7 @@ use Rattle.plc_main.proofs.Matching.{no_number, one_number}
 use Rattle.plc_main.proofs.words.number_of.Goals as goal
 
 pub returns-in-None : goal.returns-in-None
-returns-in-None c = no_number c.get_str.result _ _ c.get_str.ensures (first_value-rows (found_of c.args.matches.now) c.args.id.now) c.in-None.is
+returns-in-None c = no_number c.args.otherwise c.get_str.result _ _ c.get_str.ensures (first_value-rows (found_of c.args.matches.now) c.args.id.now) c.in-None.is
 
 pub returns-in-Some-number : goal.returns-in-Some-number
-returns-in-Some-number c = one_number c.get_str.result _ _ c.in-Some.text c.in-Some-number.n c.get_str.ensures (first_value-rows (found_of c.args.matches.now) c.args.id.now) c.in-Some.is c.in-Some-number.ensures
+returns-in-Some-number c = one_number c.args.otherwise c.get_str.result _ _ c.in-Some.text c.in-Some-number.n c.get_str.ensures (first_value-rows (found_of c.args.matches.now) c.args.id.now) c.in-Some.is c.in-Some-number.ensures

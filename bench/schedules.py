@@ -1,0 +1,42 @@
+"""Schedules to be timed, and the plant of many producers that one of them runs over."""
+RESOURCES = 16
+TASKS = 16
+# A configuration has 64 instances: four of the tasks of each resource have one.
+USED = 4
+
+
+def rounds(count):
+    """Over the counter and the watcher: in each round an evaluation, its delivery, and an evaluation that takes it."""
+    lines = []
+    for it in range(count):
+        lines += [f"EVAL R1.FAST 10 %IX0={it % 2}", f"DELIVER {2 * it + 1} R2", "EVAL R2.SLOW 20"]
+    return "\n".join(lines) + "\n"
+
+
+def meshed():
+    """A plant of 16 resources of 16 tasks; each task that has an instance takes from one of each other resource."""
+    inputs = [f"P{it}" for it in range(RESOURCES - 1)]
+    text = ["PROGRAM ALL", f"VAR_INPUT {', '.join(inputs)} : BOOL; END_VAR", "VAR_OUTPUT Q : BOOL; END_VAR"]
+    text.append("|" + "".join(f"   {name:5}" for name in inputs) + "  Q")
+    text.append("+" + "--|/|---" * (RESOURCES - 1) + "-( )")
+    text.append("END_PROGRAM")
+    text.append("CONFIGURATION MESH")
+    for resource in range(RESOURCES):
+        text.append(f"  RESOURCE R{resource} ON NODE")
+        text += [f"    TASK T{task}(INTERVAL := T#10ms, PRIORITY := {task});" for task in range(TASKS)]
+        others = [other for other in range(RESOURCES) if other != resource]
+        for task in range(USED):
+            binds = ", ".join(f"{name} := R{other}.I{task}.Q" for name, other in zip(inputs, others))
+            text.append(f"    PROGRAM I{task} WITH T{task} : ALL({binds});")
+        text.append("  END_RESOURCE")
+    return "\n".join(text + ["END_CONFIGURATION"]) + "\n"
+
+
+def gossip(count):
+    """Over the meshed plant: each evaluation is delivered to every other resource."""
+    lines = []
+    for it in range(count):
+        resource = it % RESOURCES
+        lines.append(f"EVAL R{resource}.T{it // RESOURCES % USED} 10")
+        lines += [f"DELIVER {it + 1} R{other}" for other in range(RESOURCES) if other != resource]
+    return "\n".join(lines) + "\n"

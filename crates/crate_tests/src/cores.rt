@@ -1,0 +1,233 @@
+//! What the core of a resource keeps, takes and forgets.
+
+use crate::worked::{LOOP, PAIR};
+use evaluation::{Frame, Image, Inputs, Name};
+use exchange_core::{Accepted, Core, CoreFault, EvalFault};
+use plant::{Plant, TaskRef};
+use std::alloc::Global;
+use std::process::Abort;
+use std::sync::Arc;
+use std::test::Fail;
+use std_blocks::Value;
+
+const FAST: TaskRef = TaskRef {
+    resource: 0,
+    task: 0,
+};
+
+const SLOW: TaskRef = TaskRef {
+    resource: 1,
+    task: 0,
+};
+
+/// The core of a resource of a plant.
+fn core(
+    alloc: Global,
+    plant: &str,
+    resource: usize,
+    incarnation: u32,
+    max_number: u32,
+) -> Result<Result<Core, CoreFault>, Fail> {
+    let plant = Arc::new(alloc, Plant::read(alloc, plant)?)?;
+    Ok(Core::new(alloc, plant, resource, incarnation, max_number))
+}
+
+fn evaluated(alloc: Global, core: &mut Core, inputs: &str) -> Result<Frame, Fail> {
+    let inputs = Inputs::read(alloc, inputs)?;
+    Ok(core.evaluate(alloc, 1, 0, 10, &inputs)?)
+}
+
+/// The frames of the counter in an incarnation, its input on and off in turn.
+fn counted(alloc: Global, incarnation: u32, count: usize) -> Result<Vec<Frame>, Fail> {
+    let mut counter = core(alloc, PAIR, 0, incarnation, u32::MAX)??;
+    let mut frames = Vec::new(alloc);
+    for it in 0..count {
+        let inputs = if it % 2 == 0 { "%IX0=1" } else { "" };
+        frames.push(evaluated(alloc, &mut counter, inputs)?)?;
+    }
+    Ok(frames)
+}
+
+fn shows(rt: &impl Abort, image: &Image, values: &[Value]) {
+    assert_eq!(rt; image.values(), values);
+}
+
+fn held(core: &Core) -> Option<(u32, u32)> {
+    let frame = core.held(FAST)?;
+    Some((frame.name().incarnation, frame.name().number))
+}
+
+#[test]
+fn a_resource_that_does_not_exist_has_no_core(rt: HostRuntime) -> Result<(), Fail> {
+    let alloc = rt.alloc();
+    assert!(rt; core(alloc, PAIR, 0, 1, 1)?.is_ok());
+    assert!(rt; core(alloc, PAIR, 1, 1, 1)?.is_ok());
+    assert_eq!(rt; core(alloc, PAIR, 2, 1, 1)?.err(), Some(CoreFault::NoSuchResource));
+    Ok(())
+}
+
+#[test]
+fn the_greatest_pair_is_held(rt: HostRuntime) -> Result<(), Fail> {
+    let alloc = rt.alloc();
+    let mut watcher = core(alloc, PAIR, 1, 1, u32::MAX)??;
+    let first = counted(alloc, 1, 3)?;
+    let second = counted(alloc, 2, 1)?;
+    assert_eq!(rt; watcher.incarnation(), 1);
+    assert_eq!(rt; held(&watcher), None);
+    assert_eq!(rt; watcher.accept(first[1].try_clone()?), Accepted::Taken);
+    assert_eq!(rt; held(&watcher), Some((1, 2)));
+    assert_eq!(rt; watcher.accept(first[1].try_clone()?), Accepted::Old);
+    assert_eq!(rt; watcher.accept(first[0].try_clone()?), Accepted::Old);
+    assert_eq!(rt; held(&watcher), Some((1, 2)));
+    assert_eq!(rt; watcher.accept(second[0].try_clone()?), Accepted::Taken);
+    assert_eq!(rt; watcher.accept(first[2].try_clone()?), Accepted::Old);
+    assert_eq!(rt; held(&watcher), Some((2, 1)));
+    Ok(())
+}
+
+#[test]
+fn of_no_use_is_what_nobody_takes(rt: HostRuntime) -> Result<(), Fail> {
+    let alloc = rt.alloc();
+    let frames = counted(alloc, 1, 1)?;
+    let mut counter = core(alloc, PAIR, 0, 1, u32::MAX)??;
+    assert_eq!(rt; counter.accept(frames[0].try_clone()?), Accepted::Unused);
+    let mut watcher = core(alloc, PAIR, 1, 1, u32::MAX)??;
+    let seen = evaluated(alloc, &mut watcher, "")?;
+    assert_eq!(rt; counter.accept(seen.try_clone()?), Accepted::Unused);
+    assert_eq!(rt; watcher.accept(seen), Accepted::Unused);
+    assert!(rt; counter.held(SLOW).is_none());
+    assert!(rt; counter.held(FAST).is_none());
+    assert!(rt; watcher.held(SLOW).is_none());
+    Ok(())
+}
+
+#[test]
+fn of_no_use_is_an_image_of_other_kinds(rt: HostRuntime) -> Result<(), Fail> {
+    let alloc = rt.alloc();
+    let mut flipped = core(alloc, LOOP, 0, 1, u32::MAX)??;
+    let image_of_one = evaluated(alloc, &mut flipped, "")?;
+    let mut watcher = core(alloc, PAIR, 1, 1, u32::MAX)??;
+    assert_eq!(rt; watcher.accept(image_of_one), Accepted::Unused);
+    assert_eq!(rt; held(&watcher), None);
+    Ok(())
+}
+
+#[test]
+fn what_is_held_is_taken(rt: HostRuntime) -> Result<(), Fail> {
+    let alloc = rt.alloc();
+    let mut watcher = core(alloc, PAIR, 1, 1, u32::MAX)??;
+    let before = evaluated(alloc, &mut watcher, "")?;
+    assert!(rt; before.evaluation().takes()[0].from.is_none());
+    shows(&rt, before.outputs(), &[Value::Int(0), Value::Bool(false)]);
+    for frame in counted(alloc, 1, 5)? {
+        watcher.accept(frame);
+    }
+    let after = evaluated(alloc, &mut watcher, "")?;
+    assert_eq!(rt; after.evaluation().takes()[0].from, Some((1, 5)));
+    shows(&rt, after.outputs(), &[Value::Int(3), Value::Bool(true)]);
+    assert_eq!(rt; after.name(), Name { task: SLOW, incarnation: 1, number: 2 });
+    Ok(())
+}
+
+#[test]
+fn a_task_of_its_own_takes_the_last_one_made(rt: HostRuntime) -> Result<(), Fail> {
+    let alloc = rt.alloc();
+    let mut flip = core(alloc, LOOP, 0, 7, u32::MAX)??;
+    let first = evaluated(alloc, &mut flip, "")?;
+    assert!(rt; first.evaluation().takes()[0].from.is_none());
+    shows(&rt, first.outputs(), &[Value::Bool(true)]);
+    let second = evaluated(alloc, &mut flip, "")?;
+    assert_eq!(rt; second.evaluation().takes()[0].from, Some((7, 1)));
+    shows(&rt, second.outputs(), &[Value::Bool(false)]);
+    assert!(rt; flip.held(FAST).is_none());
+    Ok(())
+}
+
+#[test]
+fn what_is_asked_stands_in_the_frame(rt: HostRuntime) -> Result<(), Fail> {
+    let alloc = rt.alloc();
+    let mut counter = core(alloc, PAIR, 0, 3, u32::MAX)??;
+    let inputs = Inputs::read(alloc, "%IX0=1 %IW9=-3")?;
+    let frame = counter.evaluate(alloc, 42, 0, 17, &inputs)?;
+    assert_eq!(rt; frame.evaluation().ticket(), 42);
+    assert_eq!(rt; frame.evaluation().dt(), 17);
+    assert!(rt; frame.evaluation().inputs().same(&inputs));
+    assert_eq!(rt; frame.name(), Name { task: FAST, incarnation: 3, number: 1 });
+    let next = counter.evaluate(alloc, 43, 0, 17, &inputs)?;
+    assert!(rt; next.evaluation().before().same(frame.evaluation().after()));
+    assert!(rt; !next.evaluation().before().same(frame.evaluation().before()));
+    Ok(())
+}
+
+#[test]
+fn no_task_and_no_number_left(rt: HostRuntime) -> Result<(), Fail> {
+    let alloc = rt.alloc();
+    let none = Inputs::read(alloc, "")?;
+    let mut watcher = core(alloc, PAIR, 1, 1, 1)??;
+    assert_eq!(rt; watcher.evaluate(alloc, 1, 7, 10, &none).err(), Some(EvalFault::NoSuchTask));
+    assert_eq!(rt; watcher.evaluate(alloc, 1, usize::MAX, 10, &none).err(), Some(EvalFault::NoSuchTask));
+    assert_eq!(rt; watcher.evaluate(alloc, 1, 0, 10, &none)?.name().number, 1);
+    assert_eq!(rt; watcher.evaluate(alloc, 1, 0, 10, &none).err(), Some(EvalFault::NumbersSpent));
+    assert_eq!(rt; watcher.evaluate(alloc, 1, 7, 10, &none).err(), Some(EvalFault::NoSuchTask));
+    let mut spent = core(alloc, PAIR, 1, 1, 0)??;
+    assert_eq!(rt; spent.evaluate(alloc, 1, 0, 10, &none).err(), Some(EvalFault::NumbersSpent));
+    Ok(())
+}
+
+/// A core after a restart, or as it came back.
+fn restarted(rt: &impl Abort, alloc: Global, core: Core, incarnation: u32) -> Core {
+    let held_before = held(&core);
+    let begun_before = core.incarnation();
+    match core.restart(alloc, incarnation) {
+        Ok(core) => core,
+        Err((core, _)) => {
+            assert_eq!(rt; held(&core), held_before);
+            assert_eq!(rt; core.incarnation(), begun_before);
+            core
+        }
+    }
+}
+
+#[test]
+fn a_restart_forgets(rt: HostRuntime) -> Result<(), Fail> {
+    let alloc = rt.alloc();
+    let mut watcher = core(alloc, PAIR, 1, 1, u32::MAX)??;
+    for frame in counted(alloc, 1, 2)? {
+        watcher.accept(frame);
+    }
+    let before = evaluated(alloc, &mut watcher, "")?;
+    assert_eq!(rt; before.name().number, 1);
+    let mut watcher = restarted(&rt, alloc, watcher, 2);
+    if watcher.incarnation() == 1 {
+        watcher = restarted(&rt, alloc, watcher, 2);
+    }
+    assert_eq!(rt; watcher.incarnation(), 2);
+    assert_eq!(rt; held(&watcher), None);
+    let after = evaluated(alloc, &mut watcher, "")?;
+    assert_eq!(rt; after.name(), Name { task: SLOW, incarnation: 2, number: 1 });
+    assert!(rt; after.evaluation().takes()[0].from.is_none());
+    assert!(rt; after.evaluation().before().same(before.evaluation().before()));
+    Ok(())
+}
+
+/// The next evaluation, asked again where memory was refused.
+fn asked_twice(alloc: Global, core: &mut Core, inputs: &Inputs) -> Result<Frame, EvalFault> {
+    match core.evaluate(alloc, 1, 0, 10, inputs) {
+        Err(EvalFault::Memory) => core.evaluate(alloc, 1, 0, 10, inputs),
+        answer => answer,
+    }
+}
+
+#[test]
+fn after_a_refusal_the_same_call_gives_the_same_frame(rt: HostRuntime) -> Result<(), Fail> {
+    let alloc = rt.alloc();
+    let inputs = Inputs::read(alloc, "%IX0=1")?;
+    let mut counter = core(alloc, PAIR, 0, 1, u32::MAX)??;
+    let first = asked_twice(alloc, &mut counter, &inputs)?;
+    assert_eq!(rt; first.name().number, 1);
+    shows(&rt, first.outputs(), &[Value::Int(1), Value::Bool(false)]);
+    let second = asked_twice(alloc, &mut counter, &inputs)?;
+    assert_eq!(rt; second.name().number, 2);
+    assert!(rt; second.evaluation().before().same(first.evaluation().after()));
+    Ok(())
+}

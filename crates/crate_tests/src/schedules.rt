@@ -1,0 +1,125 @@
+//! Schedules as texts: what they write, where they end, and what is left when the writer or the text fails.
+
+use crate::halting::{End, Halting};
+use crate::worked::PAIR;
+use plant::Plant;
+use std::alloc::Global;
+use std::process::Abort;
+use std::sync::Arc;
+use std::test::Fail;
+use world::{SimFault, simulate};
+
+/// A producer restarts, and an evaluation of before comes late.
+const RESTARTED: &str = "\
+EVAL R1.FAST 10 %IX0=0
+EVAL R1.FAST 10 %IX0=1
+DELIVER 2 R2
+RESTART R1
+EVAL R1.FAST 10
+DELIVER 3 R2
+EVAL R2.SLOW 20
+";
+
+const WRITTEN: &str = "\
+EVAL 1 R1.FAST 1.1 TAKES - GIVES A.N=0 A.FULL=0
+EVAL 2 R1.FAST 1.2 TAKES - GIVES A.N=1 A.FULL=0
+DELIVER 2 R2 taken
+RESTART R1 2
+EVAL 3 R1.FAST 2.1 TAKES - GIVES A.N=0 A.FULL=0
+DELIVER 3 R2 taken
+EVAL 4 R2.SLOW 1.1 TAKES R1.FAST=2.1 GIVES B.SEEN=0 B.HIT=0
+";
+
+fn pair(alloc: Global) -> Result<Arc<Plant>, Fail> {
+    Ok(Arc::new(alloc, Plant::read(alloc, PAIR)?)?)
+}
+
+#[test]
+fn a_schedule_is_written_line_by_line(rt: HostRuntime) -> Result<(), Fail> {
+    let alloc = rt.alloc();
+    let mut out = Vec::new(alloc);
+    simulate(alloc, pair(alloc)?, RESTARTED, u32::MAX, &mut out)?;
+    assert!(rt; out.as_slice() == WRITTEN.as_bytes());
+    Ok(())
+}
+
+#[test]
+fn what_went_out_stays_after_a_bad_line(rt: HostRuntime) -> Result<(), Fail> {
+    let alloc = rt.alloc();
+    let text = "DELIVER 99 R2\n# a comment\nEVAL R9.FAST 10\nEVAL R1.FAST\nEVAL R1.FAST 10\n";
+    let mut out = Vec::new(alloc);
+    let answer = simulate(alloc, pair(alloc)?, text, u32::MAX, &mut out);
+    assert_eq!(rt; answer, Err(SimFault::Syntax { line: 4 }));
+    assert!(rt; out.as_slice() == b"REFUSED 1 NoSuchMessage\nREFUSED 2 NoSuchResource\n".as_slice());
+    Ok(())
+}
+
+#[test]
+fn a_writer_of_one_byte_takes_the_whole_text(rt: HostRuntime) -> Result<(), Fail> {
+    let alloc = rt.alloc();
+    let mut out = Halting::new(alloc, usize::MAX, 1, End::Fails);
+    simulate(alloc, pair(alloc)?, RESTARTED, u32::MAX, &mut out)?;
+    assert!(rt; out.taken.as_slice() == WRITTEN.as_bytes());
+    Ok(())
+}
+
+/// After a writer of little room the first bytes went out.
+fn halts(rt: &impl Abort, alloc: Global, plant: &Arc<Plant>, room: usize, end: End) -> Result<(), Fail> {
+    let mut out = Halting::new(alloc, room, usize::MAX, end);
+    let answer = simulate(alloc, Arc::try_clone(plant)?, RESTARTED, u32::MAX, &mut out);
+    assert_eq!(rt; answer, Err(SimFault::Write));
+    assert!(rt; out.taken.as_slice() == &WRITTEN.as_bytes()[..room]);
+    Ok(())
+}
+
+#[test]
+fn a_writer_that_fails_has_the_first_bytes(rt: HostRuntime) -> Result<(), Fail> {
+    let alloc = rt.alloc();
+    let plant = pair(alloc)?;
+    for room in 0..WRITTEN.len() {
+        halts(&rt, alloc, &plant, room, End::Fails)?;
+        halts(&rt, alloc, &plant, room, End::TakesNothing)?;
+    }
+    Ok(())
+}
+
+/// The next of a row of numbers that look drawn by lot.
+fn next(seed: &mut u32) -> usize {
+    *seed = seed.wrapping_mul(1_664_525).wrapping_add(1_013_904_223);
+    (*seed >> 8) as usize
+}
+
+/// The schedule with some of its characters changed.
+fn mutated(alloc: Global, seed: &mut u32) -> Result<String, Fail> {
+    let signs = " \t\n\r#.=%_-+09AXR";
+    let mut bytes = Vec::from_slice(alloc, RESTARTED.as_bytes())?;
+    for _ in 0..1 + next(seed) % 3 {
+        let at = next(seed) % bytes.len();
+        bytes[at] = signs.as_bytes()[next(seed) % signs.len()];
+    }
+    Ok(String::from_utf8(bytes)?)
+}
+
+fn lines_in(text: &[u8]) -> usize {
+    text.iter().filter(|byte| **byte == b'\n').count()
+}
+
+#[test]
+fn mutated_schedules_end_well(rt: HostRuntime) -> Result<(), Fail> {
+    let alloc = rt.alloc();
+    let plant = pair(alloc)?;
+    let mut seed = 1;
+    for _ in 0..2_000 {
+        let text = mutated(alloc, &mut seed)?;
+        let mut out = Vec::new(alloc);
+        match simulate(alloc, Arc::try_clone(&plant)?, text.as_str(), u32::MAX, &mut out) {
+            Ok(()) => assert!(rt; lines_in(out.as_slice()) <= lines_in(text.as_bytes()) + 1),
+            Err(SimFault::Syntax { line }) => {
+                assert!(rt; 1 <= line);
+                assert!(rt; (lines_in(out.as_slice()) as u64) < line);
+            }
+            Err(_) => return Err("another fault".into()),
+        }
+    }
+    Ok(())
+}

@@ -1,0 +1,244 @@
+//! What a list of events does to the resources of a plant.
+
+use crate::worked::PAIR;
+use evaluation::{Image, Inputs, Name};
+use exchange_core::Accepted;
+use plant::{Plant, TaskRef};
+use std::alloc::Global;
+use std::process::Abort;
+use std::sync::Arc;
+use std::test::Fail;
+use std_blocks::Value;
+use world::{Done, Event, World, WorldFault};
+
+const FAST: TaskRef = TaskRef {
+    resource: 0,
+    task: 0,
+};
+
+const SLOW: TaskRef = TaskRef {
+    resource: 1,
+    task: 0,
+};
+
+fn world(alloc: Global, first: &[u32], max_number: u32) -> Result<World, Fail> {
+    let plant = Arc::new(alloc, Plant::read(alloc, PAIR)?)?;
+    Ok(World::new(alloc, plant, first, max_number)?)
+}
+
+fn evaluate(alloc: Global, task: TaskRef, inputs: &str) -> Result<Event, Fail> {
+    Ok(Event::Evaluate {
+        ticket: 9,
+        task,
+        dt: 10,
+        inputs: Inputs::read(alloc, inputs)?,
+    })
+}
+
+fn deliver(message: u64, resource: usize) -> Event {
+    Event::Deliver { message, resource }
+}
+
+fn restart(resource: usize) -> Event {
+    Event::Restart { resource }
+}
+
+/// A producer that restarts, and a delivery of an evaluation of before.
+fn restarting(alloc: Global) -> Result<Vec<Event>, Fail> {
+    let mut events = Vec::new(alloc);
+    events.push(evaluate(alloc, FAST, "%IX0=0")?)?;
+    events.push(evaluate(alloc, FAST, "%IX0=1")?)?;
+    events.push(deliver(2, 1))?;
+    events.push(restart(0))?;
+    events.push(evaluate(alloc, FAST, "")?)?;
+    events.push(deliver(3, 1))?;
+    events.push(evaluate(alloc, SLOW, "")?)?;
+    events.push(deliver(2, 1))?;
+    events.push(evaluate(alloc, SLOW, "")?)?;
+    Ok(events)
+}
+
+fn shows(rt: &impl Abort, image: &Image, values: &[Value]) {
+    assert_eq!(rt; image.values(), values);
+}
+
+fn pair_of(name: Name) -> (u32, u32) {
+    (name.incarnation, name.number)
+}
+
+fn held(world: &World) -> Option<(u32, u32)> {
+    Some(pair_of(world.held(1, FAST)?.name()))
+}
+
+/// What the last evaluation took from the counter.
+fn last_take(world: &World) -> Option<(u32, u32)> {
+    world.log().last()?.evaluation().takes().first()?.from
+}
+
+#[test]
+fn a_new_world_is_empty(rt: HostRuntime) -> Result<(), Fail> {
+    let world = world(rt.alloc(), &[1, 1], u32::MAX)?;
+    assert!(rt; world.log().is_empty());
+    assert!(rt; world.events().is_empty());
+    assert_eq!(rt; held(&world), None);
+    assert!(rt; world.held(0, FAST).is_none());
+    assert!(rt; world.held(7, FAST).is_none());
+    Ok(())
+}
+
+#[test]
+fn each_step_tells_what_it_did(rt: HostRuntime) -> Result<(), Fail> {
+    let alloc = rt.alloc();
+    let mut world = world(alloc, &[1, 1], u32::MAX)?;
+    let events = restarting(alloc)?;
+    let done = [
+        Done::Evaluated { message: 1 },
+        Done::Evaluated { message: 2 },
+        Done::Delivered { accepted: Accepted::Taken },
+        Done::Restarted { incarnation: 2 },
+        Done::Evaluated { message: 3 },
+        Done::Delivered { accepted: Accepted::Taken },
+        Done::Evaluated { message: 4 },
+        Done::Delivered { accepted: Accepted::Old },
+        Done::Evaluated { message: 5 },
+    ];
+    for at in 0..done.len() {
+        assert_eq!(rt; world.step(alloc, &events[at])?, done[at]);
+        assert_eq!(rt; world.events().len(), at + 1);
+    }
+    assert_eq!(rt; held(&world), Some((2, 1)));
+    assert!(rt; world.held(0, FAST).is_none());
+    assert!(rt; world.held(0, SLOW).is_none());
+    assert!(rt; world.held(1, SLOW).is_none());
+    let names = [(1, 1), (1, 2), (2, 1), (1, 1), (1, 2)];
+    assert_eq!(rt; world.log().len(), names.len());
+    for at in 0..names.len() {
+        assert_eq!(rt; pair_of(world.log()[at].name()), names[at]);
+    }
+    assert_eq!(rt; last_take(&world), Some((2, 1)));
+    shows(&rt, world.log()[1].outputs(), &[Value::Int(1), Value::Bool(false)]);
+    Ok(())
+}
+
+#[test]
+fn the_takers_restart_forgets(rt: HostRuntime) -> Result<(), Fail> {
+    let alloc = rt.alloc();
+    let mut world = world(alloc, &[1, 1], u32::MAX)?;
+    let mut events = Vec::new(alloc);
+    events.push(evaluate(alloc, FAST, "%IX0=1")?)?;
+    events.push(evaluate(alloc, FAST, "")?)?;
+    events.push(deliver(2, 1))?;
+    events.push(restart(1))?;
+    assert_eq!(rt; world.run(alloc, events.as_slice()), Ok(()));
+    assert_eq!(rt; held(&world), None);
+    world.step(alloc, &evaluate(alloc, SLOW, "")?)?;
+    assert_eq!(rt; last_take(&world), None);
+    assert_eq!(rt; world.step(alloc, &deliver(1, 1))?, Done::Delivered { accepted: Accepted::Taken });
+    world.step(alloc, &evaluate(alloc, SLOW, "")?)?;
+    assert_eq!(rt; last_take(&world), Some((1, 1)));
+    assert_eq!(rt; world.log()[3].name(), Name { task: SLOW, incarnation: 2, number: 2 });
+    Ok(())
+}
+
+/// Each fault of one event, and what is left after it.
+fn refuses(rt: &impl Abort, alloc: Global, world: &mut World, event: &Event, fault: WorldFault) {
+    let (made, done, kept) = (world.log().len(), world.events().len(), held(world));
+    assert_eq!(rt; world.step(alloc, event).err(), Some(fault));
+    assert_eq!(rt; world.log().len(), made);
+    assert_eq!(rt; world.events().len(), done);
+    assert_eq!(rt; held(world), kept);
+}
+
+#[test]
+fn unlawful_events_change_nothing(rt: HostRuntime) -> Result<(), Fail> {
+    let alloc = rt.alloc();
+    let mut world = world(alloc, &[u32::MAX, 1], 1)?;
+    let nobody = TaskRef { resource: 8, task: 0 };
+    let nothing = TaskRef { resource: 0, task: 7 };
+    let counted = evaluate(alloc, FAST, "%IX0=1")?;
+    refuses(&rt, alloc, &mut world, &evaluate(alloc, nobody, "")?, WorldFault::NoSuchResource);
+    refuses(&rt, alloc, &mut world, &evaluate(alloc, nothing, "")?, WorldFault::NoSuchTask);
+    refuses(&rt, alloc, &mut world, &deliver(1, 1), WorldFault::NoSuchMessage);
+    assert_eq!(rt; world.step(alloc, &counted)?, Done::Evaluated { message: 1 });
+    assert_eq!(rt; world.log()[0].name(), Name { task: FAST, incarnation: u32::MAX, number: 1 });
+    refuses(&rt, alloc, &mut world, &counted, WorldFault::NumbersSpent);
+    refuses(&rt, alloc, &mut world, &deliver(0, 1), WorldFault::NoSuchMessage);
+    refuses(&rt, alloc, &mut world, &deliver(2, 1), WorldFault::NoSuchMessage);
+    refuses(&rt, alloc, &mut world, &deliver(u64::MAX, 1), WorldFault::NoSuchMessage);
+    refuses(&rt, alloc, &mut world, &deliver(1, 2), WorldFault::NoSuchResource);
+    refuses(&rt, alloc, &mut world, &deliver(0, 2), WorldFault::NoSuchResource);
+    refuses(&rt, alloc, &mut world, &restart(2), WorldFault::NoSuchResource);
+    refuses(&rt, alloc, &mut world, &restart(0), WorldFault::IncarnationsSpent);
+    assert_eq!(rt; world.step(alloc, &restart(1))?, Done::Restarted { incarnation: 2 });
+    refuses(&rt, alloc, &mut world, &counted, WorldFault::NumbersSpent);
+    Ok(())
+}
+
+#[test]
+fn a_run_skips_unlawful_events(rt: HostRuntime) -> Result<(), Fail> {
+    let alloc = rt.alloc();
+    let mut world = world(alloc, &[1, 1], u32::MAX)?;
+    let mut events = Vec::new(alloc);
+    events.push(deliver(99, 1))?;
+    events.push(evaluate(alloc, TaskRef { resource: 8, task: 0 }, "")?)?;
+    events.push(evaluate(alloc, TaskRef { resource: 0, task: 7 }, "")?)?;
+    events.push(evaluate(alloc, FAST, "%IX0=1")?)?;
+    assert_eq!(rt; world.run(alloc, events.as_slice()), Ok(()));
+    assert_eq!(rt; world.events().len(), 1);
+    match &world.events()[0] {
+        Event::Evaluate { ticket, task, dt, inputs } => {
+            assert_eq!(rt; (*ticket, *task, *dt), (9, FAST, 10));
+            assert!(rt; inputs.same(&Inputs::read(alloc, "%IX0=1")?));
+        }
+        _ => return Err("another event".into()),
+    }
+    assert_eq!(rt; world.log().len(), 1);
+    Ok(())
+}
+
+/// Runs the events, and goes on where memory was refused.
+fn run_on(alloc: Global, world: &mut World, events: &[Event]) -> usize {
+    let mut refused = 0;
+    let mut rest = events;
+    while let Err(done) = world.run(alloc, rest) {
+        rest = rest.get(done..).unwrap_or(&[]);
+        refused += 1;
+        if refused > 3 {
+            break;
+        }
+    }
+    refused
+}
+
+#[test]
+fn a_run_goes_on_after_a_refusal(rt: HostRuntime) -> Result<(), Fail> {
+    let alloc = rt.alloc();
+    let events = restarting(alloc)?;
+    let mut world = world(alloc, &[1, 1], u32::MAX)?;
+    let refused = run_on(alloc, &mut world, events.as_slice());
+    assert!(rt; refused <= 1);
+    assert_eq!(rt; world.events().len(), events.len());
+    let names = [(1, 1), (1, 2), (2, 1), (1, 1), (1, 2)];
+    assert_eq!(rt; world.log().len(), names.len());
+    for at in 0..names.len() {
+        assert_eq!(rt; pair_of(world.log()[at].name()), names[at]);
+    }
+    assert_eq!(rt; held(&world), Some((2, 1)));
+    assert_eq!(rt; last_take(&world), Some((2, 1)));
+    Ok(())
+}
+
+#[test]
+fn two_worlds_of_one_list_make_the_same(rt: HostRuntime) -> Result<(), Fail> {
+    let alloc = rt.alloc();
+    let events = restarting(alloc)?;
+    let mut one = world(alloc, &[1, 1], u32::MAX)?;
+    let mut other = world(alloc, &[1, 1], u32::MAX)?;
+    assert_eq!(rt; one.run(alloc, events.as_slice()), Ok(()));
+    assert_eq!(rt; other.run(alloc, one.events()), Ok(()));
+    assert_eq!(rt; one.log().len(), other.log().len());
+    for at in 0..one.log().len() {
+        assert!(rt; one.log()[at].same(&other.log()[at]));
+    }
+    Ok(())
+}

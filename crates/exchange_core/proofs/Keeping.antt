@@ -1,0 +1,67 @@
+-- The parts of a core go on suiting each other.
+use Rattle.std.proofs.Common.{◌≡◌, ◌≢◌, ℕ, ◌+◌, Bool, true, false, List, length, map, slice_get, Option, Some, None, refl, ap, sym, ◌∙◌, subst}
+use Rattle.std.proofs.lemmas.Option.{none-some, same_Some}
+use Rattle.power_flow.specs.StateValue.{kind_of}
+use Rattle.plant.specs.declared.task_ref.TaskRef.{TaskRef}
+use Rattle.plant.specs.PlantValue.{CodeValue, PlantValue, code_at, expected_at, items_or_none, image_kinds, IsSoundPlant}
+use Rattle.evaluation.specs.declared.field_input.FieldInput.{FieldInput}
+use Rattle.evaluation.specs.Meaning.{Evaluated}
+use Rattle.exchange_core.specs.Last.{same_task}
+use Rattle.exchange_core.specs.Held.{known, with_known, has_place}
+use Rattle.exchange_core.specs.CoreValue.{CoreValue, fresh_core, own_task, IsUsable, IsNextOf, IsCore, IsKnownOf}
+use Rattle.exchange_core.specs.Steps.Knowing.{FitsLast}
+use Rattle.exchange_core.proofs.Tables.{same_task-true, place_of_code, shape-kept, shape-empty, known-empty, known-same, known-other}
+
+-- the core with this as what is known of a task
+abbrev core_with : CoreValue → TaskRef → Evaluated → CoreValue
+core_with core p x = record core { table = with_known core.table p (Some x) }
+
+-- a core with one more evaluation of a task that it may know
+pub core-with : (core : CoreValue) (p : TaskRef) (x : Evaluated) → IsCore core → IsKnownOf core p x → IsCore (record core { table = with_known core.table p (Some x) })
+core-with core p x is may =
+    record { sound = is.sound; shaped = shape-kept core.plant core.table p (Some x) is.shaped; each = λ q y at. by q y (same_task p q) refl at } where
+      place : has_place core.table p
+      place = place_of_code core.plant core.table p may.code is.shaped may.found
+
+      again : (q : TaskRef) (y : Evaluated) → IsKnownOf core q y → IsKnownOf (core_with core p x) q y
+      again q y k = record { code = k.code; found = k.found; kinds_are = k.kinds_are; own = k.own }
+
+      by : (q : TaskRef) (y : Evaluated) (b : Bool) → same_task p q ≡ b → known (with_known core.table p (Some x)) q ≡ Some y → IsKnownOf (core_with core p x) q y
+      by q y true e at =
+          let same : p ≡ q = same_task-true p q e in
+          let is_it : x ≡ y = same_Some x y (sym (known-same core.table p (Some x) place) ∙ ap (known (with_known core.table p (Some x))) same ∙ at) in
+          again q y (subst (λ r. IsKnownOf core r y) same (subst (IsKnownOf core p) is_it may))
+      by q y false e at = again q y (is.each q y (sym (known-other core.table p q (Some x) place e) ∙ at))
+
+-- an evaluation that is of use may be known
+pub usable-known : (core : CoreValue) (x : Evaluated) → IsCore core → IsUsable core x → IsKnownOf core x.name.task x
+usable-known core x is usable =
+    let taker = usable.expected in
+    let giver = is.sound.taken (record { resource = core.resource; task = taker.task }) taker.code taker.found taker.place x.name.task taker.producer_is in
+    record {
+      code = giver.0;
+      found = giver.1;
+      kinds_are = sym (sym (ap items_or_none giver.2) ∙ taker.kinds_are);
+      own = λ same. absurd (usable.another same);
+    }
+
+-- the next evaluation may be known
+pub next-known : (core : CoreValue) (ticket task dt : ℕ) (inputs : List FieldInput) (x : Evaluated) → IsNextOf core ticket task dt inputs x → IsKnownOf core (own_task core task) x
+next-known core ticket task dt inputs x next =
+    let code : x.code ≡ next.code = ap (λ (y : Evaluated). y.code) next.asked.is in
+    record { code = next.code; found = next.found; kinds_are = next.asked.whole.kinds_are ∙ ap image_kinds code; own = λ _. code }
+
+pub core-fresh : (plant : PlantValue) (resource incarnation max_number : ℕ) → IsSoundPlant plant → IsCore (fresh_core plant resource incarnation max_number)
+core-fresh plant resource incarnation max_number sound =
+    record { sound = sound; shaped = shape-empty plant; each = λ p x at. absurd (none-some x (sym (known-empty plant p) ∙ at)) }
+
+-- what is known of an own task was made by the task's code
+pub fits-last : (core : CoreValue) (p : TaskRef) (code : CodeValue) → IsCore core → p.resource ≡ core.resource → code_at core.plant p ≡ Some code → FitsLast code (known core.table p)
+fits-last core p code is own found = by (known core.table p) refl where
+  by : (o : Option Evaluated) → known core.table p ≡ o → FitsLast code o
+  by None e = tt
+  by (Some x) e = let entry = is.each p x e in entry.own own ∙ same_Some entry.code code (sym entry.found ∙ found)
+
+-- what may be known of a task has a place
+pub place-known : (core : CoreValue) (p : TaskRef) (x : Evaluated) → IsCore core → IsKnownOf core p x → has_place core.table p
+place-known core p x is may = place_of_code core.plant core.table p may.code is.shaped may.found

@@ -1,0 +1,20 @@
+use Rattle.std.proofs.Common.{◌≡◌, sym, ◌∙◌, ap, subst, Some}
+use Rattle.plant.specs.PlantValue.{CodeValue, code_at}
+use Rattle.evaluation.specs.Takes.{AreTakesOf}
+use Rattle.exchange_core.specs.CoreValue.{CoreValue}
+use Rattle.exchange_core.proofs.Keeping.{fits-last}
+use Rattle.exchange_core.proofs.TakeLemmas.{takes-suit}
+use Rattle.exchange_core.proofs.resource_core.Core.evaluation.Goals as goal
+
+pub state_of-requires : goal.state_of-requires
+state_of-requires c =
+    fits-last _ c.args.name.task c.deref.result.now c.self.invariant
+    (c.requires.own ∙ ap (λ (w : CoreValue). w.resource) (sym c.self.view_is))
+    (ap (λ (w : CoreValue). code_at w.plant c.args.name.task) c.self.view_is ∙ c.requires.found ∙ ap Some (sym c.deref.ensures))
+
+pub make-requires-clause-suits : goal.make-requires-clause-suits
+make-requires-clause-suits c =
+    subst (λ (k : CodeValue). AreTakesOf k c.in_ok-takes.takes.items) (c.deref-2.ensures ∙ sym c.in_ok-code.ensures)
+    (takes-suit _ c.args.name.task c.deref-2.result.now c.in_ok-takes.takes.items c.self.invariant c.in_ok-takes.ensures.sound
+    (ap (λ (w : CoreValue). code_at w.plant c.args.name.task) c.self.view_is ∙ c.requires.found ∙ ap Some (sym c.deref-2.ensures))
+    c.in_ok-takes.ensures.value)

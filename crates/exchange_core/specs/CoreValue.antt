@@ -1,0 +1,105 @@
+-- What a core is, and what it answers.
+use Rattle.std.specs.Prelude.{◌≡◌, ◌≢◌, ℕ, ◌+◌, ◌<◌, ◌≤◌, ◌==◌, Bool, true, false, List, Option, Some, None, is_some, length, map, slice_get, if◌then◌else◌}
+use Rattle.power_flow.specs.declared.declarations.Kind.{Kind}
+use Rattle.power_flow.specs.StateValue.{kind_of}
+use Rattle.plant.specs.declared.task_ref.TaskRef.{TaskRef}
+use Rattle.plant.specs.PlantValue.{CodeValue, PlantValue, code_at, expected_at, image_kinds, IsSoundPlant}
+use Rattle.evaluation.specs.declared.field_input.FieldInput.{FieldInput}
+use Rattle.evaluation.specs.declared.name.Name.{Name}
+use Rattle.evaluation.specs.Names.{precedes}
+use Rattle.evaluation.specs.Meaning.{Evaluated, IsAsked}
+use Rattle.exchange_core.specs.declared.accepted.Accepted.{Accepted}
+use Rattle.exchange_core.specs.declared.accepted.Accepted.TheVariants.{Taken, Old, Unused}
+use Rattle.exchange_core.specs.declared.core_fault.CoreFault.{CoreFault}
+use Rattle.exchange_core.specs.declared.core_fault.CoreFault.TheVariants as fault
+use Rattle.exchange_core.specs.declared.eval_fault.EvalFault.{EvalFault}
+use Rattle.exchange_core.specs.declared.eval_fault.EvalFault.TheVariants.{NoSuchTask, NumbersSpent, Memory}
+use Rattle.exchange_core.specs.Last.{state_of, takes_of, last_number}
+use Rattle.exchange_core.specs.Held.{Table, known, with_known, empty_for, IsShaped}
+
+-- A core: its plant, its resource, its incarnation, the greatest number, and the last evaluation known of each task:
+-- of a task of its own resource the last one made in this incarnation, of any other the one held.
+pub record CoreValue : Type 0 where
+  pub plant : PlantValue
+  pub resource : ℕ
+  pub incarnation : ℕ
+  pub max_number : ℕ
+  pub table : Table
+
+-- a core that holds nothing, with all tasks initial
+abbrev pub fresh_core : PlantValue → ℕ → ℕ → ℕ → CoreValue
+fresh_core plant resource incarnation max_number =
+    record { plant = plant; resource = resource; incarnation = incarnation; max_number = max_number; table = empty_for plant }
+
+-- why there is no core
+abbrev pub IsCoreFault : PlantValue → ℕ → CoreFault → Type 0
+IsCoreFault plant resource fault.NoSuchResource = length plant.resources ≤ resource
+IsCoreFault plant resource fault.Memory = Unit {0}
+
+-- a task of the core's resource
+abbrev pub own_task : CoreValue → ℕ → TaskRef
+own_task core task = record { resource = core.resource; task = task }
+
+-- some task of a resource takes from p, and expects an image of these kinds of it
+pub record Expects (plant : PlantValue) (resource : ℕ) (p : TaskRef) (kinds : List Kind) : Type 0 where
+  pub task : ℕ
+  pub code : CodeValue
+  pub place : ℕ
+  pub found : code_at plant (record { resource = resource; task = task }) ≡ Some code
+  pub producer_is : slice_get code.producers place ≡ Some p
+  pub kinds_are : expected_at code place ≡ kinds
+
+-- an evaluation is of use: it is of another resource's task, from which a task here takes, and its image has the kinds expected
+pub record IsUsable (core : CoreValue) (x : Evaluated) : Type 0 where
+  pub another : x.name.task.resource ≢ core.resource
+  pub expected : Expects core.plant core.resource x.name.task (map kind_of x.outputs)
+
+-- its pair is greater than that of what is known of its task
+abbrev pub is_greater : Option Evaluated → Name → Bool
+is_greater None name = true
+is_greater (Some y) name = precedes y.name name
+
+-- what is answered to an evaluation, and the core afterwards: only Taken changes it
+abbrev pub IsAccepted : CoreValue → CoreValue → Evaluated → Accepted → Type 0
+IsAccepted old new x Unused = (IsUsable old x → ⊥) × (new ≡ old)
+IsAccepted old new x Old = IsUsable old x × (is_greater (known old.table x.name.task) x.name ≡ false) × (new ≡ old)
+IsAccepted old new x Taken = IsUsable old x × (is_greater (known old.table x.name.task) x.name ≡ true) × (new ≡ record old { table = with_known old.table x.name.task (Some x) })
+
+-- the name of the next evaluation of one of its tasks
+abbrev pub next_name_of : CoreValue → ℕ → Name
+next_name_of core task = record { task = own_task core task; incarnation = core.incarnation; number = last_number (known core.table (own_task core task)) + 1 }
+
+-- x is the next evaluation of one of its tasks: the plant's code, asked with what is known of each producer and the state that the task's last evaluation left
+pub record IsNextOf (core : CoreValue) (ticket task dt : ℕ) (inputs : List FieldInput) (x : Evaluated) : Type 0 where
+  pub code : CodeValue
+  pub found : code_at core.plant (own_task core task) ≡ Some code
+  pub below : last_number (known core.table (own_task core task)) < core.max_number
+  pub asked : IsAsked ticket (next_name_of core task) dt inputs (takes_of (known core.table) code) (state_of code (known core.table (own_task core task))) code x
+
+-- x was made next, and from then on it is what is known of that task
+pub record IsNext (old new : CoreValue) (ticket task dt : ℕ) (inputs : List FieldInput) (x : Evaluated) : Type 0 where
+  pub next : IsNextOf old ticket task dt inputs x
+  pub after : new ≡ record old { table = with_known old.table (own_task old task) (Some x) }
+
+-- why a task is not evaluated
+abbrev pub IsEvalFault : CoreValue → ℕ → EvalFault → Type 0
+IsEvalFault core task NoSuchTask = code_at core.plant (own_task core task) ≡ None
+IsEvalFault core task NumbersSpent = (is_some (code_at core.plant (own_task core task)) ≡ true) × (core.max_number ≤ last_number (known core.table (own_task core task)))
+IsEvalFault core task Memory = Unit {0}
+
+-- what is held of a task of another resource; nothing of a task of its own
+abbrev pub held_of : CoreValue → TaskRef → Option Evaluated
+held_of core p = if p.resource == core.resource then None else known core.table p
+
+-- what is known of a task is an evaluation with an image of that task's kinds, and of a task of the resource itself one of the task's code
+pub record IsKnownOf (core : CoreValue) (p : TaskRef) (x : Evaluated) : Type 0 where
+  pub code : CodeValue
+  pub found : code_at core.plant p ≡ Some code
+  pub kinds_are : map kind_of x.outputs ≡ image_kinds code
+  pub own : p.resource ≡ core.resource → x.code ≡ code
+
+-- the parts of a core suit each other
+pub record IsCore (core : CoreValue) : Type 0 where
+  pub sound : IsSoundPlant core.plant
+  pub shaped : IsShaped core.plant core.table
+  pub each : (p : TaskRef) (x : Evaluated) → known core.table p ≡ Some x → IsKnownOf core p x

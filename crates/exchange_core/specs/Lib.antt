@@ -1,0 +1,4 @@
+pub mod Last
+pub mod Held
+pub mod CoreValue
+pub mod Steps

@@ -1,0 +1,17 @@
+-- What the last evaluations have to be for a task to go on from them.
+use Rattle.std.specs.Prelude.{◌≡◌, ℕ, List, Option, Some, None, slice_get}
+use Rattle.power_flow.specs.declared.declarations.Kind.{Kind}
+use Rattle.plant.specs.declared.task_ref.TaskRef.{TaskRef}
+use Rattle.plant.specs.PlantValue.{CodeValue, expected_at}
+use Rattle.evaluation.specs.Meaning.{Evaluated}
+
+-- the last evaluation of a task, if there is one, was one of this code
+abbrev pub FitsLast : CodeValue → Option Evaluated → Type 0
+FitsLast code None = Unit {0}
+FitsLast code (Some x) = x.code ≡ code
+
+-- a code takes from p, and expects an image of these kinds of it
+pub record ExpectsOf (code : CodeValue) (p : TaskRef) (kinds : List Kind) : Type 0 where
+  pub place : ℕ
+  pub producer_is : slice_get code.producers place ≡ Some p
+  pub kinds_are : expected_at code place ≡ kinds

@@ -1,0 +1,17 @@
+//! What one resource of a plant keeps, takes and makes.
+#![tactic(auto)]
+
+mod accepted;
+mod core_fault;
+mod eval_fault;
+mod known;
+mod resource_core;
+mod restart_fault;
+mod takes;
+mod usable;
+
+pub use accepted::Accepted;
+pub use core_fault::CoreFault;
+pub use eval_fault::EvalFault;
+pub use resource_core::Core;
+pub use restart_fault::RestartFault;

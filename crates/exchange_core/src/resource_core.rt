@@ -1,0 +1,205 @@
+use crate::accepted::Accepted;
+use crate::core_fault::CoreFault;
+use crate::eval_fault::EvalFault;
+use crate::known::Known;
+use crate::restart_fault::RestartFault;
+use crate::takes::takes_of;
+use crate::usable::expects;
+use evaluation::{Evaluation, Frame, Inputs, Name};
+use plant::{Plant, TaskCode, TaskRef};
+use std::alloc::{AllocError, Global};
+use std::marker::Model;
+use std::sync::Arc;
+
+/// One resource of a plant: what it holds of other tasks, and what its own made last.
+#[derive(Drop)]
+pub struct Core {
+    plant: Arc<Plant>,
+    resource: usize,
+    incarnation: u32,
+    max_number: u32,
+    table: Known,
+}
+
+impl Model for Core {
+    ghost use Rattle.exchange_core.specs.CoreValue.{CoreValue, IsCore};
+
+    ghost Value = { CoreValue };
+
+    ghost view = { λ c. record { plant = c.plant.value; resource = c.resource; incarnation = c.incarnation; max_number = c.max_number; table = c.table } };
+
+    ghost invariant = { λ c. IsCore (record { plant = c.plant.value; resource = c.resource; incarnation = c.incarnation; max_number = c.max_number; table = c.table }) };
+}
+
+ghost use Rattle.std.specs.Prelude.{◌≡◌, ◌<◌, ◌↔◌, IfOk, IfErr, OnOk, OnErr, IsTrue, Some, length};
+ghost use Rattle.std.specs.Option.{option_copied};
+ghost use Rattle.plant.specs.PlantValue.{code_at};
+ghost use Rattle.evaluation.specs.Meaning.{IsAsked};
+ghost use Rattle.exchange_core.specs.Last.{takes_of, state_of};
+ghost use Rattle.exchange_core.specs.Held.{known};
+ghost use Rattle.exchange_core.specs.CoreValue.{fresh_core, IsCoreFault, IsUsable, IsAccepted, IsNextOf, IsNext, IsEvalFault, held_of, own_task};
+
+impl Core {
+    /// A core of a resource in an incarnation. It holds nothing, and all its tasks are initial. The numbers of its evaluations go up to `max_number`.
+    pub fn new(
+        alloc: Global,
+        plant: Arc<Plant>,
+        resource: usize,
+        incarnation: u32,
+        max_number: u32,
+    ) -> Result<Core, CoreFault>
+        ensures ok { IfOk result (λ c. c ≡ fresh_core plant.value resource incarnation max_number) }
+        ensures exists { OnOk result (resource < length plant.value.resources) }
+        ensures fault { IfErr result (IsCoreFault plant.value resource) }
+    {
+        if resource >= plant.resources() {
+            return Err(CoreFault::NoSuchResource);
+        }
+        let table = Known::empty(alloc, &plant)?;
+        Ok(Core {
+            plant,
+            resource,
+            incarnation,
+            max_number,
+            table,
+        })
+    }
+
+    /// The core of a greater incarnation: it holds nothing, and all its tasks are initial. Without memory the core comes back as it was.
+    pub fn restart(self, alloc: Global, incarnation: u32) -> Result<Core, (Core, RestartFault)>
+        requires { self.incarnation < incarnation }
+        ensures ok { IfOk result (λ c. c ≡ fresh_core self.plant self.resource incarnation self.max_number) }
+        ensures err { IfErr result (λ e. e.0 ≡ self) }
+    {
+        let mut core = self;
+        match Known::empty(alloc, &core.plant) {
+            Err(_) => Err((core, RestartFault::Memory)),
+            Ok(table) => {
+                core.table = table;
+                core.incarnation = incarnation;
+                Ok(core)
+            }
+        }
+    }
+
+    /// Takes in an evaluation of another resource's task, if it is of use here and newer than what is held of that task. Its place was made by `new`.
+    pub fn accept(&mut self, frame: Frame) -> Accepted
+        ensures { IsAccepted self.old self.new frame result }
+    {
+        if !self.is_usable(&frame) {
+            return Accepted::Unused;
+        }
+        let name = frame.name();
+        if !self.table.admits(name) {
+            return Accepted::Old;
+        }
+        self.table.set(name.task, frame);
+        Accepted::Taken
+    }
+
+    /// Whether an evaluation is of use here.
+    fn is_usable(&self, frame: &Frame) -> bool
+        ensures { IsTrue result ↔ IsUsable self.now frame.now }
+    {
+        let task = frame.name().task;
+        task.resource != self.resource && expects(&self.plant, self.resource, task, frame.outputs())
+    }
+
+    /// Evaluates a task of the resource, `dt` milliseconds after its evaluation before: from what is held of other tasks and what the resource's own made last.
+    /// NoSuchTask: the resource has no task at this position. NumbersSpent: the task's last number in this incarnation is the greatest one.
+    pub fn evaluate(
+        &mut self,
+        alloc: Global,
+        ticket: u64,
+        task: usize,
+        dt: u32,
+        inputs: &Inputs,
+    ) -> Result<Frame, EvalFault>
+        ensures made { IfOk result (λ f. IsNext self.old self.new ticket task dt inputs.now f) }
+        ensures err { OnErr result (self.new ≡ self.old) }
+        ensures fault { IfErr result (IsEvalFault self.old task) }
+    {
+        let frame = self.next_frame(alloc, ticket, task, dt, inputs)?;
+        let kept = frame.try_clone()?;
+        let own = self.own(task);
+        self.table.set(own, kept);
+        Ok(frame)
+    }
+
+    /// A task of the resource.
+    fn own(&self, task: usize) -> TaskRef
+        ensures { result ≡ own_task self.now task }
+    {
+        TaskRef {
+            resource: self.resource,
+            task,
+        }
+    }
+
+    /// The next evaluation of a task of the resource.
+    fn next_frame(
+        &self,
+        alloc: Global,
+        ticket: u64,
+        task: usize,
+        dt: u32,
+        inputs: &Inputs,
+    ) -> Result<Frame, EvalFault>
+        ensures made { IfOk result (λ f. IsNextOf self.now ticket task dt inputs.now f) }
+        ensures fault { IfErr result (IsEvalFault self.now task) }
+    {
+        let own = self.own(task);
+        let Some(code) = self.plant.code(own) else {
+            return Err(EvalFault::NoSuchTask);
+        };
+        let last = self.table.last_number(own);
+        if last >= self.max_number {
+            return Err(EvalFault::NumbersSpent);
+        }
+        let name = Name {
+            task: own,
+            incarnation: self.incarnation,
+            number: last + 1,
+        };
+        let evaluation = self.evaluation(alloc, ticket, name, dt, inputs, code)?;
+        Ok(Frame::new(alloc, evaluation)?)
+    }
+
+    /// An evaluation of a task of the resource, from what is known.
+    fn evaluation(
+        &self,
+        alloc: Global,
+        ticket: u64,
+        name: Name,
+        dt: u32,
+        inputs: &Inputs,
+        code: &Arc<TaskCode>,
+    ) -> Result<Evaluation, AllocError>
+        requires own { name.task.resource ≡ self.now.resource }
+        requires found { code_at self.now.plant name.task ≡ Some code.now.value }
+        ensures { IfOk result (IsAsked ticket name dt inputs.now (takes_of (known self.now.table) code.now.value) (state_of code.now.value (known self.now.table name.task)) code.now.value) }
+    {
+        let before = self.table.state_of(alloc, name.task, code)?;
+        let takes = takes_of(alloc, &self.table, code)?;
+        let inputs = inputs.try_copy()?;
+        let code = Arc::try_clone(code)?;
+        Evaluation::make(alloc, ticket, name, dt, inputs, takes, before, code)
+    }
+
+    /// What is held of a task of another resource.
+    pub fn held(&self, task: TaskRef) -> Option<&Frame>
+        ensures { option_copied result ≡ held_of self.now task }
+    {
+        if task.resource == self.resource {
+            return None;
+        }
+        self.table.get(task)
+    }
+
+    /// The incarnation.
+    pub fn incarnation(&self) -> u32
+        ensures { result ≡ self.now.incarnation }
+    {
+        self.incarnation
+    }
+}

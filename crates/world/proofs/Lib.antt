@@ -1,0 +1,15 @@
+pub mod Latest
+pub mod Names
+pub mod Steps
+pub mod OneLog
+pub mod Takes
+pub mod Moves
+pub mod Worlds
+pub mod Starts
+pub mod Answered
+pub mod Pairs
+pub mod Holding
+pub mod ScheduleWords
+pub mod ScheduleLists
+pub mod ScheduleReading
+pub mod Telling

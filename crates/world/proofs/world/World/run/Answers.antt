@@ -1,0 +1,6 @@
+use Rattle.std.proofs.Common.{arith}
+use Rattle.world.proofs.Starts.{follows-next}
+use Rattle.world.proofs.world.World.run.Goals as goal
+
+pub loop-i-preserved : goal.loop-i-preserved
+loop-i-preserved c = follows-next c.args.self.now c.loop-i.self c.go.new.self c.args.events.now c.loop-i.i _ (omega arith) c.index-events-i.is c.loop-i.invariant c.in-Ok.ensures.ok

@@ -1,0 +1,10 @@
+pub mod History
+pub mod Run
+pub mod World
+pub mod Step
+pub mod Laws
+pub mod Steps
+pub mod RunLines
+pub mod RunText
+pub mod ScheduleText
+pub mod Simulated

@@ -1,0 +1,37 @@
+-- What the parts of a world are.
+use Rattle.std.specs.Prelude.{◌≡◌, ℕ, ◌==◌, ◌||◌, List, Option, Some, None, length, reverse, slice_get, slice_index, if◌then◌else◌}
+use Rattle.plant.specs.declared.task_ref.TaskRef.{TaskRef}
+use Rattle.plant.specs.PlantValue.{PlantValue, IsSoundPlant}
+use Rattle.evaluation.specs.Meaning.{Evaluated}
+use Rattle.exchange_core.specs.Held.{known, IsShaped}
+use Rattle.exchange_core.specs.CoreValue.{CoreValue, fresh_core}
+use Rattle.world.specs.declared.event.Event.{Event}
+use Rattle.world.specs.History.{Setting, history_of, incarnation_of}
+use Rattle.world.specs.Run.{IsRun, latest}
+use Rattle.world.specs.World.{node_takes}
+
+-- what a core keeps of a task after a history: the latest, of a task of its own resource and of one from which it takes
+abbrev pub kept_of : Setting → ℕ → List Event → List Evaluated → TaskRef → Option Evaluated
+kept_of s n history log p = if p.resource == n || node_takes s.plant n p then latest n history p log else None
+
+-- a core is where the history leaves it
+pub record IsNode (s : Setting) (history : List Event) (log : List Evaluated) (n : ℕ) (core : CoreValue) : Type 0 where
+  pub plant : core.plant ≡ s.plant
+  pub resource : core.resource ≡ n
+  pub incarnation : core.incarnation ≡ incarnation_of s n history
+  pub max_number : core.max_number ≡ s.max_number
+  pub shaped : IsShaped core.plant core.table
+  pub keeps : (p : TaskRef) → known core.table p ≡ kept_of s n history log p
+
+-- the parts of a world are what its events make them
+pub record IsWorld (s : Setting) (events : List Event) (log : List Evaluated) (cores : List CoreValue) : Type 0 where
+  pub planned : IsSoundPlant s.plant
+  pub logged : IsRun s events log
+  pub firsts : length s.first ≡ length s.plant.resources
+  pub sized : length cores ≡ length s.plant.resources
+  pub nodes : (n : ℕ) (core : CoreValue) → slice_get cores n ≡ Some core → IsNode s (history_of s events) (reverse log) n core
+
+-- the cores of a world before its first event
+pub record AreFresh (plant : PlantValue) (first : List ℕ) (max_number count : ℕ) (cores : List CoreValue) : Type 0 where
+  pub sized : length cores ≡ count
+  pub fresh : (n : ℕ) (core : CoreValue) → slice_get cores n ≡ Some core → core ≡ fresh_core plant n (slice_index first n) max_number

@@ -1,0 +1,9 @@
+-- Steps of proofs: the keyword of a line.
+use Rattle.std.specs.Prelude.{ℕ, List, [], ◌∷◌, codes, Option}
+use Rattle.ladder_text.specs.Chars.{same_word, first_that}
+use Rattle.world.specs.declared.schedule.read_line.Keyword.{Keyword}
+use Rattle.world.specs.declared.schedule.read_line.Keyword.TheVariants as key
+
+-- the keyword that a word is
+unfoldable pub keyword_of : List ℕ → Option Keyword
+keyword_of w = first_that ((same_word w (codes "EVAL"), key.Evaluate) ∷ (same_word w (codes "DELIVER"), key.Deliver) ∷ (same_word w (codes "RESTART"), key.Restart) ∷ [])

@@ -1,0 +1,17 @@
+// What holds for every list of events.
+ghost use Rattle.world.specs.Laws.{KeptIsLatest, PairsRise, OneRun};
+
+/// A list of events has one run.
+pub fn one_run()
+    ensures { OneRun }
+{}
+
+/// In each task's list of evaluations the pairs of incarnation and number rise strictly.
+pub fn pairs_rise()
+    ensures { PairsRise }
+{}
+
+/// Whatever happens, keeping the greatest pair of what is delivered keeps the latest.
+pub fn keeping_the_greatest_keeps_the_latest()
+    ensures { KeptIsLatest }
+{}

@@ -1,0 +1,120 @@
+//! A schedule is done line by line.
+
+ghost use Rattle.std.specs.Prelude.{◌≡◌, ◌<◌, [], IfErr, IfOk, OnErr, OnOk, map, replicate};
+ghost use Rattle.ladder_text.specs.Rows.{without_last};
+ghost use Rattle.evaluation.specs.InputTexts.{words_of};
+ghost use Rattle.world.specs.Simulated.{from_one, WritesRun, EndsEarly};
+ghost use Rattle.world.specs.Steps.Simulating.{HasDone, HasStopped};
+
+use crate::schedule::event_line::tell;
+use crate::schedule::line_fault::LineFault;
+use crate::schedule::lines::{is_idle, without_last};
+use crate::schedule::read_line::read_event;
+use crate::schedule::sim_fault::SimFault;
+use crate::text_output::write_text;
+use crate::world::World;
+use evaluation::words_of;
+use plant::Plant;
+use std::alloc::{AllocError, Global};
+use std::io::Write;
+use std::sync::Arc;
+
+/// The first incarnations: 1 for each resource.
+fn ones(alloc: Global, resources: usize) -> Result<Vec<u32>, AllocError>
+    ensures { IfOk result (λ first. first.items ≡ replicate resources 1) }
+{
+    vec![in alloc; 1u32; resources]
+}
+
+/// A plant before its first event, all first incarnations 1.
+fn open(alloc: Global, plant: Arc<Plant>, max_number: u32) -> Result<World, AllocError>
+    ensures { IfOk result (λ w. w ≡ record { setting = from_one plant.value max_number; events = []; log = [] }) }
+{
+    let first = ones(alloc, plant.resources())?;
+    World::new(alloc, plant, first.as_slice(), max_number)
+}
+
+/// What stands while a schedule is done: the world, how many events there were, and room for the line of one.
+#[derive(Drop)]
+struct Simulation {
+    world: World,
+    events: u64,
+    line: String,
+}
+
+impl Simulation {
+    /// Does the event that the words of a line spell, and writes its line.
+    fn do_words<W: Write>(
+        &mut self,
+        alloc: Global,
+        words: &[&[u8]],
+        out: &mut W,
+    ) -> Result<(), LineFault>
+        requires { self.old.events < 18446744073709551615 }
+        ensures ok { OnOk result (HasDone self.old.world self.new.world self.old.events self.new.events (map (λ w. w.now) words.now) (W.contents out.old) (W.contents out.new)) }
+        ensures fault { IfErr result (HasStopped self.old.world self.new.world self.old.events (map (λ w. w.now) words.now) (W.contents out.old) (W.contents out.new)) }
+    {
+        if is_idle(words) {
+            return Ok(());
+        }
+        let number = self.events + 1;
+        let event = read_event(alloc, self.world.plant(), number, words)?;
+        tell(alloc, &mut self.world, number, &event, &mut self.line)?;
+        write_text(out, self.line.as_str())?;
+        self.events = number;
+        Ok(())
+    }
+
+    /// Does a line.
+    fn do_line<W: Write>(
+        &mut self,
+        alloc: Global,
+        text: &[u8],
+        out: &mut W,
+    ) -> Result<(), LineFault>
+        requires { self.old.events < 18446744073709551615 }
+        ensures ok { OnOk result (HasDone self.old.world self.new.world self.old.events self.new.events (words_of (without_last 13 text.now)) (W.contents out.old) (W.contents out.new)) }
+        ensures fault { IfErr result (HasStopped self.old.world self.new.world self.old.events (words_of (without_last 13 text.now)) (W.contents out.old) (W.contents out.new)) }
+    {
+        let words = words_of(alloc, without_last(b'\r', text))?;
+        self.do_words(alloc, words.as_slice(), out)
+    }
+}
+
+/// Does the events of a schedule one after the other and writes a line for each, before it reads the next one. All first incarnations are 1, and an
+/// event's ticket is its number, from 1; refused events count, blank lines and comments don't. Each task makes evaluations of numbers up to
+/// `max_number` in an incarnation.
+///
+/// `Syntax` is the first line, counted from 1, that is no event, comment or blank; the lines of the events before it are written. After `Write` what
+/// went out is a beginning of the text, after `Memory` the lines of some first events.
+pub fn simulate<W: Write>(
+    alloc: Global,
+    plant: Arc<Plant>,
+    schedule: &str,
+    max_number: u32,
+    out: &mut W,
+) -> Result<(), SimFault>
+    ensures ok { OnOk result (WritesRun plant.value max_number schedule.now (W.contents out.old) (W.contents out.new)) }
+    ensures fault { IfErr result (EndsEarly plant.value max_number schedule.now (W.contents out.old) (W.contents out.new)) }
+{
+    let world = match open(alloc, plant, max_number) {
+        Ok(world) => world,
+        Err(_) => return Err(SimFault::Memory),
+    };
+    let mut simulation = Simulation {
+        world,
+        events: 0,
+        line: String::new(alloc),
+    };
+    let mut number = 0;
+    for text in without_last(b'\n', schedule.as_bytes()).split(|b| *b == b'\n') {
+        number += 1;
+        match simulation.do_line(alloc, text, out) {
+            Ok(()) => {}
+            Err(LineFault::Syntax) => return Err(SimFault::Syntax { line: number }),
+            Err(LineFault::Write) => return Err(SimFault::Write),
+            Err(LineFault::Memory) => return Err(SimFault::Memory),
+        }
+    }
+    Ok(())
+}
