@@ -37,15 +37,26 @@ fn evaluated(alloc: Global, core: &mut Core, inputs: &str) -> Result<Frame, Fail
     Ok(core.evaluate(alloc, 1, 0, 10, &inputs)?)
 }
 
-/// The frames of the counter in an incarnation, its input on and off in turn.
-fn counted(alloc: Global, incarnation: u32, count: usize) -> Result<Vec<Frame>, Fail> {
+/// The counter's frame of this number in an incarnation, its input on and off in turn.
+fn counted(alloc: Global, incarnation: u32, number: u32) -> Result<Frame, Fail> {
     let mut counter = core(alloc, PAIR, 0, incarnation, u32::MAX)??;
-    let mut frames = Vec::new(alloc);
-    for it in 0..count {
-        let inputs = if it % 2 == 0 { "%IX0=1" } else { "" };
-        frames.push(evaluated(alloc, &mut counter, inputs)?)?;
+    for before in 1..number {
+        evaluated(
+            alloc,
+            &mut counter,
+            if before % 2 == 1 { "%IX0=1" } else { "" },
+        )?;
     }
-    Ok(frames)
+    evaluated(
+        alloc,
+        &mut counter,
+        if number % 2 == 1 { "%IX0=1" } else { "" },
+    )
+}
+
+/// Where the first take of a frame is from.
+fn taken(frame: &Frame) -> Option<(u32, u32)> {
+    frame.evaluation().takes().first()?.from
 }
 
 fn shows(rt: &impl Abort, image: &Image, values: &[Value]) {
@@ -62,7 +73,10 @@ fn a_resource_that_does_not_exist_has_no_core(rt: HostRuntime) -> Result<(), Fai
     let alloc = rt.alloc();
     assert!(rt; core(alloc, PAIR, 0, 1, 1)?.is_ok());
     assert!(rt; core(alloc, PAIR, 1, 1, 1)?.is_ok());
-    assert_eq!(rt; core(alloc, PAIR, 2, 1, 1)?.err(), Some(CoreFault::NoSuchResource));
+    assert_eq!(rt;
+        core(alloc, PAIR, 2, 1, 1)?.err(),
+        Some(CoreFault::NoSuchResource)
+    );
     Ok(())
 }
 
@@ -70,17 +84,16 @@ fn a_resource_that_does_not_exist_has_no_core(rt: HostRuntime) -> Result<(), Fai
 fn the_greatest_pair_is_held(rt: HostRuntime) -> Result<(), Fail> {
     let alloc = rt.alloc();
     let mut watcher = core(alloc, PAIR, 1, 1, u32::MAX)??;
-    let first = counted(alloc, 1, 3)?;
-    let second = counted(alloc, 2, 1)?;
+    let second = counted(alloc, 1, 2)?;
     assert_eq!(rt; watcher.incarnation(), 1);
     assert_eq!(rt; held(&watcher), None);
-    assert_eq!(rt; watcher.accept(first[1].try_clone()?), Accepted::Taken);
+    assert_eq!(rt; watcher.accept(second.try_clone()?), Accepted::Taken);
     assert_eq!(rt; held(&watcher), Some((1, 2)));
-    assert_eq!(rt; watcher.accept(first[1].try_clone()?), Accepted::Old);
-    assert_eq!(rt; watcher.accept(first[0].try_clone()?), Accepted::Old);
+    assert_eq!(rt; watcher.accept(second.try_clone()?), Accepted::Old);
+    assert_eq!(rt; watcher.accept(counted(alloc, 1, 1)?), Accepted::Old);
     assert_eq!(rt; held(&watcher), Some((1, 2)));
-    assert_eq!(rt; watcher.accept(second[0].try_clone()?), Accepted::Taken);
-    assert_eq!(rt; watcher.accept(first[2].try_clone()?), Accepted::Old);
+    assert_eq!(rt; watcher.accept(counted(alloc, 2, 1)?), Accepted::Taken);
+    assert_eq!(rt; watcher.accept(counted(alloc, 1, 3)?), Accepted::Old);
     assert_eq!(rt; held(&watcher), Some((2, 1)));
     Ok(())
 }
@@ -88,9 +101,9 @@ fn the_greatest_pair_is_held(rt: HostRuntime) -> Result<(), Fail> {
 #[test]
 fn of_no_use_is_what_nobody_takes(rt: HostRuntime) -> Result<(), Fail> {
     let alloc = rt.alloc();
-    let frames = counted(alloc, 1, 1)?;
+    let frame = counted(alloc, 1, 1)?;
     let mut counter = core(alloc, PAIR, 0, 1, u32::MAX)??;
-    assert_eq!(rt; counter.accept(frames[0].try_clone()?), Accepted::Unused);
+    assert_eq!(rt; counter.accept(frame), Accepted::Unused);
     let mut watcher = core(alloc, PAIR, 1, 1, u32::MAX)??;
     let seen = evaluated(alloc, &mut watcher, "")?;
     assert_eq!(rt; counter.accept(seen.try_clone()?), Accepted::Unused);
@@ -117,15 +130,20 @@ fn what_is_held_is_taken(rt: HostRuntime) -> Result<(), Fail> {
     let alloc = rt.alloc();
     let mut watcher = core(alloc, PAIR, 1, 1, u32::MAX)??;
     let before = evaluated(alloc, &mut watcher, "")?;
-    assert!(rt; before.evaluation().takes()[0].from.is_none());
+    assert_eq!(rt; taken(&before), None);
     shows(&rt, before.outputs(), &[Value::Int(0), Value::Bool(false)]);
-    for frame in counted(alloc, 1, 5)? {
-        watcher.accept(frame);
-    }
+    watcher.accept(counted(alloc, 1, 5)?);
     let after = evaluated(alloc, &mut watcher, "")?;
-    assert_eq!(rt; after.evaluation().takes()[0].from, Some((1, 5)));
+    assert_eq!(rt; taken(&after), Some((1, 5)));
     shows(&rt, after.outputs(), &[Value::Int(3), Value::Bool(true)]);
-    assert_eq!(rt; after.name(), Name { task: SLOW, incarnation: 1, number: 2 });
+    assert_eq!(rt;
+        after.name(),
+        Name {
+            task: SLOW,
+            incarnation: 1,
+            number: 2
+        }
+    );
     Ok(())
 }
 
@@ -134,10 +152,10 @@ fn a_task_of_its_own_takes_the_last_one_made(rt: HostRuntime) -> Result<(), Fail
     let alloc = rt.alloc();
     let mut flip = core(alloc, LOOP, 0, 7, u32::MAX)??;
     let first = evaluated(alloc, &mut flip, "")?;
-    assert!(rt; first.evaluation().takes()[0].from.is_none());
+    assert_eq!(rt; taken(&first), None);
     shows(&rt, first.outputs(), &[Value::Bool(true)]);
     let second = evaluated(alloc, &mut flip, "")?;
-    assert_eq!(rt; second.evaluation().takes()[0].from, Some((7, 1)));
+    assert_eq!(rt; taken(&second), Some((7, 1)));
     shows(&rt, second.outputs(), &[Value::Bool(false)]);
     assert!(rt; flip.held(FAST).is_none());
     Ok(())
@@ -152,7 +170,14 @@ fn what_is_asked_stands_in_the_frame(rt: HostRuntime) -> Result<(), Fail> {
     assert_eq!(rt; frame.evaluation().ticket(), 42);
     assert_eq!(rt; frame.evaluation().dt(), 17);
     assert!(rt; frame.evaluation().inputs().same(&inputs));
-    assert_eq!(rt; frame.name(), Name { task: FAST, incarnation: 3, number: 1 });
+    assert_eq!(rt;
+        frame.name(),
+        Name {
+            task: FAST,
+            incarnation: 3,
+            number: 1
+        }
+    );
     let next = counter.evaluate(alloc, 43, 0, 17, &inputs)?;
     assert!(rt; next.evaluation().before().same(frame.evaluation().after()));
     assert!(rt; !next.evaluation().before().same(frame.evaluation().before()));
@@ -164,13 +189,28 @@ fn no_task_and_no_number_left(rt: HostRuntime) -> Result<(), Fail> {
     let alloc = rt.alloc();
     let none = Inputs::read(alloc, "")?;
     let mut watcher = core(alloc, PAIR, 1, 1, 1)??;
-    assert_eq!(rt; watcher.evaluate(alloc, 1, 7, 10, &none).err(), Some(EvalFault::NoSuchTask));
-    assert_eq!(rt; watcher.evaluate(alloc, 1, usize::MAX, 10, &none).err(), Some(EvalFault::NoSuchTask));
+    assert_eq!(rt;
+        watcher.evaluate(alloc, 1, 7, 10, &none).err(),
+        Some(EvalFault::NoSuchTask)
+    );
+    assert_eq!(rt;
+        watcher.evaluate(alloc, 1, usize::MAX, 10, &none).err(),
+        Some(EvalFault::NoSuchTask)
+    );
     assert_eq!(rt; watcher.evaluate(alloc, 1, 0, 10, &none)?.name().number, 1);
-    assert_eq!(rt; watcher.evaluate(alloc, 1, 0, 10, &none).err(), Some(EvalFault::NumbersSpent));
-    assert_eq!(rt; watcher.evaluate(alloc, 1, 7, 10, &none).err(), Some(EvalFault::NoSuchTask));
+    assert_eq!(rt;
+        watcher.evaluate(alloc, 1, 0, 10, &none).err(),
+        Some(EvalFault::NumbersSpent)
+    );
+    assert_eq!(rt;
+        watcher.evaluate(alloc, 1, 7, 10, &none).err(),
+        Some(EvalFault::NoSuchTask)
+    );
     let mut spent = core(alloc, PAIR, 1, 1, 0)??;
-    assert_eq!(rt; spent.evaluate(alloc, 1, 0, 10, &none).err(), Some(EvalFault::NumbersSpent));
+    assert_eq!(rt;
+        spent.evaluate(alloc, 1, 0, 10, &none).err(),
+        Some(EvalFault::NumbersSpent)
+    );
     Ok(())
 }
 
@@ -178,6 +218,9 @@ fn no_task_and_no_number_left(rt: HostRuntime) -> Result<(), Fail> {
 fn restarted(rt: &impl Abort, alloc: Global, core: Core, incarnation: u32) -> Core {
     let held_before = held(&core);
     let begun_before = core.incarnation();
+    if incarnation <= begun_before {
+        return core;
+    }
     match core.restart(alloc, incarnation) {
         Ok(core) => core,
         Err((core, _)) => {
@@ -192,9 +235,7 @@ fn restarted(rt: &impl Abort, alloc: Global, core: Core, incarnation: u32) -> Co
 fn a_restart_forgets(rt: HostRuntime) -> Result<(), Fail> {
     let alloc = rt.alloc();
     let mut watcher = core(alloc, PAIR, 1, 1, u32::MAX)??;
-    for frame in counted(alloc, 1, 2)? {
-        watcher.accept(frame);
-    }
+    watcher.accept(counted(alloc, 1, 2)?);
     let before = evaluated(alloc, &mut watcher, "")?;
     assert_eq!(rt; before.name().number, 1);
     let mut watcher = restarted(&rt, alloc, watcher, 2);
@@ -204,9 +245,21 @@ fn a_restart_forgets(rt: HostRuntime) -> Result<(), Fail> {
     assert_eq!(rt; watcher.incarnation(), 2);
     assert_eq!(rt; held(&watcher), None);
     let after = evaluated(alloc, &mut watcher, "")?;
-    assert_eq!(rt; after.name(), Name { task: SLOW, incarnation: 2, number: 1 });
-    assert!(rt; after.evaluation().takes()[0].from.is_none());
-    assert!(rt; after.evaluation().before().same(before.evaluation().before()));
+    assert_eq!(rt;
+        after.name(),
+        Name {
+            task: SLOW,
+            incarnation: 2,
+            number: 1
+        }
+    );
+    assert_eq!(rt; taken(&after), None);
+    assert!(rt;
+        after
+            .evaluation()
+            .before()
+            .same(before.evaluation().before())
+    );
     Ok(())
 }
 
@@ -228,6 +281,11 @@ fn after_a_refusal_the_same_call_gives_the_same_frame(rt: HostRuntime) -> Result
     shows(&rt, first.outputs(), &[Value::Int(1), Value::Bool(false)]);
     let second = asked_twice(alloc, &mut counter, &inputs)?;
     assert_eq!(rt; second.name().number, 2);
-    assert!(rt; second.evaluation().before().same(first.evaluation().after()));
+    assert!(rt;
+        second
+            .evaluation()
+            .before()
+            .same(first.evaluation().after())
+    );
     Ok(())
 }

@@ -22,7 +22,11 @@ const SLOW: TaskRef = TaskRef {
 };
 
 fn world(alloc: Global, first: &[u32], max_number: u32) -> Result<World, Fail> {
-    let plant = Arc::new(alloc, Plant::read(alloc, PAIR)?)?;
+    let plant = Plant::read(alloc, PAIR)?;
+    if first.len() != plant.resources() {
+        return Err("not one first incarnation for each resource".into());
+    }
+    let plant = Arc::new(alloc, plant)?;
     Ok(World::new(alloc, plant, first, max_number)?)
 }
 
@@ -62,6 +66,15 @@ fn shows(rt: &impl Abort, image: &Image, values: &[Value]) {
     assert_eq!(rt; image.values(), values);
 }
 
+/// The evaluations of a producer that restarts, and of its watcher.
+fn has_names(rt: &impl Abort, world: &World) {
+    let names = [(1, 1), (1, 2), (2, 1), (1, 1), (1, 2)];
+    assert_eq!(rt; world.log().len(), names.len());
+    for (frame, name) in world.log().iter().zip(names) {
+        assert_eq!(rt; pair_of(frame.name()), name);
+    }
+}
+
 fn pair_of(name: Name) -> (u32, u32) {
     (name.incarnation, name.number)
 }
@@ -94,29 +107,33 @@ fn each_step_tells_what_it_did(rt: HostRuntime) -> Result<(), Fail> {
     let done = [
         Done::Evaluated { message: 1 },
         Done::Evaluated { message: 2 },
-        Done::Delivered { accepted: Accepted::Taken },
+        Done::Delivered {
+            accepted: Accepted::Taken,
+        },
         Done::Restarted { incarnation: 2 },
         Done::Evaluated { message: 3 },
-        Done::Delivered { accepted: Accepted::Taken },
+        Done::Delivered {
+            accepted: Accepted::Taken,
+        },
         Done::Evaluated { message: 4 },
-        Done::Delivered { accepted: Accepted::Old },
+        Done::Delivered {
+            accepted: Accepted::Old,
+        },
         Done::Evaluated { message: 5 },
     ];
-    for at in 0..done.len() {
-        assert_eq!(rt; world.step(alloc, &events[at])?, done[at]);
-        assert_eq!(rt; world.events().len(), at + 1);
+    assert_eq!(rt; events.len(), done.len());
+    for (event, done) in events.iter().zip(done) {
+        assert_eq!(rt; world.step(alloc, event)?, done);
     }
+    assert_eq!(rt; world.events().len(), events.len());
     assert_eq!(rt; held(&world), Some((2, 1)));
     assert!(rt; world.held(0, FAST).is_none());
     assert!(rt; world.held(0, SLOW).is_none());
     assert!(rt; world.held(1, SLOW).is_none());
-    let names = [(1, 1), (1, 2), (2, 1), (1, 1), (1, 2)];
-    assert_eq!(rt; world.log().len(), names.len());
-    for at in 0..names.len() {
-        assert_eq!(rt; pair_of(world.log()[at].name()), names[at]);
-    }
+    has_names(&rt, &world);
     assert_eq!(rt; last_take(&world), Some((2, 1)));
-    shows(&rt, world.log()[1].outputs(), &[Value::Int(1), Value::Bool(false)]);
+    let second = world.log().get(1).ok_or("no second evaluation")?;
+    shows(&rt, second.outputs(), &[Value::Int(1), Value::Bool(false)]);
     Ok(())
 }
 
@@ -133,10 +150,23 @@ fn the_takers_restart_forgets(rt: HostRuntime) -> Result<(), Fail> {
     assert_eq!(rt; held(&world), None);
     world.step(alloc, &evaluate(alloc, SLOW, "")?)?;
     assert_eq!(rt; last_take(&world), None);
-    assert_eq!(rt; world.step(alloc, &deliver(1, 1))?, Done::Delivered { accepted: Accepted::Taken });
+    assert_eq!(rt;
+        world.step(alloc, &deliver(1, 1))?,
+        Done::Delivered {
+            accepted: Accepted::Taken
+        }
+    );
     world.step(alloc, &evaluate(alloc, SLOW, "")?)?;
     assert_eq!(rt; last_take(&world), Some((1, 1)));
-    assert_eq!(rt; world.log()[3].name(), Name { task: SLOW, incarnation: 2, number: 2 });
+    let last = world.log().last().ok_or("no evaluation")?;
+    assert_eq!(rt;
+        last.name(),
+        Name {
+            task: SLOW,
+            incarnation: 2,
+            number: 2
+        }
+    );
     Ok(())
 }
 
@@ -153,23 +183,103 @@ fn refuses(rt: &impl Abort, alloc: Global, world: &mut World, event: &Event, fau
 fn unlawful_events_change_nothing(rt: HostRuntime) -> Result<(), Fail> {
     let alloc = rt.alloc();
     let mut world = world(alloc, &[u32::MAX, 1], 1)?;
-    let nobody = TaskRef { resource: 8, task: 0 };
-    let nothing = TaskRef { resource: 0, task: 7 };
+    let nobody = TaskRef {
+        resource: 8,
+        task: 0,
+    };
+    let nothing = TaskRef {
+        resource: 0,
+        task: 7,
+    };
     let counted = evaluate(alloc, FAST, "%IX0=1")?;
-    refuses(&rt, alloc, &mut world, &evaluate(alloc, nobody, "")?, WorldFault::NoSuchResource);
-    refuses(&rt, alloc, &mut world, &evaluate(alloc, nothing, "")?, WorldFault::NoSuchTask);
-    refuses(&rt, alloc, &mut world, &deliver(1, 1), WorldFault::NoSuchMessage);
-    assert_eq!(rt; world.step(alloc, &counted)?, Done::Evaluated { message: 1 });
-    assert_eq!(rt; world.log()[0].name(), Name { task: FAST, incarnation: u32::MAX, number: 1 });
+    refuses(
+        &rt,
+        alloc,
+        &mut world,
+        &evaluate(alloc, nobody, "")?,
+        WorldFault::NoSuchResource,
+    );
+    refuses(
+        &rt,
+        alloc,
+        &mut world,
+        &evaluate(alloc, nothing, "")?,
+        WorldFault::NoSuchTask,
+    );
+    refuses(
+        &rt,
+        alloc,
+        &mut world,
+        &deliver(1, 1),
+        WorldFault::NoSuchMessage,
+    );
+    assert_eq!(rt;
+        world.step(alloc, &counted)?,
+        Done::Evaluated { message: 1 }
+    );
+    let first = world.log().first().ok_or("no evaluation")?;
+    assert_eq!(rt;
+        first.name(),
+        Name {
+            task: FAST,
+            incarnation: u32::MAX,
+            number: 1
+        }
+    );
     refuses(&rt, alloc, &mut world, &counted, WorldFault::NumbersSpent);
-    refuses(&rt, alloc, &mut world, &deliver(0, 1), WorldFault::NoSuchMessage);
-    refuses(&rt, alloc, &mut world, &deliver(2, 1), WorldFault::NoSuchMessage);
-    refuses(&rt, alloc, &mut world, &deliver(u64::MAX, 1), WorldFault::NoSuchMessage);
-    refuses(&rt, alloc, &mut world, &deliver(1, 2), WorldFault::NoSuchResource);
-    refuses(&rt, alloc, &mut world, &deliver(0, 2), WorldFault::NoSuchResource);
-    refuses(&rt, alloc, &mut world, &restart(2), WorldFault::NoSuchResource);
-    refuses(&rt, alloc, &mut world, &restart(0), WorldFault::IncarnationsSpent);
-    assert_eq!(rt; world.step(alloc, &restart(1))?, Done::Restarted { incarnation: 2 });
+    refuses(
+        &rt,
+        alloc,
+        &mut world,
+        &deliver(0, 1),
+        WorldFault::NoSuchMessage,
+    );
+    refuses(
+        &rt,
+        alloc,
+        &mut world,
+        &deliver(2, 1),
+        WorldFault::NoSuchMessage,
+    );
+    refuses(
+        &rt,
+        alloc,
+        &mut world,
+        &deliver(u64::MAX, 1),
+        WorldFault::NoSuchMessage,
+    );
+    refuses(
+        &rt,
+        alloc,
+        &mut world,
+        &deliver(1, 2),
+        WorldFault::NoSuchResource,
+    );
+    refuses(
+        &rt,
+        alloc,
+        &mut world,
+        &deliver(0, 2),
+        WorldFault::NoSuchResource,
+    );
+    refuses(
+        &rt,
+        alloc,
+        &mut world,
+        &restart(2),
+        WorldFault::NoSuchResource,
+    );
+    refuses(
+        &rt,
+        alloc,
+        &mut world,
+        &restart(0),
+        WorldFault::IncarnationsSpent,
+    );
+    assert_eq!(rt;
+        world.step(alloc, &restart(1))?,
+        Done::Restarted { incarnation: 2 }
+    );
     refuses(&rt, alloc, &mut world, &counted, WorldFault::NumbersSpent);
     Ok(())
 }
@@ -180,13 +290,34 @@ fn a_run_skips_unlawful_events(rt: HostRuntime) -> Result<(), Fail> {
     let mut world = world(alloc, &[1, 1], u32::MAX)?;
     let mut events = Vec::new(alloc);
     events.push(deliver(99, 1))?;
-    events.push(evaluate(alloc, TaskRef { resource: 8, task: 0 }, "")?)?;
-    events.push(evaluate(alloc, TaskRef { resource: 0, task: 7 }, "")?)?;
+    events.push(evaluate(
+        alloc,
+        TaskRef {
+            resource: 8,
+            task: 0,
+        },
+        "",
+    )?)?;
+    events.push(evaluate(
+        alloc,
+        TaskRef {
+            resource: 0,
+            task: 7,
+        },
+        "",
+    )?)?;
     events.push(evaluate(alloc, FAST, "%IX0=1")?)?;
     assert_eq!(rt; world.run(alloc, events.as_slice()), Ok(()));
     assert_eq!(rt; world.events().len(), 1);
-    match &world.events()[0] {
-        Event::Evaluate { ticket, task, dt, inputs } => {
+    match world.events().first() {
+        Some(
+            Event::Evaluate {
+                ticket,
+                task,
+                dt,
+                inputs,
+            },
+        ) => {
             assert_eq!(rt; (*ticket, *task, *dt), (9, FAST, 10));
             assert!(rt; inputs.same(&Inputs::read(alloc, "%IX0=1")?));
         }
@@ -196,18 +327,15 @@ fn a_run_skips_unlawful_events(rt: HostRuntime) -> Result<(), Fail> {
     Ok(())
 }
 
-/// Runs the events, and goes on where memory was refused.
-fn run_on(alloc: Global, world: &mut World, events: &[Event]) -> usize {
-    let mut refused = 0;
-    let mut rest = events;
-    while let Err(done) = world.run(alloc, rest) {
-        rest = rest.get(done..).unwrap_or(&[]);
-        refused += 1;
-        if refused > 3 {
-            break;
-        }
-    }
-    refused
+/// Runs the events, and goes on where memory was refused once; whether all were run.
+fn run_on(alloc: Global, world: &mut World, events: &[Event]) -> bool {
+    let Err(done) = world.run(alloc, events) else {
+        return true;
+    };
+    let Some(rest) = events.get(done..) else {
+        return false;
+    };
+    world.run(alloc, rest).is_ok()
 }
 
 #[test]
@@ -215,14 +343,9 @@ fn a_run_goes_on_after_a_refusal(rt: HostRuntime) -> Result<(), Fail> {
     let alloc = rt.alloc();
     let events = restarting(alloc)?;
     let mut world = world(alloc, &[1, 1], u32::MAX)?;
-    let refused = run_on(alloc, &mut world, events.as_slice());
-    assert!(rt; refused <= 1);
+    assert!(rt; run_on(alloc, &mut world, events.as_slice()));
     assert_eq!(rt; world.events().len(), events.len());
-    let names = [(1, 1), (1, 2), (2, 1), (1, 1), (1, 2)];
-    assert_eq!(rt; world.log().len(), names.len());
-    for at in 0..names.len() {
-        assert_eq!(rt; pair_of(world.log()[at].name()), names[at]);
-    }
+    has_names(&rt, &world);
     assert_eq!(rt; held(&world), Some((2, 1)));
     assert_eq!(rt; last_take(&world), Some((2, 1)));
     Ok(())
@@ -237,8 +360,8 @@ fn two_worlds_of_one_list_make_the_same(rt: HostRuntime) -> Result<(), Fail> {
     assert_eq!(rt; one.run(alloc, events.as_slice()), Ok(()));
     assert_eq!(rt; other.run(alloc, one.events()), Ok(()));
     assert_eq!(rt; one.log().len(), other.log().len());
-    for at in 0..one.log().len() {
-        assert!(rt; one.log()[at].same(&other.log()[at]));
+    for (frame, again) in one.log().iter().zip(other.log()) {
+        assert!(rt; frame.same(again));
     }
     Ok(())
 }
