@@ -17,11 +17,12 @@ use Rattle.plant.specs.declared.plant_fault.PlantFault.{PlantFault}
 use Rattle.plant.specs.declared.plant_fault.PlantFaultKind.{PlantFaultKind}
 use Rattle.plant.specs.declared.plant_fault.PlantFaultKind.TheVariants as kind
 use Rattle.plant.specs.declared.tree.Program.{Program}
+use Rattle.plant.specs.Faults.{IsPlantFault}
 use Rattle.plant.specs.Steps.Drawn.{RefusesBody, RefusesNames, IsBodyFault, kind_of_body}
 
 -- the fault of a layer below is handed on: memory as memory, another one with its line and as what it is
 abbrev pub IsHandedOn : Type 0 → PlantFaultKind → ℕ → BodyFault → PlantFault → Type 0
-IsHandedOn IsMemory k line why fault = (IsMemory → fault.kind ≡ kind.Memory) × ((IsMemory → ⊥) → fault ≡ record { kind = k; line = line; inner = Some why })
+IsHandedOn IsMemory k line why fault = (IsMemory → fault.kind ≡ kind.Memory) × ((IsMemory → ⊥) → fault ≡ record { kind = k; line = line; inner = Some why }) × IsPlantFault fault
 
 -- a refusal that is handed on is the body's
 pub body_refused : {T IsMemory : Type 0} (p : Program) (line : ℕ) (why : BodyFault) (r : Result T PlantFault)

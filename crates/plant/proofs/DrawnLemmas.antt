@@ -1,5 +1,5 @@
 -- Program types that are drawn one by one, and in batches.
-use Rattle.std.proofs.Common.{◌≡◌, ◌≢◌, ℕ, Some, IfErr, suc, ◌<◌, List, [], ◌∷◌, ◌++◌, length, map, Result, Ok, Err, IsOk, IfOk, slice_index_or, refl, sym, ap, ◌∙◌, subst, append_assoc, arith}
+use Rattle.std.proofs.Common.{◌⊎◌, inl, inr, ◌≡◌, ◌≢◌, ℕ, Some, IfErr, suc, ◌<◌, List, [], ◌∷◌, ◌++◌, length, map, Result, Ok, Err, IsOk, IfOk, slice_index_or, refl, sym, ap, ◌∙◌, subst, append_assoc, arith}
 use Rattle.std.specs.Prelude.{All}
 use Rattle.std.specs.Global.{Vec}
 use Rattle.std.specs.List.{flat_map}
@@ -9,6 +9,7 @@ use Rattle.std.proofs.lemmas.List.Elements.{All-nil, All-cons, All-append, All-t
 use Rattle.plant.specs.declared.plant_fault.PlantFault.{PlantFault}
 use Rattle.plant.specs.declared.plant_fault.PlantFaultKind.TheVariants.{Memory}
 use Rattle.plant.specs.declared.tree.Program.{Program}
+use Rattle.plant.specs.Faults.{IsPlantFault}
 use Rattle.plant.specs.Faultless.{IsLadderOf}
 use Rattle.plant.specs.Steps.Drawn.{AreDrawn, IsBodyFault, IsFirstBodyFault, types_in, first_fault}
 use Rattle.plant.specs.Steps.Reading.{TypeValue}
@@ -118,3 +119,17 @@ pub refused_joined : (bs : List (List Program)) (rs : List (Result (Vec TypeValu
     → IfErr joined (λ fault. fault.kind ≢ Memory → first_fault rs ≡ Some fault) → IfErr joined (λ fault. fault.kind ≢ Memory → IsFirstBodyFault (flat_map (λ b. b) bs) fault)
 refused_joined bs rs (Ok types) len each is = tt
 refused_joined bs rs (Err fault) len each is = λ other. first_in_batches bs rs fault len (is other) other each
+
+-- the first fault of batches has what belongs to its kind, if each has
+value_first : (rs : List (Result (Vec TypeValue) PlantFault)) (fault : PlantFault) → first_fault rs ≡ Some fault
+    → ((i : ℕ) (r : Result (Vec TypeValue) PlantFault) → i < length rs → IfErr (slice_index_or rs i r) IsPlantFault) → IsPlantFault fault
+value_first [] fault is each = absurd cc
+value_first (Err e ∷ rs) fault is each = let same : e ≡ fault = cc in subst IsPlantFault same (each 0 (Err e) (omega arith))
+value_first (Ok v ∷ rs) fault is each = value_first rs fault is (λ i r lt. each (suc i) r (omega (arith, lt)))
+
+-- the same of the answer that joins them
+pub value_joined : (n : ℕ) (rs : List (Result (Vec TypeValue) PlantFault)) (joined : Result (Vec TypeValue) PlantFault) → length rs ≡ n
+    → ((i : ℕ) (r : Result (Vec TypeValue) PlantFault) → i < n → IfErr (slice_index_or rs i r) IsPlantFault)
+    → IfErr joined (λ fault. (first_fault rs ≡ Some fault) ⊎ IsPlantFault fault) → IfErr joined IsPlantFault
+value_joined n rs (Ok types) len each is = tt
+value_joined n rs (Err fault) len each is = elim is [ inl first ↦ value_first rs fault first (λ i r lt. each i r (omega (arith, lt, len))) | inr own ↦ own ]

@@ -1,6 +1,7 @@
 pub mod Words
 pub mod Spelling
 pub mod PlantValue
+pub mod Faults
 pub mod Names
 pub mod Grammar
 pub mod Faultless

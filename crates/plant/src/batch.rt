@@ -1,6 +1,7 @@
 //! Batches of programs, which threads draw.
 
 ghost use Rattle.std.specs.Prelude.{◌≡◌, ◌≢◌, ◌++◌, [], ◌∷◌, IfOk, IfErr, OnOk};
+ghost use Rattle.plant.specs.Faults.{IsPlantFault};
 ghost use Rattle.std.specs.List.{flat_map};
 ghost use Rattle.plant.specs.declared.plant_fault.PlantFaultKind.TheVariants.{Memory};
 ghost use Rattle.plant.specs.Steps.Drawn.{AreDrawn, IsFirstBodyFault};
@@ -55,6 +56,7 @@ impl Batch {
     pub fn draw(self, alloc: Global) -> Result<Vec<ProgramType>, PlantFault>
         ensures ok { IfOk result (λ types. AreDrawn self types.items) }
         ensures fault { IfErr result (λ fault. fault.kind ≢ Memory → IsFirstBodyFault self fault) }
+        ensures value { IfErr result IsPlantFault }
     {
         draw_all(alloc, self.texts)
     }

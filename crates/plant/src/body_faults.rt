@@ -22,8 +22,9 @@ impl From<DrawFault> for PlantFault {
     ghost use Rattle.ladder_text.specs.declared.drawing.DrawFaultKind.TheVariants as draw;
     ghost use Rattle.plant.specs.declared.plant_fault.PlantFaultKind.TheVariants.{Memory, Drawing};
     ghost use Rattle.plant.specs.declared.plant_fault.BodyFault.TheVariants as body;
+    ghost use Rattle.plant.specs.Faults.{IsPlantFault};
 
-    ghost from_gives = { λ inner fault. (inner.kind ≡ draw.Memory → fault.kind ≡ Memory) × (inner.kind ≢ draw.Memory → fault ≡ record { kind = Drawing; line = inner.line; inner = Some (body.Drawing inner.kind) }) };
+    ghost from_gives = { λ inner fault. (inner.kind ≡ draw.Memory → fault.kind ≡ Memory) × (inner.kind ≢ draw.Memory → fault ≡ record { kind = Drawing; line = inner.line; inner = Some (body.Drawing inner.kind) }) × IsPlantFault fault };
 
     fn from(fault: DrawFault) -> PlantFault {
         match fault.kind {
@@ -41,8 +42,9 @@ impl From<GraphFault> for PlantFault {
     ghost use Rattle.network.specs.declared.fault.GraphFaultKind.TheVariants as graph;
     ghost use Rattle.plant.specs.declared.plant_fault.PlantFaultKind.TheVariants.{Memory, Graph};
     ghost use Rattle.plant.specs.declared.plant_fault.BodyFault.TheVariants as body;
+    ghost use Rattle.plant.specs.Faults.{IsPlantFault};
 
-    ghost from_gives = { λ inner fault. (inner.kind ≡ graph.Memory → fault.kind ≡ Memory) × (inner.kind ≢ graph.Memory → fault ≡ record { kind = Graph; line = inner.line; inner = Some (body.Graph inner.kind) }) };
+    ghost from_gives = { λ inner fault. (inner.kind ≡ graph.Memory → fault.kind ≡ Memory) × (inner.kind ≢ graph.Memory → fault ≡ record { kind = Graph; line = inner.line; inner = Some (body.Graph inner.kind) }) × IsPlantFault fault };
 
     fn from(fault: GraphFault) -> PlantFault {
         match fault.kind {
@@ -56,8 +58,9 @@ impl From<BindFault> for PlantFault {
     ghost use Rattle.power_flow.specs.declared.bind.BindKind.TheVariants as bind;
     ghost use Rattle.plant.specs.declared.plant_fault.PlantFaultKind.TheVariants.{Memory, Bind};
     ghost use Rattle.plant.specs.declared.plant_fault.BodyFault.TheVariants as body;
+    ghost use Rattle.plant.specs.Faults.{IsPlantFault};
 
-    ghost from_gives = { λ inner fault. (inner.kind ≡ bind.Memory → fault.kind ≡ Memory) × (inner.kind ≢ bind.Memory → fault ≡ record { kind = Bind; line = inner.line; inner = Some (body.Bind inner.kind) }) };
+    ghost from_gives = { λ inner fault. (inner.kind ≡ bind.Memory → fault.kind ≡ Memory) × (inner.kind ≢ bind.Memory → fault ≡ record { kind = Bind; line = inner.line; inner = Some (body.Bind inner.kind) }) × IsPlantFault fault };
 
     fn from(fault: BindFault) -> PlantFault {
         match fault.kind {

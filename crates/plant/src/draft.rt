@@ -1,6 +1,7 @@
 //! What a plant runs, before its sources are resolved: the programs of each task, and their outputs.
 
-ghost use Rattle.std.specs.Prelude.{◌≡◌, ◌++◌, map, IfOk, OnOk};
+ghost use Rattle.std.specs.Prelude.{◌≡◌, ◌++◌, map, IfOk, OnOk, IfErr};
+ghost use Rattle.plant.specs.Faults.{IsPlantFault};
 ghost use Rattle.std.specs.List.{AllZip, filter};
 ghost use Rattle.plant.specs.Names.{is_named};
 ghost use Rattle.plant.specs.Faultless.{tasks_of, uses_of, task_of, use_of};
@@ -75,7 +76,8 @@ fn draft_program(
     types: &[ProgramType],
     run: &Use,
 ) -> Result<ProgramInstance, PlantFault>
-    ensures { IfOk result (λ p. IsProgramOf (programs_in types.now) run.now p) }
+    ensures ok { IfOk result (λ p. IsProgramOf (programs_in types.now) run.now p) }
+    ensures value { IfErr result IsPlantFault }
 {
     let Some(found) = type_named(types, &run.program) else {
         return Err(PlantFault::at(PlantFaultKind::UnknownName, run.program.line()));
@@ -91,7 +93,8 @@ fn draft_programs(
     types: &[ProgramType],
     runs: &[&Use],
 ) -> Result<Vec<ProgramInstance>, PlantFault>
-    ensures { IfOk result (λ ps. AllZip (IsProgramOf (programs_in types.now)) (map (λ u. u.now) runs.now) ps.items) }
+    ensures ok { IfOk result (λ ps. AllZip (IsProgramOf (programs_in types.now)) (map (λ u. u.now) runs.now) ps.items) }
+    ensures value { IfErr result IsPlantFault }
 {
     let mut programs = Vec::new(alloc);
     for run in runs {
@@ -108,7 +111,8 @@ fn draft_task(
     resource: &Resource,
     task: &TaskLine,
 ) -> Result<TaskDraft, PlantFault>
-    ensures { IfOk result (λ d. IsDraftOf (programs_in types.now) resource.now task.now d) }
+    ensures ok { IfOk result (λ d. IsDraftOf (programs_in types.now) resource.now task.now d) }
+    ensures value { IfErr result IsPlantFault }
 {
     let runs = runs_in(alloc, resource, task)?;
     let programs = draft_programs(alloc, types, runs.as_slice())?;
@@ -123,7 +127,8 @@ fn draft_tasks(
     resource: &Resource,
     tasks: &[&TaskLine],
 ) -> Result<Vec<TaskDraft>, PlantFault>
-    ensures { IfOk result (λ ds. AllZip (IsDraftOf (programs_in types.now) resource.now) (map (λ t. t.now) tasks.now) ds.items) }
+    ensures ok { IfOk result (λ ds. AllZip (IsDraftOf (programs_in types.now) resource.now) (map (λ t. t.now) tasks.now) ds.items) }
+    ensures value { IfErr result IsPlantFault }
 {
     let mut drafts = Vec::new(alloc);
     for task in tasks {
@@ -139,7 +144,8 @@ fn draft_resource(
     types: &[ProgramType],
     resource: &Resource,
 ) -> Result<ResourceDraft, PlantFault>
-    ensures { IfOk result (λ d. IsResourceDraft (programs_in types.now) resource.now d) }
+    ensures ok { IfOk result (λ d. IsResourceDraft (programs_in types.now) resource.now d) }
+    ensures value { IfErr result IsPlantFault }
 {
     let tasks = tasks_of(alloc, resource)?;
     let drafts = draft_tasks(alloc, types, resource, tasks.as_slice())?;
@@ -153,7 +159,8 @@ pub fn draft_resources(
     types: &[ProgramType],
     resources: &[Resource],
 ) -> Result<Vec<ResourceDraft>, PlantFault>
-    ensures { IfOk result (λ ds. AllZip (IsResourceDraft (programs_in types.now)) resources.now ds.items) }
+    ensures ok { IfOk result (λ ds. AllZip (IsResourceDraft (programs_in types.now)) resources.now ds.items) }
+    ensures value { IfErr result IsPlantFault }
 {
     let mut drafts = Vec::new(alloc);
     for resource in resources {

@@ -1,6 +1,7 @@
 //! The bodies of program types, drawn one after the other or in threads.
 
-ghost use Rattle.std.specs.Prelude.{◌≡◌, ◌≢◌, ◌<◌, ◌++◌, List, All, IfOk, IfErr, IsOk, Some};
+ghost use Rattle.std.specs.Prelude.{◌≡◌, ◌≢◌, ◌<◌, ◌⊎◌, ◌++◌, List, All, IfOk, IfErr, IsOk, Some};
+ghost use Rattle.plant.specs.Faults.{IsPlantFault};
 ghost use Rattle.std.specs.List.{flat_map};
 ghost use Rattle.plant.specs.declared.plant_fault.PlantFaultKind.TheVariants.{Memory};
 ghost use Rattle.plant.specs.Steps.Drawn.{AreDrawn, IsFirstBodyFault, types_in, first_fault};
@@ -20,6 +21,7 @@ const WORTH_THREADS: usize = 100_000;
 pub fn draw_all(alloc: Global, texts: Vec<ProgramText>) -> Result<Vec<ProgramType>, PlantFault>
     ensures ok { IfOk result (λ types. AreDrawn texts.items types.items) }
     ensures fault { IfErr result (λ fault. fault.kind ≢ Memory → IsFirstBodyFault texts.items fault) }
+    ensures value { IfErr result IsPlantFault }
 {
     let mut types = Vec::new(alloc);
     for text in texts {
@@ -35,6 +37,7 @@ fn join(
 ) -> Result<Vec<ProgramType>, PlantFault>
     ensures ok { IfOk result (λ types. (types.items ≡ flat_map types_in batches.items) × All IsOk batches.items) }
     ensures fault { IfErr result (λ fault. fault.kind ≢ Memory → first_fault batches.items ≡ Some fault) }
+    ensures value { IfErr result (λ fault. (first_fault batches.items ≡ Some fault) ⊎ IsPlantFault fault) }
 {
     let mut types = Vec::new(alloc);
     for batch in batches {
@@ -51,6 +54,7 @@ fn draw_batches<R: Threads + Sync>(
 ) -> Result<Vec<ProgramType>, PlantFault>
     ensures ok { IfOk result (λ types. AreDrawn (flat_map (λ b. b) batches.items) types.items) }
     ensures fault { IfErr result (λ fault. fault.kind ≢ Memory → IsFirstBodyFault (flat_map (λ b. b) batches.items) fault) }
+    ensures value { IfErr result IsPlantFault }
 {
     let drawn = thread::map_vec(rt, batches, &|batch: Batch| batch.draw(alloc))?;
     join(alloc, drawn)
@@ -81,6 +85,7 @@ pub fn draw_in_threads<R: Threads + Sync>(
 ) -> Result<Vec<ProgramType>, PlantFault>
     ensures ok { IfOk result (λ types. AreDrawn texts.items types.items) }
     ensures fault { IfErr result (λ fault. fault.kind ≢ Memory → IsFirstBodyFault texts.items fault) }
+    ensures value { IfErr result IsPlantFault }
 {
     let len = len_of(&texts);
     if len < WORTH_THREADS {

@@ -1,6 +1,7 @@
 //! The binds of instances, each with its input and its source found by name.
 
-ghost use Rattle.std.specs.Prelude.{◌≡◌, All, IfOk, IfSome, OnOk, Some, length, map};
+ghost use Rattle.std.specs.Prelude.{◌≡◌, All, IfOk, IfSome, OnOk, Some, length, map, IfErr};
+ghost use Rattle.plant.specs.Faults.{IsPlantFault};
 ghost use Rattle.std.specs.List.{AllZip, flat_map};
 ghost use Rattle.power_flow.specs.Names.{place_of};
 ghost use Rattle.plant.specs.Faultless.{binds_of, use_of, uses_of};
@@ -22,7 +23,9 @@ use power_flow::{Declarations, Declared, Kind};
 use std::alloc::Global;
 
 /// The fault of a name that isn't declared where it is sought.
-fn unknown(name: &Name) -> PlantFault {
+fn unknown(name: &Name) -> PlantFault
+    ensures { IsPlantFault result }
+{
     PlantFault::at(PlantFaultKind::UnknownName, name.line())
 }
 
@@ -33,7 +36,8 @@ fn find_value(
     instance: &Name,
     output: &Name,
 ) -> Result<(TaskRef, usize, Kind), PlantFault>
-    ensures { IfOk result (λ x. IsOrigin (drafted drafts.now) resource.now instance.now output.now x.0 x.1 × IsImageKind (drafted drafts.now) x.0 x.1 x.2) }
+    ensures ok { IfOk result (λ x. IsOrigin (drafted drafts.now) resource.now instance.now output.now x.0 x.1 × IsImageKind (drafted drafts.now) x.0 x.1 x.2) }
+    ensures value { IfErr result IsPlantFault }
 {
     let Some(position) = find_resource(drafts, resource.as_str()) else {
         return Err(unknown(resource));
@@ -54,7 +58,8 @@ fn find_value(
 
 /// What a source means, and the kind of its values.
 fn find_origin(drafts: &[ResourceDraft], source: &SourceName) -> Result<(Origin, Kind), PlantFault>
-    ensures { IfOk result (λ x. IsOriginOf (drafted drafts.now) source.now x.0 x.1) }
+    ensures ok { IfOk result (λ x. IsOriginOf (drafted drafts.now) source.now x.0 x.1) }
+    ensures value { IfErr result IsPlantFault }
 {
     match source {
         SourceName::Field(address) => Ok((Origin::Field(*address), address.space.kind())),
@@ -94,7 +99,8 @@ fn feed(
     declarations: &Declarations,
     bind: &Bind,
 ) -> Result<Feed, PlantFault>
-    ensures { IfOk result (λ f. IsFeedOf (drafted drafts.now) declarations.now bind.now f) }
+    ensures ok { IfOk result (λ f. IsFeedOf (drafted drafts.now) declarations.now bind.now f) }
+    ensures value { IfErr result IsPlantFault }
 {
     let Some((place, kind)) = find_input(declarations, bind.input.as_str()) else {
         return Err(unknown(&bind.input));
@@ -127,7 +133,8 @@ fn feeds(
     declarations: &Declarations,
     binds: &[Bind],
 ) -> Result<Vec<Feed>, PlantFault>
-    ensures { IfOk result (λ fs. AllZip (IsFeedOf (drafted drafts.now) declarations.now) binds.now fs.items) }
+    ensures ok { IfOk result (λ fs. AllZip (IsFeedOf (drafted drafts.now) declarations.now) binds.now fs.items) }
+    ensures value { IfErr result IsPlantFault }
 {
     let mut feeds = Vec::new(alloc);
     for bind in binds {
@@ -147,6 +154,7 @@ pub fn feeds_of(
     requires { length runs.now ≡ length programs.now }
     ensures many { IfOk result (λ fs. length fs.items ≡ length programs.now) }
     ensures each { IfOk result (λ fs. Triples (AreFeedsOf (drafted drafts.now)) (map (λ u. u.now) runs.now) programs.now (map (λ f. f.items) fs.items)) }
+    ensures value { IfErr result IsPlantFault }
 {
     let mut all = Vec::new(alloc);
     for (i, program) in programs.iter().enumerate() {
@@ -163,7 +171,8 @@ fn check_binds(
     declarations: &Declarations,
     binds: &[Bind],
 ) -> Result<(), PlantFault>
-    ensures { OnOk result (All (HasFeed (drafted drafts.now) declarations.now) binds.now) }
+    ensures ok { OnOk result (All (HasFeed (drafted drafts.now) declarations.now) binds.now) }
+    ensures value { IfErr result IsPlantFault }
 {
     for bind in binds {
         feed(drafts, declarations, bind)?;
@@ -173,7 +182,8 @@ fn check_binds(
 
 /// Answers the first fault among the binds of an instance.
 fn check_use(drafts: &[ResourceDraft], types: &[ProgramType], run: &Use) -> Result<(), PlantFault>
-    ensures { OnOk result (IsUseResolved (drafted drafts.now) types.now run.now) }
+    ensures ok { OnOk result (IsUseResolved (drafted drafts.now) types.now run.now) }
+    ensures value { IfErr result IsPlantFault }
 {
     let Some(found) = type_named(types, &run.program) else {
         return Err(unknown(&run.program));
@@ -187,7 +197,8 @@ fn check_item(
     types: &[ProgramType],
     item: &Item,
 ) -> Result<(), PlantFault>
-    ensures { OnOk result (All (IsUseResolved (drafted drafts.now) types.now) (use_of item.now)) }
+    ensures ok { OnOk result (All (IsUseResolved (drafted drafts.now) types.now) (use_of item.now)) }
+    ensures value { IfErr result IsPlantFault }
 {
     match item {
         Item::Task(_) => Ok(()),
@@ -201,7 +212,8 @@ fn check_resource(
     types: &[ProgramType],
     resource: &Resource,
 ) -> Result<(), PlantFault>
-    ensures { OnOk result (All (IsUseResolved (drafted drafts.now) types.now) (uses_of resource.now)) }
+    ensures ok { OnOk result (All (IsUseResolved (drafted drafts.now) types.now) (uses_of resource.now)) }
+    ensures value { IfErr result IsPlantFault }
 {
     for item in &resource.items {
         check_item(drafts, types, item)?;
@@ -215,7 +227,8 @@ pub fn check_sources(
     types: &[ProgramType],
     resources: &[Resource],
 ) -> Result<(), PlantFault>
-    ensures { OnOk result (All (IsUseResolved (drafted drafts.now) types.now) (flat_map uses_of resources.now)) }
+    ensures ok { OnOk result (All (IsUseResolved (drafted drafts.now) types.now) (flat_map uses_of resources.now)) }
+    ensures value { IfErr result IsPlantFault }
 {
     for resource in resources {
         check_resource(drafts, types, resource)?;

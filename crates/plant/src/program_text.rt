@@ -1,4 +1,5 @@
 ghost use Rattle.std.specs.Prelude.{◌≡◌, ◌≢◌, IfOk, IfErr};
+ghost use Rattle.plant.specs.Faults.{IsPlantFault};
 ghost use Rattle.plant.specs.declared.plant_fault.PlantFaultKind.TheVariants.{Memory};
 ghost use Rattle.plant.specs.Faultless.{variables, IsLadderOf};
 ghost use Rattle.plant.specs.Steps.Drawn.{IsBodyFault};
@@ -67,6 +68,7 @@ impl ProgramText {
         ensures program { IfOk result (λ t. t.program ≡ self) }
         ensures ladder { IfOk result (λ t. IsLadderOf t.program t.ladder) }
         ensures fault { IfErr result (λ fault. fault.kind ≢ Memory → IsBodyFault self fault) }
+        ensures value { IfErr result IsPlantFault }
     {
         let first_line = self.first_line.clamp(1, LAST_LINE);
         let drawing = Drawing::read(alloc, self.program.body.as_str(), first_line)?;

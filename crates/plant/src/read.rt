@@ -1,4 +1,5 @@
-ghost use Rattle.std.specs.Prelude.{IfOk};
+ghost use Rattle.std.specs.Prelude.{IfOk, IfErr};
+ghost use Rattle.plant.specs.Faults.{IsPlantFault};
 ghost use Rattle.plant.specs.PlantText.{IsPlantText};
 ghost use Rattle.plant.specs.Steps.Drawn.{Draws};
 
@@ -20,7 +21,8 @@ where
     D: FnOnce(Vec<ProgramText>) -> Result<Vec<ProgramType>, PlantFault>,
     requires callable { D.IsAlwaysCallable draw }
     requires draws { Draws (D.post draw) }
-    ensures { IfOk result (λ p. IsPlantText text.now p) }
+    ensures ok { IfOk result (λ p. IsPlantText text.now p) }
+    ensures value { IfErr result IsPlantFault }
 {
     let words = read_words(alloc, text)?;
     let mut reader = Reader::new(words.words(), words.last());
@@ -34,7 +36,8 @@ impl Plant {
     /// Reads the text of a plant. The first fault met from top to bottom is answered, with its line; a word that the grammar doesn't have there, or that is no word,
     /// is met where it stands, a program's drawing at its END_PROGRAM, and the sources of bound inputs at END_CONFIGURATION.
     pub fn read(alloc: Global, text: &str) -> Result<Plant, PlantFault>
-        ensures { IfOk result (λ p. IsPlantText text.now p) }
+        ensures ok { IfOk result (λ p. IsPlantText text.now p) }
+        ensures value { IfErr result IsPlantFault }
     {
         read_by(alloc, text, |texts| draw_all(alloc, texts))
     }
@@ -45,7 +48,8 @@ impl Plant {
         alloc: Global,
         text: &str,
     ) -> Result<Plant, PlantFault>
-        ensures { IfOk result (λ p. IsPlantText text.now p) }
+        ensures ok { IfOk result (λ p. IsPlantText text.now p) }
+        ensures value { IfErr result IsPlantFault }
     {
         read_by(alloc, text, |texts| draw_in_threads(rt, alloc, texts))
     }

@@ -1,6 +1,7 @@
 //! The whole of a plant's text, but for its sources.
 
-ghost use Rattle.std.specs.Prelude.{IfOk};
+ghost use Rattle.std.specs.Prelude.{IfOk, IfErr};
+ghost use Rattle.plant.specs.Faults.{IsPlantFault};
 ghost use Rattle.plant.specs.Steps.Drawn.{Draws};
 ghost use Rattle.plant.specs.Steps.Reading.{IsReadingOf};
 
@@ -27,7 +28,8 @@ where
     D: FnOnce(Vec<ProgramText>) -> Result<Vec<ProgramType>, PlantFault>,
     requires callable { D.IsAlwaysCallable draw }
     requires draws { Draws (D.post draw) }
-    ensures { IfOk result (λ reading. IsReadingOf reader.old.words reading reader.new.words) }
+    ensures ok { IfOk result (λ reading. IsReadingOf reader.old.words reading reader.new.words) }
+    ensures value { IfErr result IsPlantFault }
 {
     let mut texts = Vec::new(alloc);
     let programs = reader.programs(alloc, &mut texts);

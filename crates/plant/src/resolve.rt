@@ -1,4 +1,5 @@
-ghost use Rattle.std.specs.Prelude.{ℕ, List, IfOk};
+ghost use Rattle.std.specs.Prelude.{ℕ, List, IfOk, IfErr};
+ghost use Rattle.plant.specs.Faults.{IsPlantFault};
 ghost use Rattle.plant.specs.Faultless.{IsFaultless};
 ghost use Rattle.plant.specs.Steps.Reading.{tree_of};
 ghost use Rattle.plant.specs.StandsFor.{IsPlantOf};
@@ -14,7 +15,8 @@ use std::alloc::Global;
 /// The plant that is read, with each source resolved. The first source with a fault is answered, in order of the text.
 pub fn resolve(alloc: Global, reading: &Reading) -> Result<Plant, PlantFault>
     requires { (name : List ℕ) × IsFaultless (tree_of name reading.now) }
-    ensures { IfOk result (λ p. (name : List ℕ) → IsPlantOf (tree_of name reading.now) p) }
+    ensures ok { IfOk result (λ p. (name : List ℕ) → IsPlantOf (tree_of name reading.now) p) }
+    ensures value { IfErr result IsPlantFault }
 {
     let types = reading.types();
     let resources = reading.resources();

@@ -29,7 +29,7 @@ kept_fault e P (Err fault) is h = subst P (sym is) h
 
 pub plan_written : {T E : Type 0} (text : List ℕ) (until : ℕ) (old new : Option (List ℕ)) (plant : PlantValue) (dues : List Due) (r : Result T E) → IsPlantText text plant → IsPlan plant until dues × (length dues ≤ 100000)
     → OnOk r (Appends old new (plan_lines plant dues)) → OnOk r (WritesPlan text until old new)
-plan_written text until old new plant dues (Ok x) read plan written = (record { plant = plant; read = read; dues = dues; planned = plan.0 }, plan.1, written)
+plan_written text until old new plant dues (Ok x) read plan written = record { plan = record { plant = plant; read = read; dues = dues; planned = plan.0 }; few = plan.1; appended = written }
 plan_written text until old new plant dues (Err e) read plan written = tt
 
 pub plan_partly : {T : Type 0} (text : List ℕ) (until : ℕ) (old new : Option (List ℕ)) (plant : PlantValue) (dues : List Due) (r : Result T CommandFault) → IsPlantText text plant → IsPlan plant until dues × (length dues ≤ 100000)
@@ -37,5 +37,5 @@ pub plan_partly : {T : Type 0} (text : List ℕ) (until : ℕ) (old new : Option
 plan_partly text until old new plant dues (Ok x) read plan part late = tt
 plan_partly text until old new plant dues (Err (Text fault)) read plan part late = absurd late
 plan_partly text until old new plant dues (Err (Word fault)) read plan part late = absurd late
-plan_partly text until old new plant dues (Err Write) read plan part late = (record { plant = plant; read = read; dues = dues; planned = plan.0 }, plan.1, part)
-plan_partly text until old new plant dues (Err Memory) read plan part late = inr (record { plant = plant; read = read; dues = dues; planned = plan.0 }, plan.1, part)
+plan_partly text until old new plant dues (Err Write) read plan part late = record { plan = record { plant = plant; read = read; dues = dues; planned = plan.0 }; few = plan.1; sent = part }
+plan_partly text until old new plant dues (Err Memory) read plan part late = inr (record { plan = record { plant = plant; read = read; dues = dues; planned = plan.0 }; few = plan.1; sent = part })

@@ -60,12 +60,16 @@ pub record Planned (text : List ℕ) (until : ℕ) : Type 0 where
   pub planned : IsPlan plant until dues
 
 -- the plan has at most 100,000 entries, and their lines were written
-abbrev pub WritesPlan : List ℕ → ℕ → Option (List ℕ) → Option (List ℕ) → Type 0
-WritesPlan text until old new = (p : Planned text until) × (length p.dues ≤ 100000) × Appends old new (plan_lines p.plant p.dues)
+pub record WritesPlan (text : List ℕ) (until : ℕ) (old new : Option (List ℕ)) : Type 0 where
+  pub plan : Planned text until
+  pub few : length plan.dues ≤ 100000
+  pub appended : Appends old new (plan_lines plan.plant plan.dues)
 
 -- the plan has at most 100,000 entries, and no more than a beginning of their lines was written
-abbrev pub WritesPlanPart : List ℕ → ℕ → Option (List ℕ) → Option (List ℕ) → Type 0
-WritesPlanPart text until old new = (p : Planned text until) × (length p.dues ≤ 100000) × SendsPart (plan_lines p.plant p.dues) old new
+pub record WritesPlanPart (text : List ℕ) (until : ℕ) (old new : Option (List ℕ)) : Type 0 where
+  pub plan : Planned text until
+  pub few : length plan.dues ≤ 100000
+  pub sent : SendsPart (plan_lines plan.plant plan.dues) old new
 
 -- what holds after a refusal by the text: a plan that is too long has more than 100,000 entries
 abbrev pub RefusesPlan : List ℕ → ℕ → TextFault → Type 0

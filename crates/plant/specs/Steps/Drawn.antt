@@ -1,5 +1,5 @@
 -- What is known of program types whose bodies are drawn, and of the first one that is refused.
-use Rattle.std.specs.Prelude.{◌≡◌, ℕ, List, [], ◌∷◌, ◌++◌, map, All, IfOk, Option, None, Some, Result, Ok, Err}
+use Rattle.std.specs.Prelude.{◌≡◌, ℕ, List, [], ◌∷◌, ◌++◌, map, All, IfOk, IfErr, Option, None, Some, Result, Ok, Err}
 use Rattle.std.specs.Global.{Vec}
 use Rattle.ladder_text.specs.declared.place.Place.{Place}
 use Rattle.ladder_text.specs.Rows.{rows_of}
@@ -18,6 +18,7 @@ use Rattle.plant.specs.declared.plant_fault.PlantFault.{PlantFault}
 use Rattle.plant.specs.declared.plant_fault.PlantFaultKind.{PlantFaultKind}
 use Rattle.plant.specs.declared.plant_fault.PlantFaultKind.TheVariants as kind
 use Rattle.plant.specs.declared.tree.Program.{Program}
+use Rattle.plant.specs.Faults.{IsPlantFault}
 use Rattle.plant.specs.Faultless.{variables, IsLadderOf}
 use Rattle.plant.specs.Steps.Reading.{TypeValue}
 
@@ -26,9 +27,9 @@ pub record AreDrawn (programs : List Program) (types : List TypeValue) : Type 0 
   pub programs_are : map (λ (t : TypeValue). t.program) types ≡ programs
   pub ladders : All (λ t. IsLadderOf t.program t.ladder) types
 
--- whatever types a call answers for programs, they are the types of these
+-- whatever types a call answers for programs, they are the types of these; a fault has what belongs to its kind
 abbrev pub Draws : (Vec Program → Result (Vec TypeValue) PlantFault → Type 0) → Type 0
-Draws answers = (texts : Vec Program) (types : Result (Vec TypeValue) PlantFault) → answers texts types → IfOk types (λ ts. AreDrawn texts.items ts.items)
+Draws answers = (texts : Vec Program) (types : Result (Vec TypeValue) PlantFault) → answers texts types → IfOk types (λ ts. AreDrawn texts.items ts.items) × IfErr types IsPlantFault
 
 -- a program's networks have no fault, and their names can't be bound to its variables; this is the first fault
 pub record RefusesNames (p : Program) (fault : BindFault) : Type 0 where

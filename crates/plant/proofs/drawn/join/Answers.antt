@@ -1,5 +1,6 @@
-use Rattle.std.proofs.Common.{rules, ◌≡◌, ◌≢◌, ◌∙◌, ◌∷◌, Ok, Err, Some, ap, sym}
+use Rattle.std.proofs.Common.{rules, ◌⊎◌, inl, ◌≡◌, ◌≢◌, ◌∙◌, ◌∷◌, Ok, Err, Some, ap, sym}
 use Rattle.plant.specs.declared.plant_fault.PlantFaultKind.TheVariants.{Memory}
+use Rattle.plant.specs.Faults.{IsPlantFault}
 use Rattle.plant.specs.Steps.Drawn.{first_fault}
 use Rattle.plant.proofs.Moments.{kept_fault}
 use Rattle.plant.proofs.DrawnLemmas.{joined_more, none_failed_more}
@@ -22,3 +23,10 @@ returns-in_err-batch-clause-fault c =
     let front : c.loop-batch.batch-iterator.rest.items ≡ Err fault ∷ c.next.new.self.rest.items = search rules in
     kept_fault fault (λ f. f.kind ≢ Memory → first_fault c.args.batches.items ≡ Some f) _ c.from_residual.ensures.1
     (λ other. sym c.loop-batch.invariant.fault_is ∙ ap first_fault front)
+
+pub returns-in_err-batch-clause-value : goal.returns-in_err-batch-clause-value
+returns-in_err-batch-clause-value c =
+    let fault = c.in_err-batch.field-0.0 in
+    let front : c.loop-batch.batch-iterator.rest.items ≡ Err fault ∷ c.next.new.self.rest.items = search rules in
+    kept_fault fault (λ f. (first_fault c.args.batches.items ≡ Some f) ⊎ IsPlantFault f) _ c.from_residual.ensures.1
+    (inl (sym c.loop-batch.invariant.fault_is ∙ ap first_fault front))

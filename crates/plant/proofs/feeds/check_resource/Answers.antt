@@ -10,9 +10,9 @@ use Rattle.plant.proofs.feeds.check_resource.Goals as goal
 pub loop-item-preserved : goal.loop-item-preserved
 loop-item-preserved c =
     rw (← c.deref-item-items.ensures.value) (all_flat_more (IsUseResolved (drafted c.args.drafts.now) c.args.types.now) use_of c.deref-item-items.result.now c.loop-item.item-index c.item-item.result
-    c.loop-item-test.true c.item-item.is (rw c.deref-item-items.ensures.value c.loop-item.invariant) c.in_ok-check_item.ensures)
+    c.loop-item-test.true c.item-item.is (rw c.deref-item-items.ensures.value c.loop-item.invariant) c.in_ok-check_item.ensures.ok)
 
-pub returns : goal.returns
-returns c =
+pub returns-clause-ok : goal.returns-clause-ok
+returns-clause-ok c =
     rw (← c.deref-item-items.ensures.value) (subst (λ xs. All (IsUseResolved (drafted c.args.drafts.now) c.args.types.now) (flat_map use_of xs)) (take_all c.loop-item.item-index c.deref-item-items.result.now c.loop-item-test.false)
     (rw c.deref-item-items.ensures.value c.loop-item.invariant))

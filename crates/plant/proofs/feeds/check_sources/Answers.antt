@@ -10,8 +10,8 @@ use Rattle.plant.proofs.feeds.check_sources.Goals as goal
 pub loop-resource-preserved : goal.loop-resource-preserved
 loop-resource-preserved c =
     all_flat_more (IsUseResolved (drafted c.args.drafts.now) c.args.types.now) uses_of c.args.resources.now c.loop-resource.resource-index c.resource-item.result
-    c.loop-resource-test.true c.resource-item.is c.loop-resource.invariant c.in_ok-check_resource.ensures
+    c.loop-resource-test.true c.resource-item.is c.loop-resource.invariant c.in_ok-check_resource.ensures.ok
 
-pub returns : goal.returns
-returns c =
+pub returns-clause-ok : goal.returns-clause-ok
+returns-clause-ok c =
     subst (λ rs. All (IsUseResolved (drafted c.args.drafts.now) c.args.types.now) (flat_map uses_of rs)) (take_all c.loop-resource.resource-index c.args.resources.now c.loop-resource-test.false) c.loop-resource.invariant

@@ -5,8 +5,8 @@ use Rattle.plant.specs.Steps.Reading.{TypeValue}
 use Rattle.std.proofs.lemmas.Result.{on_ok_weaker}
 use Rattle.plant.proofs.feeds.check_use.Goals as goal
 
-pub returns : goal.returns
-returns c =
+pub returns-clause-ok : goal.returns-clause-ok
+returns-clause-ok c =
     let found : find (λ (t : TypeValue). is_named c.args.run.now.program t.program.name) c.args.types.now ≡ Some c.in-Some.found.now = search rules in
-    let each = rw (c.binds_of.ensures, c.declarations.ensures.list, c.deref.ensures, c.ladder.ensures.ladder) at c.check_binds.ensures in
+    let each = rw (c.binds_of.ensures, c.declarations.ensures.list, c.deref.ensures, c.ladder.ensures.ladder) at c.check_binds.ensures.ok in
     on_ok_weaker c.check_binds.result (λ all. record { type = c.in-Some.found.now; type_is = found; each = all }) each

@@ -22,7 +22,7 @@ loop-i-preserved c =
     let at' : slice_get c.args.programs.now i ≡ Some program = slice_get_read c.args.programs.now (length c.args.programs.now) i program refl c.loop-i-test.true c.index-programs-i.is in
     let grown = ap length c.in_ok-push.ensures.items in
     let longer = length_push c.loop-i.all.items c.in_ok-found.found in
-    let found = rw (c.binds_of.ensures, c.declarations-declarations.ensures.list, c.ladder.ensures) at c.in_ok-found.ensures in
+    let found = rw (c.binds_of.ensures, c.declarations-declarations.ensures.list, c.ladder.ensures) at c.in_ok-found.ensures.ok in
     record {
       many = omega arith;
       each = triples_more (AreFeedsOf (drafted c.args.drafts.now)) (λ (f : Vec Feed Global). f.items) (map (λ (u : Bor Use). u.now) runs) c.args.programs.now c.loop-i.all.items c.push.new.self.items i

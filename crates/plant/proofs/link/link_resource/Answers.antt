@@ -9,8 +9,8 @@ use Rattle.plant.specs.Steps.Drafts.{drafted}
 use Rattle.plant.proofs.StandLemmas.{resource_made}
 use Rattle.plant.proofs.link.link_resource.Goals as goal
 
-pub returns : goal.returns
-returns c =
+pub returns-clause-ok : goal.returns-clause-ok
+returns-clause-ok c =
     let lines = c.in_ok-lines.lines.items in
     let listed = map (λ (t : Bor TaskLine). t.now) lines in
     let codes = map (λ (e : Arc TaskCode Global). e.value) c.in_ok-codes.codes.items in

@@ -49,7 +49,7 @@ loop-i-preserved c =
       many = omega arith;
       each = triples_push (IsResourceLinked (drafted drafts)) resources drafts c.loop-i.linked.items c.push.new.self.items i resource draft c.in_ok-resource.resource c.loop-i.invariant.many
           (slice_get_read resources (length resources) i resource refl here c.index-resources-i.is) (slice_get_read drafts (length drafts) i draft refl c.loop-i-test.true c.index-drafts-i.is)
-          c.loop-i.invariant.each c.in_ok-resource.ensures c.in_ok-push.ensures.items;
+          c.loop-i.invariant.each c.in_ok-resource.ensures.ok c.in_ok-push.ensures.items;
     }
 
 pub returns-clause-many : goal.returns-clause-many

@@ -50,8 +50,8 @@ new-requires c =
     let is = linked_copy plant us draft fs ps es bs c.programs.ensures.outputs many c.requires.once fed feeds producers kinds placed c.in_ok-programs.programs.items c.in_ok-outputs.outputs.items programs outputs in
     is.sound
 
-pub returns : goal.returns
-returns c =
+pub returns-clause-ok : goal.returns-clause-ok
+returns-clause-ok c =
     let plant = drafted c.args.drafts.now in
     let us = map (λ (u : Bor Use). u.now) c.args.runs.now in
     let draft = c.args.draft.now in

@@ -59,7 +59,7 @@ loop-i-preserved c =
       many = omega arith;
       each = triples_more (λ t d e. IsLinked (drafted c.args.drafts.now) (runs_in r t) d e) (λ (e : Arc TaskCode Global). e.value) lines drafts c.loop-i.codes.items c.push.new.self.items i task.now draft
           c.in_ok-code.code c.loop-i.invariant.many (ref_at tasks i task here c.index-tasks-i.is) (slice_get_read drafts (length drafts) i draft refl c.loop-i-test.true c.index-task_drafts-i.is)
-          c.loop-i.invariant.each c.in_ok-code.ensures c.in_ok-push.ensures.items;
+          c.loop-i.invariant.each c.in_ok-code.ensures.ok c.in_ok-push.ensures.items;
     }
 
 pub returns-clause-many : goal.returns-clause-many

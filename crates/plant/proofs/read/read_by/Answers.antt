@@ -10,9 +10,9 @@ use Rattle.plant.specs.Steps.Lines.{WordValue, ReaderValue}
 use Rattle.plant.proofs.KnownWords.{words_known}
 use Rattle.plant.proofs.read.read_by.Goals as goal
 
-pub returns : goal.returns
-returns g c =
-    let read = c.in_ok-reading.ensures in
+pub returns-clause-ok : goal.returns-clause-ok
+returns-clause-ok g c =
+    let read = c.in_ok-reading.ensures.ok in
     let tree = tree_of read.name c.in_ok-reading.reading in
     let spelled = map (λ (w : WordValue). w.token) c.in_ok-words.words in
     let words : spelled ≡ words_of tree =
@@ -22,5 +22,5 @@ returns g c =
       tree = tree;
       spelled = subst (λ (ws : List Token). Spells (without_last 13 c.args.text.now) ws) words (c.in_ok-words.ensures known);
       faultless = read.faultless;
-      stands = c.in_ok-plant.ensures read.name;
+      stands = c.in_ok-plant.ensures.ok read.name;
     }

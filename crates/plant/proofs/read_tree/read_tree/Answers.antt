@@ -8,8 +8,8 @@ use Rattle.plant.specs.Steps.ReadParts.{tally_with, types_alone, AreResourcesLaw
 use Rattle.plant.proofs.TreeLemmas.{reading_is}
 use Rattle.plant.proofs.read_tree.read_tree.Goals as goal
 
-pub returns : goal.returns
-returns g c =
+pub returns-clause-ok : goal.returns-clause-ok
+returns-clause-ok g c =
     let texts = c.programs-programs.new.texts.items in
     let types = c.in_ok-types.types.items in
     let resources = c.in_ok-resources.resources.items in

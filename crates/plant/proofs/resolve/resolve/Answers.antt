@@ -15,15 +15,15 @@ link_resources-requires-clause-ready c =
 pub new-requires : goal.new-requires
 new-requires c =
     let reading = c.args.reading.now in
-    let known = rw (c.types-types.ensures, c.resources-resources.ensures) at c.in_ok-drafts.ensures in
+    let known = rw (c.types-types.ensures, c.resources-resources.ensures) at c.in_ok-drafts.ensures.ok in
     let many = c.in_ok-linked.ensures.many ∙ ap length c.resources-resources.ensures in
     let linked = rw (c.as_slice-2.ensures.value, c.resources-resources.ensures) at c.in_ok-linked.ensures.each in
     sound (programs_in reading.types) c.requires.0 reading.resources c.in_ok-drafts.drafts.items c.in_ok-linked.linked.items known many linked
 
-pub returns : goal.returns
-returns c = λ name.
+pub returns-clause-ok : goal.returns-clause-ok
+returns-clause-ok c = λ name.
     let reading = c.args.reading.now in
-    let known = rw (c.types-types.ensures, c.resources-resources.ensures) at c.in_ok-drafts.ensures in
+    let known = rw (c.types-types.ensures, c.resources-resources.ensures) at c.in_ok-drafts.ensures.ok in
     let many = c.in_ok-linked.ensures.many ∙ ap length c.resources-resources.ensures in
     let linked = rw (c.as_slice-2.ensures.value, c.resources-resources.ensures) at c.in_ok-linked.ensures.each in
     subst (IsPlantOf (tree_of name reading)) (sym c.new.ensures) (stands (programs_in reading.types) name reading.resources c.in_ok-drafts.drafts.items c.in_ok-linked.linked.items known many linked)

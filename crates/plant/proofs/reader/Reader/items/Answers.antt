@@ -19,4 +19,5 @@ returns c = record {
   ok = items_done c.items.items.items c.args.self.now.words c.items.self.words c.keyword.new.self.words c.items.invariant.words c.in_ok-keyword.ensures.ok;
   lawful = c.items.invariant.lawful;
   tally = c.items.invariant.tally;
+  value = tt;
 }

@@ -15,4 +15,5 @@ returns c = record {
   ok = lists_done c.lists.lists.items c.args.self.now.words c.lists.self.words c.keyword.new.self.words c.lists.invariant.words c.in_ok-keyword.ensures.ok;
   declared = c.lists.invariant.declared;
   lawful = c.lists.invariant.lawful;
+  value = tt;
 }
