@@ -1,2 +1,2 @@
--- Steps of the proofs: what the parts of a world are. Only contracts inside this crate cite them, so no reader has to believe them.
-pub mod Nodes
+-- Steps of the proofs: the cores halfway. Only contracts inside this crate cite them, so no reader has to believe them.
+pub mod Fresh
