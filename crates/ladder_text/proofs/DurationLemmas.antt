@@ -1,10 +1,10 @@
 -- Durations are spelled by their parts.
-use Rattle.std.proofs.Common.{ℕ, zero, suc, ◌+◌, ◌-◌, ◌*◌, ◌<◌, ◌≤◌, ◌≡◌, ◌==◌, ◌||◌, ◌&&◌, not, List, [], ◌∷◌, ◌++◌, length, take, drop, take_while, refl, sym, ap, ◌∙◌, subst, arith, Bool, true, false, IsTrue, ◌⊎◌, inl, inr, nat_lt, append_assoc}
+use Rattle.std.proofs.Common.{ℕ, zero, suc, ◌<◌, ◌≡◌, ◌==◌, ◌||◌, List, [], ◌∷◌, ◌++◌, length, take, drop, take_while, refl, sym, ap, ◌∙◌, subst, arith, Bool, true, false, IsTrue, ◌⊎◌, inl, inr, nat_lt, append_assoc}
 use Rattle.std.specs.List.{prefix_len}
 use Rattle.std.proofs.lemmas.Bool.{and_parts, both_ways, ltb-true, eqb-true}
 use Rattle.std.proofs.lemmas.List.{append-nil}
 use Rattle.ladder_text.specs.Chars.{is_letter, is_digit_or_score, is_number, unit_rank, without_score, part_rest, part_unit, part_more, is_part, is_parts}
-use Rattle.ladder_text.specs.Numbers.{number_value, unit_length, parts_value}
+use Rattle.ladder_text.specs.Numbers.{parts_value}
 use Rattle.ladder_text.specs.Durations.{Part, AreParts, IsSpelling, milliseconds}
 
 front_back : (n : ℕ) (xs : List ℕ) → take n xs ++ drop (length (take n xs)) xs ≡ xs
@@ -46,6 +46,7 @@ with_more n above w m r e some is score f g (q ∷ qs, s, h, v) = (first_part w 
     spelled : ((m ≡ r) ⊎ (m ≡ 95 ∷ r)) → (w ≡ take_while is_digit_or_score w ++ part_unit w ++ r) ⊎ (w ≡ take_while is_digit_or_score w ++ part_unit w ++ 95 ∷ r)
     spelled (inl i) = inl (sym (word_parts w) ∙ ap (λ xs. take_while is_digit_or_score w ++ part_unit w ++ xs) (e ∙ i))
     spelled (inr i) = inr (sym (word_parts w) ∙ ap (λ xs. take_while is_digit_or_score w ++ part_unit w ++ xs) (e ∙ i))
+
     value : parts_value (suc n) w ≡ milliseconds (first_part w ∷ q ∷ qs)
     value = rw (e, some, score, v) refl
 
@@ -65,6 +66,7 @@ more_spelled n above w (c ∷ m) e f g t ih = by_score (c == 95) refl
   where
     u : is_parts n (unit_rank (part_unit w)) (without_score (c ∷ m)) ≡ true
     u = none_or (length (c ∷ m) == 0) (is_parts n (unit_rank (part_unit w)) (without_score (c ∷ m))) (not_empty c m) t
+
     by_score : (b : Bool) → (c == 95) ≡ b → AreOf (suc n) above w
     by_score true s =
         let r : without_score (c ∷ m) ≡ m = rw s refl in

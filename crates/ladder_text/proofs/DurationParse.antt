@@ -1,11 +1,11 @@
 -- A word that parts spell is read as these parts.
-use Rattle.std.proofs.Common.{ℕ, zero, suc, ◌+◌, ◌-◌, ◌*◌, ◌<◌, ◌≤◌, ◌≡◌, ◌==◌, if◌then◌else◌, ◌||◌, ◌&&◌, List, [], ◌∷◌, ◌++◌, length, take, drop, take_while, map, refl, sym, ap, ◌∙◌, subst, arith, rules, tests, Bool, true, false, IsTrue, ◌⊎◌, inl, inr, nat_lt, nat_le, codes, length-append}
+use Rattle.std.proofs.Common.{ℕ, zero, suc, ◌+◌, ◌*◌, ◌<◌, ◌≤◌, ◌≡◌, ◌==◌, if◌then◌else◌, ◌||◌, ◌&&◌, List, [], ◌∷◌, ◌++◌, length, drop, take_while, map, refl, sym, ap, ◌∙◌, subst, arith, rules, tests, Bool, true, false, IsTrue, inl, inr, nat_lt, codes, length-append}
 use Rattle.std.specs.List.{list_all}
 use Rattle.std.specs.Char.{to_ascii_lowercase}
 use Rattle.std.specs.Option.{unwrap_or}
 use Rattle.std.specs.Str.{str_to_ascii_lowercase}
 use Rattle.std.proofs.Math.Seq.{drop-append_seam}
-use Rattle.std.proofs.lemmas.Bool.{and_parts, and_from, both_ways, eqb-true, eq-eqb}
+use Rattle.std.proofs.lemmas.Bool.{and_parts, and_from, both_ways, eqb-true}
 use Rattle.std.proofs.lemmas.List.{append_assoc, append-nil}
 use Rattle.std.proofs.lemmas.List.Sums.{take_while-cons}
 use Rattle.std.proofs.lemmas.Slice.Eq.{bytes_eq-Decides}
@@ -165,7 +165,7 @@ value_read n p w t r =
 last_read : (n above : ℕ) (p : Part) (w : List ℕ) → IsReadAs w p.number p.unit [] → IsTrue (is_number p.number) → above < unit_rank p.unit → IsAll (suc n) above (p ∷ []) w
 last_read n above p w r f g = (
   and_from (is_part above w) (length (part_more w) == 0 || is_parts n (unit_rank (part_unit w)) (without_score (part_more w))) (part_read above p w [] r f g)
-  (or_first (length (part_more w) == 0) (is_parts n (unit_rank (part_unit w)) (without_score (part_more w))) (subst (λ (xs : List ℕ). (length xs == 0) ≡ true) (sym r.more) refl)),
+      (or_first (length (part_more w) == 0) (is_parts n (unit_rank (part_unit w)) (without_score (part_more w))) (subst (λ (xs : List ℕ). (length xs == 0) ≡ true) (sym r.more) refl)),
   value_read n p w [] r,
 )
 
@@ -178,7 +178,7 @@ more_read n above p q ps w t v r some score f g ih =
     let rest : (if length t == 0 then 0 else parts_value n (without_score t)) ≡ milliseconds (q ∷ ps)
     = ap (λ (b : Bool). if b then 0 else parts_value n (without_score t)) some ∙ ap (λ (xs : List ℕ). parts_value n xs) score ∙ ih.1 in (
       and_from (is_part above w) (length (part_more w) == 0 || is_parts n (unit_rank (part_unit w)) (without_score (part_more w))) (part_read above p w t r f g)
-      (or_second (length (part_more w) == 0) (is_parts n (unit_rank (part_unit w)) (without_score (part_more w))) there),
+          (or_second (length (part_more w) == 0) (is_parts n (unit_rank (part_unit w)) (without_score (part_more w))) there),
       value_read n p w t r ∙ ap (λ (k : ℕ). number_value p.number * unit_length (unit_rank p.unit) + k) rest,
     )
 

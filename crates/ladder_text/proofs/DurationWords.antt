@@ -1,5 +1,5 @@
 -- Durations are the words that parts spell behind `T#` or `TIME#`.
-use Rattle.std.proofs.Common.{ℕ, zero, suc, ◌+◌, ◌-◌, ◌*◌, ◌<◌, ◌≤◌, ◌≡◌, ◌==◌, ◌||◌, ◌&&◌, if◌then◌else◌, List, [], ◌∷◌, ◌++◌, length, take, drop, map, get_or, Option, Some, None, refl, sym, ap, ◌∙◌, subst, arith, Bool, true, false, IsTrue, ◌⊎◌, inl, inr, nat_le, codes, length-append}
+use Rattle.std.proofs.Common.{ℕ, ◌+◌, ◌≤◌, ◌≡◌, ◌||◌, ◌&&◌, if◌then◌else◌, List, [], ◌∷◌, ◌++◌, length, take, drop, map, get_or, None, refl, sym, ap, ◌∙◌, subst, arith, Bool, true, false, IsTrue, ◌⊎◌, inl, inr, nat_le, codes, length-append}
 use Rattle.std.specs.Char.{to_ascii_lowercase}
 use Rattle.std.specs.Str.{str_to_ascii_lowercase}
 use Rattle.std.proofs.Math.Seq.{drop-append_seam, take-append_seam}
@@ -61,8 +61,8 @@ behind_read p n f r ps e named s a =
     let few : length ps ≤ length (f ++ r) = omega (arith, spelled_long ps r 0 s a) in
     let w = spelled_parts ps (length (f ++ r)) 0 r few s a in (
       and_from (nat_le n (length (f ++ r)) && same_word (take n (f ++ r)) p) (has_parts (length (f ++ r)) (drop n (f ++ r)))
-      (and_from (nat_le n (length (f ++ r))) (same_word (take n (f ++ r)) p) (le_true n (length (f ++ r)) (omega arith)) (subst (λ (xs : List ℕ). same_word xs p ≡ true) (sym front) named))
-      (subst (λ (xs : List ℕ). has_parts (length (f ++ r)) xs ≡ true) (sym rest) w.0),
+          (and_from (nat_le n (length (f ++ r))) (same_word (take n (f ++ r)) p) (le_true n (length (f ++ r)) (omega arith)) (subst (λ (xs : List ℕ). same_word xs p ≡ true) (sym front) named))
+          (subst (λ (xs : List ℕ). has_parts (length (f ++ r)) xs ≡ true) (sym rest) w.0),
       ap (λ (xs : List ℕ). parts_value (length (f ++ r)) xs) rest ∙ w.1,
     )
 
@@ -87,14 +87,16 @@ read_by : (f r : List ℕ) (ps : List Part) → (IsTrue (same_word f (codes "T#"
     → (is_duration (f ++ r) ≡ true) × (duration_value (f ++ r) ≡ milliseconds ps)
 unfolding is_duration duration_value
 read_by f r ps (inl t) s a =
-    let w = behind_read (codes "T#") 2 f r ps (sym (same_long f (codes "T#") t)) t s a in
-    (ap (λ (b : Bool). b || is_duration_behind (codes "TIME#") 5 (f ++ r)) w.0,
-      ap (λ (b : Bool). if b then parts_value (length (f ++ r)) (drop 2 (f ++ r)) else parts_value (length (f ++ r)) (drop 5 (f ++ r))) w.0 ∙ w.1)
+    let w = behind_read (codes "T#") 2 f r ps (sym (same_long f (codes "T#") t)) t s a in (
+      ap (λ (b : Bool). b || is_duration_behind (codes "TIME#") 5 (f ++ r)) w.0,
+      ap (λ (b : Bool). if b then parts_value (length (f ++ r)) (drop 2 (f ++ r)) else parts_value (length (f ++ r)) (drop 5 (f ++ r))) w.0 ∙ w.1,
+    )
 read_by f r ps (inr t) s a =
     let w = behind_read (codes "TIME#") 5 f r ps (sym (same_long f (codes "TIME#") t)) t s a in
-    let n = short_not f r t in
-    (ap (λ (b : Bool). b || is_duration_behind (codes "TIME#") 5 (f ++ r)) n ∙ w.0,
-      ap (λ (b : Bool). if b then parts_value (length (f ++ r)) (drop 2 (f ++ r)) else parts_value (length (f ++ r)) (drop 5 (f ++ r))) n ∙ w.1)
+    let n = short_not f r t in (
+      ap (λ (b : Bool). b || is_duration_behind (codes "TIME#") 5 (f ++ r)) n ∙ w.0,
+      ap (λ (b : Bool). if b then parts_value (length (f ++ r)) (drop 2 (f ++ r)) else parts_value (length (f ++ r)) (drop 5 (f ++ r))) n ∙ w.1,
+    )
 
 duration_read : (w : List ℕ) (ps : List Part) → IsDurationOf w ps → (is_duration w ≡ true) × (duration_value w ≡ milliseconds ps)
 duration_read w ps d = subst (λ (xs : List ℕ). (is_duration xs ≡ true) × (duration_value xs ≡ milliseconds ps)) (sym d.whole) (read_by d.front d.rest ps d.named d.spelled d.parts)
