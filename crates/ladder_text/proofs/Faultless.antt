@@ -1,5 +1,5 @@
 -- A text without a fault is well drawn.
-use Rattle.std.proofs.Common.{ℕ, ◌+◌, ◌-◌, ◌<◌, ◌≤◌, ◌≡◌, List, length, get_or, Option, Some, None, refl, arith, Bool, true, false, IsTrue, IsFalse, inl, inr}
+use Rattle.std.proofs.Common.{ℕ, ◌<◌, ◌≤◌, ◌≡◌, List, length, Option, Some, None, refl, arith, Bool, true, false, IsTrue, IsFalse, inl, inr}
 use Rattle.std.specs.List.{list_any}
 use Rattle.std.proofs.lemmas.Bool.{cases_lt, both_ways}
 use Rattle.std.proofs.lemmas.List.Folds.{Any-from_list_any}
@@ -14,7 +14,7 @@ use Rattle.ladder_text.specs.Rows.{Rows, width}
 use Rattle.ladder_text.specs.Boxes.{left_column, outlines}
 use Rattle.ladder_text.specs.Places.{layout_of}
 use Rattle.ladder_text.specs.Names.{words, things}
-use Rattle.ladder_text.specs.Faults.{IsFoundAt, IsWellDrawn, IsNamed, Nowhere, has_fault, not_ascii, no_left_rail, bad_box, boxes_apart, name_missing, stray_name, is_stray_operand, has_stray_pin, has_stray_operand}
+use Rattle.ladder_text.specs.Faults.{IsFoundAt, IsWellDrawn, Nowhere, has_fault, not_ascii, no_left_rail, bad_box, boxes_apart, name_missing, stray_name, is_stray_operand, has_stray_pin, has_stray_operand}
 use Rattle.ladder_text.specs.FirstFault.{IsFaultless, IsSpanAt, IsStrayPinAt, IsStrayOperandAt, shares_before}
 use Rattle.ladder_text.specs.Steps.Search.{IsNone}
 use Rattle.ladder_text.proofs.BoxOrder.{all_apart}

@@ -28,3 +28,6 @@ pub mod WordOrder
 pub mod SizeLemmas
 pub mod FirstFaults
 pub mod Faultless
+pub mod DurationLemmas
+pub mod DurationParse
+pub mod DurationWords

@@ -93,7 +93,7 @@ beyond_first d large = go (first_long d) refl
             | inl v ↦ inl (omega (arith, v.1))
             | inr v ↦ elim (cases_lt i k) [
               | inl h ↦ absurd (both_ways (is_long (get_or (take 2001 d) i [])) (p.2 i h)
-              (long-true (length (get_or (take 2001 d) i [])) (subst (λ (row : List ℕ). 241 < length row) (sym (get_or-take 2001 d i [] (omega arith))) v.0)))
+                  (long-true (length (get_or (take 2001 d) i [])) (subst (λ (row : List ℕ). 241 < length row) (sym (get_or-take 2001 d i [] (omega arith))) v.0)))
               | inr h ↦ elim (cases_lt k i) [
                 | inl l ↦ inl l
                 | inr l ↦ inr (omega arith, omega (arith, v.1))

@@ -1,6 +1,7 @@
 pub mod Rows
 pub mod Chars
 pub mod Numbers
+pub mod Durations
 pub mod Boxes
 pub mod Places
 pub mod Names

@@ -169,23 +169,11 @@ right_pin_at r c b = meets_row r b && c == b.right && list_any (pin_on side.Righ
 abbrev pub is_right_pin : List Outline → ℕ → ℕ → Bool
 is_right_pin bs r c = list_any (right_pin_at r c) bs
 
--- (r, c) is on the left side of a box on the row of a left pin
-abbrev pub left_pin_at : ℕ → ℕ → Outline → Bool
-left_pin_at r c b = meets_row r b && c == b.left && list_any (pin_on side.Left r) b.pins
-
--- the same for some box
-abbrev pub is_left_pin : List Outline → ℕ → ℕ → Bool
-is_left_pin bs r c = list_any (left_pin_at r c) bs
-
 -- state may leave (r, c) to its right
 unfoldable pub gives : Layout → ℕ → ℕ → Bool
 gives p r c =
     let m = mark p r c in
     (is_rail m && c == p.left) || is_line m || is_right_pin p.boxes r c
-
--- state may enter (r, c) from its left
-unfoldable pub takes : Layout → ℕ → ℕ → Bool
-takes p r c = is_line (mark p r c) || is_left_pin p.boxes r c
 
 -- the layout of some rows
 unfoldable pub layout_of : Rows → Layout

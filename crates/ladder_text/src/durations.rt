@@ -1,6 +1,7 @@
 //! What durations look like, and how much they are.
 
-ghost use Rattle.std.specs.Prelude.{◌≡◌, ◌≤◌, ◌*◌, length, take_while, drop};
+ghost use Rattle.std.specs.Prelude.{◌≡◌, ◌≤◌, ◌*◌, List, None, IsTrue, length, take_while, drop};
+ghost use Rattle.ladder_text.specs.Durations.{Part, IsDurationOf, milliseconds};
 ghost use Rattle.ladder_text.specs.Chars.{is_letter, is_digit_or_score, unit_rank, without_score, part_rest, part_unit, part_more, is_part, is_parts, has_parts, is_duration_behind, is_duration};
 ghost use Rattle.ladder_text.specs.Numbers.{number_value, unit_length, parts_value, duration_value, limited, duration_up_to};
 
@@ -156,9 +157,11 @@ fn is_duration_behind(front: &[u8], len: usize, word: &[u8]) -> bool
 /// Whether a word is a duration: `T#` or `TIME#`, and then parts such as `1d`, `2h`, `3m`, `4s` or `500ms`. Each part is
 /// a number (see [`is_number`]) and a unit, the units fall, and one underscore may stand between two parts. The case of
 /// letters doesn't count.
-#[tactic(auto, unfolding(crate::specs::Chars::is_duration))]
+#[tactic(auto, unfolding(crate::specs::Chars::is_duration), using(crate::proofs::DurationWords::duration_spelled))]
 pub fn is_duration(word: &[u8]) -> bool
-    ensures { result ≡ is_duration word.now }
+    ensures value { result ≡ is_duration word.now }
+    ensures spelled { IsTrue result → (ps : List Part) × IsDurationOf word.now ps }
+    ensures every { (ps : List Part) → IsDurationOf word.now ps → IsTrue result }
 {
     is_duration_behind(b"T#", 2, word) || is_duration_behind(b"TIME#", 5, word)
 }
@@ -201,9 +204,11 @@ fn milliseconds_up_to(word: &[u8], most: u64) -> Option<u64>
 }
 
 /// How many milliseconds a duration is (see [`is_duration`]). `None`: the word is no duration, or it is above `most`.
-#[tactic(auto, unfolding(crate::specs::Numbers::duration_up_to))]
+#[tactic(auto, unfolding(crate::specs::Numbers::duration_up_to), using(crate::proofs::DurationWords::duration_none))]
 pub fn duration_up_to(word: &[u8], most: u64) -> Option<u64>
-    ensures { result ≡ duration_up_to most word.now }
+    ensures value { result ≡ duration_up_to most word.now }
+    ensures sum { (ps : List Part) → IsDurationOf word.now ps → result ≡ limited most (milliseconds ps) }
+    ensures none { ((ps : List Part) → IsDurationOf word.now ps → ⊥) → result ≡ None }
 {
     if is_duration(word) {
         milliseconds_up_to(word, most)

@@ -45,11 +45,11 @@ returns-in_err-check_names-clause-first c =
     let p = c.in_err-check_names.field-0.0.place in
     let first : k ≢ Memory → IsFirstFault (rows_of c.args.text.now) k p.row p.column
     = λ n.
-        let words : IsFirstFrom c.in_ok-page.page 5 k p.row p.column
-        = of_words c.in_ok-page.page c.in_ok-worded.worded k p.row p.column c.in_ok-worded.ensures c.in_ok-check_places.ensures.none (c.in_err-check_names.ensures.first n) in
-        let places : IsFirstFrom c.in_ok-sheet.sheet 5 k p.row p.column = subst (λ (d : Rows). IsFirstFrom d 5 k p.row p.column) c.in_ok-page.ensures words in
-        let sheet : IsFirstFrom c.in_ok-grid.grid 4 k p.row p.column = of_sheet c.in_ok-grid.grid c.in_ok-sheet.sheet k p.row p.column s.same s.whole s.apart places in
-        subst (λ (d : Rows). IsFirstFault d k p.row p.column) g.same (behind_grid c.in_ok-grid.grid k p.row p.column g.ascii g.low g.narrow g.drawn g.left_rail sheet) in
+    let words : IsFirstFrom c.in_ok-page.page 5 k p.row p.column
+    = of_words c.in_ok-page.page c.in_ok-worded.worded k p.row p.column c.in_ok-worded.ensures c.in_ok-check_places.ensures.none (c.in_err-check_names.ensures.first n) in
+    let places : IsFirstFrom c.in_ok-sheet.sheet 5 k p.row p.column = subst (λ (d : Rows). IsFirstFrom d 5 k p.row p.column) c.in_ok-page.ensures words in
+    let sheet : IsFirstFrom c.in_ok-grid.grid 4 k p.row p.column = of_sheet c.in_ok-grid.grid c.in_ok-sheet.sheet k p.row p.column s.same s.whole s.apart places in
+    subst (λ (d : Rows). IsFirstFault d k p.row p.column) g.same (behind_grid c.in_ok-grid.grid k p.row p.column g.ascii g.low g.narrow g.drawn g.left_rail sheet) in
     search (rules, first)
 
 pub returns-in_err-check_strays-clause-first : goal.returns-in_err-check_strays-clause-first
@@ -60,9 +60,9 @@ returns-in_err-check_strays-clause-first c =
     let p = c.in_err-check_strays.field-0.0.place in
     let first : k ≢ Memory → IsFirstFault (rows_of c.args.text.now) k p.row p.column
     = λ n.
-        let names : IsFirstFrom c.in_ok-worded.worded 8 k p.row p.column = behind_names c.in_ok-worded.worded k p.row p.column c.in_ok-check_names.ensures.named (c.in_err-check_strays.ensures.first n) in
-        let words : IsFirstFrom c.in_ok-page.page 5 k p.row p.column = of_words c.in_ok-page.page c.in_ok-worded.worded k p.row p.column c.in_ok-worded.ensures c.in_ok-check_places.ensures.none names in
-        let places : IsFirstFrom c.in_ok-sheet.sheet 5 k p.row p.column = subst (λ (d : Rows). IsFirstFrom d 5 k p.row p.column) c.in_ok-page.ensures words in
-        let sheet : IsFirstFrom c.in_ok-grid.grid 4 k p.row p.column = of_sheet c.in_ok-grid.grid c.in_ok-sheet.sheet k p.row p.column s.same s.whole s.apart places in
-        subst (λ (d : Rows). IsFirstFault d k p.row p.column) g.same (behind_grid c.in_ok-grid.grid k p.row p.column g.ascii g.low g.narrow g.drawn g.left_rail sheet) in
+    let names : IsFirstFrom c.in_ok-worded.worded 8 k p.row p.column = behind_names c.in_ok-worded.worded k p.row p.column c.in_ok-check_names.ensures.named (c.in_err-check_strays.ensures.first n) in
+    let words : IsFirstFrom c.in_ok-page.page 5 k p.row p.column = of_words c.in_ok-page.page c.in_ok-worded.worded k p.row p.column c.in_ok-worded.ensures c.in_ok-check_places.ensures.none names in
+    let places : IsFirstFrom c.in_ok-sheet.sheet 5 k p.row p.column = subst (λ (d : Rows). IsFirstFrom d 5 k p.row p.column) c.in_ok-page.ensures words in
+    let sheet : IsFirstFrom c.in_ok-grid.grid 4 k p.row p.column = of_sheet c.in_ok-grid.grid c.in_ok-sheet.sheet k p.row p.column s.same s.whole s.apart places in
+    subst (λ (d : Rows). IsFirstFault d k p.row p.column) g.same (behind_grid c.in_ok-grid.grid k p.row p.column g.ascii g.low g.narrow g.drawn g.left_rail sheet) in
     search (rules, first)

@@ -16,13 +16,13 @@ loop-thing-preserved c =
     let before = c.loop-thing.invariant in
     let none : Span = record { first = 0; end = 0 } in
     elim c.if-is_unnamed.branch [
-      | then-is_unnamed w ↦ 
+      | then-is_unnamed w ↦
           let t = sym c.is_unnamed.ensures ∙ w.if-is_unnamed.true in
           record {
             any = ap (λ (o : Option ℕ). is_some o) w.first-is ∙ sym (any_found test xs i none h t);
             first = rw w.first-is (span_found test xs i _ none c.loop-thing.first w.least.result h refl before.first t w.least.ensures);
           }
-      | else-is_unnamed w ↦ 
+      | else-is_unnamed w ↦
           let t = sym c.is_unnamed.ensures ∙ w.if-is_unnamed.false in
           record {
             any = ap (λ (o : Option ℕ). is_some o) w.first-is ∙ before.any ∙ sym (any_passed test xs i none h t);
