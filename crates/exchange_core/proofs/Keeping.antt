@@ -7,13 +7,13 @@ use Rattle.plant.specs.PlantValue.{CodeValue, PlantValue, code_at, expected_at, 
 use Rattle.evaluation.specs.declared.field_input.FieldInput.{FieldInput}
 use Rattle.evaluation.specs.Meaning.{Evaluated}
 use Rattle.exchange_core.specs.Last.{same_task}
-use Rattle.exchange_core.specs.Held.{known, with_known, has_place}
+use Rattle.exchange_core.specs.Held.{known, with_known}
 use Rattle.exchange_core.specs.CoreValue.{CoreValue, fresh_core, own_task, IsUsable, IsNextOf, IsCore, IsKnownOf}
-use Rattle.exchange_core.specs.Steps.Knowing.{FitsLast}
+use Rattle.exchange_core.specs.Steps.Knowing.{has_place, FitsLast}
 use Rattle.exchange_core.proofs.Tables.{same_task-true, place_of_code, shape-kept, shape-empty, known-empty, known-same, known-other}
 
 -- the core with this as what is known of a task
-abbrev core_with : CoreValue → TaskRef → Evaluated → CoreValue
+abbrev pub core_with : CoreValue → TaskRef → Evaluated → CoreValue
 core_with core p x = record core { table = with_known core.table p (Some x) }
 
 -- a core with one more evaluation of a task that it may know

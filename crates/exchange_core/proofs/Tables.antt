@@ -11,15 +11,17 @@ use Rattle.plant.specs.declared.task_ref.TaskRef.{TaskRef}
 use Rattle.plant.specs.PlantValue.{CodeValue, ResourceValue, PlantValue, code_at, items_or_none}
 use Rattle.evaluation.specs.Meaning.{Evaluated}
 use Rattle.exchange_core.specs.Last.{same_task}
-use Rattle.exchange_core.specs.Held.{Table, known, with_known, has_place, IsShaped, empty_for}
+use Rattle.exchange_core.specs.Held.{Table, known, with_known, IsShaped, empty_for}
+use Rattle.exchange_core.specs.Steps.Knowing.{has_place}
 
-same_parts : (a b : TaskRef) → a.resource ≡ b.resource → a.task ≡ b.task → a ≡ b
-same_parts a b r t = rw (r, t) refl
+-- references of one resource and one task are equal
+pub same_ref : (a b : TaskRef) → a.resource ≡ b.resource → a.task ≡ b.task → a ≡ b
+same_ref a b r t = rw (r, t) refl
 
 pub same_task-true : (a b : TaskRef) → same_task a b ≡ true → a ≡ b
 same_task-true a b h =
     let parts = and_parts (eqb a.resource b.resource) (eqb a.task b.task) h in
-    same_parts a b (eqb-true a.resource b.resource parts.0) (eqb-true a.task b.task parts.1)
+    same_ref a b (eqb-true a.resource b.resource parts.0) (eqb-true a.task b.task parts.1)
 
 pub same_task-itself : (a : TaskRef) → same_task a a ≡ true
 same_task-itself a = rw (eq-eqb a.resource a.resource refl, eq-eqb a.task a.task refl)

@@ -1,5 +1,5 @@
 -- A table of the last evaluation known of each task, by resource and task.
-use Rattle.std.specs.Prelude.{◌≡◌, ◌<◌, List, [], Option, None, length, map, replicate, slice_index_or, slice_set}
+use Rattle.std.specs.Prelude.{◌≡◌, List, [], Option, None, length, map, replicate, slice_index_or, slice_set}
 use Rattle.plant.specs.declared.task_ref.TaskRef.{TaskRef}
 use Rattle.plant.specs.PlantValue.{ResourceValue, PlantValue}
 use Rattle.evaluation.specs.Meaning.{Evaluated}
@@ -10,10 +10,6 @@ Table = List (List (Option Evaluated))
 -- what is known of a task
 abbrev pub known : Table → TaskRef → Option Evaluated
 known table p = slice_index_or (slice_index_or table p.resource []) p.task None
-
--- the table has a place for this task
-abbrev pub has_place : Table → TaskRef → Type 0
-has_place table p = (p.resource < length table) × (p.task < length (slice_index_or table p.resource []))
 
 -- the table with this as what is known of the task
 abbrev pub with_known : Table → TaskRef → Option Evaluated → Table

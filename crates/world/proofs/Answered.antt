@@ -20,7 +20,7 @@ use Rattle.world.specs.Run.{IsLog, latest, message}
 use Rattle.world.specs.Laws.{greater, held_with}
 use Rattle.world.specs.World.{WorldValue, node_takes}
 use Rattle.world.specs.Step.{Answers, IsDelivered}
-use Rattle.world.specs.Steps.Nodes.{IsNode, IsWorld}
+use Rattle.world.specs.Nodes.{IsNode, IsWorld}
 use Rattle.world.proofs.Latest.{not_itself}
 use Rattle.world.proofs.Names.{log-rises}
 use Rattle.world.proofs.Steps.{latest-deliver}

@@ -16,7 +16,7 @@ use Rattle.world.specs.declared.event.Event.{Event}
 use Rattle.world.specs.History.{Setting, history_of}
 use Rattle.world.specs.Run.{has_reached, latest, last_among}
 use Rattle.world.specs.World.{WorldValue, node_takes, latest_at, held_at}
-use Rattle.world.specs.Steps.Nodes.{kept_of, IsNode, IsWorld}
+use Rattle.world.specs.Nodes.{kept_of, IsNode, IsWorld}
 
 -- a core of the world holds the latest
 pub held-node : (w : WorldValue) (n : ℕ) (core : CoreValue) (p : TaskRef) → IsNode w.setting (history_of w.setting w.events) (reverse w.log) n core → held_of core p ≡ held_at w n p

@@ -13,7 +13,8 @@ use Rattle.evaluation.specs.Meaning.{Evaluated}
 use Rattle.exchange_core.specs.declared.accepted.Accepted.{Accepted}
 use Rattle.exchange_core.specs.declared.accepted.Accepted.TheVariants.{Taken, Old, Unused}
 use Rattle.exchange_core.specs.Last.{same_task}
-use Rattle.exchange_core.specs.Held.{known, with_known, has_place}
+use Rattle.exchange_core.specs.Held.{known, with_known}
+use Rattle.exchange_core.specs.Steps.Knowing.{has_place}
 use Rattle.exchange_core.specs.CoreValue.{CoreValue, IsUsable, IsAccepted, is_greater, fresh_core}
 use Rattle.exchange_core.proofs.Tables.{same_task-true, place_of_code, shape-kept, shape-empty, known-empty, known-same, known-other}
 use Rattle.world.specs.declared.event.Event.{Event}
@@ -22,7 +23,7 @@ use Rattle.world.specs.History.{Setting, made_count, is_lawful, history_of, afte
 use Rattle.world.specs.Run.{IsLog, IsNextEvaluation, next_name, latest, message}
 use Rattle.world.specs.World.{node_takes}
 use Rattle.world.specs.Laws.{greater, held_with}
-use Rattle.world.specs.Steps.Nodes.{kept_of, IsNode, IsWorld}
+use Rattle.world.specs.Nodes.{kept_of, IsNode, IsWorld}
 use Rattle.world.proofs.Names.{AllLawful, length-log, log-rises, named}
 use Rattle.world.proofs.Steps.{latest-deliver, latest-own_deliver, latest-other_deliver, latest-restart, latest-other_restart, latest-evaluate, latest-other_evaluate, incarnation-restart}
 use Rattle.world.proofs.Takes.{usable-takes, takes-usable}

@@ -19,7 +19,8 @@ use Rattle.world.specs.declared.world_fault.WorldFault.TheVariants.{NoSuchResour
 use Rattle.world.specs.History.{Setting, history_of, after_events, is_lawful, number_of, lawful_among}
 use Rattle.world.specs.World.{WorldValue, node_takes}
 use Rattle.world.specs.Step.{IsDone, IsCause, IsStep, Follows}
-use Rattle.world.specs.Steps.Nodes.{IsNode, IsWorld, AreFresh}
+use Rattle.world.specs.Nodes.{IsNode, IsWorld}
+use Rattle.world.specs.Steps.Fresh.{AreFresh}
 use Rattle.world.proofs.Moves.{slice_get-push, history-one_more}
 
 pub fresh-none : (plant : PlantValue) (first : List ℕ) (max_number : ℕ) → AreFresh plant first max_number 0 []

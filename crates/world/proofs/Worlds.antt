@@ -14,20 +14,19 @@ use Rattle.evaluation.specs.Meaning.{Evaluated, IsAsked}
 use Rattle.exchange_core.specs.Last.{state_of, takes_of, last_number}
 use Rattle.exchange_core.specs.Held.{known, with_known}
 use Rattle.exchange_core.specs.CoreValue.{CoreValue, IsNext, IsNextOf, next_name_of, own_task, fresh_core}
+use Rattle.exchange_core.proofs.Tables.{same_ref}
+use Rattle.exchange_core.proofs.Keeping.{core_with}
 use Rattle.world.specs.declared.event.Event.{Event}
 use Rattle.world.specs.declared.event.Event.TheVariants.{Evaluate, Deliver, Restart}
 use Rattle.world.specs.History.{Setting, made_count, is_lawful, history_of, incarnation_of, number_of}
 use Rattle.world.specs.Run.{IsLog, IsNextEvaluation, next_name, latest}
 use Rattle.world.specs.World.{WorldValue, node_takes}
 use Rattle.world.specs.Step.{IsDone, IsEvaluatedNow}
-use Rattle.world.specs.Steps.Nodes.{IsNode, IsWorld}
+use Rattle.world.specs.Nodes.{IsNode, IsWorld}
 use Rattle.world.proofs.Names.{AllLawful, AllLawful-after}
 use Rattle.world.proofs.Steps.{incarnation-restart, number-latest}
 use Rattle.world.proofs.Takes.{node-takes}
 use Rattle.world.proofs.Moves.{history-one_more, set-found, node-restart, node-other_restart, node-evaluate, node-other_evaluate}
-
-same_ref : (a b : TaskRef) → a.resource ≡ b.resource → a.task ≡ b.task → a ≡ b
-same_ref a b e f = rw (e, f) refl
 
 same_name : (a b : TaskRef) (i j m n : ℕ) → a ≡ b → i ≡ j → m ≡ n → ◌≡◌ {A = Name} (record { task = a; incarnation = i; number = m }) (record { task = b; incarnation = j; number = n })
 same_name a b i j m n e f g = rw (e, f, g) refl
@@ -70,10 +69,6 @@ module _ (s : Setting) (h : List Event) (log : List Evaluated) (core : CoreValue
       let low : number_of t h < s.max_number = omega (arith, number-own, next.below, node.max_number) in
       rw (found, lt-ltb (number_of t h) s.max_number low)
 
--- the core with this evaluation as the last one of its task
-abbrev pub core_with : CoreValue → TaskRef → Evaluated → CoreValue
-core_with core t x = record core { table = with_known core.table (own_task core t.task) (Some x) }
-
 -- the core in its next incarnation
 abbrev pub restarted : Setting → ℕ → CoreValue → CoreValue
 restarted s n core = fresh_core s.plant n (core.incarnation + 1) s.max_number
@@ -87,8 +82,8 @@ world-evaluate s events log cores k t dt inputs core x world at next =
       planned = world.planned;
       logged = subst (λ g. IsLog s g (reverse (log ++ x ∷ []))) (sym more) (subst (IsLog s (Evaluate k t dt inputs ∷ history_of s events)) (sym turned) (world.logged, nexts));
       firsts = world.firsts;
-      sized = length-set cores t.resource (core_with core t x) ∙ world.sized;
-      nodes = λ m c found. subst (λ g. IsNode s g (reverse (log ++ x ∷ [])) m c) (sym more) (subst (λ l. IsNode s (Evaluate k t dt inputs ∷ history_of s events) l m c) (sym turned) (by m c (set-found cores t.resource m (core_with core t x) c (slice_get_within cores t.resource core at) found)));
+      sized = length-set cores t.resource (core_with core (own_task core t.task) x) ∙ world.sized;
+      nodes = λ m c found. subst (λ g. IsNode s g (reverse (log ++ x ∷ [])) m c) (sym more) (subst (λ l. IsNode s (Evaluate k t dt inputs ∷ history_of s events) l m c) (sym turned) (by m c (set-found cores t.resource m (core_with core (own_task core t.task) x) c (slice_get_within cores t.resource core at) found)));
     } where
       all : AllLawful s (history_of s events)
       all = AllLawful-after s [] events tt
@@ -105,12 +100,12 @@ world-evaluate s events log cores k t dt inputs core x world at next =
       turned : reverse (log ++ x ∷ []) ≡ x ∷ reverse log
       turned = reverse-append log (x ∷ [])
 
-      here : IsNode s (Evaluate k t dt inputs ∷ history_of s events) (x ∷ reverse log) t.resource (core_with core t x)
+      here : IsNode s (Evaluate k t dt inputs ∷ history_of s events) (x ∷ reverse log) t.resource (core_with core (own_task core t.task) x)
       here = subst (λ u. IsNode s (Evaluate k t dt inputs ∷ history_of s events) (x ∷ reverse log) t.resource (record core { table = with_known core.table u (Some x) })) (sym (own s (history_of s events) (reverse log) core k t dt inputs all world.logged node))
           (node-evaluate s (history_of s events) (reverse log) core k t dt inputs x all world.logged nexts node)
 
-      by : (m : ℕ) (c : CoreValue) → ((m ≡ t.resource) × (core_with core t x ≡ c)) ⊎ ((t.resource ≡ m → ⊥) × (slice_get cores m ≡ Some c)) → IsNode s (Evaluate k t dt inputs ∷ history_of s events) (x ∷ reverse log) m c
-      by m c (inl p) = subst (λ d. IsNode s (Evaluate k t dt inputs ∷ history_of s events) (x ∷ reverse log) m d) p.1 (subst (λ r. IsNode s (Evaluate k t dt inputs ∷ history_of s events) (x ∷ reverse log) r (core_with core t x)) (sym p.0) here)
+      by : (m : ℕ) (c : CoreValue) → ((m ≡ t.resource) × (core_with core (own_task core t.task) x ≡ c)) ⊎ ((t.resource ≡ m → ⊥) × (slice_get cores m ≡ Some c)) → IsNode s (Evaluate k t dt inputs ∷ history_of s events) (x ∷ reverse log) m c
+      by m c (inl p) = subst (λ d. IsNode s (Evaluate k t dt inputs ∷ history_of s events) (x ∷ reverse log) m d) p.1 (subst (λ r. IsNode s (Evaluate k t dt inputs ∷ history_of s events) (x ∷ reverse log) r (core_with core (own_task core t.task) x)) (sym p.0) here)
       by m c (inr p) = node-other_evaluate s (history_of s events) (reverse log) m c k t dt inputs x all world.logged nexts (world.nodes m c p.1) (ne_eqb t.resource m p.0)
 
 -- the world's step at a Restart

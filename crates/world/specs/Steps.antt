@@ -1,5 +1,5 @@
--- Steps of the proofs: what the parts of a world are. Only contracts inside this crate cite them, so no reader has to believe them.
-pub mod Nodes
+-- Steps of the proofs: the cores halfway, and one line of a schedule. Only contracts inside this crate cite them, so no reader has to believe them.
+pub mod Fresh
 pub mod ReadingLines
 pub mod Telling
 pub mod Simulating

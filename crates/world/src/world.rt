@@ -21,7 +21,7 @@ pub struct World {
 
 impl Model for World {
     ghost use Rattle.world.specs.World.{WorldValue};
-    ghost use Rattle.world.specs.Steps.Nodes.{IsWorld};
+    ghost use Rattle.world.specs.Nodes.{IsWorld};
 
     ghost Value = { WorldValue };
 
@@ -37,7 +37,7 @@ ghost use Rattle.world.specs.History.{incarnation_of};
 ghost use Rattle.world.specs.Run.{IsRun};
 ghost use Rattle.world.specs.World.{held_at};
 ghost use Rattle.world.specs.Step.{history_at, IsDone, IsEvaluatedNow, IsCause, IsStep, IsDelivered, Follows};
-ghost use Rattle.world.specs.Steps.Nodes.{AreFresh};
+ghost use Rattle.world.specs.Steps.Fresh.{AreFresh};
 
 /// The cores before the first event.
 fn fresh_cores(

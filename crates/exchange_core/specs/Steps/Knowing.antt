@@ -1,9 +1,14 @@
--- What the last evaluations have to be for a task to go on from them.
-use Rattle.std.specs.Prelude.{◌≡◌, ℕ, List, Option, Some, None, slice_get}
+-- Where the last evaluations stand, and what they have to be for a task to go on from them.
+use Rattle.std.specs.Prelude.{◌≡◌, ◌<◌, ℕ, List, [], Option, Some, None, length, slice_get, slice_index_or}
 use Rattle.power_flow.specs.declared.declarations.Kind.{Kind}
 use Rattle.plant.specs.declared.task_ref.TaskRef.{TaskRef}
 use Rattle.plant.specs.PlantValue.{CodeValue, expected_at}
 use Rattle.evaluation.specs.Meaning.{Evaluated}
+use Rattle.exchange_core.specs.Held.{Table}
+
+-- the table has a place for this task
+abbrev pub has_place : Table → TaskRef → Type 0
+has_place table p = (p.resource < length table) × (p.task < length (slice_index_or table p.resource []))
 
 -- the last evaluation of a task, if there is one, was one of this code
 abbrev pub FitsLast : CodeValue → Option Evaluated → Type 0

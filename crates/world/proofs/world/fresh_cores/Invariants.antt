@@ -1,4 +1,4 @@
-use Rattle.world.specs.Steps.Nodes.{AreFresh}
+use Rattle.world.specs.Steps.Fresh.{AreFresh}
 use Rattle.world.proofs.world.fresh_cores.Given as goal
 
 abbrev pub invariant-loop-resource : goal.invariant-loop-resource

@@ -1,10 +1,10 @@
--- What the parts of a world are.
-use Rattle.std.specs.Prelude.{◌≡◌, ℕ, ◌==◌, ◌||◌, List, Option, Some, None, length, reverse, slice_get, slice_index, if◌then◌else◌}
+-- What the parts of a world are: its cores, beside its events and its log.
+use Rattle.std.specs.Prelude.{◌≡◌, ℕ, ◌==◌, ◌||◌, List, Option, Some, None, length, reverse, slice_get, if◌then◌else◌}
 use Rattle.plant.specs.declared.task_ref.TaskRef.{TaskRef}
 use Rattle.plant.specs.PlantValue.{PlantValue, IsSoundPlant}
 use Rattle.evaluation.specs.Meaning.{Evaluated}
 use Rattle.exchange_core.specs.Held.{known, IsShaped}
-use Rattle.exchange_core.specs.CoreValue.{CoreValue, fresh_core}
+use Rattle.exchange_core.specs.CoreValue.{CoreValue}
 use Rattle.world.specs.declared.event.Event.{Event}
 use Rattle.world.specs.History.{Setting, history_of, incarnation_of}
 use Rattle.world.specs.Run.{IsRun, latest}
@@ -30,8 +30,3 @@ pub record IsWorld (s : Setting) (events : List Event) (log : List Evaluated) (c
   pub firsts : length s.first ≡ length s.plant.resources
   pub sized : length cores ≡ length s.plant.resources
   pub nodes : (n : ℕ) (core : CoreValue) → slice_get cores n ≡ Some core → IsNode s (history_of s events) (reverse log) n core
-
--- the cores of a world before its first event
-pub record AreFresh (plant : PlantValue) (first : List ℕ) (max_number count : ℕ) (cores : List CoreValue) : Type 0 where
-  pub sized : length cores ≡ count
-  pub fresh : (n : ℕ) (core : CoreValue) → slice_get cores n ≡ Some core → core ≡ fresh_core plant n (slice_index first n) max_number
