@@ -13,3 +13,5 @@ pub mod ScheduleWords
 pub mod ScheduleLists
 pub mod ScheduleReading
 pub mod Telling
+pub mod Simulating
+pub mod Ending

@@ -70,11 +70,11 @@ done_tells old new n (Evaluate ticket task dt inputs) (MadeOne k) line h run is 
     let one : line ≡ made_line old.setting.plant k (slice_get (old.log ++ h.made ∷ []) (length (old.log ++ h.made ∷ []) - 1)) =
     subst (λ (w : WorldValue). line ≡ made_line w.setting.plant k (slice_get w.log (length w.log - 1))) h.done.is is in
     let two : line ≡ evaluation_line old.setting.plant k h.made = one ∙ ap (made_line old.setting.plant k) (last_of old.log h.made) in
-    inl (h.done.lawful, h.made, whole, two ∙ ap (λ m. evaluation_line old.setting.plant m h.made) at)
+    inl (h.done.lawful, (h.made, whole, two ∙ ap (λ m. evaluation_line old.setting.plant m h.made) at))
 done_tells old new n (Evaluate ticket task dt inputs) (Delivered a) line h run is = absurd h
 done_tells old new n (Evaluate ticket task dt inputs) (Restarted i) line h run is = absurd h
 done_tells old new n (Deliver k r) (Delivered a) line h run is =
-    inl (h.0.lawful, a, h.1, is ∙ ap (λ (w : WorldValue). delivery_line w.setting.plant k r a) h.0.is)
+    inl (h.0.lawful, (a, h.1, is ∙ ap (λ (w : WorldValue). delivery_line w.setting.plant k r a) h.0.is))
 done_tells old new n (Deliver k r) (MadeOne m) line h run is = absurd h
 done_tells old new n (Deliver k r) (Restarted i) line h run is = absurd h
 done_tells old new n (Restart r) (Restarted i) line h run is =
@@ -95,7 +95,7 @@ told_refused old new n e f line same ne cause run is =
       setting = follows.setting;
       history = follows_history old new (e ∷ []) follows;
       run = subst (λ (w : WorldValue). IsRun w.setting w.events w.log) same run;
-      tells = inr (unlawful old e f ne cause, f, cause, ne, is);
+      tells = inr (unlawful old e f ne cause, (f, cause, ne, is));
     }
 
 pub on_ok_so : {T E P Q : Type 0} (r : Result T E) → OnOk r P → (P → Q) → OnOk r Q

@@ -1,4 +1,4 @@
--- Steps of the proofs: the cores halfway, and schedules read and told halfway. Only contracts inside this crate cite them, so no reader has to believe them.
+-- Steps of the proofs: the cores halfway, and one line of a schedule. Only contracts inside this crate cite them, so no reader has to believe them.
 pub mod Fresh
 pub mod ReadingLines
 pub mod Telling

@@ -16,9 +16,9 @@ pub enum LineFault {
 impl From<InputFault> for LineFault {
     ghost use Rattle.std.specs.Prelude.{◌≡◌, ◌≢◌};
     ghost use Rattle.evaluation.specs.declared.input_fault.InputFault.TheVariants as input;
-    ghost use Rattle.world.specs.declared.schedule.line_fault.LineFault.TheVariants.{Syntax};
+    ghost use Rattle.world.specs.declared.schedule.line_fault.LineFault.TheVariants.{Syntax, Write};
 
-    ghost from_gives = { λ found fault. fault ≡ Syntax → found ≢ input.Memory };
+    ghost from_gives = { λ found fault. (fault ≢ Write) × (fault ≡ Syntax → found ≢ input.Memory) };
 
     fn from(fault: InputFault) -> LineFault {
         match fault {

@@ -1,10 +1,10 @@
 //! The event that a line spells.
 
-ghost use Rattle.std.specs.Prelude.{◌≡◌, ℕ, List, IfOk, IfErr, MatchOption, map};
+ghost use Rattle.std.specs.Prelude.{◌≡◌, ◌≢◌, ℕ, List, IfOk, IfErr, MatchOption, map};
 ghost use Rattle.plant.specs.declared.task_ref.TaskRef.{TaskRef};
 ghost use Rattle.evaluation.specs.declared.field_input.FieldInput.{FieldInput};
 ghost use Rattle.world.specs.declared.event.Event.{Event};
-ghost use Rattle.world.specs.declared.schedule.line_fault.LineFault.TheVariants.{Syntax};
+ghost use Rattle.world.specs.declared.schedule.line_fault.LineFault.TheVariants.{Syntax, Write};
 ghost use Rattle.world.specs.ScheduleText.{SpellsEvaluate, SpellsDeliver, SpellsRestart, SpellsEvent};
 ghost use Rattle.world.specs.Steps.ReadingLines.{keyword_of};
 
@@ -47,6 +47,7 @@ fn read_evaluate(
     words: &[&[u8]],
 ) -> Result<(TaskRef, u32, Inputs), LineFault>
     ensures ok { IfOk result (λ r. SpellsEvaluate plant.now r.0 r.1 r.2 (map (λ w. w.now) words.now)) }
+    ensures early { IfErr result (λ f. f ≢ Write) }
     ensures fault { IfErr result (λ f. f ≡ Syntax → (task : TaskRef) (dt : ℕ) (inputs : List FieldInput) → SpellsEvaluate plant.now task dt inputs (map (λ w. w.now) words.now) → ⊥) }
 {
     let [task, dt, inputs @ ..] = words else {
@@ -92,6 +93,7 @@ pub fn read_event(
     words: &[&[u8]],
 ) -> Result<Event, LineFault>
     ensures ok { IfOk result (λ e. SpellsEvent plant.now ticket e (map (λ w. w.now) words.now)) }
+    ensures early { IfErr result (λ f. f ≢ Write) }
     ensures fault { IfErr result (λ f. f ≡ Syntax → (e : Event) → SpellsEvent plant.now ticket e (map (λ w. w.now) words.now) → ⊥) }
 {
     let [first, behind @ ..] = words else {

@@ -1,6 +1,6 @@
 //! A schedule is done line by line.
 
-ghost use Rattle.std.specs.Prelude.{◌≡◌, ◌<◌, [], IfErr, IfOk, OnErr, OnOk, map, replicate};
+ghost use Rattle.std.specs.Prelude.{◌≡◌, ◌<◌, [], IfErr, IfOk, OnErr, OnOk, length, map, replicate};
 ghost use Rattle.ladder_text.specs.Rows.{without_last};
 ghost use Rattle.evaluation.specs.InputTexts.{words_of};
 ghost use Rattle.world.specs.Simulated.{from_one, WritesRun, EndsEarly};
@@ -32,6 +32,23 @@ fn open(alloc: Global, plant: Arc<Plant>, max_number: u32) -> Result<World, Allo
 {
     let first = ones(alloc, plant.resources())?;
     World::new(alloc, plant, first.as_slice(), max_number)
+}
+
+/// The text without the line feed at its end, which begins no further line.
+fn without_feed(schedule: &str) -> &str
+    ensures { result.now ≡ without_last 10 schedule.now }
+{
+    match schedule.strip_suffix('\n') {
+        Some(front) => front,
+        None => schedule,
+    }
+}
+
+/// How many bytes a text has. So many lines, and one, it has at most: their number fits 64 bits.
+fn bytes_in(schedule: &str) -> usize
+    ensures { result ≡ length schedule.now }
+{
+    schedule.len()
 }
 
 /// What stands while a schedule is done: the world, how many events there were, and room for the line of one.
@@ -69,14 +86,14 @@ impl Simulation {
     fn do_line<W: Write>(
         &mut self,
         alloc: Global,
-        text: &[u8],
+        text: &str,
         out: &mut W,
     ) -> Result<(), LineFault>
         requires { self.old.events < 18446744073709551615 }
         ensures ok { OnOk result (HasDone self.old.world self.new.world self.old.events self.new.events (words_of (without_last 13 text.now)) (W.contents out.old) (W.contents out.new)) }
         ensures fault { IfErr result (HasStopped self.old.world self.new.world self.old.events (words_of (without_last 13 text.now)) (W.contents out.old) (W.contents out.new)) }
     {
-        let words = words_of(alloc, without_last(b'\r', text))?;
+        let words = words_of(alloc, without_last(b'\r', text.as_bytes()))?;
         self.do_words(alloc, words.as_slice(), out)
     }
 }
@@ -97,17 +114,15 @@ pub fn simulate<W: Write>(
     ensures ok { OnOk result (WritesRun plant.value max_number schedule.now (W.contents out.old) (W.contents out.new)) }
     ensures fault { IfErr result (EndsEarly plant.value max_number schedule.now (W.contents out.old) (W.contents out.new)) }
 {
-    let world = match open(alloc, plant, max_number) {
-        Ok(world) => world,
-        Err(_) => return Err(SimFault::Memory),
-    };
+    let _bytes = bytes_in(schedule);
+    let world = open(alloc, plant, max_number)?;
     let mut simulation = Simulation {
         world,
         events: 0,
         line: String::new(alloc),
     };
     let mut number = 0;
-    for text in without_last(b'\n', schedule.as_bytes()).split(|b| *b == b'\n') {
+    for text in without_feed(schedule).split('\n') {
         number += 1;
         match simulation.do_line(alloc, text, out) {
             Ok(()) => {}

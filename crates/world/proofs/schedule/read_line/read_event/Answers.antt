@@ -7,6 +7,11 @@ returns-in_err-task-in-Some-Evaluate-clause-fault c =
     err_and c.from_residual.result (λ fault. fault ≡ c.in_err-task-in-Some-Evaluate.field-0.0) _ c.from_residual.ensures.1
     (λ f given is. no_evaluate c.args.plant.now c.args.ticket c.args.words.now (sym c.in-Some-Evaluate.ensures ∙ ap (λ k. Some k) c.in-Some-Evaluate.field-0-is) (c.in_err-task-in-Some-Evaluate.ensures.fault (sym given ∙ is)))
 
+pub returns-in_err-task-in-Some-Evaluate-clause-early : goal.returns-in_err-task-in-Some-Evaluate-clause-early
+returns-in_err-task-in-Some-Evaluate-clause-early c =
+    err_and c.from_residual.result (λ fault. fault ≡ c.in_err-task-in-Some-Evaluate.field-0.0) _ c.from_residual.ensures.1
+    (λ f given is. c.in_err-task-in-Some-Evaluate.ensures.early (sym given ∙ is))
+
 pub returns-in-None-clause-fault : goal.returns-in-None-clause-fault
 returns-in-None-clause-fault c = λ _. no_key c.args.plant.now c.args.ticket c.args.words.now (sym c.in-None.ensures)
 

@@ -1,0 +1,233 @@
+-- A schedule is done line by line.
+use Rattle.std.proofs.Common.{◌≡◌, ◌≢◌, ◌⊎◌, inl, inr, ℕ, zero, suc, ◌+◌, ◌-◌, ◌<◌, ◌≤◌, Bool, true, false, cond, not, List, [], ◌∷◌, ◌++◌, length, map, take, get_or, Option, Some, None, slice_get, refl, sym, ap, ◌∙◌, subst, arith, append_assoc}
+use Rattle.std.specs.Prelude.{reverse}
+use Rattle.std.specs.List.{filter, flat_map}
+use Rattle.std.specs.Io.KnownBytes.{Appends, Keeps}
+use Rattle.std.proofs.KnownBytes.{Appends-trans, Appends-nil}
+use Rattle.std.proofs.Math.Seq.{take-append_seam}
+use Rattle.std.proofs.lemmas.Bool.{cases_eq}
+use Rattle.std.proofs.lemmas.List.{append-nil, take-append-le, map-append}
+use Rattle.std.proofs.lemmas.List.Concat.{flat_map-append}
+use Rattle.std.proofs.lemmas.List.Elements.{filter-append}
+use Rattle.std.proofs.lemmas.Option.{slice_get_within}
+use Rattle.plant.specs.declared.task_ref.TaskRef.{TaskRef}
+use Rattle.plant.specs.PlantValue.{PlantValue}
+use Rattle.evaluation.specs.Meaning.{Evaluated}
+use Rattle.exchange_core.specs.declared.accepted.Accepted.{Accepted}
+use Rattle.exchange_core.specs.declared.accepted.Accepted.TheVariants.{Taken, Old, Unused}
+use Rattle.world.specs.declared.event.Event.{Event}
+use Rattle.world.specs.declared.event.Event.TheVariants.{Evaluate, Deliver, Restart}
+use Rattle.world.specs.declared.world_fault.WorldFault.{WorldFault}
+use Rattle.world.specs.declared.world_fault.WorldFault.TheVariants.{NoSuchResource, NoSuchTask, NoSuchMessage, NumbersSpent, IncarnationsSpent, Memory}
+use Rattle.world.specs.History.{Setting, history_of, after_events, is_lawful, incarnation_of, number_of, made_count}
+use Rattle.world.specs.Run.{IsRun, IsLog, latest}
+use Rattle.world.specs.World.{WorldValue, node_takes}
+use Rattle.world.specs.Step.{IsCause, IsDelivered, Answers}
+use Rattle.world.specs.RunLines.{evaluation_line}
+use Rattle.world.specs.RunText.{IsDoneLine, IsRefusedLine, Tells, IsLineAfter, IsRunText, restart_line}
+use Rattle.world.specs.ScheduleText.{is_idle, SpellsEvent, SpellEvents, Spell}
+use Rattle.world.specs.Steps.Telling.{IsTold}
+use Rattle.world.specs.Steps.Simulating.{HasTold, HasRested, HasWritten, HasDone}
+use Rattle.world.proofs.Telling.{seam, length-one_more}
+
+-- events after other events
+after_append : (s : Setting) (h xs ys : List Event) → after_events s h (xs ++ ys) ≡ after_events s (after_events s h xs) ys
+after_append s h [] ys = refl
+after_append s h (x ∷ xs) ys = after_append s (cond (is_lawful s h x) (x ∷ h) h) xs ys
+
+pub history_append : (s : Setting) (xs ys : List Event) → history_of s (xs ++ ys) ≡ after_events s (history_of s xs) ys
+history_append s xs ys = after_append s [] xs ys
+
+-- one more event after lists of one history
+pub history_with : (s : Setting) (es fs : List Event) (e : Event) → history_of s es ≡ history_of s fs → history_of s (es ++ e ∷ []) ≡ history_of s (fs ++ e ∷ [])
+history_with s es fs e same = history_append s es (e ∷ []) ∙ ap (λ h. after_events s h (e ∷ [])) same ∙ sym (history_append s fs (e ∷ []))
+
+-- a world by its parts
+abbrev world : Setting → List Event → List Evaluated → WorldValue
+world s es log = record { setting = s; events = es; log = log }
+
+answers_moved : (s : Setting) (es fs : List Event) (log : List Evaluated) (k n : ℕ) (p : TaskRef) (a : Accepted) → history_of s es ≡ history_of s fs → Answers (world s es log) k n p a → Answers (world s fs log) k n p a
+answers_moved s es fs log k n p Unused same h = h
+answers_moved s es fs log k n p Taken same h =
+    (h.0, h.1, subst (λ (l : List Event). latest n (Deliver k n ∷ l) p (reverse log) ≡ latest n l p (reverse log) → ⊥) same h.2)
+answers_moved s es fs log k n p Old same h =
+    (h.0, h.1, subst (λ (l : List Event). latest n (Deliver k n ∷ l) p (reverse log) ≡ latest n l p (reverse log)) same h.2)
+
+-- what an event does hangs on the history alone
+done_moved : (s : Setting) (es fs : List Event) (log : List Evaluated) (e : Event) (line : List ℕ) → history_of s es ≡ history_of s fs → IsDoneLine (world s es log) e line → IsDoneLine (world s fs log) e line
+done_moved s es fs log (Evaluate ticket task dt inputs) line same h =
+    (h.0, subst (λ l. IsLog s l (reverse (log ++ h.0 ∷ []))) (history_with s es fs (Evaluate ticket task dt inputs) same) h.1, h.2)
+done_moved s es fs log (Deliver k n) line same h = (h.0, (h.1.0, h.1.1, answers_moved s es fs log k n h.1.0.name.task h.0 same h.1.2), h.2)
+done_moved s es fs log (Restart n) line same h = h ∙ ap (λ (l : List Event). restart_line s.plant n (incarnation_of s n l)) (history_with s es fs (Restart n) same)
+
+cause_moved : (s : Setting) (es fs : List Event) (log : List Evaluated) (e : Event) (f : WorldFault) → history_of s es ≡ history_of s fs → IsCause (world s es log) e f → IsCause (world s fs log) e f
+cause_moved s es fs log (Evaluate ticket task dt inputs) NoSuchResource same h = h
+cause_moved s es fs log (Evaluate ticket task dt inputs) NoSuchTask same h = h
+cause_moved s es fs log (Evaluate ticket task dt inputs) NumbersSpent same h = (h.0, subst (λ (l : List Event). s.max_number ≤ number_of task l) same h.1)
+cause_moved s es fs log (Evaluate ticket task dt inputs) NoSuchMessage same h = h
+cause_moved s es fs log (Evaluate ticket task dt inputs) IncarnationsSpent same h = h
+cause_moved s es fs log (Evaluate ticket task dt inputs) Memory same h = h
+cause_moved s es fs log (Deliver k n) NoSuchResource same h = h
+cause_moved s es fs log (Deliver k n) NoSuchMessage same h = (h.0, subst (λ (l : List Event). (k ≡ 0) ⊎ (made_count l < k)) same h.1)
+cause_moved s es fs log (Deliver k n) NoSuchTask same h = h
+cause_moved s es fs log (Deliver k n) NumbersSpent same h = h
+cause_moved s es fs log (Deliver k n) IncarnationsSpent same h = h
+cause_moved s es fs log (Deliver k n) Memory same h = h
+cause_moved s es fs log (Restart n) NoSuchResource same h = h
+cause_moved s es fs log (Restart n) IncarnationsSpent same h = (h.0, subst (λ (l : List Event). 4294967295 ≤ incarnation_of s n l) same h.1)
+cause_moved s es fs log (Restart n) NoSuchTask same h = h
+cause_moved s es fs log (Restart n) NoSuchMessage same h = h
+cause_moved s es fs log (Restart n) NumbersSpent same h = h
+cause_moved s es fs log (Restart n) Memory same h = h
+
+tells_moved : (s : Setting) (es fs : List Event) (log : List Evaluated) (n : ℕ) (e : Event) (line : List ℕ) → history_of s es ≡ history_of s fs → Tells (world s es log) n e line → Tells (world s fs log) n e line
+tells_moved s es fs log n e line same (inl h) = inl (subst (λ (l : List Event). is_lawful s l e ≡ true) same h.0, done_moved s es fs log e line same h.1)
+tells_moved s es fs log n e line same (inr h) =
+    inr (subst (λ (l : List Event). is_lawful s l e ≡ false) same h.0, (h.1.0, cause_moved s es fs log e h.1.0 same h.1.1, h.1.2, h.1.3))
+
+-- what was told is the line after the events
+line_after : (s : Setting) (events : List Event) (old new : WorldValue) (n : ℕ) (e : Event) (line : List ℕ) → old.setting ≡ s → history_of s old.events ≡ history_of s events → n ≡ length events + 1 → IsTold old new n e line
+    → IsLineAfter s events e line
+line_after s events old new n e line setting same number t =
+    let run : IsLog s (history_of s old.events) (reverse old.log) = subst (λ (x : Setting). IsLog x (history_of x old.events) (reverse old.log)) setting t.run in
+    let tells : Tells (world s old.events old.log) n e line = subst (λ (x : Setting). Tells (world x old.events old.log) n e line) setting t.tells in
+    record {
+      log = old.log;
+      run = subst (λ (l : List Event). IsLog s l (reverse old.log)) same run;
+      tells = subst (λ k. Tells (world s events old.log) k e line) number (tells_moved s old.events events old.log n e line same tells);
+    }
+
+front : {X : Type 0} (xs ys : List X) (k : ℕ) → k < length xs → slice_get (xs ++ ys) k ≡ slice_get xs k
+front [] ys k lt = absurd (omega (arith, lt))
+front (x ∷ xs) ys zero lt = refl
+front (x ∷ xs) ys (suc k) lt = front xs ys k (omega (arith, lt))
+
+some_alike : {A : Type 0} (a b : A) → ◌≡◌ {A = Option A} (Some a) (Some b) → a ≡ b
+some_alike a b e = cc
+
+-- the text of one more event
+pub text_more : (s : Setting) (events : List Event) (text : List ℕ) (e : Event) (line : List ℕ) → IsRunText s events text → IsLineAfter s events e line → IsRunText s (events ++ e ∷ []) (text ++ line)
+text_more s events text e line r last = record {
+  lines = r.lines ++ line ∷ [];
+  many = length-one_more r.lines line ∙ ap (λ n. n + 1) r.many ∙ sym (length-one_more events e);
+  each = λ k x l at told. by k x l (cases_eq k (length events)) at told;
+  text_is = ap (λ t. t ++ line) r.text_is ∙ ap (λ t. flat_map (λ l. l) r.lines ++ t) (sym (append-nil line)) ∙ sym (flat_map-append (λ l. l) r.lines (line ∷ []));
+}
+  where
+    by : (k : ℕ) (x : Event) (l : List ℕ) → (k ≡ length events) ⊎ (k ≢ length events) → slice_get (events ++ e ∷ []) k ≡ Some x → slice_get (r.lines ++ line ∷ []) k ≡ Some l → IsLineAfter s (take k (events ++ e ∷ [])) x l
+    by k x l (inl here) at told =
+        let first : take k (events ++ e ∷ []) ≡ events = ap (λ n. take n (events ++ e ∷ [])) here ∙ take-append_seam events (e ∷ []) in
+        let event : e ≡ x = some_alike e x (sym (seam events e) ∙ ap (slice_get (events ++ e ∷ [])) (sym here) ∙ at) in
+        let is : line ≡ l = some_alike line l (sym (seam r.lines line) ∙ ap (slice_get (r.lines ++ line ∷ [])) (r.many ∙ sym here) ∙ told) in
+        subst (λ (es : List Event). IsLineAfter s es x l) (sym first) (subst (λ (y : Event). IsLineAfter s events y l) event (subst (λ m. IsLineAfter s events e m) is last))
+    by k x l (inr other) at told =
+        let within = slice_get_within (events ++ e ∷ []) k x at in
+        let lt : k < length events = omega (arith, within, length-one_more events e, other) in
+        let first : take k (events ++ e ∷ []) ≡ take k events = take-append-le k events (e ∷ []) (omega (arith, lt)) in
+        subst (λ (es : List Event). IsLineAfter s es x l) (sym first)
+        (r.each k x l (sym (front events (e ∷ []) k lt) ∙ at) (sym (front r.lines (line ∷ []) k (omega (arith, lt, r.many))) ∙ told))
+
+spells_more : (plant : PlantValue) (n : ℕ) (events : List Event) (lines : List (List (List ℕ))) (e : Event) (line : List (List ℕ)) → SpellEvents plant n events lines → SpellsEvent plant (n + length events) e line
+    → SpellEvents plant n (events ++ e ∷ []) (lines ++ line ∷ [])
+spells_more plant n [] [] e line h g = (subst (λ k. SpellsEvent plant k e line) (omega arith) g, tt)
+spells_more plant n [] (l ∷ lines) e line h g = absurd h
+spells_more plant n (x ∷ events) [] e line h g = absurd h
+spells_more plant n (x ∷ events) (l ∷ lines) e line h g = (h.0, spells_more plant (n + 1) events lines e line h.1 (subst (λ k. SpellsEvent plant k e line) (omega arith) g))
+
+abbrev is_busy : List (List ℕ) → Bool
+is_busy line = not (is_idle line)
+
+-- one more line that is blank or a comment
+pub spell_rest : (plant : PlantValue) (events : List Event) (lines : List (List (List ℕ))) (line : List (List ℕ)) → is_idle line ≡ true → Spell plant events lines → Spell plant events (lines ++ line ∷ [])
+spell_rest plant events lines line idle h =
+    let one : filter is_busy (line ∷ []) ≡ [] = ap (λ b. cond (not b) (line ∷ []) []) idle in
+    subst (SpellEvents plant 1 events) (sym (filter-append is_busy lines (line ∷ []) ∙ ap (λ l. filter is_busy lines ++ l) one ∙ append-nil (filter is_busy lines))) h
+
+-- one more line that spells the next event
+pub spell_more : (plant : PlantValue) (events : List Event) (lines : List (List (List ℕ))) (e : Event) (line : List (List ℕ)) → is_idle line ≡ false → SpellsEvent plant (length events + 1) e line → Spell plant events lines
+    → Spell plant (events ++ e ∷ []) (lines ++ line ∷ [])
+spell_more plant events lines e line busy g h =
+    let one : filter is_busy (line ∷ []) ≡ line ∷ [] = ap (λ b. cond (not b) (line ∷ []) []) busy in
+    subst (SpellEvents plant 1 (events ++ e ∷ [])) (sym (filter-append is_busy lines (line ∷ []) ∙ ap (λ l. filter is_busy lines ++ l) one))
+    (spells_more plant 1 events (filter is_busy lines) e line h (subst (λ k. SpellsEvent plant k e line) (omega arith) g))
+
+-- where a schedule stands after some of its lines
+pub record Stands (s : Setting) (lines : List (List (List ℕ))) (w : WorldValue) (count : ℕ) (old now : Option (List ℕ)) : Type 0 where
+  pub events : List Event
+  pub setting : w.setting ≡ s
+  pub history : history_of s w.events ≡ history_of s events
+  pub number : count ≡ length events
+  pub few : count ≤ length lines
+  pub spelled : Spell s.plant events lines
+  pub text : List ℕ
+  pub told : IsRunText s events text
+  pub written : Appends old now text
+
+-- before the first line
+pub stands_first : (s : Setting) (w : WorldValue) (old : Option (List ℕ)) → w ≡ record { setting = s; events = []; log = [] } → Stands s [] w 0 old old
+stands_first s w old is = record {
+  events = [];
+  setting = ap (λ (x : WorldValue). x.setting) is;
+  history = ap (λ (x : WorldValue). history_of s x.events) is;
+  number = refl;
+  few = omega arith;
+  spelled = tt;
+  text = [];
+  told = record { lines = []; many = refl; each = λ k e line at told. absurd cc; text_is = refl };
+  written = Appends-nil old;
+}
+
+pub appends_kept : (a b c : Option (List ℕ)) (bs : List ℕ) → Appends a b bs → Keeps b c → Appends a c bs
+appends_kept None b c bs p q = tt
+appends_kept (Some x) None c bs p q = absurd p
+appends_kept (Some x) (Some y) None bs p q = absurd q
+appends_kept (Some x) (Some y) (Some z) bs p q = q ∙ p
+
+rested : (s : Setting) (lines : List (List (List ℕ))) (w new : WorldValue) (n m : ℕ) (line : List (List ℕ)) (old now next : Option (List ℕ)) → Stands s lines w n old now → HasRested w new n m line now next
+    → Stands s (lines ++ line ∷ []) new m old next
+rested s lines w new n m line old now next a r = record {
+  events = a.events;
+  setting = ap (λ (x : WorldValue). x.setting) r.world ∙ a.setting;
+  history = ap (λ (x : WorldValue). history_of s x.events) r.world ∙ a.history;
+  number = r.number ∙ a.number;
+  few = omega (arith, r.number, a.few, length-one_more lines line);
+  spelled = spell_rest s.plant a.events lines line r.idle a.spelled;
+  text = a.text;
+  told = a.told;
+  written = appends_kept old now next a.text a.written r.kept;
+}
+
+-- the line of the next event
+pub next_line : (s : Setting) (lines : List (List (List ℕ))) (w new : WorldValue) (n : ℕ) (words : List (List ℕ)) (line : List ℕ) (old now : Option (List ℕ)) (a : Stands s lines w n old now) (t : HasTold w new (n + 1) words line)
+    → Spell s.plant (a.events ++ t.event ∷ []) (lines ++ words ∷ []) × IsRunText s (a.events ++ t.event ∷ []) (a.text ++ line)
+next_line s lines w new n words line old now a t = (
+  spell_more s.plant a.events lines t.event words t.busy (subst (λ (p : PlantValue). SpellsEvent p (length a.events + 1) t.event words) (ap (λ (x : Setting). x.plant) a.setting) (subst (λ k. SpellsEvent w.setting.plant (k + 1) t.event words) a.number t.spelled)) a.spelled,
+  text_more s a.events a.text t.event line a.told (line_after s a.events w new (n + 1) t.event line a.setting a.history (ap (λ k. k + 1) a.number) t.told),
+)
+
+written : (s : Setting) (lines : List (List (List ℕ))) (w new : WorldValue) (n m : ℕ) (words : List (List ℕ)) (old now next : Option (List ℕ)) → Stands s lines w n old now → HasWritten w new n m words now next
+    → Stands s (lines ++ words ∷ []) new m old next
+written s lines w new n m words old now next a r =
+    let both = next_line s lines w new n words r.line old now a r.told in
+    let e = r.told.event in
+    let t = r.told.told in
+    record {
+      events = a.events ++ e ∷ [];
+      setting = t.setting ∙ a.setting;
+      history =
+        ap (λ (x : Setting). history_of x new.events) (sym (t.setting ∙ a.setting)) ∙ t.history
+        ∙ ap (λ (x : Setting). after_events x (history_of x w.events) (e ∷ [])) a.setting
+        ∙ ap (λ (h : List Event). after_events s h (e ∷ [])) a.history ∙ sym (history_append s a.events (e ∷ []));
+      number = r.number ∙ ap (λ k. k + 1) a.number ∙ sym (length-one_more a.events e);
+      few = omega (arith, r.number, a.few, length-one_more lines words);
+      spelled = both.0;
+      text = a.text ++ r.line;
+      told = both.1;
+      written = Appends-trans old now next a.text r.line a.written r.written;
+    }
+
+-- one more line was done
+pub stands_next : (s : Setting) (lines : List (List (List ℕ))) (w new : WorldValue) (n m : ℕ) (words : List (List ℕ)) (old now next : Option (List ℕ)) → Stands s lines w n old now → HasDone w new n m words now next
+    → Stands s (lines ++ words ∷ []) new m old next
+stands_next s lines w new n m words old now next a (inl r) = rested s lines w new n m words old now next a r
+stands_next s lines w new n m words old now next a (inr r) = written s lines w new n m words old now next a r
