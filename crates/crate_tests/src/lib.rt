@@ -22,6 +22,7 @@ mod inputs;
 mod ladders;
 #[cfg(test)]
 mod networks;
+mod no_ladder;
 #[cfg(test)]
 mod pins;
 #[cfg(test)]
@@ -42,3 +43,4 @@ mod timers;
 mod worked;
 
 pub use figures::{are_drawn, are_listed, are_refused};
+pub use no_ladder::have_no_ladder;
