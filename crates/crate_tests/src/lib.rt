@@ -26,6 +26,7 @@ mod inputs;
 mod ladders;
 #[cfg(test)]
 mod networks;
+mod no_ladder;
 #[cfg(test)]
 mod pins;
 #[cfg(test)]
@@ -50,3 +51,4 @@ mod worked;
 mod worlds;
 
 pub use figures::{are_drawn, are_listed, are_refused};
+pub use no_ladder::have_no_ladder;
