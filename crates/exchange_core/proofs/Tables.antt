@@ -1,5 +1,5 @@
 -- Tables of what is known.
-use Rattle.std.proofs.Common.{◌≡◌, ◌⊎◌, inl, inr, ℕ, zero, suc, ◌+◌, ◌<◌, Bool, true, false, ◌++◌, List, [], ◌∷◌, length, get_or, take, Option, Some, None, refl, ap, sym, ◌∙◌, arith, eqb, replicate, add-one}
+use Rattle.std.proofs.Common.{◌≡◌, ◌⊎◌, inl, inr, ℕ, zero, suc, ◌+◌, ◌<◌, true, false, ◌++◌, List, [], ◌∷◌, length, get_or, take, Option, Some, None, refl, ap, sym, ◌∙◌, arith, eqb, replicate, add-one}
 use Rattle.std.proofs.Math.ListN.{length-replicate, set, get_or-map as get_or-map_default}
 use Rattle.std.specs.Prelude.{slice_get, slice_set, slice_index_or, map}
 use Rattle.std.specs.Option.{option_map}

@@ -1,5 +1,5 @@
 -- The takes of a code.
-use Rattle.std.proofs.Common.{◌≡◌, ◌≢◌, ℕ, zero, suc, ◌+◌, ◌<◌, ◌≤◌, min, ◌++◌, List, [], ◌∷◌, length, get_or, take, slice_get, map, Option, Some, None, refl, ap, sym, ◌∙◌, subst, arith}
+use Rattle.std.proofs.Common.{◌≡◌, ℕ, zero, suc, ◌+◌, ◌<◌, ◌≤◌, ◌++◌, List, [], ◌∷◌, length, get_or, take, slice_get, map, Option, Some, None, refl, ap, sym, ◌∙◌, subst, arith}
 use Rattle.std.specs.List.{zip}
 use Rattle.std.specs.Option.{option_map}
 use Rattle.std.proofs.lemmas.Slice.Zip.{length-zip}
@@ -10,14 +10,14 @@ use Rattle.power_flow.specs.declared.declarations.Kind.TheVariants as kind
 use Rattle.power_flow.specs.First.{value_first}
 use Rattle.power_flow.specs.StateValue.{kind_of}
 use Rattle.plant.specs.declared.task_ref.TaskRef.{TaskRef}
-use Rattle.plant.specs.PlantValue.{CodeValue, PlantValue, code_at, expected_at, items_or_none, image_kinds, IsSoundCode, IsSoundPlant}
+use Rattle.plant.specs.PlantValue.{CodeValue, code_at, expected_at, items_or_none, image_kinds, IsSoundCode}
 use Rattle.evaluation.specs.declared.take.Take.{Take}
 use Rattle.evaluation.specs.Takes.{initial_image, IsTakeOf, AreTakesOf}
 use Rattle.evaluation.specs.Meaning.{Evaluated}
 use Rattle.evaluation.proofs.Lists.{slice_get_some}
 use Rattle.exchange_core.specs.Last.{take_of, takes_of}
 use Rattle.exchange_core.specs.Held.{known}
-use Rattle.exchange_core.specs.CoreValue.{CoreValue, IsCore, IsKnownOf}
+use Rattle.exchange_core.specs.CoreValue.{CoreValue, IsCore}
 
 -- two lists side by side, at one place
 pub zip_at : {X Y : Type 0} (xs : List X) (ys : List Y) (k : ℕ) (x : X) (y : Y) → slice_get xs k ≡ Some x → slice_get ys k ≡ Some y → slice_get (zip xs ys) k ≡ Some (x, y)

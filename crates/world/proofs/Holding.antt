@@ -1,22 +1,21 @@
 -- What a core holds is the latest.
 use Rattle.std.proofs.Common.{◌≡◌, ◌≤◌, ℕ, Bool, true, false, cond, ◌||◌, List, [], ◌∷◌, ◌++◌, length, Option, Some, None, refl, ap, sym, ◌∙◌, subst, eqb, ◌&&◌, suc}
-use Rattle.std.specs.Prelude.{slice_get, reverse, Contains, IfSome}
+use Rattle.std.specs.Prelude.{reverse, Contains, IfSome}
 use Rattle.std.specs.List.{list_any}
 use Rattle.std.specs.Option.{option_map}
 use Rattle.std.proofs.lemmas.List.{reverse-append, reverse-reverse}
 use Rattle.std.proofs.lemmas.List.Elements.{Contains-push, Contains-append_left}
 use Rattle.std.proofs.lemmas.Option.{none-some, same_Some, slice_get_past}
 use Rattle.plant.specs.declared.task_ref.TaskRef.{TaskRef}
-use Rattle.plant.specs.PlantValue.{CodeValue, ResourceValue, PlantValue, items_or_none}
+use Rattle.plant.specs.PlantValue.{CodeValue, ResourceValue, items_or_none}
 use Rattle.evaluation.specs.Meaning.{Evaluated}
 use Rattle.exchange_core.specs.Last.{same_task}
 use Rattle.exchange_core.specs.Held.{known}
 use Rattle.exchange_core.specs.CoreValue.{CoreValue, held_of}
-use Rattle.world.specs.declared.event.Event.{Event}
-use Rattle.world.specs.History.{Setting, history_of}
+use Rattle.world.specs.History.{history_of}
 use Rattle.world.specs.Run.{has_reached, latest, last_among}
 use Rattle.world.specs.World.{WorldValue, node_takes, latest_at, held_at}
-use Rattle.world.specs.Nodes.{kept_of, IsNode, IsWorld}
+use Rattle.world.specs.Nodes.{IsNode}
 
 -- a core of the world holds the latest
 pub held-node : (w : WorldValue) (n : ℕ) (core : CoreValue) (p : TaskRef) → IsNode w.setting (history_of w.setting w.events) (reverse w.log) n core → held_of core p ≡ held_at w n p

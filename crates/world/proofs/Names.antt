@@ -1,18 +1,18 @@
 -- In a lawful history the pairs of each task rise strictly.
-use Rattle.std.proofs.Common.{◌≡◌, ℕ, suc, ◌+◌, ◌<◌, ◌≤◌, Bool, true, false, cond, ◌&&◌, ◌||◌, List, [], ◌∷◌, length, Option, Some, None, refl, ap, sym, ◌∙◌, subst, arith, eqb, ltb, leb, add-suc, add-one, zero-add, add-zero}
-use Rattle.std.proofs.lemmas.Bool.{eq-eqb, ne_eqb, eqb-true, eqb-false, and_parts, false≢true}
+use Rattle.std.proofs.Common.{◌≡◌, ℕ, suc, ◌+◌, Bool, true, false, cond, List, [], ◌∷◌, length, refl, ap, sym, ◌∙◌, subst, arith, eqb, add-suc, add-one, zero-add}
+use Rattle.std.proofs.lemmas.Bool.{false≢true}
 use Rattle.std.proofs.lemmas.Bool.Decides.{nat_tests}
 use Rattle.plant.specs.declared.task_ref.TaskRef.{TaskRef}
 use Rattle.evaluation.specs.declared.field_input.FieldInput.{FieldInput}
 use Rattle.evaluation.specs.declared.name.Name.{Name}
 use Rattle.evaluation.specs.Names.{precedes}
 use Rattle.evaluation.specs.Meaning.{Evaluated}
-use Rattle.exchange_core.specs.Last.{same_task, takes_of}
-use Rattle.exchange_core.proofs.Tables.{same_task-true, same_task-itself}
+use Rattle.exchange_core.specs.Last.{same_task}
+use Rattle.exchange_core.proofs.Tables.{same_task-true}
 use Rattle.world.specs.declared.event.Event.{Event}
 use Rattle.world.specs.declared.event.Event.TheVariants.{Evaluate, Deliver, Restart}
 use Rattle.world.specs.History.{Setting, made_count, number_of, incarnation_of, is_lawful, after_events}
-use Rattle.world.specs.Run.{IsLog, IsNextEvaluation, next_name, latest}
+use Rattle.world.specs.Run.{IsLog, IsNextEvaluation, next_name}
 use Rattle.world.proofs.Latest.{AllBefore, Rises}
 
 -- each event of the history was lawful when it happened

@@ -1,7 +1,7 @@
 -- How the latest of a producer at a resource changes with each event.
-use Rattle.std.proofs.Common.{◌≡◌, ℕ, suc, ◌+◌, ◌<◌, ◌≤◌, Bool, true, false, cond, ◌&&◌, ◌||◌, List, [], ◌∷◌, length, Option, Some, None, refl, ap, sym, ◌∙◌, subst, arith, eqb, ltb, leb, add-one}
+use Rattle.std.proofs.Common.{◌≡◌, ℕ, suc, ◌+◌, ◌<◌, ◌≤◌, Bool, true, false, cond, ◌&&◌, ◌||◌, List, [], ◌∷◌, length, Some, None, refl, ap, sym, ◌∙◌, subst, arith, eqb, ltb, leb, add-one}
 use Rattle.std.specs.List.{list_any}
-use Rattle.std.proofs.lemmas.Bool.{eq-eqb, ne_eqb, eqb-true, le-ltb, lt-ltb, leb-true, and_parts, false≢true}
+use Rattle.std.proofs.lemmas.Bool.{eq-eqb, ne_eqb, eqb-true, le-ltb, lt-ltb, leb-true, and_parts}
 use Rattle.std.proofs.lemmas.Bool.Decides.{nat_tests}
 use Rattle.plant.specs.declared.task_ref.TaskRef.{TaskRef}
 use Rattle.evaluation.specs.declared.field_input.FieldInput.{FieldInput}
@@ -10,8 +10,8 @@ use Rattle.exchange_core.specs.Last.{same_task, last_number}
 use Rattle.exchange_core.proofs.Tables.{same_task-true, same_task-itself}
 use Rattle.world.specs.declared.event.Event.{Event}
 use Rattle.world.specs.declared.event.Event.TheVariants.{Evaluate, Deliver, Restart}
-use Rattle.world.specs.History.{Setting, is_deliver_of, is_restart_of, made_count, number_of, incarnation_of, is_lawful, since_restart}
-use Rattle.world.specs.Run.{IsLog, has_reached, latest, message, last_among, next_name}
+use Rattle.world.specs.History.{Setting, is_deliver_of, made_count, number_of, incarnation_of, since_restart}
+use Rattle.world.specs.Run.{IsLog, has_reached, latest, message, next_name}
 use Rattle.world.specs.Laws.{held_with}
 use Rattle.world.proofs.Latest.{Rises, last_among-agree, last_among-none, last_among-arrival}
 use Rattle.world.proofs.Names.{AllLawful, length-log, named}

@@ -1,13 +1,13 @@
 -- What a core takes from its table is what the run says.
-use Rattle.std.proofs.Common.{◌≡◌, ◌≢◌, ◌<◌, ℕ, zero, suc, Bool, true, false, cond, ◌||◌, List, [], ◌∷◌, map, length, get_or, Option, Some, None, refl, ap, sym, ◌∙◌, subst, arith, eqb}
+use Rattle.std.proofs.Common.{◌≡◌, ◌≢◌, ℕ, zero, suc, Bool, true, cond, List, [], ◌∷◌, map, length, Option, Some, None, refl, ap, sym, ◌∙◌, subst, eqb}
 use Rattle.std.specs.List.{list_any, zip}
 use Rattle.std.specs.Prelude.{slice_get}
 use Rattle.std.proofs.lemmas.Bool.{or_right}
 use Rattle.std.proofs.lemmas.List.Folds.{list_any_at, Any-from_list_any}
-use Rattle.std.proofs.lemmas.Option.{none-some, same_Some, slice_get_within, slice_get_read, get_or_from_slice_get}
+use Rattle.std.proofs.lemmas.Option.{same_Some, slice_get_within, slice_get_read, get_or_from_slice_get}
 use Rattle.power_flow.specs.StateValue.{kind_of}
 use Rattle.plant.specs.declared.task_ref.TaskRef.{TaskRef}
-use Rattle.plant.specs.PlantValue.{CodeValue, PlantValue, code_at, codes_at, expected_at, items_or_none, image_kinds, IsSoundPlant}
+use Rattle.plant.specs.PlantValue.{CodeValue, PlantValue, code_at, codes_at, items_or_none, image_kinds, IsSoundPlant}
 use Rattle.evaluation.specs.Meaning.{Evaluated}
 use Rattle.exchange_core.specs.Last.{same_task, take_of, takes_of}
 use Rattle.exchange_core.specs.Held.{known}
@@ -17,7 +17,7 @@ use Rattle.world.specs.declared.event.Event.{Event}
 use Rattle.world.specs.History.{Setting}
 use Rattle.world.specs.Run.{latest}
 use Rattle.world.specs.World.{node_takes}
-use Rattle.world.specs.Nodes.{kept_of, IsNode}
+use Rattle.world.specs.Nodes.{IsNode}
 
 list_any-found : {X : Type 0} (f : X → Bool) (xs : List X) (i : ℕ) (x : X) → slice_get xs i ≡ Some x → f x ≡ true → list_any f xs ≡ true
 list_any-found f xs i x at h = list_any_at f xs i x (slice_get_within xs i x at) (ap f (get_or_from_slice_get xs i x x at) ∙ h)

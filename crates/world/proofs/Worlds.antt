@@ -1,15 +1,14 @@
 -- A world follows its events.
-use Rattle.std.proofs.Common.{◌≡◌, ◌⊎◌, inl, inr, ℕ, zero, suc, ◌+◌, ◌<◌, ◌≤◌, ◌-◌, get_or, Bool, true, false, cond, ◌&&◌, ◌||◌, List, [], ◌∷◌, ◌++◌, length, Option, Some, None, refl, ap, sym, ◌∙◌, subst, arith, eqb, ltb, leb}
-use Rattle.std.specs.Prelude.{is_some, slice_get, slice_index, slice_set, reverse}
+use Rattle.std.proofs.Common.{◌≡◌, ◌⊎◌, inl, inr, ℕ, ◌+◌, ◌<◌, ◌≤◌, ◌-◌, get_or, Bool, true, cond, ◌||◌, List, [], ◌∷◌, ◌++◌, length, Option, Some, None, refl, ap, sym, ◌∙◌, subst, arith, eqb}
+use Rattle.std.specs.Prelude.{is_some, slice_get, slice_set, reverse}
 use Rattle.std.proofs.lemmas.Bool.{eq-eqb, ne_eqb, lt-ltb}
 use Rattle.std.proofs.lemmas.List.{length-set, reverse-append}
 use Rattle.std.proofs.lemmas.Option.{slice_get_within, slice_get_read}
 use Rattle.power_flow.specs.StateValue.{StateValue}
 use Rattle.plant.specs.declared.task_ref.TaskRef.{TaskRef}
-use Rattle.plant.specs.PlantValue.{CodeValue, PlantValue, code_at, IsSoundPlant}
+use Rattle.plant.specs.PlantValue.{CodeValue, code_at}
 use Rattle.evaluation.specs.declared.field_input.FieldInput.{FieldInput}
 use Rattle.evaluation.specs.declared.name.Name.{Name}
-use Rattle.evaluation.specs.declared.take.Take.{Take}
 use Rattle.evaluation.specs.Meaning.{Evaluated, IsAsked}
 use Rattle.exchange_core.specs.Last.{state_of, takes_of, last_number}
 use Rattle.exchange_core.specs.Held.{known, with_known}
@@ -17,8 +16,8 @@ use Rattle.exchange_core.specs.CoreValue.{CoreValue, IsNext, IsNextOf, next_name
 use Rattle.exchange_core.proofs.Tables.{same_ref}
 use Rattle.exchange_core.proofs.Keeping.{core_with}
 use Rattle.world.specs.declared.event.Event.{Event}
-use Rattle.world.specs.declared.event.Event.TheVariants.{Evaluate, Deliver, Restart}
-use Rattle.world.specs.History.{Setting, made_count, is_lawful, history_of, incarnation_of, number_of}
+use Rattle.world.specs.declared.event.Event.TheVariants.{Evaluate, Restart}
+use Rattle.world.specs.History.{Setting, is_lawful, history_of, incarnation_of, number_of}
 use Rattle.world.specs.Run.{IsLog, IsNextEvaluation, next_name, latest}
 use Rattle.world.specs.World.{WorldValue, node_takes}
 use Rattle.world.specs.Step.{IsDone, IsEvaluatedNow}

@@ -7,7 +7,7 @@ use Rattle.exchange_core.specs.Last.{same_task}
 use Rattle.world.specs.declared.event.Event.{Event}
 use Rattle.world.specs.declared.event.Event.TheVariants.{Deliver}
 use Rattle.world.specs.History.{Setting, history_of}
-use Rattle.world.specs.Run.{IsLog, IsRun, latest, message}
+use Rattle.world.specs.Run.{IsRun, latest, message}
 
 -- a list of events has one run
 abbrev pub OneRun : Type 0

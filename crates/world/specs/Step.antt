@@ -1,5 +1,5 @@
 -- What one step does to a world.
-use Rattle.std.specs.Prelude.{◌≡◌, ◌≢◌, ℕ, ◌<◌, ◌≤◌, ◌⊎◌, Bool, true, false, List, [], ◌∷◌, ◌++◌, Some, None, is_some, length, reverse}
+use Rattle.std.specs.Prelude.{◌≡◌, ◌≢◌, ℕ, ◌<◌, ◌≤◌, ◌⊎◌, true, false, List, [], ◌∷◌, ◌++◌, Some, None, is_some, length, reverse}
 use Rattle.plant.specs.declared.task_ref.TaskRef.{TaskRef}
 use Rattle.plant.specs.PlantValue.{code_at}
 use Rattle.evaluation.specs.Meaning.{Evaluated}

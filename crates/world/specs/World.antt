@@ -1,5 +1,5 @@
 -- What a world is, to a contract: its setting, the events that were done, and the evaluations made, in their order.
-use Rattle.std.specs.Prelude.{◌≡◌, ℕ, ◌==◌, Bool, List, Option, None, length, reverse, if◌then◌else◌}
+use Rattle.std.specs.Prelude.{ℕ, ◌==◌, Bool, List, Option, None, reverse, if◌then◌else◌}
 use Rattle.std.specs.List.{list_any}
 use Rattle.plant.specs.declared.task_ref.TaskRef.{TaskRef}
 use Rattle.plant.specs.PlantValue.{CodeValue, PlantValue, codes_at}

@@ -1,5 +1,4 @@
-use Rattle.std.proofs.Common.{sym, ap, subst}
-use Rattle.plant.specs.declared.task_ref.TaskRef.{TaskRef}
+use Rattle.std.proofs.Common.{sym, subst}
 use Rattle.evaluation.specs.declared.name.Name.{Name}
 use Rattle.exchange_core.specs.CoreValue.{CoreValue, IsUsable, IsKnownOf}
 use Rattle.exchange_core.proofs.Keeping.{core-with, usable-known, place-known}

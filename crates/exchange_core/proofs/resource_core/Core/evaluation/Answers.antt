@@ -1,4 +1,4 @@
-use Rattle.std.proofs.Common.{◌≡◌, sym, ◌∙◌, ap, subst, Some}
+use Rattle.std.proofs.Common.{sym, ◌∙◌, ap, subst, Some}
 use Rattle.plant.specs.PlantValue.{CodeValue, code_at}
 use Rattle.evaluation.specs.Takes.{AreTakesOf}
 use Rattle.exchange_core.specs.CoreValue.{CoreValue}

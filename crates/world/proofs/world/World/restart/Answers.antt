@@ -1,4 +1,4 @@
-use Rattle.std.proofs.Common.{◌≡◌, ◌<◌, ◌≤◌, arith, length, ◌∙◌, subst}
+use Rattle.std.proofs.Common.{◌<◌, ◌≤◌, arith, length, ◌∙◌, subst}
 use Rattle.world.specs.declared.event.Event.TheVariants.{Restart}
 use Rattle.world.specs.History.{history_of, incarnation_of}
 use Rattle.world.specs.World.{WorldValue}
