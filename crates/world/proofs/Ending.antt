@@ -1,5 +1,5 @@
 -- How a schedule ends.
-use Rattle.std.proofs.Common.{◌≡◌, ◌≢◌, ◌⊎◌, inl, inr, ℕ, zero, suc, ◌+◌, ◌-◌, ◌<◌, ◌≤◌, ◌==◌, Bool, true, false, cond, List, [], ◌∷◌, ◌++◌, length, map, take, get_or, Option, Some, None, slice_get, refl, sym, ap, ◌∙◌, subst, arith, append_assoc, length-append, Bor}
+use Rattle.std.proofs.Common.{◌≡◌, ◌≢◌, ℕ, ◌+◌, ◌-◌, ◌<◌, ◌≤◌, ◌==◌, Bool, true, false, cond, List, [], ◌∷◌, ◌++◌, length, map, take, get_or, Option, Some, slice_get, refl, sym, ap, ◌∙◌, subst, arith, length-append, Bor}
 use Rattle.std.specs.Prelude.{slice_index}
 use Rattle.std.specs.List.{slice_split, count_by}
 use Rattle.std.specs.Io.KnownBytes.{Appends, Keeps}
@@ -141,7 +141,7 @@ with_feed text front e =
     let n : length (front ++ 10 ∷ []) - 1 ≡ length front = omega (arith, length-append front (10 ∷ [])) in
     let last : (slice_index (front ++ 10 ∷ []) (length (front ++ 10 ∷ []) - 1) == 10) ≡ true = ap (λ c. c == 10) (last_is front) in
     sym (ap (without_last 10) e ∙ ap (λ b. cond b (take (length (front ++ 10 ∷ []) - 1) (front ++ 10 ∷ [])) (front ++ 10 ∷ [])) last
-      ∙ ap (λ k. take k (front ++ 10 ∷ [])) n ∙ take-append_seam front (10 ∷ []))
+    ∙ ap (λ k. take k (front ++ 10 ∷ [])) n ∙ take-append_seam front (10 ∷ []))
 
 feed : (text : List ℕ) → 0 < length text → ((front : List ℕ) → text ≢ front ++ 10 ∷ []) → text ≡ without_last 10 text
 feed text h none = by (slice_index text (length text - 1) == 10) refl

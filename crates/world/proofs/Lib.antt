@@ -15,3 +15,4 @@ pub mod ScheduleReading
 pub mod Telling
 pub mod Simulating
 pub mod Ending
+pub mod OneReading

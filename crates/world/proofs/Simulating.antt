@@ -1,12 +1,12 @@
 -- A schedule is done line by line.
-use Rattle.std.proofs.Common.{◌≡◌, ◌≢◌, ◌⊎◌, inl, inr, ℕ, zero, suc, ◌+◌, ◌-◌, ◌<◌, ◌≤◌, Bool, true, false, cond, not, List, [], ◌∷◌, ◌++◌, length, map, take, get_or, Option, Some, None, slice_get, refl, sym, ap, ◌∙◌, subst, arith, append_assoc}
+use Rattle.std.proofs.Common.{◌≡◌, ◌≢◌, ◌⊎◌, inl, inr, ℕ, zero, suc, ◌+◌, ◌<◌, ◌≤◌, Bool, true, false, cond, not, List, [], ◌∷◌, ◌++◌, length, take, Option, Some, None, slice_get, refl, sym, ap, ◌∙◌, subst, arith}
 use Rattle.std.specs.Prelude.{reverse}
 use Rattle.std.specs.List.{filter, flat_map}
 use Rattle.std.specs.Io.KnownBytes.{Appends, Keeps}
 use Rattle.std.proofs.KnownBytes.{Appends-trans, Appends-nil}
 use Rattle.std.proofs.Math.Seq.{take-append_seam}
 use Rattle.std.proofs.lemmas.Bool.{cases_eq}
-use Rattle.std.proofs.lemmas.List.{append-nil, take-append-le, map-append}
+use Rattle.std.proofs.lemmas.List.{append-nil, take-append-le}
 use Rattle.std.proofs.lemmas.List.Concat.{flat_map-append}
 use Rattle.std.proofs.lemmas.List.Elements.{filter-append}
 use Rattle.std.proofs.lemmas.Option.{slice_get_within}
@@ -20,11 +20,10 @@ use Rattle.world.specs.declared.event.Event.TheVariants.{Evaluate, Deliver, Rest
 use Rattle.world.specs.declared.world_fault.WorldFault.{WorldFault}
 use Rattle.world.specs.declared.world_fault.WorldFault.TheVariants.{NoSuchResource, NoSuchTask, NoSuchMessage, NumbersSpent, IncarnationsSpent, Memory}
 use Rattle.world.specs.History.{Setting, history_of, after_events, is_lawful, incarnation_of, number_of, made_count}
-use Rattle.world.specs.Run.{IsRun, IsLog, latest}
-use Rattle.world.specs.World.{WorldValue, node_takes}
-use Rattle.world.specs.Step.{IsCause, IsDelivered, Answers}
-use Rattle.world.specs.RunLines.{evaluation_line}
-use Rattle.world.specs.RunText.{IsDoneLine, IsRefusedLine, Tells, IsLineAfter, IsRunText, restart_line}
+use Rattle.world.specs.Run.{IsLog, latest}
+use Rattle.world.specs.World.{WorldValue}
+use Rattle.world.specs.Step.{IsCause, Answers}
+use Rattle.world.specs.RunText.{IsDoneLine, Tells, IsLineAfter, IsRunText, restart_line}
 use Rattle.world.specs.ScheduleText.{is_idle, SpellsEvent, SpellEvents, Spell}
 use Rattle.world.specs.Steps.Telling.{IsTold}
 use Rattle.world.specs.Steps.Simulating.{HasTold, HasRested, HasWritten, HasDone}
@@ -215,9 +214,9 @@ written s lines w new n m words old now next a r =
       events = a.events ++ e ∷ [];
       setting = t.setting ∙ a.setting;
       history =
-        ap (λ (x : Setting). history_of x new.events) (sym (t.setting ∙ a.setting)) ∙ t.history
-        ∙ ap (λ (x : Setting). after_events x (history_of x w.events) (e ∷ [])) a.setting
-        ∙ ap (λ (h : List Event). after_events s h (e ∷ [])) a.history ∙ sym (history_append s a.events (e ∷ []));
+          ap (λ (x : Setting). history_of x new.events) (sym (t.setting ∙ a.setting)) ∙ t.history
+          ∙ ap (λ (x : Setting). after_events x (history_of x w.events) (e ∷ [])) a.setting
+          ∙ ap (λ (h : List Event). after_events s h (e ∷ [])) a.history ∙ sym (history_append s a.events (e ∷ []));
       number = r.number ∙ ap (λ k. k + 1) a.number ∙ sym (length-one_more a.events e);
       few = omega (arith, r.number, a.few, length-one_more lines words);
       spelled = both.0;

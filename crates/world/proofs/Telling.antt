@@ -1,23 +1,19 @@
 -- What one event tells.
-use Rattle.std.proofs.Common.{◌≡◌, ◌⊎◌, inl, inr, ℕ, ◌+◌, ◌-◌, ◌<◌, Bool, true, false, List, [], ◌∷◌, ◌++◌, length, Option, Some, None, slice_get, refl, sym, ap, ◌∙◌, subst, arith, length-append, Result, Ok, Err, OnOk}
+use Rattle.std.proofs.Common.{◌≡◌, inl, inr, ℕ, ◌+◌, ◌-◌, List, [], ◌∷◌, ◌++◌, length, Some, slice_get, refl, ap, ◌∙◌, subst, arith, length-append, Result, Ok, Err, OnOk}
 use Rattle.std.specs.Prelude.{reverse}
 use Rattle.std.proofs.lemmas.List.{reverse-append}
-use Rattle.evaluation.specs.Meaning.{Evaluated}
-use Rattle.evaluation.specs.declared.field_input.FieldInput.{FieldInput}
-use Rattle.plant.specs.declared.task_ref.TaskRef.{TaskRef}
-use Rattle.exchange_core.specs.declared.accepted.Accepted.{Accepted}
 use Rattle.world.specs.declared.event.Event.{Event}
 use Rattle.world.specs.declared.event.Event.TheVariants.{Evaluate, Deliver, Restart}
 use Rattle.world.specs.declared.done.Done.{Done}
 use Rattle.world.specs.declared.done.Done.TheVariants.{Evaluated as MadeOne, Delivered, Restarted}
 use Rattle.world.specs.declared.world_fault.WorldFault.{WorldFault}
 use Rattle.world.specs.declared.world_fault.WorldFault.TheVariants.{Memory}
-use Rattle.world.specs.History.{Setting, history_of, after_events, is_lawful, incarnation_of}
+use Rattle.world.specs.History.{history_of, after_events, incarnation_of}
 use Rattle.world.specs.Run.{IsRun, IsLog}
 use Rattle.world.specs.World.{WorldValue}
 use Rattle.world.specs.Step.{IsStep, IsCause, Follows}
 use Rattle.world.specs.RunLines.{evaluation_line}
-use Rattle.world.specs.RunText.{IsDoneLine, Tells, refused_line, delivery_line, restart_line}
+use Rattle.world.specs.RunText.{Tells, refused_line, delivery_line, restart_line}
 use Rattle.world.specs.Steps.Telling.{made_line, done_line, IsTold}
 use Rattle.world.proofs.Moves.{history-one_more}
 use Rattle.world.proofs.Starts.{history-lawful, follows-step, follows-cause, unlawful}
@@ -78,8 +74,11 @@ done_tells old new n (Deliver k r) (Delivered a) line h run is =
 done_tells old new n (Deliver k r) (MadeOne m) line h run is = absurd h
 done_tells old new n (Deliver k r) (Restarted i) line h run is = absurd h
 done_tells old new n (Restart r) (Restarted i) line h run is =
-    inl (h.0.lawful, is ∙ ap (λ (w : WorldValue). restart_line w.setting.plant r i) h.0.is
-      ∙ ap (restart_line old.setting.plant r) (h.1 ∙ ap (λ (w : WorldValue). incarnation_of w.setting r (history_of w.setting w.events)) h.0.is))
+    inl (
+      h.0.lawful,
+      is ∙ ap (λ (w : WorldValue). restart_line w.setting.plant r i) h.0.is
+          ∙ ap (restart_line old.setting.plant r) (h.1 ∙ ap (λ (w : WorldValue). incarnation_of w.setting r (history_of w.setting w.events)) h.0.is),
+    )
 done_tells old new n (Restart r) (MadeOne m) line h run is = absurd h
 done_tells old new n (Restart r) (Delivered a) line h run is = absurd h
 

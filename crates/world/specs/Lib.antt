@@ -9,3 +9,4 @@ pub mod RunLines
 pub mod RunText
 pub mod ScheduleText
 pub mod Simulated
+pub mod ScheduleLaws

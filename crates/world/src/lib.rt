@@ -12,7 +12,7 @@ mod world_fault;
 pub use done::Done;
 pub use event::Event;
 pub use laws::{keeping_the_greatest_keeps_the_latest, one_run, pairs_rise};
-pub use schedule::{SimFault, push_evaluation, simulate};
+pub use schedule::{SimFault, one_reading, push_evaluation, simulate};
 pub use text_output::{WriteFault, write_text};
 pub use world::World;
 pub use world_fault::WorldFault;

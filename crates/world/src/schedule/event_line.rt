@@ -110,7 +110,9 @@ fn push_done(
             _ => Ok(()),
         },
         Event::Deliver { message, resource } => match done {
-            Done::Delivered { accepted } => push_delivery(line, plant, *message, *resource, accepted),
+            Done::Delivered { accepted } => push_delivery(
+                line, plant, *message, *resource, accepted,
+            ),
             _ => Ok(()),
         },
         Event::Restart { resource } => match done {

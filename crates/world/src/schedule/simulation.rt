@@ -83,12 +83,7 @@ impl Simulation {
     }
 
     /// Does a line.
-    fn do_line<W: Write>(
-        &mut self,
-        alloc: Global,
-        text: &str,
-        out: &mut W,
-    ) -> Result<(), LineFault>
+    fn do_line<W: Write>(&mut self, alloc: Global, text: &str, out: &mut W) -> Result<(), LineFault>
         requires { self.old.events < 18446744073709551615 }
         ensures ok { OnOk result (HasDone self.old.world self.new.world self.old.events self.new.events (words_of (without_last 13 text.now)) (W.contents out.old) (W.contents out.new)) }
         ensures fault { IfErr result (HasStopped self.old.world self.new.world self.old.events (words_of (without_last 13 text.now)) (W.contents out.old) (W.contents out.new)) }
