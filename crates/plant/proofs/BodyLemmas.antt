@@ -5,7 +5,9 @@ use Rattle.ladder_text.specs.declared.place.Place.{Place}
 use Rattle.ladder_text.specs.Rows.{rows_of}
 use Rattle.ladder_text.specs.Places.{layout_of}
 use Rattle.ladder_text.specs.Picture.{picture_of}
-use Rattle.ladder_text.specs.Faults.{IsWellDrawn}
+use Rattle.ladder_text.specs.Faults.{IsWellDrawn, IsIllDrawn}
+use Rattle.ladder_text.specs.declared.drawing.DrawFault.{DrawFault}
+use Rattle.ladder_text.specs.declared.drawing.DrawFaultKind.TheVariants as draw
 use Rattle.network.specs.declared.fault.GraphFault.{GraphFault}
 use Rattle.network.specs.declared.fault.GraphFaultKind.TheVariants as graph
 use Rattle.network.specs.Networks.{IsFaultAt, IsFoundAt}
@@ -36,6 +38,13 @@ body_refused p line why (Err fault) given refused = λ other.
       kind_is = ap (λ (f : PlantFault). f.kind) is;
       refused = refused (λ memory. other (given.0 memory));
     }
+
+-- a drawing that is refused
+pub drawing_refused : {T : Type 0} (p : Program) (found : DrawFault) (r : Result T PlantFault)
+    → IsErrAnd r (IsHandedOn (found.kind ≡ draw.Memory) kind.Drawing found.line (body.Drawing found.kind))
+    → (found.kind ≢ draw.Memory → IsIllDrawn (rows_of p.body))
+    → IfErr r (λ fault. fault.kind ≢ kind.Memory → IsBodyFault p fault)
+drawing_refused p found r given ill = body_refused p found.line (body.Drawing found.kind) r given ill
 
 -- networks that are refused
 pub networks_refused : {T : Type 0} (p : Program) (first_line : ℕ) (found : GraphFault) (r : Result T PlantFault) → IsWellDrawn (rows_of p.body)

@@ -4,8 +4,13 @@ use Rattle.ladder_text.specs.Rows.{rows_of}
 use Rattle.ladder_text.specs.Places.{layout_of}
 use Rattle.ladder_text.specs.Picture.{picture_of}
 use Rattle.plant.specs.Faultless.{variables}
-use Rattle.plant.proofs.BodyLemmas.{networks_refused, names_refused}
+use Rattle.plant.proofs.BodyLemmas.{drawing_refused, networks_refused, names_refused}
 use Rattle.plant.proofs.program_text.ProgramText.draw.Goals as goal
+
+pub returns-in_err-drawing-clause-fault : goal.returns-in_err-drawing-clause-fault
+returns-in_err-drawing-clause-fault c =
+    let body : c.as_str.result.now ≡ c.args.self.body = c.as_str.ensures ∙ ap (λ (p : Program). p.body) c.self.view_is in
+    drawing_refused c.args.self c.in_err-drawing.field-0.0 c.from_residual.result c.from_residual.ensures.1 (rw body at c.in_err-drawing.ensures.refused)
 
 pub returns-in_err-graph-clause-fault : goal.returns-in_err-graph-clause-fault
 returns-in_err-graph-clause-fault c =
