@@ -167,7 +167,9 @@ fn max_number_arg<'a>(alloc: Global) -> Arg<'a>
         .long("max-number")
         .value_name("N")
         .action(ArgAction::Set)
-        .help("How often a task is evaluated in one incarnation at most, 0 to 4294967295 [default: 4294967295]")
+        .help(
+            "How often a task is evaluated in one incarnation at most, 0 to 4294967295 [default: 4294967295]",
+        )
 }
 
 fn check_command<'a>(alloc: Global) -> Result<Command<'a>, AllocError>
@@ -193,7 +195,9 @@ fn sim_command<'a>(alloc: Global) -> Result<Command<'a>, AllocError>
     ensures { IfOk result (λ c. app_of c ≡ sim_app) }
 {
     Command::new(alloc, "sim")
-        .about("Runs a schedule of evaluations, deliveries and restarts over a plant, and writes what each did")
+        .about(
+            "Runs a schedule of evaluations, deliveries and restarts over a plant, and writes what each did",
+        )
         .after_help(SIM_HELP)
         .arg(plant_arg(alloc))?
         .arg(schedule_arg(alloc))?
