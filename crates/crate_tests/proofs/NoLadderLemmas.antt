@@ -8,7 +8,7 @@ use Rattle.ladder_text.specs.declared.drawn_box.BlockName.TheVariants as block
 use Rattle.ladder_text.specs.Rows.{rows_of, char_at}
 use Rattle.ladder_text.specs.Chars.{block_name, is_value_word, is_program_word, is_resource_word, is_task_word, is_reserved, is_identifier, is_plain_name, is_name, contact_kind, coil_kind, is_part, has_parts, is_duration_behind, is_duration, is_operand}
 use Rattle.ladder_text.specs.Boxes.{left_column, begins_box, nearer_pin, outline_at, box_at, row_outlines, outlines}
-use Rattle.ladder_text.specs.Places.{contact_at, coil_at, may_be_rail, has_right_rail, mark, gives, takes, layout_of}
+use Rattle.ladder_text.specs.Places.{contact_at, coil_at, may_be_rail, has_right_rail, mark, gives, layout_of}
 use Rattle.ladder_text.specs.Names.{in_word, word_at, words, symbol_at, symbols, tops, things, name_above, row_contacts, contacts, row_coils, coils, drawn_boxes}
 use Rattle.ladder_text.specs.Faults.{name_missing, stray_name, some_takes_word, has_stray_operand}
 use Rattle.ladder_text.specs.Picture.{marks_of, picture_of}
@@ -28,7 +28,7 @@ use Rattle.crate_tests.specs.NoLadder.{HasNoLadder, name_twice, tall_box}
 
 -- unfolds the words of drawings
 drawing_words : Unit {0}
-unfolding rows_of char_at block_name is_value_word is_program_word is_resource_word is_task_word is_reserved is_identifier is_plain_name is_name contact_kind coil_kind is_part has_parts is_duration_behind is_duration is_operand left_column begins_box nearer_pin outline_at box_at row_outlines outlines contact_at coil_at may_be_rail has_right_rail mark gives takes layout_of in_word word_at words symbol_at symbols tops things name_above row_contacts contacts row_coils coils drawn_boxes stray_name name_missing some_takes_word has_stray_operand marks_of picture_of
+unfolding rows_of char_at block_name is_value_word is_program_word is_resource_word is_task_word is_reserved is_identifier is_plain_name is_name contact_kind coil_kind is_part has_parts is_duration_behind is_duration is_operand left_column begins_box nearer_pin outline_at box_at row_outlines outlines contact_at coil_at may_be_rail has_right_rail mark gives layout_of in_word word_at words symbol_at symbols tops things name_above row_contacts contacts row_coils coils drawn_boxes stray_name name_missing some_takes_word has_stray_operand marks_of picture_of
 drawing_words = tt
 
 -- the networks of a body that has a ladder have no fault
