@@ -81,36 +81,24 @@ fn a_resource_that_does_not_exist_has_no_core(rt: HostRuntime) -> Result<(), Fai
 }
 
 #[test]
-fn the_greatest_pair_is_held(rt: HostRuntime) -> Result<(), Fail> {
+fn a_repeat_is_old(rt: HostRuntime) -> Result<(), Fail> {
     let alloc = rt.alloc();
     let mut watcher = core(alloc, PAIR, 1, 1, u32::MAX)??;
-    let second = counted(alloc, 1, 2)?;
-    assert_eq!(rt; watcher.incarnation(), 1);
-    assert_eq!(rt; held(&watcher), None);
-    assert_eq!(rt; watcher.accept(second.try_clone()?), Accepted::Taken);
+    let frame = counted(alloc, 1, 2)?;
+    assert_eq!(rt; watcher.accept(frame.try_clone()?), Accepted::Taken);
     assert_eq!(rt; held(&watcher), Some((1, 2)));
-    assert_eq!(rt; watcher.accept(second.try_clone()?), Accepted::Old);
-    assert_eq!(rt; watcher.accept(counted(alloc, 1, 1)?), Accepted::Old);
+    assert_eq!(rt; watcher.accept(frame), Accepted::Old);
     assert_eq!(rt; held(&watcher), Some((1, 2)));
-    assert_eq!(rt; watcher.accept(counted(alloc, 2, 1)?), Accepted::Taken);
-    assert_eq!(rt; watcher.accept(counted(alloc, 1, 3)?), Accepted::Old);
-    assert_eq!(rt; held(&watcher), Some((2, 1)));
     Ok(())
 }
 
 #[test]
-fn of_no_use_is_what_nobody_takes(rt: HostRuntime) -> Result<(), Fail> {
+fn of_no_use_is_an_own_task(rt: HostRuntime) -> Result<(), Fail> {
     let alloc = rt.alloc();
     let frame = counted(alloc, 1, 1)?;
     let mut counter = core(alloc, PAIR, 0, 1, u32::MAX)??;
     assert_eq!(rt; counter.accept(frame), Accepted::Unused);
-    let mut watcher = core(alloc, PAIR, 1, 1, u32::MAX)??;
-    let seen = evaluated(alloc, &mut watcher, "")?;
-    assert_eq!(rt; counter.accept(seen.try_clone()?), Accepted::Unused);
-    assert_eq!(rt; watcher.accept(seen), Accepted::Unused);
-    assert!(rt; counter.held(SLOW).is_none());
-    assert!(rt; counter.held(FAST).is_none());
-    assert!(rt; watcher.held(SLOW).is_none());
+    assert_eq!(rt; held(&counter), None);
     Ok(())
 }
 
@@ -121,66 +109,6 @@ fn of_no_use_is_an_image_of_other_kinds(rt: HostRuntime) -> Result<(), Fail> {
     let image_of_one = evaluated(alloc, &mut flipped, "")?;
     let mut watcher = core(alloc, PAIR, 1, 1, u32::MAX)??;
     assert_eq!(rt; watcher.accept(image_of_one), Accepted::Unused);
-    assert_eq!(rt; held(&watcher), None);
-    Ok(())
-}
-
-#[test]
-fn what_is_held_is_taken(rt: HostRuntime) -> Result<(), Fail> {
-    let alloc = rt.alloc();
-    let mut watcher = core(alloc, PAIR, 1, 1, u32::MAX)??;
-    let before = evaluated(alloc, &mut watcher, "")?;
-    assert_eq!(rt; taken(&before), None);
-    shows(&rt, before.outputs(), &[Value::Int(0), Value::Bool(false)]);
-    watcher.accept(counted(alloc, 1, 5)?);
-    let after = evaluated(alloc, &mut watcher, "")?;
-    assert_eq!(rt; taken(&after), Some((1, 5)));
-    shows(&rt, after.outputs(), &[Value::Int(3), Value::Bool(true)]);
-    assert_eq!(rt;
-        after.name(),
-        Name {
-            task: SLOW,
-            incarnation: 1,
-            number: 2
-        }
-    );
-    Ok(())
-}
-
-#[test]
-fn a_task_of_its_own_takes_the_last_one_made(rt: HostRuntime) -> Result<(), Fail> {
-    let alloc = rt.alloc();
-    let mut flip = core(alloc, LOOP, 0, 7, u32::MAX)??;
-    let first = evaluated(alloc, &mut flip, "")?;
-    assert_eq!(rt; taken(&first), None);
-    shows(&rt, first.outputs(), &[Value::Bool(true)]);
-    let second = evaluated(alloc, &mut flip, "")?;
-    assert_eq!(rt; taken(&second), Some((7, 1)));
-    shows(&rt, second.outputs(), &[Value::Bool(false)]);
-    assert!(rt; flip.held(FAST).is_none());
-    Ok(())
-}
-
-#[test]
-fn what_is_asked_stands_in_the_frame(rt: HostRuntime) -> Result<(), Fail> {
-    let alloc = rt.alloc();
-    let mut counter = core(alloc, PAIR, 0, 3, u32::MAX)??;
-    let inputs = Inputs::read(alloc, "%IX0=1 %IW9=-3")?;
-    let frame = counter.evaluate(alloc, 42, 0, 17, &inputs)?;
-    assert_eq!(rt; frame.evaluation().ticket(), 42);
-    assert_eq!(rt; frame.evaluation().dt(), 17);
-    assert!(rt; frame.evaluation().inputs().same(&inputs));
-    assert_eq!(rt;
-        frame.name(),
-        Name {
-            task: FAST,
-            incarnation: 3,
-            number: 1
-        }
-    );
-    let next = counter.evaluate(alloc, 43, 0, 17, &inputs)?;
-    assert!(rt; next.evaluation().before().same(frame.evaluation().after()));
-    assert!(rt; !next.evaluation().before().same(frame.evaluation().before()));
     Ok(())
 }
 
@@ -188,25 +116,11 @@ fn what_is_asked_stands_in_the_frame(rt: HostRuntime) -> Result<(), Fail> {
 fn no_task_and_no_number_left(rt: HostRuntime) -> Result<(), Fail> {
     let alloc = rt.alloc();
     let none = Inputs::read(alloc, "")?;
-    let mut watcher = core(alloc, PAIR, 1, 1, 1)??;
-    assert_eq!(rt;
-        watcher.evaluate(alloc, 1, 7, 10, &none).err(),
-        Some(EvalFault::NoSuchTask)
-    );
-    assert_eq!(rt;
-        watcher.evaluate(alloc, 1, usize::MAX, 10, &none).err(),
-        Some(EvalFault::NoSuchTask)
-    );
-    assert_eq!(rt; watcher.evaluate(alloc, 1, 0, 10, &none)?.name().number, 1);
-    assert_eq!(rt;
-        watcher.evaluate(alloc, 1, 0, 10, &none).err(),
-        Some(EvalFault::NumbersSpent)
-    );
-    assert_eq!(rt;
-        watcher.evaluate(alloc, 1, 7, 10, &none).err(),
-        Some(EvalFault::NoSuchTask)
-    );
     let mut spent = core(alloc, PAIR, 1, 1, 0)??;
+    assert_eq!(rt;
+        spent.evaluate(alloc, 1, 7, 10, &none).err(),
+        Some(EvalFault::NoSuchTask)
+    );
     assert_eq!(rt;
         spent.evaluate(alloc, 1, 0, 10, &none).err(),
         Some(EvalFault::NumbersSpent)

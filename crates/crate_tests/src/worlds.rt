@@ -138,149 +138,19 @@ fn each_step_tells_what_it_did(rt: HostRuntime) -> Result<(), Fail> {
 }
 
 #[test]
-fn the_takers_restart_forgets(rt: HostRuntime) -> Result<(), Fail> {
+fn the_greatest_incarnation_is_the_last(rt: HostRuntime) -> Result<(), Fail> {
     let alloc = rt.alloc();
-    let mut world = world(alloc, &[1, 1], u32::MAX)?;
-    let mut events = Vec::new(alloc);
-    events.push(evaluate(alloc, FAST, "%IX0=1")?)?;
-    events.push(evaluate(alloc, FAST, "")?)?;
-    events.push(deliver(2, 1))?;
-    events.push(restart(1))?;
-    assert_eq!(rt; world.run(alloc, events.as_slice()), Ok(()));
-    assert_eq!(rt; held(&world), None);
-    world.step(alloc, &evaluate(alloc, SLOW, "")?)?;
-    assert_eq!(rt; last_take(&world), None);
+    let mut world = world(alloc, &[u32::MAX, 1], u32::MAX)?;
     assert_eq!(rt;
-        world.step(alloc, &deliver(1, 1))?,
-        Done::Delivered {
-            accepted: Accepted::Taken
-        }
+        world.step(alloc, &restart(0)).err(),
+        Some(WorldFault::IncarnationsSpent)
     );
-    world.step(alloc, &evaluate(alloc, SLOW, "")?)?;
-    assert_eq!(rt; last_take(&world), Some((1, 1)));
-    let last = world.log().last().ok_or("no evaluation")?;
-    assert_eq!(rt;
-        last.name(),
-        Name {
-            task: SLOW,
-            incarnation: 2,
-            number: 2
-        }
-    );
-    Ok(())
-}
-
-/// Each fault of one event, and what is left after it.
-fn refuses(rt: &impl Abort, alloc: Global, world: &mut World, event: &Event, fault: WorldFault) {
-    let (made, done, kept) = (world.log().len(), world.events().len(), held(world));
-    assert_eq!(rt; world.step(alloc, event).err(), Some(fault));
-    assert_eq!(rt; world.log().len(), made);
-    assert_eq!(rt; world.events().len(), done);
-    assert_eq!(rt; held(world), kept);
-}
-
-#[test]
-fn unlawful_events_change_nothing(rt: HostRuntime) -> Result<(), Fail> {
-    let alloc = rt.alloc();
-    let mut world = world(alloc, &[u32::MAX, 1], 1)?;
-    let nobody = TaskRef {
-        resource: 8,
-        task: 0,
-    };
-    let nothing = TaskRef {
-        resource: 0,
-        task: 7,
-    };
-    let counted = evaluate(alloc, FAST, "%IX0=1")?;
-    refuses(
-        &rt,
-        alloc,
-        &mut world,
-        &evaluate(alloc, nobody, "")?,
-        WorldFault::NoSuchResource,
-    );
-    refuses(
-        &rt,
-        alloc,
-        &mut world,
-        &evaluate(alloc, nothing, "")?,
-        WorldFault::NoSuchTask,
-    );
-    refuses(
-        &rt,
-        alloc,
-        &mut world,
-        &deliver(1, 1),
-        WorldFault::NoSuchMessage,
-    );
-    assert_eq!(rt;
-        world.step(alloc, &counted)?,
-        Done::Evaluated { message: 1 }
-    );
-    let first = world.log().first().ok_or("no evaluation")?;
-    assert_eq!(rt;
-        first.name(),
-        Name {
-            task: FAST,
-            incarnation: u32::MAX,
-            number: 1
-        }
-    );
-    refuses(&rt, alloc, &mut world, &counted, WorldFault::NumbersSpent);
-    refuses(
-        &rt,
-        alloc,
-        &mut world,
-        &deliver(0, 1),
-        WorldFault::NoSuchMessage,
-    );
-    refuses(
-        &rt,
-        alloc,
-        &mut world,
-        &deliver(2, 1),
-        WorldFault::NoSuchMessage,
-    );
-    refuses(
-        &rt,
-        alloc,
-        &mut world,
-        &deliver(u64::MAX, 1),
-        WorldFault::NoSuchMessage,
-    );
-    refuses(
-        &rt,
-        alloc,
-        &mut world,
-        &deliver(1, 2),
-        WorldFault::NoSuchResource,
-    );
-    refuses(
-        &rt,
-        alloc,
-        &mut world,
-        &deliver(0, 2),
-        WorldFault::NoSuchResource,
-    );
-    refuses(
-        &rt,
-        alloc,
-        &mut world,
-        &restart(2),
-        WorldFault::NoSuchResource,
-    );
-    refuses(
-        &rt,
-        alloc,
-        &mut world,
-        &restart(0),
-        WorldFault::IncarnationsSpent,
-    );
+    assert!(rt; world.events().is_empty());
     assert_eq!(rt;
         world.step(alloc, &restart(1))?,
         Done::Restarted { incarnation: 2 }
     );
-    refuses(&rt, alloc, &mut world, &counted, WorldFault::NumbersSpent);
+    assert_eq!(rt; world.events().len(), 1);
     Ok(())
 }
 
@@ -348,20 +218,5 @@ fn a_run_goes_on_after_a_refusal(rt: HostRuntime) -> Result<(), Fail> {
     has_names(&rt, &world);
     assert_eq!(rt; held(&world), Some((2, 1)));
     assert_eq!(rt; last_take(&world), Some((2, 1)));
-    Ok(())
-}
-
-#[test]
-fn two_worlds_of_one_list_make_the_same(rt: HostRuntime) -> Result<(), Fail> {
-    let alloc = rt.alloc();
-    let events = restarting(alloc)?;
-    let mut one = world(alloc, &[1, 1], u32::MAX)?;
-    let mut other = world(alloc, &[1, 1], u32::MAX)?;
-    assert_eq!(rt; one.run(alloc, events.as_slice()), Ok(()));
-    assert_eq!(rt; other.run(alloc, one.events()), Ok(()));
-    assert_eq!(rt; one.log().len(), other.log().len());
-    for (frame, again) in one.log().iter().zip(other.log()) {
-        assert!(rt; frame.same(again));
-    }
     Ok(())
 }
