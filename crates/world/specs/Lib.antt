@@ -4,6 +4,10 @@ pub mod World
 pub mod Nodes
 pub mod Step
 pub mod Laws
+pub mod Fits
+pub mod Book
+pub mod Consistent
+pub mod BookLaws
 pub mod Steps
 pub mod RunLines
 pub mod RunText

@@ -1,0 +1,48 @@
+-- What holds of the log of every list of events, and of a book.
+use Rattle.std.specs.Prelude.{◌≡◌, ℕ, ◌≤◌, List, reverse, Some, length, slice_index, slice_get, take}
+use Rattle.plant.specs.declared.task_ref.TaskRef.{TaskRef}
+use Rattle.plant.specs.PlantValue.{IsSoundPlant}
+use Rattle.evaluation.specs.Meaning.{Evaluated}
+use Rattle.world.specs.declared.event.Event.{Event}
+use Rattle.world.specs.declared.book.misfit.Misfit.{Misfit}
+use Rattle.world.specs.declared.book.misfit.Misfit.TheVariants.{Memory}
+use Rattle.world.specs.History.{Setting}
+use Rattle.world.specs.Run.{IsRun}
+use Rattle.world.specs.World.{WorldValue, held_at}
+use Rattle.world.specs.Fits.{AllFit}
+use Rattle.world.specs.Book.{IsMisfit, AllCouldBeMade, Replays}
+use Rattle.world.specs.Consistent.{IsConsistent}
+
+-- a run is a consistent log
+abbrev pub RunsAreConsistent : Type 0
+RunsAreConsistent = (s : Setting) (events : List Event) (log : List Evaluated) → IsRun s events log → IsConsistent (reverse log)
+
+-- each evaluation of a run fits those before it
+abbrev pub RunsFit : Type 0
+RunsFit = (s : Setting) (events : List Event) (log : List Evaluated) → length s.first ≡ length s.plant.resources → IsRun s events log → AllFit s.first (reverse log)
+
+-- entering the log of a run into a book, in order, is refused for nothing but want of memory
+abbrev pub RunsAreEntered : Type 0
+RunsAreEntered =
+    (s : Setting) (events : List Event) (log : List Evaluated) (k : ℕ) (x : Evaluated) (misfit : Misfit) → length s.first ≡ length s.plant.resources → IsRun s events log
+    → slice_get log k ≡ Some x → IsMisfit s.first (reverse (take k log)) x misfit → misfit ≡ Memory
+
+-- the first incarnations are numbers of 32 bits
+abbrev pub AreIncarnations : List ℕ → Type 0
+AreIncarnations first = (n : ℕ) → slice_index first n ≤ 4294967295
+
+-- each evaluation of a run could have been made after those before it
+abbrev pub RunsCouldBeMade : Type 0
+RunsCouldBeMade =
+    (s : Setting) (events : List Event) (log : List Evaluated) → IsSoundPlant s.plant → length s.first ≡ length s.plant.resources → AreIncarnations s.first → IsRun s events log → AllCouldBeMade s (reverse log)
+
+-- events that make the entries of a run again are events of that run
+abbrev pub RunsReplay : Type 0
+RunsReplay =
+    (s : Setting) (events again : List Event) (log : List Evaluated) → IsSoundPlant s.plant → length s.first ≡ length s.plant.resources → AreIncarnations s.first → IsRun s events log
+    → Replays s.first log again → IsRun s again log
+
+-- resources that hold one evaluation hold equal values
+abbrev pub HoldersAgree : Type 0
+HoldersAgree =
+    (w : WorldValue) (n m : ℕ) (p q : TaskRef) (x y : Evaluated) → IsRun w.setting w.events w.log → held_at w n p ≡ Some x → held_at w m q ≡ Some y → x.name ≡ y.name → x ≡ y
