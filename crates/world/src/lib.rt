@@ -1,6 +1,7 @@
 //! All resources of a plant in one thread, by a list of events.
 #![tactic(auto)]
 
+mod book;
 mod done;
 mod event;
 mod laws;
@@ -9,6 +10,7 @@ mod text_output;
 mod world;
 mod world_fault;
 
+pub use book::{Book, Misfit};
 pub use done::Done;
 pub use event::Event;
 pub use laws::{keeping_the_greatest_keeps_the_latest, one_run, pairs_rise};
