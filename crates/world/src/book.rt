@@ -1,10 +1,9 @@
 mod misfit;
 
 use evaluation::Frame;
+pub use misfit::Misfit;
 use std::alloc::{AllocError, Global};
 use std::marker::Model;
-
-pub use misfit::Misfit;
 
 /// Evaluations in an order in which each one fits those before it.
 #[derive(Drop)]
