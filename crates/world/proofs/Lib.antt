@@ -16,3 +16,11 @@ pub mod Telling
 pub mod Simulating
 pub mod Ending
 pub mod OneReading
+pub mod Lists
+pub mod Fitting
+pub mod NotBack
+pub mod Suiting
+pub mod Scheduling
+pub mod Replaying
+pub mod Listing
+pub mod Replayable

@@ -1,4 +1,5 @@
 mod misfit;
+mod schedule;
 
 use evaluation::Frame;
 use std::alloc::{AllocError, Global};
