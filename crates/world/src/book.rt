@@ -2,10 +2,9 @@ mod misfit;
 mod schedule;
 
 use evaluation::Frame;
+pub use misfit::Misfit;
 use std::alloc::{AllocError, Global};
 use std::marker::Model;
-
-pub use misfit::Misfit;
 
 /// Evaluations in an order in which each one fits those before it.
 #[derive(Drop)]
