@@ -22,5 +22,4 @@ pub mod NotBack
 pub mod Suiting
 pub mod Scheduling
 pub mod Replaying
-pub mod Listing
 pub mod Replayable

@@ -1,7 +1,8 @@
 -- The events of a schedule make its entries again: each entry is the next evaluation, and so the run is the entries.
-use Rattle.std.proofs.Common.{◌≡◌, ◌⊎◌, inl, inr, ℕ, ◌+◌, ◌-◌, ◌<◌, ◌≤◌, Bool, true, false, cond, ◌&&◌, ◌||◌, List, [], ◌∷◌, ◌++◌, map, length, Option, Some, None, refl, ap, sym, ◌∙◌, subst, arith, eqb, ltb}
+use Rattle.std.proofs.Common.{◌≡◌, ◌⊎◌, inl, inr, ℕ, ◌+◌, ◌-◌, ◌<◌, ◌≤◌, Bool, true, false, cond, ◌&&◌, ◌||◌, List, [], ◌∷◌, ◌++◌, map, length, replicate, Option, Some, None, refl, ap, sym, ◌∙◌, subst, arith, eqb, ltb}
 use Rattle.std.specs.Prelude.{MatchOption, slice_index, reverse}
-use Rattle.std.specs.List.{find, zip}
+use Rattle.std.specs.List.{find, flat_map, zip}
+use Rattle.std.specs.Option.{option_map_or}
 use Rattle.std.proofs.lemmas.Bool.{ne_eqb, eqb-true, eqb-false, false≢true, lt-ltb}
 use Rattle.std.proofs.lemmas.Bool.Decides.{nat_tests}
 use Rattle.power_flow.specs.declared.declarations.Kind.{Kind}
@@ -16,12 +17,12 @@ use Rattle.evaluation.specs.Meaning.{Evaluated, evaluated}
 use Rattle.exchange_core.specs.Last.{same_task, from_of, last_number, state_of, take_of, takes_of}
 use Rattle.exchange_core.proofs.Tables.{same_task-true}
 use Rattle.world.specs.declared.event.Event.{Event}
-use Rattle.world.specs.declared.event.Event.TheVariants.{Evaluate}
+use Rattle.world.specs.declared.event.Event.TheVariants.{Evaluate, Restart}
 use Rattle.world.specs.History.{Setting, is_lawful, after_events, history_of, incarnation_of, number_of}
 use Rattle.world.specs.Run.{IsNextEvaluation, next_name, latest, has_reached}
 use Rattle.world.specs.Fits.{Among, Each, last_in, name_from, is_below, IsUntorn, IsNotBack, IsOwnLatest, Fits, AllFit}
 use Rattle.world.specs.Book.{CouldBeMade, AllCouldBeMade, Replays}
-use Rattle.world.specs.Steps.Scheduling.{incarnation_or, present, deliveries, restarts, events_of, schedule_of}
+use Rattle.world.specs.Schedule.{present, delivery, events_of, schedule_of}
 use Rattle.world.proofs.Names.{length-log}
 use Rattle.world.proofs.Steps.{latest-other_evaluate, number-latest}
 use Rattle.world.proofs.Lists.{Each-at}
@@ -179,7 +180,7 @@ pub record Scheduled (s : Setting) (h : List Event) (log : List Evaluated) : Typ
 present-low : (first : List ℕ) (n i : ℕ) → slice_index first n ≤ i → (log : List Evaluated) → Each (λ (y : Evaluated). y.name.task.resource ≡ n → y.name.incarnation ≤ i) log → present first log n ≤ i
 present-low first n i low [] all = low
 present-low first n i low (y ∷ ys) all = by (present-low first n i low ys all.1) (eqb y.name.task.resource n) refl where
-  by : present first ys n ≤ i → (b : Bool) → eqb y.name.task.resource n ≡ b → incarnation_or (slice_index first n) (cond b (Some y) (find (λ (y : Evaluated). eqb y.name.task.resource n) ys)) ≤ i
+  by : present first ys n ≤ i → (b : Bool) → eqb y.name.task.resource n ≡ b → option_map_or (λ (y : Evaluated). y.name.incarnation) (cond b (Some y) (find (λ (y : Evaluated). eqb y.name.task.resource n) ys)) (slice_index first n) ≤ i
   by ih true e = all.0 (eqb-true y.name.task.resource n e)
   by ih false e = ih
 
@@ -191,10 +192,10 @@ module _ (s : Setting) (h : List Event) (log : List Evaluated) (x : Evaluated) (
   count = x.name.incarnation - present s.first log x.name.task.resource
 
   abbrev begun : List Event
-  begun = after_events s h (restarts count resource)
+  begun = after_events s h (replicate count (Restart resource))
 
   abbrev brought : List Event
-  brought = after_events s begun (deliveries log x.name x.takes)
+  brought = after_events s begun (flat_map (delivery log x.name) x.takes)
 
   risen : incarnation_of s resource h + count ≡ x.name.incarnation
   risen =
@@ -223,8 +224,8 @@ module _ (s : Setting) (h : List Event) (log : List Evaluated) (x : Evaluated) (
 
   history-is : after_events s h (events_of s.first log x) ≡ made ∷ brought
   history-is =
-      after-append s h (restarts count resource) (deliveries log x.name x.takes ++ made ∷ [])
-      ∙ after-append s begun (deliveries log x.name x.takes) (made ∷ [])
+      after-append s h (replicate count (Restart resource)) (flat_map (delivery log x.name) x.takes ++ made ∷ [])
+      ∙ after-append s begun (flat_map (delivery log x.name) x.takes) (made ∷ [])
       ∙ after-lawful s brought made [] lawful
 
   -- the events of one entry more
@@ -235,7 +236,7 @@ module _ (s : Setting) (h : List Event) (log : List Evaluated) (x : Evaluated) (
         held = held-evaluate s brought log x x.ticket x.name.task x.dt x.inputs delivered.held lawful (makes s brought log x sound delivered.held at_last fits r delivered.up);
         incarnations = λ m. delivered.incarnations m ∙ by m (eqb resource m) refl;
       }) where
-        by : (m : ℕ) (b : Bool) → eqb resource m ≡ b → incarnation_of s m begun ≡ incarnation_or (slice_index s.first m) (cond b (Some x) (find (λ (y : Evaluated). eqb y.name.task.resource m) log))
+        by : (m : ℕ) (b : Bool) → eqb resource m ≡ b → incarnation_of s m begun ≡ option_map_or (λ (y : Evaluated). y.name.incarnation) (cond b (Some x) (find (λ (y : Evaluated). eqb y.name.task.resource m) log)) (slice_index s.first m)
         by m true e = subst (λ r. incarnation_of s r begun ≡ x.name.incarnation) (eqb-true resource m e) (restarted.here ∙ risen)
         by m false e = restarted.others m e ∙ sched.incarnations m
 

@@ -1,7 +1,8 @@
 -- The events of a schedule make its entries again: how they lead from entry to entry.
-use Rattle.std.proofs.Common.{◌≡◌, inl, inr, ℕ, zero, suc, ◌+◌, ◌<◌, ◌≤◌, Bool, true, false, cond, ◌&&◌, List, [], ◌∷◌, ◌++◌, length, Option, Some, None, refl, ap, sym, ◌∙◌, subst, arith, eqb}
+use Rattle.std.proofs.Common.{◌≡◌, inl, inr, ℕ, zero, suc, ◌+◌, ◌<◌, ◌≤◌, Bool, true, false, cond, ◌&&◌, List, [], ◌∷◌, ◌++◌, length, replicate, Option, Some, None, refl, ap, sym, ◌∙◌, subst, arith, eqb}
 use Rattle.std.specs.Prelude.{MatchOption}
-use Rattle.std.specs.List.{list_any, find}
+use Rattle.std.specs.Option.{option_and_then}
+use Rattle.std.specs.List.{list_any, find, flat_map}
 use Rattle.std.proofs.lemmas.Bool.{eq-eqb, ne_eqb, eqb-true, eqb-false, false≢true, and_parts, lt-ltb, le-leb}
 use Rattle.plant.specs.declared.task_ref.TaskRef.{TaskRef}
 use Rattle.evaluation.specs.declared.name.Name.{Name}
@@ -16,7 +17,7 @@ use Rattle.world.specs.History.{Setting, made_count, is_lawful, after_events, in
 use Rattle.world.specs.Run.{IsLog, latest, message}
 use Rattle.world.specs.Laws.{greater, held_with}
 use Rattle.world.specs.Fits.{Among, Each, name_from, is_below, IsKnown}
-use Rattle.world.specs.Steps.Scheduling.{place_of, takes_from, from_in, taken_in, taken_by, last_taken, is_from, delivery_from, delivery, deliveries, restarts}
+use Rattle.world.specs.Schedule.{is_from, message_of, taken_in, takes_from, last_taken, delivery_from, delivery}
 use Rattle.world.proofs.Names.{AllLawful, length-log, log-rises}
 use Rattle.world.proofs.Steps.{latest-deliver, latest-other_deliver, latest-restart, latest-other_restart, incarnation-restart}
 use Rattle.world.proofs.NotBack.{AllReach, TakesReach, takes-reach, is_below-itself, is_below-trans, deliver-not_below}
@@ -98,15 +99,15 @@ pub record Restarted (s : Setting) (h : List Event) (log seen : List Evaluated) 
   pub others : (m : ℕ) → eqb n m ≡ false → incarnation_of s m g ≡ incarnation_of s m h
 
 pub restart-all : (s : Setting) (log seen : List Evaluated) (n c : ℕ) (h : List Event) → Held s h log seen → n < length s.plant.resources → incarnation_of s n h + c ≤ 4294967295
-    → Restarted s h log seen n c (after_events s h (restarts c n))
+    → Restarted s h log seen n c (after_events s h (replicate c (Restart n)))
 restart-all s log seen n zero h held inside low = record { held = held; here = omega arith; others = λ m e. refl }
 restart-all s log seen n (suc c) h held inside low =
-    subst (Restarted s h log seen n (suc c)) (sym (after-lawful s h (Restart n) (restarts c n) lawful))
+    subst (Restarted s h log seen n (suc c)) (sym (after-lawful s h (Restart n) (replicate c (Restart n)) lawful))
     (whole (restart-all s log seen n c (Restart n ∷ h) (held-restart s h log seen n held lawful) inside (omega (arith, incarnation-restart s n h)))) where
       lawful : is_lawful s h (Restart n) ≡ true
       lawful = rw (lt-ltb n (length s.plant.resources) inside, lt-ltb (incarnation_of s n h) 4294967295 (omega arith))
 
-      whole : Restarted s (Restart n ∷ h) log seen n c (after_events s (Restart n ∷ h) (restarts c n)) → Restarted s h log seen n (suc c) (after_events s (Restart n ∷ h) (restarts c n))
+      whole : Restarted s (Restart n ∷ h) log seen n c (after_events s (Restart n ∷ h) (replicate c (Restart n))) → Restarted s h log seen n (suc c) (after_events s (Restart n ∷ h) (replicate c (Restart n)))
       whole r = record { held = r.held; here = omega (arith, r.here, incarnation-restart s n h); others = λ m e. r.others m e ∙ other_incarnation s n m h e }
 
 -- a Deliver keeps it, of a message that an entry seen took there
@@ -152,29 +153,29 @@ placed-later : (x : Evaluated) (log : List Evaluated) (name : Name) (k : ℕ) �
 placed-later x log name k p =
     record { entry = p.entry; came = (rw (ne_eqb k (suc (length log)) (λ e. let high : k ≤ length log = p.high in omega arith)) p.came); named = p.named; low = p.low; high = let high : k ≤ length log = p.high in omega arith }
 
-pub place : (log : List Evaluated) (name : Name) (y : Evaluated) → Among y log → y.name ≡ name → Placed log name (place_of log name)
-place [] name y among e = elim among [ ]
-place (x ∷ log) name y among e = by (same_task x.name.task name.task && (eqb x.name.incarnation name.incarnation && eqb x.name.number name.number)) refl among (place log name y) where
-  by : (b : Bool) → (same_task x.name.task name.task && (eqb x.name.incarnation name.incarnation && eqb x.name.number name.number)) ≡ b → Among y (x ∷ log)
-      → (Among y log → y.name ≡ name → Placed log name (place_of log name)) → Placed (x ∷ log) name (cond b (suc (length log)) (place_of log name))
-  by true f a ih = record { entry = x; came = (rw (eq-eqb (suc (length log)) (suc (length log)) refl) refl); named = same_name-true x.name name f; low = omega arith; high = omega arith }
-  by false f (inl same) ih =
-      let at : x.name ≡ name = ap (λ z. z.name) same ∙ e in
-      absurd (false≢true (sym f ∙ subst (λ m. (same_task x.name.task m.task && (eqb x.name.incarnation m.incarnation && eqb x.name.number m.number)) ≡ true) at (same_name-itself x.name)))
-  by false f (inr a) ih = placed-later x log name (place_of log name) (ih a e)
+pub place : (log : List Evaluated) (q : TaskRef) (f : ℕ × ℕ) (y : Evaluated) → Among y log → y.name ≡ name_from q f → Placed log (name_from q f) (message_of log q f)
+place [] q f y among e = elim among [ ]
+place (x ∷ log) q f y among e = by (same_task x.name.task q && (eqb x.name.incarnation f.0 && eqb x.name.number f.1)) refl among (place log q f y) where
+  by : (b : Bool) → (same_task x.name.task q && (eqb x.name.incarnation f.0 && eqb x.name.number f.1)) ≡ b → Among y (x ∷ log)
+      → (Among y log → y.name ≡ name_from q f → Placed log (name_from q f) (message_of log q f)) → Placed (x ∷ log) (name_from q f) (cond b (suc (length log)) (message_of log q f))
+  by true g a ih = record { entry = x; came = (rw (eq-eqb (suc (length log)) (suc (length log)) refl) refl); named = same_name-true x.name (name_from q f) g; low = omega arith; high = omega arith }
+  by false g (inl same) ih =
+      let at : x.name ≡ name_from q f = ap (λ z. z.name) same ∙ e in
+      absurd (false≢true (sym g ∙ subst (λ m. (same_task x.name.task m.task && (eqb x.name.incarnation m.incarnation && eqb x.name.number m.number)) ≡ true) at (same_name-itself x.name)))
+  by false g (inr a) ih = placed-later x log (name_from q f) (message_of log q f) (ih a e)
 
 -- what was taken last is not above the latest
 taken-reach : (q : TaskRef) (bound f : Option (ℕ × ℕ)) (us : List Take) → TakesReach q bound us → taken_in q us ≡ f → is_below q bound f ≡ false
 taken-reach q bound f [] all e = subst (λ o. is_below q bound o ≡ false) e refl
 taken-reach q bound f (u ∷ us) all e = by (same_task u.producer q) refl e (taken-reach q bound f us all.1) where
-  by : (b : Bool) → same_task u.producer q ≡ b → from_in (cond b (Some u) (find (λ (u : Take). same_task u.producer q) us)) ≡ f → (taken_in q us ≡ f → is_below q bound f ≡ false) → is_below q bound f ≡ false
+  by : (b : Bool) → same_task u.producer q ≡ b → option_and_then (λ (u : Take). u.from) (cond b (Some u) (find (λ (u : Take). same_task u.producer q) us)) ≡ f → (taken_in q us ≡ f → is_below q bound f ≡ false) → is_below q bound f ≡ false
   by true g e ih = subst (λ o. is_below q bound o ≡ false) e (all.0 (same_task-true u.producer q g))
   by false g e ih = ih e
 
 last-reach : (name : Name) (q : TaskRef) (bound f : Option (ℕ × ℕ)) (log : List Evaluated) → AllReach name.task.resource name.incarnation q bound log → last_taken log name q ≡ f → is_below q bound f ≡ false
 last-reach name q bound f [] all e = subst (λ o. is_below q bound o ≡ false) e refl
 last-reach name q bound f (y ∷ ys) all e = by (takes_from name q y) refl e (last-reach name q bound f ys all.1) where
-  by : (b : Bool) → takes_from name q y ≡ b → taken_by q (cond b (Some y) (find (takes_from name q) ys)) ≡ f → (last_taken ys name q ≡ f → is_below q bound f ≡ false) → is_below q bound f ≡ false
+  by : (b : Bool) → takes_from name q y ≡ b → option_and_then (λ (y : Evaluated). taken_in q y.takes) (cond b (Some y) (find (takes_from name q) ys)) ≡ f → (last_taken ys name q ≡ f → is_below q bound f ≡ false) → is_below q bound f ≡ false
   by true g e ih =
       let outer = and_parts (eqb y.name.task.resource name.task.resource) ((eqb y.name.incarnation name.incarnation) && list_any (λ (u : Take). same_task u.producer q) y.takes) g in
       let inner = and_parts (eqb y.name.incarnation name.incarnation) (list_any (λ (u : Take). same_task u.producer q) y.takes) outer.1 in
@@ -248,11 +249,11 @@ module _ (s : Setting) (log seen : List Evaluated) (name : Name) (inside : name.
     bound : Option (ℕ × ℕ)
     bound = from_of (latest taker h q log)
 
-    taken : (f : ℕ × ℕ) → t.from ≡ Some f → (q.resource ≡ taker → ⊥) → (w : Bool) → is_from (last_taken log name q) f ≡ w → Delivered s h log seen taker (t ∷ []) (after_events s h (cond w [] (Deliver (place_of log (name_from q f)) taker ∷ [])))
+    taken : (f : ℕ × ℕ) → t.from ≡ Some f → (q.resource ≡ taker → ⊥) → (w : Bool) → is_from (last_taken log name q) f ≡ w → Delivered s h log seen taker (t ∷ []) (after_events s h (cond w [] (Deliver (message_of log q f) taker ∷ [])))
     taken f e away true w =
         unmoved s h log seen taker t held
         (λ _. subst (λ o. is_below q bound o ≡ false) (sym e) (last-reach name q bound (Some f) log (subst (λ i. AllReach taker i q bound log) at (takes-reach s taker q h log held.lawful held.logged)) (is_from-true (last_taken log name q) f w)))
-    taken f e away false w = deliver-named h held at t f e away (took f e) (place_of log (name_from q f)) (place log (name_from q f) (given f e).0 (given f e).1 (given f e).2)
+    taken f e away false w = deliver-named h held at t f e away (took f e) (message_of log q f) (place log q f (given f e).0 (given f e).1 (given f e).2)
 
     named : (o : Option (ℕ × ℕ)) → t.from ≡ o → (q.resource ≡ taker → ⊥) → Delivered s h log seen taker (t ∷ []) (after_events s h (delivery_from log name q o))
     named None e away = unmoved s h log seen taker t held (λ _. subst (λ o. is_below q bound o ≡ false) (sym e) refl)
@@ -273,10 +274,10 @@ module _ (s : Setting) (log seen : List Evaluated) (name : Name) (inside : name.
 
   -- the deliveries of some takes
   pub deliver-all : (ts : List Take) (h : List Event) → Held s h log seen → incarnation_of s taker h ≡ name.incarnation → Each (IsKnown log) ts
-      → ((t : Take) → Among t ts → (f : ℕ × ℕ) → t.from ≡ Some f → Took seen taker name.incarnation t.producer (Some f)) → Delivered s h log seen taker ts (after_events s h (deliveries log name ts))
+      → ((t : Take) → Among t ts → (f : ℕ × ℕ) → t.from ≡ Some f → Took seen taker name.incarnation t.producer (Some f)) → Delivered s h log seen taker ts (after_events s h (flat_map (delivery log name) ts))
   deliver-all [] h held at known took = record { held = held; incarnations = λ m. refl; up = tt; above = λ q. is_below-itself q (from_of (latest taker h q log)) }
   deliver-all (t ∷ ts) h held at known took =
       let g1 : List Event = after_events s h (delivery log name t) in
       let one : Delivered s h log seen taker (t ∷ []) g1 = deliver-one h held at t known.0 (took t (inl refl)) in
-      let rest : Delivered s g1 log seen taker ts (after_events s g1 (deliveries log name ts)) = deliver-all ts g1 one.held (one.incarnations taker ∙ at) known.1 (λ u among. took u (inr among)) in
-      subst (Delivered s h log seen taker (t ∷ ts)) (sym (after-append s h (delivery log name t) (deliveries log name ts))) (joined h g1 _ t ts one rest)
+      let rest : Delivered s g1 log seen taker ts (after_events s g1 (flat_map (delivery log name) ts)) = deliver-all ts g1 one.held (one.incarnations taker ∙ at) known.1 (λ u among. took u (inr among)) in
+      subst (Delivered s h log seen taker (t ∷ ts)) (sym (after-append s h (delivery log name t) (flat_map (delivery log name) ts))) (joined h g1 _ t ts one rest)

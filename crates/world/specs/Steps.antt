@@ -3,4 +3,3 @@ pub mod Fresh
 pub mod ReadingLines
 pub mod Telling
 pub mod Simulating
-pub mod Scheduling

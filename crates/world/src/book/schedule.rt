@@ -3,11 +3,12 @@
 mod deliveries;
 mod last_taken;
 
-ghost use Rattle.std.specs.Prelude.{◌≡◌, ◌++◌, ◌==◌, IfOk, OnOk, reverse};
+ghost use Rattle.std.specs.Prelude.{◌≡◌, ◌++◌, ◌==◌, IfOk, OnOk, replicate, reverse};
 ghost use Rattle.std.specs.List.{find};
 ghost use Rattle.std.specs.Option.{option_copied};
+ghost use Rattle.world.specs.declared.event.Event.TheVariants.{Restart};
 ghost use Rattle.world.specs.Book.{Replays};
-ghost use Rattle.world.specs.Steps.Scheduling.{present, restarts, events_of};
+ghost use Rattle.world.specs.Schedule.{present, events_of, schedule_of};
 
 use crate::book::Book;
 use crate::book::schedule::deliveries::push_deliveries;
@@ -25,7 +26,7 @@ fn newest(older: &[Frame], resource: usize) -> Option<&Frame>
         .find(|y| y.name().task.resource == resource)
 }
 
-/// The incarnation of a resource after these entries: that of its newest one, else its first.
+/// The present incarnation of a resource: that of its newest entry, else its first.
 fn present(first: &[u32], older: &[Frame], resource: usize) -> u32
     ensures { result ≡ present first.now (reverse older.now) resource }
 {
@@ -37,7 +38,7 @@ fn present(first: &[u32], older: &[Frame], resource: usize) -> u32
 
 /// Restarts a resource so many times.
 fn push_restarts(events: &mut Vec<Event>, count: u32, resource: usize) -> Result<(), AllocError>
-    ensures { OnOk result (events.new.items ≡ events.old.items ++ restarts count resource) }
+    ensures { OnOk result (events.new.items ≡ events.old.items ++ replicate count (Restart resource)) }
 {
     for _i in 0..count {
         events.push(Event::Restart { resource })?;
@@ -71,10 +72,11 @@ fn push_events(
 }
 
 impl Book {
-    /// Events whose run makes these entries: for each one the restarts that bring its resource to its incarnation, a delivery of each message
-    /// that it took from another resource and that wasn't taken there last in this incarnation, and its evaluation.
+    /// Events whose run makes these entries again: for each one the restarts that bring its resource to its incarnation, a delivery of each message
+    /// that it took from another resource and that wasn't what was taken there last of that producer in this incarnation, and its evaluation.
     pub fn schedule(&self, alloc: Global) -> Result<Vec<Event>, AllocError>
-        ensures { IfOk result (λ events. Replays self.now.first self.now.entries events.items) }
+        ensures replays { IfOk result (λ events. Replays self.now.first self.now.entries events.items) }
+        ensures events { IfOk result (λ events. events.items ≡ schedule_of self.now.first (reverse self.now.entries)) }
     {
         let mut events = Vec::new(alloc);
         for i in 0..self.entries.len() {

@@ -1,45 +1,49 @@
 //! The deliveries of what an entry took.
 
-ghost use Rattle.std.specs.Prelude.{◌≡◌, ◌++◌, ◌==◌, ◌&&◌, OnOk, reverse};
-ghost use Rattle.exchange_core.specs.Last.{same_task};
-ghost use Rattle.world.specs.Steps.Scheduling.{place_of, is_from, delivery, deliveries};
+ghost use Rattle.std.specs.Prelude.{◌≡◌, ◌++◌, ◌&&◌, OnOk, Some, reverse};
+ghost use Rattle.std.specs.List.{flat_map};
+ghost use Rattle.exchange_core.specs.Last.{same_task, from_of};
+ghost use Rattle.world.specs.Schedule.{is_from, message_of, delivery};
 
 use crate::book::schedule::last_taken::last_taken;
 use crate::event::Event;
 use evaluation::{Frame, Name, Take};
+use plant::TaskRef;
 use std::alloc::AllocError;
 
-fn same_name(a: Name, b: Name) -> bool
-    ensures { result ≡ (same_task a.task b.task && (a.incarnation == b.incarnation && a.number == b.number)) }
+/// Whether this incarnation and number were taken.
+fn is_from(taken: Option<(u32, u32)>, from: (u32, u32)) -> bool
+    ensures { result ≡ is_from taken from }
 {
-    a.task == b.task && a.incarnation == b.incarnation && a.number == b.number
+    match taken {
+        None => false,
+        Some(pair) => pair.0 == from.0 && pair.1 == from.1,
+    }
 }
 
-/// The message of the newest entry of a name, 0 where there is none.
-fn place_of(older: &[Frame], name: Name) -> u64
-    ensures { result ≡ place_of (reverse older.now) name }
+/// Whether an entry is a task's evaluation of this incarnation and number.
+fn is_named(entry: &Frame, task: TaskRef, from: (u32, u32)) -> bool
+    ensures { result ≡ (same_task entry.now.name.task task && is_from (from_of (Some entry.now)) from) }
+{
+    let name = entry.name();
+    name.task == task && is_from(Some((name.incarnation, name.number)), from)
+}
+
+/// The message of a task's evaluation of this incarnation and number, 0 where there is none.
+fn message_of(older: &[Frame], task: TaskRef, from: (u32, u32)) -> u64
+    ensures { result ≡ message_of (reverse older.now) task from }
 {
     let count = older.len();
     for i in 0..count {
         let place = count - 1 - i;
-        if same_name(older[place].name(), name) {
+        if is_named(&older[place], task, from) {
             return place as u64 + 1;
         }
     }
     0
 }
 
-/// Whether this evaluation was taken.
-fn is_from(taken: Option<(u32, u32)>, incarnation: u32, number: u32) -> bool
-    ensures { result ≡ is_from taken (incarnation, number) }
-{
-    match taken {
-        None => false,
-        Some(pair) => pair.0 == incarnation && pair.1 == number,
-    }
-}
-
-/// Delivers what a take from another resource names, unless that is what was taken last from its producer in this incarnation.
+/// Delivers what a take from another resource names, unless that was taken there last of its producer in this incarnation.
 fn push_delivery(
     events: &mut Vec<Event>,
     older: &[Frame],
@@ -52,19 +56,14 @@ fn push_delivery(
     if producer.resource == name.task.resource {
         return Ok(());
     }
-    let Some((incarnation, number)) = take.from else {
+    let Some(from) = take.from else {
         return Ok(());
     };
-    if is_from(last_taken(older, name, producer), incarnation, number) {
+    if is_from(last_taken(older, name, producer), from) {
         return Ok(());
     }
-    let made = Name {
-        task: producer,
-        incarnation,
-        number,
-    };
     events.push(Event::Deliver {
-        message: place_of(older, made),
+        message: message_of(older, producer, from),
         resource: name.task.resource,
     })?;
     Ok(())
@@ -77,10 +76,10 @@ pub fn push_deliveries(
     name: Name,
     takes: &[Take],
 ) -> Result<(), AllocError>
-    ensures { OnOk result (events.new.items ≡ events.old.items ++ deliveries (reverse older.now) name takes.now) }
+    ensures { OnOk result (events.new.items ≡ events.old.items ++ flat_map (delivery (reverse older.now) name) takes.now) }
 {
-    for i in 0..takes.len() {
-        push_delivery(events, older, name, &takes[i])?;
+    for take in takes {
+        push_delivery(events, older, name, take)?;
     }
     Ok(())
 }

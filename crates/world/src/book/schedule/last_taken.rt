@@ -1,11 +1,10 @@
 //! What a resource took last from a producer, in an incarnation.
 
-ghost use Rattle.std.specs.Prelude.{◌≡◌};
-ghost use Rattle.std.specs.Prelude.{reverse};
+ghost use Rattle.std.specs.Prelude.{◌≡◌, reverse};
 ghost use Rattle.std.specs.List.{list_any, find};
 ghost use Rattle.std.specs.Option.{option_copied};
 ghost use Rattle.exchange_core.specs.Last.{same_task};
-ghost use Rattle.world.specs.Steps.Scheduling.{takes_from, taken_in, last_taken};
+ghost use Rattle.world.specs.Schedule.{takes_from, taken_in, last_taken};
 
 use evaluation::{Frame, Name, Take};
 use plant::TaskRef;
@@ -41,7 +40,7 @@ fn find_take(takes: &[Take], producer: TaskRef) -> Option<&Take>
     takes.iter().find(|u| u.producer == producer)
 }
 
-/// Which evaluation these takes give of this producer.
+/// The incarnation and number taken of a producer.
 fn taken_in(takes: &[Take], producer: TaskRef) -> Option<(u32, u32)>
     ensures { result ≡ taken_in producer takes.now }
 {
@@ -51,7 +50,7 @@ fn taken_in(takes: &[Take], producer: TaskRef) -> Option<(u32, u32)>
     }
 }
 
-/// Which evaluation of a producer this name's resource took last, in this name's incarnation.
+/// What was taken last of a producer at this name's resource, in its incarnation: incarnation and number.
 pub fn last_taken(older: &[Frame], name: Name, producer: TaskRef) -> Option<(u32, u32)>
     ensures { result ≡ last_taken (reverse older.now) name producer }
 {
