@@ -16,3 +16,9 @@ pub mod Telling
 pub mod Simulating
 pub mod Ending
 pub mod OneReading
+pub mod Lists
+pub mod Fitting
+pub mod NotBack
+pub mod AllFits
+pub mod Places
+pub mod Entered

@@ -5,6 +5,7 @@ mod book;
 mod done;
 mod event;
 mod laws;
+mod log_laws;
 mod schedule;
 mod text_output;
 mod world;
@@ -14,6 +15,9 @@ pub use book::{Book, Misfit};
 pub use done::Done;
 pub use event::Event;
 pub use laws::{keeping_the_greatest_keeps_the_latest, one_run, pairs_rise};
+pub use log_laws::{
+    holders_agree, inputs_are_of_the_latest, runs_are_consistent, runs_are_entered, runs_fit,
+};
 pub use schedule::{SimFault, one_reading, push_evaluation, simulate};
 pub use text_output::{WriteFault, write_text};
 pub use world::World;

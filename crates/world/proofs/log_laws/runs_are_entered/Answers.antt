@@ -1,0 +1,5 @@
+use Rattle.world.proofs.Entered.{runs-entered}
+use Rattle.world.proofs.log_laws.runs_are_entered.Goals as goal
+
+pub returns : goal.returns
+returns c = runs-entered

@@ -1,0 +1,5 @@
+use Rattle.world.proofs.Entered.{run-fits}
+use Rattle.world.proofs.log_laws.runs_fit.Goals as goal
+
+pub returns : goal.returns
+returns c = run-fits
