@@ -1,5 +1,5 @@
 -- The log of a run is entered into a book without a misfit, and whoever holds one of its evaluations holds the same.
-use Rattle.std.proofs.Common.{◌≡◌, ℕ, zero, suc, Bool, true, false, cond, List, [], ◌∷◌, ◌++◌, Option, Some, None, refl, ap, sym, ◌∙◌, subst, eqb, take, length}
+use Rattle.std.proofs.Common.{◌≡◌, ℕ, zero, suc, Bool, true, false, cond, List, [], ◌∷◌, ◌++◌, Option, Some, None, refl, ap, ◌∙◌, subst, eqb, take}
 use Rattle.std.specs.Prelude.{MatchOption, reverse, slice_get}
 use Rattle.std.proofs.lemmas.List.{reverse-append, append_assoc}
 use Rattle.std.proofs.lemmas.Option.{none-some, same_Some}
@@ -7,11 +7,10 @@ use Rattle.plant.specs.declared.task_ref.TaskRef.{TaskRef}
 use Rattle.evaluation.specs.Meaning.{Evaluated}
 use Rattle.exchange_core.specs.Last.{same_task}
 use Rattle.exchange_core.proofs.Tables.{same_task-itself}
-use Rattle.world.specs.declared.event.Event.{Event}
 use Rattle.world.specs.declared.book.misfit.Misfit.{Misfit}
 use Rattle.world.specs.declared.book.misfit.Misfit.TheVariants.{WrongNumber, UnknownTake, Torn, Back, NotOwnLatest, Memory}
-use Rattle.world.specs.History.{Setting, history_of}
-use Rattle.world.specs.Run.{IsRun, has_reached}
+use Rattle.world.specs.History.{history_of}
+use Rattle.world.specs.Run.{has_reached}
 use Rattle.world.specs.World.{WorldValue, node_takes, latest_at, held_at}
 use Rattle.world.specs.Fits.{Among, Fits, AllFit}
 use Rattle.world.specs.Book.{IsMisfit}

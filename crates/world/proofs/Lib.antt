@@ -22,3 +22,4 @@ pub mod NotBack
 pub mod AllFits
 pub mod Places
 pub mod Entered
+pub mod Makings

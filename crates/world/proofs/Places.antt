@@ -1,11 +1,10 @@
 -- Every log of a run is consistent, by the places of its entries.
-use Rattle.std.proofs.Common.{◌≡◌, ◌⊎◌, inl, inr, ℕ, suc, ◌+◌, ◌<◌, ◌≤◌, ltb, Bool, true, false, cond, List, [], ◌∷◌, length, Option, Some, None, refl, ap, sym, ◌∙◌, subst, arith, eqb}
+use Rattle.std.proofs.Common.{◌≡◌, ◌⊎◌, inl, inr, ℕ, suc, ◌<◌, ◌≤◌, ltb, Bool, true, false, cond, List, [], ◌∷◌, length, Option, Some, None, refl, ap, sym, ◌∙◌, subst, arith, eqb}
 use Rattle.std.specs.Prelude.{MatchOption, reverse, slice_get}
 use Rattle.std.specs.Option.{option_map, option_and_then}
 use Rattle.std.proofs.lemmas.Bool.{eq-eqb, ne_eqb, eqb-true, false≢true, ltb-true, ltb-false}
 use Rattle.std.proofs.lemmas.Option.{none-some, same_Some, slice_get-map, slice_get_within}
 use Rattle.std_blocks.specs.declared.value.Value.{Value}
-use Rattle.power_flow.specs.declared.declarations.Kind.{Kind}
 use Rattle.power_flow.specs.First.{value_first}
 use Rattle.plant.specs.declared.binding.Binding.{Binding}
 use Rattle.plant.specs.declared.task_ref.TaskRef.{TaskRef}
@@ -16,15 +15,15 @@ use Rattle.evaluation.specs.declared.take.Take.{Take}
 use Rattle.evaluation.specs.Names.{precedes}
 use Rattle.evaluation.specs.Takes.{initial_image, IsTakeOf}
 use Rattle.evaluation.specs.Meaning.{Evaluated, IsMeant, IsWhole, given}
-use Rattle.exchange_core.specs.Last.{same_task, from_of, image_of, take_of, takes_of}
+use Rattle.exchange_core.specs.Last.{same_task, from_of, image_of, takes_of}
 use Rattle.exchange_core.proofs.Tables.{same_task-true, same_task-itself}
 use Rattle.world.specs.declared.event.Event.{Event}
 use Rattle.world.specs.declared.event.Event.TheVariants.{Evaluate, Deliver, Restart}
 use Rattle.world.specs.History.{Setting, history_of}
 use Rattle.world.specs.Run.{IsLog, IsRun, IsNextEvaluation, next_name, latest, message, has_reached}
 use Rattle.world.specs.Fits.{Among, Each, name_from, is_below}
-use Rattle.world.specs.Consistent.{IsBoundTo, HaveValuesOf, AreInitial, IsTaken, AreTakenFrom, IsOfOneEntry, IsOfNoEntry, IsPlace, IsConsistent}
-use Rattle.world.specs.BookLaws.{AreGivenBy}
+use Rattle.world.specs.Consistent.{IsBoundTo, HaveValuesOf, AreInitial, AreTakenFrom, IsOfOneEntry, IsOfNoEntry, IsPlace, IsConsistent}
+use Rattle.world.specs.Theorem.{AreGivenBy}
 use Rattle.world.proofs.Latest.{Rises}
 use Rattle.world.proofs.Names.{AllLawful, AllLawful-after, log-rises, named}
 use Rattle.world.proofs.Pairs.{message-within, rises-messages}

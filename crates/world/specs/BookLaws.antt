@@ -1,29 +1,17 @@
 -- What holds of the log of every list of events, and of a book.
-use Rattle.std.specs.Prelude.{◌≡◌, ℕ, ◌≤◌, List, reverse, Option, Some, None, length, slice_index, slice_get, take}
+use Rattle.std.specs.Prelude.{◌≡◌, ℕ, ◌≤◌, List, reverse, Some, length, slice_index, slice_get, take}
 use Rattle.plant.specs.declared.task_ref.TaskRef.{TaskRef}
 use Rattle.plant.specs.PlantValue.{IsSoundPlant}
-use Rattle.evaluation.specs.declared.field_input.FieldInput.{FieldInput}
 use Rattle.evaluation.specs.Meaning.{Evaluated}
 use Rattle.world.specs.declared.event.Event.{Event}
 use Rattle.world.specs.declared.book.misfit.Misfit.{Misfit}
 use Rattle.world.specs.declared.book.misfit.Misfit.TheVariants.{Memory}
 use Rattle.world.specs.History.{Setting}
-use Rattle.world.specs.Run.{IsRun, IsNextEvaluation, latest}
+use Rattle.world.specs.Run.{IsRun}
 use Rattle.world.specs.World.{WorldValue, held_at}
 use Rattle.world.specs.Fits.{AllFit}
 use Rattle.world.specs.Book.{IsMisfit, AllCouldBeMade, Replays}
-use Rattle.world.specs.Consistent.{HaveValuesOf, AreInitial, IsConsistent}
-
--- all inputs of an evaluation that are bound to task p have their values of this evaluation of p; they are initial where there is none
-abbrev pub AreGivenBy : Evaluated → TaskRef → Option Evaluated → Type 0
-AreGivenBy x p None = AreInitial x p
-AreGivenBy x p (Some y) = HaveValuesOf x p y.outputs
-
--- all inputs that an evaluation of a run takes from one producer have their values of one evaluation of it: the latest that had reached the taker's resource
-abbrev pub InputsAreOfTheLatest : Type 0
-InputsAreOfTheLatest =
-    (s : Setting) (history : List Event) (log : List Evaluated) (ticket : ℕ) (task : TaskRef) (dt : ℕ) (inputs : List FieldInput) (x : Evaluated) (p : TaskRef)
-    → IsNextEvaluation s history log ticket task dt inputs x → AreGivenBy x p (latest task.resource history p log)
+use Rattle.world.specs.Consistent.{IsConsistent}
 
 -- a run is a consistent log
 abbrev pub RunsAreConsistent : Type 0

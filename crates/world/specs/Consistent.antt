@@ -59,13 +59,18 @@ pub record IsOfNoEntry (x : Evaluated) (p : TaskRef) : Type 0 where
 abbrev pub IsPlace : List Evaluated → Take → ℕ → Type 0
 IsPlace log t k = MatchOption t.from (k ≡ 0) (λ f. (y : Evaluated) × (message log k ≡ Some y) × (y.name ≡ name_from t.producer f))
 
+-- Of two evaluations of one resource in one incarnation, the later one takes nothing from a producer that stands before what the earlier one took from it.
+abbrev pub NeverGoesBack : List Evaluated → Type 0
+NeverGoesBack log =
+    (i j : ℕ) (x y : Evaluated) → i < j → message log i ≡ Some x → message log j ≡ Some y → x.name.task.resource ≡ y.name.task.resource → x.name.incarnation ≡ y.name.incarnation
+    → Each (λ (t : Take). Each (λ (u : Take). t.producer ≡ u.producer → (a b : ℕ) → IsPlace log t a → IsPlace log u b → a ≤ b) y.takes) x.takes
+
 -- a consistent log of a plant
 pub record IsConsistent (plant : PlantValue) (log : List Evaluated) : Type 0 where
   -- for each entry and each of its producers, all inputs bound to that producer have the values of one image, that of one entry of that producer earlier in the log, or all are initial
   pub one_image : (j k : ℕ) (x : Evaluated) (p : TaskRef) → message log j ≡ Some x → slice_get x.code.producers k ≡ Some p → IsOfOneEntry log j x p ⊎ IsOfNoEntry x p
   -- within one incarnation of a resource, the places taken of one producer never fall
-  pub never_back : (i j : ℕ) (x y : Evaluated) → i < j → message log i ≡ Some x → message log j ≡ Some y → x.name.task.resource ≡ y.name.task.resource → x.name.incarnation ≡ y.name.incarnation
-      → Each (λ (t : Take). Each (λ (u : Take). t.producer ≡ u.producer → (a b : ℕ) → IsPlace log t a → IsPlace log u b → a ≤ b) y.takes) x.takes
+  pub never_back : NeverGoesBack log
   -- entries of equal name are equal
   pub equal_names : (i j : ℕ) (x y : Evaluated) → message log i ≡ Some x → message log j ≡ Some y → x.name ≡ y.name → x ≡ y
   -- the code is that of the task in the plant

@@ -8,6 +8,7 @@ pub mod Fits
 pub mod Book
 pub mod Consistent
 pub mod BookLaws
+pub mod Theorem
 pub mod Steps
 pub mod RunLines
 pub mod RunText

@@ -16,7 +16,7 @@ pub use done::Done;
 pub use event::Event;
 pub use laws::{keeping_the_greatest_keeps_the_latest, one_run, pairs_rise};
 pub use log_laws::{
-    holders_agree, inputs_are_of_the_latest, runs_are_consistent, runs_are_entered, runs_fit,
+    consistency_theorem, holders_agree, runs_are_consistent, runs_are_entered, runs_fit,
 };
 pub use schedule::{SimFault, one_reading, push_evaluation, simulate};
 pub use text_output::{WriteFault, write_text};

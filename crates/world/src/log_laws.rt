@@ -1,9 +1,12 @@
-// What holds of the log of every list of events: its consistency, and that it is a book.
-ghost use Rattle.world.specs.BookLaws.{InputsAreOfTheLatest, RunsAreConsistent, RunsFit, RunsAreEntered, HoldersAgree};
+// What holds of the log of every list of events: the consistency theorem, and that the log is a book.
+ghost use Rattle.world.specs.BookLaws.{RunsAreConsistent, RunsFit, RunsAreEntered, HoldersAgree};
+ghost use Rattle.world.specs.Theorem.{ConsistencyTheorem};
 
-/// All inputs that an evaluation of a run takes from one producer have their values of one evaluation of it: the latest that had reached the taker's resource, or the initial ones where none had.
-pub fn inputs_are_of_the_latest()
-    ensures { InputsAreOfTheLatest }
+/// The consistency theorem. Over every list of evaluations, deliveries and restarts, all inputs that an evaluation takes from one producing task come from one evaluation of it,
+/// the latest that reached the taker's resource since that one's restart (initial values if none did); evaluations taken never go back within an incarnation;
+/// resources that hold one evaluation hold equal values; each evaluation's outputs are the ladder meaning of its inputs and stored state.
+pub fn consistency_theorem()
+    ensures { ConsistencyTheorem }
 {}
 
 /// A run is a consistent log.
