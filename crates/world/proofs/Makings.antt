@@ -172,6 +172,7 @@ made-of s events log k x m =
       taken = λ p. subst (AreGivenBy x p) (seen p) (subst (λ t. AreGivenBy x p (latest t.resource m.h p m.older)) (sym own) (inputs-latest s m.h m.older m.ticket m.task m.dt m.inputs x p m.next));
       code_is = subst (λ t. code_at s.plant t ≡ Some x.code) (sym own) (m.next.found ∙ ap (λ (c : CodeValue). Some c) (sym code));
       stored = stored (ap (λ (y : Evaluated). y.before) m.next.asked.is);
+      ticket_is = ap (λ (y : Evaluated). y.ticket) m.next.asked.is;
       dt_is = ap (λ (y : Evaluated). y.dt) m.next.asked.is;
       inputs_are = ap (λ (y : Evaluated). y.inputs) m.next.asked.is;
       meant = m.next.asked.meant;

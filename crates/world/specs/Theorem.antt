@@ -37,7 +37,8 @@ pub record IsMade (s : Setting) (events : List Event) (log : List Evaluated) (k 
   -- it started from the stored state: what the task's evaluation before left in this incarnation; the initial state if there was none
   pub code_is : code_at s.plant x.name.task ≡ Some x.code
   pub stored : x.before ≡ state_of x.code (latest_at (world_after s before log) x.name.task.resource x.name.task)
-  -- with the event's elapsed time and field inputs, its outputs and the state after are the meaning of that
+  -- with the event's ticket, elapsed time and field inputs, its outputs and the state after are the meaning of that
+  pub ticket_is : x.ticket ≡ ticket
   pub dt_is : x.dt ≡ dt
   pub inputs_are : x.inputs ≡ inputs
   pub meant : IsMeant x

@@ -1,3 +1,4 @@
+-- The consistency theorem holds.
 use Rattle.world.proofs.Makings.{consistency-theorem}
 use Rattle.world.proofs.log_laws.consistency_theorem.Goals as goal
 
