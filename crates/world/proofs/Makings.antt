@@ -208,5 +208,5 @@ consistency-theorem s events log is =
     record {
       made = λ k x at. made-of s events log k x (made-in s (history_of s events) (reverse log) is k x (sym (run-message (reverse log) k) ∙ ap (λ l. slice_get l k) (reverse-reverse log) ∙ at));
       never_back = (run-consistent s events log is).never_back;
-      holders = λ n m p q x y. holders-agree (record { setting = s; events = events; log = log }) n m p q x y is;
+      holders = holders-agree (record { setting = s; events = events; log = log }) is;
     }

@@ -7,8 +7,8 @@ pub mod Laws
 pub mod Fits
 pub mod Book
 pub mod Consistent
-pub mod BookLaws
 pub mod Theorem
+pub mod BookLaws
 pub mod Steps
 pub mod RunLines
 pub mod RunText

@@ -38,6 +38,10 @@ pub record IsMade (s : Setting) (events : List Event) (log : List Evaluated) (k 
   pub inputs_are : x.inputs ≡ inputs
   pub meant : IsMeant x
 
+-- resources that hold one evaluation hold equal values
+abbrev pub HoldersAgreeIn : WorldValue → Type 0
+HoldersAgreeIn w = (n m : ℕ) (p q : TaskRef) (x y : Evaluated) → held_at w n p ≡ Some x → held_at w m q ≡ Some y → x.name ≡ y.name → x ≡ y
+
 -- what the theorem says of a list of events and its run
 pub record IsDataConsistent (s : Setting) (events : List Event) (log : List Evaluated) : Type 0 where
   -- each evaluation took the latest that had reached its resource, started from the stored state, and is what that means
@@ -45,9 +49,7 @@ pub record IsDataConsistent (s : Setting) (events : List Event) (log : List Eval
   -- evaluations taken never go back within an incarnation
   pub never_back : NeverGoesBack (reverse log)
   -- resources that hold one evaluation hold equal values
-  pub holders :
-      (n m : ℕ) (p q : TaskRef) (x y : Evaluated) → held_at (record { setting = s; events = events; log = log }) n p ≡ Some x → held_at (record { setting = s; events = events; log = log }) m q ≡ Some y
-      → x.name ≡ y.name → x ≡ y
+  pub holders : HoldersAgreeIn (record { setting = s; events = events; log = log })
 
 -- over every list of events
 abbrev pub ConsistencyTheorem : Type 0
