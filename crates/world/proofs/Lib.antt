@@ -19,6 +19,10 @@ pub mod OneReading
 pub mod Lists
 pub mod Fitting
 pub mod NotBack
+pub mod AllFits
+pub mod Places
+pub mod Entered
+pub mod Makings
 pub mod Suiting
 pub mod Scheduling
 pub mod Replaying

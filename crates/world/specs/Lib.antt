@@ -9,6 +9,7 @@ pub mod Book
 pub mod Schedule
 pub mod Consistent
 pub mod BookLaws
+pub mod Theorem
 pub mod Steps
 pub mod RunLines
 pub mod RunText
