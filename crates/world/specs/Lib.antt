@@ -6,6 +6,7 @@ pub mod Step
 pub mod Laws
 pub mod Fits
 pub mod Book
+pub mod Schedule
 pub mod Consistent
 pub mod Theorem
 pub mod BookLaws
