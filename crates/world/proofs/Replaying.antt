@@ -15,7 +15,6 @@ use Rattle.evaluation.specs.declared.take.Take.{Take}
 use Rattle.evaluation.specs.Takes.{initial_image, AreTakesOf}
 use Rattle.evaluation.specs.Meaning.{Evaluated, evaluated}
 use Rattle.exchange_core.specs.Last.{same_task, from_of, last_number, state_of, take_of, takes_of}
-use Rattle.exchange_core.proofs.Tables.{same_task-true}
 use Rattle.world.specs.declared.event.Event.{Event}
 use Rattle.world.specs.declared.event.Event.TheVariants.{Evaluate, Restart}
 use Rattle.world.specs.History.{Setting, is_lawful, after_events, history_of, incarnation_of, number_of}
