@@ -1,49 +1,56 @@
-ghost use Rattle.std.specs.Prelude.{◌≡◌, ◌==◌, ◌&&◌, reverse};
+ghost use Rattle.std.specs.Prelude.{◌≡◌, reverse};
 ghost use Rattle.std.specs.List.{find};
 ghost use Rattle.std.specs.Option.{option_copied};
-ghost use Rattle.exchange_core.specs.Last.{same_task, last_number, from_of};
-ghost use Rattle.world.specs.Fits.{last_in};
+ghost use Rattle.exchange_core.specs.Last.{last_number, from_of};
+ghost use Rattle.world.specs.Steps.Deciding.{is_of_task, newest_in};
 
-use evaluation::{Frame, Name};
+use evaluation::Frame;
 use plant::TaskRef;
 
-/// The last entry of a task in an incarnation.
-pub fn last_in(entries: &[Frame], task: TaskRef, incarnation: u32) -> Option<&Frame>
-    ensures { option_copied result ≡ last_in (reverse entries.now) task incarnation }
+/// The newest entry of a task.
+fn newest_of(entries: &[Frame], task: TaskRef) -> Option<&Frame>
+    ensures { option_copied result ≡ find (is_of_task task) (reverse entries.now) }
 {
-    find_last(entries, task, incarnation)
+    entries.iter().rev().find(|entry| is_of(entry, task))
 }
 
-fn find_last(entries: &[Frame], task: TaskRef, incarnation: u32) -> Option<&Frame>
-    ensures { option_copied result ≡ find (λ y. same_task y.name.task task && y.name.incarnation == incarnation) (reverse entries.now) }
+fn is_of(entry: &Frame, task: TaskRef) -> bool
+    ensures { result ≡ is_of_task task entry.now }
 {
-    entries
-        .iter()
-        .rev()
-        .find(|entry| is_of(entry.name(), task, incarnation))
+    entry.name().task == task
 }
 
-fn is_of(name: Name, task: TaskRef, incarnation: u32) -> bool
-    ensures { result ≡ (same_task name.task task && name.incarnation == incarnation) }
+/// The newest entry of a task, if it is of this incarnation.
+fn newest_in(entries: &[Frame], task: TaskRef, incarnation: u32) -> Option<&Frame>
+    ensures { option_copied result ≡ newest_in (reverse entries.now) task incarnation }
 {
-    name.task == task && name.incarnation == incarnation
+    match newest_of(entries, task) {
+        None => None,
+        Some(entry) => {
+            if entry.name().incarnation == incarnation {
+                Some(entry)
+            } else {
+                None
+            }
+        }
+    }
 }
 
-/// The number of the last entry of a task in an incarnation, or 0.
+/// The number of a task's newest entry, or 0 if that isn't of this incarnation.
 pub fn last_number(entries: &[Frame], task: TaskRef, incarnation: u32) -> u32
-    ensures { result ≡ last_number (last_in (reverse entries.now) task incarnation) }
+    ensures { result ≡ last_number (newest_in (reverse entries.now) task incarnation) }
 {
-    match last_in(entries, task, incarnation) {
+    match newest_in(entries, task, incarnation) {
         None => 0,
         Some(last) => last.name().number,
     }
 }
 
-/// The incarnation and number of the last entry of a task in an incarnation.
+/// The incarnation and number of a task's newest entry, if it is of this incarnation.
 pub fn last_from(entries: &[Frame], task: TaskRef, incarnation: u32) -> Option<(u32, u32)>
-    ensures { result ≡ from_of (last_in (reverse entries.now) task incarnation) }
+    ensures { result ≡ from_of (newest_in (reverse entries.now) task incarnation) }
 {
-    match last_in(entries, task, incarnation) {
+    match newest_in(entries, task, incarnation) {
         None => None,
         Some(last) => {
             let name = last.name();

@@ -1,4 +1,4 @@
-ghost use Rattle.std.specs.Prelude.{◌≡◌, reverse};
+ghost use Rattle.std.specs.Prelude.{◌≡◌, Some, reverse};
 ghost use Rattle.std.specs.List.{list_all, list_any, find};
 ghost use Rattle.std.specs.Option.{option_copied};
 ghost use Rattle.exchange_core.specs.Last.{same_task};
@@ -21,33 +21,36 @@ fn is_not_back(entries: &[Frame], name: Name, take: &Take) -> bool
     take.producer.resource == name.task.resource || is_kept(entries, name, take)
 }
 
-/// Whether a take is below none of the takes of the newest entry of this resource and incarnation that takes from that producer.
+/// Whether the newest entry of this resource that takes from that producer is of another incarnation, or a take is below none of its takes.
 fn is_kept(entries: &[Frame], name: Name, take: &Take) -> bool
-    ensures { result ≡ keeps_takes take.now (find (takes_from name take.now.producer) (reverse entries.now)) }
+    ensures { result ≡ keeps_takes name.incarnation take.now (find (takes_from name.task.resource take.now.producer) (reverse entries.now)) }
 {
-    match newest_taker(entries, name, take.producer) {
+    match newest_taker(entries, name.task.resource, take.producer) {
         None => true,
-        Some(entry) => is_below_none(take, entry.evaluation().takes()),
+        Some(entry) => keeps_takes(entry, name.incarnation, take),
     }
 }
 
-/// The newest entry of this name's resource and incarnation that takes from this producer.
-fn newest_taker(entries: &[Frame], name: Name, producer: TaskRef) -> Option<&Frame>
-    ensures { option_copied result ≡ find (takes_from name producer) (reverse entries.now) }
+fn keeps_takes(entry: &Frame, incarnation: u32, take: &Take) -> bool
+    ensures { result ≡ keeps_takes incarnation take.now (Some entry.now) }
+{
+    entry.name().incarnation != incarnation || is_below_none(take, entry.evaluation().takes())
+}
+
+/// The newest entry of this resource that takes from this producer.
+fn newest_taker(entries: &[Frame], resource: usize, producer: TaskRef) -> Option<&Frame>
+    ensures { option_copied result ≡ find (takes_from resource producer) (reverse entries.now) }
 {
     entries
         .iter()
         .rev()
-        .find(|entry| takes_from(entry, name, producer))
+        .find(|entry| takes_from(entry, resource, producer))
 }
 
-fn takes_from(entry: &Frame, name: Name, producer: TaskRef) -> bool
-    ensures { result ≡ takes_from name producer entry.now }
+fn takes_from(entry: &Frame, resource: usize, producer: TaskRef) -> bool
+    ensures { result ≡ takes_from resource producer entry.now }
 {
-    let own = entry.name();
-    own.task.resource == name.task.resource
-        && own.incarnation == name.incarnation
-        && has_producer(entry.evaluation().takes(), producer)
+    entry.name().task.resource == resource && has_producer(entry.evaluation().takes(), producer)
 }
 
 fn has_producer(takes: &[Take], producer: TaskRef) -> bool

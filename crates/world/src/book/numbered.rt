@@ -2,8 +2,7 @@ ghost use Rattle.std.specs.Prelude.{◌≡◌, ◌==◌, ◌+◌, ◌<◌, lengt
 ghost use Rattle.std.specs.List.{find};
 ghost use Rattle.std.specs.Option.{option_copied};
 ghost use Rattle.exchange_core.specs.Last.{last_number};
-ghost use Rattle.world.specs.Fits.{last_in};
-ghost use Rattle.world.specs.Steps.Deciding.{present_in, is_numbered};
+ghost use Rattle.world.specs.Steps.Deciding.{present_in, newest_in, is_numbered};
 
 use crate::book::last_entry::last_number;
 use evaluation::{Frame, Name};
@@ -40,7 +39,7 @@ fn newest_of(entries: &[Frame], resource: usize) -> Option<&Frame>
 
 /// Whether its number is one more than that of its task's last entry in its incarnation.
 fn is_next(entries: &[Frame], name: Name) -> bool
-    ensures { result ≡ (name.number == last_number (last_in (reverse entries.now) name.task name.incarnation) + 1) }
+    ensures { result ≡ (name.number == last_number (newest_in (reverse entries.now) name.task name.incarnation) + 1) }
 {
     let last = last_number(entries, name.task, name.incarnation);
     name.number > 0 && name.number - 1 == last
