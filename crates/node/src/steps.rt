@@ -1,0 +1,54 @@
+use crate::step::Step;
+use std::alloc::{AllocError, Global};
+use std::marker::Model;
+
+/// The steps of a journal, in their order.
+#[derive(Drop)]
+pub struct Steps {
+    listed: Vec<Step>,
+}
+
+impl Model for Steps {
+    ghost use Rattle.std.specs.Prelude.{List};
+    ghost use Rattle.node.specs.declared.step.Step.{Step};
+
+    ghost Value = { List Step };
+
+    ghost view = { λ s. s.listed.items };
+}
+
+ghost use Rattle.std.specs.Prelude.{◌≡◌, [], ◌∷◌, ◌++◌, OnOk, OnErr};
+
+impl Steps {
+    /// No steps.
+    pub(crate) fn new(alloc: Global) -> Steps
+        ensures { result ≡ [] }
+    {
+        Steps {
+            listed: Vec::new(alloc),
+        }
+    }
+
+    /// Makes room for one more step.
+    pub(crate) fn make_room(&mut self) -> Result<(), AllocError>
+        ensures { self.new ≡ self.old }
+    {
+        self.listed.reserve(1)
+    }
+
+    /// Appends a step.
+    pub(crate) fn push(&mut self, step: Step) -> Result<(), AllocError>
+        ensures ok { OnOk result (self.new ≡ self.old ++ step ∷ []) }
+        ensures err { OnErr result (self.new ≡ self.old) }
+    {
+        self.listed.push(step)?;
+        Ok(())
+    }
+
+    /// The steps as a slice.
+    pub fn as_slice(&self) -> &[Step]
+        ensures { result.now ≡ self.now }
+    {
+        self.listed.as_slice()
+    }
+}
