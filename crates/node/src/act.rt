@@ -1,4 +1,7 @@
+ghost use Rattle.std.specs.Prelude.{◌≡◌, IfOk};
+
 use evaluation::Inputs;
+use std::alloc::AllocError;
 
 /// What a resource is to do.
 #[derive(Drop)]
@@ -7,4 +10,20 @@ pub enum Act {
     Evaluate { task: usize, dt: u32, inputs: Inputs },
     /// It restarts: it forgets all, and its incarnation rises.
     Restart,
+}
+
+impl Act {
+    /// An equal act.
+    pub fn try_copy(&self) -> Result<Act, AllocError>
+        ensures { IfOk result (λ copy. copy ≡ self.now) }
+    {
+        match self {
+            Act::Evaluate { task, dt, inputs } => Ok(Act::Evaluate {
+                task: *task,
+                dt: *dt,
+                inputs: inputs.try_copy()?,
+            }),
+            Act::Restart => Ok(Act::Restart),
+        }
+    }
 }

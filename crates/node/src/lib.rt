@@ -2,6 +2,7 @@
 #![tactic(auto)]
 
 mod act;
+mod cause;
 mod command;
 mod free_gate;
 mod gate;
@@ -15,6 +16,7 @@ mod step;
 mod steps;
 
 pub use act::Act;
+pub use cause::Cause;
 pub use command::Command;
 pub use free_gate::FreeGate;
 pub use gate::Gate;
