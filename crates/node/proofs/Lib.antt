@@ -1,0 +1,2 @@
+pub mod JournalRuns
+pub mod Remaking

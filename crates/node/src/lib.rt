@@ -2,6 +2,7 @@
 #![tactic(auto)]
 
 mod act;
+mod agreement;
 mod cause;
 mod command;
 mod free_gate;
@@ -10,10 +11,15 @@ mod journal;
 mod keeper;
 mod keeper_fault;
 mod memory_keeper;
+mod node_fault;
+mod obedience;
 mod out_of_turns;
 mod paced_gate;
+mod run_fault;
 mod step;
 mod steps;
+mod tickets;
+mod unanswered;
 
 pub use act::Act;
 pub use cause::Cause;
@@ -24,7 +30,10 @@ pub use journal::Journal;
 pub use keeper::Keeper;
 pub use keeper_fault::KeeperFault;
 pub use memory_keeper::MemoryKeeper;
+pub use node_fault::NodeFault;
 pub use out_of_turns::OutOfTurns;
 pub use paced_gate::PacedGate;
+pub use run_fault::RunFault;
 pub use step::Step;
 pub use steps::Steps;
+pub use tickets::Tickets;

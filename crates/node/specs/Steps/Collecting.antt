@@ -1,0 +1,31 @@
+-- What the checks of a report decide, step by step.
+use Rattle.std.specs.Prelude.{◌≡◌, ℕ, ◌+◌, ◌<◌, ◌==◌, Bool, false, List, ◌∷◌, Some, length, slice_get, slice_index_or}
+use Rattle.std.specs.List.{list_any}
+use Rattle.evaluation.specs.Meaning.{Evaluated}
+use Rattle.world.specs.Book.{BookValue}
+use Rattle.node.specs.declared.step.Step.{Step}
+use Rattle.node.specs.declared.step.Step.TheVariants.{Took, Made, Restarted}
+use Rattle.node.specs.declared.journal.Journal.{Journal}
+use Rattle.node.specs.Journals.{made}
+use Rattle.node.specs.Reports.{entries_of}
+
+-- what a step made, in front of these
+abbrev pub made_with : Step → List Evaluated → List Evaluated
+made_with (Took x) ys = ys
+made_with (Made x) ys = x ∷ ys
+made_with (Restarted ticket incarnation) ys = ys
+
+-- what a journal made are, in order, the entries of its resource
+abbrev pub IsInBook : List Evaluated → Journal → Type 0
+IsInBook entries j = made j.steps ≡ entries_of j.resource entries
+
+-- a journal is that of the resource at a place, begins in the book's first incarnation, and made the book's entries
+pub record StandsAt (book : BookValue) (place : ℕ) (j : Journal) : Type 0 where
+  pub resource_is : j.resource ≡ place
+  pub first_is : slice_get book.first place ≡ Some j.first
+  pub in_book : IsInBook book.entries j
+
+-- for each place, whether an entry has its ticket, which is one more than the place
+pub record AreMarks (count : ℕ) (entries : List Evaluated) (marks : List Bool) : Type 0 where
+  pub many : length marks ≡ count
+  pub each : (k : ℕ) → k < count → slice_index_or marks k false ≡ list_any (λ (x : Evaluated). x.ticket == k + 1) entries
