@@ -12,6 +12,8 @@ mod keeper_fault;
 mod memory_keeper;
 mod out_of_turns;
 mod paced_gate;
+mod pending_evaluation;
+mod station;
 mod step;
 mod steps;
 
@@ -26,5 +28,7 @@ pub use keeper_fault::KeeperFault;
 pub use memory_keeper::MemoryKeeper;
 pub use out_of_turns::OutOfTurns;
 pub use paced_gate::PacedGate;
+pub use pending_evaluation::PendingEvaluation;
+pub use station::Station;
 pub use step::Step;
 pub use steps::Steps;
