@@ -103,3 +103,7 @@ EachAfter R (x ∷ before) = R before x × EachAfter R before
 -- a journal is lawful for a plant and a limit of numbers: each step could follow those before it
 pub record IsLawful (plant : PlantValue) (max_number : ℕ) (j : Journal) : Type 0 where
   pub follows : EachAfter (Follows plant max_number j.resource j.first) (reverse j.steps)
+
+-- the journal with one more step
+abbrev pub with_step : Journal → Step → Journal
+with_step j s = record j { steps = j.steps ++ s ∷ [] }

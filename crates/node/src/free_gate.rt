@@ -9,19 +9,19 @@ pub struct FreeGate;
 
 impl Gate for FreeGate {
     fn issue(&self, _ticket: u64) -> Result<(), OutOfTurns>
-        ensures { result ≡ Ok () }
+        ensures { result ≡ Ok tt }
     {
         Ok(())
     }
 
     fn pass(&self, _resource: usize, _ticket: u64) -> Result<(), OutOfTurns>
-        ensures { result ≡ Ok () }
+        ensures { result ≡ Ok tt }
     {
         Ok(())
     }
 
     fn sent(&self, _resource: usize, _ticket: u64) -> Result<(), OutOfTurns>
-        ensures { result ≡ Ok () }
+        ensures { result ≡ Ok tt }
     {
         Ok(())
     }

@@ -38,13 +38,13 @@ impl Gate for PacedGate {
     }
 
     fn pass(&self, _resource: usize, _ticket: u64) -> Result<(), OutOfTurns>
-        ensures { result ≡ Ok () }
+        ensures { result ≡ Ok tt }
     {
         Ok(())
     }
 
     fn sent(&self, _resource: usize, ticket: u64) -> Result<(), OutOfTurns>
-        ensures { result ≡ Ok () }
+        ensures { result ≡ Ok tt }
     {
         self.done.fetch_max(ticket, Ordering::SeqCst);
         Ok(())

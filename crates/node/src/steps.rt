@@ -17,7 +17,7 @@ impl Model for Steps {
     ghost view = { λ s. s.listed.items };
 }
 
-ghost use Rattle.std.specs.Prelude.{◌≡◌, [], ◌∷◌, ◌++◌, OnOk, OnErr};
+ghost use Rattle.std.specs.Prelude.{◌≡◌, [], ◌∷◌, ◌++◌, OnOk, OnErr, length, take};
 
 impl Steps {
     /// No steps.
@@ -27,6 +27,13 @@ impl Steps {
         Steps {
             listed: Vec::new(alloc),
         }
+    }
+
+    /// How many steps there are.
+    pub(crate) fn len(&self) -> usize
+        ensures { result ≡ length self.now }
+    {
+        self.listed.len()
     }
 
     /// Makes room for one more step.
@@ -43,6 +50,13 @@ impl Steps {
     {
         self.listed.push(step)?;
         Ok(())
+    }
+
+    /// Keeps so many of the first steps.
+    pub(crate) fn truncate(&mut self, count: usize)
+        ensures { self.new ≡ take count self.old }
+    {
+        self.listed.truncate(count);
     }
 
     /// The steps as a slice.
