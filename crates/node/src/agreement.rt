@@ -1,8 +1,6 @@
-ghost use Rattle.std.specs.Prelude.{◌≡◌, ◌↔◌, ◌<◌, ◌≤◌, ◌+◌, ℕ, [], ◌∷◌, IsTrue, MatchOption, IfSome, All, drop, length, slice_get};
-ghost use Rattle.node.specs.declared.journal.Journal.{Journal};
-ghost use Rattle.node.specs.Journals.{made};
-ghost use Rattle.node.specs.Reports.{entries_of, firsts_of};
-ghost use Rattle.node.specs.Steps.Collecting.{made_with, IsInBook, StandsAt};
+ghost use Rattle.std.specs.Prelude.{◌≡◌, ◌↔◌, ◌<◌, ◌≤◌, ◌+◌, [], ◌∷◌, IsTrue, MatchOption, IfSome, drop, length, slice_get};
+ghost use Rattle.node.specs.Reports.{entries_of};
+ghost use Rattle.node.specs.Steps.Collecting.{made_with, IsInBook, StandsAt, AllStand};
 
 use crate::journal::Journal;
 use crate::step::Step;
@@ -81,7 +79,7 @@ fn stands_at(book: &Book, place: usize, journal: &Journal) -> bool
 
 /// Whether each journal is that of the resource at its place, begins in the book's first incarnation, and made the book's entries.
 pub(crate) fn all_stand(book: &Book, journals: &[Journal]) -> bool
-    ensures { IsTrue result → (k : ℕ) (j : Journal) → slice_get journals.now k ≡ Some j → StandsAt book.now k j }
+    ensures { IsTrue result → AllStand book.now journals.now }
 {
     for place in 0..journals.len() {
         if !stands_at(book, place, &journals[place]) {
