@@ -1,0 +1,3 @@
+pub mod Greatest
+pub mod Standing
+pub mod Stations
