@@ -5,7 +5,7 @@ use Rattle.plant.specs.PlantValue.{CodeValue, code_at, expected_at, IsSoundPlant
 use Rattle.evaluation.specs.Meaning.{Evaluated}
 use Rattle.exchange_core.specs.Last.{last_number}
 use Rattle.exchange_core.specs.Held.{known, IsShaped}
-use Rattle.exchange_core.specs.CoreValue.{CoreValue, IsNext}
+use Rattle.exchange_core.specs.CoreValue.{CoreValue}
 use Rattle.node.specs.declared.step.Step.{Step}
 use Rattle.node.specs.declared.step.Step.TheVariants.{Made}
 use Rattle.node.specs.declared.journal.Journal.{Journal}
