@@ -4,3 +4,4 @@ pub mod Stations
 pub mod JournalRuns
 pub mod Remaking
 pub mod Collecting
+pub mod Reporting

@@ -24,9 +24,13 @@ fn agrees(book: &Book, plant: &Plant, journals: &[Journal]) -> bool
 {
     // The getter hands out that each entry fits those before it.
     let _entries = book.entries();
-    journals.len() == plant.resources()
-        && journals.len() == book.first().len()
-        && all_stand(book, journals)
+    if journals.len() != plant.resources() {
+        return false;
+    }
+    if journals.len() != book.first().len() {
+        return false;
+    }
+    all_stand(book, journals)
 }
 
 /// The report of what the threads did, if the book and the journals agree, and answer the commands.

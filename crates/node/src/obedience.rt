@@ -141,11 +141,14 @@ fn is_rising(steps: &[Step]) -> bool
 {
     let mut last = None;
     for k in 0..steps.len() {
-        if let Some(next) = ticket(&steps[k]) {
-            if !is_above(next, last) {
-                return false;
+        match ticket(&steps[k]) {
+            None => {}
+            Some(next) => {
+                if !is_above(next, last) {
+                    return false;
+                }
+                last = Some(next);
             }
-            last = Some(next);
         }
     }
     true

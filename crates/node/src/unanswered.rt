@@ -1,4 +1,4 @@
-ghost use Rattle.std.specs.Prelude.{◌≡◌, ◌==◌, ◌||◌, ◌+◌, ◌<◌, ℕ, Bool, false, IfOk, length, vec_len, slice_index_or};
+ghost use Rattle.std.specs.Prelude.{◌≡◌, ◌==◌, ◌||◌, ◌&&◌, ◌+◌, ◌<◌, ℕ, Bool, false, not, IfOk, length, vec_len, slice_index_or};
 ghost use Rattle.std.specs.List.{list_any};
 ghost use Rattle.node.specs.Reports.{AreNumbered, unanswered_of, is_evaluate};
 ghost use Rattle.node.specs.Steps.Collecting.{AreMarks};
@@ -34,12 +34,12 @@ fn marks(alloc: Global, count: usize, entries: &[Frame]) -> Result<Vec<bool>, Al
     Ok(marks)
 }
 
-/// Whether a resource is asked to evaluate.
-fn asks_to_evaluate(act: &Act) -> bool
-    ensures { result ≡ is_evaluate act.now }
+/// Whether a command asks to evaluate, and isn't answered.
+fn is_left(command: &Command, answered: bool) -> bool
+    ensures { result ≡ (is_evaluate command.now.act && not answered) }
 {
-    match act {
-        Act::Evaluate { .. } => true,
+    match &command.act {
+        Act::Evaluate { .. } => !answered,
         Act::Restart => false,
     }
 }
@@ -56,9 +56,9 @@ pub(crate) fn unanswered_tickets(
     let answered = marks(alloc, commands.len(), entries)?;
     let mut tickets = Tickets::new(alloc);
     for k in 0..commands.len() {
-        let command = &commands[k];
-        if asks_to_evaluate(&command.act) && !answered[k] {
-            tickets.push(command.ticket)?;
+        let is_answered = answered[k];
+        if is_left(&commands[k], is_answered) {
+            tickets.push(commands[k].ticket)?;
         }
     }
     Ok(tickets)
