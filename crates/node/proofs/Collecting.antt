@@ -1,15 +1,13 @@
 -- What the checks of a report find out, step by step.
-use Rattle.std.proofs.Common.{◌≡◌, ◌⊎◌, inl, inr, ℕ, zero, suc, ◌+◌, ◌-◌, ◌<◌, ◌≤◌, Bool, true, false, cond, eqb, not, ◌&&◌, ◌++◌, List, [], ◌∷◌, length, drop, take, map, filter, reverse, All, Contains, get_or, Option, Some, None, IfSome, slice_get, refl, ap, sym, ◌∙◌, subst, arith, add-one}
+use Rattle.std.proofs.Common.{◌≡◌, ◌⊎◌, inl, inr, ℕ, zero, suc, ◌+◌, ◌<◌, ◌≤◌, Bool, true, false, cond, eqb, not, ◌&&◌, ◌++◌, List, [], ◌∷◌, length, drop, take, map, filter, All, get_or, Option, Some, None, IfSome, slice_get, refl, ap, sym, ◌∙◌, subst, arith, add-one}
 use Rattle.std.specs.List.{filter_map, list_any}
-use Rattle.std.specs.List.Sorted.{IsStrictlyIncreasing}
 use Rattle.std.specs.Option.{option_map, option_to_list}
 use Rattle.std.proofs.lemmas.Bool.{cases_lt}
-use Rattle.std.proofs.lemmas.List.{take_more, length_push, get_or_push, get_or_append_left, append-nil, same_lists, length-map, get_or-map, map-append}
+use Rattle.std.proofs.lemmas.List.{take_more, length_push, get_or_push, get_or_append_left, length-map, map-append}
 use Rattle.std.proofs.lemmas.List.Elements.{filter_map-append, filter-append}
 use Rattle.std.proofs.lemmas.Option.{same_Some, slice_get_within, slice_get-map, get_or_from_slice_get, slice_get-get_or}
 use Rattle.plant.specs.PlantValue.{CodeValue}
-use Rattle.power_flow.specs.LadderValue.{Fits}
-use Rattle.power_flow.specs.StateValue.{StateValue, IsSame}
+use Rattle.power_flow.specs.StateValue.{StateValue}
 use Rattle.evaluation.specs.Meaning.{Evaluated, IsWhole, IsSameEvaluation}
 use Rattle.evaluation.specs.States.{AreStatesOf, AreSame}
 use Rattle.world.specs.Book.{BookValue}

@@ -1,17 +1,17 @@
 -- What lawful journals made could have been made, entry by entry of the book.
-use Rattle.std.proofs.Common.{◌≡◌, ℕ, zero, suc, ◌+◌, ◌<◌, ◌≤◌, Bool, true, false, cond, eqb, ◌&&◌, ◌++◌, List, [], ◌∷◌, length, map, filter, reverse, All, Option, Some, None, slice_get, refl, ap, sym, ◌∙◌, subst, arith}
+use Rattle.std.proofs.Common.{◌≡◌, ℕ, ◌<◌, ◌≤◌, Bool, true, false, cond, eqb, ◌&&◌, ◌++◌, List, [], ◌∷◌, reverse, Some, None, refl, ap, sym, ◌∙◌, subst, arith}
 use Rattle.std.proofs.lemmas.Bool.{eq-eqb}
 use Rattle.std.proofs.lemmas.Bool.Decides.{nat_tests}
-use Rattle.std.proofs.lemmas.List.{append_assoc, append-nil, reverse-append}
+use Rattle.std.proofs.lemmas.List.{append-nil, reverse-append}
 use Rattle.std.proofs.lemmas.List.Elements.{filter-append}
 use Rattle.plant.specs.declared.task_ref.TaskRef.{TaskRef}
-use Rattle.plant.specs.PlantValue.{CodeValue, PlantValue, code_at}
-use Rattle.evaluation.specs.Meaning.{Evaluated, evaluated}
-use Rattle.exchange_core.specs.Last.{same_task, state_of, takes_of}
+use Rattle.plant.specs.PlantValue.{PlantValue}
+use Rattle.evaluation.specs.Meaning.{Evaluated}
+use Rattle.exchange_core.specs.Last.{same_task}
 use Rattle.world.specs.Fits.{Each, last_in}
 use Rattle.node.specs.declared.step.Step.{Step}
 use Rattle.node.specs.declared.step.Step.TheVariants.{Took, Made, Restarted}
-use Rattle.node.specs.Journals.{incarnation_of, since_restarted, made, newest, made_of, last_made, IsNextMade, Follows, EachAfter}
+use Rattle.node.specs.Journals.{incarnation_of, made, newest, made_of, last_made, IsNextMade, Follows, EachAfter}
 use Rattle.node.specs.Reports.{entries_of}
 
 -- what holds of each holds of each in weaker words

@@ -1,20 +1,17 @@
 -- The entries of a book that agrees with lawful journals could have been made, so events that make them again have them as their run.
-use Rattle.std.proofs.Common.{◌≡◌, ℕ, zero, suc, ◌+◌, ◌<◌, ◌≤◌, ◌++◌, List, [], ◌∷◌, length, map, reverse, All, Option, Some, slice_get, get_or, refl, ap, sym, ◌∙◌, subst, arith}
+use Rattle.std.proofs.Common.{◌≡◌, ℕ, zero, suc, ◌<◌, ◌≤◌, ◌++◌, List, [], ◌∷◌, length, reverse, All, Some, slice_get, refl, ap, sym, ◌∙◌, subst, arith}
 use Rattle.std.proofs.lemmas.List.{append_assoc, reverse-append, length-map}
 use Rattle.std.proofs.lemmas.List.Elements.{All-head, All-tail}
 use Rattle.std.proofs.lemmas.Option.{get_or_from_slice_get}
 use Rattle.plant.specs.PlantValue.{PlantValue, IsSoundPlant}
 use Rattle.evaluation.specs.Meaning.{Evaluated}
 use Rattle.exchange_core.specs.Last.{state_of}
-use Rattle.world.specs.declared.event.Event.{Event}
-use Rattle.world.specs.History.{Setting}
 use Rattle.world.specs.Run.{IsRun}
 use Rattle.world.specs.Fits.{Each, Fits, AllFit, last_in}
-use Rattle.world.specs.Book.{BookValue, CouldBeMade, AllCouldBeMade, Replays}
-use Rattle.node.specs.declared.step.Step.{Step}
+use Rattle.world.specs.Book.{BookValue, CouldBeMade, AllCouldBeMade}
 use Rattle.node.specs.declared.journal.Journal.{Journal}
 use Rattle.node.specs.Journals.{made, last_made, IsLawful}
-use Rattle.node.specs.Reports.{firsts_of, entries_of, IsFittingBook, AreJournalsOf, AreInBook, RunsAgain}
+use Rattle.node.specs.Reports.{entries_of, IsFittingBook, AreJournalsOf, AreInBook, RunsAgain}
 use Rattle.node.proofs.JournalRuns.{IsMadeAfter, made_after, last_made_is, made-reverse, entries-reverse, entries-part, last_in-entries}
 
 -- an incarnation is a number of 32 bits

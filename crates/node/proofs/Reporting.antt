@@ -1,5 +1,5 @@
 -- What is known where the book and the journals agree.
-use Rattle.std.proofs.Common.{◌≡◌, ℕ, List, All, length}
+use Rattle.std.proofs.Common.{◌≡◌, ℕ, List, All}
 use Rattle.plant.specs.PlantValue.{PlantValue}
 use Rattle.world.specs.Book.{BookValue}
 use Rattle.node.specs.declared.journal.Journal.{Journal}

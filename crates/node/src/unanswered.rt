@@ -56,9 +56,10 @@ pub(crate) fn unanswered_tickets(
     let answered = marks(alloc, commands.len(), entries)?;
     let mut tickets = Tickets::new(alloc);
     for k in 0..commands.len() {
+        let command = &commands[k];
         let is_answered = answered[k];
-        if is_left(&commands[k], is_answered) {
-            tickets.push(commands[k].ticket)?;
+        if is_left(command, is_answered) {
+            tickets.push(command.ticket)?;
         }
     }
     Ok(tickets)

@@ -1,6 +1,4 @@
 -- Whole evaluations are equal where they have the same contents.
-use Rattle.std.proofs.Common.{rules, ◌≡◌, sym, subst}
-use Rattle.evaluation.specs.Meaning.{IsWhole, IsSameEvaluation}
 use Rattle.node.proofs.Collecting.{evaluations_equal, has_own_contents}
 use Rattle.node.proofs.agreement.are_equal.Goals as goal
 

@@ -1,5 +1,5 @@
 -- The first entry of the resource that the loop meets is the next one.
-use Rattle.std.proofs.Common.{rules, ◌≡◌, ◌<◌, true, slice_get, Some, length, arith, refl, ap, sym, ◌∙◌, eqb}
+use Rattle.std.proofs.Common.{◌≡◌, ◌<◌, slice_get, Some, length, arith, refl, ap, sym, ◌∙◌}
 use Rattle.std.proofs.lemmas.Bool.{eq-eqb}
 use Rattle.std.proofs.lemmas.Option.{slice_get_read}
 use Rattle.evaluation.specs.declared.name.Name.{Name}

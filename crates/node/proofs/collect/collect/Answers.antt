@@ -1,9 +1,9 @@
 -- Where the checks pass, the five clauses hold.
-use Rattle.std.proofs.Common.{rules, ◌≡◌, ◌≤◌, ℕ, List, All, Contains, refl, ap, sym, ◌∙◌, subst}
+use Rattle.std.proofs.Common.{All, Contains, refl, ap, sym, ◌∙◌, subst}
 use Rattle.std.specs.List.Sorted.{IsStrictlyIncreasing}
 use Rattle.evaluation.specs.Meaning.{Evaluated}
 use Rattle.node.specs.declared.journal.Journal.{Journal}
-use Rattle.node.specs.Reports.{IsFittingBook, AreJournalsOf, AreInBook, AreAnswers, RunsAgain, IsCommanded, IsObedient, command_of, tickets_of, unanswered_of}
+use Rattle.node.specs.Reports.{IsFittingBook, AreJournalsOf, AreInBook, RunsAgain, IsCommanded, IsObedient, command_of, tickets_of, unanswered_of}
 use Rattle.node.specs.Steps.Collecting.{Agrees}
 use Rattle.node.proofs.Remaking.{HasIncarnation}
 use Rattle.node.proofs.Reporting.{fitting_book, journals_of, in_book, again}

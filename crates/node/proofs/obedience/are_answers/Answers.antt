@@ -1,5 +1,5 @@
 -- One more entry answers its command.
-use Rattle.std.proofs.Common.{rules, ◌≡◌, ◌+◌, ◌<◌, ◌≤◌, ℕ, Contains, get_or, below_more, subst, sym, length, refl, arith}
+use Rattle.std.proofs.Common.{◌≤◌, Contains, get_or, below_more, subst, refl}
 use Rattle.std.proofs.lemmas.List.{get_or_read_under}
 use Rattle.evaluation.specs.Meaning.{Evaluated}
 use Rattle.node.specs.Reports.{command_of}
