@@ -9,6 +9,8 @@ pub mod Starts
 pub mod Answered
 pub mod Pairs
 pub mod Holding
+pub mod Deciding
+pub mod Misfits
 pub mod ScheduleWords
 pub mod ScheduleLists
 pub mod ScheduleReading

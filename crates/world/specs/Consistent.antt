@@ -1,5 +1,5 @@
 -- When a log is consistent. A log has the newest evaluation first; its message k is the k-th that was made.
-use Rattle.std.specs.Prelude.{◌≡◌, ℕ, ◌<◌, ◌≤◌, List, Option, Some, None, MatchOption, slice_get}
+use Rattle.std.specs.Prelude.{◌≡◌, ℕ, ◌<◌, ◌≤◌, List, Some, MatchOption, slice_get}
 use Rattle.std_blocks.specs.declared.value.Value.{Value}
 use Rattle.plant.specs.declared.binding.Source.TheVariants.{Given}
 use Rattle.plant.specs.declared.binding.Binding.{Binding}
@@ -43,7 +43,7 @@ pub record IsConsistent (log : List Evaluated) : Type 0 where
   pub one_image : (j k : ℕ) (x : Evaluated) (p : TaskRef) → message log j ≡ Some x → slice_get x.code.producers k ≡ Some p → HasOneImage log j x k p
   -- within one incarnation of a resource, the places taken of one producer never fall
   pub never_back : (i j : ℕ) (x y : Evaluated) → i < j → message log i ≡ Some x → message log j ≡ Some y → x.name.task.resource ≡ y.name.task.resource → x.name.incarnation ≡ y.name.incarnation
-    → Each (λ (t : Take). Each (λ (u : Take). t.producer ≡ u.producer → (a b : ℕ) → IsPlace log t a → IsPlace log u b → a ≤ b) y.takes) x.takes
+      → Each (λ (t : Take). Each (λ (u : Take). t.producer ≡ u.producer → (a b : ℕ) → IsPlace log t a → IsPlace log u b → a ≤ b) y.takes) x.takes
   -- entries of equal name are equal
   pub equal_names : (i j : ℕ) (x y : Evaluated) → message log i ≡ Some x → message log j ≡ Some y → x.name ≡ y.name → x ≡ y
   -- the outputs and the state after are what the task means
