@@ -1,3 +1,4 @@
 pub mod Greatest
 pub mod Standing
 pub mod Stations
+pub mod Alls

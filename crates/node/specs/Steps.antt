@@ -1,2 +1,3 @@
--- Steps of the proofs: where a core stands. Only contracts inside this crate cite them, so no reader has to believe them.
+-- Steps of the proofs: where a core stands, and what a thread's resource keeps. Only contracts inside this crate cite them, so no reader has to believe them.
 pub mod Standing
+pub mod Working
