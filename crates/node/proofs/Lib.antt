@@ -5,3 +5,4 @@ pub mod JournalRuns
 pub mod Remaking
 pub mod Collecting
 pub mod Reporting
+pub mod Alls

@@ -1,3 +1,4 @@
+use exchange_core::EvalFault;
 use thiserror::Error;
 
 /// Why a resource didn't obey a command, or a message of it wasn't sent.
@@ -27,4 +28,14 @@ pub enum Cause {
     /// The resource had stopped obeying.
     #[error("Stopped")]
     Stopped,
+}
+
+impl From<EvalFault> for Cause {
+    fn from(fault: EvalFault) -> Cause {
+        match fault {
+            EvalFault::NoSuchTask => Cause::NoSuchTask,
+            EvalFault::NumbersSpent => Cause::NumbersSpent,
+            EvalFault::Memory => Cause::Memory,
+        }
+    }
 }
