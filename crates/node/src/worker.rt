@@ -118,7 +118,10 @@ impl<K: Keeper> Worker<K> {
             WorkerState::Running(station) => {
                 match station.evaluate(alloc, ticket, task, dt, inputs) {
                     Ok(pending) => enter_pending(rt, book, pending),
-                    Err((station, fault)) => (WorkerState::Running(station), Err(Cause::from(fault))),
+                    Err((station, fault)) => (
+                        WorkerState::Running(station),
+                        Err(Cause::from(fault)),
+                    ),
                 }
             }
         };

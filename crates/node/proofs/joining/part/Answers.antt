@@ -1,7 +1,6 @@
 -- One more journal.
-use Rattle.std.proofs.Common.{rules, ◌≡◌, ◌∷◌, [], All, List, subst, sym}
+use Rattle.std.proofs.Common.{rules, ◌≡◌, ◌∷◌}
 use Rattle.std.specs.Vec.Iter.{into_iter_items}
-use Rattle.std.proofs.lemmas.List.Elements.{All-nil}
 use Rattle.node.specs.declared.ended.Ended.{Ended}
 use Rattle.node.specs.Journals.{IsLawful}
 use Rattle.node.proofs.Alls.{all_push, all_tail, all_head}

@@ -1,5 +1,5 @@
 -- What is still to be parted is lawful, and so is each journal so far.
-use Rattle.std.proofs.Common.{◌≡◌, All, vec_items}
+use Rattle.std.proofs.Common.{All, vec_items}
 use Rattle.std.specs.Vec.Iter.{into_iter_items}
 use Rattle.node.specs.declared.ended.Ended.{Ended}
 use Rattle.node.specs.Journals.{IsLawful}

@@ -1,5 +1,5 @@
 -- One more resource.
-use Rattle.std.proofs.Common.{◌≡◌, All}
+use Rattle.std.proofs.Common.{◌≡◌}
 use Rattle.node.specs.Steps.Working.{WorkerValue}
 use Rattle.node.proofs.Alls.{all_push}
 use Rattle.node.proofs.preparing.make_workers.Goals as goal

@@ -1,5 +1,5 @@
 -- One more thread.
-use Rattle.std.proofs.Common.{rules, ◌≡◌, ◌∷◌, All}
+use Rattle.std.proofs.Common.{rules, ◌≡◌, ◌∷◌}
 use Rattle.std.specs.Vec.Iter.{into_iter_items}
 use Rattle.std.specs.declared.thread.PromisedHandle.{PromisedHandle}
 use Rattle.node.specs.declared.ended.Ended.{Ended}
