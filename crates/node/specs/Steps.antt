@@ -1,3 +1,4 @@
--- Steps of the proofs: where a core stands, and what a thread's resource keeps. Only contracts inside this crate cite them, so no reader has to believe them.
+-- Steps of the proofs: where a core stands, what a resource is while it runs, and what its thread keeps. Only contracts inside this crate cite them, so no reader has to believe them.
 pub mod Standing
+pub mod Stations
 pub mod Working

@@ -48,8 +48,6 @@ pub use memory_keeper::MemoryKeeper;
 pub use node_fault::NodeFault;
 pub use out_of_turns::OutOfTurns;
 pub use paced_gate::PacedGate;
-pub use pending_evaluation::PendingEvaluation;
 pub use run_fault::RunFault;
-pub use station::Station;
 pub use step::Step;
 pub use steps::Steps;
