@@ -7,14 +7,14 @@ use std::marker::Model;
 
 /// A resource that has made an evaluation, which its journal hasn't got yet. The journal is lawful, with that evaluation and without it.
 #[derive(Drop)]
-pub struct PendingEvaluation {
+pub(crate) struct PendingEvaluation {
     core: Core,
     journal: Journal,
     made: Frame,
 }
 
 impl Model for PendingEvaluation {
-    ghost use Rattle.node.specs.Stations.{PendingValue};
+    ghost use Rattle.node.specs.Steps.Stations.{PendingValue};
     ghost use Rattle.node.specs.Steps.Standing.{IsAhead};
 
     ghost Value = { PendingValue };
@@ -26,12 +26,12 @@ impl Model for PendingEvaluation {
 
 ghost use Rattle.std.specs.Prelude.{◌≡◌, IfOk, IfErr};
 ghost use Rattle.node.specs.Journals.{IsLawful};
-ghost use Rattle.node.specs.Stations.{IsNoted};
+ghost use Rattle.node.specs.Steps.Stations.{IsNoted};
 ghost use Rattle.node.specs.Steps.Standing.{IsAhead};
 
 impl PendingEvaluation {
     /// A resource whose core has made this evaluation.
-    pub(crate) fn of(core: Core, journal: Journal, made: Frame) -> PendingEvaluation
+    pub fn of(core: Core, journal: Journal, made: Frame) -> PendingEvaluation
         requires { IsAhead core journal made }
         ensures { result ≡ record { core = core; journal = journal; made = made } }
     {

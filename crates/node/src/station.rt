@@ -10,13 +10,13 @@ use std::sync::Arc;
 
 /// One resource while it runs: its core, and its journal. The journal is lawful, and the core stands where the journal has come to.
 #[derive(Drop)]
-pub struct Station {
+pub(crate) struct Station {
     core: Core,
     journal: Journal,
 }
 
 impl Model for Station {
-    ghost use Rattle.node.specs.Stations.{StationValue};
+    ghost use Rattle.node.specs.Steps.Stations.{StationValue};
     ghost use Rattle.node.specs.Steps.Standing.{IsStation};
 
     ghost Value = { StationValue };
@@ -29,7 +29,7 @@ impl Model for Station {
 ghost use Rattle.std.specs.Prelude.{◌≡◌, ◌<◌, IfOk, IfErr, OnErr};
 ghost use Rattle.exchange_core.specs.CoreValue.{IsCoreFault, IsEvalFault};
 ghost use Rattle.node.specs.Journals.{IsLawful};
-ghost use Rattle.node.specs.Stations.{fresh_station, IsReceived, IsPending, IsRestarted};
+ghost use Rattle.node.specs.Steps.Stations.{fresh_station, IsReceived, IsPending, IsRestarted};
 ghost use Rattle.node.specs.Steps.Standing.{IsStation};
 
 impl Station {
@@ -54,7 +54,7 @@ impl Station {
     }
 
     /// A resource of a core and the journal that has come to where the core stands.
-    pub(crate) fn of(core: Core, journal: Journal) -> Station
+    pub fn of(core: Core, journal: Journal) -> Station
         requires { IsStation core journal }
         ensures { result ≡ record { core = core; journal = journal } }
     {
@@ -127,13 +127,6 @@ impl Station {
                 Err((Station { core, journal }, fault))
             }
         }
-    }
-
-    /// The incarnation.
-    pub fn incarnation(&self) -> u32
-        ensures { result ≡ self.now.core.incarnation }
-    {
-        self.core.incarnation()
     }
 
     /// The journal, which is lawful.

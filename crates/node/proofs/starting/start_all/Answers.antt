@@ -13,5 +13,5 @@ loop-worker-preserved g c =
     let was = c.loop-worker.invariant in
     let rest_is : into_iter_items c.loop-worker.worker-iterator ≡ c.in-Some.worker ∷ into_iter_items c.next.new.self = search rules in (
       all_tail (λ (w : WorkerValue). (w.plant ≡ c.args.desk.plant.now) × (w.max_number ≡ c.args.max_number)) _ _ _ rest_is was.0,
-      all_push (λ (h : PromisedHandle Ended LawfulFor). (h.promise.plant.now ≡ c.args.desk.plant.now) × (h.promise.max_number ≡ c.args.max_number)) _ c.in_ok-handle.handle _ c.in-Ok.ensures.items was.1 c.in_ok-handle.ensures,
+      all_push (λ (h : PromisedHandle Ended LawfulFor). (h.promise.plant.now ≡ c.args.desk.plant.now) × (h.promise.max_number ≡ c.args.max_number)) c.loop-worker.handles.items c.in_ok-handle.handle c.push.new.self.items c.in-Ok.ensures.items was.1 c.in_ok-handle.ensures,
     )
