@@ -1,4 +1,8 @@
 pub mod Greatest
 pub mod Standing
 pub mod Stations
+pub mod JournalRuns
+pub mod Remaking
+pub mod Collecting
+pub mod Reporting
 pub mod Alls

@@ -15,7 +15,7 @@ use Rattle.world.specs.Consistent.{IsConsistent}
 
 -- a run is a consistent log
 abbrev pub RunsAreConsistent : Type 0
-RunsAreConsistent = (s : Setting) (events : List Event) (log : List Evaluated) → IsRun s events log → IsConsistent (reverse log)
+RunsAreConsistent = (s : Setting) (events : List Event) (log : List Evaluated) → IsRun s events log → IsConsistent s.plant (reverse log)
 
 -- each evaluation of a run fits those before it
 abbrev pub RunsFit : Type 0

@@ -6,8 +6,10 @@ pub mod Step
 pub mod Laws
 pub mod Fits
 pub mod Book
+pub mod Schedule
 pub mod Consistent
 pub mod BookLaws
+pub mod Theorem
 pub mod Steps
 pub mod RunLines
 pub mod RunText
