@@ -121,7 +121,7 @@ pub(crate) fn run_all<R: Threads + Wait + Sync, K: Keeper, G: Gate>(
         commands,
         &mut faults,
     )?;
-    let journals = part(alloc, &**plant, max_number, ended, &mut faults)?;
+    let journals = part(alloc, ended, &mut faults)?;
     Ok(Outcome {
         book: book.into_inner(),
         journals,
