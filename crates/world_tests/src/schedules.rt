@@ -1,12 +1,12 @@
 //! Schedules as texts: what they write, where they end, and what is left when the writer or the text fails.
 
 use crate::halting::{End, Halting};
-use crate::worked::PAIR;
 use plant::Plant;
 use std::alloc::Global;
 use std::process::Abort;
 use std::sync::Arc;
 use std::test::Fail;
+use worked_texts::PAIR;
 use world::{SimFault, simulate};
 
 /// A producer restarts, and an evaluation of before comes late.

@@ -1,0 +1,11 @@
+//! Tests of `world`, by its public calls alone.
+#![tactic(auto)]
+
+#[cfg(test)]
+mod checks;
+#[cfg(test)]
+mod halting;
+#[cfg(test)]
+mod schedules;
+#[cfg(test)]
+mod worlds;
