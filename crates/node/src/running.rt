@@ -1,13 +1,13 @@
 ghost use Rattle.std.specs.Prelude.{◌≡◌, IfOk, length, vec_len};
 ghost use Rattle.node.specs.Reports.{IsFittingBook, AreJournalsOf, AreInBook, AreAnswers, RunsAgain, AreNumbered, AreForPlant};
 
-use crate::collect::collect;
+use crate::collector::collect;
 use crate::command::Command;
 use crate::gate::Gate;
 use crate::keeper::Keeper;
-use crate::outcome::Outcome;
+use crate::threads::Outcome;
 use crate::report::Report;
-use crate::run_all::run_all;
+use crate::threads::run_all;
 use crate::run_fault::RunFault;
 use plant::Plant;
 use std::alloc::Global;
