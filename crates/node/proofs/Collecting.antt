@@ -20,7 +20,7 @@ use Rattle.node.specs.Reports.{entries_of, firsts_of, ticket_of, tickets_of, is_
 use Rattle.node.specs.Steps.Collecting.{made_with, AllStand, AreMarks, RiseTo}
 
 -- what stands at a place is an element
-at_place : {X : Type 0} (xs : List X) (k : ℕ) → k < length xs → (x : X) × (slice_get xs k ≡ Some x)
+pub at_place : {X : Type 0} (xs : List X) (k : ℕ) → k < length xs → (x : X) × (slice_get xs k ≡ Some x)
 at_place [] k lt = absurd (omega arith)
 at_place (x ∷ xs) zero lt = (x, refl)
 at_place (x ∷ xs) (suc k) lt = at_place xs k (omega arith)

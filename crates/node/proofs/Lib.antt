@@ -6,3 +6,4 @@ pub mod Remaking
 pub mod Collecting
 pub mod Reporting
 pub mod Alls
+pub mod Faults

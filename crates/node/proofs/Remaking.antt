@@ -1,5 +1,5 @@
 -- The entries of a book that agrees with lawful journals could have been made, so events that make them again have them as their run.
-use Rattle.std.proofs.Common.{◌≡◌, ℕ, zero, suc, ◌<◌, ◌≤◌, ◌++◌, List, [], ◌∷◌, length, reverse, All, Some, slice_get, refl, ap, sym, ◌∙◌, subst, arith}
+use Rattle.std.proofs.Common.{◌≡◌, ℕ, ◌<◌, ◌≤◌, ◌++◌, List, [], ◌∷◌, length, reverse, All, Some, slice_get, refl, ap, sym, ◌∙◌, subst, arith}
 use Rattle.std.proofs.lemmas.List.{append_assoc, reverse-append, length-map}
 use Rattle.std.proofs.lemmas.List.Elements.{All-head, All-tail}
 use Rattle.std.proofs.lemmas.Option.{get_or_from_slice_get}
@@ -12,6 +12,7 @@ use Rattle.world.specs.Book.{BookValue, CouldBeMade, AllCouldBeMade}
 use Rattle.node.specs.declared.journal.Journal.{Journal}
 use Rattle.node.specs.Journals.{made, last_made, IsLawful}
 use Rattle.node.specs.Reports.{entries_of, IsFittingBook, AreJournalsOf, AreInBook, RunsAgain}
+use Rattle.node.proofs.Collecting.{at_place}
 use Rattle.node.proofs.JournalRuns.{IsMadeAfter, made_after, last_made_is, made-reverse, entries-reverse, entries-part, last_in-entries}
 
 -- an incarnation is a number of 32 bits
@@ -26,11 +27,6 @@ each-reverse : {X : Type 0} (P : X → Type 0) (xs : List X) → All P xs → Ea
 each-reverse P [] all = tt
 each-reverse P (x ∷ xs) all =
     subst (Each P) (sym (reverse-append (x ∷ []) xs)) (each-append P (reverse xs) (x ∷ []) (each-reverse P xs (All-tail P x xs all)) (All-head P x xs all, tt))
-
-at_place : {X : Type 0} (xs : List X) (k : ℕ) → k < length xs → (x : X) × (slice_get xs k ≡ Some x)
-at_place [] k lt = absurd (omega arith)
-at_place (x ∷ xs) zero lt = (x, refl)
-at_place (x ∷ xs) (suc k) lt = at_place xs k (omega arith)
 
 -- what holds of each holds of the one at a place
 holds_at : {X : Type 0} (P : X → Type 0) (xs : List X) (k : ℕ) (x : X) → k < length xs → slice_get xs k ≡ Some x → All P xs → P x

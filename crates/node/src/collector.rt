@@ -6,7 +6,7 @@ ghost use Rattle.std.specs.Prelude.{◌≡◌, ◌≤◌, IsTrue, IfOk, All, Con
 ghost use Rattle.std.specs.List.Sorted.{IsStrictlyIncreasing};
 ghost use Rattle.node.specs.Journals.{IsLawful};
 ghost use Rattle.node.specs.Reports.{IsFittingBook, AreJournalsOf, AreInBook, AreAnswers, RunsAgain, AreNumbered, IsObedient, command_of};
-ghost use Rattle.node.specs.Steps.Collecting.{Agrees};
+ghost use Rattle.node.specs.Steps.Collecting.{Agrees, AreByTicket};
 
 use crate::collector::agreement::all_stand;
 use crate::command::Command;
@@ -53,6 +53,7 @@ pub(crate) fn collect(
     ensures journals { IfOk result (λ r. AreJournalsOf plant.now max_number r.journals) }
     ensures made { IfOk result (λ r. AreInBook r.book.entries r.journals) }
     ensures answers { IfOk result (λ r. AreAnswers commands.now r.book.entries r.journals r.unanswered) }
+    ensures faults { IfOk result (λ r. AreByTicket faults.items r.node_faults) }
     ensures again { IfOk result (λ r. RunsAgain plant.now max_number r.book r.journals) }
 {
     if !agrees(&book, plant, journals.as_slice()) {
@@ -68,7 +69,7 @@ pub(crate) fn collect(
         return Err(RunFault::Doubled);
     }
     let unanswered = unanswered_tickets(alloc, commands, book.entries())?;
-    let node_faults = NodeFaults::of(faults)?;
+    let node_faults = NodeFaults::of(alloc, faults)?;
     Ok(Report {
         book,
         journals: Journals::of(journals),

@@ -1,4 +1,5 @@
-ghost use Rattle.std.specs.Prelude.{◌≡◌, IfOk, length, vec_len};
+ghost use Rattle.std.specs.Prelude.{◌≡◌, IfOk, length, map, vec_len};
+ghost use Rattle.std.specs.List.Sorted.{IsStrictlyIncreasing};
 ghost use Rattle.node.specs.Reports.{IsFittingBook, AreJournalsOf, AreInBook, AreAnswers, RunsAgain, AreNumbered, AreForPlant};
 
 use crate::collector::collect;
@@ -35,6 +36,7 @@ pub fn run_threads<R: Threads + Wait + Sync, K: Keeper, G: Gate>(
     ensures journals { IfOk result (λ r. AreJournalsOf plant.now.value max_number r.journals) }
     ensures made { IfOk result (λ r. AreInBook r.book.entries r.journals) }
     ensures answers { IfOk result (λ r. AreAnswers commands.now r.book.entries r.journals r.unanswered) }
+    ensures faults { IfOk result (λ r. IsStrictlyIncreasing (map (λ f. f.ticket) r.node_faults)) }
     ensures again { IfOk result (λ r. RunsAgain plant.now.value max_number r.book r.journals) }
 {
     let Outcome {

@@ -66,5 +66,5 @@ held-among w n p x e = by (eqb p.resource n) (node_takes w.setting.plant n p) e 
       (last_among-entry p (has_reached n (history_of w.setting w.events)) (reverse w.log))).0
 
 pub holders-agree : HoldersAgree
-holders-agree w n m p q x y is first second same =
+holders-agree w is n m p q x y first second same =
     one_name x.name.task (reverse w.log) x y (log-rises w.setting x.name.task (history_of w.setting w.events) (reverse w.log) is) (held-among w n p x first) (held-among w m q y second) (same_task-itself x.name.task) same

@@ -14,10 +14,11 @@ use Rattle.world.specs.declared.event.Event.{Event}
 use Rattle.world.specs.declared.event.Event.TheVariants.{Evaluate, Deliver, Restart}
 use Rattle.world.specs.History.{Setting, made_count, is_lawful, after_events, history_of}
 use Rattle.world.specs.Run.{IsLog, IsNextEvaluation, latest, message}
-use Rattle.world.specs.Theorem.{IsMade, ConsistencyTheorem, AreGivenBy}
+use Rattle.world.specs.Consistent.{TakesOnly}
+use Rattle.world.specs.Theorem.{IsMade, ConsistencyTheorem}
 use Rattle.world.proofs.Names.{length-log, named}
 use Rattle.world.proofs.Moves.{run-message}
-use Rattle.world.proofs.Places.{next-code, inputs-latest, run-consistent}
+use Rattle.world.proofs.Places.{next-code, takes-latest, run-consistent}
 use Rattle.world.proofs.Entered.{holders-agree}
 
 -- the place in a history at which an entry of its log was made
@@ -169,7 +170,7 @@ made-of s events log k x m =
       events_are = subst (λ t. events ≡ found.before ++ Evaluate m.ticket t m.dt m.inputs ∷ found.later) (sym own) found.events_are;
       lawful = subst (λ t. is_lawful s (history_of s found.before) (Evaluate m.ticket t m.dt m.inputs) ≡ true) (sym own) (subst (λ h. is_lawful s h (Evaluate m.ticket m.task m.dt m.inputs) ≡ true) (sym found.history_is) found.lawful);
       place = sym m.place ∙ many;
-      taken = λ p. subst (AreGivenBy x p) (seen p) (subst (λ t. AreGivenBy x p (latest t.resource m.h p m.older)) (sym own) (inputs-latest s m.h m.older m.ticket m.task m.dt m.inputs x p m.next));
+      taken = λ p. subst (TakesOnly x p) (seen p) (subst (λ t. TakesOnly x p (latest t.resource m.h p m.older)) (sym own) (takes-latest s m.h m.older m.ticket m.task m.dt m.inputs x p m.next));
       code_is = subst (λ t. code_at s.plant t ≡ Some x.code) (sym own) (m.next.found ∙ ap (λ (c : CodeValue). Some c) (sym code));
       stored = stored (ap (λ (y : Evaluated). y.before) m.next.asked.is);
       ticket_is = ap (λ (y : Evaluated). y.ticket) m.next.asked.is;
@@ -207,5 +208,5 @@ consistency-theorem s events log is =
     record {
       made = λ k x at. made-of s events log k x (made-in s (history_of s events) (reverse log) is k x (sym (run-message (reverse log) k) ∙ ap (λ l. slice_get l k) (reverse-reverse log) ∙ at));
       never_back = (run-consistent s events log is).never_back;
-      holders = λ n m p q x y. holders-agree (record { setting = s; events = events; log = log }) n m p q x y is;
+      holders = holders-agree (record { setting = s; events = events; log = log }) is;
     }

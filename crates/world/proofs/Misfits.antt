@@ -6,7 +6,7 @@ use Rattle.std.proofs.lemmas.Bool.{false≢true}
 use Rattle.evaluation.specs.Meaning.{Evaluated}
 use Rattle.world.specs.declared.book.misfit.Misfit.{Misfit}
 use Rattle.world.specs.declared.book.misfit.Misfit.TheVariants.{WrongNumber, UnknownTake, Torn, Back, NotOwnLatest, Memory}
-use Rattle.world.specs.Fits.{Each, IsNumbered, IsKnown, IsUntorn, IsNotBack, IsOwnLatest, Fits}
+use Rattle.world.specs.Fits.{Each, IsNumbered, IsKnown, IsUntorn, IsNotBack, IsOwnLatest, Fits, AllFit}
 use Rattle.world.specs.Book.{IsMisfit}
 use Rattle.world.specs.Steps.Deciding.{is_numbered, is_known, is_untorn, is_not_back, is_own_latest, first_failed}
 use Rattle.world.proofs.Deciding.{IsTest, test-each, test-numbered, test-known, test-untorn, test-not_back, test-own_latest}
@@ -15,11 +15,11 @@ fails : (P : Type 0) → IsTest false P → ¬ P
 fails P test h = false≢true (test.passes h)
 
 -- the first clause that fails is the misfit, and where none fails the evaluation fits
-pub first_failed-is : (first : List ℕ) (older : List Evaluated) (x : Evaluated) → MatchOption (first_failed first older x.name x.takes) (Fits first older x) (IsMisfit first older x)
-first_failed-is first older x =
+pub first_failed-is : (first : List ℕ) (older : List Evaluated) → AllFit first older → (x : Evaluated) → MatchOption (first_failed first older x.name x.takes) (Fits first older x) (IsMisfit first older x)
+first_failed-is first older fit x =
     by (is_numbered first older x.name) (list_all (is_known older) x.takes) (list_all (is_untorn older) x.takes) (list_all (is_not_back older x.name) x.takes) (list_all (is_own_latest older x.name) x.takes)
-    (test-numbered first older x.name) (test-each (is_known older) (IsKnown older) (test-known older) x.takes) (test-each (is_untorn older) (IsUntorn older) (test-untorn older) x.takes)
-    (test-each (is_not_back older x.name) (IsNotBack older x.name) (test-not_back older x.name) x.takes) (test-each (is_own_latest older x.name) (IsOwnLatest older x.name) (test-own_latest older x.name) x.takes) where
+    (test-numbered first older fit x.name) (test-each (is_known older) (IsKnown older) (test-known older) x.takes) (test-each (is_untorn older) (IsUntorn older) (test-untorn first older fit) x.takes)
+    (test-each (is_not_back older x.name) (IsNotBack older x.name) (test-not_back first older fit x.name) x.takes) (test-each (is_own_latest older x.name) (IsOwnLatest older x.name) (test-own_latest older x.name) x.takes) where
       by : (a b c d e : Bool) → IsTest a (IsNumbered first older x.name) → IsTest b (Each (IsKnown older) x.takes) → IsTest c (Each (IsUntorn older) x.takes)
           → IsTest d (Each (IsNotBack older x.name) x.takes) → IsTest e (Each (IsOwnLatest older x.name) x.takes)
           → MatchOption (cond (not a) (Some WrongNumber) (cond (not b) (Some UnknownTake) (cond (not c) (Some Torn) (cond (not d) (Some Back) (cond (not e) (Some NotOwnLatest) None))))) (Fits first older x) (IsMisfit first older x)

@@ -22,8 +22,7 @@ use Rattle.world.specs.declared.event.Event.TheVariants.{Evaluate, Deliver, Rest
 use Rattle.world.specs.History.{Setting, history_of}
 use Rattle.world.specs.Run.{IsLog, IsRun, IsNextEvaluation, next_name, latest, message, has_reached}
 use Rattle.world.specs.Fits.{Among, Each, name_from, is_below}
-use Rattle.world.specs.Consistent.{IsBoundTo, HaveValuesOf, AreInitial, AreTakenFrom, IsOfOneEntry, IsOfNoEntry, IsPlace, IsConsistent}
-use Rattle.world.specs.Theorem.{AreGivenBy}
+use Rattle.world.specs.Consistent.{IsBoundTo, HaveValuesOf, AreInitial, AreTakenFrom, TakesOnly, TakesOneEntry, IsPlace, IsConsistent}
 use Rattle.world.proofs.Latest.{Rises}
 use Rattle.world.proofs.Names.{AllLawful, AllLawful-after, log-rises, named}
 use Rattle.world.proofs.Pairs.{message-within, rises-messages}
@@ -85,9 +84,9 @@ module _ (x : Evaluated) (last : TaskRef → Option Evaluated) (whole : IsWhole 
   named-last : (p : TaskRef) → AreTakenFrom x p (from_of (last p))
   named-last p k e = let t = takes-last k p e in record { take = t.take; taken = t.at; producer_is = t.of.producer_is; from_is = t.from }
 
-  given-by_last : (p : TaskRef) → AreGivenBy x p (last p)
-  given-by_last p = by (last p) refl where
-    by : (o : Option Evaluated) → last p ≡ o → AreGivenBy x p o
+  takes-only_last : (p : TaskRef) → TakesOnly x p (last p)
+  takes-only_last p = record { named = named-last p; inputs = by (last p) refl } where
+    by : (o : Option Evaluated) → last p ≡ o → MatchOption o (AreInitial x p) (λ (z : Evaluated). HaveValuesOf x p z.outputs)
     by None e = values-none p e
     by (Some z) e = values-last p z e
 
@@ -99,15 +98,14 @@ pub next-takes : (s : Setting) (h : List Event) (log : List Evaluated) (k : ℕ)
     → x.takes ≡ takes_of (λ p. latest t.resource h p log) x.code
 next-takes s h log k t dt inputs x next = taken s h log k t dt inputs x next ∙ ap (takes_of (λ p. latest t.resource h p log)) (sym (next-code s h log k t dt inputs x next))
 
--- all inputs bound to a producer are given by the latest of it
-pub inputs-latest : (s : Setting) (h : List Event) (log : List Evaluated) (k : ℕ) (t : TaskRef) (dt : ℕ) (inputs : List FieldInput) (x : Evaluated) (p : TaskRef) → IsNextEvaluation s h log k t dt inputs x
-    → AreGivenBy x p (latest t.resource h p log)
-inputs-latest s h log k t dt inputs x p next = given-by_last x (λ q. latest t.resource h q log) next.asked.whole (next-takes s h log k t dt inputs x next) p
+-- all that is taken from a producer is of the latest of it
+pub takes-latest : (s : Setting) (h : List Event) (log : List Evaluated) (k : ℕ) (t : TaskRef) (dt : ℕ) (inputs : List FieldInput) (x : Evaluated) (p : TaskRef) → IsNextEvaluation s h log k t dt inputs x
+    → TakesOnly x p (latest t.resource h p log)
+takes-latest s h log k t dt inputs x p next = takes-only_last x (λ q. latest t.resource h q log) next.asked.whole (next-takes s h log k t dt inputs x next) p
 
 -- what an evaluation takes from p is an older entry of p, or nothing
-abbrev pub IsOld : List Evaluated → Evaluated → TaskRef → Option Evaluated → Type 0
-IsOld older x p None = IsOfNoEntry x p
-IsOld older x p (Some z) = Among z older × (z.name.task ≡ p) × AreTakenFrom x p (Some (z.name.incarnation, z.name.number)) × HaveValuesOf x p z.outputs
+abbrev pub IsOld : List Evaluated → TaskRef → Option Evaluated → Type 0
+IsOld older p o = MatchOption o (Unit {0}) (λ z. Among z older × (same_task z.name.task p ≡ true))
 
 -- a take is not below an older one of this resource and incarnation from that producer, whose ever it is
 abbrev pub IsKept : List Evaluated → Name → Take → Type 0
@@ -117,9 +115,11 @@ IsKept older name t =
 -- an evaluation agrees with those before it
 pub record Agrees (plant : PlantValue) (older : List Evaluated) (x : Evaluated) : Type 0 where
   pub taken_of : TaskRef → Option Evaluated
-  pub olds : (p : TaskRef) → IsOld older x p (taken_of p)
+  pub olds : (p : TaskRef) → IsOld older p (taken_of p)
+  pub only : (p : TaskRef) → TakesOnly x p (taken_of p)
   pub kept : Each (IsKept older x.name) x.takes
   pub coded : code_at plant x.name.task ≡ Some x.code
+  pub whole : IsWhole x
   pub meant : IsMeant x
 
 abbrev pub AllAgree : PlantValue → List Evaluated → Type 0
@@ -130,28 +130,15 @@ next-agrees : (s : Setting) (h : List Event) (log : List Evaluated) (k : ℕ) (t
 next-agrees s h log k t dt inputs x all is next =
     record {
       taken_of = λ p. latest t.resource h p log;
-      olds = λ p. old p (latest t.resource h p log) refl (last_among-entry p (has_reached t.resource h) log);
+      olds = λ p. last_among-entry p (has_reached t.resource h) log;
+      only = λ p. takes-latest s h log k t dt inputs x p next;
       kept = subst (λ n. Each (IsKept log n) x.takes) (sym (named s h log k t dt inputs x next))
           (subst (Each (IsKept log (next_name s t h))) (sym (taken s h log k t dt inputs x next))
           (takes-each (IsKept log (next_name s t h)) (λ p. latest t.resource h p log) (λ q kinds. takes-reach s t.resource q h log all is) next.code));
       coded = subst (λ n. code_at s.plant n.task ≡ Some x.code) (sym (named s h log k t dt inputs x next)) (next.found ∙ ap (λ (c : CodeValue). Some c) (sym (next-code s h log k t dt inputs x next)));
+      whole = next.asked.whole;
       meant = next.asked.meant;
-    } where
-      last : x.takes ≡ takes_of (λ p. latest t.resource h p log) x.code
-      last = next-takes s h log k t dt inputs x next
-
-      old : (p : TaskRef) (o : Option Evaluated) → latest t.resource h p log ≡ o → MatchOption o (Unit {0}) (λ z. Among z log × (same_task z.name.task p ≡ true)) → IsOld log x p o
-      old p None e w =
-          record {
-            named = subst (λ (o : Option Evaluated). AreTakenFrom x p (from_of o)) e (named-last x (λ q. latest t.resource h q log) next.asked.whole last p);
-            inputs = values-none x (λ q. latest t.resource h q log) next.asked.whole last p e;
-          }
-      old p (Some z) e w = (
-        w.0,
-        same_task-true z.name.task p w.1,
-        subst (λ (o : Option Evaluated). AreTakenFrom x p (from_of o)) e (named-last x (λ q. latest t.resource h q log) next.asked.whole last p),
-        values-last x (λ q. latest t.resource h q log) next.asked.whole last p z e,
-      )
+    }
 
 pub log-agrees : (s : Setting) (h : List Event) (log : List Evaluated) → AllLawful s h → IsLog s h log → AllAgree s.plant log
 log-agrees s [] [] all is = tt
@@ -213,14 +200,14 @@ entry-at plant (y ∷ ys) all j x e = by (eqb j (suc (length ys))) refl e (entry
   by false f g ih = later g (ih g)
 
 -- what an entry takes from p, by places
-image-at : (plant : PlantValue) (log : List Evaluated) (j : ℕ) (x : Evaluated) (p : TaskRef) → At plant log j x → IsOfOneEntry log j x p ⊎ IsOfNoEntry x p
-image-at plant log j x p a = by (a.agrees.taken_of p) (a.agrees.olds p) where
-  by : (o : Option Evaluated) → IsOld a.older x p o → IsOfOneEntry log j x p ⊎ IsOfNoEntry x p
-  by None old = inr old
-  by (Some z) old =
+image-at : (plant : PlantValue) (log : List Evaluated) (j : ℕ) (x : Evaluated) (p : TaskRef) → At plant log j x → TakesOneEntry log j x p ⊎ TakesOnly x p None
+image-at plant log j x p a = by (a.agrees.taken_of p) (a.agrees.olds p) (a.agrees.only p) where
+  by : (o : Option Evaluated) → IsOld a.older p o → TakesOnly x p o → TakesOneEntry log j x p ⊎ TakesOnly x p None
+  by None old only = inr only
+  by (Some z) old only =
       let found = among-message a.older z old.0 in
       let high : found.0 ≤ length a.older = message-within a.older found.0 z found.1 in
-      inl (record { place = found.0; entry = z; earlier = omega (arith, high, a.size); made = a.wider found.0 z found.1; task_is = old.1; named = old.2; inputs = old.3 })
+      inl (record { place = found.0; entry = z; earlier = omega (arith, high, a.size); made = a.wider found.0 z found.1; task_is = same_task-true z.name.task p old.1; only = only })
 
 -- a take that isn't below another one of its producer doesn't stand before it
 places : (log : List Evaluated) (t u : Take) → Rises u.producer log → t.producer ≡ u.producer → is_below u.producer u.from t.from ≡ false → (a b : ℕ) → IsPlace log t a → IsPlace log u b → a ≤ b
@@ -262,6 +249,7 @@ agreed plant log rises all =
           places log t u (rises u.producer) same (kept-at plant log i j x y t u (entry-at plant log all j y f) low e here now in_x in_y same)));
       equal_names = λ i j x y e f same. one_name x.name.task log x y (rises x.name.task) (message-among log i x e) (message-among log j y f) (same_task-itself x.name.task) same;
       coded = λ j x e. (entry-at plant log all j x e).agrees.coded;
+      whole = λ j x e. (entry-at plant log all j x e).agrees.whole;
       meant = λ j x e. (entry-at plant log all j x e).agrees.meant;
     }
 

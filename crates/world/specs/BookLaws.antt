@@ -1,6 +1,5 @@
 -- What holds of the log of every list of events, and of a book.
 use Rattle.std.specs.Prelude.{◌≡◌, ℕ, ◌≤◌, List, reverse, Some, length, slice_index, slice_get, take}
-use Rattle.plant.specs.declared.task_ref.TaskRef.{TaskRef}
 use Rattle.plant.specs.PlantValue.{IsSoundPlant}
 use Rattle.evaluation.specs.Meaning.{Evaluated}
 use Rattle.world.specs.declared.event.Event.{Event}
@@ -8,10 +7,11 @@ use Rattle.world.specs.declared.book.misfit.Misfit.{Misfit}
 use Rattle.world.specs.declared.book.misfit.Misfit.TheVariants.{Memory}
 use Rattle.world.specs.History.{Setting}
 use Rattle.world.specs.Run.{IsRun}
-use Rattle.world.specs.World.{WorldValue, held_at}
+use Rattle.world.specs.World.{WorldValue}
 use Rattle.world.specs.Fits.{AllFit}
 use Rattle.world.specs.Book.{IsMisfit, AllCouldBeMade, Replays}
 use Rattle.world.specs.Consistent.{IsConsistent}
+use Rattle.world.specs.Theorem.{HoldersAgreeIn}
 
 -- a run is a consistent log
 abbrev pub RunsAreConsistent : Type 0
@@ -44,5 +44,4 @@ RunsReplay =
 
 -- resources that hold one evaluation hold equal values
 abbrev pub HoldersAgree : Type 0
-HoldersAgree =
-    (w : WorldValue) (n m : ℕ) (p q : TaskRef) (x y : Evaluated) → IsRun w.setting w.events w.log → held_at w n p ≡ Some x → held_at w m q ≡ Some y → x.name ≡ y.name → x ≡ y
+HoldersAgree = (w : WorldValue) → IsRun w.setting w.events w.log → HoldersAgreeIn w

@@ -8,7 +8,8 @@ use Rattle.plant.specs.declared.binding.Binding.{Binding}
 use Rattle.plant.specs.declared.task_ref.TaskRef.{TaskRef}
 use Rattle.plant.specs.PlantValue.{PlantValue, bindings_at, source_kind, code_at}
 use Rattle.evaluation.specs.declared.take.Take.{Take}
-use Rattle.evaluation.specs.Meaning.{Evaluated, IsMeant, given}
+use Rattle.evaluation.specs.Meaning.{Evaluated, IsMeant, IsWhole, given}
+use Rattle.exchange_core.specs.Last.{from_of}
 use Rattle.world.specs.Run.{message}
 use Rattle.world.specs.Fits.{Each, name_from}
 
@@ -40,20 +41,20 @@ pub record IsTaken (x : Evaluated) (k : ℕ) (p : TaskRef) (from : Option (ℕ �
 abbrev pub AreTakenFrom : Evaluated → TaskRef → Option (ℕ × ℕ) → Type 0
 AreTakenFrom x p from = (k : ℕ) → slice_get x.code.producers k ≡ Some p → IsTaken x k p from
 
--- what message j, x, takes from task p is one evaluation of p that was made before: it is the one that is named, and all inputs bound to p have their values of its image
-pub record IsOfOneEntry (log : List Evaluated) (j : ℕ) (x : Evaluated) (p : TaskRef) : Type 0 where
+-- All that an evaluation takes from task p is of this evaluation of p: each take from p names it, and all inputs bound to p have their values of its image.
+-- Where it is none, no take from p names any, and all inputs bound to p are initial.
+pub record TakesOnly (x : Evaluated) (p : TaskRef) (entry : Option Evaluated) : Type 0 where
+  pub named : AreTakenFrom x p (from_of entry)
+  pub inputs : MatchOption entry (AreInitial x p) (λ (y : Evaluated). HaveValuesOf x p y.outputs)
+
+-- all that message j, x, takes from task p is of one evaluation of p that was made before
+pub record TakesOneEntry (log : List Evaluated) (j : ℕ) (x : Evaluated) (p : TaskRef) : Type 0 where
   pub place : ℕ
   pub entry : Evaluated
   pub earlier : place < j
   pub made : message log place ≡ Some entry
   pub task_is : entry.name.task ≡ p
-  pub named : AreTakenFrom x p (Some (entry.name.incarnation, entry.name.number))
-  pub inputs : HaveValuesOf x p entry.outputs
-
--- an evaluation takes nothing from task p: none is named, and all inputs bound to p are initial
-pub record IsOfNoEntry (x : Evaluated) (p : TaskRef) : Type 0 where
-  pub named : AreTakenFrom x p None
-  pub inputs : AreInitial x p
+  pub only : TakesOnly x p (Some entry)
 
 -- the place of a take in a log: the message that it names, and 0 for a take of nothing
 abbrev pub IsPlace : List Evaluated → Take → ℕ → Type 0
@@ -68,12 +69,13 @@ NeverGoesBack log =
 -- a consistent log of a plant
 pub record IsConsistent (plant : PlantValue) (log : List Evaluated) : Type 0 where
   -- for each entry and each of its producers, all inputs bound to that producer have the values of one image, that of one entry of that producer earlier in the log, or all are initial
-  pub one_image : (j k : ℕ) (x : Evaluated) (p : TaskRef) → message log j ≡ Some x → slice_get x.code.producers k ≡ Some p → IsOfOneEntry log j x p ⊎ IsOfNoEntry x p
+  pub one_image : (j k : ℕ) (x : Evaluated) (p : TaskRef) → message log j ≡ Some x → slice_get x.code.producers k ≡ Some p → TakesOneEntry log j x p ⊎ TakesOnly x p None
   -- within one incarnation of a resource, the places taken of one producer never fall
   pub never_back : NeverGoesBack log
   -- entries of equal name are equal
   pub equal_names : (i j : ℕ) (x y : Evaluated) → message log i ≡ Some x → message log j ≡ Some y → x.name ≡ y.name → x ≡ y
-  -- the code is that of the task in the plant
+  -- the code is that of the task in the plant; the states are of that code, and there is one take for each of its producers
   pub coded : (j : ℕ) (x : Evaluated) → message log j ≡ Some x → code_at plant x.name.task ≡ Some x.code
+  pub whole : (j : ℕ) (x : Evaluated) → message log j ≡ Some x → IsWhole x
   -- the outputs and the state after are what the task means
   pub meant : (j : ℕ) (x : Evaluated) → message log j ≡ Some x → IsMeant x

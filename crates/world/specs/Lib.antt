@@ -8,8 +8,8 @@ pub mod Fits
 pub mod Book
 pub mod Schedule
 pub mod Consistent
-pub mod BookLaws
 pub mod Theorem
+pub mod BookLaws
 pub mod Steps
 pub mod RunLines
 pub mod RunText

@@ -1,5 +1,5 @@
 -- The consistency theorem: what holds of every list of events and of its run.
-use Rattle.std.specs.Prelude.{◌≡◌, ℕ, true, List, ◌∷◌, ◌++◌, reverse, Option, Some, None, slice_get, take}
+use Rattle.std.specs.Prelude.{◌≡◌, ℕ, true, List, ◌∷◌, ◌++◌, reverse, Some, slice_get, take}
 use Rattle.plant.specs.declared.task_ref.TaskRef.{TaskRef}
 use Rattle.plant.specs.PlantValue.{code_at}
 use Rattle.evaluation.specs.declared.field_input.FieldInput.{FieldInput}
@@ -10,16 +10,11 @@ use Rattle.world.specs.declared.event.Event.TheVariants.{Evaluate}
 use Rattle.world.specs.History.{Setting, made_count, is_lawful, history_of}
 use Rattle.world.specs.Run.{IsRun}
 use Rattle.world.specs.World.{WorldValue, latest_at, held_at}
-use Rattle.world.specs.Consistent.{HaveValuesOf, AreInitial, NeverGoesBack}
+use Rattle.world.specs.Consistent.{TakesOnly, NeverGoesBack}
 
 -- the world after the first events of a list whose run this is
 abbrev pub world_after : Setting → List Event → List Evaluated → WorldValue
 world_after s before log = record { setting = s; events = before; log = take (made_count (history_of s before)) log }
-
--- all inputs of an evaluation that are bound to task p have their values of this evaluation of p; where there is none, they are initial
-abbrev pub AreGivenBy : Evaluated → TaskRef → Option Evaluated → Type 0
-AreGivenBy x p None = AreInitial x p
-AreGivenBy x p (Some y) = HaveValuesOf x p y.outputs
 
 -- How an evaluation of a run came about: x is the entry at place k.
 pub record IsMade (s : Setting) (events : List Event) (log : List Evaluated) (k : ℕ) (x : Evaluated) : Type 0 where
@@ -32,8 +27,8 @@ pub record IsMade (s : Setting) (events : List Event) (log : List Evaluated) (k 
   pub events_are : events ≡ before ++ Evaluate ticket x.name.task dt inputs ∷ later
   pub lawful : is_lawful s (history_of s before) (Evaluate ticket x.name.task dt inputs) ≡ true
   pub place : k ≡ made_count (history_of s before)
-  -- all inputs that are bound to one producer come from one evaluation of it, the latest that had reached the taker's resource; they are initial if none had
-  pub taken : (p : TaskRef) → AreGivenBy x p (latest_at (world_after s before log) x.name.task.resource p)
+  -- all that it takes from one producer is of one evaluation of it, the latest that had reached the taker's resource; its inputs are initial if none had
+  pub taken : (p : TaskRef) → TakesOnly x p (latest_at (world_after s before log) x.name.task.resource p)
   -- it started from the stored state: what the task's evaluation before left in this incarnation; the initial state if there was none
   pub code_is : code_at s.plant x.name.task ≡ Some x.code
   pub stored : x.before ≡ state_of x.code (latest_at (world_after s before log) x.name.task.resource x.name.task)
@@ -43,6 +38,10 @@ pub record IsMade (s : Setting) (events : List Event) (log : List Evaluated) (k 
   pub inputs_are : x.inputs ≡ inputs
   pub meant : IsMeant x
 
+-- resources that hold one evaluation hold equal values
+abbrev pub HoldersAgreeIn : WorldValue → Type 0
+HoldersAgreeIn w = (n m : ℕ) (p q : TaskRef) (x y : Evaluated) → held_at w n p ≡ Some x → held_at w m q ≡ Some y → x.name ≡ y.name → x ≡ y
+
 -- what the theorem says of a list of events and its run
 pub record IsDataConsistent (s : Setting) (events : List Event) (log : List Evaluated) : Type 0 where
   -- each evaluation took the latest that had reached its resource, started from the stored state, and is what that means
@@ -50,9 +49,7 @@ pub record IsDataConsistent (s : Setting) (events : List Event) (log : List Eval
   -- evaluations taken never go back within an incarnation
   pub never_back : NeverGoesBack (reverse log)
   -- resources that hold one evaluation hold equal values
-  pub holders :
-      (n m : ℕ) (p q : TaskRef) (x y : Evaluated) → held_at (record { setting = s; events = events; log = log }) n p ≡ Some x → held_at (record { setting = s; events = events; log = log }) m q ≡ Some y
-      → x.name ≡ y.name → x ≡ y
+  pub holders : HoldersAgreeIn (record { setting = s; events = events; log = log })
 
 -- over every list of events
 abbrev pub ConsistencyTheorem : Type 0

@@ -1,5 +1,5 @@
 -- What the checks of a report decide, step by step.
-use Rattle.std.specs.Prelude.{◌≡◌, ℕ, ◌+◌, ◌-◌, ◌<◌, ◌==◌, Bool, false, List, ◌∷◌, Option, Some, length, reverse, slice_get, slice_index_or}
+use Rattle.std.specs.Prelude.{◌≡◌, ℕ, ◌+◌, ◌-◌, ◌<◌, ◌≤◌, ◌==◌, Bool, false, List, ◌∷◌, Option, Some, IfSome, All, Contains, length, map, reverse, slice_get, slice_index_or}
 use Rattle.std.specs.List.{list_any}
 use Rattle.std.specs.List.Sorted.{IsStrictlyIncreasing}
 use Rattle.plant.specs.PlantValue.{PlantValue, IsSoundPlant}
@@ -9,6 +9,7 @@ use Rattle.world.specs.Book.{BookValue}
 use Rattle.node.specs.declared.step.Step.{Step}
 use Rattle.node.specs.declared.step.Step.TheVariants.{Took, Made, Restarted}
 use Rattle.node.specs.declared.journal.Journal.{Journal}
+use Rattle.node.specs.declared.node_fault.NodeFault.{NodeFault}
 use Rattle.node.specs.Journals.{made}
 use Rattle.node.specs.Reports.{entries_of}
 
@@ -49,3 +50,20 @@ pub record Agrees (plant : PlantValue) (book : BookValue) (journals : List Journ
 pub record RiseTo (xs : List ℕ) (last : Option ℕ) : Type 0 where
   pub rising : IsStrictlyIncreasing xs
   pub last_is : slice_get xs (length xs - 1) ≡ last
+
+-- the tickets of faults
+abbrev pub fault_tickets : List NodeFault → List ℕ
+fault_tickets faults = map (λ (f : NodeFault). f.ticket) faults
+
+-- These are among the faults noted, their tickets rise, and each ticket of a fault noted is among theirs.
+pub record AreByTicket (noted listed : List NodeFault) : Type 0 where
+  pub rising : IsStrictlyIncreasing (fault_tickets listed)
+  pub among : All (λ (f : NodeFault). Contains noted f) listed
+  pub told : All (λ (f : NodeFault). Contains (fault_tickets listed) f.ticket) noted
+
+-- the same of the first k of the faults noted, which stand by ticket; the last ticket listed is this, and isn't above those that follow
+pub record AreListedUpTo (k : ℕ) (noted listed : List NodeFault) (last : Option ℕ) : Type 0 where
+  pub rise : RiseTo (fault_tickets listed) last
+  pub among : All (λ (f : NodeFault). Contains noted f) listed
+  pub told : (i : ℕ) (f : NodeFault) → i < k → slice_get noted i ≡ Some f → Contains (fault_tickets listed) f.ticket
+  pub low : IfSome last (λ before. (i : ℕ) (f : NodeFault) → k ≤ i → slice_get noted i ≡ Some f → before ≤ f.ticket)

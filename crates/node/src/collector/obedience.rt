@@ -126,7 +126,7 @@ fn ticket(step: &Step) -> Option<u64>
 }
 
 /// Whether a ticket is above the last one before it.
-fn is_above(ticket: u64, last: Option<u64>) -> bool
+pub(crate) fn is_above(ticket: u64, last: Option<u64>) -> bool
     ensures { IsTrue result ↔ IfSome last (λ before. before < ticket) }
 {
     match last {

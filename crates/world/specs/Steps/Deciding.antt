@@ -2,7 +2,7 @@
 use Rattle.std.specs.Prelude.{ℕ, ◌+◌, Bool, true, false, if◌then◌else◌, ◌==◌, ◌&&◌, ◌||◌, not, nat_lt, nat_le, List, Option, Some, None, length, slice_index}
 use Rattle.std.specs.Ordering.{int_eq}
 use Rattle.std.specs.Cmp.Lexicographic.{pointwise}
-use Rattle.std.specs.List.{list_all, list_any}
+use Rattle.std.specs.List.{list_all, list_any, find}
 use Rattle.std_blocks.specs.declared.value.Value.{Value}
 use Rattle.std_blocks.specs.declared.value.Value.TheVariants.{Bool as On, Int, Time}
 use Rattle.plant.specs.declared.task_ref.TaskRef.{TaskRef}
@@ -41,21 +41,28 @@ same_from (Some a) (Some b) = a.0 == b.0 && a.1 == b.1
 same_from None (Some b) = false
 same_from (Some a) None = false
 
--- a name is of another resource, or its incarnation isn't above this one's
-abbrev pub keeps_incarnation : Name → Evaluated → Bool
-keeps_incarnation name y = not (y.name.task.resource == name.task.resource) || nat_le y.name.incarnation name.incarnation
+-- the incarnation of an entry, or else the first one
+abbrev pub incarnation_in : ℕ → Option Evaluated → ℕ
+incarnation_in first None = first
+incarnation_in first (Some y) = y.name.incarnation
+
+-- a resource's present incarnation: that of its newest entry, or else its first one
+abbrev pub present_in : List ℕ → List Evaluated → ℕ → ℕ
+present_in first older n = incarnation_in (slice_index first n) (find (λ (y : Evaluated). y.name.task.resource == n) older)
 
 -- the first clause of what fits
 abbrev pub is_numbered : List ℕ → List Evaluated → Name → Bool
 is_numbered first older name =
     nat_lt name.task.resource (length first)
-    && (nat_le (slice_index first name.task.resource) name.incarnation
-    && (list_all (keeps_incarnation name) older
-    && (name.number == last_number (last_in older name.task name.incarnation) + 1)))
+    && (nat_le (present_in first older name.task.resource) name.incarnation && (name.number == last_number (last_in older name.task name.incarnation) + 1))
+
+-- an entry's name is this one
+abbrev pub is_named : Name → Evaluated → Bool
+is_named name y = same_name y.name name
 
 -- an entry has this name
 abbrev pub has_named : List Evaluated → Name → Bool
-has_named older name = list_any (λ (y : Evaluated). same_name y.name name) older
+has_named older name = list_any (is_named name) older
 
 abbrev pub known_from : List Evaluated → TaskRef → Option (ℕ × ℕ) → Bool
 known_from older p None = true
@@ -65,13 +72,14 @@ known_from older p (Some f) = has_named older (name_from p f)
 abbrev pub is_known : List Evaluated → Take → Bool
 is_known older t = known_from older t.producer t.from
 
--- an entry has another name, or this image
-abbrev pub keeps_image : Name → List Value → Evaluated → Bool
-keeps_image name image y = not (same_name y.name name) || same_values image y.outputs
+-- an entry, if there is one, has this image
+abbrev pub keeps_image : List Value → Option Evaluated → Bool
+keeps_image image None = true
+keeps_image image (Some y) = same_values image y.outputs
 
 abbrev pub untorn_from : List Evaluated → TaskRef → List Value → Option (ℕ × ℕ) → Bool
 untorn_from older p image None = true
-untorn_from older p image (Some f) = list_all (keeps_image (name_from p f) image) older
+untorn_from older p image (Some f) = keeps_image image (find (is_named (name_from p f)) older)
 
 -- the third clause, for one take
 abbrev pub is_untorn : List Evaluated → Take → Bool
@@ -81,13 +89,18 @@ is_untorn older t = untorn_from older t.producer t.image t.from
 abbrev pub keeps_take : Take → Take → Bool
 keeps_take t u = not (same_task u.producer t.producer) || not (is_below t.producer t.from u.from)
 
--- an entry is of another resource or incarnation, or this take is below none of its takes
-abbrev pub keeps_takes : Name → Take → Evaluated → Bool
-keeps_takes name t y = not (y.name.task.resource == name.task.resource) || (not (y.name.incarnation == name.incarnation) || list_all (keeps_take t) y.takes)
+-- an entry is of this name's resource and incarnation and takes from this producer
+abbrev pub takes_from : Name → TaskRef → Evaluated → Bool
+takes_from name q y = y.name.task.resource == name.task.resource && (y.name.incarnation == name.incarnation && list_any (λ (u : Take). same_task u.producer q) y.takes)
+
+-- a take is below none of an entry's takes, if there is such an entry
+abbrev pub keeps_takes : Take → Option Evaluated → Bool
+keeps_takes t None = true
+keeps_takes t (Some y) = list_all (keeps_take t) y.takes
 
 -- the fourth clause, for one take
 abbrev pub is_not_back : List Evaluated → Name → Take → Bool
-is_not_back older name t = t.producer.resource == name.task.resource || list_all (keeps_takes name t) older
+is_not_back older name t = t.producer.resource == name.task.resource || keeps_takes t (find (takes_from name t.producer) older)
 
 -- the fifth clause, for one take
 abbrev pub is_own_latest : List Evaluated → Name → Take → Bool

@@ -1,5 +1,5 @@
 ghost use Rattle.std.specs.Prelude.{◌≡◌, MatchOption, reverse};
-ghost use Rattle.world.specs.Fits.{Fits};
+ghost use Rattle.world.specs.Fits.{Fits, AllFit};
 ghost use Rattle.world.specs.Book.{IsMisfit};
 ghost use Rattle.world.specs.Steps.Deciding.{first_failed};
 
@@ -12,6 +12,7 @@ use evaluation::{Evaluation, Frame, Name, Take};
 
 /// Why an evaluation doesn't fit these entries, if it doesn't.
 pub fn find_misfit(first: &[u32], entries: &[Frame], evaluation: &Evaluation) -> Option<Misfit>
+    requires { AllFit first.now (reverse entries.now) }
     ensures { MatchOption result (Fits first.now (reverse entries.now) evaluation.now) (IsMisfit first.now (reverse entries.now) evaluation.now) }
 {
     first_failed(first, entries, evaluation.name(), evaluation.takes())

@@ -1,9 +1,12 @@
 ghost use Rattle.std.specs.Prelude.{◌≡◌, reverse};
-ghost use Rattle.std.specs.List.{list_all};
+ghost use Rattle.std.specs.List.{list_all, list_any, find};
+ghost use Rattle.std.specs.Option.{option_copied};
+ghost use Rattle.exchange_core.specs.Last.{same_task};
 ghost use Rattle.world.specs.Fits.{is_below};
-ghost use Rattle.world.specs.Steps.Deciding.{keeps_take, keeps_takes, is_not_back};
+ghost use Rattle.world.specs.Steps.Deciding.{takes_from, keeps_take, keeps_takes, is_not_back};
 
 use evaluation::{Frame, Name, Take};
+use plant::TaskRef;
 
 /// Whether no take from another resource is below an earlier take of this resource and incarnation from that producer.
 pub fn are_not_back(entries: &[Frame], name: Name, takes: &[Take]) -> bool
@@ -18,24 +21,39 @@ fn is_not_back(entries: &[Frame], name: Name, take: &Take) -> bool
     take.producer.resource == name.task.resource || is_kept(entries, name, take)
 }
 
-/// Whether no entry of this resource and incarnation took what a take is below.
+/// Whether a take is below none of the takes of the newest entry of this resource and incarnation that takes from that producer.
 fn is_kept(entries: &[Frame], name: Name, take: &Take) -> bool
-    ensures { result ≡ list_all (keeps_takes name take.now) (reverse entries.now) }
+    ensures { result ≡ keeps_takes take.now (find (takes_from name take.now.producer) (reverse entries.now)) }
+{
+    match newest_taker(entries, name, take.producer) {
+        None => true,
+        Some(entry) => is_below_none(take, entry.evaluation().takes()),
+    }
+}
+
+/// The newest entry of this name's resource and incarnation that takes from this producer.
+fn newest_taker(entries: &[Frame], name: Name, producer: TaskRef) -> Option<&Frame>
+    ensures { option_copied result ≡ find (takes_from name producer) (reverse entries.now) }
 {
     entries
         .iter()
         .rev()
-        .all(|entry| keeps_takes(entry, name, take))
+        .find(|entry| takes_from(entry, name, producer))
 }
 
-/// Whether an entry is of another resource or incarnation, or took nothing that a take is below.
-fn keeps_takes(entry: &Frame, name: Name, take: &Take) -> bool
-    ensures { result ≡ keeps_takes name take.now entry.now }
+fn takes_from(entry: &Frame, name: Name, producer: TaskRef) -> bool
+    ensures { result ≡ takes_from name producer entry.now }
 {
-    let earlier = entry.name();
-    earlier.task.resource != name.task.resource
-        || earlier.incarnation != name.incarnation
-        || is_below_none(take, entry.evaluation().takes())
+    let own = entry.name();
+    own.task.resource == name.task.resource
+        && own.incarnation == name.incarnation
+        && has_producer(entry.evaluation().takes(), producer)
+}
+
+fn has_producer(takes: &[Take], producer: TaskRef) -> bool
+    ensures { result ≡ list_any (λ u. same_task u.producer producer) takes.now }
+{
+    takes.iter().any(|take| take.producer == producer)
 }
 
 /// Whether a take is below none of these.

@@ -1,8 +1,9 @@
-ghost use Rattle.std.specs.Prelude.{◌≡◌, ◌==◌, ◌+◌, reverse};
-ghost use Rattle.std.specs.List.{list_all};
+ghost use Rattle.std.specs.Prelude.{◌≡◌, ◌==◌, ◌+◌, ◌<◌, length, reverse};
+ghost use Rattle.std.specs.List.{find};
+ghost use Rattle.std.specs.Option.{option_copied};
 ghost use Rattle.exchange_core.specs.Last.{last_number};
 ghost use Rattle.world.specs.Fits.{last_in};
-ghost use Rattle.world.specs.Steps.Deciding.{keeps_incarnation, is_numbered};
+ghost use Rattle.world.specs.Steps.Deciding.{present_in, is_numbered};
 
 use crate::book::last_entry::last_number;
 use evaluation::{Frame, Name};
@@ -13,27 +14,28 @@ pub fn is_numbered(first: &[u32], entries: &[Frame], name: Name) -> bool
 {
     let resource = name.task.resource;
     resource < first.len()
-        && first[resource] <= name.incarnation
-        && is_latest_incarnation(entries, name)
+        && present_in(first, entries, resource) <= name.incarnation
         && is_next(entries, name)
 }
 
-/// Whether no entry of its resource has a greater incarnation.
-fn is_latest_incarnation(entries: &[Frame], name: Name) -> bool
-    ensures { result ≡ list_all (keeps_incarnation name) (reverse entries.now) }
+/// A resource's present incarnation: that of its newest entry, or else its first one.
+fn present_in(first: &[u32], entries: &[Frame], resource: usize) -> u32
+    requires { resource < length first.now }
+    ensures { result ≡ present_in first.now (reverse entries.now) resource }
+{
+    match newest_of(entries, resource) {
+        None => first[resource],
+        Some(newest) => newest.name().incarnation,
+    }
+}
+
+fn newest_of(entries: &[Frame], resource: usize) -> Option<&Frame>
+    ensures { option_copied result ≡ find (λ y. y.name.task.resource == resource) (reverse entries.now) }
 {
     entries
         .iter()
         .rev()
-        .all(|entry| keeps_incarnation(entry, name))
-}
-
-/// Whether an entry is of another resource, or of no greater incarnation.
-fn keeps_incarnation(entry: &Frame, name: Name) -> bool
-    ensures { result ≡ keeps_incarnation name entry.now }
-{
-    let earlier = entry.name();
-    earlier.task.resource != name.task.resource || earlier.incarnation <= name.incarnation
+        .find(|entry| entry.name().task.resource == resource)
 }
 
 /// Whether its number is one more than that of its task's last entry in its incarnation.

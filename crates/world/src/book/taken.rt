@@ -1,6 +1,7 @@
 ghost use Rattle.std.specs.Prelude.{◌≡◌, reverse};
-ghost use Rattle.std.specs.List.{list_all};
-ghost use Rattle.world.specs.Steps.Deciding.{has_named, is_known, keeps_image, is_untorn};
+ghost use Rattle.std.specs.List.{list_all, find};
+ghost use Rattle.std.specs.Option.{option_copied};
+ghost use Rattle.world.specs.Steps.Deciding.{is_named, has_named, is_known, keeps_image, is_untorn};
 
 use crate::book::same::{is_same_image, is_same_name};
 use evaluation::{Frame, Image, Name, Take};
@@ -32,10 +33,7 @@ fn is_known(entries: &[Frame], take: &Take) -> bool
 fn has_named(entries: &[Frame], name: Name) -> bool
     ensures { result ≡ has_named (reverse entries.now) name }
 {
-    entries
-        .iter()
-        .rev()
-        .any(|entry| is_same_name(entry.name(), name))
+    entries.iter().rev().any(|entry| is_named(entry, name))
 }
 
 /// Whether each take that isn't of nothing has the image of the entry that it names.
@@ -62,19 +60,24 @@ fn is_untorn(entries: &[Frame], take: &Take) -> bool
     }
 }
 
-/// Whether each entry of this name has this image.
+/// Whether the newest entry of this name, if there is one, has this image.
 fn is_image_of(entries: &[Frame], name: Name, image: &Image) -> bool
-    ensures { result ≡ list_all (keeps_image name image.now) (reverse entries.now) }
+    ensures { result ≡ keeps_image image.now (find (is_named name) (reverse entries.now)) }
 {
-    entries
-        .iter()
-        .rev()
-        .all(|entry| keeps_image(entry, name, image))
+    match find_named(entries, name) {
+        None => true,
+        Some(entry) => is_same_image(image, entry.outputs()),
+    }
 }
 
-/// Whether an entry has another name, or this image.
-fn keeps_image(entry: &Frame, name: Name, image: &Image) -> bool
-    ensures { result ≡ keeps_image name image.now entry.now }
+fn find_named(entries: &[Frame], name: Name) -> Option<&Frame>
+    ensures { option_copied result ≡ find (is_named name) (reverse entries.now) }
 {
-    !is_same_name(entry.name(), name) || is_same_image(image, entry.outputs())
+    entries.iter().rev().find(|entry| is_named(entry, name))
+}
+
+fn is_named(entry: &Frame, name: Name) -> bool
+    ensures { result ≡ is_named name entry.now }
+{
+    is_same_name(entry.name(), name)
 }
