@@ -18,6 +18,7 @@ use crate::collector::obedience::{all_commanded, all_rising, are_answers};
 use crate::report::Report;
 use crate::run_fault::RunFault;
 use crate::collector::unanswered::unanswered_tickets;
+pub(crate) use obedience::is_above;
 use plant::Plant;
 use std::alloc::Global;
 use world::Book;
