@@ -9,15 +9,15 @@ ghost use Rattle.node.specs.Reports.{IsFittingBook, AreJournalsOf, AreInBook, Ar
 ghost use Rattle.node.specs.Steps.Collecting.{Agrees, AreByTicket};
 
 use crate::collector::agreement::all_stand;
+use crate::collector::obedience::{all_commanded, all_rising, are_answers};
+use crate::collector::unanswered::unanswered_tickets;
 use crate::command::Command;
 use crate::journal::Journal;
 use crate::journals::Journals;
 use crate::node_fault::NodeFault;
 use crate::node_faults::NodeFaults;
-use crate::collector::obedience::{all_commanded, all_rising, are_answers};
 use crate::report::Report;
 use crate::run_fault::RunFault;
-use crate::collector::unanswered::unanswered_tickets;
 pub(crate) use obedience::is_above;
 use plant::Plant;
 use std::alloc::Global;

@@ -1,9 +1,9 @@
 use crate::cause::Cause;
 use crate::command::Command;
-use crate::threads::desk::Desk;
 use crate::gate::Gate;
-use crate::threads::inbox::Inbox;
 use crate::node_fault::NodeFault;
+use crate::threads::desk::Desk;
+use crate::threads::inbox::Inbox;
 use crate::threads::noting::note;
 use crossbeam_channel::Sender;
 use std::sync::Wait;

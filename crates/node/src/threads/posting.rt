@@ -1,5 +1,5 @@
-use crate::threads::desk::Desk;
 use crate::gate::Gate;
+use crate::threads::desk::Desk;
 use crate::threads::inbox::Inbox;
 use crossbeam_channel::Sender;
 use evaluation::Frame;

@@ -1,9 +1,9 @@
 ghost use Rattle.std.specs.Prelude.{◌≡◌, All, IfOk};
 ghost use Rattle.node.specs.Steps.Working.{WorkerValue};
 
-use crate::threads::inbox::Inbox;
 use crate::keeper::Keeper;
 use crate::run_fault::RunFault;
+use crate::threads::inbox::Inbox;
 use crate::threads::worker::Worker;
 use crossbeam_channel::{Receiver, Sender};
 use plant::Plant;

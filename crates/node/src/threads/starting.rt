@@ -3,14 +3,14 @@ ghost use Rattle.node.specs.Journals.{IsLawful};
 ghost use Rattle.node.specs.Steps.Working.{WorkerValue};
 
 use crate::command::Command;
-use crate::threads::desk::Desk;
-use crate::threads::ended::Ended;
 use crate::gate::Gate;
-use crate::threads::inbox::Inbox;
 use crate::keeper::Keeper;
-use crate::threads::lawful_for::LawfulFor;
 use crate::node_fault::NodeFault;
 use crate::run_fault::RunFault;
+use crate::threads::desk::Desk;
+use crate::threads::ended::Ended;
+use crate::threads::inbox::Inbox;
+use crate::threads::lawful_for::LawfulFor;
 use crate::threads::serving::serve;
 use crate::threads::worker::Worker;
 use crossbeam_channel::Receiver;

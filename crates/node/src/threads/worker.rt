@@ -1,10 +1,10 @@
 use crate::cause::Cause;
-use crate::threads::entering::enter_pending;
 use crate::journal::Journal;
 use crate::keeper::Keeper;
-use crate::threads::restarting::restart_station;
 use crate::run_fault::RunFault;
 use crate::station::Station;
+use crate::threads::entering::enter_pending;
+use crate::threads::restarting::restart_station;
 use crate::threads::worker_state::WorkerState;
 use evaluation::{Frame, Inputs};
 use plant::Plant;
