@@ -2,14 +2,13 @@ ghost use Rattle.std.specs.Prelude.{◌≡◌, IfOk, length, map, vec_len};
 ghost use Rattle.std.specs.List.Sorted.{IsStrictlyIncreasing};
 ghost use Rattle.node.specs.Reports.{IsFittingBook, AreJournalsOf, AreInBook, AreAnswers, RunsAgain, AreNumbered, AreForPlant};
 
-use crate::collect::collect;
+use crate::collector::collect;
 use crate::command::Command;
 use crate::gate::Gate;
 use crate::keeper::Keeper;
-use crate::outcome::Outcome;
 use crate::report::Report;
-use crate::run_all::run_all;
 use crate::run_fault::RunFault;
+use crate::threads::{Outcome, run_all};
 use plant::Plant;
 use std::alloc::Global;
 use std::sync::{Arc, Wait};
