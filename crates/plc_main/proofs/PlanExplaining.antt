@@ -11,7 +11,8 @@ use Rattle.plc_main.specs.declared.command_fault.CommandFault.{CommandFault}
 use Rattle.plc_main.specs.declared.command_fault.CommandFault.TheVariants.{Text, Word, Write, Memory}
 use Rattle.plc_main.specs.declared.text_fault.TextFault.TheVariants.{Draw, Graph, Bind, Plant, TooLong}
 use Rattle.plc_main.specs.EvalText.{IsLate}
-use Rattle.plc_main.specs.PlanText.{plan_lines, Planned, SendsPart, RefusesPlanOf, WritesPlan, ExplainsPlan}
+use Rattle.plc_main.specs.PlanText.{plan_lines, Planned, RefusesPlanOf, WritesPlan, ExplainsPlan}
+use Rattle.plc_main.specs.Sending.{SendsPart}
 
 pub plan_refused : (text : List ℕ) (until : ℕ) (old : Option (List ℕ)) (plant : PlantValue) (fault : CommandFault) → IsPlantText text plant → RefusesPlanOf plant until fault → ExplainsPlan text until old old fault
 plan_refused text until old plant (Text (Draw fault)) read refused = absurd refused

@@ -3,6 +3,8 @@ pub mod Rows
 pub mod Lines
 pub mod EvalText
 pub mod CheckText
+pub mod Sending
 pub mod PlanText
 pub mod CommandLine
+pub mod FieldWords
 pub mod Answers

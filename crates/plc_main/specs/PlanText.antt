@@ -1,5 +1,5 @@
 -- What `plc plan` writes.
-use Rattle.std.specs.Prelude.{◌≡◌, ◌≢◌, ℕ, ◌<◌, ◌≤◌, ◌++◌, ◌⊎◌, List, Option, length, codes, take, slice_get}
+use Rattle.std.specs.Prelude.{◌≡◌, ◌≢◌, ℕ, ◌<◌, ◌≤◌, ◌++◌, ◌⊎◌, List, Option, length, codes, slice_get}
 use Rattle.std.specs.Option.{option_map}
 use Rattle.std.specs.List.{flat_map}
 use Rattle.std.specs.Fmt.{decimal}
@@ -10,6 +10,7 @@ use Rattle.plant.specs.PlantValue.{TaskValue, ResourceValue, PlantValue, items_o
 use Rattle.plant.specs.PlantText.{IsPlantText}
 use Rattle.plant.specs.Plan.{task_at, IsPlan}
 use Rattle.plant.specs.declared.plant_fault.PlantFaultKind.TheVariants as plant
+use Rattle.plc_main.specs.Sending.{SendsPart}
 use Rattle.plc_main.specs.declared.command_fault.CommandFault.{CommandFault}
 use Rattle.plc_main.specs.declared.command_fault.CommandFault.TheVariants.{Text, Word, Write, Memory}
 use Rattle.plc_main.specs.declared.text_fault.TextFault.{TextFault}
@@ -29,17 +30,6 @@ due_line plant d = decimal d.moment ++ codes " " ++ resource_name plant d.task +
 -- a line for each entry of a plan
 abbrev pub plan_lines : PlantValue → List Due → List ℕ
 plan_lines plant dues = flat_map (due_line plant) dues
-
--- some of the lines that stood to be written were written, and the others stand still
-pub record Sends (before after : List ℕ) (old new : Option (List ℕ)) : Type 0 where
-  pub sent : List ℕ
-  pub appended : Appends old new sent
-  pub whole : sent ++ after ≡ before
-
--- no more than a beginning of a text was written
-pub record SendsPart (text : List ℕ) (old new : Option (List ℕ)) : Type 0 where
-  pub written : ℕ
-  pub appended : Appends old new (take written text)
 
 -- there is no plan: it is too long, or memory
 abbrev pub RefusesPlanOf : PlantValue → ℕ → CommandFault → Type 0

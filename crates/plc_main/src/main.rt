@@ -4,12 +4,14 @@
 mod check_command;
 mod command_fault;
 mod eval_command;
+mod field_words;
 mod line;
 mod plan_command;
 mod plant_counts;
 mod request;
 mod row;
 mod rows;
+mod send_lines;
 mod text_fault;
 mod word_fault;
 mod words;
@@ -215,6 +217,7 @@ fn answer<R: Env + Files + Print + Eprint + AllocGlobal + Threads + Sync>(
     match read_words(rt.alloc(), given.as_slice()) {
         Ok(Request::Text(request)) => run_text(rt, &request),
         Ok(Request::Sim(request)) => run_schedule(rt, &request),
+        Ok(Request::Run(_)) => Ok(FAILED),
         Err(error) => print_usage(rt, &error),
     }
 }
