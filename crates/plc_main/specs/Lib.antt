@@ -8,3 +8,7 @@ pub mod PlanText
 pub mod CommandLine
 pub mod FieldWords
 pub mod Answers
+pub mod RunCommands
+pub mod ReportText
+pub mod Replay
+pub mod RunText

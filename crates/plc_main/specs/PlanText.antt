@@ -12,7 +12,7 @@ use Rattle.plant.specs.Plan.{task_at, IsPlan}
 use Rattle.plant.specs.declared.plant_fault.PlantFaultKind.TheVariants as plant
 use Rattle.plc_main.specs.Sending.{SendsPart}
 use Rattle.plc_main.specs.declared.command_fault.CommandFault.{CommandFault}
-use Rattle.plc_main.specs.declared.command_fault.CommandFault.TheVariants.{Text, Word, Write, Memory}
+use Rattle.plc_main.specs.declared.command_fault.CommandFault.TheVariants.{Text, Word, Write, Run, Memory}
 use Rattle.plc_main.specs.declared.text_fault.TextFault.{TextFault}
 use Rattle.plc_main.specs.declared.text_fault.TextFault.TheVariants.{Draw, Graph, Bind, Plant, TooLong}
 
@@ -40,6 +40,7 @@ RefusesPlanOf plant until (Text (Plant fault)) = ⊥
 RefusesPlanOf plant until (Text TooLong) = (dues : List Due) × IsPlan plant until dues × (100000 < length dues)
 RefusesPlanOf plant until (Word fault) = ⊥
 RefusesPlanOf plant until Write = ⊥
+RefusesPlanOf plant until (Run fault) = ⊥
 RefusesPlanOf plant until Memory = Unit {0}
 
 -- the text is a plant, and this is its plan
@@ -74,4 +75,5 @@ abbrev pub ExplainsPlan : List ℕ → ℕ → Option (List ℕ) → Option (Lis
 ExplainsPlan text until old new (Text fault) = RefusesPlan text until fault × Keeps old new
 ExplainsPlan text until old new (Word fault) = ⊥
 ExplainsPlan text until old new Write = WritesPlanPart text until old new
+ExplainsPlan text until old new (Run fault) = ⊥
 ExplainsPlan text until old new Memory = Keeps old new ⊎ WritesPlanPart text until old new
