@@ -1,6 +1,6 @@
 //! What the core of a resource keeps, takes and forgets.
 
-use crate::worked::{LOOP, PAIR};
+use crate::checks::{equal, holds};
 use evaluation::{Frame, Image, Inputs, Name};
 use exchange_core::{Accepted, Core, CoreFault, EvalFault};
 use plant::{Plant, TaskRef};
@@ -9,6 +9,7 @@ use std::process::Abort;
 use std::sync::Arc;
 use std::test::Fail;
 use std_blocks::Value;
+use worked_texts::{LOOP, PAIR};
 
 const FAST: TaskRef = TaskRef {
     resource: 0,
@@ -70,13 +71,10 @@ fn held(core: &Core) -> Option<(u32, u32)> {
 
 #[test]
 fn a_resource_that_does_not_exist_has_no_core(rt: HostRuntime) -> Result<(), Fail> {
-    let alloc = rt.alloc();
-    assert!(rt; core(alloc, PAIR, 0, 1, 1)?.is_ok());
-    assert!(rt; core(alloc, PAIR, 1, 1, 1)?.is_ok());
-    assert_eq!(rt;
-        core(alloc, PAIR, 2, 1, 1)?.err(),
-        Some(CoreFault::NoSuchResource)
-    );
+    for (resource, fault) in [(0, None), (1, None), (2, Some(CoreFault::NoSuchResource))] {
+        let found = core(rt.alloc(), PAIR, resource, 1, 1)?.err();
+        equal(&rt, "core", &found, &fault);
+    }
     Ok(())
 }
 
@@ -85,10 +83,11 @@ fn a_repeat_is_old(rt: HostRuntime) -> Result<(), Fail> {
     let alloc = rt.alloc();
     let mut watcher = core(alloc, PAIR, 1, 1, u32::MAX)??;
     let frame = counted(alloc, 1, 2)?;
-    assert_eq!(rt; watcher.accept(frame.try_clone()?), Accepted::Taken);
-    assert_eq!(rt; held(&watcher), Some((1, 2)));
-    assert_eq!(rt; watcher.accept(frame), Accepted::Old);
-    assert_eq!(rt; held(&watcher), Some((1, 2)));
+    let share = frame.try_clone()?;
+    for (frame, accepted) in [(share, Accepted::Taken), (frame, Accepted::Old)] {
+        equal(&rt, "accepted", &watcher.accept(frame), &accepted);
+        equal(&rt, "held", &held(&watcher), &Some((1, 2)));
+    }
     Ok(())
 }
 
@@ -97,8 +96,8 @@ fn of_no_use_is_an_own_task(rt: HostRuntime) -> Result<(), Fail> {
     let alloc = rt.alloc();
     let frame = counted(alloc, 1, 1)?;
     let mut counter = core(alloc, PAIR, 0, 1, u32::MAX)??;
-    assert_eq!(rt; counter.accept(frame), Accepted::Unused);
-    assert_eq!(rt; held(&counter), None);
+    equal(&rt, "accepted", &counter.accept(frame), &Accepted::Unused);
+    equal(&rt, "held", &held(&counter), &None);
     Ok(())
 }
 
@@ -108,7 +107,8 @@ fn of_no_use_is_an_image_of_other_kinds(rt: HostRuntime) -> Result<(), Fail> {
     let mut flipped = core(alloc, LOOP, 0, 1, u32::MAX)??;
     let image_of_one = evaluated(alloc, &mut flipped, "")?;
     let mut watcher = core(alloc, PAIR, 1, 1, u32::MAX)??;
-    assert_eq!(rt; watcher.accept(image_of_one), Accepted::Unused);
+    let accepted = watcher.accept(image_of_one);
+    equal(&rt, "accepted", &accepted, &Accepted::Unused);
     Ok(())
 }
 
@@ -117,14 +117,10 @@ fn no_task_and_no_number_left(rt: HostRuntime) -> Result<(), Fail> {
     let alloc = rt.alloc();
     let none = Inputs::read(alloc, "")?;
     let mut spent = core(alloc, PAIR, 1, 1, 0)??;
-    assert_eq!(rt;
-        spent.evaluate(alloc, 1, 7, 10, &none).err(),
-        Some(EvalFault::NoSuchTask)
-    );
-    assert_eq!(rt;
-        spent.evaluate(alloc, 1, 0, 10, &none).err(),
-        Some(EvalFault::NumbersSpent)
-    );
+    for (task, fault) in [(7, EvalFault::NoSuchTask), (0, EvalFault::NumbersSpent)] {
+        let found = spent.evaluate(alloc, 1, task, 10, &none).err();
+        equal(&rt, "fault", &found, &Some(fault));
+    }
     Ok(())
 }
 
@@ -138,8 +134,8 @@ fn restarted(rt: &impl Abort, alloc: Global, core: Core, incarnation: u32) -> Co
     match core.restart(alloc, incarnation) {
         Ok(core) => core,
         Err((core, _)) => {
-            assert_eq!(rt; held(&core), held_before);
-            assert_eq!(rt; core.incarnation(), begun_before);
+            let found = (held(&core), core.incarnation());
+            equal(rt, "kept", &found, &(held_before, begun_before));
             core
         }
     }
@@ -151,28 +147,26 @@ fn a_restart_forgets(rt: HostRuntime) -> Result<(), Fail> {
     let mut watcher = core(alloc, PAIR, 1, 1, u32::MAX)??;
     watcher.accept(counted(alloc, 1, 2)?);
     let before = evaluated(alloc, &mut watcher, "")?;
-    assert_eq!(rt; before.name().number, 1);
+    equal(&rt, "number", &before.name().number, &1);
     let mut watcher = restarted(&rt, alloc, watcher, 2);
     if watcher.incarnation() == 1 {
         watcher = restarted(&rt, alloc, watcher, 2);
     }
-    assert_eq!(rt; watcher.incarnation(), 2);
-    assert_eq!(rt; held(&watcher), None);
+    equal(&rt, "incarnation", &watcher.incarnation(), &2);
+    equal(&rt, "held", &held(&watcher), &None);
     let after = evaluated(alloc, &mut watcher, "")?;
-    assert_eq!(rt;
-        after.name(),
-        Name {
-            task: SLOW,
-            incarnation: 2,
-            number: 1
-        }
-    );
-    assert_eq!(rt; taken(&after), None);
-    assert!(rt;
-        after
-            .evaluation()
-            .before()
-            .same(before.evaluation().before())
+    let name = Name {
+        task: SLOW,
+        incarnation: 2,
+        number: 1,
+    };
+    equal(&rt, "name", &after.name(), &name);
+    equal(&rt, "taken", &taken(&after), &None);
+    let (before, after) = (before.evaluation(), after.evaluation());
+    holds(
+        &rt,
+        "from the first state",
+        after.before().same(before.before()),
     );
     Ok(())
 }
@@ -191,15 +185,15 @@ fn after_a_refusal_the_same_call_gives_the_same_frame(rt: HostRuntime) -> Result
     let inputs = Inputs::read(alloc, "%IX0=1")?;
     let mut counter = core(alloc, PAIR, 0, 1, u32::MAX)??;
     let first = asked_twice(alloc, &mut counter, &inputs)?;
-    assert_eq!(rt; first.name().number, 1);
+    equal(&rt, "number", &first.name().number, &1);
     shows(&rt, first.outputs(), &[Value::Int(1), Value::Bool(false)]);
     let second = asked_twice(alloc, &mut counter, &inputs)?;
-    assert_eq!(rt; second.name().number, 2);
-    assert!(rt;
-        second
-            .evaluation()
-            .before()
-            .same(first.evaluation().after())
+    equal(&rt, "number", &second.name().number, &2);
+    let (first, second) = (first.evaluation(), second.evaluation());
+    holds(
+        &rt,
+        "from the state after",
+        second.before().same(first.after()),
     );
     Ok(())
 }

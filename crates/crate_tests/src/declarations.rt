@@ -1,35 +1,35 @@
 //! Which names are declared, and where they are found.
 
+use crate::checks::{equal, holds};
 use power_flow::{Declarations, DeclareFault, Declared, Kind};
 use std::test::Fail;
 use std_blocks::BlockType;
 
 #[test]
-fn names_differ_by_more_than_case(rt: HostRuntime) -> Result<(), Fail> {
+fn names_differ_by_more_than_case(rt: HostRuntime) {
     let mut declarations = Declarations::new(rt.alloc());
-    assert!(rt; declarations.is_empty());
-    assert_eq!(rt; declarations.add("A", Declared::Input(Kind::Bool)), Ok(()));
-    assert_eq!(rt;
-        declarations.add("a", Declared::Local(Kind::Int)),
-        Err(DeclareFault::Twice)
+    holds(&rt, "nothing is declared", declarations.is_empty());
+    let (input, block) = (
+        Declared::Input(Kind::Bool),
+        Declared::Instance(BlockType::TON),
     );
-    assert_eq!(rt;
-        declarations.add("a_1", Declared::Instance(BlockType::TON)),
-        Ok(())
-    );
-    assert_eq!(rt; declarations.len(), 2);
-    assert_eq!(rt;
-        declarations.entry(0),
-        Some(("A", Declared::Input(Kind::Bool)))
-    );
-    assert_eq!(rt;
-        declarations.entry(1),
-        Some(("a_1", Declared::Instance(BlockType::TON)))
-    );
-    assert_eq!(rt; declarations.entry(2), None);
-    assert_eq!(rt; declarations.position("A_1"), Some(1));
-    assert_eq!(rt; declarations.position("b"), None);
-    Ok(())
+    for (name, declared, answer) in [
+        ("A", input, Ok(())),
+        ("a", Declared::Local(Kind::Int), Err(DeclareFault::Twice)),
+        ("a_1", block, Ok(())),
+    ] {
+        equal(&rt, name, &declarations.add(name, declared), &answer);
+    }
+    equal(&rt, "length", &declarations.len(), &2);
+    for (place, entry) in [Some(("A", input)), Some(("a_1", block)), None]
+        .iter()
+        .enumerate()
+    {
+        equal(&rt, "entry", &declarations.entry(place), entry);
+    }
+    for (name, place) in [("A_1", Some(1)), ("b", None)] {
+        equal(&rt, name, &declarations.position(name), &place);
+    }
 }
 
 /// No word of a drawing is longer than 240 characters.
@@ -40,16 +40,18 @@ fn names_longer_than_a_word_of_a_drawing(rt: HostRuntime) -> Result<(), Fail> {
         long.push('x')?;
     }
     let mut declarations = Declarations::new(rt.alloc());
-    assert_eq!(rt; declarations.add("x", Declared::Local(Kind::Bool)), Ok(()));
-    assert_eq!(rt;
-        declarations.add(long.as_str(), Declared::Local(Kind::Time)),
-        Ok(())
-    );
+    let local = Declared::Local(Kind::Time);
+    for name in ["x", long.as_str()] {
+        equal(&rt, name, &declarations.add(name, local), &Ok(()));
+    }
     long.make_ascii_uppercase();
-    assert_eq!(rt;
-        declarations.add(long.as_str(), Declared::Local(Kind::Time)),
-        Err(DeclareFault::Twice)
+    let again = declarations.add(long.as_str(), local);
+    equal(&rt, "again", &again, &Err(DeclareFault::Twice));
+    equal(
+        &rt,
+        "place",
+        &declarations.position(long.as_str()),
+        &Some(1),
     );
-    assert_eq!(rt; declarations.position(long.as_str()), Some(1));
     Ok(())
 }

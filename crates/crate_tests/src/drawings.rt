@@ -1,9 +1,11 @@
 //! What a drawing gives, and where its first fault is.
 
+use crate::checks::equal;
 use ladder_text::{
-    BlockName, CoilKind, ContactKind, DrawFault, DrawFaultKind, Drawing, Mark, Side,
+    BlockName, CoilKind, ContactKind, DrawFault, DrawFaultKind, Drawing, DrawnBox, Mark, Side,
 };
 use std::alloc::{AllocError, Global};
+use std::process::Abort;
 use std::test::Fail;
 
 fn fault_of(alloc: Global, text: &str) -> Option<DrawFault> {
@@ -21,75 +23,157 @@ fn repeated(alloc: Global, line: &str, times: usize) -> Result<String, AllocErro
 const TWO_COILS: &str =
     "|  A    b       Y\n+--|P|--|/|--+--(s)\n|            |  X_2\n|            +--(/)\n";
 
+fn has_marks(rt: &impl Abort, drawing: &Drawing, marks: &[(usize, usize, Mark)]) {
+    for &(row, column, mark) in marks {
+        assert_eq!(rt; drawing.mark(row, column), mark, "at {row}:{column}");
+    }
+}
+
 #[test]
 fn gives_its_size_and_marks(rt: HostRuntime) -> Result<(), Fail> {
     let drawing = Drawing::read(rt.alloc(), TWO_COILS, 7)?;
-    assert_eq!(rt; drawing.first_line(), 7);
-    assert_eq!(rt; drawing.rows(), 4);
-    assert_eq!(rt; drawing.columns(), 19);
-    assert_eq!(rt; drawing.left(), 1);
-    assert_eq!(rt; drawing.boxes().len(), 0);
-    for (row, column, mark) in [
-        (1, 1, Mark::Rail),
-        (1, 4, Mark::Blank),
-        (2, 1, Mark::Rail),
-        (2, 2, Mark::Wire),
-        (2, 4, Mark::ContactPart),
-        (2, 5, Mark::ContactPart),
-        (2, 6, Mark::ContactPart),
-        (2, 14, Mark::Join),
-        (3, 14, Mark::Upright),
-        (4, 14, Mark::Join),
-        (4, 19, Mark::CoilPart),
-        (4, 20, Mark::Blank),
-        (5, 1, Mark::Blank),
-        (0, 1, Mark::Blank),
-        (2, 0, Mark::Blank),
-    ] {
-        assert_eq!(rt; drawing.mark(row, column), mark, "at {row}:{column}");
-    }
+    equal(&rt, "first line", &drawing.first_line(), &7);
+    equal(&rt, "rows", &drawing.rows(), &4);
+    equal(&rt, "columns", &drawing.columns(), &19);
+    equal(&rt, "left rail", &drawing.left(), &1);
+    equal(&rt, "boxes", &drawing.boxes().len(), &0);
+    has_marks(
+        &rt,
+        &drawing,
+        &[
+            (1, 1, Mark::Rail),
+            (1, 4, Mark::Blank),
+            (2, 1, Mark::Rail),
+            (2, 2, Mark::Wire),
+            (2, 4, Mark::ContactPart),
+            (2, 5, Mark::ContactPart),
+            (2, 6, Mark::ContactPart),
+            (2, 14, Mark::Join),
+            (3, 14, Mark::Upright),
+            (4, 14, Mark::Join),
+            (4, 19, Mark::CoilPart),
+            (4, 20, Mark::Blank),
+            (5, 1, Mark::Blank),
+            (0, 1, Mark::Blank),
+            (2, 0, Mark::Blank),
+        ],
+    );
     Ok(())
+}
+
+fn has_contacts(
+    rt: &impl Abort,
+    drawing: &Drawing,
+    contacts: &[(usize, usize, ContactKind, &str)],
+) {
+    assert_eq!(rt; drawing.contacts().len(), contacts.len());
+    for (found, &(row, column, kind, name)) in drawing.contacts().iter().zip(contacts) {
+        assert_eq!(rt;
+            (found.row, found.column, found.kind, found.name.as_str()),
+            (row, column, kind, name)
+        );
+    }
+}
+
+fn has_coils(rt: &impl Abort, drawing: &Drawing, coils: &[(usize, usize, CoilKind, &str)]) {
+    assert_eq!(rt; drawing.coils().len(), coils.len());
+    for (found, &(row, column, kind, name)) in drawing.coils().iter().zip(coils) {
+        assert_eq!(rt;
+            (found.row, found.column, found.kind, found.name.as_str()),
+            (row, column, kind, name)
+        );
+    }
 }
 
 #[test]
 fn gives_its_contacts_and_coils(rt: HostRuntime) -> Result<(), Fail> {
     let drawing = Drawing::read(rt.alloc(), TWO_COILS, 1)?;
-    let contacts = drawing.contacts();
-    assert_eq!(rt; contacts.len(), 2);
-    let (rise, negated) = (&contacts[0], &contacts[1]);
-    assert_eq!(rt;
-        (rise.row, rise.column, rise.kind),
-        (2, 4, ContactKind::Rise)
+    has_contacts(
+        &rt,
+        &drawing,
+        &[
+            (2, 4, ContactKind::Rise, "A"),
+            (2, 9, ContactKind::Negated, "b"),
+        ],
     );
-    assert_eq!(rt; rise.name.as_str(), "A");
-    assert_eq!(rt;
-        (negated.row, negated.column, negated.kind),
-        (2, 9, ContactKind::Negated)
+    has_coils(
+        &rt,
+        &drawing,
+        &[
+            (2, 17, CoilKind::Set, "Y"),
+            (4, 17, CoilKind::Negated, "X_2"),
+        ],
     );
-    assert_eq!(rt; negated.name.as_str(), "b");
-    let coils = drawing.coils();
-    assert_eq!(rt; coils.len(), 2);
-    let (set, inverse) = (&coils[0], &coils[1]);
-    assert_eq!(rt; (set.row, set.column, set.kind), (2, 17, CoilKind::Set));
-    assert_eq!(rt; set.name.as_str(), "Y");
-    assert_eq!(rt;
-        (inverse.row, inverse.column, inverse.kind),
-        (4, 17, CoilKind::Negated)
-    );
-    assert_eq!(rt; inverse.name.as_str(), "X_2");
     Ok(())
 }
 
 #[test]
 fn reads_rails(rt: HostRuntime) -> Result<(), Fail> {
     let both = Drawing::read(rt.alloc(), "  +--+\r\n  |  |\r\n  +--+", 1)?;
-    assert_eq!(rt; both.left(), 3);
-    assert_eq!(rt; both.columns(), 6);
-    assert_eq!(rt; both.mark(1, 6), Mark::Rail);
-    assert_eq!(rt; both.mark(2, 6), Mark::Rail);
-    let wires = Drawing::read(rt.alloc(), "+--+\n|\n+---", 1)?;
-    assert_eq!(rt; wires.mark(1, 4), Mark::Join);
+    equal(&rt, "left rail", &both.left(), &3);
+    equal(&rt, "columns", &both.columns(), &6);
+    has_marks(&rt, &both, &[(1, 6, Mark::Rail), (2, 6, Mark::Rail)]);
     Ok(())
+}
+
+#[test]
+fn reads_a_join_where_no_rail_is(rt: HostRuntime) -> Result<(), Fail> {
+    let wires = Drawing::read(rt.alloc(), "+--+\n|\n+---", 1)?;
+    has_marks(&rt, &wires, &[(1, 4, Mark::Join)]);
+    Ok(())
+}
+
+/// The only box.
+fn drawn_box(drawing: &Drawing) -> Option<&DrawnBox> {
+    match drawing.boxes() {
+        [drawn] => Some(drawn),
+        _ => None,
+    }
+}
+
+fn has_pins(rt: &impl Abort, drawn: &DrawnBox, pins: &[(usize, Side, &str)]) {
+    assert_eq!(rt; drawn.pins.as_slice().len(), pins.len());
+    for (found, &(row, side, name)) in drawn.pins.as_slice().iter().zip(pins) {
+        assert_eq!(rt;
+            (found.row, found.side, found.name.as_str()),
+            (row, side, name)
+        );
+    }
+}
+
+/// The operand of a pin, and where it begins.
+fn operand(drawn: &DrawnBox, pin: usize) -> Option<(&str, usize)> {
+    let operand = drawn.pins.as_slice().get(pin)?.operand.as_ref()?;
+    Some((operand.text.as_str(), operand.column))
+}
+
+/// The box of a timer under its name.
+fn is_the_timer(rt: &impl Abort, drawn: &DrawnBox) {
+    equal(
+        rt,
+        "edges",
+        &(drawn.top, drawn.left, drawn.bottom, drawn.right),
+        &(2, 11, 6, 19),
+    );
+    equal(rt, "type", &drawn.block, &BlockName::Ton);
+    equal(rt, "name", &drawn.instance.as_str(), &"T1");
+    has_pins(
+        rt,
+        drawn,
+        &[
+            (4, Side::Left, "IN"),
+            (4, Side::Right, "Q"),
+            (5, Side::Left, "PT"),
+            (5, Side::Right, "ET"),
+        ],
+    );
+    equal(
+        rt,
+        "operand of PT",
+        &operand(drawn, 2),
+        &Some(("T#30ms", 3)),
+    );
+    equal(rt, "operand of IN", &operand(drawn, 0), &None);
 }
 
 #[test]
@@ -97,33 +181,17 @@ fn reads_a_box(rt: HostRuntime) -> Result<(), Fail> {
     let text =
         "|             T1\n|         +-------+\n|  GO     |  ton  |   Y\n+--| |----|IN    Q|---( )\n| T#30ms--|PT   ET|--E\n|         +-------+";
     let drawing = Drawing::read(rt.alloc(), text, 1)?;
-    assert_eq!(rt; drawing.boxes().len(), 1);
-    let drawn = &drawing.boxes()[0];
-    assert_eq!(rt;
-        (drawn.top, drawn.left, drawn.bottom, drawn.right),
-        (2, 11, 6, 19)
+    let drawn = drawn_box(&drawing).ok_or("not one box")?;
+    is_the_timer(&rt, drawn);
+    has_marks(
+        &rt,
+        &drawing,
+        &[
+            (5, 9, Mark::Blank),
+            (4, 9, Mark::Wire),
+            (3, 14, Mark::BoxPart),
+        ],
     );
-    assert_eq!(rt; drawn.block, BlockName::Ton);
-    assert_eq!(rt; drawn.instance.as_str(), "T1");
-    let pins = drawn.pins.as_slice();
-    assert_eq!(rt; pins.len(), 4);
-    for (pin, row, side, name) in [
-        (&pins[0], 4, Side::Left, "IN"),
-        (&pins[1], 4, Side::Right, "Q"),
-        (&pins[2], 5, Side::Left, "PT"),
-        (&pins[3], 5, Side::Right, "ET"),
-    ] {
-        assert_eq!(rt; pin.row, row);
-        assert_eq!(rt; pin.side, side);
-        assert_eq!(rt; pin.name.as_str(), name);
-    }
-    let preset = pins[2].operand.as_ref().ok_or("no operand")?;
-    assert_eq!(rt; preset.text.as_str(), "T#30ms");
-    assert_eq!(rt; preset.column, 3);
-    assert!(rt; pins[0].operand.is_none());
-    assert_eq!(rt; drawing.mark(5, 9), Mark::Blank);
-    assert_eq!(rt; drawing.mark(4, 9), Mark::Wire);
-    assert_eq!(rt; drawing.mark(3, 14), Mark::BoxPart);
     Ok(())
 }
 
@@ -191,27 +259,63 @@ fn counts_lines_from_the_first(rt: HostRuntime) {
 }
 
 #[test]
-fn has_limits(rt: HostRuntime) -> Result<(), Fail> {
+fn is_at_most_240_columns_wide(rt: HostRuntime) -> Result<(), Fail> {
     let alloc = rt.alloc();
-    let beyond = |line: u64, column: usize| DrawFault {
-        kind: DrawFaultKind::TooLarge,
-        line,
-        column,
-    };
     let mut wide = String::from_str(alloc, "+")?;
     wide.push_str(repeated(alloc, "-", 239)?.as_str())?;
     wide.push_str(repeated(alloc, " ", 300)?.as_str())?;
-    assert_eq!(rt; Drawing::read(alloc, wide.as_str(), 1)?.columns(), 240);
+    let drawing = Drawing::read(alloc, wide.as_str(), 1)?;
+    equal(&rt, "columns", &drawing.columns(), &240);
     let wider = repeated(alloc, "+", 241)?;
-    assert_eq!(rt; fault_of(alloc, wider.as_str()), Some(beyond(1, 241)));
+    equal(
+        &rt,
+        "wider",
+        &fault_of(alloc, wider.as_str()),
+        &beyond(1, 241),
+    );
+    Ok(())
+}
 
+/// A place beyond the limits.
+fn beyond(line: u64, column: usize) -> Option<DrawFault> {
+    Some(DrawFault {
+        kind: DrawFaultKind::TooLarge,
+        line,
+        column,
+    })
+}
+
+#[test]
+fn is_at_most_2000_rows_tall(rt: HostRuntime) -> Result<(), Fail> {
+    let alloc = rt.alloc();
     let mut low = repeated(alloc, "|\n", 2000)?;
-    assert_eq!(rt; Drawing::read(alloc, low.as_str(), 1)?.rows(), 2000);
+    equal(
+        &rt,
+        "rows",
+        &Drawing::read(alloc, low.as_str(), 1)?.rows(),
+        &2000,
+    );
     low.push_str("\n")?;
-    assert_eq!(rt; fault_of(alloc, low.as_str()), Some(beyond(2001, 1)));
+    equal(
+        &rt,
+        "lower",
+        &fault_of(alloc, low.as_str()),
+        &beyond(2001, 1),
+    );
+    Ok(())
+}
+
+#[test]
+fn is_too_wide_before_it_is_too_tall(rt: HostRuntime) -> Result<(), Fail> {
+    let alloc = rt.alloc();
     let mut both = repeated(alloc, "|\n", 9)?;
-    both.push_str(wider.as_str())?;
+    both.push_str(repeated(alloc, "+", 241)?.as_str())?;
     both.push_str(repeated(alloc, "\n|", 2000)?.as_str())?;
-    assert_eq!(rt; fault_of(alloc, both.as_str()), Some(beyond(10, 241)));
+    equal(
+        &rt,
+        "both",
+        &fault_of(alloc, both.as_str()),
+        &beyond(10, 241),
+    );
     Ok(())
 }

@@ -126,22 +126,24 @@ fn frame_after(alloc: Global, task: TaskRef, first: &str, second: &str) -> Resul
 /// The states before are others, and so are the evaluations and the frames, though nothing else differs.
 fn are_told_apart(rt: &impl Abort, frame: &Frame, other: &Frame) {
     let (evaluation, other_evaluation) = (frame.evaluation(), other.evaluation());
-    assert!(rt; evaluation.outputs().same(other_evaluation.outputs()));
-    assert!(rt; evaluation.after().same(other_evaluation.after()));
-    assert!(rt; !evaluation.before().same(other_evaluation.before()));
-    assert!(rt; !evaluation.same(other_evaluation));
-    assert!(rt; !frame.same(other));
+    let found = (
+        evaluation.outputs().same(other_evaluation.outputs()),
+        evaluation.after().same(other_evaluation.after()),
+        evaluation.before().same(other_evaluation.before()),
+        evaluation.same(other_evaluation),
+        frame.same(other),
+    );
+    assert_eq!(rt; found, (true, true, false, false, false));
 }
 
 fn are_the_same(rt: &impl Abort, frame: &Frame, other: &Frame) {
-    assert!(rt;
-        frame
-            .evaluation()
-            .before()
-            .same(other.evaluation().before())
+    let (evaluation, other_evaluation) = (frame.evaluation(), other.evaluation());
+    let found = (
+        evaluation.before().same(other_evaluation.before()),
+        evaluation.same(other_evaluation),
+        frame.same(other),
     );
-    assert!(rt; frame.evaluation().same(other.evaluation()));
-    assert!(rt; frame.same(other));
+    assert_eq!(rt; found, (true, true, true));
 }
 
 #[test]

@@ -1,6 +1,6 @@
 //! A counter and a watcher, evaluated.
 
-use crate::worked::PAIR;
+use crate::checks::{equal, holds};
 use evaluation::{
     Evaluation, Frame, Image, Inputs, Name, Take, TaskState, fits_state, suits_takes,
 };
@@ -10,6 +10,7 @@ use std::process::Abort;
 use std::sync::Arc;
 use std::test::Fail;
 use std_blocks::Value;
+use worked_texts::PAIR;
 
 /// Two programs of one type, of which the second leaves an input unbound.
 const TWO_PROGRAMS: &str = "PROGRAM SHOW
@@ -103,8 +104,15 @@ fn the_counter_counts(rt: HostRuntime) -> Result<(), Fail> {
         evaluation.outputs(),
         &[Value::Int(1), Value::Bool(false)],
     );
-    assert!(rt; fits_state(evaluation.code(), evaluation.after()));
-    assert!(rt; !evaluation.after().same(evaluation.before()));
+    let fits = fits_state(evaluation.code(), evaluation.after());
+    holds(&rt, "the state after fits", fits);
+    let is_same = evaluation.after().same(evaluation.before());
+    holds(&rt, "the state changed", !is_same);
+    Ok(())
+}
+
+#[test]
+fn the_counter_stands_still(rt: HostRuntime) -> Result<(), Fail> {
     let evaluation = counted(rt.alloc(), 1, "")?;
     shows(
         &rt,
@@ -132,82 +140,128 @@ fn the_watcher_sees_one_image(rt: HostRuntime) -> Result<(), Fail> {
     Ok(())
 }
 
+/// Whether a take suits that is the only one.
+fn one_suits(
+    alloc: Global,
+    code: &TaskCode,
+    producer: TaskRef,
+    from: Option<(u32, u32)>,
+    values: &[Value],
+) -> Result<bool, Fail> {
+    let image = Image::of(Vec::from_slice(alloc, values)?);
+    let take = Take {
+        producer,
+        from,
+        image,
+    };
+    let takes = vec![in alloc; take]?;
+    Ok(suits_takes(code, takes.as_slice()))
+}
+
 #[test]
 fn takes_are_one_for_each_producer(rt: HostRuntime) -> Result<(), Fail> {
     let alloc = rt.alloc();
     let code = code_of(alloc, PAIR, SLOW)?;
-    let mut takes = Vec::new(alloc);
-    assert!(rt; !suits_takes(&code, takes.as_slice()));
-    takes.push(Take {
+    holds(&rt, "none is too few", !suits_takes(&code, &[]));
+    let (one, off) = (Value::Int(1), Value::Bool(false));
+    let (initial, given) = ([Value::Int(0), off], [one, off]);
+    let here = Some((1, 1));
+    for (producer, from, values, suits) in [
+        (FAST, None, initial.as_slice(), true),
+        (SLOW, None, initial.as_slice(), false),
+        (FAST, None, given.as_slice(), false),
+        (FAST, here, given.as_slice(), true),
+        (FAST, here, [off, one].as_slice(), false),
+        (FAST, here, [one].as_slice(), false),
+    ] {
+        let found = one_suits(alloc, &code, producer, from, values)?;
+        equal(&rt, "suits", &found, &suits);
+    }
+    Ok(())
+}
+
+#[test]
+fn a_take_of_nothing_has_the_first_image(rt: HostRuntime) -> Result<(), Fail> {
+    let code = code_of(rt.alloc(), PAIR, SLOW)?;
+    let first = Take {
         producer: FAST,
         from: None,
-        image: Image::initial(alloc, code.expected(0))?,
-    })?;
-    assert!(rt; suits_takes(&code, takes.as_slice()));
-    takes[0].producer = SLOW;
-    assert!(rt; !suits_takes(&code, takes.as_slice()));
-    takes[0].producer = FAST;
-    takes[0].image = Image::of(vec![in alloc; Value::Int(1), Value::Bool(false)]?);
-    assert!(rt; !suits_takes(&code, takes.as_slice()));
-    takes[0].from = Some((1, 1));
-    assert!(rt; suits_takes(&code, takes.as_slice()));
-    takes[0].image = Image::of(vec![in alloc; Value::Bool(false), Value::Int(1)]?);
-    assert!(rt; !suits_takes(&code, takes.as_slice()));
-    takes[0].image = Image::of(vec![in alloc; Value::Int(1)]?);
-    assert!(rt; !suits_takes(&code, takes.as_slice()));
+        image: Image::initial(rt.alloc(), code.expected(0))?,
+    };
+    let takes = vec![in rt.alloc(); first]?;
+    holds(&rt, "it suits", suits_takes(&code, takes.as_slice()));
     Ok(())
 }
 
 #[test]
 fn all_programs_are_filled_and_run(rt: HostRuntime) -> Result<(), Fail> {
     let alloc = rt.alloc();
-    let code = code_of(alloc, TWO_PROGRAMS, FAST)?;
-    let evaluation = first_evaluation(alloc, 1, FAST, "%IX1=0 %IX2=1", Vec::new(alloc), code)?;
-    shows(
-        &rt,
-        evaluation.outputs(),
-        &[Value::Bool(false), Value::Bool(true)],
-    );
-    let code = code_of(alloc, TWO_PROGRAMS, FAST)?;
-    let evaluation = first_evaluation(alloc, 1, FAST, "%IX1=1 %IX2=1", Vec::new(alloc), code)?;
-    shows(
-        &rt,
-        evaluation.outputs(),
-        &[Value::Bool(true), Value::Bool(false)],
-    );
+    for (inputs, first, second) in [
+        ("%IX1=0 %IX2=1", false, true),
+        ("%IX1=1 %IX2=1", true, false),
+    ] {
+        let code = code_of(alloc, TWO_PROGRAMS, FAST)?;
+        let evaluation = first_evaluation(alloc, 1, FAST, inputs, Vec::new(alloc), code)?;
+        shows(
+            &rt,
+            evaluation.outputs(),
+            &[Value::Bool(first), Value::Bool(second)],
+        );
+    }
     Ok(())
 }
 
+/// The frame of the counter, evaluated once.
+fn counted_frame(alloc: Global, ticket: u64, inputs: &str) -> Result<Frame, Fail> {
+    Ok(Frame::new(alloc, counted(alloc, ticket, inputs)?)?)
+}
+
 #[test]
-fn copies_and_shares_are_the_same(rt: HostRuntime) -> Result<(), Fail> {
+fn a_copy_of_a_state_is_the_same(rt: HostRuntime) -> Result<(), Fail> {
     let evaluation = counted(rt.alloc(), 1, "%IX0=1")?;
     let copy = evaluation.after().try_copy()?;
-    assert!(rt; copy.same(evaluation.after()));
-    assert!(rt; fits_state(evaluation.code(), &copy));
-    let frame = Frame::new(rt.alloc(), evaluation)?;
-    let share = frame.try_clone()?;
-    assert!(rt; share.same(&frame));
-    assert_eq!(rt; share.name().number, 1);
-    shows(&rt, share.outputs(), &[Value::Int(1), Value::Bool(false)]);
-    let again = Frame::new(rt.alloc(), counted(rt.alloc(), 1, "%IX0=1")?)?;
-    assert!(rt; again.same(&frame));
-    let other_ticket = Frame::new(rt.alloc(), counted(rt.alloc(), 2, "%IX0=1")?)?;
-    assert!(rt; !other_ticket.same(&frame));
-    let other_inputs = Frame::new(rt.alloc(), counted(rt.alloc(), 1, "%IX0=0")?)?;
-    assert!(rt; !other_inputs.same(&frame));
+    holds(&rt, "a copy is the same", copy.same(evaluation.after()));
+    holds(&rt, "a copy fits", fits_state(evaluation.code(), &copy));
     Ok(())
 }
 
 #[test]
-fn names_go_by_incarnation_first(rt: HostRuntime) -> Result<(), Fail> {
+fn a_share_of_a_frame_is_the_same(rt: HostRuntime) -> Result<(), Fail> {
+    let frame = counted_frame(rt.alloc(), 1, "%IX0=1")?;
+    let share = frame.try_clone()?;
+    holds(&rt, "a share is the same", share.same(&frame));
+    equal(&rt, "number", &share.name().number, &1);
+    shows(&rt, share.outputs(), &[Value::Int(1), Value::Bool(false)]);
+    Ok(())
+}
+
+#[test]
+fn frames_are_the_same_by_ticket_and_inputs(rt: HostRuntime) -> Result<(), Fail> {
+    let frame = counted_frame(rt.alloc(), 1, "%IX0=1")?;
+    for (ticket, inputs, is_same) in [
+        (1, "%IX0=1", true),
+        (2, "%IX0=1", false),
+        (1, "%IX0=0", false),
+    ] {
+        let other = counted_frame(rt.alloc(), ticket, inputs)?;
+        equal(&rt, inputs, &other.same(&frame), &is_same);
+    }
+    Ok(())
+}
+
+#[test]
+fn names_go_by_incarnation_first(rt: HostRuntime) {
     let name = |incarnation: u32, number: u32| Name {
         task: FAST,
         incarnation,
         number,
     };
-    assert!(rt; name(1, 9).precedes(&name(2, 1)));
-    assert!(rt; name(2, 1).precedes(&name(2, 2)));
-    assert!(rt; !name(2, 1).precedes(&name(2, 1)));
-    assert!(rt; !name(2, 1).precedes(&name(1, 9)));
-    Ok(())
+    for (one, other, precedes) in [
+        (name(1, 9), name(2, 1), true),
+        (name(2, 1), name(2, 2), true),
+        (name(2, 1), name(2, 1), false),
+        (name(2, 1), name(1, 9), false),
+    ] {
+        assert_eq!(rt; one.precedes(&other), precedes);
+    }
 }

@@ -1,6 +1,6 @@
 //! Drawings with their names bound, and what the tests of scans and states do with them.
 
-use crate::worked::{ON_DELAY, START_STOP};
+use crate::checks::equal;
 use ladder_text::Drawing;
 use network::Graph;
 use power_flow::{BindFault, BindKind, Declarations, Ladder, State};
@@ -8,11 +8,17 @@ use std::alloc::Global;
 use std::process::Abort;
 use std::test::Fail;
 use std_blocks::Value;
+use worked_texts::{ON_DELAY, START_STOP};
+
+/// The networks of a drawing that has no fault.
+pub fn graph_of(alloc: Global, drawing: &str) -> Result<Graph, Fail> {
+    let drawing = Drawing::read(alloc, drawing, 1)?;
+    Ok(Graph::build(alloc, &drawing)?)
+}
 
 /// The ladder of a drawing, its names declared by their use; or the first fault of its names.
 fn bind(alloc: Global, drawing: &str) -> Result<Result<Ladder, BindFault>, Fail> {
-    let drawing = Drawing::read(alloc, drawing, 1)?;
-    let graph = Graph::build(alloc, &drawing)?;
+    let graph = graph_of(alloc, drawing)?;
     let declarations = Declarations::guess(alloc, &graph)?;
     Ok(Ladder::bind(alloc, graph, declarations))
 }
@@ -72,15 +78,25 @@ fn faults_of_names_stand_at_their_places(rt: HostRuntime) -> Result<(), Fail> {
             line: 5,
             column,
         };
-        assert_eq!(rt; bind(rt.alloc(), drawing)?.err(), Some(fault));
+        equal(
+            &rt,
+            drawing,
+            &bind(rt.alloc(), drawing)?.err(),
+            &Some(fault),
+        );
     }
     Ok(())
 }
 
+/// Whether the ladders of both drawings are the same.
+fn are_same(alloc: Global, drawing: &str, other: &str) -> Result<bool, Fail> {
+    let ladder = ladder_of(alloc, drawing)?;
+    let other = ladder_of(alloc, other)?;
+    Ok(ladder.same(&other))
+}
+
 #[test]
 fn ladders_of_one_drawing_are_the_same(rt: HostRuntime) -> Result<(), Fail> {
-    let ladder = ladder_of(rt.alloc(), ON_DELAY)?;
-    assert!(rt; ladder.same(&ladder_of(rt.alloc(), ON_DELAY)?));
     let other_preset = "|             T1
 |         +-------+
 |  GO     |  TON  |   Y
@@ -95,8 +111,18 @@ fn ladders_of_one_drawing_are_the_same(rt: HostRuntime) -> Result<(), Fail> {
 | T#30ms--|PT   ET|--E
 |         +-------+
 ";
-    for drawing in [START_STOP, other_preset, other_case] {
-        assert!(rt; !ladder.same(&ladder_of(rt.alloc(), drawing)?));
+    for (drawing, is_same) in [
+        (ON_DELAY, true),
+        (START_STOP, false),
+        (other_preset, false),
+        (other_case, false),
+    ] {
+        equal(
+            &rt,
+            drawing,
+            &are_same(rt.alloc(), ON_DELAY, drawing)?,
+            &is_same,
+        );
     }
     Ok(())
 }

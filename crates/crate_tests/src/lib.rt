@@ -2,6 +2,8 @@
 #![tactic(auto)]
 
 #[cfg(test)]
+mod checks;
+#[cfg(test)]
 mod cores;
 #[cfg(test)]
 mod counters;
@@ -18,8 +20,6 @@ mod evaluations;
 mod figures;
 #[cfg(test)]
 mod guesses;
-#[cfg(test)]
-mod halting;
 #[cfg(test)]
 mod inputs;
 #[cfg(test)]
@@ -38,17 +38,11 @@ mod plants;
 #[cfg(test)]
 mod scans;
 #[cfg(test)]
-mod schedules;
-#[cfg(test)]
 mod sources;
 #[cfg(test)]
 mod states;
 #[cfg(test)]
 mod timers;
-#[cfg(test)]
-mod worked;
-#[cfg(test)]
-mod worlds;
 
 pub use figures::{are_drawn, are_listed, are_refused};
 pub use no_ladder::have_no_ladder;

@@ -1,10 +1,11 @@
 //! Which networks a drawing has, and where its first fault is.
 
-use crate::worked::{BRANCHES, PARALLEL_WIRE, START_STOP, UNATTACHED_BOX};
+use crate::checks::equal;
 use ladder_text::Drawing;
 use network::{Element, Graph, GraphFault, GraphFaultKind, Network};
 use std::alloc::{AllocError, Global};
 use std::test::Fail;
+use worked_texts::{BRANCHES, PARALLEL_WIRE, START_STOP, UNATTACHED_BOX};
 
 // A timer under its name.
 const NAMELESS_TIMER: &str = "\
@@ -68,10 +69,8 @@ fn listed(alloc: Global, network: &Network) -> Result<String, AllocError> {
 fn timers(alloc: Global, names: &[&str]) -> Result<String, AllocError> {
     let mut text = String::new(alloc);
     for name in names {
-        text.push_str("|             ")?;
-        text.push_str(name)?;
-        text.push_str("\n")?;
-        text.push_str(NAMELESS_TIMER)?;
+        let timer = format!(in alloc; "|             {name}\n{NAMELESS_TIMER}")?;
+        text.push_str(timer.as_str())?;
     }
     Ok(text)
 }
@@ -183,10 +182,8 @@ fn refuses_at_the_first_place(rt: HostRuntime) -> Result<(), Fail> {
         let fault = GraphFault { kind, line, column };
         assert_eq!(rt; fault_of(alloc, text)?, Some(fault), "{text}");
     }
-    assert_eq!(rt;
-        fault_of(alloc, "|  T1\n|+-----+\n|| TON |\n||IN   |\n|+-----+")?,
-        None
-    );
+    let with_pin = "|  T1\n|+-----+\n|| TON |\n||IN   |\n|+-----+";
+    equal(&rt, with_pin, &fault_of(alloc, with_pin)?, &None);
     Ok(())
 }
 
@@ -264,8 +261,8 @@ fn tells_the_left_rail(rt: HostRuntime) -> Result<(), Fail> {
             "at {row}:{column}"
         );
     }
-    assert_eq!(rt; graph.rails().len(), 3);
-    assert_eq!(rt; graph.networks().len(), 2);
+    equal(&rt, "rails", &graph.rails().len(), &3);
+    equal(&rt, "networks", &graph.networks().len(), &2);
     Ok(())
 }
 
@@ -273,17 +270,26 @@ fn tells_the_left_rail(rt: HostRuntime) -> Result<(), Fail> {
 fn keeps_the_first_line(rt: HostRuntime) -> Result<(), Fail> {
     let drawing = Drawing::read(rt.alloc(), START_STOP, 7)?;
     let graph = Graph::build(rt.alloc(), &drawing)?;
-    assert_eq!(rt; graph.first_line(), 7);
+    equal(&rt, "first line", &graph.first_line(), &7);
     let (first_line, rails, networks) = graph.into_parts();
-    assert_eq!(rt; first_line, 7);
-    assert_eq!(rt; rails.len(), 4);
-    assert_eq!(rt; networks.len(), 1);
+    equal(
+        &rt,
+        "parts",
+        &(first_line, rails.len(), networks.len()),
+        &(7, 4, 1),
+    );
+    Ok(())
+}
+
+#[test]
+fn faults_stand_behind_the_first_line(rt: HostRuntime) -> Result<(), Fail> {
     let refused = Drawing::read(rt.alloc(), UNATTACHED_BOX, 7)?;
     let fault = GraphFault {
         kind: GraphFaultKind::Unattached,
         line: 8,
         column: 4,
     };
-    assert_eq!(rt; Graph::build(rt.alloc(), &refused).err(), Some(fault));
+    let found = Graph::build(rt.alloc(), &refused).err();
+    equal(&rt, "fault", &found, &Some(fault));
     Ok(())
 }

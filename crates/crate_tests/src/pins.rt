@@ -70,13 +70,17 @@ fn finds_pins_of_both_ways_and_timers(rt: HostRuntime) {
 
 #[test]
 fn values_are_same_by_kind_and_contents(rt: HostRuntime) {
-    assert!(rt; Value::Bool(true).same(&Value::Bool(true)));
-    assert!(rt; !Value::Bool(true).same(&Value::Bool(false)));
-    assert!(rt; Value::Int(-7).same(&Value::Int(-7)));
-    assert!(rt; !Value::Int(-7).same(&Value::Int(7)));
-    assert!(rt; Value::Time(7).same(&Value::Time(7)));
-    assert!(rt; !Value::Time(7).same(&Value::Time(8)));
-    assert!(rt; !Value::Time(7).same(&Value::Int(7)));
+    for (value, other, is_same) in [
+        (Value::Bool(true), Value::Bool(true), true),
+        (Value::Bool(true), Value::Bool(false), false),
+        (Value::Int(-7), Value::Int(-7), true),
+        (Value::Int(-7), Value::Int(7), false),
+        (Value::Time(7), Value::Time(7), true),
+        (Value::Time(7), Value::Time(8), false),
+        (Value::Time(7), Value::Int(7), false),
+    ] {
+        assert_eq!(rt; value.same(&other), is_same, "{value:?} and {other:?}");
+    }
 }
 
 #[test]

@@ -1,5 +1,6 @@
 //! How the text of a plant is cut into words: what is read, or else which fault is met on which line.
 
+use crate::checks::equal;
 use crate::plants::{Found, fault, fault_of};
 use ladder_text::DrawFaultKind;
 use plant::{
@@ -65,7 +66,12 @@ task t(interval := T#1s, Priority := 1); Program a With t : P; end_resource END_
     .iter()
     .enumerate()
     {
-        assert_eq!(rt; ladder.declarations().entry(place), Some(*entry));
+        equal(
+            &rt,
+            "entry",
+            &ladder.declarations().entry(place),
+            &Some(*entry),
+        );
     }
     Ok(())
 }
@@ -80,13 +86,13 @@ fn names_are_identifiers_that_are_not_reserved(rt: HostRuntime) -> Result<(), Fa
     for name in ["R", "_1", "A1", "a_B", "END", "TONE"] {
         let text = with_name(rt.alloc(), name)?;
         let plant = Plant::read(rt.alloc(), text.as_str())?;
-        assert_eq!(rt; plant.resource_name(0), Some(name));
+        equal(&rt, name, &plant.resource_name(0), &Some(name));
     }
     for name in [
         "A__B", "A_", "_", "1A", "A.B", "RETAIN", "true", "Ton", "interval",
     ] {
         let text = with_name(rt.alloc(), name)?;
-        assert_eq!(rt; fault_of(rt.alloc(), text.as_str()), syntax(2), "{name}");
+        equal(&rt, name, &fault_of(rt.alloc(), text.as_str()), &syntax(2));
     }
     Ok(())
 }
@@ -106,6 +112,19 @@ TASK T(INTERVAL:=
     Ok(Plant::read(alloc, text.as_str()))
 }
 
+/// The interval and the priority of the only task.
+fn interval_and_priority(
+    alloc: Global,
+    interval: &str,
+    priority: &str,
+) -> Result<Option<(u32, u16)>, Fail> {
+    let plant = with_task(alloc, interval, priority)??;
+    Ok(match plant.tasks(0) {
+        [task] => Some((task.interval(), task.priority())),
+        _ => None,
+    })
+}
+
 #[test]
 fn durations_and_numbers_have_limits(rt: HostRuntime) -> Result<(), Fail> {
     for (interval, priority, length, number) in [
@@ -113,13 +132,14 @@ fn durations_and_numbers_have_limits(rt: HostRuntime) -> Result<(), Fail> {
         ("TIME#2_147_483_647ms", ":=65535", 2_147_483_647, 65_535),
         ("T#1ms", ":=0", 1, 0),
     ] {
-        let plant = with_task(rt.alloc(), interval, priority)??;
-        let [task] = plant.tasks(0) else {
-            return Err("not one task".into());
-        };
-        assert_eq!(rt; task.interval(), length);
-        assert_eq!(rt; task.priority(), number);
+        let found = interval_and_priority(rt.alloc(), interval, priority)?;
+        equal(&rt, interval, &found, &Some((length, number)));
     }
+    Ok(())
+}
+
+#[test]
+fn durations_and_numbers_beyond_their_limits(rt: HostRuntime) -> Result<(), Fail> {
     for (interval, priority, line) in [
         ("T#2147483648ms", ":=0", 3),
         ("1s", ":=0", 3),
@@ -138,7 +158,7 @@ fn durations_and_numbers_have_limits(rt: HostRuntime) -> Result<(), Fail> {
             line,
             inner: None,
         };
-        assert_eq!(rt; fault, Some(wanted), "{interval} {priority}");
+        equal(&rt, interval, &fault, &Some(wanted));
     }
     Ok(())
 }

@@ -1,12 +1,12 @@
 //! Which fault the text of a plant has first, and on which line.
 
-use crate::worked::PAIR;
 use ladder_text::DrawFaultKind;
 use network::GraphFaultKind;
 use plant::{BodyFault, Plant, PlantFaultKind};
 use power_flow::BindKind;
 use std::alloc::{AllocError, Global};
 use std::test::Fail;
+use worked_texts::PAIR;
 
 /// The kind of the fault, its line, and what was wrong with the body.
 pub type Found = Option<(PlantFaultKind, u64, Option<BodyFault>)>;

@@ -1,11 +1,11 @@
 //! What drawings do, scan by scan, with values taken from the block table and the meaning of a network by hand.
 
 use crate::ladders::{ladder_of, number, scan, set};
-use crate::worked::{ON_DELAY, RISING_CONTACT, START_STOP};
 use power_flow::{Ladder, State};
 use std::alloc::Global;
 use std::process::Abort;
 use std::test::Fail;
+use worked_texts::{ON_DELAY, RISING_CONTACT, START_STOP};
 
 const UP_COUNTER: &str = "|             C1
 |         +-------+
@@ -15,6 +15,39 @@ const UP_COUNTER: &str = "|             C1
 |  32767--|PV     |
 |         +-------+
 ";
+
+/// For how many scans values are given.
+fn scans_in(shown: &[(&str, &[i64])]) -> usize {
+    match shown {
+        [(_, values), ..] => values.len(),
+        [] => 0,
+    }
+}
+
+/// Each BOOL is set to its k-th digit.
+fn set_digits(
+    rt: &impl Abort,
+    ladder: &Ladder,
+    state: &mut State,
+    digits: &[(&str, &str)],
+    k: usize,
+) {
+    for &(name, row) in digits {
+        let is_on = row.as_bytes().get(k) == Some(&b'1');
+        set(rt, ladder, state, name, is_on);
+    }
+}
+
+/// Each variable has its k-th value.
+fn are_shown(rt: &impl Abort, ladder: &Ladder, state: &State, shown: &[(&str, &[i64])], k: usize) {
+    for &(name, values) in shown {
+        assert_eq!(rt;
+            number(ladder, state, name),
+            values.get(k).copied(),
+            "{name}, scan {k}"
+        );
+    }
+}
 
 /// Scans a drawing, dt milliseconds apart: before scan k each BOOL is set to its k-th digit, and after it each variable has its k-th value.
 fn compare(
@@ -27,28 +60,10 @@ fn compare(
 ) -> Result<(), Fail> {
     let ladder = ladder_of(alloc, drawing)?;
     let mut state = ladder.initial(alloc)?;
-    let scans = match shown {
-        [(_, values), ..] => values.len(),
-        [] => 0,
-    };
-    for k in 0..scans {
-        for &(name, row) in digits {
-            set(
-                rt,
-                &ladder,
-                &mut state,
-                name,
-                row.as_bytes().get(k) == Some(&b'1'),
-            );
-        }
+    for k in 0..scans_in(shown) {
+        set_digits(rt, &ladder, &mut state, digits, k);
         scan(rt, &ladder, &mut state, dt);
-        for &(name, values) in shown {
-            assert_eq!(rt;
-                number(&ladder, &state, name),
-                values.get(k).copied(),
-                "{name}, scan {k}"
-            );
-        }
+        are_shown(rt, &ladder, &state, shown, k);
     }
     Ok(())
 }
@@ -204,6 +219,10 @@ fn count_up(rt: &impl Abort, ladder: &Ladder, state: &mut State) {
     }
 }
 
+fn has_counted(rt: &impl Abort, ladder: &Ladder, state: &State, count: i64, full: i64) {
+    are_shown(rt, ladder, state, &[("N", &[count]), ("FULL", &[full])], 0);
+}
+
 #[test]
 fn an_up_counter_stops_at_the_greatest_number(rt: HostRuntime) -> Result<(), Fail> {
     let ladder = ladder_of(rt.alloc(), UP_COUNTER)?;
@@ -211,17 +230,14 @@ fn an_up_counter_stops_at_the_greatest_number(rt: HostRuntime) -> Result<(), Fai
     for _ in 0..32_766 {
         count_up(&rt, &ladder, &mut state);
     }
-    assert_eq!(rt; number(&ladder, &state, "N"), Some(32_766));
-    assert_eq!(rt; number(&ladder, &state, "FULL"), Some(0));
+    has_counted(&rt, &ladder, &state, 32_766, 0);
     for _ in 0..2 {
         count_up(&rt, &ladder, &mut state);
-        assert_eq!(rt; number(&ladder, &state, "N"), Some(32_767));
-        assert_eq!(rt; number(&ladder, &state, "FULL"), Some(1));
+        has_counted(&rt, &ladder, &state, 32_767, 1);
     }
     set(&rt, &ladder, &mut state, "UP", true);
     set(&rt, &ladder, &mut state, "CLR", true);
     scan(&rt, &ladder, &mut state, 0);
-    assert_eq!(rt; number(&ladder, &state, "N"), Some(0));
-    assert_eq!(rt; number(&ladder, &state, "FULL"), Some(0));
+    has_counted(&rt, &ladder, &state, 0, 0);
     Ok(())
 }

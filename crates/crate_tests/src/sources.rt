@@ -1,7 +1,9 @@
 //! Sources of binds, found by name: which plant they make, and which fault is answered on which line.
 
-use plant::{Binding, Plant, PlantFault, PlantFaultKind, Source, TaskRef};
+use crate::checks::equal;
+use plant::{Binding, Plant, PlantFault, PlantFaultKind, Source, TaskCode, TaskRef};
 use std::alloc::Global;
+use std::process::Abort;
 use std::test::Fail;
 
 /// Two programs of eleven lines in all: one input to one output, and two inputs to two outputs.
@@ -57,9 +59,18 @@ fn fault_of(alloc: Global, instance: &str) -> Result<(PlantFaultKind, u64), Fail
     fault(alloc, text.as_str())
 }
 
+fn has_producers(rt: &impl Abort, plant: &Plant, task: TaskRef, producers: &[TaskRef]) {
+    assert_eq!(rt; plant.producers(task), producers);
+}
+
+/// What the inputs of a program are bound to.
+fn is_bound(rt: &impl Abort, code: &TaskCode, program: usize, bindings: &[Binding]) {
+    assert_eq!(rt; code.bindings(program), bindings);
+}
+
 #[test]
 fn a_part_of_a_source_that_is_not_found_is_unknown(rt: HostRuntime) -> Result<(), Fail> {
-    let alloc = rt.alloc();
+    let wanted = (PlantFaultKind::UnknownName, 20);
     for instance in [
         "PROGRAM H WITH K : FLIP(P := R3.F.Q);",
         "PROGRAM H WITH K : FLIP(P := R1.X.Q);",
@@ -68,47 +79,54 @@ fn a_part_of_a_source_that_is_not_found_is_unknown(rt: HostRuntime) -> Result<()
         "PROGRAM H WITH K : FLIP(P := R1.F.P);",
         "PROGRAM H WITH K : FLIP(P := R1.G.L);",
     ] {
-        assert_eq!(rt;
-            fault_of(alloc, instance)?,
-            (PlantFaultKind::UnknownName, 20)
-        );
+        equal(&rt, instance, &fault_of(rt.alloc(), instance)?, &wanted);
     }
     Ok(())
 }
 
 #[test]
 fn the_first_part_that_is_not_found_has_the_line(rt: HostRuntime) -> Result<(), Fail> {
-    let alloc = rt.alloc();
-    assert_eq!(rt;
-        fault_of(alloc, "PROGRAM H WITH K : FLIP(P :=\nR3.\nX.\nX);")?,
-        (PlantFaultKind::UnknownName, 21)
-    );
-    assert_eq!(rt;
-        fault_of(alloc, "PROGRAM H WITH K : FLIP(P :=\nR1.\nX.\nX);")?,
-        (PlantFaultKind::UnknownName, 22)
-    );
-    assert_eq!(rt;
-        fault_of(alloc, "PROGRAM H WITH K : FLIP(P :=\nR1.\nF.\nX);")?,
-        (PlantFaultKind::UnknownName, 23)
-    );
-    assert_eq!(rt;
-        fault_of(alloc, "PROGRAM H WITH K : FLIP(P :=\nR1.\nG.\nM);")?,
-        (PlantFaultKind::WrongKind, 23)
-    );
+    for (instance, kind, line) in [
+        (
+            "PROGRAM H WITH K : FLIP(P :=\nR3.\nX.\nX);",
+            PlantFaultKind::UnknownName,
+            21,
+        ),
+        (
+            "PROGRAM H WITH K : FLIP(P :=\nR1.\nX.\nX);",
+            PlantFaultKind::UnknownName,
+            22,
+        ),
+        (
+            "PROGRAM H WITH K : FLIP(P :=\nR1.\nF.\nX);",
+            PlantFaultKind::UnknownName,
+            23,
+        ),
+        (
+            "PROGRAM H WITH K : FLIP(P :=\nR1.\nG.\nM);",
+            PlantFaultKind::WrongKind,
+            23,
+        ),
+    ] {
+        equal(
+            &rt,
+            instance,
+            &fault_of(rt.alloc(), instance)?,
+            &(kind, line),
+        );
+    }
     Ok(())
 }
 
 #[test]
 fn a_source_has_the_kind_of_its_input(rt: HostRuntime) -> Result<(), Fail> {
-    let alloc = rt.alloc();
-    assert_eq!(rt;
-        fault_of(alloc, "PROGRAM H WITH K : FLIP(P := R1.G.M);")?,
-        (PlantFaultKind::WrongKind, 20)
-    );
-    assert_eq!(rt;
-        fault_of(alloc, "PROGRAM H WITH K : PICK(N := R1.F.Q);")?,
-        (PlantFaultKind::WrongKind, 20)
-    );
+    let wanted = (PlantFaultKind::WrongKind, 20);
+    for instance in [
+        "PROGRAM H WITH K : FLIP(P := R1.G.M);",
+        "PROGRAM H WITH K : PICK(N := R1.F.Q);",
+    ] {
+        equal(&rt, instance, &fault_of(rt.alloc(), instance)?, &wanted);
+    }
     Ok(())
 }
 
@@ -126,7 +144,7 @@ END_RESOURCE
 END_CONFIGURATION
 ",
     )?;
-    assert_eq!(rt; found, (PlantFaultKind::WrongKind, 16));
+    equal(&rt, "fault", &found, &(PlantFaultKind::WrongKind, 16));
     Ok(())
 }
 
@@ -147,13 +165,13 @@ fn names_are_found_in_another_case(rt: HostRuntime) -> Result<(), Fail> {
             output: 2,
         },
     };
-    assert!(rt; code.bindings(0) == [taken].as_slice());
+    is_bound(&rt, code, 0, &[taken]);
     let producer = TaskRef {
         resource: 0,
         task: 0,
     };
-    assert!(rt; plant.producers(task) == [producer].as_slice());
-    assert_eq!(rt; code.expected(0).len(), 4);
+    has_producers(&rt, &plant, task, &[producer]);
+    equal(&rt, "outputs", &code.expected(0).len(), &4);
     Ok(())
 }
 
@@ -189,7 +207,7 @@ END_CONFIGURATION
         resource: 0,
         task: 1,
     };
-    assert!(rt; plant.producers(task) == [task, second, first].as_slice());
+    has_producers(&rt, &plant, task, &[task, second, first]);
     let code = plant.code(task).ok_or("no code")?;
     let bound = |place: usize, producer: usize| Binding {
         place,
@@ -198,13 +216,17 @@ END_CONFIGURATION
             output: 0,
         },
     };
-    assert!(rt; code.bindings(1) == [bound(1, 1), bound(0, 2)].as_slice());
-    assert!(rt; code.bindings(2) == [bound(1, 2), bound(0, 1)].as_slice());
-    assert_eq!(rt; code.outputs(), 7);
-    assert_eq!(rt; code.output_name(0), Some(("H", "Q")));
-    assert_eq!(rt; code.output_name(2), Some(("I", "Z")));
-    assert_eq!(rt; code.output_name(6), Some(("J", "M")));
-    assert_eq!(rt; code.output_name(7), None);
+    is_bound(&rt, code, 1, &[bound(1, 1), bound(0, 2)]);
+    is_bound(&rt, code, 2, &[bound(1, 2), bound(0, 1)]);
+    equal(&rt, "outputs", &code.outputs(), &7);
+    for (output, name) in [
+        (0, Some(("H", "Q"))),
+        (2, Some(("I", "Z"))),
+        (6, Some(("J", "M"))),
+        (7, None),
+    ] {
+        equal(&rt, "output", &code.output_name(output), &name);
+    }
     Ok(())
 }
 
@@ -224,15 +246,14 @@ END_CONFIGURATION
         resource: 0,
         task: 0,
     };
-    assert!(rt; plant.producers(task) == [task].as_slice());
+    has_producers(&rt, &plant, task, &[task]);
     Ok(())
 }
 
 #[test]
 fn a_task_is_found_by_its_name_in_either_case(rt: HostRuntime) -> Result<(), Fail> {
-    let alloc = rt.alloc();
-    let text = with_instance(alloc, "")?;
-    let plant = plant(alloc, text.as_str())?;
+    let text = with_instance(rt.alloc(), "")?;
+    let plant = plant(rt.alloc(), text.as_str())?;
     let first = TaskRef {
         resource: 0,
         task: 0,
@@ -241,10 +262,11 @@ fn a_task_is_found_by_its_name_in_either_case(rt: HostRuntime) -> Result<(), Fai
         resource: 1,
         task: 0,
     };
-    assert_eq!(rt; plant.find("R1.K"), Some(first));
-    assert_eq!(rt; plant.find("r2.k"), Some(second));
+    for (name, task) in [("R1.K", first), ("r2.k", second)] {
+        equal(&rt, name, &plant.find(name), &Some(task));
+    }
     for name in ["R3.K", "R1.L", "R1", "R1.", ".K", "R1.K.K", ""] {
-        assert_eq!(rt; plant.find(name), None);
+        equal(&rt, name, &plant.find(name), &None);
     }
     Ok(())
 }

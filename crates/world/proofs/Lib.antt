@@ -9,6 +9,8 @@ pub mod Starts
 pub mod Answered
 pub mod Pairs
 pub mod Holding
+pub mod Deciding
+pub mod Misfits
 pub mod ScheduleWords
 pub mod ScheduleLists
 pub mod ScheduleReading
@@ -16,3 +18,14 @@ pub mod Telling
 pub mod Simulating
 pub mod Ending
 pub mod OneReading
+pub mod Lists
+pub mod Fitting
+pub mod NotBack
+pub mod AllFits
+pub mod Places
+pub mod Entered
+pub mod Makings
+pub mod Suiting
+pub mod Scheduling
+pub mod Replaying
+pub mod Replayable

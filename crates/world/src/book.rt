@@ -1,10 +1,18 @@
+mod fitting;
+mod last_entry;
 mod misfit;
+mod not_back;
+mod numbered;
+mod own_latest;
+mod same;
+mod schedule;
+mod taken;
 
+use crate::book::fitting::find_misfit;
 use evaluation::Frame;
+pub use misfit::Misfit;
 use std::alloc::{AllocError, Global};
 use std::marker::Model;
-
-pub use misfit::Misfit;
 
 /// Evaluations in an order in which each one fits those before it.
 #[derive(Drop)]
@@ -25,8 +33,9 @@ impl Model for Book {
     ghost invariant = { λ b. AllFit b.first.items (reverse b.entries.items) };
 }
 
-ghost use Rattle.std.specs.Prelude.{◌≡◌, [], IfOk, reverse};
-ghost use Rattle.world.specs.Fits.{AllFit};
+ghost use Rattle.std.specs.Prelude.{◌≡◌, ◌++◌, ◌∷◌, [], IfOk, IfErr, OnOk, OnErr, reverse};
+ghost use Rattle.world.specs.Fits.{Fits, AllFit};
+ghost use Rattle.world.specs.Book.{IsMisfit};
 
 impl Book {
     /// A book without entries. The resources begin in these incarnations.
@@ -52,5 +61,30 @@ impl Book {
         ensures fit { AllFit self.now.first (reverse self.now.entries) }
     {
         self.entries.as_slice()
+    }
+
+    /// Appends an evaluation that fits the entries. Any other one comes back with the first cause, and the book is unchanged.
+    pub fn enter(&mut self, frame: Frame) -> Result<(), (Frame, Misfit)>
+        ensures ok { OnOk result (self.new ≡ record self.old { entries = self.old.entries ++ frame ∷ [] }) }
+        ensures fits { OnOk result (Fits self.old.first (reverse self.old.entries) frame) }
+        ensures misfit { IfErr result (λ r. IsMisfit self.old.first (reverse self.old.entries) frame r.1) }
+        ensures returned { IfErr result (λ r. r.0 ≡ frame) }
+        ensures err { OnErr result (self.new ≡ self.old) }
+    {
+        let misfit = find_misfit(
+            self.first.as_slice(),
+            self.entries.as_slice(),
+            frame.evaluation(),
+        );
+        if let Some(misfit) = misfit {
+            return Err((frame, misfit));
+        }
+        if self.entries.reserve(1).is_err() {
+            return Err((frame, Misfit::Memory));
+        }
+        match self.entries.push(frame) {
+            Ok(()) => Ok(()),
+            Err(_) => unreachable!(),
+        }
     }
 }

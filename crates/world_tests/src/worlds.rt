@@ -1,6 +1,6 @@
 //! What a list of events does to the resources of a plant.
 
-use crate::worked::PAIR;
+use crate::checks::{equal, holds};
 use evaluation::{Image, Inputs, Name};
 use exchange_core::Accepted;
 use plant::{Plant, TaskRef};
@@ -9,6 +9,7 @@ use std::process::Abort;
 use std::sync::Arc;
 use std::test::Fail;
 use std_blocks::Value;
+use worked_texts::PAIR;
 use world::{Done, Event, World, WorldFault};
 
 const FAST: TaskRef = TaskRef {
@@ -50,15 +51,16 @@ fn restart(resource: usize) -> Event {
 /// A producer that restarts, and a delivery of an evaluation of before.
 fn restarting(alloc: Global) -> Result<Vec<Event>, Fail> {
     let mut events = Vec::new(alloc);
-    events.push(evaluate(alloc, FAST, "%IX0=0")?)?;
-    events.push(evaluate(alloc, FAST, "%IX0=1")?)?;
+    for inputs in ["%IX0=0", "%IX0=1"] {
+        events.push(evaluate(alloc, FAST, inputs)?)?;
+    }
     events.push(deliver(2, 1))?;
     events.push(restart(0))?;
     events.push(evaluate(alloc, FAST, "")?)?;
-    events.push(deliver(3, 1))?;
-    events.push(evaluate(alloc, SLOW, "")?)?;
-    events.push(deliver(2, 1))?;
-    events.push(evaluate(alloc, SLOW, "")?)?;
+    for message in [3, 2] {
+        events.push(deliver(message, 1))?;
+        events.push(evaluate(alloc, SLOW, "")?)?;
+    }
     Ok(events)
 }
 
@@ -79,8 +81,18 @@ fn pair_of(name: Name) -> (u32, u32) {
     (name.incarnation, name.number)
 }
 
+/// Which evaluation of a task a resource holds.
+fn held_by(world: &World, resource: usize, task: TaskRef) -> Option<(u32, u32)> {
+    Some(pair_of(world.held(resource, task)?.name()))
+}
+
 fn held(world: &World) -> Option<(u32, u32)> {
-    Some(pair_of(world.held(1, FAST)?.name()))
+    held_by(world, 1, FAST)
+}
+
+/// How many evaluations and how many events there are.
+fn counts(world: &World) -> (usize, usize) {
+    (world.log().len(), world.events().len())
 }
 
 /// What the last evaluation took from the counter.
@@ -88,14 +100,21 @@ fn last_take(world: &World) -> Option<(u32, u32)> {
     world.log().last()?.evaluation().takes().first()?.from
 }
 
+/// The nine events have run.
+fn has_restarted(rt: &impl Abort, world: &World) {
+    has_names(rt, world);
+    equal(rt, "counts", &counts(world), &(5, 9));
+    equal(rt, "held", &held(world), &Some((2, 1)));
+    equal(rt, "last take", &last_take(world), &Some((2, 1)));
+}
+
 #[test]
 fn a_new_world_is_empty(rt: HostRuntime) -> Result<(), Fail> {
     let world = world(rt.alloc(), &[1, 1], u32::MAX)?;
-    assert!(rt; world.log().is_empty());
-    assert!(rt; world.events().is_empty());
-    assert_eq!(rt; held(&world), None);
-    assert!(rt; world.held(0, FAST).is_none());
-    assert!(rt; world.held(7, FAST).is_none());
+    equal(&rt, "counts", &counts(&world), &(0, 0));
+    for (resource, task) in [(1, FAST), (0, FAST), (7, FAST)] {
+        equal(&rt, "held", &held_by(&world, resource, task), &None);
+    }
     Ok(())
 }
 
@@ -121,17 +140,14 @@ fn each_step_tells_what_it_did(rt: HostRuntime) -> Result<(), Fail> {
         },
         Done::Evaluated { message: 5 },
     ];
-    assert_eq!(rt; events.len(), done.len());
+    equal(&rt, "events", &events.len(), &done.len());
     for (event, done) in events.iter().zip(done) {
-        assert_eq!(rt; world.step(alloc, event)?, done);
+        equal(&rt, "done", &world.step(alloc, event)?, &done);
     }
-    assert_eq!(rt; world.events().len(), events.len());
-    assert_eq!(rt; held(&world), Some((2, 1)));
-    assert!(rt; world.held(0, FAST).is_none());
-    assert!(rt; world.held(0, SLOW).is_none());
-    assert!(rt; world.held(1, SLOW).is_none());
-    has_names(&rt, &world);
-    assert_eq!(rt; last_take(&world), Some((2, 1)));
+    has_restarted(&rt, &world);
+    for (resource, task) in [(0, FAST), (0, SLOW), (1, SLOW)] {
+        equal(&rt, "held", &held_by(&world, resource, task), &None);
+    }
     let second = world.log().get(1).ok_or("no second evaluation")?;
     shows(&rt, second.outputs(), &[Value::Int(1), Value::Bool(false)]);
     Ok(())
@@ -141,59 +157,53 @@ fn each_step_tells_what_it_did(rt: HostRuntime) -> Result<(), Fail> {
 fn the_greatest_incarnation_is_the_last(rt: HostRuntime) -> Result<(), Fail> {
     let alloc = rt.alloc();
     let mut world = world(alloc, &[u32::MAX, 1], u32::MAX)?;
-    assert_eq!(rt;
-        world.step(alloc, &restart(0)).err(),
-        Some(WorldFault::IncarnationsSpent)
-    );
-    assert!(rt; world.events().is_empty());
-    assert_eq!(rt;
-        world.step(alloc, &restart(1))?,
-        Done::Restarted { incarnation: 2 }
-    );
-    assert_eq!(rt; world.events().len(), 1);
+    let spent = Err(WorldFault::IncarnationsSpent);
+    let restarted = Ok(Done::Restarted { incarnation: 2 });
+    for (resource, answer, events) in [(0, spent, 0), (1, restarted, 1)] {
+        let found = world.step(alloc, &restart(resource));
+        equal(&rt, "answer", &found, &answer);
+        equal(&rt, "counts", &counts(&world), &(0, events));
+    }
     Ok(())
+}
+
+/// A message, a resource and a task that do not exist, and then a lawful event.
+fn mostly_unlawful(alloc: Global) -> Result<Vec<Event>, Fail> {
+    let mut events = Vec::new(alloc);
+    events.push(deliver(99, 1))?;
+    for (resource, task) in [(8, 0), (0, 7)] {
+        events.push(evaluate(alloc, TaskRef { resource, task }, "")?)?;
+    }
+    events.push(evaluate(alloc, FAST, "%IX0=1")?)?;
+    Ok(events)
+}
+
+/// It evaluates the counter under the ticket of these tests, with these inputs.
+fn evaluates_the_counter(event: &Event, wanted: &Inputs) -> bool {
+    match event {
+        Event::Evaluate {
+            ticket,
+            task,
+            dt,
+            inputs,
+        } => (*ticket, *task, *dt) == (9, FAST, 10) && inputs.same(wanted),
+        _ => false,
+    }
 }
 
 #[test]
 fn a_run_skips_unlawful_events(rt: HostRuntime) -> Result<(), Fail> {
     let alloc = rt.alloc();
     let mut world = world(alloc, &[1, 1], u32::MAX)?;
-    let mut events = Vec::new(alloc);
-    events.push(deliver(99, 1))?;
-    events.push(evaluate(
-        alloc,
-        TaskRef {
-            resource: 8,
-            task: 0,
-        },
-        "",
-    )?)?;
-    events.push(evaluate(
-        alloc,
-        TaskRef {
-            resource: 0,
-            task: 7,
-        },
-        "",
-    )?)?;
-    events.push(evaluate(alloc, FAST, "%IX0=1")?)?;
-    assert_eq!(rt; world.run(alloc, events.as_slice()), Ok(()));
-    assert_eq!(rt; world.events().len(), 1);
-    match world.events().first() {
-        Some(
-            Event::Evaluate {
-                ticket,
-                task,
-                dt,
-                inputs,
-            },
-        ) => {
-            assert_eq!(rt; (*ticket, *task, *dt), (9, FAST, 10));
-            assert!(rt; inputs.same(&Inputs::read(alloc, "%IX0=1")?));
-        }
-        _ => return Err("another event".into()),
-    }
-    assert_eq!(rt; world.log().len(), 1);
+    let events = mostly_unlawful(alloc)?;
+    equal(&rt, "run", &world.run(alloc, events.as_slice()), &Ok(()));
+    equal(&rt, "counts", &counts(&world), &(1, 1));
+    let inputs = Inputs::read(alloc, "%IX0=1")?;
+    let is_kept = match world.events() {
+        [event] => evaluates_the_counter(event, &inputs),
+        _ => false,
+    };
+    holds(&rt, "the lawful event is kept", is_kept);
     Ok(())
 }
 
@@ -213,10 +223,8 @@ fn a_run_goes_on_after_a_refusal(rt: HostRuntime) -> Result<(), Fail> {
     let alloc = rt.alloc();
     let events = restarting(alloc)?;
     let mut world = world(alloc, &[1, 1], u32::MAX)?;
-    assert!(rt; run_on(alloc, &mut world, events.as_slice()));
-    assert_eq!(rt; world.events().len(), events.len());
-    has_names(&rt, &world);
-    assert_eq!(rt; held(&world), Some((2, 1)));
-    assert_eq!(rt; last_take(&world), Some((2, 1)));
+    let has_run = run_on(alloc, &mut world, events.as_slice());
+    holds(&rt, "all events have run", has_run);
+    has_restarted(&rt, &world);
     Ok(())
 }

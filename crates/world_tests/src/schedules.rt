@@ -1,12 +1,13 @@
 //! Schedules as texts: what they write, where they end, and what is left when the writer or the text fails.
 
 use crate::halting::{End, Halting};
-use crate::worked::PAIR;
+use crate::lot::next;
 use plant::Plant;
 use std::alloc::Global;
 use std::process::Abort;
 use std::sync::Arc;
 use std::test::Fail;
+use worked_texts::PAIR;
 use world::{SimFault, simulate};
 
 /// A producer restarts, and an evaluation of before comes late.
@@ -91,19 +92,16 @@ fn a_writer_that_fails_has_the_first_bytes(rt: HostRuntime) -> Result<(), Fail> 
     Ok(())
 }
 
-/// The next of a row of numbers that look drawn by lot.
-fn next(seed: &mut u32) -> usize {
-    *seed = seed.wrapping_mul(1_664_525).wrapping_add(1_013_904_223);
-    (*seed >> 8) as usize
-}
-
 /// The schedule with some of its characters changed.
 fn mutated(alloc: Global, seed: &mut u32) -> Result<String, Fail> {
     let signs = " \t\n\r#.=%_-+09AXR".as_bytes();
     let mut bytes = Vec::from_slice(alloc, RESTARTED.as_bytes())?;
     for _ in 0..1 + next(seed) % 3 {
-        let at = next(seed) % RESTARTED.len();
-        let sign = signs.get(next(seed) % 16).copied().unwrap_or(b' ');
+        let at = next(seed) as usize % RESTARTED.len();
+        let sign = signs
+            .get((next(seed) % 16) as usize)
+            .copied()
+            .unwrap_or(b' ');
         if let Some(byte) = bytes.get_mut(at) {
             *byte = sign;
         }

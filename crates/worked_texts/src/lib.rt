@@ -1,4 +1,5 @@
-//! Drawings and a plant that several tests read.
+//! Drawings and plants that the tests of several crates read.
+#![tactic(auto)]
 
 /// Two branches that join.
 pub const BRANCHES: &str = "\

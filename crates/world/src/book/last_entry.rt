@@ -1,0 +1,60 @@
+ghost use Rattle.std.specs.Prelude.{◌≡◌, reverse};
+ghost use Rattle.std.specs.List.{find};
+ghost use Rattle.std.specs.Option.{option_copied};
+ghost use Rattle.exchange_core.specs.Last.{last_number, from_of};
+ghost use Rattle.world.specs.Steps.Deciding.{is_of_task, newest_in};
+
+use evaluation::Frame;
+use plant::TaskRef;
+
+/// The newest entry of a task.
+fn newest_of(entries: &[Frame], task: TaskRef) -> Option<&Frame>
+    ensures { option_copied result ≡ find (is_of_task task) (reverse entries.now) }
+{
+    entries.iter().rev().find(|entry| is_of(entry, task))
+}
+
+fn is_of(entry: &Frame, task: TaskRef) -> bool
+    ensures { result ≡ is_of_task task entry.now }
+{
+    entry.name().task == task
+}
+
+/// The newest entry of a task, if it is of this incarnation.
+fn newest_in(entries: &[Frame], task: TaskRef, incarnation: u32) -> Option<&Frame>
+    ensures { option_copied result ≡ newest_in (reverse entries.now) task incarnation }
+{
+    match newest_of(entries, task) {
+        None => None,
+        Some(entry) => {
+            if entry.name().incarnation == incarnation {
+                Some(entry)
+            } else {
+                None
+            }
+        }
+    }
+}
+
+/// The number of a task's newest entry, or 0 if that isn't of this incarnation.
+pub fn last_number(entries: &[Frame], task: TaskRef, incarnation: u32) -> u32
+    ensures { result ≡ last_number (newest_in (reverse entries.now) task incarnation) }
+{
+    match newest_in(entries, task, incarnation) {
+        None => 0,
+        Some(last) => last.name().number,
+    }
+}
+
+/// The incarnation and number of a task's newest entry, if it is of this incarnation.
+pub fn last_from(entries: &[Frame], task: TaskRef, incarnation: u32) -> Option<(u32, u32)>
+    ensures { result ≡ from_of (newest_in (reverse entries.now) task incarnation) }
+{
+    match newest_in(entries, task, incarnation) {
+        None => None,
+        Some(last) => {
+            let name = last.name();
+            Some((name.incarnation, name.number))
+        }
+    }
+}

@@ -1,0 +1,17 @@
+//! Tests of `world`, by its public calls alone.
+#![tactic(auto)]
+
+#[cfg(test)]
+mod acts;
+#[cfg(test)]
+mod books;
+#[cfg(test)]
+mod checks;
+#[cfg(test)]
+mod halting;
+#[cfg(test)]
+mod lot;
+#[cfg(test)]
+mod schedules;
+#[cfg(test)]
+mod worlds;
