@@ -1,5 +1,5 @@
 -- Each thread kept its promise.
-use Rattle.std.proofs.Common.{◌≡◌, All, subst, sym}
+use Rattle.std.proofs.Common.{All, subst, sym}
 use Rattle.std.proofs.lemmas.List.Elements.{All-map}
 use Rattle.plant.specs.PlantValue.{PlantValue}
 use Rattle.node.specs.declared.ended.Ended.{Ended}

@@ -1,5 +1,5 @@
 -- A sort by ticket changes the order alone.
-use Rattle.std.proofs.Common.{rules, ◌≡◌, ◌≤◌, List, sym, subst, ◌∙◌}
+use Rattle.std.proofs.Common.{rules, List, sym, subst}
 use Rattle.std.specs.List.Sorted.{IsNonDecreasingBy}
 use Rattle.std.proofs.lemmas.List.Sorted.{IsNonDecreasingBy-from_sort_by_key}
 use Rattle.node.specs.declared.node_fault.NodeFault.{NodeFault}
