@@ -21,7 +21,7 @@ pub lawful_history : (s : Setting) (h : List Event) (es : List Event) → after_
 lawful_history s h [] = refl
 lawful_history s h (e ∷ es) = by (is_lawful s h e) refl (lawful_history s (e ∷ h) es) (lawful_history s h es) where
   by : (b : Bool) → is_lawful s h e ≡ b → after_events s (e ∷ h) (lawful_among s (e ∷ h) es) ≡ after_events s (e ∷ h) es → after_events s h (lawful_among s h es) ≡ after_events s h es
-    → after_events s h (if b then e ∷ lawful_among s (e ∷ h) es else lawful_among s h es) ≡ after_events s (if b then e ∷ h else h) es
+      → after_events s h (if b then e ∷ lawful_among s (e ∷ h) es else lawful_among s h es) ≡ after_events s (if b then e ∷ h else h) es
   by true is first rest = ap (λ b. after_events s (if b then e ∷ h else h) (lawful_among s (e ∷ h) es)) is ∙ first
   by false is first rest = rest
 

@@ -33,7 +33,7 @@ entry_told plant xs i d sent before after lt is made =
     let at : 1 + length (take i xs) ≡ i + 1 = omega (arith, length-take i xs) in
     let last : entry_lines plant (1 + length (take i xs)) (get_or xs i d ∷ []) ≡ line = ap (λ j. evaluation_line plant j (get_or xs i d) ++ []) at ∙ append-nil line in
     let more : entry_lines plant 1 (take (i + 1) xs) ≡ entry_lines plant 1 (take i xs) ++ line =
-        ap (entry_lines plant 1) (take_more xs i d lt) ∙ entry_lines-append plant 1 (take i xs) (get_or xs i d ∷ []) ∙ ap (λ t. entry_lines plant 1 (take i xs) ++ t) last in
+    ap (entry_lines plant 1) (take_more xs i d lt) ∙ entry_lines-append plant 1 (take i xs) (get_or xs i d ∷ []) ∙ ap (λ t. entry_lines plant 1 (take i xs) ++ t) last in
     ap (λ t. sent ++ t) made ∙ sym (append_assoc sent before line) ∙ ap (λ t. t ++ line) is ∙ sym more
 
 -- a beginning of the first part is a beginning of the whole

@@ -17,12 +17,7 @@ fn interval_of(plant: &Plant, task: TaskRef) -> u32
 }
 
 /// The command for an entry of the plan.
-fn command_for(
-    plant: &Plant,
-    inputs: &Inputs,
-    ticket: u64,
-    due: Due,
-) -> Result<Command, AllocError>
+fn command_for(plant: &Plant, inputs: &Inputs, ticket: u64, due: Due) -> Result<Command, AllocError>
     ensures { IfOk result (λ command. command ≡ command_for plant.now inputs.now ticket due) }
 {
     Ok(Command {
