@@ -25,6 +25,7 @@ ghost use Rattle.plant.specs.PlantText.{IsPlantText};
 ghost use Rattle.world.specs.Simulated.{WritesRun, EndsEarly};
 ghost use Rattle.plc_main.specs.Answers.{WritesAnswer, ExplainsAnswer};
 ghost use Rattle.plc_main.specs.CheckText.{RefusesPlant};
+ghost use Rattle.plc_main.specs.RunText.{WritesReport, ExplainsRun};
 
 use check_command::{check, read_plant};
 use command_fault::CommandFault;
@@ -268,6 +269,32 @@ fn memory_keepers(alloc: Global, plant: &Plant) -> Result<Vec<MemoryKeeper>, All
     Ok(keepers)
 }
 
+/// Runs a plant up to the moment that is asked for, and writes what its threads did; whether there was a fault in them.
+fn obey_run<R: AllocGlobal + Threads + Wait + Sync, K: Keeper, G: Gate, W: Write>(
+    rt: &R,
+    request: &RunRequest<'_>,
+    prepared: Prepared,
+    keepers: Vec<K>,
+    gate: &G,
+    writer: &mut W,
+) -> Result<bool, CommandFault>
+    requires { vec_len keepers ≡ length prepared.plant.value.resources }
+    ensures ok { IfOk result (WritesReport prepared.plant.value request.now.until prepared.inputs (W.contents writer.old) (W.contents writer.new)) }
+    ensures fault { IfErr result (ExplainsRun prepared.plant.value request.now.until prepared.inputs (W.contents writer.old) (W.contents writer.new)) }
+{
+    let Prepared { plant, inputs } = prepared;
+    run_text(
+        rt,
+        rt.alloc(),
+        plant,
+        request.until,
+        inputs,
+        keepers,
+        gate,
+        writer,
+    )
+}
+
 /// Runs a plant with these keepers, and writes what its threads did; the status.
 fn run_with<R: Print + Eprint + AllocGlobal + Threads + Wait + Sync, K: Keeper, G: Gate>(
     rt: &R,
@@ -278,18 +305,8 @@ fn run_with<R: Print + Eprint + AllocGlobal + Threads + Wait + Sync, K: Keeper, 
 ) -> io::Result<u8>
     requires { vec_len keepers ≡ length prepared.plant.value.resources }
 {
-    let Prepared { plant, inputs } = prepared;
     let mut writer = io::writer(rt);
-    match run_text(
-        rt,
-        rt.alloc(),
-        plant,
-        request.until,
-        inputs,
-        keepers,
-        gate,
-        &mut writer,
-    ) {
+    match obey_run(rt, request, prepared, keepers, gate, &mut writer) {
         Ok(false) => Ok(0),
         Ok(true) => Ok(FAILED),
         Err(fault) => print_fault(rt, request.plant, &[], fault),
