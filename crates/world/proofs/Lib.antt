@@ -20,3 +20,14 @@ pub mod Telling
 pub mod Simulating
 pub mod Ending
 pub mod OneReading
+pub mod Lists
+pub mod Fitting
+pub mod NotBack
+pub mod AllFits
+pub mod Places
+pub mod Entered
+pub mod Makings
+pub mod Suiting
+pub mod Scheduling
+pub mod Replaying
+pub mod Replayable

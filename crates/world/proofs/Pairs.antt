@@ -17,7 +17,7 @@ use Rattle.world.proofs.Latest.{AllBefore, Rises}
 use Rattle.world.proofs.Names.{log-rises}
 use Rattle.world.proofs.Moves.{run-message}
 
-message-within : (log : List Evaluated) (k : ℕ) (x : Evaluated) → message log k ≡ Some x → k ≤ length log
+pub message-within : (log : List Evaluated) (k : ℕ) (x : Evaluated) → message log k ≡ Some x → k ≤ length log
 message-within [] k x at = absurd (none-some x at)
 message-within (y ∷ older) k x at = by (eqb k (suc (length older))) refl at (message-within older k x) where
   by : (b : Bool) → eqb k (suc (length older)) ≡ b → cond b (Some y) (message older k) ≡ Some x → (message older k ≡ Some x → k ≤ length older) → k ≤ suc (length older)
@@ -31,7 +31,7 @@ before-message p name (y ∷ older) k x all at own = by (eqb k (suc (length olde
   by true f ih = let e : y ≡ x = same_Some y x f in subst (λ (z : Evaluated). precedes z.name name ≡ true) e (all.0 (subst (λ (z : Evaluated). same_task z.name.task p ≡ true) (sym e) own))
   by false f ih = ih f own
 
-rises-messages : (p : TaskRef) (log : List Evaluated) (j k : ℕ) (x y : Evaluated) → Rises p log → message log j ≡ Some x → message log k ≡ Some y → same_task x.name.task p ≡ true → same_task y.name.task p ≡ true → j < k
+pub rises-messages : (p : TaskRef) (log : List Evaluated) (j k : ℕ) (x y : Evaluated) → Rises p log → message log j ≡ Some x → message log k ≡ Some y → same_task x.name.task p ≡ true → same_task y.name.task p ≡ true → j < k
     → precedes x.name y.name ≡ true
 rises-messages p [] j k x y rises first second own_x own_y lt = absurd (none-some x first)
 rises-messages p (z ∷ older) j k x y rises first second own_x own_y lt =

@@ -1,6 +1,5 @@
 -- What holds of the log of every list of events, and of a book.
 use Rattle.std.specs.Prelude.{◌≡◌, ℕ, ◌≤◌, List, reverse, Some, length, slice_index, slice_get, take}
-use Rattle.plant.specs.declared.task_ref.TaskRef.{TaskRef}
 use Rattle.plant.specs.PlantValue.{IsSoundPlant}
 use Rattle.evaluation.specs.Meaning.{Evaluated}
 use Rattle.world.specs.declared.event.Event.{Event}
@@ -8,14 +7,15 @@ use Rattle.world.specs.declared.book.misfit.Misfit.{Misfit}
 use Rattle.world.specs.declared.book.misfit.Misfit.TheVariants.{Memory}
 use Rattle.world.specs.History.{Setting}
 use Rattle.world.specs.Run.{IsRun}
-use Rattle.world.specs.World.{WorldValue, held_at}
+use Rattle.world.specs.World.{WorldValue}
 use Rattle.world.specs.Fits.{AllFit}
 use Rattle.world.specs.Book.{IsMisfit, AllCouldBeMade, Replays}
 use Rattle.world.specs.Consistent.{IsConsistent}
+use Rattle.world.specs.Theorem.{HoldersAgreeIn, IsDataConsistent}
 
 -- a run is a consistent log
 abbrev pub RunsAreConsistent : Type 0
-RunsAreConsistent = (s : Setting) (events : List Event) (log : List Evaluated) → IsRun s events log → IsConsistent (reverse log)
+RunsAreConsistent = (s : Setting) (events : List Event) (log : List Evaluated) → IsRun s events log → IsConsistent s.plant (reverse log)
 
 -- each evaluation of a run fits those before it
 abbrev pub RunsFit : Type 0
@@ -42,7 +42,12 @@ RunsReplay =
     (s : Setting) (events again : List Event) (log : List Evaluated) → IsSoundPlant s.plant → length s.first ≡ length s.plant.resources → AreIncarnations s.first → IsRun s events log
     → Replays s.first log again → IsRun s again log
 
+-- Where events make the entries of a book again, the consistency theorem holds of these events and entries, and the entries are a consistent log.
+abbrev pub BooksAreConsistent : Type 0
+BooksAreConsistent =
+    (s : Setting) (entries : List Evaluated) (events : List Event) → IsSoundPlant s.plant → length s.first ≡ length s.plant.resources → AllCouldBeMade s (reverse entries) → Replays s.first entries events
+    → IsDataConsistent s events entries × IsConsistent s.plant (reverse entries)
+
 -- resources that hold one evaluation hold equal values
 abbrev pub HoldersAgree : Type 0
-HoldersAgree =
-    (w : WorldValue) (n m : ℕ) (p q : TaskRef) (x y : Evaluated) → IsRun w.setting w.events w.log → held_at w n p ≡ Some x → held_at w m q ≡ Some y → x.name ≡ y.name → x ≡ y
+HoldersAgree = (w : WorldValue) → IsRun w.setting w.events w.log → HoldersAgreeIn w

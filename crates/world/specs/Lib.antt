@@ -6,7 +6,9 @@ pub mod Step
 pub mod Laws
 pub mod Fits
 pub mod Book
+pub mod Schedule
 pub mod Consistent
+pub mod Theorem
 pub mod BookLaws
 pub mod Steps
 pub mod RunLines

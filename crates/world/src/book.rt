@@ -7,6 +7,7 @@ mod not_back;
 mod numbered;
 mod own_latest;
 mod same;
+mod schedule;
 mod taken;
 
 use crate::book::fitting::find_misfit;

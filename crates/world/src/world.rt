@@ -30,12 +30,15 @@ impl Model for World {
     ghost invariant = { λ w. IsWorld (record { plant = w.plant.value; first = w.first.items; max_number = w.max_number }) w.events.items w.log.items w.cores.items };
 }
 
-ghost use Rattle.std.specs.Prelude.{◌≡◌, ◌∷◌, [], IfOk, IfErr, IfSome, OnOk, OnErr, Contains, length, take};
+ghost use Rattle.std.specs.Prelude.{◌≡◌, ◌∷◌, [], IfOk, IfErr, IfSome, OnOk, OnErr, Contains, length, reverse, take};
 ghost use Rattle.std.specs.Option.{option_copied};
 ghost use Rattle.world.specs.declared.event.Event.TheVariants.{Evaluate, Deliver, Restart};
 ghost use Rattle.world.specs.History.{incarnation_of};
 ghost use Rattle.world.specs.Run.{IsRun};
 ghost use Rattle.world.specs.World.{held_at};
+ghost use Rattle.world.specs.Fits.{AllFit};
+ghost use Rattle.world.specs.Consistent.{IsConsistent};
+ghost use Rattle.world.specs.Theorem.{IsDataConsistent};
 ghost use Rattle.world.specs.Step.{history_at, IsDone, IsEvaluatedNow, IsCause, IsStep, IsDelivered, Follows};
 ghost use Rattle.world.specs.Steps.Fresh.{AreFresh};
 
@@ -128,10 +131,14 @@ impl World {
         Ok(())
     }
 
-    /// The evaluations made, in the order of their making: at every moment the run of the events.
+    /// The evaluations made, in the order of their making: at every moment the run of the events. It is a consistent log, each evaluation fits those before it,
+    /// and each took the latest of each producer that had reached its resource (`consistency_theorem`).
     pub fn log(&self) -> &[Frame]
         ensures value { result.now ≡ self.now.log }
         ensures run { IsRun self.now.setting self.now.events self.now.log }
+        ensures consistent { IsConsistent self.now.setting.plant (reverse self.now.log) }
+        ensures fit { AllFit self.now.setting.first (reverse self.now.log) }
+        ensures data { IsDataConsistent self.now.setting self.now.events self.now.log }
     {
         self.log.as_slice()
     }
