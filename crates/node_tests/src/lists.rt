@@ -118,7 +118,7 @@ fn run_paced<R: Threads + Wait + Sync>(
     Ok(run_threads(
         rt,
         alloc,
-        plant,
+        Arc::try_clone(plant)?,
         commands,
         keepers,
         &gate,

@@ -98,7 +98,7 @@ pub fn run<R: Threads + Wait + Sync, K: Keeper, G: Gate>(
     let report = run_threads(
         rt,
         alloc,
-        &plant,
+        plant,
         commands.as_slice(),
         keepers,
         gate,
