@@ -2,7 +2,9 @@
 
 use crate::checks::{equal, holds};
 use crate::runs::{Ask, commands_of};
-use node::{Act, Command, MemoryKeeper, PacedGate, Report, are_for_plant, are_numbered, run_threads};
+use node::{
+    Act, Command, MemoryKeeper, PacedGate, Report, are_for_plant, are_numbered, run_threads,
+};
 use plant::{Plant, TaskRef};
 use std::alloc::Global;
 use std::process::Abort;
@@ -115,15 +117,7 @@ fn run_paced<R: Threads + Wait + Sync>(
         return Err("not one keeper for each resource".into());
     }
     let gate = PacedGate::new(TURNS);
-    Ok(run_threads(
-        rt,
-        alloc,
-        plant,
-        commands,
-        keepers,
-        &gate,
-        u32::MAX,
-    )?)
+    Ok(run_threads(rt, alloc, plant, commands, keepers, &gate, u32::MAX)?)
 }
 
 /// The book has the world's evaluations, and nothing is left over.
