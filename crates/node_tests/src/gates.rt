@@ -22,7 +22,7 @@ impl PairGate {
 
 /// Looks for a flag, for a number of turns.
 fn wait_for(flag: &AtomicBool) -> Result<(), OutOfTurns> {
-    for _turn in 0..100_000 {
+    for _turn in 0..10_000_000 {
         if flag.load(Ordering::SeqCst) {
             return Ok(());
         }

@@ -2,7 +2,9 @@
 
 use crate::checks::{equal, holds};
 use crate::runs::{Ask, commands_of};
-use node::{Act, Command, MemoryKeeper, PacedGate, Report, are_for_plant, are_numbered, run_threads};
+use node::{
+    Act, Command, MemoryKeeper, PacedGate, Report, are_for_plant, are_numbered, run_threads,
+};
 use plant::{Plant, TaskRef};
 use std::alloc::Global;
 use std::process::Abort;
