@@ -12,7 +12,7 @@ use Rattle.plc_main.specs.declared.text_fault.TextFault.TheVariants.{Bind, Graph
 use Rattle.plc_main.specs.Refusals.{GivenFor}
 use Rattle.plc_main.specs.Rows.{RowValue, AreRows}
 use Rattle.plc_main.specs.declared.command_fault.CommandFault.{CommandFault}
-use Rattle.plc_main.specs.declared.command_fault.CommandFault.TheVariants.{Text, Word, Write, Memory}
+use Rattle.plc_main.specs.declared.command_fault.CommandFault.TheVariants.{Text, Word, Write, Run, Memory}
 use Rattle.plc_main.specs.EvalText.{IsLadderOf, Asked, WritesAll, WritesScans, WritesSomeScans, RefusesLadder, RefusesNames, RefusesNetworks, RefusesRows, IsLate, Explains}
 
 pub explain_ladder : (drawing : List ℕ) (words : List (List ℕ)) (dt : ℕ) (old : Option (List ℕ)) (fault : CommandFault) → RefusesLadder drawing fault
@@ -20,6 +20,7 @@ pub explain_ladder : (drawing : List ℕ) (words : List (List ℕ)) (dt : ℕ) (
 explain_ladder drawing words dt old (Text fault) refused = (refused, Keeps-refl old)
 explain_ladder drawing words dt old (Word fault) refused = absurd refused
 explain_ladder drawing words dt old Write refused = absurd refused
+explain_ladder drawing words dt old (Run fault) refused = absurd refused
 explain_ladder drawing words dt old Memory refused = inl (Keeps-refl old)
 
 pub explain_rows : (drawing : List ℕ) (words : List (List ℕ)) (dt : ℕ) (old : Option (List ℕ)) (ds : List Declaration) (networks : List Diagram) (fault : CommandFault)
@@ -27,6 +28,7 @@ pub explain_rows : (drawing : List ℕ) (words : List (List ℕ)) (dt : ℕ) (ol
 explain_rows drawing words dt old ds networks (Text fault) ladder refused = absurd refused
 explain_rows drawing words dt old ds networks (Word fault) ladder refused = (record { declarations = ds; networks = networks; ladder = ladder; refused = refused.0; first = refused.1 }, Keeps-refl old)
 explain_rows drawing words dt old ds networks Write ladder refused = absurd refused
+explain_rows drawing words dt old ds networks (Run fault) ladder refused = absurd refused
 explain_rows drawing words dt old ds networks Memory ladder refused = inl (Keeps-refl old)
 
 pub explain_scans : (drawing : List ℕ) (words : List (List ℕ)) (dt : ℕ) (old new : Option (List ℕ)) (asked : Asked drawing words) (fault : CommandFault)
@@ -34,6 +36,7 @@ pub explain_scans : (drawing : List ℕ) (words : List (List ℕ)) (dt : ℕ) (o
 explain_scans drawing words dt old new asked (Text fault) written late = absurd late
 explain_scans drawing words dt old new asked (Word fault) written late = absurd late
 explain_scans drawing words dt old new asked Write written late = (asked, written)
+explain_scans drawing words dt old new asked (Run fault) written late = absurd late
 explain_scans drawing words dt old new asked Memory written late = inr (asked, written)
 
 -- the scans of the ladder that was asked for

@@ -8,3 +8,7 @@ pub mod Sending
 pub mod PlantBounds
 pub mod PlanExplaining
 pub mod Matching
+pub mod Commanding
+pub mod Reporting
+pub mod Replaying
+pub mod RunExplaining

@@ -1,7 +1,8 @@
 -- What is found for the words of the command line.
-use Rattle.std.proofs.Common.{◌≡◌, ℕ, ◌<◌, ◌==◌, true, List, [], ◌∷◌, Option, Some, None, option_map, map, unwrap_or, slice_index, refl, sym, ap, ap₂, ◌∙◌, subst, arith}
+use Rattle.std.proofs.Common.{◌≡◌, ℕ, ◌<◌, ◌==◌, Bool, true, false, bytes_eq, codes, List, [], ◌∷◌, Option, Some, None, option_map, map, unwrap_or, slice_index, refl, sym, ap, ap₂, ◌∙◌, subst, arith}
 use Rattle.std.proofs.lemmas.Bool.{eqb-true}
 use Rattle.std.specs.Borrow.{Bor}
+use Rattle.std.specs.Option.{option_map_or}
 use Rattle.std.specs.Char.{digit_value}
 use Rattle.std.specs.Str.Parse.{digits_value}
 use Rattle.clap.specs.Words.{App, AddsSubcommand, Row, app_of, with_subcommand, HasMatchesOf, rows_of, found_of, is_simple, subcommand_of, subcommand_name_of, subcommand_rows_of}
@@ -30,6 +31,13 @@ no_word r v w e f is = subst (λ (t : Option (List ℕ)). [] ≡ unwrap_or t [])
 
 pub one_word : (r : Option (Bor (List ℕ))) (v w : Option (List ℕ)) (text : Bor (List ℕ)) → option_map (λ s. s.now) r ≡ v → v ≡ w → r ≡ Some text → text.now ≡ unwrap_or w []
 one_word r v w text e f is = subst (λ (t : Option (List ℕ)). text.now ≡ unwrap_or t []) (sym (ap (option_map (λ s. s.now)) is) ∙ e ∙ f) refl
+
+pub no_flag : (r : Option (Bor (List ℕ))) (v w : Option (List ℕ)) → option_map (λ s. s.now) r ≡ v → v ≡ w → r ≡ None → false ≡ option_map_or (λ text. bytes_eq text (codes "true")) w false
+no_flag r v w e f is = subst (λ (t : Option (List ℕ)). false ≡ option_map_or (λ text. bytes_eq text (codes "true")) t false) (sym (ap (option_map (λ s. s.now)) is) ∙ e ∙ f) refl
+
+pub some_flag : (r : Option (Bor (List ℕ))) (v w : Option (List ℕ)) (text : Bor (List ℕ)) (b : Bool) → option_map (λ s. s.now) r ≡ v → v ≡ w → r ≡ Some text → b ≡ bytes_eq text.now (codes "true")
+    → b ≡ option_map_or (λ text. bytes_eq text (codes "true")) w false
+some_flag r v w text b e f is same = subst (λ (t : Option (List ℕ)). b ≡ option_map_or (λ text. bytes_eq text (codes "true")) t false) (sym (ap (option_map (λ s. s.now)) is) ∙ e ∙ f) same
 
 -- a command with one more subcommand, which has no global argument
 pub one_more : (old sub new : Command) (a b : App) → AddsSubcommand old sub new → app_of old ≡ a → app_of sub ≡ b → b.top.is_plain ≡ true → app_of new ≡ with_subcommand a b.top

@@ -6,7 +6,7 @@ use Rattle.plant.specs.PlantValue.{CodeValue, ResourceValue, PlantValue}
 use Rattle.plant.specs.PlantText.{IsPlantText}
 use Rattle.plant.specs.declared.plant_fault.PlantFaultKind.TheVariants as plant
 use Rattle.plc_main.specs.declared.command_fault.CommandFault.{CommandFault}
-use Rattle.plc_main.specs.declared.command_fault.CommandFault.TheVariants.{Text, Word, Write, Memory}
+use Rattle.plc_main.specs.declared.command_fault.CommandFault.TheVariants.{Text, Word, Write, Run, Memory}
 use Rattle.plc_main.specs.declared.text_fault.TextFault.{TextFault}
 use Rattle.plc_main.specs.declared.text_fault.TextFault.TheVariants.{Draw, Graph, Bind, Plant, TooLong}
 
@@ -64,6 +64,7 @@ abbrev pub RefusesPlant : CommandFault → Type 0
 RefusesPlant (Text fault) = IsOfPlant fault
 RefusesPlant (Word fault) = ⊥
 RefusesPlant Write = ⊥
+RefusesPlant (Run fault) = ⊥
 RefusesPlant Memory = Unit {0}
 
 -- why there was a fault, and what was written before: nothing but where the output failed
@@ -71,4 +72,5 @@ abbrev pub ExplainsCheck : List ℕ → Option (List ℕ) → Option (List ℕ) 
 ExplainsCheck text old new (Text fault) = IsOfPlant fault × Keeps old new
 ExplainsCheck text old new (Word fault) = ⊥
 ExplainsCheck text old new Write = WritesCheckPart text old new
+ExplainsCheck text old new (Run fault) = ⊥
 ExplainsCheck text old new Memory = Keeps old new

@@ -1,13 +1,14 @@
 -- What the words of the command line ask for.
-use Rattle.std.specs.Prelude.{◌≡◌, ℕ, ◌^◌, ◌<◌, ◌⊎◌, List, [], ◌∷◌, ◌++◌, Option, Some, None, true, codes, map, unwrap_or}
+use Rattle.std.specs.Prelude.{◌≡◌, ℕ, ◌^◌, ◌<◌, ◌⊎◌, List, [], ◌∷◌, ◌++◌, Option, Some, None, Bool, true, false, bytes_eq, codes, map, unwrap_or}
+use Rattle.std.specs.Option.{option_map_or}
 use Rattle.std.specs.Str.Parse.{IsNumeral, digits_value}
 use Rattle.clap.specs.Lexer.{usize_max}
 use Rattle.clap.specs.Words.{App, Shape, Row, Rule, Text, new_app, new_rule, with_rule, with_subcommand, first_of, all_of}
-use Rattle.clap.specs.declared.builder.action.ArgAction.TheVariants.{Set, Append}
+use Rattle.clap.specs.declared.builder.action.ArgAction.TheVariants.{Set, Append, SetTrue}
 use Rattle.plc_main.specs.declared.request.TextRequest.{TextRequest}
 use Rattle.plc_main.specs.declared.request.TextRequest.TheVariants.{Eval, Check, Plan}
 use Rattle.plc_main.specs.declared.request.Request.{Request}
-use Rattle.plc_main.specs.declared.request.Request.TheVariants.{Text as OfText, Sim}
+use Rattle.plc_main.specs.declared.request.Request.TheVariants.{Text as OfText, Sim, Run}
 
 -- a word that must be given
 abbrev pub needed_word : Text → Rule
@@ -35,9 +36,13 @@ schedule_rule = needed_word (codes "SCHEDULE")
 abbrev pub max_number_rule : Rule
 max_number_rule = option_of (codes "max-number")
 
--- any number of words NAME=BITS
-abbrev pub rows_rule : Rule
-rows_rule = record (new_rule (codes "words")) {
+-- a flag `--paced`
+abbrev pub paced_rule : Rule
+paced_rule = record (new_rule (codes "paced")) { action = Some SetTrue; long = Some (codes "paced") }
+
+-- any number of words
+abbrev pub words_rule : Rule
+words_rule = record (new_rule (codes "words")) {
   action = Some Append;
   range = Some (record { start_inclusive = 0; end_inclusive = usize_max });
   value_names = 1;
@@ -45,7 +50,7 @@ rows_rule = record (new_rule (codes "words")) {
 
 -- `eval DRAWING [--dt MS] [NAME=BITS]..`
 abbrev pub eval_app : App
-eval_app = with_rule (with_rule (with_rule (new_app (codes "eval")) drawing_rule) dt_rule) rows_rule
+eval_app = with_rule (with_rule (with_rule (new_app (codes "eval")) drawing_rule) dt_rule) words_rule
 
 -- `check PLANT`
 abbrev pub check_app : App
@@ -59,12 +64,16 @@ plan_app = with_rule (with_rule (new_app (codes "plan")) plant_rule) until_rule
 abbrev pub sim_app : App
 sim_app = with_rule (with_rule (with_rule (new_app (codes "sim")) plant_rule) schedule_rule) max_number_rule
 
+-- `run PLANT --until MS [--paced] [ADDRESS=VALUE]..`
+abbrev pub run_app : App
+run_app = with_rule (with_rule (with_rule (with_rule (new_app (codes "run")) plant_rule) until_rule) paced_rule) words_rule
+
 abbrev pub commanded : App → App
 commanded a = record a { top = record a.top { subcommand_required = true } }
 
--- `plc`, and one of the four
+-- `plc`, and one of the five
 abbrev pub plc_app : App
-plc_app = with_subcommand (with_subcommand (with_subcommand (with_subcommand (commanded (new_app (codes "plc"))) eval_app.top) check_app.top) plan_app.top) sim_app.top
+plc_app = with_subcommand (with_subcommand (with_subcommand (with_subcommand (with_subcommand (commanded (new_app (codes "plc"))) eval_app.top) check_app.top) plan_app.top) sim_app.top) run_app.top
 
 -- digits alone are a number of 32 bits
 abbrev pub IsNumber : List ℕ → Type 0
@@ -84,24 +93,31 @@ GivesNone (Some text) = IsNumber text → ⊥
 abbrev pub word_of : Text → List Row → List ℕ
 word_of id found = unwrap_or (first_of id found) []
 
+-- a flag was given: what stands for it is `true`
+abbrev pub is_given : Text → List Row → Bool
+is_given id found = option_map_or (λ text. bytes_eq text (codes "true")) (first_of id found) false
+
 abbrev pub AsksEval : List Row → Request → Type 0
 AsksEval found (OfText (Eval drawing dt words)) = (drawing.now ≡ word_of (codes "DRAWING") found) × GivesNumber 0 (first_of (codes "dt") found) dt
     × (map (λ w. w.now) words.items ≡ unwrap_or (all_of (codes "words") found) [])
 AsksEval found (OfText (Check plant)) = ⊥
 AsksEval found (OfText (Plan plant until)) = ⊥
 AsksEval found (Sim sim) = ⊥
+AsksEval found (Run run) = ⊥
 
 abbrev pub AsksCheck : List Row → Request → Type 0
 AsksCheck found (OfText (Eval drawing dt words)) = ⊥
 AsksCheck found (OfText (Check plant)) = plant.now ≡ word_of (codes "PLANT") found
 AsksCheck found (OfText (Plan plant until)) = ⊥
 AsksCheck found (Sim sim) = ⊥
+AsksCheck found (Run run) = ⊥
 
 abbrev pub AsksPlan : List Row → Request → Type 0
 AsksPlan found (OfText (Eval drawing dt words)) = ⊥
 AsksPlan found (OfText (Check plant)) = ⊥
 AsksPlan found (OfText (Plan plant until)) = (plant.now ≡ word_of (codes "PLANT") found) × GivesNumber 0 (first_of (codes "until") found) until
 AsksPlan found (Sim sim) = ⊥
+AsksPlan found (Run run) = ⊥
 
 abbrev pub AsksSim : List Row → Request → Type 0
 AsksSim found (OfText (Eval drawing dt words)) = ⊥
@@ -109,11 +125,21 @@ AsksSim found (OfText (Check plant)) = ⊥
 AsksSim found (OfText (Plan plant until)) = ⊥
 AsksSim found (Sim sim) =
     (sim.plant.now ≡ word_of (codes "PLANT") found) × (sim.schedule.now ≡ word_of (codes "SCHEDULE") found) × GivesNumber 4294967295 (first_of (codes "max-number") found) sim.max_number
+AsksSim found (Run run) = ⊥
+
+abbrev pub AsksRun : List Row → Request → Type 0
+AsksRun found (OfText (Eval drawing dt words)) = ⊥
+AsksRun found (OfText (Check plant)) = ⊥
+AsksRun found (OfText (Plan plant until)) = ⊥
+AsksRun found (Sim sim) = ⊥
+AsksRun found (Run run) =
+    (run.plant.now ≡ word_of (codes "PLANT") found) × GivesNumber 0 (first_of (codes "until") found) run.until × (run.paced ≡ is_given (codes "paced") found)
+    × (map (λ w. w.now) run.words.items ≡ unwrap_or (all_of (codes "words") found) [])
 
 -- the request is what the subcommand asks for, with what was found for its options
 abbrev pub IsAsked : Option (Text × List Row) → Request → Type 0
 IsAsked None request = ⊥
-IsAsked (Some (name, found)) request = ((name ≡ codes "eval") × AsksEval found request) ⊎ (((name ≡ codes "check") × AsksCheck found request) ⊎ (((name ≡ codes "plan") × AsksPlan found request) ⊎ ((name ≡ codes "sim") × AsksSim found request)))
+IsAsked (Some (name, found)) request = ((name ≡ codes "eval") × AsksEval found request) ⊎ (((name ≡ codes "check") × AsksCheck found request) ⊎ (((name ≡ codes "plan") × AsksPlan found request) ⊎ (((name ≡ codes "sim") × AsksSim found request) ⊎ ((name ≡ codes "run") × AsksRun found request))))
 
 -- the file that is to be read
 abbrev pub file_of : TextRequest → List ℕ

@@ -24,7 +24,7 @@ use Rattle.power_flow.specs.Findings.{IsFirstFault}
 use Rattle.power_flow.specs.declared.bind.BindFault.{BindFault}
 use Rattle.plc_main.specs.declared.word_fault.WordFault.{WordFault}
 use Rattle.plc_main.specs.declared.command_fault.CommandFault.{CommandFault}
-use Rattle.plc_main.specs.declared.command_fault.CommandFault.TheVariants.{Text, Word, Write, Memory}
+use Rattle.plc_main.specs.declared.command_fault.CommandFault.TheVariants.{Text, Word, Write, Run, Memory}
 use Rattle.plc_main.specs.declared.text_fault.TextFault.{TextFault}
 use Rattle.plc_main.specs.declared.text_fault.TextFault.TheVariants.{Draw, Graph, Bind, Plant, TooLong}
 use Rattle.plc_main.specs.Rows.{RowValue, AreRows, IsFirstRefused, scans_of}
@@ -143,6 +143,7 @@ abbrev pub RefusesLadder : List ℕ → CommandFault → Type 0
 RefusesLadder drawing (Text fault) = RefusesText drawing fault
 RefusesLadder drawing (Word fault) = ⊥
 RefusesLadder drawing Write = ⊥
+RefusesLadder drawing (Run fault) = ⊥
 RefusesLadder drawing Memory = Unit {0}
 
 -- no rows were made: a word is refused, or memory
@@ -150,6 +151,7 @@ abbrev pub RefusesRows : List Declaration → List (List ℕ) → CommandFault �
 RefusesRows ds words (Text fault) = ⊥
 RefusesRows ds words (Word fault) = ((rows : List RowValue) → AreRows ds words rows → ⊥) × IsFirstRefused ds words fault
 RefusesRows ds words Write = ⊥
+RefusesRows ds words (Run fault) = ⊥
 RefusesRows ds words Memory = Unit {0}
 
 -- a fault that comes while scans are made
@@ -157,6 +159,7 @@ abbrev pub IsLate : CommandFault → Type 0
 IsLate (Text fault) = ⊥
 IsLate (Word fault) = ⊥
 IsLate Write = Unit {0}
+IsLate (Run fault) = ⊥
 IsLate Memory = Unit {0}
 
 -- why there was a fault, and what was written before: nothing before a fault of the text or of the words
@@ -164,4 +167,5 @@ abbrev pub Explains : List ℕ → List (List ℕ) → ℕ → Option (List ℕ)
 Explains drawing words dt old new (Text fault) = RefusesText drawing fault × Keeps old new
 Explains drawing words dt old new (Word fault) = RefusesWords drawing words fault × Keeps old new
 Explains drawing words dt old new Write = WritesPart drawing words dt old new
+Explains drawing words dt old new (Run fault) = ⊥
 Explains drawing words dt old new Memory = Keeps old new ⊎ WritesPart drawing words dt old new

@@ -3,6 +3,12 @@ pub mod Rows
 pub mod Lines
 pub mod EvalText
 pub mod CheckText
+pub mod Sending
 pub mod PlanText
 pub mod CommandLine
+pub mod FieldWords
 pub mod Answers
+pub mod RunCommands
+pub mod ReportText
+pub mod Replay
+pub mod RunText

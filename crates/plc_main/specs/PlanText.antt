@@ -1,5 +1,5 @@
 -- What `plc plan` writes.
-use Rattle.std.specs.Prelude.{◌≡◌, ◌≢◌, ℕ, ◌<◌, ◌≤◌, ◌++◌, ◌⊎◌, List, Option, length, codes, take, slice_get}
+use Rattle.std.specs.Prelude.{◌≡◌, ◌≢◌, ℕ, ◌<◌, ◌≤◌, ◌++◌, ◌⊎◌, List, Option, length, codes, slice_get}
 use Rattle.std.specs.Option.{option_map}
 use Rattle.std.specs.List.{flat_map}
 use Rattle.std.specs.Fmt.{decimal}
@@ -10,8 +10,9 @@ use Rattle.plant.specs.PlantValue.{TaskValue, ResourceValue, PlantValue, items_o
 use Rattle.plant.specs.PlantText.{IsPlantText}
 use Rattle.plant.specs.Plan.{task_at, IsPlan}
 use Rattle.plant.specs.declared.plant_fault.PlantFaultKind.TheVariants as plant
+use Rattle.plc_main.specs.Sending.{SendsPart}
 use Rattle.plc_main.specs.declared.command_fault.CommandFault.{CommandFault}
-use Rattle.plc_main.specs.declared.command_fault.CommandFault.TheVariants.{Text, Word, Write, Memory}
+use Rattle.plc_main.specs.declared.command_fault.CommandFault.TheVariants.{Text, Word, Write, Run, Memory}
 use Rattle.plc_main.specs.declared.text_fault.TextFault.{TextFault}
 use Rattle.plc_main.specs.declared.text_fault.TextFault.TheVariants.{Draw, Graph, Bind, Plant, TooLong}
 
@@ -30,17 +31,6 @@ due_line plant d = decimal d.moment ++ codes " " ++ resource_name plant d.task +
 abbrev pub plan_lines : PlantValue → List Due → List ℕ
 plan_lines plant dues = flat_map (due_line plant) dues
 
--- some of the lines that stood to be written were written, and the others stand still
-pub record Sends (before after : List ℕ) (old new : Option (List ℕ)) : Type 0 where
-  pub sent : List ℕ
-  pub appended : Appends old new sent
-  pub whole : sent ++ after ≡ before
-
--- no more than a beginning of a text was written
-pub record SendsPart (text : List ℕ) (old new : Option (List ℕ)) : Type 0 where
-  pub written : ℕ
-  pub appended : Appends old new (take written text)
-
 -- there is no plan: it is too long, or memory
 abbrev pub RefusesPlanOf : PlantValue → ℕ → CommandFault → Type 0
 RefusesPlanOf plant until (Text (Draw fault)) = ⊥
@@ -50,6 +40,7 @@ RefusesPlanOf plant until (Text (Plant fault)) = ⊥
 RefusesPlanOf plant until (Text TooLong) = (dues : List Due) × IsPlan plant until dues × (100000 < length dues)
 RefusesPlanOf plant until (Word fault) = ⊥
 RefusesPlanOf plant until Write = ⊥
+RefusesPlanOf plant until (Run fault) = ⊥
 RefusesPlanOf plant until Memory = Unit {0}
 
 -- the text is a plant, and this is its plan
@@ -84,4 +75,5 @@ abbrev pub ExplainsPlan : List ℕ → ℕ → Option (List ℕ) → Option (Lis
 ExplainsPlan text until old new (Text fault) = RefusesPlan text until fault × Keeps old new
 ExplainsPlan text until old new (Word fault) = ⊥
 ExplainsPlan text until old new Write = WritesPlanPart text until old new
+ExplainsPlan text until old new (Run fault) = ⊥
 ExplainsPlan text until old new Memory = Keeps old new ⊎ WritesPlanPart text until old new

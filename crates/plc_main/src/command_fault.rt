@@ -4,6 +4,7 @@ use crate::text_fault::TextFault;
 use crate::word_fault::WordFault;
 use ladder_text::{DrawFault, DrawFaultKind};
 use network::{GraphFault, GraphFaultKind};
+use node::RunFault;
 use plant::{PlanFault, PlantFault, PlantFaultKind};
 use power_flow::{BindFault, BindKind};
 use std::alloc::{AllocError, AllocFailed};
@@ -22,6 +23,9 @@ pub enum CommandFault {
     /// The output can't be written.
     #[error("the output can't be written")]
     Write,
+    /// The threads gave no report.
+    #[error("the threads gave no report: {0}")]
+    Run(RunFault),
     /// Memory was refused.
     #[error("there is no memory left")]
     Memory,
@@ -128,6 +132,19 @@ impl From<PlanFault> for CommandFault {
         match fault {
             PlanFault::Memory => CommandFault::Memory,
             PlanFault::TooLong => CommandFault::Text(TextFault::TooLong),
+        }
+    }
+}
+
+impl From<RunFault> for CommandFault {
+    ghost use Rattle.plc_main.specs.Refusals.{GivenForRun};
+
+    ghost from_gives = { GivenForRun };
+
+    fn from(fault: RunFault) -> CommandFault {
+        match fault {
+            RunFault::Memory => CommandFault::Memory,
+            _ => CommandFault::Run(fault),
         }
     }
 }

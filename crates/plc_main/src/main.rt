@@ -4,33 +4,44 @@
 mod check_command;
 mod command_fault;
 mod eval_command;
+mod field_words;
 mod line;
 mod plan_command;
 mod plant_counts;
+mod replay;
+mod report_text;
 mod request;
 mod row;
 mod rows;
+mod run_command;
+mod run_commands;
+mod send_lines;
 mod text_fault;
 mod word_fault;
 mod words;
 
-ghost use Rattle.std.specs.Prelude.{OnOk, IfOk, IfErr};
+ghost use Rattle.std.specs.Prelude.{◌≡◌, length, vec_len, OnOk, IfOk, IfErr};
 ghost use Rattle.plant.specs.PlantText.{IsPlantText};
 ghost use Rattle.world.specs.Simulated.{WritesRun, EndsEarly};
 ghost use Rattle.plc_main.specs.Answers.{WritesAnswer, ExplainsAnswer};
 ghost use Rattle.plc_main.specs.CheckText.{RefusesPlant};
+ghost use Rattle.plc_main.specs.RunText.{WritesReport, ExplainsRun};
 
 use check_command::{check, read_plant};
 use command_fault::CommandFault;
 use eval_command::eval;
+use evaluation::{InputFault, Inputs};
+use field_words::read_field_words;
+use node::{FreeGate, Gate, Keeper, MemoryKeeper, PacedGate};
 use plan_command::plan_text;
 use plant::Plant;
-use request::{Request, SimRequest, TextRequest};
-use std::alloc::Global;
+use request::{Request, RunRequest, SimRequest, TextRequest};
+use run_command::run_text;
+use std::alloc::{AllocError, Global};
 use std::io::{ErrorKind, Write};
 use std::process::ExitCode;
 use std::rt::{Env, Files};
-use std::sync::Arc;
+use std::sync::{Arc, Wait};
 use std::thread::Threads;
 use std::{env, fs, io};
 use text_fault::TextFault;
@@ -41,8 +52,10 @@ use world::{SimFault, simulate};
 const TEXT_REFUSED: u8 = 1;
 /// The status after a word is refused.
 const WORD_REFUSED: u8 = 2;
-/// The status after a file can't be read, the output can't be written, or memory is refused.
+/// The status after a file can't be read, the output can't be written, the threads can't be run or something went wrong in them, or memory is refused.
 const FAILED: u8 = 3;
+/// How often a paced command looks, at most, whether the one before it is done.
+const TURNS: u64 = 10_000_000;
 
 fn given_words<R: Env + AllocGlobal>(rt: &R) -> io::Result<Vec<String>> {
     Ok(env::args(rt)?.collect(rt.alloc())?)
@@ -89,10 +102,24 @@ fn print_fault<R: Eprint>(
             eprintln!(rt; "plc: {word}: {fault}")?;
             Ok(WORD_REFUSED)
         }
-        CommandFault::Write | CommandFault::Memory => {
+        CommandFault::Write | CommandFault::Run(_) | CommandFault::Memory => {
             eprintln!(rt; "plc: {fault}")?;
             Ok(FAILED)
         }
+    }
+}
+
+fn print_input_fault<R: Eprint>(rt: &R, fault: InputFault) -> io::Result<u8> {
+    match fault {
+        InputFault::Syntax => {
+            eprintln!(rt; "plc: a word is no ADDRESS=VALUE such as %IX0=1 or %IW2=-7")?;
+            Ok(WORD_REFUSED)
+        }
+        InputFault::Twice => {
+            eprintln!(rt; "plc: two words give one address its value")?;
+            Ok(WORD_REFUSED)
+        }
+        InputFault::Memory => print_fault(rt, "", &[], CommandFault::Memory),
     }
 }
 
@@ -139,7 +166,7 @@ fn obey<R: AllocGlobal + Threads + Sync, W: Write>(
 }
 
 /// Reads a file, and writes what is asked for of its text; the status.
-fn run_text<R: Files + Print + Eprint + AllocGlobal + Threads + Sync>(
+fn answer_text<R: Files + Print + Eprint + AllocGlobal + Threads + Sync>(
     rt: &R,
     request: &TextRequest<'_>,
 ) -> io::Result<u8> {
@@ -205,7 +232,119 @@ fn run_schedule<R: Files + Print + Eprint + AllocGlobal + Threads + Sync>(
     }
 }
 
-fn answer<R: Env + Files + Print + Eprint + AllocGlobal + Threads + Sync>(
+/// What a run of threads needs.
+#[derive(Drop)]
+struct Prepared {
+    plant: Arc<Plant>,
+    inputs: Inputs,
+}
+
+/// Reads the words of a run and then the file of its plant, or tells what is wrong; the status.
+fn prepare<R: Files + Eprint + AllocGlobal + Threads + Sync>(
+    rt: &R,
+    request: &RunRequest<'_>,
+) -> io::Result<Result<Prepared, u8>> {
+    let inputs = match read_field_words(rt.alloc(), &request.words) {
+        Ok(inputs) => inputs,
+        Err(fault) => return Ok(Err(print_input_fault(rt, fault)?)),
+    };
+    let text = match file_text(rt, request.plant)? {
+        Ok(text) => text,
+        Err(status) => return Ok(Err(status)),
+    };
+    match shared_plant(rt, text.as_str()) {
+        Ok(plant) => Ok(Ok(Prepared { plant, inputs })),
+        Err(fault) => Ok(Err(print_fault(rt, request.plant, &[], fault)?)),
+    }
+}
+
+/// A keeper for each resource, in memory. The first incarnations are 1.
+fn memory_keepers(alloc: Global, plant: &Plant) -> Result<Vec<MemoryKeeper>, AllocError>
+    ensures { IfOk result (λ keepers. vec_len keepers ≡ length plant.now.resources) }
+{
+    let mut keepers = Vec::with_capacity(alloc, plant.resources())?;
+    for _resource in 0..plant.resources() {
+        keepers.push(MemoryKeeper::new(0))?;
+    }
+    Ok(keepers)
+}
+
+/// Runs a plant up to the moment that is asked for, and writes what its threads did; whether there was a fault in them.
+fn obey_run<R: AllocGlobal + Threads + Wait + Sync, K: Keeper, G: Gate, W: Write>(
+    rt: &R,
+    request: &RunRequest<'_>,
+    prepared: Prepared,
+    keepers: Vec<K>,
+    gate: &G,
+    writer: &mut W,
+) -> Result<bool, CommandFault>
+    requires { vec_len keepers ≡ length prepared.plant.value.resources }
+    ensures ok { IfOk result (WritesReport prepared.plant.value request.now.until prepared.inputs (W.contents writer.old) (W.contents writer.new)) }
+    ensures fault { IfErr result (ExplainsRun prepared.plant.value request.now.until prepared.inputs (W.contents writer.old) (W.contents writer.new)) }
+{
+    let Prepared { plant, inputs } = prepared;
+    run_text(
+        rt,
+        rt.alloc(),
+        plant,
+        request.until,
+        inputs,
+        keepers,
+        gate,
+        writer,
+    )
+}
+
+/// Runs a plant with these keepers, and writes what its threads did; the status.
+fn run_with<R: Print + Eprint + AllocGlobal + Threads + Wait + Sync, K: Keeper, G: Gate>(
+    rt: &R,
+    request: &RunRequest<'_>,
+    prepared: Prepared,
+    keepers: Vec<K>,
+    gate: &G,
+) -> io::Result<u8>
+    requires { vec_len keepers ≡ length prepared.plant.value.resources }
+{
+    let mut writer = io::writer(rt);
+    match obey_run(rt, request, prepared, keepers, gate, &mut writer) {
+        Ok(false) => Ok(0),
+        Ok(true) => Ok(FAILED),
+        Err(fault) => print_fault(rt, request.plant, &[], fault),
+    }
+}
+
+/// Runs a plant with these keepers, paced or free; the status.
+fn run_plant<R: Print + Eprint + AllocGlobal + Threads + Wait + Sync, K: Keeper>(
+    rt: &R,
+    request: &RunRequest<'_>,
+    prepared: Prepared,
+    keepers: Vec<K>,
+) -> io::Result<u8>
+    requires { vec_len keepers ≡ length prepared.plant.value.resources }
+{
+    if request.paced {
+        run_with(rt, request, prepared, keepers, &PacedGate::new(TURNS))
+    } else {
+        run_with(rt, request, prepared, keepers, &FreeGate)
+    }
+}
+
+/// Runs a plant that begins anew; the status.
+fn run_anew<R: Files + Print + Eprint + AllocGlobal + Threads + Wait + Sync>(
+    rt: &R,
+    request: &RunRequest<'_>,
+) -> io::Result<u8> {
+    let prepared = match prepare(rt, request)? {
+        Ok(prepared) => prepared,
+        Err(status) => return Ok(status),
+    };
+    match memory_keepers(rt.alloc(), &prepared.plant) {
+        Ok(keepers) => run_plant(rt, request, prepared, keepers),
+        Err(_) => print_fault(rt, request.plant, &[], CommandFault::Memory),
+    }
+}
+
+fn answer<R: Env + Files + Print + Eprint + AllocGlobal + Threads + Wait + Sync>(
     rt: &R,
 ) -> io::Result<u8> {
     let given = match given_words(rt) {
@@ -213,8 +352,9 @@ fn answer<R: Env + Files + Print + Eprint + AllocGlobal + Threads + Sync>(
         Err(error) => return print_given_fault(rt, &error),
     };
     match read_words(rt.alloc(), given.as_slice()) {
-        Ok(Request::Text(request)) => run_text(rt, &request),
+        Ok(Request::Text(request)) => answer_text(rt, &request),
         Ok(Request::Sim(request)) => run_schedule(rt, &request),
+        Ok(Request::Run(request)) => run_anew(rt, &request),
         Err(error) => print_usage(rt, &error),
     }
 }

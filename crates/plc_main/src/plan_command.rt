@@ -1,20 +1,19 @@
-ghost use Rattle.std.specs.Prelude.{◌≡◌, ℕ, ◌≤◌, ◌++◌, length, OnOk, OnErr, IfOk, IfErr, string_bytes, take};
+ghost use Rattle.std.specs.Prelude.{◌≡◌, ◌≤◌, ◌++◌, length, OnOk, OnErr, IfOk, IfErr, string_bytes};
 ghost use Rattle.std.specs.Io.KnownBytes.{Appends};
 ghost use Rattle.plant.specs.Plan.{IsPlan};
 ghost use Rattle.plc_main.specs.EvalText.{IsLate};
-ghost use Rattle.plc_main.specs.PlanText.{resource_name, task_name, due_line, plan_lines, Sends, SendsPart, RefusesPlanOf, WritesPlan, ExplainsPlan};
+ghost use Rattle.plc_main.specs.PlanText.{resource_name, task_name, due_line, plan_lines, RefusesPlanOf, WritesPlan, ExplainsPlan};
+ghost use Rattle.plc_main.specs.Sending.{SendsPart};
 
 use crate::check_command::read_plant;
 use crate::command_fault::CommandFault;
+use crate::send_lines::send_full;
 use plant::{Due, Plant, TaskRef, plan};
 use std::alloc::{AllocError, Global};
 use std::fmt::Write as _;
 use std::io::Write;
 use std::thread::Threads;
-use world::{WriteFault, write_text};
-
-/// Lines are written once so many bytes of them are made.
-const FULL: usize = 65_536;
+use world::write_text;
 
 fn resource_name(plant: &Plant, task: TaskRef) -> &str
     ensures { result.now ≡ resource_name plant.now task }
@@ -43,18 +42,6 @@ fn push_due(lines: &mut String, plant: &Plant, due: Due) -> Result<(), AllocErro
     write!(lines, "{moment} {resource}.{task}\n")
 }
 
-/// Writes the lines and empties them, if there are many.
-fn send_full<W: Write>(lines: &mut String, writer: &mut W) -> Result<(), WriteFault>
-    ensures ok { OnOk result (Sends (string_bytes lines.old) (string_bytes lines.new) (W.contents writer.old) (W.contents writer.new)) }
-    ensures part { OnErr result ((k : ℕ) × Appends (W.contents writer.old) (W.contents writer.new) (take k (string_bytes lines.old))) }
-{
-    if lines.len() >= FULL {
-        write_text(writer, lines.as_str())?;
-        lines.clear();
-    }
-    Ok(())
-}
-
 /// Writes a line for each entry.
 fn write_dues<W: Write>(
     alloc: Global,
@@ -75,7 +62,7 @@ fn write_dues<W: Write>(
 }
 
 /// The plan of a plant.
-fn plan_of(alloc: Global, plant: &Plant, until: u32) -> Result<Vec<Due>, CommandFault>
+pub fn plan_of(alloc: Global, plant: &Plant, until: u32) -> Result<Vec<Due>, CommandFault>
     ensures ok { IfOk result (λ dues. IsPlan plant.now until dues.items × (length dues.items ≤ 100000)) }
     ensures err { IfErr result (RefusesPlanOf plant.now until) }
 {

@@ -52,6 +52,16 @@ pub struct SimRequest<'a> {
     pub max_number: u32,
 }
 
+/// One thread for each resource of a plant, and a command for each entry of the plan, up to and with `until` (in ms).
+/// If they are paced, each command waits until the one before it is done. The words give the field inputs.
+#[derive(Drop)]
+pub struct RunRequest<'a> {
+    pub plant: &'a str,
+    pub until: u32,
+    pub paced: bool,
+    pub words: Vec<&'a str>,
+}
+
 /// What the words of the command line ask for.
 #[derive(Drop)]
 pub enum Request<'a> {
@@ -59,4 +69,6 @@ pub enum Request<'a> {
     Text(TextRequest<'a>),
     /// What a schedule does to a plant.
     Sim(SimRequest<'a>),
+    /// What the threads of a plant do.
+    Run(RunRequest<'a>),
 }

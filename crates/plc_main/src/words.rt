@@ -1,10 +1,10 @@
-ghost use Rattle.std.specs.Prelude.{◌≡◌, ◌≢◌, ◌⊎◌, false, [], IfOk, IfErr, MatchOption, codes, map, unwrap_or, string_bytes};
+ghost use Rattle.std.specs.Prelude.{◌≡◌, ◌≢◌, ◌⊎◌, ◌↔◌, false, [], Some, IfOk, IfErr, IsTrue, MatchOption, codes, map, unwrap_or, string_bytes};
 ghost use Rattle.std.specs.Str.Parse.{digits_value};
 ghost use Rattle.clap.specs.Words.{app_of, rule_of, rows_of, found_of, first_of, all_of, kind_of, subcommand_of};
-ghost use Rattle.plc_main.specs.CommandLine.{drawing_rule, dt_rule, rows_rule, plant_rule, until_rule, schedule_rule, max_number_rule, eval_app, check_app, plan_app, sim_app, plc_app};
-ghost use Rattle.plc_main.specs.CommandLine.{IsNumber, GivesNumber, AsksEval, AsksPlan, AsksSim, IsAsked, word_of};
+ghost use Rattle.plc_main.specs.CommandLine.{drawing_rule, dt_rule, words_rule, plant_rule, until_rule, schedule_rule, max_number_rule, paced_rule, eval_app, check_app, plan_app, sim_app, run_app, plc_app};
+ghost use Rattle.plc_main.specs.CommandLine.{IsNumber, GivesNumber, AsksEval, AsksPlan, AsksSim, AsksRun, IsAsked, word_of, is_given};
 
-use crate::request::{Request, SimRequest, TextRequest};
+use crate::request::{Request, RunRequest, SimRequest, TextRequest};
 use clap::error::ErrorKind;
 use clap::{Arg, ArgAction, ArgMatches, Command, Error};
 use std::alloc::{AllocError, Global};
@@ -84,6 +84,31 @@ The exit status is 0; 1 if the text of the plant is refused, with FILE:LINE: Kin
 schedule is no event, with FILE:LINE: Syntax, after the lines of the events before it; 2 if a word is refused; 3 if a file
 can't be read, the output can't be written or there is no memory left.";
 
+const RUN_HELP: &str = "\
+Each resource of the plant runs in a thread of its own, all of them at once. Each entry of the plan up to and with MS (plc
+plan writes it) is a command to its resource: to evaluate the task, INTERVAL ms after the time before. Each word
+ADDRESS=VALUE gives a field address its value, a bit 0 or 1, a word -32768 to 32767; every other address is 0. A task takes,
+from each task that feeds it, the latest evaluation that has reached its resource; which one that is depends on the threads.
+With --paced each command waits until the one before it is done, and then it is always the same.
+
+A line is written for each evaluation, in an order in which each one takes what was made before it; then UNANSWERED and the
+number of each command that wasn't done, FAULT and the resource, the number of the command and the reason for each thing
+that went wrong; at last whether a run of these evaluations in one thread makes the same ones again.
+
+Example:
+
+  $ plc run examples/pair.plant --until 20 --paced %IX0=1
+  EVAL 1 R1.FAST 1.1 TAKES - GIVES A.N=1 A.FULL=0
+  EVAL 2 R1.FAST 1.2 TAKES - GIVES A.N=1 A.FULL=0
+  EVAL 3 R2.SLOW 1.1 TAKES R1.FAST=1.2 GIVES B.SEEN=1 B.HIT=0
+  REPLAY equal
+
+The exit status is 0; 1 if the text of the plant is refused, with FILE:LINE: Kind on standard error, or if the plan has
+more than 100,000 lines, with plan: TooLong; 2 if a word is refused; 3 if a FAULT was written, the file can't be read, the
+output can't be written, the threads can't be run or there is no memory left.";
+
+const UNTIL_REFUSED: &str = "MS of --until is a number from 0 to 4294967295";
+
 fn drawing_arg<'a>(alloc: Global) -> Arg<'a>
     ensures rule { rule_of result ≡ drawing_rule }
     ensures local { result.global ≡ false }
@@ -106,7 +131,7 @@ fn dt_arg<'a>(alloc: Global) -> Arg<'a>
 }
 
 fn rows_arg<'a>(alloc: Global) -> Arg<'a>
-    ensures rule { rule_of result ≡ rows_rule }
+    ensures rule { rule_of result ≡ words_rule }
     ensures local { result.global ≡ false }
 {
     Arg::new(alloc, "words")
@@ -172,6 +197,27 @@ fn max_number_arg<'a>(alloc: Global) -> Arg<'a>
         )
 }
 
+fn paced_arg<'a>(alloc: Global) -> Arg<'a>
+    ensures rule { rule_of result ≡ paced_rule }
+    ensures local { result.global ≡ false }
+{
+    Arg::new(alloc, "paced")
+        .long("paced")
+        .action(ArgAction::SetTrue)
+        .help("Each command waits until the one before it is done")
+}
+
+fn inputs_arg<'a>(alloc: Global) -> Arg<'a>
+    ensures rule { rule_of result ≡ words_rule }
+    ensures local { result.global ≡ false }
+{
+    Arg::new(alloc, "words")
+        .value_name("ADDRESS=VALUE")
+        .action(ArgAction::Append)
+        .num_args(0..)
+        .help("The value of a field address, as %IX0=1 or %IW2=-7")
+}
+
 fn check_command<'a>(alloc: Global) -> Result<Command<'a>, AllocError>
     ensures { IfOk result (λ c. app_of c ≡ check_app) }
 {
@@ -204,6 +250,20 @@ fn sim_command<'a>(alloc: Global) -> Result<Command<'a>, AllocError>
         .arg(max_number_arg(alloc))
 }
 
+fn run_command<'a>(alloc: Global) -> Result<Command<'a>, AllocError>
+    ensures { IfOk result (λ c. app_of c ≡ run_app) }
+{
+    Command::new(alloc, "run")
+        .about(
+            "Runs a plant in threads, one for each resource, and writes what each evaluation gave",
+        )
+        .after_help(RUN_HELP)
+        .arg(plant_arg(alloc))?
+        .arg(until_arg(alloc))?
+        .arg(paced_arg(alloc))?
+        .arg(inputs_arg(alloc))
+}
+
 /// The commands of the program.
 pub fn commands<'a>(alloc: Global) -> Result<Command<'a>, AllocError>
     ensures { IfOk result (λ c. app_of c ≡ plc_app) }
@@ -215,7 +275,8 @@ pub fn commands<'a>(alloc: Global) -> Result<Command<'a>, AllocError>
         .subcommand(eval_command(alloc)?)?
         .subcommand(check_command(alloc)?)?
         .subcommand(plan_command(alloc)?)?
-        .subcommand(sim_command(alloc)?)
+        .subcommand(sim_command(alloc)?)?
+        .subcommand(run_command(alloc)?)
 }
 
 /// A number of decimal digits alone, at most 4294967295.
@@ -256,6 +317,16 @@ fn given_word<'a>(matches: &ArgMatches<'a>, id: &str) -> &'a str
     }
 }
 
+/// Whether a flag was given.
+fn is_given(matches: &ArgMatches<'_>, id: &str) -> bool
+    ensures { result ≡ is_given id.now (rows_of (found_of matches.now)) }
+{
+    match matches.get_str(id) {
+        Some(text) => text == "true",
+        None => false,
+    }
+}
+
 fn words_of<'a>(alloc: Global, matches: &ArgMatches<'a>) -> Result<Vec<&'a str>, AllocError>
     ensures { IfOk result (λ words. map (λ w. w.now) words.items ≡ unwrap_or (all_of (codes "words") (rows_of (found_of matches.now))) []) }
 {
@@ -290,13 +361,7 @@ fn plan_request<'a>(command: &mut Command<'a>, inner: &ArgMatches<'a>) -> Result
 {
     Ok(Request::Text(TextRequest::Plan {
         plant: given_word(inner, "PLANT"),
-        until: number_of(
-            command,
-            inner,
-            "until",
-            0,
-            "MS of --until is a number from 0 to 4294967295",
-        )?,
+        until: number_of(command, inner, "until", 0, UNTIL_REFUSED)?,
     }))
 }
 
@@ -316,6 +381,21 @@ fn sim_request<'a>(command: &mut Command<'a>, inner: &ArgMatches<'a>) -> Result<
     }))
 }
 
+fn run_request<'a>(
+    alloc: Global,
+    command: &mut Command<'a>,
+    inner: &ArgMatches<'a>,
+) -> Result<Request<'a>, Error>
+    ensures { IfOk result (AsksRun (rows_of (found_of inner.now))) }
+{
+    Ok(Request::Run(RunRequest {
+        plant: given_word(inner, "PLANT"),
+        until: number_of(command, inner, "until", 0, UNTIL_REFUSED)?,
+        paced: is_given(inner, "paced"),
+        words: words_of(alloc, inner)?,
+    }))
+}
+
 /// Reads the words, of which the first is the program's own name.
 pub fn read_words<'a>(alloc: Global, words: &'a [String]) -> Result<Request<'a>, Error>
     ensures { IfOk result (IsAsked (subcommand_of plc_app (map (λ word. string_bytes word) words.now))) }
@@ -329,6 +409,7 @@ pub fn read_words<'a>(alloc: Global, words: &'a [String]) -> Result<Request<'a>,
         })),
         Some(("plan", inner)) => plan_request(&mut command, inner),
         Some(("sim", inner)) => sim_request(&mut command, inner),
+        Some(("run", inner)) => run_request(alloc, &mut command, inner),
         _ => Err(command.error(ErrorKind::MissingSubcommand, "a command is missing")?),
     }
 }

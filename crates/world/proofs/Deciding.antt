@@ -1,6 +1,6 @@
 -- Each test of a book tells whether its clause holds.
 use Rattle.std.proofs.Common.{◌≡◌, arith, inl, inr, ℕ, ◌+◌, ◌<◌, ◌≤◌, Bool, true, false, cond, ◌&&◌, ◌||◌, List, [], ◌∷◌, length, Option, Some, None, refl, ap, sym, ◌∙◌, subst, eqb, ltb, leb}
-use Rattle.std.specs.Prelude.{not, slice_index, MatchOption}
+use Rattle.std.specs.Prelude.{not, is_some, slice_index, MatchOption}
 use Rattle.std.specs.Bool.{Decides}
 use Rattle.std.specs.List.{list_all, list_any, find}
 use Rattle.std.proofs.lemmas.Bool.{false≢true}
@@ -16,7 +16,7 @@ use Rattle.evaluation.specs.Meaning.{Evaluated}
 use Rattle.exchange_core.specs.Last.{same_task, last_number, from_of}
 use Rattle.exchange_core.proofs.Tables.{same_task-true, same_task-itself}
 use Rattle.world.specs.Fits.{Among, Each, last_in, name_from, is_below, IsNumbered, IsKnown, IsUntorn, IsNotBack, IsOwnLatest, AllFit}
-use Rattle.world.specs.Steps.Deciding.{same_name, is_named, same_value, same_values, same_from, incarnation_in, present_in, is_numbered, has_named, known_from, is_known, keeps_image, untorn_from, is_untorn, takes_from, keeps_take, keeps_takes, is_not_back, is_own_latest}
+use Rattle.world.specs.Steps.Deciding.{same_name, is_named, same_value, same_values, same_from, incarnation_in, present_in, is_of_task, if_of, newest_in, is_numbered, has_named, known_from, is_known, keeps_image, untorn_from, is_untorn, takes_from, keeps_take, keeps_takes, is_not_back, is_own_latest}
 
 -- a test that is true just where this holds
 pub record IsTest (b : Bool) (P : Type 0) : Type 0 where
@@ -34,6 +34,14 @@ test-below a b = test-of _ _ (Decides-ltb a b)
 
 test-most : (a b : ℕ) → IsTest (leb a b) (a ≤ b)
 test-most a b = record { holds = leb-true a b; passes = le-leb a b }
+
+test-then : (a b : Bool) (P Q : Type 0) → IsTest a P → (P → IsTest b Q) → IsTest (a && b) (P × Q)
+test-then true b P Q p q = record { holds = λ e. (p.holds refl, (q (p.holds refl)).holds e); passes = λ h. (q (p.holds refl)).passes h.1 }
+test-then false b P Q p q = record { holds = λ e. absurd (false≢true e); passes = λ h. p.passes h.0 }
+
+test-if : (a b : Bool) (P Q : Type 0) → IsTest a P → (P → IsTest b Q) → IsTest (not a || b) (P → Q)
+test-if true b P Q p q = record { holds = λ e. λ h. (q h).holds e; passes = λ h. (q (p.holds refl)).passes (h (p.holds refl)) }
+test-if false b P Q p q = record { holds = λ e. λ h. absurd (false≢true (p.passes h)); passes = λ h. refl }
 
 test-and : (a b : Bool) (P Q : Type 0) → IsTest a P → IsTest b Q → IsTest (a && b) (P × Q)
 test-and true b P Q p q = record { holds = λ e. (p.holds refl, q.holds e); passes = λ h. q.passes h.1 }
@@ -57,7 +65,7 @@ pub test-each : {X : Type 0} (f : X → Bool) (P : X → Type 0) → ((x : X) �
 test-each f P each [] = record { holds = λ e. tt; passes = λ h. refl }
 test-each f P each (x ∷ xs) = test-and (f x) (list_all f xs) (P x) (Each P xs) (each x) (test-each f P each xs)
 
-each-map : {X : Type 0} (P Q : X → Type 0) → ((x : X) → P x → Q x) → (xs : List X) → Each P xs → Each Q xs
+pub each-map : {X : Type 0} (P Q : X → Type 0) → ((x : X) → P x → Q x) → (xs : List X) → Each P xs → Each Q xs
 each-map P Q more [] all = tt
 each-map P Q more (x ∷ xs) all = (more x all.0, each-map P Q more xs all.1)
 
@@ -116,7 +124,7 @@ test-from (Some a) (Some b) = by (test-and _ _ _ _ (test-same a.0 b.0) (test-sam
     some e = cc
 
 -- no entry of a task in an incarnation has a greater number than the last one
-last-greatest : (first : List ℕ) (older : List Evaluated) → AllFit first older → (t : TaskRef) (i : ℕ)
+pub last-greatest : (first : List ℕ) (older : List Evaluated) → AllFit first older → (t : TaskRef) (i : ℕ)
     → Each (λ (y : Evaluated). y.name.task ≡ t → y.name.incarnation ≡ i → y.name.number ≤ last_number (last_in older t i)) older
 last-greatest first [] fit t i = tt
 last-greatest first (x ∷ older) fit t i =
@@ -161,6 +169,34 @@ test-present first (x ∷ older) fit n i = by (eqb x.name.task.resource n) (test
     low h = (omega (arith, first_low), (λ _. h, each-map _ _ (lower h) older fit.0.numbered.not_below_latest))
   by false d ih = record { holds = λ e. ((ih.holds e).0, (λ own. absurd (false≢true (d.passes own)), (ih.holds e).1)); passes = λ h. ih.passes (h.0, h.1.1) }
 
+last_in-none : (t : TaskRef) (i : ℕ) (older : List Evaluated) → Each (λ (y : Evaluated). y.name.task ≡ t → y.name.incarnation < i) older → last_in older t i ≡ None
+last_in-none t i [] low = refl
+last_in-none t i (x ∷ older) low =
+    by (same_task x.name.task t && eqb x.name.incarnation i) (test-and _ _ _ _ (test-task x.name.task t) (test-same x.name.incarnation i)) (last_in-none t i older low.1) where
+      by : (b : Bool) → IsTest b ((x.name.task ≡ t) × (x.name.incarnation ≡ i)) → last_in older t i ≡ None → cond b (Some x) (last_in older t i) ≡ None
+      by true d ih = let under = low.0 (d.holds refl).0 in let same = (d.holds refl).1 in absurd (omega (arith, under, same))
+      by false d ih = ih
+
+-- where no entry of the resource is of a greater incarnation, the newest entry of a task, if it is of this incarnation, is the last one in it
+newest-last : (first : List ℕ) (older : List Evaluated) → AllFit first older → (t : TaskRef) (i : ℕ) → Each (IsLow t.resource i) older → newest_in older t i ≡ last_in older t i
+newest-last first [] fit t i low = refl
+newest-last first (x ∷ older) fit t i low = by (same_task x.name.task t) (test-task x.name.task t) (newest-last first older fit.1 t i low.1) where
+  by : (b : Bool) → IsTest b (x.name.task ≡ t) → newest_in older t i ≡ last_in older t i → if_of i (cond b (Some x) (find (is_of_task t) older)) ≡ cond (b && eqb x.name.incarnation i) (Some x) (last_in older t i)
+  by false d ih = ih
+  by true d ih = now (eqb x.name.incarnation i) (test-same x.name.incarnation i) where
+    same : x.name.task.resource ≡ t.resource
+    same = ap (λ (p : TaskRef). p.resource) (d.holds refl)
+
+    now : (b : Bool) → IsTest b (x.name.incarnation ≡ i) → cond b (Some x) None ≡ cond b (Some x) (last_in older t i)
+    now true e = refl
+    now false e = sym (last_in-none t i older (each-map _ _ earlier older fit.0.numbered.not_below_latest)) where
+      earlier : (y : Evaluated) → (y.name.task.resource ≡ x.name.task.resource → y.name.incarnation ≤ x.name.incarnation) → y.name.task ≡ t → y.name.incarnation < i
+      earlier y below own =
+          let under = below (ap (λ (p : TaskRef). p.resource) own ∙ sym same) in
+          let high = low.0 same in
+          let apart : x.name.incarnation ≡ i → ⊥ = λ h. false≢true (e.passes h) in
+          omega (arith, under, high, apart)
+
 -- the first clause
 pub test-numbered : (first : List ℕ) (older : List Evaluated) → AllFit first older → (name : Name) → IsTest (is_numbered first older name) (IsNumbered first older name)
 test-numbered first older fit name =
@@ -168,16 +204,19 @@ test-numbered first older fit name =
       holds = λ e. record { exists = (all.holds e).0; not_below_first = (all.holds e).1.0.0; not_below_latest = (all.holds e).1.0.1; next = (all.holds e).1.1 };
       passes = λ n. all.passes (n.exists, ((n.not_below_first, n.not_below_latest), n.next));
     } where
+      next : Each (IsLow name.task.resource name.incarnation) older → IsTest (eqb name.number (last_number (newest_in older name.task name.incarnation) + 1)) (name.number ≡ last_number (last_in older name.task name.incarnation) + 1)
+      next low = subst (λ l. IsTest (eqb name.number (last_number l + 1)) (name.number ≡ last_number (last_in older name.task name.incarnation) + 1)) (sym (newest-last first older fit name.task name.incarnation low)) (test-same name.number _)
+
       all : IsTest (is_numbered first older name) ((name.task.resource < length first) × (((slice_index first name.task.resource ≤ name.incarnation)
-          × Each (λ (y : Evaluated). y.name.task.resource ≡ name.task.resource → y.name.incarnation ≤ name.incarnation) older) × (name.number ≡ last_number (last_in older name.task name.incarnation) + 1)))
-      all = test-and _ _ _ _ (test-below _ _) (test-and _ _ _ _ (test-present first older fit name.task.resource name.incarnation) (test-same name.number _))
+          × Each (IsLow name.task.resource name.incarnation) older) × (name.number ≡ last_number (last_in older name.task name.incarnation) + 1)))
+      all = test-and _ _ _ _ (test-below _ _) (test-then _ _ _ _ (test-present first older fit name.task.resource name.incarnation) (λ h. next h.1))
 
 -- the second clause
 test-named : (name : Name) (older : List Evaluated) → IsTest (has_named older name) ((y : Evaluated) × Among y older × (y.name ≡ name))
 test-named name [] = record { holds = λ e. absurd (false≢true e); passes = λ h. elim h.1 [ ] }
 test-named name (x ∷ older) = by (same_name x.name name) (test-name x.name name) (test-named name older) where
   by : (b : Bool) → IsTest b (x.name ≡ name) → IsTest (has_named older name) ((y : Evaluated) × Among y older × (y.name ≡ name))
-      → IsTest (b || has_named older name) ((y : Evaluated) × Among y (x ∷ older) × (y.name ≡ name))
+      → IsTest (is_some (cond b (Some x) (find (is_named name) older))) ((y : Evaluated) × Among y (x ∷ older) × (y.name ≡ name))
   by true d ih = record { holds = λ e. (x, inl refl, d.holds refl); passes = λ h. refl }
   by false d ih = record { holds = λ e. wider (ih.holds e); passes = λ h. narrower h.0 h.1 h.2 } where
     wider : (y : Evaluated) × Among y older × (y.name ≡ name) → (y : Evaluated) × Among y (x ∷ older) × (y.name ≡ name)
@@ -235,56 +274,63 @@ test-taking q (u ∷ us) = by (same_task u.producer q) (test-task u.producer q) 
     narrower v (inl same) e = absurd (false≢true (d.passes (ap (λ (w : Take). w.producer) same ∙ e)))
     narrower v (inr among) e = ih.passes (v, among, e)
 
-test-taker : (name : Name) (q : TaskRef) (y : Evaluated) → IsTest (takes_from name q y) ((y.name.task.resource ≡ name.task.resource) × ((y.name.incarnation ≡ name.incarnation) × ((u : Take) × Among u y.takes × (u.producer ≡ q))))
-test-taker name q y = test-and _ _ _ _ (test-same _ _) (test-and _ _ _ _ (test-same _ _) (test-taking q y.takes))
+test-taker : (n : ℕ) (q : TaskRef) (y : Evaluated) → IsTest (takes_from n q y) ((y.name.task.resource ≡ n) × ((u : Take) × Among u y.takes × (u.producer ≡ q)))
+test-taker n q y = test-and _ _ _ _ (test-same _ _) (test-taking q y.takes)
 
 abbrev pub Keeps : Name → Take → Evaluated → Type 0
 Keeps name t y = y.name.task.resource ≡ name.task.resource → y.name.incarnation ≡ name.incarnation → Each (λ (u : Take). u.producer ≡ t.producer → is_below t.producer t.from u.from ≡ false) y.takes
 
-test-kept : (first : List ℕ) (older : List Evaluated) → AllFit first older → (name : Name) (t : Take) → (t.producer.resource ≡ name.task.resource → ⊥)
-    → IsTest (keeps_takes t (find (takes_from name t.producer) older)) (Each (Keeps name t) older)
-test-kept first [] fit name t other = record { holds = λ e. tt; passes = λ h. refl }
-test-kept first (x ∷ older) fit name t other = by (takes_from name t.producer x) (test-taker name t.producer x) (test-kept first older fit.1 name t other) where
-  by : (b : Bool) → IsTest b ((x.name.task.resource ≡ name.task.resource) × ((x.name.incarnation ≡ name.incarnation) × ((u : Take) × Among u x.takes × (u.producer ≡ t.producer))))
-      → IsTest (keeps_takes t (find (takes_from name t.producer) older)) (Each (Keeps name t) older)
-      → IsTest (keeps_takes t (cond b (Some x) (find (takes_from name t.producer) older))) (Each (Keeps name t) (x ∷ older))
-  by true d ih =
-      record {
-        holds = λ e. (λ _ _. (test-takes t x.takes).holds e, each-map _ _ (λ y kept. later y kept (above e)) older (each-at _ x.takes fit.0.not_back taken.1.1.0 taken.1.1.1 apart));
-        passes = λ h. (test-takes t x.takes).passes (h.0 taken.0 taken.1.0);
-      } where
-        taken : (x.name.task.resource ≡ name.task.resource) × ((x.name.incarnation ≡ name.incarnation) × ((u : Take) × Among u x.takes × (u.producer ≡ t.producer)))
-        taken = d.holds refl
+test-kept : (first : List ℕ) (older : List Evaluated) → AllFit first older → (name : Name) → Each (IsLow name.task.resource name.incarnation) older → (t : Take) → (t.producer.resource ≡ name.task.resource → ⊥)
+    → IsTest (keeps_takes name.incarnation t (find (takes_from name.task.resource t.producer) older)) (Each (Keeps name t) older)
+test-kept first [] fit name low t other = record { holds = λ e. tt; passes = λ h. refl }
+test-kept first (x ∷ older) fit name low t other = by (takes_from name.task.resource t.producer x) (test-taker name.task.resource t.producer x) (test-kept first older fit.1 name low.1 t other) where
+  by : (b : Bool) → IsTest b ((x.name.task.resource ≡ name.task.resource) × ((u : Take) × Among u x.takes × (u.producer ≡ t.producer)))
+      → IsTest (keeps_takes name.incarnation t (find (takes_from name.task.resource t.producer) older)) (Each (Keeps name t) older)
+      → IsTest (keeps_takes name.incarnation t (cond b (Some x) (find (takes_from name.task.resource t.producer) older))) (Each (Keeps name t) (x ∷ older))
+  by true d ih = now (eqb x.name.incarnation name.incarnation) (test-same x.name.incarnation name.incarnation) where
+    taken : (x.name.task.resource ≡ name.task.resource) × ((u : Take) × Among u x.takes × (u.producer ≡ t.producer))
+    taken = d.holds refl
 
-        apart : taken.1.1.0.producer.resource ≡ x.name.task.resource → ⊥
-        apart e = other (ap (λ (p : TaskRef). p.resource) (sym taken.1.1.2) ∙ e ∙ taken.0)
+    apart : taken.1.0.producer.resource ≡ x.name.task.resource → ⊥
+    apart e = other (ap (λ (p : TaskRef). p.resource) (sym taken.1.2) ∙ e ∙ taken.0)
 
-        above : list_all (keeps_take t) x.takes ≡ true → is_below t.producer t.from taken.1.1.0.from ≡ false
-        above e = each-at _ x.takes ((test-takes t x.takes).holds e) taken.1.1.0 taken.1.1.1 taken.1.1.2
+    above : list_all (keeps_take t) x.takes ≡ true → is_below t.producer t.from taken.1.0.from ≡ false
+    above e = each-at _ x.takes ((test-takes t x.takes).holds e) taken.1.0 taken.1.1 taken.1.2
 
-        later : (y : Evaluated) → (y.name.task.resource ≡ x.name.task.resource → y.name.incarnation ≡ x.name.incarnation → Each (λ (u : Take). u.producer ≡ taken.1.1.0.producer → is_below taken.1.1.0.producer taken.1.1.0.from u.from ≡ false) y.takes)
-            → is_below t.producer t.from taken.1.1.0.from ≡ false → Keeps name t y
-        later y kept high own now = each-map _ _ (λ u low same. not_below-trans t.producer t.from taken.1.1.0.from u.from high (subst (λ p. is_below p taken.1.1.0.from u.from ≡ false) taken.1.1.2 (low (same ∙ sym taken.1.1.2)))) y.takes
-            (kept (own ∙ sym taken.0) (now ∙ sym taken.1.0))
-  by false d ih = record { holds = λ e. (λ own now. none own now x.takes (λ u among. among), ih.holds e); passes = λ h. ih.passes h.1 } where
-    none : x.name.task.resource ≡ name.task.resource → x.name.incarnation ≡ name.incarnation → (us : List Take) → ((u : Take) → Among u us → Among u x.takes)
+    later : x.name.incarnation ≡ name.incarnation → (y : Evaluated)
+        → (y.name.task.resource ≡ x.name.task.resource → y.name.incarnation ≡ x.name.incarnation → Each (λ (u : Take). u.producer ≡ taken.1.0.producer → is_below taken.1.0.producer taken.1.0.from u.from ≡ false) y.takes)
+        → is_below t.producer t.from taken.1.0.from ≡ false → Keeps name t y
+    later same y kept high own at =
+        each-map _ _ (λ u under alike. not_below-trans t.producer t.from taken.1.0.from u.from high (subst (λ p. is_below p taken.1.0.from u.from ≡ false) taken.1.2 (under (alike ∙ sym taken.1.2)))) y.takes
+        (kept (own ∙ sym taken.0) (at ∙ sym same))
+
+    now : (b : Bool) → IsTest b (x.name.incarnation ≡ name.incarnation) → IsTest (not b || list_all (keeps_take t) x.takes) (Each (Keeps name t) (x ∷ older))
+    now true same =
+        record {
+          holds = λ e. (λ _ _. (test-takes t x.takes).holds e, each-map _ _ (λ y kept. later (same.holds refl) y kept (above e)) older (each-at _ x.takes fit.0.not_back taken.1.0 taken.1.1 apart));
+          passes = λ h. (test-takes t x.takes).passes (h.0 taken.0 (same.holds refl));
+        }
+    now false differs = record { holds = λ _. (λ own at. absurd (false≢true (differs.passes at)), each-map _ _ earlier older fit.0.numbered.not_below_latest); passes = λ _. refl } where
+      earlier : (y : Evaluated) → (y.name.task.resource ≡ x.name.task.resource → y.name.incarnation ≤ x.name.incarnation) → Keeps name t y
+      earlier y below own at =
+          let under = below (own ∙ sym taken.0) in
+          let high = low.0 taken.0 in
+          let unlike : x.name.incarnation ≡ name.incarnation → ⊥ = λ h. false≢true (differs.passes h) in
+          absurd (omega (arith, under, high, unlike, at))
+  by false d ih = record { holds = λ e. (λ own now. none own x.takes (λ u among. among), ih.holds e); passes = λ h. ih.passes h.1 } where
+    none : x.name.task.resource ≡ name.task.resource → (us : List Take) → ((u : Take) → Among u us → Among u x.takes)
         → Each (λ (u : Take). u.producer ≡ t.producer → is_below t.producer t.from u.from ≡ false) us
-    none own now [] within = tt
-    none own now (u ∷ us) within = (λ same. absurd (false≢true (d.passes (own, (now, (u, within u (inl refl), same))))), none own now us (λ w among. within w (inr among)))
+    none own [] within = tt
+    none own (u ∷ us) within = (λ same. absurd (false≢true (d.passes (own, (u, within u (inl refl), same)))), none own us (λ w among. within w (inr among)))
 
-pub test-not_back : (first : List ℕ) (older : List Evaluated) → AllFit first older → (name : Name) (t : Take) → IsTest (is_not_back older name t) (IsNotBack older name t)
-test-not_back first older fit name t =
-    test-unless _ _ _ _ (test-same t.producer.resource name.task.resource) (test-kept first older fit name t)
+pub test-not_back : (first : List ℕ) (older : List Evaluated) → AllFit first older → (name : Name) → Each (IsLow name.task.resource name.incarnation) older → (t : Take) → IsTest (is_not_back older name t) (IsNotBack older name t)
+test-not_back first older fit name low t =
+    test-unless _ _ _ _ (test-same t.producer.resource name.task.resource) (test-kept first older fit name low t)
 
 -- the fifth clause
-pub test-own_latest : (older : List Evaluated) (name : Name) (t : Take) → IsTest (is_own_latest older name t) (IsOwnLatest older name t)
-test-own_latest older name t = test-implies _ _ _ _ (test-same t.producer.resource name.task.resource) (test-from t.from (from_of (last_in older t.producer name.incarnation)))
-
--- the last entry of a task in an incarnation is the first one found from the newest end
-pub last_in-find : (t : TaskRef) (i : ℕ) (log : List Evaluated) → find (λ (y : Evaluated). same_task y.name.task t && eqb y.name.incarnation i) log ≡ last_in log t i
-last_in-find t i [] = refl
-last_in-find t i (x ∷ older) = by (last_in-find t i older) (same_task x.name.task t && eqb x.name.incarnation i) where
-  by : find (λ (y : Evaluated). same_task y.name.task t && eqb y.name.incarnation i) older ≡ last_in older t i → (b : Bool)
-      → cond b (Some x) (find (λ (y : Evaluated). same_task y.name.task t && eqb y.name.incarnation i) older) ≡ cond b (Some x) (last_in older t i)
-  by ih true = refl
-  by ih false = ih
+pub test-own_latest : (first : List ℕ) (older : List Evaluated) → AllFit first older → (name : Name) → Each (IsLow name.task.resource name.incarnation) older → (t : Take) → IsTest (is_own_latest older name t) (IsOwnLatest older name t)
+test-own_latest first older fit name low t = test-if _ _ _ _ (test-same t.producer.resource name.task.resource) latest where
+  latest : t.producer.resource ≡ name.task.resource → IsTest (same_from t.from (from_of (newest_in older t.producer name.incarnation))) (t.from ≡ from_of (last_in older t.producer name.incarnation))
+  latest own =
+      subst (λ l. IsTest (same_from t.from (from_of l)) (t.from ≡ from_of (last_in older t.producer name.incarnation)))
+      (sym (newest-last first older fit t.producer name.incarnation (subst (λ n. Each (IsLow n name.incarnation) older) (sym own) low))) (test-from t.from (from_of (last_in older t.producer name.incarnation)))

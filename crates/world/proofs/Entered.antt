@@ -1,5 +1,5 @@
 -- The log of a run is entered into a book without a misfit, and whoever holds one of its evaluations holds the same.
-use Rattle.std.proofs.Common.{◌≡◌, ℕ, zero, suc, Bool, true, false, cond, List, [], ◌∷◌, ◌++◌, Option, Some, None, refl, ap, ◌∙◌, subst, eqb, take}
+use Rattle.std.proofs.Common.{◌≡◌, ℕ, zero, suc, Bool, true, false, cond, List, [], ◌∷◌, ◌++◌, Option, Some, None, ap, ◌∙◌, subst, eqb, take}
 use Rattle.std.specs.Prelude.{MatchOption, reverse, slice_get}
 use Rattle.std.proofs.lemmas.List.{reverse-append, append_assoc}
 use Rattle.std.proofs.lemmas.Option.{none-some, same_Some}
@@ -7,14 +7,12 @@ use Rattle.plant.specs.declared.task_ref.TaskRef.{TaskRef}
 use Rattle.evaluation.specs.Meaning.{Evaluated}
 use Rattle.exchange_core.specs.Last.{same_task}
 use Rattle.exchange_core.proofs.Tables.{same_task-itself}
-use Rattle.world.specs.declared.book.misfit.Misfit.{Misfit}
-use Rattle.world.specs.declared.book.misfit.Misfit.TheVariants.{WrongNumber, UnknownTake, Torn, Back, NotOwnLatest, Memory}
 use Rattle.world.specs.History.{history_of}
 use Rattle.world.specs.Run.{has_reached}
 use Rattle.world.specs.World.{WorldValue, node_takes, latest_at, held_at}
 use Rattle.world.specs.Fits.{Among, Fits, AllFit}
-use Rattle.world.specs.Book.{IsMisfit}
 use Rattle.world.specs.BookLaws.{RunsFit, RunsAreEntered, HoldersAgree}
+use Rattle.world.proofs.Misfits.{only-memory}
 use Rattle.world.proofs.Names.{AllLawful-after, log-rises}
 use Rattle.world.proofs.Fitting.{last_among-entry}
 use Rattle.world.proofs.AllFits.{one_name, log-fits}
@@ -22,15 +20,6 @@ use Rattle.world.proofs.AllFits.{one_name, log-fits}
 -- each evaluation of a run fits those before it
 pub run-fits : RunsFit
 run-fits s events log firsts is = log-fits s (history_of s events) (reverse log) firsts (AllLawful-after s [] events tt) is
-
--- what fits is refused for nothing but want of memory
-pub only-memory : (first : List ℕ) (older : List Evaluated) (x : Evaluated) (m : Misfit) → Fits first older x → IsMisfit first older x m → m ≡ Memory
-only-memory first older x WrongNumber fits is = absurd (is fits.numbered)
-only-memory first older x UnknownTake fits is = absurd (is.1 fits.known)
-only-memory first older x Torn fits is = absurd (is.2 fits.untorn)
-only-memory first older x Back fits is = absurd (is.3 fits.not_back)
-only-memory first older x NotOwnLatest fits is = absurd (is.4 fits.own_latest)
-only-memory first older x Memory fits is = refl
 
 -- what stands behind an item
 split-at : (log : List Evaluated) (k : ℕ) (x : Evaluated) → slice_get log k ≡ Some x → (rest : List Evaluated) × (log ≡ take k log ++ x ∷ rest)

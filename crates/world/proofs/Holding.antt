@@ -13,7 +13,7 @@ use Rattle.exchange_core.specs.Last.{same_task}
 use Rattle.exchange_core.specs.Held.{known}
 use Rattle.exchange_core.specs.CoreValue.{CoreValue, held_of}
 use Rattle.world.specs.History.{history_of}
-use Rattle.world.specs.Run.{has_reached, latest, last_among}
+use Rattle.world.specs.Run.{has_reached, last_among}
 use Rattle.world.specs.World.{WorldValue, node_takes, latest_at, held_at}
 use Rattle.world.specs.Nodes.{IsNode}
 

@@ -13,8 +13,9 @@ use Rattle.exchange_core.specs.Last.{state_of}
 use Rattle.world.specs.declared.event.Event.{Event}
 use Rattle.world.specs.declared.event.Event.TheVariants.{Evaluate, Deliver, Restart}
 use Rattle.world.specs.History.{Setting, made_count, is_lawful, after_events, history_of}
-use Rattle.world.specs.Run.{IsLog, IsNextEvaluation, latest, message}
+use Rattle.world.specs.Run.{IsLog, IsRun, IsNextEvaluation, latest, message}
 use Rattle.world.specs.Consistent.{TakesOnly}
+use Rattle.world.specs.BookLaws.{BooksAreConsistent}
 use Rattle.world.specs.Theorem.{IsMade, ConsistencyTheorem}
 use Rattle.world.proofs.Names.{length-log, named}
 use Rattle.world.proofs.Moves.{run-message}
@@ -210,3 +211,8 @@ consistency-theorem s events log is =
       never_back = (run-consistent s events log is).never_back;
       holders = holders-agree (record { setting = s; events = events; log = log }) is;
     }
+
+pub books-consistent : BooksAreConsistent
+books-consistent s entries events sound firsts could again =
+    let is : IsRun s events entries = again s.plant s.max_number sound firsts could in
+    (consistency-theorem s events entries is, run-consistent s events entries is)

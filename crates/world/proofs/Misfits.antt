@@ -19,16 +19,17 @@ pub first_failed-is : (first : List ℕ) (older : List Evaluated) → AllFit fir
 first_failed-is first older fit x =
     by (is_numbered first older x.name) (list_all (is_known older) x.takes) (list_all (is_untorn older) x.takes) (list_all (is_not_back older x.name) x.takes) (list_all (is_own_latest older x.name) x.takes)
     (test-numbered first older fit x.name) (test-each (is_known older) (IsKnown older) (test-known older) x.takes) (test-each (is_untorn older) (IsUntorn older) (test-untorn first older fit) x.takes)
-    (test-each (is_not_back older x.name) (IsNotBack older x.name) (test-not_back first older fit x.name) x.takes) (test-each (is_own_latest older x.name) (IsOwnLatest older x.name) (test-own_latest older x.name) x.takes) where
+    (λ n. test-each (is_not_back older x.name) (IsNotBack older x.name) (test-not_back first older fit x.name n.not_below_latest) x.takes)
+    (λ n. test-each (is_own_latest older x.name) (IsOwnLatest older x.name) (test-own_latest first older fit x.name n.not_below_latest) x.takes) where
       by : (a b c d e : Bool) → IsTest a (IsNumbered first older x.name) → IsTest b (Each (IsKnown older) x.takes) → IsTest c (Each (IsUntorn older) x.takes)
-          → IsTest d (Each (IsNotBack older x.name) x.takes) → IsTest e (Each (IsOwnLatest older x.name) x.takes)
+          → (IsNumbered first older x.name → IsTest d (Each (IsNotBack older x.name) x.takes)) → (IsNumbered first older x.name → IsTest e (Each (IsOwnLatest older x.name) x.takes))
           → MatchOption (cond (not a) (Some WrongNumber) (cond (not b) (Some UnknownTake) (cond (not c) (Some Torn) (cond (not d) (Some Back) (cond (not e) (Some NotOwnLatest) None))))) (Fits first older x) (IsMisfit first older x)
       by false b c d e p q r s t = fails _ p
       by true false c d e p q r s t = (p.holds refl, fails _ q)
       by true true false d e p q r s t = (p.holds refl, q.holds refl, fails _ r)
-      by true true true false e p q r s t = (p.holds refl, q.holds refl, r.holds refl, fails _ s)
-      by true true true true false p q r s t = (p.holds refl, q.holds refl, r.holds refl, s.holds refl, fails _ t)
-      by true true true true true p q r s t = record { numbered = p.holds refl; known = q.holds refl; untorn = r.holds refl; not_back = s.holds refl; own_latest = t.holds refl }
+      by true true true false e p q r s t = (p.holds refl, q.holds refl, r.holds refl, fails _ (s (p.holds refl)))
+      by true true true true false p q r s t = (p.holds refl, q.holds refl, r.holds refl, (s (p.holds refl)).holds refl, fails _ (t (p.holds refl)))
+      by true true true true true p q r s t = record { numbered = p.holds refl; known = q.holds refl; untorn = r.holds refl; not_back = (s (p.holds refl)).holds refl; own_latest = (t (p.holds refl)).holds refl }
 
 -- what fits is refused for want of memory alone
 pub only-memory : (first : List ℕ) (older : List Evaluated) (x : Evaluated) (misfit : Misfit) → Fits first older x → IsMisfit first older x misfit → misfit ≡ Memory

@@ -1,5 +1,5 @@
 -- In a lawful history the pairs of each task rise strictly.
-use Rattle.std.proofs.Common.{◌≡◌, ℕ, suc, ◌+◌, Bool, true, false, cond, List, [], ◌∷◌, length, refl, ap, sym, ◌∙◌, subst, arith, eqb, add-suc, add-one, zero-add}
+use Rattle.std.proofs.Common.{◌≡◌, ℕ, suc, ◌+◌, Bool, true, false, cond, List, [], ◌∷◌, ◌++◌, length, refl, ap, sym, ◌∙◌, subst, arith, eqb, add-suc, add-one, zero-add}
 use Rattle.std.proofs.lemmas.Bool.{false≢true}
 use Rattle.std.proofs.lemmas.Bool.Decides.{nat_tests}
 use Rattle.plant.specs.declared.task_ref.TaskRef.{TaskRef}
@@ -26,6 +26,11 @@ AllLawful-after s h (e ∷ es) all = AllLawful-after s (cond (is_lawful s h e) (
   by : (b : Bool) → is_lawful s h e ≡ b → AllLawful s (cond b (e ∷ h) h)
   by true f = (f, all)
   by false f = all
+
+-- events after other events
+pub after_append : (s : Setting) (h xs ys : List Event) → after_events s h (xs ++ ys) ≡ after_events s (after_events s h xs) ys
+after_append s h [] ys = refl
+after_append s h (x ∷ xs) ys = after_append s (cond (is_lawful s h x) (x ∷ h) h) xs ys
 
 -- the name of a next evaluation
 pub named : (s : Setting) (h : List Event) (log : List Evaluated) (k : ℕ) (t : TaskRef) (dt : ℕ) (inputs : List FieldInput) (x : Evaluated) → IsNextEvaluation s h log k t dt inputs x → x.name ≡ next_name s t h

@@ -15,7 +15,6 @@ use Rattle.evaluation.specs.declared.take.Take.{Take}
 use Rattle.evaluation.specs.Takes.{initial_image, AreTakesOf}
 use Rattle.evaluation.specs.Meaning.{Evaluated, evaluated}
 use Rattle.exchange_core.specs.Last.{same_task, from_of, last_number, state_of, take_of, takes_of}
-use Rattle.exchange_core.proofs.Tables.{same_task-true}
 use Rattle.world.specs.declared.event.Event.{Event}
 use Rattle.world.specs.declared.event.Event.TheVariants.{Evaluate, Restart}
 use Rattle.world.specs.History.{Setting, is_lawful, after_events, history_of, incarnation_of, number_of}
@@ -23,13 +22,14 @@ use Rattle.world.specs.Run.{IsNextEvaluation, next_name, latest, has_reached}
 use Rattle.world.specs.Fits.{Among, Each, last_in, name_from, is_below, IsUntorn, IsNotBack, IsOwnLatest, Fits, AllFit}
 use Rattle.world.specs.Book.{CouldBeMade, AllCouldBeMade, Replays}
 use Rattle.world.specs.Schedule.{present, delivery, events_of, schedule_of}
-use Rattle.world.proofs.Names.{length-log}
+use Rattle.world.proofs.Names.{after_append, length-log}
 use Rattle.world.proofs.Steps.{latest-other_evaluate, number-latest}
 use Rattle.world.proofs.Lists.{Each-at}
 use Rattle.world.proofs.Fitting.{last_among-entry, own-latest}
 use Rattle.world.proofs.NotBack.{is_below-itself}
+use Rattle.world.proofs.AllFits.{taken_name}
 use Rattle.world.proofs.Suiting.{Suits, suits, single}
-use Rattle.world.proofs.Scheduling.{after-append, after-lawful, IsTaken, Held, held-wider, Restarted, restart-all, AllUp, Delivered, deliver-all}
+use Rattle.world.proofs.Scheduling.{after-lawful, IsTaken, Held, held-wider, Restarted, restart-all, AllUp, Delivered, deliver-all}
 
 -- two takes neither of which is below the other are of one evaluation
 same_pair : (a b : ℕ × ℕ) (q : TaskRef) → is_below q (Some a) (Some b) ≡ false → is_below q (Some b) (Some a) ≡ false → (a.0 ≡ b.0) × (a.1 ≡ b.1)
@@ -87,10 +87,6 @@ module _ (s : Setting) (g : List Event) (log : List Evaluated) (x : Evaluated) (
 -- a take of the latest is the run's take
 same_take : (t u : Take) → t.producer ≡ u.producer → t.from ≡ u.from → t.image ≡ u.image → t ≡ u
 same_take t u p f i = rw (p, f, i) refl
-
--- the name of an entry of p, as a take gives it
-taken_name : (p : TaskRef) (z : Evaluated) → same_task z.name.task p ≡ true → z.name ≡ name_from p (z.name.incarnation, z.name.number)
-taken_name p z e = rw (← same_task-true z.name.task p e) refl
 
 take-same : (n : ℕ) (g : List Event) (log : List Evaluated) (t : Take) (kinds : List Kind) → (t.from ≡ None → t.image ≡ initial_image kinds) → IsUntorn log t → t.from ≡ from_of (latest n g t.producer log)
     → t ≡ take_of t.producer kinds (latest n g t.producer log)
@@ -224,8 +220,8 @@ module _ (s : Setting) (h : List Event) (log : List Evaluated) (x : Evaluated) (
 
   history-is : after_events s h (events_of s.first log x) ≡ made ∷ brought
   history-is =
-      after-append s h (replicate count (Restart resource)) (flat_map (delivery log x.name) x.takes ++ made ∷ [])
-      ∙ after-append s begun (flat_map (delivery log x.name) x.takes) (made ∷ [])
+      after_append s h (replicate count (Restart resource)) (flat_map (delivery log x.name) x.takes ++ made ∷ [])
+      ∙ after_append s begun (flat_map (delivery log x.name) x.takes) (made ∷ [])
       ∙ after-lawful s brought made [] lawful
 
   -- the events of one entry more
@@ -243,7 +239,7 @@ module _ (s : Setting) (h : List Event) (log : List Evaluated) (x : Evaluated) (
 replay : (s : Setting) (log : List Evaluated) → IsSoundPlant s.plant → length s.first ≡ length s.plant.resources → AllFit s.first log → AllCouldBeMade s log → Scheduled s (history_of s (schedule_of s.first log)) log
 replay s [] sound firsts fit all = record { held = record { lawful = tt; logged = tt; reached = λ n q away. tt }; incarnations = λ m. omega arith }
 replay s (x ∷ older) sound firsts fit all =
-    subst (λ g. Scheduled s g (x ∷ older)) (sym (after-append s [] (schedule_of s.first older) (events_of s.first older x)))
+    subst (λ g. Scheduled s g (x ∷ older)) (sym (after_append s [] (schedule_of s.first older) (events_of s.first older x)))
     (scheduled-more s (history_of s (schedule_of s.first older)) older x sound firsts (replay s older sound firsts fit.1 all.1) fit.0 all.0)
 
 -- the schedule of entries that fit makes them again

@@ -1,5 +1,5 @@
 -- The events of a schedule make its entries again: how they lead from entry to entry.
-use Rattle.std.proofs.Common.{◌≡◌, inl, inr, ℕ, zero, suc, ◌+◌, ◌<◌, ◌≤◌, Bool, true, false, cond, ◌&&◌, List, [], ◌∷◌, ◌++◌, length, replicate, Option, Some, None, refl, ap, sym, ◌∙◌, subst, arith, eqb}
+use Rattle.std.proofs.Common.{◌≡◌, inl, inr, ℕ, zero, suc, ◌+◌, ◌<◌, ◌≤◌, Bool, true, false, cond, ◌&&◌, List, [], ◌∷◌, length, replicate, Option, Some, None, refl, ap, sym, ◌∙◌, subst, arith, eqb}
 use Rattle.std.specs.Prelude.{MatchOption}
 use Rattle.std.specs.Option.{option_and_then}
 use Rattle.std.specs.List.{list_any, find, flat_map}
@@ -17,29 +17,18 @@ use Rattle.world.specs.History.{Setting, made_count, is_lawful, after_events, in
 use Rattle.world.specs.Run.{IsLog, latest, message}
 use Rattle.world.specs.Laws.{greater, held_with}
 use Rattle.world.specs.Fits.{Among, Each, name_from, is_below, IsKnown}
+use Rattle.world.specs.Steps.Deciding.{same_name}
 use Rattle.world.specs.Schedule.{is_from, message_of, taken_in, takes_from, last_taken, delivery_from, delivery}
-use Rattle.world.proofs.Names.{AllLawful, length-log, log-rises}
+use Rattle.world.proofs.Names.{AllLawful, after_append, length-log, log-rises}
 use Rattle.world.proofs.Steps.{latest-deliver, latest-other_deliver, latest-restart, latest-other_restart, incarnation-restart}
+use Rattle.world.proofs.Deciding.{test-name}
 use Rattle.world.proofs.NotBack.{AllReach, TakesReach, takes-reach, is_below-itself, is_below-trans, deliver-not_below}
 
--- lists of events
-pub after-append : (s : Setting) (h es fs : List Event) → after_events s h (es ++ fs) ≡ after_events s (after_events s h es) fs
-after-append s h [] fs = refl
-after-append s h (e ∷ es) fs = after-append s (cond (is_lawful s h e) (e ∷ h) h) es fs
-
+-- a lawful event happens
 pub after-lawful : (s : Setting) (h : List Event) (e : Event) (es : List Event) → is_lawful s h e ≡ true → after_events s h (e ∷ es) ≡ after_events s (e ∷ h) es
 after-lawful s h e es lawful = ap (λ b. after_events s (cond b (e ∷ h) h) es) lawful
 
--- names and pairs that test equal
-same_name-true : (a b : Name) → (same_task a.task b.task && (eqb a.incarnation b.incarnation && eqb a.number b.number)) ≡ true → a ≡ b
-same_name-true a b e =
-    let outer = and_parts (same_task a.task b.task) (eqb a.incarnation b.incarnation && eqb a.number b.number) e in
-    let inner = and_parts (eqb a.incarnation b.incarnation) (eqb a.number b.number) outer.1 in
-    rw (same_task-true a.task b.task outer.0, eqb-true a.incarnation b.incarnation inner.0, eqb-true a.number b.number inner.1) refl
-
-same_name-itself : (a : Name) → (same_task a.task a.task && (eqb a.incarnation a.incarnation && eqb a.number a.number)) ≡ true
-same_name-itself a = rw (same_task-itself a.task, eq-eqb a.incarnation a.incarnation refl, eq-eqb a.number a.number refl)
-
+-- what was taken, where the test passes
 is_from-true : (o : Option (ℕ × ℕ)) (f : ℕ × ℕ) → is_from o f ≡ true → o ≡ Some f
 is_from-true None f e = absurd (false≢true e)
 is_from-true (Some g) f e =
@@ -155,13 +144,11 @@ placed-later x log name k p =
 
 pub place : (log : List Evaluated) (q : TaskRef) (f : ℕ × ℕ) (y : Evaluated) → Among y log → y.name ≡ name_from q f → Placed log (name_from q f) (message_of log q f)
 place [] q f y among e = elim among [ ]
-place (x ∷ log) q f y among e = by (same_task x.name.task q && (eqb x.name.incarnation f.0 && eqb x.name.number f.1)) refl among (place log q f y) where
-  by : (b : Bool) → (same_task x.name.task q && (eqb x.name.incarnation f.0 && eqb x.name.number f.1)) ≡ b → Among y (x ∷ log)
+place (x ∷ log) q f y among e = by (same_name x.name (name_from q f)) refl among (place log q f y) where
+  by : (b : Bool) → same_name x.name (name_from q f) ≡ b → Among y (x ∷ log)
       → (Among y log → y.name ≡ name_from q f → Placed log (name_from q f) (message_of log q f)) → Placed (x ∷ log) (name_from q f) (cond b (suc (length log)) (message_of log q f))
-  by true g a ih = record { entry = x; came = (rw (eq-eqb (suc (length log)) (suc (length log)) refl) refl); named = same_name-true x.name (name_from q f) g; low = omega arith; high = omega arith }
-  by false g (inl same) ih =
-      let at : x.name ≡ name_from q f = ap (λ z. z.name) same ∙ e in
-      absurd (false≢true (sym g ∙ subst (λ m. (same_task x.name.task m.task && (eqb x.name.incarnation m.incarnation && eqb x.name.number m.number)) ≡ true) at (same_name-itself x.name)))
+  by true g a ih = record { entry = x; came = (rw (eq-eqb (suc (length log)) (suc (length log)) refl) refl); named = (test-name x.name (name_from q f)).holds g; low = omega arith; high = omega arith }
+  by false g (inl same) ih = absurd (false≢true (sym g ∙ (test-name x.name (name_from q f)).passes (ap (λ z. z.name) same ∙ e)))
   by false g (inr a) ih = placed-later x log (name_from q f) (message_of log q f) (ih a e)
 
 -- what was taken last is not above the latest
@@ -280,4 +267,4 @@ module _ (s : Setting) (log seen : List Evaluated) (name : Name) (inside : name.
       let g1 : List Event = after_events s h (delivery log name t) in
       let one : Delivered s h log seen taker (t ∷ []) g1 = deliver-one h held at t known.0 (took t (inl refl)) in
       let rest : Delivered s g1 log seen taker ts (after_events s g1 (flat_map (delivery log name) ts)) = deliver-all ts g1 one.held (one.incarnations taker ∙ at) known.1 (λ u among. took u (inr among)) in
-      subst (Delivered s h log seen taker (t ∷ ts)) (sym (after-append s h (delivery log name t) (flat_map (delivery log name) ts))) (joined h g1 _ t ts one rest)
+      subst (Delivered s h log seen taker (t ∷ ts)) (sym (after_append s h (delivery log name t) (flat_map (delivery log name) ts))) (joined h g1 _ t ts one rest)

@@ -27,13 +27,10 @@ use Rattle.world.specs.RunText.{IsDoneLine, Tells, IsLineAfter, IsRunText, resta
 use Rattle.world.specs.ScheduleText.{is_idle, SpellsEvent, SpellEvents, Spell}
 use Rattle.world.specs.Steps.Telling.{IsTold}
 use Rattle.world.specs.Steps.Simulating.{HasTold, HasRested, HasWritten, HasDone}
+use Rattle.world.proofs.Names.{after_append}
 use Rattle.world.proofs.Telling.{seam, length-one_more}
 
--- events after other events
-after_append : (s : Setting) (h xs ys : List Event) → after_events s h (xs ++ ys) ≡ after_events s (after_events s h xs) ys
-after_append s h [] ys = refl
-after_append s h (x ∷ xs) ys = after_append s (cond (is_lawful s h x) (x ∷ h) h) xs ys
-
+-- the history of events after other events
 pub history_append : (s : Setting) (xs ys : List Event) → history_of s (xs ++ ys) ≡ after_events s (history_of s xs) ys
 history_append s xs ys = after_append s [] xs ys
 

@@ -11,7 +11,7 @@ use Rattle.world.specs.World.{WorldValue}
 use Rattle.world.specs.Fits.{AllFit}
 use Rattle.world.specs.Book.{IsMisfit, AllCouldBeMade, Replays}
 use Rattle.world.specs.Consistent.{IsConsistent}
-use Rattle.world.specs.Theorem.{HoldersAgreeIn}
+use Rattle.world.specs.Theorem.{HoldersAgreeIn, IsDataConsistent}
 
 -- a run is a consistent log
 abbrev pub RunsAreConsistent : Type 0
@@ -41,6 +41,12 @@ abbrev pub RunsReplay : Type 0
 RunsReplay =
     (s : Setting) (events again : List Event) (log : List Evaluated) → IsSoundPlant s.plant → length s.first ≡ length s.plant.resources → AreIncarnations s.first → IsRun s events log
     → Replays s.first log again → IsRun s again log
+
+-- Where events make the entries of a book again, the consistency theorem holds of these events and entries, and the entries are a consistent log.
+abbrev pub BooksAreConsistent : Type 0
+BooksAreConsistent =
+    (s : Setting) (entries : List Evaluated) (events : List Event) → IsSoundPlant s.plant → length s.first ≡ length s.plant.resources → AllCouldBeMade s (reverse entries) → Replays s.first entries events
+    → IsDataConsistent s events entries × IsConsistent s.plant (reverse entries)
 
 -- resources that hold one evaluation hold equal values
 abbrev pub HoldersAgree : Type 0

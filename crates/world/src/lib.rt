@@ -17,7 +17,8 @@ pub use done::Done;
 pub use event::Event;
 pub use laws::{keeping_the_greatest_keeps_the_latest, one_run, pairs_rise};
 pub use log_laws::{
-    consistency_theorem, holders_agree, runs_are_consistent, runs_are_entered, runs_fit,
+    books_are_consistent, consistency_theorem, holders_agree, runs_are_consistent,
+    runs_are_entered, runs_fit,
 };
 pub use replay_laws::{runs_could_be_made, runs_replay};
 pub use schedule::{SimFault, one_reading, push_evaluation, simulate};

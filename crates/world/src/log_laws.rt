@@ -1,5 +1,5 @@
 // What holds of the log of every list of events: the consistency theorem, and that the log is a book.
-ghost use Rattle.world.specs.BookLaws.{RunsAreConsistent, RunsFit, RunsAreEntered, HoldersAgree};
+ghost use Rattle.world.specs.BookLaws.{RunsAreConsistent, RunsFit, RunsAreEntered, BooksAreConsistent, HoldersAgree};
 ghost use Rattle.world.specs.Theorem.{ConsistencyTheorem};
 
 /// The consistency theorem. Over every list of evaluations, deliveries and restarts, all inputs that an evaluation takes from one producing task come from one evaluation of it,
@@ -22,6 +22,11 @@ pub fn runs_fit()
 /// Entering the log of a run into a book, in order, is refused for nothing but want of memory.
 pub fn runs_are_entered()
     ensures { RunsAreEntered }
+{}
+
+/// Where events make the entries of a book again, the consistency theorem holds of these events and entries, and the entries are a consistent log.
+pub fn books_are_consistent()
+    ensures { BooksAreConsistent }
 {}
 
 /// Resources that hold one evaluation hold equal values.

@@ -1,5 +1,5 @@
 -- Steps of the proofs: the tests by which a book decides whether an evaluation fits. Entries stand with the newest first.
-use Rattle.std.specs.Prelude.{ℕ, ◌+◌, Bool, true, false, if◌then◌else◌, ◌==◌, ◌&&◌, ◌||◌, not, nat_lt, nat_le, List, Option, Some, None, length, slice_index}
+use Rattle.std.specs.Prelude.{ℕ, ◌+◌, Bool, true, false, if◌then◌else◌, ◌==◌, ◌&&◌, ◌||◌, not, nat_lt, nat_le, List, Option, Some, None, length, slice_index, is_some}
 use Rattle.std.specs.Ordering.{int_eq}
 use Rattle.std.specs.Cmp.Lexicographic.{pointwise}
 use Rattle.std.specs.List.{list_all, list_any, find}
@@ -12,7 +12,7 @@ use Rattle.evaluation.specs.Meaning.{Evaluated}
 use Rattle.exchange_core.specs.Last.{same_task, last_number, from_of}
 use Rattle.world.specs.declared.book.misfit.Misfit.{Misfit}
 use Rattle.world.specs.declared.book.misfit.Misfit.TheVariants.{WrongNumber, UnknownTake, Torn, Back, NotOwnLatest}
-use Rattle.world.specs.Fits.{last_in, name_from, is_below}
+use Rattle.world.specs.Fits.{name_from, is_below}
 
 -- two names are one
 abbrev pub same_name : Name → Name → Bool
@@ -50,11 +50,24 @@ incarnation_in first (Some y) = y.name.incarnation
 abbrev pub present_in : List ℕ → List Evaluated → ℕ → ℕ
 present_in first older n = incarnation_in (slice_index first n) (find (λ (y : Evaluated). y.name.task.resource == n) older)
 
+-- an entry is of this task
+abbrev pub is_of_task : TaskRef → Evaluated → Bool
+is_of_task t y = same_task y.name.task t
+
+-- an entry, if it is of this incarnation
+abbrev pub if_of : ℕ → Option Evaluated → Option Evaluated
+if_of i None = None
+if_of i (Some y) = if y.name.incarnation == i then Some y else None
+
+-- the newest entry of a task, if it is of this incarnation
+abbrev pub newest_in : List Evaluated → TaskRef → ℕ → Option Evaluated
+newest_in older t i = if_of i (find (is_of_task t) older)
+
 -- the first clause of what fits
 abbrev pub is_numbered : List ℕ → List Evaluated → Name → Bool
 is_numbered first older name =
     nat_lt name.task.resource (length first)
-    && (nat_le (present_in first older name.task.resource) name.incarnation && (name.number == last_number (last_in older name.task name.incarnation) + 1))
+    && (nat_le (present_in first older name.task.resource) name.incarnation && (name.number == last_number (newest_in older name.task name.incarnation) + 1))
 
 -- an entry's name is this one
 abbrev pub is_named : Name → Evaluated → Bool
@@ -62,7 +75,7 @@ is_named name y = same_name y.name name
 
 -- an entry has this name
 abbrev pub has_named : List Evaluated → Name → Bool
-has_named older name = list_any (is_named name) older
+has_named older name = is_some (find (is_named name) older)
 
 abbrev pub known_from : List Evaluated → TaskRef → Option (ℕ × ℕ) → Bool
 known_from older p None = true
@@ -89,22 +102,22 @@ is_untorn older t = untorn_from older t.producer t.image t.from
 abbrev pub keeps_take : Take → Take → Bool
 keeps_take t u = not (same_task u.producer t.producer) || not (is_below t.producer t.from u.from)
 
--- an entry is of this name's resource and incarnation and takes from this producer
-abbrev pub takes_from : Name → TaskRef → Evaluated → Bool
-takes_from name q y = y.name.task.resource == name.task.resource && (y.name.incarnation == name.incarnation && list_any (λ (u : Take). same_task u.producer q) y.takes)
+-- an entry is of this resource and takes from this producer
+abbrev pub takes_from : ℕ → TaskRef → Evaluated → Bool
+takes_from n q y = y.name.task.resource == n && list_any (λ (u : Take). same_task u.producer q) y.takes
 
--- a take is below none of an entry's takes, if there is such an entry
-abbrev pub keeps_takes : Take → Option Evaluated → Bool
-keeps_takes t None = true
-keeps_takes t (Some y) = list_all (keeps_take t) y.takes
+-- an entry, if there is one, is of another incarnation, or a take is below none of its takes
+abbrev pub keeps_takes : ℕ → Take → Option Evaluated → Bool
+keeps_takes i t None = true
+keeps_takes i t (Some y) = not (y.name.incarnation == i) || list_all (keeps_take t) y.takes
 
 -- the fourth clause, for one take
 abbrev pub is_not_back : List Evaluated → Name → Take → Bool
-is_not_back older name t = t.producer.resource == name.task.resource || keeps_takes t (find (takes_from name t.producer) older)
+is_not_back older name t = t.producer.resource == name.task.resource || keeps_takes name.incarnation t (find (takes_from name.task.resource t.producer) older)
 
 -- the fifth clause, for one take
 abbrev pub is_own_latest : List Evaluated → Name → Take → Bool
-is_own_latest older name t = not (t.producer.resource == name.task.resource) || same_from t.from (from_of (last_in older t.producer name.incarnation))
+is_own_latest older name t = not (t.producer.resource == name.task.resource) || same_from t.from (from_of (newest_in older t.producer name.incarnation))
 
 -- the first clause that fails, if one does
 abbrev pub first_failed : List ℕ → List Evaluated → Name → List Take → Option Misfit

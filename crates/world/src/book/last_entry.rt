@@ -1,49 +1,54 @@
-ghost use Rattle.std.specs.Prelude.{◌≡◌, ◌==◌, ◌&&◌, reverse};
+ghost use Rattle.std.specs.Prelude.{◌≡◌, reverse};
 ghost use Rattle.std.specs.List.{find};
 ghost use Rattle.std.specs.Option.{option_copied};
-ghost use Rattle.exchange_core.specs.Last.{same_task, last_number, from_of};
-ghost use Rattle.world.specs.Fits.{last_in};
+ghost use Rattle.exchange_core.specs.Last.{last_number, from_of};
+ghost use Rattle.world.specs.Steps.Deciding.{is_of_task, newest_in};
 
-use evaluation::{Frame, Name};
+use crate::book::Book;
+use crate::book::entry_at::entry_at;
+use crate::book::ledger::{last_place, places_of};
+use evaluation::Frame;
 use plant::TaskRef;
 
-/// The last entry of a task in an incarnation.
-pub fn last_in(entries: &[Frame], task: TaskRef, incarnation: u32) -> Option<&Frame>
-    ensures { option_copied result ≡ last_in (reverse entries.now) task incarnation }
+/// The newest entry of a task.
+fn newest_of(book: &Book, task: TaskRef) -> Option<&Frame>
+    ensures { option_copied result ≡ find (is_of_task task) (reverse book.now.entries) }
 {
-    find_last(entries, task, incarnation)
+    let places = places_of(book.ledger.tasks.as_slice(), task);
+    entry_at(book.entries.as_slice(), last_place(places))
 }
 
-fn find_last(entries: &[Frame], task: TaskRef, incarnation: u32) -> Option<&Frame>
-    ensures { option_copied result ≡ find (λ y. same_task y.name.task task && y.name.incarnation == incarnation) (reverse entries.now) }
+/// The newest entry of a task, if it is of this incarnation.
+fn newest_in(book: &Book, task: TaskRef, incarnation: u32) -> Option<&Frame>
+    ensures { option_copied result ≡ newest_in (reverse book.now.entries) task incarnation }
 {
-    entries
-        .iter()
-        .rev()
-        .find(|entry| is_of(entry.name(), task, incarnation))
+    match newest_of(book, task) {
+        None => None,
+        Some(entry) => {
+            if entry.name().incarnation == incarnation {
+                Some(entry)
+            } else {
+                None
+            }
+        }
+    }
 }
 
-fn is_of(name: Name, task: TaskRef, incarnation: u32) -> bool
-    ensures { result ≡ (same_task name.task task && name.incarnation == incarnation) }
+/// The number of a task's newest entry, or 0 if that isn't of this incarnation.
+pub fn last_number(book: &Book, task: TaskRef, incarnation: u32) -> u32
+    ensures { result ≡ last_number (newest_in (reverse book.now.entries) task incarnation) }
 {
-    name.task == task && name.incarnation == incarnation
-}
-
-/// The number of the last entry of a task in an incarnation, or 0.
-pub fn last_number(entries: &[Frame], task: TaskRef, incarnation: u32) -> u32
-    ensures { result ≡ last_number (last_in (reverse entries.now) task incarnation) }
-{
-    match last_in(entries, task, incarnation) {
+    match newest_in(book, task, incarnation) {
         None => 0,
         Some(last) => last.name().number,
     }
 }
 
-/// The incarnation and number of the last entry of a task in an incarnation.
-pub fn last_from(entries: &[Frame], task: TaskRef, incarnation: u32) -> Option<(u32, u32)>
-    ensures { result ≡ from_of (last_in (reverse entries.now) task incarnation) }
+/// The incarnation and number of a task's newest entry, if it is of this incarnation.
+pub fn last_from(book: &Book, task: TaskRef, incarnation: u32) -> Option<(u32, u32)>
+    ensures { result ≡ from_of (newest_in (reverse book.now.entries) task incarnation) }
 {
-    match last_in(entries, task, incarnation) {
+    match newest_in(book, task, incarnation) {
         None => None,
         Some(last) => {
             let name = last.name();

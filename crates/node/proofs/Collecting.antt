@@ -1,0 +1,186 @@
+-- What the checks of a report find out, step by step.
+use Rattle.std.proofs.Common.{◌≡◌, ◌⊎◌, inl, inr, ℕ, zero, suc, ◌+◌, ◌<◌, ◌≤◌, Bool, true, false, cond, eqb, not, ◌&&◌, ◌++◌, List, [], ◌∷◌, length, drop, take, map, filter, All, get_or, Option, Some, None, IfSome, slice_get, refl, ap, sym, ◌∙◌, subst, arith, add-one}
+use Rattle.std.specs.List.{filter_map, list_any}
+use Rattle.std.specs.Option.{option_map, option_to_list}
+use Rattle.std.proofs.lemmas.Bool.{cases_lt}
+use Rattle.std.proofs.lemmas.List.{take_more, length_push, get_or_push, get_or_append_left, length-map, map-append}
+use Rattle.std.proofs.lemmas.List.Elements.{filter_map-append, filter-append}
+use Rattle.std.proofs.lemmas.Option.{same_Some, slice_get_within, slice_get-map, get_or_from_slice_get, slice_get-get_or}
+use Rattle.plant.specs.PlantValue.{CodeValue}
+use Rattle.power_flow.specs.StateValue.{StateValue}
+use Rattle.evaluation.specs.Meaning.{Evaluated, IsWhole, IsSameEvaluation}
+use Rattle.evaluation.specs.States.{AreStatesOf, AreSame}
+use Rattle.world.specs.Book.{BookValue}
+use Rattle.node.specs.declared.command.Command.{Command}
+use Rattle.node.specs.declared.step.Step.{Step}
+use Rattle.node.specs.declared.step.Step.TheVariants.{Took, Made, Restarted}
+use Rattle.node.specs.declared.journal.Journal.{Journal}
+use Rattle.node.specs.Journals.{made}
+use Rattle.node.specs.Reports.{entries_of, firsts_of, ticket_of, tickets_of, is_evaluate, is_unanswered, unanswered_of, AreNumbered}
+use Rattle.node.specs.Steps.Collecting.{made_with, AllStand, AreMarks, RiseTo}
+
+-- what stands at a place is an element
+pub at_place : {X : Type 0} (xs : List X) (k : ℕ) → k < length xs → (x : X) × (slice_get xs k ≡ Some x)
+at_place [] k lt = absurd (omega arith)
+at_place (x ∷ xs) zero lt = (x, refl)
+at_place (x ∷ xs) (suc k) lt = at_place xs k (omega arith)
+
+-- lists that have the same at each place are equal
+same_places : {X : Type 0} (xs ys : List X) → length xs ≡ length ys → ((k : ℕ) (x y : X) → slice_get xs k ≡ Some x → slice_get ys k ≡ Some y → x ≡ y) → xs ≡ ys
+same_places [] [] many same = refl
+same_places [] (y ∷ ys) many same = absurd (omega arith)
+same_places (x ∷ xs) [] many same = absurd (omega arith)
+same_places (x ∷ xs) (y ∷ ys) many same =
+    let first : x ≡ y = same zero x y refl refl in
+    let rest : xs ≡ ys = same_places xs ys (omega arith) (λ k a b at found. same (suc k) a b at found) in
+    rw (first, rest) refl
+
+-- a state that fits a ladder has the ladder's waiting places, so values and memories are all that can differ
+same_states : (s t : StateValue) → s.slots ≡ t.slots → s.memories ≡ t.memories → s.waiting_gates ≡ t.waiting_gates → s.waiting_bits ≡ t.waiting_bits → s.waiting_results ≡ t.waiting_results → s ≡ t
+same_states s t slots memories gates bits results = rw (slots, memories, gates, bits, results) refl
+
+states_equal : (c : CodeValue) (a b : List StateValue) → AreStatesOf c a → AreStatesOf c b → AreSame a b → a ≡ b
+states_equal c a b one other same = same_places a b same.many (λ k s t at found.
+    let lt = slice_get_within a k s at in
+    let many = one.many in
+    let p = at_place c.programs k (omega arith) in
+    let x = one.each k p.0 s p.1 at in
+    let y = other.each k p.0 t p.1 found in
+    let is = same.each k s t at found in
+    same_states s t is.slots is.memories (x.waiting_gates ∙ sym y.waiting_gates) (x.waiting_bits ∙ sym y.waiting_bits) (x.waiting_results ∙ sym y.waiting_results))
+
+-- whole evaluations with the same contents are equal
+pub evaluations_equal : (x y : Evaluated) → IsWhole x → IsWhole y → IsSameEvaluation x y → x ≡ y
+evaluations_equal x y one other same =
+    rw (same.ticket, same.name, same.dt, same.inputs, same.takes, before, same.outputs, after, same.code) refl
+  where
+    of_x : (states : List StateValue) → AreStatesOf y.code states → AreStatesOf x.code states
+    of_x states fit = subst (λ (c : CodeValue). AreStatesOf c states) (sym same.code) fit
+
+    before : x.before ≡ y.before
+    before = states_equal x.code x.before y.before one.before_fits (of_x y.before other.before_fits) same.before
+
+    after : x.after ≡ y.after
+    after = states_equal x.code x.after y.after one.after_fits (of_x y.after other.after_fits) same.after
+
+same_as_itself : (states : List StateValue) → AreSame states states
+same_as_itself states = record {
+  many = refl;
+  each = λ i s t at found. (let same : s ≡ t = same_Some s t (sym at ∙ found) in record { slots = ap (λ (x : StateValue). x.slots) same; memories = ap (λ (x : StateValue). x.memories) same });
+}
+
+-- an evaluation has its own contents
+pub has_own_contents : (x y : Evaluated) → x ≡ y → IsSameEvaluation x y
+has_own_contents x y e = subst (IsSameEvaluation x) e record {
+  ticket = refl;
+  name = refl;
+  dt = refl;
+  inputs = refl;
+  takes = refl;
+  before = same_as_itself x.before;
+  outputs = refl;
+  after = same_as_itself x.after;
+  code = refl;
+}
+
+-- the entries from a place on
+entries-drop : (r : ℕ) (xs : List Evaluated) (k : ℕ) (x : Evaluated) → slice_get xs k ≡ Some x
+    → entries_of r (drop k xs) ≡ cond (eqb x.name.task.resource r) (x ∷ entries_of r (drop (suc k) xs)) (entries_of r (drop (suc k) xs))
+entries-drop r [] k x is = absurd cc
+entries-drop r (y ∷ xs) zero x is =
+    let same : y ≡ x = cc in
+    subst (λ (z : Evaluated). entries_of r (y ∷ xs) ≡ cond (eqb z.name.task.resource r) (z ∷ entries_of r xs) (entries_of r xs)) same refl
+entries-drop r (y ∷ xs) (suc k) x is = entries-drop r xs k x is
+
+-- the resource's entry at a place is its next one
+pub next_entry : (r : ℕ) (xs : List Evaluated) (from k : ℕ) (x : Evaluated) → entries_of r (drop from xs) ≡ entries_of r (drop k xs) → slice_get xs k ≡ Some x → eqb x.name.task.resource r ≡ true
+    → IfSome (slice_get xs k) (λ y. entries_of r (drop from xs) ≡ y ∷ entries_of r (drop (k + 1) xs))
+next_entry r xs from k x so_far at here =
+    subst (λ (o : Option Evaluated). IfSome o (λ y. entries_of r (drop from xs) ≡ y ∷ entries_of r (drop (k + 1) xs))) (sym at)
+    (rw add-one (so_far ∙ entries-drop r xs k x at ∙ ap (λ b. cond b (x ∷ entries_of r (drop (suc k) xs)) (entries_of r (drop (suc k) xs))) here))
+
+made-drop : (ss : List Step) (k : ℕ) (s : Step) → slice_get ss k ≡ Some s → made (drop k ss) ≡ made_with s (made (drop (suc k) ss))
+made-drop [] k s is = absurd cc
+made-drop (x ∷ ss) zero s is = let same : x ≡ s = cc in subst (λ (y : Step). made (x ∷ ss) ≡ made_with y (made ss)) same (made-cons x ss)
+  where
+    made-cons : (x : Step) (ss : List Step) → made (x ∷ ss) ≡ made_with x (made ss)
+    made-cons (Took y) ss = refl
+    made-cons (Made y) ss = refl
+    made-cons (Restarted ticket incarnation) ss = refl
+made-drop (x ∷ ss) (suc k) s is = made-drop ss k s is
+
+-- what would suffice before a step suffices behind it
+pub step_in_book : (r : ℕ) (ss : List Step) (xs : List Evaluated) (i at to : ℕ) (s : Step) (Goal : Type 0) → slice_get ss i ≡ Some s
+    → entries_of r (drop at xs) ≡ made_with s (entries_of r (drop to xs)) → (made (drop i ss) ≡ entries_of r (drop at xs) → Goal)
+    → made (drop (i + 1) ss) ≡ entries_of r (drop to xs) → Goal
+step_in_book r ss xs i at to s Goal here step so_far rest =
+    let next : made (drop (suc i) ss) ≡ entries_of r (drop to xs) = rw (← add-one) rest in
+    so_far (made-drop ss i s here ∙ ap (made_with s) next ∙ sym step)
+
+-- the book begins in the first incarnations of the journals that stand at their places
+pub firsts_are : (book : BookValue) (journals : List Journal) → length journals ≡ length book.first → AllStand book journals → book.first ≡ firsts_of journals
+firsts_are book journals many stand = same_places book.first (firsts_of journals) (sym many ∙ sym (length-map journals (λ (j : Journal). j.first))) each
+  where
+    each : (k : ℕ) (x y : ℕ) → slice_get book.first k ≡ Some x → slice_get (firsts_of journals) k ≡ Some y → x ≡ y
+    each k x y at found =
+        let lt = slice_get_within book.first k x at in
+        let j = at_place journals k (omega arith) in
+        let is : slice_get (firsts_of journals) k ≡ Some j.0.first = slice_get-map (λ (j : Journal). j.first) journals k ∙ ap (option_map (λ (j : Journal). j.first)) j.1 in
+        same_Some x j.0.first (sym at ∙ (stand k j.0 j.1).first_is) ∙ same_Some j.0.first y (sym is ∙ found)
+
+-- what holds of each at its place holds of all
+pub all_from_places : {X : Type 0} (P : X → Type 0) (xs : List X) → ((k : ℕ) (x : X) → slice_get xs k ≡ Some x → P x) → All P xs
+all_from_places P xs each = λ k d lt. each k (get_or xs k d) (slice_get-get_or xs k d lt)
+
+-- the tickets of one more step
+pub tickets-more : (ss : List Step) (k : ℕ) (s : Step) → slice_get ss k ≡ Some s → tickets_of (take (k + 1) ss) ≡ tickets_of (take k ss) ++ option_to_list (ticket_of s)
+tickets-more ss k s at =
+    ap tickets_of (take_more ss k s (slice_get_within ss k s at) ∙ ap (λ x. take k ss ++ x ∷ []) (get_or_from_slice_get ss k s s at))
+    ∙ filter_map-append ticket_of (take k ss) (s ∷ [])
+    ∙ ap (λ ts. tickets_of (take k ss) ++ ts) (by (ticket_of s))
+  where
+    by : (o : Option ℕ) → filter_map (λ (x : Step). o) (s ∷ []) ≡ option_to_list o
+    by None = refl
+    by (Some n) = refl
+
+-- one more number above the last one
+pub rise-more : (xs : List ℕ) (last : Option ℕ) (x : ℕ) → RiseTo xs last → IfSome last (λ before. before < x) → RiseTo (xs ++ x ∷ []) (Some x)
+rise-more xs last x rise above = record {
+  rising = λ k lt. by k (omega (arith, length_push xs x)) (cases_lt (k + 1) (length xs));
+  last_is =
+      ap (slice_get (xs ++ x ∷ [])) (omega (arith, length_push xs x))
+      ∙ slice_get-get_or (xs ++ x ∷ []) (length xs) x (omega (arith, length_push xs x)) ∙ ap (λ n. Some n) (get_or_push xs x x (length xs) refl);
+}
+  where
+    by : (k : ℕ) → k < length xs → (k + 1 < length xs) ⊎ (length xs ≤ k + 1) → get_or (xs ++ x ∷ []) k 0 < get_or (xs ++ x ∷ []) (k + 1) 0
+    by k lt (inl inside) =
+        let low = get_or_append_left xs (x ∷ []) 0 k lt in
+        let high = get_or_append_left xs (x ∷ []) 0 (k + 1) inside in
+        let rises = rise.rising k inside in
+        omega arith
+    by k lt (inr end) =
+        let low = get_or_append_left xs (x ∷ []) 0 k lt in
+        let high = get_or_push xs x 0 (k + 1) (omega arith) in
+        let last_is : last ≡ Some (get_or xs k 0) = sym rise.last_is ∙ ap (slice_get xs) (omega arith) ∙ slice_get-get_or xs k 0 lt in
+        let below : get_or xs k 0 < x = subst (λ (o : Option ℕ). IfSome o (λ before. before < x)) last_is above in
+        omega arith
+
+-- the unanswered ones among one more command
+pub unanswered-more : (cs : List Command) (xs : List Evaluated) (k : ℕ) (c : Command) (b : Bool) → slice_get cs k ≡ Some c → is_unanswered xs c ≡ b
+    → unanswered_of (take (k + 1) cs) xs ≡ unanswered_of (take k cs) xs ++ cond b (c.ticket ∷ []) []
+unanswered-more cs xs k c b at is =
+    ap (λ (l : List Command). unanswered_of l xs) (take_more cs k c (slice_get_within cs k c at) ∙ ap (λ x. take k cs ++ x ∷ []) (get_or_from_slice_get cs k c c at))
+    ∙ ap (map (λ (c : Command). c.ticket)) (filter-append (is_unanswered xs) (take k cs) (c ∷ []))
+    ∙ map-append (λ (c : Command). c.ticket) (filter (is_unanswered xs) (take k cs)) (cond (is_unanswered xs c) (c ∷ []) [])
+    ∙ ap (λ ts. unanswered_of (take k cs) xs ++ ts) (ap (λ t. map (λ (c : Command). c.ticket) (cond t (c ∷ []) [])) is ∙ by b)
+  where
+    by : (t : Bool) → map (λ (c : Command). c.ticket) (cond t (c ∷ []) []) ≡ cond t (c.ticket ∷ []) []
+    by true = refl
+    by false = refl
+
+-- a command is unanswered where it asks to evaluate and its place isn't marked
+pub unanswered_is : (cs : List Command) (xs : List Evaluated) (marks : List Bool) (k : ℕ) (c : Command) (marked : Bool) → AreNumbered cs → AreMarks (length cs) xs marks
+    → slice_get cs k ≡ Some c → marked ≡ get_or marks k false → is_unanswered xs c ≡ (is_evaluate c.act && not marked)
+unanswered_is cs xs marks k c marked numbered are at is =
+    ap (λ t. is_evaluate c.act && not t)
+    (ap (λ n. list_any (λ (x : Evaluated). eqb x.ticket n) xs) (numbered k c at) ∙ sym (are.each k (slice_get_within cs k c at)) ∙ sym is)

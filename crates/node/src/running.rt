@@ -1,0 +1,47 @@
+ghost use Rattle.std.specs.Prelude.{◌≡◌, IfOk, length, map, vec_len};
+ghost use Rattle.std.specs.List.Sorted.{IsStrictlyIncreasing};
+ghost use Rattle.node.specs.Reports.{IsFittingBook, AreJournalsOf, AreInBook, AreAnswers, RunsAgain, AreNumbered, AreForPlant};
+
+use crate::collector::collect;
+use crate::command::Command;
+use crate::gate::Gate;
+use crate::keeper::Keeper;
+use crate::report::Report;
+use crate::run_fault::RunFault;
+use crate::threads::{Outcome, run_all};
+use plant::Plant;
+use std::alloc::Global;
+use std::sync::{Arc, Wait};
+use std::thread::Threads;
+
+/// Runs commands on a plant, one thread for each resource, and reports what was done. The command of ticket k stands at the k-th place.
+///
+/// Each keeper, one for each resource in order, is raised once before the threads start, and once more for each Restart. `max_number` is the greatest number of an evaluation in one incarnation.
+/// The caller's thread asks the gate about each command in order, and sends it to its resource; each resource obeys what comes to it, enters what it makes into one book, and sends it to each other
+/// resource that takes from the task. Then all threads are stopped and joined. What one command met is a fault in the report; a run without a report is a fault of the run.
+pub fn run_threads<R: Threads + Wait + Sync, K: Keeper, G: Gate>(
+    rt: &R,
+    alloc: Global,
+    plant: Arc<Plant>,
+    commands: &[Command],
+    keepers: Vec<K>,
+    gate: &G,
+    max_number: u32,
+) -> Result<Report, RunFault>
+    requires numbered { AreNumbered commands.now }
+    requires resources { AreForPlant plant.value commands.now }
+    requires keepers { vec_len keepers ≡ length plant.value.resources }
+    ensures fitting { IfOk result (λ r. IsFittingBook r.book r.journals) }
+    ensures journals { IfOk result (λ r. AreJournalsOf plant.value max_number r.journals) }
+    ensures made { IfOk result (λ r. AreInBook r.book.entries r.journals) }
+    ensures answers { IfOk result (λ r. AreAnswers commands.now r.book.entries r.journals r.unanswered) }
+    ensures faults { IfOk result (λ r. IsStrictlyIncreasing (map (λ f. f.ticket) r.node_faults)) }
+    ensures again { IfOk result (λ r. RunsAgain plant.value max_number r.book r.journals) }
+{
+    let Outcome {
+        book,
+        journals,
+        faults,
+    } = run_all(rt, alloc, &plant, commands, keepers, gate, max_number)?;
+    collect(alloc, &plant, max_number, commands, book, journals, faults)
+}

@@ -1,0 +1,13 @@
+use crate::command::Command;
+use evaluation::Frame;
+
+/// What comes to the thread of a resource.
+#[derive(Drop)]
+pub(crate) enum Inbox {
+    /// An evaluation of another resource's task.
+    Frame(Frame),
+    /// What the resource is asked to do.
+    Command(Command),
+    /// Nothing else comes that counts.
+    Stop,
+}

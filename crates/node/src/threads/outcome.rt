@@ -1,0 +1,13 @@
+use crate::journal::Journal;
+use crate::node_fault::NodeFault;
+use world::Book;
+
+/// What the threads of a run left.
+#[derive(Drop)]
+pub(crate) struct Outcome {
+    pub book: Book,
+    /// In the order of the resources.
+    pub journals: Vec<Journal>,
+    /// First those that the caller's thread noted, then those of each resource in order.
+    pub faults: Vec<NodeFault>,
+}

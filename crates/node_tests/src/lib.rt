@@ -1,0 +1,19 @@
+//! Tests of `node`, by its public calls alone.
+#![tactic(auto)]
+
+#[cfg(test)]
+mod checks;
+#[cfg(test)]
+mod gates;
+#[cfg(test)]
+mod journals;
+#[cfg(test)]
+mod keepers;
+#[cfg(test)]
+mod lists;
+#[cfg(test)]
+mod runs;
+#[cfg(test)]
+mod threads;
+#[cfg(test)]
+mod waits;

@@ -1,0 +1,93 @@
+-- Why `run_text` ended, from why a part of it did.
+use Rattle.std.proofs.Common.{◌≡◌, ◌≢◌, ◌↔◌, ℕ, ◌+◌, ◌<◌, ◌==◌, suc, zero, ◌++◌, Bool, true, false, not, IsTrue, List, [], ◌∷◌, All, length, take, drop, slice_get, Option, Some, None, Result, Ok, Err, OnOk, OnErr, IfErr, inl, inr, refl, sym, ap, ◌∙◌, subst, append_assoc, arith}
+use Rattle.std.specs.Result.{IsErrAnd}
+use Rattle.std.proofs.KnownBytes.{Keeps-refl, Appends-trans}
+use Rattle.std.proofs.lemmas.Bool.{eqb-true}
+use Rattle.std.proofs.lemmas.Option.{none-some, slice_get_within}
+use Rattle.std.specs.Io.KnownBytes.{Appends}
+use Rattle.std.specs.Option.{option_map}
+use Rattle.plant.specs.declared.due.Due.{Due}
+use Rattle.plant.specs.PlantValue.{TaskValue, ResourceValue, PlantValue, items_or_none}
+use Rattle.plant.specs.Plan.{IsDue, IsPlan, task_at}
+use Rattle.evaluation.specs.declared.field_input.FieldInput.{FieldInput}
+use Rattle.node.specs.declared.command.Command.{Command}
+use Rattle.node.specs.declared.node_fault.NodeFault.{NodeFault}
+use Rattle.node.specs.declared.report.Report.{Report}
+use Rattle.node.specs.declared.run_fault.RunFault.{RunFault}
+use Rattle.node.specs.Reports.{IsFittingBook, AreJournalsOf, AreInBook, AreAnswers, RunsAgain, AreNumbered, AreForPlant}
+use Rattle.plc_main.specs.declared.command_fault.CommandFault.{CommandFault}
+use Rattle.plc_main.specs.declared.command_fault.CommandFault.TheVariants.{Text, Word, Write, Run, Memory}
+use Rattle.plc_main.specs.declared.text_fault.TextFault.TheVariants.{Draw, Graph, Bind, Plant, TooLong}
+use Rattle.plc_main.specs.EvalText.{IsLate}
+use Rattle.plc_main.specs.PlanText.{RefusesPlanOf}
+use Rattle.plc_main.specs.Refusals.{GivenForRun}
+use Rattle.plc_main.specs.Sending.{SendsPart}
+use Rattle.plc_main.specs.RunCommands.{command_for, commands_from}
+use Rattle.plc_main.specs.ReportText.{report_lines, replay_line}
+use Rattle.plc_main.specs.RunText.{ArePlanned, IsReport, IsReportOf, WritesReportPart, ExplainsRun}
+use Rattle.plc_main.proofs.Sending.{begins}
+use Rattle.plc_main.proofs.Reporting.{part_of_first, part_of_second}
+
+-- the tickets count from k on
+numbered_from : (plant : PlantValue) (inputs : List FieldInput) (j : ℕ) (dues : List Due) (k : ℕ) (c : Command) → slice_get (commands_from plant inputs j dues) k ≡ Some c → c.ticket ≡ j + k
+numbered_from plant inputs j [] k c at = absurd (none-some c at)
+numbered_from plant inputs j (d ∷ dues) zero c at = let one : command_for plant inputs j d ≡ c = cc in omega (arith, ap (λ (x : Command). x.ticket) one)
+numbered_from plant inputs j (d ∷ dues) (suc k) c at = let more = numbered_from plant inputs (j + 1) dues k c at in omega (arith, more)
+
+pub numbered : (plant : PlantValue) (inputs : List FieldInput) (dues : List Due) → AreNumbered (commands_from plant inputs 1 dues)
+numbered plant inputs dues k c at = let n = numbered_from plant inputs 1 dues k c at in omega (arith, n)
+
+-- a task that exists is of a resource that exists
+resource_exists : (plant : PlantValue) (d : Due) (task : TaskValue) → task_at plant d.task ≡ Some task → d.task.resource < length plant.resources
+resource_exists plant d task stands = by (slice_get plant.resources d.task.resource) refl where
+  by : (o : Option ResourceValue) → slice_get plant.resources d.task.resource ≡ o → d.task.resource < length plant.resources
+  by None at = absurd (none-some task (sym (ap (λ (o : Option ResourceValue). slice_get (items_or_none (option_map (λ (r : ResourceValue). r.tasks) o)) d.task.task) at) ∙ stands))
+  by (Some r) at = slice_get_within plant.resources d.task.resource r at
+
+for_plant_from : (plant : PlantValue) (until : ℕ) (inputs : List FieldInput) (j : ℕ) (dues : List Due) → All (IsDue plant until) dues → AreForPlant plant (commands_from plant inputs j dues)
+for_plant_from plant until inputs j [] each k c lt = absurd (omega arith)
+for_plant_from plant until inputs j (d ∷ dues) each zero c lt = let due = each 0 d (omega arith) in resource_exists plant d due.task due.stands
+for_plant_from plant until inputs j (d ∷ dues) each (suc k) c lt = for_plant_from plant until inputs (j + 1) dues (λ i x inside. each (suc i) x (omega arith)) k c (omega arith)
+
+pub planned_numbered : (plant : PlantValue) (until : ℕ) (inputs : List FieldInput) (commands : List Command) → ArePlanned plant until inputs commands → AreNumbered commands
+planned_numbered plant until inputs commands p = subst AreNumbered (sym p.commands_are) (numbered plant inputs p.dues)
+
+pub planned_for_plant : (plant : PlantValue) (until : ℕ) (inputs : List FieldInput) (commands : List Command) → ArePlanned plant until inputs commands → AreForPlant plant commands
+planned_for_plant plant until inputs commands p = subst (AreForPlant plant) (sym p.commands_are) (for_plant_from plant until inputs 1 p.dues p.planned.each)
+
+-- no plan
+pub run_refused : (plant : PlantValue) (until : ℕ) (inputs : List FieldInput) (old : Option (List ℕ)) (fault : CommandFault) → RefusesPlanOf plant until fault → ExplainsRun plant until inputs old old fault
+run_refused plant until inputs old (Text fault) refused = (refused, Keeps-refl old)
+run_refused plant until inputs old (Word fault) refused = absurd refused
+run_refused plant until inputs old Write refused = absurd refused
+run_refused plant until inputs old (Run fault) refused = absurd refused
+run_refused plant until inputs old Memory refused = inl (Keeps-refl old)
+
+-- no report
+pub no_report : {T : Type 0} (plant : PlantValue) (until : ℕ) (inputs : List FieldInput) (old : Option (List ℕ)) (found : RunFault) (r : Result T CommandFault) → IsErrAnd r (GivenForRun found) → IfErr r (ExplainsRun plant until inputs old old)
+no_report plant until inputs old found (Ok x) given = tt
+no_report plant until inputs old found (Err fault) given = elim given [ inl w ↦ subst (ExplainsRun plant until inputs old old) (sym w.1) (inl (Keeps-refl old)) | inr w ↦ subst (ExplainsRun plant until inputs old old) (sym w.1) (Keeps-refl old) ]
+
+-- the lines were written in part
+pub lines_partly : (plant : PlantValue) (until : ℕ) (inputs : List FieldInput) (old new : Option (List ℕ)) (report : Report) (fault : CommandFault) → IsReportOf plant until inputs report → SendsPart (report_lines plant report) old new
+    → IsLate fault → ExplainsRun plant until inputs old new fault
+lines_partly plant until inputs old new report (Text fault) is part late = absurd late
+lines_partly plant until inputs old new report (Word fault) is part late = absurd late
+lines_partly plant until inputs old new report Write is part late = record { report = report; is_report = is; sent = part_of_first (report_lines plant report) (replay_line true) old new part }
+lines_partly plant until inputs old new report (Run fault) is part late = absurd late
+lines_partly plant until inputs old new report Memory is part late = inr (record { report = report; is_report = is; sent = part_of_first (report_lines plant report) [] old new part })
+
+-- all lines were written, and then there was no memory for the replay
+pub lines_alone : (plant : PlantValue) (until : ℕ) (inputs : List FieldInput) (old new : Option (List ℕ)) (report : Report) → IsReportOf plant until inputs report → Appends old new (report_lines plant report) → ExplainsRun plant until inputs old new Memory
+lines_alone plant until inputs old new report is appended = inr (record { report = report; is_report = is; sent = begins (report_lines plant report ++ []) (report_lines plant report) [] old new refl appended })
+
+-- all lines were written, and the last one in part
+pub last_partly : (plant : PlantValue) (until : ℕ) (inputs : List FieldInput) (old mid new : Option (List ℕ)) (report : Report) → IsReportOf plant until inputs report → Appends old mid (report_lines plant report)
+    → (k : ℕ) → Appends mid new (take k (replay_line true)) → ExplainsRun plant until inputs old new Write
+last_partly plant until inputs old mid new report is appended k last = record { report = report; is_report = is; sent = part_of_second (report_lines plant report) (replay_line true) old mid new appended (record { written = k; appended = last }) }
+
+-- the test of a fault
+pub faulty : (faults : List NodeFault) (b : Bool) → b ≡ (length faults == 0) → IsTrue (not b) ↔ (faults ≢ [])
+faulty [] b is = (λ some e. let no : false ≡ true = sym (ap not is) ∙ some in cc, λ some. absurd (some refl))
+faulty (f ∷ fs) true is = let none : suc (length fs) ≡ 0 = eqb-true (suc (length fs)) 0 (sym is) in absurd (omega arith)
+faulty (f ∷ fs) false is = (λ some e. cc, λ some. refl)

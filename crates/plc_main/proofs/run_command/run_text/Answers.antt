@@ -1,0 +1,89 @@
+-- The commands are numbered and for the plant; the report is written whole or in part.
+use Rattle.std.proofs.Common.{◌≡◌, ◌++◌, List, length, ap, ◌∙◌, sym, subst}
+use Rattle.std.proofs.KnownBytes.{Appends-trans}
+use Rattle.node.specs.Reports.{AreNumbered, AreForPlant}
+use Rattle.plc_main.specs.declared.command_fault.CommandFault.TheVariants.{Write, Memory}
+use Rattle.plc_main.specs.ReportText.{report_lines, replay_line}
+use Rattle.plc_main.specs.RunText.{ArePlanned, IsReportOf, ExplainsRun}
+use Rattle.plc_main.proofs.PlanExplaining.{kept_fault}
+use Rattle.plc_main.proofs.RunExplaining.{planned_numbered, planned_for_plant, lines_partly, lines_alone, last_partly, faulty}
+use Rattle.plc_main.proofs.run_command.run_text.Goals as goal
+
+pub run_threads-requires-clause-numbered : goal.run_threads-requires-clause-numbered
+run_threads-requires-clause-numbered g c κs within =
+    subst AreNumbered (sym c.deref-2.ensures.value) (planned_numbered _ c.args.until c.args.inputs c.in_ok-commands.commands.items c.in_ok-commands.ensures.ok)
+
+pub run_threads-requires-clause-resources : goal.run_threads-requires-clause-resources
+run_threads-requires-clause-resources g c κs within =
+    subst (AreForPlant c.args.plant.value) (sym c.deref-2.ensures.value) (planned_for_plant c.args.plant.value c.args.until c.args.inputs c.in_ok-commands.commands.items (rw c.deref.ensures at c.in_ok-commands.ensures.ok))
+
+pub returns-in_err-write_report-clause-fault : goal.returns-in_err-write_report-clause-fault
+returns-in_err-write_report-clause-fault g c =
+    let plant = c.args.plant.value in
+    let until = c.args.until in
+    let inputs = c.args.inputs in
+    let report = c.in_ok-report.report in
+    let ended = c.in_ok-report.ensures in
+    let planned : ArePlanned plant until inputs c.in_ok-commands.commands.items = rw c.deref.ensures at c.in_ok-commands.ensures.ok in
+    let is_report : IsReportOf plant until inputs report = record {
+      commands = c.in_ok-commands.commands.items;
+      planned = planned;
+      reported = record { fitting = ended.fitting; journals = ended.journals; made = ended.made; answers = rw c.deref-2.ensures.value at ended.answers; again = ended.again };
+    } in
+    kept_fault c.in_err-write_report.field-0.0 (ExplainsRun plant until inputs _ _) _ c.from_residual-in_err-write_report.ensures.1
+    (lines_partly plant until inputs _ _ report c.in_err-write_report.field-0.0 is_report (rw c.deref-3.ensures at c.in_err-write_report.ensures.part) c.in_err-write_report.ensures.late)
+
+pub returns-in_err-equal-clause-fault : goal.returns-in_err-equal-clause-fault
+returns-in_err-equal-clause-fault g c =
+    let plant = c.args.plant.value in
+    let until = c.args.until in
+    let inputs = c.args.inputs in
+    let report = c.in_ok-report.report in
+    let ended = c.in_ok-report.ensures in
+    let planned : ArePlanned plant until inputs c.in_ok-commands.commands.items = rw c.deref.ensures at c.in_ok-commands.ensures.ok in
+    let is_report : IsReportOf plant until inputs report = record {
+      commands = c.in_ok-commands.commands.items;
+      planned = planned;
+      reported = record { fitting = ended.fitting; journals = ended.journals; made = ended.made; answers = rw c.deref-2.ensures.value at ended.answers; again = ended.again };
+    } in
+    kept_fault Memory (ExplainsRun plant until inputs _ _) _ c.from_residual-in_err-equal.ensures.1
+    (lines_alone plant until inputs _ _ report is_report (rw c.deref-3.ensures at c.in_ok-write_report.ensures.ok))
+
+pub returns-in_err-write_text-clause-fault : goal.returns-in_err-write_text-clause-fault
+returns-in_err-write_text-clause-fault g c =
+    let plant = c.args.plant.value in
+    let until = c.args.until in
+    let inputs = c.args.inputs in
+    let report = c.in_ok-report.report in
+    let ended = c.in_ok-report.ensures in
+    let planned : ArePlanned plant until inputs c.in_ok-commands.commands.items = rw c.deref.ensures at c.in_ok-commands.ensures.ok in
+    let is_report : IsReportOf plant until inputs report = record {
+      commands = c.in_ok-commands.commands.items;
+      planned = planned;
+      reported = record { fitting = ended.fitting; journals = ended.journals; made = ended.made; answers = rw c.deref-2.ensures.value at ended.answers; again = ended.again };
+    } in
+    let line = c.replay_line.ensures ∙ ap replay_line (c.in_ok-equal.ensures.equal ended.again) in
+    let part = rw line at c.in_err-write_text.ensures.prefix in
+    kept_fault Write (ExplainsRun plant until inputs _ _) _ c.from_residual-in_err-write_text.ensures.1
+    (last_partly plant until inputs _ _ _ report is_report (rw c.deref-3.ensures at c.in_ok-write_report.ensures.ok) part.0 part.1)
+
+pub returns-clause-ok : goal.returns-clause-ok
+returns-clause-ok g c =
+    let plant = c.args.plant.value in
+    let until = c.args.until in
+    let inputs = c.args.inputs in
+    let report = c.in_ok-report.report in
+    let ended = c.in_ok-report.ensures in
+    let planned : ArePlanned plant until inputs c.in_ok-commands.commands.items = rw c.deref.ensures at c.in_ok-commands.ensures.ok in
+    let is_report : IsReportOf plant until inputs report = record {
+      commands = c.in_ok-commands.commands.items;
+      planned = planned;
+      reported = record { fitting = ended.fitting; journals = ended.journals; made = ended.made; answers = rw c.deref-2.ensures.value at ended.answers; again = ended.again };
+    } in
+    let line = c.replay_line.ensures ∙ ap replay_line (c.in_ok-equal.ensures.equal ended.again) in
+    record {
+      report = report;
+      is_report = is_report;
+      appended = Appends-trans _ _ _ (report_lines plant report) _ (rw c.deref-3.ensures at c.in_ok-write_report.ensures.ok) (rw line at c.in_ok-write_text.ensures.whole);
+      faulty_is = faulty report.node_faults c.is_empty.result (rw c.as_slice.ensures at c.is_empty.ensures);
+    }

@@ -1,0 +1,8 @@
+-- The words ADDRESS=VALUE of the command line.
+use Rattle.std.specs.Prelude.{ℕ, List, codes}
+use Rattle.std.specs.Borrow.{Bor}
+use Rattle.std.specs.List.{join_by}
+
+-- the words as one text, parted by one blank
+abbrev pub joined : List (Bor (List ℕ)) → List ℕ
+joined words = join_by (λ (w : Bor (List ℕ)). w.now) (codes " ") words

@@ -1,0 +1,23 @@
+-- The commands of `plc run`.
+use Rattle.std.specs.Prelude.{ℕ, ◌+◌, List, [], ◌∷◌, unwrap_or}
+use Rattle.std.specs.Option.{option_map}
+use Rattle.plant.specs.declared.due.Due.{Due}
+use Rattle.plant.specs.declared.task_ref.TaskRef.{TaskRef}
+use Rattle.plant.specs.PlantValue.{TaskValue, PlantValue}
+use Rattle.plant.specs.Plan.{task_at}
+use Rattle.evaluation.specs.declared.field_input.FieldInput.{FieldInput}
+use Rattle.node.specs.declared.command.Command.{Command}
+use Rattle.node.specs.declared.act.Act.TheVariants.{Evaluate}
+
+-- the interval of a task
+abbrev pub interval_at : PlantValue → TaskRef → ℕ
+interval_at plant t = unwrap_or (option_map (λ (found : TaskValue). found.interval) (task_at plant t)) 0
+
+-- the command for an entry of the plan: its resource is to evaluate its task, the task's interval after the time before, with these field inputs
+abbrev pub command_for : PlantValue → List FieldInput → ℕ → Due → Command
+command_for plant inputs ticket d = record { ticket = ticket; resource = d.task.resource; act = Evaluate d.task.task (interval_at plant d.task) inputs }
+
+-- a command for each entry of a plan, in order; their tickets count from k on
+abbrev pub commands_from : PlantValue → List FieldInput → ℕ → List Due → List Command
+commands_from plant inputs k [] = []
+commands_from plant inputs k (d ∷ dues) = command_for plant inputs k d ∷ commands_from plant inputs (k + 1) dues

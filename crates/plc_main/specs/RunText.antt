@@ -1,0 +1,58 @@
+-- What `plc run` writes.
+use Rattle.std.specs.Prelude.{◌≡◌, ◌≢◌, ◌↔◌, ℕ, ◌≤◌, ◌++◌, ◌⊎◌, Bool, IsTrue, true, List, [], Option, length}
+use Rattle.std.specs.Io.KnownBytes.{Appends, Keeps}
+use Rattle.plant.specs.declared.due.Due.{Due}
+use Rattle.plant.specs.PlantValue.{PlantValue}
+use Rattle.plant.specs.Plan.{IsPlan}
+use Rattle.evaluation.specs.declared.field_input.FieldInput.{FieldInput}
+use Rattle.node.specs.declared.command.Command.{Command}
+use Rattle.node.specs.declared.report.Report.{Report}
+use Rattle.node.specs.Reports.{IsFittingBook, AreJournalsOf, AreInBook, AreAnswers, RunsAgain}
+use Rattle.plc_main.specs.declared.command_fault.CommandFault.{CommandFault}
+use Rattle.plc_main.specs.declared.command_fault.CommandFault.TheVariants.{Text, Word, Write, Run, Memory}
+use Rattle.plc_main.specs.Sending.{SendsPart}
+use Rattle.plc_main.specs.PlanText.{RefusesPlanOf}
+use Rattle.plc_main.specs.RunCommands.{commands_from}
+use Rattle.plc_main.specs.ReportText.{report_lines, replay_line}
+
+-- the commands are those for the entries of the plan, of which there are at most 100,000
+pub record ArePlanned (plant : PlantValue) (until : ℕ) (inputs : List FieldInput) (commands : List Command) : Type 0 where
+  pub dues : List Due
+  pub planned : IsPlan plant until dues
+  pub few : length dues ≤ 100000
+  pub commands_are : commands ≡ commands_from plant inputs 1 dues
+
+-- What a report of threads is: its book fits, its journals are lawful and made the book's entries, the commands are accounted for, and the book's entries are a run.
+pub record IsReport (plant : PlantValue) (commands : List Command) (max_number : ℕ) (r : Report) : Type 0 where
+  pub fitting : IsFittingBook r.book r.journals
+  pub journals : AreJournalsOf plant max_number r.journals
+  pub made : AreInBook r.book.entries r.journals
+  pub answers : AreAnswers commands r.book.entries r.journals r.unanswered
+  pub again : RunsAgain plant max_number r.book r.journals
+
+-- a report of threads that ran the commands for the plan
+pub record IsReportOf (plant : PlantValue) (until : ℕ) (inputs : List FieldInput) (report : Report) : Type 0 where
+  pub commands : List Command
+  pub planned : ArePlanned plant until inputs commands
+  pub reported : IsReport plant commands 4294967295 report
+
+-- The lines of such a report were written, and `REPLAY equal` last; the answer is whether there is a fault in the report.
+pub record WritesReport (plant : PlantValue) (until : ℕ) (inputs : List FieldInput) (old new : Option (List ℕ)) (faulty : Bool) : Type 0 where
+  pub report : Report
+  pub is_report : IsReportOf plant until inputs report
+  pub appended : Appends old new (report_lines plant report ++ replay_line true)
+  pub faulty_is : IsTrue faulty ↔ (report.node_faults ≢ [])
+
+-- no more than a beginning of the lines of such a report was written, and of a last line behind them
+pub record WritesReportPart (plant : PlantValue) (until : ℕ) (inputs : List FieldInput) (last : List ℕ) (old new : Option (List ℕ)) : Type 0 where
+  pub report : Report
+  pub is_report : IsReportOf plant until inputs report
+  pub sent : SendsPart (report_lines plant report ++ last) old new
+
+-- why there was a fault, and what was written before: nothing before a plan that is too long and threads that gave no report, and after want of memory no last line
+abbrev pub ExplainsRun : PlantValue → ℕ → List FieldInput → Option (List ℕ) → Option (List ℕ) → CommandFault → Type 0
+ExplainsRun plant until inputs old new (Text fault) = RefusesPlanOf plant until (Text fault) × Keeps old new
+ExplainsRun plant until inputs old new (Word fault) = ⊥
+ExplainsRun plant until inputs old new Write = WritesReportPart plant until inputs (replay_line true) old new
+ExplainsRun plant until inputs old new (Run fault) = Keeps old new
+ExplainsRun plant until inputs old new Memory = Keeps old new ⊎ WritesReportPart plant until inputs [] old new
