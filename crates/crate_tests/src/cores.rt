@@ -61,7 +61,7 @@ fn taken(frame: &Frame) -> Option<(u32, u32)> {
 }
 
 fn shows(rt: &impl Abort, image: &Image, values: &[Value]) {
-    assert_eq!(rt; image.values(), values);
+    equal(rt, "image", &image.values(), &values);
 }
 
 fn held(core: &Core) -> Option<(u32, u32)> {
@@ -71,7 +71,7 @@ fn held(core: &Core) -> Option<(u32, u32)> {
 
 #[test]
 fn a_resource_that_does_not_exist_has_no_core(rt: HostRuntime) -> Result<(), Fail> {
-    for (resource, fault) in [(0, None), (1, None), (2, Some(CoreFault::NoSuchResource))] {
+    for &(resource, fault) in &[(0, None), (1, None), (2, Some(CoreFault::NoSuchResource))] {
         let found = core(rt.alloc(), PAIR, resource, 1, 1)?.err();
         equal(&rt, "core", &found, &fault);
     }
@@ -83,9 +83,9 @@ fn a_repeat_is_old(rt: HostRuntime) -> Result<(), Fail> {
     let alloc = rt.alloc();
     let mut watcher = core(alloc, PAIR, 1, 1, u32::MAX)??;
     let frame = counted(alloc, 1, 2)?;
-    let share = frame.try_clone()?;
-    for (frame, accepted) in [(share, Accepted::Taken), (frame, Accepted::Old)] {
-        equal(&rt, "accepted", &watcher.accept(frame), &accepted);
+    for accepted in &[Accepted::Taken, Accepted::Old] {
+        let share = frame.try_clone()?;
+        equal(&rt, "accepted", &watcher.accept(share), accepted);
         equal(&rt, "held", &held(&watcher), &Some((1, 2)));
     }
     Ok(())
@@ -117,7 +117,7 @@ fn no_task_and_no_number_left(rt: HostRuntime) -> Result<(), Fail> {
     let alloc = rt.alloc();
     let none = Inputs::read(alloc, "")?;
     let mut spent = core(alloc, PAIR, 1, 1, 0)??;
-    for (task, fault) in [(7, EvalFault::NoSuchTask), (0, EvalFault::NumbersSpent)] {
+    for &(task, fault) in &[(7, EvalFault::NoSuchTask), (0, EvalFault::NumbersSpent)] {
         let found = spent.evaluate(alloc, 1, task, 10, &none).err();
         equal(&rt, "fault", &found, &Some(fault));
     }

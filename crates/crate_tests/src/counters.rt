@@ -1,5 +1,6 @@
 //! Latches and counters, step by step, with values taken from the block table by hand.
 
+use crate::checks::equal;
 use std::process::Abort;
 use std_blocks::{BlockState, BlockType, PinsIn, PinsOut};
 
@@ -17,7 +18,7 @@ fn compare_latch(rt: &impl Abort, block: BlockType, rows: &[(bool, bool, bool)])
             int: 0,
             time: 0,
         };
-        assert_eq!(rt; state.step(&pins, 10), shown, "row {row} of {block:?}");
+        equal(rt, "row", &(row, state.step(&pins, 10)), &(row, shown));
     }
 }
 
@@ -35,7 +36,7 @@ fn compare_counter(rt: &impl Abort, from: BlockState, rows: &[(i16, [bool; 4], [
             int: count,
             time: 0,
         };
-        assert_eq!(rt; state.step(&pins, 10), shown, "row {row} from {from:?}");
+        equal(rt, "row", &(row, state.step(&pins, 10)), &(row, shown));
     }
 }
 

@@ -13,7 +13,7 @@ fn names_differ_by_more_than_case(rt: HostRuntime) {
         Declared::Input(Kind::Bool),
         Declared::Instance(BlockType::TON),
     );
-    for (name, declared, answer) in [
+    for &(name, declared, answer) in &[
         ("A", input, Ok(())),
         ("a", Declared::Local(Kind::Int), Err(DeclareFault::Twice)),
         ("a_1", block, Ok(())),
@@ -27,7 +27,7 @@ fn names_differ_by_more_than_case(rt: HostRuntime) {
     {
         equal(&rt, "entry", &declarations.entry(place), entry);
     }
-    for (name, place) in [("A_1", Some(1)), ("b", None)] {
+    for &(name, place) in &[("A_1", Some(1)), ("b", None)] {
         equal(&rt, name, &declarations.position(name), &place);
     }
 }
@@ -41,7 +41,7 @@ fn names_longer_than_a_word_of_a_drawing(rt: HostRuntime) -> Result<(), Fail> {
     }
     let mut declarations = Declarations::new(rt.alloc());
     let local = Declared::Local(Kind::Time);
-    for name in ["x", long.as_str()] {
+    for &name in &["x", long.as_str()] {
         equal(&rt, name, &declarations.add(name, local), &Ok(()));
     }
     long.make_ascii_uppercase();

@@ -1,5 +1,6 @@
 //! What numbers, durations and names are.
 
+use crate::checks::equal;
 use ladder_text::{
     BlockName, block_name, duration_up_to, is_duration, is_identifier, is_number, is_plain_name,
     number_up_to,
@@ -9,7 +10,7 @@ const LONGEST_TIME: u64 = 2_147_483_647;
 
 #[test]
 fn reads_numbers(rt: HostRuntime) {
-    for (word, most, number) in [
+    for &(word, most, number) in &[
         ("0", 0, Some(0)),
         ("32767", 32_767, Some(32_767)),
         ("32768", 32_767, None),
@@ -25,15 +26,16 @@ fn reads_numbers(rt: HostRuntime) {
         ("-1", 99, None),
         ("1a", 99, None),
     ] {
-        assert_eq!(rt; number_up_to(word.as_bytes(), most), number, "{word}");
+        equal(&rt, word, &number_up_to(word.as_bytes(), most), &number);
     }
-    assert!(rt; is_number(b"1_0"));
-    assert!(rt; !is_number(b"T#1s"));
+    for &(word, is_so) in &[("1_0", true), ("T#1s", false)] {
+        equal(&rt, word, &is_number(word.as_bytes()), &is_so);
+    }
 }
 
 #[test]
 fn reads_durations(rt: HostRuntime) {
-    for (word, milliseconds) in [
+    for &(word, milliseconds) in &[
         ("T#30ms", Some(30)),
         ("T#1s500ms", Some(1_500)),
         ("TIME#0ms", Some(0)),
@@ -55,19 +57,17 @@ fn reads_durations(rt: HostRuntime) {
         ("T#", None),
         ("1s", None),
     ] {
-        assert_eq!(rt;
-            duration_up_to(word.as_bytes(), LONGEST_TIME),
-            milliseconds,
-            "{word}"
-        );
+        let found = duration_up_to(word.as_bytes(), LONGEST_TIME);
+        equal(&rt, word, &found, &milliseconds);
     }
-    assert!(rt; is_duration(b"time#1h"));
-    assert!(rt; !is_duration(b"10"));
+    for &(word, is_so) in &[("time#1h", true), ("10", false)] {
+        equal(&rt, word, &is_duration(word.as_bytes()), &is_so);
+    }
 }
 
 #[test]
 fn knows_names(rt: HostRuntime) {
-    for (word, identifier, name) in [
+    for &(word, identifier, name) in &[
         ("START", true, true),
         ("_a1", true, true),
         ("A_B", true, true),
@@ -80,10 +80,11 @@ fn knows_names(rt: HostRuntime) {
         ("End_Var", true, false),
         ("priority", true, false),
     ] {
-        let word = word.as_bytes();
-        assert_eq!(rt; is_identifier(word), identifier);
-        assert_eq!(rt; is_plain_name(word), name);
+        let bytes = word.as_bytes();
+        let found = (is_identifier(bytes), is_plain_name(bytes));
+        equal(&rt, word, &found, &(identifier, name));
     }
-    assert_eq!(rt; block_name(b"ctud"), Some(BlockName::Ctud));
-    assert_eq!(rt; block_name(b"TONE"), None);
+    for &(word, block) in &[("ctud", Some(BlockName::Ctud)), ("TONE", None)] {
+        equal(&rt, word, &block_name(word.as_bytes()), &block);
+    }
 }

@@ -25,7 +25,8 @@ const TWO_COILS: &str =
 
 fn has_marks(rt: &impl Abort, drawing: &Drawing, marks: &[(usize, usize, Mark)]) {
     for &(row, column, mark) in marks {
-        assert_eq!(rt; drawing.mark(row, column), mark, "at {row}:{column}");
+        let found = drawing.mark(row, column);
+        equal(rt, "mark", &(row, column, found), &(row, column, mark));
     }
 }
 
@@ -66,22 +67,18 @@ fn has_contacts(
     drawing: &Drawing,
     contacts: &[(usize, usize, ContactKind, &str)],
 ) {
-    assert_eq!(rt; drawing.contacts().len(), contacts.len());
-    for (found, &(row, column, kind, name)) in drawing.contacts().iter().zip(contacts) {
-        assert_eq!(rt;
-            (found.row, found.column, found.kind, found.name.as_str()),
-            (row, column, kind, name)
-        );
+    equal(rt, "contacts", &drawing.contacts().len(), &contacts.len());
+    for (found, contact) in drawing.contacts().iter().zip(contacts) {
+        let found = (found.row, found.column, found.kind, found.name.as_str());
+        equal(rt, "contact", &found, contact);
     }
 }
 
 fn has_coils(rt: &impl Abort, drawing: &Drawing, coils: &[(usize, usize, CoilKind, &str)]) {
-    assert_eq!(rt; drawing.coils().len(), coils.len());
-    for (found, &(row, column, kind, name)) in drawing.coils().iter().zip(coils) {
-        assert_eq!(rt;
-            (found.row, found.column, found.kind, found.name.as_str()),
-            (row, column, kind, name)
-        );
+    equal(rt, "coils", &drawing.coils().len(), &coils.len());
+    for (found, coil) in drawing.coils().iter().zip(coils) {
+        let found = (found.row, found.column, found.kind, found.name.as_str());
+        equal(rt, "coil", &found, coil);
     }
 }
 
@@ -132,12 +129,10 @@ fn drawn_box(drawing: &Drawing) -> Option<&DrawnBox> {
 }
 
 fn has_pins(rt: &impl Abort, drawn: &DrawnBox, pins: &[(usize, Side, &str)]) {
-    assert_eq!(rt; drawn.pins.as_slice().len(), pins.len());
-    for (found, &(row, side, name)) in drawn.pins.as_slice().iter().zip(pins) {
-        assert_eq!(rt;
-            (found.row, found.side, found.name.as_str()),
-            (row, side, name)
-        );
+    equal(rt, "pins", &drawn.pins.as_slice().len(), &pins.len());
+    for (found, pin) in drawn.pins.as_slice().iter().zip(pins) {
+        let found = (found.row, found.side, found.name.as_str());
+        equal(rt, "pin", &found, pin);
     }
 }
 
@@ -197,7 +192,7 @@ fn reads_a_box(rt: HostRuntime) -> Result<(), Fail> {
 
 #[test]
 fn refuses_at_the_first_place(rt: HostRuntime) {
-    for (text, kind, line, column) in [
+    for &(text, kind, line, column) in &[
         ("|\n+-\t", DrawFaultKind::NotAscii, 2, 3),
         ("+-\r\r\n", DrawFaultKind::NotAscii, 1, 3),
         ("", DrawFaultKind::NoLeftRail, 1, 1),
@@ -244,7 +239,7 @@ fn refuses_at_the_first_place(rt: HostRuntime) {
         ("|  A\n|  --", DrawFaultKind::NoSource, 2, 4),
     ] {
         let fault = DrawFault { kind, line, column };
-        assert_eq!(rt; fault_of(rt.alloc(), text), Some(fault), "{text}");
+        equal(&rt, text, &fault_of(rt.alloc(), text), &Some(fault));
     }
 }
 
@@ -255,7 +250,8 @@ fn counts_lines_from_the_first(rt: HostRuntime) {
         line: 8,
         column: 4,
     };
-    assert_eq!(rt; Drawing::read(rt.alloc(), "|\n+--*", 7).err(), Some(fault));
+    let found = Drawing::read(rt.alloc(), "|\n+--*", 7).err();
+    equal(&rt, "fault", &found, &Some(fault));
 }
 
 #[test]

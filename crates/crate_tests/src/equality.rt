@@ -1,5 +1,6 @@
 //! States, evaluations and frames that differ in one value, one memory or one block, where no output shows it.
 
+use crate::checks::{equal, holds};
 use crate::evaluations::{code_of, evaluation_from};
 use evaluation::{Evaluation, Frame, TaskState};
 use plant::{TaskCode, TaskRef};
@@ -133,7 +134,7 @@ fn are_told_apart(rt: &impl Abort, frame: &Frame, other: &Frame) {
         evaluation.same(other_evaluation),
         frame.same(other),
     );
-    assert_eq!(rt; found, (true, true, false, false, false));
+    equal(rt, "the same", &found, &(true, true, false, false, false));
 }
 
 fn are_the_same(rt: &impl Abort, frame: &Frame, other: &Frame) {
@@ -143,7 +144,7 @@ fn are_the_same(rt: &impl Abort, frame: &Frame, other: &Frame) {
         evaluation.same(other_evaluation),
         frame.same(other),
     );
-    assert_eq!(rt; found, (true, true, true));
+    equal(rt, "the same", &found, &(true, true, true));
 }
 
 #[test]
@@ -163,7 +164,9 @@ fn one_memory_counts(rt: HostRuntime) -> Result<(), Fail> {
     let plain = frame_after(rt.alloc(), EDGE, "%IX0=0", "%IX0=0")?;
     are_the_same(&rt, &marked, &again);
     are_told_apart(&rt, &marked, &plain);
-    assert!(rt; show_the_same(marked.evaluation().before(), plain.evaluation().before()));
+    let (marked, plain) = (marked.evaluation(), plain.evaluation());
+    let is_hidden = show_the_same(marked.before(), plain.before());
+    holds(&rt, "no variable shows it", is_hidden);
     Ok(())
 }
 
@@ -174,6 +177,8 @@ fn one_block_counts(rt: HostRuntime) -> Result<(), Fail> {
     let plain = frame_after(rt.alloc(), DELAY, "%IX0=0", "%IX0=0")?;
     are_the_same(&rt, &marked, &again);
     are_told_apart(&rt, &marked, &plain);
-    assert!(rt; show_the_same(marked.evaluation().before(), plain.evaluation().before()));
+    let (marked, plain) = (marked.evaluation(), plain.evaluation());
+    let is_hidden = show_the_same(marked.before(), plain.before());
+    holds(&rt, "no variable shows it", is_hidden);
     Ok(())
 }

@@ -93,7 +93,7 @@ fn counted(alloc: Global, ticket: u64, inputs: &str) -> Result<Evaluation, Fail>
 }
 
 fn shows(rt: &impl Abort, image: &Image, values: &[Value]) {
-    assert_eq!(rt; image.values(), values);
+    equal(rt, "image", &image.values(), &values);
 }
 
 #[test]
@@ -166,7 +166,7 @@ fn takes_are_one_for_each_producer(rt: HostRuntime) -> Result<(), Fail> {
     let (one, off) = (Value::Int(1), Value::Bool(false));
     let (initial, given) = ([Value::Int(0), off], [one, off]);
     let here = Some((1, 1));
-    for (producer, from, values, suits) in [
+    for &(producer, from, values, suits) in &[
         (FAST, None, initial.as_slice(), true),
         (SLOW, None, initial.as_slice(), false),
         (FAST, None, given.as_slice(), false),
@@ -196,7 +196,7 @@ fn a_take_of_nothing_has_the_first_image(rt: HostRuntime) -> Result<(), Fail> {
 #[test]
 fn all_programs_are_filled_and_run(rt: HostRuntime) -> Result<(), Fail> {
     let alloc = rt.alloc();
-    for (inputs, first, second) in [
+    for &(inputs, first, second) in &[
         ("%IX1=0 %IX2=1", false, true),
         ("%IX1=1 %IX2=1", true, false),
     ] {
@@ -238,7 +238,7 @@ fn a_share_of_a_frame_is_the_same(rt: HostRuntime) -> Result<(), Fail> {
 #[test]
 fn frames_are_the_same_by_ticket_and_inputs(rt: HostRuntime) -> Result<(), Fail> {
     let frame = counted_frame(rt.alloc(), 1, "%IX0=1")?;
-    for (ticket, inputs, is_same) in [
+    for &(ticket, inputs, is_same) in &[
         (1, "%IX0=1", true),
         (2, "%IX0=1", false),
         (1, "%IX0=0", false),
@@ -256,12 +256,12 @@ fn names_go_by_incarnation_first(rt: HostRuntime) {
         incarnation,
         number,
     };
-    for (one, other, precedes) in [
+    for &(one, other, precedes) in &[
         (name(1, 9), name(2, 1), true),
         (name(2, 1), name(2, 2), true),
         (name(2, 1), name(2, 1), false),
         (name(2, 1), name(1, 9), false),
     ] {
-        assert_eq!(rt; one.precedes(&other), precedes);
+        equal(&rt, "precedes", &one.precedes(&other), &precedes);
     }
 }

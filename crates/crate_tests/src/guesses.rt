@@ -1,5 +1,6 @@
 //! What the names of a drawing are declared as by their use.
 
+use crate::checks::equal;
 use ladder_text::Drawing;
 use network::Graph;
 use power_flow::{Declarations, Declared, Kind};
@@ -25,9 +26,9 @@ fn are_guessed(
     let graph = Graph::build(alloc, &drawing)?;
     let declarations = Declarations::guess(alloc, &graph)?;
     for (place, name) in names.iter().enumerate() {
-        assert_eq!(rt; declarations.entry(place), Some(*name));
+        equal(rt, "name", &declarations.entry(place), &Some(*name));
     }
-    assert_eq!(rt; declarations.len(), names.len());
+    equal(rt, "names", &declarations.len(), &names.len());
     Ok(())
 }
 

@@ -14,7 +14,7 @@ fn fault_of(alloc: Global, text: &str) -> Option<InputFault> {
 
 fn are_refused(rt: &impl Abort, alloc: Global, texts: &[&str], fault: InputFault) {
     for text in texts {
-        assert_eq!(rt; fault_of(alloc, text), Some(fault), "{text}");
+        equal(rt, text, &fault_of(alloc, text), &Some(fault));
     }
 }
 
@@ -51,7 +51,13 @@ fn held(inputs: &Inputs, space: Space, number: u16) -> Value {
 
 fn hold(rt: &impl Abort, inputs: &Inputs, values: &[(Space, u16, Value)]) {
     for &(space, number, value) in values {
-        assert_eq!(rt; held(inputs, space, number), value, "{space:?} {number}");
+        let found = held(inputs, space, number);
+        equal(
+            rt,
+            "input",
+            &(space, number, found),
+            &(space, number, value),
+        );
     }
 }
 

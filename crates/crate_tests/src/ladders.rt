@@ -1,6 +1,6 @@
 //! Drawings with their names bound, and what the tests of scans and states do with them.
 
-use crate::checks::equal;
+use crate::checks::{equal, holds};
 use ladder_text::Drawing;
 use network::Graph;
 use power_flow::{BindFault, BindKind, Declarations, Ladder, State};
@@ -35,7 +35,7 @@ pub fn set(rt: &impl Abort, ladder: &Ladder, state: &mut State, name: &str, on: 
         Some(place) => state.set(place, Value::Bool(on)),
         None => false,
     };
-    assert!(rt; is_set, "no BOOL {name}");
+    holds(rt, name, is_set);
 }
 
 /// The value of a variable by its name: 0 or 1, an INT, or milliseconds.
@@ -69,7 +69,7 @@ fn faults_of_names_stand_at_their_places(rt: HostRuntime) -> Result<(), Fail> {
 | T#30ms--|PX   ET|--E
 |         +-------+
 ";
-    for (drawing, kind, column) in [
+    for &(drawing, kind, column) in &[
         (too_large, BindKind::LiteralOutOfRange, 3),
         (unknown_pin, BindKind::UnknownPin, 11),
     ] {
@@ -111,7 +111,7 @@ fn ladders_of_one_drawing_are_the_same(rt: HostRuntime) -> Result<(), Fail> {
 | T#30ms--|PT   ET|--E
 |         +-------+
 ";
-    for (drawing, is_same) in [
+    for &(drawing, is_same) in &[
         (ON_DELAY, true),
         (START_STOP, false),
         (other_preset, false),

@@ -1,6 +1,6 @@
 //! Which networks a drawing has, and where its first fault is.
 
-use crate::checks::equal;
+use crate::checks::{equal, holds};
 use ladder_text::Drawing;
 use network::{Element, Graph, GraphFault, GraphFaultKind, Network};
 use std::alloc::{AllocError, Global};
@@ -89,7 +89,7 @@ fn tall(alloc: Global, rows: usize) -> Result<String, AllocError> {
 fn gives_networks_and_elements_in_order(rt: HostRuntime) -> Result<(), Fail> {
     let alloc = rt.alloc();
     let on_delay = timers(alloc, &["T1"])?;
-    for (text, networks) in [
+    for &(text, networks) in &[
         (
             BRANCHES,
             [
@@ -139,9 +139,9 @@ fn gives_networks_and_elements_in_order(rt: HostRuntime) -> Result<(), Fail> {
                 Some(network) => listed(alloc, network)?,
                 None => String::new(alloc),
             };
-            assert_eq!(rt; found.as_str(), *wanted, "{text}");
+            equal(&rt, text, &found.as_str(), wanted);
         }
-        assert!(rt; graph.networks().len() <= 2);
+        holds(&rt, text, graph.networks().len() <= 2);
     }
     Ok(())
 }
@@ -149,7 +149,7 @@ fn gives_networks_and_elements_in_order(rt: HostRuntime) -> Result<(), Fail> {
 #[test]
 fn refuses_at_the_first_place(rt: HostRuntime) -> Result<(), Fail> {
     let alloc = rt.alloc();
-    for (text, kind, line, column) in [
+    for &(text, kind, line, column) in &[
         (UNATTACHED_BOX, GraphFaultKind::Unattached, 2, 4),
         // The topmost place counts, and not the one furthest left.
         (
@@ -180,7 +180,7 @@ fn refuses_at_the_first_place(rt: HostRuntime) -> Result<(), Fail> {
         ),
     ] {
         let fault = GraphFault { kind, line, column };
-        assert_eq!(rt; fault_of(alloc, text)?, Some(fault), "{text}");
+        equal(&rt, text, &fault_of(alloc, text)?, &Some(fault));
     }
     let with_pin = "|  T1\n|+-----+\n|| TON |\n||IN   |\n|+-----+";
     equal(&rt, with_pin, &fault_of(alloc, with_pin)?, &None);
@@ -195,7 +195,7 @@ fn refuses_a_name_of_two_boxes(rt: HostRuntime) -> Result<(), Fail> {
         line,
         column: 11,
     };
-    for (names, fault) in [
+    for &(names, fault) in &[
         (["T1", "T2", "T1_2"], None),
         (["T1", "T1", "T2"], Some(twice(8))),
         (["T1", "t1", "T1"], Some(twice(8))),
@@ -203,7 +203,7 @@ fn refuses_a_name_of_two_boxes(rt: HostRuntime) -> Result<(), Fail> {
         (["T1", "T2", "T1"], Some(twice(14))),
     ] {
         let text = timers(alloc, &names)?;
-        assert_eq!(rt; fault_of(alloc, text.as_str())?, fault, "{text}");
+        equal(&rt, text.as_str(), &fault_of(alloc, text.as_str())?, &fault);
     }
     Ok(())
 }
@@ -213,7 +213,7 @@ fn refuses_more_than_200_rows(rt: HostRuntime) -> Result<(), Fail> {
     let alloc = rt.alloc();
     let two_of_a_name = timers(alloc, &["T1", "T1"])?;
     let too_tall = (GraphFaultKind::TooTall, 1, 2);
-    for (rows, below, fault) in [
+    for &(rows, below, fault) in &[
         (198, "", None),
         (199, "", Some(too_tall)),
         (199, two_of_a_name.as_str(), Some(too_tall)),
@@ -231,11 +231,8 @@ fn refuses_more_than_200_rows(rt: HostRuntime) -> Result<(), Fail> {
         let mut text = tall(alloc, rows)?;
         text.push_str(below)?;
         let wanted = fault.map(|(kind, line, column)| GraphFault { kind, line, column });
-        assert_eq!(rt;
-            fault_of(alloc, text.as_str())?,
-            wanted,
-            "{rows} rows over {below}"
-        );
+        let found = fault_of(alloc, text.as_str())?;
+        equal(&rt, below, &(rows, found), &(rows, wanted));
     }
     Ok(())
 }
@@ -243,7 +240,7 @@ fn refuses_more_than_200_rows(rt: HostRuntime) -> Result<(), Fail> {
 #[test]
 fn tells_the_left_rail(rt: HostRuntime) -> Result<(), Fail> {
     let graph = graph_of(rt.alloc(), "  +--+\n  |  |\n\n  +--+\n")?;
-    for (row, column, is_right_of_it) in [
+    for &(row, column, is_right_of_it) in &[
         (1, 4, true),
         (2, 4, true),
         (3, 4, false),
@@ -255,10 +252,12 @@ fn tells_the_left_rail(rt: HostRuntime) -> Result<(), Fail> {
         (1, 7, false),
         (1, 0, false),
     ] {
-        assert_eq!(rt;
-            graph.rail_left(row, column),
-            is_right_of_it,
-            "at {row}:{column}"
+        let found = graph.rail_left(row, column);
+        equal(
+            &rt,
+            "rail",
+            &(row, column, found),
+            &(row, column, is_right_of_it),
         );
     }
     equal(&rt, "rails", &graph.rails().len(), &3);

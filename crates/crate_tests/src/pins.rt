@@ -1,5 +1,6 @@
 //! Where the pins of blocks are found, and which values, states and outputs are the same.
 
+use crate::checks::{equal, holds};
 use std_blocks::{BlockState, BlockType, Field, Pin, PinsOut, Value};
 
 fn input(field: Field) -> Option<Pin> {
@@ -35,7 +36,7 @@ fn finds_pins_of_latches_and_counters(rt: HostRuntime) {
         (BlockType::CTD, "", None),
     ];
     for (row, &(block, name, pin)) in table.iter().enumerate() {
-        assert_eq!(rt; block.pin(name), pin, "row {row}");
+        equal(&rt, name, &(row, block.pin(name)), &(row, pin));
     }
 }
 
@@ -64,13 +65,13 @@ fn finds_pins_of_both_ways_and_timers(rt: HostRuntime) {
         (BlockType::TOF, "IN1", None),
     ];
     for (row, &(block, name, pin)) in table.iter().enumerate() {
-        assert_eq!(rt; block.pin(name), pin, "row {row}");
+        equal(&rt, name, &(row, block.pin(name)), &(row, pin));
     }
 }
 
 #[test]
 fn values_are_same_by_kind_and_contents(rt: HostRuntime) {
-    for (value, other, is_same) in [
+    for &(value, other, is_same) in &[
         (Value::Bool(true), Value::Bool(true), true),
         (Value::Bool(true), Value::Bool(false), false),
         (Value::Int(-7), Value::Int(-7), true),
@@ -79,14 +80,20 @@ fn values_are_same_by_kind_and_contents(rt: HostRuntime) {
         (Value::Time(7), Value::Time(8), false),
         (Value::Time(7), Value::Int(7), false),
     ] {
-        assert_eq!(rt; value.same(&other), is_same, "{value:?} and {other:?}");
+        equal(
+            &rt,
+            "same",
+            &(value, other, value.same(&other)),
+            &(value, other, is_same),
+        );
     }
 }
 
 #[test]
 fn states_are_same_in_all_fields(rt: HostRuntime) {
     let state = BlockState::initial(BlockType::CTUD);
-    assert!(rt; state.same(&BlockState::initial(BlockType::CTUD)));
+    let again = BlockState::initial(BlockType::CTUD);
+    holds(&rt, "a state is the same as itself", state.same(&again));
     let others = [
         BlockState::initial(BlockType::CTU),
         BlockState { on: true, ..state },
@@ -109,7 +116,7 @@ fn states_are_same_in_all_fields(rt: HostRuntime) {
         },
     ];
     for (place, other) in others.iter().enumerate() {
-        assert!(rt; !state.same(other), "at {place}");
+        equal(&rt, "same", &(place, state.same(other)), &(place, false));
     }
 }
 
@@ -120,7 +127,7 @@ fn outputs_are_same_in_all_fields(rt: HostRuntime) {
         int: 3,
         time: 4,
     };
-    assert!(rt; shown.same(&PinsOut { ..shown }));
+    holds(&rt, "a copy is the same", shown.same(&PinsOut { ..shown }));
     let others = [
         PinsOut {
             bits: [false, false],
@@ -134,6 +141,6 @@ fn outputs_are_same_in_all_fields(rt: HostRuntime) {
         PinsOut { time: 3, ..shown },
     ];
     for (place, other) in others.iter().enumerate() {
-        assert!(rt; !shown.same(other), "at {place}");
+        equal(&rt, "same", &(place, shown.same(other)), &(place, false));
     }
 }

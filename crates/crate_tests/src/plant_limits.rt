@@ -1,5 +1,6 @@
 //! How many of each thing a plant may have.
 
+use crate::checks::equal;
 use crate::plants::{fault, fault_of};
 use plant::PlantFaultKind;
 use std::alloc::{AllocError, Global};
@@ -32,14 +33,11 @@ fn check_most(
     let (head, item, tail, end) = parts;
     let mut text = listed(alloc, head, item, most, tail)?;
     text.push_str(end)?;
-    assert_eq!(rt; fault_of(alloc, text.as_str()), None, "{item}");
+    equal(rt, item, &fault_of(alloc, text.as_str()), &None);
     let mut text = listed(alloc, head, item, most.saturating_add(1), tail)?;
     text.push_str(end)?;
-    assert_eq!(rt;
-        fault_of(alloc, text.as_str()),
-        fault(PlantFaultKind::TooMany, line),
-        "{item}"
-    );
+    let wanted = fault(PlantFaultKind::TooMany, line);
+    equal(rt, item, &fault_of(alloc, text.as_str()), &wanted);
     Ok(())
 }
 
@@ -143,12 +141,12 @@ fn bound(alloc: Global, inputs: usize) -> Result<String, AllocError> {
 #[test]
 fn how_many_binds(rt: HostRuntime) -> Result<(), Fail> {
     let alloc = rt.alloc();
-    assert_eq!(rt; fault_of(alloc, bound(alloc, 64)?.as_str()), None);
+    let found = fault_of(alloc, bound(alloc, 64)?.as_str());
+    equal(&rt, "4,096 binds", &found, &None);
     // 63 instances have 4,095 binds; the next one's second is one too many.
     let line = 2 + 65 + 5 + 3 + 64;
-    assert_eq!(rt;
-        fault_of(alloc, bound(alloc, 65)?.as_str()),
-        fault(PlantFaultKind::TooMany, line)
-    );
+    let found = fault_of(alloc, bound(alloc, 65)?.as_str());
+    let wanted = fault(PlantFaultKind::TooMany, line);
+    equal(&rt, "more binds", &found, &wanted);
     Ok(())
 }

@@ -34,7 +34,7 @@ fn no_left_rail(line: u64) -> Found {
 
 fn compare(rt: &impl Abort, alloc: Global, rows: &[(&str, Found)]) {
     for (text, found) in rows {
-        assert_eq!(rt; fault_of(alloc, text), *found, "{text}");
+        equal(rt, text, &fault_of(alloc, text), found);
     }
 }
 
@@ -83,12 +83,12 @@ fn with_name(alloc: Global, name: &str) -> Result<String, AllocError> {
 
 #[test]
 fn names_are_identifiers_that_are_not_reserved(rt: HostRuntime) -> Result<(), Fail> {
-    for name in ["R", "_1", "A1", "a_B", "END", "TONE"] {
+    for &name in &["R", "_1", "A1", "a_B", "END", "TONE"] {
         let text = with_name(rt.alloc(), name)?;
         let plant = Plant::read(rt.alloc(), text.as_str())?;
         equal(&rt, name, &plant.resource_name(0), &Some(name));
     }
-    for name in [
+    for &name in &[
         "A__B", "A_", "_", "1A", "A.B", "RETAIN", "true", "Ton", "interval",
     ] {
         let text = with_name(rt.alloc(), name)?;
@@ -127,7 +127,7 @@ fn interval_and_priority(
 
 #[test]
 fn durations_and_numbers_have_limits(rt: HostRuntime) -> Result<(), Fail> {
-    for (interval, priority, length, number) in [
+    for &(interval, priority, length, number) in &[
         ("t#1s500ms", ":= 1_0", 1_500, 10),
         ("TIME#2_147_483_647ms", ":=65535", 2_147_483_647, 65_535),
         ("T#1ms", ":=0", 1, 0),
@@ -140,7 +140,7 @@ fn durations_and_numbers_have_limits(rt: HostRuntime) -> Result<(), Fail> {
 
 #[test]
 fn durations_and_numbers_beyond_their_limits(rt: HostRuntime) -> Result<(), Fail> {
-    for (interval, priority, line) in [
+    for &(interval, priority, line) in &[
         ("T#2147483648ms", ":=0", 3),
         ("1s", ":=0", 3),
         ("T# 1s", ":=0", 3),
@@ -185,8 +185,8 @@ fn addresses_are_one_word(rt: HostRuntime) -> Result<(), Fail> {
         source: Source::Field(Address { space, number }),
     };
     let bindings = [bound(0, Space::Bit, 1), bound(1, Space::Word, 65_535)];
-    assert!(rt; code.bindings(0) == bindings.as_slice());
-    for (bit, word, line) in [
+    equal(&rt, "bindings", &code.bindings(0), &bindings.as_slice());
+    for &(bit, word, line) in &[
         ("% IX1", "%IW0", 5),
         ("%IX 1", "%IW0", 5),
         ("%IX", "%IW0", 5),
@@ -197,11 +197,8 @@ fn addresses_are_one_word(rt: HostRuntime) -> Result<(), Fail> {
         ("%IX0", "%IW-1", 6),
     ] {
         let text = with_binds(rt.alloc(), bit, word)?;
-        assert_eq!(rt;
-            fault_of(rt.alloc(), text.as_str()),
-            syntax(line),
-            "{bit} {word}"
-        );
+        let found = fault_of(rt.alloc(), text.as_str());
+        equal(&rt, text.as_str(), &found, &syntax(line));
     }
     Ok(())
 }

@@ -1,5 +1,6 @@
 //! Which fault the text of a plant has first, and on which line.
 
+use crate::checks::equal;
 use ladder_text::DrawFaultKind;
 use network::GraphFaultKind;
 use plant::{BodyFault, Plant, PlantFaultKind};
@@ -36,13 +37,13 @@ fn edited(alloc: Global, old: &str, new: &str) -> Result<String, AllocError> {
 
 #[test]
 fn the_pair_is_read(rt: HostRuntime) -> Result<(), Fail> {
-    assert_eq!(rt; fault_of(rt.alloc(), PAIR), None);
+    equal(&rt, PAIR, &fault_of(rt.alloc(), PAIR), &None);
     Ok(())
 }
 
 #[test]
 fn faults_of_programs(rt: HostRuntime) -> Result<(), Fail> {
-    for (old, new, kind, line) in [
+    for &(old, new, kind, line) in &[
         ("PROGRAM COUNT", "PROGRAM 9COUNT", PlantFaultKind::Syntax, 1),
         ("PROGRAM COUNT", "PROGRAM TON", PlantFaultKind::Syntax, 1),
         ("UP : BOOL", "UP : BOOLS", PlantFaultKind::Syntax, 2),
@@ -92,18 +93,15 @@ fn faults_of_programs(rt: HostRuntime) -> Result<(), Fail> {
         ),
     ] {
         let text = edited(rt.alloc(), old, new)?;
-        assert_eq!(rt;
-            fault_of(rt.alloc(), text.as_str()),
-            fault(kind, line),
-            "{new}"
-        );
+        let found = fault_of(rt.alloc(), text.as_str());
+        equal(&rt, new, &found, &fault(kind, line));
     }
     Ok(())
 }
 
 #[test]
 fn faults_of_resources(rt: HostRuntime) -> Result<(), Fail> {
-    for (old, new, kind, line) in [
+    for &(old, new, kind, line) in &[
         ("R2 ON", "r1 ON", PlantFaultKind::NameTwice, 30),
         ("R2 ON", "R2", PlantFaultKind::Syntax, 30),
         ("T#10ms", "T#0ms", PlantFaultKind::Syntax, 27),
@@ -138,18 +136,15 @@ fn faults_of_resources(rt: HostRuntime) -> Result<(), Fail> {
         (": COUNT", ": COUNTER", PlantFaultKind::UnknownName, 28),
     ] {
         let text = edited(rt.alloc(), old, new)?;
-        assert_eq!(rt;
-            fault_of(rt.alloc(), text.as_str()),
-            fault(kind, line),
-            "{new}"
-        );
+        let found = fault_of(rt.alloc(), text.as_str());
+        equal(&rt, new, &found, &fault(kind, line));
     }
     Ok(())
 }
 
 #[test]
 fn faults_of_binds(rt: HostRuntime) -> Result<(), Fail> {
-    for (old, new, kind, line) in [
+    for &(old, new, kind, line) in &[
         ("UP := %IX0", "UP := %IW0", PlantFaultKind::WrongKind, 28),
         ("UP := %IX0", "UP := %IX65536", PlantFaultKind::Syntax, 28),
         (
@@ -176,18 +171,15 @@ fn faults_of_binds(rt: HostRuntime) -> Result<(), Fail> {
         ("N := R1.A.N", "N := R1.A", PlantFaultKind::Syntax, 32),
     ] {
         let text = edited(rt.alloc(), old, new)?;
-        assert_eq!(rt;
-            fault_of(rt.alloc(), text.as_str()),
-            fault(kind, line),
-            "{new}"
-        );
+        let found = fault_of(rt.alloc(), text.as_str());
+        equal(&rt, new, &found, &fault(kind, line));
     }
     Ok(())
 }
 
 #[test]
 fn what_may_be_left_out(rt: HostRuntime) -> Result<(), Fail> {
-    for (old, new) in [
+    for &(old, new) in &[
         ("(UP := %IX0)", ""),
         ("(UP := %IX0)", "()"),
         ("    PROGRAM A", "PROGRAM C WITH FAST : COUNT; PROGRAM A"),
@@ -204,14 +196,14 @@ fn what_may_be_left_out(rt: HostRuntime) -> Result<(), Fail> {
         ("R1.A.N", "r1 . A (* of *)\n. n"),
     ] {
         let text = edited(rt.alloc(), old, new)?;
-        assert_eq!(rt; fault_of(rt.alloc(), text.as_str()), None, "{new}");
+        equal(&rt, new, &fault_of(rt.alloc(), text.as_str()), &None);
     }
     Ok(())
 }
 
 #[test]
 fn faults_of_bodies(rt: HostRuntime) -> Result<(), Fail> {
-    for (old, new, found) in [
+    for &(old, new, found) in &[
         (
             "+--| |------( )",
             "+--| |--?---( )",
@@ -251,28 +243,20 @@ fn faults_of_bodies(rt: HostRuntime) -> Result<(), Fail> {
     ] {
         let text = edited(rt.alloc(), old, new)?;
         let (kind, line, inner) = found;
-        assert_eq!(rt;
-            fault_of(rt.alloc(), text.as_str()),
-            Some((kind, line, Some(inner))),
-            "{new}"
-        );
+        let found = fault_of(rt.alloc(), text.as_str());
+        equal(&rt, new, &found, &Some((kind, line, Some(inner))));
     }
     Ok(())
 }
 
 #[test]
-fn ends_too_early(rt: HostRuntime) -> Result<(), Fail> {
+fn ends_too_early(rt: HostRuntime) {
     let programs = PAIR
         .split_once("CONFIGURATION")
         .map_or("", |(programs, _)| programs);
-    assert_eq!(rt;
-        fault_of(rt.alloc(), programs),
-        fault(PlantFaultKind::Syntax, 24)
-    );
-    assert_eq!(rt; fault_of(rt.alloc(), ""), fault(PlantFaultKind::Syntax, 1));
-    assert_eq!(rt;
-        fault_of(rt.alloc(), "CONFIGURATION C\nEND_CONFIGURATION\n"),
-        fault(PlantFaultKind::Syntax, 2)
-    );
-    Ok(())
+    let no_resource = "CONFIGURATION C\nEND_CONFIGURATION\n";
+    for &(text, line) in &[(programs, 24), ("", 1), (no_resource, 2)] {
+        let wanted = fault(PlantFaultKind::Syntax, line);
+        equal(&rt, text, &fault_of(rt.alloc(), text), &wanted);
+    }
 }

@@ -1,5 +1,6 @@
 //! What drawings do, scan by scan, with values taken from the block table and the meaning of a network by hand.
 
+use crate::checks::equal;
 use crate::ladders::{ladder_of, number, scan, set};
 use power_flow::{Ladder, State};
 use std::alloc::Global;
@@ -41,11 +42,8 @@ fn set_digits(
 /// Each variable has its k-th value.
 fn are_shown(rt: &impl Abort, ladder: &Ladder, state: &State, shown: &[(&str, &[i64])], k: usize) {
     for &(name, values) in shown {
-        assert_eq!(rt;
-            number(ladder, state, name),
-            values.get(k).copied(),
-            "{name}, scan {k}"
-        );
+        let found = number(ladder, state, name);
+        equal(rt, name, &(k, found), &(k, values.get(k).copied()));
     }
 }
 
@@ -83,7 +81,7 @@ fn a_start_stop_circuit_holds_itself(rt: HostRuntime) -> Result<(), Fail> {
 
 #[test]
 fn a_rising_contact_conducts_for_one_scan(rt: HostRuntime) -> Result<(), Fail> {
-    for (a, shown) in [("11", [1, 0]), ("01", [0, 0])] {
+    for &(a, shown) in &[("11", [1, 0]), ("01", [0, 0])] {
         let digits = [("A", a), ("B", "11")];
         compare(
             &rt,
@@ -113,7 +111,7 @@ fn latches_by_their_dominant_input(rt: HostRuntime) -> Result<(), Fail> {
 |       B--|R1      |
 |          +--------+
 ";
-    for (drawing, on) in [(set_dominant, 1), (reset_dominant, 0)] {
+    for &(drawing, on) in &[(set_dominant, 1), (reset_dominant, 0)] {
         let digits = [("A", "1"), ("B", "1")];
         compare(&rt, rt.alloc(), drawing, 0, &digits, &[("Y", &[on])])?;
     }
@@ -213,7 +211,7 @@ fn an_on_delay_of_zero_turns_on_at_once(rt: HostRuntime) -> Result<(), Fail> {
 
 /// Turns UP on and off again, with a scan after each.
 fn count_up(rt: &impl Abort, ladder: &Ladder, state: &mut State) {
-    for on in [true, false] {
+    for &on in &[true, false] {
         set(rt, ladder, state, "UP", on);
         scan(rt, ladder, state, 0);
     }

@@ -60,18 +60,18 @@ fn fault_of(alloc: Global, instance: &str) -> Result<(PlantFaultKind, u64), Fail
 }
 
 fn has_producers(rt: &impl Abort, plant: &Plant, task: TaskRef, producers: &[TaskRef]) {
-    assert_eq!(rt; plant.producers(task), producers);
+    equal(rt, "producers", &plant.producers(task), &producers);
 }
 
 /// What the inputs of a program are bound to.
 fn is_bound(rt: &impl Abort, code: &TaskCode, program: usize, bindings: &[Binding]) {
-    assert_eq!(rt; code.bindings(program), bindings);
+    equal(rt, "bindings", &code.bindings(program), &bindings);
 }
 
 #[test]
 fn a_part_of_a_source_that_is_not_found_is_unknown(rt: HostRuntime) -> Result<(), Fail> {
     let wanted = (PlantFaultKind::UnknownName, 20);
-    for instance in [
+    for &instance in &[
         "PROGRAM H WITH K : FLIP(P := R3.F.Q);",
         "PROGRAM H WITH K : FLIP(P := R1.X.Q);",
         "PROGRAM H WITH K : FLIP(P := R2.F.Q);",
@@ -86,7 +86,7 @@ fn a_part_of_a_source_that_is_not_found_is_unknown(rt: HostRuntime) -> Result<()
 
 #[test]
 fn the_first_part_that_is_not_found_has_the_line(rt: HostRuntime) -> Result<(), Fail> {
-    for (instance, kind, line) in [
+    for &(instance, kind, line) in &[
         (
             "PROGRAM H WITH K : FLIP(P :=\nR3.\nX.\nX);",
             PlantFaultKind::UnknownName,
@@ -121,7 +121,7 @@ fn the_first_part_that_is_not_found_has_the_line(rt: HostRuntime) -> Result<(), 
 #[test]
 fn a_source_has_the_kind_of_its_input(rt: HostRuntime) -> Result<(), Fail> {
     let wanted = (PlantFaultKind::WrongKind, 20);
-    for instance in [
+    for &instance in &[
         "PROGRAM H WITH K : FLIP(P := R1.G.M);",
         "PROGRAM H WITH K : PICK(N := R1.F.Q);",
     ] {
@@ -219,7 +219,7 @@ END_CONFIGURATION
     is_bound(&rt, code, 1, &[bound(1, 1), bound(0, 2)]);
     is_bound(&rt, code, 2, &[bound(1, 2), bound(0, 1)]);
     equal(&rt, "outputs", &code.outputs(), &7);
-    for (output, name) in [
+    for &(output, name) in &[
         (0, Some(("H", "Q"))),
         (2, Some(("I", "Z"))),
         (6, Some(("J", "M"))),
@@ -262,10 +262,10 @@ fn a_task_is_found_by_its_name_in_either_case(rt: HostRuntime) -> Result<(), Fai
         resource: 1,
         task: 0,
     };
-    for (name, task) in [("R1.K", first), ("r2.k", second)] {
+    for &(name, task) in &[("R1.K", first), ("r2.k", second)] {
         equal(&rt, name, &plant.find(name), &Some(task));
     }
-    for name in ["R3.K", "R1.L", "R1", "R1.", ".K", "R1.K.K", ""] {
+    for &name in &["R3.K", "R1.L", "R1", "R1.", ".K", "R1.K.K", ""] {
         equal(&rt, name, &plant.find(name), &None);
     }
     Ok(())

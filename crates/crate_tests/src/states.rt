@@ -15,7 +15,7 @@ const RAILS: &str = "|\n";
 /// An input, an output, a local and a block.
 fn four_names(alloc: Global) -> Result<Declarations, Fail> {
     let mut declarations = Declarations::new(alloc);
-    for (name, declared) in [
+    for &(name, declared) in &[
         ("A", Declared::Input(Kind::Bool)),
         ("N", Declared::Output(Kind::Int)),
         ("D", Declared::Local(Kind::Time)),
@@ -37,7 +37,7 @@ fn with_names(alloc: Global, drawing: &str) -> Result<Ladder, Fail> {
 /// The values of the first places.
 fn has_values(rt: &impl Abort, state: &State, values: &[Option<Value>]) {
     for (place, value) in values.iter().enumerate() {
-        assert_eq!(rt; state.get(place), *value, "at {place}");
+        equal(rt, "value", &(place, state.get(place)), &(place, *value));
     }
 }
 
@@ -47,7 +47,7 @@ fn variables_are_read_and_written_by_place(rt: HostRuntime) -> Result<(), Fail> 
     let off = Some(Value::Bool(false));
     let zero = Some(Value::Time(0));
     has_values(&rt, &state, &[off, Some(Value::Int(0)), zero, None, None]);
-    for (place, value, is_set) in [
+    for &(place, value, is_set) in &[
         (1, Value::Int(-7), true),
         (1, Value::Bool(true), false),
         (3, Value::Bool(true), false),
@@ -113,7 +113,7 @@ fn a_copy_of_a_state_is_the_same(rt: HostRuntime) -> Result<(), Fail> {
     scan_with(&rt, &ladder, &mut state, &[("START", true)]);
     let mut copy = state.try_copy()?;
     holds(&rt, "a copy is the same", copy.same(&state));
-    for (name, shown) in [("START", 1), ("STOP", 0), ("RUN", 1)] {
+    for &(name, shown) in &[("START", 1), ("STOP", 0), ("RUN", 1)] {
         equal(&rt, name, &number(&ladder, &copy, name), &Some(shown));
     }
     set(&rt, &ladder, &mut copy, "STOP", true);
@@ -138,13 +138,13 @@ fn states_of(
 
 fn show_the_same(rt: &impl Abort, ladder: &Ladder, state: &State, other: &State) {
     for place in 0..ladder.declarations().len() {
-        assert_eq!(rt; state.get(place), other.get(place), "at {place}");
+        equal(rt, "value", &state.get(place), &other.get(place));
     }
 }
 
 #[test]
 fn states_that_differ_where_no_variable_shows_it(rt: HostRuntime) -> Result<(), Fail> {
-    for (drawing, name) in [(RISING_CONTACT, "B"), (ON_DELAY, "GO")] {
+    for &(drawing, name) in &[(RISING_CONTACT, "B"), (ON_DELAY, "GO")] {
         let ladder = ladder_of(rt.alloc(), drawing)?;
         let (first, state) = states_of(&rt, rt.alloc(), &ladder, name)?;
         show_the_same(&rt, &ladder, &state, &first);

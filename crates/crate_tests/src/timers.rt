@@ -1,5 +1,6 @@
 //! Timers, step by step, with values taken from the block table by hand.
 
+use crate::checks::equal;
 use std::process::Abort;
 use std_blocks::{BlockState, BlockType, PinsIn, PinsOut};
 
@@ -17,7 +18,7 @@ fn compare_timer(rt: &impl Abort, block: BlockType, rows: &[(u32, u32, bool, boo
             int: 0,
             time: elapsed,
         };
-        assert_eq!(rt; state.step(&pins, dt), shown, "row {row} of {block:?}");
+        equal(rt, "row", &(row, state.step(&pins, dt)), &(row, shown));
     }
 }
 

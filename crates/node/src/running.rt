@@ -2,14 +2,13 @@ ghost use Rattle.std.specs.Prelude.{◌≡◌, IfOk, length, map, vec_len};
 ghost use Rattle.std.specs.List.Sorted.{IsStrictlyIncreasing};
 ghost use Rattle.node.specs.Reports.{IsFittingBook, AreJournalsOf, AreInBook, AreAnswers, RunsAgain, AreNumbered, AreForPlant};
 
-use crate::collect::collect;
+use crate::collector::collect;
 use crate::command::Command;
 use crate::gate::Gate;
 use crate::keeper::Keeper;
-use crate::outcome::Outcome;
 use crate::report::Report;
-use crate::run_all::run_all;
 use crate::run_fault::RunFault;
+use crate::threads::{Outcome, run_all};
 use plant::Plant;
 use std::alloc::Global;
 use std::sync::{Arc, Wait};
@@ -23,26 +22,26 @@ use std::thread::Threads;
 pub fn run_threads<R: Threads + Wait + Sync, K: Keeper, G: Gate>(
     rt: &R,
     alloc: Global,
-    plant: &Arc<Plant>,
+    plant: Arc<Plant>,
     commands: &[Command],
     keepers: Vec<K>,
     gate: &G,
     max_number: u32,
 ) -> Result<Report, RunFault>
     requires numbered { AreNumbered commands.now }
-    requires resources { AreForPlant plant.now.value commands.now }
-    requires keepers { vec_len keepers ≡ length plant.now.value.resources }
+    requires resources { AreForPlant plant.value commands.now }
+    requires keepers { vec_len keepers ≡ length plant.value.resources }
     ensures fitting { IfOk result (λ r. IsFittingBook r.book r.journals) }
-    ensures journals { IfOk result (λ r. AreJournalsOf plant.now.value max_number r.journals) }
+    ensures journals { IfOk result (λ r. AreJournalsOf plant.value max_number r.journals) }
     ensures made { IfOk result (λ r. AreInBook r.book.entries r.journals) }
     ensures answers { IfOk result (λ r. AreAnswers commands.now r.book.entries r.journals r.unanswered) }
     ensures faults { IfOk result (λ r. IsStrictlyIncreasing (map (λ f. f.ticket) r.node_faults)) }
-    ensures again { IfOk result (λ r. RunsAgain plant.now.value max_number r.book r.journals) }
+    ensures again { IfOk result (λ r. RunsAgain plant.value max_number r.book r.journals) }
 {
     let Outcome {
         book,
         journals,
         faults,
-    } = run_all(rt, alloc, plant, commands, keepers, gate, max_number)?;
-    collect(alloc, plant, max_number, commands, book, journals, faults)
+    } = run_all(rt, alloc, &plant, commands, keepers, gate, max_number)?;
+    collect(alloc, &plant, max_number, commands, book, journals, faults)
 }

@@ -1,8 +1,10 @@
+mod pending_evaluation;
+
 use crate::journal::Journal;
-use crate::pending_evaluation::PendingEvaluation;
 use crate::step::Step;
 use evaluation::{Frame, Inputs};
 use exchange_core::{Accepted, Core, CoreFault, EvalFault, RestartFault};
+pub(crate) use pending_evaluation::PendingEvaluation;
 use plant::Plant;
 use std::alloc::{AllocError, Global};
 use std::marker::Model;

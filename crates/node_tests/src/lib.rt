@@ -6,6 +6,14 @@ mod checks;
 #[cfg(test)]
 mod gates;
 #[cfg(test)]
+mod journals;
+#[cfg(test)]
+mod keepers;
+#[cfg(test)]
+mod lists;
+#[cfg(test)]
 mod runs;
 #[cfg(test)]
 mod threads;
+#[cfg(test)]
+mod waits;

@@ -67,7 +67,7 @@ fn command_of(alloc: Global, ticket: u64, ask: Ask) -> Result<Command, Fail> {
     })
 }
 
-fn commands_of(alloc: Global, asks: &[Ask]) -> Result<Vec<Command>, Fail> {
+pub fn commands_of(alloc: Global, asks: &[Ask]) -> Result<Vec<Command>, Fail> {
     let mut commands = Vec::new(alloc);
     for (place, ask) in asks.iter().enumerate() {
         commands.push(command_of(alloc, place as u64 + 1, *ask)?)?;
@@ -98,7 +98,7 @@ pub fn run<R: Threads + Wait + Sync, K: Keeper, G: Gate>(
     let report = run_threads(
         rt,
         alloc,
-        &plant,
+        plant,
         commands.as_slice(),
         keepers,
         gate,

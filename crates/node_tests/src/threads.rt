@@ -133,7 +133,7 @@ fn a_keeper_that_is_spent_ends_the_run(rt: HostRuntime) -> Result<(), Fail> {
     if keepers.len() != plant.resources() {
         return Err("not one keeper for each resource".into());
     }
-    let report = run_threads(&rt, alloc, &plant, &[], keepers, &FreeGate, 1);
+    let report = run_threads(&rt, alloc, plant, &[], keepers, &FreeGate, 1);
     equal(&rt, "fault", &report.err(), &Some(RunFault::Keeper));
     Ok(())
 }

@@ -1,6 +1,6 @@
 -- Each test of a book tells whether its clause holds.
 use Rattle.std.proofs.Common.{◌≡◌, arith, inl, inr, ℕ, ◌+◌, ◌<◌, ◌≤◌, Bool, true, false, cond, ◌&&◌, ◌||◌, List, [], ◌∷◌, length, Option, Some, None, refl, ap, sym, ◌∙◌, subst, eqb, ltb, leb}
-use Rattle.std.specs.Prelude.{not, slice_index, MatchOption}
+use Rattle.std.specs.Prelude.{not, is_some, slice_index, MatchOption}
 use Rattle.std.specs.Bool.{Decides}
 use Rattle.std.specs.List.{list_all, list_any, find}
 use Rattle.std.proofs.lemmas.Bool.{false≢true}
@@ -65,7 +65,7 @@ pub test-each : {X : Type 0} (f : X → Bool) (P : X → Type 0) → ((x : X) �
 test-each f P each [] = record { holds = λ e. tt; passes = λ h. refl }
 test-each f P each (x ∷ xs) = test-and (f x) (list_all f xs) (P x) (Each P xs) (each x) (test-each f P each xs)
 
-each-map : {X : Type 0} (P Q : X → Type 0) → ((x : X) → P x → Q x) → (xs : List X) → Each P xs → Each Q xs
+pub each-map : {X : Type 0} (P Q : X → Type 0) → ((x : X) → P x → Q x) → (xs : List X) → Each P xs → Each Q xs
 each-map P Q more [] all = tt
 each-map P Q more (x ∷ xs) all = (more x all.0, each-map P Q more xs all.1)
 
@@ -124,7 +124,7 @@ test-from (Some a) (Some b) = by (test-and _ _ _ _ (test-same a.0 b.0) (test-sam
     some e = cc
 
 -- no entry of a task in an incarnation has a greater number than the last one
-last-greatest : (first : List ℕ) (older : List Evaluated) → AllFit first older → (t : TaskRef) (i : ℕ)
+pub last-greatest : (first : List ℕ) (older : List Evaluated) → AllFit first older → (t : TaskRef) (i : ℕ)
     → Each (λ (y : Evaluated). y.name.task ≡ t → y.name.incarnation ≡ i → y.name.number ≤ last_number (last_in older t i)) older
 last-greatest first [] fit t i = tt
 last-greatest first (x ∷ older) fit t i =
@@ -216,7 +216,7 @@ test-named : (name : Name) (older : List Evaluated) → IsTest (has_named older 
 test-named name [] = record { holds = λ e. absurd (false≢true e); passes = λ h. elim h.1 [ ] }
 test-named name (x ∷ older) = by (same_name x.name name) (test-name x.name name) (test-named name older) where
   by : (b : Bool) → IsTest b (x.name ≡ name) → IsTest (has_named older name) ((y : Evaluated) × Among y older × (y.name ≡ name))
-      → IsTest (b || has_named older name) ((y : Evaluated) × Among y (x ∷ older) × (y.name ≡ name))
+      → IsTest (is_some (cond b (Some x) (find (is_named name) older))) ((y : Evaluated) × Among y (x ∷ older) × (y.name ≡ name))
   by true d ih = record { holds = λ e. (x, inl refl, d.holds refl); passes = λ h. refl }
   by false d ih = record { holds = λ e. wider (ih.holds e); passes = λ h. narrower h.0 h.1 h.2 } where
     wider : (y : Evaluated) × Among y older × (y.name ≡ name) → (y : Evaluated) × Among y (x ∷ older) × (y.name ≡ name)

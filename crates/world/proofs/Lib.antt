@@ -11,6 +11,8 @@ pub mod Pairs
 pub mod Holding
 pub mod Deciding
 pub mod Misfits
+pub mod Ledgers
+pub mod Ledgered
 pub mod ScheduleWords
 pub mod ScheduleLists
 pub mod ScheduleReading

@@ -1,5 +1,7 @@
+mod entry_at;
 mod fitting;
 mod last_entry;
+mod ledger;
 mod misfit;
 mod not_back;
 mod numbered;
@@ -9,6 +11,7 @@ mod schedule;
 mod taken;
 
 use crate::book::fitting::find_misfit;
+use crate::book::ledger::Ledger;
 use evaluation::Frame;
 pub use misfit::Misfit;
 use std::alloc::{AllocError, Global};
@@ -19,18 +22,20 @@ use std::marker::Model;
 pub struct Book {
     first: Vec<u32>,
     entries: Vec<Frame>,
+    ledger: Ledger,
 }
 
 impl Model for Book {
     ghost use Rattle.std.specs.Prelude.{reverse};
     ghost use Rattle.world.specs.Fits.{AllFit};
     ghost use Rattle.world.specs.Book.{BookValue};
+    ghost use Rattle.world.specs.Steps.Ledger.{Tells};
 
     ghost Value = { BookValue };
 
     ghost view = { λ b. record { first = b.first.items; entries = b.entries.items } };
 
-    ghost invariant = { λ b. AllFit b.first.items (reverse b.entries.items) };
+    ghost invariant = { λ b. AllFit b.first.items (reverse b.entries.items) × Tells b.first.items (reverse b.entries.items) b.ledger };
 }
 
 ghost use Rattle.std.specs.Prelude.{◌≡◌, ◌++◌, ◌∷◌, [], IfOk, IfErr, OnOk, OnErr, reverse};
@@ -45,6 +50,7 @@ impl Book {
         Ok(Book {
             first: Vec::from_slice(alloc, first)?,
             entries: Vec::new(alloc),
+            ledger: Ledger::new(alloc, first)?,
         })
     }
 
@@ -71,15 +77,14 @@ impl Book {
         ensures returned { IfErr result (λ r. r.0 ≡ frame) }
         ensures err { OnErr result (self.new ≡ self.old) }
     {
-        let misfit = find_misfit(
-            self.first.as_slice(),
-            self.entries.as_slice(),
-            frame.evaluation(),
-        );
-        if let Some(misfit) = misfit {
+        if let Some(misfit) = find_misfit(self, frame.evaluation()) {
             return Err((frame, misfit));
         }
         if self.entries.reserve(1).is_err() {
+            return Err((frame, Misfit::Memory));
+        }
+        let index = self.entries.len();
+        if self.ledger.enter(frame.evaluation(), index).is_err() {
             return Err((frame, Misfit::Memory));
         }
         match self.entries.push(frame) {

@@ -168,7 +168,7 @@ fn a_book_of_the_pair_refuses_what_does_not_fit(rt: HostRuntime) -> Result<(), F
     let plant = plant_of(alloc, PAIR)?;
     let code = code_of(&plant, SLOW)?;
     let mut book = book_after(alloc, &plant, &[Act::Evaluate(0, true)])?;
-    for (number, from, values, misfit) in [
+    for &(number, from, values, misfit) in &[
         (2, Some((1, 1)), ONE, Some(Misfit::WrongNumber)),
         (1, Some((1, 2)), ONE, Some(Misfit::UnknownTake)),
         (1, Some((1, 1)), TWO, Some(Misfit::Torn)),
@@ -189,7 +189,7 @@ fn a_task_that_takes_its_own_output_takes_its_last(rt: HostRuntime) -> Result<()
     let code = code_of(&plant, FAST)?;
     let acts = [Act::Evaluate(0, false), Act::Evaluate(0, false)];
     let mut book = book_after(alloc, &plant, &acts)?;
-    for (from, value, misfit) in [
+    for &(from, value, misfit) in &[
         (None, false, Some(Misfit::NotOwnLatest)),
         (Some((1, 1)), true, Some(Misfit::NotOwnLatest)),
         (Some((1, 2)), true, Some(Misfit::Torn)),
@@ -209,7 +209,7 @@ fn names_go_on_from_the_last_of_their_resource(rt: HostRuntime) -> Result<(), Fa
     let plant = plant_of(alloc, PAIR)?;
     let code = code_of(&plant, SLOW)?;
     let mut book = book_after(alloc, &plant, &[Act::Evaluate(0, true)])?;
-    for (resource, incarnation, number, fits) in [
+    for &(resource, incarnation, number, fits) in &[
         (7, 1, 1, false),
         (1, 0, 1, false),
         (1, 1, 0, false),
@@ -241,7 +241,7 @@ fn a_take_goes_back_within_one_incarnation_alone(rt: HostRuntime) -> Result<(), 
     let code = code_of(&plant, SLOW)?;
     let acts = [Act::Evaluate(0, true), Act::Evaluate(0, false)];
     let mut book = book_after(alloc, &plant, &acts)?;
-    for (incarnation, number, taken, misfit) in [
+    for &(incarnation, number, taken, misfit) in &[
         (1, 1, 2, None),
         (1, 2, 1, Some(Misfit::Back)),
         (1, 2, 2, None),

@@ -1,5 +1,6 @@
 //! Schedules as texts: what they write, where they end, and what is left when the writer or the text fails.
 
+use crate::checks::{equal, holds};
 use crate::halting::{End, Halting};
 use crate::lot::next;
 use plant::Plant;
@@ -35,12 +36,16 @@ fn pair(alloc: Global) -> Result<Arc<Plant>, Fail> {
     Ok(Arc::new(alloc, Plant::read(alloc, PAIR)?)?)
 }
 
+fn is_written(rt: &impl Abort, bytes: &[u8]) {
+    holds(rt, "the run is written", bytes == WRITTEN.as_bytes());
+}
+
 #[test]
 fn a_schedule_is_written_line_by_line(rt: HostRuntime) -> Result<(), Fail> {
     let alloc = rt.alloc();
     let mut out = Vec::new(alloc);
     simulate(alloc, pair(alloc)?, RESTARTED, u32::MAX, &mut out)?;
-    assert!(rt; out.as_slice() == WRITTEN.as_bytes());
+    is_written(&rt, out.as_slice());
     Ok(())
 }
 
@@ -50,10 +55,9 @@ fn what_went_out_stays_after_a_bad_line(rt: HostRuntime) -> Result<(), Fail> {
     let text = "DELIVER 99 R2\n# a comment\nEVAL R9.FAST 10\nEVAL R1.FAST\nEVAL R1.FAST 10\n";
     let mut out = Vec::new(alloc);
     let answer = simulate(alloc, pair(alloc)?, text, u32::MAX, &mut out);
-    assert_eq!(rt; answer, Err(SimFault::Syntax { line: 4 }));
-    assert!(rt;
-        out.as_slice() == b"REFUSED 1 NoSuchMessage\nREFUSED 2 NoSuchResource\n".as_slice()
-    );
+    equal(&rt, "answer", &answer, &Err(SimFault::Syntax { line: 4 }));
+    let refusals = b"REFUSED 1 NoSuchMessage\nREFUSED 2 NoSuchResource\n";
+    holds(&rt, "refusals", out.as_slice() == refusals.as_slice());
     Ok(())
 }
 
@@ -62,7 +66,7 @@ fn a_writer_of_one_byte_takes_the_whole_text(rt: HostRuntime) -> Result<(), Fail
     let alloc = rt.alloc();
     let mut out = Halting::new(alloc, usize::MAX, 1, End::Fails);
     simulate(alloc, pair(alloc)?, RESTARTED, u32::MAX, &mut out)?;
-    assert!(rt; out.taken.as_slice() == WRITTEN.as_bytes());
+    is_written(&rt, out.taken.as_slice());
     Ok(())
 }
 
@@ -76,8 +80,9 @@ fn halts(
 ) -> Result<(), Fail> {
     let mut out = Halting::new(alloc, room, usize::MAX, end);
     let answer = simulate(alloc, Arc::try_clone(plant)?, RESTARTED, u32::MAX, &mut out);
-    assert_eq!(rt; answer, Err(SimFault::Write));
-    assert!(rt; Some(out.taken.as_slice()) == WRITTEN.as_bytes().get(..room));
+    equal(rt, "answer", &answer, &Err(SimFault::Write));
+    let is_begun = Some(out.taken.as_slice()) == WRITTEN.as_bytes().get(..room);
+    holds(rt, "the first bytes are written", is_begun);
     Ok(())
 }
 
@@ -128,12 +133,14 @@ fn mutated_schedules_end_well(rt: HostRuntime) -> Result<(), Fail> {
             u32::MAX,
             &mut out,
         ) {
-            Ok(()) => assert!(rt;
-                lines_in(out.as_slice()) <= lines_in(text.as_bytes()).saturating_add(1)
-            ),
+            Ok(()) => {
+                let most = lines_in(text.as_bytes()).saturating_add(1);
+                let is_no_more = lines_in(out.as_slice()) <= most;
+                holds(&rt, "at most one line for each line", is_no_more);
+            }
             Err(SimFault::Syntax { line }) => {
-                assert!(rt; 1 <= line);
-                assert!(rt; (lines_in(out.as_slice()) as u64) < line);
+                let is_less = (lines_in(out.as_slice()) as u64) < line;
+                holds(&rt, "lines for those before alone", 1 <= line && is_less);
             }
             Err(_) => return Err("another fault".into()),
         }

@@ -51,13 +51,13 @@ fn restart(resource: usize) -> Event {
 /// A producer that restarts, and a delivery of an evaluation of before.
 fn restarting(alloc: Global) -> Result<Vec<Event>, Fail> {
     let mut events = Vec::new(alloc);
-    for inputs in ["%IX0=0", "%IX0=1"] {
+    for &inputs in &["%IX0=0", "%IX0=1"] {
         events.push(evaluate(alloc, FAST, inputs)?)?;
     }
     events.push(deliver(2, 1))?;
     events.push(restart(0))?;
     events.push(evaluate(alloc, FAST, "")?)?;
-    for message in [3, 2] {
+    for &message in &[3, 2] {
         events.push(deliver(message, 1))?;
         events.push(evaluate(alloc, SLOW, "")?)?;
     }
@@ -65,15 +65,15 @@ fn restarting(alloc: Global) -> Result<Vec<Event>, Fail> {
 }
 
 fn shows(rt: &impl Abort, image: &Image, values: &[Value]) {
-    assert_eq!(rt; image.values(), values);
+    equal(rt, "image", &image.values(), &values);
 }
 
 /// The evaluations of a producer that restarts, and of its watcher.
 fn has_names(rt: &impl Abort, world: &World) {
     let names = [(1, 1), (1, 2), (2, 1), (1, 1), (1, 2)];
-    assert_eq!(rt; world.log().len(), names.len());
-    for (frame, name) in world.log().iter().zip(names) {
-        assert_eq!(rt; pair_of(frame.name()), name);
+    equal(rt, "evaluations", &world.log().len(), &names.len());
+    for (frame, name) in world.log().iter().zip(&names) {
+        equal(rt, "name", &pair_of(frame.name()), name);
     }
 }
 
@@ -112,7 +112,7 @@ fn has_restarted(rt: &impl Abort, world: &World) {
 fn a_new_world_is_empty(rt: HostRuntime) -> Result<(), Fail> {
     let world = world(rt.alloc(), &[1, 1], u32::MAX)?;
     equal(&rt, "counts", &counts(&world), &(0, 0));
-    for (resource, task) in [(1, FAST), (0, FAST), (7, FAST)] {
+    for &(resource, task) in &[(1, FAST), (0, FAST), (7, FAST)] {
         equal(&rt, "held", &held_by(&world, resource, task), &None);
     }
     Ok(())
@@ -141,11 +141,11 @@ fn each_step_tells_what_it_did(rt: HostRuntime) -> Result<(), Fail> {
         Done::Evaluated { message: 5 },
     ];
     equal(&rt, "events", &events.len(), &done.len());
-    for (event, done) in events.iter().zip(done) {
-        equal(&rt, "done", &world.step(alloc, event)?, &done);
+    for (event, done) in events.iter().zip(&done) {
+        equal(&rt, "done", &world.step(alloc, event)?, done);
     }
     has_restarted(&rt, &world);
-    for (resource, task) in [(0, FAST), (0, SLOW), (1, SLOW)] {
+    for &(resource, task) in &[(0, FAST), (0, SLOW), (1, SLOW)] {
         equal(&rt, "held", &held_by(&world, resource, task), &None);
     }
     let second = world.log().get(1).ok_or("no second evaluation")?;
@@ -159,7 +159,7 @@ fn the_greatest_incarnation_is_the_last(rt: HostRuntime) -> Result<(), Fail> {
     let mut world = world(alloc, &[u32::MAX, 1], u32::MAX)?;
     let spent = Err(WorldFault::IncarnationsSpent);
     let restarted = Ok(Done::Restarted { incarnation: 2 });
-    for (resource, answer, events) in [(0, spent, 0), (1, restarted, 1)] {
+    for &(resource, answer, events) in &[(0, spent, 0), (1, restarted, 1)] {
         let found = world.step(alloc, &restart(resource));
         equal(&rt, "answer", &found, &answer);
         equal(&rt, "counts", &counts(&world), &(0, events));
@@ -171,7 +171,7 @@ fn the_greatest_incarnation_is_the_last(rt: HostRuntime) -> Result<(), Fail> {
 fn mostly_unlawful(alloc: Global) -> Result<Vec<Event>, Fail> {
     let mut events = Vec::new(alloc);
     events.push(deliver(99, 1))?;
-    for (resource, task) in [(8, 0), (0, 7)] {
+    for &(resource, task) in &[(8, 0), (0, 7)] {
         events.push(evaluate(alloc, TaskRef { resource, task }, "")?)?;
     }
     events.push(evaluate(alloc, FAST, "%IX0=1")?)?;

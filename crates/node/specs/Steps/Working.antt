@@ -1,8 +1,8 @@
 -- What doesn't change of a resource in its thread, and what its states keep.
 use Rattle.std.specs.Prelude.{◌≡◌, ℕ}
 use Rattle.plant.specs.PlantValue.{PlantValue}
-use Rattle.node.specs.declared.worker_state.WorkerState.{WorkerState}
-use Rattle.node.specs.declared.worker_state.WorkerState.TheVariants.{Running, Stopped}
+use Rattle.node.specs.declared.threads.worker_state.WorkerState.{WorkerState}
+use Rattle.node.specs.declared.threads.worker_state.WorkerState.TheVariants.{Running, Stopped}
 use Rattle.node.specs.Journals.{IsLawful}
 
 -- the plant, and the greatest number of an evaluation

@@ -1,5 +1,5 @@
 -- Steps of the proofs: the tests by which a book decides whether an evaluation fits. Entries stand with the newest first.
-use Rattle.std.specs.Prelude.{ℕ, ◌+◌, Bool, true, false, if◌then◌else◌, ◌==◌, ◌&&◌, ◌||◌, not, nat_lt, nat_le, List, Option, Some, None, length, slice_index}
+use Rattle.std.specs.Prelude.{ℕ, ◌+◌, Bool, true, false, if◌then◌else◌, ◌==◌, ◌&&◌, ◌||◌, not, nat_lt, nat_le, List, Option, Some, None, length, slice_index, is_some}
 use Rattle.std.specs.Ordering.{int_eq}
 use Rattle.std.specs.Cmp.Lexicographic.{pointwise}
 use Rattle.std.specs.List.{list_all, list_any, find}
@@ -75,7 +75,7 @@ is_named name y = same_name y.name name
 
 -- an entry has this name
 abbrev pub has_named : List Evaluated → Name → Bool
-has_named older name = list_any (is_named name) older
+has_named older name = is_some (find (is_named name) older)
 
 abbrev pub known_from : List Evaluated → TaskRef → Option (ℕ × ℕ) → Bool
 known_from older p None = true

@@ -3,37 +3,38 @@ ghost use Rattle.world.specs.Fits.{Fits, AllFit};
 ghost use Rattle.world.specs.Book.{IsMisfit};
 ghost use Rattle.world.specs.Steps.Deciding.{first_failed};
 
+use crate::book::Book;
 use crate::book::misfit::Misfit;
 use crate::book::not_back::are_not_back;
 use crate::book::numbered::is_numbered;
 use crate::book::own_latest::are_own_latest;
 use crate::book::taken::{are_known, are_untorn};
-use evaluation::{Evaluation, Frame, Name, Take};
+use evaluation::{Evaluation, Name, Take};
 
 /// Why an evaluation doesn't fit these entries, if it doesn't.
-pub fn find_misfit(first: &[u32], entries: &[Frame], evaluation: &Evaluation) -> Option<Misfit>
-    requires { AllFit first.now (reverse entries.now) }
-    ensures { MatchOption result (Fits first.now (reverse entries.now) evaluation.now) (IsMisfit first.now (reverse entries.now) evaluation.now) }
+pub fn find_misfit(book: &Book, evaluation: &Evaluation) -> Option<Misfit>
+    ensures { MatchOption result (Fits book.now.first (reverse book.now.entries) evaluation.now) (IsMisfit book.now.first (reverse book.now.entries) evaluation.now) }
 {
-    first_failed(first, entries, evaluation.name(), evaluation.takes())
+    first_failed(book, evaluation.name(), evaluation.takes())
 }
 
-fn first_failed(first: &[u32], entries: &[Frame], name: Name, takes: &[Take]) -> Option<Misfit>
-    ensures { result ≡ first_failed first.now (reverse entries.now) name takes.now }
+fn first_failed(book: &Book, name: Name, takes: &[Take]) -> Option<Misfit>
+    ensures value { result ≡ first_failed book.now.first (reverse book.now.entries) name takes.now }
+    ensures fit { AllFit book.now.first (reverse book.now.entries) }
 {
-    if !is_numbered(first, entries, name) {
+    if !is_numbered(book, name) {
         return Some(Misfit::WrongNumber);
     }
-    if !are_known(entries, takes) {
+    if !are_known(book, takes) {
         return Some(Misfit::UnknownTake);
     }
-    if !are_untorn(entries, takes) {
+    if !are_untorn(book, takes) {
         return Some(Misfit::Torn);
     }
-    if !are_not_back(entries, name, takes) {
+    if !are_not_back(book, name, takes) {
         return Some(Misfit::Back);
     }
-    if !are_own_latest(entries, name, takes) {
+    if !are_own_latest(book, name, takes) {
         return Some(Misfit::NotOwnLatest);
     }
     None

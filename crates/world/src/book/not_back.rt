@@ -1,31 +1,33 @@
 ghost use Rattle.std.specs.Prelude.{◌≡◌, Some, reverse};
-ghost use Rattle.std.specs.List.{list_all, list_any, find};
+ghost use Rattle.std.specs.List.{list_all, find};
 ghost use Rattle.std.specs.Option.{option_copied};
-ghost use Rattle.exchange_core.specs.Last.{same_task};
 ghost use Rattle.world.specs.Fits.{is_below};
 ghost use Rattle.world.specs.Steps.Deciding.{takes_from, keeps_take, keeps_takes, is_not_back};
 
+use crate::book::Book;
+use crate::book::entry_at::entry_at;
+use crate::book::ledger::find_taker;
 use evaluation::{Frame, Name, Take};
 use plant::TaskRef;
 
 /// Whether no take from another resource is below an earlier take of this resource and incarnation from that producer.
-pub fn are_not_back(entries: &[Frame], name: Name, takes: &[Take]) -> bool
-    ensures { result ≡ list_all (is_not_back (reverse entries.now) name) takes.now }
+pub fn are_not_back(book: &Book, name: Name, takes: &[Take]) -> bool
+    ensures { result ≡ list_all (is_not_back (reverse book.now.entries) name) takes.now }
 {
-    takes.iter().all(|take| is_not_back(entries, name, take))
+    takes.iter().all(|take| is_not_back(book, name, take))
 }
 
-fn is_not_back(entries: &[Frame], name: Name, take: &Take) -> bool
-    ensures { result ≡ is_not_back (reverse entries.now) name take.now }
+fn is_not_back(book: &Book, name: Name, take: &Take) -> bool
+    ensures { result ≡ is_not_back (reverse book.now.entries) name take.now }
 {
-    take.producer.resource == name.task.resource || is_kept(entries, name, take)
+    take.producer.resource == name.task.resource || is_kept(book, name, take)
 }
 
 /// Whether the newest entry of this resource that takes from that producer is of another incarnation, or a take is below none of its takes.
-fn is_kept(entries: &[Frame], name: Name, take: &Take) -> bool
-    ensures { result ≡ keeps_takes name.incarnation take.now (find (takes_from name.task.resource take.now.producer) (reverse entries.now)) }
+fn is_kept(book: &Book, name: Name, take: &Take) -> bool
+    ensures { result ≡ keeps_takes name.incarnation take.now (find (takes_from name.task.resource take.now.producer) (reverse book.now.entries)) }
 {
-    match newest_taker(entries, name.task.resource, take.producer) {
+    match newest_taker(book, name.task.resource, take.producer) {
         None => true,
         Some(entry) => keeps_takes(entry, name.incarnation, take),
     }
@@ -38,25 +40,11 @@ fn keeps_takes(entry: &Frame, incarnation: u32, take: &Take) -> bool
 }
 
 /// The newest entry of this resource that takes from this producer.
-fn newest_taker(entries: &[Frame], resource: usize, producer: TaskRef) -> Option<&Frame>
-    ensures { option_copied result ≡ find (takes_from resource producer) (reverse entries.now) }
+fn newest_taker(book: &Book, resource: usize, producer: TaskRef) -> Option<&Frame>
+    ensures { option_copied result ≡ find (takes_from resource producer) (reverse book.now.entries) }
 {
-    entries
-        .iter()
-        .rev()
-        .find(|entry| takes_from(entry, resource, producer))
-}
-
-fn takes_from(entry: &Frame, resource: usize, producer: TaskRef) -> bool
-    ensures { result ≡ takes_from resource producer entry.now }
-{
-    entry.name().task.resource == resource && has_producer(entry.evaluation().takes(), producer)
-}
-
-fn has_producer(takes: &[Take], producer: TaskRef) -> bool
-    ensures { result ≡ list_any (λ u. same_task u.producer producer) takes.now }
-{
-    takes.iter().any(|take| take.producer == producer)
+    let index = find_taker(book.ledger.takers.as_slice(), resource, producer);
+    entry_at(book.entries.as_slice(), index)
 }
 
 /// Whether a take is below none of these.

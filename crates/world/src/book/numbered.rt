@@ -1,46 +1,35 @@
 ghost use Rattle.std.specs.Prelude.{◌≡◌, ◌==◌, ◌+◌, ◌<◌, length, reverse};
-ghost use Rattle.std.specs.List.{find};
-ghost use Rattle.std.specs.Option.{option_copied};
 ghost use Rattle.exchange_core.specs.Last.{last_number};
+ghost use Rattle.world.specs.Fits.{AllFit};
 ghost use Rattle.world.specs.Steps.Deciding.{present_in, newest_in, is_numbered};
 
+use crate::book::Book;
 use crate::book::last_entry::last_number;
-use evaluation::{Frame, Name};
+use evaluation::Name;
 
 /// Whether a name is the next one of its task: its resource exists, its incarnation isn't below the resource's present one, and its number is the next in that incarnation.
-pub fn is_numbered(first: &[u32], entries: &[Frame], name: Name) -> bool
-    ensures { result ≡ is_numbered first.now (reverse entries.now) name }
+pub fn is_numbered(book: &Book, name: Name) -> bool
+    ensures value { result ≡ is_numbered book.now.first (reverse book.now.entries) name }
+    ensures fit { AllFit book.now.first (reverse book.now.entries) }
 {
     let resource = name.task.resource;
-    resource < first.len()
-        && present_in(first, entries, resource) <= name.incarnation
-        && is_next(entries, name)
+    resource < book.first.len()
+        && present_in(book, resource) <= name.incarnation
+        && is_next(book, name)
 }
 
 /// A resource's present incarnation: that of its newest entry, or else its first one.
-fn present_in(first: &[u32], entries: &[Frame], resource: usize) -> u32
-    requires { resource < length first.now }
-    ensures { result ≡ present_in first.now (reverse entries.now) resource }
+fn present_in(book: &Book, resource: usize) -> u32
+    requires { resource < length book.now.first }
+    ensures { result ≡ present_in book.now.first (reverse book.now.entries) resource }
 {
-    match newest_of(entries, resource) {
-        None => first[resource],
-        Some(newest) => newest.name().incarnation,
-    }
-}
-
-fn newest_of(entries: &[Frame], resource: usize) -> Option<&Frame>
-    ensures { option_copied result ≡ find (λ y. y.name.task.resource == resource) (reverse entries.now) }
-{
-    entries
-        .iter()
-        .rev()
-        .find(|entry| entry.name().task.resource == resource)
+    book.ledger.present[resource]
 }
 
 /// Whether its number is one more than that of its task's last entry in its incarnation.
-fn is_next(entries: &[Frame], name: Name) -> bool
-    ensures { result ≡ (name.number == last_number (newest_in (reverse entries.now) name.task name.incarnation) + 1) }
+fn is_next(book: &Book, name: Name) -> bool
+    ensures { result ≡ (name.number == last_number (newest_in (reverse book.now.entries) name.task name.incarnation) + 1) }
 {
-    let last = last_number(entries, name.task, name.incarnation);
+    let last = last_number(book, name.task, name.incarnation);
     name.number > 0 && name.number - 1 == last
 }

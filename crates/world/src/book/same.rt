@@ -1,14 +1,7 @@
 ghost use Rattle.std.specs.Prelude.{◌≡◌};
-ghost use Rattle.world.specs.Steps.Deciding.{same_name, same_values, same_from};
+ghost use Rattle.world.specs.Steps.Deciding.{same_values, same_from};
 
-use evaluation::{Image, Name};
-
-/// Whether both name one evaluation.
-pub fn is_same_name(name: Name, other: Name) -> bool
-    ensures { result ≡ same_name name other }
-{
-    name.task == other.task && name.incarnation == other.incarnation && name.number == other.number
-}
+use evaluation::Image;
 
 /// Whether both have the same values in the same order.
 pub fn is_same_image(image: &Image, other: &Image) -> bool

@@ -1,0 +1,16 @@
+use crate::gate::Gate;
+use crate::threads::inbox::Inbox;
+use crossbeam_channel::Sender;
+use plant::Plant;
+use std::sync::Mutex;
+use world::Book;
+
+/// What all threads of a run share.
+#[derive_where(Clone, Copy)]
+pub(crate) struct Desk<'a, G: Gate> {
+    pub plant: &'a Plant,
+    pub book: &'a Mutex<Book>,
+    pub gate: &'a G,
+    /// One for each resource, in order.
+    pub doors: &'a [Sender<Inbox>],
+}

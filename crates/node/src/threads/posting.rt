@@ -1,0 +1,41 @@
+use crate::gate::Gate;
+use crate::threads::desk::Desk;
+use crate::threads::inbox::Inbox;
+use crossbeam_channel::Sender;
+use evaluation::Frame;
+use plant::{Plant, TaskRef};
+use std::sync::Wait;
+
+/// Whether some task of a resource takes from a task.
+fn takes(plant: &Plant, resource: usize, producer: TaskRef) -> bool {
+    for task in 0..plant.tasks(resource).len() {
+        for found in plant.producers(TaskRef { resource, task }) {
+            if *found == producer {
+                return true;
+            }
+        }
+    }
+    false
+}
+
+/// Sends a copy of an evaluation. It answers whether that is done.
+fn send_copy<R: Wait>(rt: &R, door: &Sender<Inbox>, frame: &Frame) -> bool {
+    match frame.try_clone() {
+        Ok(copy) => door.send(rt, Inbox::Frame(copy)).is_ok(),
+        Err(_) => false,
+    }
+}
+
+/// Sends an evaluation to each other resource that takes from its task. It answers whether each was sent it.
+pub(crate) fn post<R: Wait, G: Gate>(rt: &R, desk: &Desk<'_, G>, frame: &Frame) -> bool {
+    let task = frame.name().task;
+    let mut all = true;
+    for (resource, door) in desk.doors.iter().enumerate() {
+        if resource != task.resource && takes(desk.plant, resource, task) {
+            if !send_copy(rt, door, frame) {
+                all = false;
+            }
+        }
+    }
+    all
+}
