@@ -1,5 +1,5 @@
 -- Why `plan_text` ended, from why a part of it did.
-use Rattle.std.proofs.Common.{◌≡◌, ℕ, ◌<◌, ◌≤◌, List, length, Option, Result, Ok, Err, OnOk, OnErr, IfErr, inl, inr, sym, subst}
+use Rattle.std.proofs.Common.{◌≡◌, ℕ, ◌≤◌, List, length, Option, Result, Ok, Err, OnOk, OnErr, IfErr, inl, inr, sym, subst}
 use Rattle.std.specs.Result.{IsErrAnd}
 use Rattle.std.proofs.KnownBytes.{Keeps-refl}
 use Rattle.std.specs.Io.KnownBytes.{Appends}
@@ -11,7 +11,7 @@ use Rattle.plc_main.specs.declared.command_fault.CommandFault.{CommandFault}
 use Rattle.plc_main.specs.declared.command_fault.CommandFault.TheVariants.{Text, Word, Write, Run, Memory}
 use Rattle.plc_main.specs.declared.text_fault.TextFault.TheVariants.{Draw, Graph, Bind, Plant, TooLong}
 use Rattle.plc_main.specs.EvalText.{IsLate}
-use Rattle.plc_main.specs.PlanText.{plan_lines, Planned, RefusesPlanOf, WritesPlan, ExplainsPlan}
+use Rattle.plc_main.specs.PlanText.{plan_lines, RefusesPlanOf, WritesPlan, ExplainsPlan}
 use Rattle.plc_main.specs.Sending.{SendsPart}
 
 pub plan_refused : (text : List ℕ) (until : ℕ) (old : Option (List ℕ)) (plant : PlantValue) (fault : CommandFault) → IsPlantText text plant → RefusesPlanOf plant until fault → ExplainsPlan text until old old fault

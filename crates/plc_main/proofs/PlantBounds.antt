@@ -1,5 +1,5 @@
 -- A plant that is read keeps the limits, so its counts are small.
-use Rattle.std.proofs.Common.{◌≡◌, ℕ, zero, suc, ◌+◌, ◌*◌, ◌^◌, ◌<◌, ◌≤◌, Bool, true, false, cond, List, [], ◌∷◌, ◌++◌, length, get_or, map, sum_by, All, Option, Some, None, inl, inr, refl, sym, ap, subst, ◌∙◌, arith}
+use Rattle.std.proofs.Common.{◌≡◌, ℕ, zero, suc, ◌<◌, ◌≤◌, Bool, true, false, cond, List, [], ◌∷◌, ◌++◌, length, get_or, sum_by, All, Some, inl, inr, refl, ap, subst, ◌∙◌, arith}
 use Rattle.std.specs.Prelude.{slice_get}
 use Rattle.std.specs.List.{flat_map, filter, AllZip}
 use Rattle.std.proofs.lemmas.List.{length-map}
@@ -10,14 +10,12 @@ use Rattle.std.proofs.lemmas.Option.{slice_get-get_or, slice_get_cases, slice_ge
 use Rattle.plant.specs.declared.binding.Binding.{Binding}
 use Rattle.plant.specs.declared.tree.Resource.{Resource}
 use Rattle.plant.specs.declared.tree.TaskLine.{TaskLine}
-use Rattle.plant.specs.declared.tree.Bind.{Bind}
-use Rattle.plant.specs.declared.tree.Use.{Use}
 use Rattle.plant.specs.Grammar.{Tree}
 use Rattle.plant.specs.Faultless.{tasks_of, uses_of, binds_of, all_uses, IsFaultless, IsResourceLawful}
-use Rattle.plant.specs.PlantValue.{CodeValue, ProgramValue, ResourceValue, PlantValue, items_or_none, bindings_at}
-use Rattle.plant.specs.StandsFor.{runs_in, task_value, IsBindingOf, IsInstanceOf, IsCodeOf, IsResourceOf}
+use Rattle.plant.specs.PlantValue.{CodeValue, ResourceValue, PlantValue, items_or_none, bindings_at}
+use Rattle.plant.specs.StandsFor.{runs_in, task_value, IsBindingOf, IsCodeOf, IsResourceOf}
 use Rattle.plant.specs.PlantText.{IsPlantText}
-use Rattle.plc_main.specs.CheckText.{task_count, programs_of, program_count, connections_of, connection_count, AreCounts}
+use Rattle.plc_main.specs.CheckText.{programs_of, connections_of, AreCounts}
 
 zip_length : {X Y : Type 0} (R : X → Y → Type 0) (xs : List X) (ys : List Y) → AllZip R xs ys → length xs ≡ length ys
 zip_length R [] [] each = refl

@@ -1,12 +1,12 @@
 -- A replay in one thread.
-use Rattle.std.proofs.Common.{◌≡◌, ◌↔◌, ℕ, ◌<◌, true, false, Bool, List, [], ◌∷◌, ◌++◌, length, reverse, Option, Some, None, slice_get, get_or, refl, sym, ap, ◌∙◌, subst, arith, if◌then◌else◌}
+use Rattle.std.proofs.Common.{◌≡◌, true, false, Bool, List, [], ◌∷◌, reverse, refl, sym, ap, ◌∙◌, subst, if◌then◌else◌}
 use Rattle.std.proofs.lemmas.Option.{same_Some}
 use Rattle.power_flow.specs.StateValue.{StateValue, IsSame}
 use Rattle.plant.specs.PlantValue.{PlantValue}
 use Rattle.evaluation.specs.Meaning.{Evaluated, IsSameEvaluation}
 use Rattle.evaluation.specs.States.{AreSame}
 use Rattle.world.specs.declared.event.Event.{Event}
-use Rattle.world.specs.History.{Setting, is_lawful, after_events, lawful_among, history_of}
+use Rattle.world.specs.History.{Setting, is_lawful, after_events, lawful_among}
 use Rattle.world.specs.Run.{IsLog, IsRun}
 use Rattle.world.specs.World.{WorldValue}
 use Rattle.world.specs.Step.{Follows}

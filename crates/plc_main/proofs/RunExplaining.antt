@@ -1,30 +1,29 @@
 -- Why `run_text` ended, from why a part of it did.
-use Rattle.std.proofs.Common.{◌≡◌, ◌≢◌, ◌↔◌, ℕ, ◌+◌, ◌<◌, ◌==◌, suc, zero, ◌++◌, Bool, true, false, not, IsTrue, List, [], ◌∷◌, All, length, take, drop, slice_get, Option, Some, None, Result, Ok, Err, OnOk, OnErr, IfErr, inl, inr, refl, sym, ap, ◌∙◌, subst, append_assoc, arith}
+use Rattle.std.proofs.Common.{◌≡◌, ◌≢◌, ◌↔◌, ℕ, ◌+◌, ◌<◌, ◌==◌, suc, zero, ◌++◌, Bool, true, false, not, IsTrue, List, [], ◌∷◌, All, length, take, slice_get, Option, Some, None, Result, Ok, Err, IfErr, inl, inr, refl, sym, ap, ◌∙◌, subst, arith}
 use Rattle.std.specs.Result.{IsErrAnd}
-use Rattle.std.proofs.KnownBytes.{Keeps-refl, Appends-trans}
+use Rattle.std.proofs.KnownBytes.{Keeps-refl}
 use Rattle.std.proofs.lemmas.Bool.{eqb-true}
 use Rattle.std.proofs.lemmas.Option.{none-some, slice_get_within}
 use Rattle.std.specs.Io.KnownBytes.{Appends}
 use Rattle.std.specs.Option.{option_map}
 use Rattle.plant.specs.declared.due.Due.{Due}
 use Rattle.plant.specs.PlantValue.{TaskValue, ResourceValue, PlantValue, items_or_none}
-use Rattle.plant.specs.Plan.{IsDue, IsPlan, task_at}
+use Rattle.plant.specs.Plan.{IsDue, task_at}
 use Rattle.evaluation.specs.declared.field_input.FieldInput.{FieldInput}
 use Rattle.node.specs.declared.command.Command.{Command}
 use Rattle.node.specs.declared.node_fault.NodeFault.{NodeFault}
 use Rattle.node.specs.declared.report.Report.{Report}
 use Rattle.node.specs.declared.run_fault.RunFault.{RunFault}
-use Rattle.node.specs.Reports.{IsFittingBook, AreJournalsOf, AreInBook, AreAnswers, RunsAgain, AreNumbered, AreForPlant}
+use Rattle.node.specs.Reports.{AreNumbered, AreForPlant}
 use Rattle.plc_main.specs.declared.command_fault.CommandFault.{CommandFault}
 use Rattle.plc_main.specs.declared.command_fault.CommandFault.TheVariants.{Text, Word, Write, Run, Memory}
-use Rattle.plc_main.specs.declared.text_fault.TextFault.TheVariants.{Draw, Graph, Bind, Plant, TooLong}
 use Rattle.plc_main.specs.EvalText.{IsLate}
 use Rattle.plc_main.specs.PlanText.{RefusesPlanOf}
 use Rattle.plc_main.specs.Refusals.{GivenForRun}
 use Rattle.plc_main.specs.Sending.{SendsPart}
 use Rattle.plc_main.specs.RunCommands.{command_for, commands_from}
 use Rattle.plc_main.specs.ReportText.{report_lines, replay_line}
-use Rattle.plc_main.specs.RunText.{ArePlanned, IsReport, IsReportOf, WritesReportPart, ExplainsRun}
+use Rattle.plc_main.specs.RunText.{ArePlanned, IsReportOf, ExplainsRun}
 use Rattle.plc_main.proofs.Sending.{begins}
 use Rattle.plc_main.proofs.Reporting.{part_of_first, part_of_second}
 

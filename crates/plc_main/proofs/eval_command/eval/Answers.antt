@@ -1,7 +1,5 @@
-use Rattle.std.proofs.Common.{◌≡◌, ℕ, List, All, subst, sym, OnOk, IfErr}
-use Rattle.power_flow.specs.declared.declarations.Declaration.{Declaration}
-use Rattle.plc_main.specs.Rows.{RowValue, AreRows, IsBoolAt, texts}
-use Rattle.plc_main.specs.EvalText.{Asked, Explains}
+use Rattle.plc_main.specs.Rows.{texts}
+use Rattle.plc_main.specs.EvalText.{Explains}
 use Rattle.plc_main.proofs.RowLemmas.{all_bool}
 use Rattle.plc_main.proofs.Explaining.{all_written, explain_rows, part_written}
 use Rattle.plc_main.proofs.PlanExplaining.{kept_fault}

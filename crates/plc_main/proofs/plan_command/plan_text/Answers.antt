@@ -1,4 +1,3 @@
-use Rattle.std.proofs.Common.{◌≡◌, OnOk, OnErr}
 use Rattle.plc_main.specs.PlanText.{ExplainsPlan}
 use Rattle.plc_main.proofs.PlanExplaining.{plan_refused, kept_fault, plan_written, plan_partly}
 use Rattle.plc_main.proofs.plan_command.plan_text.Goals as goal

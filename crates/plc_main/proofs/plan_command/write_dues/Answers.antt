@@ -1,6 +1,6 @@
-use Rattle.std.proofs.Common.{◌≡◌, ◌+◌, ◌++◌, take, drop, string_bytes, sym, ap, ◌∙◌, append_assoc, arith}
+use Rattle.std.proofs.Common.{◌+◌, ◌++◌, take, drop, string_bytes, ap, ◌∙◌, append_assoc}
 use Rattle.std.proofs.KnownBytes.{Appends-trans}
-use Rattle.std.proofs.lemmas.List.{take-append-drop, take_all}
+use Rattle.std.proofs.lemmas.List.{take-append-drop}
 use Rattle.plc_main.specs.PlanText.{due_line}
 use Rattle.plc_main.proofs.Sending.{begins_all, line_made, on_err}
 use Rattle.plc_main.proofs.plan_command.write_dues.Goals as goal

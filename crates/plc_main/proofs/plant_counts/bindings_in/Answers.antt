@@ -1,4 +1,4 @@
-use Rattle.std.proofs.Common.{◌≡◌, ℕ, ◌+◌, ◌<◌, ◌≤◌, length, sum_by, take, sym, ap, ◌∙◌, arith}
+use Rattle.std.proofs.Common.{◌≡◌, length, ap, arith}
 use Rattle.plant.specs.PlantValue.{bindings_at}
 use Rattle.plc_main.proofs.Counting.{more_or, room_or, at_or_none}
 use Rattle.plc_main.proofs.plant_counts.bindings_in.Goals as goal

@@ -1,4 +1,4 @@
-use Rattle.std.proofs.Common.{◌≡◌, ℕ, ◌+◌, ◌<◌, ◌≤◌, length, sum_by, take, sym, ap, ◌∙◌, arith}
+use Rattle.std.proofs.Common.{◌<◌, length, arith}
 use Rattle.plc_main.proofs.Counting.{programs_more, programs_room}
 use Rattle.plc_main.proofs.plant_counts.count_programs.Goals as goal
 

@@ -1,4 +1,4 @@
-use Rattle.std.proofs.Common.{◌≡◌, ℕ, ◌+◌, ◌<◌, ◌≤◌, length, sum_by, take, sym, ap, ◌∙◌, arith}
+use Rattle.std.proofs.Common.{◌≡◌, ◌<◌, length, ap, arith}
 use Rattle.plant.specs.PlantValue.{tasks_at}
 use Rattle.plc_main.proofs.Counting.{tasks_more, tasks_room}
 use Rattle.plc_main.proofs.plant_counts.count_tasks.Goals as goal

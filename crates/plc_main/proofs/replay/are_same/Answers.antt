@@ -1,5 +1,5 @@
 -- Lists of which each has an evaluation with the same contents at each place.
-use Rattle.std.proofs.Common.{◌≡◌, ◌<◌, true, length, refl, sym, ◌∙◌, subst, arith}
+use Rattle.std.proofs.Common.{refl, sym, ◌∙◌, subst, arith}
 use Rattle.std.proofs.lemmas.Option.{slice_get_read, slice_get_within, get_or_from_slice_get}
 use Rattle.evaluation.specs.Meaning.{IsSameEvaluation}
 use Rattle.plc_main.proofs.replay.are_same.Goals as goal

@@ -1,5 +1,5 @@
 -- The commands are numbered and for the plant; the report is written whole or in part.
-use Rattle.std.proofs.Common.{◌≡◌, ◌++◌, List, length, ap, ◌∙◌, sym, subst}
+use Rattle.std.proofs.Common.{ap, ◌∙◌, sym, subst}
 use Rattle.std.proofs.KnownBytes.{Appends-trans}
 use Rattle.node.specs.Reports.{AreNumbered, AreForPlant}
 use Rattle.plc_main.specs.declared.command_fault.CommandFault.TheVariants.{Write, Memory}
