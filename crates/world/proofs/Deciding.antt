@@ -4,7 +4,7 @@ use Rattle.std.specs.Prelude.{not, is_some, slice_index, MatchOption}
 use Rattle.std.specs.Bool.{Decides}
 use Rattle.std.specs.List.{list_all, list_any, find}
 use Rattle.std.proofs.lemmas.Bool.{false≢true}
-use Rattle.std.proofs.lemmas.Bool.Decides.{Decides-eqb, Decides-int_eq, Decides-ltb, nat_tests}
+use Rattle.std.proofs.lemmas.Bool.Decides.{Decides-eqb, Decides-int_eq, Decides-ltb}
 use Rattle.std.proofs.lemmas.Bool.{leb-true, le-leb}
 use Rattle.std.proofs.lemmas.Slice.Eq.{slice_eq-Decides}
 use Rattle.std_blocks.specs.declared.value.Value.{Value}
@@ -17,6 +17,8 @@ use Rattle.exchange_core.specs.Last.{same_task, last_number, from_of}
 use Rattle.exchange_core.proofs.Tables.{same_task-true, same_task-itself}
 use Rattle.world.specs.Fits.{Among, Each, last_in, name_from, is_below, IsNumbered, IsKnown, IsUntorn, IsNotBack, IsOwnLatest, AllFit}
 use Rattle.world.specs.Steps.Deciding.{same_name, is_named, same_value, same_values, same_from, incarnation_in, present_in, is_of_task, if_of, newest_in, is_numbered, has_named, known_from, is_known, keeps_image, untorn_from, is_untorn, takes_from, keeps_take, keeps_takes, is_not_back, is_own_latest}
+use Rattle.world.proofs.Lists.{Each-at}
+use Rattle.world.proofs.NotBack.{is_below-trans}
 
 -- a test that is true just where this holds
 pub record IsTest (b : Bool) (P : Type 0) : Type 0 where
@@ -68,19 +70,6 @@ test-each f P each (x ∷ xs) = test-and (f x) (list_all f xs) (P x) (Each P xs)
 pub each-map : {X : Type 0} (P Q : X → Type 0) → ((x : X) → P x → Q x) → (xs : List X) → Each P xs → Each Q xs
 each-map P Q more [] all = tt
 each-map P Q more (x ∷ xs) all = (more x all.0, each-map P Q more xs all.1)
-
-each-at : {X : Type 0} (P : X → Type 0) (xs : List X) → Each P xs → (x : X) → Among x xs → P x
-each-at P [] all x among = elim among [ ]
-each-at P (y ∷ ys) all x (inl same) = subst P same all.0
-each-at P (y ∷ ys) all x (inr among) = each-at P ys all.1 x among
-
-not_below-trans : (p : TaskRef) (a b c : Option (ℕ × ℕ)) → is_below p a b ≡ false → is_below p b c ≡ false → is_below p a c ≡ false
-not_below-trans p a b None h k = refl
-not_below-trans p a None (Some c) h k = absurd (false≢true (sym k))
-not_below-trans p None (Some b) (Some c) h k = absurd (false≢true (sym h))
-not_below-trans p (Some a) (Some b) (Some c) h k = pairs a.0 a.1 b.0 b.1 c.0 c.1 h k where
-  pairs : (i m j n k o : ℕ) → (ltb i j || (eqb i j && ltb m n)) ≡ false → (ltb j k || (eqb j k && ltb n o)) ≡ false → (ltb i k || (eqb i k && ltb m o)) ≡ false
-  pairs i m j n k o h g = grind (arith, nat_tests)
 
 test-task : (a b : TaskRef) → IsTest (same_task a b) (a ≡ b)
 test-task a b = record { holds = same_task-true a b; passes = λ e. subst (λ c. same_task a c ≡ true) e (same_task-itself a) }
@@ -295,19 +284,19 @@ test-kept first (x ∷ older) fit name low t other = by (takes_from name.task.re
     apart e = other (ap (λ (p : TaskRef). p.resource) (sym taken.1.2) ∙ e ∙ taken.0)
 
     above : list_all (keeps_take t) x.takes ≡ true → is_below t.producer t.from taken.1.0.from ≡ false
-    above e = each-at _ x.takes ((test-takes t x.takes).holds e) taken.1.0 taken.1.1 taken.1.2
+    above e = Each-at _ x.takes taken.1.0 ((test-takes t x.takes).holds e) taken.1.1 taken.1.2
 
     later : x.name.incarnation ≡ name.incarnation → (y : Evaluated)
         → (y.name.task.resource ≡ x.name.task.resource → y.name.incarnation ≡ x.name.incarnation → Each (λ (u : Take). u.producer ≡ taken.1.0.producer → is_below taken.1.0.producer taken.1.0.from u.from ≡ false) y.takes)
         → is_below t.producer t.from taken.1.0.from ≡ false → Keeps name t y
     later same y kept high own at =
-        each-map _ _ (λ u under alike. not_below-trans t.producer t.from taken.1.0.from u.from high (subst (λ p. is_below p taken.1.0.from u.from ≡ false) taken.1.2 (under (alike ∙ sym taken.1.2)))) y.takes
+        each-map _ _ (λ u under alike. is_below-trans t.producer t.from taken.1.0.from u.from high (subst (λ p. is_below p taken.1.0.from u.from ≡ false) taken.1.2 (under (alike ∙ sym taken.1.2)))) y.takes
         (kept (own ∙ sym taken.0) (at ∙ sym same))
 
     now : (b : Bool) → IsTest b (x.name.incarnation ≡ name.incarnation) → IsTest (not b || list_all (keeps_take t) x.takes) (Each (Keeps name t) (x ∷ older))
     now true same =
         record {
-          holds = λ e. (λ _ _. (test-takes t x.takes).holds e, each-map _ _ (λ y kept. later (same.holds refl) y kept (above e)) older (each-at _ x.takes fit.0.not_back taken.1.0 taken.1.1 apart));
+          holds = λ e. (λ _ _. (test-takes t x.takes).holds e, each-map _ _ (λ y kept. later (same.holds refl) y kept (above e)) older (Each-at _ x.takes taken.1.0 fit.0.not_back taken.1.1 apart));
           passes = λ h. (test-takes t x.takes).passes (h.0 taken.0 (same.holds refl));
         }
     now false differs = record { holds = λ _. (λ own at. absurd (false≢true (differs.passes at)), each-map _ _ earlier older fit.0.numbered.not_below_latest); passes = λ _. refl } where

@@ -1,5 +1,5 @@
 -- What the tables of a book tell of its entries.
-use Rattle.std.proofs.Common.{◌≡◌, ℕ, zero, suc, ◌+◌, ◌-◌, ◌<◌, ◌≤◌, arith, Bool, true, false, cond, ◌&&◌, ◌||◌, List, [], ◌∷◌, ◌++◌, map, take, drop, length, get_or, Option, Some, None, refl, ap, sym, ◌∙◌, subst, eqb}
+use Rattle.std.proofs.Common.{◌≡◌, ℕ, zero, suc, ◌<◌, ◌≤◌, arith, Bool, true, false, cond, ◌&&◌, ◌||◌, List, [], ◌∷◌, ◌++◌, map, take, drop, length, get_or, Option, Some, None, refl, ap, sym, ◌∙◌, subst, eqb}
 use Rattle.std.proofs.Math.ListN.{set}
 use Rattle.std.specs.Prelude.{reverse, slice_index, slice_get, slice_set}
 use Rattle.std.specs.Option.{option_map, option_and_then}
@@ -8,7 +8,7 @@ use Rattle.std.specs.declared.cmp.Ordering.TheVariants.{Less}
 use Rattle.std.specs.List.{find, list_any}
 use Rattle.std.proofs.lemmas.Bool.{false≢true, eqb-true, eq-eqb}
 use Rattle.std.proofs.lemmas.Bool.Decides.{nat_tests}
-use Rattle.std.proofs.lemmas.List.{reverse-append, reverse-reverse, length-reverse, length-append, length-set, get_or-set_same, get_or-set_other}
+use Rattle.std.proofs.lemmas.List.{reverse-append, reverse-reverse, length-reverse, length-set, get_or-set_same, get_or-set_other}
 use Rattle.plant.specs.declared.task_ref.TaskRef.{TaskRef}
 use Rattle.evaluation.specs.declared.name.Name.{Name}
 use Rattle.evaluation.specs.declared.take.Take.{Take}
@@ -24,6 +24,7 @@ use Rattle.world.specs.Steps.Deciding.{present_in, is_of_task, is_named, takes_f
 use Rattle.world.specs.Steps.Ledger.{newest_place, presents, place_of, places_of, places_in, last_index, pair_cmp, index_of, AreRising, taker_in, has_row, noted, AreTables, Tells}
 use Rattle.world.proofs.Deciding.{last-greatest}
 use Rattle.world.proofs.Ledgers.{taker-noted}
+use Rattle.world.proofs.Telling.{seam, last_of}
 
 pub length-presents : (first : List ℕ) (older : List Evaluated) → length (presents first older) ≡ length first
 length-presents first [] = refl
@@ -44,10 +45,6 @@ presents-at first (x ∷ older) n within = by (eqb x.name.task.resource n) refl 
       (get_or-set_same (presents first older) x.name.task.resource x.name.incarnation 0 (inside same))
   by false e ih =
       get_or-set_other (presents first older) x.name.task.resource n x.name.incarnation 0 (λ same. false≢true (sym e ∙ eq-eqb x.name.task.resource n (sym same))) ∙ ih
-
-get-last : {X : Type 0} (xs : List X) (x : X) → slice_get (xs ++ x ∷ []) (length xs) ≡ Some x
-get-last [] x = refl
-get-last (y ∷ ys) x = get-last ys x
 
 get-front : {X : Type 0} (xs : List X) (x : X) (k : ℕ) → k < length xs → slice_get (xs ++ x ∷ []) k ≡ slice_get xs k
 get-front [] x k within = absurd (omega (arith, within))
@@ -70,7 +67,7 @@ newest-at f (x ∷ older) = by (f x) (newest-at f older) where
 
   by : (b : Bool) → option_and_then (λ k. slice_get (reverse older) k) (newest_place f older) ≡ find f older
       → option_and_then (λ k. slice_get (reverse (x ∷ older)) k) (cond b (Some (length older)) (newest_place f older)) ≡ cond b (Some x) (find f older)
-  by true ih = ap (λ ys. slice_get ys (length older)) turned ∙ ap (λ n. slice_get (reverse older ++ x ∷ []) n) (sym (length-reverse older)) ∙ get-last (reverse older) x
+  by true ih = ap (λ ys. slice_get ys (length older)) turned ∙ ap (λ n. slice_get (reverse older ++ x ∷ []) n) (sym (length-reverse older)) ∙ seam (reverse older) x
   by false ih = below (newest_place f older) refl ∙ ih where
     below : (o : Option ℕ) → newest_place f older ≡ o → option_and_then (λ k. slice_get (reverse (x ∷ older)) k) o ≡ option_and_then (λ k. slice_get (reverse older) k) o
     below None e = refl
@@ -79,9 +76,7 @@ newest-at f (x ∷ older) = by (f x) (newest-at f older) where
         ap (λ ys. slice_get ys k) turned ∙ get-front (reverse older) x k low
 
 last-snoc : (ps : List Place) (p : Place) → last_index (ps ++ p ∷ []) ≡ Some p.index
-last-snoc ps p =
-    let long : length (ps ++ p ∷ []) - 1 ≡ length ps = (let e : length (ps ++ p ∷ []) ≡ length ps + 1 = length-append ps (p ∷ []) in omega (arith, e)) in
-    ap (λ n. option_map (λ (q : Place). q.index) (slice_get (ps ++ p ∷ []) n)) long ∙ ap (option_map (λ (q : Place). q.index)) (get-last ps p)
+last-snoc ps p = ap (option_map (λ (q : Place). q.index)) (last_of ps p)
 
 -- the last of a task's places is that of its newest entry
 pub last-newest : (t : TaskRef) (older : List Evaluated) → last_index (places_of t older) ≡ newest_place (is_of_task t) older

@@ -26,7 +26,7 @@ seam (x ∷ xs) y = seam xs y
 pub length-one_more : {X : Type 0} (xs : List X) (y : X) → length (xs ++ y ∷ []) ≡ length xs + 1
 length-one_more xs y = length-append xs (y ∷ [])
 
-last_of : {X : Type 0} (xs : List X) (y : X) → slice_get (xs ++ y ∷ []) (length (xs ++ y ∷ []) - 1) ≡ Some y
+pub last_of : {X : Type 0} (xs : List X) (y : X) → slice_get (xs ++ y ∷ []) (length (xs ++ y ∷ []) - 1) ≡ Some y
 last_of xs y = let n : length (xs ++ y ∷ []) - 1 ≡ length xs = omega (arith, length-one_more xs y) in ap (slice_get (xs ++ y ∷ [])) n ∙ seam xs y
 
 -- the history after more events

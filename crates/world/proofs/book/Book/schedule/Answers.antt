@@ -12,4 +12,4 @@ returns c =
     let entries = c.args.self.now.entries in
     let all : take c.loop-i.i entries ≡ entries = take_all c.loop-i.i entries (omega (arith, ap (λ b. length b.entries) c.self.view_is, c.self.inside.entries.ok.0)) in
     let are : c.loop-i.events.items ≡ schedule_of first (reverse entries) = c.loop-i.invariant ∙ ap (λ l. schedule_of first (reverse l)) all in
-    record { replays = subst (Replays first entries) (sym are) (replays first entries (subst (λ b. AllFit b.first (reverse b.entries)) c.self.view_is c.self.invariant)); events = are }
+    record { replays = subst (Replays first entries) (sym are) (replays first entries (subst (λ b. AllFit b.first (reverse b.entries)) c.self.view_is c.self.invariant.0)); events = are }
