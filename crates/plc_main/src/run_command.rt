@@ -50,7 +50,8 @@ pub fn run_text<R: Threads + Wait + Sync, K: Keeper, G: Gate, W: Write>(
     ensures fault { IfErr result (ExplainsRun plant.value until inputs (W.contents writer.old) (W.contents writer.new)) }
 {
     let commands = planned_commands(alloc, &plant, until, &inputs)?;
-    let report = run_threads(rt, alloc, &plant, &commands, keepers, gate, u32::MAX)?;
+    let shared = Arc::try_clone(&plant)?;
+    let report = run_threads(rt, alloc, shared, &commands, keepers, gate, u32::MAX)?;
     write_report(alloc, &plant, &report, writer)?;
     let equal = replay(alloc, plant, &report)?;
     write_text(writer, replay_line(equal))?;

@@ -1,6 +1,7 @@
 -- The commands are numbered and for the plant; the report is written whole or in part.
 use Rattle.std.proofs.Common.{ap, ◌∙◌, sym, subst}
 use Rattle.std.proofs.KnownBytes.{Appends-trans}
+use Rattle.plant.specs.PlantValue.{PlantValue}
 use Rattle.node.specs.Reports.{AreNumbered, AreForPlant}
 use Rattle.plc_main.specs.declared.command_fault.CommandFault.TheVariants.{Write, Memory}
 use Rattle.plc_main.specs.ReportText.{report_lines, replay_line}
@@ -15,7 +16,8 @@ run_threads-requires-clause-numbered g c κs within =
 
 pub run_threads-requires-clause-resources : goal.run_threads-requires-clause-resources
 run_threads-requires-clause-resources g c κs within =
-    subst (AreForPlant c.args.plant.value) (sym c.deref-2.ensures.value) (planned_for_plant c.args.plant.value c.args.until c.args.inputs c.in_ok-commands.commands.items (rw c.deref.ensures at c.in_ok-commands.ensures.ok))
+    subst (λ (plant : PlantValue). AreForPlant plant c.deref-2.result.now) (sym c.in_ok-shared.ensures)
+    (subst (AreForPlant c.args.plant.value) (sym c.deref-2.ensures.value) (planned_for_plant c.args.plant.value c.args.until c.args.inputs c.in_ok-commands.commands.items (rw c.deref.ensures at c.in_ok-commands.ensures.ok)))
 
 pub returns-in_err-write_report-clause-fault : goal.returns-in_err-write_report-clause-fault
 returns-in_err-write_report-clause-fault g c =
@@ -24,11 +26,13 @@ returns-in_err-write_report-clause-fault g c =
     let inputs = c.args.inputs in
     let report = c.in_ok-report.report in
     let ended = c.in_ok-report.ensures in
+    let journals = rw c.in_ok-shared.ensures at ended.journals in
+    let again = rw c.in_ok-shared.ensures at ended.again in
     let planned : ArePlanned plant until inputs c.in_ok-commands.commands.items = rw c.deref.ensures at c.in_ok-commands.ensures.ok in
     let is_report : IsReportOf plant until inputs report = record {
       commands = c.in_ok-commands.commands.items;
       planned = planned;
-      reported = record { fitting = ended.fitting; journals = ended.journals; made = ended.made; answers = rw c.deref-2.ensures.value at ended.answers; again = ended.again };
+      reported = record { fitting = ended.fitting; journals = journals; made = ended.made; answers = rw c.deref-2.ensures.value at ended.answers; again = again };
     } in
     kept_fault c.in_err-write_report.field-0.0 (ExplainsRun plant until inputs _ _) _ c.from_residual-in_err-write_report.ensures.1
     (lines_partly plant until inputs _ _ report c.in_err-write_report.field-0.0 is_report (rw c.deref-3.ensures at c.in_err-write_report.ensures.part) c.in_err-write_report.ensures.late)
@@ -40,11 +44,13 @@ returns-in_err-equal-clause-fault g c =
     let inputs = c.args.inputs in
     let report = c.in_ok-report.report in
     let ended = c.in_ok-report.ensures in
+    let journals = rw c.in_ok-shared.ensures at ended.journals in
+    let again = rw c.in_ok-shared.ensures at ended.again in
     let planned : ArePlanned plant until inputs c.in_ok-commands.commands.items = rw c.deref.ensures at c.in_ok-commands.ensures.ok in
     let is_report : IsReportOf plant until inputs report = record {
       commands = c.in_ok-commands.commands.items;
       planned = planned;
-      reported = record { fitting = ended.fitting; journals = ended.journals; made = ended.made; answers = rw c.deref-2.ensures.value at ended.answers; again = ended.again };
+      reported = record { fitting = ended.fitting; journals = journals; made = ended.made; answers = rw c.deref-2.ensures.value at ended.answers; again = again };
     } in
     kept_fault Memory (ExplainsRun plant until inputs _ _) _ c.from_residual-in_err-equal.ensures.1
     (lines_alone plant until inputs _ _ report is_report (rw c.deref-3.ensures at c.in_ok-write_report.ensures.ok))
@@ -56,13 +62,15 @@ returns-in_err-write_text-clause-fault g c =
     let inputs = c.args.inputs in
     let report = c.in_ok-report.report in
     let ended = c.in_ok-report.ensures in
+    let journals = rw c.in_ok-shared.ensures at ended.journals in
+    let again = rw c.in_ok-shared.ensures at ended.again in
     let planned : ArePlanned plant until inputs c.in_ok-commands.commands.items = rw c.deref.ensures at c.in_ok-commands.ensures.ok in
     let is_report : IsReportOf plant until inputs report = record {
       commands = c.in_ok-commands.commands.items;
       planned = planned;
-      reported = record { fitting = ended.fitting; journals = ended.journals; made = ended.made; answers = rw c.deref-2.ensures.value at ended.answers; again = ended.again };
+      reported = record { fitting = ended.fitting; journals = journals; made = ended.made; answers = rw c.deref-2.ensures.value at ended.answers; again = again };
     } in
-    let line = c.replay_line.ensures ∙ ap replay_line (c.in_ok-equal.ensures.equal ended.again) in
+    let line = c.replay_line.ensures ∙ ap replay_line (c.in_ok-equal.ensures.equal again) in
     let part = rw line at c.in_err-write_text.ensures.prefix in
     kept_fault Write (ExplainsRun plant until inputs _ _) _ c.from_residual-in_err-write_text.ensures.1
     (last_partly plant until inputs _ _ _ report is_report (rw c.deref-3.ensures at c.in_ok-write_report.ensures.ok) part.0 part.1)
@@ -74,13 +82,15 @@ returns-clause-ok g c =
     let inputs = c.args.inputs in
     let report = c.in_ok-report.report in
     let ended = c.in_ok-report.ensures in
+    let journals = rw c.in_ok-shared.ensures at ended.journals in
+    let again = rw c.in_ok-shared.ensures at ended.again in
     let planned : ArePlanned plant until inputs c.in_ok-commands.commands.items = rw c.deref.ensures at c.in_ok-commands.ensures.ok in
     let is_report : IsReportOf plant until inputs report = record {
       commands = c.in_ok-commands.commands.items;
       planned = planned;
-      reported = record { fitting = ended.fitting; journals = ended.journals; made = ended.made; answers = rw c.deref-2.ensures.value at ended.answers; again = ended.again };
+      reported = record { fitting = ended.fitting; journals = journals; made = ended.made; answers = rw c.deref-2.ensures.value at ended.answers; again = again };
     } in
-    let line = c.replay_line.ensures ∙ ap replay_line (c.in_ok-equal.ensures.equal ended.again) in
+    let line = c.replay_line.ensures ∙ ap replay_line (c.in_ok-equal.ensures.equal again) in
     record {
       report = report;
       is_report = is_report;
