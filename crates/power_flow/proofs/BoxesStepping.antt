@@ -99,7 +99,7 @@ settled_first links gates starts bits boxes results exact k = (
     only j (inr f) = let lt = f.before in absurd (omega arith)
 
 -- a result at n leaves what begins at the boxes before n
-begins_kept : (starts : List Bool) (boxes : List BoundBox) (results : List Instance) (n : ℕ) (v : Instance) (j : ℕ) → j ≤ n → (k : ℕ)
+pub begins_kept : (starts : List Bool) (boxes : List BoundBox) (results : List Instance) (n : ℕ) (v : Instance) (j : ℕ) → j ≤ n → (k : ℕ)
     → IsBeginning starts boxes results j k → IsBeginning starts boxes (set results n v) j k
 begins_kept starts boxes results n v j le k (inl on) = inl on
 begins_kept starts boxes results n v j le k (inr f) = inr (record {
@@ -125,7 +125,7 @@ begins_back starts boxes results n v j le k (inr f) = inr (record {
   marked = f.marked;
 })
 
-begins_more : (starts : List Bool) (boxes : List BoundBox) (results : List Instance) (n k : ℕ) → IsBeginning starts boxes results n k → IsBeginning starts boxes results (n + 1) k
+pub begins_more : (starts : List Bool) (boxes : List BoundBox) (results : List Instance) (n k : ℕ) → IsBeginning starts boxes results n k → IsBeginning starts boxes results (n + 1) k
 begins_more starts boxes results n k (inl on) = inl on
 begins_more starts boxes results n k (inr f) = inr (record {
   index = f.index;
