@@ -39,7 +39,7 @@ pub fn sort_links(links: &mut Vec<Link>, places: &[Place]) -> Result<(), AllocEr
     ensures permutation { IsPermutation links.old.items links.new.items }
     ensures sorted { OnOk result (IsNonDecreasingBy (link_rank places.now) links.new.items) }
 {
-    links.sort_by_key(|link| link_rank(link, places))?;
+    links.sort_by_cached_key(|link| link_rank(link, places))?;
     Ok(())
 }
 
