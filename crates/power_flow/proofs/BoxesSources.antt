@@ -254,6 +254,10 @@ name_read ds name = go (place_of ds (before_first is_dot name))
     go None = tt
     go (Some k) = at k (slice_get ds k)
 
+-- a name is no place of the network
+pub name_no_power : (ds : List Declaration) (name : List ℕ) (n : ℕ) → name_source ds name ≡ source.Power n → ⊥
+name_no_power ds name n is = let P : Source → Type 0 = λ s. IsRead s in subst P is (name_read ds name)
+
 pub name_bit : (ds : List Declaration) (slots : List Slot) (bits : List Bool) (name : List ℕ) → AreSlotsOf ds slots → source_bit slots bits (name_source ds name) ≡ is_true (value_of ds slots name)
 name_bit ds slots bits name fits = read_bit slots bits (name_source ds name) (name_read ds name) ∙ ap is_true (sym (name_value ds slots name fits))
 

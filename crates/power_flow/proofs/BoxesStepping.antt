@@ -11,8 +11,7 @@ use Rattle.network.specs.declared.link.Link.{Link}
 use Rattle.power_flow.specs.declared.bound_box.BoundBox.{BoundBox}
 use Rattle.power_flow.specs.declared.bound_box.BoundOutput.{BoundOutput}
 use Rattle.power_flow.specs.Names.{is_true}
-use Rattle.power_flow.specs.Steps.Reach.{bit_at, Reached}
-use Rattle.power_flow.specs.Steps.Reach.Reached.{start as begins, along as follows}
+use Rattle.power_flow.specs.Steps.Reach.{bit_at}
 use Rattle.power_flow.specs.Steps.BoxSteps.{box_result, ReachedFrom, IsMarked, IsBeginning, AreSettled, IsStepped, AreApartBoxes, pin_stores, output_stores}
 use Rattle.power_flow.specs.Steps.BoxSteps.ReachedFrom.{start, along}
 
@@ -78,28 +77,8 @@ pub reached_weaken : (links : List Link) (gates : List Bool) (S T : ℕ → Type
 reached_weaken links gates S T more (start s) = start (more _ s)
 reached_weaken links gates S T more (along in' gate r) = along in' gate (reached_weaken links gates S T more r)
 
-pub from_reached : (links : List Link) (gates bits : List Bool) (S : ℕ → Type 0) → ((k : ℕ) → bit_at bits k ≡ true → ReachedFrom links gates S k) → {k : ℕ} → Reached links gates bits k → ReachedFrom links gates S k
-from_reached links gates bits S was (begins h) = was _ h
-from_reached links gates bits S was (follows in' gate r) = along in' gate (from_reached links gates bits S was r)
-
-pub to_reached : (links : List Link) (gates bits : List Bool) (S : ℕ → Type 0) → ((k : ℕ) → S k → bit_at bits k ≡ true) → {k : ℕ} → ReachedFrom links gates S k → Reached links gates bits k
-to_reached links gates bits S on (start s) = begins (on _ s)
-to_reached links gates bits S on (along in' gate r) = follows in' gate (to_reached links gates bits S on r)
-
--- before any box has a result, state begins at the starts
-pub settled_first : (links : List Link) (gates starts bits : List Bool) (boxes : List BoundBox) (results : List Instance)
-    → ((k : ℕ) → (bit_at bits k ≡ true) ↔ Reached links gates starts k) → AreSettled links gates starts boxes results 0 bits
-settled_first links gates starts bits boxes results exact k = (
-  λ h. from_reached links gates starts (IsBeginning starts boxes results 0) (λ j on. start (inl on)) ((exact k).0 h),
-  λ r. (exact k).1 (to_reached links gates starts (IsBeginning starts boxes results 0) only r),
-)
-  where
-    only : (j : ℕ) → IsBeginning starts boxes results 0 j → bit_at starts j ≡ true
-    only j (inl on) = on
-    only j (inr f) = let lt = f.before in absurd (omega arith)
-
 -- a result at n leaves what begins at the boxes before n
-begins_kept : (starts : List Bool) (boxes : List BoundBox) (results : List Instance) (n : ℕ) (v : Instance) (j : ℕ) → j ≤ n → (k : ℕ)
+pub begins_kept : (starts : List Bool) (boxes : List BoundBox) (results : List Instance) (n : ℕ) (v : Instance) (j : ℕ) → j ≤ n → (k : ℕ)
     → IsBeginning starts boxes results j k → IsBeginning starts boxes (set results n v) j k
 begins_kept starts boxes results n v j le k (inl on) = inl on
 begins_kept starts boxes results n v j le k (inr f) = inr (record {
@@ -125,7 +104,7 @@ begins_back starts boxes results n v j le k (inr f) = inr (record {
   marked = f.marked;
 })
 
-begins_more : (starts : List Bool) (boxes : List BoundBox) (results : List Instance) (n k : ℕ) → IsBeginning starts boxes results n k → IsBeginning starts boxes results (n + 1) k
+pub begins_more : (starts : List Bool) (boxes : List BoundBox) (results : List Instance) (n k : ℕ) → IsBeginning starts boxes results n k → IsBeginning starts boxes results (n + 1) k
 begins_more starts boxes results n k (inl on) = inl on
 begins_more starts boxes results n k (inr f) = inr (record {
   index = f.index;
@@ -144,45 +123,7 @@ settled_kept links gates starts boxes results n v j bits le s k = (
   λ r. (s k).1 (reached_weaken links gates (IsBeginning starts boxes (set results n v) j) (IsBeginning starts boxes results j) (begins_back starts boxes results n v j le) r),
 )
 
--- once box n has its result, the bits that follow from its output pins are those of the first n + 1 boxes
-pub settled_more : (links : List Link) (gates starts : List Bool) (boxes : List BoundBox) (results : List Instance) (n : ℕ) (e : BoundBox) (v : Instance) (bits marked new : List Bool)
-    → slice_get boxes n ≡ Some e → n < length results → AreSettled links gates starts boxes results n bits
-    → ((k : ℕ) → (bit_at marked k ≡ true) ↔ ((bit_at bits k ≡ true) ⊎ IsMarked e.outputs.items v.outputs k))
-    → ((k : ℕ) → (bit_at new k ≡ true) ↔ Reached links gates marked k)
-    → AreSettled links gates starts boxes (set results n v) (n + 1) new
-settled_more links gates starts boxes results n e v bits marked new box lt settled marks exact k =
-    (λ h. from_reached links gates marked (IsBeginning starts boxes (set results n v) (n + 1)) each ((exact k).0 h), λ r. (exact k).1 (to_reached links gates marked (IsBeginning starts boxes (set results n v) (n + 1)) on r))
-  where
-    each : (j : ℕ) → bit_at marked j ≡ true → ReachedFrom links gates (IsBeginning starts boxes (set results n v) (n + 1)) j
-    each j h = elim ((marks j).0 h) [
-      | inl b ↦ reached_weaken links gates (IsBeginning starts boxes results n) (IsBeginning starts boxes (set results n v) (n + 1))
-          (λ i s. begins_more starts boxes (set results n v) n i (begins_kept starts boxes results n v n (omega arith) i s)) ((settled j).0 b)
-      | inr m ↦ start (inr (record { index = n; before = omega arith; box = e; result = v; box_at = box; result_at = slice_get-set_same results n v lt; marked = m }))
-    ]
-
-    on : (j : ℕ) → IsBeginning starts boxes (set results n v) (n + 1) j → bit_at marked j ≡ true
-    on j (inl h) = (marks j).1 (inl ((settled j).1 (start (inl h))))
-    on j (inr f) = elim (cases_eq f.index n) [
-      | inl same ↦
-          let is : Some f.box ≡ Some e = sym f.box_at ∙ ap (slice_get boxes) same ∙ box in
-          let has : Some f.result ≡ Some v = sym f.result_at ∙ ap (slice_get (set results n v)) same ∙ slice_get-set_same results n v lt in
-          let P : BoundBox → Type 0 = λ b. IsMarked b.outputs.items f.result.outputs j in
-          let Q : Instance → Type 0 = λ i. IsMarked e.outputs.items i.outputs j in
-          (marks j).1 (inr (subst Q (some_same has) (subst P (some_same is) f.marked)))
-      | inr ne ↦
-          let before = f.before in
-          (marks j).1 (inl ((settled j).1 (start (inr (record {
-            index = f.index;
-            before = omega arith;
-            box = f.box;
-            result = f.result;
-            box_at = f.box_at;
-            result_at = sym (slice_get-set_other results n f.index v ne) ∙ f.result_at;
-            marked = f.marked;
-          })))))
-    ]
-
--- and each box up to n has the result of its step
+-- once box n has its result, each box up to n has the result of its step
 pub stepped_more : (links : List Link) (gates starts : List Bool) (slots : List Slot) (dt : ℕ) (boxes : List BoundBox) (results : List Instance) (n : ℕ) (here : BoundBox) (v : Instance) (bits : List Bool)
     → slice_get boxes n ≡ Some here → n < length results → v ≡ box_result here slots dt bits → AreSettled links gates starts boxes results n bits
     → ((j : ℕ) (e : BoundBox) → j < n → slice_get boxes j ≡ Some e → IsStepped links gates starts slots dt boxes results j e)

@@ -1,5 +1,6 @@
 pub mod PowerLemmas
-pub mod Sweeping
+pub mod Following
+pub mod Ordering
 pub mod Lists
 pub mod Scanning
 pub mod CircuitLemmas

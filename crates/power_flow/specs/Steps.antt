@@ -6,6 +6,7 @@ pub mod Earlier
 pub mod ElementSteps
 pub mod Folded
 pub mod NamedBox
+pub mod Order
 pub mod Reach
 pub mod Sources
 pub mod Table

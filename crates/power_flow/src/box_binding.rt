@@ -71,7 +71,8 @@ fn drawn_input(drawn: &DrawnBox, block: BlockType, field: Field) -> Option<&Draw
 
 /// The state of a numbered place.
 fn power_source(numbering: &Numbering, place: Place) -> Source
-    ensures { (k : ℕ) → IsSpot numbering.now k place → result ≡ Source.Power k }
+    ensures found { (k : ℕ) → IsSpot numbering.now k place → result ≡ Source.Power k }
+    ensures only { (k : ℕ) → result ≡ Source.Power k → IsSpot numbering.now k place }
 {
     match numbering.find(place) {
         Some(number) => Source::Power(number),
@@ -86,7 +87,8 @@ fn pin_bit_source(
     drawn: &DrawnBox,
     pin: &DrawnPin,
 ) -> Source
-    ensures { (n : ℕ) → IsSpot numbering.now n (left_place drawn.now pin.now) → IsBitSource declarations.now (places_of numbering.now) drawn.now pin.now result }
+    ensures source { (n : ℕ) → IsSpot numbering.now n (left_place drawn.now pin.now) → IsBitSource declarations.now (places_of numbering.now) drawn.now pin.now result }
+    ensures power { (n : ℕ) → result ≡ Source.Power n → IsSpot numbering.now n (left_place drawn.now pin.now) }
 {
     match &pin.operand {
         Some(operand) => name_source(declarations, operand.text.as_str()),
@@ -109,6 +111,7 @@ fn bit_source(
     k: usize,
 ) -> Source
     ensures none { ((pin : DrawnPin) → IsDrawn drawn.now block (Field.Bit k) pin → ⊥) → result ≡ Source.Nothing }
+    ensures power { (n : ℕ) → result ≡ Source.Power n → (p : Place) × (slice_get (places_of numbering.now) n ≡ Some p) × (p.column ≡ drawn.now.left) }
     ensures some { IsDrawnOnce drawn.now block → (pin : DrawnPin) → IsDrawn drawn.now block (Field.Bit k) pin
         → (n : ℕ) → IsSpot numbering.now n (left_place drawn.now pin) → IsBitSource declarations.now (places_of numbering.now) drawn.now pin result }
 {

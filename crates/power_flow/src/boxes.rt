@@ -1,4 +1,4 @@
-ghost use Rattle.std.specs.Prelude.{◌≡◌, ◌<◌, ◌⊎◌, ◌↔◌, ◌≢◌, ℕ, All, IfSome, Some, true, length, slice_get, slice_set};
+ghost use Rattle.std.specs.Prelude.{◌≡◌, ◌<◌, ◌≤◌, ◌⊎◌, ◌↔◌, ◌≢◌, ℕ, All, IfSome, Some, true, length, slice_get, slice_set};
 ghost use Rattle.std_blocks.specs.Pins.{field_value};
 ghost use Rattle.power_flow.specs.declared.bound_box.BoundBox.{BoundBox};
 ghost use Rattle.power_flow.specs.declared.state.Instance.{Instance};
@@ -6,10 +6,11 @@ ghost use Rattle.power_flow.specs.declared.state.Slot.TheVariants.{Block};
 ghost use Rattle.power_flow.specs.Names.{is_true};
 ghost use Rattle.power_flow.specs.Steps.Reach.{IsWithin, bit_at};
 ghost use Rattle.power_flow.specs.Meaning.{store, stored};
+ghost use Rattle.power_flow.specs.Steps.Order.{AreInOrder, AreTurns};
 ghost use Rattle.power_flow.specs.Steps.BoxSteps.{IsMarked, IsStepped, AreSettled, AreApartBoxes, pin_store, pin_stores, output_stores};
 
 use crate::bound_box::{BoundBox, BoundOutput};
-use crate::links::settle;
+use crate::links::follow;
 use crate::source::{is_output_on, output_value};
 use crate::state::{Instance, Slot};
 use network::Link;
@@ -38,9 +39,10 @@ fn mark_outputs(pins: &[BoundOutput], outputs: &PinsOut, bits: &mut [bool])
     }
 }
 
-/// Steps the boxes in their order, each once the state of the places on its left is known.
+/// Passes state along the links in their order, and steps each box at its turn, once the state of the places on its left is known.
 pub fn step_boxes(
     boxes: &[BoundBox],
+    turns: &[usize],
     links: &[Link],
     slots: &[Slot],
     gates: &[bool],
@@ -51,17 +53,21 @@ pub fn step_boxes(
     requires links { All (IsWithin gates.now bits.old) links.now }
     requires outputs { All (λ e. All (λ o. IfSome o.next (λ k. k < length bits.old)) e.outputs.items) boxes.now }
     requires results { length results.old ≡ length boxes.now }
-    ensures stepped { (j : ℕ) (e : BoundBox) → slice_get boxes.now j ≡ Some e → IsStepped links.now gates.now bits.old slots.now dt boxes.now results.new j e }
-    ensures settled { AreSettled links.now gates.now bits.old boxes.now results.new (length boxes.now) bits.new }
+    requires turns { length turns.now ≡ length boxes.now }
+    requires turns_in { All (λ n. n ≤ length links.now) turns.now }
+    ensures stepped { AreInOrder links.now → AreTurns links.now boxes.now turns.now → (j : ℕ) (e : BoundBox) → slice_get boxes.now j ≡ Some e → IsStepped links.now gates.now bits.old slots.now dt boxes.now results.new j e }
+    ensures settled { AreInOrder links.now → AreTurns links.now boxes.now turns.now → AreSettled links.now gates.now bits.old boxes.now results.new (length boxes.now) bits.new }
 {
-    settle(links, gates, bits);
+    let mut at = 0;
     for k in 0..boxes.len() {
+        follow(links, at, turns[k], gates, bits);
+        at = turns[k];
         let bound = &boxes[k];
         let result = bound.step(slots, bits, dt);
         mark_outputs(&bound.outputs, &result.outputs, bits);
         results[k] = result;
-        settle(links, gates, bits);
     }
+    follow(links, at, links.len(), gates, bits);
 }
 
 /// Changes the slot at a place, if there is one.

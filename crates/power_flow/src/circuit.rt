@@ -14,7 +14,10 @@ pub struct Circuit {
     pub places: Vec<Place>,
     /// Which places follow the left rail.
     pub starts: Vec<bool>,
+    /// In the order in which state goes along them.
     pub links: Vec<Link>,
     /// The boxes among the elements, in their order.
     pub boxes: Vec<BoundBox>,
+    /// For each box the number of links along which state goes before it is stepped.
+    pub turns: Vec<usize>,
 }

@@ -10,12 +10,14 @@ ghost use Rattle.power_flow.specs.Steps.Sources.{element_source};
 ghost use Rattle.ladder_text.specs.declared.drawn_box.DrawnBox.{DrawnBox};
 ghost use Rattle.power_flow.specs.Steps.NamedBox.{IsNamedBox};
 ghost use Rattle.power_flow.specs.Steps.BoxTable.{AreBoundBoxes};
+ghost use Rattle.power_flow.specs.Steps.Order.{AreInOrder, AreTurns};
 ghost use Rattle.power_flow.specs.Waiting.{AreStops};
 
 use crate::box_binding::bind_boxes;
 use crate::circuit::Circuit;
 use crate::declarations::Declarations;
 use crate::names::name_source;
+use crate::order::{sort_links, turns_of};
 use crate::rails::Rails;
 use crate::same_elements::{are_same_elements, are_same_places};
 use crate::source::Source;
@@ -73,14 +75,18 @@ fn tables_of(
     ensures boxes { IfOk result (λ c. ((b : DrawnBox) → Contains elements.items (Element.Box b) → IsNamedBox declarations.now b)
         → AreBoundBoxes declarations.now (diagram rails.now elements.items) c.places.items c.boxes.items) }
     ensures wired { IfOk result (λ c. IsWired (diagram rails.now elements.items) c.places.items c.links.items c.starts.items c.firsts.items) }
+    ensures order { IfOk result (λ c. AreInOrder c.links.items) }
+    ensures turns { IfOk result (λ c. AreBoundBoxes declarations.now (diagram rails.now elements.items) c.places.items c.boxes.items → AreTurns c.links.items c.boxes.items c.turns.items) }
     ensures shape { IfOk result (λ c. HasShape c) }
     ensures stops { IfOk result (λ c. AreStops (diagram rails.now elements.items) c.places.items) }
 {
     let firsts = number_elements(alloc, numbering, &elements)?;
-    let links = links_of(alloc, numbering, &elements)?;
+    let mut links = links_of(alloc, numbering, &elements)?;
     let starts = starts_of(alloc, rails, numbering, &elements)?;
     let boxes = bind_boxes(alloc, declarations, numbering, &elements)?;
     let places = copy_places(alloc, numbering.spots())?;
+    sort_links(&mut links, &places)?;
+    let turns = turns_of(alloc, &boxes, &links, &places)?;
     Ok(Circuit {
         elements,
         sources,
@@ -89,6 +95,7 @@ fn tables_of(
         starts,
         links,
         boxes,
+        turns,
     })
 }
 

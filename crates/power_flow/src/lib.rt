@@ -18,6 +18,7 @@ mod links;
 mod literal;
 mod name_use;
 mod names;
+mod order;
 mod rails;
 mod room;
 mod same_elements;

@@ -171,6 +171,7 @@ fn scan_circuit(
     bits.copy_from_slice(&circuit.starts);
     step_boxes(
         &circuit.boxes,
+        &circuit.turns,
         &circuit.links,
         slots,
         gates,

@@ -73,6 +73,7 @@ pub record IsBoundBox (ds : List Declaration) (d : Diagram) (places : List Place
   pub place : place_of ds b.instance ≡ Some e.instance
   pub declared : IsBlockAt ds e.instance e.block
   pub bits : (k : ℕ) (pin : DrawnPin) → k < 4 → IsDrawn b e.block (Bit k) pin → IsBitSource ds places b pin (bit_source e k)
+  pub power : (k n : ℕ) → k < 4 → bit_source e k ≡ source.Power n → (p : Place) × (slice_get places n ≡ Some p) × (p.column ≡ b.left)
   pub no_bit : (k : ℕ) → k < 4 → ((pin : DrawnPin) → IsDrawn b e.block (Bit k) pin → ⊥) → bit_source e k ≡ source.Nothing
   pub int : (pin : DrawnPin) → IsDrawn b e.block Int pin → e.int ≡ pin_source ds pin
   pub no_int : ((pin : DrawnPin) → IsDrawn b e.block Int pin → ⊥) → e.int ≡ source.Nothing

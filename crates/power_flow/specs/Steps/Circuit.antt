@@ -13,6 +13,7 @@ use Rattle.power_flow.specs.declared.source.Source.TheVariants as source
 use Rattle.power_flow.specs.Names.{place_of, is_dot}
 use Rattle.power_flow.specs.Steps.Sources.{element_source}
 use Rattle.power_flow.specs.Steps.BoxTable.{AreBoundBoxes}
+use Rattle.power_flow.specs.Steps.Order.{AreInOrder, AreTurns}
 use Rattle.power_flow.specs.Meaning.{first_place}
 
 -- the numbers of a link stand for elements and places
@@ -28,6 +29,8 @@ pub record HasShape (c : Circuit) : Type 0 where
   pub starts : length c.starts.items ≡ length c.places.items
   pub first_in : (k : ℕ) → k < length c.elements.items → slice_index c.firsts.items k < length c.places.items
   pub nexts_in : All (λ e. All (λ o. IfSome o.next (λ k. k < length c.places.items)) e.outputs.items) c.boxes.items
+  pub turns : length c.turns.items ≡ length c.boxes.items
+  pub turns_in : All (λ n. n ≤ length c.links.items) c.turns.items
   pub links_in : All (λ l. IsLinkIn (length c.elements.items) (length c.places.items) l) c.links.items
 
 -- the name is that of the variable at this place
@@ -49,6 +52,8 @@ pub record IsCircuit (ds : List Declaration) (d : Diagram) (c : Circuit) : Type 
   pub wired : IsWired d c.places.items c.links.items c.starts.items c.firsts.items
   pub named : (k : ℕ) (e : Element) → slice_get d.elements k ≡ Some e → slice_index_or c.sources.items k source.Nothing ≡ element_source ds e
   pub boxes : AreBoundBoxes ds d c.places.items c.boxes.items
+  pub order : AreInOrder c.links.items
+  pub turns : AreTurns c.links.items c.boxes.items c.turns.items
 
 -- there is room for a scan of the circuit
 pub record HasRoom (gates bits results : ℕ) (c : Circuit) : Type 0 where

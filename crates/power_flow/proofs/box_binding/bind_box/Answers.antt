@@ -1,4 +1,5 @@
 use Rattle.std.proofs.Common.{◌≡◌, ℕ, ◌∙◌, ap, sym, subst, refl, Some, unwrap_or, slice_get}
+use Rattle.ladder_text.specs.declared.place.Place.{Place}
 use Rattle.ladder_text.specs.declared.drawn_box.DrawnPin.{DrawnPin}
 use Rattle.std_blocks.specs.declared.block_type.BlockType.{BlockType}
 use Rattle.std_blocks.specs.declared.pin.Field.TheVariants.{Bit}
@@ -28,6 +29,7 @@ returns-clause-bound c = λ rails apart in' named numbered.
     let spot = λ (pin : DrawnPin) (k : ℕ) (is : IsDrawn b block (Bit k) pin). numbered (left_place b pin) (refl, (is.drawn.0, pin, is.drawn.1, is.drawn.2, (is.side, refl))) in
     let Reads : ℕ → Source → Type 0 = λ k s. (pin : DrawnPin) → IsDrawn b block (Bit k) pin → IsBitSource ds places b pin s in
     let Undrawn : ℕ → Source → Type 0 = λ k s. ((pin : DrawnPin) → IsDrawn b block (Bit k) pin → ⊥) → s ≡ source.Nothing in
+    let Powers : ℕ → Source → Type 0 = λ k s. (n : ℕ) → s ≡ source.Power n → (p : Place) × (slice_get places n ≡ Some p) × (p.column ≡ b.left) in
     record {
       place = at.2 ∙ ap Some (sym instance);
       declared = record { entry = at.1; at = ap (λ k. slice_get ds k) instance ∙ at.3; is = at.4 ∙ ap declared.Instance type };
@@ -36,6 +38,7 @@ returns-clause-bound c = λ rails apart in' named numbered.
           (λ p h. c.bit_source-2.ensures.some once p h (spot p 1 h).0 (spot p 1 h).1)
           (λ p h. c.bit_source-3.ensures.some once p h (spot p 2 h).0 (spot p 2 h).1)
           (λ p h. c.bit_source-4.ensures.some once p h (spot p 3 h).0 (spot p 3 h).1) k lt pin is;
+      power = λ k n lt is. four Powers _ _ _ _ c.bit_source.ensures.power c.bit_source-2.ensures.power c.bit_source-3.ensures.power c.bit_source-4.ensures.power k lt n is;
       no_bit = λ k lt none. four Undrawn _ _ _ _ c.bit_source.ensures.none c.bit_source-2.ensures.none c.bit_source-3.ensures.none c.bit_source-4.ensures.none k lt none;
       int = λ pin is. c.value_source.ensures.some once named.literals pin is;
       no_int = c.value_source.ensures.none;

@@ -11,9 +11,13 @@ returns-clause-circuit c = λ bound.
     let names = c.in_ok-circuit.ensures.sources ∙ c.in_ok-sources.ensures ∙ ap (map (element_source ds)) (c.deref.ensures.value ∙ c.into_elements-elements.ensures) in
     let wired = rw c.into_elements-elements.ensures at c.in_ok-circuit.ensures.wired in
     let boxes = rw c.into_elements-elements.ensures at c.in_ok-circuit.ensures.boxes in
+    let are = boxes (λ b in'. named_box_of ds es b bound in') in
+    let turns = rw c.into_elements-elements.ensures at c.in_ok-circuit.ensures.turns in
     record {
       elements = sym (c.in_ok-circuit.ensures.elements ∙ c.into_elements-elements.ensures);
       wired = wired;
       named = all_named ds es circuit.sources.items names;
-      boxes = boxes (λ b in'. named_box_of ds es b bound in');
+      boxes = are;
+      order = c.in_ok-circuit.ensures.order;
+      turns = turns are;
     }

@@ -7,6 +7,9 @@ use Rattle.power_flow.specs.Steps.BoxSteps.{AreNextsWithin}
 use Rattle.power_flow.specs.Steps.BoxTable.{AreBoundBoxes}
 use Rattle.power_flow.proofs.BoxesTable.{bound_boxes_are, ready_boxes, places_are}
 use Rattle.power_flow.proofs.WholeTable.{wired_is, first_within, links_within, stops_are}
+use Rattle.power_flow.specs.Steps.Order.{IsTurnAt}
+use Rattle.power_flow.proofs.BoxesSources.{zip_length}
+use Rattle.power_flow.proofs.Ordering.{in_order, by_column, turns_are, turns_within, table_permuted, wired_permuted, within_permuted, on_page}
 use Rattle.power_flow.proofs.circuits.tables_of.Goals as goal
 
 pub number_elements-requires : goal.number_elements-requires
@@ -20,14 +23,16 @@ returns-clause-wired c =
     let numbered = rw c.deref.ensures.value at c.in_ok-firsts.ensures in
     let linked = rw c.deref-2.ensures.value at c.in_ok-links.ensures in
     let marked = rw c.deref-3.ensures.value at c.in_ok-starts.ensures.marked in
-    wired_is c.args.rails.now c.args.elements.items c.number_elements.new.numbering c.spots.result.now c.in_ok-firsts.firsts.items c.in_ok-links.links.items c.in_ok-starts.starts.items
-    c.in_ok-places.places.items c.requires.sound numbered (linked c.args.rails.now c.requires.sound.apart) (marked c.requires.sound.apart) c.spots.ensures.value c.in_ok-places.ensures
+    wired_permuted (diagram c.args.rails.now c.args.elements.items) c.in_ok-places.places.items c.in_ok-links.links.items c.sort_links.new.links.items c.in_ok-starts.starts.items c.in_ok-firsts.firsts.items c.sort_links.ensures.permutation
+    (wired_is c.args.rails.now c.args.elements.items c.number_elements.new.numbering c.spots.result.now c.in_ok-firsts.firsts.items c.in_ok-links.links.items c.in_ok-starts.starts.items
+    c.in_ok-places.places.items c.requires.sound numbered (linked c.args.rails.now c.requires.sound.apart) (marked c.requires.sound.apart) c.spots.ensures.value c.in_ok-places.ensures)
 
 pub returns-clause-shape : goal.returns-clause-shape
 returns-clause-shape c =
     let numbered = rw c.deref.ensures.value at c.in_ok-firsts.ensures in
     let linked = rw c.deref-2.ensures.value at c.in_ok-links.ensures in
     let marked = rw c.deref-3.ensures.value at c.in_ok-starts.ensures.marked in
+    let turns = rw (c.deref-6.ensures.value, c.deref-7.ensures.value, c.deref-8.ensures.value) at c.in_ok-turns.ensures in
     let long : length c.in_ok-places.places.items ≡ length c.number_elements.new.numbering =
     ap length c.in_ok-places.ensures ∙ length-map c.spots.result.now (λ (s : Spot). s.place) ∙ ap length c.spots.ensures.value in
     record {
@@ -37,8 +42,11 @@ returns-clause-shape c =
       first_in = first_within c.args.rails.now c.args.elements.items c.number_elements.new.numbering c.spots.result.now c.in_ok-firsts.firsts.items c.in_ok-links.links.items c.in_ok-starts.starts.items
           c.in_ok-places.places.items c.requires.sound numbered (linked c.args.rails.now c.requires.sound.apart) (marked c.requires.sound.apart) c.spots.ensures.value c.in_ok-places.ensures;
       nexts_in = (let P : ℕ → Type 0 = λ n. AreNextsWithin n c.in_ok-boxes.boxes.items in subst P (sym long) c.in_ok-boxes.ensures.within);
-      links_in = links_within c.args.rails.now c.args.elements.items c.number_elements.new.numbering c.spots.result.now c.in_ok-firsts.firsts.items c.in_ok-links.links.items c.in_ok-starts.starts.items
-          c.in_ok-places.places.items c.requires.sound numbered (linked c.args.rails.now c.requires.sound.apart) (marked c.requires.sound.apart) c.spots.ensures.value c.in_ok-places.ensures;
+      turns = sym (zip_length (IsTurnAt c.sort_links.new.links.items c.in_ok-places.places.items) c.in_ok-boxes.boxes.items c.in_ok-turns.turns.items turns);
+      turns_in = turns_within c.sort_links.new.links.items c.in_ok-places.places.items c.in_ok-boxes.boxes.items c.in_ok-turns.turns.items turns;
+      links_in = within_permuted (length c.args.elements.items) (length c.in_ok-places.places.items) c.in_ok-links.links.items c.sort_links.new.links.items c.sort_links.ensures.permutation
+          (links_within c.args.rails.now c.args.elements.items c.number_elements.new.numbering c.spots.result.now c.in_ok-firsts.firsts.items c.in_ok-links.links.items c.in_ok-starts.starts.items
+          c.in_ok-places.places.items c.requires.sound numbered (linked c.args.rails.now c.requires.sound.apart) (marked c.requires.sound.apart) c.spots.ensures.value c.in_ok-places.ensures);
     }
 
 pub bind_boxes-requires-clause-page : goal.bind_boxes-requires-clause-page
@@ -65,3 +73,69 @@ returns-clause-stops c =
     stops_are c.args.rails.now c.args.elements.items c.number_elements.new.numbering c.spots.result.now c.in_ok-firsts.firsts.items c.in_ok-links.links.items c.in_ok-starts.starts.items
     c.in_ok-places.places.items c.requires.sound numbered (linked c.args.rails.now c.requires.sound.apart) (marked c.requires.sound.apart) c.spots.ensures.value c.in_ok-places.ensures
     c.spots.ensures.once
+
+pub turns_of-requires : goal.turns_of-requires
+turns_of-requires c =
+    let rails = c.args.rails.now in
+    let es = c.args.elements.items in
+    let d = diagram rails es in
+    let places = c.in_ok-places.places.items in
+    let links = c.in_ok-links.links.items in
+    let others = c.sort_links.new.links.items in
+    let moved = c.sort_links.ensures.permutation in
+    let sorted = rw c.deref-5.ensures.value at c.in_ok-sort_links.ensures.sorted in
+    let numbered = rw c.deref.ensures.value at c.in_ok-firsts.ensures in
+    let linked = rw c.deref-2.ensures.value at c.in_ok-links.ensures in
+    let marked = rw c.deref-3.ensures.value at c.in_ok-starts.ensures.marked in
+    let wired = wired_is rails es c.number_elements.new.numbering c.spots.result.now c.in_ok-firsts.firsts.items links c.in_ok-starts.starts.items
+    places c.requires.sound numbered (linked rails c.requires.sound.apart) (marked c.requires.sound.apart) c.spots.ensures.value c.in_ok-places.ensures in
+    let stops = stops_are rails es c.number_elements.new.numbering c.spots.result.now c.in_ok-firsts.firsts.items links c.in_ok-starts.starts.items
+    places c.requires.sound numbered (linked rails c.requires.sound.apart) (marked c.requires.sound.apart) c.spots.ensures.value c.in_ok-places.ensures
+    c.spots.ensures.once in
+    let page = on_page d places c.requires.sound.on_page stops in
+    let table = table_permuted d places links others moved wired.table in
+    rw (c.deref-7.ensures.value, c.deref-8.ensures.value) (by_column d places others table page sorted)
+
+pub returns-clause-order : goal.returns-clause-order
+returns-clause-order c =
+    let rails = c.args.rails.now in
+    let es = c.args.elements.items in
+    let d = diagram rails es in
+    let places = c.in_ok-places.places.items in
+    let links = c.in_ok-links.links.items in
+    let others = c.sort_links.new.links.items in
+    let moved = c.sort_links.ensures.permutation in
+    let sorted = rw c.deref-5.ensures.value at c.in_ok-sort_links.ensures.sorted in
+    let numbered = rw c.deref.ensures.value at c.in_ok-firsts.ensures in
+    let linked = rw c.deref-2.ensures.value at c.in_ok-links.ensures in
+    let marked = rw c.deref-3.ensures.value at c.in_ok-starts.ensures.marked in
+    let wired = wired_is rails es c.number_elements.new.numbering c.spots.result.now c.in_ok-firsts.firsts.items links c.in_ok-starts.starts.items
+    places c.requires.sound numbered (linked rails c.requires.sound.apart) (marked c.requires.sound.apart) c.spots.ensures.value c.in_ok-places.ensures in
+    let stops = stops_are rails es c.number_elements.new.numbering c.spots.result.now c.in_ok-firsts.firsts.items links c.in_ok-starts.starts.items
+    places c.requires.sound numbered (linked rails c.requires.sound.apart) (marked c.requires.sound.apart) c.spots.ensures.value c.in_ok-places.ensures
+    c.spots.ensures.once in
+    let page = on_page d places c.requires.sound.on_page stops in
+    let table = table_permuted d places links others moved wired.table in
+    in_order d places others table page stops.once sorted
+
+pub returns-clause-turns : goal.returns-clause-turns
+returns-clause-turns c = λ bound.
+    let rails = c.args.rails.now in
+    let es = c.args.elements.items in
+    let d = diagram rails es in
+    let places = c.in_ok-places.places.items in
+    let links = c.in_ok-links.links.items in
+    let others = c.sort_links.new.links.items in
+    let moved = c.sort_links.ensures.permutation in
+    let turns = rw (c.deref-6.ensures.value, c.deref-7.ensures.value, c.deref-8.ensures.value) at c.in_ok-turns.ensures in
+    let numbered = rw c.deref.ensures.value at c.in_ok-firsts.ensures in
+    let linked = rw c.deref-2.ensures.value at c.in_ok-links.ensures in
+    let marked = rw c.deref-3.ensures.value at c.in_ok-starts.ensures.marked in
+    let wired = wired_is rails es c.number_elements.new.numbering c.spots.result.now c.in_ok-firsts.firsts.items links c.in_ok-starts.starts.items
+    places c.requires.sound numbered (linked rails c.requires.sound.apart) (marked c.requires.sound.apart) c.spots.ensures.value c.in_ok-places.ensures in
+    let stops = stops_are rails es c.number_elements.new.numbering c.spots.result.now c.in_ok-firsts.firsts.items links c.in_ok-starts.starts.items
+    places c.requires.sound numbered (linked rails c.requires.sound.apart) (marked c.requires.sound.apart) c.spots.ensures.value c.in_ok-places.ensures
+    c.spots.ensures.once in
+    let page = on_page d places c.requires.sound.on_page stops in
+    let table = table_permuted d places links others moved wired.table in
+    turns_are d places others table page c.args.declarations.now c.in_ok-boxes.boxes.items c.in_ok-turns.turns.items c.requires.sound.wide turns bound

@@ -8,14 +8,14 @@ returns c = λ ds d is wide fits.
     let circuit = c.args.circuit.now in
     let gates = rw (c.deref.ensures.value, ← is.elements, c.deref-2.ensures.value) at c.read_elements.ensures.gates in
     let mid = rw (c.deref.ensures.value, ← is.elements, c.deref-2.ensures.value) at c.read_elements.ensures.memories in
-    let stepped = rw (c.deref-4.ensures.value, c.deref-5.ensures.value, c.copy_from_slice.ensures.after, c.deref-3.ensures.value) at c.step_boxes.ensures.stepped in
-    let settled = rw (c.deref-4.ensures.value, c.deref-5.ensures.value, c.copy_from_slice.ensures.after, c.deref-3.ensures.value) at c.step_boxes.ensures.settled in
-    let placed = rw c.deref-6.ensures.value at c.store_blocks.ensures.placed in
-    let others = rw c.deref-6.ensures.value at c.store_blocks.ensures.others in
-    let kept = rw (c.deref-8.ensures.value, ← is.elements, c.deref-10.ensures.value) at c.store_elements.ensures.memories in
-    let changed = rw (c.deref-8.ensures.value, ← is.elements, c.deref-9.ensures.value, c.deref-10.ensures.value, c.store_outputs.ensures, c.deref-7.ensures.value) at c.store_elements.ensures.slots in
+    let stepped = rw (c.deref-4.ensures.value, c.deref-5.ensures.value, c.deref-6.ensures.value, c.copy_from_slice.ensures.after, c.deref-3.ensures.value) at c.step_boxes.ensures.stepped in
+    let settled = rw (c.deref-4.ensures.value, c.deref-5.ensures.value, c.deref-6.ensures.value, c.copy_from_slice.ensures.after, c.deref-3.ensures.value) at c.step_boxes.ensures.settled in
+    let placed = rw c.deref-7.ensures.value at c.store_blocks.ensures.placed in
+    let others = rw c.deref-7.ensures.value at c.store_blocks.ensures.others in
+    let kept = rw (c.deref-9.ensures.value, ← is.elements, c.deref-11.ensures.value) at c.store_elements.ensures.memories in
+    let changed = rw (c.deref-9.ensures.value, ← is.elements, c.deref-10.ensures.value, c.deref-11.ensures.value, c.store_outputs.ensures, c.deref-8.ensures.value) at c.store_elements.ensures.slots in
     circuit_meaning ds d c.args.dt c.args.slots.now c.store_blocks.new.slots c.store_elements.new.slots c.args.memories.now c.read_elements.new.memories c.store_elements.new.memories c.read_elements.new.gates
     c.step_boxes.new.bits circuit.starts.items circuit.places.items circuit.links.items circuit.sources.items circuit.firsts.items circuit.boxes.items c.step_boxes.new.results
-    is.wired is.named is.boxes wide fits gates mid stepped settled (omega arith)
+    is.wired is.named is.boxes wide fits gates mid (stepped is.order is.turns) (settled is.order is.turns) (omega arith)
     (λ j e i at has. placed is.boxes.apart j e i at has (room ds d circuit.places.items circuit.boxes.items is.boxes.bound c.args.slots.now fits.long j e at))
     others kept changed (omega arith) (rw is.elements c.requires.shape.firsts) (rw is.elements (omega arith))
