@@ -1,5 +1,6 @@
 -- A plant and the codes of its tasks, as values.
-use Rattle.std.specs.Prelude.{◌≡◌, ℕ, zero, suc, ◌<◌, ◌++◌, List, [], ◌∷◌, Option, Some, None, length, map, slice_get, slice_index_or, All}
+use Rattle.std.specs.Prelude.{◌≡◌, ℕ, ◌<◌, List, [], ◌∷◌, Option, Some, None, length, map, slice_get, slice_index_or, All}
+use Rattle.std.specs.List.{flat_map, enumerate_from}
 use Rattle.std.specs.Option.{option_and_then, option_map}
 use Rattle.power_flow.specs.declared.declarations.Kind.{Kind}
 use Rattle.power_flow.specs.declared.declarations.Kind.TheVariants as kind
@@ -84,29 +85,17 @@ abbrev pub kind_of_space : Space → Kind
 kind_of_space Bit = kind.Bool
 kind_of_space Word = kind.Int
 
--- the output that a variable is, if it is one
-abbrev pub output_at : ℕ → ℕ → Option Declaration → List TaskOutput
-output_at i k None = []
-output_at i k (Some d) = items_or_none (option_map (λ kind. (record { program = i; place = k; kind = kind }) ∷ []) (output_kind d.declared))
+-- the output that variable k of program i is, if it is one
+abbrev pub output_at : ℕ → ℕ → Declaration → List TaskOutput
+output_at i k d = items_or_none (option_map (λ kind. (record { program = i; place = k; kind = kind }) ∷ []) (output_kind d.declared))
 
--- the outputs among the first n variables of program i
-abbrev pub outputs_within : ℕ → List Declaration → ℕ → List TaskOutput
-outputs_within i ds zero = []
-outputs_within i ds (suc n) = outputs_within i ds n ++ output_at i n (slice_get ds n)
+-- the outputs among the variables of program i, in order of declaration
+abbrev pub outputs_in : ℕ → List Declaration → List TaskOutput
+outputs_in i ds = flat_map (λ (e : ℕ × Declaration). output_at i e.0 e.1) (enumerate_from 0 ds)
 
--- the outputs of one program, in order of declaration
-abbrev pub outputs_in : ℕ → Option ProgramValue → List TaskOutput
-outputs_in i None = []
-outputs_in i (Some p) = outputs_within i p.ladder.declarations (length p.ladder.declarations)
-
--- the outputs of the first n programs
-abbrev pub outputs_before : List ProgramValue → ℕ → List TaskOutput
-outputs_before ps zero = []
-outputs_before ps (suc n) = outputs_before ps n ++ outputs_in n (slice_get ps n)
-
--- the outputs of a task: programs, and then outputs, in order of declaration
+-- the outputs of a task: those of each of its programs in turn
 abbrev pub outputs_of : List ProgramValue → List TaskOutput
-outputs_of ps = outputs_before ps (length ps)
+outputs_of ps = flat_map (λ (e : ℕ × ProgramValue). outputs_in e.0 e.1.ladder.declarations) (enumerate_from 0 ps)
 
 -- the kinds of the values of a task's image
 abbrev pub image_kinds : CodeValue → List Kind

@@ -4,6 +4,7 @@ pub mod Drawn
 pub mod Gaps
 pub mod Lexing
 pub mod Lines
+pub mod Outputs
 pub mod ReadParts
 pub mod Reading
 pub mod Slots

@@ -1,8 +1,9 @@
 //! The outputs of programs, in the order of a task's image.
 
-ghost use Rattle.std.specs.Prelude.{◌≡◌, ◌++◌, ◌∷◌, [], IfOk, OnOk, length, Some, slice_get};
+ghost use Rattle.std.specs.Prelude.{◌≡◌, ◌++◌, ◌∷◌, [], IfOk, OnOk, slice_get};
 ghost use Rattle.power_flow.specs.declared.declarations.Declaration.{Declaration};
-ghost use Rattle.plant.specs.PlantValue.{outputs_of, outputs_in, outputs_within, output_at};
+ghost use Rattle.plant.specs.PlantValue.{outputs_of, outputs_in, output_at};
+ghost use Rattle.plant.specs.Steps.Outputs.{output_if};
 
 use crate::program_instance::ProgramInstance;
 use crate::task_output::TaskOutput;
@@ -16,7 +17,7 @@ fn push_output(
     place: usize,
     declared: Declared,
 ) -> Result<(), AllocError>
-    ensures { OnOk result ((d : Declaration) → d.declared ≡ declared → outputs.new.items ≡ outputs.old.items ++ output_at program place (Some d)) }
+    ensures { OnOk result ((d : Declaration) → d.declared ≡ declared → outputs.new.items ≡ outputs.old.items ++ output_at program place d) }
 {
     match declared {
         Declared::Output(kind) => {
@@ -38,7 +39,7 @@ fn push_place(
     declarations: &Declarations,
     place: usize,
 ) -> Result<(), AllocError>
-    ensures { OnOk result (outputs.new.items ≡ outputs.old.items ++ output_at program place (slice_get declarations.now place)) }
+    ensures { OnOk result (outputs.new.items ≡ outputs.old.items ++ output_if program place (slice_get declarations.now place)) }
 {
     match declarations.entry(place) {
         Some((_, declared)) => {
@@ -55,7 +56,7 @@ fn push_outputs(
     program: usize,
     declarations: &Declarations,
 ) -> Result<(), AllocError>
-    ensures { OnOk result (outputs.new.items ≡ outputs.old.items ++ outputs_within program declarations.now (length declarations.now)) }
+    ensures { OnOk result (outputs.new.items ≡ outputs.old.items ++ outputs_in program declarations.now) }
 {
     for place in 0..declarations.len() {
         push_place(outputs, program, declarations, place)?;

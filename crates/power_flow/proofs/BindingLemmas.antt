@@ -10,7 +10,9 @@ use Rattle.power_flow.specs.declared.bind.BindKind.{BindKind}
 use Rattle.power_flow.specs.declared.declarations.Declaration.{Declaration}
 use Rattle.power_flow.specs.declared.declarations.Declared.{Declared}
 use Rattle.power_flow.specs.Names.{place_of, is_dot}
-use Rattle.power_flow.specs.Binding.{IsBound, IsBoundNetwork, fault_with, variable_declared, as_variable}
+use Rattle.power_flow.specs.Binding.{IsBoundNetwork}
+use Rattle.power_flow.proofs.FaultsFound.{no_finding}
+use Rattle.power_flow.specs.Steps.ElementFindings.{IsBound, fault_with, variable_declared, as_variable}
 use Rattle.power_flow.specs.Lookup.{declared_at, is_dotted}
 use Rattle.power_flow.proofs.BoxesFaults.{named_box}
 use Rattle.ladder_text.specs.declared.drawn_box.DrawnBox.{DrawnBox}
@@ -78,4 +80,4 @@ all_named ds es sources same k e at =
 
 -- the boxes of a bound network have the names that their table needs
 pub named_box_of : (ds : List Declaration) (es : List Element) (b : DrawnBox) → IsBoundNetwork ds es → Contains es (Box b) → IsNamedBox ds b
-named_box_of ds es b bound in' = named_box ds es b (All-contains (IsBound ds es) es (Box b) bound in')
+named_box_of ds es b bound in' = named_box ds es b (All-contains (IsBound ds es) es (Box b) (no_finding ds es bound) in')

@@ -10,7 +10,7 @@ use Rattle.std.proofs.lemmas.Bool.{false≢true}
 use Rattle.std.proofs.lemmas.Bool.Decides.{Decides-eqb}
 use Rattle.network.specs.declared.element.Element.{Element}
 use Rattle.power_flow.proofs.FindingLemmas.{parts, first_more}
-use Rattle.power_flow.specs.Findings.{IsFirstOf}
+use Rattle.power_flow.specs.Steps.ElementFindings.{IsFirstOf}
 use Rattle.power_flow.specs.Steps.Earlier.{IsEarlier}
 use Rattle.power_flow.specs.declared.bind.Finding.{Finding}
 use Rattle.std.proofs.lemmas.List.{append-nil}
@@ -34,13 +34,13 @@ use Rattle.power_flow.specs.PinKinds.{type_of, field_kind}
 use Rattle.power_flow.specs.StateValue.{kind_of}
 use Rattle.power_flow.specs.Literals.{literal_value}
 use Rattle.power_flow.specs.Lookup.{declared_at, is_dotted}
-use Rattle.power_flow.specs.BoxFaults.{IsFaultless, fault_here, instance_fault, type_number, pin_fault, same_field, same_pin, is_among, operand_finding, pin_findings, pins_findings, corner_findings, box_findings, own_field, field_on, kind_at, operand_fault, read_fault_at, read_fault_by, store_fault_at, store_fault_by, literal_fault, in_range, same_kind, name_kind, store_name_fault}
+use Rattle.power_flow.specs.Steps.BoxFindings.{IsFaultless, fault_here, instance_fault, type_number, pin_fault, same_field, same_pin, is_among, operand_finding, pin_findings, pins_findings, corner_findings, box_findings, own_field, field_on, kind_at, operand_fault, read_fault_at, read_fault_by, store_fault_at, store_fault_by, literal_fault, in_range, same_kind, name_kind, store_name_fault}
 use Rattle.power_flow.specs.Steps.NamedBox.{IsNamedBox}
 use Rattle.power_flow.specs.Names.{is_dot}
 use Rattle.std.specs.List.{before_first}
 
 -- types of one number are one
-same_number : (a b : BlockType) → eqb (type_number a) (type_number b) ≡ true → a ≡ b
+pub same_number : (a b : BlockType) → eqb (type_number a) (type_number b) ≡ true → a ≡ b
 same_number SR SR e = refl
 same_number RS RS e = refl
 same_number CTU CTU e = refl
@@ -75,7 +75,7 @@ pin_fault_none None twice e = absurd (cc)
 pin_fault_none (Some f) true e = absurd (cc)
 pin_fault_none (Some f) false e = ((f, refl), refl)
 
-eqb_same : (k : ℕ) → eqb k k ≡ true
+pub eqb_same : (k : ℕ) → eqb k k ≡ true
 eqb_same k = (Decides-eqb k k).1 refl
 
 same_field_refl : (f : Field) → same_field f f ≡ true
@@ -83,14 +83,14 @@ same_field_refl (Bit k) = eqb_same k
 same_field_refl Int = refl
 same_field_refl Time = refl
 
-same_pin_refl : (p : Pin) → same_pin (Some p) (Some p) ≡ true
+pub same_pin_refl : (p : Pin) → same_pin (Some p) (Some p) ≡ true
 same_pin_refl p = go p.left (same_field_refl p.field)
   where
     go : (x : Bool) → same_field p.field p.field ≡ true → (cond x x (not x) && same_field p.field p.field) ≡ true
     go true e = e
     go false e = e
 
-any_false : {X : Type 0} (f : X → Bool) (xs : List X) (j : ℕ) (x : X) → list_any f xs ≡ false → slice_get xs j ≡ Some x → f x ≡ false
+pub any_false : {X : Type 0} (f : X → Bool) (xs : List X) (j : ℕ) (x : X) → list_any f xs ≡ false → slice_get xs j ≡ Some x → f x ≡ false
 any_false f [] j x h at = cc
 any_false f (y ∷ xs) zero x h at = ap f (sym (some_same at)) ∙ first_false (f y) (list_any f xs) h
   where
@@ -103,7 +103,7 @@ any_false f (y ∷ xs) (suc j) x h at = any_false f xs j x (rest_false (f y) (li
     rest_false true b e = cc
     rest_false false b e = e
 
-slice_get-take : {X : Type 0} (xs : List X) (k j : ℕ) → j < k → slice_get (take k xs) j ≡ slice_get xs j
+pub slice_get-take : {X : Type 0} (xs : List X) (k j : ℕ) → j < k → slice_get (take k xs) j ≡ slice_get xs j
 slice_get-take xs zero j lt = absurd (omega arith)
 slice_get-take [] (suc k) j lt = refl
 slice_get-take (x ∷ xs) (suc k) zero lt = refl

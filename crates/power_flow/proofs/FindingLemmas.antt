@@ -5,12 +5,10 @@ use Rattle.std.proofs.lemmas.Grind.{flat_map-append}
 use Rattle.std.proofs.lemmas.List.Elements.{All-append, All-weaker, All-nil, All-cons, All-head, All-tail, All-contains, Contains-append_left, Contains-append_right}
 use Rattle.ladder_text.specs.declared.place.Place.{Place}
 use Rattle.network.specs.declared.element.Element.{Element}
-use Rattle.network.specs.Links.{Diagram}
-use Rattle.network.specs.GraphValue.{diagram}
 use Rattle.power_flow.specs.declared.bind.Finding.{Finding}
 use Rattle.power_flow.specs.declared.declarations.Declaration.{Declaration}
-use Rattle.power_flow.specs.Binding.{IsBoundNetwork, CanBind, element_findings}
-use Rattle.power_flow.specs.Findings.{kind_rank, IsUpTo, network_findings, findings, IsFirstOf}
+use Rattle.power_flow.specs.Findings.{kind_rank, IsUpTo}
+use Rattle.power_flow.specs.Steps.ElementFindings.{HasNoFinding, element_findings, network_findings, findings, IsFirstOf}
 use Rattle.power_flow.specs.Steps.Earlier.{IsEarlier}
 
 up_to_trans : (f g h : Finding) → IsUpTo f g → IsUpTo g h → IsUpTo f h
@@ -91,25 +89,6 @@ none_in_each : {X : Type 0} (F : X → List (Option Finding)) (xs : List X) → 
 none_in_each F [] h = All-nil (λ x. NoneIn (F x))
 none_in_each F (x ∷ xs) h = let p = parts (F x) (flat_map F xs) h in All-cons (λ y. NoneIn (F y)) x xs p.0 (none_in_each F xs p.1)
 
-none_in_all : {X : Type 0} (F : X → List (Option Finding)) (xs : List X) → All (λ x. NoneIn (F x)) xs → NoneIn (flat_map F xs)
-none_in_all F [] h = All-nil (λ o. o ≡ None)
-none_in_all F (x ∷ xs) h = All-append (λ o. o ≡ None) (F x) (flat_map F xs) (All-head (λ y. NoneIn (F y)) x xs h) (none_in_all F xs (All-tail (λ y. NoneIn (F y)) x xs h))
-
-pub bound_from_none : (ds : List Declaration) (networks : List (List Element)) → IsFirstOf (findings ds networks) None → All (IsBoundNetwork ds) networks
+pub none_in_networks : (ds : List Declaration) (networks : List (List Element)) → IsFirstOf (findings ds networks) None → All (HasNoFinding ds) networks
 unfolding findings
-bound_from_none ds networks h = All-weaker (λ es. NoneIn (network_findings ds es)) (IsBoundNetwork ds) (λ es none. none_in_each (element_findings ds es) es none) networks (none_in_each (network_findings ds) networks h)
-
-no_faults : (ds : List Declaration) (rails : List Place) (networks : List (List Element)) → CanBind ds (map (diagram rails) networks) → All (λ o. o ≡ None) (findings ds networks)
-unfolding findings
-no_faults ds rails networks h = none_in_all (network_findings ds) networks (each networks h)
-  where
-    each : (ns : List (List Element)) → CanBind ds (map (diagram rails) ns) → All (λ es. NoneIn (network_findings ds es)) ns
-    each [] can = All-nil (λ es. NoneIn (network_findings ds es))
-    each (es ∷ ns) can = All-cons (λ es. NoneIn (network_findings ds es)) es ns
-        (none_in_all (element_findings ds es) es (All-head (λ (d : Diagram). IsBoundNetwork ds d.elements) (diagram rails es) (map (diagram rails) ns) can))
-        (each ns (All-tail (λ (d : Diagram). IsBoundNetwork ds d.elements) (diagram rails es) (map (diagram rails) ns) can))
-
--- where a fault was found, no ladder can be made
-pub not_bound : (ds : List Declaration) (rails : List Place) (networks : List (List Element)) (f : Finding) → Contains (findings ds networks) (Some f) → CanBind ds (map (diagram rails) networks) → ⊥
-not_bound ds rails networks f in' can =
-    let e : ◌≡◌ {A = Option Finding} (Some f) None = All-contains (λ o. o ≡ None) (findings ds networks) (Some f) (no_faults ds rails networks can) in' in absurd (cc)
+none_in_networks ds networks h = All-weaker (λ es. NoneIn (network_findings ds es)) (HasNoFinding ds) (λ es none. none_in_each (element_findings ds es) es none) networks (none_in_each (network_findings ds) networks h)

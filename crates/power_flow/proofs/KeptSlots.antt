@@ -25,7 +25,8 @@ use Rattle.std.proofs.lemmas.List.Sums.{sum_by-cons}
 use Rattle.power_flow.specs.declared.circuit.Circuit.{Circuit}
 use Rattle.power_flow.specs.Steps.Circuit.{circuit_diagram}
 use Rattle.power_flow.specs.LadderValue.{LadderValue, Fits}
-use Rattle.power_flow.specs.Binding.{IsBound, IsBoundNetwork, CanBind, write_fault, fault_with, as_variable, variable_declared}
+use Rattle.power_flow.specs.Binding.{IsBoundNetwork, CanBind}
+use Rattle.power_flow.specs.Steps.ElementFindings.{IsBound, write_fault, fault_with, as_variable, variable_declared}
 use Rattle.power_flow.specs.declared.bind.BindKind.{BindKind}
 use Rattle.power_flow.specs.declared.bind.BindKind.TheVariants.{WritesInput, WrongKind}
 use Rattle.power_flow.specs.declared.declarations.Kind.{Kind}
@@ -34,7 +35,7 @@ use Rattle.power_flow.specs.declared.state.Slot.TheVariants.{Block}
 use Rattle.power_flow.specs.Lookup.{declared_at, is_dotted}
 use Rattle.power_flow.specs.Literals.{literal_value}
 use Rattle.power_flow.specs.PinKinds.{type_of, field_kind}
-use Rattle.power_flow.specs.BoxFaults.{IsFaultless, same_kind, store_declared_fault, store_name_fault, store_fault_by, store_fault_at, operand_fault, own_field, field_on, kind_at}
+use Rattle.power_flow.specs.Steps.BoxFindings.{IsFaultless, same_kind, store_declared_fault, store_name_fault, store_fault_by, store_fault_at, operand_fault, own_field, field_on, kind_at}
 use Rattle.power_flow.specs.Steps.NamedBox.{IsNamedBox}
 use Rattle.std_blocks.specs.declared.pin.Field.{Field}
 use Rattle.std_blocks.specs.declared.pin.Field.TheVariants.{Bit, Int, Time}
@@ -54,6 +55,7 @@ use Rattle.power_flow.proofs.Determinism.{box_cases}
 use Rattle.power_flow.specs.Meaning.{Moment, moment, NetworkMeaning, BlocksStep, stored, stores, store, coil_stores, coil_value, result_stores, side_stores}
 use Rattle.power_flow.specs.Scan.{ScanMeaning}
 use Rattle.power_flow.proofs.BindingLemmas.{IsVariable, variable_is}
+use Rattle.power_flow.proofs.FaultsFound.{no_finding}
 
 -- what is stored is of the declared kind
 abbrev IsRight : List Declaration → ℕ × Value → Type 0
@@ -271,7 +273,7 @@ pub meaning_keeps : (ds : List Declaration) (d : Diagram) (dt : ℕ) (old new : 
 unfolding stores
 meaning_keeps ds d dt old new bound m h =
     let between = between_keeps ds d dt old m.between m.blocks h in
-    let each = recursion_from_All (IsBound ds d.elements) d.elements bound in
+    let each = recursion_from_All (IsBound ds d.elements) d.elements (no_finding ds d.elements bound) in
     let right = both ds (flat_map (result_stores ds m.between) d.elements) (flat_map (λ e. coil_stores ds old m.links e.0 e.1) (enumerate_from 0 d.elements))
     (results_right ds d.elements m.between between d.elements each) (coils_right ds old m.links 0 d.elements d.elements each) in
     subst (AreSlotsOf ds) (sym m.slots) (stored_keeps ds m.between _ right between)

@@ -19,7 +19,9 @@ pub mod FittingStates
 pub mod SameNetworks
 pub mod KeptSlots
 pub mod FindingLemmas
-pub mod FaultKinds
+pub mod NameFaults
+pub mod FaultsFound
+pub mod WorkedFaults
 pub mod BoxesStepping
 pub mod BoxesWalks
 pub mod BoxesSources

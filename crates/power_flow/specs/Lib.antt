@@ -9,7 +9,7 @@ pub mod Binding
 pub mod First
 pub mod Findings
 pub mod PinKinds
-pub mod BoxFaults
+pub mod BindFaults
 pub mod Literals
 pub mod Lookup
 pub mod Guess

@@ -1,8 +1,10 @@
 -- Steps of the proofs: the tables that a network is made into, what its names are bound to, and how a scan goes over them. Contracts of functions inside this crate cite them, and the invariant of a ladder; what is handed up, a ladder, its states and a scan, is said without them.
+pub mod BoxFindings
 pub mod BoxSteps
 pub mod BoxTable
 pub mod Circuit
 pub mod Earlier
+pub mod ElementFindings
 pub mod ElementSteps
 pub mod Folded
 pub mod NamedBox

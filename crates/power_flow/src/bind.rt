@@ -2,10 +2,11 @@ ghost use Rattle.std.specs.Prelude.{◌≡◌, Some};
 ghost use Rattle.std.specs.Bool.{OnTrue, OnFalse};
 ghost use Rattle.std.specs.List.{before_first};
 ghost use Rattle.power_flow.specs.Names.{is_dot};
-ghost use Rattle.power_flow.specs.Binding.{kind_fault, write_fault, fault_with, declared_at, variable_declared, element_findings};
-ghost use Rattle.power_flow.specs.Findings.{kind_rank, IsUpTo, IsFirstOf, network_findings, findings, bind_fault};
+ghost use Rattle.power_flow.specs.Lookup.{declared_at};
+ghost use Rattle.power_flow.specs.Findings.{kind_rank, IsUpTo, bind_fault};
+ghost use Rattle.power_flow.specs.Steps.ElementFindings.{kind_fault, write_fault, fault_with, variable_declared, element_findings, IsFirstOf, network_findings, findings};
 ghost use Rattle.power_flow.specs.Steps.Earlier.{IsEarlier};
-ghost use Rattle.power_flow.specs.BoxFaults.{read_name_fault, name_kind};
+ghost use Rattle.power_flow.specs.Steps.BoxFindings.{read_name_fault, name_kind};
 
 use crate::box_faults::{box_finding, fault_here, name_kind, read_name_fault};
 use crate::declarations::{Declarations, Declared, Kind};
@@ -103,7 +104,7 @@ pub fn first_part(name: &str) -> &str
 }
 
 /// What is declared at the name of a symbol. A dotted name is that of no variable.
-#[tactic(auto, unfolding(crate::specs::Binding::variable_declared))]
+#[tactic(auto, unfolding(crate::specs::Steps::ElementFindings::variable_declared))]
 fn variable_declared(declarations: &Declarations, name: &str) -> Result<Declared, BindKind>
     ensures { result ≡ variable_declared declarations.now name.now }
 {

@@ -5,8 +5,8 @@ ghost use Rattle.ladder_text.specs.declared.drawn_box.DrawnPin.{DrawnPin};
 ghost use Rattle.power_flow.specs.PinKinds.{type_of};
 ghost use Rattle.power_flow.specs.Names.{is_dot};
 ghost use Rattle.power_flow.specs.Lookup.{declared_at, is_dotted};
-ghost use Rattle.power_flow.specs.Findings.{IsFirstOf};
-ghost use Rattle.power_flow.specs.BoxFaults.{same_kind, wants, output_kind, declared_kind, name_kind, read_name_fault, literal_of, literal_fault, literal_kind_fault, store_name_fault, read_fault_at, store_declared_fault, store_fault_at, operand_fault, field_on, own_field, kind_at, fault_here, fault_if, type_number, instance_fault, same_side, is_bit, has_bit, same_field, same_pin, is_among, pin_fault, operand_finding, is_beside, has_line, line_fault, pin_findings, corner_findings, pins_findings, box_findings, side_place, corner};
+ghost use Rattle.power_flow.specs.Steps.ElementFindings.{IsFirstOf};
+ghost use Rattle.power_flow.specs.Steps.BoxFindings.{same_kind, wants, output_kind, declared_kind, name_kind, read_name_fault, literal_of, literal_fault, literal_kind_fault, store_name_fault, read_fault_at, store_declared_fault, store_fault_at, operand_fault, field_on, own_field, kind_at, fault_here, fault_if, type_number, instance_fault, same_side, is_bit, has_bit, same_field, same_pin, is_among, pin_fault, operand_finding, is_beside, has_line, line_fault, pin_findings, corner_findings, pins_findings, box_findings, side_place, corner};
 
 use crate::bind::{BindKind, Finding, declared_at, earlier, first_part};
 use crate::declarations::{Declarations, Declared, Kind};
@@ -87,7 +87,7 @@ fn declared_kind(declared: Declared, pin: &str) -> Result<Option<Kind>, BindKind
 }
 
 /// The kind of the value at a name; None for a block itself.
-#[tactic(auto, unfolding(crate::specs::BoxFaults::name_kind))]
+#[tactic(auto, unfolding(crate::specs::Steps::BoxFindings::name_kind))]
 pub fn name_kind(declarations: &Declarations, name: &str) -> Result<Option<Kind>, BindKind>
     ensures { result ≡ name_kind declarations.now name.now }
 {
@@ -130,7 +130,7 @@ fn literal_kind_fault(want: Option<Kind>, kind: Kind, fits: bool) -> Option<Bind
 }
 
 /// What is wrong with reading an operand.
-#[tactic(auto, unfolding(crate::specs::BoxFaults::read_fault_at))]
+#[tactic(auto, unfolding(crate::specs::Steps::BoxFindings::read_fault_at))]
 fn read_fault_at(declarations: &Declarations, want: Option<Kind>, text: &str) -> Option<BindKind>
     ensures { result ≡ read_fault_at declarations.now want text.now }
 {
@@ -177,7 +177,7 @@ fn store_name_fault(declarations: &Declarations, want: Option<Kind>, text: &str)
 }
 
 /// What is wrong with storing at an operand.
-#[tactic(auto, unfolding(crate::specs::BoxFaults::store_fault_at))]
+#[tactic(auto, unfolding(crate::specs::Steps::BoxFindings::store_fault_at))]
 fn store_fault_at(declarations: &Declarations, want: Option<Kind>, text: &str) -> Option<BindKind>
     ensures { result ≡ store_fault_at declarations.now want text.now }
 {
@@ -291,7 +291,7 @@ fn is_bit_on(drawn: &DrawnBox, side: Side, pin: &DrawnPin) -> bool
 }
 
 /// Whether a Boolean pin of the type is drawn on this side.
-#[tactic(auto, unfolding(crate::specs::BoxFaults::has_bit))]
+#[tactic(auto, unfolding(crate::specs::Steps::BoxFindings::has_bit))]
 fn has_bit(drawn: &DrawnBox, side: Side) -> bool
     ensures { result ≡ has_bit drawn.now side }
 {
@@ -326,7 +326,7 @@ fn is_same_pin(pin: Option<Pin>, other: Option<Pin>) -> bool
 }
 
 /// Whether one of these pins is the same pin of the type.
-#[tactic(auto, unfolding(crate::specs::BoxFaults::is_among))]
+#[tactic(auto, unfolding(crate::specs::Steps::BoxFindings::is_among))]
 fn is_among(block: BlockType, pins: &[DrawnPin], name: &str) -> bool
     ensures { result ≡ is_among block pins.now name.now }
 {
@@ -399,7 +399,7 @@ fn is_beside(drawn: &DrawnBox, row: usize, side: Side, element: &Element) -> boo
     }
 }
 
-#[tactic(auto, unfolding(crate::specs::BoxFaults::has_line))]
+#[tactic(auto, unfolding(crate::specs::Steps::BoxFindings::has_line))]
 fn has_line(elements: &[Element], drawn: &DrawnBox, pin: &DrawnPin) -> bool
     ensures { result ≡ has_line elements.now drawn.now pin.now }
 {
@@ -430,7 +430,7 @@ fn first_of_three(
 }
 
 /// The first fault of a pin.
-#[tactic(auto, unfolding(crate::specs::BoxFaults::pin_findings))]
+#[tactic(auto, unfolding(crate::specs::Steps::BoxFindings::pin_findings))]
 fn pin_finding(
     declarations: &Declarations,
     elements: &[Element],
@@ -456,7 +456,7 @@ fn pin_finding(
 }
 
 /// The first fault of a box at its corner.
-#[tactic(auto, unfolding(crate::specs::BoxFaults::corner_findings))]
+#[tactic(auto, unfolding(crate::specs::Steps::BoxFindings::corner_findings))]
 fn corner_finding(declarations: &Declarations, drawn: &DrawnBox) -> Option<Finding>
     ensures { IsFirstOf (corner_findings declarations.now drawn.now) result }
 {

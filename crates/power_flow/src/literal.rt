@@ -2,7 +2,7 @@ ghost use Rattle.std.specs.Prelude.{◌≡◌, pos, Some, IsTrue};
 ghost use Rattle.ladder_text.specs.Chars.{is_number, is_duration};
 ghost use Rattle.ladder_text.specs.Numbers.{number_value, duration_value};
 ghost use Rattle.power_flow.specs.Literals.{literal_value};
-ghost use Rattle.power_flow.specs.BoxFaults.{literal_of};
+ghost use Rattle.power_flow.specs.Steps.BoxFindings.{literal_of};
 ghost use Rattle.power_flow.specs.Steps.NamedBox.{IsInRange};
 
 use crate::declarations::Kind;

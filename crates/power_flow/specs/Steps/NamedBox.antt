@@ -20,7 +20,7 @@ use Rattle.power_flow.specs.declared.declarations.Declared.TheVariants as declar
 use Rattle.power_flow.specs.PinKinds.{type_of}
 use Rattle.power_flow.specs.Literals.{literal_value}
 use Rattle.power_flow.specs.Lookup.{declared_at}
-use Rattle.power_flow.specs.BoxFaults.{in_range}
+use Rattle.power_flow.specs.BindFaults.{in_range}
 
 -- no pin of its type is drawn twice
 abbrev pub IsDrawnOnce : DrawnBox → BlockType → Type 0

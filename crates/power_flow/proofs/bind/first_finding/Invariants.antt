@@ -1,5 +1,5 @@
 use Rattle.std.proofs.Common.{take}
-use Rattle.power_flow.specs.Findings.{findings, IsFirstOf}
+use Rattle.power_flow.specs.Steps.ElementFindings.{findings, IsFirstOf}
 use Rattle.power_flow.proofs.bind.first_finding.Given as goal
 
 abbrev pub invariant-loop-network : goal.invariant-loop-network

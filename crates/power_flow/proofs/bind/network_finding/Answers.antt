@@ -1,4 +1,4 @@
-use Rattle.power_flow.specs.Binding.{element_findings}
+use Rattle.power_flow.specs.Steps.ElementFindings.{element_findings}
 use Rattle.power_flow.proofs.FindingLemmas.{first_flat}
 use Rattle.power_flow.proofs.bind.network_finding.Goals as goal
 

@@ -1,7 +1,7 @@
 use Rattle.std.proofs.Common.{take}
 use Rattle.std.specs.List.{flat_map}
-use Rattle.power_flow.specs.Binding.{element_findings}
-use Rattle.power_flow.specs.Findings.{IsFirstOf}
+use Rattle.power_flow.specs.Steps.ElementFindings.{element_findings}
+use Rattle.power_flow.specs.Steps.ElementFindings.{IsFirstOf}
 use Rattle.power_flow.proofs.bind.network_finding.Given as goal
 
 abbrev pub invariant-loop-element : goal.invariant-loop-element

@@ -1,6 +1,6 @@
 use Rattle.std.proofs.Common.{◌<◌, ◌≤◌, length}
 use Rattle.std.proofs.lemmas.List.{take_all, append-nil}
-use Rattle.power_flow.specs.BoxFaults.{box_findings}
+use Rattle.power_flow.specs.Steps.BoxFindings.{box_findings}
 use Rattle.power_flow.proofs.BoxesFaults.{pins_first}
 use Rattle.power_flow.proofs.box_faults.box_finding.Goals as goal
 

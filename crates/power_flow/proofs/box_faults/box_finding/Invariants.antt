@@ -1,6 +1,6 @@
 use Rattle.std.proofs.Common.{take, ◌++◌}
-use Rattle.power_flow.specs.Findings.{IsFirstOf}
-use Rattle.power_flow.specs.BoxFaults.{corner_findings, pins_findings}
+use Rattle.power_flow.specs.Steps.ElementFindings.{IsFirstOf}
+use Rattle.power_flow.specs.Steps.BoxFindings.{corner_findings, pins_findings}
 use Rattle.power_flow.proofs.box_faults.box_finding.Given as goal
 
 abbrev pub invariant-loop-k : goal.invariant-loop-k

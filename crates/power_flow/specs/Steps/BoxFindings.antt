@@ -1,4 +1,4 @@
--- What can be wrong with the names, numbers and durations of a box, and where.
+-- The faults of a box as the bodies find them: of its corner, and of each pin.
 use Rattle.std.specs.Prelude.{◌≡◌, ℕ, ◌+◌, List, [], ◌∷◌, Bool, true, false, Option, Some, None, Result, Ok, Err, if◌then◌else◌, nat_le, pos, negsuc, All, ◌==◌, ◌&&◌, ◌++◌, ◌-◌, not, nat_lt, take}
 use Rattle.std.specs.List.{before_first, after_first, list_any}
 use Rattle.std_blocks.specs.declared.value.Value.{Value}
@@ -33,6 +33,7 @@ use Rattle.power_flow.specs.StateValue.{kind_of}
 use Rattle.power_flow.specs.PinKinds.{type_of, field_kind, stands_on}
 use Rattle.power_flow.specs.Literals.{literal_value}
 use Rattle.power_flow.specs.Lookup.{declared_at, is_dotted}
+pub use Rattle.power_flow.specs.BindFaults.{in_range, field_on, own_field, kind_at, corner, side_place}
 
 abbrev pub same_kind : Kind → Kind → Bool
 same_kind kind.Bool kind.Bool = true
@@ -44,13 +45,6 @@ same_kind k l = false
 abbrev pub wants : Option Kind → Kind → Bool
 wants None k = true
 wants (Some w) k = same_kind w k
-
--- an INT is at most 32767, a duration at most 2147483647 ms
-abbrev pub in_range : Value → Bool
-in_range (BoolValue on) = true
-in_range (IntValue (pos n)) = nat_le n 32767
-in_range (IntValue (negsuc n)) = nat_le n 32767
-in_range (TimeValue t) = nat_le t 2147483647
 
 -- what an operand is by itself
 abbrev pub literal_of : Option Value → Literal
@@ -126,27 +120,6 @@ store_fault_at ds want text = store_fault_by want (literal_value text) (store_na
 abbrev pub operand_fault : List Declaration → Side → Option Kind → List ℕ → Option BindKind
 operand_fault ds Left want text = read_fault_at ds want text
 operand_fault ds Right want text = store_fault_at ds want text
-
--- the field of a pin, if its type has it on that side
-abbrev pub field_on : Side → Option Pin → Option Field
-field_on side None = None
-field_on side (Some pin) = if stands_on side pin then Some pin.field else None
-
-abbrev pub own_field : DrawnBox → DrawnPin → Option Field
-own_field b pin = field_on pin.side (pin_of (type_of b.block) pin.name)
-
--- the kind that is wanted at a pin
-abbrev pub kind_at : Option Field → Option Kind
-kind_at None = None
-kind_at (Some field) = Some (field_kind field)
-
--- where a box and its pins are
-abbrev pub corner : DrawnBox → Place
-corner b = place b.top b.left
-
-abbrev pub side_place : DrawnBox → ℕ → Side → Place
-side_place b row Left = place row b.left
-side_place b row Right = place row b.right
 
 -- a fault at a place, if there is one
 abbrev pub fault_here : Option BindKind → Place → Option Finding
@@ -266,6 +239,6 @@ pins_findings ds elements b k (pin ∷ pins) = pin_findings ds elements b k pin 
 unfoldable pub box_findings : List Declaration → List Element → DrawnBox → List (Option Finding)
 box_findings ds elements b = corner_findings ds b ++ pins_findings ds elements b 0 b.pins
 
--- nothing is wrong with a box
+-- nothing was found wrong with a box
 abbrev pub IsFaultless : List Declaration → List Element → DrawnBox → Type 0
 IsFaultless ds elements b = All (λ o. o ≡ None) (box_findings ds elements b)

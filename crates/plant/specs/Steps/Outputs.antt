@@ -1,0 +1,9 @@
+use Rattle.std.specs.Prelude.{ℕ, List, [], Option, Some, None}
+use Rattle.power_flow.specs.declared.declarations.Declaration.{Declaration}
+use Rattle.plant.specs.declared.task_output.TaskOutput.{TaskOutput}
+use Rattle.plant.specs.PlantValue.{output_at}
+
+-- the output that variable k of program i is, if there is such a variable and it is an output
+abbrev pub output_if : ℕ → ℕ → Option Declaration → List TaskOutput
+output_if i k None = []
+output_if i k (Some d) = output_at i k d
