@@ -1,5 +1,5 @@
 -- The networks of a drawing.
-use Rattle.std.specs.Prelude.{◌≡◌, ℕ, ◌+◌, ◌-◌, ◌^◌, ◌<◌, ◌≤◌, ◌⊎◌, ◌↔◌, List, Some, IsTrue, Contains, slice_get, length}
+use Rattle.std.specs.Prelude.{◌≡◌, ℕ, ◌+◌, ◌-◌, min, ◌<◌, ◌≤◌, ◌⊎◌, ◌↔◌, List, Some, IsTrue, Contains, slice_get, length}
 use Rattle.std.specs.Str.{str_eq_ignore_ascii_case}
 use Rattle.ladder_text.specs.Picture.{Picture, mark_at}
 use Rattle.ladder_text.specs.declared.mark.Mark.TheVariants.{Rail as RailMark, Wire as WireMark, Join as JoinMark, Upright as UprightMark}
@@ -120,7 +120,7 @@ IsFaultAt g TooTall p = Nowhere (IsUnattachedAt g) × IsFirst (IsTooTallAt g) p
 IsFaultAt g InstanceTwice p = Nowhere (IsUnattachedAt g) × Nowhere (IsTooTallAt g) × IsFirst (IsTwiceAt g) p
 IsFaultAt g Memory p = Unit {0}
 
--- the fault is at the line and column of p, in a drawing that begins with this line
+-- the fault is at the line and column of p, in a drawing that begins with this line; where no number is as great as that line, at the greatest
 pub record IsFoundAt (first_line : ℕ) (p : Place) (fault : GraphFault) : Type 0 where
-  pub line : first_line + p.row ≤ 2 ^ 64 → fault.line ≡ first_line + (p.row - 1)
+  pub line : fault.line ≡ min (first_line + (p.row - 1)) 18446744073709551615
   pub column : fault.column ≡ p.column

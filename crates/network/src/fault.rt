@@ -28,7 +28,7 @@ pub struct GraphFault {
     pub column: usize,
 }
 
-ghost use Rattle.std.specs.Prelude.{◌≡◌, ◌+◌, ◌-◌, ◌^◌, ◌≤◌};
+ghost use Rattle.std.specs.Prelude.{◌≡◌};
 ghost use Rattle.network.specs.Networks.{IsFoundAt};
 
 /// The fault at a place of a drawing that begins with this line.

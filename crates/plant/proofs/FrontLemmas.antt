@@ -234,7 +234,7 @@ run_ends p (c ∷ t) h = elim (cases_Bool (p c)) [
 not_run : (c : ℕ) → is_run_char c ≡ false → is_word_char c ≡ false
 not_run c h = search (rules, tests)
 
-run_parts : (w rest : List ℕ) → is_word_char (get_or rest 0 32) ≡ false → is_parted w rest ≡ true
+pub run_parts : (w rest : List ℕ) → is_word_char (get_or rest 0 32) ≡ false → is_parted w rest ≡ true
 run_parts w rest h = ap not (and_right (is_word_char (get_or w (length w - 1) 32)) (is_word_char (get_or rest 0 32)) h)
 
 -- what a run leaves is parted from it

@@ -1,17 +1,19 @@
 -- Lines: the line of END_PROGRAM, and the lines of a body.
 use Rattle.std.proofs.Common.{◌≡◌, ◌==◌, ◌&&◌, ◌||◌, ◌<◌, ◌≤◌, ◌+◌, ◌-◌, ℕ, suc, Bool, true, false, not, cond, List, [], ◌∷◌, ◌++◌, length, get_or, take, drop, Option, Some, None, ◌⊎◌, inl, inr, refl, ap, sym, subst, ◌∙◌, append_assoc, arith}
 use Rattle.std.proofs.lemmas.Bool.{eqb-true, and_parts, and_right, cases_Bool}
-use Rattle.std.proofs.lemmas.List.{append-nil, drop_at, length-append, take_all}
+use Rattle.std.proofs.lemmas.List.{append-nil, append_cancel_left, drop_at, length-append, take_all}
+use Rattle.std.proofs.Math.Seq.{take-append_seam}
+use Rattle.std.specs.List.{flat_map, AllByRecursion}
 use Rattle.ladder_text.specs.Rows.{without_last}
 use Rattle.plant.specs.declared.token.Token.TheVariants as token
 use Rattle.plant.specs.declared.token.Keyword.{Keyword}
 use Rattle.plant.specs.declared.token.Keyword.TheVariants as key
 use Rattle.plant.specs.Words.{is_word_char, keyword, word_of}
-use Rattle.plant.specs.Spelling.{ends_comment, is_parted, first_line, is_one_line, IsGap, IsEndLine, BeginsNoBlock}
+use Rattle.plant.specs.Spelling.{ends_comment, is_parted, first_line, is_one_line, IsSpace, IsGap, IsEndLine, BeginsNoBlock}
 use Rattle.plant.specs.Steps.Gaps.{behind_comment, behind_star, behind_feed, behind_space, IsBehindGap}
 use Rattle.plant.specs.Steps.Lexing.{letters, begins_block, may_run_on, IsBlankLine, IsBehindBody}
 use Rattle.plant.proofs.GapLemmas.{cases_of_cond, gap_unique, IsGap-append, IsGap-one}
-use Rattle.plant.proofs.FrontLemmas.{keyword_letters, word_of-keyword, keyword-word_of, letters_end, parted_letters, letters_begin, letter_begins, take_while-yes, take_while-no}
+use Rattle.plant.proofs.FrontLemmas.{keyword_letters, word_of-keyword, keyword-word_of, letters_end, parted_letters, letters_begin, letter_begins, take_while-yes, take_while-no, run_ends, run_parts}
 
 -- the word behind a gap is found
 pub word_found : (text gap word rest left : List ℕ) (k : Keyword) → IsBehindGap text left → text ≡ gap ++ word ++ rest → IsGap gap → keyword word ≡ Some k → left ≡ word ++ rest
@@ -259,3 +261,168 @@ blank_line t rest g e = go (first_line t) g (first_line_one t) e (cases_Bool (ge
     go line g one e (inr h) =
         let is : t ≡ line ++ (10 ∷ []) ++ rest = e ∙ sym (append_assoc line (10 ∷ []) rest) in
         (line, 10 ∷ [], is, rw h at g, one, inl refl)
+
+-- the keywords that begin a block
+block_keywords : (k : Option Keyword) → begins_block k ≡ true → (k ≡ Some key.Var) ⊎ ((k ≡ Some key.VarInput) ⊎ (k ≡ Some key.VarOutput))
+block_keywords (Some key.Var) h = inl refl
+block_keywords (Some key.VarInput) h = inr (inl refl)
+block_keywords (Some key.VarOutput) h = inr (inr refl)
+block_keywords _ h = absurd cc
+
+-- where the next word begins no block of variables, it is found to begin none
+pub begins_none_found : (text left : List ℕ) → IsBehindGap text left → BeginsNoBlock text → begins_block (keyword (letters left)) ≡ false
+begins_none_found text left b none = elim (cases_Bool (begins_block (keyword (letters left)))) [
+  | inl h ↦
+      let rest : List ℕ = drop (length (letters left)) left in
+      let e : text ≡ b.0 ++ letters left ++ drop (length (letters left)) left = b.1 ∙ ap (λ x. b.0 ++ x) (letters_split left) ∙ sym (append_assoc b.0 (letters left) (drop (length (letters left)) left)) in
+      let parted : is_parted (letters left) (drop (length (letters left)) left) ≡ true = run_parts (letters left) (drop (length (letters left)) left) (run_ends is_word_char left refl) in
+      let no = none b.0 (letters left) (drop (length (letters left)) left) e b.2 parted in
+      elim (block_keywords (keyword (letters left)) h) [
+        | inl k ↦ absurd (no.0 (keyword-word_of (letters left) key.Var k))
+        | inr (inl k) ↦ absurd (no.1 (keyword-word_of (letters left) key.VarInput k))
+        | inr (inr k) ↦ absurd (no.2 (keyword-word_of (letters left) key.VarOutput k))
+      ]
+  | inr h ↦ h
+]
+
+-- behind a gap that is the whole text, nothing is left
+pub gap_whole : (text left : List ℕ) → IsBehindGap text left → IsGap text → left ≡ []
+gap_whole text left b g = sym (gap_unique text b.0 [] left g b.2 refl b.3 (append-nil text ∙ b.1))
+
+abbrev last : List ℕ → ℕ
+last [] = 0
+last (x ∷ []) = x
+last (x ∷ y ∷ more) = last (y ∷ more)
+
+last_behind : (front : List ℕ) (y : ℕ) (more : List ℕ) → last (front ++ y ∷ more) ≡ last (y ∷ more)
+last_behind [] y more = refl
+last_behind (x ∷ []) y more = refl
+last_behind (x ∷ z ∷ front) y more = last_behind (z ∷ front) y more
+
+last_at : (xs : List ℕ) → get_or xs (length xs - 1) 0 ≡ last xs
+last_at [] = refl
+last_at (x ∷ []) = refl
+last_at (x ∷ y ∷ more) =
+    let n : suc (suc (length more)) - 1 ≡ suc (suc (length more) - 1) = omega arith in
+    rw n (last_at (y ∷ more))
+
+no_return_both : (p q : List ℕ) → (last p == 13) ≡ false → (last q == 13) ≡ false → (last (p ++ q) == 13) ≡ false
+no_return_both p [] hp hq = rw (append-nil p) hp
+no_return_both p (y ∷ more) hp hq = rw (last_behind p y more) hq
+
+no_return_piece : (p : List ℕ) → IsSpace p → (last p == 13) ≡ false
+no_return_piece p (inl h) = rw h refl
+no_return_piece p (inr (inl h)) = rw h refl
+no_return_piece p (inr (inr (inl (inl h)))) = rw h refl
+no_return_piece p (inr (inr (inl (inr h)))) = rw h refl
+no_return_piece p (inr (inr (inr h))) = rw (h.2, last_behind (40 ∷ 42 ∷ h.0) 42 (41 ∷ [])) refl
+
+no_return_pieces : (ps : List (List ℕ)) → AllByRecursion IsSpace ps → (last (flat_map (λ piece. piece) ps) == 13) ≡ false
+no_return_pieces [] all = refl
+no_return_pieces (p ∷ ps) all = no_return_both p (flat_map (λ piece. piece) ps) (no_return_piece p all.0) (no_return_pieces ps all.1)
+
+-- no gap ends with a carriage return
+no_return : (g : List ℕ) → IsGap g → without_last 13 g ≡ g
+no_return g ig =
+    let none : (get_or g (length g - 1) 0 == 13) ≡ false = rw (last_at g, ig.2) (no_return_pieces ig.0 ig.1) in
+    rw none refl
+
+without_return : (front : List ℕ) → without_last 13 (front ++ 13 ∷ []) ≡ front
+without_return front =
+    let at : get_or (front ++ 13 ∷ []) (length (front ++ 13 ∷ []) - 1) 0 ≡ 13 = last_at (front ++ 13 ∷ []) ∙ last_behind front 13 [] in
+    let n : length (front ++ 13 ∷ []) - 1 ≡ length front = omega (arith, length-append front (13 ∷ [])) in
+    rw (at, n) (take-append_seam front (13 ∷ []))
+
+first_line_at : (line more : List ℕ) → is_one_line line ≡ true → first_line (line ++ 10 ∷ more) ≡ line
+first_line_at [] more h = take_while-no in_line 10 more refl
+first_line_at (c ∷ line) more h = elim (cases_Bool (c == 10)) [
+  | inl e ↦ absurd (let f : false ≡ true = rw e at h in cc)
+  | inr e ↦ take_while-yes in_line c (line ++ 10 ∷ more) (ap not e) ∙ ap (λ x. c ∷ x) (first_line_at line more (rw e at h))
+]
+
+one_line_and : (line : List ℕ) → is_one_line line ≡ true → is_one_line (line ++ 13 ∷ []) ≡ true
+one_line_and [] h = refl
+one_line_and (c ∷ line) h = elim (cases_Bool (c == 10)) [
+  | inl e ↦ absurd (let f : false ≡ true = rw e at h in cc)
+  | inr e ↦ rw e (one_line_and line (rw e at h))
+]
+
+not_one_line : (front more : List ℕ) → is_one_line (front ++ 10 ∷ more) ≡ true → ⊥
+not_one_line [] more h = cc
+not_one_line (c ∷ front) more h = elim (cases_Bool (c == 10)) [
+  | inl e ↦ let f : false ≡ true = rw e at h in cc
+  | inr e ↦ not_one_line front more (rw e at h)
+]
+
+-- behind the only line, there is none
+pub only_line : (t : List ℕ) → drop (length (first_line t)) t ≡ [] → is_one_line t ≡ true
+only_line [] h = refl
+only_line (c ∷ t) h = elim (cases_Bool (c == 10)) [
+  | inl e ↦ absurd (let f : c ∷ t ≡ [] = subst (λ (y : List ℕ). drop (length y) (c ∷ t) ≡ []) (take_while-no in_line c t (ap not e)) h in cc)
+  | inr e ↦ rw e (only_line t (subst (λ (y : List ℕ). drop (length y) (c ∷ t) ≡ []) (take_while-yes in_line c t (ap not e)) h))
+]
+
+-- the line of a blank line
+pub blank_gap : (t rest : List ℕ) → IsBlankLine t rest → IsGap (without_last 13 (first_line t))
+blank_gap t rest l = go l.5
+  where
+    go : (l.1 ≡ 10 ∷ []) ⊎ (l.1 ≡ 13 ∷ 10 ∷ []) → IsGap (without_last 13 (first_line t))
+    go (inl h) =
+        let is : t ≡ l.0 ++ 10 ∷ rest = l.2 ∙ ap (λ x. l.0 ++ x ++ rest) h ∙ append_assoc l.0 (10 ∷ []) rest in
+        rw (is, first_line_at l.0 rest l.4, no_return l.0 l.3) l.3
+    go (inr h) =
+        let is : t ≡ (l.0 ++ 13 ∷ []) ++ 10 ∷ rest = l.2 ∙ ap (λ x. l.0 ++ x ++ rest) h ∙ append_assoc l.0 (13 ∷ 10 ∷ []) rest ∙ sym (append_assoc l.0 (13 ∷ []) (10 ∷ rest)) in
+        rw (is, first_line_at (l.0 ++ 13 ∷ []) rest (one_line_and l.0 l.4), without_return l.0) l.3
+
+pub not_blank : (t rest : List ℕ) → is_one_line t ≡ true → IsBlankLine t rest → ⊥
+not_blank t rest one l = go l.5
+  where
+    go : (l.1 ≡ 10 ∷ []) ⊎ (l.1 ≡ 13 ∷ 10 ∷ []) → ⊥
+    go (inl h) =
+        let is : t ≡ l.0 ++ 10 ∷ rest = l.2 ∙ ap (λ x. l.0 ++ x ++ rest) h ∙ append_assoc l.0 (10 ∷ []) rest in
+        not_one_line l.0 rest (rw is at one)
+    go (inr h) =
+        let is : t ≡ (l.0 ++ 13 ∷ []) ++ 10 ∷ rest = l.2 ∙ ap (λ x. l.0 ++ x ++ rest) h ∙ append_assoc l.0 (13 ∷ 10 ∷ []) rest ∙ sym (append_assoc l.0 (13 ∷ []) (10 ∷ rest)) in
+        not_one_line (l.0 ++ 13 ∷ []) rest (rw is at one)
+
+abbrev lines_text : List (List ℕ) → List ℕ
+lines_text lines = flat_map (λ line. line ++ 10 ∷ []) lines
+
+abbrev IsLine : List ℕ → Type 0
+IsLine line = (is_one_line line ≡ true) × (IsEndLine line → ⊥)
+
+first_of_lines : (line more rest : List ℕ) → ((line ++ 10 ∷ []) ++ more) ++ rest ≡ line ++ 10 ∷ (more ++ rest)
+first_of_lines line more rest = append_assoc (line ++ 10 ∷ []) more rest ∙ append_assoc line (10 ∷ []) (more ++ rest)
+
+-- a body without its first line
+pub IsBehindBody-less : (t more r : List ℕ) → t ≡ first_line t ++ 10 ∷ more → (IsEndLine (first_line t) → ⊥) → IsBehindBody t r → IsEndLine (first_line r) → IsBehindBody more r
+IsBehindBody-less t more r e n b f = go b.2.0 (b.1 ∙ ap (λ x. x ++ r) b.2.1) b.2.2
+  where
+    go : (lines : List (List ℕ)) → t ≡ lines_text lines ++ r → AllByRecursion IsLine lines → IsBehindBody more r
+    go [] is all = absurd (n (subst (λ (x : List ℕ). IsEndLine (first_line x)) (sym is) f))
+    go (line ∷ lines) is all =
+        let whole : t ≡ line ++ 10 ∷ (lines_text lines ++ r) = is ∙ first_of_lines line (lines_text lines) r in
+        let first : first_line t ≡ line = ap (λ x. first_line x) whole ∙ first_line_at line (lines_text lines ++ r) all.0.0 in
+        let same : line ++ 10 ∷ (lines_text lines ++ r) ≡ line ++ 10 ∷ more = sym whole ∙ e ∙ ap (λ x. x ++ 10 ∷ more) first in
+        let tails : 10 ∷ (lines_text lines ++ r) ≡ 10 ∷ more = append_cancel_left line (10 ∷ (lines_text lines ++ r)) (10 ∷ more) same in
+        let tail : more ≡ lines_text lines ++ r = cc in
+        (lines_text lines, tail, (lines, refl, all.1))
+
+-- a text of one line has no body before a line of END_PROGRAM but the empty one
+pub no_body_behind : (t r : List ℕ) → is_one_line t ≡ true → (IsEndLine (first_line t) → ⊥) → IsBehindBody t r → IsEndLine (first_line r) → ⊥
+no_body_behind t r one n b f = go b.2.0 (b.1 ∙ ap (λ x. x ++ r) b.2.1)
+  where
+    go : (lines : List (List ℕ)) → t ≡ lines_text lines ++ r → ⊥
+    go [] is = n (subst (λ (x : List ℕ). IsEndLine (first_line x)) (sym is) f)
+    go (line ∷ lines) is = not_one_line line (lines_text lines ++ r) (rw (is ∙ first_of_lines line (lines_text lines) r) at one)
+
+pub empty_of_length : (xs : List ℕ) → length xs < 1 → xs ≡ []
+empty_of_length [] h = refl
+empty_of_length (x ∷ xs) h = absurd (omega arith)
+
+pub gap_both : (line left : List ℕ) (b : Bool) → IsBehindGap line left → b ≡ (length left == 0) → (b ≡ true → IsGap line) × (IsGap line → b ≡ true)
+gap_both line [] b g is = (λ t. subst IsGap (sym (g.1 ∙ append-nil g.0)) g.2, λ gap. is)
+gap_both line (c ∷ left) b g is = (λ t. let zero_long = eqb-true (length (c ∷ left)) 0 (sym is ∙ t) in absurd (omega (arith, zero_long)), λ gap. let none : c ∷ left ≡ [] = gap_whole line (c ∷ left) g gap in absurd cc)
+
+pub not_end : (t line : List ℕ) (b : Bool) → line ≡ first_line t → (IsEndLine line → b ≡ true) → b ≡ false → IsEndLine (first_line t) → ⊥
+not_end t line b el yes_ no_ l = let y : b ≡ true = yes_ (subst IsEndLine (sym el) l) in cc

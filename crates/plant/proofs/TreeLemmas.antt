@@ -5,12 +5,12 @@ use Rattle.std.specs.List.{flat_map}
 use Rattle.plant.specs.declared.token.Token.{Token}
 use Rattle.plant.specs.declared.token.Token.TheVariants as token
 use Rattle.plant.specs.declared.token.Keyword.TheVariants as key
-use Rattle.plant.specs.declared.tree.Program.{Program}
 use Rattle.plant.specs.declared.tree.Resource.{Resource}
 use Rattle.plant.specs.Grammar.{key_word, program_words, resources_words, words_of}
 use Rattle.plant.specs.Faultless.{uses_of, binds_of, IsResourceLawful, IsFaultless, IsLadderOf}
 use Rattle.plant.specs.Steps.Drawn.{AreDrawn}
-use Rattle.plant.specs.Steps.Reading.{TypeValue, tree_of, IsReadingOf}
+use Rattle.plant.specs.BodyFaults.{TextValue}
+use Rattle.plant.specs.Steps.Reading.{TypeValue, programs_of, tree_of, IsReadingOf}
 use Rattle.plant.specs.Steps.ReadParts.{TallyValue, tally_with, types_alone, AreProgramsDeclared, AreResourcesLawful}
 use Rattle.plant.proofs.TypeLemmas.{lawful_drawn}
 
@@ -49,9 +49,9 @@ tree_words types rs name start one two three rest h0 h1 h2 h3 =
     h0 ∙ ap (λ ws. ps ++ ws) (h1 ∙ ap (λ ws. key_word key.Configuration ∷ ws) (h2 ∙ ap (λ ws. token.Name name ∷ ws) h3))
     ∙ sym (append_assoc ps (key_word key.Configuration ∷ token.Name name ∷ resources_words rs) rest)
 
-pub reading_is : (texts : List Program) (types : List TypeValue) (rs : List Resource) (name : List ℕ) (tally : TallyValue) (start one two three rest : List Token) → start ≡ flat_map program_words texts ++ one
+pub reading_is : (texts : List TextValue) (types : List TypeValue) (rs : List Resource) (name : List ℕ) (tally : TallyValue) (start one two three rest : List Token) → start ≡ flat_map program_words (programs_of texts) ++ one
     → one ≡ key_word key.Configuration ∷ two → two ≡ token.Name name ∷ three → three ≡ resources_words rs ++ rest
-    → AreProgramsDeclared texts → AreDrawn texts types → 0 < length rs → AreResourcesLawful (types_alone types) rs
+    → AreProgramsDeclared (programs_of texts) → AreDrawn texts types → 0 < length rs → AreResourcesLawful (types_alone types) rs
     → tally ≡ tally_with (record { instances = 0; binds = 0 }) (flat_map uses_of rs) → tally.instances ≤ 64 → tally.binds ≤ 4096 → IsReadingOf start (record { types = types; resources = rs }) rest
 reading_is texts types rs name tally start one two three rest h0 h1 h2 h3 declared drawn some resources is few_instances few_binds =
     let programs = subst AreProgramsDeclared (sym drawn.programs_are) declared in

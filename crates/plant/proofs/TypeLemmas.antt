@@ -28,6 +28,12 @@ list_any-map : {A B : Type 0} (f : A → B) (p : B → Bool) (xs : List A) → l
 list_any-map f p [] = refl
 list_any-map f p (x ∷ xs) = ap (λ b. p (f x) || b) (list_any-map f p xs)
 
+-- the same of what they hold
+pub found_any_of : {A B : Type 0} (f : A → B) (p : B → Bool) (xs : List A) → IsTrue (is_some (find (λ x. p (f x)) xs)) ↔ Any (λ y. IsTrue (p y)) (map f xs)
+found_any_of f p xs =
+    let is = found_is (λ x. p (f x)) xs in
+    ((λ some. Any-from_list_any p (map f xs) (list_any-map f p xs ∙ sym is ∙ some)), (λ any. is ∙ sym (list_any-map f p xs) ∙ list_any-from_Any p (map f xs) any))
+
 -- a type that was found is one of the programs
 pub known_type : (types : List TypeValue) (name : List ℕ) (t : TypeValue) → find (λ (t : TypeValue). is_named name t.program.name) types ≡ Some t → Any (λ p. IsTrue (is_named name p.name)) (map (λ (t : TypeValue). t.program) types)
 known_type types name t at =

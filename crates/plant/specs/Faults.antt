@@ -1,5 +1,5 @@
 -- What a fault of a plant's text is, as a value.
-use Rattle.std.specs.Prelude.{◌≡◌, ◌≢◌, ℕ, Option, None, Some}
+use Rattle.std.specs.Prelude.{◌≡◌, ◌≢◌, ◌⊎◌, ℕ, Option, None, Some}
 use Rattle.ladder_text.specs.declared.drawing.DrawFaultKind.TheVariants as draw
 use Rattle.network.specs.declared.fault.GraphFaultKind.TheVariants as graph
 use Rattle.power_flow.specs.declared.bind.BindKind.TheVariants as bind
@@ -46,3 +46,7 @@ IsOfKind kind.Memory line inner = (inner ≡ None) × (line ≡ 0)
 -- a fault with what belongs to its kind
 abbrev pub IsPlantFault : PlantFault → Type 0
 IsPlantFault fault = IsOfKind fault.kind fault.line fault.inner
+
+-- one of the kinds of faults that the body of a program has
+abbrev pub IsOfBody : PlantFaultKind → Type 0
+IsOfBody k = (k ≡ kind.Drawing) ⊎ ((k ≡ kind.Graph) ⊎ (k ≡ kind.Bind))

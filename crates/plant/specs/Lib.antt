@@ -4,6 +4,7 @@ pub mod PlantValue
 pub mod Faults
 pub mod Names
 pub mod Grammar
+pub mod BodyFaults
 pub mod Faultless
 pub mod StandsFor
 pub mod PlantText

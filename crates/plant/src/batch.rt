@@ -1,10 +1,9 @@
 //! Batches of programs, which threads draw.
 
-ghost use Rattle.std.specs.Prelude.{◌≡◌, ◌≢◌, ◌++◌, [], ◌∷◌, IfOk, IfErr, OnOk};
+ghost use Rattle.std.specs.Prelude.{◌≡◌, ◌++◌, [], ◌∷◌, IfOk, IfErr, OnOk};
 ghost use Rattle.plant.specs.Faults.{IsPlantFault};
 ghost use Rattle.std.specs.List.{flat_map};
-ghost use Rattle.plant.specs.declared.plant_fault.PlantFaultKind.TheVariants.{Memory};
-ghost use Rattle.plant.specs.Steps.Drawn.{AreDrawn, IsFirstBodyFault};
+ghost use Rattle.plant.specs.Steps.Drawn.{IsAnswerFor};
 
 use crate::drawn::draw_all;
 use crate::plant_fault::PlantFault;
@@ -24,9 +23,9 @@ pub struct Batch {
 
 impl Model for Batch {
     ghost use Rattle.std.specs.Prelude.{List};
-    ghost use Rattle.plant.specs.declared.tree.Program.{Program};
+    ghost use Rattle.plant.specs.BodyFaults.{TextValue};
 
-    ghost Value = { List Program };
+    ghost Value = { List TextValue };
 
     ghost view = { λ b. b.texts.items };
 }
@@ -54,8 +53,7 @@ impl Batch {
 
     /// The types of its programs. The first fault is answered.
     pub fn draw(self, alloc: Global) -> Result<Vec<ProgramType>, PlantFault>
-        ensures ok { IfOk result (λ types. AreDrawn self types.items) }
-        ensures fault { IfErr result (λ fault. fault.kind ≢ Memory → IsFirstBodyFault self fault) }
+        ensures answer { IsAnswerFor self result }
         ensures value { IfErr result IsPlantFault }
     {
         draw_all(alloc, self.texts)

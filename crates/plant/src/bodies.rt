@@ -1,10 +1,10 @@
 //! The lines of a program's body, up to the one whose only word is END_PROGRAM.
 
-ghost use Rattle.std.specs.Prelude.{◌≡◌, ◌↔◌, ◌∷◌, ◌++◌, IfSome, IsTrue, Some, length};
+ghost use Rattle.std.specs.Prelude.{◌≡◌, ◌↔◌, ℕ, List, ◌∷◌, ◌++◌, IsTrue, Some, MatchOption, length};
 ghost use Rattle.ladder_text.specs.Rows.{without_last};
 ghost use Rattle.plant.specs.declared.token.Keyword.TheVariants as key;
 ghost use Rattle.plant.specs.Words.{keyword};
-ghost use Rattle.plant.specs.Spelling.{first_line, IsGap, IsEndLine, BeginsNoBlock};
+ghost use Rattle.plant.specs.Spelling.{first_line, is_one_line, IsGap, IsEndLine, BeginsNoBlock};
 ghost use Rattle.plant.specs.Steps.Lexing.{begins_block, may_run_on, IsBlankLine, IsBehindBody};
 
 use crate::front_word::{behind, letters};
@@ -35,9 +35,9 @@ fn first_line(text: &[u8]) -> &[u8]
     &text[..line_len(text)]
 }
 
-/// What is left behind the first line feed.
+/// What is left behind the first line feed. `None`: there is no line feed.
 fn behind_line(text: &[u8]) -> Option<&[u8]>
-    ensures { IfSome result (λ rest. text.now ≡ first_line text.now ++ 10 ∷ rest.now) }
+    ensures { MatchOption result (IsTrue (is_one_line text.now)) (λ rest. text.now ≡ first_line text.now ++ 10 ∷ rest.now) }
 {
     match behind(text, line_len(text)) {
         [_, rest @ ..] => Some(rest),
@@ -56,21 +56,21 @@ fn begins_block(keyword: Option<Keyword>) -> bool
 
 /// Whether the next word begins no block of variables.
 pub fn begins_no_block(text: &[u8]) -> bool
-    ensures { IsTrue result → BeginsNoBlock text.now }
+    ensures { IsTrue result ↔ BeginsNoBlock text.now }
 {
     !begins_block(keyword(letters(behind_gap(text))))
 }
 
 /// Whether the rest of the line holds no word.
 pub fn is_blank_line(text: &[u8]) -> bool
-    ensures { IsTrue result → IsGap (without_last 13 (first_line text.now)) }
+    ensures { IsTrue result ↔ IsGap (without_last 13 (first_line text.now)) }
 {
     behind_gap(without_return(first_line(text))).is_empty()
 }
 
-/// What is left behind a line that holds no word.
+/// What is left behind a line that holds no word. `None`: the text begins with no such line.
 pub fn behind_blank_line(text: &[u8]) -> Option<&[u8]>
-    ensures { IfSome result (λ rest. IsBlankLine text.now rest.now) }
+    ensures { MatchOption result ((rest : List ℕ) → IsBlankLine text.now rest → ⊥) (λ rest. IsBlankLine text.now rest.now) }
 {
     match behind_line(text) {
         Some(rest) if is_blank_line(text) => Some(rest),
@@ -102,7 +102,7 @@ fn is_end_line(line: &[u8]) -> bool
 
 /// What is left behind a body: from the line of END_PROGRAM on. `None`: there is no such line.
 pub fn behind_body(text: &[u8]) -> Option<&[u8]>
-    ensures { IfSome result (λ rest. IsBehindBody text.now rest.now × IsEndLine (first_line rest.now)) }
+    ensures { MatchOption result ((rest : List ℕ) → IsBehindBody text.now rest → IsEndLine (first_line rest) → ⊥) (λ rest. IsBehindBody text.now rest.now × IsEndLine (first_line rest.now)) }
 {
     let mut rest = text;
     'lines: while !is_end_line(first_line(rest)) {

@@ -8,6 +8,7 @@ ghost use Rattle.std.specs.Option.{option_map, option_and_then};
 ghost use Rattle.power_flow.specs.Names.{place_of};
 ghost use Rattle.plant.specs.PlantValue.{input_kind_at};
 ghost use Rattle.plant.specs.Steps.ReadParts.{is_task_line};
+ghost use Rattle.plant.specs.Steps.Reading.{programs_of};
 ghost use Rattle.plant.specs.Names.{is_named};
 ghost use Rattle.plant.specs.Faultless.{task_of, use_of};
 
@@ -36,7 +37,7 @@ pub fn check_new(name: &Name, is_twice: bool, is_full: bool) -> Result<(), Plant
 
 /// The first program of the name.
 fn program_named<'a>(texts: &'a [ProgramText], name: &Name) -> Option<&'a ProgramText>
-    ensures { option_map (λ p. p.now) result ≡ find (λ p. is_named name.now p.name) texts.now }
+    ensures { option_map (λ t. t.now) result ≡ find (λ t. is_named name.now t.program.name) texts.now }
 {
     let name = name.as_str();
     texts.iter().find(|text| name.eq_ignore_ascii_case(text.program().name.as_str()))
@@ -44,7 +45,7 @@ fn program_named<'a>(texts: &'a [ProgramText], name: &Name) -> Option<&'a Progra
 
 /// Whether a program has the name.
 pub fn is_program(texts: &[ProgramText], name: &Name) -> bool
-    ensures { IsTrue result ↔ Any (λ p. IsTrue (is_named name.now p.name)) texts.now }
+    ensures { IsTrue result ↔ Any (λ p. IsTrue (is_named name.now p.name)) (programs_of texts.now) }
 {
     program_named(texts, name).is_some()
 }

@@ -4,7 +4,8 @@ ghost use Rattle.std.specs.Prelude.{◌≡◌, ◌≢◌, ◌<◌, ◌⊎◌, �
 ghost use Rattle.plant.specs.Faults.{IsPlantFault};
 ghost use Rattle.std.specs.List.{flat_map};
 ghost use Rattle.plant.specs.declared.plant_fault.PlantFaultKind.TheVariants.{Memory};
-ghost use Rattle.plant.specs.Steps.Drawn.{AreDrawn, IsFirstBodyFault, types_in, first_fault};
+ghost use Rattle.plant.specs.BodyFaults.{IsFirstBodyFault};
+ghost use Rattle.plant.specs.Steps.Drawn.{AreDrawn, types_in, first_fault};
 
 use crate::batch::{Batch, cut};
 use crate::plant_fault::PlantFault;

@@ -1,6 +1,7 @@
 //! The lexer: a plant's text word by word, with the line of each.
 
 ghost use Rattle.std.specs.Prelude.{◌≡◌, ◌≢◌, ◌<◌, ◌-◌, List, [], IfOk, IfSome, OnOk, IsTrue, MatchOption, length, take};
+ghost use Rattle.std.specs.Str.{IsUtf8};
 ghost use Rattle.ladder_text.specs.Rows.{without_last};
 ghost use Rattle.plant.specs.declared.token.Token.TheVariants as token;
 ghost use Rattle.plant.specs.Spelling.{IsGap, BeginsNoBlock};
@@ -64,7 +65,7 @@ fn last_line(text: &[u8]) -> u64 {
 
 /// The text of a body that lies before `rest`. `None`: it is not UTF-8.
 fn body_before(alloc: Global, text: &[u8], rest: &[u8]) -> Result<Option<Text>, AllocError>
-    ensures { IfOk result (λ body. IfSome body (λ b. b ≡ take (length text.now - length rest.now) text.now)) }
+    ensures { IfOk result (λ body. MatchOption body (IsUtf8 (take (length text.now - length rest.now) text.now) → ⊥) (λ b. b ≡ take (length text.now - length rest.now) text.now)) }
 {
     match str::from_utf8(&text[..text.len().saturating_sub(rest.len())]) {
         Ok(body) => Ok(Some(Text::new(alloc, body)?)),

@@ -2,7 +2,7 @@ ghost use Rattle.std.specs.Prelude.{◌≡◌, ◌≢◌, IfOk, IfErr};
 ghost use Rattle.plant.specs.Faults.{IsPlantFault};
 ghost use Rattle.plant.specs.declared.plant_fault.PlantFaultKind.TheVariants.{Memory};
 ghost use Rattle.plant.specs.Faultless.{variables, IsLadderOf};
-ghost use Rattle.plant.specs.Steps.Drawn.{IsBodyFault};
+ghost use Rattle.plant.specs.BodyFaults.{IsBodyFault};
 
 use crate::plant_fault::PlantFault;
 use crate::program_type::ProgramType;
@@ -17,7 +17,7 @@ use std::sync::Arc;
 /// The greatest line on which a drawing may begin.
 const LAST_LINE: u64 = 9_223_372_036_854_775_807;
 
-/// A program type as it is written, its body not drawn yet. Contracts see the program.
+/// A program type as it is written, its body not drawn yet. Contracts see the program and the line that its body begins on.
 #[derive(Drop)]
 pub struct ProgramText {
     program: Program,
@@ -28,12 +28,12 @@ pub struct ProgramText {
 
 impl Model for ProgramText {
     ghost use Rattle.std.specs.Prelude.{◌≡◌};
-    ghost use Rattle.plant.specs.declared.tree.Program.{Program};
     ghost use Rattle.plant.specs.Faultless.{variables};
+    ghost use Rattle.plant.specs.BodyFaults.{TextValue};
 
-    ghost Value = { Program };
+    ghost Value = { TextValue };
 
-    ghost view = { λ t. t.program };
+    ghost view = { λ t. record { program = t.program; first_line = t.first_line } };
 
     ghost invariant = { λ t. t.declarations ≡ variables t.program };
 }
@@ -42,7 +42,7 @@ impl ProgramText {
     /// A program whose body begins on a line, with its variables.
     pub fn new(program: Program, first_line: u64, declarations: Declarations) -> ProgramText
         requires { declarations ≡ variables program }
-        ensures { result ≡ program }
+        ensures { result ≡ record { program = program; first_line = first_line } }
     {
         ProgramText {
             program,
@@ -53,7 +53,7 @@ impl ProgramText {
 
     /// The program as it is written.
     pub fn program(&self) -> &Program
-        ensures { result.now ≡ self.now }
+        ensures { result.now ≡ self.now.program }
     {
         &self.program
     }
@@ -65,7 +65,7 @@ impl ProgramText {
 
     /// The program type: the drawing is read, its networks are built, and its names are bound.
     pub fn draw(self, alloc: Global) -> Result<ProgramType, PlantFault>
-        ensures program { IfOk result (λ t. t.program ≡ self) }
+        ensures program { IfOk result (λ t. t.program ≡ self.program) }
         ensures ladder { IfOk result (λ t. IsLadderOf t.program t.ladder) }
         ensures fault { IfErr result (λ fault. fault.kind ≢ Memory → IsBodyFault self fault) }
         ensures value { IfErr result IsPlantFault }

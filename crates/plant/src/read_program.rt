@@ -7,6 +7,7 @@ ghost use Rattle.plant.specs.declared.token.Token.TheVariants as token;
 ghost use Rattle.plant.specs.Grammar.{section_word, kind_word, type_word, name_words, list_words, lists_words, block_words, program_words};
 ghost use Rattle.plant.specs.Faultless.{list_variables, block_variables, IsTypeLawful, IsListLawful, IsBlockLawful};
 ghost use Rattle.plant.specs.Steps.ReadParts.{IsNew, IsProgramDeclared, AreProgramsDeclared};
+ghost use Rattle.plant.specs.Steps.Reading.{programs_of};
 
 use crate::declared_names::{check_new, is_program};
 use crate::name::Name;
@@ -195,7 +196,7 @@ impl<'a> Reader<'a> {
     /// A new name of a program type, behind these.
     fn new_type(&mut self, alloc: Global, before: &[ProgramText]) -> Result<Name, PlantFault>
         ensures ok { IfOk result (λ name. self.old.words ≡ token.Name name ∷ self.new.words) }
-        ensures new { IfOk result (λ name. IsNew (λ p. p.name) before.now name) }
+        ensures new { IfOk result (λ name. IsNew (λ p. p.name) (programs_of before.now) name) }
         ensures few { OnOk result (length before.now < 64) }
         ensures value { IfErr result IsPlantFault }
     {
@@ -207,10 +208,10 @@ impl<'a> Reader<'a> {
     /// A program type, behind these. Its body isn't drawn.
     #[tactic(auto, unfolding(crate::specs::Grammar::program_words))]
     fn program(&mut self, alloc: Global, before: &[ProgramText]) -> Result<ProgramText, PlantFault>
-        ensures ok { IfOk result (λ p. self.old.words ≡ program_words p ++ self.new.words) }
-        ensures new { IfOk result (λ p. IsNew (λ p. p.name) before.now p.name) }
+        ensures ok { IfOk result (λ p. self.old.words ≡ program_words p.program ++ self.new.words) }
+        ensures new { IfOk result (λ p. IsNew (λ p. p.name) (programs_of before.now) p.program.name) }
         ensures few { OnOk result (length before.now < 64) }
-        ensures declared { IfOk result (λ p. IsProgramDeclared p) }
+        ensures declared { IfOk result (λ p. IsProgramDeclared p.program) }
         ensures value { IfErr result IsPlantFault }
     {
         self.keyword(Keyword::Program)?;
@@ -231,10 +232,10 @@ impl<'a> Reader<'a> {
         alloc: Global,
         texts: &mut Vec<ProgramText>,
     ) -> Result<(), PlantFault>
-        requires { AreProgramsDeclared texts.old.items }
-        ensures ok { OnOk result (flat_map program_words texts.old.items ++ self.old.words ≡ flat_map program_words texts.new.items ++ self.new.words) }
-        ensures err { OnErr result ((rest : List Token) × (flat_map program_words texts.old.items ++ self.old.words ≡ flat_map program_words texts.new.items ++ rest)) }
-        ensures declared { AreProgramsDeclared texts.new.items }
+        requires { AreProgramsDeclared (programs_of texts.old.items) }
+        ensures ok { OnOk result (flat_map program_words (programs_of texts.old.items) ++ self.old.words ≡ flat_map program_words (programs_of texts.new.items) ++ self.new.words) }
+        ensures err { OnErr result ((rest : List Token) × (flat_map program_words (programs_of texts.old.items) ++ self.old.words ≡ flat_map program_words (programs_of texts.new.items) ++ rest)) }
+        ensures declared { AreProgramsDeclared (programs_of texts.new.items) }
         ensures value { IfErr result IsPlantFault }
     {
         'programs: while self.sees_keyword(Keyword::Program) {

@@ -5,7 +5,12 @@ use Rattle.plant.specs.declared.tree.Program.{Program}
 use Rattle.plant.specs.declared.tree.Resource.{Resource}
 use Rattle.plant.specs.declared.token.Token.{Token}
 use Rattle.plant.specs.Grammar.{Tree, words_of}
+use Rattle.plant.specs.BodyFaults.{TextValue}
 use Rattle.plant.specs.Faultless.{IsLadderOf, IsFaultless}
+
+-- the program types as they are written
+abbrev pub programs_of : List TextValue → List Program
+programs_of texts = map (λ (t : TextValue). t.program) texts
 
 -- a program type, and its ladder
 pub record TypeValue : Type 0 where

@@ -3,7 +3,7 @@ use Rattle.std.specs.List.{flat_map}
 use Rattle.plant.specs.Faultless.{uses_of}
 use Rattle.plant.specs.Grammar.{program_words}
 use Rattle.plant.specs.Steps.Drawn.{AreDrawn}
-use Rattle.plant.specs.Steps.Reading.{IsReadingOf}
+use Rattle.plant.specs.Steps.Reading.{programs_of, IsReadingOf}
 use Rattle.plant.specs.Steps.ReadParts.{tally_with, types_alone, AreResourcesLawful}
 use Rattle.plant.proofs.TreeLemmas.{reading_is}
 use Rattle.plant.proofs.read_tree.read_tree.Goals as goal
@@ -15,7 +15,7 @@ returns-clause-ok g c =
     let resources = c.in_ok-resources.resources.items in
     let start = c.args.reader.now.words in
     let one = c.programs-programs.new.self.words in
-    let written = subst (λ ts. flat_map program_words ts ++ start ≡ flat_map program_words texts ++ one) c.new-texts.ensures.items c.in_ok-programs.ensures.ok in
+    let written = subst (λ ts. flat_map program_words (programs_of ts) ++ start ≡ flat_map program_words (programs_of texts) ++ one) c.new-texts.ensures.items c.in_ok-programs.ensures.ok in
     let all = c.requires.draws c.programs-programs.new.texts c.draw.result c.draw.ensures in
     let drawn : AreDrawn texts types = search rules in
     subst (λ r. IsReadingOf start r c.resources.new.self.words) (sym c.new.ensures)

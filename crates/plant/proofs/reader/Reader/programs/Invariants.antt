@@ -2,12 +2,13 @@ use Rattle.std.proofs.Common.{◌≡◌, ◌++◌, length}
 use Rattle.std.specs.List.{flat_map}
 use Rattle.plant.specs.Grammar.{program_words}
 use Rattle.plant.specs.Steps.ReadParts.{AreProgramsDeclared}
+use Rattle.plant.specs.Steps.Reading.{programs_of}
 use Rattle.plant.proofs.reader.Reader.programs.Given as goal
 
 abbrev pub invariant-programs : goal.invariant-programs
 invariant-programs l = record {
-  words : flat_map program_words l.fn.texts.items ++ l.fn.self.words ≡ flat_map program_words l.texts.items ++ l.self.words;
-  declared : AreProgramsDeclared l.texts.items;
+  words : flat_map program_words (programs_of l.fn.texts.items) ++ l.fn.self.words ≡ flat_map program_words (programs_of l.texts.items) ++ l.self.words;
+  declared : AreProgramsDeclared (programs_of l.texts.items);
 }
 
 abbrev pub decreases-programs : goal.decreases-programs
