@@ -16,12 +16,13 @@ use Rattle.power_flow.specs.Steps.Reach.{bit_at}
 use Rattle.power_flow.specs.Power.{SymbolEndsAt}
 use Rattle.power_flow.specs.Names.{place_of, value_of, is_true}
 use Rattle.power_flow.specs.Meaning.{Moment, moment, conducts, element_conducts, NetworkMeaning, next_memory, stored, coil_stores, contact_conducts, contact_memory, coil_memory, coil_value, store}
-use Rattle.power_flow.specs.Steps.ElementSteps.{conducts_at, memory_read, memory_stored, coil_stores_at, table_stores}
+use Rattle.power_flow.specs.Steps.ElementSteps.{symbol_of, conducts_at, memory_read, memory_stored, coil_stores_at, table_stores}
 use Rattle.power_flow.specs.Steps.Circuit.{IsWired}
 use Rattle.power_flow.specs.Scan.{AreWide}
 use Rattle.power_flow.specs.StateValue.{AreSlotsOf}
 use Rattle.power_flow.specs.declared.state.Slot.TheVariants.{Block}
 use Rattle.power_flow.specs.declared.source.Source.{Source}
+use Rattle.power_flow.specs.declared.symbol.Symbol.{Symbol}
 use Rattle.power_flow.specs.declared.source.Source.TheVariants as source
 use Rattle.power_flow.specs.declared.bound_box.BoundBox.{BoundBox}
 use Rattle.power_flow.specs.Steps.Sources.{source_value, source_place, element_source}
@@ -32,12 +33,12 @@ use Rattle.power_flow.proofs.BoxesMeaning.{boxes_meaning, bit-map}
 use Rattle.ladder_text.specs.declared.contact.Contact.{Contact as ContactRecord}
 
 -- stores that agree at each element agree
-stores_same : (es : List Element) (n : ℕ) (F G : ℕ → Element → List (ℕ × Value)) → ((k : ℕ) (e : Element) → slice_get es k ≡ Some e → F (n + k) e ≡ G (n + k) e)
-    → flat_map (λ e. F e.0 e.1) (enumerate_from n es) ≡ flat_map (λ e. G e.0 e.1) (enumerate_from n es)
+stores_same : (es : List Element) (n : ℕ) (F : ℕ → Symbol → List (ℕ × Value)) (G : ℕ → Element → List (ℕ × Value)) → ((k : ℕ) (e : Element) → slice_get es k ≡ Some e → F (n + k) (symbol_of e) ≡ G (n + k) e)
+    → flat_map (λ e. F e.0 e.1) (enumerate_from n (map symbol_of es)) ≡ flat_map (λ e. G e.0 e.1) (enumerate_from n es)
 stores_same [] n F G h = refl
 stores_same (e ∷ es) n F G h =
     let here : n + 0 ≡ n = omega arith in
-    let first : F n e ≡ G n e = rw here at (h 0 e refl) in
+    let first : F n (symbol_of e) ≡ G n e = rw here at (h 0 e refl) in
     let rest = stores_same es (n + 1) F G (λ k e' at. let along : n + suc k ≡ n + 1 + k = omega arith in rw along at (h (suc k) e' at)) in
     cc
 
@@ -47,15 +48,15 @@ module _ (ds : List Declaration) (d : Diagram) (dt : ℕ) (slots between after :
     (bound : AreBoundBoxes ds d places boxes)
     (wide : AreWide d)
     (fits : AreSlotsOf ds slots)
-    (gate : (k : ℕ) (e : Element) → slice_get d.elements k ≡ Some e → bit_at gates k ≡ conducts_at (is_true (source_value slots (slice_index_or sources k source.Nothing))) (bit_at old k) e)
-    (read : (k : ℕ) (e : Element) → slice_get d.elements k ≡ Some e → bit_at mid k ≡ memory_read (is_true (source_value slots (slice_index_or sources k source.Nothing))) (bit_at old k) e)
+    (gate : (k : ℕ) (e : Element) → slice_get d.elements k ≡ Some e → bit_at gates k ≡ conducts_at (is_true (source_value slots (slice_index_or sources k source.Nothing))) (bit_at old k) (symbol_of e))
+    (read : (k : ℕ) (e : Element) → slice_get d.elements k ≡ Some e → bit_at mid k ≡ memory_read (is_true (source_value slots (slice_index_or sources k source.Nothing))) (bit_at old k) (symbol_of e))
     (stepped : (j : ℕ) (e : BoundBox) → slice_get boxes j ≡ Some e → IsStepped links gates starts slots dt boxes results j e)
     (settled : AreSettled links gates starts boxes results (length boxes) bits)
     (same_length : length between ≡ length slots)
     (placed : (j : ℕ) (e : BoundBox) (i : Instance) → slice_get boxes j ≡ Some e → slice_get results j ≡ Some i → slice_get between e.instance ≡ Some (Block i))
     (others : (k : ℕ) → All (λ e. e.instance ≢ k) boxes → slice_get between k ≡ slice_get slots k)
-    (kept : (k : ℕ) (e : Element) → slice_get d.elements k ≡ Some e → bit_at new k ≡ memory_stored (bit_at bits (slice_index firsts k)) (bit_at mid k) e)
-    (changed : after ≡ stored (stored between (output_stores boxes results)) (table_stores sources firsts bits mid (enumerate_from 0 d.elements)))
+    (kept : (k : ℕ) (e : Element) → slice_get d.elements k ≡ Some e → bit_at new k ≡ memory_stored (bit_at bits (slice_index firsts k)) (bit_at mid k) (symbol_of e))
+    (changed : after ≡ stored (stored between (output_stores boxes results)) (table_stores sources firsts bits mid (enumerate_from 0 (map symbol_of d.elements))))
     (results_length : length results ≡ length boxes)
     (firsts_length : length firsts ≡ length d.elements)
     (new_length : length new ≡ length d.elements) where
@@ -65,7 +66,7 @@ module _ (ds : List Declaration) (d : Diagram) (dt : ℕ) (slots between after :
   contact_value : (k : ℕ) (c : ContactRecord) → slice_get d.elements k ≡ Some (Contact c) → is_true (source_value slots (slice_index_or sources k source.Nothing)) ≡ is_true (value_of ds slots c.name)
   contact_value k c at = ap (λ s. is_true (source_value slots s)) (named k (Contact c) at) ∙ ap is_true (sym (name_value ds slots c.name fits))
 
-  conducts_same : (k : ℕ) (e : Element) → slice_get d.elements k ≡ Some e → conducts_at (is_true (source_value slots (slice_index_or sources k source.Nothing))) (bit_at old k) e ≡ element_conducts ds before k e
+  conducts_same : (k : ℕ) (e : Element) → slice_get d.elements k ≡ Some e → conducts_at (is_true (source_value slots (slice_index_or sources k source.Nothing))) (bit_at old k) (symbol_of e) ≡ element_conducts ds before k e
   conducts_same k (Wire p) at = refl
   conducts_same k (Join p) at = refl
   conducts_same k (Upright p) at = refl
@@ -83,7 +84,7 @@ module _ (ds : List Declaration) (d : Diagram) (dt : ℕ) (slots between after :
   link_at : (k : ℕ) (e : Element) → slice_get d.elements k ≡ Some e → bit_at left_links k ≡ bit_at bits (slice_index firsts k)
   link_at k e at = let lt = slice_get_within d.elements k e at in bit-map bits firsts k (omega arith)
 
-  memory_same : (k : ℕ) (e : Element) → slice_get d.elements k ≡ Some e → memory_stored (bit_at bits (slice_index firsts k)) (bit_at mid k) e ≡ next_memory ds before left_links k e
+  memory_same : (k : ℕ) (e : Element) → slice_get d.elements k ≡ Some e → memory_stored (bit_at bits (slice_index firsts k)) (bit_at mid k) (symbol_of e) ≡ next_memory ds before left_links k e
   memory_same k (Wire p) at = read k (Wire p) at
   memory_same k (Join p) at = read k (Join p) at
   memory_same k (Upright p) at = read k (Upright p) at
@@ -96,7 +97,7 @@ module _ (ds : List Declaration) (d : Diagram) (dt : ℕ) (slots between after :
   coil_place (Some k) = refl
 
   store_same : (k : ℕ) (e : Element) → slice_get d.elements k ≡ Some e
-      → coil_stores_at (source_place (slice_index_or sources k source.Nothing)) (bit_at bits (slice_index firsts k)) (bit_at mid k) e ≡ coil_stores ds before left_links k e
+      → coil_stores_at (source_place (slice_index_or sources k source.Nothing)) (bit_at bits (slice_index firsts k)) (bit_at mid k) (symbol_of e) ≡ coil_stores ds before left_links k e
   store_same k (Wire p) at = refl
   store_same k (Join p) at = refl
   store_same k (Upright p) at = refl
@@ -109,7 +110,7 @@ module _ (ds : List Declaration) (d : Diagram) (dt : ℕ) (slots between after :
       ∙ ap (λ o. store o (option_map BoolValue (coil_value c.kind (bit_at left_links k) (bit_at old k)))) is
   store_same k (Box b) at = refl
 
-  coils_are : table_stores sources firsts bits mid (enumerate_from 0 d.elements) ≡ flat_map (λ e. coil_stores ds before left_links e.0 e.1) (enumerate_from 0 d.elements)
+  coils_are : table_stores sources firsts bits mid (enumerate_from 0 (map symbol_of d.elements)) ≡ flat_map (λ e. coil_stores ds before left_links e.0 e.1) (enumerate_from 0 d.elements)
   unfolding table_stores
   coils_are = stores_same d.elements 0 (λ k e. coil_stores_at (source_place (slice_index_or sources k source.Nothing)) (bit_at bits (slice_index firsts k)) (bit_at mid k) e) (coil_stores ds before left_links)
       (λ k e at. let here : 0 + k ≡ k = omega arith in rw here (store_same k e at))

@@ -27,6 +27,8 @@ use Rattle.power_flow.specs.Steps.Order.{AreInOrder, place_rank, link_rank, colu
 use Rattle.power_flow.proofs.BoxesStepping.{some_same}
 use Rattle.power_flow.proofs.BoxesSources.{zip_back, box_in}
 use Rattle.power_flow.proofs.BoxesBinding.{zip_push}
+use Rattle.power_flow.proofs.Lists.{Contains-slice_get}
+use Rattle.power_flow.proofs.Starting.{place_same}
 
 -- what stands at the partition point is the turn of a box
 pub turn_at_is : (links : List Link) (places : List Place) (e : BoundBox) (n column : ℕ) → column ≡ input_column places e → n ≤ length links
@@ -49,12 +51,6 @@ pub zip_more : {A B : Type 0} (R : A → B → Type 0) (xs : List A) (ys : List 
 zip_more R xs ys i x y lt is zip r =
     let front : take (i + 1) xs ≡ take i xs ++ x ∷ [] = take_more xs i x lt ∙ ap (λ p. take i xs ++ p ∷ []) (sym is) in
     rw front (zip_push R (take i xs) ys x y zip r)
-
-contained : {A : Type 0} (xs : List A) (k : ℕ) (x : A) → slice_get xs k ≡ Some x → Contains xs x
-contained xs k x at = (k, slice_get_within xs k x at, get_or_from_slice_get xs k x x at)
-
-place_same : (a b : Place) → a.row ≡ b.row → a.column ≡ b.column → a ≡ b
-place_same a b r c = ap (λ (x : ℕ). record { row = x; column = a.column }) r ∙ ap (λ (x : ℕ). record { row = b.row; column = x }) c
 
 -- the number of a rank by the column that the step leads to and the rows of its ends
 abbrev number : ℕ → ℕ → ℕ → ℕ
@@ -131,8 +127,8 @@ module _ (d : Diagram) (places : List Place) (links : List Link) (table : IsTabl
 
   pub in_order : ((i j : ℕ) (p : Place) → slice_get places i ≡ Some p → slice_get places j ≡ Some p → i ≡ j) → IsNonDecreasingBy (link_rank places) links → AreInOrder links
   in_order once sorted i j l m lt at at' back =
-      let s = table.each l (contained links i l at) in
-      let t = table.each m (contained links j m at') in
+      let s = table.each l (Contains-slice_get links i l at) in
+      let t = table.each m (Contains-slice_get links j m at') in
       let p = s.0 in
       let q = s.1 in
       let o = t.0 in
@@ -153,8 +149,8 @@ module _ (d : Diagram) (places : List Place) (links : List Link) (table : IsTabl
   by_column sorted i j none le lt =
       let l = get_or links i none in
       let m = get_or links j none in
-      let s = table.each l (contained links i l (slice_get-get_or links i none (omega arith))) in
-      let t = table.each m (contained links j m (slice_get-get_or links j none lt)) in
+      let s = table.each l (Contains-slice_get links i l (slice_get-get_or links i none (omega arith))) in
+      let t = table.each m (Contains-slice_get links j m (slice_get-get_or links j none lt)) in
       let a = page l.from s.0 s.2.from in
       let b = page l.to s.1 s.2.to in
       let e = page m.from t.0 t.2.from in
@@ -221,7 +217,7 @@ module _ (d : Diagram) (places : List Place) (links : List Link) (table : IsTabl
             let y = zip_back (IsBoundOutput ds d places b e.block) (right_pins b.pins) e.outputs.items is.outputs in'.0 o (slice_get-get_or e.outputs.items in'.0 o in'.1 ∙ ap Some in'.2) in
             let q = y.2.next l.from next in
             let column = q.2.column in
-            let beyond = step_right l q.0 (contained links i l there) q.1 in
+            let beyond = step_right l q.0 (Contains-slice_get links i l there) q.1 in
             omega (arith, before, column, beyond, left, far);
       }
 
@@ -249,14 +245,14 @@ wired_permuted d places links others starts firsts moved wired = record {
 pub within_permuted : (elements places : ℕ) (links others : List Link) → IsPermutation links others → All (λ l. IsLinkIn elements places l) links → All (λ l. IsLinkIn elements places l) others
 within_permuted elements places links others moved all = λ k none lt.
     let l = get_or others k none in
-    let in' = Contains-permutation others links l (IsPermutation-sym links others moved) (contained others k l (slice_get-get_or others k none lt)) in
+    let in' = Contains-permutation others links l (IsPermutation-sym links others moved) (Contains-slice_get others k l (slice_get-get_or others k none lt)) in
     let P : Link → Type 0 = λ x. IsLinkIn elements places x in
     subst P in'.2 (all in'.0 l in'.1)
 
 -- the places of elements on the page are on it
 pub on_page : (d : Diagram) (places : List Place) → AreOnPage d.elements → AreStops d places → (k : ℕ) (p : Place) → slice_get places k ≡ Some p → (p.row ≤ 2000) × (p.column ≤ 240)
 on_page d places page stops k p at =
-    let any = (stops.each p).0 (contained places k p at) in
+    let any = (stops.each p).0 (Contains-slice_get places k p at) in
     page any.0 any.1 p (slice_get-get_or d.elements any.0 any.1 any.2 ∙ ap Some any.3) (has any.1 any.4)
   where
     has : (e : Element) → IsStop e p → Has e p

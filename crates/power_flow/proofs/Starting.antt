@@ -15,7 +15,8 @@ use Rattle.network.proofs.Basics.{at_contains, contains_at}
 use Rattle.power_flow.specs.Steps.Reach.{bit_at}
 use Rattle.power_flow.specs.Steps.Table.{FollowsRail, FollowsSource}
 
-place_same : (a b : Place) → a.row ≡ b.row → a.column ≡ b.column → a ≡ b
+-- a place is its row and its column
+pub place_same : (a b : Place) → a.row ≡ b.row → a.column ≡ b.column → a ≡ b
 place_same a b r c = ap (λ (x : ℕ). record { row = x; column = a.column }) r ∙ ap (λ (x : ℕ). record { row = b.row; column = x }) c
 
 some_is : {A : Type 0} (a b : A) → Some a ≡ Some b → a ≡ b

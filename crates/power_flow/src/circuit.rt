@@ -1,5 +1,6 @@
 use crate::bound_box::BoundBox;
 use crate::source::Source;
+use crate::symbol::Symbol;
 use ladder_text::Place;
 use network::{Element, Link};
 
@@ -7,6 +8,8 @@ use network::{Element, Link};
 #[derive(Drop)]
 pub struct Circuit {
     pub elements: Vec<Element>,
+    /// What a scan asks of each element.
+    pub symbols: Vec<Symbol>,
     /// What each symbol reads or stores.
     pub sources: Vec<Source>,
     /// Where each element begins in the list of places.

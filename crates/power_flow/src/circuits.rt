@@ -10,6 +10,7 @@ ghost use Rattle.power_flow.specs.Steps.Sources.{element_source};
 ghost use Rattle.ladder_text.specs.declared.drawn_box.DrawnBox.{DrawnBox};
 ghost use Rattle.power_flow.specs.Steps.NamedBox.{IsNamedBox};
 ghost use Rattle.power_flow.specs.Steps.BoxTable.{AreBoundBoxes};
+ghost use Rattle.power_flow.specs.Steps.ElementSteps.{symbol_of};
 ghost use Rattle.power_flow.specs.Steps.Order.{AreInOrder, AreTurns};
 ghost use Rattle.power_flow.specs.Waiting.{AreStops};
 
@@ -22,9 +23,19 @@ use crate::rails::Rails;
 use crate::same_elements::{are_same_elements, are_same_places};
 use crate::source::Source;
 use crate::starts::starts_of;
+use crate::symbol::Symbol;
 use ladder_text::Place;
 use network::{Element, Network, Numbering, Spot, links_of, number_elements};
 use std::alloc::{AllocError, Global};
+
+fn symbols_of(alloc: Global, elements: &[Element]) -> Result<Vec<Symbol>, AllocError>
+    ensures { IfOk result (λ symbols. symbols.items ≡ map symbol_of elements.now) }
+{
+    elements
+        .iter()
+        .map(|element| Symbol::of(element))
+        .collect(alloc)
+}
 
 /// What a symbol reads or stores.
 fn source_of(declarations: &Declarations, element: &Element) -> Source
@@ -75,6 +86,7 @@ fn tables_of(
     ensures boxes { IfOk result (λ c. ((b : DrawnBox) → Contains elements.items (Element.Box b) → IsNamedBox declarations.now b)
         → AreBoundBoxes declarations.now (diagram rails.now elements.items) c.places.items c.boxes.items) }
     ensures wired { IfOk result (λ c. IsWired (diagram rails.now elements.items) c.places.items c.links.items c.starts.items c.firsts.items) }
+    ensures symbols { IfOk result (λ c. c.symbols.items ≡ map symbol_of elements.items) }
     ensures order { IfOk result (λ c. AreInOrder c.links.items) }
     ensures turns { IfOk result (λ c. AreBoundBoxes declarations.now (diagram rails.now elements.items) c.places.items c.boxes.items → AreTurns c.links.items c.boxes.items c.turns.items) }
     ensures shape { IfOk result (λ c. HasShape c) }
@@ -87,8 +99,10 @@ fn tables_of(
     let places = copy_places(alloc, numbering.spots())?;
     sort_links(&mut links, &places)?;
     let turns = turns_of(alloc, &boxes, &links, &places)?;
+    let symbols = symbols_of(alloc, &elements)?;
     Ok(Circuit {
         elements,
+        symbols,
         sources,
         firsts,
         places,

@@ -26,6 +26,7 @@ mod scan;
 mod source;
 mod starts;
 mod state;
+mod symbol;
 
 pub use bind::{BindFault, BindKind};
 pub use declarations::{Declaration, Declarations, DeclareFault, Declared, Kind};

@@ -1,6 +1,6 @@
 ghost use Rattle.std.specs.Prelude.{◌≡◌, ℕ, ◌<◌, ◌≤◌, length, List, ◌∷◌, slice_get, slice_index, slice_index_or, flat_map, Some, None, sum_by, map};
 ghost use Rattle.std.specs.List.{enumerate_from, AllByRecursion};
-ghost use Rattle.network.specs.declared.element.Element.{Element};
+ghost use Rattle.power_flow.specs.declared.symbol.Symbol.{Symbol};
 ghost use Rattle.power_flow.specs.Steps.Reach.{bit_at};
 ghost use Rattle.power_flow.specs.Names.{is_true};
 ghost use Rattle.power_flow.specs.Steps.Sources.{source_value};
@@ -18,8 +18,8 @@ use crate::boxes::{step_boxes, store_blocks, store_outputs, store_value};
 use crate::circuit::Circuit;
 use crate::source::Source;
 use crate::state::{Instance, Slot, State};
+use crate::symbol::Symbol;
 use ladder_text::{CoilKind, ContactKind};
-use network::Element;
 use std_blocks::Value;
 
 fn lets_state(kind: ContactKind, on: bool, memory: bool) -> bool
@@ -64,39 +64,39 @@ fn memory_of_coil(kind: CoilKind, link: bool, memory: bool) -> bool
     }
 }
 
-fn conducts(element: &Element, on: bool, memory: bool) -> bool
-    ensures { result ≡ conducts_at on memory element.now }
+fn conducts(symbol: Symbol, on: bool, memory: bool) -> bool
+    ensures { result ≡ conducts_at on memory symbol }
 {
-    match element {
-        Element::Contact(contact) => lets_state(contact.kind, on, memory),
+    match symbol {
+        Symbol::Contact(kind) => lets_state(kind, on, memory),
         _ => true,
     }
 }
 
-fn read_memory(element: &Element, on: bool, memory: bool) -> bool
-    ensures { result ≡ memory_read on memory element.now }
+fn read_memory(symbol: Symbol, on: bool, memory: bool) -> bool
+    ensures { result ≡ memory_read on memory symbol }
 {
-    match element {
-        Element::Contact(contact) => memory_of_contact(contact.kind, on, memory),
+    match symbol {
+        Symbol::Contact(kind) => memory_of_contact(kind, on, memory),
         _ => memory,
     }
 }
 
-fn stored_memory(element: &Element, link: bool, memory: bool) -> bool
-    ensures { result ≡ memory_stored link memory element.now }
+fn stored_memory(symbol: Symbol, link: bool, memory: bool) -> bool
+    ensures { result ≡ memory_stored link memory symbol }
 {
-    match element {
-        Element::Coil(coil) => memory_of_coil(coil.kind, link, memory),
+    match symbol {
+        Symbol::Coil(kind) => memory_of_coil(kind, link, memory),
         _ => memory,
     }
 }
 
 /// Stores what an element stores, if it is a coil.
-fn store_coil(slots: &mut [Slot], element: &Element, place: Option<usize>, link: bool, memory: bool)
-    ensures { slots.new ≡ stored slots.old (coil_stores_at place link memory element.now) }
+fn store_coil(slots: &mut [Slot], symbol: Symbol, place: Option<usize>, link: bool, memory: bool)
+    ensures { slots.new ≡ stored slots.old (coil_stores_at place link memory symbol) }
 {
-    if let Element::Coil(coil) = element {
-        if let Some(on) = value_of_coil(coil.kind, link, memory) {
+    if let Symbol::Coil(kind) = symbol {
+        if let Some(on) = value_of_coil(kind, link, memory) {
             store_value(slots, place, Value::Bool(on));
         }
     }
@@ -104,48 +104,48 @@ fn store_coil(slots: &mut [Slot], element: &Element, place: Option<usize>, link:
 
 /// Reads what each element reads: whether it conducts, and the memories of the contacts.
 fn read_elements(
-    elements: &[Element],
+    symbols: &[Symbol],
     sources: &[Source],
     slots: &[Slot],
     memories: &mut [bool],
     gates: &mut [bool],
 )
-    requires sources { length sources.now ≡ length elements.now }
-    requires memories { length memories.old ≡ length elements.now }
-    requires gates { length gates.old ≡ length elements.now }
-    ensures gates { (k : ℕ) (e : Element) → slice_get elements.now k ≡ Some e
+    requires sources { length sources.now ≡ length symbols.now }
+    requires memories { length memories.old ≡ length symbols.now }
+    requires gates { length gates.old ≡ length symbols.now }
+    ensures gates { (k : ℕ) (e : Symbol) → slice_get symbols.now k ≡ Some e
         → bit_at gates.new k ≡ conducts_at (is_true (source_value slots.now (slice_index_or sources.now k Source.Nothing))) (bit_at memories.old k) e }
-    ensures memories { (k : ℕ) (e : Element) → slice_get elements.now k ≡ Some e
+    ensures memories { (k : ℕ) (e : Symbol) → slice_get symbols.now k ≡ Some e
         → bit_at memories.new k ≡ memory_read (is_true (source_value slots.now (slice_index_or sources.now k Source.Nothing))) (bit_at memories.old k) e }
 {
-    for k in 0..elements.len() {
+    for k in 0..symbols.len() {
         let on = sources[k].is_true(slots);
-        gates[k] = conducts(&elements[k], on, memories[k]);
-        memories[k] = read_memory(&elements[k], on, memories[k]);
+        gates[k] = conducts(symbols[k], on, memories[k]);
+        memories[k] = read_memory(symbols[k], on, memories[k]);
     }
 }
 
 /// Stores the coils in their order, and their memories.
 fn store_elements(
-    elements: &[Element],
+    symbols: &[Symbol],
     sources: &[Source],
     firsts: &[usize],
     bits: &[bool],
     memories: &mut [bool],
     slots: &mut [Slot],
 )
-    requires sources { length sources.now ≡ length elements.now }
-    requires firsts { length firsts.now ≡ length elements.now }
-    requires memories { length memories.old ≡ length elements.now }
-    requires bits { (k : ℕ) → k < length elements.now → slice_index firsts.now k < length bits.now }
-    ensures slots { slots.new ≡ stored slots.old (table_stores sources.now firsts.now bits.now memories.old (enumerate_from 0 elements.now)) }
-    ensures memories { (k : ℕ) (e : Element) → slice_get elements.now k ≡ Some e
+    requires sources { length sources.now ≡ length symbols.now }
+    requires firsts { length firsts.now ≡ length symbols.now }
+    requires memories { length memories.old ≡ length symbols.now }
+    requires bits { (k : ℕ) → k < length symbols.now → slice_index firsts.now k < length bits.now }
+    ensures slots { slots.new ≡ stored slots.old (table_stores sources.now firsts.now bits.now memories.old (enumerate_from 0 symbols.now)) }
+    ensures memories { (k : ℕ) (e : Symbol) → slice_get symbols.now k ≡ Some e
         → bit_at memories.new k ≡ memory_stored (bit_at bits.now (slice_index firsts.now k)) (bit_at memories.old k) e }
 {
-    for k in 0..elements.len() {
+    for k in 0..symbols.len() {
         let link = bits[firsts[k]];
-        store_coil(slots, &elements[k], sources[k].place(), link, memories[k]);
-        memories[k] = stored_memory(&elements[k], link, memories[k]);
+        store_coil(slots, symbols[k], sources[k].place(), link, memories[k]);
+        memories[k] = stored_memory(symbols[k], link, memories[k]);
     }
 }
 
@@ -167,7 +167,7 @@ fn scan_circuit(
     ensures { (ds : List Declaration) (d : Diagram) → IsCircuit ds d circuit.now → AreWide d → AreSlotsOf ds slots.old
         → NetworkMeaning ds d dt (moment slots.old memories.old) (moment slots.new memories.new) }
 {
-    read_elements(&circuit.elements, &circuit.sources, slots, memories, gates);
+    read_elements(&circuit.symbols, &circuit.sources, slots, memories, gates);
     bits.copy_from_slice(&circuit.starts);
     step_boxes(
         &circuit.boxes,
@@ -182,7 +182,7 @@ fn scan_circuit(
     store_blocks(&circuit.boxes, results, slots);
     store_outputs(&circuit.boxes, results, slots);
     store_elements(
-        &circuit.elements,
+        &circuit.symbols,
         &circuit.sources,
         &circuit.firsts,
         bits,

@@ -1,4 +1,4 @@
-use Rattle.std.specs.Prelude.{◌≡◌, ℕ, ◌<◌, ◌≤◌, ◌↔◌, List, [], Bool, true, Some, All, Contains, IfSome, slice_get, slice_index, slice_index_or, length}
+use Rattle.std.specs.Prelude.{◌≡◌, ℕ, ◌<◌, ◌≤◌, ◌↔◌, List, [], Bool, true, Some, All, Contains, IfSome, slice_get, slice_index, slice_index_or, length, map}
 use Rattle.std.specs.List.{before_first, after_first, AllByRecursion}
 use Rattle.ladder_text.specs.declared.place.Place.{Place}
 use Rattle.network.specs.declared.element.Element.{Element}
@@ -13,6 +13,7 @@ use Rattle.power_flow.specs.declared.source.Source.TheVariants as source
 use Rattle.power_flow.specs.Names.{place_of, is_dot}
 use Rattle.power_flow.specs.Steps.Sources.{element_source}
 use Rattle.power_flow.specs.Steps.BoxTable.{AreBoundBoxes}
+use Rattle.power_flow.specs.Steps.ElementSteps.{symbol_of}
 use Rattle.power_flow.specs.Steps.Order.{AreInOrder, AreTurns}
 use Rattle.power_flow.specs.Meaning.{first_place}
 
@@ -24,6 +25,7 @@ pub record IsLinkIn (elements places : ℕ) (l : Link) : Type 0 where
 
 -- the lists of a circuit fit each other
 pub record HasShape (c : Circuit) : Type 0 where
+  pub symbols : length c.symbols.items ≡ length c.elements.items
   pub sources : length c.sources.items ≡ length c.elements.items
   pub firsts : length c.firsts.items ≡ length c.elements.items
   pub starts : length c.starts.items ≡ length c.places.items
@@ -49,6 +51,7 @@ pub record IsWired (d : Diagram) (places : List Place) (links : List Link) (star
 -- the circuit is made of the diagram, with the names of the declarations
 pub record IsCircuit (ds : List Declaration) (d : Diagram) (c : Circuit) : Type 0 where
   pub elements : d.elements ≡ c.elements.items
+  pub symbols : c.symbols.items ≡ map symbol_of d.elements
   pub wired : IsWired d c.places.items c.links.items c.starts.items c.firsts.items
   pub named : (k : ℕ) (e : Element) → slice_get d.elements k ≡ Some e → slice_index_or c.sources.items k source.Nothing ≡ element_source ds e
   pub boxes : AreBoundBoxes ds d c.places.items c.boxes.items

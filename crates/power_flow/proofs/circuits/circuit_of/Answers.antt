@@ -1,5 +1,6 @@
 use Rattle.std.proofs.Common.{map, sym, ap, ◌∙◌}
 use Rattle.power_flow.specs.Steps.Sources.{element_source}
+use Rattle.power_flow.specs.Steps.ElementSteps.{symbol_of}
 use Rattle.power_flow.proofs.BindingLemmas.{all_named, named_box_of}
 use Rattle.power_flow.proofs.circuits.circuit_of.Goals as goal
 
@@ -15,6 +16,7 @@ returns-clause-circuit c = λ bound.
     let turns = rw c.into_elements-elements.ensures at c.in_ok-circuit.ensures.turns in
     record {
       elements = sym (c.in_ok-circuit.ensures.elements ∙ c.into_elements-elements.ensures);
+      symbols = c.in_ok-circuit.ensures.symbols ∙ ap (map symbol_of) c.into_elements-elements.ensures;
       wired = wired;
       named = all_named ds es circuit.sources.items names;
       boxes = are;

@@ -7,6 +7,7 @@ use Rattle.power_flow.specs.Steps.BoxSteps.{AreNextsWithin}
 use Rattle.power_flow.specs.Steps.BoxTable.{AreBoundBoxes}
 use Rattle.power_flow.proofs.BoxesTable.{bound_boxes_are, ready_boxes, places_are}
 use Rattle.power_flow.proofs.WholeTable.{wired_is, first_within, links_within, stops_are}
+use Rattle.power_flow.specs.Steps.ElementSteps.{symbol_of}
 use Rattle.power_flow.specs.Steps.Order.{IsTurnAt}
 use Rattle.power_flow.proofs.BoxesSources.{zip_length}
 use Rattle.power_flow.proofs.Ordering.{in_order, by_column, turns_are, turns_within, table_permuted, wired_permuted, within_permuted, on_page}
@@ -36,6 +37,7 @@ returns-clause-shape c =
     let long : length c.in_ok-places.places.items ≡ length c.number_elements.new.numbering =
     ap length c.in_ok-places.ensures ∙ length-map c.spots.result.now (λ (s : Spot). s.place) ∙ ap length c.spots.ensures.value in
     record {
+      symbols = ap length c.in_ok-symbols.ensures ∙ length-map c.deref-9.result.now symbol_of ∙ ap length c.deref-9.ensures.value;
       sources = c.requires.sources;
       firsts = numbered.long;
       starts = c.in_ok-starts.ensures.long ∙ sym long;
