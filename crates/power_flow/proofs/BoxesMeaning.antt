@@ -2,7 +2,7 @@ use Rattle.std.proofs.Common.{◌≡◌, ◌≢◌, ℕ, zero, suc, ◌+◌, ◌
 use Rattle.std.specs.List.{AllZip, flat_map, enumerate_from, cons_option}
 use Rattle.std.proofs.lemmas.List.{length-map}
 use Rattle.std.specs.Option.{option_and_then, option_map_or}
-use Rattle.std.proofs.lemmas.Option.{slice_get-get_or, slice_get_within, get_or_from_slice_get}
+use Rattle.std.proofs.lemmas.Option.{slice_get-get_or, slice_get_within}
 use Rattle.ladder_text.specs.declared.place.Place.{Place}
 use Rattle.ladder_text.specs.declared.drawn_box.DrawnBox.{DrawnBox}
 use Rattle.ladder_text.specs.declared.drawn_box.DrawnPin.{DrawnPin}
@@ -38,7 +38,7 @@ use Rattle.power_flow.specs.Steps.BoxSteps.{bit_source, box_inputs, box_result, 
 use Rattle.power_flow.specs.StateValue.{AreSlotsOf}
 use Rattle.power_flow.specs.Steps.BoxTable.{IsPlaceSource, IsBitSource, IsBoundOutput, IsBoundBox, AreBoundBoxes, right_place, left_place, right_pin, right_pins, boxes_of}
 use Rattle.power_flow.proofs.PowerLemmas.{on_sources}
-use Rattle.power_flow.proofs.Lists.{Contains-slice_get}
+use Rattle.power_flow.proofs.Lists.{Contains-slice_get, any_at, any_found}
 use Rattle.power_flow.proofs.Stepping.{stored-append}
 use Rattle.power_flow.proofs.BoxesStepping.{some_same}
 use Rattle.power_flow.proofs.BoxesSources.{zip_at, zip_back, zip_length, box_in, box_at, contains_at, right_pin_in, right_pin_at, place_is, pin_value, block_at, name_bit, pin_source_value, block_kept}
@@ -61,12 +61,6 @@ record IsResultOn (d : Diagram) (results : List Instance) (n : ℕ) (p : Place) 
 -- a walk begins on the left rail, or at an output pin of one of the first n boxes
 abbrev SourceTo : Diagram → List Instance → ℕ → Place → Type 0
 SourceTo d results n p = Contains d.rails p ⊎ IsResultOn d results n p
-
-any_at : {X : Type 0} (P : X → Type 0) (xs : List X) (k : ℕ) (x : X) → slice_get xs k ≡ Some x → P x → Any P xs
-any_at P xs k x at p = (k, x, slice_get_within xs k x at, get_or_from_slice_get xs k x x at, p)
-
-any_found : {X : Type 0} (P : X → Type 0) (xs : List X) → Any P xs → (k : ℕ) × (x : X) × (slice_get xs k ≡ Some x) × P x
-any_found P xs (k, x, lt, at, p) = (k, x, slice_get-get_or xs k x lt ∙ ap Some at, p)
 
 -- the block results are those of the boxes alone
 only_boxes : (ds : List Declaration) (between : List Slot) (es : List Element)

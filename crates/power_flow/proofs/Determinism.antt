@@ -22,7 +22,7 @@ use Rattle.power_flow.specs.Names.{place_of, value_at, value_of, slot_value, is_
 use Rattle.power_flow.specs.Meaning.{Moment, moment, HasPower, IsSource, IsOutputOn, AreInputs, IsInputBit, IsDrawn, BlocksStep, conducts, AreLinks, NetworkMeaning, next_memory, stored, stores}
 use Rattle.power_flow.specs.Scan.{AreWide, AllAreWide, ScanMeaning}
 use Rattle.power_flow.proofs.PowerLemmas.{on_sources}
-use Rattle.power_flow.proofs.Lists.{same_by_slice_get, same_bit, same_bits, stable_bit, stable_number, stable_integer}
+use Rattle.power_flow.proofs.Lists.{cons_first, same_by_slice_get, same_bit, same_bits, stable_bit, stable_number, stable_integer}
 
 -- the slots x and y agree at the instances of the boxes that end at column c or before
 pub Agrees : List Declaration → Diagram → List Slot → List Slot → ℕ → Type 0
@@ -130,9 +130,6 @@ cons_cases y xs x (suc k, lt, at) = inr (k, (let short : suc k < suc (length xs)
 
 cons_later : {X : Type 0} (y : X) (xs : List X) (x : X) → Contains xs x → Contains (y ∷ xs) x
 cons_later y xs x (k, lt, at) = (suc k, (let long : length (y ∷ xs) ≡ suc (length xs) = refl in omega arith), at)
-
-cons_first : {X : Type 0} (y : X) (xs : List X) → Contains (y ∷ xs) y
-cons_first y xs = (zero, (let long : length (y ∷ xs) ≡ suc (length xs) = refl in omega arith), refl)
 
 -- a place is that of some box, or of none
 InstanceAt : List Declaration → List Element → ℕ → Type 0

@@ -1,6 +1,6 @@
 -- The faults that are found are those of the definitions, each at its place.
-use Rattle.std.proofs.Common.{◌≡◌, ℕ, ◌+◌, ◌<◌, inl, inr, zero, suc, List, [], ◌∷◌, ◌++◌, Bool, true, false, ◌&&◌, not, eqb, ltb, Option, Some, None, All, Contains, get_or, take, length, map, slice_get, refl, sym, ap, ◌∙◌, subst, arith, if◌then◌else◌, ◌==◌, ◌-◌}
-use Rattle.std.specs.Prelude.{Any, nat_lt, slice_index_or}
+use Rattle.std.proofs.Common.{◌≡◌, ℕ, ◌+◌, ◌<◌, zero, suc, List, [], ◌∷◌, Bool, true, false, ◌&&◌, not, eqb, ltb, Option, Some, None, All, Contains, get_or, take, map, slice_get, refl, sym, ap, ◌∙◌, subst, arith, if◌then◌else◌, ◌==◌, ◌-◌}
+use Rattle.std.specs.Prelude.{Any, nat_lt}
 use Rattle.std.specs.List.{flat_map, list_any, before_first}
 use Rattle.std.proofs.lemmas.Bool.{false≢true}
 use Rattle.std.proofs.lemmas.Bool.Decides.{Decides-eqb, Decides-ltb}
@@ -8,7 +8,6 @@ use Rattle.std.proofs.lemmas.Option.{slice_get-get_or, slice_get_within, get_or_
 use Rattle.std.proofs.lemmas.List.Elements.{All-append, All-weaker, All-nil, All-cons, All-head, All-tail, All-contains, Contains-append_left, Contains-append_right}
 use Rattle.std.proofs.lemmas.List.Folds.{Any-from_list_any, list_any-from_Any}
 use Rattle.std_blocks.specs.declared.value.Value.{Value}
-use Rattle.std_blocks.specs.declared.block_type.BlockType.{BlockType}
 use Rattle.std_blocks.specs.declared.pin.Field.{Field}
 use Rattle.std_blocks.specs.declared.pin.Field.TheVariants.{Bit, Int, Time}
 use Rattle.std_blocks.specs.declared.pin.Pin.{Pin}
@@ -36,12 +35,14 @@ use Rattle.power_flow.specs.PinKinds.{type_of, field_kind}
 use Rattle.power_flow.specs.StateValue.{kind_of}
 use Rattle.power_flow.specs.Literals.{literal_value}
 use Rattle.power_flow.specs.Lookup.{declared_at, is_dotted}
-use Rattle.power_flow.specs.BindFaults.{IsBox, IsOperand, Reads, Stores, HasLiteral, IsPinAt, EndsBefore, BeginsBehind, HasLine, HasLinedPin, HasForeignPin, HasSecondPin, LacksBit, IsNamedByNone, IsNamedOtherwise, unknown_read, unknown_stored, unknown_box, wrong_read, wrong_stored, wrong_literal, literal_stored, wrong_line, wrong_box, unknown_output, foreign_pin, second_pin, IsFaultOf, IsFaultIn, in_range}
+use Rattle.power_flow.specs.BindFaults.{IsBox, IsOperand, Reads, Stores, IsPinAt, EndsBefore, BeginsBehind, HasLine, HasLinedPin, HasForeignPin, HasSecondPin, LacksBit, IsNamedByNone, IsNamedOtherwise, unknown_read, unknown_stored, unknown_box, wrong_read, wrong_stored, wrong_literal, literal_stored, wrong_line, wrong_box, unknown_output, foreign_pin, second_pin, IsFaultOf, IsFaultIn}
 use Rattle.power_flow.specs.Binding.{IsBoundNetwork, CanBind}
 use Rattle.power_flow.specs.Findings.{IsUpTo, IsFault}
-use Rattle.power_flow.specs.Steps.BoxFindings.{name_kind, read_name_fault, literal_fault, read_fault_at, read_fault_by, store_name_fault, store_fault_at, store_fault_by, operand_fault, own_field, kind_at, corner, side_place, fault_here, fault_if, type_number, instance_fault, same_side, is_bit, has_bit, same_field, same_pin, is_among, pin_fault, operand_finding, is_beside, has_line, line_fault, pin_findings, corner_findings, pins_findings, box_findings}
+use Rattle.power_flow.specs.Steps.BoxFindings.{name_kind, read_name_fault, read_fault_at, read_fault_by, store_name_fault, store_fault_at, store_fault_by, operand_fault, own_field, kind_at, corner, side_place, fault_here, fault_if, type_number, instance_fault, same_side, is_bit, has_bit, same_field, same_pin, is_among, pin_fault, operand_finding, is_beside, has_line, line_fault, pin_findings, corner_findings, pins_findings, box_findings}
 use Rattle.power_flow.specs.Steps.ElementFindings.{write_fault, fault_with, variable_declared, element_findings, network_findings, findings, IsFirstOf, IsBound, HasNoFinding}
-use Rattle.power_flow.proofs.NameFaults.{ReadFault, StoreFault, LiteralFault, same_inside, nothing_found, read_found, read_meant, store_found, store_meant, coil_stores, literal_found, literal_meant}
+use Rattle.power_flow.proofs.NameFaults.{ReadFault, StoreFault, LiteralFault, nothing_found, read_found, read_meant, store_found, store_meant, coil_stores, literal_found, literal_meant}
+use Rattle.power_flow.proofs.Lists.{any_at, any_found, cons_first}
+use Rattle.power_flow.proofs.BoxesStepping.{some_same}
 use Rattle.power_flow.proofs.FindingLemmas.{none_in_networks}
 use Rattle.power_flow.proofs.BoxesFaults.{same_pin_refl, any_false, slice_get-take, same_number, eqb_same}
 use Rattle.power_flow.proofs.BoxesSources.{contains_at}
@@ -58,13 +59,10 @@ nothing_meets P f e = absurd (nothing_found e)
 
 here_meets : (P : BindKind → Place → Type 0) (o : Option BindKind) (p : Place) → ((k : BindKind) → o ≡ Some k → P k p) → Meets P (fault_here o p)
 here_meets P None p h = nothing_meets P
-here_meets P (Some k) p h = λ f e. subst (λ (x : Finding). P x.kind (place x.row x.column)) (same_inside e) (h k refl)
+here_meets P (Some k) p h = λ f e. subst (λ (x : Finding). P x.kind (place x.row x.column)) (some_same e) (h k refl)
 
 here_is : (o : Option BindKind) (k : BindKind) (q p : Place) → o ≡ Some k → q ≡ p → fault_here o q ≡ Some (finding k p)
 here_is o k q p is at = ap (λ w. fault_here w q) is ∙ ap (λ w. Some (finding k w)) at
-
-first_of : {X : Type 0} (x : X) (xs : List X) → Contains (x ∷ xs) x
-first_of x xs = (0, omega arith, refl)
 
 second_of : {X : Type 0} (x y : X) (xs : List X) → Contains (x ∷ y ∷ xs) y
 second_of x y xs = (1, omega arith, refl)
@@ -81,18 +79,12 @@ all_one P x f = All-cons P x [] f (All-nil P)
 -- an element of a list of lists
 in_flat : {X Y : Type 0} (F : X → List Y) (xs : List X) (i : ℕ) (x : X) (y : Y) → slice_get xs i ≡ Some x → Contains (F x) y → Contains (flat_map F xs) y
 in_flat F [] i x y at h = absurd (nothing_found at)
-in_flat F (z ∷ xs) zero x y at h = Contains-append_left (F z) (flat_map F xs) y (subst (λ w. Contains (F w) y) (sym (same_inside at)) h)
+in_flat F (z ∷ xs) zero x y at h = Contains-append_left (F z) (flat_map F xs) y (subst (λ w. Contains (F w) y) (sym (some_same at)) h)
 in_flat F (z ∷ xs) (suc i) x y at h = Contains-append_right (F z) (flat_map F xs) y (in_flat F xs i x y at h)
 
 each_flat : {X Y : Type 0} (F : X → List Y) (Q : Y → Type 0) (xs : List X) → ((i : ℕ) (x : X) → slice_get xs i ≡ Some x → All Q (F x)) → All Q (flat_map F xs)
 each_flat F Q [] h = All-nil Q
 each_flat F Q (x ∷ xs) h = All-append Q (F x) (flat_map F xs) (h 0 x refl) (each_flat F Q xs (λ i y at. h (suc i) y at))
-
-any_at : {X : Type 0} (P : X → Type 0) (xs : List X) (i : ℕ) (x : X) → slice_get xs i ≡ Some x → P x → Any P xs
-any_at P xs i x at h = (i, x, slice_get_within xs i x at, get_or_from_slice_get xs i x x at, h)
-
-at_any : {X : Type 0} (P : X → Type 0) (xs : List X) → Any P xs → (i : ℕ) × (x : X) × (slice_get xs i ≡ Some x) × P x
-at_any P xs (i, x, lt, at, h) = (i, x, slice_get-get_or xs i x lt ∙ ap Some at, h)
 
 both_true : (a b : Bool) → (a && b) ≡ true → (a ≡ true) × (b ≡ true)
 both_true true b e = (refl, e)
@@ -120,7 +112,7 @@ near_back r row c left n some same is =
 beside_found : (b : DrawnBox) (row : ℕ) (side : Side) (elements : List Element) → list_any (is_beside b row side) elements ≡ true → HasLine elements side (side_place b row side)
 beside_found b row Left elements e =
     let a = Any-from_list_any (is_beside b row Left) elements e in
-    let f = at_any (λ x. is_beside b row Left x ≡ true) elements a in
+    let f = any_found (λ x. is_beside b row Left x ≡ true) elements a in
     any_at (EndsBefore (place row b.left)) elements f.0 f.1 f.2 (one f.1 f.3)
   where
     one : (x : Element) → is_beside b row Left x ≡ true → EndsBefore (place row b.left) x
@@ -132,7 +124,7 @@ beside_found b row Left elements e =
     one (Box a) h = absurd (false≢true h)
 beside_found b row Right elements e =
     let a = Any-from_list_any (is_beside b row Right) elements e in
-    let f = at_any (λ x. is_beside b row Right x ≡ true) elements a in
+    let f = any_found (λ x. is_beside b row Right x ≡ true) elements a in
     any_at (BeginsBehind (place row b.right)) elements f.0 f.1 f.2 (one f.1 f.3)
   where
     behind : (r c : ℕ) → (r == row && nat_lt b.right c && (c - b.right == 1)) ≡ true → (r ≡ row) × (c ≡ b.right + 1)
@@ -148,7 +140,7 @@ beside_found b row Right elements e =
 
 beside_meant : (b : DrawnBox) (row : ℕ) (side : Side) (elements : List Element) → HasLine elements side (side_place b row side) → list_any (is_beside b row side) elements ≡ true
 beside_meant b row Left elements h =
-    let f = at_any (EndsBefore (place row b.left)) elements h in
+    let f = any_found (EndsBefore (place row b.left)) elements h in
     list_any-from_Any (is_beside b row Left) elements (any_at (λ x. is_beside b row Left x ≡ true) elements f.0 f.1 f.2 (one f.1 f.3))
   where
     one : (x : Element) → EndsBefore (place row b.left) x → is_beside b row Left x ≡ true
@@ -159,7 +151,7 @@ beside_meant b row Left elements h =
     one (Coil c) e = near_back c.row row c.column b.left 3 (omega arith) e.0 e.1
     one (Box a) e = absurd e
 beside_meant b row Right elements h =
-    let f = at_any (BeginsBehind (place row b.right)) elements h in
+    let f = any_found (BeginsBehind (place row b.right)) elements h in
     list_any-from_Any (is_beside b row Right) elements (any_at (λ x. is_beside b row Right x ≡ true) elements f.0 f.1 f.2 (one f.1 f.3))
   where
     one : (x : Element) → BeginsBehind (place row b.right) x → is_beside b row Right x ≡ true
@@ -227,7 +219,7 @@ module _ (ds : List Declaration) (es : List Element) where
     line_finding pin = fault_here (line_fault (own_field b pin) (has_line es b pin)) (side_place b pin.row pin.side)
 
     as_fault : (j k : BindKind) (p : Place) → OfBox j p → ◌≡◌ {A = Option BindKind} (Some j) (Some k) → OfBox k p
-    as_fault j k p h e = subst (λ x. OfBox x p) (same_inside e) h
+    as_fault j k p h e = subst (λ x. OfBox x p) (some_same e) h
 
     instance_meets : (k : BindKind) (o : Option Declared) → declared_at ds b.instance ≡ o → instance_fault (type_of b.block) o ≡ Some k → OfBox k (corner b)
     instance_meets k None at e = as_fault UnknownName k (corner b) (unknown_box (refl, at)) e
@@ -279,7 +271,7 @@ module _ (ds : List Declaration) (es : List Element) where
     pin_meets n pin at k (Some f) own false is e = absurd (nothing_found e)
     pin_meets n pin at k (Some f) own true is e =
         let test : DrawnPin → Bool = λ q. same_pin (pin_of (type_of b.block) q.name) (pin_of (type_of b.block) pin.name) in
-        let found = at_any (λ (q : DrawnPin). test q ≡ true) (take n b.pins) (Any-from_list_any test (take n b.pins) is) in
+        let found = any_found (λ (q : DrawnPin). test q ≡ true) (take n b.pins) (Any-from_list_any test (take n b.pins) is) in
         let there = within_take b.pins n found.0 found.1 found.2 in
         let same = same_pins (pin_of (type_of b.block) found.1.name) (pin_of (type_of b.block) pin.name) found.3 in
         as_fault UnknownPin k _ (second_pin (found.0, n, found.1, pin, same.0, there.0, there.1, (at, refl), same.1, same.2)) e
@@ -377,7 +369,7 @@ module _ (ds : List Declaration) (es : List Element) where
     pins_contain n j [] pin o at h = absurd (nothing_found at)
     pins_contain n zero (q ∷ pins) pin o at h =
         let none : n + 0 ≡ n = omega arith in
-        let here : Contains (pin_findings ds es b n q) o = subst (λ w. Contains (pin_findings ds es b n w) o) (sym (same_inside at)) (subst (λ m. Contains (pin_findings ds es b m pin) o) none h) in
+        let here : Contains (pin_findings ds es b n q) o = subst (λ w. Contains (pin_findings ds es b n w) o) (sym (some_same at)) (subst (λ m. Contains (pin_findings ds es b m pin) o) none h) in
         Contains-append_left (pin_findings ds es b n q) (pins_findings ds es b (n + 1) pins) o here
     pins_contain n (suc j) (q ∷ pins) pin o at h =
         let along : n + suc j ≡ n + 1 + j = omega arith in
@@ -396,7 +388,7 @@ module _ (ds : List Declaration) (es : List Element) where
     instance_in : (k : BindKind) (p : Place) → corner b ≡ p → instance_fault (type_of b.block) (declared_at ds b.instance) ≡ Some k → Contains (box_findings ds es b) (Some (finding k p))
     unfolding corner_findings
     instance_in k p at is =
-        let there : Contains (corner_findings ds b) (name_finding b) = first_of (name_finding b) (bit_finding b Left ∷ bit_finding b Right ∷ []) in
+        let there : Contains (corner_findings ds b) (name_finding b) = cons_first (name_finding b) (bit_finding b Left ∷ bit_finding b Right ∷ []) in
         corner_in (Some (finding k p)) (subst (λ o. Contains (corner_findings ds b) o) (here_is (instance_fault (type_of b.block) (declared_at ds b.instance)) k (corner b) p is at) there)
 
     other_instance : (w : Declared) → (w ≡ declared.Instance (type_of b.block) → ⊥) → instance_fault (type_of b.block) (Some w) ≡ Some WrongKind
@@ -428,7 +420,7 @@ module _ (ds : List Declaration) (es : List Element) where
         go false e = refl
         go true e =
             let test : DrawnPin → Bool = λ q. same_side side q.side && is_bit (own_field b q) in
-            let found = at_any (λ (q : DrawnPin). test q ≡ true) b.pins (Any-from_list_any test b.pins e) in
+            let found = any_found (λ (q : DrawnPin). test q ≡ true) b.pins (Any-from_list_any test b.pins e) in
             let parts = both_true (same_side side found.1.side) (is_bit (own_field b found.1)) found.3 in
             let is = bit (own_field b found.1) parts.1 in
             absurd (never found.1 is.0 (found.0, slice_get_within b.pins found.0 found.1 found.2, get_or_from_slice_get b.pins found.0 found.1 found.1 found.2) (sides side found.1.side parts.0) is.1)
@@ -448,7 +440,7 @@ module _ (ds : List Declaration) (es : List Element) where
         → Contains (box_findings ds es b) (Some (finding UnknownPin p))
     unfolding pin_findings
     side_in j pin p (at, here) is =
-        let there : Contains (pin_findings ds es b j pin) (side_finding b j pin) = first_of (side_finding b j pin) (operand_finding ds b pin pin.operand ∷ line_finding b pin ∷ []) in
+        let there : Contains (pin_findings ds es b j pin) (side_finding b j pin) = cons_first (side_finding b j pin) (operand_finding ds b pin pin.operand ∷ line_finding b pin ∷ []) in
         let twice = is_among (type_of b.block) (take j b.pins) pin.name in
         pin_in j pin (Some (finding UnknownPin p)) at
         (subst (λ o. Contains (pin_findings ds es b j pin) o) (here_is (pin_fault (own_field b pin) twice) UnknownPin (side_place b pin.row pin.side) p is here) there)
@@ -515,7 +507,7 @@ module _ (ds : List Declaration) (es : List Element) where
       let same : read_name_fault (Some kind.Bool) (name_kind ds c.name) ≡ read_name_fault want (name_kind ds text) =
       ap (λ w. read_name_fault w (name_kind ds c.name)) wanted ∙ ap (λ t. read_name_fault want (name_kind ds t)) named in
       let fault = read_name_fault (Some kind.Bool) (name_kind ds c.name) in
-      subst (λ o. Contains (element_findings ds es (Contact c)) o) (here_is fault k (place c.row c.column) p (same ∙ read_meant ds text want k h) at) (first_of (fault_here fault (place c.row c.column)) [])
+      subst (λ o. Contains (element_findings ds es (Contact c)) o) (here_is fault k (place c.row c.column) p (same ∙ read_meant ds text want k h) at) (cons_first (fault_here fault (place c.row c.column)) [])
   read_meets (Coil c) p text want k r h = absurd r
   read_meets (Box b) p text want k (o, lit) h = operand_in b Left text want p k o (read_operand text want k lit h)
 
@@ -531,7 +523,7 @@ module _ (ds : List Declaration) (es : List Element) where
       let same : stores c.name (Some kind.Bool) ≡ stores text want = ap (stores c.name) wanted ∙ ap (λ t. stores t want) named in
       subst (λ o. Contains (element_findings ds es (Coil c)) o)
       (here_is fault k (place c.row c.column) p (coil_stores (is_dotted c.name) (declared_at ds (before_first is_dot c.name)) ∙ same ∙ store_meant ds text want k h) at)
-      (first_of (fault_here fault (place c.row c.column)) [])
+      (cons_first (fault_here fault (place c.row c.column)) [])
   store_meets (Box b) p text want k (o, lit) h = operand_in b Right text want p k o (store_operand text want k lit h)
 
   -- what holds of an element that is a box is found where it is found of each box
@@ -574,7 +566,7 @@ module _ (ds : List Declaration) (es : List Element) where
 
   network_found : (k : BindKind) (p : Place) → IsFaultIn ds es k p → Contains (network_findings ds es) (Some (finding k p))
   network_found k p h =
-      let at = at_any (λ x. IsFaultOf ds es k x p) es h in
+      let at = any_found (λ x. IsFaultOf ds es k x p) es h in
       in_flat (element_findings ds es) es at.0 at.1 (Some (finding k p)) at.2 (element_found k at.1 p at.3)
 
   -- where a network has no fault, nothing is found wrong with it
@@ -590,7 +582,7 @@ module _ (ds : List Declaration) (es : List Element) where
   is_bound : HasNoFinding ds es → IsBoundNetwork ds es
   unfolding IsBoundNetwork
   is_bound none k p h =
-      let at = at_any (λ x. IsFaultOf ds es k x p) es h in
+      let at = any_found (λ x. IsFaultOf ds es k x p) es h in
       let each : IsBound ds es at.1 = All-contains (IsBound ds es) es at.1 none (at.0, slice_get_within es at.0 at.1 at.2, get_or_from_slice_get es at.0 at.1 at.1 at.2) in
       nothing_found (sym (All-contains (λ o. o ≡ None) (element_findings ds es at.1) (Some (finding k p)) each (element_found k at.1 p at.3)))
 
@@ -613,7 +605,7 @@ found_is ds networks f in' = All-contains (Meets (InSome ds networks)) (findings
 is_found : (ds : List Declaration) (networks : List (List Element)) (f : Finding) → IsFault ds networks f → Contains (findings ds networks) (Some f)
 unfolding findings
 is_found ds networks f h =
-    let at = at_any (λ x. IsFaultIn ds x f.kind (place f.row f.column)) networks h in
+    let at = any_found (λ x. IsFaultIn ds x f.kind (place f.row f.column)) networks h in
     in_flat (network_findings ds) networks at.0 at.1 (Some f) at.2 (network_found ds at.1 f.kind (place f.row f.column) at.3)
 
 -- the first of what is found is the first of the faults
@@ -632,18 +624,18 @@ first_found ds networks f h first =
 pub not_bound : (ds : List Declaration) (rails : List Place) (networks : List (List Element)) (f : Finding) → Contains (findings ds networks) (Some f) → CanBind ds (map (diagram rails) networks) → ⊥
 unfolding IsBoundNetwork
 not_bound ds rails networks f in' can =
-    let h = at_any (λ x. IsFaultIn ds x f.kind (place f.row f.column)) networks (found_is ds networks f in') in
+    let h = any_found (λ x. IsFaultIn ds x f.kind (place f.row f.column)) networks (found_is ds networks f in') in
     bound_at networks h.0 h.1 can h.2 f.kind (place f.row f.column) h.3
   where
     bound_at : (ns : List (List Element)) (i : ℕ) (es : List Element) → CanBind ds (map (diagram rails) ns) → slice_get ns i ≡ Some es → IsBoundNetwork ds es
     bound_at [] i es can' at = absurd (nothing_found at)
     bound_at (n ∷ ns) zero es can' at =
-        subst (IsBoundNetwork ds) (same_inside at) (All-head (λ (d : Diagram). IsBoundNetwork ds d.elements) (diagram rails n) (map (diagram rails) ns) can')
+        subst (IsBoundNetwork ds) (some_same at) (All-head (λ (d : Diagram). IsBoundNetwork ds d.elements) (diagram rails n) (map (diagram rails) ns) can')
     bound_at (n ∷ ns) (suc i) es can' at = bound_at ns i es (All-tail (λ (d : Diagram). IsBoundNetwork ds d.elements) (diagram rails n) (map (diagram rails) ns) can') at
 
 -- a fault that was found is no lack of memory
 pub named_kind : (ds : List Declaration) (networks : List (List Element)) (f : Finding) → Contains (findings ds networks) (Some f) → f.kind ≡ Memory → ⊥
 named_kind ds networks f in' is =
-    let h = at_any (λ x. IsFaultIn ds x f.kind (place f.row f.column)) networks (found_is ds networks f in') in
-    let e = at_any (λ x. IsFaultOf ds h.1 f.kind x (place f.row f.column)) h.1 h.3 in
+    let h = any_found (λ x. IsFaultIn ds x f.kind (place f.row f.column)) networks (found_is ds networks f in') in
+    let e = any_found (λ x. IsFaultOf ds h.1 f.kind x (place f.row f.column)) h.1 h.3 in
     subst (λ k. IsFaultOf ds h.1 k e.1 (place f.row f.column)) is e.3

@@ -55,6 +55,7 @@ use Rattle.power_flow.proofs.Determinism.{box_cases}
 use Rattle.power_flow.specs.Meaning.{Moment, moment, NetworkMeaning, BlocksStep, stored, stores, store, coil_stores, coil_value, result_stores, side_stores}
 use Rattle.power_flow.specs.Scan.{ScanMeaning}
 use Rattle.power_flow.proofs.BindingLemmas.{IsVariable, variable_is}
+use Rattle.power_flow.proofs.NameFaults.{kinds_agree}
 use Rattle.power_flow.proofs.FaultsFound.{no_finding}
 
 -- what is stored is of the declared kind
@@ -156,12 +157,6 @@ same_fault want dotted None = refl
 same_fault want true (Some w) = refl
 same_fault want false (Some w) = refl
 
-kinds_same : (j k : Kind) → same_kind j k ≡ true → j ≡ k
-kinds_same kind.Bool kind.Bool e = refl
-kinds_same kind.Int kind.Int e = refl
-kinds_same kind.Time kind.Time e = refl
-kinds_same j k e = cc
-
 stored_slot : (w : Declared) (field : Field) (v : Value) → store_declared_fault (Some (field_kind field)) w ≡ None → kind_of v ≡ field_kind field → IsSlotOf w (Variable v)
 stored_slot (Input k) field v h is = go (same_kind (field_kind field) k) h
   where
@@ -171,12 +166,12 @@ stored_slot (Input k) field v h is = go (same_kind (field_kind field) k) h
 stored_slot (Output k) field v h is = is ∙ go (same_kind (field_kind field) k) refl h
   where
     go : (x : Bool) → same_kind (field_kind field) k ≡ x → ◌≡◌ {A = Option BindKind} (cond x None (Some WrongKind)) None → field_kind field ≡ k
-    go true same e = kinds_same (field_kind field) k same
+    go true same e = kinds_agree (field_kind field) k same
     go false same e = absurd (cc)
 stored_slot (Local k) field v h is = is ∙ go (same_kind (field_kind field) k) refl h
   where
     go : (x : Bool) → same_kind (field_kind field) k ≡ x → ◌≡◌ {A = Option BindKind} (cond x None (Some WrongKind)) None → field_kind field ≡ k
-    go true same e = kinds_same (field_kind field) k same
+    go true same e = kinds_agree (field_kind field) k same
     go false same e = absurd (cc)
 stored_slot (Instance b) field v h is = absurd (cc)
 

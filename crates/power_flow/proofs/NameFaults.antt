@@ -19,9 +19,10 @@ use Rattle.power_flow.specs.Names.{is_dot}
 use Rattle.power_flow.specs.StateValue.{kind_of}
 use Rattle.power_flow.specs.PinKinds.{field_kind}
 use Rattle.power_flow.specs.Lookup.{declared_at, is_dotted}
-use Rattle.power_flow.specs.BindFaults.{IsVariable, IsNameOf, IsUndeclared, IsWhole, IsVariableName, IsOutputName, CannotRead, reads_part, reads_instance, reads_other, CannotStore, stores_dotted, stores_instance, stores_other, IsInputName, LacksOutput, in_range}
+use Rattle.power_flow.specs.BindFaults.{IsVariable, IsNameOf, IsUndeclared, IsVariableName, IsOutputName, CannotRead, reads_part, reads_instance, reads_other, CannotStore, stores_dotted, stores_instance, stores_other, IsInputName, LacksOutput, in_range}
 use Rattle.power_flow.specs.Steps.BoxFindings.{same_kind, wants, output_kind, declared_kind, kind_if_declared, name_kind, read_name_fault, literal_fault, store_declared_fault, store_name_fault}
 use Rattle.power_flow.specs.Steps.ElementFindings.{write_fault, as_variable, fault_with}
+use Rattle.power_flow.proofs.BoxesStepping.{some_same}
 
 -- what is wrong with reading a name, kind by kind
 abbrev pub ReadFault : List Declaration → List ℕ → Option Kind → BindKind → Type 0
@@ -53,9 +54,6 @@ LiteralFault want v PinMissing = ⊥
 LiteralFault want v LiteralOutOfRange = (want ≡ Some (kind_of v)) × (in_range v ≡ false)
 LiteralFault want v Memory = ⊥
 
-pub same_inside : {X : Type 0} {x y : X} → Some x ≡ Some y → x ≡ y
-same_inside e = cc
-
 pub nothing_found : {X : Type 0} {x : X} → None ≡ Some x → ⊥
 nothing_found e = cc
 
@@ -67,7 +65,7 @@ same_kind_refl kind.Bool = refl
 same_kind_refl kind.Int = refl
 same_kind_refl kind.Time = refl
 
-kinds_agree : (j k : Kind) → same_kind j k ≡ true → j ≡ k
+pub kinds_agree : (j k : Kind) → same_kind j k ≡ true → j ≡ k
 kinds_agree kind.Bool kind.Bool e = refl
 kinds_agree kind.Int kind.Int e = refl
 kinds_agree kind.Time kind.Time e = refl
@@ -111,7 +109,7 @@ declared_variable (Instance block) j pin is = absurd is
 
 module _ (ds : List Declaration) (text : List ℕ) (want : Option Kind) where
   read_as : (j k : BindKind) → ReadFault ds text want j → ◌≡◌ {A = Option BindKind} (Some j) (Some k) → ReadFault ds text want k
-  read_as j k h e = subst (ReadFault ds text want) (same_inside e) h
+  read_as j k h e = subst (ReadFault ds text want) (some_same e) h
 
   -- a value of kind j, read where a kind may be wanted
   value_read : (j : Kind) (k : BindKind) → IsVariableName ds text j ⊎ IsOutputName ds text j → (v : Option Kind) → want ≡ v → read_name_fault v (Ok (Some j)) ≡ Some k → ReadFault ds text want k
@@ -138,7 +136,7 @@ module _ (ds : List Declaration) (text : List ℕ) (want : Option Kind) where
 
       side : (left : Bool) (field : Field) → pin_of block (c ∷ pin) ≡ Some (record { left = left; field = field }) → read_name_fault v (output_kind (Some (record { left = left; field = field }))) ≡ Some k
           → ReadFault ds text want k
-      side true field some e' = read_as UnknownPin k (lacks (λ f has. let same = same_inside (sym some ∙ has) in false≢true (sym (ap (λ (p : Pin). p.left) same)))) e'
+      side true field some e' = read_as UnknownPin k (lacks (λ f has. let same = some_same (sym some ∙ has) in false≢true (sym (ap (λ (p : Pin). p.left) same)))) e'
       side false field some e' = value_read (field_kind field) k (inr (block, field, at, ap (pin_of block) more ∙ some, refl)) v wanted e'
 
       found : (o : Option Pin) → pin_of block (c ∷ pin) ≡ o → read_name_fault v (output_kind o) ≡ Some k → ReadFault ds text want k
@@ -199,12 +197,12 @@ module _ (ds : List Declaration) (text : List ℕ) (want : Option Kind) where
   read_meant k h = absurd h
 
   store_as : (j k : BindKind) → StoreFault ds text want j → ◌≡◌ {A = Option BindKind} (Some j) (Some k) → StoreFault ds text want k
-  store_as j k h e = subst (StoreFault ds text want) (same_inside e) h
+  store_as j k h e = subst (StoreFault ds text want) (some_same e) h
 
 -- the kind is the one that is wanted, if one is
 wanted_is : (want : Option Kind) (j : Kind) → wants want j ≡ true → (k : Kind) → want ≡ Some k → k ≡ j
 wanted_is None j agrees k e = absurd (nothing_found e)
-wanted_is (Some w) j agrees k e = sym (same_inside e) ∙ kinds_agree w j agrees
+wanted_is (Some w) j agrees k e = sym (some_same e) ∙ kinds_agree w j agrees
 
 is_wanted : (want : Option Kind) (j : Kind) → ((k : Kind) → want ≡ Some k → k ≡ j) → wants want j ≡ true
 is_wanted None j h = refl
@@ -288,8 +286,8 @@ literal_found (Some w) v k e = go (same_kind w (kind_of v)) refl (in_range v) re
     go : (same : Bool) → same_kind w (kind_of v) ≡ same → (fits : Bool) → in_range v ≡ fits
         → ◌≡◌ {A = Option BindKind} (if same then (if fits then None else Some LiteralOutOfRange) else Some WrongKind) (Some k) → LiteralFault (Some w) v k
     go true same true fits e' = absurd (nothing_found e')
-    go true same false fits e' = subst (LiteralFault (Some w) v) (same_inside e') (ap Some (kinds_agree w (kind_of v) same), fits)
-    go false same fits is e' = subst (LiteralFault (Some w) v) (same_inside e') (w, refl, kinds_differ (kind_of v) w same)
+    go true same false fits e' = subst (LiteralFault (Some w) v) (some_same e') (ap Some (kinds_agree w (kind_of v) same), fits)
+    go false same fits is e' = subst (LiteralFault (Some w) v) (some_same e') (w, refl, kinds_differ (kind_of v) w same)
 
 -- a fault of a literal that is read is found
 pub literal_meant : (want : Option Kind) (v : Value) (k : BindKind) → LiteralFault want v k → literal_fault want v ≡ Some k

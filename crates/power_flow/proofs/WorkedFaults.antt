@@ -1,5 +1,5 @@
 -- Worked faults of names: what the definitions say of some boxes and symbols.
-use Rattle.std.proofs.Common.{◌≡◌, ℕ, ◌<◌, List, [], ◌∷◌, Option, Some, None, codes, refl, arith, pos}
+use Rattle.std.proofs.Common.{ℕ, ◌<◌, List, [], ◌∷◌, Option, Some, None, codes, refl, arith, pos}
 use Rattle.std_blocks.specs.declared.value.Value.TheVariants.{Int as IntValue}
 use Rattle.std_blocks.specs.declared.pin.Field.TheVariants.{Bit, Int}
 use Rattle.std_blocks.specs.Pins.{pin_of, input}
@@ -7,7 +7,7 @@ use Rattle.ladder_text.specs.declared.drawn_box.DrawnBox.{DrawnBox}
 use Rattle.ladder_text.specs.declared.drawn_box.DrawnPin.{DrawnPin}
 use Rattle.ladder_text.specs.declared.drawn_box.Operand.{Operand}
 use Rattle.ladder_text.specs.declared.drawn_box.Side.{Side}
-use Rattle.ladder_text.specs.declared.drawn_box.Side.TheVariants.{Left, Right}
+use Rattle.ladder_text.specs.declared.drawn_box.Side.TheVariants.{Left}
 use Rattle.ladder_text.specs.declared.drawn_box.BlockName.{BlockName}
 use Rattle.ladder_text.specs.declared.drawn_box.BlockName.TheVariants.{Ctu, Ton}
 use Rattle.network.specs.declared.element.Element.TheVariants.{Wire, Box}

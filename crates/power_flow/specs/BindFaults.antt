@@ -1,5 +1,5 @@
 -- What can be wrong with the names, numbers and durations of a network: the faults kind by kind, each at its place.
-use Rattle.std.specs.Prelude.{◌≡◌, ℕ, ◌+◌, ◌<◌, ◌⊎◌, List, [], Bool, true, false, Option, Some, None, if◌then◌else◌, nat_le, pos, negsuc, slice_get, Contains, IsTrue, IsFalse, Any}
+use Rattle.std.specs.Prelude.{◌≡◌, ℕ, ◌+◌, ◌<◌, ◌⊎◌, List, [], Bool, true, Option, Some, None, if◌then◌else◌, nat_le, pos, negsuc, slice_get, Contains, IsTrue, IsFalse, Any}
 use Rattle.std.specs.List.{before_first, after_first}
 use Rattle.std_blocks.specs.declared.value.Value.{Value}
 use Rattle.std_blocks.specs.declared.value.Value.TheVariants.{Bool as BoolValue, Int as IntValue, Time as TimeValue}
@@ -75,7 +75,7 @@ IsNameOf ds text w = declared_at ds (before_first is_dot text) ≡ Some w
 abbrev pub IsUndeclared : List Declaration → List ℕ → Type 0
 IsUndeclared ds text = declared_at ds (before_first is_dot text) ≡ None
 
--- nothing stands behind a dot
+-- no part stands behind a dot
 abbrev pub IsWhole : List ℕ → Type 0
 IsWhole text = after_first is_dot text ≡ []
 
@@ -96,7 +96,7 @@ pub data CannotRead (ds : List Declaration) (text : List ℕ) (want : Option Kin
   -- its value is of another kind
   reads_other : (j k : Kind) → IsVariableName ds text j ⊎ IsOutputName ds text j → want ≡ Some k → (j ≡ k → ⊥) → CannotRead ds text want
 
--- A name that is declared can't be stored at where a value of a kind comes.
+-- A name that is declared can't be stored at with a value of a kind.
 pub data CannotStore (ds : List Declaration) (text : List ℕ) (want : Option Kind) : Type 0 where
   -- it has a dot
   stores_dotted : (w : Declared) → IsNameOf ds text w → IsTrue (is_dotted text) → CannotStore ds text want
@@ -105,7 +105,7 @@ pub data CannotStore (ds : List Declaration) (text : List ℕ) (want : Option Ki
   -- it is the name of a variable of another kind
   stores_other : (w : Declared) (j k : Kind) → IsNameOf ds text w → IsVariable w j → want ≡ Some k → (j ≡ k → ⊥) → CannotStore ds text want
 
--- the name is that of an input, of the kind that comes
+-- the name is that of an input, of the kind that is stored
 abbrev pub IsInputName : List Declaration → List ℕ → Option Kind → Type 0
 IsInputName ds text want = (k : Kind) × IsNameOf ds text (Input k) × IsFalse (is_dotted text) × ((w : Kind) → want ≡ Some w → w ≡ k)
 
@@ -222,7 +222,7 @@ pub data IsWrongKind (ds : List Declaration) (elements : List Element) (e : Elem
   wrong_line : IsBox (HasLinedPin elements p) e → IsWrongKind ds elements e p
   wrong_box : IsBox (IsNamedOtherwise ds p) e → IsWrongKind ds elements e p
 
--- WritesInput: a coil or an operand on the right stores at an input.
+-- WritesInput: a coil or an operand on the right stores at an input of the kind that it stores.
 abbrev pub IsWritesInput : List Declaration → Element → Place → Type 0
 IsWritesInput ds e p = (text : List ℕ) × (want : Option Kind) × Stores e p text want × IsInputName ds text want
 

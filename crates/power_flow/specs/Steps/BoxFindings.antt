@@ -1,8 +1,7 @@
 -- The faults of a box as the bodies find them: of its corner, and of each pin.
-use Rattle.std.specs.Prelude.{◌≡◌, ℕ, ◌+◌, List, [], ◌∷◌, Bool, true, false, Option, Some, None, Result, Ok, Err, if◌then◌else◌, nat_le, pos, negsuc, All, ◌==◌, ◌&&◌, ◌++◌, ◌-◌, not, nat_lt, take}
+use Rattle.std.specs.Prelude.{◌≡◌, ℕ, ◌+◌, List, [], ◌∷◌, Bool, true, false, Option, Some, None, Result, Ok, Err, if◌then◌else◌, All, ◌==◌, ◌&&◌, ◌++◌, ◌-◌, not, nat_lt, take}
 use Rattle.std.specs.List.{before_first, after_first, list_any}
 use Rattle.std_blocks.specs.declared.value.Value.{Value}
-use Rattle.std_blocks.specs.declared.value.Value.TheVariants.{Bool as BoolValue, Int as IntValue, Time as TimeValue}
 use Rattle.std_blocks.specs.declared.pin.Field.{Field}
 use Rattle.std_blocks.specs.declared.pin.Field.TheVariants.{Bit, Int, Time}
 use Rattle.std_blocks.specs.declared.pin.Pin.{Pin}
@@ -30,7 +29,7 @@ use Rattle.power_flow.specs.declared.literal.Literal.{Literal}
 use Rattle.power_flow.specs.declared.literal.Literal.TheVariants as literal
 use Rattle.power_flow.specs.Names.{is_dot}
 use Rattle.power_flow.specs.StateValue.{kind_of}
-use Rattle.power_flow.specs.PinKinds.{type_of, field_kind, stands_on}
+use Rattle.power_flow.specs.PinKinds.{type_of, field_kind}
 use Rattle.power_flow.specs.Literals.{literal_value}
 use Rattle.power_flow.specs.Lookup.{declared_at, is_dotted}
 pub use Rattle.power_flow.specs.BindFaults.{in_range, field_on, own_field, kind_at, corner, side_place}
