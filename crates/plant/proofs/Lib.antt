@@ -20,6 +20,7 @@ pub mod ItemLemmas
 pub mod TypeLemmas
 pub mod BodyLemmas
 pub mod DrawnLemmas
+pub mod FaultLemmas
 pub mod VariableLemmas
 pub mod TreeLemmas
 pub mod KnownWords

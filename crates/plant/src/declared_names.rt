@@ -1,7 +1,7 @@
 //! Whether a name is declared already, without regard to case.
 
 ghost use Rattle.std.specs.Prelude.{◌≡◌, ◌↔◌, ◌<◌, IsTrue, IsFalse, Any, OnOk, IfErr, length};
-ghost use Rattle.plant.specs.Faults.{IsPlantFault};
+ghost use Rattle.plant.specs.Faults.{IsWordFault};
 ghost use Rattle.plant.specs.declared.plant_fault.PlantFaultKind.TheVariants.{NameTwice, TooMany};
 ghost use Rattle.std.specs.List.{flat_map, find};
 ghost use Rattle.std.specs.Option.{option_map, option_and_then};
@@ -24,7 +24,7 @@ pub fn check_new(name: &Name, is_twice: bool, is_full: bool) -> Result<(), Plant
     ensures ok { OnOk result (IsFalse is_twice × IsFalse is_full) }
     ensures twice { IfErr result (λ e. IsTrue is_twice → e.kind ≡ NameTwice) }
     ensures full { IfErr result (λ e. IsFalse is_twice → IsTrue is_full × (e.kind ≡ TooMany)) }
-    ensures value { IfErr result IsPlantFault }
+    ensures value { IfErr result IsWordFault }
 {
     if is_twice {
         Err(PlantFault::at(PlantFaultKind::NameTwice, name.line()))

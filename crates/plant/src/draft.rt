@@ -1,7 +1,7 @@
 //! What a plant runs, before its sources are resolved: the programs of each task, and their outputs.
 
 ghost use Rattle.std.specs.Prelude.{◌≡◌, ◌++◌, map, IfOk, OnOk, IfErr};
-ghost use Rattle.plant.specs.Faults.{IsPlantFault};
+ghost use Rattle.plant.specs.Faults.{IsWordFault};
 ghost use Rattle.std.specs.List.{AllZip, filter};
 ghost use Rattle.plant.specs.Names.{is_named};
 ghost use Rattle.plant.specs.Faultless.{tasks_of, uses_of, task_of, use_of};
@@ -77,7 +77,7 @@ fn draft_program(
     run: &Use,
 ) -> Result<ProgramInstance, PlantFault>
     ensures ok { IfOk result (λ p. IsProgramOf (programs_in types.now) run.now p) }
-    ensures value { IfErr result IsPlantFault }
+    ensures value { IfErr result IsWordFault }
 {
     let Some(found) = type_named(types, &run.program) else {
         return Err(PlantFault::at(PlantFaultKind::UnknownName, run.program.line()));
@@ -94,7 +94,7 @@ fn draft_programs(
     runs: &[&Use],
 ) -> Result<Vec<ProgramInstance>, PlantFault>
     ensures ok { IfOk result (λ ps. AllZip (IsProgramOf (programs_in types.now)) (map (λ u. u.now) runs.now) ps.items) }
-    ensures value { IfErr result IsPlantFault }
+    ensures value { IfErr result IsWordFault }
 {
     let mut programs = Vec::new(alloc);
     for run in runs {
@@ -112,7 +112,7 @@ fn draft_task(
     task: &TaskLine,
 ) -> Result<TaskDraft, PlantFault>
     ensures ok { IfOk result (λ d. IsDraftOf (programs_in types.now) resource.now task.now d) }
-    ensures value { IfErr result IsPlantFault }
+    ensures value { IfErr result IsWordFault }
 {
     let runs = runs_in(alloc, resource, task)?;
     let programs = draft_programs(alloc, types, runs.as_slice())?;
@@ -128,7 +128,7 @@ fn draft_tasks(
     tasks: &[&TaskLine],
 ) -> Result<Vec<TaskDraft>, PlantFault>
     ensures ok { IfOk result (λ ds. AllZip (IsDraftOf (programs_in types.now) resource.now) (map (λ t. t.now) tasks.now) ds.items) }
-    ensures value { IfErr result IsPlantFault }
+    ensures value { IfErr result IsWordFault }
 {
     let mut drafts = Vec::new(alloc);
     for task in tasks {
@@ -145,7 +145,7 @@ fn draft_resource(
     resource: &Resource,
 ) -> Result<ResourceDraft, PlantFault>
     ensures ok { IfOk result (λ d. IsResourceDraft (programs_in types.now) resource.now d) }
-    ensures value { IfErr result IsPlantFault }
+    ensures value { IfErr result IsWordFault }
 {
     let tasks = tasks_of(alloc, resource)?;
     let drafts = draft_tasks(alloc, types, resource, tasks.as_slice())?;
@@ -160,7 +160,7 @@ pub fn draft_resources(
     resources: &[Resource],
 ) -> Result<Vec<ResourceDraft>, PlantFault>
     ensures ok { IfOk result (λ ds. AllZip (IsResourceDraft (programs_in types.now)) resources.now ds.items) }
-    ensures value { IfErr result IsPlantFault }
+    ensures value { IfErr result IsWordFault }
 {
     let mut drafts = Vec::new(alloc);
     for resource in resources {

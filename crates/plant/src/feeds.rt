@@ -1,7 +1,7 @@
 //! The binds of instances, each with its input and its source found by name.
 
 ghost use Rattle.std.specs.Prelude.{◌≡◌, All, IfOk, IfSome, OnOk, Some, length, map, IfErr};
-ghost use Rattle.plant.specs.Faults.{IsPlantFault};
+ghost use Rattle.plant.specs.Faults.{IsWordFault};
 ghost use Rattle.std.specs.List.{AllZip, flat_map};
 ghost use Rattle.power_flow.specs.Names.{place_of};
 ghost use Rattle.plant.specs.Faultless.{binds_of, use_of, uses_of};
@@ -24,7 +24,7 @@ use std::alloc::Global;
 
 /// The fault of a name that isn't declared where it is sought.
 fn unknown(name: &Name) -> PlantFault
-    ensures { IsPlantFault result }
+    ensures { IsWordFault result }
 {
     PlantFault::at(PlantFaultKind::UnknownName, name.line())
 }
@@ -37,7 +37,7 @@ fn find_value(
     output: &Name,
 ) -> Result<(TaskRef, usize, Kind), PlantFault>
     ensures ok { IfOk result (λ x. IsOrigin (drafted drafts.now) resource.now instance.now output.now x.0 x.1 × IsImageKind (drafted drafts.now) x.0 x.1 x.2) }
-    ensures value { IfErr result IsPlantFault }
+    ensures value { IfErr result IsWordFault }
 {
     let Some(position) = find_resource(drafts, resource.as_str()) else {
         return Err(unknown(resource));
@@ -59,7 +59,7 @@ fn find_value(
 /// What a source means, and the kind of its values.
 fn find_origin(drafts: &[ResourceDraft], source: &SourceName) -> Result<(Origin, Kind), PlantFault>
     ensures ok { IfOk result (λ x. IsOriginOf (drafted drafts.now) source.now x.0 x.1) }
-    ensures value { IfErr result IsPlantFault }
+    ensures value { IfErr result IsWordFault }
 {
     match source {
         SourceName::Field(address) => Ok((Origin::Field(*address), address.space.kind())),
@@ -100,7 +100,7 @@ fn feed(
     bind: &Bind,
 ) -> Result<Feed, PlantFault>
     ensures ok { IfOk result (λ f. IsFeedOf (drafted drafts.now) declarations.now bind.now f) }
-    ensures value { IfErr result IsPlantFault }
+    ensures value { IfErr result IsWordFault }
 {
     let Some((place, kind)) = find_input(declarations, bind.input.as_str()) else {
         return Err(unknown(&bind.input));
@@ -134,7 +134,7 @@ fn feeds(
     binds: &[Bind],
 ) -> Result<Vec<Feed>, PlantFault>
     ensures ok { IfOk result (λ fs. AllZip (IsFeedOf (drafted drafts.now) declarations.now) binds.now fs.items) }
-    ensures value { IfErr result IsPlantFault }
+    ensures value { IfErr result IsWordFault }
 {
     let mut feeds = Vec::new(alloc);
     for bind in binds {
@@ -154,7 +154,7 @@ pub fn feeds_of(
     requires { length runs.now ≡ length programs.now }
     ensures many { IfOk result (λ fs. length fs.items ≡ length programs.now) }
     ensures each { IfOk result (λ fs. Triples (AreFeedsOf (drafted drafts.now)) (map (λ u. u.now) runs.now) programs.now (map (λ f. f.items) fs.items)) }
-    ensures value { IfErr result IsPlantFault }
+    ensures value { IfErr result IsWordFault }
 {
     let mut all = Vec::new(alloc);
     for (i, program) in programs.iter().enumerate() {
@@ -172,7 +172,7 @@ fn check_binds(
     binds: &[Bind],
 ) -> Result<(), PlantFault>
     ensures ok { OnOk result (All (HasFeed (drafted drafts.now) declarations.now) binds.now) }
-    ensures value { IfErr result IsPlantFault }
+    ensures value { IfErr result IsWordFault }
 {
     for bind in binds {
         feed(drafts, declarations, bind)?;
@@ -183,7 +183,7 @@ fn check_binds(
 /// Answers the first fault among the binds of an instance.
 fn check_use(drafts: &[ResourceDraft], types: &[ProgramType], run: &Use) -> Result<(), PlantFault>
     ensures ok { OnOk result (IsUseResolved (drafted drafts.now) types.now run.now) }
-    ensures value { IfErr result IsPlantFault }
+    ensures value { IfErr result IsWordFault }
 {
     let Some(found) = type_named(types, &run.program) else {
         return Err(unknown(&run.program));
@@ -198,7 +198,7 @@ fn check_item(
     item: &Item,
 ) -> Result<(), PlantFault>
     ensures ok { OnOk result (All (IsUseResolved (drafted drafts.now) types.now) (use_of item.now)) }
-    ensures value { IfErr result IsPlantFault }
+    ensures value { IfErr result IsWordFault }
 {
     match item {
         Item::Task(_) => Ok(()),
@@ -213,7 +213,7 @@ fn check_resource(
     resource: &Resource,
 ) -> Result<(), PlantFault>
     ensures ok { OnOk result (All (IsUseResolved (drafted drafts.now) types.now) (uses_of resource.now)) }
-    ensures value { IfErr result IsPlantFault }
+    ensures value { IfErr result IsWordFault }
 {
     for item in &resource.items {
         check_item(drafts, types, item)?;
@@ -228,7 +228,7 @@ pub fn check_sources(
     resources: &[Resource],
 ) -> Result<(), PlantFault>
     ensures ok { OnOk result (All (IsUseResolved (drafted drafts.now) types.now) (flat_map uses_of resources.now)) }
-    ensures value { IfErr result IsPlantFault }
+    ensures value { IfErr result IsWordFault }
 {
     for resource in resources {
         check_resource(drafts, types, resource)?;

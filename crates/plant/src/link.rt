@@ -1,7 +1,7 @@
 //! The codes of tasks: their drafts with each source resolved.
 
 ghost use Rattle.std.specs.Prelude.{◌≡◌, ◌<◌, List, IfOk, All, length, map, IfErr};
-ghost use Rattle.plant.specs.Faults.{IsPlantFault};
+ghost use Rattle.plant.specs.Faults.{IsWordFault};
 ghost use Rattle.std.specs.List.{AllZip};
 ghost use Rattle.plant.specs.declared.tree.Program.{Program};
 ghost use Rattle.plant.specs.Faultless.{tasks_of, uses_of};
@@ -44,7 +44,7 @@ fn link_runs(
     requires many { length runs.now ≡ length draft.now.programs }
     requires once { All IsOnceBound (map (λ u. u.now) runs.now) }
     ensures ok { IfOk result (λ c. IsLinked (drafted drafts.now) (map (λ u. u.now) runs.now) draft.now c) }
-    ensures value { IfErr result IsPlantFault }
+    ensures value { IfErr result IsWordFault }
 {
     let feeds = feeds_of(alloc, drafts, draft.programs(), runs)?;
     let producers = producers_of(alloc, feeds.as_slice())?;
@@ -66,7 +66,7 @@ fn link_task(
     requires many { length (runs_in resource.now task.now) ≡ length draft.now.programs }
     requires once { All IsOnceBound (runs_in resource.now task.now) }
     ensures ok { IfOk result (λ c. IsLinked (drafted drafts.now) (runs_in resource.now task.now) draft.now c.value) }
-    ensures value { IfErr result IsPlantFault }
+    ensures value { IfErr result IsWordFault }
 {
     let runs = runs_in(alloc, resource, task)?;
     let code = link_runs(alloc, drafts, draft, runs.as_slice())?;
@@ -86,7 +86,7 @@ fn link_tasks(
     requires once { All IsOnceBound (uses_of resource.now) }
     ensures many { IfOk result (λ cs. length cs.items ≡ length tasks.now) }
     ensures each { IfOk result (λ cs. Triples (λ t d c. IsLinked (drafted drafts.now) (runs_in resource.now t) d c) (map (λ t. t.now) tasks.now) task_drafts.now (map (λ c. c.value) cs.items)) }
-    ensures value { IfErr result IsPlantFault }
+    ensures value { IfErr result IsWordFault }
 {
     let mut codes = Vec::new(alloc);
     for (i, draft) in task_drafts.iter().enumerate() {
@@ -119,7 +119,7 @@ fn link_resource(
     requires known { (programs : List Program) × IsResourceDraft programs resource.now draft.now }
     requires ready { IsReady resource.now }
     ensures ok { IfOk result (λ v. IsResourceLinked (drafted drafts.now) resource.now draft.now v) }
-    ensures value { IfErr result IsPlantFault }
+    ensures value { IfErr result IsWordFault }
 {
     let lines = tasks_of(alloc, resource)?;
     let codes = link_tasks(alloc, drafts, resource, lines.as_slice(), draft.tasks())?;
@@ -138,7 +138,7 @@ pub fn link_resources(
     requires ready { All IsReady resources.now }
     ensures many { IfOk result (λ vs. length vs.items ≡ length resources.now) }
     ensures each { IfOk result (λ vs. Triples (IsResourceLinked (drafted drafts.now)) resources.now drafts.now vs.items) }
-    ensures value { IfErr result IsPlantFault }
+    ensures value { IfErr result IsWordFault }
 {
     let mut linked = Vec::new(alloc);
     for (i, draft) in drafts.iter().enumerate() {

@@ -68,9 +68,9 @@ impl PlantFault {
 
 impl From<AllocError> for PlantFault {
     ghost use Rattle.plant.specs.declared.plant_fault.PlantFaultKind.TheVariants.{Memory};
-    ghost use Rattle.plant.specs.Faults.{IsPlantFault};
+    ghost use Rattle.plant.specs.Faults.{IsPlantFault, IsWordFault};
 
-    ghost from_gives = { λ _ fault. (fault.kind ≡ Memory) × IsPlantFault fault };
+    ghost from_gives = { λ _ fault. (fault.kind ≡ Memory) × IsPlantFault fault × IsWordFault fault };
 
     fn from(_fault: AllocError) -> PlantFault {
         PlantFault::at(PlantFaultKind::Memory, 0)
@@ -79,9 +79,9 @@ impl From<AllocError> for PlantFault {
 
 impl<T: Drop> From<AllocFailed<T>> for PlantFault {
     ghost use Rattle.plant.specs.declared.plant_fault.PlantFaultKind.TheVariants.{Memory};
-    ghost use Rattle.plant.specs.Faults.{IsPlantFault};
+    ghost use Rattle.plant.specs.Faults.{IsPlantFault, IsWordFault};
 
-    ghost from_gives = { λ _ fault. (fault.kind ≡ Memory) × IsPlantFault fault };
+    ghost from_gives = { λ _ fault. (fault.kind ≡ Memory) × IsPlantFault fault × IsWordFault fault };
 
     fn from(_fault: AllocFailed<T>) -> PlantFault {
         PlantFault::at(PlantFaultKind::Memory, 0)

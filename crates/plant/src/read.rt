@@ -16,6 +16,7 @@ use std::alloc::Global;
 use std::thread::Threads;
 
 /// Reads the text of a plant, in which `draw` draws the bodies of programs.
+#[tactic(auto, using(crate::proofs::FaultLemmas::plant_of_word))]
 fn read_by<D>(alloc: Global, text: &str, draw: D) -> Result<Plant, PlantFault>
 where
     D: FnOnce(Vec<ProgramText>) -> Result<Vec<ProgramType>, PlantFault>,

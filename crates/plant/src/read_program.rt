@@ -1,7 +1,7 @@
 //! The rules of the grammar from names to programs.
 
 ghost use Rattle.std.specs.Prelude.{◌≡◌, ◌∷◌, ◌++◌, ◌<◌, List, IfOk, OnOk, OnErr, IsTrue, IsFalse, All, length, IfErr};
-ghost use Rattle.plant.specs.Faults.{IsPlantFault};
+ghost use Rattle.plant.specs.Faults.{IsWordFault};
 ghost use Rattle.std.specs.List.{flat_map};
 ghost use Rattle.plant.specs.declared.token.Token.TheVariants as token;
 ghost use Rattle.plant.specs.Grammar.{section_word, kind_word, type_word, name_words, list_words, lists_words, block_words, program_words};
@@ -35,7 +35,7 @@ impl<'a> Reader<'a> {
         before: &[Name],
     ) -> Result<Name, PlantFault>
         ensures ok { IfOk result (λ name. self.old.words ≡ token.Name name ∷ self.new.words) }
-        ensures value { IfErr result IsPlantFault }
+        ensures value { IfErr result IsWordFault }
     {
         let name = self.name(alloc)?;
         variables.check(before, &name)?;
@@ -46,7 +46,7 @@ impl<'a> Reader<'a> {
     fn names(&mut self, alloc: Global, variables: &Variables) -> Result<Vec<Name>, PlantFault>
         ensures ok { IfOk result (λ names. self.old.words ≡ name_words names.items ++ self.new.words) }
         ensures some { IfOk result (λ names. 0 < length names.items) }
-        ensures value { IfErr result IsPlantFault }
+        ensures value { IfErr result IsWordFault }
     {
         let mut names = Vec::new(alloc);
         names.push(self.variable(alloc, variables, &names)?)?;
@@ -60,7 +60,7 @@ impl<'a> Reader<'a> {
     /// BOOL, INT or TIME.
     fn kind(&mut self) -> Result<Kind, PlantFault>
         ensures ok { IfOk result (λ kind. self.old.words ≡ kind_word kind ∷ self.new.words) }
-        ensures value { IfErr result IsPlantFault }
+        ensures value { IfErr result IsWordFault }
     {
         if self.sees_keyword(Keyword::Int) {
             self.keyword(Keyword::Int)?;
@@ -78,7 +78,7 @@ impl<'a> Reader<'a> {
     fn type_name(&mut self, section: Section) -> Result<TypeName, PlantFault>
         ensures ok { IfOk result (λ t. self.old.words ≡ type_word t ∷ self.new.words) }
         ensures lawful { IfOk result (λ t. IsTypeLawful section t) }
-        ensures value { IfErr result IsPlantFault }
+        ensures value { IfErr result IsWordFault }
     {
         if !self.sees_block_type() {
             return Ok(TypeName::Elementary(self.kind()?));
@@ -100,7 +100,7 @@ impl<'a> Reader<'a> {
         ensures ok { IfOk result (λ l. self.old.words ≡ list_words l ++ self.new.words) }
         ensures declared { IfOk result (λ l. variables.new ≡ variables.old ++ list_variables section l) }
         ensures lawful { IfOk result (λ l. IsListLawful section l) }
-        ensures value { IfErr result IsPlantFault }
+        ensures value { IfErr result IsWordFault }
     {
         let names = self.names(alloc, variables)?;
         self.punctuation(Punctuation::Colon)?;
@@ -122,7 +122,7 @@ impl<'a> Reader<'a> {
         ensures ok { IfOk result (λ ls. self.old.words ≡ lists_words ls.items ++ self.new.words) }
         ensures declared { IfOk result (λ ls. variables.new ≡ variables.old ++ flat_map (list_variables section) ls.items) }
         ensures lawful { IfOk result (λ ls. All (IsListLawful section) ls.items) }
-        ensures value { IfErr result IsPlantFault }
+        ensures value { IfErr result IsWordFault }
     {
         let mut lists = Vec::new(alloc);
         'lists: while !self.sees_keyword(Keyword::EndVar) {
@@ -146,7 +146,7 @@ impl<'a> Reader<'a> {
     /// VAR_INPUT, VAR_OUTPUT or VAR.
     fn section(&mut self) -> Result<Section, PlantFault>
         ensures ok { IfOk result (λ s. self.old.words ≡ section_word s ∷ self.new.words) }
-        ensures value { IfErr result IsPlantFault }
+        ensures value { IfErr result IsWordFault }
     {
         if self.sees_keyword(Keyword::VarInput) {
             self.keyword(Keyword::VarInput)?;
@@ -166,7 +166,7 @@ impl<'a> Reader<'a> {
         ensures ok { IfOk result (λ b. self.old.words ≡ block_words b ++ self.new.words) }
         ensures declared { IfOk result (λ b. variables.new ≡ variables.old ++ block_variables b) }
         ensures lawful { IfOk result (λ b. IsBlockLawful b) }
-        ensures value { IfErr result IsPlantFault }
+        ensures value { IfErr result IsWordFault }
     {
         let section = self.section()?;
         let lists = self.lists(alloc, section, variables)?;
@@ -183,7 +183,7 @@ impl<'a> Reader<'a> {
         ensures ok { IfOk result (λ bs. self.old.words ≡ flat_map block_words bs.items ++ self.new.words) }
         ensures declared { IfOk result (λ bs. variables.new ≡ variables.old ++ flat_map block_variables bs.items) }
         ensures lawful { IfOk result (λ bs. All IsBlockLawful bs.items) }
-        ensures value { IfErr result IsPlantFault }
+        ensures value { IfErr result IsWordFault }
     {
         let mut blocks = Vec::new(alloc);
         'sections: while self.sees_section() {
@@ -198,7 +198,7 @@ impl<'a> Reader<'a> {
         ensures ok { IfOk result (λ name. self.old.words ≡ token.Name name ∷ self.new.words) }
         ensures new { IfOk result (λ name. IsNew (λ p. p.name) (programs_of before.now) name) }
         ensures few { OnOk result (length before.now < 64) }
-        ensures value { IfErr result IsPlantFault }
+        ensures value { IfErr result IsWordFault }
     {
         let name = self.name(alloc)?;
         check_new(&name, is_program(before, &name), before.len() >= MOST_TYPES)?;
@@ -212,7 +212,7 @@ impl<'a> Reader<'a> {
         ensures new { IfOk result (λ p. IsNew (λ p. p.name) (programs_of before.now) p.program.name) }
         ensures few { OnOk result (length before.now < 64) }
         ensures declared { IfOk result (λ p. IsProgramDeclared p.program) }
-        ensures value { IfErr result IsPlantFault }
+        ensures value { IfErr result IsWordFault }
     {
         self.keyword(Keyword::Program)?;
         let name = self.new_type(alloc, before)?;
@@ -236,7 +236,7 @@ impl<'a> Reader<'a> {
         ensures ok { OnOk result (flat_map program_words (programs_of texts.old.items) ++ self.old.words ≡ flat_map program_words (programs_of texts.new.items) ++ self.new.words) }
         ensures err { OnErr result ((rest : List Token) × (flat_map program_words (programs_of texts.old.items) ++ self.old.words ≡ flat_map program_words (programs_of texts.new.items) ++ rest)) }
         ensures declared { AreProgramsDeclared (programs_of texts.new.items) }
-        ensures value { IfErr result IsPlantFault }
+        ensures value { IfErr result IsWordFault }
     {
         'programs: while self.sees_keyword(Keyword::Program) {
             let text = self.program(alloc, texts.as_slice())?;

@@ -1,7 +1,7 @@
 //! The rules of the grammar from tasks to resources.
 
 ghost use Rattle.std.specs.Prelude.{◌≡◌, [], ◌∷◌, ◌++◌, ◌+◌, ◌<◌, ◌≤◌, IfOk, OnOk, All, Any, Some, map, length, IsTrue, IfErr};
-ghost use Rattle.plant.specs.Faults.{IsPlantFault};
+ghost use Rattle.plant.specs.Faults.{IsWordFault};
 ghost use Rattle.std.specs.List.{flat_map};
 ghost use Rattle.plant.specs.declared.token.Token.TheVariants as token;
 ghost use Rattle.plant.specs.declared.token.Keyword.TheVariants as key;
@@ -38,7 +38,7 @@ impl<'a> Reader<'a> {
     fn interval(&mut self) -> Result<u32, PlantFault>
         ensures ok { IfOk result (λ n. self.old.words ≡ interval_words n ++ self.new.words) }
         ensures positive { IfOk result (λ n. 0 < n) }
-        ensures value { IfErr result IsPlantFault }
+        ensures value { IfErr result IsWordFault }
     {
         self.keyword(Keyword::Interval)?;
         self.punctuation(Punctuation::Assign)?;
@@ -54,7 +54,7 @@ impl<'a> Reader<'a> {
     /// A task's priority.
     fn priority(&mut self) -> Result<u16, PlantFault>
         ensures ok { IfOk result (λ n. self.old.words ≡ priority_words n ++ self.new.words) }
-        ensures value { IfErr result IsPlantFault }
+        ensures value { IfErr result IsWordFault }
     {
         self.keyword(Keyword::Priority)?;
         self.punctuation(Punctuation::Assign)?;
@@ -65,7 +65,7 @@ impl<'a> Reader<'a> {
     fn settings(&mut self) -> Result<(Order, u32, u16), PlantFault>
         ensures ok { IfOk result (λ s. self.old.words ≡ settings s.0 s.1 s.2 ++ self.new.words) }
         ensures positive { IfOk result (λ s. 0 < s.1) }
-        ensures value { IfErr result IsPlantFault }
+        ensures value { IfErr result IsWordFault }
     {
         if self.sees_keyword(Keyword::Interval) {
             let interval = self.interval()?;
@@ -85,7 +85,7 @@ impl<'a> Reader<'a> {
         ensures ok { IfOk result (λ name. self.old.words ≡ token.Name name ∷ self.new.words) }
         ensures new { IfOk result (λ name. IsNew (λ t. t.name) (flat_map task_of before.now) name) }
         ensures few { OnOk result (length (flat_map task_of before.now) < 16) }
-        ensures value { IfErr result IsPlantFault }
+        ensures value { IfErr result IsWordFault }
     {
         let name = self.name(alloc)?;
         check_new(
@@ -103,7 +103,7 @@ impl<'a> Reader<'a> {
         ensures new { IfOk result (λ t. IsNew (λ t. t.name) (flat_map task_of before.now) t.name) }
         ensures few { OnOk result (length (flat_map task_of before.now) < 16) }
         ensures positive { IfOk result (λ t. 0 < t.interval) }
-        ensures value { IfErr result IsPlantFault }
+        ensures value { IfErr result IsWordFault }
     {
         self.keyword(Keyword::Task)?;
         let name = self.task_name(alloc, before)?;
@@ -123,7 +123,7 @@ impl<'a> Reader<'a> {
     fn address_of(&mut self, kind: Kind) -> Result<Address, PlantFault>
         ensures ok { IfOk result (λ a. self.old.words ≡ token.Address a ∷ self.new.words) }
         ensures kind { IfOk result (λ a. kind_of_space a.space ≡ kind) }
-        ensures value { IfErr result IsPlantFault }
+        ensures value { IfErr result IsWordFault }
     {
         let other = PlantFault::at(PlantFaultKind::WrongKind, self.line());
         let address = self.address()?;
@@ -138,7 +138,7 @@ impl<'a> Reader<'a> {
     fn source(&mut self, alloc: Global, kind: Kind) -> Result<SourceName, PlantFault>
         ensures ok { IfOk result (λ s. self.old.words ≡ source_words s ++ self.new.words) }
         ensures kind { IfOk result (HasFieldKind kind) }
-        ensures value { IfErr result IsPlantFault }
+        ensures value { IfErr result IsWordFault }
     {
         if self.sees_address() {
             Ok(SourceName::Field(self.address_of(kind)?))
@@ -169,7 +169,7 @@ impl<'a> Reader<'a> {
         ensures new { IfOk result (λ b. IsNew (λ b. b.input) before.now b.input) }
         ensures kind { IfOk result (λ b. (kind : Kind) × (input_kind_of program.now.ladder.declarations b.input ≡ Some kind) × HasFieldKind kind b.source) }
         ensures tally { OnOk result (tally.new ≡ record { instances = tally.old.instances; binds = tally.old.binds + 1 }) }
-        ensures value { IfErr result IsPlantFault }
+        ensures value { IfErr result IsWordFault }
     {
         let input = self.name(alloc)?;
         let Some(kind) = input_kind(program, &input) else {
@@ -194,7 +194,7 @@ impl<'a> Reader<'a> {
         ensures ok { IfOk result (λ binds. self.old.words ≡ with_commas binds.items ++ token.Punctuation Close ∷ self.new.words) }
         ensures apart { IfOk result (λ binds. AreApart (map (λ b. b.input) binds.items)) }
         ensures tally { IfOk result (λ binds. tally.new ≡ record { instances = tally.old.instances; binds = tally.old.binds + length binds.items }) }
-        ensures value { IfErr result IsPlantFault }
+        ensures value { IfErr result IsWordFault }
     {
         let mut binds = Vec::new(alloc);
         if !self.sees_punctuation(Punctuation::Close) {
@@ -218,7 +218,7 @@ impl<'a> Reader<'a> {
         ensures ok { IfOk result (λ binds. self.old.words ≡ binds_words (listed binds) ++ self.new.words) }
         ensures apart { IfOk result (λ binds. AreApart (map (λ b. b.input) (items_or_none (listed binds)))) }
         ensures tally { IfOk result (λ binds. tally.new ≡ record { instances = tally.old.instances; binds = tally.old.binds + length (items_or_none (listed binds)) }) }
-        ensures value { IfErr result IsPlantFault }
+        ensures value { IfErr result IsWordFault }
     {
         if self.sees_punctuation(Punctuation::Open) {
             self.punctuation(Punctuation::Open)?;
@@ -238,7 +238,7 @@ impl<'a> Reader<'a> {
         ensures ok { IfOk result (λ name. self.old.words ≡ token.Name name ∷ self.new.words) }
         ensures new { IfOk result (λ name. IsNew (λ u. u.instance) (flat_map use_of before.now) name) }
         ensures tally { OnOk result (tally.new ≡ record { instances = tally.old.instances + 1; binds = tally.old.binds }) }
-        ensures value { IfErr result IsPlantFault }
+        ensures value { IfErr result IsWordFault }
     {
         let name = self.name(alloc)?;
         check_new(&name, is_instance(before, &name), false)?;
@@ -250,7 +250,7 @@ impl<'a> Reader<'a> {
     fn known_task(&mut self, alloc: Global, before: &[Item]) -> Result<Name, PlantFault>
         ensures ok { IfOk result (λ name. self.old.words ≡ token.Name name ∷ self.new.words) }
         ensures known { IfOk result (λ name. Any (λ t. IsTrue (is_named name t.name)) (flat_map task_of before.now)) }
-        ensures value { IfErr result IsPlantFault }
+        ensures value { IfErr result IsWordFault }
     {
         let name = self.name(alloc)?;
         if is_task(before, &name) {
@@ -273,7 +273,7 @@ impl<'a> Reader<'a> {
         ensures new { IfOk result (λ u. IsNew (λ u. u.instance) (flat_map use_of before.now) u.instance) }
         ensures lawful { IfOk result (λ u. IsUseLawful (types_alone types.now) before.now u) }
         ensures tally { IfOk result (λ u. tally.new ≡ tally_with tally.old (u ∷ [])) }
-        ensures value { IfErr result IsPlantFault }
+        ensures value { IfErr result IsWordFault }
     {
         self.keyword(Keyword::Program)?;
         let instance = self.instance_name(alloc, before, tally)?;
@@ -305,7 +305,7 @@ impl<'a> Reader<'a> {
         ensures ok { IfOk result (λ x. self.old.words ≡ item_words x ++ self.new.words) }
         ensures lawful { IfOk result (λ x. MayFollow (types_alone types.now) before.now x) }
         ensures tally { IfOk result (λ x. tally.new ≡ tally_with tally.old (use_of x)) }
-        ensures value { IfErr result IsPlantFault }
+        ensures value { IfErr result IsWordFault }
     {
         if self.sees_keyword(Keyword::Task) {
             Ok(Item::Task(self.task(alloc, before)?))
@@ -325,7 +325,7 @@ impl<'a> Reader<'a> {
         ensures ok { IfOk result (λ xs. self.old.words ≡ items_words xs.items ++ self.new.words) }
         ensures lawful { IfOk result (λ xs. AreItemsLawful (types_alone types.now) xs.items) }
         ensures tally { IfOk result (λ xs. tally.new ≡ tally_with tally.old (flat_map use_of xs.items)) }
-        ensures value { IfErr result IsPlantFault }
+        ensures value { IfErr result IsWordFault }
     {
         let mut items = Vec::new(alloc);
         'items: while !self.sees_keyword(Keyword::EndResource) {
@@ -341,7 +341,7 @@ impl<'a> Reader<'a> {
         ensures ok { IfOk result (λ name. self.old.words ≡ token.Name name ∷ self.new.words) }
         ensures new { IfOk result (λ name. IsNew (λ r. r.name) before.now name) }
         ensures few { OnOk result (length before.now < 16) }
-        ensures value { IfErr result IsPlantFault }
+        ensures value { IfErr result IsWordFault }
     {
         let name = self.name(alloc)?;
         check_new(
@@ -366,7 +366,7 @@ impl<'a> Reader<'a> {
         ensures few { OnOk result (length before.now < 16) }
         ensures lawful { IfOk result (λ r. IsResourceLawful (types_alone types.now) r) }
         ensures tally { IfOk result (λ r. tally.new ≡ tally_with tally.old (uses_of r)) }
-        ensures value { IfErr result IsPlantFault }
+        ensures value { IfErr result IsWordFault }
     {
         self.keyword(Keyword::Resource)?;
         let name = self.resource_name(alloc, before)?;
@@ -388,7 +388,7 @@ impl<'a> Reader<'a> {
         ensures some { IfOk result (λ rs. 0 < length rs.items) }
         ensures lawful { IfOk result (λ rs. AreResourcesLawful (types_alone types.now) rs.items) }
         ensures tally { IfOk result (λ rs. tally.new ≡ tally_with tally.old (flat_map uses_of rs.items)) }
-        ensures value { IfErr result IsPlantFault }
+        ensures value { IfErr result IsWordFault }
     {
         let mut resources = Vec::new(alloc);
         'resources: while resources.is_empty() || !self.sees_keyword(Keyword::EndConfiguration) {

@@ -1,7 +1,8 @@
 //! The whole of a plant's text, but for its sources.
 
 ghost use Rattle.std.specs.Prelude.{IfOk, IfErr};
-ghost use Rattle.plant.specs.Faults.{IsPlantFault};
+ghost use Rattle.plant.specs.BodyFaults.{IsFaultOfBodies};
+ghost use Rattle.plant.specs.Faults.{IsPlantFault, IsOfBody};
 ghost use Rattle.plant.specs.Steps.Drawn.{Draws};
 ghost use Rattle.plant.specs.Steps.Reading.{IsReadingOf};
 
@@ -18,7 +19,7 @@ use std::alloc::Global;
 ///
 /// `draw` draws the bodies. Those before the fault of a word are drawn too, as their faults are met first.
 /// What stands behind the configuration is left in the reader.
-#[tactic(auto, using(crate::proofs::TypeLemmas::no_programs), unfolding(crate::specs::Grammar::words_of))]
+#[tactic(auto, using(crate::proofs::TypeLemmas::no_programs, crate::proofs::FaultLemmas::plant_of_word, crate::proofs::FaultLemmas::no_body_fault), unfolding(crate::specs::Grammar::words_of))]
 pub fn read_tree<'a, D>(
     alloc: Global,
     reader: &mut Reader<'a>,
@@ -30,6 +31,7 @@ where
     requires draws { Draws (D.post draw) }
     ensures ok { IfOk result (λ reading. IsReadingOf reader.old.words reading reader.new.words) }
     ensures value { IfErr result IsPlantFault }
+    ensures body { IfErr result (λ fault. IsOfBody fault.kind → IsFaultOfBodies reader.old.words fault) }
 {
     let mut texts = Vec::new(alloc);
     let programs = reader.programs(alloc, &mut texts);

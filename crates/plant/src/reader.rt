@@ -1,5 +1,5 @@
 ghost use Rattle.std.specs.Prelude.{◌≡◌, ◌≢◌, ◌∷◌, List, map, OnOk, IfOk, OnErr, IfErr, IsTrue, IsFalse};
-ghost use Rattle.plant.specs.Faults.{IsPlantFault};
+ghost use Rattle.plant.specs.Faults.{IsWordFault};
 ghost use Rattle.plant.specs.declared.token.Token.TheVariants as token;
 ghost use Rattle.plant.specs.declared.plant_fault.PlantFaultKind.TheVariants.{Memory};
 ghost use Rattle.plant.specs.Steps.Lines.{next_line, syntax_at};
@@ -66,7 +66,7 @@ impl<'a> Reader<'a> {
     pub fn end(&self) -> Result<(), PlantFault>
         ensures ok { OnOk result (self.now.words ≡ []) }
         ensures err { IfErr result (λ e. (e ≡ syntax_at self.now) × (self.now.words ≢ [])) }
-        ensures value { IfErr result IsPlantFault }
+        ensures value { IfErr result IsWordFault }
     {
         match self.words {
             [] => Ok(()),
@@ -79,7 +79,7 @@ impl<'a> Reader<'a> {
         ensures ok { OnOk result (self.old.words ≡ token.Keyword keyword ∷ self.new.words) }
         ensures err { IfErr result (λ e. (e ≡ syntax_at self.old) × (self.new ≡ self.old)) }
         ensures other { OnErr result ((rest : List Token) → self.old.words ≡ token.Keyword keyword ∷ rest → ⊥) }
-        ensures value { IfErr result IsPlantFault }
+        ensures value { IfErr result IsWordFault }
     {
         match self.words {
             [word, rest @ ..] if word.is_keyword(keyword) => {
@@ -95,7 +95,7 @@ impl<'a> Reader<'a> {
         ensures ok { OnOk result (self.old.words ≡ token.Punctuation punctuation ∷ self.new.words) }
         ensures err { IfErr result (λ e. (e ≡ syntax_at self.old) × (self.new ≡ self.old)) }
         ensures other { OnErr result ((rest : List Token) → self.old.words ≡ token.Punctuation punctuation ∷ rest → ⊥) }
-        ensures value { IfErr result IsPlantFault }
+        ensures value { IfErr result IsWordFault }
     {
         match self.words {
             [word, rest @ ..] if word.is_punctuation(punctuation) => {
@@ -111,7 +111,7 @@ impl<'a> Reader<'a> {
         ensures ok { IfOk result (λ name. self.old.words ≡ token.Name name ∷ self.new.words) }
         ensures err { IfErr result (λ e. e.kind ≢ Memory → e ≡ syntax_at self.old) }
         ensures kept { OnErr result (self.new ≡ self.old) }
-        ensures value { IfErr result IsPlantFault }
+        ensures value { IfErr result IsWordFault }
     {
         match self.words {
             [word, rest @ ..] => match word.token() {
@@ -131,7 +131,7 @@ impl<'a> Reader<'a> {
         ensures ok { IfOk result (λ body. self.old.words ≡ token.Body body ∷ self.new.words) }
         ensures err { IfErr result (λ e. e.kind ≢ Memory → e ≡ syntax_at self.old) }
         ensures kept { OnErr result (self.new ≡ self.old) }
-        ensures value { IfErr result IsPlantFault }
+        ensures value { IfErr result IsWordFault }
     {
         match self.words {
             [word, rest @ ..] => match word.token() {
@@ -151,7 +151,7 @@ impl<'a> Reader<'a> {
         ensures ok { IfOk result (λ n. self.old.words ≡ token.Duration n ∷ self.new.words) }
         ensures err { IfErr result (λ e. (e ≡ syntax_at self.old) × (self.new ≡ self.old)) }
         ensures other { OnErr result ((n : ℕ) (rest : List Token) → self.old.words ≡ token.Duration n ∷ rest → ⊥) }
-        ensures value { IfErr result IsPlantFault }
+        ensures value { IfErr result IsWordFault }
     {
         match self.words {
             [word, rest @ ..] => match word.token() {
@@ -170,7 +170,7 @@ impl<'a> Reader<'a> {
         ensures ok { IfOk result (λ n. self.old.words ≡ token.Number n ∷ self.new.words) }
         ensures err { IfErr result (λ e. (e ≡ syntax_at self.old) × (self.new ≡ self.old)) }
         ensures other { OnErr result ((n : ℕ) (rest : List Token) → self.old.words ≡ token.Number n ∷ rest → ⊥) }
-        ensures value { IfErr result IsPlantFault }
+        ensures value { IfErr result IsWordFault }
     {
         match self.words {
             [word, rest @ ..] => match word.token() {
@@ -189,7 +189,7 @@ impl<'a> Reader<'a> {
         ensures ok { IfOk result (λ a. self.old.words ≡ token.Address a ∷ self.new.words) }
         ensures err { IfErr result (λ e. (e ≡ syntax_at self.old) × (self.new ≡ self.old)) }
         ensures other { OnErr result ((a : Address) (rest : List Token) → self.old.words ≡ token.Address a ∷ rest → ⊥) }
-        ensures value { IfErr result IsPlantFault }
+        ensures value { IfErr result IsWordFault }
     {
         match self.words {
             [word, rest @ ..] => match word.token() {
@@ -208,7 +208,7 @@ impl<'a> Reader<'a> {
         ensures ok { IfOk result (λ b. self.old.words ≡ token.Block b ∷ self.new.words) }
         ensures err { IfErr result (λ e. (e ≡ syntax_at self.old) × (self.new ≡ self.old)) }
         ensures other { OnErr result ((b : BlockType) (rest : List Token) → self.old.words ≡ token.Block b ∷ rest → ⊥) }
-        ensures value { IfErr result IsPlantFault }
+        ensures value { IfErr result IsWordFault }
     {
         match self.words {
             [word, rest @ ..] => match word.token() {

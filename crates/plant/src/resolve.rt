@@ -1,5 +1,5 @@
 ghost use Rattle.std.specs.Prelude.{ℕ, List, IfOk, IfErr};
-ghost use Rattle.plant.specs.Faults.{IsPlantFault};
+ghost use Rattle.plant.specs.Faults.{IsWordFault};
 ghost use Rattle.plant.specs.Faultless.{IsFaultless};
 ghost use Rattle.plant.specs.Steps.Reading.{tree_of};
 ghost use Rattle.plant.specs.StandsFor.{IsPlantOf};
@@ -16,7 +16,7 @@ use std::alloc::Global;
 pub fn resolve(alloc: Global, reading: &Reading) -> Result<Plant, PlantFault>
     requires { (name : List ℕ) × IsFaultless (tree_of name reading.now) }
     ensures ok { IfOk result (λ p. (name : List ℕ) → IsPlantOf (tree_of name reading.now) p) }
-    ensures value { IfErr result IsPlantFault }
+    ensures value { IfErr result IsWordFault }
 {
     let types = reading.types();
     let resources = reading.resources();

@@ -1,5 +1,5 @@
 ghost use Rattle.std.specs.Prelude.{◌≡◌, ◌≤◌, ◌+◌, OnOk, IfErr};
-ghost use Rattle.plant.specs.Faults.{IsPlantFault};
+ghost use Rattle.plant.specs.Faults.{IsWordFault};
 ghost use Rattle.plant.specs.declared.plant_fault.PlantFaultKind.TheVariants.{TooMany};
 
 use crate::name::Name;
@@ -63,7 +63,7 @@ impl Tally {
     pub fn add_instance(&mut self, name: &Name) -> Result<(), PlantFault>
         ensures ok { OnOk result (self.new ≡ record { instances = self.old.instances + 1; binds = self.old.binds }) }
         ensures err { IfErr result (λ e. (e.kind ≡ TooMany) × (self.new ≡ self.old) × (self.old.instances ≡ 64)) }
-        ensures value { IfErr result IsPlantFault }
+        ensures value { IfErr result IsWordFault }
     {
         if self.instances >= MOST_INSTANCES {
             return Err(PlantFault::at(PlantFaultKind::TooMany, name.line()));
@@ -76,7 +76,7 @@ impl Tally {
     pub fn add_bind(&mut self, input: &Name) -> Result<(), PlantFault>
         ensures ok { OnOk result (self.new ≡ record { instances = self.old.instances; binds = self.old.binds + 1 }) }
         ensures err { IfErr result (λ e. (e.kind ≡ TooMany) × (self.new ≡ self.old) × (self.old.binds ≡ 4096)) }
-        ensures value { IfErr result IsPlantFault }
+        ensures value { IfErr result IsWordFault }
     {
         if self.binds >= MOST_BINDS {
             return Err(PlantFault::at(PlantFaultKind::TooMany, input.line()));

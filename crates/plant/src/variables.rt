@@ -1,5 +1,5 @@
 ghost use Rattle.std.specs.Prelude.{◌≡◌, ◌↔◌, ◌+◌, ◌<◌, ◌≤◌, ◌++◌, [], ◌∷◌, IsTrue, Any, OnOk, length, IfErr};
-ghost use Rattle.plant.specs.Faults.{IsPlantFault};
+ghost use Rattle.plant.specs.Faults.{IsWordFault};
 ghost use Rattle.power_flow.specs.Names.{IsDeclared};
 ghost use Rattle.plant.specs.Names.{is_named};
 ghost use Rattle.plant.specs.Faultless.{declared_as, list_variables};
@@ -88,7 +88,7 @@ impl Variables {
         ensures undeclared { OnOk result (IsDeclared self.now name.now → ⊥) }
         ensures new { OnOk result (Any (λ n. IsTrue (is_named name.now n)) more.now → ⊥) }
         ensures few { OnOk result (length self.now + length more.now < 1000) }
-        ensures value { IfErr result IsPlantFault }
+        ensures value { IfErr result IsWordFault }
     {
         let is_full = more.len() >= MOST_NAMES - self.len();
         check_new(name, self.has(name) || is_among(more, name), is_full)
@@ -97,7 +97,7 @@ impl Variables {
     /// Declares a name at the end. After an error the variables are as before.
     fn add(&mut self, name: &Name, declared: Declared) -> Result<(), PlantFault>
         ensures ok { OnOk result (self.new ≡ self.old ++ record { name = name.now; declared = declared } ∷ []) }
-        ensures value { IfErr result IsPlantFault }
+        ensures value { IfErr result IsWordFault }
     {
         if self.declarations.len() >= MOST_NAMES {
             return Err(PlantFault::at(PlantFaultKind::TooMany, name.line()));
@@ -112,7 +112,7 @@ impl Variables {
     /// Declares the names of a list of a section.
     pub fn add_list(&mut self, section: Section, list: &NameList) -> Result<(), PlantFault>
         ensures ok { OnOk result (self.new ≡ self.old ++ list_variables section list.now) }
-        ensures value { IfErr result IsPlantFault }
+        ensures value { IfErr result IsWordFault }
     {
         let declared = declared_as(section, list.type_name);
         for name in &list.names {

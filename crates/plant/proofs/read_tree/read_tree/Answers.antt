@@ -1,4 +1,11 @@
-use Rattle.std.proofs.Common.{rules, ◌≡◌, ◌++◌, ◌∙◌, ap, sym, subst}
+use Rattle.std.proofs.Common.{rules, ◌≡◌, ◌≢◌, List, ◌++◌, ◌∙◌, ap, sym, subst}
+use Rattle.std.specs.Prelude.{OnOk, OnErr}
+use Rattle.plant.specs.BodyFaults.{IsFirstBodyFault, IsFaultOfBodies}
+use Rattle.plant.specs.Faults.{IsOfBody}
+use Rattle.plant.specs.declared.plant_fault.PlantFaultKind.TheVariants.{Memory}
+use Rattle.plant.specs.declared.token.Token.{Token}
+use Rattle.plant.proofs.FaultLemmas.{body_met}
+use Rattle.plant.proofs.Moments.{kept_fault}
 use Rattle.std.specs.List.{flat_map}
 use Rattle.plant.specs.Faultless.{uses_of}
 use Rattle.plant.specs.Grammar.{program_words}
@@ -25,3 +32,16 @@ returns-clause-ok g c =
     (subst (λ ts. AreResourcesLawful (types_alone ts) resources) c.deref.ensures.value c.in_ok-resources.ensures.lawful)
     (c.in_ok-resources.ensures.tally ∙ ap (λ t. tally_with t (flat_map uses_of resources)) c.new-tally.ensures)
     c.instances-instances.ensures.few c.binds-binds.ensures.few)
+
+pub returns-in_err-types-clause-body : goal.returns-in_err-types-clause-body
+returns-in_err-types-clause-body g c =
+    let texts = c.programs-programs.new.texts.items in
+    let start = c.args.reader.now.words in
+    let fault = c.in_err-types.field-0.0 in
+    let one = c.programs-programs.new.self.words in
+    let all = c.requires.draws c.programs-programs.new.texts c.draw.result c.draw.ensures in
+    let first : fault.kind ≢ Memory → IsFirstBodyFault texts fault = rw c.in_err-types.was at all.2 in
+    let ok = subst (λ ts. OnOk c.programs-programs.result (flat_map program_words (programs_of ts) ++ start ≡ flat_map program_words (programs_of texts) ++ one)) c.new-texts.ensures.items c.programs-programs.ensures.ok in
+    let err = subst (λ ts. OnErr c.programs-programs.result ((rest : List Token) × (flat_map program_words (programs_of ts) ++ start ≡ flat_map program_words (programs_of texts) ++ rest))) c.new-texts.ensures.items c.programs-programs.ensures.err in
+    kept_fault fault (λ f. IsOfBody f.kind → IsFaultOfBodies start f) c.from_residual.result c.from_residual.ensures.1
+    (body_met start one texts c.programs-programs.result fault ok err first)
