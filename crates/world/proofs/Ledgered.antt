@@ -160,22 +160,12 @@ index-named first t i n (x ∷ older) fit = by (same_task x.name.task t) refl (i
       ∙ ap (λ o. cond (eqb x.name.incarnation i && eqb x.name.number n) (Some (length older)) o) ih
   by false e ih = ih
 
--- a book without entries
-pub tables-first : (first : List ℕ) → AreTables first [] first [] []
-tables-first first = record { incarnations = refl; places = λ t. refl; latest = λ n q. refl }
-
 made-at : (rows : List Taker) (n : ℕ) (q : TaskRef) (us : List Take) → Each (λ (u : Take). has_row rows n u.producer ≡ true) us → list_any (λ (u : Take). same_task u.producer q) us ≡ true → has_row rows n q ≡ true
 made-at rows n q [] all has = absurd (false≢true has)
 made-at rows n q (u ∷ us) all has = by (same_task u.producer q) refl has (made-at rows n q us all.1) where
   by : (b : Bool) → same_task u.producer q ≡ b → (b || list_any (λ (u : Take). same_task u.producer q) us) ≡ true → (list_any (λ (u : Take). same_task u.producer q) us ≡ true → has_row rows n q ≡ true) → has_row rows n q ≡ true
   by true e h ih = subst (λ p. has_row rows n p ≡ true) (same_task-true u.producer q e) all.0
   by false e h ih = ih h
-
--- the same tables, but for rows that tell of nothing
-pub tables-same : (first : List ℕ) (older : List Evaluated) (present : List ℕ) (tasks tasks_made : List TaskPlaces) (takers takers_made : List Taker) → ((t : TaskRef) → places_in tasks_made t ≡ places_in tasks t)
-    → ((n : ℕ) (q : TaskRef) → taker_in takers_made n q ≡ taker_in takers n q) → AreTables first older present tasks takers → AreTables first older present tasks_made takers_made
-tables-same first older present tasks tasks_made takers takers_made same alike tables =
-    record { incarnations = tables.incarnations; places = λ t. same t ∙ tables.places t; latest = λ n q. alike n q ∙ tables.latest n q }
 
 -- the tables of one entry more
 pub tables-more : (first : List ℕ) (older : List Evaluated) (present : List ℕ) (tasks tasks_more : List TaskPlaces) (takers takers_made : List Taker) (x : Evaluated) → AreTables first older present tasks takers
