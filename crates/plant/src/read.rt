@@ -1,6 +1,6 @@
 ghost use Rattle.std.specs.Prelude.{IfOk, IfErr};
-ghost use Rattle.plant.specs.Faults.{IsPlantFault};
-ghost use Rattle.plant.specs.PlantText.{IsPlantText};
+ghost use Rattle.plant.specs.Faults.{IsPlantFault, IsOfBody};
+ghost use Rattle.plant.specs.PlantText.{IsPlantText, IsBodyFaultIn};
 ghost use Rattle.plant.specs.Steps.Drawn.{Draws};
 
 use crate::drawn::{draw_all, draw_in_threads};
@@ -16,7 +16,7 @@ use std::alloc::Global;
 use std::thread::Threads;
 
 /// Reads the text of a plant, in which `draw` draws the bodies of programs.
-#[tactic(auto, using(crate::proofs::FaultLemmas::plant_of_word))]
+#[tactic(auto, using(crate::proofs::FaultLemmas::plant_of_word, crate::proofs::FaultLemmas::no_body_fault))]
 fn read_by<D>(alloc: Global, text: &str, draw: D) -> Result<Plant, PlantFault>
 where
     D: FnOnce(Vec<ProgramText>) -> Result<Vec<ProgramType>, PlantFault>,
@@ -24,6 +24,7 @@ where
     requires draws { Draws (D.post draw) }
     ensures ok { IfOk result (λ p. IsPlantText text.now p) }
     ensures value { IfErr result IsPlantFault }
+    ensures body { IfErr result (λ fault. IsOfBody fault.kind → IsBodyFaultIn text.now fault) }
 {
     let words = read_words(alloc, text)?;
     let mut reader = Reader::new(words.words(), words.last());
@@ -39,6 +40,7 @@ impl Plant {
     pub fn read(alloc: Global, text: &str) -> Result<Plant, PlantFault>
         ensures ok { IfOk result (λ p. IsPlantText text.now p) }
         ensures value { IfErr result IsPlantFault }
+        ensures body { IfErr result (λ fault. IsOfBody fault.kind → IsBodyFaultIn text.now fault) }
     {
         read_by(alloc, text, |texts| draw_all(alloc, texts))
     }
@@ -51,6 +53,7 @@ impl Plant {
     ) -> Result<Plant, PlantFault>
         ensures ok { IfOk result (λ p. IsPlantText text.now p) }
         ensures value { IfErr result IsPlantFault }
+        ensures body { IfErr result (λ fault. IsOfBody fault.kind → IsBodyFaultIn text.now fault) }
     {
         read_by(alloc, text, |texts| draw_in_threads(rt, alloc, texts))
     }

@@ -2,7 +2,7 @@ use Rattle.std.proofs.Common.{◌≢◌, ◌++◌, ◌∷◌, []}
 use Rattle.plant.specs.declared.plant_fault.PlantFaultKind.TheVariants.{Memory}
 use Rattle.plant.specs.BodyFaults.{IsFirstBodyFault}
 use Rattle.plant.proofs.Moments.{kept_fault}
-use Rattle.plant.proofs.DrawnLemmas.{drawn_more, passed_more, drawn_whole, first_refused}
+use Rattle.plant.proofs.DrawnLemmas.{drawn_more, passed_more, first_refused}
 use Rattle.plant.proofs.drawn.draw_all.Goals as goal
 
 pub loop-text-preserved : goal.loop-text-preserved

@@ -7,6 +7,10 @@ use Rattle.plant.specs.Spelling.{Spells}
 use Rattle.plant.specs.Grammar.{words_of}
 use Rattle.plant.specs.Steps.Reading.{tree_of}
 use Rattle.plant.specs.Steps.Lines.{WordValue, ReaderValue}
+use Rattle.plant.specs.BodyFaults.{IsFaultOfBodies}
+use Rattle.plant.specs.Faults.{IsOfBody}
+use Rattle.plant.specs.PlantText.{IsBodyFaultIn}
+use Rattle.plant.proofs.Moments.{kept_fault}
 use Rattle.plant.proofs.KnownWords.{words_known}
 use Rattle.plant.proofs.read.read_by.Goals as goal
 
@@ -24,3 +28,11 @@ returns-clause-ok g c =
       faultless = read.faultless;
       stands = c.in_ok-plant.ensures.ok read.name;
     }
+
+pub returns-in_err-reading-clause-body : goal.returns-in_err-reading-clause-body
+returns-in_err-reading-clause-body g c =
+    let fault = c.in_err-reading.field-0.0 in
+    let spelled = map (λ (w : WordValue). w.token) c.in_ok-words.words in
+    let words : spelled ≡ c.new-reader.result.words = ap (λ (ws : List WordValue). map (λ (w : WordValue). w.token) ws) (sym c.words-2.ensures) ∙ ap (λ (r : ReaderValue). r.words) (sym c.new-reader.ensures) in
+    kept_fault fault (λ f. IsOfBody f.kind → IsBodyFaultIn c.args.text.now f) c.from_residual-in_err-reading.result c.from_residual-in_err-reading.ensures.1
+    (λ of. record { words = spelled; spelled = c.in_ok-words.ensures; first = subst (λ (ws : List Token). IsFaultOfBodies ws fault) (sym words) (c.in_err-reading.ensures.body of) })

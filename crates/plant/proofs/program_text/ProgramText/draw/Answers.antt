@@ -1,5 +1,4 @@
 use Rattle.std.proofs.Common.{◌≡◌, ◌∙◌, ap}
-use Rattle.ladder_text.specs.Rows.{rows_of}
 use Rattle.plant.specs.BodyFaults.{TextValue, body_line, picture_in}
 use Rattle.plant.specs.Faultless.{variables}
 use Rattle.plant.proofs.BodyLemmas.{drawing_refused, networks_refused, names_refused}
