@@ -31,3 +31,5 @@ pub mod Faultless
 pub mod DurationLemmas
 pub mod DurationParse
 pub mod DurationWords
+pub mod PairLemmas
+pub mod FinePlaces

@@ -15,7 +15,7 @@ use Rattle.ladder_text.specs.declared.span.Span.{Span}
 use Rattle.ladder_text.specs.Boxes.{meets_row}
 use Rattle.ladder_text.specs.Names.{top_span}
 use Rattle.ladder_text.specs.Faults.{share_place, takes_word, some_takes_word}
-use Rattle.ladder_text.specs.Steps.RowBoxes.{box_test, word_test, HavePinsByRow, IsInRows, AreInOrder, holds, holds_at, numbers_below, numbers_on, AreNumbered, top_at}
+use Rattle.ladder_text.specs.Steps.RowBoxes.{box_test, word_test, HavePinsByRow, IsInRows, AreInOrder, holds, holds_at, numbers_below, numbers_on, AreNumbered, top_at, IsBare}
 use Rattle.ladder_text.specs.FirstFault.{shares_before}
 
 or-false : (b : Bool) → (b || false) ≡ b
@@ -67,6 +67,14 @@ test_meets BlindRight r c b h = search (rules, tests)
 -- whether a box passes a test at a place
 pub any_test : (bs : List Outline) (t : BoxTest) (r c : ℕ) → list_any (holds_at bs (box_test t r c)) (numbers_on bs r) ≡ list_any (box_test t r c) bs
 any_test bs t r c = any-on bs (box_test t r c) r (λ i b e. test_meets t r c b)
+
+nil_of : (xs : List ℕ) → length xs ≡ 0 → xs ≡ []
+nil_of [] h = refl
+nil_of (x ∷ xs) h = absurd (omega arith)
+
+-- on a row that no box has, none passes a test
+pub bare_of : (bs : List Outline) (r : ℕ) → length (numbers_on bs r) ≡ 0 → IsBare bs r
+bare_of bs r h = record { none = λ t c. sym (any_test bs t r c) ∙ ap (list_any (holds_at bs (box_test t r c))) (nil_of (numbers_on bs r) h) }
 
 word_meets : (n : ℕ) (b : Outline) → IsInRows n b → (s : Side) (r c : ℕ) → list_any (takes_word s r c) b.pins ≡ true → meets_row r b ≡ true
 word_meets n b i s r c h =

@@ -1,12 +1,12 @@
 //! The boxes of a text, and which of them have a row.
 
-ghost use Rattle.std.specs.Prelude.{◌≡◌, ◌==◌, ◌++◌, ◌∷◌, ◌+◌, ◌<◌, ◌≤◌, ◌^◌, ℕ, [], ◌&&◌, nat_lt, map, length, slice_get, slice_index_or, is_some, is_none, Some, OnOk, IfOk, IfSome};
+ghost use Rattle.std.specs.Prelude.{◌≡◌, ◌==◌, ◌++◌, ◌∷◌, ◌+◌, ◌<◌, ◌≤◌, ◌^◌, ℕ, [], ◌&&◌, nat_lt, map, length, slice_get, slice_index_or, is_some, is_none, Some, OnOk, IfOk, IfSome, IsTrue};
 ghost use Rattle.std.specs.List.{list_any, list_all, filter, filter_map};
 ghost use Rattle.ladder_text.specs.declared.drawn_box.Side.TheVariants as side;
 ghost use Rattle.ladder_text.specs.Boxes.{outlines};
 ghost use Rattle.ladder_text.specs.Names.{top_span};
 ghost use Rattle.ladder_text.specs.Faults.{share_place, is_apart, some_takes_word, is_stray_operand, has_stray_pin};
-ghost use Rattle.ladder_text.specs.Steps.RowBoxes.{box_test, word_test, HavePinsByRow, holds_at, numbers_on, AreNumbered, top_at, IsFirstShared};
+ghost use Rattle.ladder_text.specs.Steps.RowBoxes.{box_test, word_test, HavePinsByRow, holds_at, numbers_on, AreNumbered, top_at, IsFirstShared, IsBare};
 ghost use Rattle.ladder_text.specs.FirstFault.{shares_before, IsSharedAt, IsStrayPinAt, IsStrayBoxAt, IsStrayOperandAt};
 ghost use Rattle.ladder_text.specs.Steps.Search.{IsFirstOf};
 
@@ -207,6 +207,13 @@ impl Boxes {
         ensures { result ≡ list_any (box_test test row column) self.now }
     {
         any_test(&self.outlines, self.on_row(row), test, row, column)
+    }
+
+    /// Whether no box has a row.
+    pub fn is_bare(&self, row: usize) -> bool
+        ensures { IsTrue result → IsBare self.now row }
+    {
+        self.on_row(row).is_empty()
     }
 
     /// Whether the operand of a pin on a side begins at a place.

@@ -26,6 +26,7 @@ mod numbers;
 mod outline;
 mod outlines;
 mod page;
+mod pairs;
 mod place;
 mod place_fault;
 mod railed_sheet;

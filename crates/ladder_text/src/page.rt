@@ -3,6 +3,8 @@
 ghost use Rattle.std.specs.Prelude.{◌≡◌, ◌||◌, ◌∷◌, ◌+◌, ◌-◌, ◌<◌, ◌≤◌, ◌^◌, ℕ, IsTrue, IsFalse, IfNone, IfSome, IfOk, length};
 ghost use Rattle.ladder_text.specs.Rows.{char_at, width, height};
 ghost use Rattle.ladder_text.specs.Places.{layout_of, is_line, is_vertical, is_box_part, is_symbol, is_taken, gives, mark as place_mark};
+ghost use Rattle.ladder_text.specs.Boxes.{outlines};
+ghost use Rattle.ladder_text.specs.Steps.RowBoxes.{IsBare};
 ghost use Rattle.ladder_text.specs.Picture.{marks_of};
 ghost use Rattle.ladder_text.specs.Faults.{has_meaning, has_fed_join, is_first_of_symbol, is_blind, touches, is_fed, upright_len, bad_mark, crossing, no_source, has_fault, Nowhere, IsFoundAt};
 ghost use Rattle.ladder_text.specs.FirstFault.{IsFirstAt};
@@ -134,6 +136,15 @@ impl Page {
             || self.sheet().is_right_pin(row, column)
     }
 
+    /// Whether a place with a mark is seen to give state to its right, boxes aside.
+    #[tactic(auto, unfolding(crate::specs::Places::layout_of, crate::specs::Places::gives))]
+    fn mark_gives(&self, mark: Mark, row: usize, column: usize) -> bool
+        requires { mark ≡ place_mark (layout_of self.now) row column }
+        ensures { IsTrue result → IsTrue (gives (layout_of self.now) row column) }
+    {
+        is_line(mark) || (mark == Mark::Rail && column == self.sheet().left())
+    }
+
     fn touches(&self, row: usize, column: usize) -> bool
         requires { column < 2 ^ 62 }
         ensures { result ≡ touches (layout_of self.now) row column }
@@ -243,6 +254,18 @@ impl Page {
                 && !self.has_fed_join(row, column))
     }
 
+    /// Whether a place with a mark has no fault.
+    fn is_faultless_at(&self, mark: Mark, row: usize, column: usize) -> bool
+        requires row { row < 2 ^ 62 }
+        requires column { column < 2 ^ 61 }
+        requires mark { mark ≡ place_mark (layout_of self.now) row column }
+        ensures { IsTrue result → (fault : PlaceFault) → IsFalse (has_fault fault (layout_of self.now) row column) }
+    {
+        !self.bad_mark(mark, row, column)
+            && !self.crossing(mark, row, column)
+            && !self.no_source(mark, row, column)
+    }
+
     fn has_fault(&self, fault: PlaceFault, row: usize, column: usize) -> bool
         requires row { row < 2 ^ 62 }
         requires column { column < 2 ^ 61 }
@@ -254,6 +277,76 @@ impl Page {
             PlaceFault::Crossing => self.crossing(mark, row, column),
             PlaceFault::NoSource => self.no_source(mark, row, column),
         }
+    }
+
+    /// Whether a place in a row without boxes surely has no fault, by the mark before it and its own.
+    #[tactic(auto, unfolding(crate::specs::Places::layout_of))]
+    fn is_fine(&self, before: Mark, mark: Mark, row: usize, column: usize) -> bool
+        requires row { row < 2 ^ 62 }
+        requires column { column < 2 ^ 61 }
+        requires bare { IsBare (outlines self.now) row }
+        requires before { before ≡ place_mark (layout_of self.now) row (column - 1) }
+        requires mark { mark ≡ place_mark (layout_of self.now) row column }
+        ensures { IsTrue result → (fault : PlaceFault) → IsFalse (has_fault fault (layout_of self.now) row column) }
+    {
+        match mark {
+            Mark::Wire | Mark::ContactPart | Mark::CoilPart => {
+                self.mark_gives(before, row, column.saturating_sub(1))
+            }
+            Mark::Blank | Mark::Rail => has_meaning(self.sheet().at(row, column)),
+            Mark::Join | Mark::Upright | Mark::BoxPart => self.is_faultless_at(mark, row, column),
+        }
+    }
+
+    /// Whether a row without boxes surely has no fault.
+    fn is_bare_row_fine(&self, row: usize) -> bool
+        requires row { row < 2 ^ 62 }
+        requires bare { IsBare (outlines self.now) row }
+        ensures { IsTrue result → (fault : PlaceFault) (c : ℕ) → c ≤ width self.now → IsFalse (has_fault fault (layout_of self.now) row c) }
+    {
+        let mut before = self.mark(row, 0);
+        for column in 0..self.last() + 1 {
+            let mark = self.mark(row, column);
+            if !self.is_fine(before, mark, row, column) {
+                return false;
+            }
+            before = mark;
+        }
+        true
+    }
+
+    /// Whether a row has no fault of a kind.
+    fn is_free(&self, fault: PlaceFault, row: usize) -> bool
+        requires { row < 2 ^ 62 }
+        ensures { IsTrue result → (c : ℕ) → c ≤ width self.now → IsFalse (has_fault fault (layout_of self.now) row c) }
+    {
+        self.fault_in_row(fault, row).is_none()
+    }
+
+    /// Whether a row surely has no fault.
+    #[tactic(auto, using(crate::proofs::FinePlaces::every_fault))]
+    fn is_row_fine(&self, row: usize) -> bool
+        requires { row < 2 ^ 62 }
+        ensures { IsTrue result → (fault : PlaceFault) (c : ℕ) → c ≤ width self.now → IsFalse (has_fault fault (layout_of self.now) row c) }
+    {
+        if self.sheet().is_bare(row) {
+            return self.is_bare_row_fine(row);
+        }
+        self.is_free(PlaceFault::BadMark, row)
+            && self.is_free(PlaceFault::Crossing, row)
+            && self.is_free(PlaceFault::NoSource, row)
+    }
+
+    /// Whether no place has a fault; `false` where that isn't quickly seen.
+    pub fn is_fine_everywhere(&self) -> bool
+        ensures { IsTrue result → (fault : PlaceFault) → Nowhere self.now (has_fault fault (layout_of self.now)) }
+    {
+        for row in 0..self.row_end() {
+            if !self.is_row_fine(row) {
+                return false;
+            }
+        }
+        true
     }
 
     fn fault_in_row(&self, fault: PlaceFault, row: usize) -> Option<usize>

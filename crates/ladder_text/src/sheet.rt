@@ -1,12 +1,12 @@
 //! The places of a text: what stands where, from the characters alone.
 
-ghost use Rattle.std.specs.Prelude.{◌≡◌, ◌∷◌, ◌+◌, ◌-◌, ◌<◌, ◌≤◌, ◌^◌, IfOk, IfErr, IfNone, IfSome, length, vec_len, slice_index_or, is_some, is_none};
+ghost use Rattle.std.specs.Prelude.{◌≡◌, ◌∷◌, ◌+◌, ◌-◌, ◌<◌, ◌≤◌, ◌^◌, IfOk, IfErr, IfNone, IfSome, length, vec_len, slice_index_or, is_some, is_none, IsTrue};
 ghost use Rattle.ladder_text.specs.Rows.{char_at, width, height};
 ghost use Rattle.ladder_text.specs.Chars.{contact_kind, coil_kind, is_word_char};
 ghost use Rattle.ladder_text.specs.Boxes.{begins_box, cut, left_column, outlines};
 ghost use Rattle.ladder_text.specs.Places.{layout_of, contact_at, coil_at, in_box, in_contact, in_coil, is_taken, may_be_rail, has_right_rail, in_operand, is_right_pin};
 ghost use Rattle.ladder_text.specs.Names.{tops};
-ghost use Rattle.ladder_text.specs.Steps.RowBoxes.{box_test, IsFirstShared};
+ghost use Rattle.ladder_text.specs.Steps.RowBoxes.{box_test, IsFirstShared, IsBare};
 ghost use Rattle.std.specs.List.{list_any};
 ghost use Rattle.ladder_text.specs.Faults.{blind_left, blind_right, bad_box, boxes_apart, has_stray_operand, Nowhere, IsFoundAt};
 ghost use Rattle.ladder_text.specs.FirstFault.{IsFirstAt, IsSharedAt, IsStrayOperandAt};
@@ -156,6 +156,13 @@ impl Sheet {
         ensures { result ≡ list_any (box_test test row column) (outlines self.now) }
     {
         self.boxes.any(test, row, column)
+    }
+
+    /// Whether no box has a row.
+    pub fn is_bare(&self, row: usize) -> bool
+        ensures { IsTrue result → IsBare (outlines self.now) row }
+    {
+        self.boxes.is_bare(row)
     }
 
     #[tactic(auto, unfolding(crate::specs::Places::layout_of))]

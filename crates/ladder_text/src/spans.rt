@@ -1,23 +1,26 @@
 //! The words of a row, and the symbols that they name.
 
 ghost use Rattle.std.specs.Prelude.{[], MatchOption, IfNone, IfSome, IsFalse, not, option_copied, find, min, is_some, ◌≡◌, ◌+◌, ◌-◌, ◌<◌, ◌≤◌, ◌^◌, IfOk, IsTrue, count_by, length};
-ghost use Rattle.std.specs.List.{list_any};
+ghost use Rattle.std.specs.List.{list_any, list_all};
 ghost use Rattle.ladder_text.specs.Rows.{width, run};
+ghost use Rattle.ladder_text.specs.Chars.{is_name};
 ghost use Rattle.ladder_text.specs.Places.{layout_of};
 ghost use Rattle.ladder_text.specs.Names.{in_word, words, symbol_at, symbols, tops, things, overlap, word_text, found_text, name_above};
 ghost use Rattle.ladder_text.specs.Faults.{has_earlier, is_second, stray_name, name_missing, AreNamed};
 ghost use Rattle.ladder_text.specs.FirstFault.{IsSpanAt};
+ghost use Rattle.ladder_text.specs.Steps.Pairs.{StandAbove};
 ghost use Rattle.ladder_text.specs.Steps.Search.{IsFirstColumnOf};
 ghost use Rattle.std.specs.Str.{IsAscii};
 
 use crate::names::{is_name, is_plain_name, is_word_char};
 use crate::page::Page;
+use crate::pairs::are_paired;
 use crate::span::Span;
 use crate::text::Text;
 use crate::worded_page::WordedPage;
 use std::alloc::{AllocError, Global};
 
-fn overlap(a: &Span, b: &Span) -> bool
+pub fn overlap(a: &Span, b: &Span) -> bool
     ensures { result ≡ overlap a.now b.now }
 {
     a.first < b.end && b.first < a.end
@@ -175,6 +178,25 @@ fn is_stray(page: &WordedPage, row: usize, word: &Span, named: &Named) -> bool
         || (!is_plain_name(text) && overlaps_any(word, &named.tops))
 }
 
+/// Whether the words of a row stand above the symbols of the next one, one above each, and no box begins there.
+fn stand_above(alloc: Global, page: &WordedPage, row: usize) -> Result<bool, AllocError>
+    requires { row < 2 ^ 62 }
+    ensures { IfOk result (λ above. IsTrue above → StandAbove (layout_of page.now) row) }
+{
+    let tops = page.sheet().tops(alloc, row + 1)?;
+    Ok(tops.is_empty() && are_paired(page.words(row), page.symbols(row + 1)))
+}
+
+/// Whether the words of a row are all names.
+#[tactic(auto, unfolding(crate::specs::Places::layout_of))]
+fn are_names(page: &WordedPage, row: usize) -> bool
+    ensures { result ≡ list_all (λ w. is_name (word_text (layout_of page.now) row w)) (words (layout_of page.now) row) }
+{
+    page.words(row)
+        .iter()
+        .all(|word| is_name(word_text(page, row, word)))
+}
+
 /// The first column of a word of a row that is stray.
 pub fn stray_in_row(
     alloc: Global,
@@ -188,6 +210,10 @@ pub fn stray_in_row(
         (λ _. IsTrue (list_any (stray_name (layout_of page.now) row) (words (layout_of page.now) row)))) }
     ensures first { IfOk result (λ found. IsFirstColumnOf (IsSpanAt (words (layout_of page.now) row) (stray_name (layout_of page.now) row)) found) }
 {
+    let above = stand_above(alloc, page, row)?;
+    if above && are_names(page, row) {
+        return Ok(None);
+    }
     let named = named_below(alloc, page, row)?;
     for word in page.words(row) {
         if is_stray(page, row, word, &named) {
@@ -210,12 +236,19 @@ pub fn unnamed_in_row(
     page: &WordedPage,
     row: usize,
 ) -> Result<Option<usize>, AllocError>
+    requires { row < 2 ^ 62 }
     ensures none { IfOk result (λ found. IfNone found
         (IsFalse (list_any (name_missing (layout_of page.now) row) (things (layout_of page.now) row)))) }
     ensures some { IfOk result (λ found. IfSome found
         (λ _. IsTrue (list_any (name_missing (layout_of page.now) row) (things (layout_of page.now) row)))) }
     ensures first { IfOk result (λ found. IsFirstColumnOf (IsSpanAt (things (layout_of page.now) row) (name_missing (layout_of page.now) row)) found) }
 {
+    if row > 0 {
+        let above = stand_above(alloc, page, row - 1)?;
+        if above {
+            return Ok(None);
+        }
+    }
     let here = things(alloc, page, row)?;
     let mut first = None;
     for thing in &here {

@@ -23,6 +23,10 @@ box_test RightPin r c = right_pin_at r c
 box_test BlindLeft r c = blind_left_of r c
 box_test BlindRight r c = blind_right_of r c
 
+-- no box passes a test on the row r
+pub record IsBare (bs : List Outline) (r : ℕ) : Type 0 where
+  pub none : (t : BoxTest) (c : ℕ) → list_any (box_test t r c) bs ≡ false
+
 -- the row of a pin
 abbrev pub row_of_pin : DrawnPin → ℕ
 row_of_pin q = q.row

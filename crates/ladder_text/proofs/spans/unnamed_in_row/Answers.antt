@@ -1,9 +1,11 @@
-use Rattle.std.proofs.Common.{sym, ◌∙◌, refl, Option, ap, ℕ}
+use Rattle.std.proofs.Common.{◌<◌, sym, ◌∙◌, refl, Option, ap, ℕ, arith}
 use Rattle.std.specs.Option.{is_some}
 use Rattle.ladder_text.specs.declared.span.Span.{Span}
 use Rattle.ladder_text.specs.Places.{layout_of}
 use Rattle.ladder_text.specs.Faults.{name_missing}
-use Rattle.ladder_text.proofs.SearchLemmas.{span_found, span_passed, any_found, any_passed}
+use Rattle.ladder_text.specs.Names.{things}
+use Rattle.ladder_text.proofs.PairLemmas.{paired_things}
+use Rattle.ladder_text.proofs.SearchLemmas.{no_span, span_found, span_passed, any_found, any_passed}
 use Rattle.ladder_text.proofs.spans.unnamed_in_row.Goals as goal
 use Rattle.ladder_text.proofs.spans.unnamed_in_row.Goals.{then-is_unnamed, else-is_unnamed}
 
@@ -29,3 +31,14 @@ loop-thing-preserved c =
             first = rw w.first-is (span_passed test xs i _ none c.loop-thing.first h refl before.first t);
           }
     ]
+
+pub returns-then-above-clause-none : goal.returns-then-above-clause-none
+returns-then-above-clause-none c =
+    let some : 0 < c.args.row = omega arith in
+    paired_things (layout_of c.args.page.now) c.args.row some (c.in_ok-above.ensures c.if-above.true)
+
+pub returns-then-above-clause-first : goal.returns-then-above-clause-first
+returns-then-above-clause-first c =
+    let p = layout_of c.args.page.now in
+    let some : 0 < c.args.row = omega arith in
+    no_span (name_missing p c.args.row) (things p c.args.row) (paired_things p c.args.row some (c.in_ok-above.ensures c.if-above.true))
