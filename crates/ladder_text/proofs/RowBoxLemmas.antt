@@ -13,6 +13,7 @@ use Rattle.ladder_text.specs.declared.box_test.BoxTest.{BoxTest}
 use Rattle.ladder_text.specs.declared.box_test.BoxTest.TheVariants.{Covers, Reaches, RightPin, BlindLeft, BlindRight}
 use Rattle.ladder_text.specs.declared.span.Span.{Span}
 use Rattle.ladder_text.specs.Boxes.{meets_row}
+use Rattle.ladder_text.specs.Places.{Layout, in_box, in_operand}
 use Rattle.ladder_text.specs.Names.{top_span}
 use Rattle.ladder_text.specs.Faults.{share_place, takes_word, some_takes_word}
 use Rattle.ladder_text.specs.Steps.RowBoxes.{box_test, word_test, HavePinsByRow, IsInRows, AreInOrder, holds, holds_at, numbers_below, numbers_on, AreNumbered, top_at, IsBare}
@@ -75,6 +76,13 @@ nil_of (x ∷ xs) h = absurd (omega arith)
 -- on a row that no box has, none passes a test
 pub bare_of : (bs : List Outline) (r : ℕ) → length (numbers_on bs r) ≡ 0 → IsBare bs r
 bare_of bs r h = record { none = λ t c. sym (any_test bs t r c) ∙ ap (list_any (holds_at bs (box_test t r c))) (nil_of (numbers_on bs r) h) }
+
+-- no box has a place of such a row, and no operand is there
+pub off_boxes : (p : Layout) (r c : ℕ) → IsBare p.boxes r → in_box p r c ≡ false
+off_boxes p r c bare = bare.none Covers c
+
+pub off_operands : (p : Layout) (r c : ℕ) → IsBare p.boxes r → in_operand p r c ≡ false
+off_operands p r c bare = bare.none Reaches c
 
 word_meets : (n : ℕ) (b : Outline) → IsInRows n b → (s : Side) (r c : ℕ) → list_any (takes_word s r c) b.pins ≡ true → meets_row r b ≡ true
 word_meets n b i s r c h =

@@ -1,9 +1,11 @@
 //! What stands at each place.
 
-ghost use Rattle.std.specs.Prelude.{◌≡◌, ◌∷◌, ◌<◌, ◌≤◌, ◌^◌, IfOk, length};
+ghost use Rattle.std.specs.Prelude.{◌≡◌, ◌∷◌, ◌<◌, ◌≤◌, ◌^◌, IfOk, IsTrue, length};
 ghost use Rattle.ladder_text.specs.Rows.{char_at, width};
 ghost use Rattle.ladder_text.specs.Boxes.{left_column};
-ghost use Rattle.ladder_text.specs.Places.{layout_of, is_rail_column, in_contact, in_coil, mark};
+ghost use Rattle.ladder_text.specs.Boxes.{outlines};
+ghost use Rattle.ladder_text.specs.Places.{layout_of, is_rail_column, in_box, in_operand, in_contact, in_coil, mark};
+ghost use Rattle.ladder_text.specs.Steps.RowBoxes.{IsBare};
 ghost use Rattle.ladder_text.specs.Picture.{row_marks, marks_of};
 
 use crate::mark::Mark;
@@ -67,17 +69,45 @@ impl RailedSheet {
         column == self.sheet.left() || (column == self.sheet.last() && right_rail)
     }
 
+    /// Whether a place is in a box; of a row that is bare it is known.
+    #[tactic(auto, unfolding(crate::specs::Places::layout_of))]
+    fn in_box(&self, bare: bool, row: usize, column: usize) -> bool
+        requires column { column < 2 ^ 62 }
+        requires bare { IsTrue bare → IsBare (outlines self.now) row }
+        ensures { result ≡ in_box (layout_of self.now) row column }
+    {
+        !bare && self.sheet.in_box(row, column)
+    }
+
+    /// Whether an operand, or a dash on the way to it, is at a place; of a row that is bare it is known.
+    #[tactic(auto, unfolding(crate::specs::Places::layout_of))]
+    fn in_operand(&self, bare: bool, row: usize, column: usize) -> bool
+        requires column { column < 2 ^ 62 }
+        requires bare { IsTrue bare → IsBare (outlines self.now) row }
+        ensures { result ≡ in_operand (layout_of self.now) row column }
+    {
+        !bare && self.sheet.in_operand(row, column)
+    }
+
     /// What stands at a place with a character, of which it is known whether it is in a contact or a coil.
     #[tactic(auto, unfolding(crate::specs::Places::layout_of, crate::specs::Places::mark))]
-    fn mark_with(&self, c: u8, row: usize, column: usize, contact: bool, coil: bool) -> Mark
+    fn mark_with(
+        &self,
+        bare: bool,
+        c: u8,
+        row: usize,
+        column: usize,
+        contact: bool,
+        coil: bool,
+    ) -> Mark
         requires column { column < 2 ^ 62 }
+        requires bare { IsTrue bare → IsBare (outlines self.now) row }
         requires char { c ≡ char_at self.now row column }
         requires contact { contact ≡ in_contact (layout_of self.now) row column }
         requires coil { coil ≡ in_coil (layout_of self.now) row column }
         ensures { result ≡ mark (layout_of self.now) row column }
     {
-        let sheet = &self.sheet;
-        if sheet.in_box(row, column) {
+        if self.in_box(bare, row, column) {
             Mark::BoxPart
         } else if contact {
             Mark::ContactPart
@@ -89,7 +119,7 @@ impl RailedSheet {
             Mark::Join
         } else if c == b'|' {
             Mark::Upright
-        } else if c == b'-' && !sheet.in_operand(row, column) {
+        } else if c == b'-' && !self.in_operand(bare, row, column) {
             Mark::Wire
         } else {
             Mark::Blank
@@ -104,7 +134,14 @@ impl RailedSheet {
         let sheet = &self.sheet;
         let c = sheet.at(row, column);
         let in_contact = sheet.in_contact(row, column);
-        self.mark_with(c, row, column, in_contact, sheet.in_coil(row, column))
+        self.mark_with(
+            false,
+            c,
+            row,
+            column,
+            in_contact,
+            sheet.in_coil(row, column),
+        )
     }
 
     /// The marks of a row, found from what begins in each column and in the two before it.
@@ -113,6 +150,7 @@ impl RailedSheet {
         ensures { IfOk result (λ m. m ≡ row_marks (layout_of self.now) row) }
     {
         let sheet = &self.sheet;
+        let bare = sheet.is_bare(row);
         let mut marks = MarkRow::with_room(alloc, self.last())?;
         let mut contact = sheet.contact_at(row, 0).is_some();
         let mut earlier_contact = contact;
@@ -124,7 +162,7 @@ impl RailedSheet {
             let next_coil = sheet.begins_coil(c, row, column + 1);
             let in_contact = next_contact || contact || earlier_contact;
             let in_coil = next_coil || coil || earlier_coil;
-            marks.push(self.mark_with(c, row, column + 1, in_contact, in_coil))?;
+            marks.push(self.mark_with(bare, c, row, column + 1, in_contact, in_coil))?;
             earlier_contact = contact;
             contact = next_contact;
             earlier_coil = coil;
