@@ -33,3 +33,4 @@ pub mod DurationParse
 pub mod DurationWords
 pub mod PairLemmas
 pub mod FinePlaces
+pub mod CornerLemmas

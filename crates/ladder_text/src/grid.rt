@@ -1,6 +1,6 @@
 //! The characters of a text, and where boxes begin.
 
-ghost use Rattle.std.specs.Prelude.{◌≡◌, ◌<◌, ◌≤◌, ◌^◌, ℕ, IsFalse, IsTrue, IfNone, IfSome, IfOk, IfErr, length};
+ghost use Rattle.std.specs.Prelude.{◌≡◌, ◌<◌, ◌≤◌, ◌^◌, ℕ, [], IsFalse, IsTrue, IfNone, IfSome, IfOk, IfErr, length, slice_index_or};
 ghost use Rattle.ladder_text.specs.Rows.{char_at, width};
 ghost use Rattle.ladder_text.specs.Boxes.{left_column, begins_box, dashes_after, without_leading, cut, has_sides, block_in};
 ghost use Rattle.ladder_text.specs.Faults.{Nowhere, not_ascii, no_left_rail, first_long, first_beyond};
@@ -10,7 +10,7 @@ ghost use Rattle.std.specs.Str.{IsAscii};
 use crate::drawn_box::BlockName;
 use crate::names::block_name;
 use crate::place::Place;
-use crate::rows::{Row, char_at, cut, left_column, trimmed, width};
+use crate::rows::{Row, cells_of, char_at, cut, left_column, trimmed, width};
 use std::marker::Model;
 
 /// The rows of a text, with the column of the left rail and the last column.
@@ -69,6 +69,23 @@ impl Grid {
         ensures { result ≡ char_at self.now row column }
     {
         char_at(&self.rows, row, column)
+    }
+
+    /// The characters of a row behind its margin.
+    pub fn cells(&self, row: usize) -> &[u8]
+        ensures { result.now ≡ slice_index_or self.now row [] }
+    {
+        cells_of(&self.rows, row)
+    }
+
+    /// The character in a column of a row whose characters are at hand.
+    #[tactic(auto, unfolding(crate::specs::Rows::char_at))]
+    pub fn cell(&self, cells: &[u8], row: usize, column: usize) -> u8
+        requires { cells.now ≡ slice_index_or self.now row [] }
+        ensures { result ≡ char_at self.now row column }
+    {
+        let _ = row;
+        cells.get(column).copied().unwrap_or(b' ')
     }
 
     /// The characters of a row from one column up to, and without, another.

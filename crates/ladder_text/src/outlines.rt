@@ -335,14 +335,36 @@ fn box_at(
     outline_at(alloc, grid, row, column)
 }
 
+/// The box at a place with a character.
+#[tactic(auto, using(crate::proofs::CornerLemmas::no_box_at))]
+fn box_with(
+    alloc: Global,
+    grid: &Grid,
+    c: u8,
+    row: usize,
+    column: usize,
+) -> Result<Option<Outline>, AllocError>
+    requires row { row < 2 ^ 60 }
+    requires column { column < 2 ^ 30 }
+    requires char { c ≡ char_at grid.now row column }
+    ensures { IfOk result (λ o. o ≡ box_at grid.now row column) }
+{
+    if c != b'+' {
+        return Ok(None);
+    }
+    box_at(alloc, grid, row, column)
+}
+
 #[tactic(auto, unfolding(crate::specs::Boxes::row_outlines))]
 fn row_outlines(alloc: Global, grid: &Grid, row: usize) -> Result<Vec<Outline>, AllocError>
     requires { row < 2 ^ 60 }
     ensures { IfOk result (λ v. v.items ≡ row_outlines grid.now row) }
 {
     let mut found = Vec::new(alloc);
+    let cells = grid.cells(row);
     for column in 0..grid.last() {
-        if let Some(outline) = box_at(alloc, grid, row, column + 1)? {
+        let c = grid.cell(cells, row, column + 1);
+        if let Some(outline) = box_with(alloc, grid, c, row, column + 1)? {
             found.push(outline)?;
         }
     }
@@ -374,6 +396,26 @@ fn is_bad_box(alloc: Global, grid: &Grid, row: usize, column: usize) -> Result<b
     Ok(outline.is_none())
 }
 
+/// Whether a box begins at a place with a character, and isn't as it should be.
+#[tactic(auto, using(crate::proofs::CornerLemmas::no_bad_box))]
+fn is_bad_box_with(
+    alloc: Global,
+    grid: &Grid,
+    c: u8,
+    row: usize,
+    column: usize,
+) -> Result<bool, AllocError>
+    requires row { row < 2 ^ 60 }
+    requires column { column < 2 ^ 30 }
+    requires char { c ≡ char_at grid.now row column }
+    ensures { IfOk result (λ b. b ≡ bad_box grid.now row column) }
+{
+    if c != b'+' {
+        return Ok(false);
+    }
+    is_bad_box(alloc, grid, row, column)
+}
+
 fn bad_box_in_row(alloc: Global, grid: &Grid, row: usize) -> Result<Option<usize>, AllocError>
     requires { row < 2 ^ 60 }
     ensures none { IfOk result (λ found. IfNone found ((c : ℕ) → c ≤ width grid.now → IsFalse (bad_box grid.now row c))) }
@@ -381,8 +423,10 @@ fn bad_box_in_row(alloc: Global, grid: &Grid, row: usize) -> Result<Option<usize
     ensures some { IfOk result (λ found. IfSome found (λ c. IsTrue (bad_box grid.now row c))) }
     ensures before { IfOk result (λ found. IfSome found (λ c. (k : ℕ) → k < c → IsFalse (bad_box grid.now row k))) }
 {
+    let cells = grid.cells(row);
     for column in 0..grid.last() + 1 {
-        if is_bad_box(alloc, grid, row, column)? {
+        let c = grid.cell(cells, row, column);
+        if is_bad_box_with(alloc, grid, c, row, column)? {
             return Ok(Some(column));
         }
     }

@@ -1,6 +1,6 @@
 //! The text as rows of characters.
 
-ghost use Rattle.std.specs.Prelude.{ℕ, IsTrue, IsFalse, IfNone, IfSome, ◌-◌, ◌≤◌, take, drop, ◌≡◌, ◌∷◌, ◌<◌, IfOk, length, vec_len, slice_index_or};
+ghost use Rattle.std.specs.Prelude.{ℕ, [], IsTrue, IsFalse, IfNone, IfSome, ◌-◌, ◌≤◌, take, drop, ◌≡◌, ◌∷◌, ◌<◌, IfOk, length, vec_len, slice_index_or};
 ghost use Rattle.ladder_text.specs.Rows.{without_last, trimmed, rows_of, char_at, width, longest};
 ghost use Rattle.ladder_text.specs.Boxes.{cut, is_blank_column, left_column};
 ghost use Rattle.ladder_text.specs.Chars.{between};
@@ -98,6 +98,12 @@ impl Row {
         &rest[..to.saturating_sub(from).min(rest.len())]
     }
 
+    fn as_slice(&self) -> &[u8]
+        ensures { result.now ≡ self.now }
+    {
+        &self.cells
+    }
+
     fn at(&self, column: usize) -> u8
         ensures { result ≡ slice_index_or self.now column 32 }
     {
@@ -111,6 +117,16 @@ pub fn char_at(rows: &[Row], row: usize, column: usize) -> u8
     match rows.get(row) {
         Some(row) => row.at(column),
         None => b' ',
+    }
+}
+
+/// The characters of a row behind its margin.
+pub fn cells_of(rows: &[Row], row: usize) -> &[u8]
+    ensures { result.now ≡ slice_index_or rows.now row [] }
+{
+    match rows.get(row) {
+        Some(row) => row.as_slice(),
+        None => &[],
     }
 }
 
