@@ -5,6 +5,7 @@ ghost use Rattle.ladder_text.specs.Rows.{char_at, width, height};
 ghost use Rattle.ladder_text.specs.Places.{layout_of, is_line, is_vertical, is_box_part, is_symbol, is_taken, gives, mark as place_mark};
 ghost use Rattle.ladder_text.specs.Boxes.{outlines};
 ghost use Rattle.ladder_text.specs.Steps.RowBoxes.{IsBare};
+ghost use Rattle.ladder_text.specs.Steps.RowMarks.{AreMarksOf};
 ghost use Rattle.ladder_text.specs.Picture.{marks_of};
 ghost use Rattle.ladder_text.specs.Faults.{has_meaning, has_fed_join, is_first_of_symbol, is_blind, touches, is_fed, upright_len, bad_mark, crossing, no_source, has_fault, Nowhere, IsFoundAt};
 ghost use Rattle.ladder_text.specs.FirstFault.{IsFirstAt};
@@ -116,6 +117,31 @@ impl Page {
         }
     }
 
+    /// The marks of a row, if it is one of the drawing's.
+    pub fn marks_on(&self, row: usize) -> Option<&MarkRow>
+        ensures { IfSome result (λ marks. AreMarksOf (layout_of self.now) row marks.now) }
+    {
+        if row == 0 {
+            return None;
+        }
+        let marks = self.marks.get(row - 1)?;
+        Some(marks)
+    }
+
+    /// What stands at a place of a row whose marks are at hand.
+    #[tactic(auto, unfolding(crate::specs::Places::layout_of))]
+    pub fn mark_in(&self, marks: &MarkRow, row: usize, column: usize) -> Mark
+        requires marks { AreMarksOf (layout_of self.now) row marks.now }
+        requires column { column ≤ width self.now }
+        requires narrow { column < 2 ^ 61 }
+        ensures { result ≡ place_mark (layout_of self.now) row column }
+    {
+        if column == 0 {
+            return self.mark(row, column);
+        }
+        marks.at(column)
+    }
+
     /// Whether a place is in a box or a symbol.
     #[tactic(auto, using(crate::proofs::MarkLemmas::taken_by_mark))]
     pub fn is_taken(&self, row: usize, column: usize) -> bool
@@ -168,7 +194,7 @@ impl Page {
 
     /// Whether a contact or a coil begins at a place with a mark.
     #[tactic(auto, using(crate::proofs::SymbolPlaces::first_by_mark))]
-    fn begins_symbol(&self, mark: Mark, row: usize, column: usize) -> bool
+    pub fn begins_symbol(&self, mark: Mark, row: usize, column: usize) -> bool
         requires column { column < 2 ^ 62 }
         requires mark { mark ≡ place_mark (layout_of self.now) row column }
         ensures { result ≡ is_first_of_symbol (layout_of self.now) row column }
@@ -176,14 +202,6 @@ impl Page {
         matches!(mark, Mark::ContactPart | Mark::CoilPart)
             && (self.sheet().contact_at(row, column).is_some()
                 || self.sheet().coil_at(row, column).is_some())
-    }
-
-    /// Whether a contact or a coil begins at a place.
-    pub fn is_first_of_symbol(&self, row: usize, column: usize) -> bool
-        requires { column < 2 ^ 62 }
-        ensures { result ≡ is_first_of_symbol (layout_of self.now) row column }
-    {
-        self.begins_symbol(self.mark(row, column), row, column)
     }
 
     /// Whether a line begins at a place with a mark, and meets a box where there is no pin.
@@ -279,9 +297,10 @@ impl Page {
         }
     }
 
-    /// Whether a place in a row without boxes surely has no fault, by the mark before it and its own.
+    /// Whether a place in a row without boxes surely has no fault, by its character, the mark before it and its own.
     #[tactic(auto, unfolding(crate::specs::Places::layout_of))]
-    fn is_fine(&self, before: Mark, mark: Mark, row: usize, column: usize) -> bool
+    fn is_fine(&self, c: u8, before: Mark, mark: Mark, row: usize, column: usize) -> bool
+        requires char { c ≡ char_at self.now row column }
         requires row { row < 2 ^ 62 }
         requires column { column < 2 ^ 61 }
         requires bare { IsBare (outlines self.now) row }
@@ -293,21 +312,24 @@ impl Page {
             Mark::Wire | Mark::ContactPart | Mark::CoilPart => {
                 self.mark_gives(before, row, column.saturating_sub(1))
             }
-            Mark::Blank | Mark::Rail => has_meaning(self.sheet().at(row, column)),
+            Mark::Blank | Mark::Rail => has_meaning(c),
             Mark::Join | Mark::Upright | Mark::BoxPart => self.is_faultless_at(mark, row, column),
         }
     }
 
     /// Whether a row without boxes surely has no fault.
-    fn is_bare_row_fine(&self, row: usize) -> bool
+    fn is_bare_row_fine(&self, marks: &MarkRow, row: usize) -> bool
+        requires marks { AreMarksOf (layout_of self.now) row marks.now }
         requires row { row < 2 ^ 62 }
         requires bare { IsBare (outlines self.now) row }
         ensures { IsTrue result → (fault : PlaceFault) (c : ℕ) → c ≤ width self.now → IsFalse (has_fault fault (layout_of self.now) row c) }
     {
+        let cells = self.sheet().cells(row);
         let mut before = self.mark(row, 0);
         for column in 0..self.last() + 1 {
-            let mark = self.mark(row, column);
-            if !self.is_fine(before, mark, row, column) {
+            let c = self.sheet().cell(cells, row, column);
+            let mark = self.mark_in(marks, row, column);
+            if !self.is_fine(c, before, mark, row, column) {
                 return false;
             }
             before = mark;
@@ -330,7 +352,9 @@ impl Page {
         ensures { IsTrue result → (fault : PlaceFault) (c : ℕ) → c ≤ width self.now → IsFalse (has_fault fault (layout_of self.now) row c) }
     {
         if self.sheet().is_bare(row) {
-            return self.is_bare_row_fine(row);
+            if let Some(marks) = self.marks_on(row) {
+                return self.is_bare_row_fine(marks, row);
+            }
         }
         self.is_free(PlaceFault::BadMark, row)
             && self.is_free(PlaceFault::Crossing, row)

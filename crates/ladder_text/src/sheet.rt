@@ -1,6 +1,6 @@
 //! The places of a text: what stands where, from the characters alone.
 
-ghost use Rattle.std.specs.Prelude.{◌≡◌, ◌∷◌, ◌+◌, ◌-◌, ◌<◌, ◌≤◌, ◌^◌, IfOk, IfErr, IfNone, IfSome, length, vec_len, slice_index_or, is_some, is_none, IsTrue};
+ghost use Rattle.std.specs.Prelude.{[], not, ◌||◌, ◌≡◌, ◌∷◌, ◌+◌, ◌-◌, ◌<◌, ◌≤◌, ◌^◌, IfOk, IfErr, IfNone, IfSome, length, vec_len, slice_index_or, is_some, is_none, IsTrue};
 ghost use Rattle.ladder_text.specs.Rows.{char_at, width, height};
 ghost use Rattle.ladder_text.specs.Chars.{contact_kind, coil_kind, is_word_char};
 ghost use Rattle.ladder_text.specs.Boxes.{begins_box, cut, left_column, outlines};
@@ -121,6 +121,21 @@ impl Sheet {
         self.grid.at(row, column)
     }
 
+    /// The characters of a row behind its margin.
+    pub fn cells(&self, row: usize) -> &[u8]
+        ensures { result.now ≡ slice_index_or self.now row [] }
+    {
+        self.grid.cells(row)
+    }
+
+    /// The character in a column of a row whose characters are at hand.
+    pub fn cell(&self, cells: &[u8], row: usize, column: usize) -> u8
+        requires { cells.now ≡ slice_index_or self.now row [] }
+        ensures { result ≡ char_at self.now row column }
+    {
+        self.grid.cell(cells, row, column)
+    }
+
     /// The characters of a row from one column up to, and without, another.
     pub fn cut(&self, row: usize, from: usize, to: usize) -> &[u8]
         ensures value { result.now ≡ cut self.now row from to }
@@ -205,6 +220,18 @@ impl Sheet {
         self.any_box(BoxTest::BlindLeft, row, column)
     }
 
+    /// Whether three places are outside all boxes.
+    #[tactic(auto, unfolding(crate::specs::Places::layout_of))]
+    fn is_free(&self, row: usize, column: usize) -> bool
+        requires { column < 2 ^ 62 }
+        ensures { result ≡ not (in_box (layout_of self.now) row column || in_box (layout_of self.now) row (column + 1) || in_box (layout_of self.now) row (column + 2)) }
+    {
+        if self.is_bare(row) {
+            return true;
+        }
+        !(self.in_box(row, column) || self.in_box(row, column + 1) || self.in_box(row, column + 2))
+    }
+
     #[tactic(auto, unfolding(crate::specs::Places::layout_of, crate::specs::Places::contact_at))]
     pub fn contact_at(&self, row: usize, column: usize) -> Option<ContactKind>
         requires { column < 2 ^ 62 }
@@ -216,9 +243,7 @@ impl Sheet {
         let before = self.at(row, column.saturating_sub(1));
         let open = (before == b'-' || before == b'+')
             && self.at(row, column + 2) == b'|'
-            && !(self.in_box(row, column)
-                || self.in_box(row, column + 1)
-                || self.in_box(row, column + 2));
+            && self.is_free(row, column);
         if open {
             contact_kind(self.at(row, column + 1))
         } else {
@@ -233,9 +258,7 @@ impl Sheet {
     {
         let round = self.at(row, column) == b'('
             && self.at(row, column + 2) == b')'
-            && !(self.in_box(row, column)
-                || self.in_box(row, column + 1)
-                || self.in_box(row, column + 2));
+            && self.is_free(row, column);
         if round {
             coil_kind(self.at(row, column + 1))
         } else {

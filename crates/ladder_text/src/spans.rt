@@ -2,9 +2,10 @@
 
 ghost use Rattle.std.specs.Prelude.{[], MatchOption, IfNone, IfSome, IsFalse, not, option_copied, find, min, is_some, ◌≡◌, ◌+◌, ◌-◌, ◌<◌, ◌≤◌, ◌^◌, IfOk, IsTrue, count_by, length};
 ghost use Rattle.std.specs.List.{list_any, list_all};
-ghost use Rattle.ladder_text.specs.Rows.{width, run};
+ghost use Rattle.ladder_text.specs.Rows.{char_at, width, run};
 ghost use Rattle.ladder_text.specs.Chars.{is_name};
-ghost use Rattle.ladder_text.specs.Places.{layout_of};
+ghost use Rattle.ladder_text.specs.Places.{layout_of, mark as place_mark};
+ghost use Rattle.ladder_text.specs.Steps.RowMarks.{AreMarksOf};
 ghost use Rattle.ladder_text.specs.Names.{in_word, words, symbol_at, symbols, tops, things, overlap, word_text, found_text, name_above};
 ghost use Rattle.ladder_text.specs.Faults.{has_earlier, is_second, stray_name, name_missing, AreNamed};
 ghost use Rattle.ladder_text.specs.FirstFault.{IsSpanAt};
@@ -12,6 +13,8 @@ ghost use Rattle.ladder_text.specs.Steps.Pairs.{StandAbove};
 ghost use Rattle.ladder_text.specs.Steps.Search.{IsFirstColumnOf};
 ghost use Rattle.std.specs.Str.{IsAscii};
 
+use crate::mark::Mark;
+use crate::mark_row::MarkRow;
 use crate::names::{is_name, is_plain_name, is_word_char};
 use crate::page::Page;
 use crate::pairs::are_paired;
@@ -54,15 +57,21 @@ fn count_overlaps(word: &Span, things: &[Span]) -> usize
     things.iter().filter(|thing| overlap(word, thing)).count()
 }
 
+/// Whether a place with a character is one of a word.
 #[tactic(auto, unfolding(crate::specs::Places::layout_of, crate::specs::Names::in_word))]
+fn in_word_with(page: &Page, c: u8, row: usize, column: usize) -> bool
+    requires column { column < 2 ^ 62 }
+    requires char { c ≡ char_at page.now row column }
+    ensures { result ≡ in_word (layout_of page.now) row column }
+{
+    is_word_char(c) && !page.is_taken(row, column) && !page.sheet().in_operand(row, column)
+}
+
 fn in_word(page: &Page, row: usize, column: usize) -> bool
     requires { column < 2 ^ 62 }
     ensures { result ≡ in_word (layout_of page.now) row column }
 {
-    let sheet = page.sheet();
-    is_word_char(sheet.at(row, column))
-        && !page.is_taken(row, column)
-        && !sheet.in_operand(row, column)
+    in_word_with(page, page.sheet().at(row, column), row, column)
 }
 
 /// The end of the word that goes on behind a column.
@@ -84,10 +93,12 @@ pub fn words(alloc: Global, page: &Page, row: usize) -> Result<Vec<Span>, AllocE
     ensures { IfOk result (λ v. v.items ≡ words (layout_of page.now) row) }
 {
     let mut words = Vec::new(alloc);
+    let cells = page.sheet().cells(row);
     let mut inside = in_word(page, row, 0);
     for column in 0..page.last() {
         let before = inside;
-        inside = in_word(page, row, column + 1);
+        let c = page.sheet().cell(cells, row, column + 1);
+        inside = in_word_with(page, c, row, column + 1);
         if inside && !before {
             words.push(Span {
                 first: column + 1,
@@ -98,12 +109,14 @@ pub fn words(alloc: Global, page: &Page, row: usize) -> Result<Vec<Span>, AllocE
     Ok(words)
 }
 
+/// The columns of the symbol that begins at a place with a mark.
 #[tactic(auto, unfolding(crate::specs::Places::layout_of, crate::specs::Names::symbol_at))]
-fn symbol_at(page: &Page, row: usize, column: usize) -> Option<Span>
-    requires { column < 2 ^ 61 }
+fn symbol_with(page: &Page, mark: Mark, row: usize, column: usize) -> Option<Span>
+    requires column { column < 2 ^ 61 }
+    requires mark { mark ≡ place_mark (layout_of page.now) row column }
     ensures { result ≡ symbol_at (layout_of page.now) row column }
 {
-    if page.is_first_of_symbol(row, column) {
+    if page.begins_symbol(mark, row, column) {
         Some(Span {
             first: column,
             end: column + 3,
@@ -113,17 +126,48 @@ fn symbol_at(page: &Page, row: usize, column: usize) -> Option<Span>
     }
 }
 
-/// The three columns of each symbol of a row.
-pub fn symbols(alloc: Global, page: &Page, row: usize) -> Result<Vec<Span>, AllocError>
+/// The symbols of a row whose marks are at hand.
+fn symbols_in(
+    alloc: Global,
+    page: &Page,
+    marks: &MarkRow,
+    row: usize,
+) -> Result<Vec<Span>, AllocError>
+    requires { AreMarksOf (layout_of page.now) row marks.now }
     ensures { IfOk result (λ v. v.items ≡ symbols (layout_of page.now) row) }
 {
     let mut symbols = Vec::new(alloc);
     for column in 0..page.last() {
-        if let Some(symbol) = symbol_at(page, row, column + 1) {
+        let mark = page.mark_in(marks, row, column + 1);
+        if let Some(symbol) = symbol_with(page, mark, row, column + 1) {
             symbols.push(symbol)?;
         }
     }
     Ok(symbols)
+}
+
+/// The symbols of a row, each place's mark looked up by itself.
+fn symbols_by_place(alloc: Global, page: &Page, row: usize) -> Result<Vec<Span>, AllocError>
+    ensures { IfOk result (λ v. v.items ≡ symbols (layout_of page.now) row) }
+{
+    let mut symbols = Vec::new(alloc);
+    for column in 0..page.last() {
+        let mark = page.mark(row, column + 1);
+        if let Some(symbol) = symbol_with(page, mark, row, column + 1) {
+            symbols.push(symbol)?;
+        }
+    }
+    Ok(symbols)
+}
+
+/// The three columns of each symbol of a row.
+pub fn symbols(alloc: Global, page: &Page, row: usize) -> Result<Vec<Span>, AllocError>
+    ensures { IfOk result (λ v. v.items ≡ symbols (layout_of page.now) row) }
+{
+    match page.marks_on(row) {
+        Some(marks) => symbols_in(alloc, page, marks, row),
+        None => symbols_by_place(alloc, page, row),
+    }
 }
 
 /// What words name in a row: its symbols and the boxes that begin there.

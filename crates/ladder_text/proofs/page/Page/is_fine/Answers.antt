@@ -1,5 +1,5 @@
 use Rattle.std.proofs.Common.{◌≡◌, ◌-◌, ◌∙◌, ap, sym, true, inl, inr}
-use Rattle.ladder_text.specs.Rows.{Rows, char_at}
+use Rattle.ladder_text.specs.Rows.{char_at}
 use Rattle.ladder_text.specs.Places.{layout_of, gives}
 use Rattle.ladder_text.specs.Faults.{has_meaning}
 use Rattle.ladder_text.proofs.FinePlaces.{fine_wire, fine_contact, fine_coil, fine_blank, fine_rail}
@@ -29,7 +29,7 @@ returns-in-Blank c =
     let own = sym c.requires.mark in
     λ t.
     let m : has_meaning (char_at a.self.now a.row a.column) ≡ true =
-    ap has_meaning (sym (c.at.ensures ∙ ap (λ (d : Rows). char_at d a.row a.column) c.sheet.ensures)) ∙ sym c.has_meaning.ensures ∙ t in
+    ap has_meaning (sym c.requires.char) ∙ sym c.has_meaning.ensures ∙ t in
     elim c.in-Blank.is [
       | inl e ↦ fine_blank p a.row a.column (own ∙ e) m
       | inr e ↦ fine_rail p a.row a.column (own ∙ e) m
