@@ -156,8 +156,9 @@ impl RailedSheet {
         let mut earlier_contact = contact;
         let mut coil = sheet.coil_at(row, 0).is_some();
         let mut earlier_coil = coil;
+        let cells = sheet.cells(row);
         for column in 0..self.last() {
-            let c = sheet.at(row, column + 1);
+            let c = sheet.cell(cells, row, column + 1);
             let next_contact = sheet.begins_contact(c, row, column + 1);
             let next_coil = sheet.begins_coil(c, row, column + 1);
             let in_contact = next_contact || contact || earlier_contact;

@@ -1,4 +1,4 @@
-use Rattle.std.proofs.Common.{ℕ, ◌<◌, ◌≤◌, ◌≡◌, ◌&&◌, ◌∙◌, sym, arith, true, inl, inr}
+use Rattle.std.proofs.Common.{◌<◌, ◌≤◌, ◌≡◌, ◌&&◌, ◌∙◌, sym, arith, true, inl, inr}
 use Rattle.std.specs.Prelude.{nat_le}
 use Rattle.std.proofs.lemmas.Bool.{and_parts, cases_lt, leb-true, ltb-true}
 use Rattle.ladder_text.specs.Names.{overlap}

@@ -1,4 +1,4 @@
-use Rattle.std.proofs.Common.{◌+◌, sym, refl}
+use Rattle.std.proofs.Common.{◌+◌, refl}
 use Rattle.ladder_text.specs.Places.{layout_of}
 use Rattle.ladder_text.proofs.RowBoxLemmas.{off_boxes}
 use Rattle.ladder_text.proofs.sheet.Sheet.is_free.Goals as goal
