@@ -44,16 +44,16 @@ marks_no_rail (Coil c) h = cc
 marks_no_rail (Box b) h = cc
 
 -- the places of each kind of element
-wire_place : (at p : Place) → Has (Wire at) p → at ≡ p
+pub wire_place : (at p : Place) → Has (Wire at) p → at ≡ p
 wire_place at p h = elim h [ inl e ↦ e | inr r ↦ elim r [ inl e ↦ e | inr s ↦ elim s [ inl e ↦ e | inr n ↦ absurd n ] ] ]
 
-join_place : (at p : Place) → Has (Join at) p → at ≡ p
+pub join_place : (at p : Place) → Has (Join at) p → at ≡ p
 join_place at p h = elim h [ inl e ↦ e | inr r ↦ elim r [ inl e ↦ e | inr s ↦ elim s [ inl e ↦ e | inr e ↦ e ] ] ]
 
-upright_place : (at p : Place) → Has (Upright at) p → at ≡ p
+pub upright_place : (at p : Place) → Has (Upright at) p → at ≡ p
 upright_place at p h = elim h [ inl e ↦ e | inr r ↦ elim r [ inl n ↦ absurd n | inr s ↦ elim s [ inl n ↦ absurd n | inr e ↦ e ] ] ]
 
-symbol_place : (first p : Place) → ((first ≡ p) ⊎ (IsSymbolPlace first p ⊎ (IsSymbolPlace first p ⊎ ⊥))) → IsPlaceOf first.row first.column p.row p.column
+pub symbol_place : (first p : Place) → ((first ≡ p) ⊎ (IsSymbolPlace first p ⊎ (IsSymbolPlace first p ⊎ ⊥))) → IsPlaceOf first.row first.column p.row p.column
 symbol_place first p (inl e) = rw e (refl, omega arith, omega arith)
 symbol_place first p (inr (inl h)) = h
 symbol_place first p (inr (inr (inl h))) = h
@@ -67,7 +67,7 @@ module _ (g : Picture) (sound : IsSound g) where
       let is = any.4.1 in
       ((let h = row.0 in omega arith), (let h = row.1 in omega arith))
 
-  box_place : (b : DrawnBox) (p : Place) → Contains g.boxes b → Has (Box b) p → IsBoxPlace b p.row p.column
+  pub box_place : (b : DrawnBox) (p : Place) → Contains g.boxes b → Has (Box b) p → IsBoxPlace b p.row p.column
   box_place b p in' (inl e) =
       let k = at_contains g.boxes b in' in
       let whole = sound.boxes_whole k.0 b k.1 in
