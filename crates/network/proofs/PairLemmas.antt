@@ -1,5 +1,5 @@
 -- The pairs of elements between which state passes, and the labels made from them.
-use Rattle.std.proofs.Common.{◌≡◌, ℕ, ◌+◌, ◌-◌, ◌<◌, ◌≤◌, ◌⊎◌, ◌↔◌, inl, inr, List, [], ◌∷◌, ◌++◌, Option, Some, None, Contains, All, Result, Ok, Err, OnOk, take, drop, get_or, set, slice_get, slice_index, length, refl, sym, ap, ◌∙◌, arith}
+use Rattle.std.proofs.Common.{◌≡◌, ℕ, ◌+◌, ◌-◌, ◌<◌, ◌≤◌, ◌⊎◌, ◌↔◌, inl, inr, List, [], ◌∷◌, ◌++◌, Option, Some, None, Contains, All, take, drop, get_or, set, slice_get, slice_index, length, refl, sym, ap, ◌∙◌, arith}
 use Rattle.std.proofs.lemmas.Bool.{cases_eq, cases_lt}
 use Rattle.std.proofs.lemmas.List.{append-nil, drop_all, take_all}
 use Rattle.std.proofs.lemmas.List.Elements.{Contains-append_left, Contains-push, Contains-push_cases, Contains-get_or}
@@ -129,10 +129,6 @@ module _ (es : List Element) (last : List (Option InRow)) (k : ℕ) (old new : L
   -- what is known of the element at k
   pub of_element : (e : Element) → slice_get es k ≡ Some e → Adds (IsNewPair es last e k) old new → (f : Element) → slice_get es k ≡ Some f → Adds (IsNewPair es last f k) old new
   of_element e at adds f at' = rw (one_at es k k f e refl at' at) adds
-
-pub on_ok : {T E : Type 0} (r : Result T E) (A B : Type 0) → (A → B) → OnOk r A → OnOk r B
-on_ok (Ok x) A B f h = f h
-on_ok (Err e) A B f h = tt
 
 -- the pairs of one pin more
 pub pins_pair : (last : List (Option InRow)) (b : DrawnBox) (k n : ℕ) (pin : DrawnPin) (old mid new : List Pair) → slice_get b.pins n ≡ Some pin → pin.side ≡ Left → Adds (IsLeftPair last (place pin.row b.left) k) mid new
