@@ -6,9 +6,17 @@ ghost use Rattle.network.specs.Steps.Listing.{AreElementsBefore, AreElementsOf};
 ghost use Rattle.network.specs.Steps.Symbols.{AreSymbols};
 
 use crate::element::Element;
-use crate::symbols::{Symbols, box_at, coil_at, contact_at, symbols_of};
+use crate::symbols::{Symbols, element_at, symbols_of};
 use ladder_text::{Drawing, Mark, Place};
 use std::alloc::{AllocError, Global};
+
+/// Adds an element at the end.
+fn push(elements: &mut Vec<Element>, element: Element) -> Result<(), AllocError>
+    ensures { OnOk result (elements.new.items ≡ elements.old.items ++ element ∷ []) }
+{
+    elements.push(element)?;
+    Ok(())
+}
 
 /// Adds an element at the end, if there is one.
 fn push_found(elements: &mut Vec<Element>, found: Option<Element>) -> Result<(), AllocError>
@@ -18,6 +26,23 @@ fn push_found(elements: &mut Vec<Element>, found: Option<Element>) -> Result<(),
         elements.push(element)?;
     }
     Ok(())
+}
+
+/// Adds the symbol or box that begins at a place, if there is one.
+fn push_symbol(
+    alloc: Global,
+    elements: &mut Vec<Element>,
+    drawing: &Drawing,
+    symbols: &Symbols,
+    at: Place,
+) -> Result<(), AllocError>
+    requires symbols { AreSymbols drawing.now symbols.now }
+    requires sound { IsSound drawing.now }
+    requires before { AreElementsBefore drawing.now at elements.old.items }
+    ensures { OnOk result (AreElementsBefore drawing.now (place (at.row + 1) at.column) elements.new.items) }
+{
+    let found = element_at(alloc, drawing, symbols, at)?;
+    push_found(elements, found)
 }
 
 /// Adds the element that begins at a place, if there is one.
@@ -35,29 +60,11 @@ fn push_at(
 {
     match drawing.mark(at.row, at.column) {
         Mark::Blank | Mark::Rail => Ok(()),
-        Mark::Wire => {
-            elements.push(Element::Wire(at))?;
-            Ok(())
-        }
-        Mark::Join => {
-            elements.push(Element::Join(at))?;
-            Ok(())
-        }
-        Mark::Upright => {
-            elements.push(Element::Upright(at))?;
-            Ok(())
-        }
-        Mark::ContactPart => {
-            let contact = contact_at(alloc, drawing, symbols, at)?;
-            push_found(elements, contact)
-        }
-        Mark::CoilPart => {
-            let coil = coil_at(alloc, drawing, symbols, at)?;
-            push_found(elements, coil)
-        }
-        Mark::BoxPart => {
-            let drawn = box_at(alloc, drawing, symbols, at)?;
-            push_found(elements, drawn)
+        Mark::Wire => push(elements, Element::Wire(at)),
+        Mark::Join => push(elements, Element::Join(at)),
+        Mark::Upright => push(elements, Element::Upright(at)),
+        Mark::ContactPart | Mark::CoilPart | Mark::BoxPart => {
+            push_symbol(alloc, elements, drawing, symbols, at)
         }
     }
 }
@@ -76,7 +83,9 @@ fn push_column(
     ensures { OnOk result (AreElementsBefore drawing.now (place 0 (column + 1)) elements.new.items) }
 {
     for row in 1..drawing.rows() + 1 {
-        push_at(alloc, elements, drawing, symbols, Place { row, column })?;
+        if drawing.mark(row, column) != Mark::Blank {
+            push_at(alloc, elements, drawing, symbols, Place { row, column })?;
+        }
     }
     Ok(())
 }
