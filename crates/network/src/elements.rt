@@ -10,14 +10,6 @@ use crate::symbols::{Symbols, element_at, symbols_of};
 use ladder_text::{Drawing, Mark, Place};
 use std::alloc::{AllocError, Global};
 
-/// Adds an element at the end.
-fn push(elements: &mut Vec<Element>, element: Element) -> Result<(), AllocError>
-    ensures { OnOk result (elements.new.items ≡ elements.old.items ++ element ∷ []) }
-{
-    elements.push(element)?;
-    Ok(())
-}
-
 /// Adds an element at the end, if there is one.
 fn push_found(elements: &mut Vec<Element>, found: Option<Element>) -> Result<(), AllocError>
     ensures { OnOk result (MatchOption found (elements.new.items ≡ elements.old.items) (λ e. elements.new.items ≡ elements.old.items ++ e ∷ [])) }
@@ -26,23 +18,6 @@ fn push_found(elements: &mut Vec<Element>, found: Option<Element>) -> Result<(),
         elements.push(element)?;
     }
     Ok(())
-}
-
-/// Adds the symbol or box that begins at a place, if there is one.
-fn push_symbol(
-    alloc: Global,
-    elements: &mut Vec<Element>,
-    drawing: &Drawing,
-    symbols: &Symbols,
-    at: Place,
-) -> Result<(), AllocError>
-    requires symbols { AreSymbols drawing.now symbols.now }
-    requires sound { IsSound drawing.now }
-    requires before { AreElementsBefore drawing.now at elements.old.items }
-    ensures { OnOk result (AreElementsBefore drawing.now (place (at.row + 1) at.column) elements.new.items) }
-{
-    let found = element_at(alloc, drawing, symbols, at)?;
-    push_found(elements, found)
 }
 
 /// Adds the element that begins at a place, if there is one.
@@ -58,15 +33,8 @@ fn push_at(
     requires before { AreElementsBefore drawing.now at elements.old.items }
     ensures { OnOk result (AreElementsBefore drawing.now (place (at.row + 1) at.column) elements.new.items) }
 {
-    match drawing.mark(at.row, at.column) {
-        Mark::Blank | Mark::Rail => Ok(()),
-        Mark::Wire => push(elements, Element::Wire(at)),
-        Mark::Join => push(elements, Element::Join(at)),
-        Mark::Upright => push(elements, Element::Upright(at)),
-        Mark::ContactPart | Mark::CoilPart | Mark::BoxPart => {
-            push_symbol(alloc, elements, drawing, symbols, at)
-        }
-    }
+    let found = element_at(alloc, drawing, symbols, at)?;
+    push_found(elements, found)
 }
 
 /// Adds the elements that begin in a column, by row.
