@@ -1,4 +1,4 @@
-use Rattle.std.proofs.Common.{◌≡◌, ℕ, ◌⊎◌, inl, inr, MatchOption, List, [], ◌∷◌, Option, Some, None, Contains, get_or, set, length-set, map, slice_get, zero, suc, refl, sym, ap, ◌∙◌, arith}
+use Rattle.std.proofs.Common.{◌≡◌, ℕ, ◌⊎◌, inl, inr, MatchOption, Result, Ok, Err, OnOk, List, [], ◌∷◌, Option, Some, None, Contains, get_or, set, length-set, map, slice_get, zero, suc, refl, sym, ap, ◌∙◌, arith}
 use Rattle.std.proofs.lemmas.Bool.{cases_eq}
 use Rattle.std.proofs.lemmas.List.{get_or-set_same, get_or-set_other}
 use Rattle.std.proofs.lemmas.Option.{slice_get_within, slice_get-get_or, get_or_from_slice_get, slice_get-map}
@@ -48,3 +48,8 @@ get_set xs i k x y h = elim (cases_eq k i) [
         slice_get-get_or xs k y (omega arith) ∙ ap Some (sym (get_or-set_other xs i k x y ne) ∙ get_or_from_slice_get (set xs i x) k y y h)),
   )
 ]
+
+-- what follows where a call succeeds
+pub on_ok : {T E : Type 0} (r : Result T E) (A B : Type 0) → (A → B) → OnOk r A → OnOk r B
+on_ok (Ok x) A B f h = f h
+on_ok (Err e) A B f h = tt

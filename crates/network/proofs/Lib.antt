@@ -4,6 +4,8 @@ pub mod Sharing
 pub mod RailLemmas
 pub mod SymbolLemmas
 pub mod ListLemmas
+pub mod RowLemmas
+pub mod LaidOut
 pub mod PairLemmas
 pub mod FoundLemmas
 pub mod CornerLemmas

@@ -1,4 +1,4 @@
-use Rattle.std.proofs.Common.{◌≡◌, ℕ, ◌+◌, ◌<◌, ◌⊎◌, inl, inr, List, [], ◌∷◌, ◌++◌, Some, length, refl, sym, ap, ◌∙◌, arith}
+use Rattle.std.proofs.Common.{◌≡◌, ℕ, ◌+◌, ◌<◌, ◌⊎◌, inl, inr, List, [], ◌∷◌, ◌++◌, Option, Some, None, MatchOption, length, refl, sym, ap, ◌∙◌, arith}
 use Rattle.std.proofs.lemmas.Bool.{cases_eq}
 use Rattle.std.proofs.lemmas.Option.{slice_get_within}
 use Rattle.ladder_text.specs.Picture.{Picture, IsSound}
@@ -89,3 +89,9 @@ elements_all g sound column es beyond are = record {
   whole = λ e is. are.whole e is (inl (let on = has_on_page g sound e (first_place e) is (begins g sound e (first_place e) refl) in let c = on.2 in omega arith));
   rising = are.rising;
 }
+
+-- what was found at a place is added
+pub elements_found : (g : Picture) (row column : ℕ) (es new : List Element) (o : Option Element) → MatchOption o (IsNoElementAt g (place row column)) (IsTheElementAt g (place row column))
+    → MatchOption o (new ≡ es) (λ e. new ≡ es ++ e ∷ []) → AreElementsBefore g (place row column) es → AreElementsBefore g (place (row + 1) column) new
+elements_found g row column es new None none same are = rw same (elements_skip g row column es none are)
+elements_found g row column es new (Some e) the made are = rw made (elements_more g row column es e the are)

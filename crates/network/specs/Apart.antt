@@ -1,4 +1,4 @@
-use Rattle.std.specs.Prelude.{◌≡◌, ℕ, ◌+◌, ◌≤◌, ◌⊎◌, List, Some, slice_get, Contains}
+use Rattle.std.specs.Prelude.{◌≡◌, ℕ, ◌+◌, ◌<◌, ◌≤◌, ◌⊎◌, List, Some, slice_get, Contains}
 use Rattle.ladder_text.specs.declared.place.Place.{Place}
 use Rattle.network.specs.declared.element.Element.{Element}
 use Rattle.network.specs.declared.element.Element.TheVariants.{Wire, Join, Upright, Contact, Coil, Box}
@@ -12,6 +12,10 @@ first_place (Upright at) = at
 first_place (Contact c) = place c.row c.column
 first_place (Coil c) = place c.row c.column
 first_place (Box b) = place b.top b.left
+
+-- by column, and in one column by row
+abbrev pub Precedes : Place → Place → Type 0
+Precedes p q = (p.column < q.column) ⊎ ((p.column ≡ q.column) × (p.row < q.row))
 
 -- p is a place of this element at which state can stand, or where the element begins
 abbrev pub Has : Element → Place → Type 0

@@ -12,6 +12,7 @@ use Rattle.network.specs.declared.fault.GraphFaultKind.{GraphFaultKind}
 use Rattle.network.specs.declared.fault.GraphFaultKind.TheVariants.{Unattached, TooTall, InstanceTwice, Memory}
 use Rattle.network.specs.Links.{place, Takes}
 use Rattle.network.specs.Apart.{first_place, Steps}
+pub use Rattle.network.specs.Apart.{Precedes}
 use Rattle.network.specs.GraphValue.{GraphValue}
 
 -- e is an element of the drawing
@@ -45,10 +46,6 @@ MeetsAt g e row = IsLeftRail g (place row g.left) × (f : Element) × Chained g 
 pub record IsTop (g : Picture) (e : Element) (row : ℕ) : Type 0 where
   pub meets : MeetsAt g e row
   pub topmost : (r : ℕ) → MeetsAt g e r → row ≤ r
-
--- by column, and in one column by row
-abbrev pub Precedes : Place → Place → Type 0
-Precedes p q = (p.column < q.column) ⊎ ((p.column ≡ q.column) × (p.row < q.row))
 
 -- the places of the left rail, by row
 pub record AreLeftRails (g : Picture) (rails : List Place) : Type 0 where

@@ -6,5 +6,6 @@ pub mod Numbered
 pub mod Numbers
 pub mod Pairs
 pub mod Ranks
+pub mod Rows
 pub mod Symbols
 pub mod Twice

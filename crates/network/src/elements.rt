@@ -1,4 +1,4 @@
-ghost use Rattle.std.specs.Prelude.{◌≡◌, ◌+◌, ◌≤◌, ◌↔◌, ◌⊎◌, IsTrue, IfOk, OnOk};
+ghost use Rattle.std.specs.Prelude.{◌≡◌, ◌+◌, ◌++◌, ◌∷◌, ◌≤◌, ◌↔◌, ◌⊎◌, [], MatchOption, IsTrue, IfOk, OnOk};
 ghost use Rattle.ladder_text.specs.Picture.{IsSound};
 ghost use Rattle.ladder_text.specs.declared.mark.Mark.TheVariants.{Wire, Join, Upright};
 ghost use Rattle.network.specs.Links.{place};
@@ -9,6 +9,33 @@ use crate::element::Element;
 use crate::symbols::{Symbols, element_at, symbols_of};
 use ladder_text::{Drawing, Mark, Place};
 use std::alloc::{AllocError, Global};
+
+/// Adds an element at the end, if there is one.
+fn push_found(elements: &mut Vec<Element>, found: Option<Element>) -> Result<(), AllocError>
+    ensures { OnOk result (MatchOption found (elements.new.items ≡ elements.old.items) (λ e. elements.new.items ≡ elements.old.items ++ e ∷ [])) }
+{
+    if let Some(element) = found {
+        elements.push(element)?;
+    }
+    Ok(())
+}
+
+/// Adds the element that begins at a place, if there is one.
+fn push_at(
+    alloc: Global,
+    elements: &mut Vec<Element>,
+    drawing: &Drawing,
+    symbols: &Symbols,
+    at: Place,
+) -> Result<(), AllocError>
+    requires symbols { AreSymbols drawing.now symbols.now }
+    requires sound { IsSound drawing.now }
+    requires before { AreElementsBefore drawing.now at elements.old.items }
+    ensures { OnOk result (AreElementsBefore drawing.now (place (at.row + 1) at.column) elements.new.items) }
+{
+    let found = element_at(alloc, drawing, symbols, at)?;
+    push_found(elements, found)
+}
 
 /// Adds the elements that begin in a column, by row.
 fn push_column(
@@ -24,10 +51,8 @@ fn push_column(
     ensures { OnOk result (AreElementsBefore drawing.now (place 0 (column + 1)) elements.new.items) }
 {
     for row in 1..drawing.rows() + 1 {
-        let at = Place { row, column };
-        let found = element_at(alloc, drawing, symbols, at)?;
-        if let Some(element) = found {
-            elements.push(element)?;
+        if drawing.mark(row, column) != Mark::Blank {
+            push_at(alloc, elements, drawing, symbols, Place { row, column })?;
         }
     }
     Ok(())

@@ -159,7 +159,7 @@ impl Graph {
         let first_line = drawing.first_line();
         let rails = rails_of(alloc, drawing).map_err(no_memory)?;
         let elements = elements_of(alloc, drawing).map_err(no_memory)?;
-        let ranks = ranks_of(alloc, &rails, &elements).map_err(no_memory)?;
+        let ranks = ranks_of(alloc, drawing, &rails, &elements).map_err(no_memory)?;
         let unmet = unmet_places(alloc, &elements, &ranks.ranks).map_err(no_memory)?;
         if let Some(place) = first_of(&unmet) {
             return Err(fault_at(GraphFaultKind::Unattached, first_line, place));

@@ -18,8 +18,10 @@ mod pairs;
 mod places;
 mod rails;
 mod ranks;
+mod row_table;
 mod symbols;
 mod tables;
+mod takers;
 
 pub use element::Element;
 pub use element_box::ElementBox;

@@ -1,108 +1,162 @@
-ghost use Rattle.std.specs.Prelude.{◌≡◌, ◌+◌, ◌<◌, ◌++◌, ℕ, IfOk, OnOk, length, slice_index};
-ghost use Rattle.std.specs.Option.{option_to_list};
+ghost use Rattle.std.specs.Prelude.{◌≡◌, ◌+◌, ◌<◌, ◌≤◌, ◌↔◌, ℕ, Some, IfOk, OnOk, IsTrue, slice_get, slice_index, length};
 ghost use Rattle.ladder_text.specs.Picture.{Picture, IsSound};
-ghost use Rattle.network.specs.Apart.{AreOnPage};
-ghost use Rattle.network.specs.Steps.Numbered.{AreOwned};
+ghost use Rattle.ladder_text.specs.declared.place.Place.{Place};
+ghost use Rattle.ladder_text.specs.declared.drawn_box.Side.TheVariants.{Left};
+ghost use Rattle.network.specs.declared.element.Element.{Element};
+ghost use Rattle.network.specs.declared.labels.Pair.{Pair};
+ghost use Rattle.network.specs.Links.{IsPinPlace};
+ghost use Rattle.network.specs.Apart.{Has};
 ghost use Rattle.network.specs.Steps.Listing.{AreElementsOf};
-ghost use Rattle.network.specs.Steps.Pairs.{AreAllNumbered, IsPairTo, ArePairsTo, AreLabels};
+ghost use Rattle.network.specs.Steps.Pairs.{AreLaidOut, Leaves, AreLast, IsLeftPair, IsUnder, IsUpperPair, IsNewPair, Adds, ArePairsTo, AreLabels};
+ghost use Rattle.network.specs.Steps.Rows.{Puts};
 
 use crate::element::Element;
 use crate::labels::{Pair, settle_labels};
-use crate::links::{leaves, steps};
-use crate::numbering::{Numbering, Spot};
-use crate::tables::{number_elements, number_pins};
-use ladder_text::{Place, Side};
+use crate::row_table::RowTable;
+use ladder_text::{DrawnBox, Place, Side};
 use std::alloc::{AllocError, Global};
 
-/// Numbers all places of the elements, those of right pins too.
-pub fn number_places(alloc: Global, elements: &[Element]) -> Result<Numbering, AllocError>
-    requires { AreOnPage elements.now }
-    ensures { IfOk result (λ numbering. AreAllNumbered elements.now numbering) }
+/// Adds the pair of an element that state enters at a place with the one on the left of the place, if state leaves that one there.
+fn push_left(
+    pairs: &mut Vec<Pair>,
+    last: &RowTable,
+    at: Place,
+    element: usize,
+) -> Result<(), AllocError>
+    requires { at.row < length last.now }
+    ensures { OnOk result (Adds (IsLeftPair last.now at element) pairs.old.items pairs.new.items) }
 {
-    let mut numbering = Numbering::with_capacity(alloc, elements.len())?;
-    number_elements(alloc, &mut numbering, elements)?;
-    for k in 0..elements.len() {
-        if let Element::Box(boxed) = &elements[k] {
-            number_pins(&mut numbering, boxed.drawn(), Side::Right, k)?;
+    if let Some(left) = last.at(at.row) {
+        if left.column < at.column && at.column - left.column == 1 {
+            pairs.push(Pair {
+                one: left.element,
+                other: element,
+            })?;
         }
     }
-    Ok(numbering)
-}
-
-/// The pair of a place and another one, if state passes there.
-fn pair_to(numbering: &Numbering, elements: &[Element], from: Spot, to: Place) -> Option<Pair>
-    requires from { from.element < length elements.now }
-    requires owned { AreOwned elements.now numbering.now }
-    ensures { IsPairTo elements.now numbering.now from to result }
-{
-    let element = &elements[from.element];
-    if !leaves(element, from.place, to) {
-        return None;
-    }
-    let other = numbering.owner(to)?;
-    if steps(element, from.place, &elements[other], to) {
-        Some(Pair {
-            one: from.element,
-            other,
-        })
-    } else {
-        None
-    }
-}
-
-fn push_pair(pairs: &mut Vec<Pair>, pair: Option<Pair>) -> Result<(), AllocError>
-    ensures { OnOk result (pairs.new.items ≡ pairs.old.items ++ option_to_list pair) }
-{
-    if let Some(pair) = pair {
-        pairs.push(pair)?;
-    }
     Ok(())
 }
 
-/// Adds the pairs of one place with those on its right and below it.
-fn push_pairs_from(
+/// Adds the pairs of a box with those on the left of its left pins.
+fn push_left_pins(
     pairs: &mut Vec<Pair>,
-    numbering: &Numbering,
-    elements: &[Element],
-    from: usize,
+    last: &RowTable,
+    drawn: &DrawnBox,
+    element: usize,
 ) -> Result<(), AllocError>
-    requires from { from < length numbering.now }
-    requires owned { AreOwned elements.now numbering.now }
-    requires page { AreOnPage elements.now }
-    requires before { ArePairsTo elements.now numbering.now pairs.old.items from }
-    ensures { OnOk result (ArePairsTo elements.now numbering.now pairs.new.items (from + 1)) }
+    requires { (p : Place) → IsPinPlace Left drawn.now p → p.row < length last.now }
+    ensures { OnOk result (Adds (λ m. (p : Place) × IsPinPlace Left drawn.now p × IsLeftPair last.now p element m) pairs.old.items pairs.new.items) }
 {
-    let spot = numbering.spots()[from];
-    let place = spot.place;
-    let right = Place {
-        column: place.column.saturating_add(1),
-        ..place
-    };
-    let below = Place {
-        row: place.row.saturating_add(1),
-        ..place
-    };
-    let to_right = pair_to(numbering, elements, spot, right);
-    push_pair(pairs, to_right)?;
-    let down = pair_to(numbering, elements, spot, below);
-    push_pair(pairs, down)?;
+    let column = drawn.left;
+    for pin in drawn.pins.as_slice() {
+        if pin.side == Side::Left {
+            let row = pin.row;
+            push_left(pairs, last, Place { row, column }, element)?;
+        }
+    }
     Ok(())
+}
+
+/// Whether a place is under a place of an upright.
+fn is_under(element: &Element, at: Place) -> bool
+    ensures { IsTrue result ↔ IsUnder element.now at }
+{
+    match element {
+        Element::Join(upper) | Element::Upright(upper) => {
+            upper.column == at.column && upper.row < at.row && at.row - upper.row == 1
+        }
+        _ => false,
+    }
+}
+
+/// Adds the pair of an element that stands at a place with the one above it, which is the one before it.
+fn push_upper(
+    pairs: &mut Vec<Pair>,
+    elements: &[Element],
+    at: Place,
+    element: usize,
+) -> Result<(), AllocError>
+    requires { element < length elements.now }
+    ensures { OnOk result (Adds (IsUpperPair elements.now at element) pairs.old.items pairs.new.items) }
+{
+    if element == 0 {
+        return Ok(());
+    }
+    let one = element - 1;
+    if is_under(&elements[one], at) {
+        pairs.push(Pair {
+            one,
+            other: element,
+        })?;
+    }
+    Ok(())
+}
+
+/// Adds the pairs of an element with those before it.
+fn push_pairs(
+    pairs: &mut Vec<Pair>,
+    last: &RowTable,
+    elements: &[Element],
+    k: usize,
+) -> Result<(), AllocError>
+    requires within { k < length elements.now }
+    requires rows { (e : Element) (p : Place) → slice_get elements.now k ≡ Some e → Has e p → p.row < length last.now }
+    ensures { OnOk result ((e : Element) → slice_get elements.now k ≡ Some e → Adds (IsNewPair elements.now last.now e k) pairs.old.items pairs.new.items) }
+{
+    match &elements[k] {
+        Element::Wire(at) => push_left(pairs, last, *at, k),
+        Element::Join(at) => {
+            push_left(pairs, last, *at, k)?;
+            push_upper(pairs, elements, *at, k)
+        }
+        Element::Upright(at) => push_upper(pairs, elements, *at, k),
+        Element::Contact(contact) => {
+            let row = contact.row;
+            let column = contact.column;
+            push_left(pairs, last, Place { row, column }, k)
+        }
+        Element::Coil(coil) => {
+            let row = coil.row;
+            let column = coil.column;
+            push_left(pairs, last, Place { row, column }, k)
+        }
+        Element::Box(boxed) => push_left_pins(pairs, last, boxed.drawn(), k),
+    }
+}
+
+/// Puts the last places of an element into their rows.
+fn put_last(last: &mut RowTable, element: &Element, k: usize)
+    requires { (p : Place) → Has element.now p → (p.row < length last.old) × (p.column ≤ 240) }
+    ensures long { length last.new ≡ length last.old }
+    ensures puts { Puts (Leaves element.now) k last.old last.new }
+{
+    match element {
+        Element::Wire(at) | Element::Join(at) => last.put(*at, k),
+        Element::Upright(_) => (),
+        Element::Contact(contact) => {
+            let row = contact.row;
+            let column = contact.column + 2;
+            last.put(Place { row, column }, k);
+        }
+        Element::Coil(coil) => {
+            let row = coil.row;
+            let column = coil.column + 2;
+            last.put(Place { row, column }, k);
+        }
+        Element::Box(boxed) => last.put_pins(boxed.drawn(), Side::Right, k),
+    }
 }
 
 /// The pairs of elements between which state passes.
-fn pairs_of(
-    alloc: Global,
-    numbering: &Numbering,
-    elements: &[Element],
-) -> Result<Vec<Pair>, AllocError>
-    requires owned { AreOwned elements.now numbering.now }
-    requires page { AreOnPage elements.now }
-    ensures { IfOk result (λ pairs. ArePairsTo elements.now numbering.now pairs.items (length numbering.now)) }
+fn pairs_of(alloc: Global, rows: usize, elements: &[Element]) -> Result<Vec<Pair>, AllocError>
+    requires { AreLaidOut rows elements.now }
+    ensures { IfOk result (λ pairs. ArePairsTo elements.now pairs.items (length elements.now)) }
 {
-    let count = numbering.spots().len();
-    let mut pairs = Vec::with_capacity(alloc, count)?;
-    for from in 0..count {
-        push_pairs_from(&mut pairs, numbering, elements, from)?;
+    let mut last = RowTable::new(alloc, rows)?;
+    let mut pairs = Vec::with_capacity(alloc, elements.len())?;
+    for k in 0..elements.len() {
+        push_pairs(&mut pairs, &last, elements, k)?;
+        put_last(&mut last, &elements[k], k);
     }
     Ok(pairs)
 }
@@ -119,18 +173,13 @@ fn own_labels(alloc: Global, count: usize) -> Result<Vec<usize>, AllocError>
 }
 
 /// A label for each element: one for those that a chain joins.
-pub fn labels_of(
-    alloc: Global,
-    numbering: &Numbering,
-    elements: &[Element],
-) -> Result<Vec<usize>, AllocError>
-    requires numbered { AreAllNumbered elements.now numbering.now }
-    requires page { AreOnPage elements.now }
+pub fn labels_of(alloc: Global, rows: usize, elements: &[Element]) -> Result<Vec<usize>, AllocError>
+    requires { AreLaidOut rows elements.now }
     ensures labels { IfOk result (λ labels. (g : Picture) → IsSound g → AreElementsOf g elements.now → AreLabels g elements.now labels.items) }
     ensures long { IfOk result (λ labels. length labels.items ≡ length elements.now) }
     ensures within { IfOk result (λ labels. (k : ℕ) → k < length elements.now → slice_index labels.items k < length elements.now) }
 {
-    let pairs = pairs_of(alloc, numbering, elements)?;
+    let pairs = pairs_of(alloc, rows, elements)?;
     let mut labels = own_labels(alloc, elements.len())?;
     settle_labels(&pairs, &mut labels);
     Ok(labels)

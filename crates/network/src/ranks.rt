@@ -1,18 +1,18 @@
-ghost use Rattle.std.specs.Prelude.{◌≡◌, ◌+◌, ◌<◌, ◌⊎◌, ◌++◌, ◌∷◌, [], ℕ, IfOk, OnOk, IfSome, Any, Option, Some, None, slice_get, slice_index, length};
+ghost use Rattle.std.specs.Prelude.{◌≡◌, ◌+◌, ◌<◌, ◌⊎◌, ◌++◌, ◌∷◌, [], ℕ, List, IfOk, OnOk, Any, Option, Some, None, slice_get, slice_index, length};
 ghost use Rattle.ladder_text.specs.Picture.{Picture, IsSound};
+ghost use Rattle.ladder_text.specs.declared.place.Place.{Place};
 ghost use Rattle.network.specs.declared.element.Element.{Element};
-ghost use Rattle.network.specs.Links.{Takes};
-ghost use Rattle.network.specs.Apart.{AreOnPage};
+ghost use Rattle.network.specs.declared.row_table.InRow.{InRow};
 ghost use Rattle.network.specs.Networks.{AreLeftRails};
 ghost use Rattle.network.specs.Steps.Listing.{AreElementsOf};
-ghost use Rattle.network.specs.Steps.Pairs.{AreAllNumbered, AreLabels};
+ghost use Rattle.network.specs.Steps.Pairs.{AreTakers, AreLabels};
 ghost use Rattle.network.specs.Steps.Ranks.{AreTops, AreRanksOf, AreEntries, AreRanks};
 
 use crate::element::Element;
-use crate::links::takes;
-use crate::numbering::Numbering;
-use crate::pairs::{labels_of, number_places};
-use ladder_text::Place;
+use crate::pairs::labels_of;
+use crate::row_table::RowTable;
+use crate::takers::takers_of;
+use ladder_text::{Drawing, Place};
 use std::alloc::{AllocError, Global};
 
 /// A network's label, with the topmost row at which the network meets the left rail.
@@ -29,20 +29,6 @@ pub struct Ranks {
     pub count: usize,
     /// The number of each element's network, None where it doesn't meet the left rail.
     pub ranks: Vec<Option<usize>>,
-}
-
-/// The element to which state passes at a place from the left.
-fn taker(numbering: &Numbering, elements: &[Element], place: Place) -> Option<usize>
-    requires { AreAllNumbered elements.now numbering.now }
-    ensures at { IfSome result (λ k. (e : Element) × (slice_get elements.now k ≡ Some e) × Takes e place) }
-    ensures only { (g : Picture) → IsSound g → AreElementsOf g elements.now → (k : ℕ) (e : Element) → slice_get elements.now k ≡ Some e → Takes e place → result ≡ Some k }
-{
-    let k = numbering.owner(place)?;
-    if takes(&elements[k], place) {
-        Some(k)
-    } else {
-        None
-    }
 }
 
 /// Adds a label and its row, unless the label is there. The table has the position of each label.
@@ -69,24 +55,23 @@ fn push_top(
 fn tops_of(
     alloc: Global,
     rails: &[Place],
-    numbering: &Numbering,
-    elements: &[Element],
+    takers: &RowTable,
     labels: &[usize],
     table: &mut [Option<usize>],
 ) -> Result<Vec<Top>, AllocError>
-    requires numbered { AreAllNumbered elements.now numbering.now }
-    requires long { length labels.now ≡ length elements.now }
+    requires rows { (k : ℕ) (p : Place) → slice_get rails.now k ≡ Some p → p.row < length takers.now }
+    requires owners { (r : ℕ) (t : InRow) → slice_get takers.now r ≡ Some (Some t) → t.element < length labels.now }
     requires within { (k : ℕ) → k < length labels.now → slice_index labels.now k < length table.old }
     requires none { (l : ℕ) (r : Option ℕ) → slice_get table.old l ≡ Some r → r ≡ None }
-    ensures tops { IfOk result (λ tops. (g : Picture) → IsSound g → AreElementsOf g elements.now → AreLeftRails g rails.now → AreLabels g elements.now labels.now → AreTops g elements.now labels.now tops.items) }
+    ensures tops { IfOk result (λ tops. (g : Picture) (elements : List Element) → IsSound g → AreElementsOf g elements → AreLeftRails g rails.now
+        → AreTakers elements (g.left + 1) takers.now (length elements) → AreLabels g elements labels.now → AreTops g elements labels.now tops.items) }
     ensures table { IfOk result (λ tops. AreRanksOf tops.items table.new) }
 {
     let mut tops = Vec::new(alloc);
     for rail in rails {
         let row = rail.row;
-        let column = rail.column.saturating_add(1);
-        if let Some(element) = taker(numbering, elements, Place { row, column }) {
-            push_top(&mut tops, table, labels[element], row)?;
+        if let Some(taker) = takers.at(row) {
+            push_top(&mut tops, table, labels[taker.element], row)?;
         }
     }
     Ok(tops)
@@ -120,14 +105,23 @@ fn entries_of(
 }
 
 /// The number of each element's network, and how many networks there are.
-pub fn ranks_of(alloc: Global, rails: &[Place], elements: &[Element]) -> Result<Ranks, AllocError>
-    requires { AreOnPage elements.now }
-    ensures { IfOk result (λ ranks. (g : Picture) → IsSound g → AreElementsOf g elements.now → AreLeftRails g rails.now → AreRanks g elements.now ranks.count ranks.ranks.items) }
+pub fn ranks_of(
+    alloc: Global,
+    drawing: &Drawing,
+    rails: &[Place],
+    elements: &[Element],
+) -> Result<Ranks, AllocError>
+    requires sound { IsSound drawing.now }
+    requires elements { AreElementsOf drawing.now elements.now }
+    requires rails { AreLeftRails drawing.now rails.now }
+    ensures { IfOk result (λ ranks. AreRanks drawing.now elements.now ranks.count ranks.ranks.items) }
 {
-    let numbering = number_places(alloc, elements)?;
-    let labels = labels_of(alloc, &numbering, elements)?;
+    let rows = drawing.rows() + 1;
+    let column = drawing.left() + 1;
+    let labels = labels_of(alloc, rows, elements)?;
+    let takers = takers_of(alloc, rows, elements, column)?;
     let mut table = no_entries(alloc, labels.len())?;
-    let tops = tops_of(alloc, rails, &numbering, elements, &labels, &mut table)?;
+    let tops = tops_of(alloc, rails, &takers, &labels, &mut table)?;
     let ranks = entries_of(alloc, &table, &labels)?;
     Ok(Ranks {
         count: tops.len(),

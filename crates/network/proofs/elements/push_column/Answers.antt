@@ -1,10 +1,15 @@
-use Rattle.std.proofs.Common.{arith}
+use Rattle.std.proofs.Common.{rules, ◌≡◌, ◌∙◌, Bool, true, false, not, refl, sym, arith}
+use denote.Enum.Bare.{same_true}
+use Rattle.ladder_text.specs.contracts.mark.Mark.{the_type}
 use Rattle.network.specs.Links.{place}
-use Rattle.network.specs.Steps.Listing.{IsNoElementAt, IsTheElementAt}
-use Rattle.network.proofs.Basics.{match_some, match_none}
-use Rattle.network.proofs.ListLemmas.{elements_top, elements_skip, elements_more, elements_next}
-use Rattle.network.proofs.elements.push_column.Goals.{in-Some+in_ok-push, in_default}
+use Rattle.network.proofs.ListLemmas.{elements_top, elements_skip, elements_next}
+use Rattle.network.proofs.Sharing.{no_element_blank}
+use Rattle.network.proofs.elements.push_column.Goals.{then-ne+in_ok-push_at, else-ne}
 use Rattle.network.proofs.elements.push_column.Goals as goal
+
+not_false : (b : Bool) → not b ≡ false → b ≡ true
+not_false true h = refl
+not_false false h = let e : true ≡ false = h in cc
 
 pub loop-row-init : goal.loop-row-init
 loop-row-init c = elements_top c.args.drawing.now c.requires.sound c.args.column c.args.elements.now.items c.requires.before
@@ -12,12 +17,12 @@ loop-row-init c = elements_top c.args.drawing.now c.requires.sound c.args.column
 pub loop-row-preserved : goal.loop-row-preserved
 loop-row-preserved c =
     let g = c.args.drawing.now in
-    let at = place c.loop-row.row c.args.column in
-    elim c.match-found.branch [
-      | in-Some+in_ok-push w ↦ rw (w.elements-is, w.in_ok-push.ensures.items) (elements_more g c.loop-row.row c.args.column c.loop-row.elements.items w.in-Some.element
-          (match_some (IsNoElementAt g at) (IsTheElementAt g at) c.in_ok-found.found w.in-Some.element w.in-Some.is c.in_ok-found.ensures) c.loop-row.invariant)
-      | in_default w ↦ rw w.elements-is (elements_skip g c.loop-row.row c.args.column c.loop-row.elements.items
-          (match_none (IsNoElementAt g at) (IsTheElementAt g at) c.in_ok-found.found w.in_default.is c.in_ok-found.ensures) c.loop-row.invariant)
+    let row = c.loop-row.row in
+    let column = c.args.column in
+    elim c.if-ne.branch [
+      | then-ne+in_ok-push_at w ↦ rw w.elements-is w.in_ok-push_at.ensures
+      | else-ne w ↦ rw w.elements-is (elements_skip g row column c.loop-row.elements.items
+          (no_element_blank g c.requires.sound (place row column) (sym c.mark.ensures ∙ same_true the_type (search rules) _ _ (not_false _ (sym c.ne.ensures ∙ w.if-ne.false)))) c.loop-row.invariant)
     ]
 
 pub returns : goal.returns

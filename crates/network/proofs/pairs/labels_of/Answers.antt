@@ -5,7 +5,7 @@ use Rattle.network.proofs.pairs.labels_of.Goals as goal
 
 pub settle_labels-requires-clause-within : goal.settle_labels-requires-clause-within
 settle_labels-requires-clause-within c = rw (c.deref.ensures.value, c.deref_mut.ensures.value)
-    (all_within c.args.elements.now c.args.numbering.now c.in_ok-pairs.pairs.items (length c.args.numbering.now) (length c.in_ok-labels.labels.items) c.in_ok-labels.ensures.long c.in_ok-pairs.ensures)
+    (all_within c.args.elements.now c.in_ok-pairs.pairs.items (length c.args.elements.now) (length c.in_ok-labels.labels.items) c.in_ok-labels.ensures.long c.in_ok-pairs.ensures)
 
 pub returns-clause-labels : goal.returns-clause-labels
 returns-clause-labels c = λ g sound are.
@@ -19,7 +19,7 @@ returns-clause-labels c = λ g sound are.
     let joined = rw c.deref.ensures.value at c.settle_labels.ensures.joined in
     let tell : (i j : ℕ) → i < length es → j < length es → (slice_index labels i ≡ slice_index labels j) ↔ Joined pairs i j = λ i j lt lt'. joined i j (omega arith) (omega arith) in
     rw (written_over c.in_ok-labels.labels.len labels items long' (omega (arith, c.in_ok-labels.labels.ok.0)))
-    (labels_are g sound es are c.args.numbering.now c.requires.numbered pairs c.in_ok-pairs.ensures labels long
+    (labels_are g sound es are pairs c.in_ok-pairs.ensures labels long
     (λ k lt. (let l = c.settle_labels.ensures.label k (omega arith) in omega arith)) tell)
 
 pub returns-clause-long : goal.returns-clause-long
