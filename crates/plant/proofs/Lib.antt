@@ -4,6 +4,7 @@ pub mod FrontLemmas
 pub mod LineLemmas
 pub mod SpellingLemmas
 pub mod ImageLemmas
+pub mod OutputOrder
 pub mod NameLemmas
 pub mod Zips
 pub mod DraftLemmas
