@@ -1,11 +1,12 @@
 //! The rules of the grammar from names to programs.
 
-ghost use Rattle.std.specs.Prelude.{◌≡◌, ◌∷◌, ◌++◌, ◌<◌, List, IfOk, OnOk, OnErr, IsTrue, IsFalse, All, length, IfErr};
+ghost use Rattle.std.specs.Prelude.{◌≡◌, ◌∷◌, ◌++◌, ◌+◌, ◌<◌, ◌≤◌, ◌⊎◌, List, IfOk, OnOk, OnErr, IsTrue, IsFalse, All, length, IfErr};
 ghost use Rattle.plant.specs.Faults.{IsWordFault};
 ghost use Rattle.std.specs.List.{flat_map};
 ghost use Rattle.plant.specs.declared.token.Token.TheVariants as token;
 ghost use Rattle.plant.specs.Grammar.{section_word, kind_word, type_word, name_words, list_words, lists_words, block_words, program_words};
 ghost use Rattle.plant.specs.Faultless.{list_variables, block_variables, IsTypeLawful, IsListLawful, IsBlockLawful};
+ghost use Rattle.plant.specs.Steps.Declaring.{TellsOfName, RepeatsName};
 ghost use Rattle.plant.specs.Steps.ReadParts.{IsNew, IsProgramDeclared, AreProgramsDeclared};
 ghost use Rattle.plant.specs.Steps.Reading.{programs_of};
 
@@ -35,6 +36,7 @@ impl<'a> Reader<'a> {
         before: &[Name],
     ) -> Result<Name, PlantFault>
         ensures ok { IfOk result (λ name. self.old.words ≡ token.Name name ∷ self.new.words) }
+        ensures tells { IfErr result (λ e. TellsOfName e.kind (RepeatsName (λ v. v.name) variables.now self.old.words ⊎ RepeatsName (λ n. n) before.now self.old.words) (1000 ≤ length variables.now + length before.now)) }
         ensures value { IfErr result IsWordFault }
     {
         let name = self.name(alloc)?;
@@ -198,6 +200,7 @@ impl<'a> Reader<'a> {
         ensures ok { IfOk result (λ name. self.old.words ≡ token.Name name ∷ self.new.words) }
         ensures new { IfOk result (λ name. IsNew (λ p. p.name) (programs_of before.now) name) }
         ensures few { OnOk result (length before.now < 64) }
+        ensures tells { IfErr result (λ e. TellsOfName e.kind (RepeatsName (λ p. p.name) (programs_of before.now) self.old.words) (64 ≤ length before.now)) }
         ensures value { IfErr result IsWordFault }
     {
         let name = self.name(alloc)?;

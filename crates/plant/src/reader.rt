@@ -2,6 +2,7 @@ ghost use Rattle.std.specs.Prelude.{◌≡◌, ◌≢◌, ◌∷◌, List, map, 
 ghost use Rattle.plant.specs.Faults.{IsWordFault};
 ghost use Rattle.plant.specs.declared.token.Token.TheVariants as token;
 ghost use Rattle.plant.specs.declared.plant_fault.PlantFaultKind.TheVariants.{Memory};
+ghost use Rattle.plant.specs.Steps.Declaring.{TellsOfName};
 ghost use Rattle.plant.specs.Steps.Lines.{next_line, syntax_at};
 
 use crate::address::Address;
@@ -111,6 +112,7 @@ impl<'a> Reader<'a> {
         ensures ok { IfOk result (λ name. self.old.words ≡ token.Name name ∷ self.new.words) }
         ensures err { IfErr result (λ e. e.kind ≢ Memory → e ≡ syntax_at self.old) }
         ensures kept { OnErr result (self.new ≡ self.old) }
+        ensures tells { IfErr result (λ e. TellsOfName e.kind ⊥ ⊥) }
         ensures value { IfErr result IsWordFault }
     {
         match self.words {
