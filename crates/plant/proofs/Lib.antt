@@ -3,6 +3,7 @@ pub mod WordLemmas
 pub mod FrontLemmas
 pub mod LineLemmas
 pub mod SpellingLemmas
+pub mod LineCounts
 pub mod ImageLemmas
 pub mod OutputOrder
 pub mod NameLemmas
@@ -25,4 +26,5 @@ pub mod FaultLemmas
 pub mod VariableLemmas
 pub mod TreeLemmas
 pub mod KnownWords
+pub mod BodyCounts
 pub mod SameCode
