@@ -4,6 +4,7 @@ pub mod FrontLemmas
 pub mod LineLemmas
 pub mod SpellingLemmas
 pub mod LineCounts
+pub mod BodyUnique
 pub mod ImageLemmas
 pub mod OutputOrder
 pub mod NameLemmas

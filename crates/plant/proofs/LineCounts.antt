@@ -33,7 +33,7 @@ one_feed text (inl h) = rw h refl
 one_feed text (inr h) = rw h refl
 
 -- what lies before the rest
-passed : (text front rest : List ℕ) → text ≡ front ++ rest → take (length text - length rest) text ≡ front
+pub passed : (text front rest : List ℕ) → text ≡ front ++ rest → take (length text - length rest) text ≡ front
 passed text front rest e =
     let len : length text ≡ length front + length rest = ap length e ∙ length-append front rest in
     let cut : length text - length rest ≡ length front = omega arith in

@@ -1,12 +1,12 @@
 //! The lexer: a plant's text word by word, with the line of each.
 
-ghost use Rattle.std.specs.Prelude.{◌≡◌, ◌≢◌, ◌<◌, ◌+◌, ◌-◌, List, [], IfOk, IfSome, OnOk, IsTrue, MatchOption, length, min, take};
+ghost use Rattle.std.specs.Prelude.{◌≡◌, ◌≢◌, ◌<◌, ◌+◌, ◌-◌, ℕ, List, [], IfOk, IfSome, OnOk, IsTrue, MatchOption, length, min, take};
 ghost use Rattle.std.specs.Str.{IsUtf8};
 ghost use Rattle.ladder_text.specs.Rows.{without_last};
 ghost use Rattle.plant.specs.declared.token.Token.TheVariants as token;
 ghost use Rattle.plant.specs.Spelling.{IsGap, BeginsNoBlock, feeds};
 ghost use Rattle.plant.specs.Steps.Gaps.{IsBehindGap};
-ghost use Rattle.plant.specs.Steps.Lexing.{IsWordThen, IsFirstWord};
+ghost use Rattle.plant.specs.Steps.Lexing.{IsBodyThen, IsWordThen, IsFirstWord};
 ghost use Rattle.plant.specs.Steps.Lines.{StandsFirst};
 
 use crate::bodies::{
@@ -160,12 +160,13 @@ impl<'a> Lexer<'a> {
         Ok(Word::new(token, line))
     }
 
-    /// The body that begins on the next line.
+    /// The body that begins on the next line. `Unknown`: there is none.
     fn body(&mut self, alloc: Global) -> Result<Word, AllocError>
         requires begins_no_block { BeginsNoBlock self.old.text }
         requires some { 0 < length self.old.text }
         ensures word { IfOk result (λ w. IsFirstWord self.old.text w.token self.new.text) }
         ensures first { IfOk result (λ w. StandsFirst self.old w self.new) }
+        ensures none { IfOk result (λ w. w.token ≡ token.Unknown → (body rest : List ℕ) → IsBodyThen self.old.text body rest → IsUtf8 body → ⊥) }
         ensures shorter { OnOk result (length self.new.text < length self.old.text) }
     {
         let line = self.line;
