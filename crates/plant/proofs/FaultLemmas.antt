@@ -12,7 +12,8 @@ use Rattle.plant.specs.declared.plant_fault.BodyFault.{BodyFault}
 use Rattle.plant.specs.declared.plant_fault.PlantFault.{PlantFault}
 use Rattle.plant.specs.declared.plant_fault.PlantFaultKind.{PlantFaultKind}
 use Rattle.plant.specs.declared.plant_fault.PlantFaultKind.TheVariants as kind
-use Rattle.plant.specs.Faults.{IsOfKind, IsPlantFault, IsOfBody, IsOfWord, IsWordFault}
+use Rattle.plant.specs.Faults.{IsOfKind, IsPlantFault, IsOfBody}
+use Rattle.plant.specs.Steps.WordFaults.{IsOfWord, IsWordFault}
 
 of_word : (k : PlantFaultKind) (line : ℕ) (inner : Option BodyFault) → IsOfWord k line inner → IsOfKind k line inner
 of_word kind.Syntax line inner w = w

@@ -9,3 +9,4 @@ pub mod Outputs
 pub mod ReadParts
 pub mod Reading
 pub mod Slots
+pub mod WordFaults

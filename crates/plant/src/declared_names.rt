@@ -1,7 +1,7 @@
 //! Whether a name is declared already, without regard to case.
 
 ghost use Rattle.std.specs.Prelude.{◌≡◌, ◌↔◌, ◌<◌, IsTrue, IsFalse, Any, OnOk, IfErr, length};
-ghost use Rattle.plant.specs.Faults.{IsWordFault};
+ghost use Rattle.plant.specs.Steps.WordFaults.{IsWordFault};
 ghost use Rattle.plant.specs.declared.plant_fault.PlantFaultKind.TheVariants.{NameTwice, TooMany};
 ghost use Rattle.std.specs.List.{flat_map, find};
 ghost use Rattle.std.specs.Option.{option_map, option_and_then};

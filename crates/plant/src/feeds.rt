@@ -1,7 +1,7 @@
 //! The binds of instances, each with its input and its source found by name.
 
 ghost use Rattle.std.specs.Prelude.{◌≡◌, All, IfOk, OnOk, MatchOption, Some, None, length, map, IfErr};
-ghost use Rattle.plant.specs.Faults.{IsWordFault};
+ghost use Rattle.plant.specs.Steps.WordFaults.{IsWordFault};
 ghost use Rattle.std.specs.List.{AllZip, flat_map};
 ghost use Rattle.power_flow.specs.Names.{place_of};
 ghost use Rattle.plant.specs.Faultless.{binds_of, use_of, uses_of};

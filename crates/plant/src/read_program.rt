@@ -1,7 +1,7 @@
 //! The rules of the grammar from names to programs.
 
 ghost use Rattle.std.specs.Prelude.{◌≡◌, ◌∷◌, ◌++◌, ◌+◌, ◌<◌, ◌≤◌, ◌⊎◌, ℕ, List, IfOk, OnOk, OnErr, IsTrue, IsFalse, All, length, IfErr};
-ghost use Rattle.plant.specs.Faults.{IsWordFault};
+ghost use Rattle.plant.specs.Steps.WordFaults.{IsWordFault};
 ghost use Rattle.std.specs.List.{flat_map};
 ghost use Rattle.plant.specs.declared.token.Token.TheVariants as token;
 ghost use Rattle.plant.specs.Grammar.{section_word, kind_word, type_word, name_words, list_words, lists_words, block_words, program_words};
