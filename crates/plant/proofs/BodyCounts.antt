@@ -1,14 +1,14 @@
 -- Each program has one body among its words, so the lines of bodies go with the programs.
 use Rattle.std.proofs.Common.{◌≡◌, ◌≢◌, ℕ, zero, suc, ◌+◌, List, [], ◌∷◌, ◌++◌, length, map, All, take, drop, refl, sym, ap, subst, ◌∙◌, arith}
 use Rattle.std.specs.List.{flat_map}
-use Rattle.std.proofs.lemmas.List.{length-append, length-map, take-append-drop, map-append}
+use Rattle.std.proofs.lemmas.List.{length-append, length-map, take-append-drop}
 use Rattle.std.proofs.lemmas.List.Concat.{flat_map-cons}
 use Rattle.std.proofs.Math.Seq.{take-append_seam}
 use Rattle.power_flow.specs.declared.declarations.Kind.TheVariants as kind
 use Rattle.plant.specs.declared.token.Token.{Token}
 use Rattle.plant.specs.declared.token.Token.TheVariants as token
 use Rattle.plant.specs.declared.token.Keyword.TheVariants as key
-use Rattle.plant.specs.declared.token.Punctuation.TheVariants.{Comma, Colon, Semicolon}
+use Rattle.plant.specs.declared.token.Punctuation.TheVariants.{Colon, Semicolon}
 use Rattle.plant.specs.declared.tree.Section.{Section}
 use Rattle.plant.specs.declared.tree.Section.TheVariants as section
 use Rattle.plant.specs.declared.tree.TypeName.{TypeName}
