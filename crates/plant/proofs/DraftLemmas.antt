@@ -1,7 +1,7 @@
 -- Lists of what a resource declares, one item more at a time, and what is found in a draft.
 use Rattle.std.proofs.Common.{◌≡◌, ℕ, ◌+◌, ◌<◌, List, [], ◌∷◌, ◌++◌, Bool, true, false, cond, suc, subst, Option, Some, None, IsTrue, length, map, take, get_or, refl, sym, ap, ◌∙◌}
 use Rattle.std.specs.Borrow.{Bor}
-use Rattle.std.specs.Prelude.{slice_get, IfSome}
+use Rattle.std.specs.Prelude.{slice_get, MatchOption}
 use Rattle.std.specs.List.{flat_map, filter, find}
 use Rattle.std.specs.Option.{option_map}
 use Rattle.std.proofs.lemmas.Option.{slice_get-map}
@@ -56,10 +56,14 @@ program_made types u t p found drawn named same =
       ladder_is = rw same drawn;
     }
 
--- an output that was found by its place
+-- an output that was found by its place, or not
 pub output_found : (c : CodeValue) (program : ℕ) (name : List ℕ) (owner : ProgramValue) (place : ℕ) (r : Option (ℕ × Kind)) → slice_get c.programs program ≡ Some owner
-    → place_of owner.ladder.declarations name ≡ Some place → IfSome r (λ x. IsPlacedAt c.outputs program place x.0 x.1) → IfSome r (λ x. IsOutputAt c program name x.0 x.1)
-output_found c program name owner place None own at given = tt
+    → place_of owner.ladder.declarations name ≡ Some place → MatchOption r ((k : ℕ) (kind : Kind) → IsPlacedAt c.outputs program place k kind → ⊥) (λ x. IsPlacedAt c.outputs program place x.0 x.1)
+    → MatchOption r ((k : ℕ) (kind : Kind) → IsOutputAt c program name k kind → ⊥) (λ x. IsOutputAt c program name x.0 x.1)
+output_found c program name owner place None own at given = λ k kind is.
+    let same : owner ≡ is.owner = some_same (sym own ∙ is.owner_is) in
+    let here : is.place ≡ place = some_same (sym is.place_is ∙ ap (λ (p : ProgramValue). place_of p.ladder.declarations name) (sym same) ∙ at) in
+    given k kind (subst (λ (n : ℕ). IsPlacedAt c.outputs program n k kind) here is.given_is)
 output_found c program name owner place (Some x) own at given =
     let v = at_place owner.ladder.declarations name place at in
-    record { owner = owner; place = place; variable = v.0; owner_is = own; variable_is = v.1; given_is = given }
+    record { owner = owner; place = place; variable = v.0; owner_is = own; place_is = at; variable_is = v.1; given_is = given }

@@ -2,15 +2,18 @@
 use Rattle.std.proofs.Common.{◌≡◌, ◌≢◌, inl, inr, ℕ, List, ◌++◌, Option, Result, Ok, Err, subst}
 use Rattle.std.specs.Prelude.{OnOk, OnErr}
 use Rattle.std.specs.List.{flat_map}
-use Rattle.plant.specs.BodyFaults.{TextValue, IsFirstBodyFault, IsFaultOfBodies}
+use Rattle.plant.specs.BodyFaults.{TextValue, IsFirstBodyFault}
+use Rattle.plant.specs.Steps.Drawn.{IsFaultOfBodies}
+use Rattle.plant.specs.Steps.Lines.{ReaderValue}
 use Rattle.plant.specs.Grammar.{program_words}
-use Rattle.plant.specs.Steps.Reading.{programs_of}
+use Rattle.plant.specs.Steps.Reading.{programs_of, lines_of}
 use Rattle.plant.specs.declared.token.Token.{Token}
 use Rattle.plant.specs.declared.plant_fault.BodyFault.{BodyFault}
 use Rattle.plant.specs.declared.plant_fault.PlantFault.{PlantFault}
 use Rattle.plant.specs.declared.plant_fault.PlantFaultKind.{PlantFaultKind}
 use Rattle.plant.specs.declared.plant_fault.PlantFaultKind.TheVariants as kind
-use Rattle.plant.specs.Faults.{IsOfKind, IsPlantFault, IsOfBody, IsOfWord, IsWordFault}
+use Rattle.plant.specs.Faults.{IsOfKind, IsPlantFault, IsOfBody}
+use Rattle.plant.specs.Steps.WordFaults.{IsOfWord, IsWordFault}
 
 of_word : (k : PlantFaultKind) (line : ℕ) (inner : Option BodyFault) → IsOfWord k line inner → IsOfKind k line inner
 of_word kind.Syntax line inner w = w
@@ -42,15 +45,20 @@ either_way P Q R (Ok x) p q f g = f p
 either_way P Q R (Err e) p q f g = g q
 
 -- a fault that was met while bodies were drawn
-pub body_met : {T : Type 0} (start one : List Token) (texts : List TextValue) (r : Result T PlantFault) (fault : PlantFault)
-    → OnOk r (start ≡ flat_map program_words (programs_of texts) ++ one) → OnErr r ((rest : List Token) × (start ≡ flat_map program_words (programs_of texts) ++ rest))
-    → (fault.kind ≢ kind.Memory → IsFirstBodyFault texts fault) → IsOfBody fault.kind → IsFaultOfBodies start fault
-body_met start one texts r fault ok err first of =
-    let written = either_way (start ≡ flat_map program_words (programs_of texts) ++ one) ((rest : List Token) × (start ≡ flat_map program_words (programs_of texts) ++ rest))
-    ((rest : List Token) × (start ≡ flat_map program_words (programs_of texts) ++ rest)) r ok err (λ e. (one, e)) (λ w. w) in
+pub body_met : {T : Type 0} (reader one : ReaderValue) (texts : List TextValue) (r : Result T PlantFault) (fault : PlantFault)
+    → OnOk r (reader.words ≡ flat_map program_words (programs_of texts) ++ one.words) → OnErr r ((rest : List Token) × (reader.words ≡ flat_map program_words (programs_of texts) ++ rest))
+    → OnOk r (reader.bodies ≡ lines_of texts ++ one.bodies) → OnErr r ((more : List ℕ) × (reader.bodies ≡ lines_of texts ++ more))
+    → (fault.kind ≢ kind.Memory → IsFirstBodyFault texts fault) → IsOfBody fault.kind → IsFaultOfBodies reader fault
+body_met reader one texts r fault ok err ok_lines err_lines first of =
+    let written = either_way (reader.words ≡ flat_map program_words (programs_of texts) ++ one.words) ((rest : List Token) × (reader.words ≡ flat_map program_words (programs_of texts) ++ rest))
+    ((rest : List Token) × (reader.words ≡ flat_map program_words (programs_of texts) ++ rest)) r ok err (λ e. (one.words, e)) (λ w. w) in
+    let lines = either_way (reader.bodies ≡ lines_of texts ++ one.bodies) ((more : List ℕ) × (reader.bodies ≡ lines_of texts ++ more))
+    ((more : List ℕ) × (reader.bodies ≡ lines_of texts ++ more)) r ok_lines err_lines (λ e. (one.bodies, e)) (λ w. w) in
     record {
       texts = texts;
       rest = written.0;
+      more = lines.0;
       written = written.1;
+      lines = lines.1;
       first = first (not_memory fault.kind of);
     }

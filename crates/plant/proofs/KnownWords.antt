@@ -175,6 +175,10 @@ resources_are : (rs : List Resource) → AreKnown (resources_words rs)
 resources_are [] = behind (key_word key.EndConfiguration) [] (key_is key.EndConfiguration) nothing
 resources_are (r ∷ rs) = both (resource_words r) (resources_words rs) (resource_is r) (resources_are rs)
 
+-- none of the words of programs is unknown
+pub programs_known : (ps : List Program) → All (λ w. w ≢ token.Unknown) (flat_map program_words ps)
+programs_known ps = all_of program_words program_is ps
+
 -- none of a tree's words is unknown
 pub words_known : (t : Tree) → All (λ w. w ≢ token.Unknown) (words_of t)
 unfolding words_of

@@ -3,7 +3,10 @@ pub mod WordLemmas
 pub mod FrontLemmas
 pub mod LineLemmas
 pub mod SpellingLemmas
+pub mod LineCounts
+pub mod BodyUnique
 pub mod ImageLemmas
+pub mod OutputOrder
 pub mod NameLemmas
 pub mod Zips
 pub mod DraftLemmas
@@ -24,4 +27,5 @@ pub mod FaultLemmas
 pub mod VariableLemmas
 pub mod TreeLemmas
 pub mod KnownWords
+pub mod BodyCounts
 pub mod SameCode

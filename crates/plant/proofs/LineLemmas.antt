@@ -333,14 +333,14 @@ without_return front =
     let n : length (front ++ 13 ∷ []) - 1 ≡ length front = omega (arith, length-append front (13 ∷ [])) in
     rw (at, n) (take-append_seam front (13 ∷ []))
 
-first_line_at : (line more : List ℕ) → is_one_line line ≡ true → first_line (line ++ 10 ∷ more) ≡ line
+pub first_line_at : (line more : List ℕ) → is_one_line line ≡ true → first_line (line ++ 10 ∷ more) ≡ line
 first_line_at [] more h = take_while-no in_line 10 more refl
 first_line_at (c ∷ line) more h = elim (cases_Bool (c == 10)) [
   | inl e ↦ absurd (let f : false ≡ true = rw e at h in cc)
   | inr e ↦ take_while-yes in_line c (line ++ 10 ∷ more) (ap not e) ∙ ap (λ x. c ∷ x) (first_line_at line more (rw e at h))
 ]
 
-one_line_and : (line : List ℕ) → is_one_line line ≡ true → is_one_line (line ++ 13 ∷ []) ≡ true
+pub one_line_and : (line : List ℕ) → is_one_line line ≡ true → is_one_line (line ++ 13 ∷ []) ≡ true
 one_line_and [] h = refl
 one_line_and (c ∷ line) h = elim (cases_Bool (c == 10)) [
   | inl e ↦ absurd (let f : false ≡ true = rw e at h in cc)
@@ -385,13 +385,13 @@ not_blank t rest one l = go l.5
         let is : t ≡ (l.0 ++ 13 ∷ []) ++ 10 ∷ rest = l.2 ∙ ap (λ x. l.0 ++ x ++ rest) h ∙ append_assoc l.0 (13 ∷ 10 ∷ []) rest ∙ sym (append_assoc l.0 (13 ∷ []) (10 ∷ rest)) in
         not_one_line (l.0 ++ 13 ∷ []) rest (rw is at one)
 
-abbrev lines_text : List (List ℕ) → List ℕ
+abbrev pub lines_text : List (List ℕ) → List ℕ
 lines_text lines = flat_map (λ line. line ++ 10 ∷ []) lines
 
-abbrev IsLine : List ℕ → Type 0
+abbrev pub IsLine : List ℕ → Type 0
 IsLine line = (is_one_line line ≡ true) × (IsEndLine line → ⊥)
 
-first_of_lines : (line more rest : List ℕ) → ((line ++ 10 ∷ []) ++ more) ++ rest ≡ line ++ 10 ∷ (more ++ rest)
+pub first_of_lines : (line more rest : List ℕ) → ((line ++ 10 ∷ []) ++ more) ++ rest ≡ line ++ 10 ∷ (more ++ rest)
 first_of_lines line more rest = append_assoc (line ++ 10 ∷ []) more rest ∙ append_assoc line (10 ∷ []) (more ++ rest)
 
 -- a body without its first line

@@ -82,12 +82,12 @@ last_same [] w d = refl
 last_same (v ∷ ws) w d = last_same ws w d
 
 -- all words but the last are known
-known_before : (ws : List Token) (w : Token) → All (λ t. t ≢ token.Unknown) (ws ++ w ∷ []) → All (λ t. t ≢ token.Unknown) ws
+pub known_before : (ws : List Token) (w : Token) → All (λ t. t ≢ token.Unknown) (ws ++ w ∷ []) → All (λ t. t ≢ token.Unknown) ws
 known_before ws w h = λ k d l.
     let in' : k < length (ws ++ w ∷ []) = omega (arith, length-append ws (w ∷ [])) in
     subst (λ (t : Token). t ≢ token.Unknown) (front_same ws (w ∷ []) k d l) (h k d in')
 
-known_last : (ws : List Token) (w : Token) → All (λ t. t ≢ token.Unknown) (ws ++ w ∷ []) → w ≢ token.Unknown
+pub known_last : (ws : List Token) (w : Token) → All (λ t. t ≢ token.Unknown) (ws ++ w ∷ []) → w ≢ token.Unknown
 known_last ws w h = λ e.
     let in' : length ws < length (ws ++ w ∷ []) = omega (arith, length-append ws (w ∷ [])) in
     h (length ws) w in' (last_same ws w w ∙ e)

@@ -1,6 +1,5 @@
 -- The fault of a program's body.
-use Rattle.std.specs.Prelude.{◌≡◌, ℕ, List, ◌∷◌, ◌++◌, map, All, min, max, Some}
-use Rattle.std.specs.List.{flat_map}
+use Rattle.std.specs.Prelude.{◌≡◌, ℕ, List, ◌∷◌, ◌++◌, All, min, max, Some}
 use Rattle.ladder_text.specs.declared.place.Place.{Place}
 use Rattle.ladder_text.specs.Rows.{rows_of}
 use Rattle.ladder_text.specs.Places.{layout_of}
@@ -18,9 +17,7 @@ use Rattle.plant.specs.declared.plant_fault.BodyFault.TheVariants as body
 use Rattle.plant.specs.declared.plant_fault.PlantFault.{PlantFault}
 use Rattle.plant.specs.declared.plant_fault.PlantFaultKind.{PlantFaultKind}
 use Rattle.plant.specs.declared.plant_fault.PlantFaultKind.TheVariants as kind
-use Rattle.plant.specs.declared.token.Token.{Token}
 use Rattle.plant.specs.declared.tree.Program.{Program}
-use Rattle.plant.specs.Grammar.{program_words}
 use Rattle.plant.specs.Faultless.{variables, IsLadderOf}
 
 -- a program as it is written, and the line that its body begins on
@@ -75,10 +72,3 @@ pub record IsFirstBodyFault (texts : List TextValue) (fault : PlantFault) : Type
   pub parts : texts ≡ before ++ faulty ∷ behind
   pub drawn : All HasLadder before
   pub fault_is : IsBodyFault faulty fault
-
--- The words begin with those of programs, and the fault is that of the first of these whose body is refused.
-pub record IsFaultOfBodies (words : List Token) (fault : PlantFault) : Type 0 where
-  pub texts : List TextValue
-  pub rest : List Token
-  pub written : words ≡ flat_map program_words (map (λ t. t.program) texts) ++ rest
-  pub first : IsFirstBodyFault texts fault

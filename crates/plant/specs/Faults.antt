@@ -50,20 +50,3 @@ IsPlantFault fault = IsOfKind fault.kind fault.line fault.inner
 -- one of the kinds of faults that the body of a program has
 abbrev pub IsOfBody : PlantFaultKind → Type 0
 IsOfBody k = (k ≡ kind.Drawing) ⊎ ((k ≡ kind.Graph) ⊎ (k ≡ kind.Bind))
-
--- a fault of the words of a text, with nothing inside, or want of memory, with line 0
-abbrev pub IsOfWord : PlantFaultKind → ℕ → Option BodyFault → Type 0
-IsOfWord kind.Syntax line inner = inner ≡ None
-IsOfWord kind.Drawing line inner = ⊥
-IsOfWord kind.Graph line inner = ⊥
-IsOfWord kind.Bind line inner = ⊥
-IsOfWord kind.NameTwice line inner = inner ≡ None
-IsOfWord kind.UnknownName line inner = inner ≡ None
-IsOfWord kind.WrongKind line inner = inner ≡ None
-IsOfWord kind.InputBoundTwice line inner = inner ≡ None
-IsOfWord kind.TooMany line inner = inner ≡ None
-IsOfWord kind.Memory line inner = (inner ≡ None) × (line ≡ 0)
-
--- a fault that no body has, with what belongs to its kind
-abbrev pub IsWordFault : PlantFault → Type 0
-IsWordFault fault = IsOfWord fault.kind fault.line fault.inner

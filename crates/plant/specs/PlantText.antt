@@ -1,12 +1,11 @@
 -- The plant that a text is.
-use Rattle.std.specs.Prelude.{◌≢◌, ℕ, List, All}
+use Rattle.std.specs.Prelude.{ℕ, List, map}
+use Rattle.std.specs.List.{flat_map}
 use Rattle.ladder_text.specs.Rows.{without_last}
 use Rattle.plant.specs.declared.plant_fault.PlantFault.{PlantFault}
-use Rattle.plant.specs.declared.token.Token.{Token}
-use Rattle.plant.specs.declared.token.Token.TheVariants as token
-use Rattle.plant.specs.BodyFaults.{IsFaultOfBodies}
-use Rattle.plant.specs.Spelling.{Spells}
-use Rattle.plant.specs.Grammar.{Tree, words_of}
+use Rattle.plant.specs.BodyFaults.{TextValue, IsFirstBodyFault}
+use Rattle.plant.specs.Spelling.{Spells, BeginsWith}
+use Rattle.plant.specs.Grammar.{Tree, program_words, words_of}
 use Rattle.plant.specs.Faultless.{IsFaultless}
 use Rattle.plant.specs.PlantValue.{PlantValue}
 use Rattle.plant.specs.StandsFor.{IsPlantOf}
@@ -18,8 +17,8 @@ pub record IsPlantText (text : List ℕ) (plant : PlantValue) : Type 0 where
   pub faultless : IsFaultless tree
   pub stands : IsPlantOf tree plant
 
--- The text spells these words, if each of them is one, and the fault is that of the first program whose body is refused.
+-- The text begins with these programs, their bodies on their first lines, and the fault is that of the first of them whose body is refused.
 pub record IsBodyFaultIn (text : List ℕ) (fault : PlantFault) : Type 0 where
-  pub words : List Token
-  pub spelled : All (λ t. t ≢ token.Unknown) words → Spells (without_last 13 text) words
-  pub first : IsFaultOfBodies words fault
+  pub texts : List TextValue
+  pub begun : BeginsWith 1 (without_last 13 text) (flat_map program_words (map (λ (t : TextValue). t.program) texts)) (map (λ (t : TextValue). t.first_line) texts)
+  pub first : IsFirstBodyFault texts fault

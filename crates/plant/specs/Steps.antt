@@ -1,4 +1,5 @@
 -- Steps of the proofs: what is known of a plant halfway. Only contracts inside this crate cite them, so no reader has to believe them.
+pub mod Declaring
 pub mod Drafts
 pub mod Drawn
 pub mod Gaps
@@ -8,3 +9,4 @@ pub mod Outputs
 pub mod ReadParts
 pub mod Reading
 pub mod Slots
+pub mod WordFaults

@@ -1,12 +1,13 @@
 //! Whether a name is declared already, without regard to case.
 
 ghost use Rattle.std.specs.Prelude.{◌≡◌, ◌↔◌, ◌<◌, IsTrue, IsFalse, Any, OnOk, IfErr, length};
-ghost use Rattle.plant.specs.Faults.{IsWordFault};
+ghost use Rattle.plant.specs.Steps.WordFaults.{IsWordFault};
 ghost use Rattle.plant.specs.declared.plant_fault.PlantFaultKind.TheVariants.{NameTwice, TooMany};
 ghost use Rattle.std.specs.List.{flat_map, find};
 ghost use Rattle.std.specs.Option.{option_map, option_and_then};
 ghost use Rattle.power_flow.specs.Names.{place_of};
 ghost use Rattle.plant.specs.PlantValue.{input_kind_at};
+ghost use Rattle.plant.specs.Steps.Declaring.{TellsOfName};
 ghost use Rattle.plant.specs.Steps.ReadParts.{is_task_line};
 ghost use Rattle.plant.specs.Steps.Reading.{programs_of};
 ghost use Rattle.plant.specs.Names.{is_named};
@@ -24,6 +25,7 @@ pub fn check_new(name: &Name, is_twice: bool, is_full: bool) -> Result<(), Plant
     ensures ok { OnOk result (IsFalse is_twice × IsFalse is_full) }
     ensures twice { IfErr result (λ e. IsTrue is_twice → e.kind ≡ NameTwice) }
     ensures full { IfErr result (λ e. IsFalse is_twice → IsTrue is_full × (e.kind ≡ TooMany)) }
+    ensures tells { IfErr result (λ e. TellsOfName e.kind (IsTrue is_twice) (IsTrue is_full)) }
     ensures value { IfErr result IsWordFault }
 {
     if is_twice {

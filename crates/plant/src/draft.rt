@@ -1,7 +1,7 @@
 //! What a plant runs, before its sources are resolved: the programs of each task, and their outputs.
 
 ghost use Rattle.std.specs.Prelude.{◌≡◌, ◌++◌, map, IfOk, OnOk, IfErr};
-ghost use Rattle.plant.specs.Faults.{IsWordFault};
+ghost use Rattle.plant.specs.Steps.WordFaults.{IsWordFault};
 ghost use Rattle.std.specs.List.{AllZip, filter};
 ghost use Rattle.plant.specs.Names.{is_named};
 ghost use Rattle.plant.specs.Faultless.{tasks_of, uses_of, task_of, use_of};

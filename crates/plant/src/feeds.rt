@@ -1,12 +1,13 @@
 //! The binds of instances, each with its input and its source found by name.
 
-ghost use Rattle.std.specs.Prelude.{◌≡◌, All, IfOk, IfSome, OnOk, Some, length, map, IfErr};
-ghost use Rattle.plant.specs.Faults.{IsWordFault};
+ghost use Rattle.std.specs.Prelude.{◌≡◌, All, IfOk, OnOk, MatchOption, Some, None, length, map, IfErr};
+ghost use Rattle.plant.specs.Steps.WordFaults.{IsWordFault};
 ghost use Rattle.std.specs.List.{AllZip, flat_map};
 ghost use Rattle.power_flow.specs.Names.{place_of};
 ghost use Rattle.plant.specs.Faultless.{binds_of, use_of, uses_of};
 ghost use Rattle.plant.specs.PlantValue.{PlantValue, input_kind_at};
 ghost use Rattle.plant.specs.StandsFor.{IsOrigin};
+ghost use Rattle.plant.specs.Steps.ReadParts.{input_kind_of};
 ghost use Rattle.plant.specs.Steps.Drafts.{drafted, IsOriginOf, IsImageKind, IsFeedOf, HasFeed, AreFeedsOf, IsUseResolved, Triples};
 
 use crate::declared_names::type_named;
@@ -74,9 +75,9 @@ fn find_origin(drafts: &[ResourceDraft], source: &SourceName) -> Result<(Origin,
     }
 }
 
-/// The place of an input, and its kind.
+/// The place of an input, and its kind. `None`: the name is no input's.
 fn find_input(declarations: &Declarations, name: &str) -> Option<(usize, Kind)>
-    ensures { IfSome result (λ x. (place_of declarations.now name.now ≡ Some x.0) × (input_kind_at declarations.now x.0 ≡ Some x.1)) }
+    ensures { MatchOption result (input_kind_of declarations.now name.now ≡ None) (λ x. (place_of declarations.now name.now ≡ Some x.0) × (input_kind_at declarations.now x.0 ≡ Some x.1)) }
 {
     let place = declarations.position(name)?;
     match declarations.entry(place) {

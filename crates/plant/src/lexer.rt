@@ -1,12 +1,13 @@
 //! The lexer: a plant's text word by word, with the line of each.
 
-ghost use Rattle.std.specs.Prelude.{◌≡◌, ◌≢◌, ◌<◌, ◌-◌, List, [], IfOk, IfSome, OnOk, IsTrue, MatchOption, length, take};
+ghost use Rattle.std.specs.Prelude.{◌≡◌, ◌≢◌, ◌<◌, ◌+◌, ◌-◌, ℕ, List, [], IfOk, IfSome, OnOk, IsTrue, MatchOption, length, min, take};
 ghost use Rattle.std.specs.Str.{IsUtf8};
 ghost use Rattle.ladder_text.specs.Rows.{without_last};
 ghost use Rattle.plant.specs.declared.token.Token.TheVariants as token;
-ghost use Rattle.plant.specs.Spelling.{IsGap, BeginsNoBlock};
+ghost use Rattle.plant.specs.Spelling.{IsGap, BeginsNoBlock, feeds};
 ghost use Rattle.plant.specs.Steps.Gaps.{IsBehindGap};
-ghost use Rattle.plant.specs.Steps.Lexing.{IsWordThen, IsFirstWord};
+ghost use Rattle.plant.specs.Steps.Lexing.{IsBodyThen, IsWordThen, IsFirstWord};
+ghost use Rattle.plant.specs.Steps.Lines.{StandsFirst};
 
 use crate::bodies::{
     begins_no_block, behind_blank_line, behind_body, is_blank_line, without_return,
@@ -51,7 +52,9 @@ fn stage_behind(token: &Token, stage: Stage) -> Stage {
 }
 
 /// How many line feeds there are.
-fn feeds(text: &[u8]) -> u64 {
+fn feeds(text: &[u8]) -> u64
+    ensures { result ≡ feeds text.now }
+{
     text.iter().filter(|c| **c == b'\n').count() as u64
 }
 
@@ -73,7 +76,7 @@ fn body_before(alloc: Global, text: &[u8], rest: &[u8]) -> Result<Option<Text>, 
     }
 }
 
-/// The text that is left, and the line on which it begins. Contracts see the text.
+/// The text that is left, and the line on which it begins. Contracts see both.
 #[derive(Drop)]
 pub struct Lexer<'a> {
     rest: &'a [u8],
@@ -84,17 +87,17 @@ pub struct Lexer<'a> {
 }
 
 impl<'a> Model for Lexer<'a> {
-    ghost use Rattle.std.specs.Prelude.{List, ℕ};
+    ghost use Rattle.plant.specs.Steps.Lines.{LexerValue};
 
-    ghost Value = { List ℕ };
+    ghost Value = { LexerValue };
 
-    ghost view = { λ l. l.rest.now };
+    ghost view = { λ l. record { text = l.rest.now; line = l.line } };
 }
 
 impl<'a> Lexer<'a> {
     /// All words of a text.
     pub fn new(text: &'a str) -> Lexer<'a>
-        ensures { result ≡ without_last 13 text.now }
+        ensures { result ≡ record { text = without_last 13 text.now; line = 1 } }
     {
         let text = text.as_bytes();
         Lexer {
@@ -113,14 +116,15 @@ impl<'a> Lexer<'a> {
 
     /// Whether a body begins here, unless a block of variables does.
     fn is_body_due(&self) -> bool
-        ensures { IsTrue result → 0 < length self.now }
+        ensures { IsTrue result → 0 < length self.now.text }
     {
         self.stage == Stage::BodyDue && !self.rest.is_empty()
     }
 
     /// Goes on to what is left behind a part of the text.
     fn advance(&mut self, rest: &'a [u8])
-        ensures { self.new ≡ rest.now }
+        ensures text { self.new.text ≡ rest.now }
+        ensures line { self.new.line ≡ min (self.old.line + feeds (take (length self.old.text - length rest.now) self.old.text)) 18446744073709551615 }
     {
         let passed = &self.rest[..self.rest.len().saturating_sub(rest.len())];
         self.line = self.line.saturating_add(feeds(passed));
@@ -130,7 +134,8 @@ impl<'a> Lexer<'a> {
     /// What is no word, at a line: the last word.
     fn stop(&mut self, line: u64) -> Word
         ensures unknown { result.token ≡ token.Unknown }
-        ensures end { self.new ≡ [] }
+        ensures end { self.new.text ≡ [] }
+        ensures line { self.new.line ≡ self.old.line }
     {
         self.rest = &[];
         Word::new(Token::Unknown, line)
@@ -138,9 +143,10 @@ impl<'a> Lexer<'a> {
 
     /// The word that stands in front.
     fn word(&mut self, alloc: Global) -> Result<Word, AllocError>
-        requires { 0 < length self.old }
-        ensures word { IfOk result (λ w. w.token ≢ token.Unknown → IsWordThen self.old w.token self.new) }
-        ensures shorter { OnOk result (length self.new < length self.old) }
+        requires { 0 < length self.old.text }
+        ensures word { IfOk result (λ w. w.token ≢ token.Unknown → IsWordThen self.old.text w.token self.new.text) }
+        ensures line { OnOk result (self.new.line ≡ self.old.line) }
+        ensures shorter { OnOk result (length self.new.text < length self.old.text) }
     {
         let line = self.line;
         let text = self.rest;
@@ -154,12 +160,14 @@ impl<'a> Lexer<'a> {
         Ok(Word::new(token, line))
     }
 
-    /// The body that begins on the next line.
+    /// The body that begins on the next line. `Unknown`: there is none.
     fn body(&mut self, alloc: Global) -> Result<Word, AllocError>
-        requires begins_no_block { BeginsNoBlock self.old }
-        requires some { 0 < length self.old }
-        ensures word { IfOk result (λ w. IsFirstWord self.old w.token self.new) }
-        ensures shorter { OnOk result (length self.new < length self.old) }
+        requires begins_no_block { BeginsNoBlock self.old.text }
+        requires some { 0 < length self.old.text }
+        ensures word { IfOk result (λ w. IsFirstWord self.old.text w.token self.new.text) }
+        ensures first { IfOk result (λ w. StandsFirst self.old w self.new) }
+        ensures none { IfOk result (λ w. w.token ≡ token.Unknown → (body rest : List ℕ) → IsBodyThen self.old.text body rest → IsUtf8 body → ⊥) }
+        ensures shorter { OnOk result (length self.new.text < length self.old.text) }
     {
         let line = self.line;
         if !is_blank_line(self.rest) {
@@ -183,8 +191,9 @@ impl<'a> Lexer<'a> {
 
     /// The word behind a gap.
     fn word_behind_gap(&mut self, alloc: Global) -> Result<Option<Word>, AllocError>
-        ensures word { IfOk result (λ w. MatchOption w (IsGap self.old) (λ t. IsFirstWord self.old t.token self.new)) }
-        ensures shorter { IfOk result (λ w. IfSome w (λ _. length self.new < length self.old)) }
+        ensures word { IfOk result (λ w. MatchOption w (IsGap self.old.text) (λ t. IsFirstWord self.old.text t.token self.new.text)) }
+        ensures first { IfOk result (λ w. IfSome w (λ t. StandsFirst self.old t self.new)) }
+        ensures shorter { IfOk result (λ w. IfSome w (λ _. length self.new.text < length self.old.text)) }
     {
         let rest = behind_gap(self.rest);
         if rest.is_empty() {
@@ -200,8 +209,9 @@ impl<'a> Lexer<'a> {
 
     /// The next word. `None`: there is no further one. Behind `Unknown` there is none.
     pub fn next(&mut self, alloc: Global) -> Result<Option<Word>, AllocError>
-        ensures word { IfOk result (λ w. MatchOption w (IsGap self.old) (λ t. IsFirstWord self.old t.token self.new)) }
-        ensures shorter { IfOk result (λ w. IfSome w (λ _. length self.new < length self.old)) }
+        ensures word { IfOk result (λ w. MatchOption w (IsGap self.old.text) (λ t. IsFirstWord self.old.text t.token self.new.text)) }
+        ensures first { IfOk result (λ w. IfSome w (λ t. StandsFirst self.old t self.new)) }
+        ensures shorter { IfOk result (λ w. IfSome w (λ _. length self.new.text < length self.old.text)) }
     {
         if !self.is_body_due() {
             return self.word_behind_gap(alloc);

@@ -1,7 +1,7 @@
 //! The codes of tasks: their drafts with each source resolved.
 
 ghost use Rattle.std.specs.Prelude.{◌≡◌, ◌<◌, List, IfOk, All, length, map, IfErr};
-ghost use Rattle.plant.specs.Faults.{IsWordFault};
+ghost use Rattle.plant.specs.Steps.WordFaults.{IsWordFault};
 ghost use Rattle.std.specs.List.{AllZip};
 ghost use Rattle.plant.specs.declared.tree.Program.{Program};
 ghost use Rattle.plant.specs.Faultless.{tasks_of, uses_of};

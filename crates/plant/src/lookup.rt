@@ -1,10 +1,12 @@
 //! What stands under a name: resources, instances and their outputs.
 
-ghost use Rattle.std.specs.Prelude.{◌≡◌, ℕ, IfSome, MatchOption, slice_get};
+ghost use Rattle.std.specs.Prelude.{◌≡◌, ◌↔◌, ℕ, IsTrue, AllPairs, MatchOption, slice_get};
+ghost use Rattle.power_flow.specs.declared.declarations.Kind.{Kind};
 ghost use Rattle.plant.specs.declared.task_output.TaskOutput.{TaskOutput};
 ghost use Rattle.plant.specs.Names.{IsAt};
 ghost use Rattle.plant.specs.PlantValue.{ResourceValue, ProgramValue};
 ghost use Rattle.plant.specs.Steps.Drafts.{IsInstanceAt, IsPlacedAt, IsOutputAt};
+ghost use Rattle.plant.specs.Steps.Outputs.{StandsBefore, IsBefore};
 
 use crate::program_instance::ProgramInstance;
 use crate::resource_draft::ResourceDraft;
@@ -48,19 +50,34 @@ pub fn find_instance(tasks: &[TaskDraft], name: &str) -> Option<(usize, usize)>
     None
 }
 
+/// Whether an output is of an earlier program, or of this one at an earlier place.
+fn stands_before(output: TaskOutput, program: usize, place: usize) -> bool
+    ensures { IsTrue result ↔ StandsBefore output program place }
+{
+    output.program < program || output.program == program && output.place < place
+}
+
+/// Whether an output is of this program, at this place.
+fn stands_at(output: TaskOutput, program: usize, place: usize) -> bool
+    ensures { IsTrue result ↔ ((output.program ≡ program) × (output.place ≡ place)) }
+{
+    output.program == program && output.place == place
+}
+
 /// The position of the output of a program at a place, and its kind. Outputs stand in order of program and place, so that halving finds it.
 fn output_position(outputs: &[TaskOutput], program: usize, place: usize) -> Option<(usize, Kind)>
-    ensures { IfSome result (λ x. IsPlacedAt outputs.now program place x.0 x.1) }
+    requires { AllPairs IsBefore outputs.now }
+    ensures { MatchOption result ((k : ℕ) (kind : Kind) → IsPlacedAt outputs.now program place k kind → ⊥) (λ x. IsPlacedAt outputs.now program place x.0 x.1) }
 {
     let mut low = 0;
     let mut high = outputs.len();
     'halving: while low < high {
         let middle = low + (high - low) / 2;
         let output = outputs[middle];
-        if output.program == program && output.place == place {
+        if stands_at(output, program, place) {
             return Some((middle, output.kind));
         }
-        if output.program < program || output.program == program && output.place < place {
+        if stands_before(output, program, place) {
             low = middle + 1;
         } else {
             high = middle;
@@ -69,9 +86,9 @@ fn output_position(outputs: &[TaskOutput], program: usize, place: usize) -> Opti
     None
 }
 
-/// The position in a task's image of an output of a program by its name, and its kind.
+/// The position in a task's image of the output that a name means in a program, and its kind. `None`: it means none.
 pub fn find_output(task: &TaskDraft, program: usize, name: &str) -> Option<(usize, Kind)>
-    ensures { IfSome result (λ x. IsOutputAt task.now program name.now x.0 x.1) }
+    ensures { MatchOption result ((k : ℕ) (kind : Kind) → IsOutputAt task.now program name.now k kind → ⊥) (λ x. IsOutputAt task.now program name.now x.0 x.1) }
 {
     let owner = task.programs().get(program)?;
     let place = owner.ladder().declarations().position(name)?;

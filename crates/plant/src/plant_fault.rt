@@ -68,7 +68,8 @@ impl PlantFault {
 
 impl From<AllocError> for PlantFault {
     ghost use Rattle.plant.specs.declared.plant_fault.PlantFaultKind.TheVariants.{Memory};
-    ghost use Rattle.plant.specs.Faults.{IsPlantFault, IsWordFault};
+    ghost use Rattle.plant.specs.Faults.{IsPlantFault};
+    ghost use Rattle.plant.specs.Steps.WordFaults.{IsWordFault};
 
     ghost from_gives = { λ _ fault. (fault.kind ≡ Memory) × IsPlantFault fault × IsWordFault fault };
 
@@ -79,7 +80,8 @@ impl From<AllocError> for PlantFault {
 
 impl<T: Drop> From<AllocFailed<T>> for PlantFault {
     ghost use Rattle.plant.specs.declared.plant_fault.PlantFaultKind.TheVariants.{Memory};
-    ghost use Rattle.plant.specs.Faults.{IsPlantFault, IsWordFault};
+    ghost use Rattle.plant.specs.Faults.{IsPlantFault};
+    ghost use Rattle.plant.specs.Steps.WordFaults.{IsWordFault};
 
     ghost from_gives = { λ _ fault. (fault.kind ≡ Memory) × IsPlantFault fault × IsWordFault fault };
 

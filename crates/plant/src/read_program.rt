@@ -1,13 +1,14 @@
 //! The rules of the grammar from names to programs.
 
-ghost use Rattle.std.specs.Prelude.{◌≡◌, ◌∷◌, ◌++◌, ◌<◌, List, IfOk, OnOk, OnErr, IsTrue, IsFalse, All, length, IfErr};
-ghost use Rattle.plant.specs.Faults.{IsWordFault};
+ghost use Rattle.std.specs.Prelude.{◌≡◌, ◌∷◌, ◌++◌, ◌+◌, ◌<◌, ◌≤◌, ◌⊎◌, ℕ, List, IfOk, OnOk, OnErr, IsTrue, IsFalse, All, length, IfErr};
+ghost use Rattle.plant.specs.Steps.WordFaults.{IsWordFault};
 ghost use Rattle.std.specs.List.{flat_map};
 ghost use Rattle.plant.specs.declared.token.Token.TheVariants as token;
 ghost use Rattle.plant.specs.Grammar.{section_word, kind_word, type_word, name_words, list_words, lists_words, block_words, program_words};
 ghost use Rattle.plant.specs.Faultless.{list_variables, block_variables, IsTypeLawful, IsListLawful, IsBlockLawful};
+ghost use Rattle.plant.specs.Steps.Declaring.{TellsOfName, RepeatsName};
 ghost use Rattle.plant.specs.Steps.ReadParts.{IsNew, IsProgramDeclared, AreProgramsDeclared};
-ghost use Rattle.plant.specs.Steps.Reading.{programs_of};
+ghost use Rattle.plant.specs.Steps.Reading.{programs_of, lines_of};
 
 use crate::declared_names::{check_new, is_program};
 use crate::name::Name;
@@ -35,6 +36,8 @@ impl<'a> Reader<'a> {
         before: &[Name],
     ) -> Result<Name, PlantFault>
         ensures ok { IfOk result (λ name. self.old.words ≡ token.Name name ∷ self.new.words) }
+        ensures bodies { OnOk result (self.new.bodies ≡ self.old.bodies) }
+        ensures tells { IfErr result (λ e. TellsOfName e.kind (RepeatsName (λ v. v.name) variables.now self.old.words ⊎ RepeatsName (λ n. n) before.now self.old.words) (1000 ≤ length variables.now + length before.now)) }
         ensures value { IfErr result IsWordFault }
     {
         let name = self.name(alloc)?;
@@ -45,6 +48,7 @@ impl<'a> Reader<'a> {
     /// Names with commas between them.
     fn names(&mut self, alloc: Global, variables: &Variables) -> Result<Vec<Name>, PlantFault>
         ensures ok { IfOk result (λ names. self.old.words ≡ name_words names.items ++ self.new.words) }
+        ensures bodies { OnOk result (self.new.bodies ≡ self.old.bodies) }
         ensures some { IfOk result (λ names. 0 < length names.items) }
         ensures value { IfErr result IsWordFault }
     {
@@ -60,6 +64,7 @@ impl<'a> Reader<'a> {
     /// BOOL, INT or TIME.
     fn kind(&mut self) -> Result<Kind, PlantFault>
         ensures ok { IfOk result (λ kind. self.old.words ≡ kind_word kind ∷ self.new.words) }
+        ensures bodies { OnOk result (self.new.bodies ≡ self.old.bodies) }
         ensures value { IfErr result IsWordFault }
     {
         if self.sees_keyword(Keyword::Int) {
@@ -77,6 +82,7 @@ impl<'a> Reader<'a> {
     /// The type of names of a section.
     fn type_name(&mut self, section: Section) -> Result<TypeName, PlantFault>
         ensures ok { IfOk result (λ t. self.old.words ≡ type_word t ∷ self.new.words) }
+        ensures bodies { OnOk result (self.new.bodies ≡ self.old.bodies) }
         ensures lawful { IfOk result (λ t. IsTypeLawful section t) }
         ensures value { IfErr result IsWordFault }
     {
@@ -98,6 +104,7 @@ impl<'a> Reader<'a> {
         variables: &mut Variables,
     ) -> Result<NameList, PlantFault>
         ensures ok { IfOk result (λ l. self.old.words ≡ list_words l ++ self.new.words) }
+        ensures bodies { OnOk result (self.new.bodies ≡ self.old.bodies) }
         ensures declared { IfOk result (λ l. variables.new ≡ variables.old ++ list_variables section l) }
         ensures lawful { IfOk result (λ l. IsListLawful section l) }
         ensures value { IfErr result IsWordFault }
@@ -120,6 +127,7 @@ impl<'a> Reader<'a> {
         variables: &mut Variables,
     ) -> Result<Vec<NameList>, PlantFault>
         ensures ok { IfOk result (λ ls. self.old.words ≡ lists_words ls.items ++ self.new.words) }
+        ensures bodies { OnOk result (self.new.bodies ≡ self.old.bodies) }
         ensures declared { IfOk result (λ ls. variables.new ≡ variables.old ++ flat_map (list_variables section) ls.items) }
         ensures lawful { IfOk result (λ ls. All (IsListLawful section) ls.items) }
         ensures value { IfErr result IsWordFault }
@@ -146,6 +154,7 @@ impl<'a> Reader<'a> {
     /// VAR_INPUT, VAR_OUTPUT or VAR.
     fn section(&mut self) -> Result<Section, PlantFault>
         ensures ok { IfOk result (λ s. self.old.words ≡ section_word s ∷ self.new.words) }
+        ensures bodies { OnOk result (self.new.bodies ≡ self.old.bodies) }
         ensures value { IfErr result IsWordFault }
     {
         if self.sees_keyword(Keyword::VarInput) {
@@ -164,6 +173,7 @@ impl<'a> Reader<'a> {
     #[tactic(auto, unfolding(crate::specs::Grammar::block_words))]
     fn block(&mut self, alloc: Global, variables: &mut Variables) -> Result<VarBlock, PlantFault>
         ensures ok { IfOk result (λ b. self.old.words ≡ block_words b ++ self.new.words) }
+        ensures bodies { OnOk result (self.new.bodies ≡ self.old.bodies) }
         ensures declared { IfOk result (λ b. variables.new ≡ variables.old ++ block_variables b) }
         ensures lawful { IfOk result (λ b. IsBlockLawful b) }
         ensures value { IfErr result IsWordFault }
@@ -181,6 +191,7 @@ impl<'a> Reader<'a> {
         variables: &mut Variables,
     ) -> Result<Vec<VarBlock>, PlantFault>
         ensures ok { IfOk result (λ bs. self.old.words ≡ flat_map block_words bs.items ++ self.new.words) }
+        ensures bodies { OnOk result (self.new.bodies ≡ self.old.bodies) }
         ensures declared { IfOk result (λ bs. variables.new ≡ variables.old ++ flat_map block_variables bs.items) }
         ensures lawful { IfOk result (λ bs. All IsBlockLawful bs.items) }
         ensures value { IfErr result IsWordFault }
@@ -196,8 +207,10 @@ impl<'a> Reader<'a> {
     /// A new name of a program type, behind these.
     fn new_type(&mut self, alloc: Global, before: &[ProgramText]) -> Result<Name, PlantFault>
         ensures ok { IfOk result (λ name. self.old.words ≡ token.Name name ∷ self.new.words) }
+        ensures bodies { OnOk result (self.new.bodies ≡ self.old.bodies) }
         ensures new { IfOk result (λ name. IsNew (λ p. p.name) (programs_of before.now) name) }
         ensures few { OnOk result (length before.now < 64) }
+        ensures tells { IfErr result (λ e. TellsOfName e.kind (RepeatsName (λ p. p.name) (programs_of before.now) self.old.words) (64 ≤ length before.now)) }
         ensures value { IfErr result IsWordFault }
     {
         let name = self.name(alloc)?;
@@ -209,6 +222,7 @@ impl<'a> Reader<'a> {
     #[tactic(auto, unfolding(crate::specs::Grammar::program_words))]
     fn program(&mut self, alloc: Global, before: &[ProgramText]) -> Result<ProgramText, PlantFault>
         ensures ok { IfOk result (λ p. self.old.words ≡ program_words p.program ++ self.new.words) }
+        ensures bodies { IfOk result (λ p. self.old.bodies ≡ p.first_line ∷ self.new.bodies) }
         ensures new { IfOk result (λ p. IsNew (λ p. p.name) (programs_of before.now) p.program.name) }
         ensures few { OnOk result (length before.now < 64) }
         ensures declared { IfOk result (λ p. IsProgramDeclared p.program) }
@@ -235,6 +249,8 @@ impl<'a> Reader<'a> {
         requires { AreProgramsDeclared (programs_of texts.old.items) }
         ensures ok { OnOk result (flat_map program_words (programs_of texts.old.items) ++ self.old.words ≡ flat_map program_words (programs_of texts.new.items) ++ self.new.words) }
         ensures err { OnErr result ((rest : List Token) × (flat_map program_words (programs_of texts.old.items) ++ self.old.words ≡ flat_map program_words (programs_of texts.new.items) ++ rest)) }
+        ensures lines { OnOk result (lines_of texts.old.items ++ self.old.bodies ≡ lines_of texts.new.items ++ self.new.bodies) }
+        ensures err_lines { OnErr result ((more : List ℕ) × (lines_of texts.old.items ++ self.old.bodies ≡ lines_of texts.new.items ++ more)) }
         ensures declared { AreProgramsDeclared (programs_of texts.new.items) }
         ensures value { IfErr result IsWordFault }
     {

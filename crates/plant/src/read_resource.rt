@@ -1,7 +1,7 @@
 //! The rules of the grammar from tasks to resources.
 
 ghost use Rattle.std.specs.Prelude.{◌≡◌, [], ◌∷◌, ◌++◌, ◌+◌, ◌<◌, ◌≤◌, IfOk, OnOk, All, Any, Some, map, length, IsTrue, IfErr};
-ghost use Rattle.plant.specs.Faults.{IsWordFault};
+ghost use Rattle.plant.specs.Steps.WordFaults.{IsWordFault};
 ghost use Rattle.std.specs.List.{flat_map};
 ghost use Rattle.plant.specs.declared.token.Token.TheVariants as token;
 ghost use Rattle.plant.specs.declared.token.Keyword.TheVariants as key;
@@ -9,6 +9,7 @@ ghost use Rattle.plant.specs.declared.token.Punctuation.TheVariants.{Close};
 ghost use Rattle.plant.specs.Grammar.{interval_words, priority_words, settings, task_words, source_words, bind_words, with_commas, binds_words, listed, use_words, item_words, items_words, resource_words, resources_words};
 ghost use Rattle.plant.specs.Names.{is_named, AreApart};
 ghost use Rattle.plant.specs.Faultless.{task_of, use_of, uses_of, binds_of, IsUseLawful, IsResourceLawful};
+ghost use Rattle.plant.specs.Steps.Declaring.{TellsOfName, RepeatsName};
 ghost use Rattle.plant.specs.Steps.ReadParts.{types_alone, tally_with, input_kind_of, HasFieldKind, IsNew, MayFollow, AreItemsLawful, AreResourcesLawful};
 ghost use Rattle.plant.specs.declared.tree.Item.TheVariants as item;
 ghost use Rattle.plant.specs.PlantValue.{items_or_none, kind_of_space};
@@ -85,6 +86,7 @@ impl<'a> Reader<'a> {
         ensures ok { IfOk result (λ name. self.old.words ≡ token.Name name ∷ self.new.words) }
         ensures new { IfOk result (λ name. IsNew (λ t. t.name) (flat_map task_of before.now) name) }
         ensures few { OnOk result (length (flat_map task_of before.now) < 16) }
+        ensures tells { IfErr result (λ e. TellsOfName e.kind (RepeatsName (λ t. t.name) (flat_map task_of before.now) self.old.words) (16 ≤ length (flat_map task_of before.now))) }
         ensures value { IfErr result IsWordFault }
     {
         let name = self.name(alloc)?;
@@ -238,6 +240,7 @@ impl<'a> Reader<'a> {
         ensures ok { IfOk result (λ name. self.old.words ≡ token.Name name ∷ self.new.words) }
         ensures new { IfOk result (λ name. IsNew (λ u. u.instance) (flat_map use_of before.now) name) }
         ensures tally { OnOk result (tally.new ≡ record { instances = tally.old.instances + 1; binds = tally.old.binds }) }
+        ensures tells { IfErr result (λ e. TellsOfName e.kind (RepeatsName (λ u. u.instance) (flat_map use_of before.now) self.old.words) (tally.old.instances ≡ 64)) }
         ensures value { IfErr result IsWordFault }
     {
         let name = self.name(alloc)?;
@@ -341,6 +344,7 @@ impl<'a> Reader<'a> {
         ensures ok { IfOk result (λ name. self.old.words ≡ token.Name name ∷ self.new.words) }
         ensures new { IfOk result (λ name. IsNew (λ r. r.name) before.now name) }
         ensures few { OnOk result (length before.now < 16) }
+        ensures tells { IfErr result (λ e. TellsOfName e.kind (RepeatsName (λ r. r.name) before.now self.old.words) (16 ≤ length before.now)) }
         ensures value { IfErr result IsWordFault }
     {
         let name = self.name(alloc)?;

@@ -1,9 +1,8 @@
 //! The whole of a plant's text, but for its sources.
 
 ghost use Rattle.std.specs.Prelude.{IfOk, IfErr};
-ghost use Rattle.plant.specs.BodyFaults.{IsFaultOfBodies};
 ghost use Rattle.plant.specs.Faults.{IsPlantFault, IsOfBody};
-ghost use Rattle.plant.specs.Steps.Drawn.{Draws};
+ghost use Rattle.plant.specs.Steps.Drawn.{Draws, IsFaultOfBodies};
 ghost use Rattle.plant.specs.Steps.Reading.{IsReadingOf};
 
 use crate::plant_fault::PlantFault;
@@ -31,7 +30,7 @@ where
     requires draws { Draws (D.post draw) }
     ensures ok { IfOk result (λ reading. IsReadingOf reader.old.words reading reader.new.words) }
     ensures value { IfErr result IsPlantFault }
-    ensures body { IfErr result (λ fault. IsOfBody fault.kind → IsFaultOfBodies reader.old.words fault) }
+    ensures body { IfErr result (λ fault. IsOfBody fault.kind → IsFaultOfBodies reader.old fault) }
 {
     let mut texts = Vec::new(alloc);
     let programs = reader.programs(alloc, &mut texts);

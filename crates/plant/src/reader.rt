@@ -1,8 +1,9 @@
 ghost use Rattle.std.specs.Prelude.{◌≡◌, ◌≢◌, ◌∷◌, List, map, OnOk, IfOk, OnErr, IfErr, IsTrue, IsFalse};
-ghost use Rattle.plant.specs.Faults.{IsWordFault};
+ghost use Rattle.plant.specs.Steps.WordFaults.{IsWordFault};
 ghost use Rattle.plant.specs.declared.token.Token.TheVariants as token;
 ghost use Rattle.plant.specs.declared.plant_fault.PlantFaultKind.TheVariants.{Memory};
-ghost use Rattle.plant.specs.Steps.Lines.{next_line, syntax_at};
+ghost use Rattle.plant.specs.Steps.Declaring.{TellsOfName};
+ghost use Rattle.plant.specs.Steps.Lines.{next_line, syntax_at, body_lines};
 
 use crate::address::Address;
 use crate::name::Name;
@@ -25,11 +26,11 @@ pub struct Reader<'a> {
 
 impl<'a> Model for Reader<'a> {
     ghost use Rattle.std.specs.Prelude.{map};
-    ghost use Rattle.plant.specs.Steps.Lines.{ReaderValue};
+    ghost use Rattle.plant.specs.Steps.Lines.{ReaderValue, body_lines};
 
     ghost Value = { ReaderValue };
 
-    ghost view = { λ r. record { words = map (λ w. w.token) r.words.now; lines = map (λ w. w.line) r.words.now; last = r.last } };
+    ghost view = { λ r. record { words = map (λ w. w.token) r.words.now; lines = map (λ w. w.line) r.words.now; bodies = body_lines r.words.now; last = r.last } };
 }
 
 impl<'a> Reader<'a> {
@@ -40,7 +41,7 @@ impl<'a> Reader<'a> {
 
     /// A reader of all the words of a text that ends on a line.
     pub fn new(words: &'a [Word], last: u64) -> Reader<'a>
-        ensures { result ≡ record { words = map (λ w. w.token) words.now; lines = map (λ w. w.line) words.now; last = last } }
+        ensures { result ≡ record { words = map (λ w. w.token) words.now; lines = map (λ w. w.line) words.now; bodies = body_lines words.now; last = last } }
     {
         Reader { words, last }
     }
@@ -77,6 +78,7 @@ impl<'a> Reader<'a> {
     /// A keyword.
     pub fn keyword(&mut self, keyword: Keyword) -> Result<(), PlantFault>
         ensures ok { OnOk result (self.old.words ≡ token.Keyword keyword ∷ self.new.words) }
+        ensures bodies { OnOk result (self.new.bodies ≡ self.old.bodies) }
         ensures err { IfErr result (λ e. (e ≡ syntax_at self.old) × (self.new ≡ self.old)) }
         ensures other { OnErr result ((rest : List Token) → self.old.words ≡ token.Keyword keyword ∷ rest → ⊥) }
         ensures value { IfErr result IsWordFault }
@@ -93,6 +95,7 @@ impl<'a> Reader<'a> {
     /// A mark.
     pub fn punctuation(&mut self, punctuation: Punctuation) -> Result<(), PlantFault>
         ensures ok { OnOk result (self.old.words ≡ token.Punctuation punctuation ∷ self.new.words) }
+        ensures bodies { OnOk result (self.new.bodies ≡ self.old.bodies) }
         ensures err { IfErr result (λ e. (e ≡ syntax_at self.old) × (self.new ≡ self.old)) }
         ensures other { OnErr result ((rest : List Token) → self.old.words ≡ token.Punctuation punctuation ∷ rest → ⊥) }
         ensures value { IfErr result IsWordFault }
@@ -109,8 +112,10 @@ impl<'a> Reader<'a> {
     /// A name.
     pub fn name(&mut self, alloc: Global) -> Result<Name, PlantFault>
         ensures ok { IfOk result (λ name. self.old.words ≡ token.Name name ∷ self.new.words) }
+        ensures bodies { OnOk result (self.new.bodies ≡ self.old.bodies) }
         ensures err { IfErr result (λ e. e.kind ≢ Memory → e ≡ syntax_at self.old) }
         ensures kept { OnErr result (self.new ≡ self.old) }
+        ensures tells { IfErr result (λ e. TellsOfName e.kind ⊥ ⊥) }
         ensures value { IfErr result IsWordFault }
     {
         match self.words {
@@ -129,6 +134,7 @@ impl<'a> Reader<'a> {
     /// The lines of a body.
     pub fn body(&mut self, alloc: Global) -> Result<Text, PlantFault>
         ensures ok { IfOk result (λ body. self.old.words ≡ token.Body body ∷ self.new.words) }
+        ensures bodies { OnOk result (self.old.bodies ≡ next_line self.old ∷ self.new.bodies) }
         ensures err { IfErr result (λ e. e.kind ≢ Memory → e ≡ syntax_at self.old) }
         ensures kept { OnErr result (self.new ≡ self.old) }
         ensures value { IfErr result IsWordFault }
@@ -206,6 +212,7 @@ impl<'a> Reader<'a> {
     /// The type of a standard block.
     pub fn block_type(&mut self) -> Result<BlockType, PlantFault>
         ensures ok { IfOk result (λ b. self.old.words ≡ token.Block b ∷ self.new.words) }
+        ensures bodies { OnOk result (self.new.bodies ≡ self.old.bodies) }
         ensures err { IfErr result (λ e. (e ≡ syntax_at self.old) × (self.new ≡ self.old)) }
         ensures other { OnErr result ((b : BlockType) (rest : List Token) → self.old.words ≡ token.Block b ∷ rest → ⊥) }
         ensures value { IfErr result IsWordFault }

@@ -1,5 +1,5 @@
 ghost use Rattle.std.specs.Prelude.{ℕ, List, IfOk, IfErr};
-ghost use Rattle.plant.specs.Faults.{IsWordFault};
+ghost use Rattle.plant.specs.Steps.WordFaults.{IsWordFault};
 ghost use Rattle.plant.specs.Faultless.{IsFaultless};
 ghost use Rattle.plant.specs.Steps.Reading.{tree_of};
 ghost use Rattle.plant.specs.StandsFor.{IsPlantOf};

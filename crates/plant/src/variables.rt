@@ -1,8 +1,9 @@
-ghost use Rattle.std.specs.Prelude.{◌≡◌, ◌↔◌, ◌+◌, ◌<◌, ◌≤◌, ◌++◌, [], ◌∷◌, IsTrue, Any, OnOk, length, IfErr};
-ghost use Rattle.plant.specs.Faults.{IsWordFault};
+ghost use Rattle.std.specs.Prelude.{◌≡◌, ◌↔◌, ◌+◌, ◌<◌, ◌≤◌, ◌⊎◌, ◌++◌, [], ◌∷◌, IsTrue, Any, OnOk, length, IfErr};
+ghost use Rattle.plant.specs.Steps.WordFaults.{IsWordFault};
 ghost use Rattle.power_flow.specs.Names.{IsDeclared};
 ghost use Rattle.plant.specs.Names.{is_named};
 ghost use Rattle.plant.specs.Faultless.{declared_as, list_variables};
+ghost use Rattle.plant.specs.Steps.Declaring.{TellsOfName};
 ghost use Rattle.plant.specs.Steps.ReadParts.{AreVariables};
 
 use crate::declared_names::check_new;
@@ -88,6 +89,7 @@ impl Variables {
         ensures undeclared { OnOk result (IsDeclared self.now name.now → ⊥) }
         ensures new { OnOk result (Any (λ n. IsTrue (is_named name.now n)) more.now → ⊥) }
         ensures few { OnOk result (length self.now + length more.now < 1000) }
+        ensures tells { IfErr result (λ e. TellsOfName e.kind (IsDeclared self.now name.now ⊎ Any (λ n. IsTrue (is_named name.now n)) more.now) (1000 ≤ length self.now + length more.now)) }
         ensures value { IfErr result IsWordFault }
     {
         let is_full = more.len() >= MOST_NAMES - self.len();
@@ -97,6 +99,7 @@ impl Variables {
     /// Declares a name at the end. After an error the variables are as before.
     fn add(&mut self, name: &Name, declared: Declared) -> Result<(), PlantFault>
         ensures ok { OnOk result (self.new ≡ self.old ++ record { name = name.now; declared = declared } ∷ []) }
+        ensures tells { IfErr result (λ e. TellsOfName e.kind (IsDeclared self.old name.now) (1000 ≤ length self.old)) }
         ensures value { IfErr result IsWordFault }
     {
         if self.declarations.len() >= MOST_NAMES {

@@ -2,6 +2,7 @@ ghost use Rattle.std.specs.Prelude.{◌≡◌, ◌≢◌, IfOk, All, map};
 ghost use Rattle.ladder_text.specs.Rows.{without_last};
 ghost use Rattle.plant.specs.declared.token.Token.TheVariants as token;
 ghost use Rattle.plant.specs.Spelling.{Spells};
+ghost use Rattle.plant.specs.Steps.Lines.{IsBegunBy};
 
 use crate::lexer::Lexer;
 use crate::word::Word;
@@ -41,7 +42,8 @@ impl Words {
 /// Reads the words of a plant's text. What is no word ends them as `Unknown`: an unknown character, an unfinished
 /// comment, a number out of its limits, a body without an end, the body of a 66th program.
 pub fn read_words(alloc: Global, text: &str) -> Result<Words, AllocError>
-    ensures { IfOk result (λ ws. All (λ t. t ≢ token.Unknown) (map (λ w. w.token) ws) → Spells (without_last 13 text.now) (map (λ w. w.token) ws)) }
+    ensures spelled { IfOk result (λ ws. All (λ t. t ≢ token.Unknown) (map (λ w. w.token) ws) → Spells (without_last 13 text.now) (map (λ w. w.token) ws)) }
+    ensures begun { IfOk result (IsBegunBy (without_last 13 text.now)) }
 {
     let mut lexer = Lexer::new(text);
     let last = lexer.last();

@@ -12,3 +12,4 @@ pub mod RunCommands
 pub mod ReportText
 pub mod Replay
 pub mod RunText
+pub mod Steps

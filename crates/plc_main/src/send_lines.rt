@@ -1,6 +1,6 @@
 ghost use Rattle.std.specs.Prelude.{◌≡◌, ℕ, ◌<◌, OnOk, OnErr, string_bytes, take};
 ghost use Rattle.std.specs.Io.KnownBytes.{Appends};
-ghost use Rattle.plc_main.specs.Sending.{Sends};
+ghost use Rattle.plc_main.specs.Steps.Sending.{Sends};
 
 use std::io::Write;
 use world::{WriteFault, write_text};

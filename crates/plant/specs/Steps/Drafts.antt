@@ -64,12 +64,13 @@ pub record IsReady (r : Resource) : Type 0 where
 abbrev pub IsPlacedAt : List TaskOutput → ℕ → ℕ → ℕ → Kind → Type 0
 IsPlacedAt outputs program place k kind = slice_get outputs k ≡ Some (record { program = program; place = place; kind = kind })
 
--- the output of this name, of a program of the task, stands at place k of its image
+-- the output that this name means in a program of the task stands at place k of its image
 pub record IsOutputAt (c : CodeValue) (program : ℕ) (name : List ℕ) (k : ℕ) (kind : Kind) : Type 0 where
   pub owner : ProgramValue
   pub place : ℕ
   pub variable : Declaration
   pub owner_is : slice_get c.programs program ≡ Some owner
+  pub place_is : place_of owner.ladder.declarations name ≡ Some place
   pub variable_is : IsAt (λ (v : Declaration). v.name) owner.ladder.declarations name place variable
   pub given_is : IsPlacedAt c.outputs program place k kind
 

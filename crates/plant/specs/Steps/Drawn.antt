@@ -1,12 +1,16 @@
 -- What is known of program types whose bodies are drawn, and of the first one that is refused.
-use Rattle.std.specs.Prelude.{◌≡◌, ◌≢◌, List, [], ◌∷◌, map, All, IfOk, IfErr, Option, None, Some, Result, Ok, Err}
+use Rattle.std.specs.Prelude.{◌≡◌, ◌≢◌, ℕ, List, [], ◌∷◌, ◌++◌, map, All, IfOk, IfErr, Option, None, Some, Result, Ok, Err}
 use Rattle.std.specs.Global.{Vec}
+use Rattle.std.specs.List.{flat_map}
 use Rattle.plant.specs.declared.plant_fault.PlantFault.{PlantFault}
 use Rattle.plant.specs.declared.plant_fault.PlantFaultKind.TheVariants.{Memory}
 use Rattle.plant.specs.BodyFaults.{TextValue, IsFirstBodyFault}
 use Rattle.plant.specs.Faults.{IsPlantFault}
 use Rattle.plant.specs.Faultless.{IsLadderOf}
-use Rattle.plant.specs.Steps.Reading.{TypeValue, programs_of}
+use Rattle.plant.specs.declared.token.Token.{Token}
+use Rattle.plant.specs.Grammar.{program_words}
+use Rattle.plant.specs.Steps.Lines.{ReaderValue}
+use Rattle.plant.specs.Steps.Reading.{TypeValue, programs_of, lines_of}
 
 -- the types of these programs, in order, each with its ladder
 pub record AreDrawn (texts : List TextValue) (types : List TypeValue) : Type 0 where
@@ -33,3 +37,12 @@ abbrev pub first_fault : List (Result (Vec TypeValue) PlantFault) → Option Pla
 first_fault [] = None
 first_fault (Ok types ∷ more) = first_fault more
 first_fault (Err fault ∷ more) = Some fault
+
+-- The words begin with those of programs, and the lines of bodies with theirs; the fault is that of the first of these programs whose body is refused.
+pub record IsFaultOfBodies (r : ReaderValue) (fault : PlantFault) : Type 0 where
+  pub texts : List TextValue
+  pub rest : List Token
+  pub more : List ℕ
+  pub written : r.words ≡ flat_map program_words (programs_of texts) ++ rest
+  pub lines : r.bodies ≡ lines_of texts ++ more
+  pub first : IsFirstBodyFault texts fault

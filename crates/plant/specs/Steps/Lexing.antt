@@ -5,7 +5,7 @@ use Rattle.plant.specs.declared.token.Token.TheVariants as token
 use Rattle.plant.specs.declared.token.Keyword.{Keyword}
 use Rattle.plant.specs.declared.token.Keyword.TheVariants as key
 use Rattle.plant.specs.Words.{is_word_char, word_of}
-use Rattle.plant.specs.Spelling.{is_parted, IsGap, IsLineEnd, IsBody, is_one_line, Spells}
+use Rattle.plant.specs.Spelling.{is_parted, IsGap, IsLineEnd, IsBody, is_one_line, first_line, IsEndLine, Spells}
 
 -- a character of a word that begins with a letter or a digit; `#` stands in durations
 abbrev pub is_run_char : ℕ → Bool
@@ -35,6 +35,10 @@ IsBlankLine text rest = (gap line_end : List ℕ) × (text ≡ gap ++ line_end +
 -- The text is a body and the rest.
 abbrev pub IsBehindBody : List ℕ → List ℕ → Type 0
 IsBehindBody text rest = (body : List ℕ) × (text ≡ body ++ rest) × IsBody body
+
+-- The rest of a line is blank, and then comes this body, before a line of END_PROGRAM.
+abbrev pub IsBodyThen : List ℕ → List ℕ → List ℕ → Type 0
+IsBodyThen text body rest = IsBlankLine text (body ++ rest) × IsBody body × IsEndLine (first_line rest)
 
 -- The text is a word, and the rest behind it.
 abbrev pub IsWordThen : List ℕ → Token → List ℕ → Type 0

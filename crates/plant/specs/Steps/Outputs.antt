@@ -1,4 +1,5 @@
-use Rattle.std.specs.Prelude.{ℕ, List, [], Option, Some, None}
+-- Outputs of a task one by one, and their order.
+use Rattle.std.specs.Prelude.{◌≡◌, ◌<◌, ◌⊎◌, ℕ, List, [], Option, Some, None}
 use Rattle.power_flow.specs.declared.declarations.Declaration.{Declaration}
 use Rattle.plant.specs.declared.task_output.TaskOutput.{TaskOutput}
 use Rattle.plant.specs.PlantValue.{output_at}
@@ -7,3 +8,11 @@ use Rattle.plant.specs.PlantValue.{output_at}
 abbrev pub output_if : ℕ → ℕ → Option Declaration → List TaskOutput
 output_if i k None = []
 output_if i k (Some d) = output_at i k d
+
+-- the output is of an earlier program than this one, or of this one at an earlier place
+abbrev pub StandsBefore : TaskOutput → ℕ → ℕ → Type 0
+StandsBefore o program place = (o.program < program) ⊎ ((o.program ≡ program) × (o.place < place))
+
+-- the one output stands before the other, by program and place
+abbrev pub IsBefore : TaskOutput → TaskOutput → Type 0
+IsBefore a b = StandsBefore a b.program b.place

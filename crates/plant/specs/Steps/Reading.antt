@@ -12,6 +12,10 @@ use Rattle.plant.specs.Faultless.{IsLadderOf, IsFaultless}
 abbrev pub programs_of : List TextValue → List Program
 programs_of texts = map (λ (t : TextValue). t.program) texts
 
+-- the lines that their bodies begin on
+abbrev pub lines_of : List TextValue → List ℕ
+lines_of texts = map (λ (t : TextValue). t.first_line) texts
+
 -- a program type, and its ladder
 pub record TypeValue : Type 0 where
   pub program : Program

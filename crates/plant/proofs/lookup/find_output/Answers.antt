@@ -1,8 +1,12 @@
-use Rattle.std.proofs.Common.{◌≡◌, Some, length, refl, sym, slice_get}
+use Rattle.std.proofs.Common.{◌≡◌, ◌∙◌, Some, length, refl, sym, slice_get}
 use Rattle.std.proofs.lemmas.Option.{slice_get_read}
 use Rattle.power_flow.specs.Names.{place_of}
 use Rattle.plant.proofs.DraftLemmas.{output_found}
+use Rattle.plant.proofs.OutputOrder.{outputs_in_order}
 use Rattle.plant.proofs.lookup.find_output.Goals as goal
+
+pub output_position-requires : goal.output_position-requires
+output_position-requires c = outputs_in_order c.args.task.now.programs c.outputs.result.now (c.outputs.ensures ∙ c.programs.ensures.outputs)
 
 pub returns : goal.returns
 returns c =

@@ -6,12 +6,12 @@ use Rattle.plant.specs.declared.token.Token.TheVariants as token
 use Rattle.plant.specs.Spelling.{Spells}
 use Rattle.plant.specs.Grammar.{words_of}
 use Rattle.plant.specs.Steps.Reading.{tree_of}
-use Rattle.plant.specs.Steps.Lines.{WordValue, ReaderValue}
-use Rattle.plant.specs.BodyFaults.{IsFaultOfBodies}
+use Rattle.plant.specs.Steps.Lines.{WordValue, ReaderValue, body_lines}
 use Rattle.plant.specs.Faults.{IsOfBody}
 use Rattle.plant.specs.PlantText.{IsBodyFaultIn}
 use Rattle.plant.proofs.Moments.{kept_fault}
 use Rattle.plant.proofs.KnownWords.{words_known}
+use Rattle.plant.proofs.BodyCounts.{begun_by_programs}
 use Rattle.plant.proofs.read.read_by.Goals as goal
 
 pub returns-clause-ok : goal.returns-clause-ok
@@ -24,7 +24,7 @@ returns-clause-ok g c =
     let known : All (λ w. w ≢ token.Unknown) spelled = subst (λ (ws : List Token). All (λ w. w ≢ token.Unknown) ws) (sym words) (words_known tree) in
     record {
       tree = tree;
-      spelled = subst (λ (ws : List Token). Spells (without_last 13 c.args.text.now) ws) words (c.in_ok-words.ensures known);
+      spelled = subst (λ (ws : List Token). Spells (without_last 13 c.args.text.now) ws) words (c.in_ok-words.ensures.spelled known);
       faultless = read.faultless;
       stands = c.in_ok-plant.ensures.ok read.name;
     }
@@ -32,7 +32,14 @@ returns-clause-ok g c =
 pub returns-in_err-reading-clause-body : goal.returns-in_err-reading-clause-body
 returns-in_err-reading-clause-body g c =
     let fault = c.in_err-reading.field-0.0 in
-    let spelled = map (λ (w : WordValue). w.token) c.in_ok-words.words in
-    let words : spelled ≡ c.new-reader.result.words = ap (λ (ws : List WordValue). map (λ (w : WordValue). w.token) ws) (sym c.words-2.ensures) ∙ ap (λ (r : ReaderValue). r.words) (sym c.new-reader.ensures) in
+    let ws = c.in_ok-words.words in
+    let words : map (λ (w : WordValue). w.token) ws ≡ c.new-reader.result.words = ap (λ (ws : List WordValue). map (λ (w : WordValue). w.token) ws) (sym c.words-2.ensures) ∙ ap (λ (r : ReaderValue). r.words) (sym c.new-reader.ensures) in
+    let bodies : body_lines ws ≡ c.new-reader.result.bodies = ap (λ (ws : List WordValue). body_lines ws) (sym c.words-2.ensures) ∙ ap (λ (r : ReaderValue). r.bodies) (sym c.new-reader.ensures) in
     kept_fault fault (λ f. IsOfBody f.kind → IsBodyFaultIn c.args.text.now f) c.from_residual-in_err-reading.result c.from_residual-in_err-reading.ensures.1
-    (λ of. record { words = spelled; spelled = c.in_ok-words.ensures; first = subst (λ (ws : List Token). IsFaultOfBodies ws fault) (sym words) (c.in_err-reading.ensures.body of) })
+    (λ of.
+        let met = c.in_err-reading.ensures.body of in
+        record {
+          texts = met.texts;
+          begun = begun_by_programs (without_last 13 c.args.text.now) ws met.texts met.rest met.more c.in_ok-words.ensures.begun (words ∙ met.written) (bodies ∙ met.lines);
+          first = met.first;
+        })

@@ -1,6 +1,6 @@
-use Rattle.std.proofs.Common.{rules, ◌≡◌, ◌≢◌, List, ◌++◌, ◌∙◌, ap, sym, subst}
+use Rattle.std.proofs.Common.{rules, ◌≡◌, ◌≢◌, ℕ, List, ◌++◌, ◌∙◌, ap, sym, subst}
 use Rattle.std.specs.Prelude.{OnOk, OnErr}
-use Rattle.plant.specs.BodyFaults.{IsFirstBodyFault, IsFaultOfBodies}
+use Rattle.plant.specs.BodyFaults.{IsFirstBodyFault}
 use Rattle.plant.specs.Faults.{IsOfBody}
 use Rattle.plant.specs.declared.plant_fault.PlantFaultKind.TheVariants.{Memory}
 use Rattle.plant.specs.declared.token.Token.{Token}
@@ -9,8 +9,8 @@ use Rattle.plant.proofs.Moments.{kept_fault}
 use Rattle.std.specs.List.{flat_map}
 use Rattle.plant.specs.Faultless.{uses_of}
 use Rattle.plant.specs.Grammar.{program_words}
-use Rattle.plant.specs.Steps.Drawn.{AreDrawn}
-use Rattle.plant.specs.Steps.Reading.{programs_of, IsReadingOf}
+use Rattle.plant.specs.Steps.Drawn.{AreDrawn, IsFaultOfBodies}
+use Rattle.plant.specs.Steps.Reading.{programs_of, lines_of, IsReadingOf}
 use Rattle.plant.specs.Steps.ReadParts.{tally_with, types_alone, AreResourcesLawful}
 use Rattle.plant.proofs.TreeLemmas.{reading_is}
 use Rattle.plant.proofs.read_tree.read_tree.Goals as goal
@@ -43,5 +43,9 @@ returns-in_err-types-clause-body g c =
     let first : fault.kind ≢ Memory → IsFirstBodyFault texts fault = rw c.in_err-types.was at all.2 in
     let ok = subst (λ ts. OnOk c.programs-programs.result (flat_map program_words (programs_of ts) ++ start ≡ flat_map program_words (programs_of texts) ++ one)) c.new-texts.ensures.items c.programs-programs.ensures.ok in
     let err = subst (λ ts. OnErr c.programs-programs.result ((rest : List Token) × (flat_map program_words (programs_of ts) ++ start ≡ flat_map program_words (programs_of texts) ++ rest))) c.new-texts.ensures.items c.programs-programs.ensures.err in
-    kept_fault fault (λ f. IsOfBody f.kind → IsFaultOfBodies start f) c.from_residual.result c.from_residual.ensures.1
-    (body_met start one texts c.programs-programs.result fault ok err first)
+    let reader = c.args.reader.now in
+    let left = c.programs-programs.new.self in
+    let lines = subst (λ ts. OnOk c.programs-programs.result (lines_of ts ++ reader.bodies ≡ lines_of texts ++ left.bodies)) c.new-texts.ensures.items c.programs-programs.ensures.lines in
+    let err_lines = subst (λ ts. OnErr c.programs-programs.result ((more : List ℕ) × (lines_of ts ++ reader.bodies ≡ lines_of texts ++ more))) c.new-texts.ensures.items c.programs-programs.ensures.err_lines in
+    kept_fault fault (λ f. IsOfBody f.kind → IsFaultOfBodies reader f) c.from_residual.result c.from_residual.ensures.1
+    (body_met reader left texts c.programs-programs.result fault ok err lines err_lines first)

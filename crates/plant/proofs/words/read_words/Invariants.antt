@@ -1,11 +1,16 @@
 use Rattle.std.proofs.Common.{length, map}
-use Rattle.plant.specs.Steps.Lines.{WordValue}
+use Rattle.plant.specs.Steps.Lines.{WordValue, IsBegunBy}
 use Rattle.ladder_text.specs.Rows.{without_last}
 use Rattle.plant.proofs.SpellingLemmas.{IsReadTo}
+use Rattle.plant.proofs.LineCounts.{IsCountedTo}
 use Rattle.plant.proofs.words.read_words.Given as goal
 
 abbrev pub invariant-words : goal.invariant-words
-invariant-words l = IsReadTo (without_last 13 l.text) (map (λ (w : WordValue). w.token) l.words.items) l.lexer
+invariant-words l = record {
+  spelled : IsReadTo (without_last 13 l.text) (map (λ (w : WordValue). w.token) l.words.items) l.lexer.text;
+  counted : IsCountedTo (without_last 13 l.text) l.words.items l.lexer;
+  begun : IsBegunBy (without_last 13 l.text) l.words.items;
+}
 
 abbrev pub decreases-words : goal.decreases-words
-decreases-words l = length l.lexer
+decreases-words l = length l.lexer.text

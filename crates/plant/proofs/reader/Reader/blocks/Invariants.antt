@@ -8,6 +8,7 @@ use Rattle.plant.proofs.reader.Reader.blocks.Given as goal
 abbrev pub invariant-sections : goal.invariant-sections
 invariant-sections l = record {
   words : l.fn.self.words ≡ flat_map block_words l.blocks.items ++ l.self.words;
+  bodies : l.self.bodies ≡ l.fn.self.bodies;
   declared : l.variables ≡ l.fn.variables ++ flat_map block_variables l.blocks.items;
   lawful : All IsBlockLawful l.blocks.items;
 }

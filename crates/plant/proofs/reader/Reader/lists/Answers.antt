@@ -1,3 +1,4 @@
+use Rattle.std.proofs.Common.{◌∙◌}
 use Rattle.plant.specs.Faultless.{list_variables, IsListLawful}
 use Rattle.plant.specs.Grammar.{list_words}
 use Rattle.plant.proofs.WordLists.{words_more, declared_more, all_more, lists_done}
@@ -6,6 +7,7 @@ use Rattle.plant.proofs.reader.Reader.lists.Goals as goal
 pub lists-preserved : goal.lists-preserved
 lists-preserved c = record {
   words = words_more list_words c.lists.lists.items c.push.new.self.items c.in_ok-list.list c.args.self.now.words c.lists.self.words c.list.new.self.words c.in_ok-push.ensures.items c.lists.invariant.words c.in_ok-list.ensures.ok;
+  bodies = c.in_ok-list.ensures.bodies ∙ c.lists.invariant.bodies;
   declared = declared_more (list_variables c.args.section) c.lists.lists.items c.push.new.self.items c.in_ok-list.list c.args.variables.now c.lists.variables c.list.new.variables c.in_ok-push.ensures.items c.lists.invariant.declared c.in_ok-list.ensures.declared;
   lawful = all_more (IsListLawful c.args.section) c.lists.lists.items c.push.new.self.items c.in_ok-list.list c.in_ok-push.ensures.items c.lists.invariant.lawful c.in_ok-list.ensures.lawful;
 }
@@ -13,6 +15,7 @@ lists-preserved c = record {
 pub returns : goal.returns
 returns c = record {
   ok = lists_done c.lists.lists.items c.args.self.now.words c.lists.self.words c.keyword.new.self.words c.lists.invariant.words c.in_ok-keyword.ensures.ok;
+  bodies = c.in_ok-keyword.ensures.bodies ∙ c.lists.invariant.bodies;
   declared = c.lists.invariant.declared;
   lawful = c.lists.invariant.lawful;
   value = tt;

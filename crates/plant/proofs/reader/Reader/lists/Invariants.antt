@@ -8,6 +8,7 @@ use Rattle.plant.proofs.reader.Reader.lists.Given as goal
 abbrev pub invariant-lists : goal.invariant-lists
 invariant-lists l = record {
   words : l.fn.self.words ≡ flat_map list_words l.lists.items ++ l.self.words;
+  bodies : l.self.bodies ≡ l.fn.self.bodies;
   declared : l.variables ≡ l.fn.variables ++ flat_map (list_variables l.fn.section) l.lists.items;
   lawful : All (IsListLawful l.fn.section) l.lists.items;
 }

@@ -5,6 +5,7 @@ use Rattle.plant.proofs.reader.Reader.names.Given as goal
 abbrev pub invariant-names : goal.invariant-names
 invariant-names l = record {
   some : 0 < length l.names.items;
+  bodies : l.self.bodies ≡ l.fn.self.bodies;
   words : l.fn.self.words ≡ name_words l.names.items ++ l.self.words;
 }
 
