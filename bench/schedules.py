@@ -13,23 +13,33 @@ def rounds(count):
     return "\n".join(lines) + "\n"
 
 
-def meshed():
-    """A plant of 16 resources of 16 tasks; each task that has an instance takes from one of each other resource."""
-    inputs = [f"P{it}" for it in range(RESOURCES - 1)]
+def plant_where(takes):
+    """A plant of 16 resources of 16 tasks; each task that has an instance takes from one of each of the next resources."""
+    inputs = [f"P{it}" for it in range(takes)]
     text = ["PROGRAM ALL", f"VAR_INPUT {', '.join(inputs)} : BOOL; END_VAR", "VAR_OUTPUT Q : BOOL; END_VAR"]
     text.append("|" + "".join(f"   {name:5}" for name in inputs) + "  Q")
-    text.append("+" + "--|/|---" * (RESOURCES - 1) + "-( )")
+    text.append("+" + "--|/|---" * takes + "-( )")
     text.append("END_PROGRAM")
     text.append("CONFIGURATION MESH")
     for resource in range(RESOURCES):
         text.append(f"  RESOURCE R{resource} ON NODE")
         text += [f"    TASK T{task}(INTERVAL := T#10ms, PRIORITY := {task});" for task in range(TASKS)]
-        others = [other for other in range(RESOURCES) if other != resource]
+        others = [(resource + it) % RESOURCES for it in range(1, takes + 1)]
         for task in range(USED):
             binds = ", ".join(f"{name} := R{other}.I{task}.Q" for name, other in zip(inputs, others))
             text.append(f"    PROGRAM I{task} WITH T{task} : ALL({binds});")
         text.append("  END_RESOURCE")
     return "\n".join(text + ["END_CONFIGURATION"]) + "\n"
+
+
+def ringed():
+    """Each of the tasks takes from one of the next resource."""
+    return plant_where(1)
+
+
+def meshed():
+    """Each of the tasks takes from one of each other resource."""
+    return plant_where(RESOURCES - 1)
 
 
 def gossip(count):

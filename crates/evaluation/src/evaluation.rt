@@ -1,8 +1,11 @@
+use crate::fill::fill_programs;
 use crate::image::Image;
 use crate::inputs::Inputs;
 use crate::name::Name;
+use crate::outputs::read_outputs;
+use crate::scan::scan_programs;
 use crate::take::{Take, are_same_takes};
-use crate::task_state::TaskState;
+use crate::task_state::{TaskState, copied};
 use plant::TaskCode;
 use std::alloc::{AllocError, Global};
 use std::marker::Model;
@@ -55,10 +58,11 @@ fn outcome(
     ensures fits { IfOk result (λ r. AreStatesOf code.now r.1) }
     ensures kinds { IfOk result (λ r. map kind_of r.0 ≡ image_kinds code.now) }
 {
-    let mut after = before.try_copy()?;
-    after.fill(code, inputs, takes);
-    after.scan(code, dt);
-    let outputs = after.image(alloc, code)?;
+    let mut after = copied(alloc, before.states())?;
+    fill_programs(code, inputs, takes, after.as_mut_slice());
+    scan_programs(code, after.as_mut_slice(), dt);
+    let outputs = read_outputs(alloc, code, after.as_slice())?;
+    let after = TaskState::of(alloc, after)?;
     Ok((outputs, after))
 }
 

@@ -1,6 +1,6 @@
 //! What a book refuses, and the schedules that it hands out.
 
-use crate::acts::{Act, act_of, drawn_events, events_of};
+use crate::acts::{Act, act_of, drawn_events, event_of, events_of};
 use crate::checks::{equal, holds};
 use evaluation::{
     Evaluation, Frame, Image, Inputs, Name, Take, TaskState, fits_state, suits_takes,
@@ -187,15 +187,16 @@ fn a_task_that_takes_its_own_output_takes_its_last(rt: HostRuntime) -> Result<()
     let alloc = rt.alloc();
     let plant = plant_of(alloc, LOOP)?;
     let code = code_of(&plant, FAST)?;
-    let acts = [Act::Evaluate(0, false), Act::Evaluate(0, false)];
-    let mut book = book_after(alloc, &plant, &acts)?;
-    for &(from, value, misfit) in &[
-        (None, false, Some(Misfit::NotOwnLatest)),
-        (Some((1, 1)), true, Some(Misfit::NotOwnLatest)),
-        (Some((1, 2)), true, Some(Misfit::Torn)),
-        (Some((1, 2)), false, None),
+    let mut book = book_after(alloc, &plant, &[Act::Evaluate(0, false)])?;
+    for &(number, from, value, misfit) in &[
+        (2, None, false, Some(Misfit::NotOwnLatest)),
+        (2, Some((1, 1)), true, None),
+        (3, None, false, Some(Misfit::NotOwnLatest)),
+        (3, Some((1, 1)), true, Some(Misfit::NotOwnLatest)),
+        (3, Some((1, 2)), true, Some(Misfit::Torn)),
+        (3, Some((1, 2)), false, None),
     ] {
-        let name = name_of(FAST, 1, 3);
+        let name = name_of(FAST, 1, number);
         let frame = frame_of(alloc, &code, name, from, &[Value::Bool(value)])?;
         let answer = answer_to(&rt, alloc, &mut book, frame)?;
         equal(&rt, "answer", &answer, &misfit);
@@ -382,4 +383,60 @@ fn logs_of_the_pair_are_made_again(rt: HostRuntime) -> Result<(), Fail> {
 #[test]
 fn logs_of_the_loop_are_made_again(rt: HostRuntime) -> Result<(), Fail> {
     are_made_again(&rt, rt.alloc(), LOOP, &[3])
+}
+
+const ROUNDS: u64 = 5_000;
+
+/// A round of the pair: the counter is evaluated, and its message reaches the watcher, which is evaluated.
+fn push_round(alloc: Global, events: &mut Vec<Event>, round: u64) -> Result<(), Fail> {
+    let message = round.wrapping_mul(2).wrapping_add(1);
+    for act in &[
+        Act::Evaluate(0, round % 2 == 1),
+        Act::Deliver(message, 1),
+        Act::Evaluate(1, false),
+    ] {
+        events.push(event_of(alloc, round, *act)?)?;
+    }
+    Ok(())
+}
+
+fn rounds(alloc: Global) -> Result<Vec<Event>, Fail> {
+    let mut events = Vec::new(alloc);
+    for round in 0..ROUNDS {
+        push_round(alloc, &mut events, round)?;
+    }
+    Ok(events)
+}
+
+fn do_the_same(events: &[Event], others: &[Event]) -> bool {
+    events.len() == others.len()
+        && events
+            .iter()
+            .zip(others)
+            .all(|(event, other)| act_of(event) == act_of(other))
+}
+
+/// The counter saw its input rise in each second round, and the watcher sees its last count.
+fn is_the_last(rt: &impl Abort, entry: &Frame) {
+    equal(rt, "name", &entry.name(), &name_of(SLOW, 1, 5_000));
+    let seen = [Value::Int(2_500), Value::Bool(true)];
+    equal(rt, "image", &entry.outputs().values(), &seen.as_slice());
+}
+
+#[test]
+fn ten_thousand_entries_are_made_again(rt: HostRuntime) -> Result<(), Fail> {
+    let alloc = rt.alloc();
+    let plant = plant_of(alloc, PAIR)?;
+    let events = rounds(alloc)?;
+    let world = world_after(alloc, &plant, &[1, 1], events.as_slice())?;
+    let book = book_of(alloc, &[1, 1], world.log())?;
+    equal(&rt, "entries", &book.entries().len(), &10_000);
+    is_the_last(&rt, book.entries().last().ok_or("no entry")?);
+    let schedule = book.schedule(alloc)?;
+    let is_same = do_the_same(schedule.as_slice(), events.as_slice());
+    holds(&rt, "the schedule is these events", is_same);
+    let again = world_after(alloc, &plant, &[1, 1], schedule.as_slice())?;
+    let is_same = are_same(again.log(), book.entries());
+    holds(&rt, "the entries are made again", is_same);
+    Ok(())
 }

@@ -1,6 +1,6 @@
 //! Writers that take little, fail or take nothing.
 
-use std::alloc::Global;
+use std::alloc::{AllocError, Global};
 use std::io;
 use std::io::Write;
 
@@ -10,6 +10,9 @@ pub enum End {
     Fails,
     TakesNothing,
 }
+
+/// Room for all that a test writes, so that no writer wants memory.
+pub const ROOM: usize = 1_000;
 
 /// A writer that keeps what it takes, at most `step` bytes a call and `room` bytes in all.
 #[derive(Drop)]
@@ -21,13 +24,18 @@ pub struct Halting {
 }
 
 impl Halting {
-    pub fn new(alloc: Global, room: usize, step: usize, end: End) -> Halting {
-        Halting {
-            taken: Vec::new(alloc),
+    pub fn new(
+        alloc: Global,
+        room: usize,
+        step: usize,
+        end: End,
+    ) -> Result<Halting, AllocError> {
+        Ok(Halting {
+            taken: Vec::with_capacity(alloc, ROOM)?,
             room,
             step,
             end,
-        }
+        })
     }
 }
 

@@ -1,7 +1,7 @@
 //! Schedules as texts: what they write, where they end, and what is left when the writer or the text fails.
 
 use crate::checks::{equal, holds};
-use crate::halting::{End, Halting};
+use crate::halting::{End, Halting, ROOM};
 use crate::lot::next;
 use plant::Plant;
 use std::alloc::Global;
@@ -43,7 +43,7 @@ fn is_written(rt: &impl Abort, bytes: &[u8]) {
 #[test]
 fn a_schedule_is_written_line_by_line(rt: HostRuntime) -> Result<(), Fail> {
     let alloc = rt.alloc();
-    let mut out = Vec::new(alloc);
+    let mut out = Vec::with_capacity(alloc, ROOM)?;
     simulate(alloc, pair(alloc)?, RESTARTED, u32::MAX, &mut out)?;
     is_written(&rt, out.as_slice());
     Ok(())
@@ -53,7 +53,7 @@ fn a_schedule_is_written_line_by_line(rt: HostRuntime) -> Result<(), Fail> {
 fn what_went_out_stays_after_a_bad_line(rt: HostRuntime) -> Result<(), Fail> {
     let alloc = rt.alloc();
     let text = "DELIVER 99 R2\n# a comment\nEVAL R9.FAST 10\nEVAL R1.FAST\nEVAL R1.FAST 10\n";
-    let mut out = Vec::new(alloc);
+    let mut out = Vec::with_capacity(alloc, ROOM)?;
     let answer = simulate(alloc, pair(alloc)?, text, u32::MAX, &mut out);
     equal(&rt, "answer", &answer, &Err(SimFault::Syntax { line: 4 }));
     let refusals = b"REFUSED 1 NoSuchMessage\nREFUSED 2 NoSuchResource\n";
@@ -64,7 +64,7 @@ fn what_went_out_stays_after_a_bad_line(rt: HostRuntime) -> Result<(), Fail> {
 #[test]
 fn a_writer_of_one_byte_takes_the_whole_text(rt: HostRuntime) -> Result<(), Fail> {
     let alloc = rt.alloc();
-    let mut out = Halting::new(alloc, usize::MAX, 1, End::Fails);
+    let mut out = Halting::new(alloc, usize::MAX, 1, End::Fails)?;
     simulate(alloc, pair(alloc)?, RESTARTED, u32::MAX, &mut out)?;
     is_written(&rt, out.taken.as_slice());
     Ok(())
@@ -78,7 +78,7 @@ fn halts(
     room: usize,
     end: End,
 ) -> Result<(), Fail> {
-    let mut out = Halting::new(alloc, room, usize::MAX, end);
+    let mut out = Halting::new(alloc, room, usize::MAX, end)?;
     let answer = simulate(alloc, Arc::try_clone(plant)?, RESTARTED, u32::MAX, &mut out);
     equal(rt, "answer", &answer, &Err(SimFault::Write));
     let is_begun = Some(out.taken.as_slice()) == WRITTEN.as_bytes().get(..room);
@@ -125,7 +125,7 @@ fn mutated_schedules_end_well(rt: HostRuntime) -> Result<(), Fail> {
     let mut seed = 1;
     for _ in 0..2_000 {
         let text = mutated(alloc, &mut seed)?;
-        let mut out = Vec::new(alloc);
+        let mut out = Vec::with_capacity(alloc, ROOM)?;
         match simulate(
             alloc,
             Arc::try_clone(&plant)?,
@@ -142,7 +142,7 @@ fn mutated_schedules_end_well(rt: HostRuntime) -> Result<(), Fail> {
                 let is_less = (lines_in(out.as_slice()) as u64) < line;
                 holds(&rt, "lines for those before alone", 1 <= line && is_less);
             }
-            Err(_) => return Err("another fault".into()),
+            Err(fault) => return Err(fault.into()),
         }
     }
     Ok(())

@@ -196,7 +196,9 @@ fn a_run_skips_unlawful_events(rt: HostRuntime) -> Result<(), Fail> {
     let alloc = rt.alloc();
     let mut world = world(alloc, &[1, 1], u32::MAX)?;
     let events = mostly_unlawful(alloc)?;
-    equal(&rt, "run", &world.run(alloc, events.as_slice()), &Ok(()));
+    if world.run(alloc, events.as_slice()).is_err() {
+        return Err("no memory for a run".into());
+    }
     equal(&rt, "counts", &counts(&world), &(1, 1));
     let inputs = Inputs::read(alloc, "%IX0=1")?;
     let is_kept = match world.events() {
