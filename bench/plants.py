@@ -63,3 +63,15 @@ def frequent(tasks, others):
             left -= 1
         lines.append("  END_RESOURCE")
     return "\n".join(lines + ["END_CONFIGURATION"]) + "\n"
+
+
+def ring(count):
+    """So many resources of one task, each of which takes from the one before."""
+    text = ["PROGRAM NEXT", "VAR_INPUT B, UP : BOOL; END_VAR", "VAR_OUTPUT Q : BOOL; END_VAR"]
+    text += ["|  B     Q", "+--|/|-+-( )", "|  UP  |", "+--| |-+", "END_PROGRAM", "CONFIGURATION RING"]
+    for number in range(count):
+        text.append(f"  RESOURCE R{number} ON NODE")
+        text.append("    TASK T(INTERVAL := T#10ms, PRIORITY := 0);")
+        text.append(f"    PROGRAM P WITH T : NEXT(B := R{(number - 1) % count}.P.Q, UP := %IX0);")
+        text.append("  END_RESOURCE")
+    return "\n".join(text + ["END_CONFIGURATION"]) + "\n"

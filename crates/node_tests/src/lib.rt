@@ -4,6 +4,10 @@
 #[cfg(test)]
 mod checks;
 #[cfg(test)]
+mod drawn;
+#[cfg(test)]
+mod free_lists;
+#[cfg(test)]
 mod gates;
 #[cfg(test)]
 mod journals;

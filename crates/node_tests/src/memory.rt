@@ -1,12 +1,10 @@
 //! What a run reports where memory is wanting. With memory enough these pass as well; `tests/allocations` lets each allocation of theirs fail.
 
 use crate::checks::holds;
-use crate::runs::{Ask, keepers, pair, run};
+use crate::runs::{Ask, is_made_again, keepers, pair, run};
 use node::{Cause, NodeFault, PacedGate, Report};
-use std::alloc::Global;
 use std::process::Abort;
 use std::test::Fail;
-use world::World;
 
 /// Whether a resource was stopped before a ticket, since memory was wanting.
 fn was_stopped(faults: &[NodeFault], resource: usize, ticket: u64) -> bool {
@@ -26,29 +24,6 @@ fn tells_of_memory_alone(rt: &impl Abort, report: &Report) {
     }
 }
 
-/// The run of the book's schedule makes the book's entries.
-fn is_made_again(rt: &impl Abort, alloc: Global, report: &Report) -> Result<(), Fail> {
-    let events = report.book.schedule(alloc)?;
-    let plant = pair(alloc)?;
-    if report.book.first().len() != plant.resources() {
-        return Err("not one first incarnation for each resource".into());
-    }
-    let mut world = World::new(alloc, plant, report.book.first(), u32::MAX)?;
-    if world.run(alloc, events.as_slice()).is_err() {
-        return Err("no memory for the run".into());
-    }
-    let entries = report.book.entries();
-    holds(
-        rt,
-        "as many evaluations",
-        world.log().len() == entries.len(),
-    );
-    for (made, entry) in world.log().iter().zip(entries) {
-        holds(rt, "the evaluation is the entry", made.same(entry));
-    }
-    Ok(())
-}
-
 #[test]
 fn a_run_where_memory_is_wanting_tells_of_memory_alone(rt: HostRuntime) -> Result<(), Fail> {
     let alloc = rt.alloc();
@@ -63,5 +38,5 @@ fn a_run_where_memory_is_wanting_tells_of_memory_alone(rt: HostRuntime) -> Resul
     let gate = PacedGate::new(10_000_000);
     let report = run(&rt, alloc, &asks, keepers(alloc, 0)?, &gate, u32::MAX)?;
     tells_of_memory_alone(&rt, &report);
-    is_made_again(&rt, alloc, &report)
+    is_made_again(&rt, alloc, &pair(alloc)?, &report)
 }

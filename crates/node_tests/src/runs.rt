@@ -1,4 +1,4 @@
-//! Runs of threads on a counter and its watcher, and what their reports have.
+//! Runs of threads, most of them on a counter and its watcher, and what their reports have.
 
 use crate::checks::{equal, holds};
 use evaluation::{Frame, Inputs};
@@ -37,12 +37,18 @@ pub fn pair(alloc: Global) -> Result<Arc<Plant>, Fail> {
     Ok(Arc::new(alloc, Plant::read(alloc, PAIR)?)?)
 }
 
+/// So many keepers.
+pub fn keepers_of(alloc: Global, count: usize, last: u32) -> Result<Vec<MemoryKeeper>, Fail> {
+    let mut keepers = Vec::new(alloc);
+    for _resource in 0..count {
+        keepers.push(MemoryKeeper::new(last))?;
+    }
+    Ok(keepers)
+}
+
 /// A keeper for each resource of the pair.
 pub fn keepers(alloc: Global, last: u32) -> Result<Vec<MemoryKeeper>, Fail> {
-    let mut keepers = Vec::new(alloc);
-    keepers.push(MemoryKeeper::new(last))?;
-    keepers.push(MemoryKeeper::new(last))?;
-    Ok(keepers)
+    keepers_of(alloc, 2, last)
 }
 
 fn command_of(alloc: Global, ticket: u64, ask: Ask) -> Result<Command, Fail> {
@@ -75,7 +81,30 @@ pub fn commands_of(alloc: Global, asks: &[Ask]) -> Result<Vec<Command>, Fail> {
     Ok(commands)
 }
 
-/// The report of a run of these commands.
+/// The report of a run of these commands on a plant.
+pub fn run_on<R: Threads + Wait + Sync, K: Keeper, G: Gate>(
+    rt: &R,
+    alloc: Global,
+    plant: &Arc<Plant>,
+    commands: &[Command],
+    keepers: Vec<K>,
+    gate: &G,
+    max_number: u32,
+) -> Result<Report, Fail> {
+    if !are_numbered(commands) {
+        return Err("the tickets are not 1, 2, 3".into());
+    }
+    if !are_for_plant(plant, commands) {
+        return Err("there is no such resource".into());
+    }
+    if keepers.len() != plant.resources() {
+        return Err("not one keeper for each resource".into());
+    }
+    let shared = Arc::try_clone(plant)?;
+    Ok(run_threads(rt, alloc, shared, commands, keepers, gate, max_number)?)
+}
+
+/// The report of a run on the pair.
 pub fn run<R: Threads + Wait + Sync, K: Keeper, G: Gate>(
     rt: &R,
     alloc: Global,
@@ -86,25 +115,15 @@ pub fn run<R: Threads + Wait + Sync, K: Keeper, G: Gate>(
 ) -> Result<Report, Fail> {
     let plant = pair(alloc)?;
     let commands = commands_of(alloc, asks)?;
-    if !are_numbered(commands.as_slice()) {
-        return Err("the tickets are not 1, 2, 3".into());
-    }
-    if !are_for_plant(&plant, commands.as_slice()) {
-        return Err("there is no such resource".into());
-    }
-    if keepers.len() != plant.resources() {
-        return Err("not one keeper for each resource".into());
-    }
-    let report = run_threads(
+    run_on(
         rt,
         alloc,
-        plant,
+        &plant,
         commands.as_slice(),
         keepers,
         gate,
         max_number,
-    )?;
-    Ok(report)
+    )
 }
 
 fn entry_of(frame: &Frame) -> Entry {
@@ -158,6 +177,57 @@ fn letter_of(event: &Event) -> char {
     }
 }
 
+/// The first incarnations that the journals begin in.
+fn firsts_of(alloc: Global, report: &Report) -> Result<Vec<u32>, Fail> {
+    let mut first = Vec::new(alloc);
+    for journal in report.journals.as_slice() {
+        first.push(journal.first)?;
+    }
+    Ok(first)
+}
+
+/// One thread that does these events makes the book's entries.
+fn makes_entries(
+    rt: &impl Abort,
+    alloc: Global,
+    plant: &Arc<Plant>,
+    report: &Report,
+    max_number: u32,
+    events: &[Event],
+) -> Result<(), Fail> {
+    let first = firsts_of(alloc, report)?;
+    if first.len() != plant.resources() {
+        return Err("not one journal for each resource".into());
+    }
+    let shared = Arc::try_clone(plant)?;
+    let mut world = World::new(alloc, shared, first.as_slice(), max_number)?;
+    if world.run(alloc, events).is_err() {
+        return Err("no memory for the run".into());
+    }
+    let entries = report.book.entries();
+    equal(
+        rt,
+        "how many evaluations",
+        &world.log().len(),
+        &entries.len(),
+    );
+    for (made, entry) in world.log().iter().zip(entries) {
+        holds(rt, "the evaluation is the entry", made.same(entry));
+    }
+    Ok(())
+}
+
+/// The run of the book's schedule makes the book's entries.
+pub fn is_made_again(
+    rt: &impl Abort,
+    alloc: Global,
+    plant: &Arc<Plant>,
+    report: &Report,
+) -> Result<(), Fail> {
+    let events = report.book.schedule(alloc)?;
+    makes_entries(rt, alloc, plant, report, u32::MAX, events.as_slice())
+}
+
 /// The book's schedule has events of these kinds, and its run makes the book's entries.
 pub fn runs_again(
     rt: &impl Abort,
@@ -173,21 +243,5 @@ pub fn runs_again(
     }
     equal(rt, "kinds of events", &found.as_str(), &kinds);
     let plant = pair(alloc)?;
-    if report.book.first().len() != plant.resources() {
-        return Err("not one first incarnation for each resource".into());
-    }
-    let mut world = World::new(alloc, plant, report.book.first(), max_number)?;
-    let is_run = world.run(alloc, events.as_slice()).is_ok();
-    holds(rt, "the events are done", is_run);
-    let entries = report.book.entries();
-    equal(
-        rt,
-        "how many evaluations",
-        &world.log().len(),
-        &entries.len(),
-    );
-    for (made, entry) in world.log().iter().zip(entries) {
-        holds(rt, "the evaluation is the entry", made.same(entry));
-    }
-    Ok(())
+    makes_entries(rt, alloc, &plant, report, max_number, events.as_slice())
 }
