@@ -7,13 +7,14 @@ use Rattle.ladder_text.specs.declared.mark.Mark.{Mark}
 use Rattle.ladder_text.specs.declared.mark.Mark.TheVariants.{Blank, Rail, Wire as WireMark, Join as JoinMark, Upright as UprightMark, ContactPart, CoilPart, BoxPart}
 use Rattle.ladder_text.specs.declared.place.Place.{Place}
 use Rattle.ladder_text.specs.declared.drawn_box.DrawnBox.{DrawnBox}
+use Rattle.ladder_text.specs.declared.drawn_box.DrawnPin.{DrawnPin}
 use Rattle.ladder_text.specs.declared.drawn_box.Side.{Side}
 use Rattle.ladder_text.specs.declared.drawn_box.Side.TheVariants.{Left, Right}
 use Rattle.network.specs.declared.element.Element.{Element}
 use Rattle.network.specs.declared.element.Element.TheVariants.{Wire, Join, Upright, Contact, Coil, Box}
 use Rattle.network.specs.Links.{place, IsSymbolPlace}
 use Rattle.network.specs.Apart.{first_place, Has, AreOnPage}
-use Rattle.network.specs.Networks.{IsElementOf, IsLeftRail, Precedes}
+use Rattle.network.specs.Networks.{IsElementOf, IsLeftRail, Precedes, lowest_row}
 use Rattle.network.specs.Steps.Listing.{AreElementsOf, IsTheElementAt, IsNoElementAt}
 use Rattle.network.proofs.Basics.{one_at, at_contains}
 
@@ -134,6 +135,32 @@ module _ (g : Picture) (sound : IsSound g) where
   -- the places of elements are on the page
   pub has_on_page : (e : Element) (p : Place) → IsElementOf g e → Has e p → (p.row ≤ g.rows) × (0 < p.column) × (p.column ≤ g.columns)
   has_on_page e p is h = sound.on_page p.row p.column (λ blank. marks_something e (sym (has_mark e p is h) ∙ blank))
+
+  -- the places of an element lie between its first place and its lowest row
+  pub within_rows : (e : Element) (p : Place) → IsElementOf g e → Has e p → ((first_place e).row ≤ p.row) × (p.row ≤ lowest_row e)
+  within_rows (Wire at) p is h = let r = ap (λ (x : Place). x.row) (wire_place at p h) in ((omega arith), (omega arith))
+  within_rows (Join at) p is h = let r = ap (λ (x : Place). x.row) (join_place at p h) in ((omega arith), (omega arith))
+  within_rows (Upright at) p is h = let r = ap (λ (x : Place). x.row) (upright_place at p h) in ((omega arith), (omega arith))
+  within_rows (Contact c) p is h = let r = (symbol_place (place c.row c.column) p h).0 in ((omega arith), (omega arith))
+  within_rows (Coil c) p is h = let r = (symbol_place (place c.row c.column) p h).0 in ((omega arith), (omega arith))
+  within_rows (Box b) p is h = let r = box_place b p is h in (r.0, r.1)
+
+  -- an element with a place within a box is the box
+  pub within_box : (b : DrawnBox) (e : Element) (p : Place) → Contains g.boxes b → IsElementOf g e → Has e p → IsBoxPlace b p.row p.column → e ≡ Box b
+  within_box b (Box c) p in' is h inside =
+      let j = at_contains g.boxes b in' in
+      let k = at_contains g.boxes c is in
+      let same = sound.boxes_apart k.0 j.0 c b k.1 j.1 p.row p.column (box_place c p is h) inside in
+      ap Box (one_at g.boxes k.0 j.0 c b same k.1 j.1)
+  within_box b e p in' is h inside =
+      let j = at_contains g.boxes b in' in
+      let m : mark_of e ≡ BoxPart = sym (has_mark e p is h) ∙ sound.boxes j.0 b j.1 p.row p.column inside in absurd (cc)
+
+  -- a pin stands between the topmost and the lowest row of its box
+  pub pin_within : (b : DrawnBox) (pin : DrawnPin) → Contains g.boxes b → Contains b.pins pin → (b.top < pin.row) × (pin.row < b.bottom)
+  pin_within b pin in' there =
+      let k = at_contains g.boxes b in' in
+      rw there.2 at ((sound.boxes_whole k.0 b k.1).pins there.0 pin there.1)
 
 mark_top : (g : Picture) (c : ℕ) → mark_at g 0 c ≡ Blank
 unfolding mark_at

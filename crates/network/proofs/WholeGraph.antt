@@ -10,7 +10,7 @@ use Rattle.ladder_text.specs.declared.drawn_box.DrawnBox.{DrawnBox}
 use Rattle.network.specs.declared.element.Element.{Element}
 use Rattle.network.specs.declared.element.Element.TheVariants.{Box}
 use Rattle.network.specs.Links.{place}
-use Rattle.network.specs.Apart.{first_place}
+use Rattle.network.specs.Apart.{first_place, Has}
 use Rattle.network.specs.GraphValue.{graph_value, IsSoundGraph}
 use Rattle.network.specs.Networks.{IsElementOf, AreLinked, Chained, MeetsAt, IsTop, AreLeftRails, AreNetworks, IsUnattachedAt, IsTooTallAt, IsTwiceAt, IsFirst, Nowhere}
 use Rattle.network.specs.Networks.Chained.{here, along}
@@ -18,7 +18,7 @@ use Rattle.network.specs.Steps.Listing.{AreElementsOf}
 use Rattle.network.specs.Steps.Ranks.{AreRanks, AreSplit, IsIn, ArePlaces, IsUnmetAt, IsTallAt, IsFirstOf}
 use Rattle.network.specs.Steps.Twice.{IsTwiceIn}
 use Rattle.network.proofs.Basics.{one_at, contains_at, at_contains}
-use Rattle.network.proofs.Sharing.{shared, has_mark, has_on_page, precedes_not, marks_no_rail}
+use Rattle.network.proofs.Sharing.{shared, has_mark, has_on_page, within_rows, within_box, pin_within, precedes_not, marks_no_rail}
 use Rattle.network.proofs.TopLemmas.{chained_is, chained_then}
 
 -- what is known of an answer, once its error has become another
@@ -245,8 +245,20 @@ module _ (g : Picture) (sound : IsSound g) (es : List Element) (are : AreElement
           ]
         ]
 
-    pub sound_graph : (first : ℕ) (rails : List Place) → AreLeftRails g rails → Nowhere (IsTwiceAt g) → IsSoundGraph (graph_value first rails networks)
-    sound_graph first rails ra named_once = record {
+    -- the elements of one network lie within 200 rows
+    low_of : Nowhere (IsTooTallAt g) → (m i j : ℕ) (e f : Element) (p q : Place) → IsIn networks m i e → IsIn networks m j f → Has e p → Has f q → q.row < p.row + 200
+    low_of low m i j e f p q is is' h h' =
+        let a = sp.each m i e is in
+        let b = sp.each m j f is' in
+        let above = (within_rows g sound e p (are.drawn a.0 e a.2) h).0 in
+        let below = (within_rows g sound f q (are.drawn b.0 f b.2) h').1 in
+        elim (cases_lt q.row (p.row + 200)) [
+          | inl lt ↦ lt
+          | inr ge ↦ absurd (low (first_place e) (e, e, f, are.drawn a.0 e a.2, here, in_chained m i j e f is is', (omega arith), refl))
+        ]
+
+    pub sound_graph : (first : ℕ) (rails : List Place) → AreLeftRails g rails → Nowhere (IsTooTallAt g) → Nowhere (IsTwiceAt g) → IsSoundGraph (graph_value first rails networks)
+    sound_graph first rails ra none_tall named_once = record {
       networks = λ m ns at. record {
         apart = record {
           elements = λ j k e f p at_e at_f h i. (let a = sp.each m j e (ns, at, at_e) in let b = sp.each m k f (ns, at, at_f) in
@@ -257,6 +269,13 @@ module _ (g : Picture) (sound : IsSound g) (es : List Element) (are : AreElement
         };
         on_page = λ k e p at_e h. (let a = sp.each m k e (ns, at, at_e) in let on = has_on_page g sound e p (are.drawn a.0 e a.2) h in
             ((let x = on.0 in let few = sound.few_rows in omega arith), (let x = on.2 in let few = sound.few_columns in omega arith)));
+        order = λ i j e f lt at_e at_f. (let w = sp.rising m i j e f lt (ns, at, at_e) (ns, at, at_f) in are.rising w.0 w.1 e f w.2 w.3 w.4);
+        tops = λ e p in' h. (let w = at_contains ns e in' in let a = sp.each m w.0 e (ns, at, w.1) in (within_rows g sound e p (are.drawn a.0 e a.2) h).0);
+        low = λ e f p q in_e in_f h i. (let v = at_contains ns e in_e in let w = at_contains ns f in_f in low_of none_tall m v.0 w.0 e f p q (ns, at, v.1) (ns, at, w.1) h i);
+        clear = λ j k b e p at_b at_e h top bottom left right. (let v = sp.each m j (Box b) (ns, at, at_b) in let w = sp.each m k e (ns, at, at_e) in
+            let same = within_box g sound b e p (are.drawn v.0 (Box b) v.2) (are.drawn w.0 e w.2) h (top, bottom, left, right) in
+            (once m m j k (Box b) (ns, at, at_b) (ns, at, at_e ∙ ap Some same)).1);
+        pins = λ b pin in' there. (let w = at_contains ns (Box b) in' in let a = sp.each m w.0 (Box b) (ns, at, w.1) in pin_within g sound b pin (are.drawn a.0 (Box b) a.2) there);
         wide = λ b in'. (let w = at_contains ns (Box b) in' in let a = sp.each m w.0 (Box b) (ns, at, w.1) in let is = at_contains g.boxes b (are.drawn a.0 (Box b) a.2) in
             (sound.boxes_whole is.0 b is.1).wide);
         by_column = λ i j a b at_a at_b left. by_column m i j a b (ns, at, at_a) (ns, at, at_b) left;

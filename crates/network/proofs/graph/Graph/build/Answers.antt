@@ -135,12 +135,17 @@ invariant_of-result c =
     let networks = c.in_ok-networks.networks.items in
     let sp : AreSplit es ranks count networks (length es) = ok_of (λ (v : Vec Network Global). AreSplit es ranks count v.items (length es)) _ c.split.result c.map_err-5.result c.in_ok-networks.networks
     c.map_err-5.ensures.cases c.map_err-5.ensures.variant c.in_ok-networks.was split_clause in
+    let tall_clause = rw c.deref-7.ensures.value at c.tall_places.ensures in
+    let tall = c.in_ok-tall.tall.items in
+    let tp : ArePlaces (IsTallAt networks (length networks)) tall = ok_of (λ (v : Vec Place Global). ArePlaces (IsTallAt networks (length networks)) v.items) _ c.tall_places.result c.map_err-6.result c.in_ok-tall.tall
+    c.map_err-6.ensures.cases c.map_err-6.ensures.variant c.in_ok-tall.was tall_clause in
+    let low : Nowhere (IsTooTallAt g) = none_such (IsTooTallAt g) (IsTallAt networks (length networks)) tall (is_tall_at g sound es are count ranks rk attached networks sp) tp (sym c.deref-8.ensures.value ∙ c.in_default-first_of.ensures) in
     let twice_clause = rw c.boxes.ensures at c.twice_places.ensures in
     let twice = c.in_ok-twice.twice.items in
     let wp : ArePlaces (IsTwiceIn g.boxes (length g.boxes)) twice = ok_of (λ (v : Vec Place Global). ArePlaces (IsTwiceIn g.boxes (length g.boxes)) v.items) _ c.twice_places.result c.map_err-7.result c.in_ok-twice.twice
     c.map_err-7.ensures.cases c.map_err-7.ensures.variant c.in_ok-twice.was twice_clause in
     let once : Nowhere (IsTwiceAt g) = none_such (IsTwiceAt g) (IsTwiceIn g.boxes (length g.boxes)) twice (is_twice_in g) wp (sym c.deref-9.ensures.value ∙ c.in_default-first_of-2.ensures) in
-    sound_graph g sound es are count ranks rk attached networks sp c.first_line-first_line.result rails ra once
+    sound_graph g sound es are count ranks rk attached networks sp c.first_line-first_line.result rails ra low once
 
 pub returns-clause-ok : goal.returns-clause-ok
 returns-clause-ok c =
