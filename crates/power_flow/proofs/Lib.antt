@@ -1,12 +1,13 @@
 pub mod PowerLemmas
 pub mod Following
-pub mod Ordering
 pub mod Lists
+pub mod Leading
+pub mod RowLemmas
+pub mod Uprights
 pub mod Scanning
 pub mod CircuitLemmas
 pub mod Stepping
 pub mod Determinism
-pub mod WholeTable
 pub mod Starting
 pub mod BindingLemmas
 pub mod FoldedLemmas
