@@ -88,6 +88,7 @@ fn first_row(elements: &[Element], k: usize, at: Place) -> usize
 fn joining(elements: &[Element], k: usize, top: usize, at: Place) -> Option<Step>
     requires stands { (e : Element) × (slice_get elements.now k ≡ Some e) × Stands e at }
     requires page { AreOnPage elements.now }
+    requires fits { k + 1 < 2 ^ 64 }
     ensures { (rails : List Place) → IsSoundNetwork (diagram rails elements.now) → Joins (diagram rails elements.now) top at (listed result) }
 {
     let below = Place {
@@ -173,8 +174,8 @@ struct Numbers {
 impl Numbers {
     /// How many come before the next element.
     fn after(self, element: &Element) -> Numbers
-        requires coils { self.coils < 2 ^ 63 }
-        requires boxes { self.boxes < 2 ^ 63 }
+        requires coils { self.coils + 1 < 2 ^ 64 }
+        requires boxes { self.boxes + 1 < 2 ^ 64 }
         ensures coils { result.coils ≡ self.coils + length (coils_of (element.now ∷ [])) }
         ensures boxes { result.boxes ≡ self.boxes + length (boxes_of (element.now ∷ [])) }
     {
@@ -204,6 +205,7 @@ fn push_element(
     numbers: Numbers,
 ) -> Result<(), AllocError>
     requires within { k < length elements.now }
+    requires fits { k + 1 < 2 ^ 64 }
     requires sound { IsSoundNetwork (diagram rails.now elements.now) }
     requires rows { AreRows elements.now top (length ends.now) }
     requires ends { AreEndsTo (diagram rails.now elements.now) top k ends.now }

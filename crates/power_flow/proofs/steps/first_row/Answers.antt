@@ -33,4 +33,8 @@ returns-else-stands_at c = λ rails sound below.
     (inr (inr (λ f at stands. (let yes = c.stands_at.ensures.1 (f, at, stands) in let no = c.if-stands_at.false in cc))))
 
 pub returns-after-loop-number : goal.returns-after-loop-number
-returns-after-loop-number c = λ rails sound below. ?
+returns-after-loop-number c = λ rails sound below.
+    let here = c.loop-number.invariant.here in
+    let none = c.loop-number-test.false in
+    upright_is (diagram rails c.args.elements.now) sound c.loop-number.number c.loop-number.row c.args.at.row c.args.at.column here.0 here.1 here.2
+    c.loop-number.invariant.order c.loop-number.invariant.each below (inl (omega arith))
