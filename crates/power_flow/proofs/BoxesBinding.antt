@@ -1,12 +1,12 @@
 use Rattle.std.proofs.Common.{◌≡◌, ℕ, zero, suc, ◌+◌, ◌<◌, ◌↔◌, List, [], ◌∷◌, ◌++◌, Option, Some, None, All, Contains, Any, MatchOption, IfSome, slice_get, get_or, take, length, arith, refl, sym, ap, ◌∙◌}
-use Rattle.std.specs.List.{AllZip, cons_option}
+use Rattle.std.specs.List.{AllZip, AllByRecursion, cons_option}
 use Rattle.std.specs.Option.{option_and_then, option_map}
 use Rattle.power_flow.specs.Lookup.{declared_at}
 use Rattle.power_flow.specs.declared.declarations.Declared.{Declared}
 use Rattle.power_flow.specs.declared.source.Source.{Source}
 use Rattle.power_flow.specs.declared.source.Source.TheVariants as source
 use Rattle.std.proofs.lemmas.List.{take_more, append-nil}
-use Rattle.std.proofs.lemmas.List.Elements.{filter_map-append, All-nil, All-cons}
+use Rattle.std.proofs.lemmas.List.Elements.{filter_map-append, All-nil, All-cons, All-tail, recursion_from_All}
 use Rattle.std_blocks.specs.declared.block_type.BlockType.{BlockType}
 use Rattle.std_blocks.specs.declared.pin.Field.{Field}
 use Rattle.std_blocks.specs.Pins.{pin_of, input, output}
@@ -101,3 +101,15 @@ pub boxes_more : (es : List Element) (i : ℕ) (e : Element) → i < length es �
 boxes_more es i e lt is =
     let front : take (i + 1) es ≡ take i es ++ e ∷ [] = take_more es i e lt ∙ ap (λ p. take i es ++ p ∷ []) (sym is) in
     ap boxes_of front ∙ filter_map-append box_of (take i es) (e ∷ [])
+
+-- what holds of two lists holds of each
+pub all_first : {X : Type 0} (P : X → Type 0) (xs ys : List X) → All P (xs ++ ys) → All P xs
+all_first P xs ys all = recursion_first P xs ys (recursion_from_All P (xs ++ ys) all)
+  where
+    recursion_first : {X : Type 0} (P : X → Type 0) (xs ys : List X) → AllByRecursion P (xs ++ ys) → All P xs
+    recursion_first P [] ys all = All-nil P
+    recursion_first P (x ∷ xs) ys all = All-cons P x xs all.0 (recursion_first P xs ys all.1)
+
+pub all_last : {X : Type 0} (P : X → Type 0) (xs ys : List X) → All P (xs ++ ys) → All P ys
+all_last P [] ys all = all
+all_last P (x ∷ xs) ys all = all_last P xs ys (All-tail P x (xs ++ ys) all)

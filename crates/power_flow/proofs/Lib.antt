@@ -2,6 +2,7 @@ pub mod PowerLemmas
 pub mod Following
 pub mod Lists
 pub mod Leading
+pub mod CircuitOf
 pub mod StepLemmas
 pub mod RowLemmas
 pub mod Uprights

@@ -34,6 +34,7 @@ fn bound_coil(declarations: &Declarations, k: usize, element: &Element) -> Optio
 }
 
 /// The coils among the elements with their names bound, in their order.
+#[tactic(auto, unfolding(crate::specs::Steps::Circuit::bound_coils))]
 fn coils_of(
     alloc: Global,
     declarations: &Declarations,
@@ -41,13 +42,11 @@ fn coils_of(
 ) -> Result<Vec<BoundCoil>, AllocError>
     ensures { IfOk result (λ coils. coils.items ≡ bound_coils declarations.now elements.now) }
 {
-    let mut coils = Vec::new(alloc);
-    for (k, element) in elements.iter().enumerate() {
-        if let Some(coil) = bound_coil(declarations, k, element) {
-            coils.push(coil)?;
-        }
-    }
-    Ok(coils)
+    elements
+        .iter()
+        .enumerate()
+        .filter_map(|(k, element)| bound_coil(declarations, k, element))
+        .collect(alloc)
 }
 
 /// A network made ready for scans.

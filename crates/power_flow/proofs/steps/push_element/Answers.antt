@@ -103,6 +103,6 @@ returns-in_ok-push-in-Box c =
     let d = diagram c.args.rails.now es in
     let b = c.in-Box.boxed in
     let there = at_number es c.args.k c.index-elements-k.result (Box b) c.requires.within c.index-elements-k.is c.in-Box.is in
-    let begun = (rw c.drawn.ensures at c.in_ok-push_pins.ensures) es (tells_pin d c.requires.sound c.args.top c.args.k b c.args.ends.now c.requires.rows there c.requires.ends) in
+    let begun = (rw c.drawn.ensures at c.in_ok-push_pins-in-Box.ensures) es (tells_pin d c.requires.sound c.args.top c.args.k b c.args.ends.now c.requires.rows there c.requires.ends) in
     box_pushed c.args.declarations.now d c.args.top c.args.k c.first_place-at.result c.args.steps.now.items c.push_pins.new.steps.items c.push-in-Box.new.self.items b c.args.numbers.boxes begun.0 there
     c.requires.boxes begun.1 begun.2 c.in_ok-push-in-Box.ensures.items
