@@ -71,13 +71,6 @@ module _ (ds : List Declaration) (name : List ℕ) (fault : Declared → Option 
   unfolding variable_declared
   variable_is h = as_found (is_dotted name) (declared_at ds (before_first is_dot name)) refl refl h
 
--- the source of an element stands at its number
-pub all_named : (ds : List Declaration) (es : List Element) (sources : List Source) → sources ≡ map (element_source ds) es
-    → (k : ℕ) (e : Element) → slice_get es k ≡ Some e → slice_index_or sources k source.Nothing ≡ element_source ds e
-all_named ds es sources same k e at =
-    let there : slice_get sources k ≡ Some (element_source ds e) = ap (λ os. slice_get os k) same ∙ slice_get-map (element_source ds) es k ∙ ap (option_map (element_source ds)) at in
-    get_or_from_slice_get sources k (element_source ds e) source.Nothing there
-
 -- the boxes of a bound network have the names that their table needs
 pub named_box_of : (ds : List Declaration) (es : List Element) (b : DrawnBox) → IsBoundNetwork ds es → Contains es (Box b) → IsNamedBox ds b
 named_box_of ds es b bound in' = named_box ds es b (All-contains (IsBound ds es) es (Box b) (no_finding ds es bound) in')

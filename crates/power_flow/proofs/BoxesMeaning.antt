@@ -40,7 +40,7 @@ use Rattle.power_flow.specs.Steps.BoxTable.{IsPlaceSource, IsBitSource, IsBoundO
 use Rattle.power_flow.proofs.PowerLemmas.{on_sources}
 use Rattle.power_flow.proofs.Lists.{Contains-slice_get, any_at, any_found}
 use Rattle.power_flow.proofs.Stepping.{stored-append}
-use Rattle.power_flow.proofs.BoxesStepping.{some_same}
+use Rattle.power_flow.proofs.Lists.{some_same}
 use Rattle.power_flow.proofs.BoxesSources.{zip_at, zip_back, zip_length, box_in, box_at, contains_at, right_pin_in, right_pin_at, place_is, pin_value, block_at, name_bit, pin_source_value, block_kept}
 use Rattle.power_flow.proofs.BoxesWalks.{on_from_reached, reached_from_on}
 

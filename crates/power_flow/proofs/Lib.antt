@@ -1,12 +1,15 @@
 pub mod PowerLemmas
 pub mod Following
-pub mod Ordering
 pub mod Lists
+pub mod Leading
+pub mod CircuitOf
+pub mod StepLemmas
+pub mod RowLemmas
+pub mod Uprights
 pub mod Scanning
 pub mod CircuitLemmas
 pub mod Stepping
 pub mod Determinism
-pub mod WholeTable
 pub mod Starting
 pub mod BindingLemmas
 pub mod FoldedLemmas

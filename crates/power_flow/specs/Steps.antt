@@ -3,6 +3,7 @@ pub mod BoxFindings
 pub mod BoxSteps
 pub mod BoxTable
 pub mod Circuit
+pub mod Columns
 pub mod Earlier
 pub mod ElementFindings
 pub mod ElementSteps
@@ -10,5 +11,6 @@ pub mod Folded
 pub mod NamedBox
 pub mod Order
 pub mod Reach
+pub mod RowEnds
 pub mod Sources
 pub mod Table
