@@ -17,7 +17,7 @@ use Rattle.power_flow.specs.declared.declarations.Declared.TheVariants.{Input, O
 use Rattle.power_flow.specs.declared.declarations.Kind.TheVariants as kind
 use Rattle.power_flow.specs.declared.state.Slot.{Slot}
 use Rattle.power_flow.specs.declared.state.Slot.TheVariants.{Variable}
-use Rattle.power_flow.specs.Steps.Reach.{bit_at}
+use Rattle.power_flow.specs.Meaning.{bit_at}
 use Rattle.power_flow.specs.Names.{place_of, value_at, slot_value, is_dot}
 use Rattle.power_flow.specs.StateValue.{StateValue, IsSlotOf, AreSlotsOf, kind_of}
 use Rattle.ladder_text.specs.declared.place.Place.{Place}

@@ -1,5 +1,4 @@
 pub mod PowerLemmas
-pub mod Following
 pub mod Lists
 pub mod Leading
 pub mod CircuitOf
@@ -7,7 +6,6 @@ pub mod StepLemmas
 pub mod RowLemmas
 pub mod Uprights
 pub mod Scanning
-pub mod CircuitLemmas
 pub mod Stepping
 pub mod Determinism
 pub mod Starting
@@ -26,10 +24,12 @@ pub mod NameFaults
 pub mod FaultsFound
 pub mod WorkedFaults
 pub mod BoxesStepping
-pub mod BoxesWalks
 pub mod BoxesSources
 pub mod BoxesMeaning
 pub mod BoxesFaults
 pub mod BoxesBinding
 pub mod BoxesTable
 pub mod GuessLemmas
+pub mod Walking
+pub mod Sweeping
+pub mod ColumnSteps
