@@ -17,6 +17,7 @@ use crate::circuit::Circuit;
 use crate::pass::pass;
 use crate::state::{Instance, Slot, State};
 use crate::step::BoundCoil;
+use arrayvec::ArrayVec;
 use ladder_text::CoilKind;
 use std_blocks::Value;
 
@@ -146,12 +147,12 @@ impl State {
         ensures links { self.new.waiting_links ≡ self.old.waiting_links }
         ensures results { self.new.waiting_results ≡ self.old.waiting_results }
     {
-        let mut rows = [false; 200];
+        let mut rows = ArrayVec::<bool, 200>::from([false; 200]);
         scan_circuits(
             circuits,
             self.slots.as_mut_slice(),
             self.memories.as_mut_slice(),
-            &mut rows,
+            rows.as_mut_slice(),
             self.links.as_mut_slice(),
             self.results.as_mut_slice(),
             dt,
