@@ -1,9 +1,8 @@
-use Rattle.std.proofs.Common.{◌≡◌, ℕ, ◌+◌, ◌≤◌, List, [], Bool, true, false, Option, Some, None, Contains, slice_get, slice_index_or, length, map, arith, refl, sym, ap, ◌∙◌}
+use Rattle.std.proofs.Common.{◌≡◌, ℕ, ◌+◌, ◌≤◌, List, [], Bool, true, false, Option, Some, None, Contains, slice_get, length, arith, refl, sym, ap, ◌∙◌}
 use Rattle.std.specs.Option.{option_and_then, option_map}
 use Rattle.std.specs.List.{before_first, after_first, position_or_len}
 use Rattle.std.proofs.lemmas.Bool.{ltb-false}
 use Rattle.std.proofs.lemmas.List.{length-take, take_all, drop_all}
-use Rattle.std.proofs.lemmas.Option.{slice_get-map, get_or_from_slice_get}
 use Rattle.network.specs.declared.element.Element.{Element}
 use Rattle.network.specs.declared.element.Element.TheVariants.{Box}
 use Rattle.power_flow.specs.declared.bind.BindKind.{BindKind}
@@ -17,9 +16,6 @@ use Rattle.power_flow.specs.Lookup.{declared_at, is_dotted}
 use Rattle.power_flow.proofs.BoxesFaults.{named_box}
 use Rattle.ladder_text.specs.declared.drawn_box.DrawnBox.{DrawnBox}
 use Rattle.power_flow.specs.Steps.Circuit.{IsNamed}
-use Rattle.power_flow.specs.declared.source.Source.{Source}
-use Rattle.power_flow.specs.declared.source.Source.TheVariants as source
-use Rattle.power_flow.specs.Steps.Sources.{element_source}
 use Rattle.power_flow.specs.Steps.NamedBox.{IsNamedBox}
 use Rattle.std.proofs.lemmas.List.Elements.{All-contains}
 

@@ -1,4 +1,4 @@
-use Rattle.std.proofs.Common.{◌≡◌, ℕ, zero, suc, ◌+◌, ◌<◌, ◌↔◌, List, [], ◌∷◌, ◌++◌, Option, Some, None, All, Contains, Any, MatchOption, IfSome, slice_get, get_or, take, length, arith, refl, sym, ap, ◌∙◌}
+use Rattle.std.proofs.Common.{◌≡◌, ℕ, zero, suc, ◌+◌, ◌<◌, List, [], ◌∷◌, ◌++◌, Option, Some, None, All, Contains, MatchOption, slice_get, get_or, take, length, arith, refl, sym, ap, ◌∙◌}
 use Rattle.std.specs.List.{AllZip, AllByRecursion, cons_option}
 use Rattle.std.specs.Option.{option_and_then, option_map}
 use Rattle.power_flow.specs.Lookup.{declared_at}
@@ -9,7 +9,7 @@ use Rattle.std.proofs.lemmas.List.{take_more, append-nil}
 use Rattle.std.proofs.lemmas.List.Elements.{filter_map-append, All-nil, All-cons, All-tail, recursion_from_All}
 use Rattle.std_blocks.specs.declared.block_type.BlockType.{BlockType}
 use Rattle.std_blocks.specs.declared.pin.Field.{Field}
-use Rattle.std_blocks.specs.Pins.{pin_of, input, output}
+use Rattle.std_blocks.specs.Pins.{input}
 use Rattle.ladder_text.specs.declared.drawn_box.DrawnBox.{DrawnBox}
 use Rattle.ladder_text.specs.declared.drawn_box.DrawnPin.{DrawnPin}
 use Rattle.ladder_text.specs.declared.drawn_box.Operand.{Operand}
@@ -22,7 +22,7 @@ use Rattle.power_flow.specs.declared.bound_box.BoundOutput.{BoundOutput}
 use Rattle.power_flow.specs.Names.{place_of}
 use Rattle.power_flow.specs.Meaning.{IsDrawn}
 use Rattle.power_flow.specs.Steps.NamedBox.{IsDrawnOnce, AreInRange, IsInRange}
-use Rattle.power_flow.specs.Steps.BoxTable.{IsBoundOutput, right_pin, right_pins, output_if, box_of, boxes_of}
+use Rattle.power_flow.specs.Steps.BoxTable.{right_pin, right_pins, output_if, box_of, boxes_of}
 use Rattle.power_flow.proofs.Lists.{some_same}
 use Rattle.power_flow.proofs.BoxesSources.{contains_at}
 

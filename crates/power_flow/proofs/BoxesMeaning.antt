@@ -1,8 +1,7 @@
 -- What a pass and the stores after it leave is the meaning of the network.
-use Rattle.std.proofs.Common.{◌≡◌, ◌≢◌, ℕ, zero, suc, ◌+◌, ◌-◌, ◌<◌, ◌≤◌, ◌⊎◌, ◌↔◌, inl, inr, List, [], ◌∷◌, ◌++◌, map, Bool, true, false, Option, Some, None, IsTrue, All, Any, Contains, MatchOption, length, set, length-set, slice_get, get_or, take, arith, refl, sym, ap, ◌∙◌, subst}
+use Rattle.std.proofs.Common.{◌≡◌, ◌≢◌, ℕ, zero, suc, ◌+◌, ◌-◌, ◌<◌, ◌≤◌, ◌↔◌, inl, inr, List, [], ◌∷◌, ◌++◌, map, Bool, true, false, Option, Some, None, IsTrue, All, Contains, MatchOption, length, set, length-set, slice_get, get_or, take, arith, refl, sym, ap, ◌∙◌, subst}
 use Rattle.std.specs.List.{AllZip, flat_map, enumerate_from, filter_map, cons_option}
 use Rattle.std.specs.Option.{option_and_then, option_map_or, option_map}
-use Rattle.std.proofs.lemmas.Bool.{cases_eq, cases_lt}
 use Rattle.std.proofs.lemmas.List.{get_or-set_same, get_or-set_other}
 use Rattle.std.proofs.lemmas.Option.{slice_get-get_or, slice_get_within}
 use Rattle.ladder_text.specs.declared.place.Place.{Place}
@@ -15,7 +14,7 @@ use Rattle.ladder_text.specs.declared.drawn_box.Side.{Side}
 use Rattle.ladder_text.specs.declared.drawn_box.Side.TheVariants.{Left, Right}
 use Rattle.network.specs.declared.element.Element.{Element}
 use Rattle.network.specs.declared.element.Element.TheVariants.{Wire, Join, Upright, Contact, Coil, Box}
-use Rattle.network.specs.Links.{Diagram, place, Gives, Takes, Stands}
+use Rattle.network.specs.Links.{Diagram, place, Gives}
 use Rattle.network.specs.Apart.{first_place, Has, IsStop}
 use Rattle.std_blocks.specs.declared.block_type.BlockType.{BlockType}
 use Rattle.std_blocks.specs.declared.block_state.BlockState.{BlockState}
@@ -36,7 +35,6 @@ use Rattle.power_flow.specs.declared.bound_box.BoundOutput.{BoundOutput}
 use Rattle.power_flow.specs.declared.step.Step.{Step}
 use Rattle.power_flow.specs.declared.step.BoundCoil.{BoundCoil}
 use Rattle.power_flow.specs.declared.source.Source.TheVariants as source
-use Rattle.power_flow.specs.Power.{IsOn, SymbolEndsAt}
 use Rattle.power_flow.specs.Names.{place_of, value_at, value_of, slot_value, is_true, int_or_zero, time_or_zero}
 use Rattle.power_flow.specs.Steps.Sources.{source_value, source_bit, name_source}
 use Rattle.power_flow.specs.Meaning.{Moment, moment, bit_at, conducts, element_conducts, contact_conducts, contact_memory, coil_value, coil_memory, IsOutputOn, IsSource, HasPower, IsInputBit, AreInputs, BlocksStep, NetworkMeaning, next_memory, stored, stores, store, side_stores, result_stores, coil_stores}
@@ -44,13 +42,12 @@ use Rattle.power_flow.specs.Steps.BoxSteps.{bit_source, box_inputs, box_result, 
 use Rattle.power_flow.specs.StateValue.{AreSlotsOf}
 use Rattle.power_flow.specs.Steps.BoxTable.{IsBitSource, IsBoundOutput, IsBoundBox, AreBoundBoxes, right_pin, right_pins, boxes_of}
 use Rattle.power_flow.specs.Steps.Circuit.{IsCircuit, bound_coil, bound_coils}
-use Rattle.power_flow.specs.Steps.Columns.{AreSteps}
-use Rattle.power_flow.specs.Steps.Passing.{Pass, pass_of, ArePassed, bound_stores, bound_memories}
-use Rattle.power_flow.specs.Waiting.{box_of, coil_of, coils_of}
+use Rattle.power_flow.specs.Steps.Passing.{Pass, ArePassed, bound_stores, bound_memories}
+use Rattle.power_flow.specs.Waiting.{box_of, coils_of}
 use Rattle.power_flow.proofs.Lists.{Contains-slice_get, any_at, any_found, same_bit}
 use Rattle.power_flow.proofs.Stepping.{stored-append}
 use Rattle.power_flow.proofs.Lists.{some_same}
-use Rattle.power_flow.proofs.BoxesSources.{zip_at, zip_back, zip_length, box_in, box_at, contains_at, right_pin_in, right_pin_at, pin_value, block_at, name_bit, name_value, pin_source_value, block_kept}
+use Rattle.power_flow.proofs.BoxesSources.{zip_at, zip_back, zip_length, box_in, contains_at, right_pin_in, right_pin_at, pin_value, block_at, name_bit, name_value, pin_source_value, block_kept}
 use Rattle.power_flow.proofs.Sweeping as sweeping
 use Rattle.power_flow.proofs.ColumnSteps as steps
 use Rattle.power_flow.proofs.ColumnSteps.{number_at, box_same, coil_same}
@@ -264,9 +261,9 @@ stores_are ds old left (Coil x ∷ es) n i links memories are kept =
     let F : Bool → Bool → List (ℕ × Value) = λ l m. store (place_of ds x.name) (option_map BoolValue (coil_value x.kind l m)) in
     let one : F (bit_at links i) (bit_at memories n) ≡ F (bit_at left n) (bit_at old.memories n) = ap (λ l. F l (bit_at memories n)) link ∙ ap (F (bit_at left n)) memory in
     let rest = stores_are ds old left es (n + 1) (i + 1) links (set memories n v) (left_coil (bit_at left) links n i x es are)
-        (λ k c at.
-            let along : n + suc k ≡ n + 1 + k = omega arith in
-            get_or-set_other memories n (n + 1 + k) v false (λ e'. omega arith) ∙ ap (bit_at memories) (sym along) ∙ kept (suc k) c at ∙ ap (bit_at old.memories) along) in
+    (λ k c at.
+    let along : n + suc k ≡ n + 1 + k = omega arith in
+    get_or-set_other memories n (n + 1 + k) v false (λ e'. omega arith) ∙ ap (bit_at memories) (sym along) ∙ kept (suc k) c at ∙ ap (bit_at old.memories) along) in
     ap (λ w. w ++ bound_stores (coils_from ds (n + 1) es) (i + 1) links (set memories n v)) one ∙ ap (λ w. F (bit_at left n) (bit_at old.memories n) ++ w) rest
 
 -- bits that each element has make a list
@@ -421,7 +418,7 @@ module _ (ds : List Declaration) (d : Diagram) (circuit : Circuit) (dt : ℕ) (s
           inr (any_at (λ f. IsOutputOn ds between f q) d.elements k (Box b) at (
             gives.0,
             any_at (λ w. (w.side ≡ Right) × (w.row ≡ q.row) × IsTrue (is_true (value_at ds between b.instance w.name))) b.pins found.0 pin.0 found.1
-            (right.1, row, ap is_true (value_of_pin pin.0.name o.1.field pin.2.named) ∙ o.3.1),
+                (right.1, row, ap is_true (value_of_pin pin.0.name o.1.field pin.2.named) ∙ o.3.1),
           ))
 
       back : Starts q → IsMarked e.outputs.items (box_result e slots dt rows).outputs (q.row - is.top)
@@ -461,8 +458,8 @@ module _ (ds : List Declaration) (d : Diagram) (circuit : Circuit) (dt : ℕ) (s
       steps.swept ds d is.top circuit.rows circuit.boxes.items slots dt lets_through Starts is.sound is.rows no_source rail_source old m.results bound reads lets_coil shown
       is.steps.parts 0 (let long = is.steps.long in omega arith)
       (λ k e part at in'.
-          let here : 0 + k ≡ k = omega arith in
-          rw here (is.steps.each k e part (rw here at at) in'))
+      let here : 0 + k ≡ k = omega arith in
+      rw here (is.steps.each k e part (rw here at at) in'))
       a m start (subst P is.steps.whole passed) refl
 
   bit_of : (e : BoundBox) (rows : List Bool) (k : ℕ) → k < 4 → bit (box_inputs e slots rows) k ≡ source_bit slots rows (bit_source e k)
@@ -538,7 +535,7 @@ module _ (ds : List Declaration) (d : Diagram) (circuit : Circuit) (dt : ℕ) (s
             pins,
             subst P (sym type) (inputs_are b e made.rows is' made.power),
             ap (slice_get between) (sym here) ∙ placed (box_number found.0) e (box_result e slots dt made.rows) made.box_at made.result_at
-            ∙ ap (λ w. Some (Block w)) (result_is e made.rows i (ap (slice_get slots) here ∙ was)),
+                ∙ ap (λ w. Some (Block w)) (result_is e made.rows i (ap (slice_get slots) here ∙ was)),
           )
 
       none : (k : ℕ) → ((b : DrawnBox) (i : Instance) → Contains d.elements (Box b) → place_of ds b.instance ≡ Some k → slice_get slots k ≡ Some (Block i) → ⊥) → slice_get between k ≡ slice_get slots k

@@ -1,5 +1,5 @@
 -- What a network is made into fits together.
-use Rattle.std.proofs.Common.{◌≡◌, ℕ, zero, suc, ◌+◌, ◌-◌, ◌<◌, ◌≤◌, List, [], ◌∷◌, ◌++◌, Option, Some, None, All, slice_get, get_or, length, take, refl, sym, ap, ◌∙◌, subst, arith}
+use Rattle.std.proofs.Common.{◌≡◌, ℕ, zero, suc, ◌+◌, ◌-◌, ◌<◌, ◌≤◌, List, [], ◌∷◌, Option, Some, None, All, slice_get, length, refl, sym, ap, subst, arith}
 use Rattle.std.specs.List.{AllZip, filter_map, enumerate_from, cons_option}
 use Rattle.std.proofs.lemmas.List.Elements.{All-nil, All-cons, All-append, All-push}
 use Rattle.std.proofs.lemmas.Option.{slice_get_within}
@@ -12,7 +12,6 @@ use Rattle.ladder_text.specs.declared.drawn_box.Side.TheVariants.{Left, Right}
 use Rattle.network.specs.declared.element.Element.{Element}
 use Rattle.network.specs.declared.element.Element.TheVariants.{Wire, Join, Upright, Contact, Coil, Box}
 use Rattle.network.specs.Links.{Diagram, place}
-use Rattle.network.specs.Apart.{first_place}
 use Rattle.power_flow.specs.declared.declarations.Declaration.{Declaration}
 use Rattle.power_flow.specs.declared.step.Step.{Step}
 use Rattle.power_flow.specs.declared.step.Step.TheVariants as step
@@ -23,7 +22,6 @@ use Rattle.power_flow.specs.Steps.Columns.Joins.{within, lowest}
 use Rattle.power_flow.specs.Steps.Circuit.{IsStepIn, bound_coil, bound_coils}
 use Rattle.power_flow.specs.Steps.RowEnds.{AreRows}
 use Rattle.power_flow.specs.Waiting.{coil_of, coils_of, box_of, boxes_of}
-use Rattle.power_flow.proofs.Lists.{some_same, Contains-slice_get}
 use Rattle.power_flow.proofs.BoxesSources.{element_at, contains_later, contains_at}
 use Rattle.power_flow.proofs.BoxesTable.{all_boxes}
 use Rattle.power_flow.specs.Steps.NamedBox.{ArePinsIn}
@@ -102,18 +100,18 @@ module _ (ds : List Declaration) (d : Diagram) (top rows : ℕ) where
     part_in k (Box b) part at (begins, zip, is) =
         let P : List Step → Type 0 = λ xs. All In xs in
         subst P (sym is) (All-push In (joined begins) _
-          (pins_all b b.pins begins (λ pin in'. (let h = pins_in d.elements top rows are k b at pin in' in let low = h.0 in let high = h.1 in omega arith)) zip)
-          (kept_before box_of d.elements k (Box b) b at refl))
+        (pins_all b b.pins begins (λ pin in'. (let h = pins_in d.elements top rows are k b at pin in' in let low = h.0 in let high = h.1 in omega arith)) zip)
+        (kept_before box_of d.elements k (Box b) b at refl))
 
     -- the numbers of each step stand for a row, a memory, a coil or a box
     pub steps_within : (steps : List Step) → AreSteps ds d top steps → All In steps
     steps_within steps is =
         let P : List Step → Type 0 = λ xs. All In xs in
         subst P (sym is.whole) (joined_all In is.parts (λ k part at.
-            let lt = slice_get_within is.parts k part at in
-            let long = is.long in
-            let e = element_at d.elements k (omega arith) in
-            part_in k e.0 part e.1 (is.each k e.0 part e.1 at)))
+        let lt = slice_get_within is.parts k part at in
+        let long = is.long in
+        let e = element_at d.elements k (omega arith) in
+        part_in k e.0 part e.1 (is.each k e.0 part e.1 at)))
 
 -- the memories of coils are among those of the elements
 coils_from : (ds : List Declaration) (es : List Element) (n m : ℕ) → n + length es ≤ m → All (λ (x : BoundCoil). x.memory < m) (filter_map (λ e. bound_coil ds e.0 e.1) (enumerate_from n es))

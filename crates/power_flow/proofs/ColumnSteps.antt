@@ -1,7 +1,7 @@
 -- What the steps of a network leave, element by element.
-use Rattle.std.proofs.Common.{◌≡◌, ℕ, zero, suc, ◌+◌, ◌-◌, ◌<◌, ◌≤◌, ◌⊎◌, ◌↔◌, inl, inr, List, [], ◌∷◌, ◌++◌, Bool, true, false, ◌&&◌, Option, Some, None, MatchOption, IsTrue, Any, Contains, slice_get, length, set, length-set, take, arith, refl, sym, ap, ◌∙◌, subst}
+use Rattle.std.proofs.Common.{◌≡◌, ℕ, zero, suc, ◌+◌, ◌-◌, ◌<◌, ◌≤◌, ◌⊎◌, ◌↔◌, inl, inr, List, [], ◌∷◌, ◌++◌, Bool, true, false, ◌&&◌, Option, Some, None, MatchOption, Any, Contains, slice_get, length, set, length-set, take, arith, refl, sym, ap, ◌∙◌, subst}
 use Rattle.std.specs.List.{AllZip, filter_map, cons_option}
-use Rattle.std.proofs.lemmas.Bool.{cases_eq, cases_lt}
+use Rattle.std.proofs.lemmas.Bool.{cases_eq}
 use Rattle.std.proofs.lemmas.List.{get_or-set_same, get_or-set_other}
 use Rattle.std.proofs.lemmas.Option.{slice_get_within}
 use Rattle.ladder_text.specs.declared.place.Place.{Place}
@@ -14,24 +14,23 @@ use Rattle.ladder_text.specs.declared.drawn_box.Side.{Side}
 use Rattle.ladder_text.specs.declared.drawn_box.Side.TheVariants.{Left, Right}
 use Rattle.network.specs.declared.element.Element.{Element}
 use Rattle.network.specs.declared.element.Element.TheVariants.{Wire, Join, Upright, Contact, Coil, Box}
-use Rattle.network.specs.Links.{Diagram, place, IsSymbolPlace, Gives, Takes, Stands, PassesRight, Passes}
+use Rattle.network.specs.Links.{Diagram, place, Gives, Takes, Stands}
 use Rattle.network.specs.Apart.{first_place, Has, IsStop}
 use Rattle.network.specs.GraphValue.{IsSoundNetwork}
-use Rattle.power_flow.specs.Power.{IsOn, SymbolEndsAt, EndsAt}
+use Rattle.power_flow.specs.Power.{IsOn}
 use Rattle.power_flow.specs.Meaning.{bit_at, contact_conducts, contact_memory}
 use Rattle.power_flow.specs.declared.declarations.Declaration.{Declaration}
 use Rattle.power_flow.specs.declared.state.Instance.{Instance}
 use Rattle.power_flow.specs.declared.state.Slot.{Slot}
 use Rattle.power_flow.specs.declared.bound_box.BoundBox.{BoundBox}
-use Rattle.power_flow.specs.declared.bound_box.BoundOutput.{BoundOutput}
 use Rattle.power_flow.specs.declared.step.Step.{Step}
 use Rattle.power_flow.specs.declared.step.Step.TheVariants as step
 use Rattle.power_flow.specs.Names.{is_true}
 use Rattle.power_flow.specs.Steps.Sources.{source_value, name_source}
-use Rattle.power_flow.specs.Steps.Columns.{IsLed, IsAtRail, Begins, StandsIn, IsUpright, Joins, left_pin, left_pins, IsLeftPinBegun, joined, AreStepsOf}
+use Rattle.power_flow.specs.Steps.Columns.{IsLed, Begins, Joins, left_pin, left_pins, IsLeftPinBegun, joined, AreStepsOf}
 use Rattle.power_flow.specs.Steps.Columns.Begins.{goes_on, at_rail, is_off}
 use Rattle.power_flow.specs.Steps.Columns.Joins.{within, lowest}
-use Rattle.power_flow.specs.Steps.Passing.{Pass, AreJoined, AreShown, IsBoxObeyed, IsObeyed, ArePassed}
+use Rattle.power_flow.specs.Steps.Passing.{Pass, AreJoined, IsBoxObeyed, ArePassed}
 use Rattle.power_flow.specs.Steps.BoxSteps.{box_result, IsMarked, HasOutput}
 use Rattle.power_flow.specs.Steps.BoxTable.{IsBoundBox, IsBoundOutput, AreBoundBoxes, right_pins}
 use Rattle.power_flow.specs.Waiting.{box_of, boxes_of, coil_of, coils_of}
@@ -40,7 +39,7 @@ use Rattle.power_flow.proofs.Lists.{Contains-slice_get, any_at, any_found}
 use Rattle.power_flow.proofs.BoxesStepping.{slice_get-set_same, slice_get-set_other}
 use Rattle.power_flow.proofs.Lists.{some_same}
 use Rattle.power_flow.proofs.BoxesSources.{zip_at, zip_back, right_pin_in, right_pin_at, contains_at, element_at}
-use Rattle.power_flow.proofs.Walking.{same_place, ends_has, Lets, Out, Comes}
+use Rattle.power_flow.proofs.Walking.{same_place, ends_has, Lets, Comes}
 use Rattle.power_flow.proofs.Sweeping as sweeping
 use Rattle.power_flow.proofs.Sweeping.{at_row, Touches}
 
@@ -419,10 +418,10 @@ module _ (ds : List Declaration) (d : Diagram) (top count : ℕ) (boxes : List B
           let both = and_both (bit_at mid.rows (c.row - top)) (contact_conducts c.kind on (bit_at mid.memories n)) in
           let power = symbol_power n (Contact c) p at takes (λ s. s) in
           let known : Known (n + 1) b.rows = sweeping.symbol_known d top count conducts IsSource sound rows_in no_source rail_source n (Contact c) c.row c.column a.rows b.rows at (contact_symbol c) seen.known
-              (ap (λ w. length w) new_rows ∙ length-set mid.rows (c.row - top) v ∙ mid_long)
-              (λ q ge' ne. ap (λ w. at_row w top q) new_rows ∙ get_or-set_other mid.rows (c.row - top) (q.row - top) v false (λ e. ne (omega arith)) ∙ one.outside q ge' ne)
-              (at_row mid.rows top p, ((λ h. power.0 (one.state.0 h)), (λ h. one.state.1 (power.1 h))))
-              ((λ h. let s = both.0 (sym row_is ∙ h) in (one.state.0 s.0, lets ∙ s.1)), (λ s. row_is ∙ both.1 (one.state.1 s.0, sym lets ∙ s.1))) in
+          (ap (λ w. length w) new_rows ∙ length-set mid.rows (c.row - top) v ∙ mid_long)
+          (λ q ge' ne. ap (λ w. at_row w top q) new_rows ∙ get_or-set_other mid.rows (c.row - top) (q.row - top) v false (λ e. ne (omega arith)) ∙ one.outside q ge' ne)
+          (at_row mid.rows top p, ((λ h. power.0 (one.state.0 h)), (λ h. one.state.1 (power.1 h))))
+          ((λ h. let s = both.0 (sym row_is ∙ h) in (one.state.0 s.0, lets ∙ s.1)), (λ s. row_is ∙ both.1 (one.state.1 s.0, sym lets ∙ s.1))) in
           seen_from old n (Contact c) a b at seen known
           (ap (λ w. length w) new_memories ∙ length-set mid.memories n m ∙ mid_memories)
           (λ k ne. ap (λ w. bit_at w k) new_memories ∙ get_or-set_other mid.memories n k m false ne ∙ ap (λ w. bit_at w k) one.rest.memories)
@@ -455,20 +454,20 @@ module _ (ds : List Declaration) (d : Diagram) (top count : ℕ) (boxes : List B
           let link_is : bit_at b.links (coil_number n) ≡ v = ap (λ w. bit_at w (coil_number n)) new_links ∙ get_or-set_same mid.links (coil_number n) v false (omega arith) in
           let power = symbol_power n (Coil c) p at takes (λ s. s) in
           let known : Known (n + 1) b.rows = sweeping.symbol_known d top count conducts IsSource sound rows_in no_source rail_source n (Coil c) c.row c.column a.rows b.rows at (coil_symbol c) seen.known
-              (ap (λ w. length w) new_rows ∙ one.long)
-              (λ q ge' ne. ap (λ w. at_row w top q) new_rows ∙ one.outside q ge' ne)
-              (v, ((λ h. power.0 (one.state.0 h)), (λ h. one.state.1 (power.1 h))))
-              ((λ h. (one.state.0 (sym row_is ∙ h), conducts_is)), (λ s. row_is ∙ one.state.1 s.0)) in
+          (ap (λ w. length w) new_rows ∙ one.long)
+          (λ q ge' ne. ap (λ w. at_row w top q) new_rows ∙ one.outside q ge' ne)
+          (v, ((λ h. power.0 (one.state.0 h)), (λ h. one.state.1 (power.1 h))))
+          ((λ h. (one.state.0 (sym row_is ∙ h), conducts_is)), (λ s. row_is ∙ one.state.1 s.0)) in
           seen_from old n (Coil c) a b at seen known
           (ap (λ w. length w) new_memories) (λ k ne. ap (λ w. bit_at w k) new_memories) (ap (λ w. bit_at w n) new_memories ∙ seen.later n (omega arith))
           (ap (λ w. length w) new_links ∙ length-set mid.links (coil_number n) v ∙ mid_links)
           (λ k x less at'.
-              let other = number_less coil_of d.elements k n (Coil x) x less at' refl in
-              ap (λ w. bit_at w (coil_number k)) new_links ∙ get_or-set_other mid.links (coil_number n) (coil_number k) v false (λ e. omega arith) ∙ ap (λ w. bit_at w (coil_number k)) one.rest.links)
+          let other = number_less coil_of d.elements k n (Coil x) x less at' refl in
+          ap (λ w. bit_at w (coil_number k)) new_links ∙ get_or-set_other mid.links (coil_number n) (coil_number k) v false (λ e. omega arith) ∙ ap (λ w. bit_at w (coil_number k)) one.rest.links)
           (λ x is'.
-              let same : c ≡ x = coil_same is' in
-              let Q : DrawnCoil → Type 0 = λ w. (bit_at b.links (coil_number n) ≡ true) ↔ On (place w.row w.column) in
-              subst Q same ((λ h. power.0 (one.state.0 (sym link_is ∙ h))), (λ h. link_is ∙ one.state.1 (power.1 h))))
+          let same : c ≡ x = coil_same is' in
+          let Q : DrawnCoil → Type 0 = λ w. (bit_at b.links (coil_number n) ≡ true) ↔ On (place w.row w.column) in
+          subst Q same ((λ h. power.0 (one.state.0 (sym link_is ∙ h))), (λ h. link_is ∙ one.state.1 (power.1 h))))
           (ap (λ w. length w) new_results) (λ k x less at'. ap (λ w. slice_get w (box_number k)) new_results) (λ x is'. absurd cc)
 
   -- the left pins of a box, one after the other
@@ -593,11 +592,11 @@ module _ (ds : List Declaration) (d : Diagram) (top count : ℕ) (boxes : List B
           let mid_results = ap (λ (w : List Instance). length w) begins.rest.results in
           let result_here : slice_get m.results (box_number n) ≡ Some i = ap (λ w. slice_get w (box_number n)) obeyed.results ∙ slice_get-set_same mid.results (box_number n) i (omega arith) in
           let known : Known (n + 1) m.rows = sweeping.box_known d top count conducts IsSource sound rows_in no_source rail_source n b a.rows m.rows at seen.known (obeyed.shown.long ∙ begins.long)
-              (λ q ge free. obeyed.shown.outside (q.row - top) (no_output e is q ge free) ∙ begins.outside q ge (λ x takes. free x (inl takes)))
-              (λ q gives.
-                  let w = obeyed.shown.within (q.row - top) (has_output e is q gives) in
-                  let s = shown e mid.rows obeyed.at result_here q gives in
-                  ((λ on. s.0 (w.0 on)), (λ source. w.1 (s.1 source)))) in
+          (λ q ge free. obeyed.shown.outside (q.row - top) (no_output e is q ge free) ∙ begins.outside q ge (λ x takes. free x (inl takes)))
+          (λ q gives.
+          let w = obeyed.shown.within (q.row - top) (has_output e is q gives) in
+          let s = shown e mid.rows obeyed.at result_here q gives in
+          ((λ on. s.0 (w.0 on)), (λ source. w.1 (s.1 source)))) in
           let new_memories = obeyed.memories ∙ begins.rest.memories in
           let new_links = obeyed.links ∙ begins.rest.links in
           seen_from old n (Box b) a m at seen known
@@ -605,22 +604,22 @@ module _ (ds : List Declaration) (d : Diagram) (top count : ℕ) (boxes : List B
           (ap (λ w. length w) new_links) (λ k x less at'. ap (λ w. bit_at w (coil_number k)) new_links) (λ x is'. absurd cc)
           (ap (λ w. length w) obeyed.results ∙ length-set mid.results (box_number n) i ∙ mid_results)
           (λ k x less at'.
-              let other = number_less box_of d.elements k n (Box x) x less at' refl in
-              ap (λ w. slice_get w (box_number k)) obeyed.results ∙ slice_get-set_other mid.results (box_number n) (box_number k) i (λ e'. omega arith) ∙ ap (λ w. slice_get w (box_number k)) begins.rest.results)
+          let other = number_less box_of d.elements k n (Box x) x less at' refl in
+          ap (λ w. slice_get w (box_number k)) obeyed.results ∙ slice_get-set_other mid.results (box_number n) (box_number k) i (λ e'. omega arith) ∙ ap (λ w. slice_get w (box_number k)) begins.rest.results)
           (λ x is'.
-              let R : DrawnBox → Type 0 = λ w. IsMade n w m.results in
-              subst R (box_same is') (record {
-                box = e;
-                rows = mid.rows;
-                box_at = obeyed.at;
-                result_at = result_here;
-                power = λ pin in' side none.
-                    let found = contains_at b.pins pin in' in
-                    let left = left_pin_at b.pins pin found.0 found.1 side in
-                    let state = begins.states left.0 pin left.1 none in
-                    let power = symbol_power n (Box b) (place pin.row b.left) at (left_takes left.0 pin left.1) (λ s. s) in
-                    ((λ on. power.0 (state.0 on)), (λ on. state.1 (power.1 on)));
-              }))
+          let R : DrawnBox → Type 0 = λ w. IsMade n w m.results in
+          subst R (box_same is') (record {
+            box = e;
+            rows = mid.rows;
+            box_at = obeyed.at;
+            result_at = result_here;
+            power = λ pin in' side none.
+                let found = contains_at b.pins pin in' in
+                let left = left_pin_at b.pins pin found.0 found.1 side in
+                let state = begins.states left.0 pin left.1 none in
+                let power = symbol_power n (Box b) (place pin.row b.left) at (left_takes left.0 pin left.1) (λ s. s) in
+                ((λ on. power.0 (state.0 on)), (λ on. state.1 (power.1 on)));
+          }))
 
   begins_results : (p : Place) (steps : List Step) (a b : Pass) → Begins d top p steps → ArePassed boxes slots dt steps a b → b.results ≡ a.results
   begins_results p steps a b (goes_on led) passed = ap (λ (w : Pass). w.results) passed
@@ -684,17 +683,17 @@ module _ (ds : List Declaration) (d : Diagram) (top count : ℕ) (boxes : List B
       let S : ℕ → Type 0 = λ w. AreStepsOf ds d top w e.0 part in
       let steps = subst S here (each 0 e.0 part (subst A (sym here) e.1) refl) in
       later_results ps (n + 1) (omega arith) (λ j f p at' in'.
-          let along : n + suc j ≡ n + 1 + j = omega arith in
-          let B : ℕ → Type 0 = λ w. slice_get d.elements w ≡ Some f in
-          let T : ℕ → Type 0 = λ w. AreStepsOf ds d top w f p in
-          subst T along (each (suc j) f p (subst B (sym along) at') in')) parts.0 b parts.2 k x (omega arith) at
+      let along : n + suc j ≡ n + 1 + j = omega arith in
+      let B : ℕ → Type 0 = λ w. slice_get d.elements w ≡ Some f in
+      let T : ℕ → Type 0 = λ w. AreStepsOf ds d top w f p in
+      subst T along (each (suc j) f p (subst B (sym along) at') in')) parts.0 b parts.2 k x (omega arith) at
       ∙ part_results n e.0 part a parts.0 steps parts.1 (box_number k) (λ same. let other = number_less box_of d.elements k n (Box x) x lt at refl in omega arith)
 
   module _ (old : List Bool) (results : List Instance) (bound : AreBoundBoxes ds d top boxes)
       (reads : (k : ℕ) (c : DrawnContact) → slice_get d.elements k ≡ Some (Contact c) → conducts k ≡ contact_conducts c.kind (is_true (source_value slots (name_source ds c.name))) (bit_at old k))
       (lets_coil : (k : ℕ) (c : DrawnCoil) → slice_get d.elements k ≡ Some (Coil c) → conducts k ≡ true)
       (shown : (k : ℕ) (b : DrawnBox) → slice_get d.elements k ≡ Some (Box b) → (e : BoundBox) (rows : List Bool) → slice_get boxes (box_number k) ≡ Some e → slice_get results (box_number k) ≡ Some (box_result e slots dt rows)
-          → (q : Place) → Gives (Box b) q → IsMarked e.outputs.items (box_result e slots dt rows).outputs (q.row - top) ↔ IsSource q) where
+      → (q : Place) → Gives (Box b) q → IsMarked e.outputs.items (box_result e slots dt rows).outputs (q.row - top) ↔ IsSource q) where
     seen_more : (n : ℕ) (f : Element) (part : List Step) (a b : Pass) → slice_get d.elements n ≡ Some f → Seen old n a → AreStepsOf ds d top n f part → ArePassed boxes slots dt part a b
         → ((x : DrawnBox) → f ≡ Box x → slice_get results (box_number n) ≡ slice_get b.results (box_number n)) → Seen old (n + 1) b
     seen_more n (Wire p) part a b at seen steps passed kept = seen_wire old n p part a b at seen steps passed
@@ -728,6 +727,6 @@ module _ (ds : List Declaration) (d : Diagram) (top count : ℕ) (boxes : List B
         let T : ℕ → Type 0 = λ w. AreStepsOf ds d top w f p in
         subst T along (each (suc j) f p (subst B (sym along) at') in') in
         let one = seen_more n e.0 part a parts.0 e.1 seen steps parts.1 (λ x is.
-            let C : Element → Type 0 = λ w. slice_get d.elements n ≡ Some w in
-            ap (λ w. slice_get w (box_number n)) (sym same) ∙ later_results ps (n + 1) (omega arith) each' parts.0 b parts.2 n x (omega arith) (subst C is e.1)) in
+        let C : Element → Type 0 = λ w. slice_get d.elements n ≡ Some w in
+        ap (λ w. slice_get w (box_number n)) (sym same) ∙ later_results ps (n + 1) (omega arith) each' parts.0 b parts.2 n x (omega arith) (subst C is e.1)) in
         swept ps (n + 1) (omega arith) each' parts.0 b one parts.2 same

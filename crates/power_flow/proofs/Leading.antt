@@ -1,5 +1,5 @@
 -- The ends of rows tell whether an element leads to a place.
-use Rattle.std.proofs.Common.{◌≡◌, ◌↔◌, ◌⊎◌, inl, inr, ℕ, zero, suc, ◌+◌, ◌-◌, ◌<◌, ◌≤◌, ◌≢◌, max, List, [], ◌∷◌, ◌++◌, Option, Some, None, Contains, Any, slice_get, get_or, length, set, replicate, refl, sym, ap, ◌∙◌, subst, arith}
+use Rattle.std.proofs.Common.{◌≡◌, ◌⊎◌, inl, inr, ℕ, zero, suc, ◌+◌, ◌-◌, ◌<◌, ◌≤◌, max, List, Some, Contains, slice_get, get_or, length, set, replicate, refl, sym, ap, ◌∙◌, subst, arith}
 use Rattle.std.proofs.lemmas.Bool.{cases_eq, cases_lt}
 use Rattle.std.proofs.lemmas.List.{get_or-set_same, get_or-set_other}
 use Rattle.std.proofs.lemmas.Option.{slice_get_within, slice_get-get_or}
@@ -10,10 +10,9 @@ use Rattle.ladder_text.specs.declared.drawn_box.Side.{Side}
 use Rattle.ladder_text.specs.declared.drawn_box.Side.TheVariants.{Left, Right}
 use Rattle.network.specs.declared.element.Element.{Element}
 use Rattle.network.specs.declared.element.Element.TheVariants.{Wire, Join, Upright, Contact, Coil, Box}
-use Rattle.network.specs.Links.{Diagram, Gives, Takes, Stands, place}
-use Rattle.network.specs.Apart.{Has, Precedes, first_place}
+use Rattle.network.specs.Links.{Diagram, Gives, place}
+use Rattle.network.specs.Apart.{Has, first_place}
 use Rattle.network.specs.GraphValue.{IsSoundNetwork}
-use Rattle.power_flow.specs.Steps.Columns.{IsLed, IsAtRail, Begins}
 use Rattle.power_flow.specs.Steps.RowEnds.{AreRows, IsGiven, IsGivenByPin, AreEnds, AreEndsTo, AreEndsWithin, TellsLed}
 use Rattle.power_flow.proofs.Lists.{any_at, any_found, some_same, Contains-slice_get}
 
@@ -237,9 +236,9 @@ pub pins_more_left : (d : Diagram) (top k : ℕ) (ends : List ℕ) (b : DrawnBox
 pins_more_left d top k ends b n pin at side are =
     ends_same (λ p. IsGiven d k p ⊎ IsGivenByPin b n p) (λ p. IsGiven d k p ⊎ IsGivenByPin b (n + 1) p) top ends
     (λ p g. elim g [
-        | inl old ↦ inl old
-        | inr new ↦ elim (pin_cases b n pin p at new) [ inl old ↦ inr old | inr here ↦ (let clash : Left ≡ Right = sym side ∙ here.0 in absurd (cc)) ]
-      ])
+      | inl old ↦ inl old
+      | inr new ↦ elim (pin_cases b n pin p at new) [ inl old ↦ inr old | inr here ↦ (let clash : Left ≡ Right = sym side ∙ here.0 in absurd (cc)) ]
+    ])
     (λ p g. elim g [ inl old ↦ inl old | inr old ↦ inr (pin_kept b n p old) ])
     are
 
@@ -249,9 +248,9 @@ pub pins_more_right : (d : Diagram) (top k : ℕ) (ends : List ℕ) (b : DrawnBo
 pins_more_right d top k ends b n pin at side low within are =
     ends_more (λ p. IsGiven d k p ⊎ IsGivenByPin b n p) (λ p. IsGiven d k p ⊎ IsGivenByPin b (n + 1) p) top ends (place pin.row b.right) low within
     (λ p g. elim g [
-        | inl old ↦ inl (inl old)
-        | inr new ↦ elim (pin_cases b n pin p at new) [ inl old ↦ inl (inr old) | inr here ↦ (let c = here.2 in inr (sym here.1, omega arith)) ]
-      ])
+      | inl old ↦ inl (inl old)
+      | inr new ↦ elim (pin_cases b n pin p at new) [ inl old ↦ inl (inr old) | inr here ↦ (let c = here.2 in inr (sym here.1, omega arith)) ]
+    ])
     (λ p g. elim g [ inl old ↦ inl old | inr old ↦ inr (pin_kept b n p old) ])
     (inr record { number = n; before = omega arith; pin = pin; at = at; side = side; row = refl; column = refl })
     are

@@ -1,17 +1,14 @@
 -- The rows of a network, from its topmost to its lowest.
-use Rattle.std.proofs.Common.{◌≡◌, ◌⊎◌, inl, inr, ℕ, ◌+◌, ◌-◌, ◌<◌, ◌≤◌, max, min, List, Option, Some, None, Contains, Any, slice_get, length, refl, sym, ap, ◌∙◌, subst, arith}
+use Rattle.std.proofs.Common.{◌≡◌, ◌⊎◌, inl, inr, ℕ, ◌+◌, ◌<◌, ◌≤◌, max, min, List, Some, Contains, slice_get, refl, sym, ap, ◌∙◌, subst, arith}
 use Rattle.std.proofs.lemmas.Bool.{cases_eq, cases_lt}
-use Rattle.std.proofs.lemmas.Option.{slice_get_within}
 use Rattle.ladder_text.specs.declared.place.Place.{Place}
 use Rattle.ladder_text.specs.declared.drawn_box.DrawnBox.{DrawnBox}
 use Rattle.ladder_text.specs.declared.drawn_box.DrawnPin.{DrawnPin}
 use Rattle.ladder_text.specs.declared.drawn_box.Side.TheVariants.{Left, Right}
 use Rattle.network.specs.declared.element.Element.{Element}
 use Rattle.network.specs.declared.element.Element.TheVariants.{Wire, Join, Upright, Contact, Coil, Box}
-use Rattle.network.specs.Links.{Diagram, place}
+use Rattle.network.specs.Links.{place}
 use Rattle.network.specs.Apart.{Has, first_place}
-use Rattle.network.specs.GraphValue.{IsSoundNetwork}
-use Rattle.power_flow.specs.Steps.RowEnds.{AreRows}
 use Rattle.power_flow.proofs.Lists.{any_found, some_same, Contains-slice_get}
 use Rattle.power_flow.proofs.Leading.{pin_has}
 

@@ -1,18 +1,9 @@
-use Rattle.std.proofs.Common.{◌≡◌, ℕ, ◌+◌, ◌≤◌, ◌<◌, ◌⊎◌, ◌↔◌, inl, inr, List, [], ◌∷◌, ◌++◌, Bool, true, false, Option, Some, None, Contains, Any, IsTrue, is_some, slice_get, length, length-append, arith, refl, sym, ap, ◌∙◌}
-use Rattle.std.proofs.lemmas.Option.{slice_get_within, slice_get-get_or, get_or_from_slice_get}
-use Rattle.std.proofs.lemmas.Bool.{cases_eq}
-use Rattle.std.proofs.lemmas.List.{get_or_append_left}
-use Rattle.std.proofs.Math.Seq.{get_or-append_seam}
+use Rattle.std.proofs.Common.{◌≡◌, ℕ, ◌↔◌, List, Bool, Option, Some, None, Contains, IsTrue, is_some, refl, ap, ◌∙◌}
 use Rattle.ladder_text.specs.declared.place.Place.{Place}
-use Rattle.network.specs.declared.element.Element.{Element}
 use Rattle.network.specs.declared.numbering.Spot.{Spot}
-use Rattle.network.specs.Links.{Diagram, PassesRight, Takes, Gives}
-use Rattle.network.specs.Apart.{AreApart, AreOnPage, Has}
 use Rattle.network.specs.Steps.Numbers.{IsSpot}
-use Rattle.network.specs.Steps.Numbered.{AreOwned}
 use Rattle.network.specs.Steps.Listing.{IsIndex}
 use Rattle.network.proofs.Basics.{at_contains, contains_at}
-use Rattle.power_flow.specs.Meaning.{bit_at}
 
 -- an index finds the places that it is made of
 pub finds_rail : (places : List Place) (spots : List Spot) → IsIndex places spots → (p : Place) (found : Option ℕ) → ((k : ℕ) → (found ≡ Some k) ↔ IsSpot spots k p) → (b : Bool) → b ≡ is_some found

@@ -1,10 +1,9 @@
 -- The steps of a network are those of its elements, one after the other.
-use Rattle.std.proofs.Common.{◌≡◌, ◌⊎◌, inl, inr, ℕ, zero, suc, ◌+◌, ◌-◌, ◌<◌, ◌≤◌, List, [], ◌∷◌, ◌++◌, Option, Some, None, All, Contains, slice_get, get_or, length, take, append_assoc, refl, sym, ap, ◌∙◌, subst, arith}
+use Rattle.std.proofs.Common.{◌≡◌, ◌⊎◌, inl, inr, ℕ, zero, suc, ◌+◌, ◌-◌, ◌<◌, ◌≤◌, List, [], ◌∷◌, ◌++◌, Option, Some, None, Contains, slice_get, get_or, length, take, append_assoc, refl, sym, ap, ◌∙◌, subst, arith}
 use Rattle.std.specs.List.{AllZip, filter_map, cons_option}
-use Rattle.std.proofs.lemmas.Bool.{cases_eq}
 use Rattle.std.proofs.lemmas.List.{append-nil, take_more, length-append}
-use Rattle.std.proofs.lemmas.List.Elements.{filter_map-append, All-nil, All-cons, All-append, All-push}
-use Rattle.std.proofs.lemmas.Option.{slice_get_within, slice_get_past, slice_get_read}
+use Rattle.std.proofs.lemmas.List.Elements.{filter_map-append}
+use Rattle.std.proofs.lemmas.Option.{slice_get_read}
 use Rattle.ladder_text.proofs.ItemLemmas.{slice_get-append}
 use Rattle.ladder_text.specs.declared.place.Place.{Place}
 use Rattle.ladder_text.specs.declared.drawn_box.DrawnBox.{DrawnBox}
@@ -16,13 +15,13 @@ use Rattle.ladder_text.specs.declared.coil.Coil.{Coil as DrawnCoil}
 use Rattle.network.specs.declared.element.Element.{Element}
 use Rattle.network.specs.declared.element.Element.TheVariants.{Wire, Join, Upright, Contact, Coil, Box}
 use Rattle.network.specs.Links.{Diagram, Gives, place}
-use Rattle.network.specs.Apart.{Has, first_place}
+use Rattle.network.specs.Apart.{first_place}
 use Rattle.power_flow.specs.declared.declarations.Declaration.{Declaration}
 use Rattle.power_flow.specs.declared.source.Source.{Source}
 use Rattle.power_flow.specs.declared.step.Step.{Step}
 use Rattle.power_flow.specs.declared.step.Step.TheVariants as step
 use Rattle.power_flow.specs.Steps.Sources.{name_source}
-use Rattle.power_flow.specs.Steps.Columns.{Begins, Joins, IsUpright, IsLeftPinBegun, left_pin, left_pins, joined, AreStepsOf, AreSteps}
+use Rattle.power_flow.specs.Steps.Columns.{Begins, Joins, IsLeftPinBegun, left_pin, left_pins, joined, AreStepsOf, AreSteps}
 use Rattle.power_flow.specs.Steps.RowEnds.{AreRows, AreEndsTo, TellsLed, ArePushed, AreStepsTo}
 use Rattle.power_flow.specs.Waiting.{coil_of, coils_of, boxes_of}
 use Rattle.power_flow.proofs.Lists.{some_same}
@@ -124,8 +123,11 @@ left_pins_more R pins i pin begins part old mid new lt is left right zip first s
     rw front (rw (filter_map-append (λ p. left_pin p p.side) (take i pins) (pin ∷ [])) (go pin.side refl))
   where
     go : (s : Side) → pin.side ≡ s → (more : List (List Step)) × AllZip R (left_pins (take i pins) ++ cons_option (left_pin pin s) []) more × (new ≡ old ++ joined more)
-    go Left e = (begins ++ part ∷ [], zip_push R (left_pins (take i pins)) begins pin part zip (left e),
-      second ∙ ap (λ x. x ++ part) first ∙ append_assoc old (joined begins) part ∙ ap (λ x. old ++ x) (sym (joined_push begins part)))
+    go Left e = (
+      begins ++ part ∷ [],
+      zip_push R (left_pins (take i pins)) begins pin part zip (left e),
+      second ∙ ap (λ x. x ++ part) first ∙ append_assoc old (joined begins) part ∙ ap (λ x. old ++ x) (sym (joined_push begins part)),
+    )
     go Right e = (begins, rw append-nil zip, second ∙ ap (λ x. mid ++ x) (right e) ∙ append-nil mid ∙ first)
 
 -- one more element

@@ -1,14 +1,8 @@
-use Rattle.std.proofs.Common.{◌≡◌, ℕ, suc, ◌+◌, ◌<◌, ◌≤◌, inl, inr, List, [], ◌∷◌, ◌++◌, Bool, false, Some, get_or, set, length, slice_get, slice_index, slice_index_or, drop, arith, refl, sym, ap, ◌∙◌}
-use Rattle.std.specs.List.{enumerate_from}
-use Rattle.std.proofs.lemmas.Bool.{cases_eq}
-use Rattle.std.proofs.lemmas.List.{get_or-set_same, get_or-set_other, drop_all}
+use Rattle.std.proofs.Common.{◌≡◌, ℕ, ◌<◌, List, [], ◌∷◌, ◌++◌, get_or, set, length, refl, sym}
 use Rattle.std.proofs.lemmas.Option.{get_or_from_slice_get, slice_get-get_or}
-use Rattle.std.proofs.Common.{drop-cons, add-one}
 use Rattle.std_blocks.specs.declared.value.Value.{Value}
 use Rattle.power_flow.specs.declared.state.Slot.{Slot}
 use Rattle.power_flow.specs.declared.state.Slot.TheVariants.{Variable}
-use Rattle.power_flow.specs.declared.source.Source.{Source}
-use Rattle.power_flow.specs.declared.source.Source.TheVariants as source
 use Rattle.power_flow.specs.Meaning.{stored}
 
 -- what is read within a list is there whatever is read beyond it
@@ -18,4 +12,3 @@ read_there xs k d lt = sym (get_or_from_slice_get xs k (get_or xs k d) (get_or x
 pub stored-append : (slots : List Slot) (xs ys : List (ℕ × Value)) → stored slots (xs ++ ys) ≡ stored (stored slots xs) ys
 stored-append slots [] ys = refl
 stored-append slots (x ∷ xs) ys = stored-append (set slots x.0 (Variable x.1)) xs ys
-

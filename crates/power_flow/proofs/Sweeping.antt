@@ -1,19 +1,17 @@
 -- A pass through the columns of a network: what the states of the rows say after each element.
-use Rattle.std.proofs.Common.{◌≡◌, ℕ, zero, suc, ◌+◌, ◌-◌, ◌<◌, ◌≤◌, ◌⊎◌, ◌↔◌, inl, inr, List, [], ◌∷◌, Bool, true, false, Some, IsTrue, Any, Contains, slice_get, length, set, length-set, arith, refl, sym, ap, ◌∙◌, subst}
+use Rattle.std.proofs.Common.{◌≡◌, ℕ, ◌+◌, ◌-◌, ◌<◌, ◌≤◌, ◌⊎◌, ◌↔◌, inl, inr, List, [], ◌∷◌, Bool, true, false, Some, IsTrue, Any, Contains, slice_get, length, arith, refl, sym, ap, ◌∙◌, subst}
 use Rattle.std.proofs.lemmas.Bool.{cases_eq, cases_lt}
-use Rattle.std.proofs.lemmas.List.{get_or-set_same, get_or-set_other}
 use Rattle.ladder_text.specs.declared.place.Place.{Place}
 use Rattle.ladder_text.specs.declared.drawn_box.DrawnBox.{DrawnBox}
-use Rattle.ladder_text.specs.declared.drawn_box.DrawnPin.{DrawnPin}
 use Rattle.ladder_text.specs.declared.drawn_box.Side.TheVariants.{Left, Right}
 use Rattle.network.specs.declared.element.Element.{Element}
 use Rattle.network.specs.declared.element.Element.TheVariants.{Wire, Join, Upright, Contact, Coil, Box}
-use Rattle.network.specs.Links.{Diagram, place, IsSymbolPlace, Gives, Takes, Stands, PassesRight, Passes}
+use Rattle.network.specs.Links.{Diagram, place, IsSymbolPlace, Gives, Takes, Stands}
 use Rattle.network.specs.Apart.{first_place, Has, IsStop}
 use Rattle.network.specs.GraphValue.{IsSoundNetwork}
 use Rattle.power_flow.specs.Power.{IsWalk, IsOn, SymbolEndsAt, EndsAt}
 use Rattle.power_flow.specs.Meaning.{bit_at}
-use Rattle.power_flow.specs.Steps.Columns.{IsLed, IsAtRail, StandsIn, IsUpright}
+use Rattle.power_flow.specs.Steps.Columns.{IsLed, StandsIn, IsUpright}
 use Rattle.power_flow.proofs.PowerLemmas.{on_source, on_step}
 use Rattle.power_flow.proofs.Lists.{Contains-slice_get, any_at, any_found}
 use Rattle.power_flow.proofs.Lists.{some_same}
@@ -128,9 +126,9 @@ module _ (d : Diagram) (top count : ℕ) (conducts : ℕ → Bool) (IsSource : P
   before_row i j e f at at' column less = elim (cases_lt i j) [
     | inl lt ↦ lt
     | inr ge ↦ elim (cases_eq i j) [
-        | inl same ↦ let row = ap (λ x. (first_place x).row) (same_at i j e f at at' same) in absurd (omega arith)
-        | inr ne ↦ let back = order_row j i f e (omega arith) at' at (sym column) in absurd (omega arith)
-      ]
+      | inl same ↦ let row = ap (λ x. (first_place x).row) (same_at i j e f at at' same) in absurd (omega arith)
+      | inr ne ↦ let back = order_row j i f e (omega arith) at' at (sym column) in absurd (omega arith)
+    ]
   ]
 
   gives_column : (k : ℕ) (e : Element) (q : Place) → slice_get d.elements k ≡ Some e → Gives e q → (first_place e).column ≤ q.column
@@ -283,9 +281,9 @@ module _ (d : Diagram) (top count : ℕ) (conducts : ℕ → Bool) (IsSource : P
       elim (knows.gave found.0 found.1 led.from lt found.2 found.3 needed) [
         | inl pending ↦ absurd (not_pending n f led.from at (sym begins ∙ led.column) pending)
         | inr known ↦ (
-            λ on. (led.from, record { row = led.row; column = led.column; gives = inr led.gives; takes = any_at (λ e. Takes e p) d.elements n f at takes }, known.0 (sym row_same ∙ on)),
-            λ comes. row_same ∙ known.1 (same_out led.from comes.0 (comes.1.row) led.row (comes.1.column) led.column comes.2),
-          )
+          λ on. (led.from, record { row = led.row; column = led.column; gives = inr led.gives; takes = any_at (λ e. Takes e p) d.elements n f at takes }, known.0 (sym row_same ∙ on)),
+          λ comes. row_same ∙ known.1 (same_out led.from comes.0 (comes.1.row) led.row (comes.1.column) led.column comes.2),
+        )
       ]
     where
       same_out : (a b : Place) → p.row ≡ b.row → p.row ≡ a.row → p.column ≡ b.column + 1 → p.column ≡ a.column + 1 → GoesOn b → GoesOn a
@@ -303,15 +301,15 @@ module _ (d : Diagram) (top count : ℕ) (conducts : ℕ → Bool) (IsSource : P
             let P : Element → Type 0 = λ e. Stands e (place pending.row q.column) in
             absurd (none (place pending.row q.column) (subst P is pending.stands))
         | inr ne ↦ record {
-            index = pending.index;
-            from = omega arith;
-            element = pending.element;
-            at = pending.at;
-            row = pending.row;
-            stands = pending.stands;
-            below = pending.below;
-            each = pending.each;
-          }
+          index = pending.index;
+          from = omega arith;
+          element = pending.element;
+          at = pending.at;
+          row = pending.row;
+          stands = pending.stands;
+          below = pending.below;
+          each = pending.each;
+        }
       ]
 
   -- between the places of an upright that goes on there are only its own
@@ -470,10 +468,13 @@ module _ (d : Diagram) (top count : ℕ) (conducts : ℕ → Bool) (IsSource : P
           let whole = across q part.0 far in
           let P : Place → Type 0 = λ w. Coming w ↔ On w in
           let is_on = coming_on n f (place row column) at (inr (inl (symbol.takes (place row column) (refl, omega arith, omega arith)))) (inr (inl (symbol.given (place row column) (refl, omega arith, omega arith)))) (symbol.stands (place row column)) in (
-            λ on. let s = state.0 (sym same ∙ on) in (whole.0 (is_on.0 s.0), λ k ends.
-                let there = sound.apart.elements n k f ends.0 q at ends.1 (inr (inl gives)) (ends_has ends.0 q ends.2) in
-                let Q : ℕ → Type 0 = λ i. IsTrue (conducts i) in
-                subst Q there s.1),
+            λ on. let s = state.0 (sym same ∙ on) in (
+              whole.0 (is_on.0 s.0),
+              λ k ends.
+                  let there = sound.apart.elements n k f ends.0 q at ends.1 (inr (inl gives)) (ends_has ends.0 q ends.2) in
+                  let Q : ℕ → Type 0 = λ i. IsTrue (conducts i) in
+                  subst Q there s.1,
+            ),
             λ out. same ∙ state.1 (is_on.1 (whole.1 out.0), out.1 n (f, at, symbol.ended q part.0 far)),
           )
 
@@ -620,15 +621,15 @@ module _ (d : Diagram) (top count : ℕ) (conducts : ℕ → Bool) (IsSource : P
                   ];
                 }
             | inr ne ↦ record {
-                index = pending.index;
-                from = omega arith;
-                element = pending.element;
-                at = pending.at;
-                row = pending.row;
-                stands = pending.stands;
-                below = pending.below;
-                each = pending.each;
-              }
+              index = pending.index;
+              from = omega arith;
+              element = pending.element;
+              at = pending.at;
+              row = pending.row;
+              stands = pending.stands;
+              below = pending.below;
+              each = pending.each;
+            }
           ]
 
       within_gave : Gave (n + 1) mid
@@ -763,15 +764,15 @@ module _ (d : Diagram) (top count : ℕ) (conducts : ℕ → Bool) (IsSource : P
                   | inr ge ↦ inr (here.1, ge, omega arith)
                 ]
             | inr ne ↦ inl (record {
-                index = pending.index;
-                from = omega arith;
-                element = pending.element;
-                at = pending.at;
-                row = pending.row;
-                stands = pending.stands;
-                below = pending.below;
-                each = pending.each;
-              })
+              index = pending.index;
+              from = omega arith;
+              element = pending.element;
+              at = pending.at;
+              row = pending.row;
+              stands = pending.stands;
+              below = pending.below;
+              each = pending.each;
+            })
           ]
 
       lowest_gave : Gave (n + 1) new
@@ -782,12 +783,12 @@ module _ (d : Diagram) (top count : ℕ) (conducts : ℕ → Bool) (IsSource : P
             let order = up.order in
             inr (out_in q (ap (λ (w : Place). w.column) is) (omega arith) (omega arith))
         | inr ne ↦ elim (cases_lt q.row first) [
-            | inl above ↦ apart_from (omega arith) (inl above)
-            | inr ge ↦ elim (cases_lt p.row q.row) [
-                | inl below ↦ apart_from (omega arith) (inr below)
-                | inr le ↦ inr (out_in q (column_in j e q (omega arith) at' gives needed ge le) ge le)
-              ]
+          | inl above ↦ apart_from (omega arith) (inl above)
+          | inr ge ↦ elim (cases_lt p.row q.row) [
+            | inl below ↦ apart_from (omega arith) (inr below)
+            | inr le ↦ inr (out_in q (column_in j e q (omega arith) at' gives needed ge le) ge le)
           ]
+        ]
       ]
         where
           known_then : at_row new top q ≡ at_row rows top q → (at_row rows top q ≡ true) ↔ GoesOn q → (at_row new top q ≡ true) ↔ GoesOn q
@@ -798,9 +799,9 @@ module _ (d : Diagram) (top count : ℕ) (conducts : ℕ → Bool) (IsSource : P
               let ge = (in_rows j e q at' (inr (inl gives))).0 in
               elim (knows.gave j e q less at' gives (weaker_needed d n q needed)) [
                 | inl pending ↦ elim (pending_split q pending) [
-                    | inl more ↦ inl more
-                    | inr in' ↦ let a = in'.1 in let b = in'.2 in absurd (elim out [ inl x ↦ omega arith | inr x ↦ omega arith ])
-                  ]
+                  | inl more ↦ inl more
+                  | inr in' ↦ let a = in'.1 in let b = in'.2 in absurd (elim out [ inl x ↦ omega arith | inr x ↦ omega arith ])
+                ]
                 | inr known ↦ inr (known_then (outside q ge out ∙ kept q ge (free j e q less at' gives needed)) known)
               ]
 
@@ -840,9 +841,9 @@ module _ (d : Diagram) (top count : ℕ) (conducts : ℕ → Bool) (IsSource : P
             let order = up.order in
             inr (decided_in (first_place e) (ap (λ (w : Place). w.column) there) (omega arith) (omega arith))
         | inr ne ↦ elim (knows.decided k e (omega arith) at') [
-            | inl pending ↦ elim (pending_split (first_place e) pending) [ inl more ↦ inl more | inr in' ↦ inr (decided_in (first_place e) in'.0 in'.1 in'.2) ]
-            | inr known ↦ inr known
-          ]
+          | inl pending ↦ elim (pending_split (first_place e) pending) [ inl more ↦ inl more | inr in' ↦ inr (decided_in (first_place e) in'.0 in'.1 in'.2) ]
+          | inr known ↦ inr known
+        ]
       ]
 
       pub lowest_known : Knows (n + 1) new

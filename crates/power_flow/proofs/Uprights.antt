@@ -1,5 +1,5 @@
 -- The places of an upright are elements one after the other.
-use Rattle.std.proofs.Common.{◌≡◌, ◌⊎◌, inl, inr, ℕ, zero, suc, ◌+◌, ◌-◌, ◌<◌, ◌≤◌, List, Option, Some, None, Any, slice_get, length, refl, sym, ap, ◌∙◌, subst, arith}
+use Rattle.std.proofs.Common.{◌≡◌, ◌⊎◌, inl, inr, ℕ, ◌+◌, ◌-◌, ◌≤◌, Some, slice_get, sym, ap, ◌∙◌, subst, arith}
 use Rattle.std.proofs.lemmas.Bool.{cases_eq, cases_lt}
 use Rattle.std.proofs.lemmas.Option.{slice_get_within}
 use Rattle.ladder_text.specs.declared.place.Place.{Place}
@@ -9,7 +9,7 @@ use Rattle.network.specs.Links.{Diagram, Stands, place}
 use Rattle.network.specs.Apart.{first_place, Precedes}
 use Rattle.network.specs.GraphValue.{IsSoundNetwork}
 use Rattle.power_flow.specs.Steps.Columns.{StandsIn, IsUpright}
-use Rattle.power_flow.proofs.Lists.{any_at, any_found, some_same}
+use Rattle.power_flow.proofs.Lists.{any_found, some_same}
 use Rattle.power_flow.proofs.BoxesSources.{element_at}
 
 -- an upright begins where it stands

@@ -1,18 +1,15 @@
 -- Which places are ON: by the place on the left, and within an upright by all of its rows.
-use Rattle.std.proofs.Common.{◌≡◌, ℕ, zero, suc, ◌+◌, ◌-◌, ◌<◌, ◌≤◌, ◌⊎◌, ◌↔◌, inl, inr, List, [], ◌∷◌, Bool, Some, IsTrue, Any, Contains, slice_get, arith, refl, sym, ap, ◌∙◌, subst}
+use Rattle.std.proofs.Common.{◌≡◌, ℕ, zero, suc, ◌+◌, ◌-◌, ◌≤◌, ◌⊎◌, inl, inr, List, [], ◌∷◌, Bool, Some, IsTrue, Any, slice_get, arith, refl, sym, ap, ◌∙◌, subst}
 use Rattle.std.proofs.lemmas.Bool.{cases_lt}
 use Rattle.ladder_text.specs.declared.place.Place.{Place}
-use Rattle.ladder_text.specs.declared.drawn_box.DrawnBox.{DrawnBox}
-use Rattle.ladder_text.specs.declared.drawn_box.DrawnPin.{DrawnPin}
-use Rattle.ladder_text.specs.declared.drawn_box.Side.TheVariants.{Left, Right}
 use Rattle.network.specs.declared.element.Element.{Element}
 use Rattle.network.specs.declared.element.Element.TheVariants.{Wire, Join, Upright, Contact, Coil, Box}
-use Rattle.network.specs.Links.{Diagram, place, Gives, Takes, Stands, PassesRight, Passes}
-use Rattle.network.specs.Apart.{first_place, Has, IsStop}
+use Rattle.network.specs.Links.{Diagram, place, Stands, PassesRight}
+use Rattle.network.specs.Apart.{Has, IsStop}
 use Rattle.power_flow.specs.Power.{IsWalk, AllConduct, IsOn, SymbolEndsAt, EndsAt}
 use Rattle.power_flow.specs.Steps.Columns.{StandsIn, IsUpright}
-use Rattle.power_flow.proofs.PowerLemmas.{on_source, on_step}
-use Rattle.power_flow.proofs.Lists.{any_at, any_found}
+use Rattle.power_flow.proofs.PowerLemmas.{on_step}
+use Rattle.power_flow.proofs.Lists.{any_found}
 use Rattle.power_flow.proofs.Lists.{some_same}
 
 pub same_place : (p q : Place) → p.row ≡ q.row → p.column ≡ q.column → p ≡ q
@@ -97,13 +94,13 @@ module _ (d : Diagram) (conducts : ℕ → Bool) (IsSource : Place → Type 0)
           let stands : StandsIn d q.row c = subst P here upright.from in
           elim upright.row [
             | inl down ↦ elim (up_or_first q.row p.row down ge) [
-                | inl in' ↦ walk_upright q passed walk.1 conduct.1 here in' (omega arith)
-                | inr out ↦ absurd (up.above q.row out stands)
-              ]
+              | inl in' ↦ walk_upright q passed walk.1 conduct.1 here in' (omega arith)
+              | inr out ↦ absurd (up.above q.row out stands)
+            ]
             | inr rise ↦ elim (down_or_last q.row p.row rise le) [
-                | inl in' ↦ walk_upright q passed walk.1 conduct.1 here (omega arith) in'
-                | inr out ↦ let R : ℕ → Type 0 = λ row. StandsIn d row c in absurd (up.below (subst R out stands))
-              ]
+              | inl in' ↦ walk_upright q passed walk.1 conduct.1 here (omega arith) in'
+              | inr out ↦ let R : ℕ → Type 0 = λ row. StandsIn d row c in absurd (up.below (subst R out stands))
+            ]
           ]
     ]
       where

@@ -1,11 +1,10 @@
 -- How many waiting places a ladder has.
-use Rattle.std.specs.Prelude.{◌≡◌, ◌↔◌, ℕ, List, [], ◌∷◌, Option, Some, None, Any, Contains, slice_get, length, map, max}
-use Rattle.std.specs.List.{AllZip, filter_map}
+use Rattle.std.specs.Prelude.{◌≡◌, ℕ, List, [], ◌∷◌, Option, Some, None, length, map, max}
+use Rattle.std.specs.List.{filter_map}
 use Rattle.ladder_text.specs.declared.coil.Coil.{Coil as DrawnCoil}
 use Rattle.ladder_text.specs.declared.drawn_box.DrawnBox.{DrawnBox}
 use Rattle.network.specs.declared.element.Element.{Element}
 use Rattle.network.specs.declared.element.Element.TheVariants.{Wire, Join, Upright, Contact, Coil, Box}
-use Rattle.network.specs.Links.{Diagram}
 use Rattle.power_flow.specs.LadderValue.{LadderValue}
 
 -- the greatest of some numbers, 0 where there is none

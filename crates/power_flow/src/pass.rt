@@ -102,13 +102,7 @@ fn show_outputs(bound: &BoundBox, made: &Instance, rows: &mut [bool])
 }
 
 /// Steps a box by the states of the rows on its left, and shows its outputs in those on its right.
-fn step_box(
-    bound: &BoundBox,
-    made: &mut Instance,
-    slots: &[Slot],
-    rows: &mut [bool],
-    dt: u32,
-)
+fn step_box(bound: &BoundBox, made: &mut Instance, slots: &[Slot], rows: &mut [bool], dt: u32)
     requires { All (λ o. o.row < length rows.old) bound.now.outputs.items }
     ensures made { made.new ≡ box_result bound.now slots.now dt rows.old }
     ensures shown { AreShown bound.now (box_result bound.now slots.now dt rows.old) rows.old rows.new }

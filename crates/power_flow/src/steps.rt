@@ -68,16 +68,7 @@ fn first_row(elements: &[Element], k: usize, at: Place) -> usize
 {
     let mut number = k;
     let mut row = at.row;
-    while number > 0
-        && row > 0
-        && stands_at(
-            elements,
-            number - 1,
-            Place {
-                row: row - 1,
-                ..at
-            },
-        ) {
+    while number > 0 && row > 0 && stands_at(elements, number - 1, Place { row: row - 1, ..at }) {
         number -= 1;
         row -= 1;
     }
@@ -99,10 +90,7 @@ fn joining(elements: &[Element], k: usize, top: usize, at: Place) -> Option<Step
         return None;
     }
     let first = first_row(elements, k, at);
-    Some(Step::Upright(
-        first.saturating_sub(top),
-        at.row.saturating_sub(top),
-    ))
+    Some(Step::Upright(first.saturating_sub(top), at.row.saturating_sub(top)))
 }
 
 /// Adds a step, if there is one.
@@ -271,16 +259,7 @@ fn push_elements(
 {
     let mut numbers = Numbers { coils: 0, boxes: 0 };
     for k in 0..elements.len() {
-        push_element(
-            steps,
-            rails,
-            declarations,
-            elements,
-            ends,
-            top,
-            k,
-            numbers,
-        )?;
+        push_element(steps, rails, declarations, elements, ends, top, k, numbers)?;
         note_element(ends, top, elements, k);
         numbers = numbers.after(&elements[k]);
     }

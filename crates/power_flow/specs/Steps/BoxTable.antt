@@ -1,5 +1,5 @@
 -- What the names of a drawing with boxes are bound to.
-use Rattle.std.specs.Prelude.{◌≡◌, ℕ, ◌-◌, ◌<◌, List, [], ◌∷◌, Option, Some, None, Contains, MatchOption, slice_get}
+use Rattle.std.specs.Prelude.{◌≡◌, ℕ, ◌-◌, ◌<◌, List, [], ◌∷◌, Option, Some, None, MatchOption, slice_get}
 use Rattle.std.specs.List.{AllZip, filter_map}
 use Rattle.std.specs.Option.{option_and_then}
 use Rattle.ladder_text.specs.declared.place.Place.{Place}
@@ -7,7 +7,6 @@ use Rattle.ladder_text.specs.declared.drawn_box.DrawnBox.{DrawnBox}
 use Rattle.ladder_text.specs.declared.drawn_box.DrawnPin.{DrawnPin}
 use Rattle.ladder_text.specs.declared.drawn_box.Side.{Side}
 use Rattle.ladder_text.specs.declared.drawn_box.Side.TheVariants.{Left, Right}
-use Rattle.network.specs.declared.element.Element.TheVariants.{Box}
 use Rattle.network.specs.Links.{Diagram}
 use Rattle.std_blocks.specs.declared.block_type.BlockType.{BlockType}
 use Rattle.std_blocks.specs.declared.pin.Field.TheVariants.{Bit, Int, Time}

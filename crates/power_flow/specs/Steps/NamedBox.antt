@@ -8,7 +8,7 @@ use Rattle.std_blocks.specs.Pins.{pin_of, output}
 use Rattle.ladder_text.specs.declared.drawn_box.DrawnBox.{DrawnBox}
 use Rattle.ladder_text.specs.declared.drawn_box.DrawnPin.{DrawnPin}
 use Rattle.ladder_text.specs.declared.drawn_box.Operand.{Operand}
-use Rattle.ladder_text.specs.declared.drawn_box.Side.TheVariants.{Left, Right}
+use Rattle.ladder_text.specs.declared.drawn_box.Side.TheVariants.{Right}
 use Rattle.power_flow.specs.declared.declarations.Declaration.{Declaration}
 use Rattle.power_flow.specs.declared.declarations.Declared.TheVariants as declared
 use Rattle.power_flow.specs.declared.bound_box.BoundBox.{BoundBox}

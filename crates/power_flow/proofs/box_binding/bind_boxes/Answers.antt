@@ -1,4 +1,4 @@
-use Rattle.std.proofs.Common.{ℕ, subst, ◌≡◌, [], ◌∷◌, ◌+◌, ◌++◌, List, All, take, length, sym, ap, ◌∙◌}
+use Rattle.std.proofs.Common.{ℕ, subst, [], ◌∷◌, ◌+◌, ◌++◌, List, All, take, length, sym, ap, ◌∙◌}
 use Rattle.std.proofs.lemmas.List.{length-append, take_all}
 use Rattle.network.specs.declared.element.Element.{Element}
 use Rattle.power_flow.specs.Steps.NamedBox.{IsNamedBox, ArePinsIn, AreOutputsIn}

@@ -1,4 +1,4 @@
-use Rattle.std.proofs.Common.{◌<◌, ap, subst, sym}
+use Rattle.std.proofs.Common.{◌<◌}
 use Rattle.std.proofs.lemmas.List.Elements.{All-append}
 use Rattle.power_flow.specs.declared.bound_box.BoundOutput.{BoundOutput}
 use Rattle.power_flow.specs.Steps.BoxTable.{IsBoundOutput, output_if}

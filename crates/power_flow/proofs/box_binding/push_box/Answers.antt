@@ -1,12 +1,10 @@
-use Rattle.std.proofs.Common.{◌≡◌, [], ◌∷◌, ◌+◌, ◌<◌, ◌++◌, List, All, length, subst, ap, sym, ◌∙◌, arith, refl}
+use Rattle.std.proofs.Common.{[], ◌∷◌, ◌<◌, All, length, ap, arith}
 use Rattle.std.proofs.lemmas.List.{append-nil, length-append}
 use Rattle.std.proofs.lemmas.List.Elements.{All-head, All-push}
-use Rattle.network.specs.declared.element.Element.{Element}
-use Rattle.network.specs.declared.element.Element.TheVariants.{Box}
 use Rattle.power_flow.specs.declared.bound_box.BoundBox.{BoundBox}
 use Rattle.power_flow.specs.declared.bound_box.BoundOutput.{BoundOutput}
 use Rattle.power_flow.specs.Steps.NamedBox.{IsNamedBox, ArePinsIn}
-use Rattle.power_flow.specs.Steps.BoxTable.{IsBoundBox, boxes_of}
+use Rattle.power_flow.specs.Steps.BoxTable.{IsBoundBox}
 use Rattle.power_flow.proofs.BoxesBinding.{none_pushed, zip_push}
 use Rattle.power_flow.proofs.box_binding.push_box.Goals as goal
 

@@ -1,14 +1,8 @@
-use Rattle.std.proofs.Common.{◌≡◌, ◌≤◌, ◌<◌, ◌+◌, ℕ, List, All, length, refl, sym, ap, ◌∙◌, subst}
-use Rattle.network.specs.declared.element.Element.{Element}
-use Rattle.network.specs.Apart.{AreOnPage}
+use Rattle.std.proofs.Common.{◌≡◌, ◌<◌, ℕ, All, length, sym, ap, ◌∙◌}
 use Rattle.network.specs.GraphValue.{diagram}
-use Rattle.power_flow.specs.declared.bound_box.BoundBox.{BoundBox}
-use Rattle.power_flow.specs.declared.step.Step.{Step}
 use Rattle.power_flow.specs.declared.step.BoundCoil.{BoundCoil}
-use Rattle.power_flow.specs.Steps.Circuit.{IsStepIn, bound_coils}
-use Rattle.power_flow.specs.Steps.RowEnds.{AreRows}
-use Rattle.power_flow.specs.Steps.NamedBox.{ArePinsIn, IsNamedBox}
-use Rattle.power_flow.specs.Waiting.{boxes_of, coils_of}
+use Rattle.power_flow.specs.Steps.NamedBox.{IsNamedBox}
+use Rattle.power_flow.specs.Waiting.{coils_of}
 use Rattle.power_flow.proofs.BindingLemmas.{named_box_of}
 use Rattle.power_flow.proofs.BoxesTable.{all_boxes, bound_boxes_are}
 use Rattle.power_flow.proofs.CircuitOf.{steps_within, coils_within, bound_coils_counted, boxes_in_rows}

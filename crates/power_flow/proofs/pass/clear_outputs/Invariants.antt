@@ -1,4 +1,4 @@
-use Rattle.std.proofs.Common.{◌≡◌, ℕ, ◌<◌, Any, false, take, length}
+use Rattle.std.proofs.Common.{◌≡◌, ℕ, false, take, length}
 use Rattle.power_flow.specs.Meaning.{bit_at}
 use Rattle.power_flow.specs.Steps.BoxSteps.{HasOutput}
 use Rattle.power_flow.proofs.pass.clear_outputs.Given as goal

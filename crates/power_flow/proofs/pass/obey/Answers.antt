@@ -1,4 +1,4 @@
-use Rattle.std.proofs.Common.{Some, refl, sym, ap, ◌∙◌, slice_get, set}
+use Rattle.std.proofs.Common.{Some, refl, sym, ap, ◌∙◌, set}
 use Rattle.std.proofs.lemmas.Option.{slice_get-get_or}
 use Rattle.power_flow.proofs.pass.obey.Goals as goal
 

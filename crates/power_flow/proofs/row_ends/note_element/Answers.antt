@@ -1,5 +1,5 @@
-use Rattle.std.proofs.Common.{◌≡◌, ◌≤◌, ◌<◌, ◌+◌, ℕ, Some, slice_get, length, inl, inr, refl, sym, ap, ◌∙◌, arith}
-use Rattle.network.specs.declared.element.Element.TheVariants.{Wire, Join, Upright, Contact, Coil, Box}
+use Rattle.std.proofs.Common.{◌+◌, length, inl, inr, refl, arith}
+use Rattle.network.specs.declared.element.Element.TheVariants.{Upright, Contact, Coil, Box}
 use Rattle.network.specs.Links.{place}
 use Rattle.network.specs.GraphValue.{diagram}
 use Rattle.power_flow.proofs.Leading.{symbol_more, none_more, box_more, in_rows, pins_in}
@@ -31,7 +31,7 @@ returns-in-Contact-clause-ends c = λ rails are.
     let there = at_number c.args.elements.now c.args.k c.index-elements-k.result (Contact contact) c.requires.within c.index-elements-k.is c.in-Contact.is in
     let row = in_rows c.args.elements.now c.args.top (length c.args.ends.now) c.requires.rows c.args.k (Contact contact) (place contact.row contact.column) there (inl refl) in
     rw c.note.ensures (symbol_more (diagram rails c.args.elements.now) c.args.top c.args.k c.args.ends.now (Contact contact) (place contact.row (contact.column + 2)) there row.0 row.1
-      (λ p gives. (gives.0, gives.2)) (refl, omega arith, omega arith) are)
+    (λ p gives. (gives.0, gives.2)) (refl, omega arith, omega arith) are)
 
 pub overflow_add-coil : goal.overflow_add-coil
 overflow_add-coil c =
@@ -58,7 +58,7 @@ returns-in-Coil-clause-ends c = λ rails are.
     let there = at_number c.args.elements.now c.args.k c.index-elements-k.result (Coil coil) c.requires.within c.index-elements-k.is c.in-Coil.is in
     let row = in_rows c.args.elements.now c.args.top (length c.args.ends.now) c.requires.rows c.args.k (Coil coil) (place coil.row coil.column) there (inl refl) in
     rw c.note-in-Coil.ensures (symbol_more (diagram rails c.args.elements.now) c.args.top c.args.k c.args.ends.now (Coil coil) (place coil.row (coil.column + 2)) there row.0 row.1
-      (λ p gives. (gives.0, gives.2)) (refl, omega arith, omega arith) are)
+    (λ p gives. (gives.0, gives.2)) (refl, omega arith, omega arith) are)
 
 pub note_pins-requires-clause-rows : goal.note_pins-requires-clause-rows
 note_pins-requires-clause-rows c =

@@ -1,5 +1,4 @@
-use Rattle.std.proofs.Common.{◌≡◌, ◌<◌, Some, length, slice_get, get_or, sym, ap, ◌∙◌, arith}
-use Rattle.std.proofs.lemmas.Option.{slice_get-get_or}
+use Rattle.std.proofs.Common.{sym, arith}
 use Rattle.power_flow.proofs.Leading.{pins_more_left, pins_more_right, pin_at}
 use Rattle.power_flow.proofs.row_ends.note_pins.Goals as goal
 use Rattle.power_flow.proofs.row_ends.note_pins.Goals.{in-Left, in-Right}
@@ -32,11 +31,11 @@ loop-pin-preserved c =
     let long = c.loop-pin.invariant.long in
     elim c.match-pin.branch [
       | in-Left w ↦ record {
-          ends = λ d k are. rw w.ends-is (pins_more_left d c.args.top k c.loop-pin.ends b n pin there w.in-Left.is (c.loop-pin.invariant.ends d k are));
-          long = rw w.ends-is long;
-        }
+        ends = λ d k are. rw w.ends-is (pins_more_left d c.args.top k c.loop-pin.ends b n pin there w.in-Left.is (c.loop-pin.invariant.ends d k are));
+        long = rw w.ends-is long;
+      }
       | in-Right w ↦ record {
-          ends = λ d k are. rw (w.ends-is, w.note.ensures) (pins_more_right d c.args.top k c.loop-pin.ends b n pin there w.in-Right.is low (omega arith) (c.loop-pin.invariant.ends d k are));
-          long = (let same = c.match-pin.auto.ends in omega arith);
-        }
+        ends = λ d k are. rw (w.ends-is, w.note.ensures) (pins_more_right d c.args.top k c.loop-pin.ends b n pin there w.in-Right.is low (omega arith) (c.loop-pin.invariant.ends d k are));
+        long = (let same = c.match-pin.auto.ends in omega arith);
+      }
     ]

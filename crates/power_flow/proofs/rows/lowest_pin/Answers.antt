@@ -1,4 +1,4 @@
-use Rattle.std.proofs.Common.{◌≡◌, ◌<◌, ◌≤◌, Some, length, slice_get, get_or, sym, ap, ◌∙◌, arith}
+use Rattle.std.proofs.Common.{arith}
 use Rattle.std.proofs.lemmas.Option.{slice_get_within}
 use Rattle.power_flow.proofs.Leading.{pin_at}
 use Rattle.power_flow.proofs.RowLemmas.{pins_below, pins_reached, box_below, box_reached}

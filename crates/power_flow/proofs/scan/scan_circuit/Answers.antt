@@ -1,4 +1,4 @@
-use Rattle.std.proofs.Common.{refl, sym, ap, arith, ◌∙◌}
+use Rattle.std.proofs.Common.{refl, arith}
 use Rattle.power_flow.specs.Steps.Passing.{pass_of}
 use Rattle.power_flow.proofs.BoxesSources.{room}
 use Rattle.power_flow.proofs.BoxesMeaning.{circuit_meaning}

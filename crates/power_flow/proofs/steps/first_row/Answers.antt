@@ -1,4 +1,4 @@
-use Rattle.std.proofs.Common.{◌≡◌, ◌≤◌, ◌-◌, ℕ, Some, slice_get, Any, inl, inr, sym, ap, ◌∙◌, subst, arith, true, false}
+use Rattle.std.proofs.Common.{◌-◌, ℕ, Any, inl, inr, sym, subst, arith}
 use Rattle.std.proofs.lemmas.Bool.{cases_eq}
 use Rattle.network.specs.declared.element.Element.{Element}
 use Rattle.network.specs.Links.{Stands, place}

@@ -1,4 +1,4 @@
-use Rattle.std.proofs.Common.{◌≡◌, ℕ, ◌≤◌, List, Some, Any, slice_get}
+use Rattle.std.proofs.Common.{◌≡◌, ℕ, ◌≤◌, Some, Any, slice_get}
 use Rattle.network.specs.declared.element.Element.{Element}
 use Rattle.network.specs.Links.{Stands, place}
 use Rattle.power_flow.proofs.steps.first_row.Given as goal

@@ -1,6 +1,5 @@
-use Rattle.std.proofs.Common.{◌≡◌, ◌≤◌, ◌<◌, ◌+◌, ◌-◌, Some, slice_get, length, take, inl, refl, sym, ap, ◌∙◌, arith}
+use Rattle.std.proofs.Common.{length, sym, ap, ◌∙◌, arith}
 use Rattle.network.specs.declared.element.Element.TheVariants.{Wire, Join, Upright, Contact, Coil, Box}
-use Rattle.network.specs.Links.{place}
 use Rattle.network.specs.Apart.{first_place}
 use Rattle.network.specs.GraphValue.{diagram}
 use Rattle.power_flow.specs.Steps.Sources.{name_source}
@@ -22,14 +21,18 @@ pub beginning-requires-in-Coil : goal.beginning-requires-in-Coil
 beginning-requires-in-Coil c = (first_in_rows c.args.elements.now c.args.top (length c.args.ends.now) c.args.k c.index-elements-k.result c.first_place-at.result c.requires.rows c.requires.within c.index-elements-k.is c.first_place-at.ensures).1
 
 pub joining-requires-clause-stands : goal.joining-requires-clause-stands
-joining-requires-clause-stands c =
-    (Join c.in-Join.field-0, at_number c.args.elements.now c.args.k c.index-elements-k.result (Join c.in-Join.field-0) c.requires.within c.index-elements-k.is c.in-Join.is,
-      sym (c.first_place-at.ensures ∙ ap first_place c.in-Join.is))
+joining-requires-clause-stands c = (
+  Join c.in-Join.field-0,
+  at_number c.args.elements.now c.args.k c.index-elements-k.result (Join c.in-Join.field-0) c.requires.within c.index-elements-k.is c.in-Join.is,
+  sym (c.first_place-at.ensures ∙ ap first_place c.in-Join.is),
+)
 
 pub joining-requires-in-Upright-clause-stands : goal.joining-requires-in-Upright-clause-stands
-joining-requires-in-Upright-clause-stands c =
-    (Upright c.in-Upright.field-0, at_number c.args.elements.now c.args.k c.index-elements-k.result (Upright c.in-Upright.field-0) c.requires.within c.index-elements-k.is c.in-Upright.is,
-      sym (c.first_place-at.ensures ∙ ap first_place c.in-Upright.is))
+joining-requires-in-Upright-clause-stands c = (
+  Upright c.in-Upright.field-0,
+  at_number c.args.elements.now c.args.k c.index-elements-k.result (Upright c.in-Upright.field-0) c.requires.within c.index-elements-k.is c.in-Upright.is,
+  sym (c.first_place-at.ensures ∙ ap first_place c.in-Upright.is),
+)
 
 pub push_pins-requires : goal.push_pins-requires
 push_pins-requires c = rw c.drawn.ensures (λ pin in'.

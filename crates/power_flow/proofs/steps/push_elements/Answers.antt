@@ -1,4 +1,4 @@
-use Rattle.std.proofs.Common.{◌≡◌, ◌≤◌, ◌<◌, ◌+◌, [], ◌∷◌, Some, slice_get, length, take, max, min, inl, refl, sym, ap, ◌∙◌, arith}
+use Rattle.std.proofs.Common.{◌+◌, [], ◌∷◌, length, take, sym, ap, ◌∙◌, arith}
 use Rattle.std.proofs.lemmas.List.{length-take, length-append}
 use Rattle.network.specs.GraphValue.{diagram}
 use Rattle.power_flow.specs.Waiting.{coil_of, box_of, coils_of, boxes_of}

@@ -1,9 +1,9 @@
-use Rattle.std.proofs.Common.{◌≡◌, ◌≤◌, ◌<◌, ◌+◌, ℕ, Some, slice_get, length, refl, sym, ap, ◌∙◌, subst, take, List}
+use Rattle.std.proofs.Common.{sym, ap, subst, List}
 use Rattle.std.proofs.lemmas.List.{take_all}
 use Rattle.std.specs.List.{AllZip}
 use Rattle.ladder_text.specs.declared.drawn_box.DrawnPin.{DrawnPin}
 use Rattle.network.specs.GraphValue.{diagram}
-use Rattle.power_flow.specs.Steps.Columns.{IsLeftPinBegun, left_pins, joined}
+use Rattle.power_flow.specs.Steps.Columns.{IsLeftPinBegun, left_pins}
 use Rattle.power_flow.specs.Steps.RowEnds.{listed}
 use Rattle.power_flow.proofs.StepLemmas.{left_pins_more}
 use Rattle.power_flow.proofs.steps.push_pins.Goals as goal

@@ -1,4 +1,4 @@
-use Rattle.std.proofs.Common.{◌≡◌, ◌≤◌, ◌<◌, Some, slice_get, length, max, min, inl, refl, ap, arith}
+use Rattle.std.proofs.Common.{◌≡◌, max, min, inl, refl, ap, arith}
 use Rattle.std.proofs.lemmas.Option.{slice_get_within}
 use Rattle.ladder_text.specs.declared.place.Place.{Place}
 use Rattle.network.specs.Apart.{first_place}
