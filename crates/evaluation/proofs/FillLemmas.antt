@@ -209,8 +209,7 @@ pub filled_fits : (inputs : List FieldInput) (takes : List Take) (bindings : Lis
 filled_fits inputs takes bindings n s t l h fits = record {
   slots = h.declared l.declarations fits.slots;
   memories = ap (λ (x : StateValue). length x.memories) h.rest ∙ fits.memories;
-  waiting_gates = ap (λ (x : StateValue). x.waiting_gates) h.rest ∙ fits.waiting_gates;
-  waiting_bits = ap (λ (x : StateValue). x.waiting_bits) h.rest ∙ fits.waiting_bits;
+  waiting_links = ap (λ (x : StateValue). x.waiting_links) h.rest ∙ fits.waiting_links;
   waiting_results = ap (λ (x : StateValue). x.waiting_results) h.rest ∙ fits.waiting_results;
 }
 

@@ -36,8 +36,8 @@ same_places (x ∷ xs) (y ∷ ys) many same =
     rw (first, rest) refl
 
 -- a state that fits a ladder has the ladder's waiting places, so values and memories are all that can differ
-same_states : (s t : StateValue) → s.slots ≡ t.slots → s.memories ≡ t.memories → s.waiting_gates ≡ t.waiting_gates → s.waiting_bits ≡ t.waiting_bits → s.waiting_results ≡ t.waiting_results → s ≡ t
-same_states s t slots memories gates bits results = rw (slots, memories, gates, bits, results) refl
+same_states : (s t : StateValue) → s.slots ≡ t.slots → s.memories ≡ t.memories → s.waiting_links ≡ t.waiting_links → s.waiting_results ≡ t.waiting_results → s ≡ t
+same_states s t slots memories links results = rw (slots, memories, links, results) refl
 
 states_equal : (c : CodeValue) (a b : List StateValue) → AreStatesOf c a → AreStatesOf c b → AreSame a b → a ≡ b
 states_equal c a b one other same = same_places a b same.many (λ k s t at found.
@@ -47,7 +47,7 @@ states_equal c a b one other same = same_places a b same.many (λ k s t at found
     let x = one.each k p.0 s p.1 at in
     let y = other.each k p.0 t p.1 found in
     let is = same.each k s t at found in
-    same_states s t is.slots is.memories (x.waiting_gates ∙ sym y.waiting_gates) (x.waiting_bits ∙ sym y.waiting_bits) (x.waiting_results ∙ sym y.waiting_results))
+    same_states s t is.slots is.memories (x.waiting_links ∙ sym y.waiting_links) (x.waiting_results ∙ sym y.waiting_results))
 
 -- whole evaluations with the same contents are equal
 pub evaluations_equal : (x y : Evaluated) → IsWhole x → IsWhole y → IsSameEvaluation x y → x ≡ y

@@ -1,9 +1,8 @@
-use Rattle.std.proofs.Common.{◌≡◌, ℕ, ◌+◌, ◌≤◌, List, [], Bool, true, false, Option, Some, None, Contains, slice_get, slice_index_or, length, map, arith, refl, sym, ap, ◌∙◌}
+use Rattle.std.proofs.Common.{◌≡◌, ℕ, ◌+◌, ◌≤◌, List, [], Bool, true, false, Option, Some, None, Contains, slice_get, length, arith, refl, sym, ap, ◌∙◌}
 use Rattle.std.specs.Option.{option_and_then, option_map}
 use Rattle.std.specs.List.{before_first, after_first, position_or_len}
 use Rattle.std.proofs.lemmas.Bool.{ltb-false}
 use Rattle.std.proofs.lemmas.List.{length-take, take_all, drop_all}
-use Rattle.std.proofs.lemmas.Option.{slice_get-map, get_or_from_slice_get}
 use Rattle.network.specs.declared.element.Element.{Element}
 use Rattle.network.specs.declared.element.Element.TheVariants.{Box}
 use Rattle.power_flow.specs.declared.bind.BindKind.{BindKind}
@@ -17,9 +16,6 @@ use Rattle.power_flow.specs.Lookup.{declared_at, is_dotted}
 use Rattle.power_flow.proofs.BoxesFaults.{named_box}
 use Rattle.ladder_text.specs.declared.drawn_box.DrawnBox.{DrawnBox}
 use Rattle.power_flow.specs.Steps.Circuit.{IsNamed}
-use Rattle.power_flow.specs.declared.source.Source.{Source}
-use Rattle.power_flow.specs.declared.source.Source.TheVariants as source
-use Rattle.power_flow.specs.Steps.Sources.{element_source}
 use Rattle.power_flow.specs.Steps.NamedBox.{IsNamedBox}
 use Rattle.std.proofs.lemmas.List.Elements.{All-contains}
 
@@ -70,13 +66,6 @@ module _ (ds : List Declaration) (name : List ℕ) (fault : Declared → Option 
   pub variable_is : fault_with fault (variable_declared ds name) ≡ None → IsVariable ds name fault
   unfolding variable_declared
   variable_is h = as_found (is_dotted name) (declared_at ds (before_first is_dot name)) refl refl h
-
--- the source of an element stands at its number
-pub all_named : (ds : List Declaration) (es : List Element) (sources : List Source) → sources ≡ map (element_source ds) es
-    → (k : ℕ) (e : Element) → slice_get es k ≡ Some e → slice_index_or sources k source.Nothing ≡ element_source ds e
-all_named ds es sources same k e at =
-    let there : slice_get sources k ≡ Some (element_source ds e) = ap (λ os. slice_get os k) same ∙ slice_get-map (element_source ds) es k ∙ ap (option_map (element_source ds)) at in
-    get_or_from_slice_get sources k (element_source ds e) source.Nothing there
 
 -- the boxes of a bound network have the names that their table needs
 pub named_box_of : (ds : List Declaration) (es : List Element) (b : DrawnBox) → IsBoundNetwork ds es → Contains es (Box b) → IsNamedBox ds b

@@ -50,10 +50,10 @@ least_more f circuits k old new c lt is was made n h =
     let before = was n h in
     omega arith
 
-pub room_of : (circuits : List Circuit) (gates bits results : ℕ) → All HasShape circuits → All (λ (c : Circuit). length c.elements.items ≤ gates) circuits → All (λ (c : Circuit). length c.places.items ≤ bits) circuits
-    → All (λ (c : Circuit). length c.boxes.items ≤ results) circuits → AllByRecursion (HasRoom gates bits results) circuits
-room_of circuits gates bits results shapes most_gates most_bits most_results =
-    recursion_from_All (HasRoom gates bits results) circuits (λ k d lt. record { shape = shapes k d lt; gates_in = most_gates k d lt; bits_in = most_bits k d lt; results_in = most_results k d lt })
+pub room_of : (circuits : List Circuit) (links results : ℕ) → All HasShape circuits → All (λ (c : Circuit). length c.coils.items ≤ links) circuits
+    → All (λ (c : Circuit). length c.boxes.items ≤ results) circuits → AllByRecursion (HasRoom links results) circuits
+room_of circuits links results shapes most_links most_results =
+    recursion_from_All (HasRoom links results) circuits (λ k d lt. record { shape = shapes k d lt; links_in = most_links k d lt; results_in = most_results k d lt })
 
 abbrev pub elements_of : Circuit → List Element
 elements_of c = c.elements.items

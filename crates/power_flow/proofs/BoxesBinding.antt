@@ -1,16 +1,15 @@
-use Rattle.std.proofs.Common.{◌≡◌, ℕ, zero, suc, ◌+◌, ◌<◌, ◌↔◌, List, [], ◌∷◌, ◌++◌, Option, Some, None, All, Contains, Any, MatchOption, IfSome, slice_get, get_or, take, length, arith, refl, sym, ap, ◌∙◌}
-use Rattle.std.specs.List.{AllZip, cons_option}
+use Rattle.std.proofs.Common.{◌≡◌, ℕ, zero, suc, ◌+◌, ◌<◌, List, [], ◌∷◌, ◌++◌, Option, Some, None, All, Contains, MatchOption, slice_get, get_or, take, length, arith, refl, sym, ap, ◌∙◌}
+use Rattle.std.specs.List.{AllZip, AllByRecursion, cons_option}
 use Rattle.std.specs.Option.{option_and_then, option_map}
 use Rattle.power_flow.specs.Lookup.{declared_at}
 use Rattle.power_flow.specs.declared.declarations.Declared.{Declared}
 use Rattle.power_flow.specs.declared.source.Source.{Source}
 use Rattle.power_flow.specs.declared.source.Source.TheVariants as source
 use Rattle.std.proofs.lemmas.List.{take_more, append-nil}
-use Rattle.std.proofs.lemmas.List.Elements.{filter_map-append, All-nil, All-cons}
+use Rattle.std.proofs.lemmas.List.Elements.{filter_map-append, All-nil, All-cons, All-tail, recursion_from_All}
 use Rattle.std_blocks.specs.declared.block_type.BlockType.{BlockType}
 use Rattle.std_blocks.specs.declared.pin.Field.{Field}
-use Rattle.std_blocks.specs.Pins.{pin_of, input, output}
-use Rattle.ladder_text.specs.declared.place.Place.{Place}
+use Rattle.std_blocks.specs.Pins.{input}
 use Rattle.ladder_text.specs.declared.drawn_box.DrawnBox.{DrawnBox}
 use Rattle.ladder_text.specs.declared.drawn_box.DrawnPin.{DrawnPin}
 use Rattle.ladder_text.specs.declared.drawn_box.Operand.{Operand}
@@ -18,19 +17,14 @@ use Rattle.ladder_text.specs.declared.drawn_box.Side.{Side}
 use Rattle.ladder_text.specs.declared.drawn_box.Side.TheVariants.{Left, Right}
 use Rattle.network.specs.declared.element.Element.{Element}
 use Rattle.network.specs.declared.element.Element.TheVariants.{Wire, Join, Upright, Contact, Coil, Box}
-use Rattle.network.specs.declared.numbering.Spot.{Spot}
-use Rattle.network.specs.Links.{Diagram, PassesRight, Gives}
-use Rattle.network.specs.Steps.Numbers.{IsSpot}
-use Rattle.network.specs.Steps.Numbered.{places_of}
-use Rattle.network.proofs.Neighbours.{place_at, spot_from_place}
 use Rattle.power_flow.specs.declared.declarations.Declaration.{Declaration}
 use Rattle.power_flow.specs.declared.bound_box.BoundOutput.{BoundOutput}
 use Rattle.power_flow.specs.Names.{place_of}
 use Rattle.power_flow.specs.Meaning.{IsDrawn}
 use Rattle.power_flow.specs.Steps.NamedBox.{IsDrawnOnce, AreInRange, IsInRange}
-use Rattle.power_flow.specs.Steps.BoxTable.{IsBoundOutput, right_place, right_pin, right_pins, output_if, box_of, boxes_of}
-use Rattle.power_flow.proofs.BoxesStepping.{some_same}
-use Rattle.power_flow.proofs.BoxesSources.{contains_at, element_at}
+use Rattle.power_flow.specs.Steps.BoxTable.{right_pin, right_pins, output_if, box_of, boxes_of}
+use Rattle.power_flow.proofs.Lists.{some_same}
+use Rattle.power_flow.proofs.BoxesSources.{contains_at}
 
 -- an input is drawn once
 pub same_drawn : (b : DrawnBox) (block : BlockType) (field : Field) (p q : DrawnPin) → IsDrawnOnce b block → IsDrawn b block field p → IsDrawn b block field q → p ≡ q
@@ -46,30 +40,6 @@ in_range_of b pin fine in' = go pin.operand refl
     go : (o : Option Operand) → pin.operand ≡ o → MatchOption o (Unit {0}) (λ w. IsInRange w.text)
     go None e = tt
     go (Some w) e = fine pin w in' e
-
--- the place of a number
-pub spot_place : (spots : List Spot) (k : ℕ) (p : Place) → IsSpot spots k p → slice_get (places_of spots) k ≡ Some p
-spot_place spots k p spot = place_at spots k spot.0 spot.1 ∙ ap Some spot.2
-
--- an output pin is bound by its field, the place on its right, and the variable at which it stores
-pub output_is : (ds : List Declaration) (d : Diagram) (spots : List Spot) (b : DrawnBox) (block : BlockType) (pin : DrawnPin) (field found : Field) (next store : Option ℕ)
-    → pin_of block pin.name ≡ Some (output field) → found ≡ field → IfSome next (λ k. k < length spots)
-    → ((k : ℕ) (p : Place) → IsSpot spots k p → (next ≡ Some k) ↔ PassesRight d (right_place b pin) p)
-    → store ≡ option_and_then (λ w. place_of ds w.text) pin.operand
-    → IsBoundOutput ds d (places_of spots) b block pin (record { field = found; next = next; store = store })
-output_is ds d spots b block pin field found next store named same within exact stores = record {
-  named = named ∙ ap (λ f. Some (output f)) (sym same);
-  next = λ k e.
-      let lt : k < length spots = rw e at within in
-      let s = element_at spots k lt in
-      (s.0.place, place_at spots k s.0 s.1, (exact k s.0.place (s.0, s.1, refl)).0 e);
-  every = λ k q at passes. (exact k q (spot_from_place spots k q at)).1 passes;
-  store = stores;
-}
-
--- a right pin gives state
-pub pin_gives : (elements : List Element) (b : DrawnBox) (pin : DrawnPin) → Contains elements (Box b) → Contains b.pins pin → pin.side ≡ Right → Any (λ e. Gives e (right_place b pin)) elements
-pin_gives elements b pin in' drawn right = (in'.0, Box b, in'.1, in'.2, (refl, (drawn.0, pin, drawn.1, drawn.2, (right, refl))))
 
 pub zip_push : {A B : Type 0} (R : A → B → Type 0) (xs : List A) (ys : List B) (x : A) (y : B) → AllZip R xs ys → R x y → AllZip R (xs ++ x ∷ []) (ys ++ y ∷ [])
 zip_push R [] [] x y z r = (r, tt)
@@ -131,3 +101,15 @@ pub boxes_more : (es : List Element) (i : ℕ) (e : Element) → i < length es �
 boxes_more es i e lt is =
     let front : take (i + 1) es ≡ take i es ++ e ∷ [] = take_more es i e lt ∙ ap (λ p. take i es ++ p ∷ []) (sym is) in
     ap boxes_of front ∙ filter_map-append box_of (take i es) (e ∷ [])
+
+-- what holds of two lists holds of each
+pub all_first : {X : Type 0} (P : X → Type 0) (xs ys : List X) → All P (xs ++ ys) → All P xs
+all_first P xs ys all = recursion_first P xs ys (recursion_from_All P (xs ++ ys) all)
+  where
+    recursion_first : {X : Type 0} (P : X → Type 0) (xs ys : List X) → AllByRecursion P (xs ++ ys) → All P xs
+    recursion_first P [] ys all = All-nil P
+    recursion_first P (x ∷ xs) ys all = All-cons P x xs all.0 (recursion_first P xs ys all.1)
+
+pub all_last : {X : Type 0} (P : X → Type 0) (xs ys : List X) → All P (xs ++ ys) → All P ys
+all_last P [] ys all = all
+all_last P (x ∷ xs) ys all = all_last P xs ys (All-tail P x (xs ++ ys) all)

@@ -17,7 +17,7 @@ use Rattle.std.proofs.lemmas.List.{append-nil}
 use Rattle.power_flow.proofs.BoxesSources.{contains_at}
 use Rattle.std_blocks.specs.declared.pin.Pin.{Pin}
 use Rattle.std_blocks.specs.Pins.{pin_of, output}
-use Rattle.power_flow.proofs.BoxesStepping.{some_same}
+use Rattle.power_flow.proofs.Lists.{some_same}
 use Rattle.ladder_text.specs.declared.place.Place.{Place}
 use Rattle.ladder_text.specs.declared.drawn_box.DrawnBox.{DrawnBox}
 use Rattle.ladder_text.specs.declared.drawn_box.DrawnPin.{DrawnPin}

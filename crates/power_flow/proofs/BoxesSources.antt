@@ -36,7 +36,7 @@ use Rattle.power_flow.specs.Steps.Sources.{source_value, source_bit, slot_output
 use Rattle.power_flow.specs.StateValue.{variable_of}
 use Rattle.power_flow.specs.StateValue.{IsSlotOf, AreSlotsOf}
 use Rattle.power_flow.specs.Steps.BoxTable.{IsBlockAt, IsBoundBox, right_pin, right_pins, boxes_of}
-use Rattle.power_flow.proofs.BoxesStepping.{some_same}
+use Rattle.power_flow.proofs.Lists.{some_same}
 
 -- lists that go together do so at each place
 pub zip_at : {A B : Type 0} (R : A → B → Type 0) (xs : List A) (ys : List B) → AllZip R xs ys → (k : ℕ) (x : A) → slice_get xs k ≡ Some x → (y : B) × (slice_get ys k ≡ Some y) × R x y
@@ -59,7 +59,7 @@ zip_length R [] (y ∷ ys) z = absurd z
 zip_length R (x ∷ xs) [] z = absurd z
 zip_length R (x ∷ xs) (y ∷ ys) z = ap suc (zip_length R xs ys z.1)
 
-contains_later : {X : Type 0} (y : X) (xs : List X) (x : X) → Contains xs x → Contains (y ∷ xs) x
+pub contains_later : {X : Type 0} (y : X) (xs : List X) (x : X) → Contains xs x → Contains (y ∷ xs) x
 contains_later y xs x (k, lt, at) = (suc k, (let long : length (y ∷ xs) ≡ suc (length xs) = refl in omega arith), at)
 
 -- the boxes are the elements that are boxes
@@ -292,9 +292,9 @@ pub block_kept : (s : BlockState) (pins : PinsIn) (dt : ℕ) → (after s pins d
 block_kept s pins dt = type_kept s.block s pins dt
 
 -- each bound box has a slot
-pub room : (ds : List Declaration) (d : Diagram) (places : List Place) (boxes : List BoundBox) → AllZip (IsBoundBox ds d places) (boxes_of d.elements) boxes
+pub room : (ds : List Declaration) (d : Diagram) (top : ℕ) (boxes : List BoundBox) → AllZip (IsBoundBox ds top) (boxes_of d.elements) boxes
     → (slots : List Slot) → length slots ≡ length ds → (j : ℕ) (e : BoundBox) → slice_get boxes j ≡ Some e → e.instance < length slots
-room ds d places boxes bound slots long j e at =
-    let is = (zip_back (IsBoundBox ds d places) (boxes_of d.elements) boxes bound j e at).2 in
+room ds d top boxes bound slots long j e at =
+    let is = (zip_back (IsBoundBox ds top) (boxes_of d.elements) boxes bound j e at).2 in
     let lt = slice_get_within ds e.instance is.declared.entry is.declared.at in
     omega arith

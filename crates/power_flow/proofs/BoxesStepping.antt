@@ -1,19 +1,18 @@
-use Rattle.std.proofs.Common.{◌≡◌, ℕ, zero, suc, ◌+◌, ◌<◌, ◌≤◌, ◌⊎◌, ◌↔◌, inl, inr, List, [], ◌∷◌, ◌++◌, Bool, true, Some, Any, length, slice_get, get_or, set, take, drop, drop-cons, add-one, arith, refl, sym, ap, ◌∙◌, subst}
+use Rattle.std.proofs.Common.{◌≡◌, ℕ, zero, suc, ◌+◌, ◌<◌, ◌⊎◌, ◌↔◌, inl, inr, List, [], ◌∷◌, ◌++◌, Bool, true, false, Some, Any, length, slice_get, get_or, set, take, drop, drop-cons, add-one, arith, refl, sym, ap, ◌∙◌, subst}
 use Rattle.std.proofs.lemmas.Bool.{cases_eq}
-use Rattle.std.proofs.lemmas.List.{get_or-take, length-take}
+use Rattle.std.proofs.lemmas.List.{get_or-take, length-take, get_or-set_same, get_or-set_other}
 use Rattle.std.proofs.lemmas.Option.{slice_get-get_or}
 use Rattle.std_blocks.specs.declared.pins.PinsOut.{PinsOut}
 use Rattle.std_blocks.specs.Pins.{field_value}
 use Rattle.power_flow.specs.declared.state.Instance.{Instance}
 use Rattle.power_flow.specs.declared.state.Slot.{Slot}
 use Rattle.power_flow.specs.declared.state.Slot.TheVariants.{Block}
-use Rattle.network.specs.declared.link.Link.{Link}
 use Rattle.power_flow.specs.declared.bound_box.BoundBox.{BoundBox}
 use Rattle.power_flow.specs.declared.bound_box.BoundOutput.{BoundOutput}
 use Rattle.power_flow.specs.Names.{is_true}
-use Rattle.power_flow.specs.Steps.Reach.{bit_at}
-use Rattle.power_flow.specs.Steps.BoxSteps.{box_result, ReachedFrom, IsMarked, IsBeginning, AreSettled, IsStepped, AreApartBoxes, pin_stores, output_stores}
-use Rattle.power_flow.specs.Steps.BoxSteps.ReachedFrom.{start, along}
+use Rattle.power_flow.proofs.Lists.{some_same}
+use Rattle.power_flow.specs.Meaning.{bit_at}
+use Rattle.power_flow.specs.Steps.BoxSteps.{IsMarked, HasOutput, AreApartBoxes, pin_stores, output_stores}
 
 pub slice_get-set_same : {X : Type 0} (xs : List X) (i : ℕ) (a : X) → i < length xs → slice_get (set xs i a) i ≡ Some a
 slice_get-set_same [] i a lt = absurd (omega arith)
@@ -27,11 +26,8 @@ slice_get-set_other (x ∷ xs) zero (suc j) a ne = refl
 slice_get-set_other (x ∷ xs) (suc i) zero a ne = refl
 slice_get-set_other (x ∷ xs) (suc i) (suc j) a ne = slice_get-set_other xs i j a (λ e. ne (ap suc e))
 
-pub some_same : {X : Type 0} {a b : X} → Some a ≡ Some b → a ≡ b
-some_same e = cc
-
 -- one more pin
-any_more : {X : Type 0} (P : X → Type 0) (xs : List X) (i : ℕ) (d : X) → i < length xs → Any P (take i xs) ⊎ P (get_or xs i d) → Any P (take (i + 1) xs)
+pub any_more : {X : Type 0} (P : X → Type 0) (xs : List X) (i : ℕ) (d : X) → i < length xs → Any P (take i xs) ⊎ P (get_or xs i d) → Any P (take (i + 1) xs)
 any_more P xs i d lt (inl (k, x, in', at, p)) =
     let long = length-take i xs in
     let more = length-take (i + 1) xs in
@@ -41,7 +37,7 @@ any_more P xs i d lt (inr p) =
     let there = slice_get-get_or xs i d lt in
     (i, get_or xs i d, omega arith, get_or-take (i + 1) xs i (get_or xs i d) (omega arith) ∙ some_same (sym (slice_get-get_or xs i (get_or xs i d) lt) ∙ there), p)
 
-any_less : {X : Type 0} (P : X → Type 0) (xs : List X) (i : ℕ) (d : X) → i < length xs → Any P (take (i + 1) xs) → Any P (take i xs) ⊎ P (get_or xs i d)
+pub any_less : {X : Type 0} (P : X → Type 0) (xs : List X) (i : ℕ) (d : X) → i < length xs → Any P (take (i + 1) xs) → Any P (take i xs) ⊎ P (get_or xs i d)
 any_less P xs i d lt (k, x, in', at, p) =
     let long = length-take i xs in
     let more = length-take (i + 1) xs in
@@ -54,11 +50,11 @@ any_less P xs i d lt (k, x, in', at, p) =
     ]
 
 abbrev Marks : PinsOut → ℕ → BoundOutput → Type 0
-Marks values k o = (o.next ≡ Some k) × (is_true (Some (field_value values o.field)) ≡ true)
+Marks values k o = (o.row ≡ k) × (is_true (Some (field_value values o.field)) ≡ true)
 
 pub mark_more : (pins : List BoundOutput) (values : PinsOut) (i : ℕ) (d : BoundOutput) (old bits new : List Bool) → i < length pins
     → ((k : ℕ) → (bit_at bits k ≡ true) ↔ ((bit_at old k ≡ true) ⊎ IsMarked (take i pins) values k))
-    → ((k : ℕ) → (bit_at new k ≡ true) ↔ ((bit_at bits k ≡ true) ⊎ (((get_or pins i d).next ≡ Some k) × (is_true (Some (field_value values (get_or pins i d).field)) ≡ true))))
+    → ((k : ℕ) → (bit_at new k ≡ true) ↔ ((bit_at bits k ≡ true) ⊎ (((get_or pins i d).row ≡ k) × (is_true (Some (field_value values (get_or pins i d).field)) ≡ true))))
     → (k : ℕ) → (bit_at new k ≡ true) ↔ ((bit_at old k ≡ true) ⊎ IsMarked (take (i + 1) pins) values k)
 mark_more pins values i d old bits new lt was one k = (there, back)
   where
@@ -71,80 +67,6 @@ mark_more pins values i d old bits new lt was one k = (there, back)
     back : (bit_at old k ≡ true) ⊎ IsMarked (take (i + 1) pins) values k → bit_at new k ≡ true
     back (inl o) = (one k).1 (inl ((was k).1 (inl o)))
     back (inr m) = elim (any_less (Marks values k) pins i d lt m) [ inl less ↦ (one k).1 (inl ((was k).1 (inr less))) | inr p ↦ (one k).1 (inr p) ]
-
--- what is reached from some beginnings is reached from more
-pub reached_weaken : (links : List Link) (gates : List Bool) (S T : ℕ → Type 0) → ((k : ℕ) → S k → T k) → {k : ℕ} → ReachedFrom links gates S k → ReachedFrom links gates T k
-reached_weaken links gates S T more (start s) = start (more _ s)
-reached_weaken links gates S T more (along in' gate r) = along in' gate (reached_weaken links gates S T more r)
-
--- a result at n leaves what begins at the boxes before n
-pub begins_kept : (starts : List Bool) (boxes : List BoundBox) (results : List Instance) (n : ℕ) (v : Instance) (j : ℕ) → j ≤ n → (k : ℕ)
-    → IsBeginning starts boxes results j k → IsBeginning starts boxes (set results n v) j k
-begins_kept starts boxes results n v j le k (inl on) = inl on
-begins_kept starts boxes results n v j le k (inr f) = inr (record {
-  index = f.index;
-  before = f.before;
-  box = f.box;
-  result = f.result;
-  box_at = f.box_at;
-  result_at = slice_get-set_other results n f.index v (λ e. let lt = f.before in omega arith) ∙ f.result_at;
-  marked = f.marked;
-})
-
-begins_back : (starts : List Bool) (boxes : List BoundBox) (results : List Instance) (n : ℕ) (v : Instance) (j : ℕ) → j ≤ n → (k : ℕ)
-    → IsBeginning starts boxes (set results n v) j k → IsBeginning starts boxes results j k
-begins_back starts boxes results n v j le k (inl on) = inl on
-begins_back starts boxes results n v j le k (inr f) = inr (record {
-  index = f.index;
-  before = f.before;
-  box = f.box;
-  result = f.result;
-  box_at = f.box_at;
-  result_at = sym (slice_get-set_other results n f.index v (λ e. let lt = f.before in omega arith)) ∙ f.result_at;
-  marked = f.marked;
-})
-
-pub begins_more : (starts : List Bool) (boxes : List BoundBox) (results : List Instance) (n k : ℕ) → IsBeginning starts boxes results n k → IsBeginning starts boxes results (n + 1) k
-begins_more starts boxes results n k (inl on) = inl on
-begins_more starts boxes results n k (inr f) = inr (record {
-  index = f.index;
-  before = (let lt = f.before in omega arith);
-  box = f.box;
-  result = f.result;
-  box_at = f.box_at;
-  result_at = f.result_at;
-  marked = f.marked;
-})
-
-settled_kept : (links : List Link) (gates starts : List Bool) (boxes : List BoundBox) (results : List Instance) (n : ℕ) (v : Instance) (j : ℕ) (bits : List Bool) → j ≤ n
-    → AreSettled links gates starts boxes results j bits → AreSettled links gates starts boxes (set results n v) j bits
-settled_kept links gates starts boxes results n v j bits le s k = (
-  λ h. reached_weaken links gates (IsBeginning starts boxes results j) (IsBeginning starts boxes (set results n v) j) (begins_kept starts boxes results n v j le) ((s k).0 h),
-  λ r. (s k).1 (reached_weaken links gates (IsBeginning starts boxes (set results n v) j) (IsBeginning starts boxes results j) (begins_back starts boxes results n v j le) r),
-)
-
--- once box n has its result, each box up to n has the result of its step
-pub stepped_more : (links : List Link) (gates starts : List Bool) (slots : List Slot) (dt : ℕ) (boxes : List BoundBox) (results : List Instance) (n : ℕ) (here : BoundBox) (v : Instance) (bits : List Bool)
-    → slice_get boxes n ≡ Some here → n < length results → v ≡ box_result here slots dt bits → AreSettled links gates starts boxes results n bits
-    → ((j : ℕ) (e : BoundBox) → j < n → slice_get boxes j ≡ Some e → IsStepped links gates starts slots dt boxes results j e)
-    → (j : ℕ) (e : BoundBox) → j < n + 1 → slice_get boxes j ≡ Some e → IsStepped links gates starts slots dt boxes (set results n v) j e
-stepped_more links gates starts slots dt boxes results n here v bits box lt made settled before j e in' at = elim (cases_eq j n) [
-  | inl same ↦
-      let is : Some e ≡ Some here = sym at ∙ ap (slice_get boxes) same ∙ box in
-      let P : ℕ → Type 0 = λ i. IsStepped links gates starts slots dt boxes (set results n v) i e in
-      subst P (sym same) (record {
-        bits = bits;
-        settled = settled_kept links gates starts boxes results n v n bits (omega arith) settled;
-        result = slice_get-set_same results n v lt ∙ ap Some (made ∙ ap (λ b. box_result b slots dt bits) (sym (some_same is)));
-      })
-  | inr ne ↦
-      let s = before j e (omega arith) at in
-      record {
-        bits = s.bits;
-        settled = settled_kept links gates starts boxes results n v j s.bits (omega arith) s.settled;
-        result = slice_get-set_other results n j v ne ∙ s.result;
-      }
-]
 
 -- one more block is put back
 pub placed_more : (boxes : List BoundBox) (results : List Instance) (slots : List Slot) (n long : ℕ) (here : BoundBox) (v : Instance)
@@ -170,3 +92,18 @@ output_stores_at boxes results k here v lt less box result =
     let front : drop k boxes ≡ here ∷ drop (k + 1) boxes = rw add-one (drop-cons boxes k here lt ∙ ap (λ e. e ∷ drop (suc k) boxes) (some_same (sym (slice_get-get_or boxes k here lt) ∙ box))) in
     let first : drop k results ≡ v ∷ drop (k + 1) results = rw add-one (drop-cons results k v less ∙ ap (λ e. e ∷ drop (suc k) results) (some_same (sym (slice_get-get_or results k v less) ∙ result))) in
     rw (front, first) refl
+
+-- one more row is cleared
+pub clear_more : (pins : List BoundOutput) (i : ℕ) (d : BoundOutput) (rows : List Bool) → i < length pins → (get_or pins i d).row < length rows
+    → ((r : ℕ) → HasOutput (take i pins) r → bit_at rows r ≡ false)
+    → (r : ℕ) → HasOutput (take (i + 1) pins) r → bit_at (set rows (get_or pins i d).row false) r ≡ false
+clear_more pins i d rows lt in' cleared r has = elim (cases_eq r (get_or pins i d).row) [
+  | inl same ↦ rw same (get_or-set_same rows (get_or pins i d).row false false in')
+  | inr ne ↦ get_or-set_other rows (get_or pins i d).row r false false ne ∙ cleared r (elim (any_less (λ o. o.row ≡ r) pins i d lt has) [ inl less ↦ less | inr e ↦ absurd (ne (sym e)) ])
+]
+
+pub clear_kept : (pins : List BoundOutput) (i : ℕ) (d : BoundOutput) (rows initial : List Bool) → i < length pins
+    → ((r : ℕ) → (HasOutput (take i pins) r → ⊥) → bit_at rows r ≡ bit_at initial r)
+    → (r : ℕ) → (HasOutput (take (i + 1) pins) r → ⊥) → bit_at (set rows (get_or pins i d).row false) r ≡ bit_at initial r
+clear_kept pins i d rows initial lt kept r none =
+    get_or-set_other rows (get_or pins i d).row r false false (λ e. none (any_more (λ o. o.row ≡ r) pins i d lt (inr (sym e)))) ∙ kept r (λ has. none (any_more (λ o. o.row ≡ r) pins i d lt (inl has)))

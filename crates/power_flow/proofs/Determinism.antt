@@ -1,7 +1,7 @@
 use Rattle.std.proofs.Common.{◌≡◌, ℕ, zero, suc, ◌<◌, ◌≤◌, ◌⊎◌, ◌↔◌, inl, inr, List, [], ◌∷◌, ◌++◌, take, drop, take-append-drop, Bool, Option, Some, None, IsTrue, Contains, MatchOption, ℤ, length, slice_get, arith, refl, sym, ap, ◌∙◌, subst, map}
 use Rattle.std.specs.Option.{option_and_then}
 use Rattle.std.specs.List.{enumerate_from}
-use Rattle.power_flow.specs.Steps.Reach.{bit_at}
+use Rattle.power_flow.specs.Meaning.{bit_at}
 use Rattle.std.proofs.lemmas.Bool.{cases_eq}
 use Rattle.ladder_text.specs.declared.place.Place.{Place}
 use Rattle.ladder_text.specs.declared.drawn_box.DrawnBox.{DrawnBox}

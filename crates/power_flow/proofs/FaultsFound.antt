@@ -42,7 +42,7 @@ use Rattle.power_flow.specs.Steps.BoxFindings.{name_kind, read_name_fault, read_
 use Rattle.power_flow.specs.Steps.ElementFindings.{write_fault, fault_with, variable_declared, element_findings, network_findings, findings, IsFirstOf, IsBound, HasNoFinding}
 use Rattle.power_flow.proofs.NameFaults.{ReadFault, StoreFault, LiteralFault, nothing_found, read_found, read_meant, store_found, store_meant, coil_stores, literal_found, literal_meant}
 use Rattle.power_flow.proofs.Lists.{any_at, any_found, cons_first}
-use Rattle.power_flow.proofs.BoxesStepping.{some_same}
+use Rattle.power_flow.proofs.Lists.{some_same}
 use Rattle.power_flow.proofs.FindingLemmas.{none_in_networks}
 use Rattle.power_flow.proofs.BoxesFaults.{same_pin_refl, any_false, slice_get-take, same_number, eqb_same}
 use Rattle.power_flow.proofs.BoxesSources.{contains_at}

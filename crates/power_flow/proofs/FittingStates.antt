@@ -6,9 +6,8 @@ use Rattle.power_flow.specs.StateValue.{StateValue, IsSame}
 -- a state that fits is made of what it holds
 pub holds : (l : LadderValue) (s : StateValue) → Fits l s → s ≡ holding l s.slots s.memories
 holds l s fits =
-    ap (λ x. record s { waiting_gates = x }) fits.waiting_gates
-    ∙ ap (λ x. record s { waiting_gates = l.waiting_gates; waiting_bits = x }) fits.waiting_bits
-    ∙ ap (λ x. record s { waiting_gates = l.waiting_gates; waiting_bits = l.waiting_bits; waiting_results = x }) fits.waiting_results
+    ap (λ x. record s { waiting_links = x }) fits.waiting_links
+    ∙ ap (λ x. record s { waiting_links = l.waiting_links; waiting_results = x }) fits.waiting_results
 
 pub fitting_states : (l : LadderValue) (s t : StateValue) → Fits l s → Fits l t → IsSame s t → s ≡ t
 fitting_states l s t one other same =

@@ -17,7 +17,7 @@ use Rattle.power_flow.specs.declared.declarations.Declared.TheVariants.{Input, O
 use Rattle.power_flow.specs.declared.declarations.Kind.TheVariants as kind
 use Rattle.power_flow.specs.declared.state.Slot.{Slot}
 use Rattle.power_flow.specs.declared.state.Slot.TheVariants.{Variable}
-use Rattle.power_flow.specs.Steps.Reach.{bit_at}
+use Rattle.power_flow.specs.Meaning.{bit_at}
 use Rattle.power_flow.specs.Names.{place_of, value_at, slot_value, is_dot}
 use Rattle.power_flow.specs.StateValue.{StateValue, IsSlotOf, AreSlotsOf, kind_of}
 use Rattle.ladder_text.specs.declared.place.Place.{Place}
@@ -284,12 +284,11 @@ scan_keeps ds dt (d ∷ networks) slots slots' ms ms' bound m h =
 -- a scan leaves a state that fits
 pub fits_after : (l : LadderValue) (old new : StateValue) (dt : ℕ) → CanBind l.declarations l.networks → Fits l old
     → ScanMeaning l.declarations dt l.networks old.slots old.memories new.slots new.memories
-    → length new.memories ≡ length old.memories → new.waiting_gates ≡ old.waiting_gates → new.waiting_bits ≡ old.waiting_bits → new.waiting_results ≡ old.waiting_results → Fits l new
-fits_after l old new dt bound fits meaning memories gates bits results = record {
+    → length new.memories ≡ length old.memories → new.waiting_links ≡ old.waiting_links → new.waiting_results ≡ old.waiting_results → Fits l new
+fits_after l old new dt bound fits meaning memories links results = record {
   slots = scan_keeps l.declarations dt l.networks old.slots new.slots old.memories new.memories (recursion_from_All (λ (d : Diagram). IsBoundNetwork l.declarations d.elements) l.networks bound) meaning fits.slots;
   memories = memories ∙ fits.memories;
-  waiting_gates = gates ∙ fits.waiting_gates;
-  waiting_bits = bits ∙ fits.waiting_bits;
+  waiting_links = links ∙ fits.waiting_links;
   waiting_results = results ∙ fits.waiting_results;
 }
 

@@ -13,8 +13,7 @@ use Rattle.power_flow.specs.Names.{place_of}
 pub record LadderValue : Type 0 where
   pub declarations : List Declaration
   pub networks : List Diagram
-  pub waiting_gates : ℕ
-  pub waiting_bits : ℕ
+  pub waiting_links : ℕ
   pub waiting_results : ℕ
 
 -- the networks of a graph, each with the places of the left rail
@@ -25,8 +24,7 @@ diagrams graph = map (diagram graph.rails) graph.networks
 pub record Fits (l : LadderValue) (s : StateValue) : Type 0 where
   pub slots : AreSlotsOf l.declarations s.slots
   pub memories : length s.memories ≡ sum_by (λ d. length d.elements) l.networks
-  pub waiting_gates : s.waiting_gates ≡ l.waiting_gates
-  pub waiting_bits : s.waiting_bits ≡ l.waiting_bits
+  pub waiting_links : s.waiting_links ≡ l.waiting_links
   pub waiting_results : s.waiting_results ≡ l.waiting_results
 
 -- the state with these values, blocks and memories, and with the ladder's waiting places
@@ -34,8 +32,7 @@ abbrev pub holding : LadderValue → List Slot → List Bool → StateValue
 holding l slots memories = record {
   slots = slots;
   memories = memories;
-  waiting_gates = l.waiting_gates;
-  waiting_bits = l.waiting_bits;
+  waiting_links = l.waiting_links;
   waiting_results = l.waiting_results;
 }
 

@@ -14,8 +14,7 @@ use Rattle.power_flow.specs.declared.state.Slot.TheVariants.{Variable, Block}
 pub record StateValue : Type 0 where
   pub slots : List Slot
   pub memories : List Bool
-  pub waiting_gates : ℕ
-  pub waiting_bits : ℕ
+  pub waiting_links : ℕ
   pub waiting_results : ℕ
 
 -- waiting places do not count where states are compared

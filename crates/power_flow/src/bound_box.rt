@@ -10,8 +10,8 @@ use std_blocks::{BlockState, BlockType, Field, PinsIn};
 #[derive(Clone, Copy, Debug, PartialEq, Eq)]
 pub struct BoundOutput {
     pub field: Field,
-    /// The number of the place on its right, if state passes there.
-    pub next: Option<usize>,
+    /// Its row, counted from the network's topmost row.
+    pub row: usize,
     /// The place of the variable that stores it, if it has an operand.
     pub store: Option<usize>,
 }

@@ -1,24 +1,17 @@
-ghost use Rattle.std.specs.Prelude.{◌≡◌, ◌⊎◌, ◌↔◌, ◌++◌, [], ◌∷◌, ℕ, ◌<◌, List, All, Contains, IsTrue, IfOk, OnOk, IfSome, MatchOption, Some, slice_get, length, map, true};
+ghost use Rattle.std.specs.Prelude.{◌≡◌, ◌⊎◌, ◌↔◌, ◌++◌, [], ◌∷◌, ℕ, ◌+◌, ◌-◌, ◌<◌, List, All, Contains, IsTrue, IfOk, OnOk, IfSome, MatchOption, Some, slice_get, length, map, true};
 ghost use Rattle.std.specs.List.{AllZip};
 ghost use Rattle.std.specs.Option.{option_and_then};
 ghost use Rattle.std_blocks.specs.declared.pin.Pin.{Pin};
 ghost use Rattle.std_blocks.specs.declared.pin.Field.{Field};
 ghost use Rattle.std_blocks.specs.Pins.{pin_of, input, output};
-ghost use Rattle.ladder_text.specs.declared.place.Place.{Place};
 ghost use Rattle.ladder_text.specs.declared.drawn_box.DrawnPin.{DrawnPin};
 ghost use Rattle.ladder_text.specs.declared.drawn_box.Side.TheVariants.{Left, Right};
-ghost use Rattle.network.specs.GraphValue.{diagram};
-ghost use Rattle.network.specs.Apart.{AreApart, AreOnPage};
-ghost use Rattle.network.specs.Links.{IsPinPlace};
-ghost use Rattle.network.specs.Steps.Numbers.{IsSpot};
-ghost use Rattle.network.specs.Steps.Numbered.{AreOwned, places_of};
 ghost use Rattle.ladder_text.specs.declared.drawn_box.DrawnBox.{DrawnBox};
-ghost use Rattle.power_flow.specs.Steps.BoxSteps.{AreNextsWithin};
 ghost use Rattle.power_flow.specs.Names.{place_of};
 ghost use Rattle.power_flow.specs.Meaning.{IsDrawn};
 ghost use Rattle.power_flow.specs.Steps.Sources.{operand_source, pin_source};
-ghost use Rattle.power_flow.specs.Steps.NamedBox.{IsDrawnOnce, AreOutputs, IsInRange, AreInRange, IsNamedBox, AreReady};
-ghost use Rattle.power_flow.specs.Steps.BoxTable.{left_place, right_pins, boxes_of, output_if, IsBitSource, IsBoundOutput, IsBoundBox};
+ghost use Rattle.power_flow.specs.Steps.NamedBox.{IsDrawnOnce, AreOutputs, IsInRange, AreInRange, IsNamedBox, ArePinsIn, AreOutputsIn};
+ghost use Rattle.power_flow.specs.Steps.BoxTable.{right_pins, boxes_of, output_if, IsBitSource, IsBoundOutput, IsBoundBox};
 
 use crate::bound_box::{BoundBox, BoundOutput};
 use crate::declarations::Declarations;
@@ -26,9 +19,8 @@ use crate::kinds::block_type;
 use crate::literal::literal_value;
 use crate::names::name_source;
 use crate::source::Source;
-use crate::starts::place_after;
-use ladder_text::{DrawnBox, DrawnPin, Place, Side};
-use network::{Element, Numbering};
+use ladder_text::{DrawnBox, DrawnPin, Side};
+use network::Element;
 use std::alloc::{AllocError, Global};
 use std_blocks::{BlockType, Field, Pin};
 
@@ -69,54 +61,29 @@ fn drawn_input(drawn: &DrawnBox, block: BlockType, field: Field) -> Option<&Draw
     None
 }
 
-/// The state of a numbered place.
-fn power_source(numbering: &Numbering, place: Place) -> Source
-    ensures found { (k : ℕ) → IsSpot numbering.now k place → result ≡ Source.Power k }
-    ensures only { (k : ℕ) → result ≡ Source.Power k → IsSpot numbering.now k place }
-{
-    match numbering.find(place) {
-        Some(number) => Source::Power(number),
-        None => Source::Nothing,
-    }
-}
-
-/// The source of a Boolean pin: its operand, or its place.
-fn pin_bit_source(
-    declarations: &Declarations,
-    numbering: &Numbering,
-    drawn: &DrawnBox,
-    pin: &DrawnPin,
-) -> Source
-    ensures source { (n : ℕ) → IsSpot numbering.now n (left_place drawn.now pin.now) → IsBitSource declarations.now (places_of numbering.now) drawn.now pin.now result }
-    ensures power { (n : ℕ) → result ≡ Source.Power n → IsSpot numbering.now n (left_place drawn.now pin.now) }
+/// The source of a Boolean pin: its operand, or its row.
+fn pin_bit_source(declarations: &Declarations, top: usize, pin: &DrawnPin) -> Source
+    ensures { IsBitSource declarations.now top pin.now result }
 {
     match &pin.operand {
         Some(operand) => name_source(declarations, operand.text.as_str()),
-        None => power_source(
-            numbering,
-            Place {
-                row: pin.row,
-                column: drawn.left,
-            },
-        ),
+        None => Source::Power(pin.row.saturating_sub(top)),
     }
 }
 
 /// The source of a Boolean input.
 fn bit_source(
     declarations: &Declarations,
-    numbering: &Numbering,
+    top: usize,
     drawn: &DrawnBox,
     block: BlockType,
     k: usize,
 ) -> Source
     ensures none { ((pin : DrawnPin) → IsDrawn drawn.now block (Field.Bit k) pin → ⊥) → result ≡ Source.Nothing }
-    ensures power { (n : ℕ) → result ≡ Source.Power n → (p : Place) × (slice_get (places_of numbering.now) n ≡ Some p) × (p.column ≡ drawn.now.left) }
-    ensures some { IsDrawnOnce drawn.now block → (pin : DrawnPin) → IsDrawn drawn.now block (Field.Bit k) pin
-        → (n : ℕ) → IsSpot numbering.now n (left_place drawn.now pin) → IsBitSource declarations.now (places_of numbering.now) drawn.now pin result }
+    ensures some { IsDrawnOnce drawn.now block → (pin : DrawnPin) → IsDrawn drawn.now block (Field.Bit k) pin → IsBitSource declarations.now top pin result }
 {
     match drawn_input(drawn, block, Field::Bit(k)) {
-        Some(pin) => pin_bit_source(declarations, numbering, drawn, pin),
+        Some(pin) => pin_bit_source(declarations, top, pin),
         None => Source::Nothing,
     }
 }
@@ -178,32 +145,19 @@ fn store_place(declarations: &Declarations, pin: &DrawnPin) -> Option<usize>
     }
 }
 
-/// An output pin with the place on its right, and the variable at which it stores.
+/// An output pin with its row, and the variable at which it stores.
 fn bound_output(
     declarations: &Declarations,
-    numbering: &Numbering,
-    elements: &[Element],
-    drawn: &DrawnBox,
+    top: usize,
     block: BlockType,
     pin: &DrawnPin,
 ) -> BoundOutput
-    requires owned { AreOwned elements.now numbering.now }
-    requires page { AreOnPage elements.now }
-    ensures within { IfSome result.next (λ k. k < length numbering.now) }
-    ensures bound { (rails : List Place) (field : Field) → let d = diagram rails elements.now in
-        AreApart d → Contains elements.now (Element.Box drawn.now) → Contains drawn.now.pins pin.now → pin.now.side ≡ Right → pin_of block pin.now.name ≡ Some (output field)
-        → IsBoundOutput declarations.now d (places_of numbering.now) drawn.now block pin.now result }
+    ensures row { result.row ≡ pin.now.row - top }
+    ensures bound { (field : Field) → pin_of block pin.now.name ≡ Some (output field) → IsBoundOutput declarations.now top block pin.now result }
 {
     BoundOutput {
         field: field_of(block, pin.name.as_str()),
-        next: place_after(
-            Place {
-                row: pin.row,
-                column: drawn.right,
-            },
-            numbering,
-            elements,
-        ),
+        row: pin.row.saturating_sub(top),
         store: store_place(declarations, pin),
     }
 }
@@ -229,52 +183,41 @@ fn push_output(
 fn outputs_of(
     alloc: Global,
     declarations: &Declarations,
-    numbering: &Numbering,
-    elements: &[Element],
+    top: usize,
     drawn: &DrawnBox,
     block: BlockType,
 ) -> Result<Vec<BoundOutput>, AllocError>
-    requires owned { AreOwned elements.now numbering.now }
-    requires page { AreOnPage elements.now }
-    ensures within { IfOk result (λ outputs. All (λ o. IfSome o.next (λ k. k < length numbering.now)) outputs.items) }
-    ensures bound { IfOk result (λ outputs. (rails : List Place) → let d = diagram rails elements.now in
-        AreApart d → Contains elements.now (Element.Box drawn.now) → AreOutputs drawn.now block
-        → AllZip (IsBoundOutput declarations.now d (places_of numbering.now) drawn.now block) (right_pins drawn.now.pins) outputs.items) }
+    ensures within { IfOk result (λ outputs. (rows : ℕ) → ArePinsIn top rows drawn.now → All (λ o. o.row < rows) outputs.items) }
+    ensures bound { IfOk result (λ outputs. AreOutputs drawn.now block → AllZip (IsBoundOutput declarations.now top block) (right_pins drawn.now.pins) outputs.items) }
 {
     let mut outputs = Vec::new(alloc);
     for pin in drawn.pins.as_slice() {
-        let output = bound_output(declarations, numbering, elements, drawn, block, pin);
+        let output = bound_output(declarations, top, block, pin);
         push_output(&mut outputs, pin.side, output)?;
     }
     Ok(outputs)
 }
 
 /// A box with its names bound.
-pub fn bind_box(
+fn bind_box(
     alloc: Global,
     declarations: &Declarations,
-    numbering: &Numbering,
-    elements: &[Element],
+    top: usize,
     drawn: &DrawnBox,
 ) -> Result<BoundBox, AllocError>
-    requires owned { AreOwned elements.now numbering.now }
-    requires page { AreOnPage elements.now }
-    ensures within { IfOk result (λ e. All (λ o. IfSome o.next (λ k. k < length numbering.now)) e.outputs.items) }
-    ensures bound { IfOk result (λ e. (rails : List Place) → let d = diagram rails elements.now in
-        AreApart d → Contains elements.now (Element.Box drawn.now) → IsNamedBox declarations.now drawn.now
-        → ((p : Place) → IsPinPlace Left drawn.now p → (n : ℕ) × IsSpot numbering.now n p)
-        → IsBoundBox declarations.now d (places_of numbering.now) drawn.now e) }
+    ensures within { IfOk result (λ e. (rows : ℕ) → ArePinsIn top rows drawn.now → All (λ o. o.row < rows) e.outputs.items) }
+    ensures bound { IfOk result (λ e. IsNamedBox declarations.now drawn.now → IsBoundBox declarations.now top drawn.now e) }
 {
     let block = block_type(drawn.block);
-    let outputs = outputs_of(alloc, declarations, numbering, elements, drawn, block)?;
+    let outputs = outputs_of(alloc, declarations, top, drawn, block)?;
     Ok(BoundBox {
         block,
         instance: declarations.position(drawn.instance.as_str()).unwrap_or(0),
         bits: [
-            bit_source(declarations, numbering, drawn, block, 0),
-            bit_source(declarations, numbering, drawn, block, 1),
-            bit_source(declarations, numbering, drawn, block, 2),
-            bit_source(declarations, numbering, drawn, block, 3),
+            bit_source(declarations, top, drawn, block, 0),
+            bit_source(declarations, top, drawn, block, 1),
+            bit_source(declarations, top, drawn, block, 2),
+            bit_source(declarations, top, drawn, block, 3),
         ],
         int: value_source(declarations, drawn, block, Field::Int),
         time: value_source(declarations, drawn, block, Field::Time),
@@ -287,21 +230,18 @@ fn push_box(
     boxes: &mut Vec<BoundBox>,
     alloc: Global,
     declarations: &Declarations,
-    numbering: &Numbering,
-    elements: &[Element],
+    top: usize,
     element: &Element,
 ) -> Result<(), AllocError>
-    requires owned { AreOwned elements.now numbering.now }
-    requires page { AreOnPage elements.now }
-    ensures within { OnOk result (AreNextsWithin (length numbering.now) boxes.old.items → AreNextsWithin (length numbering.now) boxes.new.items) }
-    ensures bound { OnOk result ((rails : List Place) (before : List DrawnBox) → let d = diagram rails elements.now in
-        AreApart d → Contains elements.now element.now → AreReady declarations.now elements.now numbering.now
-        → AllZip (IsBoundBox declarations.now d (places_of numbering.now)) before boxes.old.items
-        → AllZip (IsBoundBox declarations.now d (places_of numbering.now)) (before ++ boxes_of (element.now ∷ [])) boxes.new.items) }
+    ensures count { OnOk result (length boxes.new.items ≡ length boxes.old.items + length (boxes_of (element.now ∷ []))) }
+    ensures within { OnOk result ((rows : ℕ) → All (ArePinsIn top rows) (boxes_of (element.now ∷ [])) → AreOutputsIn rows boxes.old.items → AreOutputsIn rows boxes.new.items) }
+    ensures bound { OnOk result ((before : List DrawnBox) → All (IsNamedBox declarations.now) (boxes_of (element.now ∷ []))
+        → AllZip (IsBoundBox declarations.now top) before boxes.old.items
+        → AllZip (IsBoundBox declarations.now top) (before ++ boxes_of (element.now ∷ [])) boxes.new.items) }
 {
     match element {
         Element::Box(boxed) => {
-            let bound = bind_box(alloc, declarations, numbering, elements, boxed.drawn())?;
+            let bound = bind_box(alloc, declarations, top, boxed.drawn())?;
             boxes.push(bound)?;
             Ok(())
         }
@@ -313,26 +253,16 @@ fn push_box(
 pub fn bind_boxes(
     alloc: Global,
     declarations: &Declarations,
-    numbering: &Numbering,
+    top: usize,
     elements: &[Element],
 ) -> Result<Vec<BoundBox>, AllocError>
-    requires owned { AreOwned elements.now numbering.now }
-    requires page { AreOnPage elements.now }
-    ensures within { IfOk result (λ boxes. AreNextsWithin (length numbering.now) boxes.items) }
-    ensures bound { IfOk result (λ boxes. (rails : List Place) → let d = diagram rails elements.now in
-        AreApart d → AreReady declarations.now elements.now numbering.now
-        → AllZip (IsBoundBox declarations.now d (places_of numbering.now)) (boxes_of elements.now) boxes.items) }
+    ensures count { IfOk result (λ boxes. length boxes.items ≡ length (boxes_of elements.now)) }
+    ensures within { IfOk result (λ boxes. (rows : ℕ) → All (ArePinsIn top rows) (boxes_of elements.now) → AreOutputsIn rows boxes.items) }
+    ensures bound { IfOk result (λ boxes. All (IsNamedBox declarations.now) (boxes_of elements.now) → AllZip (IsBoundBox declarations.now top) (boxes_of elements.now) boxes.items) }
 {
     let mut boxes = Vec::new(alloc);
     for element in elements {
-        push_box(
-            &mut boxes,
-            alloc,
-            declarations,
-            numbering,
-            elements,
-            element,
-        )?;
+        push_box(&mut boxes, alloc, declarations, top, element)?;
     }
     Ok(boxes)
 }

@@ -1,74 +1,14 @@
-ghost use Rattle.std.specs.Prelude.{◌≡◌, ◌<◌, ◌≤◌, ◌⊎◌, ◌↔◌, ◌≢◌, ℕ, All, IfSome, Some, true, length, slice_get, slice_set};
-ghost use Rattle.std_blocks.specs.Pins.{field_value};
+ghost use Rattle.std.specs.Prelude.{◌≡◌, ◌<◌, ◌≤◌, ◌⊎◌, ◌↔◌, ◌≢◌, ℕ, All, Any, IfSome, Some, true, length, slice_get, slice_set};
 ghost use Rattle.power_flow.specs.declared.bound_box.BoundBox.{BoundBox};
 ghost use Rattle.power_flow.specs.declared.state.Instance.{Instance};
 ghost use Rattle.power_flow.specs.declared.state.Slot.TheVariants.{Block};
-ghost use Rattle.power_flow.specs.Names.{is_true};
-ghost use Rattle.power_flow.specs.Steps.Reach.{IsWithin, bit_at};
 ghost use Rattle.power_flow.specs.Meaning.{store, stored};
-ghost use Rattle.power_flow.specs.Steps.Order.{AreInOrder, AreTurns};
-ghost use Rattle.power_flow.specs.Steps.BoxSteps.{IsMarked, IsStepped, AreSettled, AreApartBoxes, pin_store, pin_stores, output_stores};
+ghost use Rattle.power_flow.specs.Steps.BoxSteps.{AreApartBoxes, pin_store, pin_stores, output_stores};
 
 use crate::bound_box::{BoundBox, BoundOutput};
-use crate::links::follow;
-use crate::source::{is_output_on, output_value};
+use crate::source::output_value;
 use crate::state::{Instance, Slot};
-use network::Link;
 use std_blocks::{PinsOut, Value};
-
-/// Turns on the place right of an output pin that is ON.
-fn mark_output(output: &BoundOutput, outputs: &PinsOut, bits: &mut [bool])
-    requires { IfSome output.now.next (λ k. k < length bits.old) }
-    ensures { (k : ℕ) → (bit_at bits.new k ≡ true)
-        ↔ ((bit_at bits.old k ≡ true) ⊎ ((output.now.next ≡ Some k) × (is_true (Some (field_value outputs.now output.now.field)) ≡ true))) }
-{
-    if let Some(next) = output.next {
-        if is_output_on(outputs, output.field) {
-            bits[next] = true;
-        }
-    }
-}
-
-/// Turns on the places right of the output pins that are ON.
-fn mark_outputs(pins: &[BoundOutput], outputs: &PinsOut, bits: &mut [bool])
-    requires { All (λ o. IfSome o.next (λ k. k < length bits.old)) pins.now }
-    ensures { (k : ℕ) → (bit_at bits.new k ≡ true) ↔ ((bit_at bits.old k ≡ true) ⊎ IsMarked pins.now outputs.now k) }
-{
-    for pin in pins {
-        mark_output(pin, outputs, bits);
-    }
-}
-
-/// Passes state along the links in their order, and steps each box at its turn, once the state of the places on its left is known.
-pub fn step_boxes(
-    boxes: &[BoundBox],
-    turns: &[usize],
-    links: &[Link],
-    slots: &[Slot],
-    gates: &[bool],
-    bits: &mut [bool],
-    results: &mut [Instance],
-    dt: u32,
-)
-    requires links { All (IsWithin gates.now bits.old) links.now }
-    requires outputs { All (λ e. All (λ o. IfSome o.next (λ k. k < length bits.old)) e.outputs.items) boxes.now }
-    requires results { length results.old ≡ length boxes.now }
-    requires turns { length turns.now ≡ length boxes.now }
-    requires turns_in { All (λ n. n ≤ length links.now) turns.now }
-    ensures stepped { AreInOrder links.now → AreTurns links.now boxes.now turns.now → (j : ℕ) (e : BoundBox) → slice_get boxes.now j ≡ Some e → IsStepped links.now gates.now bits.old slots.now dt boxes.now results.new j e }
-    ensures settled { AreInOrder links.now → AreTurns links.now boxes.now turns.now → AreSettled links.now gates.now bits.old boxes.now results.new (length boxes.now) bits.new }
-{
-    let mut at = 0;
-    for k in 0..boxes.len() {
-        follow(links, at, turns[k], gates, bits);
-        at = turns[k];
-        let bound = &boxes[k];
-        let result = bound.step(slots, bits, dt);
-        mark_outputs(&bound.outputs, &result.outputs, bits);
-        results[k] = result;
-    }
-    follow(links, at, links.len(), gates, bits);
-}
 
 /// Changes the slot at a place, if there is one.
 fn put(slots: &mut [Slot], place: usize, slot: Slot)

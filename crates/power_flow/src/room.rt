@@ -17,26 +17,14 @@ pub fn count_elements(circuits: &[Circuit]) -> Result<usize, AllocError>
     Ok(count)
 }
 
-/// How many elements the circuit with the most of them has; 0 where there is none.
-pub fn most_elements(circuits: &[Circuit]) -> usize
-    ensures enough { All (λ c. length c.elements.items ≤ result) circuits.now }
-    ensures least { (n : ℕ) → All (λ c. length c.elements.items ≤ n) circuits.now → result ≤ n }
+/// How many coils the circuit with the most of them has; 0 where there is none.
+pub fn most_coils(circuits: &[Circuit]) -> usize
+    ensures enough { All (λ c. length c.coils.items ≤ result) circuits.now }
+    ensures least { (n : ℕ) → All (λ c. length c.coils.items ≤ n) circuits.now → result ≤ n }
 {
     let mut most = 0usize;
     for circuit in circuits {
-        most = most.max(circuit.elements.len());
-    }
-    most
-}
-
-/// How many places the circuit with the most of them has; 0 where there is none.
-pub fn most_places(circuits: &[Circuit]) -> usize
-    ensures enough { All (λ c. length c.places.items ≤ result) circuits.now }
-    ensures least { (n : ℕ) → All (λ c. length c.places.items ≤ n) circuits.now → result ≤ n }
-{
-    let mut most = 0usize;
-    for circuit in circuits {
-        most = most.max(circuit.places.len());
+        most = most.max(circuit.coils.len());
     }
     most
 }

@@ -11,7 +11,7 @@ use std_blocks::{Field, PinsOut, Value};
 pub enum Source {
     /// Nothing is drawn or written there: OFF, or 0.
     Nothing,
-    /// The state of a place of the network, by its number.
+    /// The state of this row of the network, counted from its topmost row.
     Power(usize),
     /// The variable at this place of the declarations.
     Variable(usize),
@@ -43,7 +43,7 @@ pub fn is_output_on(outputs: &PinsOut, field: Field) -> bool
 }
 
 impl Source {
-    /// The value that these slots have there; none at a place of the network.
+    /// The value that these slots have there; none where the state of a row is read.
     pub fn value(self, slots: &[Slot]) -> Option<Value>
         ensures { result ≡ source_value slots.now self }
     {
@@ -68,12 +68,12 @@ impl Source {
         matches!(self.value(slots), Some(Value::Bool(true)))
     }
 
-    /// Whether it is ON, a place of the network by its bit.
-    pub fn is_on(self, slots: &[Slot], bits: &[bool]) -> bool
-        ensures { result ≡ source_bit slots.now bits.now self }
+    /// Whether it is ON, a row of the network by its state.
+    pub fn is_on(self, slots: &[Slot], rows: &[bool]) -> bool
+        ensures { result ≡ source_bit slots.now rows.now self }
     {
-        if let Source::Power(number) = self {
-            return matches!(bits.get(number), Some(true));
+        if let Source::Power(row) = self {
+            return matches!(rows.get(row), Some(true));
         }
         self.is_true(slots)
     }

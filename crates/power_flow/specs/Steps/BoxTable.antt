@@ -1,5 +1,5 @@
 -- What the names of a drawing with boxes are bound to.
-use Rattle.std.specs.Prelude.{◌≡◌, ℕ, ◌<◌, List, [], ◌∷◌, Option, Some, None, Contains, MatchOption, slice_get}
+use Rattle.std.specs.Prelude.{◌≡◌, ℕ, ◌-◌, ◌<◌, List, [], ◌∷◌, Option, Some, None, MatchOption, slice_get}
 use Rattle.std.specs.List.{AllZip, filter_map}
 use Rattle.std.specs.Option.{option_and_then}
 use Rattle.ladder_text.specs.declared.place.Place.{Place}
@@ -7,8 +7,7 @@ use Rattle.ladder_text.specs.declared.drawn_box.DrawnBox.{DrawnBox}
 use Rattle.ladder_text.specs.declared.drawn_box.DrawnPin.{DrawnPin}
 use Rattle.ladder_text.specs.declared.drawn_box.Side.{Side}
 use Rattle.ladder_text.specs.declared.drawn_box.Side.TheVariants.{Left, Right}
-use Rattle.network.specs.declared.element.Element.TheVariants.{Box}
-use Rattle.network.specs.Links.{Diagram, PassesRight}
+use Rattle.network.specs.Links.{Diagram}
 use Rattle.std_blocks.specs.declared.block_type.BlockType.{BlockType}
 use Rattle.std_blocks.specs.declared.pin.Field.TheVariants.{Bit, Int, Time}
 use Rattle.std_blocks.specs.Pins.{pin_of, output}
@@ -21,7 +20,6 @@ use Rattle.power_flow.specs.declared.bound_box.BoundOutput.{BoundOutput}
 use Rattle.power_flow.specs.Names.{place_of}
 use Rattle.power_flow.specs.Meaning.{IsDrawn}
 use Rattle.power_flow.specs.Steps.Sources.{name_source, pin_source}
-use Rattle.power_flow.specs.Steps.Table.{IsOutside}
 pub use Rattle.power_flow.specs.Waiting.{box_of, boxes_of}
 use Rattle.power_flow.specs.Steps.BoxSteps.{bit_source, AreApartBoxes}
 
@@ -38,21 +36,14 @@ left_place b pin = record { row = pin.row; column = b.left }
 abbrev pub right_place : DrawnBox → DrawnPin → Place
 right_place b pin = record { row = pin.row; column = b.right }
 
--- the source is the place with this number in the table
-pub record IsPlaceSource (places : List Place) (p : Place) (s : Source) : Type 0 where
-  pub number : ℕ
-  pub is : s ≡ source.Power number
-  pub at : slice_get places number ≡ Some p
+-- a Boolean pin is read at its operand, or in its row
+abbrev pub IsBitSource : List Declaration → ℕ → DrawnPin → Source → Type 0
+IsBitSource ds top pin s = MatchOption pin.operand (s ≡ source.Power (pin.row - top)) (λ o. s ≡ name_source ds o.text)
 
--- a Boolean pin is read at its operand, or at its place
-abbrev pub IsBitSource : List Declaration → List Place → DrawnBox → DrawnPin → Source → Type 0
-IsBitSource ds places b pin s = MatchOption pin.operand (IsPlaceSource places (left_place b pin) s) (λ o. s ≡ name_source ds o.text)
-
--- the output pin shows this output, passes state to this place of the table, and stores at its operand
-pub record IsBoundOutput (ds : List Declaration) (d : Diagram) (places : List Place) (b : DrawnBox) (block : BlockType) (pin : DrawnPin) (o : BoundOutput) : Type 0 where
+-- the output pin shows this output in its row, and stores at its operand
+pub record IsBoundOutput (ds : List Declaration) (top : ℕ) (block : BlockType) (pin : DrawnPin) (o : BoundOutput) : Type 0 where
   pub named : pin_of block pin.name ≡ Some (output o.field)
-  pub next : (k : ℕ) → o.next ≡ Some k → (q : Place) × (slice_get places k ≡ Some q) × PassesRight d (right_place b pin) q
-  pub every : (k : ℕ) (q : Place) → slice_get places k ≡ Some q → PassesRight d (right_place b pin) q → o.next ≡ Some k
+  pub row : o.row ≡ pin.row - top
   pub store : o.store ≡ option_and_then (λ w. place_of ds w.text) pin.operand
 
 -- the pins of the right side, in their order
@@ -69,25 +60,23 @@ output_if Left o = []
 output_if Right o = o ∷ []
 
 -- the box is bound: its instance, the source of each input, and its output pins
-pub record IsBoundBox (ds : List Declaration) (d : Diagram) (places : List Place) (b : DrawnBox) (e : BoundBox) : Type 0 where
+pub record IsBoundBox (ds : List Declaration) (top : ℕ) (b : DrawnBox) (e : BoundBox) : Type 0 where
   pub place : place_of ds b.instance ≡ Some e.instance
   pub declared : IsBlockAt ds e.instance e.block
-  pub bits : (k : ℕ) (pin : DrawnPin) → k < 4 → IsDrawn b e.block (Bit k) pin → IsBitSource ds places b pin (bit_source e k)
-  pub power : (k n : ℕ) → k < 4 → bit_source e k ≡ source.Power n → (p : Place) × (slice_get places n ≡ Some p) × (p.column ≡ b.left)
+  pub bits : (k : ℕ) (pin : DrawnPin) → k < 4 → IsDrawn b e.block (Bit k) pin → IsBitSource ds top pin (bit_source e k)
   pub no_bit : (k : ℕ) → k < 4 → ((pin : DrawnPin) → IsDrawn b e.block (Bit k) pin → ⊥) → bit_source e k ≡ source.Nothing
   pub int : (pin : DrawnPin) → IsDrawn b e.block Int pin → e.int ≡ pin_source ds pin
   pub no_int : ((pin : DrawnPin) → IsDrawn b e.block Int pin → ⊥) → e.int ≡ source.Nothing
   pub time : (pin : DrawnPin) → IsDrawn b e.block Time pin → e.time ≡ pin_source ds pin
   pub no_time : ((pin : DrawnPin) → IsDrawn b e.block Time pin → ⊥) → e.time ≡ source.Nothing
-  pub outputs : AllZip (IsBoundOutput ds d places b e.block) (right_pins b.pins) e.outputs.items
+  pub outputs : AllZip (IsBoundOutput ds top e.block) (right_pins b.pins) e.outputs.items
 
 -- a box further left comes before
 abbrev pub AreByColumn : List DrawnBox → Type 0
 AreByColumn boxes = (i j : ℕ) (a b : DrawnBox) → slice_get boxes i ≡ Some a → slice_get boxes j ≡ Some b → a.left < b.left → i < j
 
--- the boxes of a diagram are bound, by column, each with an instance of its own; their right pins lie outside the table
-pub record AreBoundBoxes (ds : List Declaration) (d : Diagram) (places : List Place) (boxes : List BoundBox) : Type 0 where
-  pub bound : AllZip (IsBoundBox ds d places) (boxes_of d.elements) boxes
+-- the boxes of a diagram are bound, by column, each with an instance of its own
+pub record AreBoundBoxes (ds : List Declaration) (d : Diagram) (top : ℕ) (boxes : List BoundBox) : Type 0 where
+  pub bound : AllZip (IsBoundBox ds top) (boxes_of d.elements) boxes
   pub by_column : AreByColumn (boxes_of d.elements)
   pub apart : AreApartBoxes boxes
-  pub outside : (b : DrawnBox) (pin : DrawnPin) → Contains d.elements (Box b) → Contains b.pins pin → pin.side ≡ Right → IsOutside d places (right_place b pin)

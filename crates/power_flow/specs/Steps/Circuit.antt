@@ -1,39 +1,35 @@
-use Rattle.std.specs.Prelude.{◌≡◌, ℕ, ◌<◌, ◌≤◌, ◌↔◌, List, [], Bool, true, Some, All, Contains, IfSome, slice_get, slice_index, slice_index_or, length, map}
-use Rattle.std.specs.List.{before_first, after_first, AllByRecursion}
+use Rattle.std.specs.Prelude.{◌≡◌, ℕ, ◌+◌, ◌<◌, ◌≤◌, List, [], Option, Some, None, All, Contains, length}
+use Rattle.std.specs.List.{before_first, after_first, filter_map, enumerate_from, AllByRecursion}
 use Rattle.ladder_text.specs.declared.place.Place.{Place}
 use Rattle.network.specs.declared.element.Element.{Element}
+use Rattle.network.specs.declared.element.Element.TheVariants.{Wire, Join, Upright, Contact, Coil, Box}
 use Rattle.network.specs.Links.{Diagram}
-use Rattle.network.specs.GraphValue.{diagram}
+use Rattle.network.specs.Apart.{Has}
+use Rattle.network.specs.GraphValue.{diagram, IsSoundNetwork}
 use Rattle.power_flow.specs.declared.declarations.Declaration.{Declaration}
 use Rattle.power_flow.specs.declared.circuit.Circuit.{Circuit}
-use Rattle.network.specs.declared.link.Link.{Link}
-use Rattle.power_flow.specs.Steps.Reach.{bit_at}
-use Rattle.power_flow.specs.Steps.Table.{IsTable, IsOutside, FollowsSource}
-use Rattle.power_flow.specs.declared.source.Source.TheVariants as source
+use Rattle.power_flow.specs.declared.step.Step.{Step}
+use Rattle.power_flow.specs.declared.step.Step.TheVariants as step
+use Rattle.power_flow.specs.declared.step.BoundCoil.{BoundCoil}
 use Rattle.power_flow.specs.Names.{place_of, is_dot}
-use Rattle.power_flow.specs.Steps.Sources.{element_source}
+use Rattle.power_flow.specs.Steps.Columns.{AreSteps}
 use Rattle.power_flow.specs.Steps.BoxTable.{AreBoundBoxes}
-use Rattle.power_flow.specs.Steps.ElementSteps.{symbol_of}
-use Rattle.power_flow.specs.Steps.Order.{AreInOrder, AreTurns}
-use Rattle.power_flow.specs.Meaning.{first_place}
 
--- the numbers of a link stand for elements and places
-pub record IsLinkIn (elements places : ℕ) (l : Link) : Type 0 where
-  pub from : l.from < places
-  pub to : l.to < places
-  pub symbol : IfSome l.symbol (λ k. k < elements)
+-- the numbers of a step stand for rows, memories, coils and boxes
+abbrev pub IsStepIn : ℕ → ℕ → ℕ → ℕ → Step → Type 0
+IsStepIn rows memories coils boxes (step.Rail row) = row < rows
+IsStepIn rows memories coils boxes (step.Off row) = row < rows
+IsStepIn rows memories coils boxes (step.Upright first last) = last < rows
+IsStepIn rows memories coils boxes (step.Contact c) = (c.row < rows) × (c.memory < memories)
+IsStepIn rows memories coils boxes (step.Coil row k) = (row < rows) × (k < coils)
+IsStepIn rows memories coils boxes (step.Box k) = k < boxes
 
 -- the lists of a circuit fit each other
 pub record HasShape (c : Circuit) : Type 0 where
-  pub symbols : length c.symbols.items ≡ length c.elements.items
-  pub sources : length c.sources.items ≡ length c.elements.items
-  pub firsts : length c.firsts.items ≡ length c.elements.items
-  pub starts : length c.starts.items ≡ length c.places.items
-  pub first_in : (k : ℕ) → k < length c.elements.items → slice_index c.firsts.items k < length c.places.items
-  pub nexts_in : All (λ e. All (λ o. IfSome o.next (λ k. k < length c.places.items)) e.outputs.items) c.boxes.items
-  pub turns : length c.turns.items ≡ length c.boxes.items
-  pub turns_in : All (λ n. n ≤ length c.links.items) c.turns.items
-  pub links_in : All (λ l. IsLinkIn (length c.elements.items) (length c.places.items) l) c.links.items
+  pub low : c.rows ≤ 200
+  pub steps_in : All (λ s. IsStepIn c.rows (length c.elements.items) (length c.coils.items) (length c.boxes.items) s) c.steps.items
+  pub coils_in : All (λ x. x.memory < length c.elements.items) c.coils.items
+  pub outputs_in : All (λ e. All (λ o. o.row < c.rows) e.outputs.items) c.boxes.items
 
 -- the name is that of the variable at this place
 pub record IsNamed (ds : List Declaration) (name : List ℕ) (place : ℕ) : Type 0 where
@@ -41,28 +37,33 @@ pub record IsNamed (ds : List Declaration) (name : List ℕ) (place : ℕ) : Typ
   pub base : before_first is_dot name ≡ name
   pub no_pin : after_first is_dot name ≡ []
 
--- the table is that of the diagram, with the places that follow the left rail and the places at which the elements begin
-pub record IsWired (d : Diagram) (places : List Place) (links : List Link) (starts : List Bool) (firsts : List ℕ) : Type 0 where
-  pub table : IsTable d places links
-  pub outside : (p : Place) → Contains d.rails p → IsOutside d places p
-  pub begins : (k : ℕ) (p : Place) → slice_get places k ≡ Some p → (bit_at starts k ≡ true) ↔ FollowsSource d (Contains d.rails) p
-  pub first : (k : ℕ) (e : Element) → slice_get d.elements k ≡ Some e → slice_get places (slice_index firsts k) ≡ Some (first_place e)
+-- the element with the number k, bound if it is a coil
+abbrev pub bound_coil : List Declaration → ℕ → Element → Option BoundCoil
+bound_coil ds k (Wire at) = None
+bound_coil ds k (Join at) = None
+bound_coil ds k (Upright at) = None
+bound_coil ds k (Contact c) = None
+bound_coil ds k (Coil c) = Some record { kind = c.kind; place = place_of ds c.name; memory = k }
+bound_coil ds k (Box b) = None
+
+-- the coils among the elements, in their order
+unfoldable pub bound_coils : List Declaration → List Element → List BoundCoil
+bound_coils ds elements = filter_map (λ e. bound_coil ds e.0 e.1) (enumerate_from 0 elements)
 
 -- the circuit is made of the diagram, with the names of the declarations
 pub record IsCircuit (ds : List Declaration) (d : Diagram) (c : Circuit) : Type 0 where
   pub elements : d.elements ≡ c.elements.items
-  pub symbols : c.symbols.items ≡ map symbol_of d.elements
-  pub wired : IsWired d c.places.items c.links.items c.starts.items c.firsts.items
-  pub named : (k : ℕ) (e : Element) → slice_get d.elements k ≡ Some e → slice_index_or c.sources.items k source.Nothing ≡ element_source ds e
-  pub boxes : AreBoundBoxes ds d c.places.items c.boxes.items
-  pub order : AreInOrder c.links.items
-  pub turns : AreTurns c.links.items c.boxes.items c.turns.items
+  pub sound : IsSoundNetwork d
+  pub top : ℕ
+  pub rows : (e : Element) (p : Place) → Contains d.elements e → Has e p → (top ≤ p.row) × (p.row < top + c.rows)
+  pub steps : AreSteps ds d top c.steps.items
+  pub coils : c.coils.items ≡ bound_coils ds d.elements
+  pub boxes : AreBoundBoxes ds d top c.boxes.items
 
 -- there is room for a scan of the circuit
-pub record HasRoom (gates bits results : ℕ) (c : Circuit) : Type 0 where
+pub record HasRoom (links results : ℕ) (c : Circuit) : Type 0 where
   pub shape : HasShape c
-  pub gates_in : length c.elements.items ≤ gates
-  pub bits_in : length c.places.items ≤ bits
+  pub links_in : length c.coils.items ≤ links
   pub results_in : length c.boxes.items ≤ results
 
 -- what a circuit is made of, with the places of the left rail

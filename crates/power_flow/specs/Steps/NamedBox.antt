@@ -1,22 +1,17 @@
 -- What is known of a box whose names are in order.
-use Rattle.std.specs.Prelude.{◌≡◌, ℕ, List, Some, Contains, slice_get, true}
+use Rattle.std.specs.Prelude.{◌≡◌, ℕ, ◌-◌, ◌<◌, List, Some, All, Contains, slice_get, true}
 use Rattle.std_blocks.specs.declared.value.Value.{Value}
 use Rattle.std_blocks.specs.declared.pin.Field.{Field}
 use Rattle.std_blocks.specs.declared.pin.Pin.{Pin}
 use Rattle.std_blocks.specs.declared.block_type.BlockType.{BlockType}
 use Rattle.std_blocks.specs.Pins.{pin_of, output}
-use Rattle.ladder_text.specs.declared.place.Place.{Place}
 use Rattle.ladder_text.specs.declared.drawn_box.DrawnBox.{DrawnBox}
 use Rattle.ladder_text.specs.declared.drawn_box.DrawnPin.{DrawnPin}
 use Rattle.ladder_text.specs.declared.drawn_box.Operand.{Operand}
-use Rattle.ladder_text.specs.declared.drawn_box.Side.TheVariants.{Left, Right}
-use Rattle.network.specs.declared.element.Element.{Element}
-use Rattle.network.specs.declared.element.Element.TheVariants.{Box}
-use Rattle.network.specs.Links.{IsPinPlace}
-use Rattle.network.specs.declared.numbering.Spot.{Spot}
-use Rattle.network.specs.Steps.Numbers.{IsSpot}
+use Rattle.ladder_text.specs.declared.drawn_box.Side.TheVariants.{Right}
 use Rattle.power_flow.specs.declared.declarations.Declaration.{Declaration}
 use Rattle.power_flow.specs.declared.declarations.Declared.TheVariants as declared
+use Rattle.power_flow.specs.declared.bound_box.BoundBox.{BoundBox}
 use Rattle.power_flow.specs.PinKinds.{type_of}
 use Rattle.power_flow.specs.Literals.{literal_value}
 use Rattle.power_flow.specs.Lookup.{declared_at}
@@ -45,7 +40,10 @@ pub record IsNamedBox (ds : List Declaration) (b : DrawnBox) : Type 0 where
   pub outputs : AreOutputs b (type_of b.block)
   pub literals : AreInRange b
 
--- each box has its names, and the places of its left pins have numbers
-pub record AreReady (ds : List Declaration) (elements : List Element) (spots : List Spot) : Type 0 where
-  pub named : (b : DrawnBox) → Contains elements (Box b) → IsNamedBox ds b
-  pub numbered : (b : DrawnBox) (p : Place) → Contains elements (Box b) → IsPinPlace Left b p → (n : ℕ) × IsSpot spots n p
+-- the pins lie in these rows, counted from the topmost on
+abbrev pub ArePinsIn : ℕ → ℕ → DrawnBox → Type 0
+ArePinsIn top rows b = (pin : DrawnPin) → Contains b.pins pin → pin.row - top < rows
+
+-- the outputs of the boxes lie in these rows
+abbrev pub AreOutputsIn : ℕ → List BoundBox → Type 0
+AreOutputsIn rows boxes = All (λ e. All (λ o. o.row < rows) e.outputs.items) boxes

@@ -16,7 +16,7 @@ use Rattle.power_flow.specs.declared.state.Slot.{Slot}
 use Rattle.power_flow.specs.declared.state.Slot.TheVariants.{Variable, Block}
 use Rattle.power_flow.specs.declared.source.Source.{Source}
 use Rattle.power_flow.specs.declared.source.Source.TheVariants as source
-use Rattle.power_flow.specs.Steps.Reach.{bit_at}
+use Rattle.power_flow.specs.Meaning.{bit_at}
 use Rattle.power_flow.specs.Names.{is_true, place_of, is_dot}
 use Rattle.power_flow.specs.StateValue.{variable_at}
 

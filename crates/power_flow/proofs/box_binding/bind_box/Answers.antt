@@ -1,24 +1,21 @@
-use Rattle.std.proofs.Common.{◌≡◌, ℕ, ◌∙◌, ap, sym, subst, refl, Some, unwrap_or, slice_get}
-use Rattle.ladder_text.specs.declared.place.Place.{Place}
+use Rattle.std.proofs.Common.{◌≡◌, ℕ, ◌∙◌, ap, sym, subst, Some, unwrap_or, slice_get}
 use Rattle.ladder_text.specs.declared.drawn_box.DrawnPin.{DrawnPin}
 use Rattle.std_blocks.specs.declared.block_type.BlockType.{BlockType}
 use Rattle.std_blocks.specs.declared.pin.Field.TheVariants.{Bit}
-use Rattle.network.specs.Steps.Numbered.{places_of}
 use Rattle.power_flow.specs.declared.declarations.Declared.TheVariants as declared
 use Rattle.power_flow.specs.declared.source.Source.{Source}
 use Rattle.power_flow.specs.declared.source.Source.TheVariants as source
 use Rattle.power_flow.specs.Names.{place_of}
 use Rattle.power_flow.specs.Meaning.{IsDrawn}
 use Rattle.power_flow.specs.Steps.NamedBox.{IsDrawnOnce, AreOutputs}
-use Rattle.power_flow.specs.Steps.BoxTable.{IsBitSource, left_place}
+use Rattle.power_flow.specs.Steps.BoxTable.{IsBitSource}
 use Rattle.power_flow.proofs.BoxesBinding.{four, declared_place}
 use Rattle.power_flow.proofs.box_binding.bind_box.Goals as goal
 
 pub returns-clause-bound : goal.returns-clause-bound
-returns-clause-bound c = λ rails apart in' named numbered.
+returns-clause-bound c = λ named.
     let ds = c.args.declarations.now in
     let b = c.args.drawn.now in
-    let places = places_of c.args.numbering.now in
     let block = c.block_type-block.result in
     let type = sym c.block_type-block.ensures in
     let Once : BlockType → Type 0 = λ t. IsDrawnOnce b t in
@@ -26,23 +23,16 @@ returns-clause-bound c = λ rails apart in' named numbered.
     let once = subst Once type named.once in
     let at = declared_place ds b.instance (declared.Instance _) named.instance in
     let instance : c.unwrap_or.result ≡ at.0 = c.unwrap_or.ensures ∙ ap (λ o. unwrap_or o 0) (c.position.ensures ∙ ap (place_of ds) c.as_str.ensures ∙ at.2) in
-    let spot = λ (pin : DrawnPin) (k : ℕ) (is : IsDrawn b block (Bit k) pin). numbered (left_place b pin) (refl, (is.drawn.0, pin, is.drawn.1, is.drawn.2, (is.side, refl))) in
-    let Reads : ℕ → Source → Type 0 = λ k s. (pin : DrawnPin) → IsDrawn b block (Bit k) pin → IsBitSource ds places b pin s in
+    let Reads : ℕ → Source → Type 0 = λ k s. (pin : DrawnPin) → IsDrawn b block (Bit k) pin → IsBitSource ds c.args.top pin s in
     let Undrawn : ℕ → Source → Type 0 = λ k s. ((pin : DrawnPin) → IsDrawn b block (Bit k) pin → ⊥) → s ≡ source.Nothing in
-    let Powers : ℕ → Source → Type 0 = λ k s. (n : ℕ) → s ≡ source.Power n → (p : Place) × (slice_get places n ≡ Some p) × (p.column ≡ b.left) in
     record {
       place = at.2 ∙ ap Some (sym instance);
       declared = record { entry = at.1; at = ap (λ k. slice_get ds k) instance ∙ at.3; is = at.4 ∙ ap declared.Instance type };
-      bits = λ k pin lt is. four Reads _ _ _ _
-          (λ p h. c.bit_source.ensures.some once p h (spot p 0 h).0 (spot p 0 h).1)
-          (λ p h. c.bit_source-2.ensures.some once p h (spot p 1 h).0 (spot p 1 h).1)
-          (λ p h. c.bit_source-3.ensures.some once p h (spot p 2 h).0 (spot p 2 h).1)
-          (λ p h. c.bit_source-4.ensures.some once p h (spot p 3 h).0 (spot p 3 h).1) k lt pin is;
-      power = λ k n lt is. four Powers _ _ _ _ c.bit_source.ensures.power c.bit_source-2.ensures.power c.bit_source-3.ensures.power c.bit_source-4.ensures.power k lt n is;
+      bits = λ k pin lt is. four Reads _ _ _ _ (c.bit_source.ensures.some once) (c.bit_source-2.ensures.some once) (c.bit_source-3.ensures.some once) (c.bit_source-4.ensures.some once) k lt pin is;
       no_bit = λ k lt none. four Undrawn _ _ _ _ c.bit_source.ensures.none c.bit_source-2.ensures.none c.bit_source-3.ensures.none c.bit_source-4.ensures.none k lt none;
       int = λ pin is. c.value_source.ensures.some once named.literals pin is;
       no_int = c.value_source.ensures.none;
       time = λ pin is. c.value_source-2.ensures.some once named.literals pin is;
       no_time = c.value_source-2.ensures.none;
-      outputs = c.in_ok-outputs.ensures.bound rails apart in' (subst Outputs type named.outputs);
+      outputs = c.in_ok-outputs.ensures.bound (subst Outputs type named.outputs);
     }

@@ -1,25 +1,38 @@
-use Rattle.std.proofs.Common.{subst, Contains}
-use Rattle.network.specs.declared.element.Element.TheVariants.{Box}
-use Rattle.std.proofs.lemmas.List.{append-nil}
-use Rattle.network.specs.GraphValue.{diagram}
-use Rattle.network.specs.Steps.Numbered.{places_of}
+use Rattle.std.proofs.Common.{[], ◌∷◌, ◌<◌, All, length, ap, arith}
+use Rattle.std.proofs.lemmas.List.{append-nil, length-append}
+use Rattle.std.proofs.lemmas.List.Elements.{All-head, All-push}
+use Rattle.power_flow.specs.declared.bound_box.BoundBox.{BoundBox}
+use Rattle.power_flow.specs.declared.bound_box.BoundOutput.{BoundOutput}
+use Rattle.power_flow.specs.Steps.NamedBox.{IsNamedBox, ArePinsIn}
 use Rattle.power_flow.specs.Steps.BoxTable.{IsBoundBox}
 use Rattle.power_flow.proofs.BoxesBinding.{none_pushed, zip_push}
 use Rattle.power_flow.proofs.box_binding.push_box.Goals as goal
 
 pub returns-in_default : goal.returns-in_default
-returns-in_default c = record {
-  within = λ h. h;
-  bound = λ rails before apart in' ready zip. rw (none_pushed c.args.element.now c.in_default.not-Box, append-nil) zip;
-}
+returns-in_default c =
+    let none = none_pushed c.args.element.now c.in_default.not-Box in
+    record {
+      count = (let zero = ap length none in omega arith);
+      within = λ rows all were. were;
+      bound = λ before all zip. rw (none, append-nil) zip;
+    }
+
+pub returns-in_ok-push-in-Box-clause-count : goal.returns-in_ok-push-in-Box-clause-count
+returns-in_ok-push-in-Box-clause-count c = rw (c.in-Box.is, c.in_ok-push-in-Box.ensures.items) (length-append c.args.boxes.now.items (c.in_ok-bound-in-Box.bound ∷ []))
+
+pub returns-in_ok-push-in-Box-clause-within : goal.returns-in_ok-push-in-Box-clause-within
+returns-in_ok-push-in-Box-clause-within c = λ rows all were.
+    let b = c.in-Box.boxed in
+    let pins = All-head (ArePinsIn c.args.top rows) b [] (rw c.in-Box.is at all) in
+    let P : BoundBox → Type 0 = λ e. All (λ (o : BoundOutput). o.row < rows) e.outputs.items in
+    let within = (rw c.drawn.ensures at c.in_ok-bound-in-Box.ensures.within) rows pins in
+    rw c.in_ok-push-in-Box.ensures.items (All-push P c.args.boxes.now.items c.in_ok-bound-in-Box.bound were within)
 
 pub returns-in_ok-push-in-Box-clause-bound : goal.returns-in_ok-push-in-Box-clause-bound
-returns-in_ok-push-in-Box-clause-bound c = λ rails before apart in' ready zip.
-    let ds = c.args.declarations.now in
-    let es = c.args.elements.now in
+returns-in_ok-push-in-Box-clause-bound c = λ before all zip.
     let b = c.in-Box.boxed in
     let e = c.in_ok-bound-in-Box.bound in
-    let drawn : Contains es (Box b) = subst (Contains es) c.in-Box.is in' in
-    let R = IsBoundBox ds (diagram rails es) (places_of c.args.numbering.now) in
-    let bound = (rw c.drawn.ensures at c.in_ok-bound-in-Box.ensures.bound) rails apart drawn (ready.named b drawn) (λ p. ready.numbered b p drawn) in
+    let named = All-head (IsNamedBox c.args.declarations.now) b [] (rw c.in-Box.is at all) in
+    let R = IsBoundBox c.args.declarations.now c.args.top in
+    let bound = (rw c.drawn.ensures at c.in_ok-bound-in-Box.ensures.bound) named in
     rw (c.in-Box.is, c.in_ok-push-in-Box.ensures.items) (zip_push R before c.args.boxes.now.items b e zip bound)

@@ -1,25 +1,55 @@
-use Rattle.std.proofs.Common.{map, sym, ap, ◌∙◌}
-use Rattle.power_flow.specs.Steps.Sources.{element_source}
-use Rattle.power_flow.specs.Steps.ElementSteps.{symbol_of}
-use Rattle.power_flow.proofs.BindingLemmas.{all_named, named_box_of}
+use Rattle.std.proofs.Common.{◌≡◌, ◌<◌, ℕ, All, length, sym, ap, ◌∙◌}
+use Rattle.network.specs.GraphValue.{diagram}
+use Rattle.power_flow.specs.declared.step.BoundCoil.{BoundCoil}
+use Rattle.power_flow.specs.Steps.NamedBox.{IsNamedBox}
+use Rattle.power_flow.specs.Waiting.{coils_of}
+use Rattle.power_flow.proofs.BindingLemmas.{named_box_of}
+use Rattle.power_flow.proofs.BoxesTable.{all_boxes, bound_boxes_are}
+use Rattle.power_flow.proofs.CircuitOf.{steps_within, coils_within, bound_coils_counted, boxes_in_rows}
 use Rattle.power_flow.proofs.circuits.circuit_of.Goals as goal
+
+pub of-rows-requires : goal.of-rows-requires
+of-rows-requires c = rw (c.deref.ensures.value, c.into_elements-elements.ensures) c.requires.on_page
+
+pub steps_of-requires-clause-rows : goal.steps_of-requires-clause-rows
+steps_of-requires-clause-rows c =
+    let rows = rw (c.deref.ensures.value, c.into_elements-elements.ensures) at c.of-rows.ensures.rows in
+    rw (c.deref-2.ensures.value, c.into_elements-elements.ensures) (rows c.args.rails.now c.requires)
 
 pub returns-clause-circuit : goal.returns-clause-circuit
 returns-clause-circuit c = λ bound.
     let ds = c.args.declarations.now in
     let es = c.args.network in
-    let circuit = c.in_ok-circuit.circuit in
-    let names = c.in_ok-circuit.ensures.sources ∙ c.in_ok-sources.ensures ∙ ap (map (element_source ds)) (c.deref.ensures.value ∙ c.into_elements-elements.ensures) in
-    let wired = rw c.into_elements-elements.ensures at c.in_ok-circuit.ensures.wired in
-    let boxes = rw c.into_elements-elements.ensures at c.in_ok-circuit.ensures.boxes in
-    let are = boxes (λ b in'. named_box_of ds es b bound in') in
-    let turns = rw c.into_elements-elements.ensures at c.in_ok-circuit.ensures.turns in
+    let rows = (rw (c.deref.ensures.value, c.into_elements-elements.ensures) at c.of-rows.ensures.rows) c.args.rails.now c.requires in
+    let boxes = rw (c.deref-4.ensures.value, c.into_elements-elements.ensures) at c.in_ok-boxes.ensures.bound in
     record {
-      elements = sym (c.in_ok-circuit.ensures.elements ∙ c.into_elements-elements.ensures);
-      symbols = c.in_ok-circuit.ensures.symbols ∙ ap (map symbol_of) c.into_elements-elements.ensures;
-      wired = wired;
-      named = all_named ds es circuit.sources.items names;
-      boxes = are;
-      order = c.in_ok-circuit.ensures.order;
-      turns = turns are;
+      elements = sym c.into_elements-elements.ensures;
+      sound = c.requires;
+      top = c.of-rows.result.top;
+      rows = rows;
+      steps = rw (c.deref-2.ensures.value, c.into_elements-elements.ensures) at c.in_ok-steps.ensures;
+      coils = rw (c.deref-3.ensures.value, c.into_elements-elements.ensures) at c.in_ok-coils.ensures;
+      boxes = bound_boxes_are c.args.rails.now es c.requires ds c.of-rows.result.top c.in_ok-boxes.boxes.items (boxes (all_boxes (IsNamedBox ds) es (λ b in'. named_box_of ds es b bound in')));
+    }
+
+pub returns-clause-shape : goal.returns-clause-shape
+returns-clause-shape c =
+    let ds = c.args.declarations.now in
+    let es = c.args.network in
+    let d = diagram c.args.rails.now es in
+    let top = c.of-rows.result.top in
+    let count = c.of-rows.result.count in
+    let rows = (rw (c.deref.ensures.value, c.into_elements-elements.ensures) at c.of-rows.ensures.rows) c.args.rails.now c.requires in
+    let low = (rw (c.deref.ensures.value, c.into_elements-elements.ensures) at c.of-rows.ensures.low) c.args.rails.now c.requires in
+    let steps = rw (c.deref-2.ensures.value, c.into_elements-elements.ensures) at c.in_ok-steps.ensures in
+    let coils = rw (c.deref-3.ensures.value, c.into_elements-elements.ensures) at c.in_ok-coils.ensures in
+    let boxes = rw (c.deref-4.ensures.value, c.into_elements-elements.ensures) at c.in_ok-boxes.ensures.count in
+    let within = rw (c.deref-4.ensures.value, c.into_elements-elements.ensures) at c.in_ok-boxes.ensures.within in
+    let number : length c.in_ok-coils.coils.items ≡ length (coils_of es) = ap length coils ∙ bound_coils_counted ds es in
+    let Memories : ℕ → Type 0 = λ n. All (λ (x : BoundCoil). x.memory < n) c.in_ok-coils.coils.items in
+    record {
+      low = low;
+      steps_in = rw (c.into_elements-elements.ensures, number, boxes) (steps_within ds d top count rows c.in_ok-steps.steps.items steps);
+      coils_in = rw (c.into_elements-elements.ensures, coils) (coils_within ds es);
+      outputs_in = within count (boxes_in_rows es top count rows);
     }

@@ -3,7 +3,6 @@ use Rattle.std.proofs.lemmas.Iterator.Adapters.{YieldsList-from_vec}
 use Rattle.std.proofs.lemmas.Iterator.Consumers.{YieldsList-turn}
 use Rattle.std.proofs.lemmas.Option.{slice_get_read}
 use Rattle.power_flow.proofs.Binds.{circuits_more, shapes_more, elements_more}
-use Rattle.power_flow.proofs.LeastRoom.{stops_more}
 use Rattle.power_flow.proofs.circuits.circuits_of.Goals as goal
 
 pub circuit_of-requires : goal.circuit_of-requires
@@ -21,10 +20,8 @@ loop-network-preserved c =
     let one = c.loop-network.invariant in
     let pushed = c.in_ok-push.ensures.items in
     let made = rw c.in_ok-rails.ensures at c.in_ok-circuit.ensures.circuit in
-    let stops = rw c.in_ok-rails.ensures at c.in_ok-circuit.ensures.stops in
     rw pushed record {
       elements = elements_more c.loop-network.circuits.items c.loop-network.yielded circuit c.in-Some.network one.elements c.in_ok-circuit.ensures.elements;
       circuits = circuits_more c.args.declarations.now c.args.rails.now c.loop-network.circuits.items c.loop-network.yielded circuit c.in-Some.network one.circuits made c.in_ok-circuit.ensures.elements;
       shape = shapes_more c.loop-network.circuits.items circuit one.shape c.in_ok-circuit.ensures.shape;
-      stops = stops_more c.args.rails.now c.loop-network.circuits.items circuit c.in-Some.network one.stops stops c.in_ok-circuit.ensures.elements;
     }

@@ -1,8 +1,7 @@
 use Rattle.std.proofs.Common.{◌≡◌, All, map}
 use Rattle.power_flow.specs.declared.circuit.Circuit.{Circuit}
 use Rattle.power_flow.specs.Binding.{IsBoundNetwork}
-use Rattle.power_flow.specs.Steps.Circuit.{AreCircuits, HasShape, circuit_diagram}
-use Rattle.power_flow.specs.Waiting.{AreStops}
+use Rattle.power_flow.specs.Steps.Circuit.{AreCircuits, HasShape}
 use Rattle.power_flow.proofs.circuits.circuits_of.Given as goal
 
 abbrev pub invariant-loop-network : goal.invariant-loop-network
@@ -10,5 +9,4 @@ invariant-loop-network l = record {
   elements : map (λ (c : Circuit). c.elements.items) l.circuits.items ≡ l.yielded;
   circuits : All (IsBoundNetwork l.declarations) l.yielded → AreCircuits l.declarations l.rails l.circuits.items;
   shape : All HasShape l.circuits.items;
-  stops : All (λ c. AreStops (circuit_diagram l.rails c) c.places.items) l.circuits.items;
 }

@@ -14,7 +14,7 @@ loop-circuit-preserved c =
     let new = c.max-most.result in
     let item = c.circuit-item.result in (
       most_more f c.args.circuits.now c.loop-circuit.circuit-index old new item c.loop-circuit-test.true c.circuit-item.is c.loop-circuit.invariant.0 (omega (arith, c.max-most.ensures))
-          (omega (arith, c.max-most.ensures, c.len.ensures, c.circuit-item.result.places.ok.0)),
+          (omega (arith, c.max-most.ensures, c.len.ensures, c.circuit-item.result.boxes.ok.0)),
       least_more f c.args.circuits.now c.loop-circuit.circuit-index old new item c.loop-circuit-test.true c.circuit-item.is c.loop-circuit.invariant.1
           (omega (arith, c.max-most.ensures, c.len.ensures, c.circuit-item.result.boxes.ok.0)),
     )

@@ -9,4 +9,4 @@ returns-in-Some t c = λ ds rails are wide bind fits.
     let later = rw c.split_at_mut-here.ensures.back at c.scan_circuits.ensures in
     scan_more ds rails c.args.dt c.in-Some.first.now c.in-Some.rest.now c.args.circuits.now c.args.slots.now c.scan_circuit.new.slots c.scan_circuits.new.slots c.args.memories.now
     c.scan_circuit.new.memories c.scan_circuits.new.memories c.len-elements.result
-    c.in-Some.ensures.cases.0 (omega (arith, c.len-elements.ensures, c.in-Some.first.now.elements.ok.0)) (omega arith) (here ds (circuit_diagram rails c.in-Some.first.now)) (later ds rails) are wide bind fits
+    c.in-Some.ensures.cases.0 (omega (arith, c.len-elements.ensures, c.in-Some.first.now.elements.ok.0)) (omega arith) (λ is narrow. here ds (circuit_diagram rails c.in-Some.first.now) is) (later ds rails) are wide bind fits

@@ -1,0 +1,81 @@
+-- What a scan does at the steps of a network, one after the other.
+use Rattle.std.specs.Prelude.{◌≡◌, ℕ, ◌+◌, ◌<◌, ◌≤◌, ◌⊎◌, ◌↔◌, List, [], ◌∷◌, ◌++◌, Bool, true, false, ◌&&◌, Some, slice_get, slice_set, length}
+use Rattle.std.specs.Option.{option_map}
+use Rattle.std_blocks.specs.declared.value.Value.{Value}
+use Rattle.std_blocks.specs.declared.value.Value.TheVariants.{Bool as BoolValue}
+use Rattle.power_flow.specs.declared.state.Instance.{Instance}
+use Rattle.power_flow.specs.declared.state.Slot.{Slot}
+use Rattle.power_flow.specs.declared.bound_box.BoundBox.{BoundBox}
+use Rattle.power_flow.specs.declared.step.Step.{Step}
+use Rattle.power_flow.specs.declared.step.Step.TheVariants as step
+use Rattle.power_flow.specs.declared.step.BoundContact.{BoundContact}
+use Rattle.power_flow.specs.declared.step.BoundCoil.{BoundCoil}
+use Rattle.power_flow.specs.Names.{is_true}
+use Rattle.power_flow.specs.Meaning.{bit_at, contact_conducts, contact_memory, coil_value, coil_memory, store}
+use Rattle.power_flow.specs.Steps.Sources.{source_value}
+use Rattle.power_flow.specs.Steps.BoxSteps.{box_result, IsMarked, HasOutput}
+
+-- what a scan works on: the states of the rows, the memories, the left links of the coils, and the results of the boxes
+pub record Pass : Type 0 where
+  pub rows : List Bool
+  pub memories : List Bool
+  pub links : List Bool
+  pub results : List Instance
+
+abbrev pub pass_of : List Bool → List Bool → List Bool → List Instance → Pass
+pass_of rows memories links results = record { rows = rows; memories = memories; links = links; results = results }
+
+-- the rows from first to last have one state: ON where any of them was
+pub record AreJoined (first last : ℕ) (old new : List Bool) : Type 0 where
+  pub long : length new ≡ length old
+  pub within : (r : ℕ) → first ≤ r → r ≤ last → (bit_at new r ≡ true) ↔ ((k : ℕ) × (first ≤ k) × (k ≤ last) × (bit_at old k ≡ true))
+  pub outside : (r : ℕ) → (r < first) ⊎ (last < r) → bit_at new r ≡ bit_at old r
+
+-- the rows of the output pins show the outputs
+pub record AreShown (e : BoundBox) (i : Instance) (old new : List Bool) : Type 0 where
+  pub long : length new ≡ length old
+  pub within : (r : ℕ) → HasOutput e.outputs.items r → (bit_at new r ≡ true) ↔ IsMarked e.outputs.items i.outputs r
+  pub outside : (r : ℕ) → (HasOutput e.outputs.items r → ⊥) → bit_at new r ≡ bit_at old r
+
+-- state goes on in the row of a contact that conducts
+abbrev pub read_rows : BoundContact → List Slot → List Bool → List Bool → List Bool
+read_rows c slots rows memories = slice_set rows c.row (bit_at rows c.row && contact_conducts c.kind (is_true (source_value slots c.source)) (bit_at memories c.memory))
+
+-- the memory of an edge contact becomes its variable's value
+abbrev pub read_memories : BoundContact → List Slot → List Bool → List Bool
+read_memories c slots memories = slice_set memories c.memory (contact_memory c.kind (is_true (source_value slots c.source)) (bit_at memories c.memory))
+
+-- the box k is stepped, and its outputs are shown
+pub record IsBoxObeyed (boxes : List BoundBox) (slots : List Slot) (dt k : ℕ) (a b : Pass) : Type 0 where
+  pub box : BoundBox
+  pub at : slice_get boxes k ≡ Some box
+  pub results : b.results ≡ slice_set a.results k (box_result box slots dt a.rows)
+  pub shown : AreShown box (box_result box slots dt a.rows) a.rows b.rows
+  pub memories : b.memories ≡ a.memories
+  pub links : b.links ≡ a.links
+
+-- what a step leaves
+abbrev pub IsObeyed : List BoundBox → List Slot → ℕ → Step → Pass → Pass → Type 0
+IsObeyed boxes slots dt (step.Rail r) a b = b ≡ record a { rows = slice_set a.rows r true }
+IsObeyed boxes slots dt (step.Off r) a b = b ≡ record a { rows = slice_set a.rows r false }
+IsObeyed boxes slots dt (step.Upright first last) a b = AreJoined first last a.rows b.rows × (b.memories ≡ a.memories) × (b.links ≡ a.links) × (b.results ≡ a.results)
+IsObeyed boxes slots dt (step.Contact c) a b = b ≡ record a { rows = read_rows c slots a.rows a.memories; memories = read_memories c slots a.memories }
+IsObeyed boxes slots dt (step.Coil r k) a b = b ≡ record a { links = slice_set a.links k (bit_at a.rows r) }
+IsObeyed boxes slots dt (step.Box k) a b = IsBoxObeyed boxes slots dt k a b
+
+-- what steps leave, one after the other
+abbrev pub ArePassed : List BoundBox → List Slot → ℕ → List Step → Pass → Pass → Type 0
+ArePassed boxes slots dt [] a b = b ≡ a
+ArePassed boxes slots dt (s ∷ steps) a b = (mid : Pass) × IsObeyed boxes slots dt s a mid × ArePassed boxes slots dt steps mid b
+
+-- the stores of the coils from the number i on, in their order, by their left links and memories
+abbrev pub bound_stores : List BoundCoil → ℕ → List Bool → List Bool → List (ℕ × Value)
+bound_stores [] i links memories = []
+bound_stores (c ∷ coils) i links memories =
+    store c.place (option_map BoolValue (coil_value c.kind (bit_at links i) (bit_at memories c.memory)))
+    ++ bound_stores coils (i + 1) links (slice_set memories c.memory (coil_memory c.kind (bit_at links i) (bit_at memories c.memory)))
+
+-- the memories once these coils have stored
+abbrev pub bound_memories : List BoundCoil → ℕ → List Bool → List Bool → List Bool
+bound_memories [] i links memories = memories
+bound_memories (c ∷ coils) i links memories = bound_memories coils (i + 1) links (slice_set memories c.memory (coil_memory c.kind (bit_at links i) (bit_at memories c.memory)))

@@ -1,0 +1,172 @@
+ghost use Rattle.std.specs.Prelude.{◌≡◌, ◌<◌, ◌≤◌, ◌⊎◌, ◌↔◌, ℕ, All, Some, true, false, length, slice_get, slice_set};
+ghost use Rattle.power_flow.specs.Meaning.{bit_at, contact_conducts, contact_memory};
+ghost use Rattle.std_blocks.specs.Pins.{field_value};
+ghost use Rattle.power_flow.specs.Names.{is_true};
+ghost use Rattle.power_flow.specs.Steps.BoxSteps.{IsMarked, HasOutput, box_result};
+ghost use Rattle.power_flow.specs.Steps.Circuit.{IsStepIn};
+ghost use Rattle.power_flow.specs.Steps.Passing.{AreJoined, AreShown, IsObeyed, ArePassed, pass_of, read_rows, read_memories};
+
+use crate::bound_box::{BoundBox, BoundOutput};
+use crate::source::is_output_on;
+use crate::state::{Instance, Slot};
+use crate::step::{BoundContact, Step};
+use ladder_text::ContactKind;
+use std_blocks::PinsOut;
+
+fn conducts(kind: ContactKind, on: bool, memory: bool) -> bool
+    ensures { result ≡ contact_conducts kind on memory }
+{
+    match kind {
+        ContactKind::Plain => on,
+        ContactKind::Negated => !on,
+        ContactKind::Rise => on && !memory,
+        ContactKind::Fall => !on && memory,
+    }
+}
+
+fn next_memory(kind: ContactKind, on: bool, memory: bool) -> bool
+    ensures { result ≡ contact_memory kind on memory }
+{
+    match kind {
+        ContactKind::Plain | ContactKind::Negated => memory,
+        ContactKind::Rise | ContactKind::Fall => on,
+    }
+}
+
+/// Whether any of the rows from first to last is ON.
+fn is_any_on(rows: &[bool], first: usize, last: usize) -> bool
+    requires { last < length rows.now }
+    ensures { (result ≡ true) ↔ ((k : ℕ) × (first ≤ k) × (k ≤ last) × (bit_at rows.now k ≡ true)) }
+{
+    for row in first..last + 1 {
+        if rows[row] {
+            return true;
+        }
+    }
+    false
+}
+
+/// Where any of the rows from first to last is ON, all are.
+fn join_rows(rows: &mut [bool], first: usize, last: usize)
+    requires { last < length rows.old }
+    ensures { AreJoined first last rows.old rows.new }
+{
+    let on = is_any_on(rows, first, last);
+    for row in first..last + 1 {
+        rows[row] = on;
+    }
+}
+
+/// Turns off the rows of the output pins.
+fn clear_outputs(pins: &[BoundOutput], rows: &mut [bool])
+    requires { All (λ o. o.row < length rows.old) pins.now }
+    ensures long { length rows.new ≡ length rows.old }
+    ensures cleared { (r : ℕ) → HasOutput pins.now r → bit_at rows.new r ≡ false }
+    ensures kept { (r : ℕ) → (HasOutput pins.now r → ⊥) → bit_at rows.new r ≡ bit_at rows.old r }
+{
+    for pin in pins {
+        rows[pin.row] = false;
+    }
+}
+
+/// Turns on the row of an output pin that is ON.
+fn mark_output(pin: &BoundOutput, outputs: &PinsOut, rows: &mut [bool])
+    requires { pin.now.row < length rows.old }
+    ensures long { length rows.new ≡ length rows.old }
+    ensures marked { (r : ℕ) → (bit_at rows.new r ≡ true)
+        ↔ ((bit_at rows.old r ≡ true) ⊎ ((pin.now.row ≡ r) × (is_true (Some (field_value outputs.now pin.now.field)) ≡ true))) }
+{
+    if is_output_on(outputs, pin.field) {
+        rows[pin.row] = true;
+    }
+}
+
+/// Turns on the rows of the output pins that are ON.
+fn mark_outputs(pins: &[BoundOutput], outputs: &PinsOut, rows: &mut [bool])
+    requires { All (λ o. o.row < length rows.old) pins.now }
+    ensures long { length rows.new ≡ length rows.old }
+    ensures marked { (r : ℕ) → (bit_at rows.new r ≡ true) ↔ ((bit_at rows.old r ≡ true) ⊎ IsMarked pins.now outputs.now r) }
+{
+    for pin in pins {
+        mark_output(pin, outputs, rows);
+    }
+}
+
+/// The rows of the output pins show the outputs.
+fn show_outputs(bound: &BoundBox, made: &Instance, rows: &mut [bool])
+    requires { All (λ o. o.row < length rows.old) bound.now.outputs.items }
+    ensures { AreShown bound.now made.now rows.old rows.new }
+{
+    clear_outputs(&bound.outputs, rows);
+    mark_outputs(&bound.outputs, &made.outputs, rows);
+}
+
+/// Steps a box by the states of the rows on its left, and shows its outputs in those on its right.
+fn step_box(bound: &BoundBox, made: &mut Instance, slots: &[Slot], rows: &mut [bool], dt: u32)
+    requires { All (λ o. o.row < length rows.old) bound.now.outputs.items }
+    ensures made { made.new ≡ box_result bound.now slots.now dt rows.old }
+    ensures shown { AreShown bound.now (box_result bound.now slots.now dt rows.old) rows.old rows.new }
+{
+    *made = bound.step(slots, rows, dt);
+    show_outputs(bound, made, rows);
+}
+
+/// Reads a contact: state goes on in its row if it conducts.
+fn read_contact(contact: &BoundContact, slots: &[Slot], rows: &mut [bool], memories: &mut [bool])
+    requires row { contact.now.row < length rows.old }
+    requires memory { contact.now.memory < length memories.old }
+    ensures rows { rows.new ≡ read_rows contact.now slots.now rows.old memories.old }
+    ensures memories { memories.new ≡ read_memories contact.now slots.now memories.old }
+{
+    let on = contact.source.is_true(slots);
+    let memory = memories[contact.memory];
+    rows[contact.row] = rows[contact.row] && conducts(contact.kind, on, memory);
+    memories[contact.memory] = next_memory(contact.kind, on, memory);
+}
+
+/// Does what a step says.
+fn obey(
+    step: &Step,
+    boxes: &[BoundBox],
+    slots: &[Slot],
+    rows: &mut [bool],
+    memories: &mut [bool],
+    links: &mut [bool],
+    results: &mut [Instance],
+    dt: u32,
+)
+    requires step { IsStepIn (length rows.old) (length memories.old) (length links.old) (length boxes.now) step.now }
+    requires outputs { All (λ e. All (λ o. o.row < length rows.old) e.outputs.items) boxes.now }
+    requires results { length results.old ≡ length boxes.now }
+    ensures { IsObeyed boxes.now slots.now dt step.now (pass_of rows.old memories.old links.old results.old) (pass_of rows.new memories.new links.new results.new) }
+{
+    match step {
+        Step::Rail(row) => rows[*row] = true,
+        Step::Off(row) => rows[*row] = false,
+        Step::Upright(first, last) => join_rows(rows, *first, *last),
+        Step::Contact(contact) => read_contact(contact, slots, rows, memories),
+        Step::Coil(row, number) => links[*number] = rows[*row],
+        Step::Box(number) => step_box(&boxes[*number], &mut results[*number], slots, rows, dt),
+    }
+}
+
+/// Does what the steps say, each once, in their order.
+pub fn pass(
+    steps: &[Step],
+    boxes: &[BoundBox],
+    slots: &[Slot],
+    rows: &mut [bool],
+    memories: &mut [bool],
+    links: &mut [bool],
+    results: &mut [Instance],
+    dt: u32,
+)
+    requires steps { All (λ s. IsStepIn (length rows.old) (length memories.old) (length links.old) (length boxes.now) s) steps.now }
+    requires outputs { All (λ e. All (λ o. o.row < length rows.old) e.outputs.items) boxes.now }
+    requires results { length results.old ≡ length boxes.now }
+    ensures { ArePassed boxes.now slots.now dt steps.now (pass_of rows.old memories.old links.old results.old) (pass_of rows.new memories.new links.new results.new) }
+{
+    for step in steps {
+        obey(step, boxes, slots, rows, memories, links, results, dt);
+    }
+}
