@@ -33,7 +33,8 @@ def tell(title, marked=(), nameless=()):
     with open("it.plant", "w") as file:
         file.write(plant(marked, nameless))
     ran = subprocess.run([sys.argv[1], "check", "it.plant"], capture_output=True, text=True)
-    print(title, ran.stdout + ran.stderr, sep="\n", end="")
+    first = ran.stderr.partition("\n")
+    print(title, ran.stdout + first[0] + first[1], sep="\n", end="")
 
 
 tell("no fault")

@@ -36,7 +36,7 @@ def unanswered(texts):
                 file.write(text)
             ran = subprocess.run([PROGRAM, "eval", "drawing"], cwd=place, capture_output=True, text=True)
             is_read = ran.returncode == 0 and ran.stdout.count("\n") == 1 and not ran.stderr
-            is_refused = ran.returncode == 1 and not ran.stdout and FAULT.fullmatch(ran.stderr)
+            is_refused = ran.returncode == 1 and not ran.stdout and FAULT.match(ran.stderr)
             if not (is_read or is_refused):
                 found.append(f"status {ran.returncode}, {ran.stderr!r}: {text!r}")
     return found

@@ -1,0 +1,22 @@
+/// What has a name in a plant.
+#[derive(Clone, Copy, Debug, PartialEq, Eq)]
+pub enum Thing {
+    ProgramType,
+    Resource,
+    Task,
+    Instance,
+    Input,
+    Output,
+    Local,
+}
+
+/// A name where it is declared or used.
+#[derive(Clone, Copy)]
+pub struct Mention<'a> {
+    pub thing: Thing,
+    pub name: &'a [u8],
+    /// The program type, resource or instance to which the thing belongs; empty where there is none.
+    pub owner: &'a [u8],
+    pub line: u64,
+    pub is_declaration: bool,
+}
