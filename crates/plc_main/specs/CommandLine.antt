@@ -75,13 +75,17 @@ run_app = with_rule (with_rule (with_rule (with_rule (new_app (codes "run")) pla
 abbrev pub explain_app : App
 explain_app = with_rule (new_app (codes "explain")) kind_rule
 
--- it has a version, and needs a command
+-- with a version
+abbrev pub versioned : App → App
+versioned a = record a { top = record a.top { has_version = true } }
+
+-- it needs a command
 abbrev pub commanded : App → App
-commanded a = record a { top = record a.top { has_version = true; subcommand_required = true } }
+commanded a = record a { top = record a.top { subcommand_required = true } }
 
 -- `plc`, and one of the six
 abbrev pub plc_app : App
-plc_app = with_subcommand (with_subcommand (with_subcommand (with_subcommand (with_subcommand (with_subcommand (commanded (new_app (codes "plc"))) eval_app.top) check_app.top) plan_app.top) sim_app.top) run_app.top) explain_app.top
+plc_app = with_subcommand (with_subcommand (with_subcommand (with_subcommand (with_subcommand (with_subcommand (commanded (versioned (new_app (codes "plc")))) eval_app.top) check_app.top) plan_app.top) sim_app.top) run_app.top) explain_app.top
 
 -- digits alone are a number of 32 bits
 abbrev pub IsNumber : List ℕ → Type 0

@@ -1,7 +1,7 @@
 ghost use Rattle.std.specs.Prelude.{◌≡◌, ◌≢◌, ◌⊎◌, ◌↔◌, false, [], Some, IfOk, IfErr, IsTrue, MatchOption, codes, map, unwrap_or, string_bytes};
 ghost use Rattle.std.specs.Str.Parse.{digits_value};
-ghost use Rattle.clap.specs.Words.{app_of, rule_of, rows_of, found_of, first_of, all_of, kind_of, subcommand_of};
-ghost use Rattle.plc_main.specs.CommandLine.{drawing_rule, dt_rule, words_rule, plant_rule, until_rule, schedule_rule, max_number_rule, paced_rule, kind_rule, eval_app, check_app, plan_app, sim_app, run_app, explain_app, plc_app};
+ghost use Rattle.clap.specs.Words.{app_of, new_app, rule_of, rows_of, found_of, first_of, all_of, kind_of, subcommand_of};
+ghost use Rattle.plc_main.specs.CommandLine.{drawing_rule, dt_rule, words_rule, plant_rule, until_rule, schedule_rule, max_number_rule, paced_rule, kind_rule, eval_app, check_app, plan_app, sim_app, run_app, explain_app, versioned, commanded, plc_app};
 ghost use Rattle.plc_main.specs.CommandLine.{IsNumber, GivesNumber, AsksEval, AsksPlan, AsksSim, AsksRun, IsAsked, word_of, is_given};
 
 use crate::request::{Request, RunRequest, SimRequest, TextRequest};
@@ -307,16 +307,23 @@ fn explain_command<'a>(alloc: Global) -> Result<Command<'a>, AllocError>
         .arg(kind_arg(alloc))
 }
 
-/// The commands of the program.
-pub fn commands<'a>(alloc: Global) -> Result<Command<'a>, AllocError>
-    ensures { IfOk result (λ c. app_of c ≡ plc_app) }
+/// The program without its commands.
+fn plc_command<'a>(alloc: Global) -> Result<Command<'a>, AllocError>
+    ensures { IfOk result (λ c. app_of c ≡ commanded (versioned (new_app (codes "plc")))) }
 {
-    Command::new(alloc, "plc")
+    Ok(Command::new(alloc, "plc")
         .bin_name("plc")?
         .about("Runs ladder diagrams drawn in characters (IEC 61131-3)")
         .after_help(FIRST_STEPS)
         .version(VERSION)
-        .subcommand_required(true)
+        .subcommand_required(true))
+}
+
+/// The commands of the program.
+pub fn commands<'a>(alloc: Global) -> Result<Command<'a>, AllocError>
+    ensures { IfOk result (λ c. app_of c ≡ plc_app) }
+{
+    plc_command(alloc)?
         .subcommand(eval_command(alloc)?)?
         .subcommand(check_command(alloc)?)?
         .subcommand(plan_command(alloc)?)?

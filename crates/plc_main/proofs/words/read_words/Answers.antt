@@ -48,4 +48,4 @@ returns-in-Some-explain-default c =
     let words = map (λ word. string_bytes word) c.args.words.now in
     let named = named_by c.in_ok-command.command words c.in_ok-matches.matches c.subcommand.result c.in-Some-explain-default.field-0-0 c.in-Some-explain-default.inner c.in-Some-explain-default.is
     c.subcommand.ensures.name c.subcommand.ensures.rows c.in_ok-matches.ensures.ok.2 c.in_ok-command.ensures in
-    subst (λ found. IsAsked found (Explain c.given_word-2.result)) named (inr (inr (inr (inr (inr (c.in-Some-explain-default.is-explain, c.given_word-2.ensures))))))
+    subst (λ found. IsAsked found (Explain c.given_word-in-Some-explain-default.result)) named (inr (inr (inr (inr (inr (c.in-Some-explain-default.is-explain, c.given_word-in-Some-explain-default.ensures))))))
