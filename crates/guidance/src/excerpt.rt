@@ -1,5 +1,5 @@
-ghost use Rattle.std.specs.Prelude.{◌≡◌, ◌++◌, OnOk, string_bytes};
-ghost use Rattle.guidance.specs.Shown.{shown_sign, shown_part};
+ghost use Rattle.std.specs.Prelude.{◌≡◌};
+ghost use Rattle.guidance.specs.Shown.{shown_sign};
 
 use std::alloc::{AllocError, Global};
 use std::fmt::Write;
@@ -10,7 +10,7 @@ const WIDTH: usize = 100;
 const BEFORE: usize = 60;
 
 /// A part of a line that is pointed at, by its signs from 0.
-#[derive(Clone, Copy, Debug, PartialEq, Eq)]
+#[derive(Clone, Copy)]
 pub struct Place {
     pub at: usize,
     pub signs: usize,
@@ -50,7 +50,10 @@ fn push_part(text: &mut String, line: &str, from: usize, most: usize) -> Result<
 
 /// All of a line but the blanks at both ends.
 pub fn whole_of(line: &str) -> Place {
-    let at = line.chars().take_while(|sign| *sign == ' ' || *sign == '\t').count();
+    let at = line
+        .chars()
+        .take_while(|sign| *sign == ' ' || *sign == '\t')
+        .count();
     let signs = line.trim_end().chars().count();
     Place {
         at,
@@ -59,8 +62,17 @@ pub fn whole_of(line: &str) -> Place {
 }
 
 /// Writes a line and marks below it the place that is pointed at. Of a long line a part round the place is shown.
-pub fn push_excerpt(text: &mut String, alloc: Global, line: &str, place: Place) -> Result<(), AllocError> {
-    let from = if place.at < WIDTH { 0 } else { place.at.saturating_sub(BEFORE) };
+pub fn push_excerpt(
+    text: &mut String,
+    alloc: Global,
+    line: &str,
+    place: Place,
+) -> Result<(), AllocError> {
+    let from = if place.at < WIDTH {
+        0
+    } else {
+        place.at.saturating_sub(BEFORE)
+    };
     let left = if from == 0 { "  " } else { "  .. " };
     let before = place.at.saturating_sub(from);
     let marked = place.signs.min(WIDTH.saturating_sub(before)).max(1);

@@ -1,17 +1,21 @@
+ghost use Rattle.std.specs.Prelude.{◌≡◌, ◌++◌, OnOk, string_bytes, codes};
+ghost use Rattle.guidance.specs.Topics.{told_of};
+
 use crate::declared_names::names_of_a_drawing;
 use crate::excerpt::{Place, line_of, push_excerpt, whole_of};
 use crate::mentions::mentions_of;
 use crate::nearest::nearest_names;
 use crate::refusal::Refusal;
 use crate::topic::Topic;
-use crate::unknown_word::{
-    declared_for_a_body, declared_such, unknown_in_a_drawing, unknown_in_a_plant,
-};
+use crate::unknown_word::{declared_for_a_body, unknown_in_a_drawing, unknown_in_a_plant};
 use plant::PlantFault;
 use power_flow::Declarations;
 use std::alloc::{AllocError, Global};
 
-fn push_sentence(help: &mut String, topic: Topic) -> Result<(), AllocError> {
+/// Writes what is wrong and how it is mended, with a line feed behind it.
+fn push_sentence(help: &mut String, topic: Topic) -> Result<(), AllocError>
+    ensures { OnOk result (string_bytes help.new ≡ string_bytes help.old ++ (told_of topic).sentence ++ codes "\n") }
+{
     help.push_str(topic.advice().sentence)?;
     help.push_str("\n")
 }
@@ -33,9 +37,9 @@ fn push_nearest(
 ) -> Result<(), AllocError> {
     push_name(help, name)?;
     if declared.is_empty() {
-        return help.push_str(" isn't declared, and nothing else is that could stand here.\n");
+        return help.push_str(" isn't declared here, and no other name is.\n");
     }
-    help.push_str(" isn't declared; the nearest names that are:")?;
+    help.push_str(" isn't declared here; the nearest names that are:")?;
     let mut between = " ";
     for other in &nearest_names(alloc, name, declared)? {
         help.push_str(between)?;
@@ -104,11 +108,8 @@ fn push_near_plant(
     line: u64,
 ) -> Result<(), AllocError> {
     let mentions = mentions_of(alloc, text.as_bytes())?;
-    match unknown_in_a_plant(&mentions, line) {
-        Some(used) => {
-            let names = declared_such(alloc, &mentions, &used)?;
-            push_nearest(help, alloc, used.name, &names)
-        }
+    match unknown_in_a_plant(alloc, &mentions, line)? {
+        Some((name, names)) => push_nearest(help, alloc, name, &names),
         None => Ok(()),
     }
 }

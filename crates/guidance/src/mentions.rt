@@ -4,7 +4,7 @@ use ladder_text::is_plain_name;
 use std::alloc::{AllocError, Global};
 
 /// What the next name of a plant's text is.
-#[derive(Clone, Copy, Debug, PartialEq, Eq)]
+#[derive(Clone, Copy)]
 enum Turn {
     /// No name of a thing.
     Nothing,
@@ -14,8 +14,10 @@ enum Turn {
     DeclaresAll(Thing),
     UsesTask,
     UsesType,
-    /// An input or a source.
-    Binds,
+    /// An input that is bound.
+    UsesInput,
+    /// A part of a source.
+    UsesSource(Thing),
 }
 
 /// What was read so far of a plant's words.
@@ -27,6 +29,10 @@ struct Reading<'a> {
     /// The program type whose names come.
     program: &'a [u8],
     resource: &'a [u8],
+    /// The instance that is declared, or is the source of what comes.
+    instance: &'a [u8],
+    /// The resource of the source that comes.
+    source: &'a [u8],
 }
 
 fn is_end(word: &[u8]) -> bool {
@@ -63,6 +69,17 @@ fn turn_behind(word: &[u8], in_configuration: bool) -> Option<Turn> {
     }
 }
 
+/// What comes behind a sign between an input and its source, in a source, or between two of them. `None`: it is no such sign.
+fn turn_by_sign(word: &[u8], turn: Turn) -> Option<Turn> {
+    match (word, turn) {
+        (b"=", Turn::UsesInput) => Some(Turn::UsesSource(Thing::Resource)),
+        (b".", Turn::UsesSource(Thing::Resource)) => Some(Turn::UsesSource(Thing::Instance)),
+        (b".", Turn::UsesSource(_)) => Some(Turn::UsesSource(Thing::Output)),
+        (b",", Turn::UsesSource(_)) => Some(Turn::UsesInput),
+        _ => None,
+    }
+}
+
 impl<'a> Reading<'a> {
     fn declare(
         &mut self,
@@ -74,7 +91,21 @@ impl<'a> Reading<'a> {
             thing,
             name: word.text,
             owner,
+            origin: b"",
             line: word.line,
+            is_declaration: true,
+        })?;
+        Ok(())
+    }
+
+    /// The instance of which the task and the program type were read.
+    fn declare_instance(&mut self, program: PlantWord<'a>) -> Result<(), AllocError> {
+        self.mentions.push(Mention {
+            thing: Thing::Instance,
+            name: self.instance,
+            owner: self.resource,
+            origin: program.text,
+            line: program.line,
             is_declaration: true,
         })?;
         Ok(())
@@ -84,14 +115,15 @@ impl<'a> Reading<'a> {
         &mut self,
         thing: Thing,
         owner: &'a [u8],
-        name: &'a [u8],
-        line: u64,
+        origin: &'a [u8],
+        word: PlantWord<'a>,
     ) -> Result<(), AllocError> {
         self.mentions.push(Mention {
             thing,
-            name,
+            name: word.text,
             owner,
-            line,
+            origin,
+            line: word.line,
             is_declaration: false,
         })?;
         Ok(())
@@ -109,23 +141,26 @@ impl<'a> Reading<'a> {
                 self.resource = word.text;
                 self.declare(thing, b"", word)
             }
+            Thing::Instance => {
+                self.instance = word.text;
+                Ok(())
+            }
             _ => self.declare(thing, self.resource, word),
         }
     }
 
-    /// An input, a source or an address.
-    fn take_bind(&mut self, word: PlantWord<'a>) -> Result<(), AllocError> {
-        let mut parts = word.text.split(|sign| *sign == b'.');
-        match (parts.next(), parts.next(), parts.next()) {
-            (Some(resource), Some(instance), Some(output)) => {
-                self.name_used(Thing::Resource, b"", resource, word.line)?;
-                self.name_used(Thing::Instance, resource, instance, word.line)?;
-                self.name_used(Thing::Output, b"", output, word.line)
+    /// A part of a source: a resource, an instance of it, or an output of that.
+    fn take_source(&mut self, thing: Thing, word: PlantWord<'a>) -> Result<(), AllocError> {
+        match thing {
+            Thing::Resource => {
+                self.source = word.text;
+                self.name_used(thing, b"", b"", word)
             }
-            _ if is_plain_name(word.text) => {
-                self.name_used(Thing::Input, self.program, word.text, word.line)
+            Thing::Instance => {
+                self.instance = word.text;
+                self.name_used(thing, self.source, b"", word)
             }
-            _ => Ok(()),
+            _ => self.name_used(thing, self.instance, self.source, word),
         }
     }
 
@@ -136,14 +171,16 @@ impl<'a> Reading<'a> {
             Turn::DeclaresAll(thing) => self.declare(thing, self.program, word),
             Turn::UsesTask => {
                 self.turn = Turn::UsesType;
-                self.name_used(Thing::Task, self.resource, word.text, word.line)
+                self.name_used(Thing::Task, self.resource, b"", word)
             }
             Turn::UsesType => {
-                self.turn = Turn::Binds;
+                self.turn = Turn::UsesInput;
                 self.program = word.text;
-                self.name_used(Thing::ProgramType, b"", word.text, word.line)
+                self.declare_instance(word)?;
+                self.name_used(Thing::ProgramType, b"", b"", word)
             }
-            Turn::Binds => self.take_bind(word),
+            Turn::UsesInput => self.name_used(Thing::Input, self.program, b"", word),
+            Turn::UsesSource(thing) => self.take_source(thing, word),
         }
     }
 
@@ -157,7 +194,11 @@ impl<'a> Reading<'a> {
             self.in_configuration = true;
             return Ok(());
         }
-        if self.turn == Turn::Binds || is_plain_name(word.text) {
+        if let Some(turn) = turn_by_sign(word.text, self.turn) {
+            self.turn = turn;
+            return Ok(());
+        }
+        if is_plain_name(word.text) {
             self.take_name(word)
         } else {
             Ok(())
@@ -174,6 +215,8 @@ pub fn mentions_of<'a>(alloc: Global, text: &'a [u8]) -> Result<Vec<Mention<'a>>
         in_configuration: false,
         program: b"",
         resource: b"",
+        instance: b"",
+        source: b"",
     };
     for word in &words {
         reading.take(*word)?;

@@ -4,7 +4,7 @@ use plant::PlantFault;
 use power_flow::BindFault;
 
 /// Why a text was refused.
-#[derive(Clone, Copy, Debug, PartialEq, Eq)]
+#[derive(Clone, Copy)]
 pub enum Refusal {
     /// It isn't well drawn.
     Drawing(DrawFault),

@@ -1,7 +1,7 @@
 ghost use Rattle.std.specs.Prelude.{◌≡◌};
 ghost use Rattle.guidance.specs.Topics.{IsAdviceOn, of_drawing, of_networks, of_names, of_body, of_plant};
 
-use crate::advice::Advice;
+use crate::advice::{Advice, Layer};
 use crate::table;
 use ladder_text::DrawFaultKind;
 use network::GraphFaultKind;
@@ -9,7 +9,7 @@ use plant::{BodyFault, PlantFault, PlantFaultKind};
 use power_flow::BindKind;
 
 /// A kind of fault of a text, by the layer that refuses it.
-#[derive(Clone, Copy, Debug, PartialEq, Eq)]
+#[derive(Clone, Copy)]
 pub enum Topic {
     NotAscii,
     TooLarge,
@@ -81,35 +81,209 @@ impl Topic {
         ensures { IsAdviceOn self result }
     {
         match self {
-            Topic::NotAscii => table::NOT_ASCII,
-            Topic::TooLarge => table::TOO_LARGE,
-            Topic::NoLeftRail => table::NO_LEFT_RAIL,
-            Topic::BadBox => table::BAD_BOX,
-            Topic::BadMark => table::BAD_MARK,
-            Topic::Crossing => table::CROSSING,
-            Topic::NoSource => table::NO_SOURCE,
-            Topic::NameMissing => table::NAME_MISSING,
-            Topic::StrayName => table::STRAY_NAME,
-            Topic::Unattached => table::UNATTACHED,
-            Topic::TooTall => table::TOO_TALL,
-            Topic::InstanceTwice => table::INSTANCE_TWICE,
-            Topic::UnknownName => table::UNKNOWN_NAME,
-            Topic::WrongKind => table::WRONG_KIND,
-            Topic::WritesInput => table::WRITES_INPUT,
-            Topic::UnknownPin => table::UNKNOWN_PIN,
-            Topic::PinMissing => table::PIN_MISSING,
-            Topic::LiteralOutOfRange => table::LITERAL_OUT_OF_RANGE,
-            Topic::PlantSyntax => table::PLANT_SYNTAX,
-            Topic::BodyDrawing => table::BODY_DRAWING,
-            Topic::BodyGraph => table::BODY_GRAPH,
-            Topic::BodyBind => table::BODY_BIND,
-            Topic::PlantNameTwice => table::PLANT_NAME_TWICE,
-            Topic::PlantUnknownName => table::PLANT_UNKNOWN_NAME,
-            Topic::PlantWrongKind => table::PLANT_WRONG_KIND,
-            Topic::InputBoundTwice => table::INPUT_BOUND_TWICE,
-            Topic::TooMany => table::TOO_MANY,
-            Topic::TooLong => table::TOO_LONG,
-            Topic::ScheduleSyntax => table::SCHEDULE_SYNTAX,
+            Topic::NotAscii => Advice {
+                layer: Layer::Drawing,
+                kind: "NotAscii",
+                sentence: table::NOT_ASCII,
+                example: table::NOT_ASCII_REFUSED,
+                mended: table::NOT_ASCII_MENDED,
+            },
+            Topic::TooLarge => Advice {
+                layer: Layer::Drawing,
+                kind: "TooLarge",
+                sentence: table::TOO_LARGE,
+                example: table::TOO_LARGE_REFUSED,
+                mended: table::TOO_LARGE_MENDED,
+            },
+            Topic::NoLeftRail => Advice {
+                layer: Layer::Drawing,
+                kind: "NoLeftRail",
+                sentence: table::NO_LEFT_RAIL,
+                example: table::NO_LEFT_RAIL_REFUSED,
+                mended: table::NO_LEFT_RAIL_MENDED,
+            },
+            Topic::BadBox => Advice {
+                layer: Layer::Drawing,
+                kind: "BadBox",
+                sentence: table::BAD_BOX,
+                example: table::BAD_BOX_REFUSED,
+                mended: table::BAD_BOX_MENDED,
+            },
+            Topic::BadMark => Advice {
+                layer: Layer::Drawing,
+                kind: "BadMark",
+                sentence: table::BAD_MARK,
+                example: table::BAD_MARK_REFUSED,
+                mended: table::BAD_MARK_MENDED,
+            },
+            Topic::Crossing => Advice {
+                layer: Layer::Drawing,
+                kind: "Crossing",
+                sentence: table::CROSSING,
+                example: table::CROSSING_REFUSED,
+                mended: table::CROSSING_MENDED,
+            },
+            Topic::NoSource => Advice {
+                layer: Layer::Drawing,
+                kind: "NoSource",
+                sentence: table::NO_SOURCE,
+                example: table::NO_SOURCE_REFUSED,
+                mended: table::NO_SOURCE_MENDED,
+            },
+            Topic::NameMissing => Advice {
+                layer: Layer::Drawing,
+                kind: "NameMissing",
+                sentence: table::NAME_MISSING,
+                example: table::NAME_MISSING_REFUSED,
+                mended: table::NAME_MISSING_MENDED,
+            },
+            Topic::StrayName => Advice {
+                layer: Layer::Drawing,
+                kind: "StrayName",
+                sentence: table::STRAY_NAME,
+                example: table::STRAY_NAME_REFUSED,
+                mended: table::STRAY_NAME_MENDED,
+            },
+            Topic::Unattached => Advice {
+                layer: Layer::Networks,
+                kind: "Unattached",
+                sentence: table::UNATTACHED,
+                example: table::UNATTACHED_REFUSED,
+                mended: table::UNATTACHED_MENDED,
+            },
+            Topic::TooTall => Advice {
+                layer: Layer::Networks,
+                kind: "TooTall",
+                sentence: table::TOO_TALL,
+                example: table::TOO_TALL_REFUSED,
+                mended: table::TOO_TALL_MENDED,
+            },
+            Topic::InstanceTwice => Advice {
+                layer: Layer::Networks,
+                kind: "InstanceTwice",
+                sentence: table::INSTANCE_TWICE,
+                example: table::INSTANCE_TWICE_REFUSED,
+                mended: table::INSTANCE_TWICE_MENDED,
+            },
+            Topic::UnknownName => Advice {
+                layer: Layer::Names,
+                kind: "UnknownName",
+                sentence: table::UNKNOWN_NAME,
+                example: table::UNKNOWN_NAME_REFUSED,
+                mended: table::UNKNOWN_NAME_MENDED,
+            },
+            Topic::WrongKind => Advice {
+                layer: Layer::Names,
+                kind: "WrongKind",
+                sentence: table::WRONG_KIND,
+                example: table::WRONG_KIND_REFUSED,
+                mended: table::WRONG_KIND_MENDED,
+            },
+            Topic::WritesInput => Advice {
+                layer: Layer::Names,
+                kind: "WritesInput",
+                sentence: table::WRITES_INPUT,
+                example: table::WRITES_INPUT_REFUSED,
+                mended: table::WRITES_INPUT_MENDED,
+            },
+            Topic::UnknownPin => Advice {
+                layer: Layer::Names,
+                kind: "UnknownPin",
+                sentence: table::UNKNOWN_PIN,
+                example: table::UNKNOWN_PIN_REFUSED,
+                mended: table::UNKNOWN_PIN_MENDED,
+            },
+            Topic::PinMissing => Advice {
+                layer: Layer::Names,
+                kind: "PinMissing",
+                sentence: table::PIN_MISSING,
+                example: table::PIN_MISSING_REFUSED,
+                mended: table::PIN_MISSING_MENDED,
+            },
+            Topic::LiteralOutOfRange => Advice {
+                layer: Layer::Names,
+                kind: "LiteralOutOfRange",
+                sentence: table::LITERAL_OUT_OF_RANGE,
+                example: table::LITERAL_OUT_OF_RANGE_REFUSED,
+                mended: table::LITERAL_OUT_OF_RANGE_MENDED,
+            },
+            Topic::PlantSyntax => Advice {
+                layer: Layer::Plant,
+                kind: "Syntax",
+                sentence: table::PLANT_SYNTAX,
+                example: table::PLANT_SYNTAX_REFUSED,
+                mended: table::PLANT_SYNTAX_MENDED,
+            },
+            Topic::BodyDrawing => Advice {
+                layer: Layer::Plant,
+                kind: "Drawing",
+                sentence: table::BODY_DRAWING,
+                example: table::BODY_DRAWING_REFUSED,
+                mended: table::BODY_DRAWING_MENDED,
+            },
+            Topic::BodyGraph => Advice {
+                layer: Layer::Plant,
+                kind: "Graph",
+                sentence: table::BODY_GRAPH,
+                example: table::BODY_GRAPH_REFUSED,
+                mended: table::BODY_GRAPH_MENDED,
+            },
+            Topic::BodyBind => Advice {
+                layer: Layer::Plant,
+                kind: "Bind",
+                sentence: table::BODY_BIND,
+                example: table::BODY_BIND_REFUSED,
+                mended: table::BODY_BIND_MENDED,
+            },
+            Topic::PlantNameTwice => Advice {
+                layer: Layer::Plant,
+                kind: "NameTwice",
+                sentence: table::PLANT_NAME_TWICE,
+                example: table::PLANT_NAME_TWICE_REFUSED,
+                mended: table::PLANT_NAME_TWICE_MENDED,
+            },
+            Topic::PlantUnknownName => Advice {
+                layer: Layer::Plant,
+                kind: "UnknownName",
+                sentence: table::PLANT_UNKNOWN_NAME,
+                example: table::PLANT_UNKNOWN_NAME_REFUSED,
+                mended: table::PLANT_UNKNOWN_NAME_MENDED,
+            },
+            Topic::PlantWrongKind => Advice {
+                layer: Layer::Plant,
+                kind: "WrongKind",
+                sentence: table::PLANT_WRONG_KIND,
+                example: table::PLANT_WRONG_KIND_REFUSED,
+                mended: table::PLANT_WRONG_KIND_MENDED,
+            },
+            Topic::InputBoundTwice => Advice {
+                layer: Layer::Plant,
+                kind: "InputBoundTwice",
+                sentence: table::INPUT_BOUND_TWICE,
+                example: table::INPUT_BOUND_TWICE_REFUSED,
+                mended: table::INPUT_BOUND_TWICE_MENDED,
+            },
+            Topic::TooMany => Advice {
+                layer: Layer::Plant,
+                kind: "TooMany",
+                sentence: table::TOO_MANY,
+                example: table::TOO_MANY_REFUSED,
+                mended: table::TOO_MANY_MENDED,
+            },
+            Topic::TooLong => Advice {
+                layer: Layer::Plan,
+                kind: "TooLong",
+                sentence: table::TOO_LONG,
+                example: table::TOO_LONG_REFUSED,
+                mended: table::TOO_LONG_MENDED,
+            },
+            Topic::ScheduleSyntax => Advice {
+                layer: Layer::Schedule,
+                kind: "Syntax",
+                sentence: table::SCHEDULE_SYNTAX,
+                example: table::SCHEDULE_SYNTAX_REFUSED,
+                mended: table::SCHEDULE_SYNTAX_MENDED,
+            },
         }
     }
 

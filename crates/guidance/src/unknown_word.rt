@@ -4,7 +4,8 @@ use std::alloc::{AllocError, Global};
 
 /// Words inside boxes and symbols that are no names of variables.
 const PINS: [&str; 17] = [
-    "S1", "S", "R", "R1", "Q1", "CU", "CD", "LD", "PV", "Q", "QU", "QD", "CV", "IN", "PT", "ET", "P",
+    "S1", "S", "R", "R1", "Q1", "CU", "CD", "LD", "PV", "Q", "QU", "QD", "CV", "IN", "PT", "ET",
+    "P",
 ];
 
 fn is_same(name: &[u8], other: &[u8]) -> bool {
@@ -21,7 +22,11 @@ fn is_pin(name: &[u8]) -> bool {
 
 /// The first word of a line of a drawing that is a name, or the part of one before its dot, and isn't declared.
 pub fn unknown_in_a_drawing<'a>(line: &'a [u8], declared: &[&[u8]]) -> Option<&'a [u8]> {
-    for word in line.split(|sign| !(sign.is_ascii_alphanumeric() || *sign == b'_' || *sign == b'.' || *sign == b'#')) {
+    for word in line.split(|sign| !(sign.is_ascii_alphanumeric()
+        || *sign == b'_'
+        || *sign == b'.'
+        || *sign == b'#'))
+    {
         let name = word.split(|sign| *sign == b'.').next().unwrap_or(word);
         if is_plain_name(name) && !is_pin(name) && !is_among(name, declared) {
             return Some(name);
@@ -30,42 +35,51 @@ pub fn unknown_in_a_drawing<'a>(line: &'a [u8], declared: &[&[u8]]) -> Option<&'
     None
 }
 
-/// Whether a declaration is of a thing such as the one that is used.
-fn is_such(declared: &Mention<'_>, used: &Mention<'_>) -> bool {
-    declared.is_declaration
-        && declared.thing == used.thing
-        && (used.owner.is_empty() || is_same(declared.owner, used.owner))
+/// What the thing that is used belongs to: an output to the program type of its instance.
+fn owner_of<'a>(mentions: &[Mention<'a>], used: &Mention<'a>) -> &'a [u8] {
+    if used.thing != Thing::Output {
+        return used.owner;
+    }
+    for mention in mentions {
+        let is_instance = mention.is_declaration && mention.thing == Thing::Instance;
+        if is_instance && is_same(mention.name, used.owner) && is_same(mention.owner, used.origin) {
+            return mention.origin;
+        }
+    }
+    b""
 }
 
 /// The names declared of things such as the one that is used.
-pub fn declared_such<'a>(
+fn declared_such<'a>(
     alloc: Global,
     mentions: &[Mention<'a>],
-    used: &Mention<'_>,
+    used: &Mention<'a>,
 ) -> Result<Vec<&'a [u8]>, AllocError> {
+    let owner = owner_of(mentions, used);
     let mut names = Vec::new(alloc);
     for mention in mentions {
-        if is_such(mention, used) {
+        if mention.is_declaration && mention.thing == used.thing && is_same(mention.owner, owner) {
             names.push(mention.name)?;
         }
     }
     Ok(names)
 }
 
-fn is_declared(mentions: &[Mention<'_>], used: &Mention<'_>) -> bool {
-    mentions
-        .iter()
-        .any(|declared| is_such(declared, used) && is_same(declared.name, used.name))
-}
-
-/// The first name that is used on a line of a plant and isn't declared.
-pub fn unknown_in_a_plant<'a>(mentions: &[Mention<'a>], line: u64) -> Option<Mention<'a>> {
+/// The first name that is used on a line of a plant and isn't declared, with the names that could stand there.
+pub fn unknown_in_a_plant<'a>(
+    alloc: Global,
+    mentions: &[Mention<'a>],
+    line: u64,
+) -> Result<Option<(&'a [u8], Vec<&'a [u8]>)>, AllocError> {
     for mention in mentions {
-        if mention.line == line && !mention.is_declaration && !is_declared(mentions, mention) {
-            return Some(*mention);
+        if mention.line == line && !mention.is_declaration {
+            let names = declared_such(alloc, mentions, mention)?;
+            if !is_among(mention.name, &names) {
+                return Ok(Some((mention.name, names)));
+            }
         }
     }
-    None
+    Ok(None)
 }
 
 /// The program type whose text a line stands in.

@@ -278,13 +278,7 @@ fn prepare<R: Files + Eprint + AllocGlobal + Threads + Sync>(
     };
     match shared_plant(rt, text.as_str()) {
         Ok(plant) => Ok(Ok(Prepared { plant, inputs })),
-        Err(fault) => Ok(Err(print_fault(
-            rt,
-            request.plant,
-            text.as_str(),
-            &[],
-            fault,
-        )?)),
+        Err(fault) => Ok(Err(print_fault(rt, request.plant, text.as_str(), &[], fault)?)),
     }
 }
 

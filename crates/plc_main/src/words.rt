@@ -311,12 +311,14 @@ fn explain_command<'a>(alloc: Global) -> Result<Command<'a>, AllocError>
 fn plc_command<'a>(alloc: Global) -> Result<Command<'a>, AllocError>
     ensures { IfOk result (λ c. app_of c ≡ commanded (versioned (new_app (codes "plc")))) }
 {
-    Ok(Command::new(alloc, "plc")
-        .bin_name("plc")?
-        .about("Runs ladder diagrams drawn in characters (IEC 61131-3)")
-        .after_help(FIRST_STEPS)
-        .version(VERSION)
-        .subcommand_required(true))
+    Ok(
+        Command::new(alloc, "plc")
+            .bin_name("plc")?
+            .about("Runs ladder diagrams drawn in characters (IEC 61131-3)")
+            .after_help(FIRST_STEPS)
+            .version(VERSION)
+            .subcommand_required(true),
+    )
 }
 
 /// The commands of the program.
