@@ -61,13 +61,8 @@ pub fn whole_of(line: &str) -> Place {
     }
 }
 
-/// Writes a line and marks below it the place that is pointed at. Of a long line a part round the place is shown.
-pub fn push_excerpt(
-    text: &mut String,
-    alloc: Global,
-    line: &str,
-    place: Place,
-) -> Result<(), AllocError> {
+/// A line, with a mark below the place that is pointed at. Of a long line a part round the place is shown.
+pub fn excerpt(alloc: Global, line: &str, place: Place) -> Result<String, AllocError> {
     let from = if place.at < WIDTH {
         0
     } else {
@@ -76,12 +71,13 @@ pub fn push_excerpt(
     let left = if from == 0 { "  " } else { "  .. " };
     let before = place.at.saturating_sub(from);
     let marked = place.signs.min(WIDTH.saturating_sub(before)).max(1);
-    text.push_str(left)?;
-    push_part(text, line, from, WIDTH)?;
+    let mut text = String::from_str(alloc, left)?;
+    push_part(&mut text, line, from, WIDTH)?;
     if line.chars().skip(from).nth(WIDTH).is_some() {
         text.push_str(" ..")?;
     }
     let blanks = " ".repeat(alloc, left.len().saturating_add(before))?;
     let carets = "^".repeat(alloc, marked)?;
-    write!(text, "\n{blanks}{carets}\n")
+    write!(text, "\n{blanks}{carets}\n")?;
+    Ok(text)
 }

@@ -1,8 +1,9 @@
-ghost use Rattle.std.specs.Prelude.{◌≡◌, ◌++◌, OnOk, string_bytes, codes};
-ghost use Rattle.guidance.specs.Topics.{told_of};
+ghost use Rattle.std.specs.Prelude.{◌≡◌, ◌++◌, OnOk, IfOk, string_bytes, codes};
+ghost use Rattle.guidance.specs.Topics.{told_of, of_plant};
+ghost use Rattle.guidance.specs.Helping.{Tells, TellsOf, topic_of};
 
 use crate::declared_names::names_of_a_drawing;
-use crate::excerpt::{Place, line_of, push_excerpt, whole_of};
+use crate::excerpt::{Place, excerpt, line_of, whole_of};
 use crate::mentions::mentions_of;
 use crate::nearest::nearest_names;
 use crate::refusal::Refusal;
@@ -28,25 +29,23 @@ fn push_name(help: &mut String, name: &[u8]) -> Result<(), AllocError> {
     Ok(())
 }
 
-/// Writes which name isn't declared, and the nearest ones that are.
-fn push_nearest(
-    help: &mut String,
-    alloc: Global,
-    name: &[u8],
-    declared: &[&[u8]],
-) -> Result<(), AllocError> {
-    push_name(help, name)?;
+/// Which name isn't declared, and the nearest ones that are.
+fn nearest_to(alloc: Global, name: &[u8], declared: &[&[u8]]) -> Result<String, AllocError> {
+    let mut near = String::new(alloc);
+    push_name(&mut near, name)?;
     if declared.is_empty() {
-        return help.push_str(" isn't declared here, and no other name is.\n");
+        near.push_str(" isn't declared here, and no other name is.\n")?;
+        return Ok(near);
     }
-    help.push_str(" isn't declared here; the nearest names that are:")?;
+    near.push_str(" isn't declared here; the nearest names that are:")?;
     let mut between = " ";
     for other in &nearest_names(alloc, name, declared)? {
-        help.push_str(between)?;
-        push_name(help, other)?;
+        near.push_str(between)?;
+        push_name(&mut near, other)?;
         between = ", ";
     }
-    help.push_str("\n")
+    near.push_str("\n")?;
+    Ok(near)
 }
 
 /// The first name in the row above a line of a drawing, or in the line, that isn't declared.
@@ -68,126 +67,112 @@ fn names_in(alloc: Global, declarations: &Declarations) -> Result<Vec<&[u8]>, Al
     Ok(names)
 }
 
-/// Tells the names of a drawing that are nearest to one that is unknown.
-fn push_near_drawing(
-    help: &mut String,
-    alloc: Global,
-    text: &str,
-    line: u64,
-) -> Result<(), AllocError> {
+/// The names of a drawing that are nearest to one that is unknown.
+fn near_drawing(alloc: Global, text: &str, line: u64) -> Result<String, AllocError> {
     let Some(declarations) = names_of_a_drawing(alloc, text) else {
-        return Ok(());
+        return Ok(String::new(alloc));
     };
     let names = names_in(alloc, &declarations)?;
     match unknown_near(text, line, &names) {
-        Some(name) => push_nearest(help, alloc, name, &names),
-        None => Ok(()),
+        Some(name) => nearest_to(alloc, name, &names),
+        None => Ok(String::new(alloc)),
     }
 }
 
-/// Tells the names declared for a program's drawing that are nearest to one that is unknown.
-fn push_near_body(
-    help: &mut String,
-    alloc: Global,
-    text: &str,
-    line: u64,
-) -> Result<(), AllocError> {
+/// The names declared for a program's drawing that are nearest to one that is unknown.
+fn near_body(alloc: Global, text: &str, line: u64) -> Result<String, AllocError> {
     let mentions = mentions_of(alloc, text.as_bytes())?;
     let names = declared_for_a_body(alloc, &mentions, line)?;
     match unknown_near(text, line, &names) {
-        Some(name) => push_nearest(help, alloc, name, &names),
-        None => Ok(()),
+        Some(name) => nearest_to(alloc, name, &names),
+        None => Ok(String::new(alloc)),
     }
 }
 
-/// Tells the names of a plant that are nearest to one that is unknown.
-fn push_near_plant(
-    help: &mut String,
-    alloc: Global,
-    text: &str,
-    line: u64,
-) -> Result<(), AllocError> {
+/// The names of a plant that are nearest to one that is unknown.
+fn near_plant(alloc: Global, text: &str, line: u64) -> Result<String, AllocError> {
     let mentions = mentions_of(alloc, text.as_bytes())?;
     match unknown_in_a_plant(alloc, &mentions, line)? {
-        Some((name, names)) => push_nearest(help, alloc, name, &names),
-        None => Ok(()),
+        Some((name, names)) => nearest_to(alloc, name, &names),
+        None => Ok(String::new(alloc)),
     }
 }
 
-/// Writes a line with a mark under a place of it, what is wrong there, and names that were meant perhaps.
-fn push_place(
-    help: &mut String,
+/// A line with a mark, the sentence on the kind of fault, and what else helps.
+fn joined(mut shown: String, topic: Topic, more: &str) -> Result<String, AllocError>
+    ensures { IfOk result (λ help. Tells topic (string_bytes help)) }
+{
+    push_sentence(&mut shown, topic)?;
+    shown.push_str(more)?;
+    Ok(shown)
+}
+
+/// A place of a drawing, what is wrong there, and names that were meant perhaps.
+fn help_at(
     alloc: Global,
     text: &str,
     topic: Option<Topic>,
     line: u64,
     column: usize,
-) -> Result<(), AllocError> {
+) -> Result<String, AllocError>
+    ensures { IfOk result (λ help. TellsOf topic (string_bytes help)) }
+{
     let Some(topic) = topic else {
-        return Ok(());
+        return Ok(String::new(alloc));
     };
     let at = column.saturating_sub(1);
-    push_excerpt(help, alloc, line_of(text, line), Place { at, signs: 1 })?;
-    push_sentence(help, topic)?;
-    match topic {
-        Topic::UnknownName => push_near_drawing(help, alloc, text, line),
-        _ => Ok(()),
-    }
-}
-
-/// Writes a line, all of it marked, and what is wrong there.
-fn push_line(
-    help: &mut String,
-    alloc: Global,
-    text: &str,
-    topic: Topic,
-    line: u64,
-) -> Result<(), AllocError> {
-    let shown = line_of(text, line);
-    push_excerpt(help, alloc, shown, whole_of(shown))?;
-    push_sentence(help, topic)
-}
-
-/// Writes a line of a plant, what is wrong there, and names that were meant perhaps.
-fn push_plant(
-    help: &mut String,
-    alloc: Global,
-    text: &str,
-    fault: PlantFault,
-) -> Result<(), AllocError> {
-    let Some(topic) = Topic::of_plant(fault) else {
-        return Ok(());
+    let shown = excerpt(alloc, line_of(text, line), Place { at, signs: 1 })?;
+    let more = match topic {
+        Topic::UnknownName => near_drawing(alloc, text, line)?,
+        _ => String::new(alloc),
     };
-    push_line(help, alloc, text, topic, fault.line)?;
-    match topic {
-        Topic::UnknownName => push_near_body(help, alloc, text, fault.line),
-        Topic::PlantUnknownName => push_near_plant(help, alloc, text, fault.line),
-        _ => Ok(()),
-    }
+    joined(shown, topic, more.as_str())
+}
+
+/// A whole line marked.
+fn line_marked(alloc: Global, text: &str, line: u64) -> Result<String, AllocError> {
+    let shown = line_of(text, line);
+    excerpt(alloc, shown, whole_of(shown))
+}
+
+/// A line of a plant, what is wrong there, and names that were meant perhaps.
+fn help_with_a_plant(alloc: Global, text: &str, fault: PlantFault) -> Result<String, AllocError>
+    ensures { IfOk result (λ help. TellsOf (of_plant fault.kind fault.inner) (string_bytes help)) }
+{
+    let Some(topic) = Topic::of_plant(fault) else {
+        return Ok(String::new(alloc));
+    };
+    let shown = line_marked(alloc, text, fault.line)?;
+    let more = match topic {
+        Topic::UnknownName => near_body(alloc, text, fault.line)?,
+        Topic::PlantUnknownName => near_plant(alloc, text, fault.line)?,
+        _ => String::new(alloc),
+    };
+    joined(shown, topic, more.as_str())
 }
 
 /// What helps to mend a text that is refused: the line with the place, what is wrong there, and names that were meant perhaps.
 /// It is empty for want of memory.
-pub fn help_with(alloc: Global, text: &str, refusal: Refusal) -> Result<String, AllocError> {
-    let mut help = String::new(alloc);
+pub fn help_with(alloc: Global, text: &str, refusal: Refusal) -> Result<String, AllocError>
+    ensures { IfOk result (λ help. TellsOf (topic_of refusal) (string_bytes help)) }
+{
     match refusal {
         Refusal::Drawing(fault) => {
             let topic = Topic::of_drawing(fault.kind);
-            push_place(&mut help, alloc, text, topic, fault.line, fault.column)?;
+            help_at(alloc, text, topic, fault.line, fault.column)
         }
         Refusal::Networks(fault) => {
             let topic = Topic::of_networks(fault.kind);
-            push_place(&mut help, alloc, text, topic, fault.line, fault.column)?;
+            help_at(alloc, text, topic, fault.line, fault.column)
         }
         Refusal::Names(fault) => {
             let topic = Topic::of_names(fault.kind);
-            push_place(&mut help, alloc, text, topic, fault.line, fault.column)?;
+            help_at(alloc, text, topic, fault.line, fault.column)
         }
-        Refusal::Plant(fault) => push_plant(&mut help, alloc, text, fault)?,
-        Refusal::Plan => push_sentence(&mut help, Topic::TooLong)?,
+        Refusal::Plant(fault) => help_with_a_plant(alloc, text, fault),
+        Refusal::Plan => joined(String::new(alloc), Topic::TooLong, ""),
         Refusal::Schedule { line } => {
-            push_line(&mut help, alloc, text, Topic::ScheduleSyntax, line)?;
+            joined(line_marked(alloc, text, line)?, Topic::ScheduleSyntax, "")
         }
     }
-    Ok(help)
 }

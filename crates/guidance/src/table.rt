@@ -23,9 +23,9 @@ pub const NO_LEFT_RAIL: &str =
     "The leftmost column is the left rail and has no other signs than | and +; draw the rail, and begin everything else on its right.";
 
 pub const NO_LEFT_RAIL_REFUSED: &str = "\
-   A    Y
-+--| |--( )
-NOTE";
+LAMP
+|  A    Y
++--| |--( )";
 
 pub const NO_LEFT_RAIL_MENDED: &str = "\
 |  A    Y
