@@ -8,7 +8,7 @@ use Rattle.clap.specs.declared.builder.action.ArgAction.TheVariants.{Set, Append
 use Rattle.plc_main.specs.declared.request.TextRequest.{TextRequest}
 use Rattle.plc_main.specs.declared.request.TextRequest.TheVariants.{Eval, Check, Plan}
 use Rattle.plc_main.specs.declared.request.Request.{Request}
-use Rattle.plc_main.specs.declared.request.Request.TheVariants.{Text as OfText, Sim, Run}
+use Rattle.plc_main.specs.declared.request.Request.TheVariants.{Text as OfText, Sim, Run, Explain}
 
 -- a word that must be given
 abbrev pub needed_word : Text → Rule
@@ -23,6 +23,9 @@ drawing_rule = needed_word (codes "DRAWING")
 
 abbrev pub plant_rule : Rule
 plant_rule = needed_word (codes "PLANT")
+
+abbrev pub kind_rule : Rule
+kind_rule = needed_word (codes "KIND")
 
 abbrev pub dt_rule : Rule
 dt_rule = option_of (codes "dt")
@@ -68,12 +71,21 @@ sim_app = with_rule (with_rule (with_rule (new_app (codes "sim")) plant_rule) sc
 abbrev pub run_app : App
 run_app = with_rule (with_rule (with_rule (with_rule (new_app (codes "run")) plant_rule) until_rule) paced_rule) words_rule
 
+-- `explain KIND`
+abbrev pub explain_app : App
+explain_app = with_rule (new_app (codes "explain")) kind_rule
+
+-- with a version
+abbrev pub versioned : App → App
+versioned a = record a { top = record a.top { has_version = true } }
+
+-- it needs a command
 abbrev pub commanded : App → App
 commanded a = record a { top = record a.top { subcommand_required = true } }
 
--- `plc`, and one of the five
+-- `plc`, and one of the six
 abbrev pub plc_app : App
-plc_app = with_subcommand (with_subcommand (with_subcommand (with_subcommand (with_subcommand (commanded (new_app (codes "plc"))) eval_app.top) check_app.top) plan_app.top) sim_app.top) run_app.top
+plc_app = with_subcommand (with_subcommand (with_subcommand (with_subcommand (with_subcommand (with_subcommand (commanded (versioned (new_app (codes "plc")))) eval_app.top) check_app.top) plan_app.top) sim_app.top) run_app.top) explain_app.top
 
 -- digits alone are a number of 32 bits
 abbrev pub IsNumber : List ℕ → Type 0
@@ -104,6 +116,7 @@ AsksEval found (OfText (Check plant)) = ⊥
 AsksEval found (OfText (Plan plant until)) = ⊥
 AsksEval found (Sim sim) = ⊥
 AsksEval found (Run run) = ⊥
+AsksEval found (Explain kind) = ⊥
 
 abbrev pub AsksCheck : List Row → Request → Type 0
 AsksCheck found (OfText (Eval drawing dt words)) = ⊥
@@ -111,6 +124,7 @@ AsksCheck found (OfText (Check plant)) = plant.now ≡ word_of (codes "PLANT") f
 AsksCheck found (OfText (Plan plant until)) = ⊥
 AsksCheck found (Sim sim) = ⊥
 AsksCheck found (Run run) = ⊥
+AsksCheck found (Explain kind) = ⊥
 
 abbrev pub AsksPlan : List Row → Request → Type 0
 AsksPlan found (OfText (Eval drawing dt words)) = ⊥
@@ -118,6 +132,7 @@ AsksPlan found (OfText (Check plant)) = ⊥
 AsksPlan found (OfText (Plan plant until)) = (plant.now ≡ word_of (codes "PLANT") found) × GivesNumber 0 (first_of (codes "until") found) until
 AsksPlan found (Sim sim) = ⊥
 AsksPlan found (Run run) = ⊥
+AsksPlan found (Explain kind) = ⊥
 
 abbrev pub AsksSim : List Row → Request → Type 0
 AsksSim found (OfText (Eval drawing dt words)) = ⊥
@@ -126,6 +141,7 @@ AsksSim found (OfText (Plan plant until)) = ⊥
 AsksSim found (Sim sim) =
     (sim.plant.now ≡ word_of (codes "PLANT") found) × (sim.schedule.now ≡ word_of (codes "SCHEDULE") found) × GivesNumber 4294967295 (first_of (codes "max-number") found) sim.max_number
 AsksSim found (Run run) = ⊥
+AsksSim found (Explain kind) = ⊥
 
 abbrev pub AsksRun : List Row → Request → Type 0
 AsksRun found (OfText (Eval drawing dt words)) = ⊥
@@ -135,11 +151,18 @@ AsksRun found (Sim sim) = ⊥
 AsksRun found (Run run) =
     (run.plant.now ≡ word_of (codes "PLANT") found) × GivesNumber 0 (first_of (codes "until") found) run.until × (run.paced ≡ is_given (codes "paced") found)
     × (map (λ w. w.now) run.words.items ≡ unwrap_or (all_of (codes "words") found) [])
+AsksRun found (Explain kind) = ⊥
+
+abbrev pub AsksExplain : List Row → Request → Type 0
+AsksExplain found (OfText text) = ⊥
+AsksExplain found (Sim sim) = ⊥
+AsksExplain found (Run run) = ⊥
+AsksExplain found (Explain kind) = kind.now ≡ word_of (codes "KIND") found
 
 -- the request is what the subcommand asks for, with what was found for its options
 abbrev pub IsAsked : Option (Text × List Row) → Request → Type 0
 IsAsked None request = ⊥
-IsAsked (Some (name, found)) request = ((name ≡ codes "eval") × AsksEval found request) ⊎ (((name ≡ codes "check") × AsksCheck found request) ⊎ (((name ≡ codes "plan") × AsksPlan found request) ⊎ (((name ≡ codes "sim") × AsksSim found request) ⊎ ((name ≡ codes "run") × AsksRun found request))))
+IsAsked (Some (name, found)) request = ((name ≡ codes "eval") × AsksEval found request) ⊎ (((name ≡ codes "check") × AsksCheck found request) ⊎ (((name ≡ codes "plan") × AsksPlan found request) ⊎ (((name ≡ codes "sim") × AsksSim found request) ⊎ (((name ≡ codes "run") × AsksRun found request) ⊎ ((name ≡ codes "explain") × AsksExplain found request)))))
 
 -- the file that is to be read
 abbrev pub file_of : TextRequest → List ℕ

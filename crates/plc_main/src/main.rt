@@ -32,6 +32,7 @@ use command_fault::CommandFault;
 use eval_command::eval;
 use evaluation::{InputFault, Inputs};
 use field_words::read_field_words;
+use guidance::{Refusal, explain, help_with};
 use node::{FreeGate, Gate, Keeper, MemoryKeeper, PacedGate};
 use plan_command::plan_text;
 use plant::Plant;
@@ -45,8 +46,8 @@ use std::sync::{Arc, Wait};
 use std::thread::Threads;
 use std::{env, fs, io};
 use text_fault::TextFault;
-use words::read_words;
-use world::{SimFault, simulate};
+use words::{FIRST_STEPS, read_words};
+use world::{SimFault, simulate, write_text};
 
 /// The status after a text is refused.
 const TEXT_REFUSED: u8 = 1;
@@ -75,6 +76,9 @@ fn print_usage<R: Print + Eprint>(rt: &R, error: &clap::Error) -> io::Result<u8>
         return Ok(FAILED);
     }
     error.print(rt)?;
+    if error.kind() == clap::error::ErrorKind::MissingSubcommand {
+        eprintln!(rt; "\n{FIRST_STEPS}")?;
+    }
     Ok(if error.exit_code() == 0 {
         0
     } else {
@@ -82,19 +86,28 @@ fn print_usage<R: Print + Eprint>(rt: &R, error: &clap::Error) -> io::Result<u8>
     })
 }
 
-fn print_fault<R: Eprint>(
+/// Tells what helps to mend a text. The fault was told before: what can't be told here is left out.
+fn print_help<R: Eprint + AllocGlobal>(rt: &R, text: &str, refusal: Refusal) {
+    if let Ok(help) = help_with(rt.alloc(), text, refusal) {
+        let _told = rt.eprint(help.as_str());
+    }
+}
+
+/// Tells a fault of a command; the text is that of the file.
+fn print_fault<R: Eprint + AllocGlobal>(
     rt: &R,
     file: &str,
+    text: &str,
     words: &[&str],
     fault: CommandFault,
 ) -> io::Result<u8> {
     match fault {
-        CommandFault::Text(TextFault::TooLong) => {
-            eprintln!(rt; "plan: TooLong")?;
-            Ok(TEXT_REFUSED)
-        }
         CommandFault::Text(fault) => {
-            eprintln!(rt; "{file}:{fault}")?;
+            match fault {
+                TextFault::TooLong => eprintln!(rt; "{fault}")?,
+                _ => eprintln!(rt; "{file}:{fault}")?,
+            }
+            print_help(rt, text, fault.refusal());
             Ok(TEXT_REFUSED)
         }
         CommandFault::Word(fault) => {
@@ -109,7 +122,12 @@ fn print_fault<R: Eprint>(
     }
 }
 
-fn print_input_fault<R: Eprint>(rt: &R, fault: InputFault) -> io::Result<u8> {
+/// Tells that the output failed, or memory.
+fn print_failure<R: Eprint + AllocGlobal>(rt: &R, fault: CommandFault) -> io::Result<u8> {
+    print_fault(rt, "", "", &[], fault)
+}
+
+fn print_input_fault<R: Eprint + AllocGlobal>(rt: &R, fault: InputFault) -> io::Result<u8> {
     match fault {
         InputFault::Syntax => {
             eprintln!(rt; "plc: a word is no ADDRESS=VALUE such as %IX0=1 or %IW2=-7")?;
@@ -119,18 +137,24 @@ fn print_input_fault<R: Eprint>(rt: &R, fault: InputFault) -> io::Result<u8> {
             eprintln!(rt; "plc: two words give one address its value")?;
             Ok(WORD_REFUSED)
         }
-        InputFault::Memory => print_fault(rt, "", &[], CommandFault::Memory),
+        InputFault::Memory => print_failure(rt, CommandFault::Memory),
     }
 }
 
-fn print_sim_fault<R: Eprint>(rt: &R, file: &str, fault: SimFault) -> io::Result<u8> {
+fn print_sim_fault<R: Eprint + AllocGlobal>(
+    rt: &R,
+    file: &str,
+    schedule: &str,
+    fault: SimFault,
+) -> io::Result<u8> {
     match fault {
-        SimFault::Syntax { .. } => {
+        SimFault::Syntax { line } => {
             eprintln!(rt; "{file}:{fault}")?;
+            print_help(rt, schedule, Refusal::Schedule { line });
             Ok(TEXT_REFUSED)
         }
-        SimFault::Write => print_fault(rt, file, &[], CommandFault::Write),
-        SimFault::Memory => print_fault(rt, file, &[], CommandFault::Memory),
+        SimFault::Write => print_failure(rt, CommandFault::Write),
+        SimFault::Memory => print_failure(rt, CommandFault::Memory),
     }
 }
 
@@ -178,7 +202,7 @@ fn answer_text<R: Files + Print + Eprint + AllocGlobal + Threads + Sync>(
     let mut writer = io::writer(rt);
     match obey(rt, request, text.as_str(), &mut writer) {
         Ok(()) => Ok(0),
-        Err(fault) => print_fault(rt, file, request.words(), fault),
+        Err(fault) => print_fault(rt, file, text.as_str(), request.words(), fault),
     }
 }
 
@@ -219,7 +243,7 @@ fn run_schedule<R: Files + Print + Eprint + AllocGlobal + Threads + Sync>(
     };
     let plant = match shared_plant(rt, text.as_str()) {
         Ok(plant) => plant,
-        Err(fault) => return print_fault(rt, request.plant, &[], fault),
+        Err(fault) => return print_fault(rt, request.plant, text.as_str(), &[], fault),
     };
     let schedule = match file_text(rt, request.schedule)? {
         Ok(schedule) => schedule,
@@ -228,7 +252,7 @@ fn run_schedule<R: Files + Print + Eprint + AllocGlobal + Threads + Sync>(
     let mut writer = io::writer(rt);
     match obey_schedule(rt.alloc(), request, plant, schedule.as_str(), &mut writer) {
         Ok(()) => Ok(0),
-        Err(fault) => print_sim_fault(rt, request.schedule, fault),
+        Err(fault) => print_sim_fault(rt, request.schedule, schedule.as_str(), fault),
     }
 }
 
@@ -254,7 +278,7 @@ fn prepare<R: Files + Eprint + AllocGlobal + Threads + Sync>(
     };
     match shared_plant(rt, text.as_str()) {
         Ok(plant) => Ok(Ok(Prepared { plant, inputs })),
-        Err(fault) => Ok(Err(print_fault(rt, request.plant, &[], fault)?)),
+        Err(fault) => Ok(Err(print_fault(rt, request.plant, text.as_str(), &[], fault)?)),
     }
 }
 
@@ -309,7 +333,7 @@ fn run_with<R: Print + Eprint + AllocGlobal + Threads + Wait + Sync, K: Keeper, 
     match obey_run(rt, request, prepared, keepers, gate, &mut writer) {
         Ok(false) => Ok(0),
         Ok(true) => Ok(FAILED),
-        Err(fault) => print_fault(rt, request.plant, &[], fault),
+        Err(fault) => print_failure(rt, fault),
     }
 }
 
@@ -340,7 +364,23 @@ fn run_anew<R: Files + Print + Eprint + AllocGlobal + Threads + Wait + Sync>(
     };
     match memory_keepers(rt.alloc(), &prepared.plant) {
         Ok(keepers) => run_plant(rt, request, prepared, keepers),
-        Err(_) => print_fault(rt, request.plant, &[], CommandFault::Memory),
+        Err(_) => print_failure(rt, CommandFault::Memory),
+    }
+}
+
+/// Writes what is told of the kinds of faults of this name; the status.
+fn answer_kind<R: Print + Eprint + AllocGlobal>(rt: &R, kind: &str) -> io::Result<u8> {
+    let Ok(text) = explain(rt.alloc(), kind) else {
+        return print_failure(rt, CommandFault::Memory);
+    };
+    if text.is_empty() {
+        eprintln!(rt; "plc: {kind}: there is no kind of fault of this name")?;
+        return Ok(WORD_REFUSED);
+    }
+    let mut writer = io::writer(rt);
+    match write_text(&mut writer, text.as_str()) {
+        Ok(()) => Ok(0),
+        Err(_) => print_failure(rt, CommandFault::Write),
     }
 }
 
@@ -355,6 +395,7 @@ fn answer<R: Env + Files + Print + Eprint + AllocGlobal + Threads + Wait + Sync>
         Ok(Request::Text(request)) => answer_text(rt, &request),
         Ok(Request::Sim(request)) => run_schedule(rt, &request),
         Ok(Request::Run(request)) => run_anew(rt, &request),
+        Ok(Request::Explain(kind)) => answer_kind(rt, kind),
         Err(error) => print_usage(rt, &error),
     }
 }

@@ -71,4 +71,6 @@ pub enum Request<'a> {
     Sim(SimRequest<'a>),
     /// What the threads of a plant do.
     Run(RunRequest<'a>),
+    /// What is told of the kinds of faults of this name.
+    Explain(&'a str),
 }

@@ -1,3 +1,4 @@
+use guidance::Refusal;
 use ladder_text::DrawFault;
 use network::GraphFault;
 use plant::PlantFault;
@@ -22,4 +23,17 @@ pub enum TextFault {
     /// The plant's plan has more than 100,000 entries.
     #[error("plan: TooLong")]
     TooLong,
+}
+
+impl TextFault {
+    /// What is refused, for what helps to mend it.
+    pub fn refusal(self) -> Refusal {
+        match self {
+            TextFault::Draw(fault) => Refusal::Drawing(fault),
+            TextFault::Graph(fault) => Refusal::Networks(fault),
+            TextFault::Bind(fault) => Refusal::Names(fault),
+            TextFault::Plant(fault) => Refusal::Plant(fault),
+            TextFault::TooLong => Refusal::Plan,
+        }
+    }
 }

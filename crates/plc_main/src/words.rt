@@ -1,13 +1,26 @@
 ghost use Rattle.std.specs.Prelude.{◌≡◌, ◌≢◌, ◌⊎◌, ◌↔◌, false, [], Some, IfOk, IfErr, IsTrue, MatchOption, codes, map, unwrap_or, string_bytes};
 ghost use Rattle.std.specs.Str.Parse.{digits_value};
-ghost use Rattle.clap.specs.Words.{app_of, rule_of, rows_of, found_of, first_of, all_of, kind_of, subcommand_of};
-ghost use Rattle.plc_main.specs.CommandLine.{drawing_rule, dt_rule, words_rule, plant_rule, until_rule, schedule_rule, max_number_rule, paced_rule, eval_app, check_app, plan_app, sim_app, run_app, plc_app};
+ghost use Rattle.clap.specs.Words.{app_of, new_app, rule_of, rows_of, found_of, first_of, all_of, kind_of, subcommand_of};
+ghost use Rattle.plc_main.specs.CommandLine.{drawing_rule, dt_rule, words_rule, plant_rule, until_rule, schedule_rule, max_number_rule, paced_rule, kind_rule, eval_app, check_app, plan_app, sim_app, run_app, explain_app, versioned, commanded, plc_app};
 ghost use Rattle.plc_main.specs.CommandLine.{IsNumber, GivesNumber, AsksEval, AsksPlan, AsksSim, AsksRun, IsAsked, word_of, is_given};
 
 use crate::request::{Request, RunRequest, SimRequest, TextRequest};
 use clap::error::ErrorKind;
 use clap::{Arg, ArgAction, ArgMatches, Command, Error};
 use std::alloc::{AllocError, Global};
+
+/// The version of the program.
+const VERSION: &str = "0.1.0";
+
+/// What can be tried first.
+pub const FIRST_STEPS: &str = "\
+A first drawing, and its scans (paste both lines into a shell):
+
+  printf '|  START      STOP     RUN\\n+--| |----+---|/|------( )\\n|  RUN    |\\n+--| |----+\\n' >first.ladder
+  plc eval first.ladder START=100 STOP=001
+
+Each digit is the input of one scan: RUN holds itself from START until STOP. plc COMMAND --help tells what the words of a
+command mean, and plc explain KIND what a refused text has wrong.";
 
 const EVAL_HELP: &str = "\
 Each word NAME=BITS gives the BOOL variable NAME its values: BITS is a row of digits 0 and 1, one for each
@@ -106,6 +119,17 @@ Example:
 The exit status is 0; 1 if the text of the plant is refused, with FILE:LINE: Kind on standard error, or if the plan has
 more than 100,000 lines, with plan: TooLong; 2 if a word is refused; 3 if a FAULT was written, the file can't be read, the
 output can't be written, the threads can't be run or there is no memory left.";
+
+const EXPLAIN_HELP: &str = "\
+KIND is the kind of a fault as the first line of a message tells it, in either case: Crossing in drawing.ladder:3:14: Crossing.
+What is wrong and how it is mended is written, with an example. A kind that several texts have is told for each of them.
+
+Example:
+
+  $ plc explain NameMissing
+
+The exit status is 0; 2 if there is no kind of fault of this name; 3 if the output can't be written or there is no memory
+left.";
 
 const UNTIL_REFUSED: &str = "MS of --until is a number from 0 to 4294967295";
 
@@ -264,19 +288,50 @@ fn run_command<'a>(alloc: Global) -> Result<Command<'a>, AllocError>
         .arg(inputs_arg(alloc))
 }
 
+fn kind_arg<'a>(alloc: Global) -> Arg<'a>
+    ensures rule { rule_of result ≡ kind_rule }
+    ensures local { result.global ≡ false }
+{
+    Arg::new(alloc, "KIND")
+        .required(true)
+        .action(ArgAction::Set)
+        .help("The kind of a fault, as NoSource")
+}
+
+fn explain_command<'a>(alloc: Global) -> Result<Command<'a>, AllocError>
+    ensures { IfOk result (λ c. app_of c ≡ explain_app) }
+{
+    Command::new(alloc, "explain")
+        .about("Tells what a kind of fault is, and how it is mended")
+        .after_help(EXPLAIN_HELP)
+        .arg(kind_arg(alloc))
+}
+
+/// The program without its commands.
+fn plc_command<'a>(alloc: Global) -> Result<Command<'a>, AllocError>
+    ensures { IfOk result (λ c. app_of c ≡ commanded (versioned (new_app (codes "plc")))) }
+{
+    Ok(
+        Command::new(alloc, "plc")
+            .bin_name("plc")?
+            .about("Runs ladder diagrams drawn in characters (IEC 61131-3)")
+            .after_help(FIRST_STEPS)
+            .version(VERSION)
+            .subcommand_required(true),
+    )
+}
+
 /// The commands of the program.
 pub fn commands<'a>(alloc: Global) -> Result<Command<'a>, AllocError>
     ensures { IfOk result (λ c. app_of c ≡ plc_app) }
 {
-    Command::new(alloc, "plc")
-        .bin_name("plc")?
-        .about("Runs ladder diagrams drawn in characters (IEC 61131-3)")
-        .subcommand_required(true)
+    plc_command(alloc)?
         .subcommand(eval_command(alloc)?)?
         .subcommand(check_command(alloc)?)?
         .subcommand(plan_command(alloc)?)?
         .subcommand(sim_command(alloc)?)?
-        .subcommand(run_command(alloc)?)
+        .subcommand(run_command(alloc)?)?
+        .subcommand(explain_command(alloc)?)
 }
 
 /// A number of decimal digits alone, at most 4294967295.
@@ -410,6 +465,7 @@ pub fn read_words<'a>(alloc: Global, words: &'a [String]) -> Result<Request<'a>,
         Some(("plan", inner)) => plan_request(&mut command, inner),
         Some(("sim", inner)) => sim_request(&mut command, inner),
         Some(("run", inner)) => run_request(alloc, &mut command, inner),
+        Some(("explain", inner)) => Ok(Request::Explain(given_word(inner, "KIND"))),
         _ => Err(command.error(ErrorKind::MissingSubcommand, "a command is missing")?),
     }
 }

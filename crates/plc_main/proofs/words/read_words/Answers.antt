@@ -3,7 +3,7 @@ use Rattle.std.proofs.Common.{inl, inr, map, string_bytes, subst}
 use Rattle.std.proofs.lemmas.Result.{IfOk-weaker}
 use Rattle.plc_main.specs.declared.request.TextRequest.TheVariants.{Check}
 use Rattle.plc_main.specs.declared.request.Request.{Request}
-use Rattle.plc_main.specs.declared.request.Request.TheVariants.{Text as OfText}
+use Rattle.plc_main.specs.declared.request.Request.TheVariants.{Text as OfText, Explain}
 use Rattle.plc_main.specs.CommandLine.{IsAsked}
 use Rattle.plc_main.proofs.Matching.{named_by}
 use Rattle.plc_main.proofs.words.read_words.Goals as goal
@@ -41,4 +41,11 @@ returns-in-Some-run-default c =
     let words = map (λ word. string_bytes word) c.args.words.now in
     let named = named_by c.in_ok-command.command words c.in_ok-matches.matches c.subcommand.result c.in-Some-run-default.field-0-0 c.in-Some-run-default.inner c.in-Some-run-default.is
     c.subcommand.ensures.name c.subcommand.ensures.rows c.in_ok-matches.ensures.ok.2 c.in_ok-command.ensures in
-    IfOk-weaker c.run_request.result _ _ (λ (request : Request) asks. subst (λ found. IsAsked found request) named (inr (inr (inr (inr (c.in-Some-run-default.is-run, asks)))))) c.run_request.ensures
+    IfOk-weaker c.run_request.result _ _ (λ (request : Request) asks. subst (λ found. IsAsked found request) named (inr (inr (inr (inr (inl (c.in-Some-run-default.is-run, asks))))))) c.run_request.ensures
+
+pub returns-in-Some-explain-default : goal.returns-in-Some-explain-default
+returns-in-Some-explain-default c =
+    let words = map (λ word. string_bytes word) c.args.words.now in
+    let named = named_by c.in_ok-command.command words c.in_ok-matches.matches c.subcommand.result c.in-Some-explain-default.field-0-0 c.in-Some-explain-default.inner c.in-Some-explain-default.is
+    c.subcommand.ensures.name c.subcommand.ensures.rows c.in_ok-matches.ensures.ok.2 c.in_ok-command.ensures in
+    subst (λ found. IsAsked found (Explain c.given_word-in-Some-explain-default.result)) named (inr (inr (inr (inr (inr (c.in-Some-explain-default.is-explain, c.given_word-in-Some-explain-default.ensures))))))

@@ -1,0 +1,192 @@
+-- What is told of each kind of fault.
+use Rattle.std.specs.Prelude.{◌≡◌, ℕ, List, Option, Some, None, codes}
+use Rattle.ladder_text.specs.declared.drawing.DrawFaultKind.{DrawFaultKind}
+use Rattle.ladder_text.specs.declared.drawing.DrawFaultKind.TheVariants as draw
+use Rattle.network.specs.declared.fault.GraphFaultKind.{GraphFaultKind}
+use Rattle.network.specs.declared.fault.GraphFaultKind.TheVariants as graph
+use Rattle.power_flow.specs.declared.bind.BindKind.{BindKind}
+use Rattle.power_flow.specs.declared.bind.BindKind.TheVariants as bind
+use Rattle.plant.specs.declared.plant_fault.PlantFaultKind.{PlantFaultKind}
+use Rattle.plant.specs.declared.plant_fault.PlantFaultKind.TheVariants as plant
+use Rattle.plant.specs.declared.plant_fault.BodyFault.{BodyFault}
+use Rattle.plant.specs.declared.plant_fault.BodyFault.TheVariants as body
+use Rattle.guidance.specs.declared.table.TheConstants as table
+use Rattle.guidance.specs.declared.advice.Advice.{Advice}
+use Rattle.guidance.specs.declared.advice.Layer.{Layer}
+use Rattle.guidance.specs.declared.advice.Layer.TheVariants as layer
+use Rattle.guidance.specs.declared.topic.Topic.{Topic}
+use Rattle.guidance.specs.declared.topic.Topic.TheVariants as topic
+
+-- where a kind of fault is met
+abbrev pub layer_text : Layer → List ℕ
+layer_text layer.Drawing = codes "in a drawing"
+layer_text layer.Networks = codes "in the networks of a drawing"
+layer_text layer.Names = codes "at the names of a drawing"
+layer_text layer.Plant = codes "in a plant"
+layer_text layer.Plan = codes "in the plan of a plant"
+layer_text layer.Schedule = codes "in a schedule"
+
+-- the layer of a kind
+abbrev pub layer_of : Topic → Layer
+layer_of topic.NotAscii = layer.Drawing
+layer_of topic.TooLarge = layer.Drawing
+layer_of topic.NoLeftRail = layer.Drawing
+layer_of topic.BadBox = layer.Drawing
+layer_of topic.BadMark = layer.Drawing
+layer_of topic.Crossing = layer.Drawing
+layer_of topic.NoSource = layer.Drawing
+layer_of topic.NameMissing = layer.Drawing
+layer_of topic.StrayName = layer.Drawing
+layer_of topic.Unattached = layer.Networks
+layer_of topic.TooTall = layer.Networks
+layer_of topic.InstanceTwice = layer.Networks
+layer_of topic.UnknownName = layer.Names
+layer_of topic.WrongKind = layer.Names
+layer_of topic.WritesInput = layer.Names
+layer_of topic.UnknownPin = layer.Names
+layer_of topic.PinMissing = layer.Names
+layer_of topic.LiteralOutOfRange = layer.Names
+layer_of topic.PlantSyntax = layer.Plant
+layer_of topic.BodyDrawing = layer.Plant
+layer_of topic.BodyGraph = layer.Plant
+layer_of topic.BodyBind = layer.Plant
+layer_of topic.PlantNameTwice = layer.Plant
+layer_of topic.PlantUnknownName = layer.Plant
+layer_of topic.PlantWrongKind = layer.Plant
+layer_of topic.InputBoundTwice = layer.Plant
+layer_of topic.TooMany = layer.Plant
+layer_of topic.TooLong = layer.Plan
+layer_of topic.ScheduleSyntax = layer.Schedule
+
+-- the name of a kind, as messages have it
+abbrev pub kind_text : Topic → List ℕ
+kind_text topic.NotAscii = codes "NotAscii"
+kind_text topic.TooLarge = codes "TooLarge"
+kind_text topic.NoLeftRail = codes "NoLeftRail"
+kind_text topic.BadBox = codes "BadBox"
+kind_text topic.BadMark = codes "BadMark"
+kind_text topic.Crossing = codes "Crossing"
+kind_text topic.NoSource = codes "NoSource"
+kind_text topic.NameMissing = codes "NameMissing"
+kind_text topic.StrayName = codes "StrayName"
+kind_text topic.Unattached = codes "Unattached"
+kind_text topic.TooTall = codes "TooTall"
+kind_text topic.InstanceTwice = codes "InstanceTwice"
+kind_text topic.UnknownName = codes "UnknownName"
+kind_text topic.WrongKind = codes "WrongKind"
+kind_text topic.WritesInput = codes "WritesInput"
+kind_text topic.UnknownPin = codes "UnknownPin"
+kind_text topic.PinMissing = codes "PinMissing"
+kind_text topic.LiteralOutOfRange = codes "LiteralOutOfRange"
+kind_text topic.PlantSyntax = codes "Syntax"
+kind_text topic.BodyDrawing = codes "Drawing"
+kind_text topic.BodyGraph = codes "Graph"
+kind_text topic.BodyBind = codes "Bind"
+kind_text topic.PlantNameTwice = codes "NameTwice"
+kind_text topic.PlantUnknownName = codes "UnknownName"
+kind_text topic.PlantWrongKind = codes "WrongKind"
+kind_text topic.InputBoundTwice = codes "InputBoundTwice"
+kind_text topic.TooMany = codes "TooMany"
+kind_text topic.TooLong = codes "TooLong"
+kind_text topic.ScheduleSyntax = codes "Syntax"
+
+-- what is told of a kind: what is wrong and how it is mended, a text with this fault, and the text mended
+pub record Told : Type 0 where
+  pub sentence : List ℕ
+  pub example : List ℕ
+  pub mended : List ℕ
+
+abbrev pub told : List ℕ → List ℕ → List ℕ → Told
+told sentence example mended = record { sentence = sentence; example = example; mended = mended }
+
+-- what the table of the code has for each kind
+abbrev pub told_of : Topic → Told
+told_of topic.NotAscii = told table.NOT_ASCII.now table.NOT_ASCII_REFUSED.now table.NOT_ASCII_MENDED.now
+told_of topic.TooLarge = told table.TOO_LARGE.now table.TOO_LARGE_REFUSED.now table.TOO_LARGE_MENDED.now
+told_of topic.NoLeftRail = told table.NO_LEFT_RAIL.now table.NO_LEFT_RAIL_REFUSED.now table.NO_LEFT_RAIL_MENDED.now
+told_of topic.BadBox = told table.BAD_BOX.now table.BAD_BOX_REFUSED.now table.BAD_BOX_MENDED.now
+told_of topic.BadMark = told table.BAD_MARK.now table.BAD_MARK_REFUSED.now table.BAD_MARK_MENDED.now
+told_of topic.Crossing = told table.CROSSING.now table.CROSSING_REFUSED.now table.CROSSING_MENDED.now
+told_of topic.NoSource = told table.NO_SOURCE.now table.NO_SOURCE_REFUSED.now table.NO_SOURCE_MENDED.now
+told_of topic.NameMissing = told table.NAME_MISSING.now table.NAME_MISSING_REFUSED.now table.NAME_MISSING_MENDED.now
+told_of topic.StrayName = told table.STRAY_NAME.now table.STRAY_NAME_REFUSED.now table.STRAY_NAME_MENDED.now
+told_of topic.Unattached = told table.UNATTACHED.now table.UNATTACHED_REFUSED.now table.UNATTACHED_MENDED.now
+told_of topic.TooTall = told table.TOO_TALL.now table.TOO_TALL_REFUSED.now table.TOO_TALL_MENDED.now
+told_of topic.InstanceTwice = told table.INSTANCE_TWICE.now table.INSTANCE_TWICE_REFUSED.now table.INSTANCE_TWICE_MENDED.now
+told_of topic.UnknownName = told table.UNKNOWN_NAME.now table.UNKNOWN_NAME_REFUSED.now table.UNKNOWN_NAME_MENDED.now
+told_of topic.WrongKind = told table.WRONG_KIND.now table.WRONG_KIND_REFUSED.now table.WRONG_KIND_MENDED.now
+told_of topic.WritesInput = told table.WRITES_INPUT.now table.WRITES_INPUT_REFUSED.now table.WRITES_INPUT_MENDED.now
+told_of topic.UnknownPin = told table.UNKNOWN_PIN.now table.UNKNOWN_PIN_REFUSED.now table.UNKNOWN_PIN_MENDED.now
+told_of topic.PinMissing = told table.PIN_MISSING.now table.PIN_MISSING_REFUSED.now table.PIN_MISSING_MENDED.now
+told_of topic.LiteralOutOfRange = told table.LITERAL_OUT_OF_RANGE.now table.LITERAL_OUT_OF_RANGE_REFUSED.now table.LITERAL_OUT_OF_RANGE_MENDED.now
+told_of topic.PlantSyntax = told table.PLANT_SYNTAX.now table.PLANT_SYNTAX_REFUSED.now table.PLANT_SYNTAX_MENDED.now
+told_of topic.BodyDrawing = told table.BODY_DRAWING.now table.BODY_DRAWING_REFUSED.now table.BODY_DRAWING_MENDED.now
+told_of topic.BodyGraph = told table.BODY_GRAPH.now table.BODY_GRAPH_REFUSED.now table.BODY_GRAPH_MENDED.now
+told_of topic.BodyBind = told table.BODY_BIND.now table.BODY_BIND_REFUSED.now table.BODY_BIND_MENDED.now
+told_of topic.PlantNameTwice = told table.PLANT_NAME_TWICE.now table.PLANT_NAME_TWICE_REFUSED.now table.PLANT_NAME_TWICE_MENDED.now
+told_of topic.PlantUnknownName = told table.PLANT_UNKNOWN_NAME.now table.PLANT_UNKNOWN_NAME_REFUSED.now table.PLANT_UNKNOWN_NAME_MENDED.now
+told_of topic.PlantWrongKind = told table.PLANT_WRONG_KIND.now table.PLANT_WRONG_KIND_REFUSED.now table.PLANT_WRONG_KIND_MENDED.now
+told_of topic.InputBoundTwice = told table.INPUT_BOUND_TWICE.now table.INPUT_BOUND_TWICE_REFUSED.now table.INPUT_BOUND_TWICE_MENDED.now
+told_of topic.TooMany = told table.TOO_MANY.now table.TOO_MANY_REFUSED.now table.TOO_MANY_MENDED.now
+told_of topic.TooLong = told table.TOO_LONG.now table.TOO_LONG_REFUSED.now table.TOO_LONG_MENDED.now
+told_of topic.ScheduleSyntax = told table.SCHEDULE_SYNTAX.now table.SCHEDULE_SYNTAX_REFUSED.now table.SCHEDULE_SYNTAX_MENDED.now
+
+-- the advice is on this kind: it has its layer and its name, and the texts of the table
+pub record IsAdviceOn (t : Topic) (a : Advice) : Type 0 where
+  pub layer : a.layer ≡ layer_of t
+  pub kind : a.kind.now ≡ kind_text t
+  pub texts : told a.sentence.now a.example.now a.mended.now ≡ told_of t
+
+-- the kind of fault of a drawing, which is none for want of memory
+abbrev pub of_drawing : DrawFaultKind → Option Topic
+of_drawing draw.NotAscii = Some topic.NotAscii
+of_drawing draw.TooLarge = Some topic.TooLarge
+of_drawing draw.NoLeftRail = Some topic.NoLeftRail
+of_drawing draw.BadBox = Some topic.BadBox
+of_drawing draw.BadMark = Some topic.BadMark
+of_drawing draw.Crossing = Some topic.Crossing
+of_drawing draw.NoSource = Some topic.NoSource
+of_drawing draw.NameMissing = Some topic.NameMissing
+of_drawing draw.StrayName = Some topic.StrayName
+of_drawing draw.Memory = None
+
+-- the kind of fault of networks
+abbrev pub of_networks : GraphFaultKind → Option Topic
+of_networks graph.Unattached = Some topic.Unattached
+of_networks graph.TooTall = Some topic.TooTall
+of_networks graph.InstanceTwice = Some topic.InstanceTwice
+of_networks graph.Memory = None
+
+-- the kind of fault of names
+abbrev pub of_names : BindKind → Option Topic
+of_names bind.UnknownName = Some topic.UnknownName
+of_names bind.WrongKind = Some topic.WrongKind
+of_names bind.WritesInput = Some topic.WritesInput
+of_names bind.UnknownPin = Some topic.UnknownPin
+of_names bind.PinMissing = Some topic.PinMissing
+of_names bind.LiteralOutOfRange = Some topic.LiteralOutOfRange
+of_names bind.Memory = None
+
+-- the kind of fault of a program's body
+abbrev pub of_body : BodyFault → Option Topic
+of_body (body.Drawing kind) = of_drawing kind
+of_body (body.Graph kind) = of_networks kind
+of_body (body.Bind kind) = of_names kind
+
+-- the kind of fault of a plant's own text
+abbrev pub of_word : PlantFaultKind → Option Topic
+of_word plant.Syntax = Some topic.PlantSyntax
+of_word plant.Drawing = Some topic.BodyDrawing
+of_word plant.Graph = Some topic.BodyGraph
+of_word plant.Bind = Some topic.BodyBind
+of_word plant.NameTwice = Some topic.PlantNameTwice
+of_word plant.UnknownName = Some topic.PlantUnknownName
+of_word plant.WrongKind = Some topic.PlantWrongKind
+of_word plant.InputBoundTwice = Some topic.InputBoundTwice
+of_word plant.TooMany = Some topic.TooMany
+of_word plant.Memory = None
+
+-- the kind of fault of a plant: that of its body, where one is told
+abbrev pub of_plant : PlantFaultKind → Option BodyFault → Option Topic
+of_plant kind None = of_word kind
+of_plant _ (Some inner) = of_body inner

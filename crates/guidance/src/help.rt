@@ -1,0 +1,178 @@
+ghost use Rattle.std.specs.Prelude.{◌≡◌, ◌++◌, OnOk, IfOk, string_bytes, codes};
+ghost use Rattle.guidance.specs.Topics.{told_of, of_plant};
+ghost use Rattle.guidance.specs.Helping.{Tells, TellsOf, topic_of};
+
+use crate::declared_names::names_of_a_drawing;
+use crate::excerpt::{Place, excerpt, line_of, whole_of};
+use crate::mentions::mentions_of;
+use crate::nearest::nearest_names;
+use crate::refusal::Refusal;
+use crate::topic::Topic;
+use crate::unknown_word::{declared_for_a_body, unknown_in_a_drawing, unknown_in_a_plant};
+use plant::PlantFault;
+use power_flow::Declarations;
+use std::alloc::{AllocError, Global};
+
+/// Writes what is wrong and how it is mended, with a line feed behind it.
+fn push_sentence(help: &mut String, topic: Topic) -> Result<(), AllocError>
+    ensures { OnOk result (string_bytes help.new ≡ string_bytes help.old ++ (told_of topic).sentence ++ codes "\n") }
+{
+    help.push_str(topic.advice().sentence)?;
+    help.push_str("\n")
+}
+
+/// Writes a name, of which only printable ASCII is known to come.
+fn push_name(help: &mut String, name: &[u8]) -> Result<(), AllocError> {
+    for letter in name {
+        help.push(char::from(*letter))?;
+    }
+    Ok(())
+}
+
+/// Which name isn't declared, and the nearest ones that are.
+fn nearest_to(alloc: Global, name: &[u8], declared: &[&[u8]]) -> Result<String, AllocError> {
+    let mut near = String::new(alloc);
+    push_name(&mut near, name)?;
+    if declared.is_empty() {
+        near.push_str(" isn't declared here, and no other name is.\n")?;
+        return Ok(near);
+    }
+    near.push_str(" isn't declared here; the nearest names that are:")?;
+    let mut between = " ";
+    for other in &nearest_names(alloc, name, declared)? {
+        near.push_str(between)?;
+        push_name(&mut near, other)?;
+        between = ", ";
+    }
+    near.push_str("\n")?;
+    Ok(near)
+}
+
+/// The first name in the row above a line of a drawing, or in the line, that isn't declared.
+fn unknown_near<'a>(text: &'a str, line: u64, declared: &[&[u8]]) -> Option<&'a [u8]> {
+    let above = line_of(text, line.saturating_sub(1));
+    match unknown_in_a_drawing(above.as_bytes(), declared) {
+        Some(name) => Some(name),
+        None => unknown_in_a_drawing(line_of(text, line).as_bytes(), declared),
+    }
+}
+
+fn names_in(alloc: Global, declarations: &Declarations) -> Result<Vec<&[u8]>, AllocError> {
+    let mut names = Vec::new(alloc);
+    for place in 0..declarations.len() {
+        if let Some((name, _)) = declarations.entry(place) {
+            names.push(name.as_bytes())?;
+        }
+    }
+    Ok(names)
+}
+
+/// The names of a drawing that are nearest to one that is unknown.
+fn near_drawing(alloc: Global, text: &str, line: u64) -> Result<String, AllocError> {
+    let Some(declarations) = names_of_a_drawing(alloc, text) else {
+        return Ok(String::new(alloc));
+    };
+    let names = names_in(alloc, &declarations)?;
+    match unknown_near(text, line, &names) {
+        Some(name) => nearest_to(alloc, name, &names),
+        None => Ok(String::new(alloc)),
+    }
+}
+
+/// The names declared for a program's drawing that are nearest to one that is unknown.
+fn near_body(alloc: Global, text: &str, line: u64) -> Result<String, AllocError> {
+    let mentions = mentions_of(alloc, text.as_bytes())?;
+    let names = declared_for_a_body(alloc, &mentions, line)?;
+    match unknown_near(text, line, &names) {
+        Some(name) => nearest_to(alloc, name, &names),
+        None => Ok(String::new(alloc)),
+    }
+}
+
+/// The names of a plant that are nearest to one that is unknown.
+fn near_plant(alloc: Global, text: &str, line: u64) -> Result<String, AllocError> {
+    let mentions = mentions_of(alloc, text.as_bytes())?;
+    match unknown_in_a_plant(alloc, &mentions, line)? {
+        Some((name, names)) => nearest_to(alloc, name, &names),
+        None => Ok(String::new(alloc)),
+    }
+}
+
+/// A line with a mark, the sentence on the kind of fault, and what else helps.
+fn joined(mut shown: String, topic: Topic, more: &str) -> Result<String, AllocError>
+    ensures { IfOk result (λ help. Tells topic (string_bytes help)) }
+{
+    push_sentence(&mut shown, topic)?;
+    shown.push_str(more)?;
+    Ok(shown)
+}
+
+/// A place of a drawing, what is wrong there, and names that were meant perhaps.
+fn help_at(
+    alloc: Global,
+    text: &str,
+    topic: Option<Topic>,
+    line: u64,
+    column: usize,
+) -> Result<String, AllocError>
+    ensures { IfOk result (λ help. TellsOf topic (string_bytes help)) }
+{
+    let Some(topic) = topic else {
+        return Ok(String::new(alloc));
+    };
+    let at = column.saturating_sub(1);
+    let shown = excerpt(alloc, line_of(text, line), Place { at, signs: 1 })?;
+    let more = match topic {
+        Topic::UnknownName => near_drawing(alloc, text, line)?,
+        _ => String::new(alloc),
+    };
+    joined(shown, topic, more.as_str())
+}
+
+/// A whole line marked.
+fn line_marked(alloc: Global, text: &str, line: u64) -> Result<String, AllocError> {
+    let shown = line_of(text, line);
+    excerpt(alloc, shown, whole_of(shown))
+}
+
+/// A line of a plant, what is wrong there, and names that were meant perhaps.
+fn help_with_a_plant(alloc: Global, text: &str, fault: PlantFault) -> Result<String, AllocError>
+    ensures { IfOk result (λ help. TellsOf (of_plant fault.kind fault.inner) (string_bytes help)) }
+{
+    let Some(topic) = Topic::of_plant(fault) else {
+        return Ok(String::new(alloc));
+    };
+    let shown = line_marked(alloc, text, fault.line)?;
+    let more = match topic {
+        Topic::UnknownName => near_body(alloc, text, fault.line)?,
+        Topic::PlantUnknownName => near_plant(alloc, text, fault.line)?,
+        _ => String::new(alloc),
+    };
+    joined(shown, topic, more.as_str())
+}
+
+/// What helps to mend a text that is refused: the line with the place, what is wrong there, and names that were meant perhaps.
+/// It is empty for want of memory.
+pub fn help_with(alloc: Global, text: &str, refusal: Refusal) -> Result<String, AllocError>
+    ensures { IfOk result (λ help. TellsOf (topic_of refusal) (string_bytes help)) }
+{
+    match refusal {
+        Refusal::Drawing(fault) => {
+            let topic = Topic::of_drawing(fault.kind);
+            help_at(alloc, text, topic, fault.line, fault.column)
+        }
+        Refusal::Networks(fault) => {
+            let topic = Topic::of_networks(fault.kind);
+            help_at(alloc, text, topic, fault.line, fault.column)
+        }
+        Refusal::Names(fault) => {
+            let topic = Topic::of_names(fault.kind);
+            help_at(alloc, text, topic, fault.line, fault.column)
+        }
+        Refusal::Plant(fault) => help_with_a_plant(alloc, text, fault),
+        Refusal::Plan => joined(String::new(alloc), Topic::TooLong, ""),
+        Refusal::Schedule { line } => {
+            joined(line_marked(alloc, text, line)?, Topic::ScheduleSyntax, "")
+        }
+    }
+}

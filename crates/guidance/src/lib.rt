@@ -1,0 +1,20 @@
+//! What helps to mend a text that is refused: the line with its place, what is wrong there, and the nearest names.
+#![tactic(auto)]
+
+mod advice;
+mod declared_names;
+mod excerpt;
+mod explanation;
+mod help;
+mod mention;
+mod mentions;
+mod nearest;
+mod plant_word;
+mod refusal;
+mod table;
+mod topic;
+mod unknown_word;
+
+pub use explanation::explain;
+pub use help::help_with;
+pub use refusal::Refusal;
