@@ -18,15 +18,6 @@ pub on_step : (d : Diagram) (conducts : ℕ → Bool) (IsSource : Place → Type
 on_step d conducts IsSource p q on passes lets =
     record { passed = p ∷ on.passed; walk = (passes, on.walk); conduct = (lets, on.conduct) }
 
--- what is kept by each step from the sources on holds of each place that is ON
-pub on_induction : (d : Diagram) (conducts : ℕ → Bool) (IsSource : Place → Type 0) (Holds : Place → Type 0)
-    → ((p : Place) → IsSource p → Holds p)
-    → ((p q : Place) → Holds p → Passes d p q → ((k : ℕ) → SymbolEndsAt d k p → IsTrue (conducts k)) → Holds q)
-    → (p : Place) (passed : List Place) → IsWalk d IsSource (p ∷ passed) → AllConduct d conducts passed → Holds p
-on_induction d conducts IsSource Holds source step p [] walk conduct = source p walk
-on_induction d conducts IsSource Holds source step q (p ∷ passed) walk conduct =
-    step p q (on_induction d conducts IsSource Holds source step p passed walk.1 conduct.1) walk.0 conduct.0
-
 -- a walk stays a walk where its source, which lies no further to the right than its end, is a source too
 walk_sources : (d : Diagram) (S S' : Place → Type 0) (p : Place) (passed : List Place)
     → ((q : Place) → q.column ≤ p.column → S q → S' q) → IsWalk d S (p ∷ passed) → IsWalk d S' (p ∷ passed)

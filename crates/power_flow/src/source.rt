@@ -1,7 +1,7 @@
 ghost use Rattle.std.specs.Prelude.{◌≡◌, Some};
 ghost use Rattle.std_blocks.specs.Pins.{field_value};
 ghost use Rattle.power_flow.specs.Names.{is_true, int_or_zero, time_or_zero};
-ghost use Rattle.power_flow.specs.Steps.Sources.{source_value, source_bit, source_place};
+ghost use Rattle.power_flow.specs.Steps.Sources.{source_value, source_bit};
 
 use crate::state::Slot;
 use std_blocks::{Field, PinsOut, Value};
@@ -76,16 +76,6 @@ impl Source {
             return matches!(rows.get(row), Some(true));
         }
         self.is_true(slots)
-    }
-
-    /// The place of the variable that it is.
-    pub fn place(self) -> Option<usize>
-        ensures { result ≡ source_place self }
-    {
-        match self {
-            Source::Variable(place) => Some(place),
-            _ => None,
-        }
     }
 
     /// The INT there, or 0.

@@ -2,8 +2,6 @@ use Rattle.std.specs.Prelude.{ℕ, List, [], ◌∷◌, Bool, false, Option, Som
 use Rattle.std.specs.Option.{option_and_then, option_map_or}
 use Rattle.std.specs.List.{before_first, after_first}
 use Rattle.ladder_text.specs.declared.drawn_box.DrawnPin.{DrawnPin}
-use Rattle.network.specs.declared.element.Element.{Element}
-use Rattle.network.specs.declared.element.Element.TheVariants.{Wire, Join, Upright, Contact, Coil, Box}
 use Rattle.std_blocks.specs.declared.value.Value.{Value}
 use Rattle.std_blocks.specs.declared.pin.Field.{Field}
 use Rattle.std_blocks.specs.declared.pin.Pin.{Pin}
@@ -25,7 +23,7 @@ abbrev pub slot_output : Field → Slot → Option Value
 slot_output field (Variable v) = None
 slot_output field (Block i) = Some (field_value i.outputs field)
 
--- the value that slots have at a source; none at a place of the network
+-- the value that slots have at a source; none where the state of a row is read
 abbrev pub source_value : List Slot → Source → Option Value
 source_value slots source.Nothing = None
 source_value slots (source.Power k) = None
@@ -33,7 +31,7 @@ source_value slots (source.Variable k) = variable_at slots k
 source_value slots (source.Output k field) = option_and_then (slot_output field) (slice_get slots k)
 source_value slots (source.Literal v) = Some v
 
--- whether a source is ON: a place of the network by its bit
+-- whether a source is ON: a row by its state
 abbrev pub source_bit : List Slot → List Bool → Source → Bool
 source_bit slots bits source.Nothing = false
 source_bit slots bits (source.Power k) = bit_at bits k
@@ -69,20 +67,3 @@ operand_source ds text = option_map_or source.Literal (literal_value text) (name
 -- the source of an INT or TIME pin: its operand, if it has one
 abbrev pub pin_source : List Declaration → DrawnPin → Source
 pin_source ds pin = option_map_or (λ o. operand_source ds o.text) pin.operand source.Nothing
-
--- the source of the name of an element
-abbrev pub element_source : List Declaration → Element → Source
-element_source ds (Wire at) = source.Nothing
-element_source ds (Join at) = source.Nothing
-element_source ds (Upright at) = source.Nothing
-element_source ds (Contact c) = name_source ds c.name
-element_source ds (Coil c) = option_map_or source.Variable (place_of ds c.name) source.Nothing
-element_source ds (Box b) = source.Nothing
-
--- the place of the variable that a source is
-abbrev pub source_place : Source → Option ℕ
-source_place source.Nothing = None
-source_place (source.Power k) = None
-source_place (source.Variable k) = Some k
-source_place (source.Output k field) = None
-source_place (source.Literal v) = None
