@@ -5,7 +5,7 @@ ghost use Rattle.guidance.specs.Helping.{Tells, TellsOf, topic_of};
 use crate::declared_names::names_of_a_drawing;
 use crate::excerpt::{Place, excerpt, line_of, whole_of};
 use crate::mentions::mentions_of;
-use crate::nearest::nearest_names;
+use crate::nearest::{beginning, nearest_names};
 use crate::refusal::Refusal;
 use crate::topic::Topic;
 use crate::unknown_word::{declared_for_a_body, unknown_in_a_drawing, unknown_in_a_plant};
@@ -21,9 +21,9 @@ fn push_sentence(help: &mut String, topic: Topic) -> Result<(), AllocError>
     help.push_str("\n")
 }
 
-/// Writes a name, of which only printable ASCII is known to come.
+/// Writes a name, or the first letters of a long one.
 fn push_name(help: &mut String, name: &[u8]) -> Result<(), AllocError> {
-    for letter in name {
+    for letter in beginning(name) {
         help.push(char::from(*letter))?;
     }
     Ok(())
