@@ -24,12 +24,7 @@ pub struct Halting {
 }
 
 impl Halting {
-    pub fn new(
-        alloc: Global,
-        room: usize,
-        step: usize,
-        end: End,
-    ) -> Result<Halting, AllocError> {
+    pub fn new(alloc: Global, room: usize, step: usize, end: End) -> Result<Halting, AllocError> {
         Ok(Halting {
             taken: Vec::with_capacity(alloc, ROOM)?,
             room,
