@@ -126,7 +126,7 @@ begun_by_programs text ws texts rest more begun words lines =
     let tokens : map (λ (w : WordValue). w.token) front ≡ all = map_take (λ (w : WordValue). w.token) ws (length all) ∙ ap (λ x. take (length all) x) words ∙ take-append_seam all rest in
     let both : body_lines front ++ body_lines back ≡ lines_of texts ++ more = sym (flat_map-append body_line front back) ∙ ap (λ (x : List WordValue). body_lines x) (sym parts) ∙ lines in
     let many : length (body_lines front) ≡ length (lines_of texts) =
-      lines_count front ∙ ap count_bodies tokens ∙ programs_count (programs_of texts) ∙ length-map texts (λ (t : TextValue). t.program) ∙ sym (length-map texts (λ (t : TextValue). t.first_line)) in
+    lines_count front ∙ ap count_bodies tokens ∙ programs_count (programs_of texts) ∙ length-map texts (λ (t : TextValue). t.program) ∙ sym (length-map texts (λ (t : TextValue). t.first_line)) in
     let same : body_lines front ≡ lines_of texts = same_fronts (body_lines front) (body_lines back) (lines_of texts) more both many in
     let known : All (λ t. t ≢ token.Unknown) (map (λ (w : WordValue). w.token) front) = subst (λ (ts : List Token). All (λ t. t ≢ token.Unknown) ts) (sym tokens) (programs_known (programs_of texts)) in
     let found = begun front back parts known in

@@ -39,7 +39,7 @@ one_end (k ∷ ks) (l ∷ ls) text r s e f all more end end' =
     let other : text ≡ l ++ 10 ∷ (lines_text ls ++ s) = f ∙ first_of_lines l (lines_text ls) s in
     let same : k ≡ l = sym (first_line_at k (lines_text ks ++ r) all.0.0) ∙ ap (λ x. first_line x) (sym one ∙ other) ∙ first_line_at l (lines_text ls ++ s) more.0.0 in
     let tails : 10 ∷ (lines_text ks ++ r) ≡ 10 ∷ (lines_text ls ++ s) =
-      append_cancel_left k (10 ∷ (lines_text ks ++ r)) (10 ∷ (lines_text ls ++ s)) (sym one ∙ other ∙ ap (λ x. x ++ 10 ∷ (lines_text ls ++ s)) (sym same)) in
+    append_cancel_left k (10 ∷ (lines_text ks ++ r)) (10 ∷ (lines_text ls ++ s)) (sym one ∙ other ∙ ap (λ x. x ++ 10 ∷ (lines_text ls ++ s)) (sym same)) in
     let tail : lines_text ks ++ r ≡ lines_text ls ++ s = cc in
     one_end ks ls (lines_text ks ++ r) r s refl tail all.1 more.1 end end'
 

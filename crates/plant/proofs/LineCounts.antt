@@ -63,7 +63,7 @@ word_stands old passing new inner front w ei g ep el v en known n is =
     let behind : old.text ≡ g.0 ++ front = ei ∙ g.1 in
     let gone : feeds (take (length old.text - length front) old.text) ≡ feeds g.0 = ap feeds (passed old.text g.0 front behind) in
     let line : new.line ≡ min (n + feeds g.0) 18446744073709551615 =
-      en ∙ el ∙ ap (λ k. min (old.line + k) 18446744073709551615) gone ∙ counted old.line n (feeds g.0) is in
+    en ∙ el ∙ ap (λ k. min (old.line + k) 18446744073709551615) gone ∙ counted old.line n (feeds g.0) is in
     let e : old.text ≡ g.0 ++ word.0 ++ new.text = behind ∙ ap (λ x. g.0 ++ x) (sym ep ∙ word.1) ∙ sym (append_assoc g.0 word.0 new.text) in
     (n + feeds g.0, line, λ more lines s. begins_word n old.text g.0 word.0 new.text w w.token more lines refl e g.2 word.2 word.3 s)
 
@@ -75,12 +75,15 @@ body_stands old new inner lines rest body w ei et ew en el n l b f eb known k is
     let same : body ≡ b.0 = eb ∙ passed lines b.0 rest b.1 in
     let whole : old.text ≡ l.0 ++ l.1 ++ body ++ rest = ei ∙ l.2 ∙ ap (λ x. l.0 ++ l.1 ++ x) b.1 ∙ sym (append_assoc (l.0 ++ l.1) b.0 rest) ∙ ap (λ x. l.0 ++ l.1 ++ x ++ rest) (sym same) in
     let gone : feeds (take (length old.text - length rest) old.text) ≡ 1 + feeds body =
-      ap feeds (passed old.text (l.0 ++ l.1 ++ body) rest whole) ∙ feeds_both (l.0 ++ l.1) body ∙ ap (λ x. x + feeds body) (feeds_both l.0 l.1 ∙ ap (λ x. x + feeds l.1) (no_feeds l.0 l.4) ∙ ap (λ x. 0 + x) (one_feed l.1 l.5)) in
+    ap feeds (passed old.text (l.0 ++ l.1 ++ body) rest whole) ∙ feeds_both (l.0 ++ l.1) body ∙ ap (λ x. x + feeds body) (feeds_both l.0 l.1 ∙ ap (λ x. x + feeds l.1) (no_feeds l.0 l.4) ∙ ap (λ x. 0 + x) (one_feed l.1 l.5)) in
     let line : new.line ≡ min (k + 1 + feeds body) 18446744073709551615 =
-      el ∙ ap (λ x. min (old.line + x) 18446744073709551615) gone ∙ counted old.line k (1 + feeds body) is ∙ (let along : k + (1 + feeds body) ≡ k + 1 + feeds body = omega arith in ap (λ x. min x 18446744073709551615) along) in
-    let first : w.line ≡ min (k + 1) 18446744073709551615 = ew ∙ counted old.line k 1 is in
-    (k + 1 + feeds body, line, λ more further s. subst (λ (t : Token). BeginsWith k old.text (t ∷ more) (body_line (record { token = t; line = w.line }) ++ further)) (sym et)
-      (l.0, l.1, rest, whole, n, l.3, l.4, l.5, subst IsBody (sym same) b.2, f, first, subst (λ (x : List ℕ). BeginsWith (k + 1 + feeds body) x more further) en s))
+    el ∙ ap (λ x. min (old.line + x) 18446744073709551615) gone ∙ counted old.line k (1 + feeds body) is ∙ (let along : k + (1 + feeds body) ≡ k + 1 + feeds body = omega arith in ap (λ x. min x 18446744073709551615) along) in
+    let first : w.line ≡ min (k + 1) 18446744073709551615 = ew ∙ counted old.line k 1 is in (
+      k + 1 + feeds body,
+      line,
+      λ more further s. subst (λ (t : Token). BeginsWith k old.text (t ∷ more) (body_line (record { token = t; line = w.line }) ++ further)) (sym et)
+          (l.0, l.1, rest, whole, n, l.3, l.4, l.5, subst IsBody (sym same) b.2, f, first, subst (λ (x : List ℕ). BeginsWith (k + 1 + feeds body) x more further) en s),
+    )
 
 abbrev tokens : List WordValue → List Token
 tokens ws = map (λ (w : WordValue). w.token) ws
@@ -113,12 +116,15 @@ pub counted_next : (text : List ℕ) (ws us : List WordValue) (w : WordValue) (l
 counted_next text ws us w left new e before first known =
     let k = known_parts ws w (subst AreKnown e known) in
     let b = before k.0 in
-    let f = first k.1 b.0 b.1 in
-    (f.0, f.1, λ more lines s.
-        let next : BeginsWith 1 text (tokens ws ++ w.token ∷ more) (body_lines ws ++ (body_line w ++ lines)) = b.2 (w.token ∷ more) (body_line w ++ lines) (f.2 more lines s) in
-        let words : tokens us ++ more ≡ tokens ws ++ w.token ∷ more = ap (λ (x : List WordValue). tokens x ++ more) e ∙ ap (λ x. x ++ more) (map-push (λ (w : WordValue). w.token) ws w) ∙ append_assoc (tokens ws) (w.token ∷ []) more in
-        let further : body_lines us ++ lines ≡ body_lines ws ++ (body_line w ++ lines) = ap (λ (x : List WordValue). body_lines x ++ lines) e ∙ ap (λ x. x ++ lines) (lines_push ws w) ∙ append_assoc (body_lines ws) (body_line w) lines in
-        subst (λ (x : List Token). BeginsWith 1 text x (body_lines us ++ lines)) (sym words) (subst (λ (x : List ℕ). BeginsWith 1 text (tokens ws ++ w.token ∷ more) x) (sym further) next))
+    let f = first k.1 b.0 b.1 in (
+      f.0,
+      f.1,
+      λ more lines s.
+          let next : BeginsWith 1 text (tokens ws ++ w.token ∷ more) (body_lines ws ++ (body_line w ++ lines)) = b.2 (w.token ∷ more) (body_line w ++ lines) (f.2 more lines s) in
+          let words : tokens us ++ more ≡ tokens ws ++ w.token ∷ more = ap (λ (x : List WordValue). tokens x ++ more) e ∙ ap (λ x. x ++ more) (map-push (λ (w : WordValue). w.token) ws w) ∙ append_assoc (tokens ws) (w.token ∷ []) more in
+          let further : body_lines us ++ lines ≡ body_lines ws ++ (body_line w ++ lines) = ap (λ (x : List WordValue). body_lines x ++ lines) e ∙ ap (λ x. x ++ lines) (lines_push ws w) ∙ append_assoc (body_lines ws) (body_line w) lines in
+          subst (λ (x : List Token). BeginsWith 1 text x (body_lines us ++ lines)) (sym words) (subst (λ (x : List ℕ). BeginsWith 1 text (tokens ws ++ w.token ∷ more) x) (sym further) next),
+    )
 
 -- a front of a list is the whole, or one of the list without its last
 fronts : {A : Type 0} (front back ws : List A) (w : A) → ws ++ w ∷ [] ≡ front ++ back → (front ≡ ws ++ w ∷ []) ⊎ ((rest : List A) × (ws ≡ front ++ rest))

@@ -38,12 +38,11 @@ variables_in_order : (i n : ℕ) (ds : List Declaration)
 variables_in_order i n [] = (none_in_order, All-nil (λ (o : TaskOutput). (o.program ≡ i) × (n ≤ o.place)))
 variables_in_order i n (d ∷ ds) =
     let here = one_in_order i n (output_kind d.declared) in
-    let more = variables_in_order i (n + 1) ds in
-    (
+    let more = variables_in_order i (n + 1) ds in (
       pairs_append IsBefore (output_at i n d) (flat_map (variable_outputs i) (enumerate_from (n + 1) ds)) here.0 more.0
-        (λ k e lt. λ m f lt'. let a = here.1 k e lt in let b = more.1 m f lt' in inr (a.0 ∙ sym b.0, omega (arith, a.1, b.1))),
+          (λ k e lt. λ m f lt'. let a = here.1 k e lt in let b = more.1 m f lt' in inr (a.0 ∙ sym b.0, omega (arith, a.1, b.1))),
       All-append (λ (o : TaskOutput). (o.program ≡ i) × (n ≤ o.place)) (output_at i n d) (flat_map (variable_outputs i) (enumerate_from (n + 1) ds))
-        (λ k e lt. let a = here.1 k e lt in (a.0, omega (arith, a.1))) (λ k e lt. let b = more.1 k e lt in (b.0, omega (arith, b.1))),
+          (λ k e lt. let a = here.1 k e lt in (a.0, omega (arith, a.1))) (λ k e lt. let b = more.1 k e lt in (b.0, omega (arith, b.1))),
     )
 
 -- the programs from number n on
@@ -52,12 +51,11 @@ programs_in_order : (n : ℕ) (ps : List ProgramValue)
 programs_in_order n [] = (none_in_order, All-nil (λ (o : TaskOutput). n ≤ o.program))
 programs_in_order n (p ∷ ps) =
     let here = variables_in_order n 0 p.ladder.declarations in
-    let more = programs_in_order (n + 1) ps in
-    (
+    let more = programs_in_order (n + 1) ps in (
       pairs_append IsBefore (outputs_in n p.ladder.declarations) (flat_map program_outputs (enumerate_from (n + 1) ps)) here.0 more.0
-        (λ k e lt. λ m f lt'. let a = here.1 k e lt in let b = more.1 m f lt' in inl (omega (arith, a.0, b))),
+          (λ k e lt. λ m f lt'. let a = here.1 k e lt in let b = more.1 m f lt' in inl (omega (arith, a.0, b))),
       All-append (λ (o : TaskOutput). n ≤ o.program) (outputs_in n p.ladder.declarations) (flat_map program_outputs (enumerate_from (n + 1) ps))
-        (λ k e lt. let a = here.1 k e lt in omega (arith, a.0)) (λ k e lt. let b = more.1 k e lt in omega (arith, b)),
+          (λ k e lt. let a = here.1 k e lt in omega (arith, a.0)) (λ k e lt. let b = more.1 k e lt in omega (arith, b)),
     )
 
 pub outputs_in_order : (ps : List ProgramValue) (os : List TaskOutput) → os ≡ outputs_of ps → AllPairs IsBefore os

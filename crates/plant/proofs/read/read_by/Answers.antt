@@ -37,9 +37,9 @@ returns-in_err-reading-clause-body g c =
     let bodies : body_lines ws ≡ c.new-reader.result.bodies = ap (λ (ws : List WordValue). body_lines ws) (sym c.words-2.ensures) ∙ ap (λ (r : ReaderValue). r.bodies) (sym c.new-reader.ensures) in
     kept_fault fault (λ f. IsOfBody f.kind → IsBodyFaultIn c.args.text.now f) c.from_residual-in_err-reading.result c.from_residual-in_err-reading.ensures.1
     (λ of.
-        let met = c.in_err-reading.ensures.body of in
-        record {
-          texts = met.texts;
-          begun = begun_by_programs (without_last 13 c.args.text.now) ws met.texts met.rest met.more c.in_ok-words.ensures.begun (words ∙ met.written) (bodies ∙ met.lines);
-          first = met.first;
-        })
+    let met = c.in_err-reading.ensures.body of in
+    record {
+      texts = met.texts;
+      begun = begun_by_programs (without_last 13 c.args.text.now) ws met.texts met.rest met.more c.in_ok-words.ensures.begun (words ∙ met.written) (bodies ∙ met.lines);
+      first = met.first;
+    })
