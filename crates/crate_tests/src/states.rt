@@ -71,14 +71,14 @@ fn a_copy_is_the_same_until_something_changes(rt: HostRuntime) -> Result<(), Fai
     Ok(())
 }
 
-/// Two wires in one network, and in two networks: a scan needs fewer places there.
+/// Two coils in one network, and each in a network of its own: a scan needs fewer places there.
 #[test]
 fn how_many_places_a_scan_needs_does_not_count(rt: HostRuntime) -> Result<(), Fail> {
-    let one_network = with_names(rt.alloc(), "+--\n")?;
-    let two_networks = with_names(rt.alloc(), "+-\n|\n+-\n")?;
+    let one_network = ladder_of(rt.alloc(), "|  X   X\n+--( )-( )\n")?;
+    let two_networks = ladder_of(rt.alloc(), "|  X\n+-( )\n|  X\n+--( )\n")?;
     let state = one_network.initial(rt.alloc())?;
     let other = two_networks.initial(rt.alloc())?;
-    holds(&rt, "the other has more", !one_network.fits(&other));
+    holds(&rt, "the other has fewer", !one_network.fits(&other));
     holds(&rt, "they are the same", state.same(&other));
     Ok(())
 }
