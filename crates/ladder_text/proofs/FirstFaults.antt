@@ -12,11 +12,11 @@ use Rattle.ladder_text.specs.declared.place_fault.PlaceFault.{PlaceFault}
 use Rattle.ladder_text.specs.declared.place_fault.PlaceFault.TheVariants.{BadMark, Crossing, NoSource}
 use Rattle.ladder_text.specs.Rows.{Rows, width, height}
 use Rattle.ladder_text.specs.Boxes.{left_column, outlines}
-use Rattle.ladder_text.specs.Places.{layout_of, or_earlier}
+use Rattle.ladder_text.specs.Places.{layout_of}
 use Rattle.ladder_text.specs.Names.{words, things}
 use Rattle.ladder_text.specs.Faults.{IsFoundAt, IsWellDrawn, Nowhere, has_fault, not_ascii, no_left_rail, bad_box, boxes_apart, name_missing, stray_name, is_stray_operand, has_stray_pin, has_stray_operand}
 use Rattle.ladder_text.specs.FirstFault.{IsFaultAt, IsFaultless, IsFirstAt, IsFirstFault, IsTooLargeAt, IsOffRailAt, IsSharedAt, IsUnnamedAt, IsStrayWordAt, IsStrayOperandAt, IsSpanAt, rank}
-use Rattle.ladder_text.specs.Steps.Search.{IsNone, IsFirstOf, IsFirstFrom, IsFirstColumn}
+use Rattle.ladder_text.specs.Steps.Search.{IsNone, IsFirstOf, IsFirstFrom, IsFirstColumn, or_earlier}
 use Rattle.ladder_text.proofs.BoxOrder.{boxes_in_order, not_apart}
 use Rattle.ladder_text.proofs.SearchLemmas.{no_span, row_first, either_first, second_first}
 use Rattle.ladder_text.proofs.WidthLemmas.{row-narrow}

@@ -8,10 +8,10 @@ use Rattle.std.proofs.lemmas.List.Folds.{list_any_at, list_any_more}
 use Rattle.ladder_text.specs.declared.place.Place.{Place}
 use Rattle.ladder_text.specs.declared.span.Span.{Span}
 use Rattle.ladder_text.specs.Rows.{Rows, width}
-use Rattle.ladder_text.specs.Places.{is_before, or_earlier}
+use Rattle.ladder_text.specs.Places.{is_before}
 use Rattle.ladder_text.specs.Faults.{IsFoundAt}
 use Rattle.ladder_text.specs.FirstFault.{IsUpTo, IsFirstAt, IsSpanAt}
-use Rattle.ladder_text.specs.Steps.Search.{IsNone, IsFirstOf, IsFirstColumn, IsFirstColumnOf}
+use Rattle.ladder_text.specs.Steps.Search.{IsNone, IsFirstOf, IsFirstColumn, IsFirstColumnOf, or_earlier}
 
 -- a test that passes in no row above, and before the column in no place of its row
 pub found_first : (d : Rows) (test : ℕ → ℕ → Bool) (r c : ℕ) → ((i j : ℕ) → i < r → j ≤ width d → IsFalse (test i j)) → ((k : ℕ) → k < c → IsFalse (test r k))

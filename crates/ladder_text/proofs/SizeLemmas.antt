@@ -8,7 +8,7 @@ use Rattle.std.proofs.lemmas.List.{get_or-take, get_or_past, take_all}
 use Rattle.std.proofs.lemmas.List.Sums.{fails_before_first}
 use Rattle.std.proofs.lemmas.List.Quantifiers.{position-Some}
 use Rattle.ladder_text.specs.Rows.{Rows, width}
-use Rattle.ladder_text.specs.Faults.{first_long, first_beyond, place_beyond}
+use Rattle.ladder_text.specs.Steps.Search.{first_long, first_beyond, place_beyond}
 use Rattle.ladder_text.specs.FirstFault.{IsFirstAt, IsTooLargeAt}
 
 -- where the longest row is longer than n, some row is

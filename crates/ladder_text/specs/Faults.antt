@@ -1,5 +1,5 @@
 -- The faults, each as a test of a place, and when a drawing is well drawn.
-use Rattle.std.specs.Prelude.{ℕ, false, ◌+◌, ◌-◌, ◌≡◌, ◌≤◌, ◌<◌, IsTrue, IsFalse, List, ◌==◌, if◌then◌else◌, length, Bool, ◌&&◌, ◌||◌, not, nat_lt, nat_le, Option, Some, None, is_some, is_none, position, take}
+use Rattle.std.specs.Prelude.{ℕ, false, ◌+◌, ◌-◌, ◌≡◌, ◌≤◌, ◌<◌, IsTrue, IsFalse, List, ◌==◌, if◌then◌else◌, length, Bool, ◌&&◌, ◌||◌, not, nat_lt, nat_le, Option, Some, None, is_some, is_none}
 use Rattle.std.specs.List.{list_all, list_any, range_with_len, count_by}
 use Rattle.ladder_text.specs.declared.span.Span.{Span}
 use Rattle.ladder_text.specs.declared.drawn_box.Operand.{Operand}
@@ -9,7 +9,6 @@ use Rattle.ladder_text.specs.declared.drawn_box.DrawnPin.{DrawnPin}
 use Rattle.ladder_text.specs.declared.place_fault.PlaceFault.{PlaceFault}
 use Rattle.ladder_text.specs.declared.place_fault.PlaceFault.TheVariants.{BadMark, Crossing, NoSource}
 use Rattle.ladder_text.specs.declared.outline.Outline.{Outline}
-use Rattle.ladder_text.specs.declared.place.Place.{Place}
 use Rattle.ladder_text.specs.Rows.{Rows, char_at, height, width, run}
 use Rattle.ladder_text.specs.Chars.{between, is_word_char, is_name, is_plain_name, is_operand}
 use Rattle.ladder_text.specs.Boxes.{outline_at, begins_box, covers, left_column}
@@ -19,19 +18,6 @@ use Rattle.ladder_text.specs.Names.{overlap, words, symbols, tops, things, word_
 -- a character outside 32 to 126
 abbrev pub not_ascii : Rows → ℕ → ℕ → Bool
 not_ascii d r c = not (between 32 (char_at d r c) 126)
-
--- column 241 of the row r, or else row 2001
-abbrev pub place_beyond : Option ℕ → Place
-place_beyond None = record { row = 2001; column = 1 }
-place_beyond (Some r) = record { row = r; column = 241 }
-
--- the first row of 2000 with more than 240 characters behind its margin
-abbrev pub first_long : Rows → Option ℕ
-first_long d = position (λ row. nat_lt 241 (length row)) (take 2001 d)
-
--- the first place of more than 2000 rows of 240 columns
-abbrev pub first_beyond : Rows → Place
-first_beyond d = place_beyond (first_long d)
 
 -- a character of the left rail's column that is no rail's
 abbrev pub no_left_rail : Rows → ℕ → Bool
@@ -133,11 +119,6 @@ has_earlier w ws s = list_any (λ v. overlap v s && nat_lt v.first w.first) ws
 -- a word before w names one of the things that w overlaps
 abbrev pub is_second : Span → List Span → List Span → Bool
 is_second w ws things = list_any (λ s. overlap w s && has_earlier w ws s) things
-
--- what words of row r may name: the boxes and all things of the row below it
-pub record AreNamed (p : Layout) (r : ℕ) (ts all : List Span) : Type 0 where
-  pub are_tops : ts ≡ tops p (r + 1)
-  pub are_things : all ≡ things p (r + 1)
 
 -- a word that names nothing, two things or a thing that has a name before it, or isn't of the form wanted
 unfoldable pub stray_name : Layout → ℕ → Span → Bool

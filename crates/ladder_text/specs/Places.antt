@@ -25,11 +25,6 @@ pub record Layout : Type 0 where
 abbrev pub is_before : Place → Place → Bool
 is_before p q = nat_lt p.row q.row || (p.row == q.row && nat_lt p.column q.column)
 
--- p, or a place before it
-abbrev pub or_earlier : Place → Option Place → Place
-or_earlier p None = p
-or_earlier p (Some q) = if is_before q p then q else p
-
 -- (r, c) is a place of a box
 abbrev pub in_box : Layout → ℕ → ℕ → Bool
 in_box p r c = list_any (covers r c) p.boxes

@@ -3,7 +3,8 @@
 ghost use Rattle.std.specs.Prelude.{◌≡◌, ◌<◌, ◌≤◌, ◌^◌, ℕ, [], IsFalse, IsTrue, IfNone, IfSome, IfOk, IfErr, length, slice_index_or};
 ghost use Rattle.ladder_text.specs.Rows.{char_at, width};
 ghost use Rattle.ladder_text.specs.Boxes.{left_column, begins_box, dashes_after, without_leading, cut, has_sides, block_in};
-ghost use Rattle.ladder_text.specs.Faults.{Nowhere, not_ascii, no_left_rail, first_long, first_beyond};
+ghost use Rattle.ladder_text.specs.Faults.{Nowhere, not_ascii, no_left_rail};
+ghost use Rattle.ladder_text.specs.Steps.Search.{first_long, first_beyond};
 ghost use Rattle.ladder_text.specs.FirstFault.{IsFirstAt, IsTooLargeAt};
 ghost use Rattle.std.specs.Str.{IsAscii};
 

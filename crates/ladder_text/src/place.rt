@@ -1,5 +1,6 @@
 ghost use Rattle.std.specs.Prelude.{◌≡◌};
-ghost use Rattle.ladder_text.specs.Places.{is_before, or_earlier};
+ghost use Rattle.ladder_text.specs.Places.{is_before};
+ghost use Rattle.ladder_text.specs.Steps.Search.{or_earlier};
 
 /// A place of a drawing: row and column count from 1.
 #[derive(Clone, Copy, Debug, PartialEq, Eq)]

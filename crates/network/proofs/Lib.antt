@@ -13,5 +13,3 @@ pub mod TopLemmas
 pub mod SplitLemmas
 pub mod WholeGraph
 pub mod Spots
-pub mod NumberLemmas
-pub mod Neighbours

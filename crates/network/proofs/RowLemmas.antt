@@ -12,7 +12,11 @@ use Rattle.network.specs.declared.row_table.InRow.{InRow}
 use Rattle.network.specs.Links.{place, IsPinPlace}
 use Rattle.network.specs.Steps.Rows.{in_row, Puts}
 use Rattle.network.proofs.Basics.{some_is, one_at, place_same, get_set}
-use Rattle.network.proofs.NumberLemmas.{side_column}
+
+-- the column of a side
+abbrev pub side_column : Side → DrawnBox → ℕ
+side_column Left b = b.left
+side_column Right b = b.right
 
 pub puts_none : (P : Place → Type 0) (k : ℕ) (table : List (Option InRow)) → ((p : Place) → P p → ⊥) → Puts P k table table
 puts_none P k table never = record { each = λ r t at. inl at; kept = λ r t at. inl at; put = λ p such. absurd (never p such) }

@@ -13,7 +13,7 @@ use Rattle.ladder_text.specs.declared.drawn_box.Side.TheVariants.{Left, Right}
 use Rattle.network.specs.declared.element.Element.{Element}
 use Rattle.network.specs.declared.element.Element.TheVariants.{Wire, Join, Upright, Contact, Coil, Box}
 use Rattle.network.specs.Links.{place, IsSymbolPlace}
-use Rattle.network.specs.Apart.{first_place, Has, AreOnPage}
+use Rattle.network.specs.Apart.{first_place, Has}
 use Rattle.network.specs.Networks.{IsElementOf, IsLeftRail, Precedes, lowest_row}
 use Rattle.network.specs.Steps.Listing.{AreElementsOf, IsTheElementAt, IsNoElementAt}
 use Rattle.network.proofs.Basics.{one_at, at_contains}
@@ -196,13 +196,3 @@ module _ (g : Picture) (sound : IsSound g) (es : List Element) (are : AreElement
       | inr le ↦ omega arith
     ]
   ]
-
-  pub apart_of : (j k : ℕ) (e f : Element) (p : Place) → slice_get es j ≡ Some e → slice_get es k ≡ Some f → Has e p → Has f p → j ≡ k
-  apart_of j k e f p at at' h i = same_number j k e f at at' (ap first_place (shared g sound e f p (are.drawn j e at) (are.drawn k f at') h i))
-
-  pub on_page_of : AreOnPage es
-  on_page_of k e p at h =
-      let on = has_on_page g sound e p (are.drawn k e at) h in
-      let few = sound.few_rows in
-      let few' = sound.few_columns in
-      ((let a = on.0 in omega arith), (let a = on.2 in omega arith))

@@ -20,10 +20,6 @@ push_cases [] x (suc k) s h = absurd (cc)
 push_cases (y ∷ xs) x zero s h = inl h
 push_cases (y ∷ xs) x (suc k) s h = elim (push_cases xs x k s h) [ inl old ↦ inl old | inr e ↦ inr (ap suc e.0, e.1) ]
 
--- a place that is in a list once more is there with its old number or at the end
-pub spot-push_old : (spots : List Spot) (s : Spot) (k : ℕ) (p : Place) → IsSpot spots k p → IsSpot (spots ++ s ∷ []) k p
-spot-push_old spots s k p f = (f.0, push_old spots s k f.0 f.1, f.2)
-
 -- what is written at other places than p stays
 abbrev pub StaysBeside : Place → List (List ℕ) → List (List ℕ) → Type 0
 StaysBeside p old new = (q : Place) (n : ℕ) → q ≢ p → number_at old q ≡ Some n → number_at new q ≡ Some n
@@ -95,9 +91,3 @@ pub finds_number : (spots : List Spot) (rows : List (List ℕ)) (p : Place) (n :
     → (k : ℕ) → (◌≡◌ {A = Option ℕ} (Some n) (Some k) → IsSpot spots k p) × (IsSpot spots k p → ◌≡◌ {A = Option ℕ} (Some n) (Some k))
 finds_number spots rows p n s are at is here k =
     (λ h. (let same : n ≡ k = cc in (s, ap (slice_get spots) (sym same) ∙ is, here)), λ f. sym at ∙ are.whole p k f)
-
--- each place has one number
-pub one_number : (spots : List Spot) (rows : List (List ℕ)) → AreNumbers spots rows → (i j : ℕ) (p : Place) → IsSpot spots i p → IsSpot spots j p → i ≡ j
-one_number spots rows are i j p f g =
-    let h : Some i ≡ Some j = sym (are.whole p i f) ∙ are.whole p j g in
-    cc

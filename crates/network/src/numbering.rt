@@ -79,16 +79,6 @@ impl Numbering {
     ghost use Rattle.std.specs.Prelude.{◌≡◌, ◌⊎◌, ◌↔◌, ℕ, [], ◌∷◌, ◌++◌, Some, IfOk, OnOk, MatchOption, slice_get, length};
     ghost use Rattle.network.specs.Steps.Numbers.{IsSpot};
 
-    pub fn new(alloc: Global) -> Self
-        ensures { result ≡ [] }
-    {
-        Numbering {
-            alloc,
-            spots: Vec::new(alloc),
-            rows: Vec::new(alloc),
-        }
-    }
-
     /// Without numbers, with room for so many.
     pub fn with_capacity(alloc: Global, capacity: usize) -> Result<Self, AllocError>
         ensures { IfOk result (λ n. n ≡ []) }
@@ -99,13 +89,6 @@ impl Numbering {
             spots,
             rows: Vec::new(alloc),
         })
-    }
-
-    /// Drops all numbers, and keeps the room for them.
-    pub fn clear(&mut self)
-        ensures { self.new ≡ [] }
-    {
-        self.spots.clear();
     }
 
     /// The number of a place.
@@ -128,14 +111,6 @@ impl Numbering {
     {
         let number = self.find(place)?;
         Some(self.spots[number].element)
-    }
-
-    /// All places in the order of their numbers, each once.
-    pub fn spots(&self) -> &[Spot]
-        ensures value { result.now ≡ self.now }
-        ensures once { (i j : ℕ) (p : Place) → IsSpot self.now i p → IsSpot self.now j p → i ≡ j }
-    {
-        self.spots.as_slice()
     }
 
     /// The number of a place, which is added if it is new.

@@ -1,8 +1,11 @@
 -- What the search for faults knows halfway.
-use Rattle.std.specs.Prelude.{ℕ, ◌<◌, ◌≤◌, Option, Some, None}
+use Rattle.std.specs.Prelude.{◌≡◌, ℕ, ◌+◌, ◌<◌, ◌≤◌, nat_lt, if◌then◌else◌, List, length, take, position, Option, Some, None}
 use Rattle.ladder_text.specs.declared.drawing.DrawFaultKind.{DrawFaultKind}
 use Rattle.ladder_text.specs.declared.place.Place.{Place}
+use Rattle.ladder_text.specs.declared.span.Span.{Span}
 use Rattle.ladder_text.specs.Rows.{Rows}
+use Rattle.ladder_text.specs.Places.{Layout, is_before}
+use Rattle.ladder_text.specs.Names.{tops, things}
 use Rattle.ladder_text.specs.FirstFault.{IsFaultAt, IsFirstAt, rank}
 
 -- no place is such
@@ -28,3 +31,26 @@ IsFirstColumnOf IsSuch (Some c) = IsFirstColumn IsSuch c
 pub record IsFirstFrom (d : Rows) (n : ℕ) (k : DrawFaultKind) (r c : ℕ) : Type 0 where
   pub place : IsFirstAt (IsFaultAt d k) r c
   pub before : (earlier : DrawFaultKind) → n ≤ rank earlier → rank earlier < rank k → IsNone (IsFaultAt d earlier)
+
+-- p, or a place before it
+abbrev pub or_earlier : Place → Option Place → Place
+or_earlier p None = p
+or_earlier p (Some q) = if is_before q p then q else p
+
+-- column 241 of the row r, or else row 2001
+abbrev pub place_beyond : Option ℕ → Place
+place_beyond None = record { row = 2001; column = 1 }
+place_beyond (Some r) = record { row = r; column = 241 }
+
+-- the first row of 2000 with more than 240 characters behind its margin
+abbrev pub first_long : Rows → Option ℕ
+first_long d = position (λ row. nat_lt 241 (length row)) (take 2001 d)
+
+-- the first place of more than 2000 rows of 240 columns
+abbrev pub first_beyond : Rows → Place
+first_beyond d = place_beyond (first_long d)
+
+-- what words of row r may name: the boxes and all things of the row below it
+pub record AreNamed (p : Layout) (r : ℕ) (ts all : List Span) : Type 0 where
+  pub are_tops : ts ≡ tops p (r + 1)
+  pub are_things : all ≡ things p (r + 1)

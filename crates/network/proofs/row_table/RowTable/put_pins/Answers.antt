@@ -3,7 +3,7 @@ use denote.Enum.Bare.{same_true, same_false}
 use Rattle.std.proofs.lemmas.Option.{slice_get_read}
 use Rattle.ladder_text.specs.contracts.drawn_box.Side.{the_type}
 use Rattle.network.specs.Links.{place}
-use Rattle.network.proofs.NumberLemmas.{side_column}
+use Rattle.network.proofs.RowLemmas.{side_column}
 use Rattle.network.proofs.RowLemmas.{pin_here, puts_pin, puts_skip, puts_all}
 use Rattle.network.proofs.row_table.RowTable.put_pins.Goals.{then-eq, else-eq}
 use Rattle.network.proofs.row_table.RowTable.put_pins.Goals as goal

@@ -1,6 +1,6 @@
 use Rattle.std.proofs.Common.{◌≡◌, length}
 use Rattle.network.specs.Steps.Rows.{Puts}
-use Rattle.network.proofs.NumberLemmas.{side_column}
+use Rattle.network.proofs.RowLemmas.{side_column}
 use Rattle.network.proofs.RowLemmas.{IsPinTo}
 use Rattle.network.proofs.row_table.RowTable.put_pins.Given as goal
 
