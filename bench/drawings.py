@@ -74,6 +74,26 @@ def counters():
     return "\n".join(made) + "\n"
 
 
+def latches(rows, columns):
+    """One network of latches: so many in each of its rows, one behind the other, and a coil at the end of the row.
+
+    Its rows are joined behind GO by one upright. There are at most 40 rows, and 25 latches in each.
+    """
+    made = []
+    for row in range(rows):
+        first, last = row == 0, row == rows - 1
+        upright = "|" if not first else " "
+        boxes = [f"S{row * columns + column:03}" for column in range(columns)]
+        made += [
+            f"|      {upright}" + "".join(f"  {name}   " for name in boxes),
+            f"|      {upright}" + " +-----+ " * columns,
+            ("|  GO   " if first else "|      |") + " | SR  | " * columns + f"Y{row:02}",
+            ("+--| |-+" if first else "|      +") + "-|S1 Q1|-" * columns + "( )",
+            ("|       " if last else "|      |") + " +-----+ " * columns,
+        ]
+    return "\n".join(made) + "\n"
+
+
 def chain(contacts):
     """A rung of contacts one after the other, and a coil."""
     above = "|" + "".join(f"  X{number:02}" for number in range(contacts)) + "   Y"

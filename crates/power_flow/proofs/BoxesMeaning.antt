@@ -47,6 +47,7 @@ use Rattle.power_flow.specs.Waiting.{box_of, coils_of}
 use Rattle.power_flow.proofs.Lists.{Contains-slice_get, any_at, any_found, same_bit}
 use Rattle.power_flow.proofs.Stepping.{stored-append}
 use Rattle.power_flow.proofs.Lists.{some_same}
+use Rattle.power_flow.proofs.Fusing.{fewer_passed}
 use Rattle.power_flow.proofs.BoxesSources.{zip_at, zip_back, zip_length, box_in, contains_at, right_pin_in, right_pin_at, pin_value, block_at, name_bit, name_value, pin_source_value, block_kept}
 use Rattle.power_flow.proofs.Sweeping as sweeping
 use Rattle.power_flow.proofs.ColumnSteps as steps
@@ -460,7 +461,7 @@ module _ (ds : List Declaration) (d : Diagram) (circuit : Circuit) (dt : ℕ) (s
       (λ k e part at in'.
       let here : 0 + k ≡ k = omega arith in
       rw here (is.steps.each k e part (rw here at at) in'))
-      a m start (subst P is.steps.whole passed) refl
+      a m start (subst P is.steps.whole (fewer_passed circuit.boxes.items slots dt circuit.steps.items is.plain a m is.fused passed)) refl
 
   bit_of : (e : BoundBox) (rows : List Bool) (k : ℕ) → k < 4 → bit (box_inputs e slots rows) k ≡ source_bit slots rows (bit_source e k)
   unfolding box_inputs

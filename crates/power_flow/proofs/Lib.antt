@@ -3,6 +3,8 @@ pub mod Lists
 pub mod Leading
 pub mod CircuitOf
 pub mod StepLemmas
+pub mod FewElements
+pub mod Fusing
 pub mod RowLemmas
 pub mod Uprights
 pub mod Scanning

@@ -1,7 +1,7 @@
 use Rattle.std.proofs.Common.{ℕ, ◌≤◌, inl, inr, List, [], ◌∷◌, Bool, IsTrue, arith}
 use Rattle.ladder_text.specs.declared.place.Place.{Place}
 use Rattle.network.specs.Links.{Diagram, Passes}
-use Rattle.power_flow.specs.Power.{IsWalk, SymbolEndsAt, AllConduct, IsOn}
+use Rattle.power_flow.specs.Power.{IsWalk, SymbolEndsAt, IsOn}
 
 -- a step never goes left
 pub passes_column : (d : Diagram) (p q : Place) → Passes d p q → p.column ≤ q.column

@@ -4,9 +4,11 @@ pub mod BoxSteps
 pub mod BoxTable
 pub mod Circuit
 pub mod Columns
+pub mod Contacts
 pub mod Earlier
 pub mod ElementFindings
 pub mod Folded
+pub mod Fused
 pub mod NamedBox
 pub mod Passing
 pub mod RowEnds

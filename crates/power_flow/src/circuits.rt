@@ -10,6 +10,7 @@ ghost use Rattle.power_flow.specs.declared.circuit.Circuit.{Circuit};
 use crate::box_binding::bind_boxes;
 use crate::circuit::Circuit;
 use crate::declarations::Declarations;
+use crate::fused::fused;
 use crate::rails::Rails;
 use crate::rows::Rows;
 use crate::same_elements::{are_same_elements, are_same_places};
@@ -63,9 +64,10 @@ fn circuit_of(
 {
     let elements = network.into_elements();
     let rows = Rows::of(&elements);
-    let steps = steps_of(alloc, rails, declarations, &elements, rows)?;
+    let plain = steps_of(alloc, rails, declarations, &elements, rows)?;
     let coils = coils_of(alloc, declarations, &elements)?;
     let boxes = bind_boxes(alloc, declarations, rows.top, &elements)?;
+    let steps = fused(alloc, plain)?;
     Ok(Circuit {
         elements,
         rows: rows.count,

@@ -3,6 +3,7 @@
 
 mod bind;
 mod bound_box;
+mod bound_contact;
 mod box_binding;
 mod box_faults;
 mod boxes;
@@ -10,6 +11,7 @@ mod circuit;
 mod circuits;
 mod declarations;
 mod fits;
+mod fused;
 mod guess;
 mod kinds;
 mod ladder;

@@ -1,4 +1,4 @@
-ghost use Rattle.std.specs.Prelude.{◌≡◌, ◌<◌, ◌≤◌, ◌⊎◌, ◌↔◌, ℕ, All, Some, true, false, length, slice_get, slice_set};
+ghost use Rattle.std.specs.Prelude.{◌≡◌, ◌<◌, ◌≤◌, ◌+◌, ◌⊎◌, ◌↔◌, ◌&&◌, ℕ, All, Some, true, false, length, slice_get, slice_set};
 ghost use Rattle.power_flow.specs.Meaning.{bit_at, contact_conducts, contact_memory};
 ghost use Rattle.std_blocks.specs.Pins.{field_value};
 ghost use Rattle.power_flow.specs.Names.{is_true};
@@ -7,9 +7,10 @@ ghost use Rattle.power_flow.specs.Steps.Circuit.{IsStepIn};
 ghost use Rattle.power_flow.specs.Steps.Passing.{AreJoined, AreShown, IsObeyed, ArePassed, pass_of, read_rows, read_memories};
 
 use crate::bound_box::{BoundBox, BoundOutput};
+use crate::bound_contact::BoundContact;
 use crate::source::is_output_on;
 use crate::state::{Instance, Slot};
-use crate::step::{BoundContact, Step};
+use crate::step::Step;
 use ladder_text::ContactKind;
 use std_blocks::PinsOut;
 
@@ -38,12 +39,59 @@ fn is_any_on(rows: &[bool], first: usize, last: usize) -> bool
     requires { last < length rows.now }
     ensures { (result ≡ true) ↔ ((k : ℕ) × (first ≤ k) × (k ≤ last) × (bit_at rows.now k ≡ true)) }
 {
+    let mut on = false;
     for row in first..last + 1 {
-        if rows[row] {
-            return true;
-        }
+        let here = rows[row];
+        on = here || on;
     }
-    false
+    on
+}
+
+/// Gives the rows from first to last one state.
+fn set_rows(rows: &mut [bool], first: usize, last: usize, on: bool)
+    requires { last < length rows.old }
+    ensures long { length rows.new ≡ length rows.old }
+    ensures within { (k : ℕ) → first ≤ k → k ≤ last → bit_at rows.new k ≡ on }
+    ensures outside { (k : ℕ) → (k < first) ⊎ (last < k) → bit_at rows.new k ≡ bit_at rows.old k }
+{
+    for row in first..last + 1 {
+        rows[row] = on;
+    }
+}
+
+/// Where any of these rows is ON, all are.
+fn join_many(rows: &mut [bool], first: usize, last: usize)
+    requires { last < length rows.old }
+    ensures { AreJoined first last rows.old rows.new }
+{
+    let on = is_any_on(rows, first, last);
+    set_rows(rows, first, last, on);
+}
+
+/// Where one of this row and the next is ON, both are.
+fn join_two(rows: &mut [bool], first: usize)
+    requires { first + 1 < length rows.old }
+    ensures { AreJoined first (first + 1) rows.old rows.new }
+{
+    let upper = rows[first];
+    let lower = rows[first + 1];
+    let on = upper || lower;
+    rows[first] = on;
+    rows[first + 1] = on;
+}
+
+/// Where one of this row and the next two is ON, all three are.
+fn join_three(rows: &mut [bool], first: usize)
+    requires { first + 2 < length rows.old }
+    ensures { AreJoined first (first + 2) rows.old rows.new }
+{
+    let upper = rows[first];
+    let middle = rows[first + 1];
+    let lower = rows[first + 2];
+    let on = upper || (middle || lower);
+    rows[first] = on;
+    rows[first + 1] = on;
+    rows[first + 2] = on;
 }
 
 /// Where any of the rows from first to last is ON, all are.
@@ -51,9 +99,13 @@ fn join_rows(rows: &mut [bool], first: usize, last: usize)
     requires { last < length rows.old }
     ensures { AreJoined first last rows.old rows.new }
 {
-    let on = is_any_on(rows, first, last);
-    for row in first..last + 1 {
-        rows[row] = on;
+    let further = last.saturating_sub(first);
+    if further == 1 {
+        join_two(rows, first);
+    } else if further == 2 {
+        join_three(rows, first);
+    } else {
+        join_many(rows, first, last);
     }
 }
 
@@ -111,6 +163,18 @@ fn step_box(bound: &BoundBox, made: &mut Instance, slots: &[Slot], rows: &mut [b
     show_outputs(bound, made, rows);
 }
 
+/// Reads the contact of an edge: state goes on in its row if it conducts, and its memory is set.
+fn read_edge(contact: &BoundContact, on: bool, rows: &mut [bool], memories: &mut [bool])
+    requires row { contact.now.row < length rows.old }
+    requires memory { contact.now.memory < length memories.old }
+    ensures rows { rows.new ≡ slice_set rows.old contact.now.row (bit_at rows.old contact.now.row && contact_conducts contact.now.kind on (bit_at memories.old contact.now.memory)) }
+    ensures memories { memories.new ≡ slice_set memories.old contact.now.memory (contact_memory contact.now.kind on (bit_at memories.old contact.now.memory)) }
+{
+    let memory = memories[contact.memory()];
+    rows[contact.row()] = rows[contact.row()] && conducts(contact.kind(), on, memory);
+    memories[contact.memory()] = next_memory(contact.kind(), on, memory);
+}
+
 /// Reads a contact: state goes on in its row if it conducts.
 fn read_contact(contact: &BoundContact, slots: &[Slot], rows: &mut [bool], memories: &mut [bool])
     requires row { contact.now.row < length rows.old }
@@ -118,10 +182,16 @@ fn read_contact(contact: &BoundContact, slots: &[Slot], rows: &mut [bool], memor
     ensures rows { rows.new ≡ read_rows contact.now slots.now rows.old memories.old }
     ensures memories { memories.new ≡ read_memories contact.now slots.now memories.old }
 {
-    let on = contact.source.is_true(slots);
-    let memory = memories[contact.memory];
-    rows[contact.row] = rows[contact.row] && conducts(contact.kind, on, memory);
-    memories[contact.memory] = next_memory(contact.kind, on, memory);
+    let on = contact.is_on(slots);
+    let row = contact.row();
+    let before = rows[row];
+    if let ContactKind::Plain = contact.kind() {
+        rows[row] = before && on;
+    } else if let ContactKind::Negated = contact.kind() {
+        rows[row] = before && !on;
+    } else {
+        read_edge(contact, on, rows, memories);
+    }
 }
 
 /// Does what a step says.
@@ -141,12 +211,19 @@ fn obey(
     ensures { IsObeyed boxes.now slots.now dt step.now (pass_of rows.old memories.old links.old results.old) (pass_of rows.new memories.new links.new results.new) }
 {
     match step {
-        Step::Rail(row) => rows[*row] = true,
-        Step::Off(row) => rows[*row] = false,
-        Step::Upright(first, last) => join_rows(rows, *first, *last),
+        Step::Rail(row) => rows[*row as usize] = true,
+        Step::Off(row) => rows[*row as usize] = false,
+        Step::Upright(first, last) => join_rows(rows, *first as usize, *last as usize),
+        Step::OffUpright(row, first, last) => {
+            rows[*row as usize] = false;
+            join_rows(rows, *first as usize, *last as usize)
+        }
         Step::Contact(contact) => read_contact(contact, slots, rows, memories),
-        Step::Coil(row, number) => links[*number] = rows[*row],
-        Step::Box(number) => step_box(&boxes[*number], &mut results[*number], slots, rows, dt),
+        Step::Coil(row, number) => links[*number as usize] = rows[*row as usize],
+        Step::Box(number) => {
+            let number = *number as usize;
+            step_box(&boxes[number], &mut results[number], slots, rows, dt)
+        }
     }
 }
 

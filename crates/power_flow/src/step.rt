@@ -1,16 +1,7 @@
-use crate::source::Source;
-use ladder_text::{CoilKind, ContactKind};
+ghost use Rattle.std.specs.Prelude.{◌≡◌};
 
-/// A contact with its name bound.
-#[derive(Clone, Copy, Debug, PartialEq, Eq)]
-pub struct BoundContact {
-    pub kind: ContactKind,
-    /// The row, counted from the network's topmost row.
-    pub row: usize,
-    pub source: Source,
-    /// The number of its memory among those of the network.
-    pub memory: usize,
-}
+use crate::bound_contact::BoundContact;
+use ladder_text::CoilKind;
 
 /// A coil with its name bound.
 #[derive(Clone, Copy, Debug, PartialEq, Eq)]
@@ -22,19 +13,23 @@ pub struct BoundCoil {
     pub memory: usize,
 }
 
-/// What a scan does at a place of a network. Rows are counted from the network's topmost row.
-#[derive(Clone, Copy, Debug, PartialEq, Eq)]
+/// What a scan does at a place of a network, in at most 16 bytes. Rows are counted from the network's topmost row.
+#[derive(Drop)]
 pub enum Step {
     /// What begins in this row follows the left rail: its state is ON.
-    Rail(usize),
+    Rail(u8),
     /// Nothing leads to what begins in this row: its state is OFF.
-    Off(usize),
+    Off(u8),
     /// The rows of an upright, from its topmost to its lowest: where any is ON, all are.
-    Upright(usize, usize),
+    Upright(u8, u8),
+    /// Nothing leads to this row: its state is OFF; and then the rows of an upright are joined, from its topmost to its lowest.
+    OffUpright(u8, u8, u8),
     /// State goes on behind a contact that conducts.
     Contact(BoundContact),
     /// The state of this row is the left link of the coil with this number.
-    Coil(usize, usize),
+    Coil(u8, u32),
     /// The box with this number is stepped, once the states on its left are known.
-    Box(usize),
+    Box(u32),
 }
+
+const _: () = prove!(size_of::<Step>() == 16);

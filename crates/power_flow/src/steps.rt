@@ -10,16 +10,18 @@ ghost use Rattle.network.specs.GraphValue.{diagram};
 ghost use Rattle.power_flow.specs.declared.step.Step.{Step};
 ghost use Rattle.network.specs.GraphValue.{IsSoundNetwork};
 ghost use Rattle.power_flow.specs.Steps.Columns.{IsAtRail, IsUpright, StandsIn, Begins, Joins, IsLeftPinBegun, left_pins, joined, AreSteps};
+ghost use Rattle.power_flow.specs.Steps.Sources.{name_source};
 ghost use Rattle.power_flow.specs.Steps.RowEnds.{AreRows, AreEndsTo, TellsLed, ArePushed, AreStepsTo, listed};
 ghost use Rattle.power_flow.specs.Waiting.{coils_of, boxes_of};
 
+use crate::bound_contact::BoundContact;
 use crate::declarations::Declarations;
 use crate::names::name_source;
 use crate::rails::Rails;
 use crate::row_ends::note_element;
 use crate::rows::Rows;
-use crate::step::{BoundContact, Step};
-use ladder_text::{DrawnBox, DrawnPin, Place, Side};
+use crate::step::Step;
+use ladder_text::{Contact, DrawnBox, DrawnPin, Place, Side};
 use network::{Element, stands};
 use std::alloc::{AllocError, Global};
 
@@ -34,13 +36,22 @@ fn is_at_rail(rails: &Rails, at: Place) -> bool
     left.column < at.column && rails.has(left)
 }
 
+/// The row of a network, counted from its topmost row.
+fn row_below(top: usize, row: usize) -> u8
+    requires { row - top < 256 }
+    ensures { result ≡ row - top }
+{
+    row.saturating_sub(top) as u8
+}
+
 /// How the state of a row begins at a place: nothing where it goes on from the left.
 fn beginning(rails: &Rails, ends: &[usize], top: usize, at: Place) -> Option<Step>
-    requires { at.row - top < length ends.now }
+    requires row { at.row - top < length ends.now }
+    requires low { length ends.now ≤ 200 }
     ensures { (elements : List Element) → TellsLed (diagram rails.now elements) top ends.now at → Begins (diagram rails.now elements) top at (listed result) }
 {
-    let row = at.row.saturating_sub(top);
-    if at.column > 0 && ends[row] == at.column {
+    let row = row_below(top, at.row);
+    if at.column > 0 && ends[row as usize] == at.column {
         return None;
     }
     if is_at_rail(rails, at) {
@@ -63,7 +74,8 @@ fn stands_at(elements: &[Element], k: usize, at: Place) -> bool
 /// The topmost row of the upright that stands at a place; its places come one after the other.
 fn first_row(elements: &[Element], k: usize, at: Place) -> usize
     requires { (e : Element) × (slice_get elements.now k ≡ Some e) × Stands e at }
-    ensures { (rails : List Place) → IsSoundNetwork (diagram rails elements.now) → (StandsIn (diagram rails elements.now) (at.row + 1) at.column → ⊥)
+    ensures above { result ≤ at.row }
+    ensures upright { (rails : List Place) → IsSoundNetwork (diagram rails elements.now) → (StandsIn (diagram rails elements.now) (at.row + 1) at.column → ⊥)
         → IsUpright (diagram rails elements.now) at.column result at.row }
 {
     let mut number = k;
@@ -80,6 +92,7 @@ fn joining(elements: &[Element], k: usize, top: usize, at: Place) -> Option<Step
     requires stands { (e : Element) × (slice_get elements.now k ≡ Some e) × Stands e at }
     requires page { AreOnPage elements.now }
     requires fits { k + 1 < 2 ^ 64 }
+    requires low { at.row - top < 256 }
     ensures { (rails : List Place) → IsSoundNetwork (diagram rails elements.now) → Joins (diagram rails elements.now) top at (listed result) }
 {
     let below = Place {
@@ -90,7 +103,7 @@ fn joining(elements: &[Element], k: usize, top: usize, at: Place) -> Option<Step
         return None;
     }
     let first = first_row(elements, k, at);
-    Some(Step::Upright(first.saturating_sub(top), at.row.saturating_sub(top)))
+    Some(Step::Upright(row_below(top, first), row_below(top, at.row)))
 }
 
 /// Adds a step, if there is one.
@@ -111,7 +124,8 @@ fn pin_beginning(
     drawn: &DrawnBox,
     pin: &DrawnPin,
 ) -> Option<Step>
-    requires { pin.now.row - top < length ends.now }
+    requires row { pin.now.row - top < length ends.now }
+    requires low { length ends.now ≤ 200 }
     ensures left { (elements : List Element) → let d = diagram rails.now elements in
         TellsLed d top ends.now (place pin.now.row drawn.now.left) → pin.now.side ≡ Left → IsLeftPinBegun d top drawn.now pin.now (listed result) }
     ensures right { pin.now.side ≡ Right → result ≡ None }
@@ -141,7 +155,8 @@ fn push_pins(
     top: usize,
     drawn: &DrawnBox,
 ) -> Result<(), AllocError>
-    requires { (pin : DrawnPin) → Contains drawn.now.pins pin → pin.row - top < length ends.now }
+    requires rows { (pin : DrawnPin) → Contains drawn.now.pins pin → pin.row - top < length ends.now }
+    requires low { length ends.now ≤ 200 }
     ensures { OnOk result ((elements : List Element) → let d = diagram rails.now elements in
         ((pin : DrawnPin) → Contains drawn.now.pins pin → pin.side ≡ Left → TellsLed d top ends.now (place pin.row drawn.now.left))
         → (begins : List (List Step)) × AllZip (IsLeftPinBegun d top drawn.now) (left_pins drawn.now.pins) begins × (steps.new.items ≡ steps.old.items ++ joined begins)) }
@@ -181,6 +196,23 @@ impl Numbers {
     }
 }
 
+/// The step at the contact with the number k. A place that a step has no room for is one for which there is no memory.
+fn contact_step(
+    declarations: &Declarations,
+    contact: &Contact,
+    row: u8,
+    k: usize,
+) -> Result<Step, AllocError>
+    requires { k < 2 ^ 32 }
+    ensures { IfOk result (λ s. s ≡ Step.Contact record { kind = contact.now.kind; row = row; source = name_source declarations.now contact.now.name; memory = k }) }
+{
+    let source = name_source(declarations, contact.name.as_str());
+    match BoundContact::new(contact.kind, row, source, k as u32) {
+        Some(bound) => Ok(Step::Contact(bound)),
+        None => Err(AllocError),
+    }
+}
+
 /// Adds the steps at the element with the number k.
 fn push_element(
     steps: &mut Vec<Step>,
@@ -193,9 +225,10 @@ fn push_element(
     numbers: Numbers,
 ) -> Result<(), AllocError>
     requires within { k < length elements.now }
-    requires fits { k + 1 < 2 ^ 64 }
+    requires few { length elements.now < 2 ^ 32 }
     requires sound { IsSoundNetwork (diagram rails.now elements.now) }
     requires rows { AreRows elements.now top (length ends.now) }
+    requires low { length ends.now ≤ 200 }
     requires ends { AreEndsTo (diagram rails.now elements.now) top k ends.now }
     requires coils { numbers.coils ≡ length (coils_of (take k elements.now)) }
     requires boxes { numbers.boxes ≡ length (boxes_of (take k elements.now)) }
@@ -203,7 +236,7 @@ fn push_element(
 {
     let element = &elements[k];
     let at = element.first_place();
-    let row = at.row.saturating_sub(top);
+    let row = row_below(top, at.row);
     match element {
         Element::Wire(_) => {
             push_step(steps, beginning(rails, ends, top, at))?;
@@ -221,22 +254,18 @@ fn push_element(
         }
         Element::Contact(contact) => {
             push_step(steps, beginning(rails, ends, top, at))?;
-            steps.push(Step::Contact(BoundContact {
-                kind: contact.kind,
-                row,
-                source: name_source(declarations, contact.name.as_str()),
-                memory: k,
-            }))?;
+            let step = contact_step(declarations, contact, row, k)?;
+            steps.push(step)?;
             Ok(())
         }
         Element::Coil(_) => {
             push_step(steps, beginning(rails, ends, top, at))?;
-            steps.push(Step::Coil(row, numbers.coils))?;
+            steps.push(Step::Coil(row, numbers.coils as u32))?;
             Ok(())
         }
         Element::Box(boxed) => {
             push_pins(steps, rails, ends, top, boxed.drawn())?;
-            steps.push(Step::Box(numbers.boxes))?;
+            steps.push(Step::Box(numbers.boxes as u32))?;
             Ok(())
         }
     }
@@ -252,7 +281,9 @@ fn push_elements(
     top: usize,
 ) -> Result<(), AllocError>
     requires sound { IsSoundNetwork (diagram rails.now elements.now) }
+    requires few { length elements.now < 2 ^ 32 }
     requires rows { AreRows elements.now top (length ends.old) }
+    requires low { length ends.old ≤ 200 }
     requires ends { AreEndsTo (diagram rails.now elements.now) top 0 ends.old }
     requires steps { steps.old.items ≡ [] }
     ensures { OnOk result (AreSteps declarations.now (diagram rails.now elements.now) top steps.new.items) }
@@ -276,6 +307,7 @@ pub fn steps_of(
 ) -> Result<Vec<Step>, AllocError>
     requires sound { IsSoundNetwork (diagram rails.now elements.now) }
     requires rows { AreRows elements.now rows.top rows.count }
+    requires low { rows.count ≤ 200 }
     ensures { IfOk result (λ steps. AreSteps declarations.now (diagram rails.now elements.now) rows.top steps.items) }
 {
     let mut ends = vec![in alloc; 0usize; rows.count]?;

@@ -13,6 +13,7 @@ use Rattle.power_flow.specs.declared.step.Step.TheVariants as step
 use Rattle.power_flow.specs.declared.step.BoundCoil.{BoundCoil}
 use Rattle.power_flow.specs.Names.{place_of, is_dot}
 use Rattle.power_flow.specs.Steps.Columns.{AreSteps}
+use Rattle.power_flow.specs.Steps.Fused.{singles}
 use Rattle.power_flow.specs.Steps.BoxTable.{AreBoundBoxes}
 
 -- the numbers of a step stand for rows, memories, coils and boxes
@@ -20,6 +21,7 @@ abbrev pub IsStepIn : ℕ → ℕ → ℕ → ℕ → Step → Type 0
 IsStepIn rows memories coils boxes (step.Rail row) = row < rows
 IsStepIn rows memories coils boxes (step.Off row) = row < rows
 IsStepIn rows memories coils boxes (step.Upright first last) = last < rows
+IsStepIn rows memories coils boxes (step.OffUpright row first last) = (row < rows) × (last < rows)
 IsStepIn rows memories coils boxes (step.Contact c) = (c.row < rows) × (c.memory < memories)
 IsStepIn rows memories coils boxes (step.Coil row k) = (row < rows) × (k < coils)
 IsStepIn rows memories coils boxes (step.Box k) = k < boxes
@@ -56,7 +58,9 @@ pub record IsCircuit (ds : List Declaration) (d : Diagram) (c : Circuit) : Type 
   pub sound : IsSoundNetwork d
   pub top : ℕ
   pub rows : (e : Element) (p : Place) → Contains d.elements e → Has e p → (top ≤ p.row) × (p.row < top + c.rows)
-  pub steps : AreSteps ds d top c.steps.items
+  pub plain : List Step
+  pub steps : AreSteps ds d top plain
+  pub fused : singles c.steps.items ≡ singles plain
   pub coils : c.coils.items ≡ bound_coils ds d.elements
   pub boxes : AreBoundBoxes ds d top c.boxes.items
 

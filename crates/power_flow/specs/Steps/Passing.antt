@@ -8,7 +8,7 @@ use Rattle.power_flow.specs.declared.state.Slot.{Slot}
 use Rattle.power_flow.specs.declared.bound_box.BoundBox.{BoundBox}
 use Rattle.power_flow.specs.declared.step.Step.{Step}
 use Rattle.power_flow.specs.declared.step.Step.TheVariants as step
-use Rattle.power_flow.specs.declared.step.BoundContact.{BoundContact}
+use Rattle.power_flow.specs.Steps.Contacts.{ContactValue}
 use Rattle.power_flow.specs.declared.step.BoundCoil.{BoundCoil}
 use Rattle.power_flow.specs.Names.{is_true}
 use Rattle.power_flow.specs.Meaning.{bit_at, contact_conducts, contact_memory, coil_value, coil_memory, store}
@@ -38,11 +38,11 @@ pub record AreShown (e : BoundBox) (i : Instance) (old new : List Bool) : Type 0
   pub outside : (r : ℕ) → (HasOutput e.outputs.items r → ⊥) → bit_at new r ≡ bit_at old r
 
 -- state goes on in the row of a contact that conducts
-abbrev pub read_rows : BoundContact → List Slot → List Bool → List Bool → List Bool
+abbrev pub read_rows : ContactValue → List Slot → List Bool → List Bool → List Bool
 read_rows c slots rows memories = slice_set rows c.row (bit_at rows c.row && contact_conducts c.kind (is_true (source_value slots c.source)) (bit_at memories c.memory))
 
 -- the memory of an edge contact becomes its variable's value
-abbrev pub read_memories : BoundContact → List Slot → List Bool → List Bool
+abbrev pub read_memories : ContactValue → List Slot → List Bool → List Bool
 read_memories c slots memories = slice_set memories c.memory (contact_memory c.kind (is_true (source_value slots c.source)) (bit_at memories c.memory))
 
 -- the box k is stepped, and its outputs are shown
@@ -59,6 +59,8 @@ abbrev pub IsObeyed : List BoundBox → List Slot → ℕ → Step → Pass → 
 IsObeyed boxes slots dt (step.Rail r) a b = b ≡ record a { rows = slice_set a.rows r true }
 IsObeyed boxes slots dt (step.Off r) a b = b ≡ record a { rows = slice_set a.rows r false }
 IsObeyed boxes slots dt (step.Upright first last) a b = AreJoined first last a.rows b.rows × (b.memories ≡ a.memories) × (b.links ≡ a.links) × (b.results ≡ a.results)
+IsObeyed boxes slots dt (step.OffUpright r first last) a b =
+    AreJoined first last (slice_set a.rows r false) b.rows × (b.memories ≡ a.memories) × (b.links ≡ a.links) × (b.results ≡ a.results)
 IsObeyed boxes slots dt (step.Contact c) a b = b ≡ record a { rows = read_rows c slots a.rows a.memories; memories = read_memories c slots a.memories }
 IsObeyed boxes slots dt (step.Coil r k) a b = b ≡ record a { links = slice_set a.links k (bit_at a.rows r) }
 IsObeyed boxes slots dt (step.Box k) a b = IsBoxObeyed boxes slots dt k a b

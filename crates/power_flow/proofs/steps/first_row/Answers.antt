@@ -25,15 +25,15 @@ loop-number-preserved c =
       ];
     }
 
-pub returns-else-stands_at : goal.returns-else-stands_at
-returns-else-stands_at c = λ rails sound below.
+pub returns-else-stands_at-clause-upright : goal.returns-else-stands_at-clause-upright
+returns-else-stands_at-clause-upright c = λ rails sound below.
     let here = c.loop-number.invariant.here in
     upright_is (diagram rails c.args.elements.now) sound c.loop-number.number c.loop-number.row c.args.at.row c.args.at.column here.0 here.1 here.2
     c.loop-number.invariant.order c.loop-number.invariant.each below
     (inr (inr (λ f at stands. (let yes = c.stands_at.ensures.1 (f, at, stands) in let no = c.if-stands_at.false in cc))))
 
-pub returns-after-loop-number : goal.returns-after-loop-number
-returns-after-loop-number c = λ rails sound below.
+pub returns-after-loop-number-clause-upright : goal.returns-after-loop-number-clause-upright
+returns-after-loop-number-clause-upright c = λ rails sound below.
     let here = c.loop-number.invariant.here in
     let none = c.loop-number-test.false in
     upright_is (diagram rails c.args.elements.now) sound c.loop-number.number c.loop-number.row c.args.at.row c.args.at.column here.0 here.1 here.2

@@ -25,4 +25,4 @@ returns c = λ rails sound.
     let e = c.requires.stands in
     let not_below : StandsIn (diagram rails c.args.elements.now) (c.args.at.row + 1) c.args.at.column → ⊥ = λ any. (let next = below_stands (diagram rails c.args.elements.now) sound c.args.k e.0 c.args.at e.1 e.2 any in
     let yes = c.stands_at.ensures.1 next in let no = c.if-stands_at.false in absurd (cc)) in
-    rw (c.saturating_sub.ensures, c.saturating_sub-2.ensures) (lowest c.first_row-first.result (c.first_row-first.ensures rails sound not_below))
+    rw (c.row_below.ensures, c.row_below-2.ensures) (lowest c.first_row-first.result (c.first_row-first.ensures.upright rails sound not_below))

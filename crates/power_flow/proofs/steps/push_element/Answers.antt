@@ -1,24 +1,50 @@
-use Rattle.std.proofs.Common.{length, sym, ap, ◌∙◌, arith}
+use Rattle.std.proofs.Common.{length, take, ◌++◌, [], ◌∷◌, refl, sym, ap, ◌∙◌, arith}
+use Rattle.std.proofs.lemmas.List.{length-take}
 use Rattle.network.specs.declared.element.Element.TheVariants.{Wire, Join, Upright, Contact, Coil, Box}
 use Rattle.network.specs.Apart.{first_place}
 use Rattle.network.specs.GraphValue.{diagram}
 use Rattle.power_flow.specs.Steps.Sources.{name_source}
 use Rattle.power_flow.specs.Steps.RowEnds.{listed}
 use Rattle.power_flow.proofs.Leading.{pins_in}
-use Rattle.power_flow.proofs.StepLemmas.{at_number, first_in_rows, tells_first, tells_pin, wire_pushed, join_pushed, upright_pushed, contact_pushed, coil_pushed, box_pushed}
+use Rattle.power_flow.specs.Waiting.{coil_of, box_of}
+use Rattle.power_flow.proofs.StepLemmas.{filtered_short, at_number, first_in_rows, tells_first, tells_pin, wire_pushed, join_pushed, upright_pushed, contact_pushed, coil_pushed, box_pushed}
 use Rattle.power_flow.proofs.steps.push_element.Goals as goal
 
-pub beginning-requires : goal.beginning-requires
-beginning-requires c = (first_in_rows c.args.elements.now c.args.top (length c.args.ends.now) c.args.k c.index-elements-k.result c.first_place-at.result c.requires.rows c.requires.within c.index-elements-k.is c.first_place-at.ensures).1
+pub row_below-row-requires : goal.row_below-row-requires
+row_below-row-requires c =
+    let low = c.requires.low in
+    let row = (first_in_rows c.args.elements.now c.args.top (length c.args.ends.now) c.args.k c.index-elements-k.result c.first_place-at.result c.requires.rows c.requires.within c.index-elements-k.is c.first_place-at.ensures).1 in
+    omega arith
 
-pub beginning-requires-in-Join : goal.beginning-requires-in-Join
-beginning-requires-in-Join c = (first_in_rows c.args.elements.now c.args.top (length c.args.ends.now) c.args.k c.index-elements-k.result c.first_place-at.result c.requires.rows c.requires.within c.index-elements-k.is c.first_place-at.ensures).1
+pub overflow_cast-numbers : goal.overflow_cast-numbers
+overflow_cast-numbers c =
+    let short = filtered_short coil_of (take c.args.k c.args.elements.now) in
+    let count = c.requires.coils in
+    let long = length-take c.args.k c.args.elements.now in
+    let lt = c.requires.within in
+    let few = c.requires.few in
+    omega arith
 
-pub beginning-requires-in-Contact : goal.beginning-requires-in-Contact
-beginning-requires-in-Contact c = (first_in_rows c.args.elements.now c.args.top (length c.args.ends.now) c.args.k c.index-elements-k.result c.first_place-at.result c.requires.rows c.requires.within c.index-elements-k.is c.first_place-at.ensures).1
+pub overflow_cast-numbers-in-Box : goal.overflow_cast-numbers-in-Box
+overflow_cast-numbers-in-Box c =
+    let short = filtered_short box_of (take c.args.k c.args.elements.now) in
+    let count = c.requires.boxes in
+    let long = length-take c.args.k c.args.elements.now in
+    let lt = c.requires.within in
+    let few = c.requires.few in
+    omega arith
 
-pub beginning-requires-in-Coil : goal.beginning-requires-in-Coil
-beginning-requires-in-Coil c = (first_in_rows c.args.elements.now c.args.top (length c.args.ends.now) c.args.k c.index-elements-k.result c.first_place-at.result c.requires.rows c.requires.within c.index-elements-k.is c.first_place-at.ensures).1
+pub beginning-requires-clause-row : goal.beginning-requires-clause-row
+beginning-requires-clause-row c = (first_in_rows c.args.elements.now c.args.top (length c.args.ends.now) c.args.k c.index-elements-k.result c.first_place-at.result c.requires.rows c.requires.within c.index-elements-k.is c.first_place-at.ensures).1
+
+pub beginning-requires-in-Join-clause-row : goal.beginning-requires-in-Join-clause-row
+beginning-requires-in-Join-clause-row c = (first_in_rows c.args.elements.now c.args.top (length c.args.ends.now) c.args.k c.index-elements-k.result c.first_place-at.result c.requires.rows c.requires.within c.index-elements-k.is c.first_place-at.ensures).1
+
+pub beginning-requires-in-Contact-clause-row : goal.beginning-requires-in-Contact-clause-row
+beginning-requires-in-Contact-clause-row c = (first_in_rows c.args.elements.now c.args.top (length c.args.ends.now) c.args.k c.index-elements-k.result c.first_place-at.result c.requires.rows c.requires.within c.index-elements-k.is c.first_place-at.ensures).1
+
+pub beginning-requires-in-Coil-clause-row : goal.beginning-requires-in-Coil-clause-row
+beginning-requires-in-Coil-clause-row c = (first_in_rows c.args.elements.now c.args.top (length c.args.ends.now) c.args.k c.index-elements-k.result c.first_place-at.result c.requires.rows c.requires.within c.index-elements-k.is c.first_place-at.ensures).1
 
 pub joining-requires-clause-stands : goal.joining-requires-clause-stands
 joining-requires-clause-stands c = (
@@ -34,8 +60,8 @@ joining-requires-in-Upright-clause-stands c = (
   sym (c.first_place-at.ensures ∙ ap first_place c.in-Upright.is),
 )
 
-pub push_pins-requires : goal.push_pins-requires
-push_pins-requires c = rw c.drawn.ensures (λ pin in'.
+pub push_pins-requires-clause-rows : goal.push_pins-requires-clause-rows
+push_pins-requires-clause-rows c = rw c.drawn.ensures (λ pin in'.
     let there = at_number c.args.elements.now c.args.k c.index-elements-k.result (Box c.in-Box.boxed) c.requires.within c.index-elements-k.is c.in-Box.is in
     let row = pins_in c.args.elements.now c.args.top (length c.args.ends.now) c.requires.rows c.args.k c.in-Box.boxed there pin in' in
     let low = row.0 in let high = row.1 in
@@ -73,7 +99,7 @@ returns-in_ok-push_step-in-Upright c =
     let at = c.first_place-at.result in
     let there = at_number es c.args.k e (Upright c.in-Upright.field-0) c.requires.within c.index-elements-k.is c.in-Upright.is in
     upright_pushed c.args.declarations.now d c.args.top c.args.k at c.args.steps.now.items c.push.new.self.items c.push_step-in-Upright.new.steps.items c.in-Upright.field-0
-    c.saturating_sub-row.result (listed c.joining-in-Upright.result) there (c.first_place-at.ensures ∙ ap first_place c.in-Upright.is) c.saturating_sub-row.ensures c.in_ok-push-in-Upright.ensures.items
+    c.row_below-row.result (listed c.joining-in-Upright.result) there (c.first_place-at.ensures ∙ ap first_place c.in-Upright.is) c.row_below-row.ensures c.in_ok-push-in-Upright.ensures.items
     (c.joining-in-Upright.ensures c.args.rails.now c.requires.sound) c.in_ok-push_step-in-Upright.ensures
 
 pub returns-in_ok-push-in-Contact : goal.returns-in_ok-push-in-Contact
@@ -84,9 +110,11 @@ returns-in_ok-push-in-Contact c =
     let at = c.first_place-at.result in
     let there = at_number es c.args.k e (Contact c.in-Contact.contact) c.requires.within c.index-elements-k.is c.in-Contact.is in
     let tells = tells_first d c.requires.sound c.args.top c.args.k e at c.args.ends.now c.requires.rows c.requires.within c.index-elements-k.is c.first_place-at.ensures c.requires.ends in
-    contact_pushed c.args.declarations.now d c.args.top c.args.k at c.args.steps.now.items c.push_step-in-Contact.new.steps.items c.push-in-Contact.new.self.items c.in-Contact.contact
-    c.saturating_sub-row.result c.name_source.result (listed c.beginning-in-Contact.result) there (c.first_place-at.ensures ∙ ap first_place c.in-Contact.is) c.saturating_sub-row.ensures
-    (c.name_source.ensures ∙ ap (name_source c.args.declarations.now) c.as_str.ensures) (c.beginning-in-Contact.ensures es tells) c.in_ok-push_step-in-Contact.ensures c.in_ok-push-in-Contact.ensures.items
+    let mid = c.push_step-in-Contact.new.steps.items in
+    contact_pushed c.args.declarations.now d c.args.top c.args.k at c.args.steps.now.items mid c.push-in-Contact.new.self.items c.in-Contact.contact
+    c.row_below-row.result (name_source c.args.declarations.now c.in-Contact.contact.name) (listed c.beginning-in-Contact.result) there (c.first_place-at.ensures ∙ ap first_place c.in-Contact.is) c.row_below-row.ensures
+    refl (c.beginning-in-Contact.ensures es tells) c.in_ok-push_step-in-Contact.ensures
+    (c.in_ok-push-in-Contact.ensures.items ∙ ap (λ s. mid ++ s ∷ []) c.in_ok-step-in-Contact.ensures)
 
 pub returns-in_ok-push-in-Coil : goal.returns-in_ok-push-in-Coil
 returns-in_ok-push-in-Coil c =
@@ -97,7 +125,7 @@ returns-in_ok-push-in-Coil c =
     let there = at_number es c.args.k e (Coil c.in-Coil.field-0) c.requires.within c.index-elements-k.is c.in-Coil.is in
     let tells = tells_first d c.requires.sound c.args.top c.args.k e at c.args.ends.now c.requires.rows c.requires.within c.index-elements-k.is c.first_place-at.ensures c.requires.ends in
     coil_pushed c.args.declarations.now d c.args.top c.args.k at c.args.steps.now.items c.push_step-in-Coil.new.steps.items c.push-in-Coil.new.self.items c.in-Coil.field-0
-    c.saturating_sub-row.result c.args.numbers.coils (listed c.beginning-in-Coil.result) there (c.first_place-at.ensures ∙ ap first_place c.in-Coil.is) c.saturating_sub-row.ensures c.requires.coils
+    c.row_below-row.result c.args.numbers.coils (listed c.beginning-in-Coil.result) there (c.first_place-at.ensures ∙ ap first_place c.in-Coil.is) c.row_below-row.ensures c.requires.coils
     (c.beginning-in-Coil.ensures es tells) c.in_ok-push_step-in-Coil.ensures c.in_ok-push-in-Coil.ensures.items
 
 pub returns-in_ok-push-in-Box : goal.returns-in_ok-push-in-Box

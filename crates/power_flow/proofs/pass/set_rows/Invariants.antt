@@ -1,6 +1,6 @@
 use Rattle.std.proofs.Common.{◌≡◌, ℕ, ◌+◌, ◌<◌, ◌≤◌, ◌⊎◌, length}
 use Rattle.power_flow.specs.Meaning.{bit_at}
-use Rattle.power_flow.proofs.pass.join_rows.Given as goal
+use Rattle.power_flow.proofs.pass.set_rows.Given as goal
 
 abbrev pub invariant-loop-row : goal.invariant-loop-row
 invariant-loop-row l = record {

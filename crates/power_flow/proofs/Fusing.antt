@@ -1,0 +1,90 @@
+-- A step that stands for two does what both do.
+use Rattle.std.proofs.Common.{◌≡◌, ℕ, List, [], ◌∷◌, ◌++◌, All, append_assoc, false, slice_set, refl, sym, ap, ◌∙◌, subst}
+use Rattle.std.proofs.lemmas.List.{append-nil}
+use Rattle.std.proofs.lemmas.List.Elements.{All-cons, All-head, All-tail}
+use Rattle.power_flow.specs.declared.bound_box.BoundBox.{BoundBox}
+use Rattle.power_flow.specs.declared.state.Slot.{Slot}
+use Rattle.power_flow.specs.declared.step.Step.{Step}
+use Rattle.power_flow.specs.declared.step.Step.TheVariants as step
+use Rattle.power_flow.specs.Steps.Circuit.{IsStepIn}
+use Rattle.power_flow.specs.Steps.Fused.{single, singles}
+use Rattle.power_flow.specs.Steps.Passing.{Pass, IsObeyed, ArePassed}
+
+-- one more step
+pub singles_push : (xs : List Step) (s : Step) → singles (xs ++ s ∷ []) ≡ singles xs ++ single s
+singles_push [] s = append-nil (single s)
+singles_push (x ∷ xs) s = ap (λ rest. single x ++ rest) (singles_push xs s) ∙ sym (append_assoc (single x) (singles xs) (single s))
+
+module _ (boxes : List BoundBox) (slots : List Slot) (dt : ℕ) where
+  first_passed : (s : Step) (rest : List Step) (a b : Pass) → (mid : Pass) × IsObeyed boxes slots dt s a mid × ArePassed boxes slots dt rest mid b → ArePassed boxes slots dt (single s ++ rest) a b
+  first_passed (step.Rail row) rest a b p = p
+  first_passed (step.Off row) rest a b p = p
+  first_passed (step.Upright first last) rest a b p = p
+  first_passed (step.OffUpright row first last) rest a b p = (record a { rows = slice_set a.rows row false }, refl, p)
+  first_passed (step.Contact c) rest a b p = p
+  first_passed (step.Coil row k) rest a b p = p
+  first_passed (step.Box k) rest a b p = p
+
+  first_back : (s : Step) (rest : List Step) (a b : Pass) → ArePassed boxes slots dt (single s ++ rest) a b → (mid : Pass) × IsObeyed boxes slots dt s a mid × ArePassed boxes slots dt rest mid b
+  first_back (step.Rail row) rest a b p = p
+  first_back (step.Off row) rest a b p = p
+  first_back (step.Upright first last) rest a b p = p
+  first_back (step.OffUpright row first last) rest a b p =
+      let P : Pass → Type 0 = λ w. IsObeyed boxes slots dt (step.Upright first last) w p.2.0 in
+      (p.2.0, subst P p.1 p.2.1, p.2.2)
+  first_back (step.Contact c) rest a b p = p
+  first_back (step.Coil row k) rest a b p = p
+  first_back (step.Box k) rest a b p = p
+
+  singles_passed : (steps : List Step) (a b : Pass) → ArePassed boxes slots dt steps a b → ArePassed boxes slots dt (singles steps) a b
+  singles_passed [] a b p = p
+  singles_passed (s ∷ steps) a b p = first_passed s (singles steps) a b (p.0, p.1, singles_passed steps p.0 b p.2)
+
+  singles_back : (steps : List Step) (a b : Pass) → ArePassed boxes slots dt (singles steps) a b → ArePassed boxes slots dt steps a b
+  singles_back [] a b p = p
+  singles_back (s ∷ steps) a b p = let parts = first_back s (singles steps) a b p in (parts.0, parts.1, singles_back steps parts.0 b parts.2)
+
+  -- fewer steps do what the steps do that they stand for
+  pub fewer_passed : (fewer steps : List Step) (a b : Pass) → singles fewer ≡ singles steps → ArePassed boxes slots dt fewer a b → ArePassed boxes slots dt steps a b
+  fewer_passed fewer steps a b same p =
+      let P : List Step → Type 0 = λ w. ArePassed boxes slots dt w a b in
+      singles_back steps a b (subst P same (singles_passed fewer a b p))
+
+module _ (rows memories coils boxes : ℕ) where
+  abbrev In : Step → Type 0
+  In s = IsStepIn rows memories coils boxes s
+
+  first_in : (s : Step) (rest : List Step) → In s → All In rest → All In (single s ++ rest)
+  first_in (step.Rail row) rest here later = All-cons In (step.Rail row) rest here later
+  first_in (step.Off row) rest here later = All-cons In (step.Off row) rest here later
+  first_in (step.Upright first last) rest here later = All-cons In (step.Upright first last) rest here later
+  first_in (step.OffUpright row first last) rest here later =
+      All-cons In (step.Off row) (step.Upright first last ∷ rest) here.0 (All-cons In (step.Upright first last) rest here.1 later)
+  first_in (step.Contact c) rest here later = All-cons In (step.Contact c) rest here later
+  first_in (step.Coil row k) rest here later = All-cons In (step.Coil row k) rest here later
+  first_in (step.Box k) rest here later = All-cons In (step.Box k) rest here later
+
+  here_in : (s : Step) (rest : List Step) → All In (single s ++ rest) → In s × All In rest
+  here_in (step.Rail row) rest h = (All-head In (step.Rail row) rest h, All-tail In (step.Rail row) rest h)
+  here_in (step.Off row) rest h = (All-head In (step.Off row) rest h, All-tail In (step.Off row) rest h)
+  here_in (step.Upright first last) rest h = (All-head In (step.Upright first last) rest h, All-tail In (step.Upright first last) rest h)
+  here_in (step.OffUpright row first last) rest h =
+      let later = All-tail In (step.Off row) (step.Upright first last ∷ rest) h in
+      ((All-head In (step.Off row) (step.Upright first last ∷ rest) h, All-head In (step.Upright first last) rest later), All-tail In (step.Upright first last) rest later)
+  here_in (step.Contact c) rest h = (All-head In (step.Contact c) rest h, All-tail In (step.Contact c) rest h)
+  here_in (step.Coil row k) rest h = (All-head In (step.Coil row k) rest h, All-tail In (step.Coil row k) rest h)
+  here_in (step.Box k) rest h = (All-head In (step.Box k) rest h, All-tail In (step.Box k) rest h)
+
+  singles_in : (steps : List Step) → All In steps → All In (singles steps)
+  singles_in [] h = h
+  singles_in (s ∷ steps) h = first_in s (singles steps) (All-head In s steps h) (singles_in steps (All-tail In s steps h))
+
+  back_in : (steps : List Step) → All In (singles steps) → All In steps
+  back_in [] h = h
+  back_in (s ∷ steps) h = let parts = here_in s (singles steps) h in All-cons In s steps parts.0 (back_in steps parts.1)
+
+  -- the numbers of fewer steps stand for what those of the steps do
+  pub fewer_in : (fewer steps : List Step) → singles fewer ≡ singles steps → All In steps → All In fewer
+  fewer_in fewer steps same h =
+      let P : List Step → Type 0 = λ w. All In w in
+      back_in fewer (subst P (sym same) (singles_in steps h))

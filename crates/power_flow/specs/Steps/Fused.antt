@@ -1,0 +1,19 @@
+-- Steps that stand for two.
+use Rattle.std.specs.Prelude.{List, [], ◌∷◌, ◌++◌}
+use Rattle.power_flow.specs.declared.step.Step.{Step}
+use Rattle.power_flow.specs.declared.step.Step.TheVariants as step
+
+-- the steps that a step stands for
+abbrev pub single : Step → List Step
+single (step.Rail row) = step.Rail row ∷ []
+single (step.Off row) = step.Off row ∷ []
+single (step.Upright first last) = step.Upright first last ∷ []
+single (step.OffUpright row first last) = step.Off row ∷ step.Upright first last ∷ []
+single (step.Contact c) = step.Contact c ∷ []
+single (step.Coil row k) = step.Coil row k ∷ []
+single (step.Box k) = step.Box k ∷ []
+
+-- the steps that some steps stand for, one after the other
+abbrev pub singles : List Step → List Step
+singles [] = []
+singles (s ∷ steps) = single s ++ singles steps
