@@ -2,7 +2,6 @@
 #![tactic(auto)]
 
 mod address;
-mod batch;
 mod binding;
 mod bodies;
 mod body_faults;

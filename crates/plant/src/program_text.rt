@@ -58,11 +58,6 @@ impl ProgramText {
         &self.program
     }
 
-    /// How many characters its body has.
-    pub fn len(&self) -> usize {
-        self.program.body.as_str().len()
-    }
-
     /// The program type: the drawing is read, its networks are built, and its names are bound.
     pub fn draw(self, alloc: Global) -> Result<ProgramType, PlantFault>
         ensures program { IfOk result (λ t. t.program ≡ self.program) }

@@ -2,12 +2,11 @@
 
 ghost use Rattle.std.specs.Prelude.{IfOk, IfErr};
 ghost use Rattle.plant.specs.Faults.{IsPlantFault, IsOfBody};
-ghost use Rattle.plant.specs.Steps.Drawn.{Draws, IsFaultOfBodies};
+ghost use Rattle.plant.specs.Steps.Drawn.{IsFaultOfBodies};
 ghost use Rattle.plant.specs.Steps.Reading.{IsReadingOf};
 
+use crate::drawn::draw_all;
 use crate::plant_fault::PlantFault;
-use crate::program_text::ProgramText;
-use crate::program_type::ProgramType;
 use crate::reader::Reader;
 use crate::reading::Reading;
 use crate::tally::Tally;
@@ -16,25 +15,17 @@ use std::alloc::Global;
 
 /// Reads program types and a configuration, up to the word that ends it. The first fault that is met is answered; sources aren't resolved.
 ///
-/// `draw` draws the bodies. Those before the fault of a word are drawn too, as their faults are met first.
+/// The bodies before the fault of a word are drawn first, as their faults are met first.
 /// What stands behind the configuration is left in the reader.
 #[tactic(auto, using(crate::proofs::TypeLemmas::no_programs, crate::proofs::FaultLemmas::plant_of_word, crate::proofs::FaultLemmas::no_body_fault), unfolding(crate::specs::Grammar::words_of))]
-pub fn read_tree<'a, D>(
-    alloc: Global,
-    reader: &mut Reader<'a>,
-    draw: D,
-) -> Result<Reading, PlantFault>
-where
-    D: FnOnce(Vec<ProgramText>) -> Result<Vec<ProgramType>, PlantFault>,
-    requires callable { D.IsAlwaysCallable draw }
-    requires draws { Draws (D.post draw) }
+pub fn read_tree<'a>(alloc: Global, reader: &mut Reader<'a>) -> Result<Reading, PlantFault>
     ensures ok { IfOk result (λ reading. IsReadingOf reader.old.words reading reader.new.words) }
     ensures value { IfErr result IsPlantFault }
     ensures body { IfErr result (λ fault. IsOfBody fault.kind → IsFaultOfBodies reader.old fault) }
 {
     let mut texts = Vec::new(alloc);
     let programs = reader.programs(alloc, &mut texts);
-    let types = draw(texts)?;
+    let types = draw_all(alloc, texts)?;
     programs?;
     reader.keyword(Keyword::Configuration)?;
     let _name = reader.name(alloc)?;

@@ -1,4 +1,4 @@
-use Rattle.std.proofs.Common.{rules, ◌≡◌, ◌≢◌, ℕ, List, ◌++◌, ◌∙◌, ap, sym, subst}
+use Rattle.std.proofs.Common.{◌≡◌, ◌≢◌, ℕ, List, ◌++◌, ◌∙◌, ap, sym, subst}
 use Rattle.std.specs.Prelude.{OnOk, OnErr}
 use Rattle.plant.specs.BodyFaults.{IsFirstBodyFault}
 use Rattle.plant.specs.Faults.{IsOfBody}
@@ -16,15 +16,14 @@ use Rattle.plant.proofs.TreeLemmas.{reading_is}
 use Rattle.plant.proofs.read_tree.read_tree.Goals as goal
 
 pub returns-clause-ok : goal.returns-clause-ok
-returns-clause-ok g c =
+returns-clause-ok c =
     let texts = c.programs-programs.new.texts.items in
     let types = c.in_ok-types.types.items in
     let resources = c.in_ok-resources.resources.items in
     let start = c.args.reader.now.words in
     let one = c.programs-programs.new.self.words in
     let written = subst (λ ts. flat_map program_words (programs_of ts) ++ start ≡ flat_map program_words (programs_of texts) ++ one) c.new-texts.ensures.items c.in_ok-programs.ensures.ok in
-    let all = c.requires.draws c.programs-programs.new.texts c.draw.result c.draw.ensures in
-    let drawn : AreDrawn texts types = search rules in
+    let drawn : AreDrawn texts types = c.in_ok-types.ensures.ok in
     subst (λ r. IsReadingOf start r c.resources.new.self.words) (sym c.new.ensures)
     (reading_is texts types resources c.in_ok-_name._name c.resources.new.tally start one c.keyword.new.self.words c.name.new.self.words c.resources.new.self.words
     written c.in_ok-keyword.ensures.ok c.in_ok-_name.ensures.ok c.in_ok-resources.ensures.ok
@@ -34,13 +33,12 @@ returns-clause-ok g c =
     c.instances-instances.ensures.few c.binds-binds.ensures.few)
 
 pub returns-in_err-types-clause-body : goal.returns-in_err-types-clause-body
-returns-in_err-types-clause-body g c =
+returns-in_err-types-clause-body c =
     let texts = c.programs-programs.new.texts.items in
     let start = c.args.reader.now.words in
     let fault = c.in_err-types.field-0.0 in
     let one = c.programs-programs.new.self.words in
-    let all = c.requires.draws c.programs-programs.new.texts c.draw.result c.draw.ensures in
-    let first : fault.kind ≢ Memory → IsFirstBodyFault texts fault = rw c.in_err-types.was at all.2 in
+    let first : fault.kind ≢ Memory → IsFirstBodyFault texts fault = c.in_err-types.ensures.fault in
     let ok = subst (λ ts. OnOk c.programs-programs.result (flat_map program_words (programs_of ts) ++ start ≡ flat_map program_words (programs_of texts) ++ one)) c.new-texts.ensures.items c.programs-programs.ensures.ok in
     let err = subst (λ ts. OnErr c.programs-programs.result ((rest : List Token) × (flat_map program_words (programs_of ts) ++ start ≡ flat_map program_words (programs_of texts) ++ rest))) c.new-texts.ensures.items c.programs-programs.ensures.err in
     let reader = c.args.reader.now in

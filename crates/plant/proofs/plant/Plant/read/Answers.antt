@@ -12,10 +12,10 @@ use Rattle.plant.specs.PlantText.{IsBodyFaultIn}
 use Rattle.plant.proofs.Moments.{kept_fault}
 use Rattle.plant.proofs.KnownWords.{words_known}
 use Rattle.plant.proofs.BodyCounts.{begun_by_programs}
-use Rattle.plant.proofs.read.read_by.Goals as goal
+use Rattle.plant.proofs.plant.Plant.read.Goals as goal
 
 pub returns-clause-ok : goal.returns-clause-ok
-returns-clause-ok g c =
+returns-clause-ok c =
     let read = c.in_ok-reading.ensures.ok in
     let tree = tree_of read.name c.in_ok-reading.reading in
     let spelled = map (λ (w : WordValue). w.token) c.in_ok-words.words in
@@ -30,7 +30,7 @@ returns-clause-ok g c =
     }
 
 pub returns-in_err-reading-clause-body : goal.returns-in_err-reading-clause-body
-returns-in_err-reading-clause-body g c =
+returns-in_err-reading-clause-body c =
     let fault = c.in_err-reading.field-0.0 in
     let ws = c.in_ok-words.words in
     let words : map (λ (w : WordValue). w.token) ws ≡ c.new-reader.result.words = ap (λ (ws : List WordValue). map (λ (w : WordValue). w.token) ws) (sym c.words-2.ensures) ∙ ap (λ (r : ReaderValue). r.words) (sym c.new-reader.ensures) in
