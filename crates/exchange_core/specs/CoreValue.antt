@@ -31,10 +31,10 @@ abbrev pub fresh_core : PlantValue → ℕ → ℕ → ℕ → CoreValue
 fresh_core plant resource incarnation max_number =
     record { plant = plant; resource = resource; incarnation = incarnation; max_number = max_number; table = empty_for plant }
 
--- why there is no core
+-- why there is no core; memory is wanting only where there is such a resource
 abbrev pub IsCoreFault : PlantValue → ℕ → CoreFault → Type 0
 IsCoreFault plant resource fault.NoSuchResource = length plant.resources ≤ resource
-IsCoreFault plant resource fault.Memory = Unit {0}
+IsCoreFault plant resource fault.Memory = resource < length plant.resources
 
 -- a task of the core's resource
 abbrev pub own_task : CoreValue → ℕ → TaskRef
@@ -81,11 +81,15 @@ pub record IsNext (old new : CoreValue) (ticket task dt : ℕ) (inputs : List Fi
   pub next : IsNextOf old ticket task dt inputs x
   pub after : new ≡ record old { table = with_known old.table (own_task old task) (Some x) }
 
--- why a task is not evaluated
+-- a task can be evaluated next: the resource has it, and its numbers aren't spent
+abbrev pub IsDue : CoreValue → ℕ → Type 0
+IsDue core task = (is_some (code_at core.plant (own_task core task)) ≡ true) × (last_number (known core.table (own_task core task)) < core.max_number)
+
+-- why a task is not evaluated: the first cause that holds; memory is wanting only where it could be
 abbrev pub IsEvalFault : CoreValue → ℕ → EvalFault → Type 0
 IsEvalFault core task NoSuchTask = code_at core.plant (own_task core task) ≡ None
 IsEvalFault core task NumbersSpent = (is_some (code_at core.plant (own_task core task)) ≡ true) × (core.max_number ≤ last_number (known core.table (own_task core task)))
-IsEvalFault core task Memory = Unit {0}
+IsEvalFault core task Memory = IsDue core task
 
 -- what is held of a task of another resource; nothing of a task of its own
 abbrev pub held_of : CoreValue → TaskRef → Option Evaluated

@@ -31,13 +31,14 @@ impl Model for Core {
     ghost invariant = { λ c. IsCore (record { plant = c.plant.value; resource = c.resource; incarnation = c.incarnation; max_number = c.max_number; table = c.table }) };
 }
 
-ghost use Rattle.std.specs.Prelude.{◌≡◌, ◌<◌, ◌↔◌, IfOk, IfErr, OnOk, OnErr, IsTrue, Some, length};
+ghost use Rattle.std.specs.Prelude.{◌≡◌, ◌≢◌, ◌+◌, ◌<◌, ◌↔◌, IfOk, IfErr, OnOk, OnErr, IsTrue, Some, length};
 ghost use Rattle.std.specs.Option.{option_copied};
 ghost use Rattle.plant.specs.PlantValue.{code_at};
 ghost use Rattle.evaluation.specs.Meaning.{IsAsked};
-ghost use Rattle.exchange_core.specs.Last.{takes_of, state_of};
+ghost use Rattle.exchange_core.specs.Last.{last_number, takes_of, state_of};
 ghost use Rattle.exchange_core.specs.Held.{known};
-ghost use Rattle.exchange_core.specs.CoreValue.{fresh_core, IsCoreFault, IsUsable, IsAccepted, IsNextOf, IsNext, IsEvalFault, held_of, own_task};
+ghost use Rattle.exchange_core.specs.CoreValue.{fresh_core, IsCoreFault, IsUsable, IsAccepted, IsNextOf, IsNext, IsDue, IsEvalFault, held_of, own_task};
+ghost use Rattle.exchange_core.specs.declared.eval_fault.EvalFault.TheVariants.{Memory};
 
 impl Core {
     /// A core of a resource in an incarnation. It holds nothing, and all its tasks are initial. The numbers of its evaluations go up to `max_number`.
@@ -107,6 +108,7 @@ impl Core {
 
     /// Evaluates a task of the resource, `dt` milliseconds after its evaluation before: from what is held of other tasks and what the resource's own made last.
     /// NoSuchTask: the resource has no task at this position. NumbersSpent: the task's last number in this incarnation is the greatest one.
+    /// Memory: neither holds, and there was no memory left.
     pub fn evaluate(
         &mut self,
         alloc: Global,
@@ -124,6 +126,24 @@ impl Core {
         let own = self.own(task);
         self.table.set(own, kept);
         Ok(frame)
+    }
+
+    /// The number of the next evaluation of a task of the resource; else the first cause why there can't be one. No memory is needed.
+    pub fn next_number(&self, task: usize) -> Result<u32, EvalFault>
+        ensures due { OnOk result (IsDue self.now task) }
+        ensures number { IfOk result (λ n. n ≡ last_number (known self.now.table (own_task self.now task)) + 1) }
+        ensures fault { IfErr result (IsEvalFault self.now task) }
+        ensures lasting { IfErr result (λ f. f ≢ Memory) }
+    {
+        let own = self.own(task);
+        if self.plant.code(own).is_none() {
+            return Err(EvalFault::NoSuchTask);
+        }
+        let last = self.table.last_number(own);
+        if last >= self.max_number {
+            return Err(EvalFault::NumbersSpent);
+        }
+        Ok(last + 1)
     }
 
     /// A task of the resource.
@@ -148,18 +168,15 @@ impl Core {
         ensures made { IfOk result (λ f. IsNextOf self.now ticket task dt inputs.now f) }
         ensures fault { IfErr result (IsEvalFault self.now task) }
     {
+        let number = self.next_number(task)?;
         let own = self.own(task);
         let Some(code) = self.plant.code(own) else {
-            return Err(EvalFault::NoSuchTask);
+            unreachable!()
         };
-        let last = self.table.last_number(own);
-        if last >= self.max_number {
-            return Err(EvalFault::NumbersSpent);
-        }
         let name = Name {
             task: own,
             incarnation: self.incarnation,
-            number: last + 1,
+            number,
         };
         let evaluation = self.evaluation(alloc, ticket, name, dt, inputs, code)?;
         Ok(Frame::new(alloc, evaluation)?)

@@ -62,19 +62,19 @@ cause_moved s es fs log (Evaluate ticket task dt inputs) NoSuchTask same h = h
 cause_moved s es fs log (Evaluate ticket task dt inputs) NumbersSpent same h = (h.0, subst (λ (l : List Event). s.max_number ≤ number_of task l) same h.1)
 cause_moved s es fs log (Evaluate ticket task dt inputs) NoSuchMessage same h = h
 cause_moved s es fs log (Evaluate ticket task dt inputs) IncarnationsSpent same h = h
-cause_moved s es fs log (Evaluate ticket task dt inputs) Memory same h = h
+cause_moved s es fs log (Evaluate ticket task dt inputs) Memory same h = subst (λ (l : List Event). is_lawful s l (Evaluate ticket task dt inputs) ≡ true) same h
 cause_moved s es fs log (Deliver k n) NoSuchResource same h = h
 cause_moved s es fs log (Deliver k n) NoSuchMessage same h = (h.0, subst (λ (l : List Event). (k ≡ 0) ⊎ (made_count l < k)) same h.1)
 cause_moved s es fs log (Deliver k n) NoSuchTask same h = h
 cause_moved s es fs log (Deliver k n) NumbersSpent same h = h
 cause_moved s es fs log (Deliver k n) IncarnationsSpent same h = h
-cause_moved s es fs log (Deliver k n) Memory same h = h
+cause_moved s es fs log (Deliver k n) Memory same h = subst (λ (l : List Event). is_lawful s l (Deliver k n) ≡ true) same h
 cause_moved s es fs log (Restart n) NoSuchResource same h = h
 cause_moved s es fs log (Restart n) IncarnationsSpent same h = (h.0, subst (λ (l : List Event). 4294967295 ≤ incarnation_of s n l) same h.1)
 cause_moved s es fs log (Restart n) NoSuchTask same h = h
 cause_moved s es fs log (Restart n) NoSuchMessage same h = h
 cause_moved s es fs log (Restart n) NumbersSpent same h = h
-cause_moved s es fs log (Restart n) Memory same h = h
+cause_moved s es fs log (Restart n) Memory same h = subst (λ (l : List Event). is_lawful s l (Restart n) ≡ true) same h
 
 tells_moved : (s : Setting) (es fs : List Event) (log : List Evaluated) (n : ℕ) (e : Event) (line : List ℕ) → history_of s es ≡ history_of s fs → Tells (world s es log) n e line → Tells (world s fs log) n e line
 tells_moved s es fs log n e line same (inl h) = inl (subst (λ (l : List Event). is_lawful s l e ≡ true) same h.0, done_moved s es fs log e line same h.1)

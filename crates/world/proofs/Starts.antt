@@ -4,7 +4,7 @@ use Rattle.std.specs.Prelude.{is_some, slice_get, slice_index}
 use Rattle.std.proofs.lemmas.Bool.{eqb-true, lt-ltb, le-ltb}
 use Rattle.std.proofs.lemmas.Bool.Decides.{nat_tests}
 use Rattle.std.proofs.lemmas.List.{append_assoc, append-nil, take_more}
-use Rattle.std.proofs.lemmas.Option.{none-some, same_Some, slice_get_within}
+use Rattle.std.proofs.lemmas.Option.{none-some, same_Some, slice_get_within, slice_get_read}
 use Rattle.plant.specs.declared.task_ref.TaskRef.{TaskRef}
 use Rattle.plant.specs.PlantValue.{CodeValue, PlantValue, code_at, IsSoundPlant}
 use Rattle.evaluation.specs.Meaning.{Evaluated}
@@ -18,7 +18,7 @@ use Rattle.world.specs.declared.world_fault.WorldFault.{WorldFault}
 use Rattle.world.specs.declared.world_fault.WorldFault.TheVariants.{NoSuchResource, NoSuchTask, NoSuchMessage, NumbersSpent, IncarnationsSpent, Memory}
 use Rattle.world.specs.History.{Setting, history_of, after_events, is_lawful, number_of, lawful_among}
 use Rattle.world.specs.World.{WorldValue, node_takes}
-use Rattle.world.specs.Step.{IsDone, IsCause, IsStep, Follows}
+use Rattle.world.specs.Step.{IsDone, IsCause, IsStep, IsLawfulAt, Follows}
 use Rattle.world.specs.Nodes.{IsNode, IsWorld}
 use Rattle.world.specs.Steps.Fresh.{AreFresh}
 use Rattle.world.proofs.Moves.{slice_get-push, history-one_more}
@@ -154,3 +154,13 @@ follows-cause a b e f same ne c = subst (λ w. Follows a w (e ∷ [])) (sym same
 pub follows-next : (a b c : WorldValue) (es : List Event) (i : ℕ) (e : Event) → i < length es → e ≡ get_or es i e → Follows a b (take i es) → Follows b c (e ∷ []) → Follows a c (take (i + 1) es)
 follows-next a b c es i e inside at f g =
     subst (Follows a c) (ap (λ x. take i es ++ x ∷ []) at ∙ sym (take_more es i e inside)) (follows-more a b c (take i es) (e ∷ []) f g)
+
+-- memory is wanting only for a lawful event
+pub memory-lawful : (w : WorldValue) (e : Event) → IsCause w e Memory → is_lawful w.setting (history_of w.setting w.events) e ≡ true
+memory-lawful w (Evaluate k t dt inputs) h = h
+memory-lawful w (Deliver m n) h = h
+memory-lawful w (Restart n) h = h
+
+pub stopped-at : (a b : WorldValue) (es : List Event) (i : ℕ) (e : Event) → i < length es → e ≡ get_or es i e → b ≡ a → is_lawful a.setting (history_of a.setting a.events) e ≡ true → IsLawfulAt b es i
+stopped-at a b es i e inside at same lawful =
+    (e, slice_get_read es (length es) i e refl inside at, subst (λ (w : WorldValue). is_lawful w.setting (history_of w.setting w.events) e ≡ true) (sym same) lawful)

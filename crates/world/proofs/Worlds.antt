@@ -12,7 +12,7 @@ use Rattle.evaluation.specs.declared.name.Name.{Name}
 use Rattle.evaluation.specs.Meaning.{Evaluated, IsAsked}
 use Rattle.exchange_core.specs.Last.{state_of, takes_of, last_number}
 use Rattle.exchange_core.specs.Held.{known, with_known}
-use Rattle.exchange_core.specs.CoreValue.{CoreValue, IsNext, IsNextOf, next_name_of, own_task, fresh_core}
+use Rattle.exchange_core.specs.CoreValue.{CoreValue, IsNext, IsNextOf, IsDue, next_name_of, own_task, fresh_core}
 use Rattle.exchange_core.proofs.Tables.{same_ref}
 use Rattle.exchange_core.proofs.Keeping.{core_with}
 use Rattle.world.specs.declared.event.Event.{Event}
@@ -157,6 +157,17 @@ module _ (s : Setting) (events : List Event) (log : List Evaluated) (cores : Lis
       let number : last_number (known core.table (own_task core t.task)) ≡ number_of t (history_of s events) = number-own s (history_of s events) (reverse log) core 0 t 0 [] all world.logged node in
       let found : code_at s.plant t ≡ code_at core.plant (own_task core t.task) = found-own s (history_of s events) (reverse log) core 0 t 0 [] all world.logged node (code_at core.plant (own_task core t.task)) refl in
       (ap is_some found ∙ cause.0, omega (arith, number, node.max_number, cause.1))
+
+  pub due_at : (k : ℕ) (t : TaskRef) (dt : ℕ) (inputs : List FieldInput) (core : CoreValue) → t.resource < length cores → core ≡ get_or cores t.resource core → IsDue core t.task
+      → is_lawful s (history_of s events) (Evaluate k t dt inputs) ≡ true
+  due_at k t dt inputs core inside at due =
+      let node : IsNode s (history_of s events) (reverse log) t.resource core = world.nodes t.resource core (slice_get_read cores (length cores) t.resource core refl inside at) in
+      let all : AllLawful s (history_of s events) = AllLawful-after s [] events tt in
+      let number : last_number (known core.table (own_task core t.task)) ≡ number_of t (history_of s events) = number-own s (history_of s events) (reverse log) core 0 t 0 [] all world.logged node in
+      let found : code_at s.plant t ≡ code_at core.plant (own_task core t.task) = found-own s (history_of s events) (reverse log) core 0 t 0 [] all world.logged node (code_at core.plant (own_task core t.task)) refl in
+      let there : is_some (code_at s.plant t) ≡ true = ap is_some found ∙ due.0 in
+      let low : number_of t (history_of s events) < s.max_number = omega (arith, number, node.max_number, due.1) in
+      rw (there, lt-ltb (number_of t (history_of s events)) s.max_number low) refl
 
   pub no_task_at : (t : TaskRef) (core : CoreValue) → t.resource < length cores → core ≡ get_or cores t.resource core → code_at core.plant (own_task core t.task) ≡ None
       → (t.resource < length s.plant.resources) × (code_at s.plant t ≡ None)

@@ -1,5 +1,5 @@
 -- What one step does to a world.
-use Rattle.std.specs.Prelude.{◌≡◌, ◌≢◌, ℕ, ◌<◌, ◌≤◌, ◌⊎◌, true, false, List, [], ◌∷◌, ◌++◌, Some, None, is_some, length, reverse}
+use Rattle.std.specs.Prelude.{◌≡◌, ◌≢◌, ℕ, ◌<◌, ◌≤◌, ◌⊎◌, true, false, List, [], ◌∷◌, ◌++◌, Some, None, is_some, length, reverse, slice_get}
 use Rattle.plant.specs.declared.task_ref.TaskRef.{TaskRef}
 use Rattle.plant.specs.PlantValue.{code_at}
 use Rattle.evaluation.specs.Meaning.{Evaluated}
@@ -35,14 +35,14 @@ resource_of (Evaluate ticket task dt inputs) = task.resource
 resource_of (Deliver message resource) = resource
 resource_of (Restart resource) = resource
 
--- why an event is refused: the first cause that holds
+-- why an event is refused: the first cause that holds; memory is wanting only for a lawful one
 abbrev pub IsCause : WorldValue → Event → WorldFault → Type 0
 IsCause w e NoSuchResource = length w.setting.plant.resources ≤ resource_of e
 IsCause w (Evaluate ticket task dt inputs) NoSuchTask = (task.resource < length w.setting.plant.resources) × (code_at w.setting.plant task ≡ None)
 IsCause w (Evaluate ticket task dt inputs) NumbersSpent = (is_some (code_at w.setting.plant task) ≡ true) × (w.setting.max_number ≤ number_of task (history_at w))
 IsCause w (Deliver message resource) NoSuchMessage = (resource < length w.setting.plant.resources) × ((message ≡ 0) ⊎ (made_count (history_at w) < message))
 IsCause w (Restart resource) IncarnationsSpent = (resource < length w.setting.plant.resources) × (4294967295 ≤ incarnation_of w.setting resource (history_at w))
-IsCause w e Memory = Unit {0}
+IsCause w e Memory = is_lawful w.setting (history_at w) e ≡ true
 IsCause w e fault = ⊥
 
 -- What the delivery to n of message k, made by task p, answers: Unused where p is of that resource or no task there takes from it;
@@ -62,6 +62,10 @@ IsStep old new (Evaluate ticket task dt inputs) (MadeOne message) = IsEvaluatedN
 IsStep old new (Deliver k n) (Delivered accepted) = IsDone old new (Deliver k n) old.log × IsDelivered old k n accepted
 IsStep old new (Restart resource) (Restarted incarnation) = IsDone old new (Restart resource) old.log × (incarnation ≡ incarnation_of new.setting resource (history_at new))
 IsStep old new e done = ⊥
+
+-- event i of these is one that is lawful now
+abbrev pub IsLawfulAt : WorldValue → List Event → ℕ → Type 0
+IsLawfulAt w es i = (e : Event) × (slice_get es i ≡ Some e) × (is_lawful w.setting (history_at w) e ≡ true)
 
 -- these events were done, but for the unlawful ones
 pub record Follows (old new : WorldValue) (es : List Event) : Type 0 where

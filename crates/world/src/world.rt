@@ -30,16 +30,16 @@ impl Model for World {
     ghost invariant = { λ w. IsWorld (record { plant = w.plant.value; first = w.first.items; max_number = w.max_number }) w.events.items w.log.items w.cores.items };
 }
 
-ghost use Rattle.std.specs.Prelude.{◌≡◌, ◌∷◌, [], IfOk, IfErr, IfSome, OnOk, OnErr, Contains, length, reverse, take};
+ghost use Rattle.std.specs.Prelude.{◌≡◌, ◌∷◌, [], true, IfOk, IfErr, IfSome, OnOk, OnErr, Contains, length, reverse, take};
 ghost use Rattle.std.specs.Option.{option_copied};
 ghost use Rattle.world.specs.declared.event.Event.TheVariants.{Evaluate, Deliver, Restart};
-ghost use Rattle.world.specs.History.{incarnation_of};
+ghost use Rattle.world.specs.History.{incarnation_of, is_lawful};
 ghost use Rattle.world.specs.Run.{IsRun};
 ghost use Rattle.world.specs.World.{held_at};
 ghost use Rattle.world.specs.Fits.{AllFit};
 ghost use Rattle.world.specs.Consistent.{IsConsistent};
 ghost use Rattle.world.specs.Theorem.{IsDataConsistent};
-ghost use Rattle.world.specs.Step.{history_at, IsDone, IsEvaluatedNow, IsCause, IsStep, IsDelivered, Follows};
+ghost use Rattle.world.specs.Step.{history_at, IsDone, IsEvaluatedNow, IsCause, IsStep, IsDelivered, IsLawfulAt, Follows};
 ghost use Rattle.world.specs.Steps.Fresh.{AreFresh};
 
 /// The cores before the first event.
@@ -90,7 +90,7 @@ impl World {
         })
     }
 
-    /// Does one event, if it is lawful; else it answers why it isn't, and changes nothing.
+    /// Does one event, if it is lawful; else it answers why it isn't, and changes nothing. Want of memory is looked at last.
     pub fn step(&mut self, alloc: Global, event: &Event) -> Result<Done, WorldFault>
         ensures done { IfOk result (IsStep self.old self.new event.now) }
         ensures err { OnErr result (self.new ≡ self.old) }
@@ -117,10 +117,11 @@ impl World {
         }
     }
 
-    /// Does these events, but for the unlawful ones. Without memory it tells the place, from 0, of the first one that isn't done; those before it are.
+    /// Does these events, but for the unlawful ones. Without memory it tells the place, from 0, of the first lawful one that isn't done; those before it are.
     pub fn run(&mut self, alloc: Global, events: &[Event]) -> Result<(), usize>
         ensures ok { OnOk result (Follows self.old self.new events.now) }
         ensures err { IfErr result (λ i. Follows self.old self.new (take i events.now)) }
+        ensures stopped { IfErr result (λ i. IsLawfulAt self.new events.now i) }
     {
         for i in 0..events.len() {
             match self.go(alloc, &events[i]) {
@@ -172,6 +173,7 @@ impl World {
     fn go(&mut self, alloc: Global, event: &Event) -> Result<(), AllocError>
         ensures ok { OnOk result (Follows self.old self.new (event.now ∷ [])) }
         ensures err { OnErr result (self.new ≡ self.old) }
+        ensures lawful { OnErr result (is_lawful self.old.setting (history_at self.old) event.now ≡ true) }
     {
         match self.step(alloc, event) {
             Ok(_) => Ok(()),
@@ -198,6 +200,12 @@ impl World {
         if task.resource >= self.cores.len() {
             return Err(WorldFault::NoSuchResource);
         }
+        match self.cores[task.resource].next_number(task.task) {
+            Ok(_) => {}
+            Err(EvalFault::NoSuchTask) => return Err(WorldFault::NoSuchTask),
+            Err(EvalFault::NumbersSpent) => return Err(WorldFault::NumbersSpent),
+            Err(EvalFault::Memory) => unreachable!(),
+        }
         let Ok(copy) = inputs.try_copy() else {
             return Err(WorldFault::Memory);
         };
@@ -208,11 +216,8 @@ impl World {
             return Err(WorldFault::Memory);
         }
         let core = &mut self.cores[task.resource];
-        let frame = match core.evaluate(alloc, ticket, task.task, dt, inputs) {
-            Ok(frame) => frame,
-            Err(EvalFault::NoSuchTask) => return Err(WorldFault::NoSuchTask),
-            Err(EvalFault::NumbersSpent) => return Err(WorldFault::NumbersSpent),
-            Err(EvalFault::Memory) => return Err(WorldFault::Memory),
+        let Ok(frame) = core.evaluate(alloc, ticket, task.task, dt, inputs) else {
+            return Err(WorldFault::Memory);
         };
         let Ok(()) = self.log.push(frame) else {
             unreachable!()

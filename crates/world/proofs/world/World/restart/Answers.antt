@@ -1,6 +1,6 @@
-use Rattle.std.proofs.Common.{◌<◌, ◌≤◌, arith, length, ◌∙◌, subst}
+use Rattle.std.proofs.Common.{◌<◌, ◌≤◌, arith, length, ◌≡◌, true, ◌∙◌, subst}
 use Rattle.world.specs.declared.event.Event.TheVariants.{Restart}
-use Rattle.world.specs.History.{history_of, incarnation_of}
+use Rattle.world.specs.History.{history_of, incarnation_of, is_lawful}
 use Rattle.world.specs.World.{WorldValue}
 use Rattle.world.proofs.Worlds.{world-restart_at, restart-lawful_at, restarted_at, incarnation_at, done_same}
 use Rattle.world.proofs.world.World.restart.Goals as goal
@@ -25,3 +25,18 @@ pub returns-clause-answer : goal.returns-clause-answer
 returns-clause-answer c =
     rw (c.in-Ok-push.ensures.items, c.reserve.ensures.items)
     (restarted_at _ c.self.inside.events.items c.self.inside.log.items c.self.inside.cores.items c.self.invariant c.args.resource c.incarnation-last.result c.index.result.now (omega (arith, c.self.inside.cores.ok.0)) c.index.ensures c.incarnation-last.ensures (omega arith))
+
+pub returns-in_default-clause-cause : goal.returns-in_default-clause-cause
+returns-in_default-clause-cause c =
+    subst (λ (w : WorldValue). is_lawful w.setting (history_of w.setting w.events) (Restart c.args.resource) ≡ true) c.self.view_is
+    (restart-lawful_at _ c.self.inside.events.items c.self.inside.log.items c.self.inside.cores.items c.self.invariant c.args.resource c.incarnation-last.result c.index.result.now (omega (arith, c.self.inside.cores.ok.0)) c.index.ensures c.incarnation-last.ensures (omega arith))
+
+pub returns-in_default-new-clause-cause : goal.returns-in_default-new-clause-cause
+returns-in_default-new-clause-cause c =
+    subst (λ (w : WorldValue). is_lawful w.setting (history_of w.setting w.events) (Restart c.args.resource) ≡ true) c.self.view_is
+    (restart-lawful_at _ c.self.inside.events.items c.self.inside.log.items c.self.inside.cores.items c.self.invariant c.args.resource c.incarnation-last.result c.index.result.now (omega (arith, c.self.inside.cores.ok.0)) c.index.ensures c.incarnation-last.ensures (omega arith))
+
+pub returns-then-is_err-clause-cause : goal.returns-then-is_err-clause-cause
+returns-then-is_err-clause-cause c =
+    subst (λ (w : WorldValue). is_lawful w.setting (history_of w.setting w.events) (Restart c.args.resource) ≡ true) c.self.view_is
+    (restart-lawful_at _ c.self.inside.events.items c.self.inside.log.items c.self.inside.cores.items c.self.invariant c.args.resource c.incarnation-last.result c.index.result.now (omega (arith, c.self.inside.cores.ok.0)) c.index.ensures c.incarnation-last.ensures (omega arith))
