@@ -17,7 +17,7 @@ use Rattle.node.specs.declared.step.Step.TheVariants.{Took, Made, Restarted}
 use Rattle.node.specs.declared.journal.Journal.{Journal}
 use Rattle.node.specs.Journals.{made}
 use Rattle.node.specs.Reports.{entries_of, firsts_of, ticket_of, tickets_of, is_evaluate, is_unanswered, unanswered_of, AreNumbered}
-use Rattle.node.specs.Steps.Collecting.{made_with, AllStand, AreMarks, RiseTo}
+use Rattle.node.specs.Steps.Collecting.{AllBegin, AreMarks, RiseTo}
 
 -- what stands at a place is an element
 pub at_place : {X : Type 0} (xs : List X) (k : ℕ) → k < length xs → (x : X) × (slice_get xs k ≡ Some x)
@@ -83,50 +83,16 @@ has_own_contents x y e = subst (IsSameEvaluation x) e record {
   code = refl;
 }
 
--- the entries from a place on
-entries-drop : (r : ℕ) (xs : List Evaluated) (k : ℕ) (x : Evaluated) → slice_get xs k ≡ Some x
-    → entries_of r (drop k xs) ≡ cond (eqb x.name.task.resource r) (x ∷ entries_of r (drop (suc k) xs)) (entries_of r (drop (suc k) xs))
-entries-drop r [] k x is = absurd cc
-entries-drop r (y ∷ xs) zero x is =
-    let same : y ≡ x = cc in
-    subst (λ (z : Evaluated). entries_of r (y ∷ xs) ≡ cond (eqb z.name.task.resource r) (z ∷ entries_of r xs) (entries_of r xs)) same refl
-entries-drop r (y ∷ xs) (suc k) x is = entries-drop r xs k x is
-
--- the resource's entry at a place is its next one
-pub next_entry : (r : ℕ) (xs : List Evaluated) (from k : ℕ) (x : Evaluated) → entries_of r (drop from xs) ≡ entries_of r (drop k xs) → slice_get xs k ≡ Some x → eqb x.name.task.resource r ≡ true
-    → IfSome (slice_get xs k) (λ y. entries_of r (drop from xs) ≡ y ∷ entries_of r (drop (k + 1) xs))
-next_entry r xs from k x so_far at here =
-    subst (λ (o : Option Evaluated). IfSome o (λ y. entries_of r (drop from xs) ≡ y ∷ entries_of r (drop (k + 1) xs))) (sym at)
-    (rw add-one (so_far ∙ entries-drop r xs k x at ∙ ap (λ b. cond b (x ∷ entries_of r (drop (suc k) xs)) (entries_of r (drop (suc k) xs))) here))
-
-made-drop : (ss : List Step) (k : ℕ) (s : Step) → slice_get ss k ≡ Some s → made (drop k ss) ≡ made_with s (made (drop (suc k) ss))
-made-drop [] k s is = absurd cc
-made-drop (x ∷ ss) zero s is = let same : x ≡ s = cc in subst (λ (y : Step). made (x ∷ ss) ≡ made_with y (made ss)) same (made-cons x ss)
-  where
-    made-cons : (x : Step) (ss : List Step) → made (x ∷ ss) ≡ made_with x (made ss)
-    made-cons (Took y) ss = refl
-    made-cons (Made y) ss = refl
-    made-cons (Restarted ticket incarnation) ss = refl
-made-drop (x ∷ ss) (suc k) s is = made-drop ss k s is
-
--- what would suffice before a step suffices behind it
-pub step_in_book : (r : ℕ) (ss : List Step) (xs : List Evaluated) (i at to : ℕ) (s : Step) (Goal : Type 0) → slice_get ss i ≡ Some s
-    → entries_of r (drop at xs) ≡ made_with s (entries_of r (drop to xs)) → (made (drop i ss) ≡ entries_of r (drop at xs) → Goal)
-    → made (drop (i + 1) ss) ≡ entries_of r (drop to xs) → Goal
-step_in_book r ss xs i at to s Goal here step so_far rest =
-    let next : made (drop (suc i) ss) ≡ entries_of r (drop to xs) = rw (← add-one) rest in
-    so_far (made-drop ss i s here ∙ ap (made_with s) next ∙ sym step)
-
 -- the book begins in the first incarnations of the journals that stand at their places
-pub firsts_are : (book : BookValue) (journals : List Journal) → length journals ≡ length book.first → AllStand book journals → book.first ≡ firsts_of journals
-firsts_are book journals many stand = same_places book.first (firsts_of journals) (sym many ∙ sym (length-map journals (λ (j : Journal). j.first))) each
+pub firsts_are : (book : BookValue) (journals : List Journal) → length journals ≡ length book.first → AllBegin book.first journals → book.first ≡ firsts_of journals
+firsts_are book journals many begin = same_places book.first (firsts_of journals) (sym many ∙ sym (length-map journals (λ (j : Journal). j.first))) each
   where
     each : (k : ℕ) (x y : ℕ) → slice_get book.first k ≡ Some x → slice_get (firsts_of journals) k ≡ Some y → x ≡ y
     each k x y at found =
         let lt = slice_get_within book.first k x at in
         let j = at_place journals k (omega arith) in
         let is : slice_get (firsts_of journals) k ≡ Some j.0.first = slice_get-map (λ (j : Journal). j.first) journals k ∙ ap (option_map (λ (j : Journal). j.first)) j.1 in
-        same_Some x j.0.first (sym at ∙ (stand k j.0 j.1).first_is) ∙ same_Some j.0.first y (sym is ∙ found)
+        same_Some x j.0.first (sym at ∙ (begin k j.0 j.1).first_is) ∙ same_Some j.0.first y (sym is ∙ found)
 
 -- what holds of each at its place holds of all
 pub all_from_places : {X : Type 0} (P : X → Type 0) (xs : List X) → ((k : ℕ) (x : X) → slice_get xs k ≡ Some x → P x) → All P xs

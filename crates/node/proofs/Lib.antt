@@ -7,3 +7,5 @@ pub mod Collecting
 pub mod Reporting
 pub mod Alls
 pub mod Faults
+pub mod Stopping
+pub mod Walking

@@ -1,8 +1,8 @@
 -- What a report of the threads has to be: the book fits, the journals are lawful, they made the book's entries, the commands are accounted for, and the book's entries are a run.
-use Rattle.std.specs.Prelude.{◌≡◌, ℕ, ◌+◌, ◌<◌, ◌==◌, ◌&&◌, Bool, true, false, not, List, Option, Some, None, All, Contains, length, map, filter, reverse, slice_get}
+use Rattle.std.specs.Prelude.{◌≡◌, ℕ, ◌+◌, ◌<◌, ◌≤◌, ◌==◌, ◌&&◌, Bool, true, false, not, List, Option, Some, None, All, Contains, length, map, filter, reverse, take, slice_get}
 use Rattle.std.specs.List.{filter_map, list_any}
 use Rattle.std.specs.List.Sorted.{IsStrictlyIncreasing}
-use Rattle.plant.specs.PlantValue.{PlantValue}
+use Rattle.plant.specs.PlantValue.{PlantValue, tasks_at}
 use Rattle.evaluation.specs.Meaning.{Evaluated}
 use Rattle.world.specs.declared.event.Event.{Event}
 use Rattle.world.specs.History.{Setting}
@@ -15,6 +15,9 @@ use Rattle.node.specs.declared.act.Act.TheVariants.{Evaluate, Restart}
 use Rattle.node.specs.declared.step.Step.{Step}
 use Rattle.node.specs.declared.step.Step.TheVariants.{Took, Made, Restarted}
 use Rattle.node.specs.declared.journal.Journal.{Journal}
+use Rattle.node.specs.declared.cause.Cause.{Cause}
+use Rattle.node.specs.declared.cause.Cause.TheVariants.{OutOfTurns, NoSuchTask, NumbersSpent, Memory, Misfit, Keeper, NotSent, Stopped}
+use Rattle.node.specs.declared.node_fault.NodeFault.{NodeFault}
 use Rattle.node.specs.Journals.{made, IsLawful}
 
 -- the first incarnations of the journals, in order
@@ -83,6 +86,77 @@ pub record AreAnswers (commands : List Command) (entries : List Evaluated) (jour
   pub commanded : All (λ (x : Evaluated). Contains commands (command_of x)) entries
   pub obedient : All (IsObedient commands) journals
   pub unanswered_are : unanswered ≡ unanswered_of commands entries
+
+-- a step is the restart of a ticket
+abbrev pub is_restart_of : ℕ → Step → Bool
+is_restart_of ticket (Took x) = false
+is_restart_of ticket (Made x) = false
+is_restart_of ticket (Restarted own incarnation) = own == ticket
+
+-- a command wasn't obeyed: one to evaluate is among the unanswered, and of one to restart no journal has the restart
+abbrev pub IsUnobeyed : List ℕ → List Journal → Command → Type 0
+IsUnobeyed unanswered journals c = by c.act
+  where
+    by : Act → Type 0
+    by (Evaluate task dt inputs) = Contains unanswered c.ticket
+    by Restart = All (λ (j : Journal). list_any (is_restart_of c.ticket) j.steps ≡ false) journals
+
+-- a command asks to evaluate a task that its resource has
+abbrev pub HasTask : PlantValue → Command → Type 0
+HasTask plant c = by c.act
+  where
+    by : Act → Type 0
+    by (Evaluate task dt inputs) = task < length (tasks_at plant c.resource)
+    by Restart = ⊥
+
+-- a command asks to evaluate a task that its resource hasn't
+abbrev pub LacksTask : PlantValue → Command → Type 0
+LacksTask plant c = by c.act
+  where
+    by : Act → Type 0
+    by (Evaluate task dt inputs) = length (tasks_at plant c.resource) ≤ task
+    by Restart = ⊥
+
+-- A command may have met a cause, where this says that it wasn't obeyed. One may be out of turns also when it is done with, and an evaluation made may not be sent; after any other cause the command isn't obeyed.
+-- Only a task that isn't there is no such task, only one that is there spends its numbers or is a misfit, and only for a restart a keeper is asked.
+abbrev pub MayMeet : PlantValue → Command → Type 0 → Cause → Type 0
+MayMeet plant c Unobeyed OutOfTurns = Unit {0}
+MayMeet plant c Unobeyed NoSuchTask = LacksTask plant c × Unobeyed
+MayMeet plant c Unobeyed NumbersSpent = HasTask plant c × Unobeyed
+MayMeet plant c Unobeyed Memory = Unobeyed
+MayMeet plant c Unobeyed Misfit = HasTask plant c × Unobeyed
+MayMeet plant c Unobeyed Keeper = (c.act ≡ Restart) × Unobeyed
+MayMeet plant c Unobeyed NotSent = c.act ≡ Restart → Unobeyed
+MayMeet plant c Unobeyed Stopped = Unobeyed
+
+-- a fault is told of a command, by its ticket and resource, and of a cause that the command may have met
+pub record IsToldOf (plant : PlantValue) (commands : List Command) (journals : List Journal) (unanswered : List ℕ) (f : NodeFault) : Type 0 where
+  pub command : Command
+  pub listed : Contains commands command
+  pub ticket_is : command.ticket ≡ f.ticket
+  pub resource_is : command.resource ≡ f.resource
+  pub may_meet : MayMeet plant command (IsUnobeyed unanswered journals command) f.cause
+
+-- a resource obeys no further command after a fault of it that may stop it: want of memory, or a misfit
+abbrev pub may_stop : Cause → Bool
+may_stop OutOfTurns = false
+may_stop NoSuchTask = false
+may_stop NumbersSpent = false
+may_stop Memory = true
+may_stop Misfit = true
+may_stop Keeper = false
+may_stop NotSent = false
+may_stop Stopped = false
+
+-- one of these faults may have stopped a resource
+abbrev pub may_have_stopped : ℕ → List NodeFault → Bool
+may_have_stopped resource faults = list_any (λ (f : NodeFault). f.resource == resource && may_stop f.cause) faults
+
+-- The faults are told by ticket, at most one of each; each is told of a command; and a resource has stopped only where an earlier fault may have stopped it.
+pub record AreTold (plant : PlantValue) (commands : List Command) (journals : List Journal) (unanswered : List ℕ) (faults : List NodeFault) : Type 0 where
+  pub rising : IsStrictlyIncreasing (map (λ (f : NodeFault). f.ticket) faults)
+  pub told : All (IsToldOf plant commands journals unanswered) faults
+  pub stopped : (k : ℕ) (f : NodeFault) → slice_get faults k ≡ Some f → f.cause ≡ Stopped → may_have_stopped f.resource (take k faults) ≡ true
 
 -- the setting in which the threads ran: the plant, the journals' first incarnations, and the limit
 abbrev pub setting_of : PlantValue → ℕ → List Journal → Setting

@@ -1,6 +1,5 @@
-ghost use Rattle.std.specs.Prelude.{◌≡◌, IfOk, length, map, vec_len};
-ghost use Rattle.std.specs.List.Sorted.{IsStrictlyIncreasing};
-ghost use Rattle.node.specs.Reports.{IsFittingBook, AreJournalsOf, AreInBook, AreAnswers, RunsAgain, AreNumbered, AreForPlant};
+ghost use Rattle.std.specs.Prelude.{◌≡◌, IfOk, length, vec_len};
+ghost use Rattle.node.specs.Reports.{IsFittingBook, AreJournalsOf, AreInBook, AreAnswers, RunsAgain, AreNumbered, AreForPlant, AreTold};
 
 use crate::collector::collect;
 use crate::command::Command;
@@ -35,7 +34,7 @@ pub fn run_threads<R: Threads + Wait + Sync, K: Keeper, G: Gate>(
     ensures journals { IfOk result (λ r. AreJournalsOf plant.value max_number r.journals) }
     ensures made { IfOk result (λ r. AreInBook r.book.entries r.journals) }
     ensures answers { IfOk result (λ r. AreAnswers commands.now r.book.entries r.journals r.unanswered) }
-    ensures faults { IfOk result (λ r. IsStrictlyIncreasing (map (λ f. f.ticket) r.node_faults)) }
+    ensures faults { IfOk result (λ r. AreTold plant.value commands.now r.journals r.unanswered r.node_faults) }
     ensures again { IfOk result (λ r. RunsAgain plant.value max_number r.book r.journals) }
 {
     let Outcome {

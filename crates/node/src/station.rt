@@ -85,6 +85,9 @@ impl Station {
         ensures fault { IfErr result (λ e. IsEvalFault self.core task e.1) }
     {
         let mut station = self;
+        if let Err(fault) = station.core.next_number(task) {
+            return Err((station, fault));
+        }
         if station.make_room().is_err() {
             return Err((station, EvalFault::Memory));
         }

@@ -1,42 +1,43 @@
 -- What the checks of a report decide, step by step.
-use Rattle.std.specs.Prelude.{◌≡◌, ℕ, ◌+◌, ◌-◌, ◌<◌, ◌≤◌, ◌==◌, Bool, false, List, ◌∷◌, Option, Some, IfSome, All, Contains, length, map, reverse, slice_get, slice_index_or}
+use Rattle.std.specs.Prelude.{◌≡◌, ℕ, ◌+◌, ◌-◌, ◌<◌, ◌≤◌, ◌==◌, ◌++◌, Bool, true, false, List, [], Option, Some, IfSome, All, Contains, length, map, drop, reverse, take, slice_get, slice_index_or}
 use Rattle.std.specs.List.{list_any}
 use Rattle.std.specs.List.Sorted.{IsStrictlyIncreasing}
 use Rattle.plant.specs.PlantValue.{PlantValue, IsSoundPlant}
 use Rattle.evaluation.specs.Meaning.{Evaluated}
 use Rattle.world.specs.Fits.{AllFit}
 use Rattle.world.specs.Book.{BookValue}
-use Rattle.node.specs.declared.step.Step.{Step}
-use Rattle.node.specs.declared.step.Step.TheVariants.{Took, Made, Restarted}
 use Rattle.node.specs.declared.journal.Journal.{Journal}
+use Rattle.node.specs.declared.cause.Cause.TheVariants.{Stopped}
 use Rattle.node.specs.declared.node_fault.NodeFault.{NodeFault}
 use Rattle.node.specs.Journals.{made}
-use Rattle.node.specs.Reports.{entries_of}
+use Rattle.node.specs.Reports.{entries_of, is_restart_of, may_have_stopped}
 
--- what a step made, in front of these
-abbrev pub made_with : Step → List Evaluated → List Evaluated
-made_with (Took x) ys = ys
-made_with (Made x) ys = x ∷ ys
-made_with (Restarted ticket incarnation) ys = ys
-
--- what a journal made are, in order, the entries of its resource
-abbrev pub IsInBook : List Evaluated → Journal → Type 0
-IsInBook entries j = made j.steps ≡ entries_of j.resource entries
-
--- a journal is that of the resource at a place, begins in the book's first incarnation, and made the book's entries
-pub record StandsAt (book : BookValue) (place : ℕ) (j : Journal) : Type 0 where
+-- a journal is that of the resource at a place, and begins in this place's incarnation
+pub record BeginsAt (first : List ℕ) (place : ℕ) (j : Journal) : Type 0 where
   pub resource_is : j.resource ≡ place
-  pub first_is : slice_get book.first place ≡ Some j.first
-  pub in_book : IsInBook book.entries j
+  pub first_is : slice_get first place ≡ Some j.first
+
+-- each of the journals is that of the resource at its place, and begins in this place's incarnation
+abbrev pub AllBegin : List ℕ → List Journal → Type 0
+AllBegin first journals = (k : ℕ) (j : Journal) → slice_get journals k ≡ Some j → BeginsAt first k j
+
+-- Each journal has come to a place: what it made are these entries of the resource at its place, and then what it made from that place on.
+pub record HaveCome (entries : List Evaluated) (journals : List Journal) (at : List ℕ) : Type 0 where
+  pub many : length at ≡ length journals
+  pub each : (k : ℕ) (j : Journal) → slice_get journals k ≡ Some j → made j.steps ≡ entries_of k entries ++ made (drop (slice_index_or at k 0) j.steps)
+
+-- no journal made anything from its place on
+abbrev pub AreAtEnd : List Journal → List ℕ → Type 0
+AreAtEnd journals at = (k : ℕ) (j : Journal) → slice_get journals k ≡ Some j → made (drop (slice_index_or at k 0) j.steps) ≡ []
+
+-- what each journal made are, in order, the entries of the resource at its place
+abbrev pub AllMade : List Evaluated → List Journal → Type 0
+AllMade entries journals = (k : ℕ) (j : Journal) → slice_get journals k ≡ Some j → made j.steps ≡ entries_of k entries
 
 -- for each place, whether an entry has its ticket, which is one more than the place
 pub record AreMarks (count : ℕ) (entries : List Evaluated) (marks : List Bool) : Type 0 where
   pub many : length marks ≡ count
   pub each : (k : ℕ) → k < count → slice_index_or marks k false ≡ list_any (λ (x : Evaluated). x.ticket == k + 1) entries
-
--- each of the journals is that of the resource at its place, begins in the book's first incarnation, and made the book's entries
-abbrev pub AllStand : BookValue → List Journal → Type 0
-AllStand book journals = (k : ℕ) (j : Journal) → slice_get journals k ≡ Some j → StandsAt book k j
 
 -- The book fits, and each resource of the plant has its journal, which begins in the book's first incarnation and made the book's entries.
 pub record Agrees (plant : PlantValue) (book : BookValue) (journals : List Journal) : Type 0 where
@@ -44,7 +45,8 @@ pub record Agrees (plant : PlantValue) (book : BookValue) (journals : List Journ
   pub fit : AllFit book.first (reverse book.entries)
   pub many : length journals ≡ length plant.resources
   pub as_many : length journals ≡ length book.first
-  pub stand : AllStand book journals
+  pub begin : AllBegin book.first journals
+  pub all_made : AllMade book.entries journals
 
 -- these numbers rise, and the last one is this
 pub record RiseTo (xs : List ℕ) (last : Option ℕ) : Type 0 where
@@ -67,3 +69,22 @@ pub record AreListedUpTo (k : ℕ) (noted listed : List NodeFault) (last : Optio
   pub among : All (λ (f : NodeFault). Contains noted f) listed
   pub told : (i : ℕ) (f : NodeFault) → i < k → slice_get noted i ≡ Some f → Contains (fault_tickets listed) f.ticket
   pub low : IfSome last (λ before. (i : ℕ) (f : NodeFault) → k ≤ i → slice_get noted i ≡ Some f → before ≤ f.ticket)
+
+-- for each place, whether a journal has a restart of its ticket, which is one more than the place
+abbrev pub AreRestartMarks : List Journal → List Bool → Type 0
+AreRestartMarks journals marks = (k : ℕ) → k < length marks → slice_index_or marks k false ≡ list_any (λ (j : Journal). list_any (is_restart_of (k + 1)) j.steps) journals
+
+-- no mark stands at the place of a ticket
+pub record IsUnmarked (marks : List Bool) (ticket : ℕ) : Type 0 where
+  pub place : ℕ
+  pub ticket_is : ticket ≡ place + 1
+  pub within : place < length marks
+  pub unmarked : slice_index_or marks place false ≡ false
+
+-- a mark at the place of a resource says that one of these faults may have stopped it
+abbrev pub AreStopMarks : List NodeFault → List Bool → Type 0
+AreStopMarks faults marks = (r : ℕ) → slice_index_or marks r false ≡ true → may_have_stopped r faults ≡ true
+
+-- a resource has stopped only where an earlier one of the faults may have stopped it; this of the first k of them
+abbrev pub AreStopsTold : ℕ → List NodeFault → Type 0
+AreStopsTold k faults = (i : ℕ) (f : NodeFault) → i < k → slice_get faults i ≡ Some f → f.cause ≡ Stopped → may_have_stopped f.resource (take i faults) ≡ true

@@ -10,7 +10,7 @@ use crate::step::Step;
 use evaluation::{Evaluation, Frame};
 
 /// The command at the place of a ticket.
-fn find_command(commands: &[Command], ticket: u64) -> Option<&Command>
+pub(crate) fn find_command(commands: &[Command], ticket: u64) -> Option<&Command>
     ensures { IfSome result (λ c. Contains commands.now c.now) }
 {
     if ticket == 0 {

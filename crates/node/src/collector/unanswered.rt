@@ -10,7 +10,7 @@ use evaluation::Frame;
 use std::alloc::{AllocError, Global};
 
 /// Marks the place of a ticket, if it has one.
-fn mark(marks: &mut [bool], ticket: u64)
+pub(crate) fn mark(marks: &mut [bool], ticket: u64)
     ensures { (k : ℕ) → k < length marks.old → slice_index_or marks.new k false ≡ (slice_index_or marks.old k false || ticket == k + 1) }
 {
     if ticket == 0 {
