@@ -9,11 +9,12 @@ use Rattle.power_flow.specs.declared.bind.BindKind.TheVariants.{Memory as BindMe
 use Rattle.network.specs.declared.fault.GraphFault.{GraphFault}
 use Rattle.network.specs.declared.fault.GraphFaultKind.TheVariants.{Memory as GraphMemory}
 use Rattle.plc_main.specs.declared.text_fault.TextFault.TheVariants.{Bind, Graph}
-use Rattle.plc_main.specs.Refusals.{GivenFor}
+use Rattle.plc_main.specs.Steps.Giving.{GivenFor}
 use Rattle.plc_main.specs.Rows.{RowValue, AreRows}
 use Rattle.plc_main.specs.declared.command_fault.CommandFault.{CommandFault}
 use Rattle.plc_main.specs.declared.command_fault.CommandFault.TheVariants.{Text, Word, Write, Run, Memory}
-use Rattle.plc_main.specs.EvalText.{IsLadderOf, Asked, WritesAll, WritesScans, WritesSomeScans, RefusesLadder, RefusesNames, RefusesNetworks, RefusesRows, IsLate, Explains}
+use Rattle.plc_main.specs.EvalText.{IsLadderOf, Asked, WritesAll, WritesScans, WritesSomeScans, RefusesNames, RefusesNetworks, Explains}
+use Rattle.plc_main.specs.Steps.Refusing.{RefusesLadder, RefusesRows, IsLate}
 
 pub explain_ladder : (drawing : List ℕ) (words : List (List ℕ)) (dt : ℕ) (old : Option (List ℕ)) (fault : CommandFault) → RefusesLadder drawing fault
     → Explains drawing words dt old old fault

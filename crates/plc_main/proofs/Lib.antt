@@ -7,6 +7,7 @@ pub mod Counting
 pub mod Sending
 pub mod PlantBounds
 pub mod PlanExplaining
+pub mod PlantRefusing
 pub mod Matching
 pub mod Commanding
 pub mod Reporting

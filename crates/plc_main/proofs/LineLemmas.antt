@@ -7,7 +7,8 @@ use Rattle.power_flow.specs.declared.declarations.Declaration.{Declaration}
 use Rattle.power_flow.specs.declared.state.Slot.{Slot}
 use Rattle.power_flow.specs.declared.state.Slot.TheVariants.{Variable, Block}
 use Rattle.power_flow.specs.StateValue.{variable_at}
-use Rattle.plc_main.specs.Lines.{item_text, items_of, ready}
+use Rattle.plc_main.specs.Lines.{item_text, items_of}
+use Rattle.plc_main.specs.Steps.Joining.{ready}
 
 -- each item has a character
 abbrev pub AreFilled : List (List ℕ) → Type 0

@@ -10,7 +10,7 @@ use Rattle.plant.specs.Plan.{IsPlan}
 use Rattle.plc_main.specs.declared.command_fault.CommandFault.{CommandFault}
 use Rattle.plc_main.specs.declared.command_fault.CommandFault.TheVariants.{Text, Word, Write, Run, Memory}
 use Rattle.plc_main.specs.declared.text_fault.TextFault.TheVariants.{Draw, Graph, Bind, Plant, TooLong}
-use Rattle.plc_main.specs.EvalText.{IsLate}
+use Rattle.plc_main.specs.Steps.Refusing.{IsLate}
 use Rattle.plc_main.specs.PlanText.{plan_lines, RefusesPlanOf, WritesPlan, ExplainsPlan}
 use Rattle.plc_main.specs.Sending.{SendsPart}
 

@@ -15,7 +15,8 @@ use Rattle.plant.specs.Faultless.{tasks_of, uses_of, binds_of, all_uses, IsFault
 use Rattle.plant.specs.PlantValue.{CodeValue, ResourceValue, PlantValue, items_or_none, bindings_at}
 use Rattle.plant.specs.StandsFor.{runs_in, task_value, IsBindingOf, IsCodeOf, IsResourceOf}
 use Rattle.plant.specs.PlantText.{IsPlantText}
-use Rattle.plc_main.specs.CheckText.{programs_of, connections_of, AreCounts}
+use Rattle.plc_main.specs.CheckText.{programs_of, connections_of}
+use Rattle.plc_main.specs.Steps.Counting.{AreCounts}
 
 zip_length : {X Y : Type 0} (R : X → Y → Type 0) (xs : List X) (ys : List Y) → AllZip R xs ys → length xs ≡ length ys
 zip_length R [] [] each = refl

@@ -14,7 +14,7 @@ use Rattle.world.specs.Laws.{OneRun}
 use Rattle.world.specs.Book.{BookValue}
 use Rattle.node.specs.declared.journal.Journal.{Journal}
 use Rattle.node.specs.Reports.{RunsAgain, firsts_of}
-use Rattle.plc_main.specs.Replay.{AreSameEvaluations, IsReplay}
+use Rattle.plc_main.specs.Steps.Replaying.{AreSameEvaluations, IsReplay}
 
 -- the lawful events of a list have the history of all of them
 pub lawful_history : (s : Setting) (h : List Event) (es : List Event) → after_events s h (lawful_among s h es) ≡ after_events s h es

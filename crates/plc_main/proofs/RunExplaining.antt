@@ -17,9 +17,9 @@ use Rattle.node.specs.declared.run_fault.RunFault.{RunFault}
 use Rattle.node.specs.Reports.{AreNumbered, AreForPlant}
 use Rattle.plc_main.specs.declared.command_fault.CommandFault.{CommandFault}
 use Rattle.plc_main.specs.declared.command_fault.CommandFault.TheVariants.{Text, Word, Write, Run, Memory}
-use Rattle.plc_main.specs.EvalText.{IsLate}
+use Rattle.plc_main.specs.Steps.Refusing.{IsLate}
 use Rattle.plc_main.specs.PlanText.{RefusesPlanOf}
-use Rattle.plc_main.specs.Refusals.{GivenForRun}
+use Rattle.plc_main.specs.Steps.Giving.{GivenForRun}
 use Rattle.plc_main.specs.Sending.{SendsPart}
 use Rattle.plc_main.specs.RunCommands.{command_for, commands_from}
 use Rattle.plc_main.specs.ReportText.{report_lines, replay_line}

@@ -1,9 +1,11 @@
 -- What `plc check` writes.
-use Rattle.std.specs.Prelude.{◌≢◌, ℕ, ◌<◌, ◌^◌, ◌++◌, List, Option, length, codes, take, sum_by}
+use Rattle.std.specs.Prelude.{◌≢◌, ℕ, ◌++◌, List, Option, length, codes, take, sum_by}
 use Rattle.std.specs.Fmt.{decimal}
 use Rattle.std.specs.Io.KnownBytes.{Appends, Keeps}
 use Rattle.plant.specs.PlantValue.{CodeValue, ResourceValue, PlantValue}
-use Rattle.plant.specs.PlantText.{IsPlantText}
+use Rattle.plant.specs.Faults.{IsPlantFault, IsOfBody}
+use Rattle.plant.specs.PlantText.{IsPlantText, IsBodyFaultIn}
+use Rattle.plant.specs.declared.plant_fault.PlantFault.{PlantFault}
 use Rattle.plant.specs.declared.plant_fault.PlantFaultKind.TheVariants as plant
 use Rattle.plc_main.specs.declared.command_fault.CommandFault.{CommandFault}
 use Rattle.plc_main.specs.declared.command_fault.CommandFault.TheVariants.{Text, Word, Write, Run, Memory}
@@ -28,12 +30,6 @@ connections_of codes = sum_by (λ (c : CodeValue). sum_by length c.bindings) cod
 abbrev pub connection_count : PlantValue → ℕ
 connection_count plant = sum_by (λ (r : ResourceValue). connections_of r.codes) plant.resources
 
--- each count is a number of 64 bits
-pub record AreCounts (plant : PlantValue) : Type 0 where
-  pub tasks : task_count plant < 2 ^ 64
-  pub programs : program_count plant < 2 ^ 64
-  pub connections : connection_count plant < 2 ^ 64
-
 -- a line `what n`
 abbrev pub count_line : List ℕ → ℕ → List ℕ
 count_line what n = what ++ codes " " ++ decimal n ++ codes "\n"
@@ -51,25 +47,31 @@ WritesCheck text old new = (plant : PlantValue) × IsPlantText text plant × App
 abbrev pub WritesCheckPart : List ℕ → Option (List ℕ) → Option (List ℕ) → Type 0
 WritesCheckPart text old new = (plant : PlantValue) × IsPlantText text plant × (written : ℕ) × Appends old new (take written (check_lines plant))
 
--- only the reader of plants refuses a text here, and want of memory is none of its refusals
-abbrev pub IsOfPlant : TextFault → Type 0
-IsOfPlant (Draw fault) = ⊥
-IsOfPlant (Graph fault) = ⊥
-IsOfPlant (Bind fault) = ⊥
-IsOfPlant (Plant fault) = fault.kind ≢ plant.Memory
-IsOfPlant TooLong = ⊥
+-- a refusal of the text of a plant: not want of memory, with what belongs to its kind; the fault of a body is that of the first body that is refused
+pub record IsRefusal (text : List ℕ) (fault : PlantFault) : Type 0 where
+  pub not_memory : fault.kind ≢ plant.Memory
+  pub value : IsPlantFault fault
+  pub body : IsOfBody fault.kind → IsBodyFaultIn text fault
+
+-- only the reader of plants refuses a text here
+abbrev pub RefusesText : List ℕ → TextFault → Type 0
+RefusesText text (Draw fault) = ⊥
+RefusesText text (Graph fault) = ⊥
+RefusesText text (Bind fault) = ⊥
+RefusesText text (Plant fault) = IsRefusal text fault
+RefusesText text TooLong = ⊥
 
 -- no plant was read: its text is refused, or memory
-abbrev pub RefusesPlant : CommandFault → Type 0
-RefusesPlant (Text fault) = IsOfPlant fault
-RefusesPlant (Word fault) = ⊥
-RefusesPlant Write = ⊥
-RefusesPlant (Run fault) = ⊥
-RefusesPlant Memory = Unit {0}
+abbrev pub RefusesPlant : List ℕ → CommandFault → Type 0
+RefusesPlant text (Text fault) = RefusesText text fault
+RefusesPlant text (Word fault) = ⊥
+RefusesPlant text Write = ⊥
+RefusesPlant text (Run fault) = ⊥
+RefusesPlant text Memory = Unit {0}
 
 -- why there was a fault, and what was written before: nothing but where the output failed
 abbrev pub ExplainsCheck : List ℕ → Option (List ℕ) → Option (List ℕ) → CommandFault → Type 0
-ExplainsCheck text old new (Text fault) = IsOfPlant fault × Keeps old new
+ExplainsCheck text old new (Text fault) = RefusesText text fault × Keeps old new
 ExplainsCheck text old new (Word fault) = ⊥
 ExplainsCheck text old new Write = WritesCheckPart text old new
 ExplainsCheck text old new (Run fault) = ⊥

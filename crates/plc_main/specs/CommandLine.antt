@@ -96,11 +96,6 @@ abbrev pub GivesNumber : ℕ → Option (List ℕ) → ℕ → Type 0
 GivesNumber otherwise None n = n ≡ otherwise
 GivesNumber otherwise (Some text) n = IsNumber text × (n ≡ digits_value 10 text)
 
--- the option's word is no number
-abbrev pub GivesNone : Option (List ℕ) → Type 0
-GivesNone None = ⊥
-GivesNone (Some text) = IsNumber text → ⊥
-
 -- what stands for a word by its id in what was found
 abbrev pub word_of : Text → List Row → List ℕ
 word_of id found = unwrap_or (first_of id found) []

@@ -138,30 +138,6 @@ RefusesText drawing (Bind fault) = RefusesNames drawing fault
 RefusesText drawing (Plant fault) = ⊥
 RefusesText drawing TooLong = ⊥
 
--- no ladder was made: the text is refused, or memory
-abbrev pub RefusesLadder : List ℕ → CommandFault → Type 0
-RefusesLadder drawing (Text fault) = RefusesText drawing fault
-RefusesLadder drawing (Word fault) = ⊥
-RefusesLadder drawing Write = ⊥
-RefusesLadder drawing (Run fault) = ⊥
-RefusesLadder drawing Memory = Unit {0}
-
--- no rows were made: a word is refused, or memory
-abbrev pub RefusesRows : List Declaration → List (List ℕ) → CommandFault → Type 0
-RefusesRows ds words (Text fault) = ⊥
-RefusesRows ds words (Word fault) = ((rows : List RowValue) → AreRows ds words rows → ⊥) × IsFirstRefused ds words fault
-RefusesRows ds words Write = ⊥
-RefusesRows ds words (Run fault) = ⊥
-RefusesRows ds words Memory = Unit {0}
-
--- a fault that comes while scans are made
-abbrev pub IsLate : CommandFault → Type 0
-IsLate (Text fault) = ⊥
-IsLate (Word fault) = ⊥
-IsLate Write = Unit {0}
-IsLate (Run fault) = ⊥
-IsLate Memory = Unit {0}
-
 -- why there was a fault, and what was written before: nothing before a fault of the text or of the words
 abbrev pub Explains : List ℕ → List (List ℕ) → ℕ → Option (List ℕ) → Option (List ℕ) → CommandFault → Type 0
 Explains drawing words dt old new (Text fault) = RefusesText drawing fault × Keeps old new

@@ -1,4 +1,3 @@
-pub mod Refusals
 pub mod Rows
 pub mod Lines
 pub mod EvalText
@@ -10,6 +9,5 @@ pub mod FieldWords
 pub mod Answers
 pub mod RunCommands
 pub mod ReportText
-pub mod Replay
 pub mod RunText
 pub mod Steps

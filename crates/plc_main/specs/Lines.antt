@@ -28,8 +28,3 @@ items_of (d ∷ ds) (Block block ∷ slots) = items_of ds slots
 -- one line: the variables with one blank between, and a line feed
 abbrev pub line_of : List Declaration → List Slot → List ℕ
 line_of ds slots = join_with_byte 32 (items_of ds slots) ++ codes "\n"
-
--- a line that goes on: behind a blank, but at its beginning
-abbrev pub ready : List ℕ → List ℕ
-ready [] = []
-ready (c ∷ line) = (c ∷ line) ++ codes " "

@@ -1,5 +1,5 @@
 -- What `plc plan` writes.
-use Rattle.std.specs.Prelude.{◌≢◌, ℕ, ◌<◌, ◌≤◌, ◌++◌, ◌⊎◌, List, Option, length, codes, slice_get}
+use Rattle.std.specs.Prelude.{ℕ, ◌<◌, ◌≤◌, ◌++◌, ◌⊎◌, List, Option, length, codes, slice_get}
 use Rattle.std.specs.Option.{option_map}
 use Rattle.std.specs.List.{flat_map}
 use Rattle.std.specs.Fmt.{decimal}
@@ -9,7 +9,7 @@ use Rattle.plant.specs.declared.task_ref.TaskRef.{TaskRef}
 use Rattle.plant.specs.PlantValue.{TaskValue, ResourceValue, PlantValue, items_or_none}
 use Rattle.plant.specs.PlantText.{IsPlantText}
 use Rattle.plant.specs.Plan.{task_at, IsPlan}
-use Rattle.plant.specs.declared.plant_fault.PlantFaultKind.TheVariants as plant
+use Rattle.plc_main.specs.CheckText.{IsRefusal}
 use Rattle.plc_main.specs.Sending.{SendsPart}
 use Rattle.plc_main.specs.declared.command_fault.CommandFault.{CommandFault}
 use Rattle.plc_main.specs.declared.command_fault.CommandFault.TheVariants.{Text, Word, Write, Run, Memory}
@@ -67,7 +67,7 @@ abbrev pub RefusesPlan : List ℕ → ℕ → TextFault → Type 0
 RefusesPlan text until (Draw fault) = ⊥
 RefusesPlan text until (Graph fault) = ⊥
 RefusesPlan text until (Bind fault) = ⊥
-RefusesPlan text until (Plant fault) = fault.kind ≢ plant.Memory
+RefusesPlan text until (Plant fault) = IsRefusal text fault
 RefusesPlan text until TooLong = (p : Planned text until) × (100000 < length p.dues)
 
 -- why there was a fault, and what was written before: nothing before a fault of the text

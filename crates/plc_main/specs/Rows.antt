@@ -17,9 +17,6 @@ pub record RowValue : Type 0 where
   pub place : ℕ
   pub digits : List ℕ
 
-abbrev pub row_value : ℕ → List ℕ → RowValue
-row_value place digits = record { place = place; digits = digits }
-
 abbrev pub is_equals : ℕ → Bool
 is_equals c = c == 61
 

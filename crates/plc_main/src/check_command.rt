@@ -1,6 +1,7 @@
 ghost use Rattle.std.specs.Prelude.{◌≡◌, ◌<◌, ◌^◌, ◌++◌, OnOk, IfOk, IfErr, string_bytes};
 ghost use Rattle.plant.specs.PlantText.{IsPlantText};
-ghost use Rattle.plc_main.specs.CheckText.{count_line, check_lines, AreCounts, RefusesPlant, WritesCheck, ExplainsCheck};
+ghost use Rattle.plc_main.specs.CheckText.{count_line, check_lines, RefusesPlant, WritesCheck, ExplainsCheck};
+ghost use Rattle.plc_main.specs.Steps.Counting.{AreCounts};
 
 use crate::command_fault::CommandFault;
 use crate::plant_counts::{count_connections, count_programs, count_tasks};
@@ -8,19 +9,14 @@ use plant::Plant;
 use std::alloc::{AllocError, Global};
 use std::fmt::Write as _;
 use std::io::Write;
-use std::thread::Threads;
 use world::write_text;
 
 /// Reads the text of a plant.
-pub fn read_plant<R: Threads + Sync>(
-    rt: &R,
-    alloc: Global,
-    text: &str,
-) -> Result<Plant, CommandFault>
+pub fn read_plant(alloc: Global, text: &str) -> Result<Plant, CommandFault>
     ensures ok { IfOk result (λ plant. IsPlantText text.now plant) }
-    ensures err { IfErr result RefusesPlant }
+    ensures err { IfErr result (RefusesPlant text.now) }
 {
-    Ok(Plant::read_in_threads(rt, alloc, text)?)
+    Ok(Plant::read(alloc, text)?)
 }
 
 fn push_count(text: &mut String, what: &str, count: usize) -> Result<(), AllocError>
@@ -45,16 +41,11 @@ fn check_lines(alloc: Global, plant: &Plant) -> Result<String, AllocError>
 /// Reads a plant, and writes how many resources, tasks, program instances and bound inputs it has, a line for each.
 ///
 /// `Text` and `Memory` come before anything is written. After `Write` what went out is a prefix.
-pub fn check<R: Threads + Sync, W: Write>(
-    rt: &R,
-    alloc: Global,
-    plant: &str,
-    writer: &mut W,
-) -> Result<(), CommandFault>
+pub fn check<W: Write>(alloc: Global, plant: &str, writer: &mut W) -> Result<(), CommandFault>
     ensures ok { OnOk result (WritesCheck plant.now (W.contents writer.old) (W.contents writer.new)) }
     ensures fault { IfErr result (ExplainsCheck plant.now (W.contents writer.old) (W.contents writer.new)) }
 {
-    let plant = read_plant(rt, alloc, plant)?;
+    let plant = read_plant(alloc, plant)?;
     let text = check_lines(alloc, &plant)?;
     Ok(write_text(writer, text.as_str())?)
 }

@@ -62,7 +62,7 @@ impl From<WriteFault> for CommandFault {
 }
 
 impl From<DrawFault> for CommandFault {
-    ghost use Rattle.plc_main.specs.Refusals.{GivenFor};
+    ghost use Rattle.plc_main.specs.Steps.Giving.{GivenFor};
     ghost use Rattle.ladder_text.specs.declared.drawing.DrawFaultKind.TheVariants as draw;
     ghost use Rattle.plc_main.specs.declared.text_fault.TextFault.TheVariants.{Draw};
 
@@ -77,7 +77,7 @@ impl From<DrawFault> for CommandFault {
 }
 
 impl From<GraphFault> for CommandFault {
-    ghost use Rattle.plc_main.specs.Refusals.{GivenFor};
+    ghost use Rattle.plc_main.specs.Steps.Giving.{GivenFor};
     ghost use Rattle.network.specs.declared.fault.GraphFaultKind.TheVariants as graph;
     ghost use Rattle.plc_main.specs.declared.text_fault.TextFault.TheVariants.{Graph};
 
@@ -92,7 +92,7 @@ impl From<GraphFault> for CommandFault {
 }
 
 impl From<BindFault> for CommandFault {
-    ghost use Rattle.plc_main.specs.Refusals.{GivenFor};
+    ghost use Rattle.plc_main.specs.Steps.Giving.{GivenFor};
     ghost use Rattle.power_flow.specs.declared.bind.BindKind.TheVariants as bind;
     ghost use Rattle.plc_main.specs.declared.text_fault.TextFault.TheVariants.{Bind};
 
@@ -107,7 +107,7 @@ impl From<BindFault> for CommandFault {
 }
 
 impl From<PlantFault> for CommandFault {
-    ghost use Rattle.plc_main.specs.Refusals.{GivenFor};
+    ghost use Rattle.plc_main.specs.Steps.Giving.{GivenFor};
     ghost use Rattle.plant.specs.declared.plant_fault.PlantFaultKind.TheVariants as plant;
     ghost use Rattle.plc_main.specs.declared.text_fault.TextFault.TheVariants.{Plant};
 
@@ -122,7 +122,7 @@ impl From<PlantFault> for CommandFault {
 }
 
 impl From<PlanFault> for CommandFault {
-    ghost use Rattle.plc_main.specs.Refusals.{GivenFor};
+    ghost use Rattle.plc_main.specs.Steps.Giving.{GivenFor};
     ghost use Rattle.plant.specs.declared.plan_fault.PlanFault.TheVariants as plan;
     ghost use Rattle.plc_main.specs.declared.text_fault.TextFault.TheVariants.{TooLong};
 
@@ -137,7 +137,7 @@ impl From<PlanFault> for CommandFault {
 }
 
 impl From<RunFault> for CommandFault {
-    ghost use Rattle.plc_main.specs.Refusals.{GivenForRun};
+    ghost use Rattle.plc_main.specs.Steps.Giving.{GivenForRun};
 
     ghost from_gives = { GivenForRun };
 

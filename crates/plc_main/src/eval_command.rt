@@ -2,7 +2,8 @@ ghost use Rattle.std.specs.Prelude.{◌≡◌, List, OnOk, IfOk, IfErr, OnErr, A
 ghost use Rattle.power_flow.specs.declared.declarations.Declaration.{Declaration};
 ghost use Rattle.power_flow.specs.StateValue.{AreSlotsOf};
 ghost use Rattle.plc_main.specs.Rows.{IsBoolAt, texts};
-ghost use Rattle.plc_main.specs.EvalText.{IsLate, IsLadderOf, WritesScans, WritesSomeScans, WritesAll, Explains, set_digit, set_before, RefusesLadder};
+ghost use Rattle.plc_main.specs.EvalText.{IsLadderOf, WritesScans, WritesSomeScans, WritesAll, Explains, set_digit, set_before};
+ghost use Rattle.plc_main.specs.Steps.Refusing.{IsLate, RefusesLadder};
 
 use crate::command_fault::CommandFault;
 use crate::line::state_line;

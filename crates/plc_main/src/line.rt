@@ -1,6 +1,7 @@
 ghost use Rattle.std.specs.Prelude.{◌≡◌, ◌+◌, ◌<◌, ◌++◌, OnOk, IfOk, length, string_bytes, take};
 ghost use Rattle.std.specs.List.{join_with_byte};
-ghost use Rattle.plc_main.specs.Lines.{value_text, item_text, items_of, ready, line_of};
+ghost use Rattle.plc_main.specs.Lines.{value_text, item_text, items_of, line_of};
+ghost use Rattle.plc_main.specs.Steps.Joining.{ready};
 
 use power_flow::{Declarations, State};
 use std::alloc::{AllocError, Global};

@@ -173,8 +173,8 @@ fn file_text<R: Files + Eprint + AllocGlobal>(
 }
 
 /// Writes what the words ask for of the text of the file.
-fn obey<R: AllocGlobal + Threads + Sync, W: Write>(
-    rt: &R,
+fn obey<W: Write>(
+    alloc: Global,
     request: &TextRequest<'_>,
     text: &str,
     writer: &mut W,
@@ -183,14 +183,14 @@ fn obey<R: AllocGlobal + Threads + Sync, W: Write>(
     ensures fault { IfErr result (ExplainsAnswer request.now text.now (W.contents writer.old) (W.contents writer.new)) }
 {
     match request {
-        TextRequest::Eval { dt, words, .. } => eval(rt.alloc(), text, words, *dt, writer),
-        TextRequest::Check { .. } => check(rt, rt.alloc(), text, writer),
-        TextRequest::Plan { until, .. } => plan_text(rt, rt.alloc(), text, *until, writer),
+        TextRequest::Eval { dt, words, .. } => eval(alloc, text, words, *dt, writer),
+        TextRequest::Check { .. } => check(alloc, text, writer),
+        TextRequest::Plan { until, .. } => plan_text(alloc, text, *until, writer),
     }
 }
 
 /// Reads a file, and writes what is asked for of its text; the status.
-fn answer_text<R: Files + Print + Eprint + AllocGlobal + Threads + Sync>(
+fn answer_text<R: Files + Print + Eprint + AllocGlobal>(
     rt: &R,
     request: &TextRequest<'_>,
 ) -> io::Result<u8> {
@@ -200,22 +200,19 @@ fn answer_text<R: Files + Print + Eprint + AllocGlobal + Threads + Sync>(
         Err(status) => return Ok(status),
     };
     let mut writer = io::writer(rt);
-    match obey(rt, request, text.as_str(), &mut writer) {
+    match obey(rt.alloc(), request, text.as_str(), &mut writer) {
         Ok(()) => Ok(0),
         Err(fault) => print_fault(rt, file, text.as_str(), request.words(), fault),
     }
 }
 
 /// Reads a plant that is to be shared.
-fn shared_plant<R: AllocGlobal + Threads + Sync>(
-    rt: &R,
-    text: &str,
-) -> Result<Arc<Plant>, CommandFault>
+fn shared_plant(alloc: Global, text: &str) -> Result<Arc<Plant>, CommandFault>
     ensures ok { IfOk result (λ plant. IsPlantText text.now plant.value) }
-    ensures err { IfErr result RefusesPlant }
+    ensures err { IfErr result (RefusesPlant text.now) }
 {
-    let plant = read_plant(rt, rt.alloc(), text)?;
-    Ok(Arc::new(rt.alloc(), plant)?)
+    let plant = read_plant(alloc, text)?;
+    Ok(Arc::new(alloc, plant)?)
 }
 
 /// Writes what each event of a schedule does to the plant, as the words ask for it.
@@ -233,7 +230,7 @@ fn obey_schedule<W: Write>(
 }
 
 /// Reads the file of a plant and then that of a schedule, and writes what each event does; the status.
-fn run_schedule<R: Files + Print + Eprint + AllocGlobal + Threads + Sync>(
+fn run_schedule<R: Files + Print + Eprint + AllocGlobal>(
     rt: &R,
     request: &SimRequest<'_>,
 ) -> io::Result<u8> {
@@ -241,7 +238,7 @@ fn run_schedule<R: Files + Print + Eprint + AllocGlobal + Threads + Sync>(
         Ok(text) => text,
         Err(status) => return Ok(status),
     };
-    let plant = match shared_plant(rt, text.as_str()) {
+    let plant = match shared_plant(rt.alloc(), text.as_str()) {
         Ok(plant) => plant,
         Err(fault) => return print_fault(rt, request.plant, text.as_str(), &[], fault),
     };
@@ -264,7 +261,7 @@ struct Prepared {
 }
 
 /// Reads the words of a run and then the file of its plant, or tells what is wrong; the status.
-fn prepare<R: Files + Eprint + AllocGlobal + Threads + Sync>(
+fn prepare<R: Files + Eprint + AllocGlobal>(
     rt: &R,
     request: &RunRequest<'_>,
 ) -> io::Result<Result<Prepared, u8>> {
@@ -276,7 +273,7 @@ fn prepare<R: Files + Eprint + AllocGlobal + Threads + Sync>(
         Ok(text) => text,
         Err(status) => return Ok(Err(status)),
     };
-    match shared_plant(rt, text.as_str()) {
+    match shared_plant(rt.alloc(), text.as_str()) {
         Ok(plant) => Ok(Ok(Prepared { plant, inputs })),
         Err(fault) => Ok(Err(print_fault(rt, request.plant, text.as_str(), &[], fault)?)),
     }

@@ -1,7 +1,7 @@
 ghost use Rattle.std.specs.Prelude.{◌≡◌, ◌≤◌, ◌++◌, length, OnOk, OnErr, IfOk, IfErr, string_bytes};
 ghost use Rattle.std.specs.Io.KnownBytes.{Appends};
 ghost use Rattle.plant.specs.Plan.{IsPlan};
-ghost use Rattle.plc_main.specs.EvalText.{IsLate};
+ghost use Rattle.plc_main.specs.Steps.Refusing.{IsLate};
 ghost use Rattle.plc_main.specs.PlanText.{resource_name, task_name, due_line, plan_lines, RefusesPlanOf, WritesPlan, ExplainsPlan};
 ghost use Rattle.plc_main.specs.Sending.{SendsPart};
 
@@ -12,7 +12,6 @@ use plant::{Due, Plant, TaskRef, plan};
 use std::alloc::{AllocError, Global};
 use std::fmt::Write as _;
 use std::io::Write;
-use std::thread::Threads;
 use world::write_text;
 
 fn resource_name(plant: &Plant, task: TaskRef) -> &str
@@ -72,8 +71,7 @@ pub fn plan_of(alloc: Global, plant: &Plant, until: u32) -> Result<Vec<Due>, Com
 /// Reads a plant, and writes its plan up to and with `until` (in ms), a line for each entry, as `10 R1.FAST`.
 ///
 /// `Text` comes before anything is written; `TooLong` exactly where there are more than 100,000 lines. After `Write` and `Memory` what went out is a prefix.
-pub fn plan_text<R: Threads + Sync, W: Write>(
-    rt: &R,
+pub fn plan_text<W: Write>(
     alloc: Global,
     plant: &str,
     until: u32,
@@ -82,7 +80,7 @@ pub fn plan_text<R: Threads + Sync, W: Write>(
     ensures ok { OnOk result (WritesPlan plant.now until (W.contents writer.old) (W.contents writer.new)) }
     ensures fault { IfErr result (ExplainsPlan plant.now until (W.contents writer.old) (W.contents writer.new)) }
 {
-    let plant = read_plant(rt, alloc, plant)?;
+    let plant = read_plant(alloc, plant)?;
     let dues = plan_of(alloc, &plant, until)?;
     write_dues(alloc, &plant, &dues, writer)
 }

@@ -2,7 +2,7 @@
 
 ghost use Rattle.std.specs.Prelude.{◌≡◌, ◌↔◌, true, length, IfOk, IsTrue};
 ghost use Rattle.node.specs.Reports.{RunsAgain, firsts_of};
-ghost use Rattle.plc_main.specs.Replay.{AreSameEvaluations, IsReplay};
+ghost use Rattle.plc_main.specs.Steps.Replaying.{AreSameEvaluations, IsReplay};
 
 use evaluation::Frame;
 use node::{Journal, Report};

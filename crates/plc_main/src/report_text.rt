@@ -4,7 +4,7 @@ ghost use Rattle.std.specs.Prelude.{◌≡◌, ◌++◌, OnOk, OnErr, IfErr, str
 ghost use Rattle.std.specs.List.{flat_map};
 ghost use Rattle.std.specs.Io.KnownBytes.{Appends};
 ghost use Rattle.world.specs.RunLines.{resource_text};
-ghost use Rattle.plc_main.specs.EvalText.{IsLate};
+ghost use Rattle.plc_main.specs.Steps.Refusing.{IsLate};
 ghost use Rattle.plc_main.specs.Sending.{SendsPart};
 ghost use Rattle.plc_main.specs.ReportText.{cause_text, unanswered_line, fault_line, entry_lines, report_lines, replay_line};
 

@@ -14,7 +14,8 @@ pub struct Row<'a> {
 }
 
 impl<'a> Model for Row<'a> {
-    ghost use Rattle.plc_main.specs.Rows.{RowValue, row_value};
+    ghost use Rattle.plc_main.specs.Rows.{RowValue};
+    ghost use Rattle.plc_main.specs.Steps.Rows.{row_value};
 
     ghost Value = { RowValue };
 

@@ -1,6 +1,6 @@
 ghost use Rattle.std.specs.Prelude.{◌≡◌, ◌↔◌, ◌⊎◌, IfOk, IfErr, IsTrue, ℕ, List, Any, fold, length};
 ghost use Rattle.plc_main.specs.Rows.{RowValue, AreRows, scans_of, texts};
-ghost use Rattle.plc_main.specs.EvalText.{RefusesRows};
+ghost use Rattle.plc_main.specs.Steps.Refusing.{RefusesRows};
 
 use crate::command_fault::CommandFault;
 use crate::row::{Row, read_row};

@@ -1,6 +1,6 @@
 -- The world begins anew, and does the events of the schedule.
 use Rattle.std.proofs.Common.{◌↔◌, IsTrue, subst}
-use Rattle.plc_main.specs.Replay.{AreSameEvaluations, replayed_in}
+use Rattle.plc_main.specs.Steps.Replaying.{AreSameEvaluations, replayed_in}
 use Rattle.plc_main.proofs.Replaying.{run_of}
 use Rattle.plc_main.proofs.replay.is_replayed.Goals as goal
 

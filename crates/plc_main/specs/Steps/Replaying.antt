@@ -1,4 +1,4 @@
--- The replay of a book's entries in one thread.
+-- The replay of a book in one thread.
 use Rattle.std.specs.Prelude.{◌≡◌, ◌↔◌, ℕ, Bool, IsTrue, List, Some, length, slice_get}
 use Rattle.plant.specs.PlantValue.{PlantValue}
 use Rattle.evaluation.specs.Meaning.{Evaluated, IsSameEvaluation}
