@@ -7,7 +7,7 @@ use Rattle.plant.specs.Plan.{IsPlan}
 use Rattle.evaluation.specs.declared.field_input.FieldInput.{FieldInput}
 use Rattle.node.specs.declared.command.Command.{Command}
 use Rattle.node.specs.declared.report.Report.{Report}
-use Rattle.node.specs.Reports.{IsFittingBook, AreJournalsOf, AreInBook, AreAnswers, RunsAgain}
+use Rattle.node.specs.Reports.{IsFittingBook, AreJournalsOf, AreInBook, AreAnswers, RunsAgain, AreTold}
 use Rattle.plc_main.specs.declared.command_fault.CommandFault.{CommandFault}
 use Rattle.plc_main.specs.declared.command_fault.CommandFault.TheVariants.{Text, Word, Write, Run, Memory}
 use Rattle.plc_main.specs.Sending.{SendsPart}
@@ -22,13 +22,14 @@ pub record ArePlanned (plant : PlantValue) (until : ℕ) (inputs : List FieldInp
   pub few : length dues ≤ 100000
   pub commands_are : commands ≡ commands_from plant inputs 1 dues
 
--- What a report of threads is: its book fits, its journals are lawful and made the book's entries, the commands are accounted for, and the book's entries are a run.
+-- What a report of threads is: its book fits, its journals are lawful and made the book's entries, the commands are accounted for, the book's entries are a run, and the faults are told of commands that may have met them.
 pub record IsReport (plant : PlantValue) (commands : List Command) (max_number : ℕ) (r : Report) : Type 0 where
   pub fitting : IsFittingBook r.book r.journals
   pub journals : AreJournalsOf plant max_number r.journals
   pub made : AreInBook r.book.entries r.journals
   pub answers : AreAnswers commands r.book.entries r.journals r.unanswered
   pub again : RunsAgain plant max_number r.book r.journals
+  pub faults : AreTold plant commands r.journals r.unanswered r.node_faults
 
 -- a report of threads that ran the commands for the plan
 pub record IsReportOf (plant : PlantValue) (until : ℕ) (inputs : List FieldInput) (report : Report) : Type 0 where

@@ -83,6 +83,7 @@ breaks_off plant most text k L w new n words old now next e a b =
       text = a.text ++ b.line;
       run = record { events = a.events ++ b.told.event ∷ []; spelled = subst (Spell plant (a.events ++ b.told.event ∷ [])) e both.0; told = both.1 };
       bytes = length a.text + b.bytes;
+      less = omega (arith, b.less, length-append a.text b.line);
       written = subst (Appends old next) (sym (take-append-add a.text b.line b.bytes)) (Appends-trans old now next a.text (take b.bytes b.line) a.written b.written);
     }
 

@@ -1,5 +1,5 @@
 -- What `simulate` leaves.
-use Rattle.std.specs.Prelude.{◌≡◌, ℕ, ◌+◌, List, Option, Some, length, take, replicate, slice_get}
+use Rattle.std.specs.Prelude.{◌≡◌, ℕ, ◌+◌, ◌<◌, List, Option, Some, length, take, replicate, slice_get}
 use Rattle.std.specs.Io.KnownBytes.{Appends}
 use Rattle.plant.specs.PlantValue.{PlantValue}
 use Rattle.world.specs.declared.event.Event.{Event}
@@ -38,12 +38,13 @@ pub record StopsAt (plant : PlantValue) (max_number : ℕ) (schedule : List ℕ)
   pub bad : IsBadLine plant (length run.events + 1) line
   pub written : Appends old new text
 
--- no more than a beginning of the lines of some first events was written
+-- a beginning of the lines of some first events was written, and not all of them
 pub record WritesBeginning (plant : PlantValue) (max_number : ℕ) (schedule : List ℕ) (old new : Option (List ℕ)) : Type 0 where
   pub lines : ℕ
   pub text : List ℕ
   pub run : RunsFirst plant max_number schedule lines text
   pub bytes : ℕ
+  pub less : bytes < length text
   pub written : Appends old new (take bytes text)
 
 -- the lines of some first events were written

@@ -1,5 +1,5 @@
 -- Steps of the proofs: what one line of a schedule does.
-use Rattle.std.specs.Prelude.{◌≡◌, ℕ, ◌+◌, ◌⊎◌, true, false, List, Option, take}
+use Rattle.std.specs.Prelude.{◌≡◌, ℕ, ◌+◌, ◌<◌, ◌⊎◌, true, false, List, Option, length, take}
 use Rattle.std.specs.Io.KnownBytes.{Appends, Keeps}
 use Rattle.world.specs.declared.event.Event.{Event}
 use Rattle.world.specs.declared.schedule.line_fault.LineFault.{LineFault}
@@ -33,11 +33,12 @@ pub record HasWritten (old new : WorldValue) (count more : ℕ) (words : List (L
 abbrev pub HasDone : WorldValue → WorldValue → ℕ → ℕ → List (List ℕ) → Option (List ℕ) → Option (List ℕ) → Type 0
 HasDone old new count more words from to = HasRested old new count more words from to ⊎ HasWritten old new count more words from to
 
--- a part of the next event's line was written
+-- a part of the next event's line was written, and not all
 pub record HasBroken (old new : WorldValue) (count : ℕ) (words : List (List ℕ)) (from to : Option (List ℕ)) : Type 0 where
   pub line : List ℕ
   pub told : HasTold old new (count + 1) words line
   pub bytes : ℕ
+  pub less : bytes < length line
   pub written : Appends from to (take bytes line)
 
 -- a line wasn't done

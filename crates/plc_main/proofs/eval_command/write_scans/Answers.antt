@@ -29,7 +29,7 @@ returns-in_err-write_text-clause-part g c =
     c.as_str.ensures.value ∙ c.in_ok-line.ensures ∙ ap (λ ds. line_of ds c.scan.new.state.slots) c.declarations.ensures.list in
     let scanned = scan_more _ _ _ _ _ c.loop-k.state c.set_rows.new.state c.scan.new.state _ _ c.loop-k.invariant.scanned c.set_rows.ensures.slots c.scan.ensures.meaning line in
     let part = c.in_err-write_text.ensures.prefix in
-    on_err _ (written_part _ _ _ _ _ _ _ _ _ _ _ _ part.0 few scanned c.loop-k.invariant.appended part.1)
+    on_err _ (written_part _ _ _ _ _ _ _ _ _ _ _ _ part.0 few scanned c.loop-k.invariant.appended part.2)
 
 pub loop-k-preserved : goal.loop-k-preserved
 loop-k-preserved g c =

@@ -39,4 +39,4 @@ returns-in_err-write_text-clause-part g c =
     let part = c.in_err-write_text.ensures.prefix in
     let whole = append_assoc c.loop-i.invariant.sent (take part.0 text) (drop part.0 text) ∙ ap (λ t. c.loop-i.invariant.sent ++ t) (take-append-drop part.0 text ∙ c.as_str.ensures.value) ∙ c.loop-i.invariant.so_far in
     on_err _ (entries_begin c.args.plant.now c.args.entries.now c.loop-i.i (c.loop-i.invariant.sent ++ take part.0 text) (drop part.0 text) _ _ whole
-    (Appends-trans _ _ _ _ _ c.loop-i.invariant.appended part.1))
+    (Appends-trans _ _ _ _ _ c.loop-i.invariant.appended part.2))

@@ -36,4 +36,4 @@ returns-in_err-write_text-clause-part g c =
     let part = c.in_err-write_text.ensures.prefix in
     let whole = append_assoc c.loop-fault.invariant.sent (take part.0 text) (drop part.0 text) ∙ ap (λ t. c.loop-fault.invariant.sent ++ t) (take-append-drop part.0 text ∙ c.as_str.ensures.value) ∙ c.loop-fault.invariant.so_far in
     on_err _ (begins_all (fault_line c.args.plant.now) c.args.faults.now c.loop-fault.fault-index (c.loop-fault.invariant.sent ++ take part.0 text) (drop part.0 text) _ _ whole
-    (Appends-trans _ _ _ _ _ c.loop-fault.invariant.appended part.1))
+    (Appends-trans _ _ _ _ _ c.loop-fault.invariant.appended part.2))

@@ -36,4 +36,4 @@ returns-in_err-write_text-clause-part g c =
     let part = c.in_err-write_text.ensures.prefix in
     let whole = append_assoc c.loop-ticket.invariant.sent (take part.0 text) (drop part.0 text) ∙ ap (λ t. c.loop-ticket.invariant.sent ++ t) (take-append-drop part.0 text ∙ c.as_str.ensures.value) ∙ c.loop-ticket.invariant.so_far in
     on_err _ (begins_all unanswered_line c.args.tickets.now c.loop-ticket.ticket-index (c.loop-ticket.invariant.sent ++ take part.0 text) (drop part.0 text) _ _ whole
-    (Appends-trans _ _ _ _ _ c.loop-ticket.invariant.appended part.1))
+    (Appends-trans _ _ _ _ _ c.loop-ticket.invariant.appended part.2))

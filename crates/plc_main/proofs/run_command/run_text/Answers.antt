@@ -28,11 +28,13 @@ returns-in_err-write_report-clause-fault g c =
     let ended = c.in_ok-report.ensures in
     let journals = rw c.in_ok-shared.ensures at ended.journals in
     let again = rw c.in_ok-shared.ensures at ended.again in
+    let for_plant = rw c.in_ok-shared.ensures at ended.faults in
+    let faults = rw c.deref-2.ensures.value at for_plant in
     let planned : ArePlanned plant until inputs c.in_ok-commands.commands.items = rw c.deref.ensures at c.in_ok-commands.ensures.ok in
     let is_report : IsReportOf plant until inputs report = record {
       commands = c.in_ok-commands.commands.items;
       planned = planned;
-      reported = record { fitting = ended.fitting; journals = journals; made = ended.made; answers = rw c.deref-2.ensures.value at ended.answers; again = again };
+      reported = record { fitting = ended.fitting; journals = journals; made = ended.made; answers = rw c.deref-2.ensures.value at ended.answers; again = again; faults = faults };
     } in
     kept_fault c.in_err-write_report.field-0.0 (ExplainsRun plant until inputs _ _) _ c.from_residual-in_err-write_report.ensures.1
     (lines_partly plant until inputs _ _ report c.in_err-write_report.field-0.0 is_report (rw c.deref-3.ensures at c.in_err-write_report.ensures.part) c.in_err-write_report.ensures.late)
@@ -46,11 +48,13 @@ returns-in_err-equal-clause-fault g c =
     let ended = c.in_ok-report.ensures in
     let journals = rw c.in_ok-shared.ensures at ended.journals in
     let again = rw c.in_ok-shared.ensures at ended.again in
+    let for_plant = rw c.in_ok-shared.ensures at ended.faults in
+    let faults = rw c.deref-2.ensures.value at for_plant in
     let planned : ArePlanned plant until inputs c.in_ok-commands.commands.items = rw c.deref.ensures at c.in_ok-commands.ensures.ok in
     let is_report : IsReportOf plant until inputs report = record {
       commands = c.in_ok-commands.commands.items;
       planned = planned;
-      reported = record { fitting = ended.fitting; journals = journals; made = ended.made; answers = rw c.deref-2.ensures.value at ended.answers; again = again };
+      reported = record { fitting = ended.fitting; journals = journals; made = ended.made; answers = rw c.deref-2.ensures.value at ended.answers; again = again; faults = faults };
     } in
     kept_fault Memory (ExplainsRun plant until inputs _ _) _ c.from_residual-in_err-equal.ensures.1
     (lines_alone plant until inputs _ _ report is_report (rw c.deref-3.ensures at c.in_ok-write_report.ensures.ok))
@@ -64,16 +68,18 @@ returns-in_err-write_text-clause-fault g c =
     let ended = c.in_ok-report.ensures in
     let journals = rw c.in_ok-shared.ensures at ended.journals in
     let again = rw c.in_ok-shared.ensures at ended.again in
+    let for_plant = rw c.in_ok-shared.ensures at ended.faults in
+    let faults = rw c.deref-2.ensures.value at for_plant in
     let planned : ArePlanned plant until inputs c.in_ok-commands.commands.items = rw c.deref.ensures at c.in_ok-commands.ensures.ok in
     let is_report : IsReportOf plant until inputs report = record {
       commands = c.in_ok-commands.commands.items;
       planned = planned;
-      reported = record { fitting = ended.fitting; journals = journals; made = ended.made; answers = rw c.deref-2.ensures.value at ended.answers; again = again };
+      reported = record { fitting = ended.fitting; journals = journals; made = ended.made; answers = rw c.deref-2.ensures.value at ended.answers; again = again; faults = faults };
     } in
     let line = c.replay_line.ensures ∙ ap replay_line (c.in_ok-equal.ensures.equal again) in
     let part = rw line at c.in_err-write_text.ensures.prefix in
     kept_fault Write (ExplainsRun plant until inputs _ _) _ c.from_residual-in_err-write_text.ensures.1
-    (last_partly plant until inputs _ _ _ report is_report (rw c.deref-3.ensures at c.in_ok-write_report.ensures.ok) part.0 part.1)
+    (last_partly plant until inputs _ _ _ report is_report (rw c.deref-3.ensures at c.in_ok-write_report.ensures.ok) part.0 part.2)
 
 pub returns-clause-ok : goal.returns-clause-ok
 returns-clause-ok g c =
@@ -84,11 +90,13 @@ returns-clause-ok g c =
     let ended = c.in_ok-report.ensures in
     let journals = rw c.in_ok-shared.ensures at ended.journals in
     let again = rw c.in_ok-shared.ensures at ended.again in
+    let for_plant = rw c.in_ok-shared.ensures at ended.faults in
+    let faults = rw c.deref-2.ensures.value at for_plant in
     let planned : ArePlanned plant until inputs c.in_ok-commands.commands.items = rw c.deref.ensures at c.in_ok-commands.ensures.ok in
     let is_report : IsReportOf plant until inputs report = record {
       commands = c.in_ok-commands.commands.items;
       planned = planned;
-      reported = record { fitting = ended.fitting; journals = journals; made = ended.made; answers = rw c.deref-2.ensures.value at ended.answers; again = again };
+      reported = record { fitting = ended.fitting; journals = journals; made = ended.made; answers = rw c.deref-2.ensures.value at ended.answers; again = again; faults = faults };
     } in
     let line = c.replay_line.ensures ∙ ap replay_line (c.in_ok-equal.ensures.equal again) in
     record {
