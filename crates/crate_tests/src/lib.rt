@@ -42,6 +42,8 @@ mod sources;
 #[cfg(test)]
 mod states;
 #[cfg(test)]
+mod tall;
+#[cfg(test)]
 mod timers;
 
 pub use figures::{are_drawn, are_listed, are_refused};

@@ -48,7 +48,7 @@ fn are_shown(rt: &impl Abort, ladder: &Ladder, state: &State, shown: &[(&str, &[
 }
 
 /// Scans a drawing, dt milliseconds apart: before scan k each BOOL is set to its k-th digit, and after it each variable has its k-th value.
-fn compare(
+pub fn compare(
     rt: &impl Abort,
     alloc: Global,
     drawing: &str,

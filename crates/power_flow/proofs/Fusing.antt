@@ -7,8 +7,9 @@ use Rattle.power_flow.specs.declared.state.Slot.{Slot}
 use Rattle.power_flow.specs.declared.step.Step.{Step}
 use Rattle.power_flow.specs.declared.step.Step.TheVariants as step
 use Rattle.power_flow.specs.Steps.Circuit.{IsStepIn}
+use Rattle.power_flow.specs.Steps.Contacts.{first_of, second_of}
 use Rattle.power_flow.specs.Steps.Fused.{single, singles}
-use Rattle.power_flow.specs.Steps.Passing.{Pass, IsObeyed, ArePassed}
+use Rattle.power_flow.specs.Steps.Passing.{Pass, IsObeyed, ArePassed, read_rows, read_memories}
 
 -- one more step
 pub singles_push : (xs : List Step) (s : Step) → singles (xs ++ s ∷ []) ≡ singles xs ++ single s
@@ -22,6 +23,8 @@ module _ (boxes : List BoundBox) (slots : List Slot) (dt : ℕ) where
   first_passed (step.Upright first last) rest a b p = p
   first_passed (step.OffUpright row first last) rest a b p = (record a { rows = slice_set a.rows row false }, refl, p)
   first_passed (step.Contact c) rest a b p = p
+  first_passed (step.Pair pair places) rest a b p =
+      (record a { rows = read_rows (first_of pair places) slots a.rows a.memories; memories = read_memories (first_of pair places) slots a.memories }, refl, p)
   first_passed (step.Coil row k) rest a b p = p
   first_passed (step.Box k) rest a b p = p
 
@@ -33,6 +36,9 @@ module _ (boxes : List BoundBox) (slots : List Slot) (dt : ℕ) where
       let P : Pass → Type 0 = λ w. IsObeyed boxes slots dt (step.Upright first last) w p.2.0 in
       (p.2.0, subst P p.1 p.2.1, p.2.2)
   first_back (step.Contact c) rest a b p = p
+  first_back (step.Pair pair places) rest a b p =
+      let second : Pass → Pass = λ w. record w { rows = read_rows (second_of pair places) slots w.rows w.memories; memories = read_memories (second_of pair places) slots w.memories } in
+      (p.2.0, p.2.1 ∙ ap second p.1, p.2.2)
   first_back (step.Coil row k) rest a b p = p
   first_back (step.Box k) rest a b p = p
 
@@ -61,6 +67,8 @@ module _ (rows memories coils boxes : ℕ) where
   first_in (step.OffUpright row first last) rest here later =
       All-cons In (step.Off row) (step.Upright first last ∷ rest) here.0 (All-cons In (step.Upright first last) rest here.1 later)
   first_in (step.Contact c) rest here later = All-cons In (step.Contact c) rest here later
+  first_in (step.Pair pair places) rest here later =
+      All-cons In (step.Contact (first_of pair places)) (step.Contact (second_of pair places) ∷ rest) (here.0, here.1) (All-cons In (step.Contact (second_of pair places)) rest (here.2, here.3) later)
   first_in (step.Coil row k) rest here later = All-cons In (step.Coil row k) rest here later
   first_in (step.Box k) rest here later = All-cons In (step.Box k) rest here later
 
@@ -72,6 +80,11 @@ module _ (rows memories coils boxes : ℕ) where
       let later = All-tail In (step.Off row) (step.Upright first last ∷ rest) h in
       ((All-head In (step.Off row) (step.Upright first last ∷ rest) h, All-head In (step.Upright first last) rest later), All-tail In (step.Upright first last) rest later)
   here_in (step.Contact c) rest h = (All-head In (step.Contact c) rest h, All-tail In (step.Contact c) rest h)
+  here_in (step.Pair pair places) rest h =
+      let later = All-tail In (step.Contact (first_of pair places)) (step.Contact (second_of pair places) ∷ rest) h in
+      let one = All-head In (step.Contact (first_of pair places)) (step.Contact (second_of pair places) ∷ rest) h in
+      let two = All-head In (step.Contact (second_of pair places)) rest later in
+      ((one.0, one.1, two.0, two.1), All-tail In (step.Contact (second_of pair places)) rest later)
   here_in (step.Coil row k) rest h = (All-head In (step.Coil row k) rest h, All-tail In (step.Coil row k) rest h)
   here_in (step.Box k) rest h = (All-head In (step.Box k) rest h, All-tail In (step.Box k) rest h)
 

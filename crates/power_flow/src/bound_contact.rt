@@ -4,7 +4,7 @@ ghost use Rattle.std_blocks.specs.declared.pin.Field.{Field};
 ghost use Rattle.power_flow.specs.Names.{is_true};
 ghost use Rattle.power_flow.specs.StateValue.{variable_at};
 ghost use Rattle.power_flow.specs.Steps.Sources.{slot_output, source_value};
-ghost use Rattle.power_flow.specs.Steps.Contacts.{contact_source};
+ghost use Rattle.power_flow.specs.Steps.Contacts.{contact_source, variable_contact};
 
 use crate::source::Source;
 use crate::state::Slot;
@@ -64,8 +64,20 @@ fn reads_of(source: Source) -> Option<(Reads, u32)>
     }
 }
 
+/// A contact of a variable that is plain or negated.
+#[derive(Clone, Copy, Debug, PartialEq, Eq)]
+pub struct VariableContact {
+    pub negated: bool,
+    /// Its row, counted from the network's topmost row.
+    pub row: u8,
+    /// The place of its variable.
+    pub place: u32,
+    /// The number of its memory among those of the network.
+    pub memory: u32,
+}
+
 /// Whether the variable at a place is TRUE.
-fn is_variable_on(slots: &[Slot], place: usize) -> bool
+pub fn is_variable_on(slots: &[Slot], place: usize) -> bool
     ensures { result ≡ is_true (variable_at slots.now place) }
 {
     matches!(slots.get(place), Some(Slot::Variable(Value::Bool(true))))
@@ -93,6 +105,26 @@ impl BoundContact {
             reads,
             place,
             memory,
+        })
+    }
+
+    /// The same contact, if it is plain or negated and its name is that of a variable.
+    pub fn as_variable(&self) -> Option<VariableContact>
+        ensures { IfSome result (λ v. self.now ≡ variable_contact v.negated v.row v.place v.memory) }
+    {
+        let Reads::Variable = self.reads else {
+            return None;
+        };
+        let negated = match self.kind {
+            ContactKind::Plain => false,
+            ContactKind::Negated => true,
+            ContactKind::Rise | ContactKind::Fall => return None,
+        };
+        Some(VariableContact {
+            negated,
+            row: self.row,
+            place: self.place,
+            memory: self.memory,
         })
     }
 

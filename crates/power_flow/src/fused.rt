@@ -2,6 +2,7 @@ ghost use Rattle.std.specs.Prelude.{◌≡◌, ◌++◌, IfOk, OnOk};
 ghost use Rattle.power_flow.specs.Steps.Fused.{single, singles};
 
 use crate::step::Step;
+use crate::variable_pair::pair_of;
 use std::alloc::{AllocError, Global};
 
 /// Adds two steps, as one where a step stands for both.
@@ -11,6 +12,12 @@ fn push_both(steps: &mut Vec<Step>, last: Step, step: Step) -> Result<(), AllocE
     if let (Step::Off(row), Step::Upright(first, lowest)) = (&last, &step) {
         steps.push(Step::OffUpright(*row, *first, *lowest))?;
         return Ok(());
+    }
+    if let (Step::Contact(first), Step::Contact(second)) = (&last, &step) {
+        if let Some((rows, places)) = pair_of(first, second) {
+            steps.push(Step::Pair(rows, places))?;
+            return Ok(());
+        }
     }
     steps.push(last)?;
     steps.push(step)?;

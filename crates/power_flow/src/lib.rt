@@ -30,6 +30,7 @@ mod source;
 mod state;
 mod step;
 mod steps;
+mod variable_pair;
 
 pub use bind::{BindFault, BindKind};
 pub use declarations::{Declaration, Declarations, DeclareFault, Declared, Kind};

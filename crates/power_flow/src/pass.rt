@@ -11,6 +11,7 @@ use crate::bound_contact::BoundContact;
 use crate::source::is_output_on;
 use crate::state::{Instance, Slot};
 use crate::step::Step;
+use crate::variable_pair::read_pair;
 use ladder_text::ContactKind;
 use std_blocks::PinsOut;
 
@@ -219,6 +220,7 @@ fn obey(
             join_rows(rows, *first as usize, *last as usize)
         }
         Step::Contact(contact) => read_contact(contact, slots, rows, memories),
+        Step::Pair(pair, places) => read_pair(*pair, *places, slots, rows),
         Step::Coil(row, number) => links[*number as usize] = rows[*row as usize],
         Step::Box(number) => {
             let number = *number as usize;

@@ -1,6 +1,7 @@
 ghost use Rattle.std.specs.Prelude.{◌≡◌};
 
 use crate::bound_contact::BoundContact;
+use crate::variable_pair::{PairPlaces, PairRows};
 use ladder_text::CoilKind;
 
 /// A coil with its name bound.
@@ -26,6 +27,8 @@ pub enum Step {
     OffUpright(u8, u8, u8),
     /// State goes on behind a contact that conducts.
     Contact(BoundContact),
+    /// State goes on behind each of two contacts of variables that conducts.
+    Pair(PairRows, PairPlaces),
     /// The state of this row is the left link of the coil with this number.
     Coil(u8, u32),
     /// The box with this number is stepped, once the states on its left are known.

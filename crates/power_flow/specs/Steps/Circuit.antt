@@ -23,6 +23,8 @@ IsStepIn rows memories coils boxes (step.Off row) = row < rows
 IsStepIn rows memories coils boxes (step.Upright first last) = last < rows
 IsStepIn rows memories coils boxes (step.OffUpright row first last) = (row < rows) × (last < rows)
 IsStepIn rows memories coils boxes (step.Contact c) = (c.row < rows) × (c.memory < memories)
+IsStepIn rows memories coils boxes (step.Pair pair places) =
+    (pair.first < rows) × (places.memory < memories) × (pair.second < rows) × (places.memory + 1 < memories)
 IsStepIn rows memories coils boxes (step.Coil row k) = (row < rows) × (k < coils)
 IsStepIn rows memories coils boxes (step.Box k) = k < boxes
 

@@ -2,6 +2,7 @@
 use Rattle.std.specs.Prelude.{List, [], ◌∷◌, ◌++◌}
 use Rattle.power_flow.specs.declared.step.Step.{Step}
 use Rattle.power_flow.specs.declared.step.Step.TheVariants as step
+use Rattle.power_flow.specs.Steps.Contacts.{first_of, second_of}
 
 -- the steps that a step stands for
 abbrev pub single : Step → List Step
@@ -10,6 +11,7 @@ single (step.Off row) = step.Off row ∷ []
 single (step.Upright first last) = step.Upright first last ∷ []
 single (step.OffUpright row first last) = step.Off row ∷ step.Upright first last ∷ []
 single (step.Contact c) = step.Contact c ∷ []
+single (step.Pair rows places) = step.Contact (first_of rows places) ∷ step.Contact (second_of rows places) ∷ []
 single (step.Coil row k) = step.Coil row k ∷ []
 single (step.Box k) = step.Box k ∷ []
 

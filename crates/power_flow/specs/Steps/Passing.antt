@@ -8,7 +8,7 @@ use Rattle.power_flow.specs.declared.state.Slot.{Slot}
 use Rattle.power_flow.specs.declared.bound_box.BoundBox.{BoundBox}
 use Rattle.power_flow.specs.declared.step.Step.{Step}
 use Rattle.power_flow.specs.declared.step.Step.TheVariants as step
-use Rattle.power_flow.specs.Steps.Contacts.{ContactValue}
+use Rattle.power_flow.specs.Steps.Contacts.{ContactValue, first_of, second_of}
 use Rattle.power_flow.specs.declared.step.BoundCoil.{BoundCoil}
 use Rattle.power_flow.specs.Names.{is_true}
 use Rattle.power_flow.specs.Meaning.{bit_at, contact_conducts, contact_memory, coil_value, coil_memory, store}
@@ -62,6 +62,11 @@ IsObeyed boxes slots dt (step.Upright first last) a b = AreJoined first last a.r
 IsObeyed boxes slots dt (step.OffUpright r first last) a b =
     AreJoined first last (slice_set a.rows r false) b.rows × (b.memories ≡ a.memories) × (b.links ≡ a.links) × (b.results ≡ a.results)
 IsObeyed boxes slots dt (step.Contact c) a b = b ≡ record a { rows = read_rows c slots a.rows a.memories; memories = read_memories c slots a.memories }
+IsObeyed boxes slots dt (step.Pair rows places) a b =
+    let first = first_of rows places in
+    let second = second_of rows places in
+    b ≡ record a { rows = read_rows second slots (read_rows first slots a.rows a.memories) (read_memories first slots a.memories);
+                   memories = read_memories second slots (read_memories first slots a.memories) }
 IsObeyed boxes slots dt (step.Coil r k) a b = b ≡ record a { links = slice_set a.links k (bit_at a.rows r) }
 IsObeyed boxes slots dt (step.Box k) a b = IsBoxObeyed boxes slots dt k a b
 
