@@ -5,7 +5,7 @@ ghost use Rattle.power_flow.specs.StateValue.{variable_at};
 ghost use Rattle.power_flow.specs.Steps.Contacts.{is_first_negated, is_second_negated, plain_kind, first_of, second_of};
 ghost use Rattle.power_flow.specs.Steps.Passing.{read_rows};
 
-use crate::bound_contact::{is_variable_on, BoundContact};
+use crate::bound_contact::{BoundContact, is_variable_on};
 use crate::state::Slot;
 
 /// Which contacts of a pair are negated.
@@ -104,5 +104,11 @@ pub fn read_pair(pair: PairRows, places: PairPlaces, slots: &[Slot], rows: &mut 
     ensures { (memories later : List Bool) → rows.new ≡ read_rows (second_of pair places) slots.now (read_rows (first_of pair places) slots.now rows.old memories) later }
 {
     read_variable(pair.negated.first(), pair.first, places.first, slots, rows);
-    read_variable(pair.negated.second(), pair.second, places.second, slots, rows);
+    read_variable(
+        pair.negated.second(),
+        pair.second,
+        places.second,
+        slots,
+        rows,
+    );
 }

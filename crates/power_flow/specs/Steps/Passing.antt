@@ -65,8 +65,10 @@ IsObeyed boxes slots dt (step.Contact c) a b = b ≡ record a { rows = read_rows
 IsObeyed boxes slots dt (step.Pair rows places) a b =
     let first = first_of rows places in
     let second = second_of rows places in
-    b ≡ record a { rows = read_rows second slots (read_rows first slots a.rows a.memories) (read_memories first slots a.memories);
-                   memories = read_memories second slots (read_memories first slots a.memories) }
+    b ≡ record a {
+      rows = read_rows second slots (read_rows first slots a.rows a.memories) (read_memories first slots a.memories);
+      memories = read_memories second slots (read_memories first slots a.memories);
+    }
 IsObeyed boxes slots dt (step.Coil r k) a b = b ≡ record a { links = slice_set a.links k (bit_at a.rows r) }
 IsObeyed boxes slots dt (step.Box k) a b = IsBoxObeyed boxes slots dt k a b
 
