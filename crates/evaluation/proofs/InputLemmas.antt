@@ -5,7 +5,8 @@ use Rattle.std.proofs.lemmas.Option.{slice_get_within, same_Some}
 use Rattle.plant.specs.declared.address.Address.{Address}
 use Rattle.evaluation.specs.declared.field_input.FieldInput.{FieldInput}
 use Rattle.evaluation.specs.declared.field_input.FieldInput.TheVariants.{Bit, Word}
-use Rattle.evaluation.specs.Inputs.{address_of, key_of}
+use Rattle.evaluation.specs.Inputs.{address_of}
+use Rattle.evaluation.specs.Steps.InputWords.{key_of}
 use Rattle.evaluation.specs.InputTexts.{AreApart}
 use Rattle.std.specs.Ordering.{is_eq}
 use Rattle.std.specs.declared.cmp.Ordering.TheVariants.{Less, Equal, Greater}

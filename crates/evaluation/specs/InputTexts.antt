@@ -88,9 +88,3 @@ IsRead text inputs = AreInputs (words_of text) inputs
 -- what each refusal of a text means
 abbrev pub IsFaultOf : List ℕ → InputFault → Type 0
 IsFaultOf text fault = IsFaultOfWords (words_of text) fault
-
--- what a refusal means while the words are read one by one
-abbrev pub IsWordFault : List (List ℕ) → InputFault → Type 0
-IsWordFault words Syntax = HasBadWord words
-IsWordFault words Twice = ⊥
-IsWordFault words Memory = Unit {0}

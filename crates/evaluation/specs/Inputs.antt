@@ -1,5 +1,5 @@
 -- Field inputs: addresses with their values.
-use Rattle.std.specs.Prelude.{ℕ, ◌+◌, ◌*◌, ◌==◌, ◌&&◌, Bool, true, false, List, Option, Some, None}
+use Rattle.std.specs.Prelude.{ℕ, ◌==◌, ◌&&◌, Bool, true, false, List, Option, Some, None}
 use Rattle.std.specs.List.{find}
 use Rattle.std_blocks.specs.declared.value.Value.{Value}
 use Rattle.std_blocks.specs.declared.value.Value.TheVariants.{Bool as BoolValue, Int as IntValue}
@@ -15,11 +15,6 @@ use Rattle.evaluation.specs.declared.field_input.FieldInput.TheVariants.{Bit, Wo
 abbrev pub address_of : FieldInput → Address
 address_of (Bit n v) = record { space = BitSpace; number = n }
 address_of (Word n v) = record { space = WordSpace; number = n }
-
--- a number for each address
-abbrev pub key_of : FieldInput → ℕ
-key_of (Bit n v) = 2 * n
-key_of (Word n v) = 2 * n + 1
 
 -- what a listed input holds
 abbrev pub value_of : FieldInput → Value

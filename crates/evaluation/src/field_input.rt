@@ -1,5 +1,6 @@
 ghost use Rattle.std.specs.Prelude.{◌≡◌, ◌↔◌, IsTrue};
-ghost use Rattle.evaluation.specs.Inputs.{address_of, key_of, same_address, value_of};
+ghost use Rattle.evaluation.specs.Inputs.{address_of, same_address, value_of};
+ghost use Rattle.evaluation.specs.Steps.InputWords.{key_of};
 
 use plant::{Address, Space};
 use std_blocks::Value;

@@ -2,7 +2,8 @@
 
 ghost use Rattle.std.specs.Prelude.{◌≡◌, ◌+◌, ◌*◌, ◌↔◌, ◌≢◌, ◌≤◌, IfOk, IfErr, IsFalse, Some, map, slice_get, pos, ◌-ℤ◌};
 ghost use Rattle.evaluation.specs.declared.field_input.FieldInput.{FieldInput};
-ghost use Rattle.evaluation.specs.InputTexts.{words_of, bit_value, is_below_zero, value_below, value_above, word_value, input_at, sign_of, input_of, AreApart, AreInputs, IsFaultOfWords, IsRead, IsFaultOf, IsWordFault};
+ghost use Rattle.evaluation.specs.InputTexts.{words_of, bit_value, is_below_zero, value_below, value_above, word_value, input_at, sign_of, input_of, AreApart, AreInputs, IsFaultOfWords, IsRead, IsFaultOf};
+ghost use Rattle.evaluation.specs.Steps.InputWords.{IsWordFault};
 
 use crate::field_input::FieldInput;
 use crate::input_fault::InputFault;

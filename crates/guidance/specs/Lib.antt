@@ -1,3 +1,3 @@
 pub mod Topics
-pub mod Shown
 pub mod Helping
+pub mod Steps

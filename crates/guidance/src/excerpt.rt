@@ -1,5 +1,5 @@
 ghost use Rattle.std.specs.Prelude.{◌≡◌};
-ghost use Rattle.guidance.specs.Shown.{shown_sign};
+ghost use Rattle.guidance.specs.Steps.Shown.{shown_sign};
 
 use std::alloc::{AllocError, Global};
 use std::fmt::Write;

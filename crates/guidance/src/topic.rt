@@ -1,5 +1,6 @@
 ghost use Rattle.std.specs.Prelude.{◌≡◌};
-ghost use Rattle.guidance.specs.Topics.{IsAdviceOn, of_drawing, of_networks, of_names, of_body, of_plant};
+ghost use Rattle.guidance.specs.Steps.Advices.{IsAdviceOn};
+ghost use Rattle.guidance.specs.Topics.{of_drawing, of_networks, of_names, of_body, of_plant};
 
 use crate::advice::{Advice, Layer};
 use crate::table;

@@ -21,10 +21,6 @@ Precedes p q = (p.column < q.column) ⊎ ((p.column ≡ q.column) × (p.row < q.
 abbrev pub Has : Element → Place → Type 0
 Has e p = (first_place e ≡ p) ⊎ (Gives e p ⊎ (Takes e p ⊎ Stands e p))
 
--- state can come to the place p of this element, or the element begins there
-abbrev pub IsStop : Element → Place → Type 0
-IsStop e p = (first_place e ≡ p) ⊎ (Takes e p ⊎ Stands e p)
-
 -- no two elements share a place, and none lies on the left rail
 pub record AreApart (d : Diagram) : Type 0 where
   pub elements : (j k : ℕ) (e f : Element) (p : Place) → slice_get d.elements j ≡ Some e → slice_get d.elements k ≡ Some f → Has e p → Has f p → j ≡ k

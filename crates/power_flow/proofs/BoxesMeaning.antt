@@ -15,7 +15,8 @@ use Rattle.ladder_text.specs.declared.drawn_box.Side.TheVariants.{Left, Right}
 use Rattle.network.specs.declared.element.Element.{Element}
 use Rattle.network.specs.declared.element.Element.TheVariants.{Wire, Join, Upright, Contact, Coil, Box}
 use Rattle.network.specs.Links.{Diagram, place, Gives}
-use Rattle.network.specs.Apart.{first_place, Has, IsStop}
+use Rattle.network.specs.Apart.{first_place, Has}
+use Rattle.power_flow.specs.Steps.Columns.{IsStop}
 use Rattle.std_blocks.specs.declared.block_type.BlockType.{BlockType}
 use Rattle.std_blocks.specs.declared.block_state.BlockState.{BlockState}
 use Rattle.std_blocks.specs.declared.pins.PinsIn.{PinsIn}

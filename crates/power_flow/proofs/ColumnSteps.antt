@@ -15,7 +15,7 @@ use Rattle.ladder_text.specs.declared.drawn_box.Side.TheVariants.{Left, Right}
 use Rattle.network.specs.declared.element.Element.{Element}
 use Rattle.network.specs.declared.element.Element.TheVariants.{Wire, Join, Upright, Contact, Coil, Box}
 use Rattle.network.specs.Links.{Diagram, place, Gives, Takes, Stands}
-use Rattle.network.specs.Apart.{first_place, Has, IsStop}
+use Rattle.network.specs.Apart.{first_place, Has}
 use Rattle.network.specs.GraphValue.{IsSoundNetwork}
 use Rattle.power_flow.specs.Power.{IsOn}
 use Rattle.power_flow.specs.Meaning.{bit_at, contact_conducts, contact_memory}
@@ -27,7 +27,7 @@ use Rattle.power_flow.specs.declared.step.Step.{Step}
 use Rattle.power_flow.specs.declared.step.Step.TheVariants as step
 use Rattle.power_flow.specs.Names.{is_true}
 use Rattle.power_flow.specs.Steps.Sources.{source_value, name_source}
-use Rattle.power_flow.specs.Steps.Columns.{IsLed, Begins, Joins, left_pin, left_pins, IsLeftPinBegun, joined, AreStepsOf}
+use Rattle.power_flow.specs.Steps.Columns.{IsStop, IsLed, Begins, Joins, left_pin, left_pins, IsLeftPinBegun, joined, AreStepsOf}
 use Rattle.power_flow.specs.Steps.Columns.Begins.{goes_on, at_rail, is_off}
 use Rattle.power_flow.specs.Steps.Columns.Joins.{within, lowest}
 use Rattle.power_flow.specs.Steps.Passing.{Pass, AreJoined, IsBoxObeyed, ArePassed}

@@ -7,11 +7,11 @@ use Rattle.ladder_text.specs.declared.drawn_box.Side.TheVariants.{Left, Right}
 use Rattle.network.specs.declared.element.Element.{Element}
 use Rattle.network.specs.declared.element.Element.TheVariants.{Wire, Join, Upright, Contact, Coil, Box}
 use Rattle.network.specs.Links.{Diagram, place, IsSymbolPlace, Gives, Takes, Stands}
-use Rattle.network.specs.Apart.{first_place, Has, IsStop}
+use Rattle.network.specs.Apart.{first_place, Has}
 use Rattle.network.specs.GraphValue.{IsSoundNetwork}
 use Rattle.power_flow.specs.Power.{IsWalk, IsOn, SymbolEndsAt, EndsAt}
 use Rattle.power_flow.specs.Meaning.{bit_at}
-use Rattle.power_flow.specs.Steps.Columns.{IsLed, StandsIn, IsUpright}
+use Rattle.power_flow.specs.Steps.Columns.{IsStop, IsLed, StandsIn, IsUpright}
 use Rattle.power_flow.proofs.PowerLemmas.{on_source, on_step}
 use Rattle.power_flow.proofs.Lists.{Contains-slice_get, any_at, any_found}
 use Rattle.power_flow.proofs.Lists.{some_same}

@@ -5,9 +5,9 @@ use Rattle.ladder_text.specs.declared.place.Place.{Place}
 use Rattle.network.specs.declared.element.Element.{Element}
 use Rattle.network.specs.declared.element.Element.TheVariants.{Wire, Join, Upright, Contact, Coil, Box}
 use Rattle.network.specs.Links.{Diagram, place, Stands, PassesRight}
-use Rattle.network.specs.Apart.{Has, IsStop}
+use Rattle.network.specs.Apart.{Has}
 use Rattle.power_flow.specs.Power.{IsWalk, AllConduct, IsOn, SymbolEndsAt, EndsAt}
-use Rattle.power_flow.specs.Steps.Columns.{StandsIn, IsUpright}
+use Rattle.power_flow.specs.Steps.Columns.{IsStop, StandsIn, IsUpright}
 use Rattle.power_flow.proofs.PowerLemmas.{on_step}
 use Rattle.power_flow.proofs.Lists.{any_found}
 use Rattle.power_flow.proofs.Lists.{some_same}

@@ -1,5 +1,5 @@
 -- The steps of a scan through the columns of a network.
-use Rattle.std.specs.Prelude.{◌≡◌, ℕ, ◌+◌, ◌-◌, ◌≤◌, List, [], ◌∷◌, ◌++◌, Option, Some, None, MatchOption, Contains, Any, slice_get, length, take}
+use Rattle.std.specs.Prelude.{◌≡◌, ℕ, ◌+◌, ◌-◌, ◌≤◌, ◌⊎◌, List, [], ◌∷◌, ◌++◌, Option, Some, None, MatchOption, Contains, Any, slice_get, length, take}
 use Rattle.std.specs.List.{AllZip, filter_map}
 use Rattle.ladder_text.specs.declared.place.Place.{Place}
 use Rattle.ladder_text.specs.declared.drawn_box.DrawnBox.{DrawnBox}
@@ -8,12 +8,17 @@ use Rattle.ladder_text.specs.declared.drawn_box.Side.{Side}
 use Rattle.ladder_text.specs.declared.drawn_box.Side.TheVariants.{Left, Right}
 use Rattle.network.specs.declared.element.Element.{Element}
 use Rattle.network.specs.declared.element.Element.TheVariants.{Wire, Join, Upright, Contact, Coil, Box}
-use Rattle.network.specs.Links.{Diagram, place, Gives, Stands}
+use Rattle.network.specs.Links.{Diagram, place, Gives, Takes, Stands}
+use Rattle.network.specs.Apart.{first_place}
 use Rattle.power_flow.specs.declared.declarations.Declaration.{Declaration}
 use Rattle.power_flow.specs.declared.step.Step.{Step}
 use Rattle.power_flow.specs.declared.step.Step.TheVariants as step
 use Rattle.power_flow.specs.Steps.Sources.{name_source}
 use Rattle.power_flow.specs.Waiting.{boxes_of, coils_of}
+
+-- state can come to the place p of this element, or the element begins there
+abbrev pub IsStop : Element → Place → Type 0
+IsStop e p = (first_place e ≡ p) ⊎ (Takes e p ⊎ Stands e p)
 
 -- an element leads to p from its left
 pub record IsLed (d : Diagram) (p : Place) : Type 0 where
