@@ -65,6 +65,10 @@ pub apart_all : (inputs : List FieldInput) (n : ℕ) → KeysApart inputs n → 
 apart_all inputs n h all j k a b fa fb e =
     h j k a b (let lt = slice_get_within inputs j a fa in omega arith) (let lt = slice_get_within inputs k b fb in omega arith) fa fb (same_address_key a b e)
 
+-- fewer than two inputs
+pub few_apart : (inputs : List FieldInput) → length inputs < 2 → AreApart inputs
+few_apart inputs few j k a b fa fb e = let m = slice_get_within inputs j a fa in let n = slice_get_within inputs k b fb in omega (arith, few, m, n)
+
 pub not_apart : (inputs : List FieldInput) (n : ℕ) (i : FieldInput) → slice_get inputs n ≡ Some i → HasKey inputs n (key_of i) → AreApart inputs → ⊥
 not_apart inputs n i at h apart = let e : h.0 ≡ n = apart h.0 n h.1 i h.3 at (same_key h.1 i h.4) in omega (arith, h.2, e)
 

@@ -1,23 +1,25 @@
 use crate::field_input::FieldInput;
 use plant::Address;
 use power_flow::first_value;
-use std::alloc::AllocError;
+use std::alloc::{AllocError, Global};
 use std::marker::Model;
+use std::sync::Arc;
 use std_blocks::Value;
 
-/// Field inputs: the listed addresses with their values, in order.
+/// Field inputs: the listed addresses with their values, in order. They do not change, and copies share them.
 #[derive(Drop)]
 pub struct Inputs {
-    listed: Vec<FieldInput>,
+    shared: Option<Arc<Vec<FieldInput>>>,
 }
 
 impl Model for Inputs {
-    ghost use Rattle.std.specs.Prelude.{List};
+    ghost use Rattle.std.specs.Prelude.{List, [], unwrap_or};
+    ghost use Rattle.std.specs.Option.{option_map};
     ghost use Rattle.evaluation.specs.declared.field_input.FieldInput.{FieldInput};
 
     ghost Value = { List FieldInput };
 
-    ghost view = { λ i. i.listed.items };
+    ghost view = { λ i. unwrap_or (option_map (λ listed. listed.value.items) i.shared) [] };
 }
 
 ghost use Rattle.std.specs.Prelude.{◌≡◌, ◌↔◌, IsTrue, IfOk};
@@ -27,24 +29,34 @@ ghost use Rattle.evaluation.specs.Inputs.{field_value, address_of, same_address}
 
 impl Inputs {
     /// Inputs that list these.
-    pub(crate) fn of(listed: Vec<FieldInput>) -> Inputs
-        ensures { result ≡ listed.items }
+    pub(crate) fn of(alloc: Global, listed: Vec<FieldInput>) -> Result<Inputs, AllocError>
+        ensures { IfOk result (λ inputs. inputs ≡ listed.items) }
     {
-        Inputs { listed }
+        if listed.is_empty() {
+            return Ok(Inputs { shared: None });
+        }
+        Ok(Inputs {
+            shared: Some(Arc::new(alloc, listed)?),
+        })
     }
 
     /// The listed addresses with their values.
     pub fn listed(&self) -> &[FieldInput]
         ensures { result.now ≡ self.now }
     {
-        self.listed.as_slice()
+        match &self.shared {
+            Some(listed) => listed.as_slice(),
+            None => &[],
+        }
     }
 
     /// The first listed input at an address.
     fn find(&self, address: Address) -> Option<&FieldInput>
         ensures { option_map (λ i. i.now) result ≡ find (λ i. same_address (address_of i) address) self.now }
     {
-        self.listed.iter().find(|input| input.is_at(address))
+        self.listed()
+            .iter()
+            .find(|input| input.is_at(address))
     }
 
     /// The value at an address; FALSE or 0 where it isn't listed.
@@ -62,16 +74,19 @@ impl Inputs {
     pub fn try_copy(&self) -> Result<Inputs, AllocError>
         ensures { IfOk result (λ copy. copy ≡ self.now) }
     {
-        Ok(Inputs {
-            listed: self.listed.clone()?,
-        })
+        match &self.shared {
+            Some(listed) => Ok(Inputs {
+                shared: Some(Arc::try_clone(listed)?),
+            }),
+            None => Ok(Inputs { shared: None }),
+        }
     }
 
     /// Whether both list the same addresses with the same values in the same order.
     pub fn same(&self, other: &Self) -> bool
         ensures { IsTrue result ↔ (self.now ≡ other.now) }
     {
-        are_same(self.listed.as_slice(), other.listed.as_slice())
+        are_same(self.listed(), other.listed())
     }
 }
 

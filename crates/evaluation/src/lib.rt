@@ -26,6 +26,6 @@ pub use input_fault::InputFault;
 pub use inputs::Inputs;
 pub use laws::{one_evaluation, one_meaning};
 pub use name::Name;
-pub use read_inputs::words_of;
+pub use read_inputs::push_words;
 pub use take::Take;
 pub use task_state::TaskState;

@@ -1,6 +1,6 @@
 //! Texts of field inputs.
 
-ghost use Rattle.std.specs.Prelude.{◌≡◌, ◌+◌, ◌*◌, ◌↔◌, ◌≢◌, ◌≤◌, IfOk, IfErr, IsFalse, Some, map, slice_get, pos, ◌-ℤ◌};
+ghost use Rattle.std.specs.Prelude.{◌≡◌, ◌+◌, ◌*◌, ◌↔◌, ◌≢◌, ◌≤◌, ◌++◌, IfOk, IfErr, OnOk, IsFalse, Some, map, slice_get, pos, ◌-ℤ◌};
 ghost use Rattle.evaluation.specs.declared.field_input.FieldInput.{FieldInput};
 ghost use Rattle.evaluation.specs.InputTexts.{words_of, bit_value, is_below_zero, value_below, value_above, word_value, input_at, sign_of, input_of, AreApart, AreInputs, IsFaultOfWords, IsRead, IsFaultOf};
 ghost use Rattle.evaluation.specs.Steps.InputWords.{IsWordFault};
@@ -13,16 +13,24 @@ use plant::{Address, Space};
 use std::alloc::{AllocError, Global};
 use std::collections::BTreeSet;
 
-/// The words of a text: what stands between blanks and tabs.
-pub fn words_of(alloc: Global, text: &[u8]) -> Result<Vec<&[u8]>, AllocError>
-    ensures { IfOk result (λ v. map (λ w. w.now) v.items ≡ words_of text.now) }
+/// Puts the words of a text behind those that are there: what stands between blanks and tabs.
+pub fn push_words<'a>(words: &mut Vec<&'a [u8]>, text: &'a [u8]) -> Result<(), AllocError>
+    ensures { OnOk result (map (λ w. w.now) words.new.items ≡ map (λ w. w.now) words.old.items ++ words_of text.now) }
 {
-    let mut words = Vec::new(alloc);
     for word in text.split(|c| *c == b' ' || *c == b'\t') {
         if !word.is_empty() {
             words.push(word)?;
         }
     }
+    Ok(())
+}
+
+/// The words of a text.
+fn words_of(alloc: Global, text: &[u8]) -> Result<Vec<&[u8]>, AllocError>
+    ensures { IfOk result (λ v. map (λ w. w.now) v.items ≡ words_of text.now) }
+{
+    let mut words = Vec::new(alloc);
+    push_words(&mut words, text)?;
     Ok(words)
 }
 
@@ -131,9 +139,13 @@ fn inputs_of(alloc: Global, words: &[&[u8]]) -> Result<Vec<FieldInput>, InputFau
 }
 
 /// Whether an address comes twice.
+#[tactic(auto, using(crate::proofs::InputLemmas::few_apart))]
 fn has_twice(alloc: Global, inputs: &[FieldInput]) -> Result<bool, AllocError>
     ensures { IfOk result (λ twice. IsFalse twice ↔ AreApart inputs.now) }
 {
+    if inputs.len() < 2 {
+        return Ok(false);
+    }
     let mut known = BTreeSet::new(alloc);
     for input in inputs {
         if !known.insert(input.key())? {
@@ -154,7 +166,7 @@ impl Inputs {
         if has_twice(alloc, inputs.as_slice())? {
             return Err(InputFault::Twice);
         }
-        Ok(Inputs::of(inputs))
+        Ok(Inputs::of(alloc, inputs)?)
     }
 
     /// Reads words as [`Inputs::of_words`] does, parted by blanks or tabs.

@@ -17,12 +17,7 @@ use Rattle.plant.specs.StandsFor.{runs_in, task_value, IsBindingOf, IsCodeOf, Is
 use Rattle.plant.specs.PlantText.{IsPlantText}
 use Rattle.plc_main.specs.CheckText.{programs_of, connections_of}
 use Rattle.plc_main.specs.Steps.Counting.{AreCounts}
-
-zip_length : {X Y : Type 0} (R : X → Y → Type 0) (xs : List X) (ys : List Y) → AllZip R xs ys → length xs ≡ length ys
-zip_length R [] [] each = refl
-zip_length R [] (y ∷ ys) each = absurd each
-zip_length R (x ∷ xs) [] each = absurd each
-zip_length R (x ∷ xs) (y ∷ ys) each = ap (λ n. suc n) (zip_length R xs ys each.1)
+use Rattle.plc_main.proofs.RowLemmas.{zip_length}
 
 zip_get : {X Y : Type 0} (R : X → Y → Type 0) (xs : List X) (ys : List Y) (k : ℕ) (y : Y) → AllZip R xs ys → slice_get ys k ≡ Some y → (x : X) × (slice_get xs k ≡ Some x) × R x y
 zip_get R [] [] k y each is = cc

@@ -19,7 +19,7 @@ zip_at R (x ∷ xs) [] i d e each lt = absurd each
 zip_at R (x ∷ xs) (y ∷ ys) zero d e each lt = each.0
 zip_at R (x ∷ xs) (y ∷ ys) (suc i) d e each lt = zip_at R xs ys i d e each.1 (omega arith)
 
-zip_length : {X Y : Type 0} (R : X → Y → Type 0) (xs : List X) (ys : List Y) → AllZip R xs ys → length xs ≡ length ys
+pub zip_length : {X Y : Type 0} (R : X → Y → Type 0) (xs : List X) (ys : List Y) → AllZip R xs ys → length xs ≡ length ys
 zip_length R [] [] each = refl
 zip_length R [] (y ∷ ys) each = absurd each
 zip_length R (x ∷ xs) [] each = absurd each

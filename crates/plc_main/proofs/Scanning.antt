@@ -1,5 +1,5 @@
 -- Scans follow one another, and so do their lines.
-use Rattle.std.proofs.Common.{◌≡◌, ℕ, ◌+◌, ◌≤◌, ◌++◌, List, [], Bool, false, Option, All, length, map, take, sum_by, replicate, refl, subst, arith, Result, Ok, Err, OnErr}
+use Rattle.std.proofs.Common.{◌≡◌, ℕ, ◌+◌, ◌≤◌, ◌++◌, List, [], Bool, false, Option, All, length, map, take, sum_by, replicate, refl, subst, arith}
 use Rattle.std.proofs.lemmas.List.Elements.{All-replicate}
 use Rattle.std.proofs.lemmas.List.{length-replicate}
 use Rattle.std.proofs.Math.Seq.{take-append-add, take-length}
@@ -53,7 +53,3 @@ written_part ds networks dt rows k slots memories text line old mid new part few
   written = length text + part;
   appended = rw (take-append-add text line part) (Appends-trans old mid new text (take part line) before appended);
 }
-
-pub on_err : {T E P : Type 0} (r : Result T E) → P → OnErr r P
-on_err (Ok x) p = tt
-on_err (Err e) p = p

@@ -1,5 +1,6 @@
 -- A text spells one list of events.
-use Rattle.std.proofs.Common.{◌≡◌, ℕ, ◌+◌, not, List, [], ◌∷◌, length, drop, Option, Some, refl, sym, ap, ◌∙◌}
+use Rattle.std.proofs.Common.{◌≡◌, ℕ, ◌+◌, not, List, [], ◌∷◌, length, drop, refl, sym, ap, ◌∙◌}
+use Rattle.std.proofs.lemmas.Option.{same_Some}
 use Rattle.std.specs.List.{filter}
 use Rattle.plant.specs.declared.task_ref.TaskRef.{TaskRef}
 use Rattle.plant.specs.PlantValue.{PlantValue}
@@ -10,9 +11,6 @@ use Rattle.world.specs.ScheduleText.{is_idle, task_in, IsTaskWord, SpellsEvaluat
 use Rattle.world.specs.ScheduleLaws.{OneReading}
 use Rattle.world.proofs.ScheduleWords.{cut_at, task_parts}
 use Rattle.world.proofs.ScheduleReading.{one_inputs, eval_word, deliver_word, restart_word}
-
-some_is : {A : Type 0} (a b : A) → ◌≡◌ {A = Option A} (Some a) (Some b) → a ≡ b
-some_is a b e = cc
 
 pub one_task : (plant : PlantValue) (word : List ℕ) (s t : TaskRef) → IsTaskWord plant word s → IsTaskWord plant word t → s ≡ t
 one_task plant word s t g h =
@@ -29,12 +27,12 @@ one_evaluate : (plant : PlantValue) (s t : TaskRef) (m n : ℕ) (a b : List Fiel
 one_evaluate plant s t m n a b ticket [] g h = absurd g
 one_evaluate plant s t m n a b ticket (x ∷ []) g h = absurd g
 one_evaluate plant s t m n a b ticket (x ∷ y ∷ more) g h =
-    ap (λ r. Evaluate ticket r m a) (one_task plant x s t g.0 h.0) ∙ ap (λ d. Evaluate ticket t d a) (some_is m n (sym g.1 ∙ h.1)) ∙ ap (λ i. Evaluate ticket t n i) (one_inputs more a b g.2 h.2)
+    ap (λ r. Evaluate ticket r m a) (one_task plant x s t g.0 h.0) ∙ ap (λ d. Evaluate ticket t d a) (same_Some m n (sym g.1 ∙ h.1)) ∙ ap (λ i. Evaluate ticket t n i) (one_inputs more a b g.2 h.2)
 
 one_deliver : (plant : PlantValue) (m n r s : ℕ) (words : List (List ℕ)) → SpellsDeliver plant m r words → SpellsDeliver plant n s words → Deliver m r ≡ Deliver n s
 one_deliver plant m n r s [] g h = absurd g
 one_deliver plant m n r s (x ∷ []) g h = absurd g
-one_deliver plant m n r s (x ∷ y ∷ []) g h = ap (λ k. Deliver k r) (some_is m n (sym g.0 ∙ h.0)) ∙ ap (λ k. Deliver n k) (g.1.resource_is ∙ sym h.1.resource_is)
+one_deliver plant m n r s (x ∷ y ∷ []) g h = ap (λ k. Deliver k r) (same_Some m n (sym g.0 ∙ h.0)) ∙ ap (λ k. Deliver n k) (g.1.resource_is ∙ sym h.1.resource_is)
 one_deliver plant m n r s (x ∷ y ∷ z ∷ more) g h = absurd g
 
 one_restart : (plant : PlantValue) (r s : ℕ) (words : List (List ℕ)) → SpellsRestart plant r words → SpellsRestart plant s words → Restart r ≡ Restart s

@@ -4,7 +4,7 @@ use Rattle.std.specs.Result.{IsErrAnd}
 use Rattle.std.specs.Option.{option_map}
 use Rattle.std.specs.Str.{bytes_eq, str_to_ascii_lowercase}
 use Rattle.std.proofs.lemmas.Slice.Eq.{bytes_eq-Decides}
-use Rattle.std.proofs.lemmas.Option.{slice_get-map}
+use Rattle.std.proofs.lemmas.Option.{slice_get-map, same_Some}
 use Rattle.ladder_text.specs.Chars.{same_word, first_that}
 use Rattle.ladder_text.specs.Numbers.{number_up_to}
 use Rattle.plant.specs.declared.task_ref.TaskRef.{TaskRef}
@@ -36,9 +36,6 @@ behind n ws = texts (take (length ws - n) (drop n ws))
 behind_is : (n : ℕ) (ws : List (Bor (List ℕ))) → behind n ws ≡ texts (drop n ws)
 behind_is n ws = ap texts (to_the_end n ws)
 
-some_same : {A : Type 0} (a b : A) → ◌≡◌ {A = Option A} (Some a) (Some b) → a ≡ b
-some_same a b e = cc
-
 same_somes : {A : Type 0} (xs ys : List A) → map (λ x. Some x) xs ≡ map (λ x. Some x) ys → xs ≡ ys
 same_somes [] [] e = refl
 same_somes [] (y ∷ ys) e = absurd cc
@@ -46,7 +43,7 @@ same_somes (x ∷ xs) [] e = absurd cc
 same_somes (x ∷ xs) (y ∷ ys) e =
     let heads : ◌≡◌ {A = Option _} (Some x) (Some y) = cc in
     let tails : map (λ x. Some x) xs ≡ map (λ x. Some x) ys = cc in
-    let first : x ≡ y = some_same x y heads in
+    let first : x ≡ y = same_Some x y heads in
     let rest : xs ≡ ys = same_somes xs ys tails in
     cc
 
@@ -56,7 +53,7 @@ one_inputs words a b g h = same_somes a b (sym g.words_are ∙ h.words_are)
 
 some_none : {A : Type 0} (o : Option A) → ◌≡◌ {A = Option (Option A)} (Some None) (option_map (λ x. Some x) o) → ⊥
 some_none None e = cc
-some_none (Some x) e = let inner : ◌≡◌ {A = Option _} None (Some x) = some_same None (Some x) e in cc
+some_none (Some x) e = let inner : ◌≡◌ {A = Option _} None (Some x) = same_Some None (Some x) e in cc
 
 not_bad : (words : List (List ℕ)) (inputs : List FieldInput) → HasBadWord words → AreInputs words inputs → ⊥
 not_bad words inputs bad h =

@@ -9,7 +9,7 @@ use Rattle.std.proofs.lemmas.Bool.{cases_eq}
 use Rattle.std.proofs.lemmas.List.{append-nil, take-append-le}
 use Rattle.std.proofs.lemmas.List.Concat.{flat_map-append}
 use Rattle.std.proofs.lemmas.List.Elements.{filter-append}
-use Rattle.std.proofs.lemmas.Option.{slice_get_within}
+use Rattle.std.proofs.lemmas.Option.{slice_get_within, same_Some}
 use Rattle.plant.specs.declared.task_ref.TaskRef.{TaskRef}
 use Rattle.plant.specs.PlantValue.{PlantValue}
 use Rattle.evaluation.specs.Meaning.{Evaluated}
@@ -98,9 +98,6 @@ front [] ys k lt = absurd (omega (arith, lt))
 front (x ∷ xs) ys zero lt = refl
 front (x ∷ xs) ys (suc k) lt = front xs ys k (omega (arith, lt))
 
-some_alike : {A : Type 0} (a b : A) → ◌≡◌ {A = Option A} (Some a) (Some b) → a ≡ b
-some_alike a b e = cc
-
 -- the text of one more event
 pub text_more : (s : Setting) (events : List Event) (text : List ℕ) (e : Event) (line : List ℕ) → IsRunText s events text → IsLineAfter s events e line → IsRunText s (events ++ e ∷ []) (text ++ line)
 text_more s events text e line r last = record {
@@ -113,8 +110,8 @@ text_more s events text e line r last = record {
     by : (k : ℕ) (x : Event) (l : List ℕ) → (k ≡ length events) ⊎ (k ≢ length events) → slice_get (events ++ e ∷ []) k ≡ Some x → slice_get (r.lines ++ line ∷ []) k ≡ Some l → IsLineAfter s (take k (events ++ e ∷ [])) x l
     by k x l (inl here) at told =
         let first : take k (events ++ e ∷ []) ≡ events = ap (λ n. take n (events ++ e ∷ [])) here ∙ take-append_seam events (e ∷ []) in
-        let event : e ≡ x = some_alike e x (sym (seam events e) ∙ ap (slice_get (events ++ e ∷ [])) (sym here) ∙ at) in
-        let is : line ≡ l = some_alike line l (sym (seam r.lines line) ∙ ap (slice_get (r.lines ++ line ∷ [])) (r.many ∙ sym here) ∙ told) in
+        let event : e ≡ x = same_Some e x (sym (seam events e) ∙ ap (slice_get (events ++ e ∷ [])) (sym here) ∙ at) in
+        let is : line ≡ l = same_Some line l (sym (seam r.lines line) ∙ ap (slice_get (r.lines ++ line ∷ [])) (r.many ∙ sym here) ∙ told) in
         subst (λ (es : List Event). IsLineAfter s es x l) (sym first) (subst (λ (y : Event). IsLineAfter s events y l) event (subst (λ m. IsLineAfter s events e m) is last))
     by k x l (inr other) at told =
         let within = slice_get_within (events ++ e ∷ []) k x at in

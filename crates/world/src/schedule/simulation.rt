@@ -13,7 +13,7 @@ use crate::schedule::read_line::read_event;
 use crate::schedule::sim_fault::SimFault;
 use crate::text_output::write_text;
 use crate::world::World;
-use evaluation::words_of;
+use evaluation::push_words;
 use plant::Plant;
 use std::alloc::{AllocError, Global};
 use std::io::Write;
@@ -82,13 +82,20 @@ impl Simulation {
         Ok(())
     }
 
-    /// Does a line.
-    fn do_line<W: Write>(&mut self, alloc: Global, text: &str, out: &mut W) -> Result<(), LineFault>
+    /// Does a line. Its words take the place of those in `words`.
+    fn do_line<'a, W: Write>(
+        &mut self,
+        alloc: Global,
+        words: &mut Vec<&'a [u8]>,
+        text: &'a str,
+        out: &mut W,
+    ) -> Result<(), LineFault>
         requires { self.old.events < 18446744073709551615 }
         ensures ok { OnOk result (HasDone self.old.world self.new.world self.old.events self.new.events (words_of (without_last 13 text.now)) (W.contents out.old) (W.contents out.new)) }
         ensures fault { IfErr result (HasStopped self.old.world self.new.world self.old.events (words_of (without_last 13 text.now)) (W.contents out.old) (W.contents out.new)) }
     {
-        let words = words_of(alloc, without_last(b'\r', text.as_bytes()))?;
+        words.clear();
+        push_words(words, without_last(b'\r', text.as_bytes()))?;
         self.do_words(alloc, words.as_slice(), out)
     }
 }
@@ -116,10 +123,11 @@ pub fn simulate<W: Write>(
         events: 0,
         line: String::new(alloc),
     };
+    let mut words = Vec::new(alloc);
     let mut number = 0;
     for text in without_feed(schedule).split('\n') {
         number += 1;
-        match simulation.do_line(alloc, text, out) {
+        match simulation.do_line(alloc, &mut words, text, out) {
             Ok(()) => {}
             Err(LineFault::Syntax) => return Err(SimFault::Syntax { line: number }),
             Err(LineFault::Write) => return Err(SimFault::Write),

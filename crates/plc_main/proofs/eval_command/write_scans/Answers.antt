@@ -2,7 +2,8 @@ use Rattle.std.proofs.Common.{◌≡◌, ◌+◌, ◌≤◌, ◌++◌, [], ◌�
 use Rattle.std.proofs.KnownBytes.{Appends-nil, Appends-trans}
 use Rattle.plc_main.specs.Rows.{scans_of}
 use Rattle.plc_main.specs.Lines.{line_of}
-use Rattle.plc_main.proofs.Scanning.{begun_at, scan_more, written_some, written_nothing, written_part, on_err}
+use Rattle.plc_main.proofs.Scanning.{begun_at, scan_more, written_some, written_nothing, written_part}
+use Rattle.plc_main.proofs.Sending.{on_err}
 use Rattle.plc_main.proofs.Setting.{fits_after}
 use Rattle.plc_main.proofs.eval_command.write_scans.Goals as goal
 
