@@ -54,9 +54,7 @@ impl Inputs {
     fn find(&self, address: Address) -> Option<&FieldInput>
         ensures { option_map (λ i. i.now) result ≡ find (λ i. same_address (address_of i) address) self.now }
     {
-        self.listed()
-            .iter()
-            .find(|input| input.is_at(address))
+        self.listed().iter().find(|input| input.is_at(address))
     }
 
     /// The value at an address; FALSE or 0 where it isn't listed.
