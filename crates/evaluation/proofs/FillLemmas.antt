@@ -4,6 +4,7 @@ use Rattle.std.specs.List.{find}
 use Rattle.std.specs.Option.{option_map, option_and_then}
 use Rattle.std.proofs.lemmas.Bool.{cases_eq}
 use Rattle.std.proofs.lemmas.Option.{slice_get_within, slice_get-map, get_or_from_slice_get, same_Some}
+use Rattle.lists.proofs.Places.{element_at, slice_get-set_same, slice_get-set_other}
 use Rattle.std_blocks.specs.declared.value.Value.{Value}
 use Rattle.power_flow.specs.declared.declarations.Kind.{Kind}
 use Rattle.power_flow.specs.declared.declarations.Declared.{Declared}
@@ -29,7 +30,7 @@ use Rattle.evaluation.specs.Meaning.{given, IsFilled, AllFilled}
 use Rattle.evaluation.specs.Steps.Filling.{AreReady}
 use Rattle.evaluation.specs.States.{AreStatesOf}
 use Rattle.power_flow.specs.LadderValue.{LadderValue, Fits}
-use Rattle.evaluation.proofs.Lists.{slice_get_some, slice_get-set_same, slice_get-set_other, option_map_some, InPlace, in_place_more, in_place_all}
+use Rattle.evaluation.proofs.Lists.{option_map_some, InPlace, in_place_more, in_place_all}
 
 -- a variable at a place is the slot there
 pub slot_of_variable : (slots : List Slot) (place : ℕ) (v : Value) → variable_at slots place ≡ Some v → slice_get slots place ≡ Some (Variable v)
@@ -87,7 +88,7 @@ input_slot ds slots place k are at = by (slice_get ds place) refl
     by None e = let none : None ≡ Some k = ap (option_and_then (λ (d : Declaration). input_kind d.declared)) (sym e) ∙ at in absurd cc
     by (Some d) e =
         let kind : input_kind d.declared ≡ Some k = ap (option_and_then (λ (d : Declaration). input_kind d.declared)) (sym e) ∙ at in
-        let slot = slice_get_some slots place (let lt = slice_get_within ds place d e in let long = are.long in omega arith) in
+        let slot = element_at slots place (let lt = slice_get_within ds place d e in let long = are.long in omega arith) in
         let found = of d.declared slot.0 kind (are.each place d slot.0 e slot.1) in
         (found.0, ap (option_and_then variable_of) slot.1 ∙ found.1, found.2)
 
@@ -96,12 +97,12 @@ pub source_gives : (c : CodeValue) (inputs : List FieldInput) (takes : List Take
     → (v : Value) × (given inputs takes s ≡ Some v) × (kind_of v ≡ k)
 source_gives c inputs takes (Field a) k sound are at = (field_value inputs a, refl, kind_of_field inputs a ∙ same_Some (kind_of_space a.space) k at)
 source_gives c inputs takes (Given p o) k sound are at =
-    let listed = slice_get_some c.expected p (inside (slice_get c.expected p) refl) in
+    let listed = element_at c.expected p (inside (slice_get c.expected p) refl) in
     let lt = slice_get_within c.expected p listed.0 listed.1 in
     let expected_long = sound.each_expected in
     let many = are.many in
-    let take = slice_get_some takes p (omega arith) in
-    let producer = slice_get_some c.producers p (omega arith) in
+    let take = element_at takes p (omega arith) in
+    let producer = element_at c.producers p (omega arith) in
     let is = are.each p take.0 producer.0 take.1 producer.1 in
     let there : option_map kind_of (slice_get (take.0).image o) ≡ Some k = sym (slice_get-map kind_of (take.0).image o) ∙ ap (λ (l : List Kind). slice_get l o) is.kinds_are ∙ at in
     let value = option_map_some kind_of (slice_get (take.0).image o) k there in
@@ -236,6 +237,6 @@ fill_fits c inputs takes i old now fits h all = record {
   each = λ k p t at is.
       let lt = slice_get_within now k t is in
       let many = h.many in
-      let was = slice_get_some old k (omega arith) in
+      let was = element_at old k (omega arith) in
       (in_place_all (FillsProgram c inputs takes) i old now h all k was.0 t was.1 is).1 p at;
 }

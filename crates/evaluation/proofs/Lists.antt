@@ -3,30 +3,8 @@ use Rattle.std.proofs.Common.{◌≡◌, ℕ, zero, suc, ◌+◌, ◌<◌, ◌�
 use Rattle.std.specs.Bool.{OnTrue}
 use Rattle.std.specs.Option.{option_map}
 use Rattle.std.proofs.lemmas.Bool.{cases_eq}
-use Rattle.std.proofs.lemmas.List.{get_or-set_same}
-use Rattle.std.proofs.lemmas.Option.{slice_get-get_or, slice_get_within, same_Some}
-
-pub same_by_slice_get : {X : Type 0} (xs ys : List X) → ((k : ℕ) → slice_get xs k ≡ slice_get ys k) → xs ≡ ys
-same_by_slice_get [] [] h = refl
-same_by_slice_get [] (y ∷ ys) h = let e = h 0 in cc
-same_by_slice_get (x ∷ xs) [] h = let e = h 0 in cc
-same_by_slice_get (x ∷ xs) (y ∷ ys) h = let e = h 0 in let rest = same_by_slice_get xs ys (λ k. h (suc k)) in cc
-
--- an index within a list finds something
-pub slice_get_some : {X : Type 0} (xs : List X) (k : ℕ) → k < length xs → (x : X) × (slice_get xs k ≡ Some x)
-slice_get_some [] k lt = absurd (omega arith)
-slice_get_some (x ∷ xs) zero lt = (x, refl)
-slice_get_some (x ∷ xs) (suc k) lt = slice_get_some xs k (omega arith)
-
--- lists of one length are equal where the elements at each place are
-pub same_by_each : {X : Type 0} (xs ys : List X) → length xs ≡ length ys → ((k : ℕ) (x y : X) → slice_get xs k ≡ Some x → slice_get ys k ≡ Some y → x ≡ y) → xs ≡ ys
-same_by_each [] [] l h = refl
-same_by_each [] (y ∷ ys) l h = absurd (omega arith)
-same_by_each (x ∷ xs) [] l h = absurd (omega arith)
-same_by_each (x ∷ xs) (y ∷ ys) l h =
-    let first : x ≡ y = h 0 x y refl refl in
-    let rest : xs ≡ ys = same_by_each xs ys (omega arith) (λ k. h (suc k)) in
-    cc
+use Rattle.std.proofs.lemmas.Option.{slice_get_within, same_Some}
+use Rattle.lists.proofs.Places.{element_at, slice_get-set_same, slice_get-set_other}
 
 -- a list mapped is the other, where that is so at each place
 pub map_by_each : {X Y : Type 0} (f : X → Y) (xs : List X) (ys : List Y) → length xs ≡ length ys
@@ -62,16 +40,6 @@ one_more P xs ys n x y at found here below k a b lt at' found' = by (cases_eq k 
         subst (λ (i : ℕ). P i a b) (sym same) (subst (λ v. P n v b) one (subst (λ w. P n x w) other here))
     by (inr ne) = below k a b (omega arith) at' found'
 
-pub slice_get-set_same : {X : Type 0} (xs : List X) (i : ℕ) (a : X) → i < length xs → slice_get (set xs i a) i ≡ Some a
-slice_get-set_same xs i a lt = slice_get-get_or (set xs i a) i a (omega (arith, length-set xs i a)) ∙ ap (λ x. Some x) (get_or-set_same xs i a a lt)
-
-pub slice_get-set_other : {X : Type 0} (xs : List X) (i j : ℕ) (a : X) → (j ≡ i → ⊥) → slice_get (set xs i a) j ≡ slice_get xs j
-slice_get-set_other [] i j a ne = refl
-slice_get-set_other (x ∷ xs) zero zero a ne = absurd (ne refl)
-slice_get-set_other (x ∷ xs) zero (suc j) a ne = refl
-slice_get-set_other (x ∷ xs) (suc i) zero a ne = refl
-slice_get-set_other (x ∷ xs) (suc i) (suc j) a ne = slice_get-set_other xs i j a (λ e. ne (ap suc e))
-
 -- what a mapped option comes from
 pub option_map_some : {X Y : Type 0} (f : X → Y) (o : Option X) (y : Y) → option_map f o ≡ Some y → (x : X) × (o ≡ Some x) × (f x ≡ y)
 option_map_some f None y e = absurd cc
@@ -82,7 +50,7 @@ option_map_none f None e = refl
 option_map_none f (Some x) e = absurd cc
 
 pub found_not_none : {X : Type 0} (xs : List X) (k : ℕ) → k < length xs → slice_get xs k ≡ None → ⊥
-found_not_none xs k lt e = let found = slice_get_some xs k lt in let some : None ≡ Some found.0 = sym e ∙ found.1 in cc
+found_not_none xs k lt e = let found = element_at xs k lt in let some : None ≡ Some found.0 = sym e ∙ found.1 in cc
 
 -- the first n elements of a list were changed as P says, and the others not yet
 pub record InPlace {X : Type 0} (P : ℕ → X → X → Type 0) (n : ℕ) (old now : List X) : Type 0 where

@@ -6,6 +6,7 @@ use Rattle.power_flow.specs.declared.state.Slot.{Slot}
 use Rattle.power_flow.specs.StateValue.{StateValue, IsSame, variable_at}
 use Rattle.power_flow.specs.Scan.{ScanMeaning}
 use Rattle.std.specs.Option.{option_and_then}
+use Rattle.lists.proofs.Places.{element_at, same_by_slice_get, somes_same}
 use Rattle.power_flow.specs.LadderValue.{LadderValue}
 use Rattle.power_flow.proofs.Determinism.{scan_same}
 use Rattle.plant.specs.declared.binding.Binding.{Binding}
@@ -16,7 +17,7 @@ use Rattle.evaluation.specs.declared.take.Take.{Take}
 use Rattle.evaluation.specs.Meaning.{Evaluated, IsUnbound, AreFilled, IsFilled, IsScanned, AllFilled, AllScanned, Means, IsMeant, IsAsked, evaluated, output_value}
 use Rattle.evaluation.specs.Laws.{OneMeaning, OneEvaluation}
 use Rattle.evaluation.specs.States.{AreStatesOf, AreSame}
-use Rattle.evaluation.proofs.Lists.{same_by_slice_get, slice_get_some, found_not_none}
+use Rattle.evaluation.proofs.Lists.{found_not_none}
 use Rattle.evaluation.proofs.StateLemmas.{same_as_itself, states_of_one}
 
 -- a place is bound by some binding, or by none
@@ -56,8 +57,8 @@ all_filled_same c inputs takes before before2 x y same a b = record {
       let lt = slice_get_within x k s at in
       let a_many = a.many in
       let many = same.many in
-      let was = slice_get_some before k (omega arith) in
-      let was2 = slice_get_some before2 k (omega arith) in
+      let was = element_at before k (omega arith) in
+      let was2 = element_at before2 k (omega arith) in
       filled_same inputs takes (bindings_at c k) was.0 was2.0 s t (same.each k was.0 was2.0 was.1 was2.1) (a.each k was.0 s was.1 at) (b.each k was2.0 t was2.1 found);
 }
 
@@ -78,9 +79,9 @@ all_scanned_same c dt filled filled2 x y same a b = record {
       let as_many = a.as_many in
       let many = a.many in
       let both = same.many in
-      let was = slice_get_some filled k (omega arith) in
-      let was2 = slice_get_some filled2 k (omega arith) in
-      let p = slice_get_some c.programs k (omega arith) in
+      let was = element_at filled k (omega arith) in
+      let was2 = element_at filled2 k (omega arith) in
+      let p = element_at c.programs k (omega arith) in
       scanned_same (p.0).ladder dt was.0 was2.0 s t (same.each k was.0 was2.0 was.1 was2.1) (a.each k p.0 was.0 s p.1 was.1 at) (b.each k p.0 was2.0 t p.1 was2.1 found);
 }
 
@@ -101,16 +102,6 @@ outputs_same : (a b : List StateValue) → AreSame a b → (outputs : List TaskO
 outputs_same a b same [] = refl
 outputs_same a b same (o ∷ outputs) =
     ap (λ v. v ∷ map (output_value a) outputs) (output_same a b o same) ∙ ap (λ vs. output_value b o ∷ vs) (outputs_same a b same outputs)
-
-somes_same : {X : Type 0} (xs ys : List X) → map (λ v. Some v) xs ≡ map (λ v. Some v) ys → xs ≡ ys
-somes_same [] [] e = refl
-somes_same [] (y ∷ ys) e = absurd cc
-somes_same (x ∷ xs) [] e = absurd cc
-somes_same (x ∷ xs) (y ∷ ys) e =
-    let parts : (Some x ≡ Some y) × (map (λ v. Some v) xs ≡ map (λ v. Some v) ys) = (cc, cc) in
-    let rest : xs ≡ ys = somes_same xs ys parts.1 in
-    let first : x ≡ y = same_Some x y parts.0 in
-    cc
 
 pub one_meaning : OneMeaning
 unfolding Means

@@ -3,6 +3,7 @@ use Rattle.std.proofs.Common.{◌≡◌, ℕ, ◌+◌, ◌<◌, List, [], ◌∷
 use Rattle.std.specs.Option.{option_map, option_and_then}
 use Rattle.std.proofs.lemmas.List.{map_push, take_more}
 use Rattle.std.proofs.lemmas.Option.{slice_get_within, get_or_from_slice_get, same_Some}
+use Rattle.lists.proofs.Places.{element_at}
 use Rattle.std_blocks.specs.declared.value.Value.{Value}
 use Rattle.power_flow.specs.declared.declarations.Declared.{Declared}
 use Rattle.power_flow.specs.declared.declarations.Declared.TheVariants.{Input, Output, Local, Instance}
@@ -14,7 +15,7 @@ use Rattle.plant.specs.declared.task_output.TaskOutput.{TaskOutput}
 use Rattle.plant.specs.PlantValue.{ProgramValue, CodeValue, output_kind, IsOutputOf, IsSoundCode}
 use Rattle.evaluation.specs.Meaning.{IsScanned, AllScanned, output_value}
 use Rattle.evaluation.specs.States.{AreStatesOf}
-use Rattle.evaluation.proofs.Lists.{slice_get_some, option_map_some, option_map_none, found_not_none, InPlace, in_place_more, in_place_all}
+use Rattle.evaluation.proofs.Lists.{option_map_some, option_map_none, found_not_none, InPlace, in_place_more, in_place_all}
 
 -- what the scan of program k does to its state
 abbrev pub ScansProgram : CodeValue → ℕ → ℕ → StateValue → StateValue → Type 0
@@ -44,7 +45,7 @@ scan_fits c dt i old now fits h all = record {
   each = λ k p t at is.
       let lt = slice_get_within now k t is in
       let many = h.many in
-      let was = slice_get_some old k (omega arith) in
+      let was = element_at old k (omega arith) in
       (in_place_all (ScansProgram c dt) i old now h all k was.0 t was.1 is p at).1;
 }
 
@@ -53,11 +54,11 @@ pub output_has_value : (c : CodeValue) (states : List StateValue) (o : TaskOutpu
 output_has_value c states o fits is =
     let many = fits.many in
     let run = slice_get_within c.programs o.program is.program is.run in
-    let state = slice_get_some states o.program (omega arith) in
+    let state = element_at states o.program (omega arith) in
     let slots = (fits.each o.program is.program state.0 is.run state.1).slots in
     let long = slots.long in
     let place = slice_get_within (is.program).ladder.declarations o.place is.variable is.declared in
-    let slot = slice_get_some (state.0).slots o.place (omega arith) in
+    let slot = element_at (state.0).slots o.place (omega arith) in
     let found = of (is.variable).declared slot.0 is.kind_is (slots.each o.place is.variable slot.0 is.declared slot.1) in
     (found.0, ap (option_and_then (λ (s : StateValue). variable_at s.slots o.place)) state.1 ∙ ap (option_and_then variable_of) slot.1 ∙ found.1, found.2)
   where

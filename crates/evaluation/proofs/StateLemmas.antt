@@ -3,6 +3,7 @@ use Rattle.std.proofs.Common.{◌≡◌, ℕ, List, [], ◌∷◌, length, slice
 use Rattle.std.proofs.lemmas.List.Elements.{All-head, All-tail}
 use Rattle.std.proofs.lemmas.Option.{slice_get-map, slice_get_within, same_Some}
 use Rattle.std.specs.Option.{option_map}
+use Rattle.lists.proofs.Places.{element_at, same_by_each}
 use Rattle.power_flow.specs.declared.declarations.Declaration.{Declaration}
 use Rattle.power_flow.specs.First.{slot_first}
 use Rattle.power_flow.specs.LadderValue.{LadderValue, Fits, holding}
@@ -10,7 +11,6 @@ use Rattle.power_flow.proofs.FittingStates.{holds, fitting_states}
 use Rattle.power_flow.specs.StateValue.{StateValue}
 use Rattle.plant.specs.PlantValue.{ProgramValue, CodeValue}
 use Rattle.evaluation.specs.States.{initial_state_of, initial_state, AreStatesOf, AreSame}
-use Rattle.evaluation.proofs.Lists.{same_by_each, slice_get_some}
 
 all_off : (ms : List Bool) → All (λ m. m ≡ false) ms → ms ≡ replicate (length ms) false
 all_off [] h = refl
@@ -49,5 +49,5 @@ pub states_of_one : (c : CodeValue) (a b : List StateValue) → AreStatesOf c a 
 states_of_one c a b one other same = same_by_each a b same.many (λ k s t at found.
     let lt = slice_get_within a k s at in
     let many = one.many in
-    let p = slice_get_some c.programs k (omega arith) in
+    let p = element_at c.programs k (omega arith) in
     fitting_states (p.0).ladder s t (one.each k p.0 s p.1 at) (other.each k p.0 t p.1 found) (same.each k s t at found))

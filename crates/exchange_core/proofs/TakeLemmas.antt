@@ -5,6 +5,7 @@ use Rattle.std.specs.Option.{option_map}
 use Rattle.std.proofs.lemmas.Slice.Zip.{length-zip}
 use Rattle.std.proofs.lemmas.List.{take_more, take_all, map-append, length-map}
 use Rattle.std.proofs.lemmas.Option.{none-some, same_Some, slice_get_within, slice_get-map, get_or_from_slice_get}
+use Rattle.lists.proofs.Places.{element_at}
 use Rattle.power_flow.specs.declared.declarations.Kind.{Kind}
 use Rattle.power_flow.specs.declared.declarations.Kind.TheVariants as kind
 use Rattle.power_flow.specs.First.{value_first}
@@ -14,7 +15,6 @@ use Rattle.plant.specs.PlantValue.{CodeValue, code_at, expected_at, items_or_non
 use Rattle.evaluation.specs.declared.take.Take.{Take}
 use Rattle.evaluation.specs.Takes.{initial_image, IsTakeOf, AreTakesOf}
 use Rattle.evaluation.specs.Meaning.{Evaluated}
-use Rattle.evaluation.proofs.Lists.{slice_get_some}
 use Rattle.exchange_core.specs.Last.{take_of, takes_of}
 use Rattle.exchange_core.specs.Held.{known}
 use Rattle.exchange_core.specs.CoreValue.{CoreValue, IsCore}
@@ -30,7 +30,7 @@ zip_at (a ∷ xs) (b ∷ ys) (suc k) x y e f = zip_at xs ys k x y e f
 pub kinds_of_producer : (code : CodeValue) (k : ℕ) → IsSoundCode code → k < length code.producers → slice_get code.expected k ≡ Some (expected_at code k)
 kinds_of_producer code k sound lt =
     let many = sound.each_expected in
-    let found = slice_get_some code.expected k (omega (arith, many)) in
+    let found = element_at code.expected k (omega (arith, many)) in
     found.1 ∙ ap Some (sym (ap items_or_none found.1))
 
 -- one take more

@@ -1,11 +1,12 @@
 -- What the checks of a report find out, step by step.
-use Rattle.std.proofs.Common.{◌≡◌, ◌⊎◌, inl, inr, ℕ, zero, suc, ◌+◌, ◌<◌, ◌≤◌, Bool, true, false, cond, eqb, not, ◌&&◌, ◌++◌, List, [], ◌∷◌, length, drop, take, map, filter, All, get_or, Option, Some, None, IfSome, slice_get, refl, ap, sym, ◌∙◌, subst, arith, add-one}
+use Rattle.std.proofs.Common.{◌≡◌, ◌⊎◌, inl, inr, ℕ, ◌+◌, ◌<◌, ◌≤◌, Bool, true, false, cond, eqb, not, ◌&&◌, ◌++◌, List, [], ◌∷◌, length, take, map, filter, get_or, Option, Some, None, IfSome, slice_get, refl, ap, sym, ◌∙◌, subst, arith}
 use Rattle.std.specs.List.{filter_map, list_any}
 use Rattle.std.specs.Option.{option_map, option_to_list}
 use Rattle.std.proofs.lemmas.Bool.{cases_lt}
 use Rattle.std.proofs.lemmas.List.{take_more, length_push, get_or_push, get_or_append_left, length-map, map-append}
 use Rattle.std.proofs.lemmas.List.Elements.{filter_map-append, filter-append}
 use Rattle.std.proofs.lemmas.Option.{same_Some, slice_get_within, slice_get-map, get_or_from_slice_get, slice_get-get_or}
+use Rattle.lists.proofs.Places.{element_at, same_by_each}
 use Rattle.plant.specs.PlantValue.{CodeValue}
 use Rattle.power_flow.specs.StateValue.{StateValue}
 use Rattle.evaluation.specs.Meaning.{Evaluated, IsWhole, IsSameEvaluation}
@@ -13,37 +14,19 @@ use Rattle.evaluation.specs.States.{AreStatesOf, AreSame}
 use Rattle.world.specs.Book.{BookValue}
 use Rattle.node.specs.declared.command.Command.{Command}
 use Rattle.node.specs.declared.step.Step.{Step}
-use Rattle.node.specs.declared.step.Step.TheVariants.{Took, Made, Restarted}
 use Rattle.node.specs.declared.journal.Journal.{Journal}
-use Rattle.node.specs.Journals.{made}
-use Rattle.node.specs.Reports.{entries_of, firsts_of, ticket_of, tickets_of, is_evaluate, is_unanswered, unanswered_of, AreNumbered}
+use Rattle.node.specs.Reports.{firsts_of, ticket_of, tickets_of, is_evaluate, is_unanswered, unanswered_of, AreNumbered}
 use Rattle.node.specs.Steps.Collecting.{AllBegin, AreMarks, RiseTo}
-
--- what stands at a place is an element
-pub at_place : {X : Type 0} (xs : List X) (k : ℕ) → k < length xs → (x : X) × (slice_get xs k ≡ Some x)
-at_place [] k lt = absurd (omega arith)
-at_place (x ∷ xs) zero lt = (x, refl)
-at_place (x ∷ xs) (suc k) lt = at_place xs k (omega arith)
-
--- lists that have the same at each place are equal
-same_places : {X : Type 0} (xs ys : List X) → length xs ≡ length ys → ((k : ℕ) (x y : X) → slice_get xs k ≡ Some x → slice_get ys k ≡ Some y → x ≡ y) → xs ≡ ys
-same_places [] [] many same = refl
-same_places [] (y ∷ ys) many same = absurd (omega arith)
-same_places (x ∷ xs) [] many same = absurd (omega arith)
-same_places (x ∷ xs) (y ∷ ys) many same =
-    let first : x ≡ y = same zero x y refl refl in
-    let rest : xs ≡ ys = same_places xs ys (omega arith) (λ k a b at found. same (suc k) a b at found) in
-    rw (first, rest) refl
 
 -- a state that fits a ladder has the ladder's waiting places, so values and memories are all that can differ
 same_states : (s t : StateValue) → s.slots ≡ t.slots → s.memories ≡ t.memories → s.waiting_links ≡ t.waiting_links → s.waiting_results ≡ t.waiting_results → s ≡ t
 same_states s t slots memories links results = rw (slots, memories, links, results) refl
 
 states_equal : (c : CodeValue) (a b : List StateValue) → AreStatesOf c a → AreStatesOf c b → AreSame a b → a ≡ b
-states_equal c a b one other same = same_places a b same.many (λ k s t at found.
+states_equal c a b one other same = same_by_each a b same.many (λ k s t at found.
     let lt = slice_get_within a k s at in
     let many = one.many in
-    let p = at_place c.programs k (omega arith) in
+    let p = element_at c.programs k (omega arith) in
     let x = one.each k p.0 s p.1 at in
     let y = other.each k p.0 t p.1 found in
     let is = same.each k s t at found in
@@ -85,18 +68,14 @@ has_own_contents x y e = subst (IsSameEvaluation x) e record {
 
 -- the book begins in the first incarnations of the journals that stand at their places
 pub firsts_are : (book : BookValue) (journals : List Journal) → length journals ≡ length book.first → AllBegin book.first journals → book.first ≡ firsts_of journals
-firsts_are book journals many begin = same_places book.first (firsts_of journals) (sym many ∙ sym (length-map journals (λ (j : Journal). j.first))) each
+firsts_are book journals many begin = same_by_each book.first (firsts_of journals) (sym many ∙ sym (length-map journals (λ (j : Journal). j.first))) each
   where
     each : (k : ℕ) (x y : ℕ) → slice_get book.first k ≡ Some x → slice_get (firsts_of journals) k ≡ Some y → x ≡ y
     each k x y at found =
         let lt = slice_get_within book.first k x at in
-        let j = at_place journals k (omega arith) in
+        let j = element_at journals k (omega arith) in
         let is : slice_get (firsts_of journals) k ≡ Some j.0.first = slice_get-map (λ (j : Journal). j.first) journals k ∙ ap (option_map (λ (j : Journal). j.first)) j.1 in
         same_Some x j.0.first (sym at ∙ (begin k j.0 j.1).first_is) ∙ same_Some j.0.first y (sym is ∙ found)
-
--- what holds of each at its place holds of all
-pub all_from_places : {X : Type 0} (P : X → Type 0) (xs : List X) → ((k : ℕ) (x : X) → slice_get xs k ≡ Some x → P x) → All P xs
-all_from_places P xs each = λ k d lt. each k (get_or xs k d) (slice_get-get_or xs k d lt)
 
 -- the tickets of one more step
 pub tickets-more : (ss : List Step) (k : ℕ) (s : Step) → slice_get ss k ≡ Some s → tickets_of (take (k + 1) ss) ≡ tickets_of (take k ss) ++ option_to_list (ticket_of s)

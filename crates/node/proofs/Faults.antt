@@ -6,12 +6,10 @@ use Rattle.std.proofs.lemmas.List.{map-append}
 use Rattle.std.proofs.lemmas.List.Elements.{All-push, All-weaker, Contains-append_left, Contains-push}
 use Rattle.std.proofs.lemmas.List.Sorted.{IsPermutation-sym, All-permutation, Contains-permutation}
 use Rattle.std.proofs.lemmas.Option.{slice_get_within, same_Some, get_or_from_slice_get}
+use Rattle.lists.proofs.Members.{contains_at}
 use Rattle.node.specs.declared.node_fault.NodeFault.{NodeFault}
 use Rattle.node.specs.Steps.Collecting.{RiseTo, fault_tickets, AreByTicket, AreListedUpTo}
 use Rattle.node.proofs.Collecting.{rise-more}
-
-contains_at : {X : Type 0} (xs : List X) (k : ℕ) (x : X) → slice_get xs k ≡ Some x → Contains xs x
-contains_at xs k x at = (k, slice_get_within xs k x at, get_or_from_slice_get xs k x x at)
 
 -- one more ticket is the last one again, or above it
 tickets-push : (listed : List NodeFault) (f : NodeFault) → fault_tickets (listed ++ f ∷ []) ≡ fault_tickets listed ++ f.ticket ∷ []

@@ -3,6 +3,7 @@ use Rattle.std.proofs.Common.{◌≡◌, ℕ, ◌<◌, ◌≤◌, ◌++◌, List
 use Rattle.std.proofs.lemmas.List.{append_assoc, reverse-append, length-map}
 use Rattle.std.proofs.lemmas.List.Elements.{All-head, All-tail}
 use Rattle.std.proofs.lemmas.Option.{get_or_from_slice_get}
+use Rattle.lists.proofs.Places.{element_at}
 use Rattle.plant.specs.PlantValue.{PlantValue, IsSoundPlant}
 use Rattle.evaluation.specs.Meaning.{Evaluated}
 use Rattle.exchange_core.specs.Last.{state_of}
@@ -12,7 +13,6 @@ use Rattle.world.specs.Book.{BookValue, CouldBeMade, AllCouldBeMade}
 use Rattle.node.specs.declared.journal.Journal.{Journal}
 use Rattle.node.specs.Journals.{made, last_made, IsLawful}
 use Rattle.node.specs.Reports.{entries_of, IsFittingBook, AreJournalsOf, AreInBook, RunsAgain}
-use Rattle.node.proofs.Collecting.{at_place}
 use Rattle.node.proofs.JournalRuns.{IsMadeAfter, made_after, last_made_is, made-reverse, entries-reverse, entries-part, last_in-entries}
 
 -- an incarnation is a number of 32 bits
@@ -51,7 +51,7 @@ entry_made plant max_number first journals entries newer older x long js in_book
     lt = let exists = fit.numbered.exists in omega arith
 
     journal : (j : Journal) × (slice_get journals x.name.task.resource ≡ Some j)
-    journal = at_place journals x.name.task.resource lt
+    journal = element_at journals x.name.task.resource lt
 
     made_is : made (reverse journal.0.steps) ≡ entries_of x.name.task.resource newer ++ x ∷ entries_of x.name.task.resource older
     made_is =

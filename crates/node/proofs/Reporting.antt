@@ -1,12 +1,13 @@
 -- What is known where the book and the journals agree.
 use Rattle.std.proofs.Common.{◌≡◌, ℕ, List, All, sym, subst}
+use Rattle.lists.proofs.Members.{all_from_places}
 use Rattle.plant.specs.PlantValue.{PlantValue}
 use Rattle.world.specs.Book.{BookValue}
 use Rattle.node.specs.declared.journal.Journal.{Journal}
 use Rattle.node.specs.Journals.{made, IsLawful}
 use Rattle.node.specs.Reports.{entries_of, IsFittingBook, AreJournalsOf, AreInBook, RunsAgain}
 use Rattle.node.specs.Steps.Collecting.{Agrees}
-use Rattle.node.proofs.Collecting.{firsts_are, all_from_places}
+use Rattle.node.proofs.Collecting.{firsts_are}
 use Rattle.node.proofs.Remaking.{HasIncarnation, runs_again}
 
 pub fitting_book : (plant : PlantValue) (book : BookValue) (journals : List Journal) → Agrees plant book journals → IsFittingBook book journals

@@ -1,12 +1,15 @@
 -- A plant that is read keeps the limits, so its counts are small.
-use Rattle.std.proofs.Common.{◌≡◌, ℕ, zero, suc, ◌<◌, ◌≤◌, Bool, true, false, cond, List, [], ◌∷◌, ◌++◌, length, get_or, sum_by, All, Some, inl, inr, refl, ap, subst, ◌∙◌, arith}
+use Rattle.std.proofs.Common.{◌≡◌, ℕ, zero, suc, ◌≤◌, Bool, true, false, cond, List, [], ◌∷◌, length, get_or, sum_by, All, Some, refl, ap, subst, ◌∙◌, arith}
 use Rattle.std.specs.Prelude.{slice_get}
 use Rattle.std.specs.List.{flat_map, filter, AllZip}
 use Rattle.std.proofs.lemmas.List.{length-map}
 use Rattle.std.proofs.lemmas.List.Concat.{length-flat_map}
-use Rattle.std.proofs.lemmas.List.Elements.{All-nil, All-cons, All-head, All-tail, All-filter}
+use Rattle.std.proofs.lemmas.List.Elements.{All-filter}
 use Rattle.std.proofs.lemmas.List.Sums.{sum_by-le, get_or-le-sum_by}
-use Rattle.std.proofs.lemmas.Option.{slice_get-get_or, slice_get_cases, slice_get_within, get_or_from_slice_get}
+use Rattle.std.proofs.lemmas.Option.{slice_get_within, get_or_from_slice_get}
+use Rattle.lists.proofs.Zips.{zip_length}
+use Rattle.lists.proofs.Members.{all_from_places, all_first, all_last}
+use Rattle.lists.proofs.Places.{element_at}
 use Rattle.plant.specs.declared.binding.Binding.{Binding}
 use Rattle.plant.specs.declared.tree.Resource.{Resource}
 use Rattle.plant.specs.declared.tree.TaskLine.{TaskLine}
@@ -17,7 +20,6 @@ use Rattle.plant.specs.StandsFor.{runs_in, task_value, IsBindingOf, IsCodeOf, Is
 use Rattle.plant.specs.PlantText.{IsPlantText}
 use Rattle.plc_main.specs.CheckText.{programs_of, connections_of}
 use Rattle.plc_main.specs.Steps.Counting.{AreCounts}
-use Rattle.plc_main.proofs.RowLemmas.{zip_length}
 
 zip_get : {X Y : Type 0} (R : X → Y → Type 0) (xs : List X) (ys : List Y) (k : ℕ) (y : Y) → AllZip R xs ys → slice_get ys k ≡ Some y → (x : X) × (slice_get xs k ≡ Some x) × R x y
 zip_get R [] [] k y each is = cc
@@ -26,27 +28,13 @@ zip_get R (x ∷ xs) [] k y each is = absurd each
 zip_get R (x ∷ xs) (z ∷ ys) zero y each is = let e : z ≡ y = cc in (x, refl, subst (R x) e each.0)
 zip_get R (x ∷ xs) (z ∷ ys) (suc k) y each is = zip_get R xs ys k y each.1 is
 
-found_at : {X : Type 0} (xs : List X) (k : ℕ) → k < length xs → (x : X) × (slice_get xs k ≡ Some x)
-found_at xs k lt = elim ((slice_get_cases xs k).1) [ inl found ↦ (found.0, found.2) | inr past ↦ absurd (omega (arith, lt, past.0)) ]
-
 all_get : {X : Type 0} (P : X → Type 0) (xs : List X) (k : ℕ) (x : X) → All P xs → slice_get xs k ≡ Some x → P x
 all_get P xs k x all is = subst P (get_or_from_slice_get xs k x x is) (all k x (slice_get_within xs k x is))
 
-all_from_get : {X : Type 0} (P : X → Type 0) (xs : List X) → ((k : ℕ) (x : X) → slice_get xs k ≡ Some x → P x) → All P xs
-all_from_get P xs each = λ k d lt. each k (get_or xs k d) (slice_get-get_or xs k d lt)
-
-all_left : {X : Type 0} (P : X → Type 0) (xs ys : List X) → All P (xs ++ ys) → All P xs
-all_left P [] ys all = All-nil P
-all_left P (x ∷ xs) ys all = All-cons P x xs (All-head P x (xs ++ ys) all) (all_left P xs ys (All-tail P x (xs ++ ys) all))
-
-all_right : {X : Type 0} (P : X → Type 0) (xs ys : List X) → All P (xs ++ ys) → All P ys
-all_right P [] ys all = all
-all_right P (x ∷ xs) ys all = all_right P xs ys (All-tail P x (xs ++ ys) all)
-
 all_part : {X Y : Type 0} (P : Y → Type 0) (f : X → List Y) (xs : List X) (k : ℕ) (x : X) → All P (flat_map f xs) → slice_get xs k ≡ Some x → All P (f x)
 all_part P f [] k x all is = cc
-all_part P f (y ∷ ys) zero x all is = let e : y ≡ x = cc in subst (λ z. All P (f z)) e (all_left P (f y) (flat_map f ys) all)
-all_part P f (y ∷ ys) (suc k) x all is = all_part P f ys k x (all_right P (f y) (flat_map f ys) all) is
+all_part P f (y ∷ ys) zero x all is = let e : y ≡ x = cc in subst (λ z. All P (f z)) e (all_first P (f y) (flat_map f ys) all)
+all_part P f (y ∷ ys) (suc k) x all is = all_part P f ys k x (all_last P (f y) (flat_map f ys) all) is
 
 -- a part is no longer than the whole
 part_short : {X Y : Type 0} (f : X → List Y) (xs : List X) (k : ℕ) (x : X) → slice_get xs k ≡ Some x → length (f x) ≤ length (flat_map f xs)
@@ -66,7 +54,7 @@ record IsSmallCode (c : CodeValue) : Type 0 where
 
 -- each instance binds few inputs
 few_bound : (tree : Tree) → IsFaultless tree → All (λ u. length (binds_of u) ≤ 4096) (all_uses tree)
-few_bound tree faultless = all_from_get (λ u. length (binds_of u) ≤ 4096) (all_uses tree) (λ k u is. let short = part_short binds_of (all_uses tree) k u is in let few = faultless.few_binds in omega (arith, short, few))
+few_bound tree faultless = all_from_places (λ u. length (binds_of u) ≤ 4096) (all_uses tree) (λ k u is. let short = part_short binds_of (all_uses tree) k u is in let few = faultless.few_binds in omega (arith, short, few))
 
 small_code : (tree : Tree) (plant : PlantValue) (r : Resource) (t : TaskLine) (c : CodeValue) → length (uses_of r) ≤ 64 → All (λ u. length (binds_of u) ≤ 4096) (uses_of r) → IsCodeOf tree plant r t c → IsSmallCode c
 small_code tree plant r t c few bound of =
@@ -75,10 +63,10 @@ small_code tree plant r t c few bound of =
     let many = of.many in
     let as-many = of.sound.each_bound in
     let run-bound = All-filter _ (λ u. length (binds_of u) ≤ 4096) (uses_of r) bound in
-    let each : All (λ bs. length bs ≤ 4096) c.bindings = all_from_get (λ (bs : List Binding). length bs ≤ 4096) c.bindings (λ i bs is.
+    let each : All (λ bs. length bs ≤ 4096) c.bindings = all_from_places (λ (bs : List Binding). length bs ≤ 4096) c.bindings (λ i bs is.
     let lt = slice_get_within c.bindings i bs is in
-    let p = found_at c.programs i (omega (arith, lt, as-many)) in
-    let u = found_at runs i (omega (arith, lt, as-many, many)) in
+    let p = element_at c.programs i (omega (arith, lt, as-many)) in
+    let u = element_at runs i (omega (arith, lt, as-many, many)) in
     let instance = of.each i u.0 p.0 u.1 p.1 in
     let same = zip_length (IsBindingOf plant c instance.type) (binds_of u.0) (bindings_at c i) instance.bound in
     let here : length (bindings_at c i) ≡ length bs = ap (λ o. length (items_or_none o)) is in
@@ -101,7 +89,7 @@ small_resource tree plant k r v faultless is of =
     let tasks : length v.tasks ≡ length (tasks_of r) = ap length of.tasks_are ∙ length-map (tasks_of r) task_value in
     let codes = zip_length (IsCodeOf tree plant r) (tasks_of r) v.codes of.codes_are in
     let limit = lawful.few_tasks in
-    let small : All IsSmallCode v.codes = all_from_get IsSmallCode v.codes (λ j c at. let t = zip_get (IsCodeOf tree plant r) (tasks_of r) v.codes j c of.codes_are at in small_code tree plant r t.0 c few bound t.2) in
+    let small : All IsSmallCode v.codes = all_from_places IsSmallCode v.codes (λ j c at. let t = zip_get (IsCodeOf tree plant r) (tasks_of r) v.codes j c of.codes_are at in small_code tree plant r t.0 c few bound t.2) in
     let programs = sum_by-le (λ (c : CodeValue). length c.programs) 64 v.codes (λ j d lt. (small j d lt).programs) in
     let connections = sum_by-le (λ (c : CodeValue). sum_by length c.bindings) 262144 v.codes (λ j d lt. (small j d lt).connections) in
     record { tasks = omega (arith, tasks, limit); programs = omega (arith, programs, codes, limit); connections = omega (arith, connections, codes, limit) }
@@ -112,7 +100,7 @@ counts_are text plant read =
     let tree = read.tree in
     let many = zip_length (IsResourceOf tree plant) tree.resources plant.resources read.stands in
     let few = read.faultless.few_resources in
-    let small : All IsSmallResource plant.resources = all_from_get IsSmallResource plant.resources (λ k v at. let r = zip_get (IsResourceOf tree plant) tree.resources plant.resources k v read.stands at in small_resource tree plant k r.0 v read.faultless r.1 r.2) in
+    let small : All IsSmallResource plant.resources = all_from_places IsSmallResource plant.resources (λ k v at. let r = zip_get (IsResourceOf tree plant) tree.resources plant.resources k v read.stands at in small_resource tree plant k r.0 v read.faultless r.1 r.2) in
     let tasks = sum_by-le (λ (r : ResourceValue). length r.tasks) 16 plant.resources (λ k d lt. (small k d lt).tasks) in
     let programs = sum_by-le (λ (r : ResourceValue). programs_of r.codes) 1024 plant.resources (λ k d lt. (small k d lt).programs) in
     let connections = sum_by-le (λ (r : ResourceValue). connections_of r.codes) 4194304 plant.resources (λ k d lt. (small k d lt).connections) in

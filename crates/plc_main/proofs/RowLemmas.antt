@@ -7,6 +7,7 @@ use Rattle.std.proofs.lemmas.Option.{slice_get-get_or}
 use Rattle.std.specs.Borrow.{Bor}
 use Rattle.std.specs.Prelude.{All, Any, Some, slice_get}
 use Rattle.std.specs.List.{AllZip}
+use Rattle.lists.proofs.Zips.{zip_length, zip_push}
 use Rattle.power_flow.specs.declared.declarations.Declaration.{Declaration}
 use Rattle.plc_main.specs.declared.word_fault.WordFaultKind.{WordFaultKind}
 use Rattle.plc_main.specs.declared.word_fault.WordFaultKind.TheVariants.{NoVariable, BadDigits, Twice}
@@ -18,18 +19,6 @@ zip_at R [] (y ∷ ys) i d e each lt = absurd each
 zip_at R (x ∷ xs) [] i d e each lt = absurd each
 zip_at R (x ∷ xs) (y ∷ ys) zero d e each lt = each.0
 zip_at R (x ∷ xs) (y ∷ ys) (suc i) d e each lt = zip_at R xs ys i d e each.1 (omega arith)
-
-pub zip_length : {X Y : Type 0} (R : X → Y → Type 0) (xs : List X) (ys : List Y) → AllZip R xs ys → length xs ≡ length ys
-zip_length R [] [] each = refl
-zip_length R [] (y ∷ ys) each = absurd each
-zip_length R (x ∷ xs) [] each = absurd each
-zip_length R (x ∷ xs) (y ∷ ys) each = ap (λ n. suc n) (zip_length R xs ys each.1)
-
-zip_push : {X Y : Type 0} (R : X → Y → Type 0) (xs : List X) (ys : List Y) (x : X) (y : Y) → AllZip R xs ys → R x y → AllZip R (xs ++ x ∷ []) (ys ++ y ∷ [])
-zip_push R [] [] x y each last = (last, tt)
-zip_push R [] (z ∷ ys) x y each last = absurd each
-zip_push R (z ∷ xs) [] x y each last = absurd each
-zip_push R (v ∷ xs) (w ∷ ys) x y each last = (each.0, zip_push R xs ys x y each.1 last)
 
 -- the text of a word
 word_at : (words : List (Bor (List ℕ))) (i : ℕ) (d : Bor (List ℕ)) → i < length words → get_or (texts words) i [] ≡ (get_or words i d).now

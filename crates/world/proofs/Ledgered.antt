@@ -1,6 +1,5 @@
 -- What the tables of a book tell of its entries.
 use Rattle.std.proofs.Common.{◌≡◌, ℕ, zero, suc, ◌<◌, ◌≤◌, arith, Bool, true, false, cond, ◌&&◌, ◌||◌, List, [], ◌∷◌, ◌++◌, map, take, drop, length, get_or, Option, Some, None, refl, ap, sym, ◌∙◌, subst, eqb}
-use Rattle.std.proofs.Math.ListN.{set}
 use Rattle.std.specs.Prelude.{reverse, slice_index, slice_get, slice_set}
 use Rattle.std.specs.Option.{option_map, option_and_then}
 use Rattle.std.specs.Ordering.{nat_cmp, ordering_then}
@@ -9,6 +8,7 @@ use Rattle.std.specs.List.{find, list_any}
 use Rattle.std.proofs.lemmas.Bool.{false≢true, eqb-true, eq-eqb}
 use Rattle.std.proofs.lemmas.Bool.Decides.{nat_tests}
 use Rattle.std.proofs.lemmas.List.{reverse-append, reverse-reverse, length-reverse, length-set, get_or-set_same, get_or-set_other}
+use Rattle.lists.proofs.Places.{push_here}
 use Rattle.plant.specs.declared.task_ref.TaskRef.{TaskRef}
 use Rattle.evaluation.specs.declared.name.Name.{Name}
 use Rattle.evaluation.specs.declared.take.Take.{Take}
@@ -24,7 +24,7 @@ use Rattle.world.specs.Steps.Deciding.{present_in, is_of_task, is_named, takes_f
 use Rattle.world.specs.Steps.Ledger.{newest_place, presents, place_of, places_of, places_in, last_index, pair_cmp, index_of, AreRising, taker_in, has_row, noted, AreTables, Tells}
 use Rattle.world.proofs.Deciding.{last-greatest}
 use Rattle.world.proofs.Ledgers.{taker-noted}
-use Rattle.world.proofs.Telling.{seam, last_of}
+use Rattle.world.proofs.Telling.{last_of}
 
 pub length-presents : (first : List ℕ) (older : List Evaluated) → length (presents first older) ≡ length first
 length-presents first [] = refl
@@ -67,7 +67,7 @@ newest-at f (x ∷ older) = by (f x) (newest-at f older) where
 
   by : (b : Bool) → option_and_then (λ k. slice_get (reverse older) k) (newest_place f older) ≡ find f older
       → option_and_then (λ k. slice_get (reverse (x ∷ older)) k) (cond b (Some (length older)) (newest_place f older)) ≡ cond b (Some x) (find f older)
-  by true ih = ap (λ ys. slice_get ys (length older)) turned ∙ ap (λ n. slice_get (reverse older ++ x ∷ []) n) (sym (length-reverse older)) ∙ seam (reverse older) x
+  by true ih = ap (λ ys. slice_get ys (length older)) turned ∙ ap (λ n. slice_get (reverse older ++ x ∷ []) n) (sym (length-reverse older)) ∙ push_here (reverse older) x
   by false ih = below (newest_place f older) refl ∙ ih where
     below : (o : Option ℕ) → newest_place f older ≡ o → option_and_then (λ k. slice_get (reverse (x ∷ older)) k) o ≡ option_and_then (λ k. slice_get (reverse older) k) o
     below None e = refl

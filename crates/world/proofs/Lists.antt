@@ -1,5 +1,5 @@
 -- Items of lists.
-use Rattle.std.proofs.Common.{◌≡◌, inl, inr, ℕ, zero, suc, ◌<◌, List, [], ◌∷◌, length, Some, refl, subst, arith}
+use Rattle.std.proofs.Common.{◌≡◌, inl, inr, ℕ, zero, suc, List, [], ◌∷◌, Some, refl, subst, arith}
 use Rattle.std.specs.Prelude.{slice_get}
 use Rattle.std.proofs.lemmas.Option.{none-some, same_Some}
 use Rattle.world.specs.Fits.{Among, Each}
@@ -20,9 +20,3 @@ pub slice_get-among : {X : Type 0} (xs : List X) (k : ℕ) (y : X) → slice_get
 slice_get-among [] k y at = absurd (none-some y at)
 slice_get-among (x ∷ xs) zero y at = inl (same_Some x y at)
 slice_get-among (x ∷ xs) (suc k) y at = inr (slice_get-among xs k y at)
-
--- an item stands at each place within the list
-pub slice_get-some : {X : Type 0} (xs : List X) (k : ℕ) → k < length xs → (x : X) × (slice_get xs k ≡ Some x)
-slice_get-some [] k low = absurd (omega (arith, low))
-slice_get-some (x ∷ xs) zero low = (x, refl)
-slice_get-some (x ∷ xs) (suc k) low = slice_get-some xs k (omega (arith, low))

@@ -4,6 +4,7 @@ use Rattle.std.specs.Prelude.{MatchOption, reverse, slice_get}
 use Rattle.std.specs.Option.{option_map, option_and_then}
 use Rattle.std.proofs.lemmas.Bool.{eq-eqb, ne_eqb, eqb-true, false≢true, ltb-true, ltb-false}
 use Rattle.std.proofs.lemmas.Option.{none-some, same_Some, slice_get-map, slice_get_within}
+use Rattle.lists.proofs.Places.{element_at}
 use Rattle.std_blocks.specs.declared.value.Value.{Value}
 use Rattle.power_flow.specs.First.{value_first}
 use Rattle.plant.specs.declared.binding.Binding.{Binding}
@@ -26,7 +27,7 @@ use Rattle.world.specs.Consistent.{IsBoundTo, HaveValuesOf, AreInitial, AreTaken
 use Rattle.world.proofs.Latest.{Rises}
 use Rattle.world.proofs.Names.{AllLawful, AllLawful-after, log-rises, named}
 use Rattle.world.proofs.Pairs.{message-within, rises-messages}
-use Rattle.world.proofs.Lists.{Each-at, Each-from, slice_get-among, slice_get-some}
+use Rattle.world.proofs.Lists.{Each-at, Each-from, slice_get-among}
 use Rattle.world.proofs.Fitting.{taken, last_among-entry}
 use Rattle.world.proofs.NotBack.{takes-reach, takes-each}
 use Rattle.world.proofs.AllFits.{one_name}
@@ -50,7 +51,7 @@ module _ (x : Evaluated) (last : TaskRef → Option Evaluated) (whole : IsWhole 
   takes-last : (k : ℕ) (p : TaskRef) → slice_get x.code.producers k ≡ Some p → TakesLast x k p (last p)
   takes-last k p e =
       let within : k < length x.takes = omega (arith, slice_get_within x.code.producers k p e, whole.takes_suit.many) in
-      let some = slice_get-some x.takes k within in
+      let some = element_at x.takes k within in
       let of : IsTakeOf p (expected_at x.code k) some.0 = whole.takes_suit.each k some.0 p some.1 e in
       let own : IsOfLast last some.0 = Each-at (IsOfLast last) x.takes some.0 all_last (slice_get-among x.takes k some.0 some.1) in
       record {

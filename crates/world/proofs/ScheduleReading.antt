@@ -5,6 +5,7 @@ use Rattle.std.specs.Option.{option_map}
 use Rattle.std.specs.Str.{bytes_eq, str_to_ascii_lowercase}
 use Rattle.std.proofs.lemmas.Slice.Eq.{bytes_eq-Decides}
 use Rattle.std.proofs.lemmas.Option.{slice_get-map, same_Some}
+use Rattle.lists.proofs.Places.{somes_same}
 use Rattle.ladder_text.specs.Chars.{same_word, first_that}
 use Rattle.ladder_text.specs.Numbers.{number_up_to}
 use Rattle.plant.specs.declared.task_ref.TaskRef.{TaskRef}
@@ -36,20 +37,9 @@ behind n ws = texts (take (length ws - n) (drop n ws))
 behind_is : (n : ℕ) (ws : List (Bor (List ℕ))) → behind n ws ≡ texts (drop n ws)
 behind_is n ws = ap texts (to_the_end n ws)
 
-same_somes : {A : Type 0} (xs ys : List A) → map (λ x. Some x) xs ≡ map (λ x. Some x) ys → xs ≡ ys
-same_somes [] [] e = refl
-same_somes [] (y ∷ ys) e = absurd cc
-same_somes (x ∷ xs) [] e = absurd cc
-same_somes (x ∷ xs) (y ∷ ys) e =
-    let heads : ◌≡◌ {A = Option _} (Some x) (Some y) = cc in
-    let tails : map (λ x. Some x) xs ≡ map (λ x. Some x) ys = cc in
-    let first : x ≡ y = same_Some x y heads in
-    let rest : xs ≡ ys = same_somes xs ys tails in
-    cc
-
 -- words are one list of inputs
 pub one_inputs : (words : List (List ℕ)) (a b : List FieldInput) → AreInputs words a → AreInputs words b → a ≡ b
-one_inputs words a b g h = same_somes a b (sym g.words_are ∙ h.words_are)
+one_inputs words a b g h = somes_same a b (sym g.words_are ∙ h.words_are)
 
 some_none : {A : Type 0} (o : Option A) → ◌≡◌ {A = Option (Option A)} (Some None) (option_map (λ x. Some x) o) → ⊥
 some_none None e = cc
@@ -62,7 +52,7 @@ not_bad words inputs bad h =
 
 not_twice : (words : List (List ℕ)) (inputs : List FieldInput) → HasAddressTwice words → AreInputs words inputs → ⊥
 not_twice words inputs twice h =
-    let same : inputs ≡ twice.inputs = same_somes inputs twice.inputs (sym h.words_are ∙ twice.words_are) in
+    let same : inputs ≡ twice.inputs = somes_same inputs twice.inputs (sym h.words_are ∙ twice.words_are) in
     twice.twice (subst AreApart same h.apart)
 
 -- the words of an evaluation, one by one

@@ -10,6 +10,7 @@ use Rattle.std.proofs.lemmas.List.{append-nil, take-append-le}
 use Rattle.std.proofs.lemmas.List.Concat.{flat_map-append}
 use Rattle.std.proofs.lemmas.List.Elements.{filter-append}
 use Rattle.std.proofs.lemmas.Option.{slice_get_within, same_Some}
+use Rattle.lists.proofs.Places.{push_here}
 use Rattle.plant.specs.declared.task_ref.TaskRef.{TaskRef}
 use Rattle.plant.specs.PlantValue.{PlantValue}
 use Rattle.evaluation.specs.Meaning.{Evaluated}
@@ -28,7 +29,7 @@ use Rattle.world.specs.ScheduleText.{is_idle, SpellsEvent, SpellEvents, Spell}
 use Rattle.world.specs.Steps.Telling.{IsTold}
 use Rattle.world.specs.Steps.Simulating.{HasTold, HasRested, HasWritten, HasDone}
 use Rattle.world.proofs.Names.{after_append}
-use Rattle.world.proofs.Telling.{seam, length-one_more}
+use Rattle.world.proofs.Telling.{length-one_more}
 
 -- the history of events after other events
 pub history_append : (s : Setting) (xs ys : List Event) → history_of s (xs ++ ys) ≡ after_events s (history_of s xs) ys
@@ -110,8 +111,8 @@ text_more s events text e line r last = record {
     by : (k : ℕ) (x : Event) (l : List ℕ) → (k ≡ length events) ⊎ (k ≢ length events) → slice_get (events ++ e ∷ []) k ≡ Some x → slice_get (r.lines ++ line ∷ []) k ≡ Some l → IsLineAfter s (take k (events ++ e ∷ [])) x l
     by k x l (inl here) at told =
         let first : take k (events ++ e ∷ []) ≡ events = ap (λ n. take n (events ++ e ∷ [])) here ∙ take-append_seam events (e ∷ []) in
-        let event : e ≡ x = same_Some e x (sym (seam events e) ∙ ap (slice_get (events ++ e ∷ [])) (sym here) ∙ at) in
-        let is : line ≡ l = same_Some line l (sym (seam r.lines line) ∙ ap (slice_get (r.lines ++ line ∷ [])) (r.many ∙ sym here) ∙ told) in
+        let event : e ≡ x = same_Some e x (sym (push_here events e) ∙ ap (slice_get (events ++ e ∷ [])) (sym here) ∙ at) in
+        let is : line ≡ l = same_Some line l (sym (push_here r.lines line) ∙ ap (slice_get (r.lines ++ line ∷ [])) (r.many ∙ sym here) ∙ told) in
         subst (λ (es : List Event). IsLineAfter s es x l) (sym first) (subst (λ (y : Event). IsLineAfter s events y l) event (subst (λ m. IsLineAfter s events e m) is last))
     by k x l (inr other) at told =
         let within = slice_get_within (events ++ e ∷ []) k x at in

@@ -1,7 +1,8 @@
 -- What one event tells.
-use Rattle.std.proofs.Common.{◌≡◌, inl, inr, ℕ, ◌+◌, ◌-◌, List, [], ◌∷◌, ◌++◌, length, Some, slice_get, refl, ap, ◌∙◌, subst, arith, length-append, Result, Ok, Err, OnOk}
+use Rattle.std.proofs.Common.{◌≡◌, inl, inr, ℕ, ◌+◌, ◌-◌, List, [], ◌∷◌, ◌++◌, length, Some, slice_get, ap, ◌∙◌, subst, arith, length-append, Result, Ok, Err, OnOk}
 use Rattle.std.specs.Prelude.{reverse}
 use Rattle.std.proofs.lemmas.List.{reverse-append}
+use Rattle.lists.proofs.Places.{push_here}
 use Rattle.world.specs.declared.event.Event.{Event}
 use Rattle.world.specs.declared.event.Event.TheVariants.{Evaluate, Deliver, Restart}
 use Rattle.world.specs.declared.done.Done.{Done}
@@ -18,16 +19,11 @@ use Rattle.world.specs.Steps.Telling.{made_line, done_line, IsTold}
 use Rattle.world.proofs.Moves.{history-one_more}
 use Rattle.world.proofs.Starts.{history-lawful, follows-step, follows-cause, unlawful}
 
--- the element at the seam
-pub seam : {X : Type 0} (xs : List X) (y : X) → slice_get (xs ++ y ∷ []) (length xs) ≡ Some y
-seam [] y = refl
-seam (x ∷ xs) y = seam xs y
-
 pub length-one_more : {X : Type 0} (xs : List X) (y : X) → length (xs ++ y ∷ []) ≡ length xs + 1
 length-one_more xs y = length-append xs (y ∷ [])
 
 pub last_of : {X : Type 0} (xs : List X) (y : X) → slice_get (xs ++ y ∷ []) (length (xs ++ y ∷ []) - 1) ≡ Some y
-last_of xs y = let n : length (xs ++ y ∷ []) - 1 ≡ length xs = omega (arith, length-one_more xs y) in ap (slice_get (xs ++ y ∷ [])) n ∙ seam xs y
+last_of xs y = let n : length (xs ++ y ∷ []) - 1 ≡ length xs = omega (arith, length-one_more xs y) in ap (slice_get (xs ++ y ∷ [])) n ∙ push_here xs y
 
 -- the history after more events
 follows_history : (a b : WorldValue) (es : List Event) → Follows a b es → history_of b.setting b.events ≡ after_events a.setting (history_of a.setting a.events) es

@@ -1,9 +1,9 @@
 use Rattle.std.proofs.Common.{◌≡◌, ◌<◌, List, Some, length, slice_get, get_or, sym, arith, subst}
 use Rattle.std.proofs.lemmas.Option.{slice_get-get_or}
+use Rattle.lists.proofs.Places.{element_at}
 use Rattle.plant.specs.declared.binding.Binding.{Binding}
 use Rattle.evaluation.specs.Steps.Filling.{AreReady}
 use Rattle.evaluation.specs.Meaning.{IsFilled}
-use Rattle.evaluation.proofs.Lists.{slice_get_some}
 use Rattle.evaluation.proofs.FillLemmas.{ready, next_fits, fill_more, fill_all, fill_fits}
 use Rattle.evaluation.proofs.fill.fill_programs.Goals as goal
 
@@ -15,7 +15,7 @@ fill_program-requires-clause-ready c =
     let s = get_or states i c.index-states-i.result in
     let in_code : i < length code.programs = omega arith in
     let in_states : i < length states = omega (arith, c.loop-i.invariant.many, c.requires.fits.many) in
-    let p = slice_get_some code.programs i in_code in
+    let p = element_at code.programs i in_code in
     let is : slice_get states i ≡ Some s = slice_get-get_or states i c.index-states-i.result in_states in
     let fits = next_fits code c.args.inputs.now c.args.takes.now i p.0 c.args.states.now states s c.requires.fits c.loop-i.invariant is p.1 in
     subst (λ (bs : List Binding). AreReady c.args.inputs.now c.args.takes.now bs s.slots) (sym c.bindings.ensures)

@@ -2,10 +2,10 @@
 use Rattle.std.proofs.Common.{◌≡◌, ◌<◌, Some, Contains, get_or, slice_get, length, sym, ◌∙◌, arith}
 use Rattle.std.proofs.lemmas.Option.{slice_get_within, slice_get-get_or}
 use Rattle.std.proofs.lemmas.Bool.{false≢true}
+use Rattle.lists.proofs.Members.{all_from_places}
 use Rattle.node.specs.declared.cause.Cause.TheVariants.{OutOfTurns}
 use Rattle.node.specs.declared.node_fault.NodeFault.{NodeFault}
 use Rattle.node.specs.Steps.Collecting.{fault_tickets}
-use Rattle.node.proofs.Collecting.{all_from_places}
 use Rattle.node.proofs.Faults.{list_more, list_kept}
 use Rattle.node.proofs.node_faults.first_of_each.Goals as goal
 use Rattle.node.proofs.node_faults.first_of_each.Goals.{then-is_above+in_ok-push, else-is_above}

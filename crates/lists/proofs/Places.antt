@@ -1,0 +1,74 @@
+-- What stands at which place of a list.
+use Rattle.std.proofs.Common.{◌≡◌, ℕ, zero, suc, ◌<◌, ◌+◌, ◌⊎◌, inl, inr, List, [], ◌∷◌, ◌++◌, Option, Some, None, is_some, false, length, map, set, slice_get, refl, sym, ap, ◌∙◌, arith}
+use Rattle.std.proofs.lemmas.Bool.{cases_lt}
+use Rattle.std.proofs.lemmas.Option.{same_Some, slice_get_past}
+
+-- something stands at each place below the length
+pub element_at : {X : Type 0} (xs : List X) (k : ℕ) → k < length xs → (x : X) × (slice_get xs k ≡ Some x)
+element_at [] k lt = absurd (omega arith)
+element_at (x ∷ xs) zero lt = (x, refl)
+element_at (x ∷ xs) (suc k) lt = element_at xs k (let short : suc k < suc (length xs) = lt in omega arith)
+
+-- lists with the same at each place are equal
+pub same_by_slice_get : {X : Type 0} (xs ys : List X) → ((k : ℕ) → slice_get xs k ≡ slice_get ys k) → xs ≡ ys
+same_by_slice_get [] [] h = refl
+same_by_slice_get [] (y ∷ ys) h = let e = h 0 in cc
+same_by_slice_get (x ∷ xs) [] h = let e = h 0 in cc
+same_by_slice_get (x ∷ xs) (y ∷ ys) h = let e = h 0 in let rest = same_by_slice_get xs ys (λ k. h (suc k)) in cc
+
+-- so are lists of one length with the same at each of their places
+pub same_within : {X : Type 0} (xs ys : List X) → length xs ≡ length ys → ((k : ℕ) → k < length xs → slice_get xs k ≡ slice_get ys k) → xs ≡ ys
+same_within xs ys long h = same_by_slice_get xs ys (λ k. elim (cases_lt k (length xs)) [
+  | inl lt ↦ h k lt
+  | inr past ↦ slice_get_past xs k (omega arith) ∙ sym (slice_get_past ys k (omega arith))
+])
+
+-- and lists of one length whose elements are equal place by place
+pub same_by_each : {X : Type 0} (xs ys : List X) → length xs ≡ length ys → ((k : ℕ) (x y : X) → slice_get xs k ≡ Some x → slice_get ys k ≡ Some y → x ≡ y) → xs ≡ ys
+same_by_each [] [] l h = refl
+same_by_each [] (y ∷ ys) l h = absurd (omega arith)
+same_by_each (x ∷ xs) [] l h = absurd (omega arith)
+same_by_each (x ∷ xs) (y ∷ ys) l h =
+    let first : x ≡ y = h 0 x y refl refl in
+    let rest : xs ≡ ys = same_by_each xs ys (omega arith) (λ k. h (suc k)) in
+    cc
+
+-- each element in Some, and out again
+pub somes_same : {X : Type 0} (xs ys : List X) → map (λ v. Some v) xs ≡ map (λ v. Some v) ys → xs ≡ ys
+somes_same [] [] e = refl
+somes_same [] (y ∷ ys) e = absurd cc
+somes_same (x ∷ xs) [] e = absurd cc
+somes_same (x ∷ xs) (y ∷ ys) e =
+    let parts : (Some x ≡ Some y) × (map (λ v. Some v) xs ≡ map (λ v. Some v) ys) = (cc, cc) in
+    let rest : xs ≡ ys = somes_same xs ys parts.1 in
+    let first : x ≡ y = same_Some x y parts.0 in
+    cc
+
+-- what is changed stands where it was put, and all else as before
+pub slice_get-set_same : {X : Type 0} (xs : List X) (i : ℕ) (a : X) → i < length xs → slice_get (set xs i a) i ≡ Some a
+slice_get-set_same [] i a lt = absurd (omega arith)
+slice_get-set_same (x ∷ xs) zero a lt = refl
+slice_get-set_same (x ∷ xs) (suc i) a lt = slice_get-set_same xs i a (let long : suc i < suc (length xs) = lt in omega arith)
+
+pub slice_get-set_other : {X : Type 0} (xs : List X) (i j : ℕ) (a : X) → (j ≡ i → ⊥) → slice_get (set xs i a) j ≡ slice_get xs j
+slice_get-set_other [] i j a ne = refl
+slice_get-set_other (x ∷ xs) zero zero a ne = absurd (ne refl)
+slice_get-set_other (x ∷ xs) zero (suc j) a ne = refl
+slice_get-set_other (x ∷ xs) (suc i) zero a ne = refl
+slice_get-set_other (x ∷ xs) (suc i) (suc j) a ne = slice_get-set_other xs i j a (λ e. ne (ap suc e))
+
+-- what stands in a list with one more behind it
+pub push_here : {X : Type 0} (xs : List X) (x : X) → slice_get (xs ++ x ∷ []) (length xs) ≡ Some x
+push_here [] x = refl
+push_here (y ∷ xs) x = push_here xs x
+
+pub push_cases : {X : Type 0} (xs : List X) (x : X) (k : ℕ) (s : X) → slice_get (xs ++ x ∷ []) k ≡ Some s → (slice_get xs k ≡ Some s) ⊎ ((k ≡ length xs) × (s ≡ x))
+push_cases [] x zero s h = inr (refl, cc)
+push_cases [] x (suc k) s h = absurd (cc)
+push_cases (y ∷ xs) x zero s h = inl h
+push_cases (y ∷ xs) x (suc k) s h = elim (push_cases xs x k s h) [ inl old ↦ inl old | inr e ↦ inr (ap suc e.0, e.1) ]
+
+-- what isn't there is None
+pub none_from_is_some : {X : Type 0} (o : Option X) → is_some o ≡ false → o ≡ None
+none_from_is_some None e = refl
+none_from_is_some (Some x) e = cc
