@@ -2,6 +2,11 @@ use Rattle.std.proofs.Common.{◌≡◌, ℕ, zero, suc, ◌+◌, ◌<◌, ◌�
 use Rattle.std.proofs.lemmas.Bool.{cases_eq}
 use Rattle.std.proofs.lemmas.List.{get_or-take, length-take, get_or-set_same, get_or-set_other}
 use Rattle.std.proofs.lemmas.Option.{slice_get-get_or}
+use Rattle.std_blocks.specs.declared.block_type.BlockType.{BlockType}
+use Rattle.std_blocks.specs.declared.block_type.BlockType.TheVariants.{SR, RS, CTU, CTD, CTUD, TP, TON, TOF}
+use Rattle.std_blocks.specs.declared.block_state.BlockState.{BlockState}
+use Rattle.std_blocks.specs.Blocks.{state_after, outputs_of, after, outputs_after}
+use Rattle.std_blocks.specs.declared.pins.PinsIn.{PinsIn}
 use Rattle.std_blocks.specs.declared.pins.PinsOut.{PinsOut}
 use Rattle.std_blocks.specs.Pins.{field_value}
 use Rattle.power_flow.specs.declared.state.Instance.{Instance}
@@ -12,7 +17,7 @@ use Rattle.power_flow.specs.declared.bound_box.BoundOutput.{BoundOutput}
 use Rattle.power_flow.specs.Names.{is_true}
 use Rattle.power_flow.proofs.Lists.{some_same}
 use Rattle.power_flow.specs.Meaning.{bit_at}
-use Rattle.power_flow.specs.Steps.BoxSteps.{IsMarked, HasOutput, AreApartBoxes, pin_stores, output_stores}
+use Rattle.power_flow.specs.Steps.BoxSteps.{IsMarked, HasOutput, AreApartBoxes, pin_stores, output_stores, read_by, made_by, state_in, box_inputs, box_result}
 
 pub slice_get-set_same : {X : Type 0} (xs : List X) (i : ℕ) (a : X) → i < length xs → slice_get (set xs i a) i ≡ Some a
 slice_get-set_same [] i a lt = absurd (omega arith)
@@ -25,6 +30,49 @@ slice_get-set_other (x ∷ xs) zero zero a ne = absurd (ne refl)
 slice_get-set_other (x ∷ xs) zero (suc j) a ne = refl
 slice_get-set_other (x ∷ xs) (suc i) zero a ne = refl
 slice_get-set_other (x ∷ xs) (suc i) (suc j) a ne = slice_get-set_other xs i j a (λ e. ne (ap suc e))
+
+-- a block's step is that of the inputs that a block of its type reads
+pub read_state : (block : BlockType) (s : BlockState) (pins : PinsIn) (dt : ℕ) → state_after block s (read_by block pins) dt ≡ state_after block s pins dt
+read_state SR s pins dt = refl
+read_state RS s pins dt = refl
+read_state CTU s pins dt = refl
+read_state CTD s pins dt = refl
+read_state CTUD s pins dt = refl
+read_state TP s pins dt = refl
+read_state TON s pins dt = refl
+read_state TOF s pins dt = refl
+
+pub read_outputs : (block : BlockType) (s : BlockState) (pins : PinsIn) → outputs_of block s (read_by block pins) ≡ outputs_of block s pins
+read_outputs SR s pins = refl
+read_outputs RS s pins = refl
+read_outputs CTU s pins = refl
+read_outputs CTD s pins = refl
+read_outputs CTUD s pins = refl
+read_outputs TP s pins = refl
+read_outputs TON s pins = refl
+read_outputs TOF s pins = refl
+
+-- what the step leaves
+pub read_result : (s : BlockState) (pins : PinsIn) (dt : ℕ) → made_by s (read_by s.block pins) dt ≡ made_by s pins dt
+read_result s pins dt =
+    let state = read_state s.block s pins dt in
+    let outputs = read_outputs s.block (state_after s.block s pins dt) pins in
+    let here : outputs_of s.block (state_after s.block s (read_by s.block pins) dt) (read_by s.block pins) ≡ outputs_of s.block (state_after s.block s pins dt) pins
+    = ap (λ t. outputs_of s.block t (read_by s.block pins)) state ∙ outputs in
+    ap (λ t. record { state = t; outputs = outputs_of s.block (state_after s.block s (read_by s.block pins) dt) (read_by s.block pins) }) state ∙ ap (λ o. record { state = state_after s.block s pins dt; outputs = o }) here
+
+unfolded : (e : BoundBox) (slots : List Slot) (dt : ℕ) (bits : List Bool) → made_by (state_in e.block (slice_get slots e.instance)) (box_inputs e slots bits) dt ≡ box_result e slots dt bits
+unfolding box_result
+unfolded e slots dt bits = refl
+
+-- a block that reads no others leaves what the box does
+pub step_result : (e : BoundBox) (slots : List Slot) (dt : ℕ) (bits : List Bool) (state next : BlockState) (pins : PinsIn) (shown : PinsOut)
+    → state ≡ state_in e.block (slice_get slots e.instance) → pins ≡ read_by state.block (box_inputs e slots bits)
+    → next ≡ after state pins dt → shown ≡ outputs_after state pins dt
+    → record { state = next; outputs = shown } ≡ box_result e slots dt bits
+step_result e slots dt bits state next pins shown is read stepped shows =
+    ap (λ t. record { state = t; outputs = shown }) stepped ∙ ap (λ o. record { state = after state pins dt; outputs = o }) shows
+    ∙ ap (λ p. made_by state p dt) read ∙ read_result state (box_inputs e slots bits) dt ∙ ap (λ t. made_by t (box_inputs e slots bits) dt) is ∙ unfolded e slots dt bits
 
 -- one more pin
 pub any_more : {X : Type 0} (P : X → Type 0) (xs : List X) (i : ℕ) (d : X) → i < length xs → Any P (take i xs) ⊎ P (get_or xs i d) → Any P (take (i + 1) xs)

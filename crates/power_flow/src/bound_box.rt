@@ -1,5 +1,6 @@
 ghost use Rattle.std.specs.Prelude.{◌≡◌};
-ghost use Rattle.power_flow.specs.Steps.BoxSteps.{box_inputs, box_result, state_in};
+ghost use Rattle.power_flow.specs.Steps.BoxSteps.{box_inputs, box_result, state_in, read_by};
+ghost use Rattle.std_blocks.specs.declared.block_type.BlockType.{BlockType};
 ghost use Rattle.std.specs.Prelude.{slice_get};
 
 use crate::source::Source;
@@ -30,21 +31,56 @@ pub struct BoundBox {
     pub outputs: Vec<BoundOutput>,
 }
 
-/// The state of the block at a place. A ladder has a block of that type there.
-fn block_at(slots: &[Slot], place: usize, block: BlockType) -> BlockState
-    ensures { result ≡ state_in block (slice_get slots.now place) }
+/// Takes the state of the block at a place. A ladder has a block of that type there.
+fn take_state(slots: &[Slot], place: usize, block: BlockType, state: &mut BlockState)
+    ensures { state.new ≡ state_in block (slice_get slots.now place) }
 {
-    match slots.get(place) {
-        Some(Slot::Block(instance)) => instance.state,
-        _ => BlockState::initial(block),
+    if let Some(Slot::Block(instance)) = slots.get(place) {
+        *state = instance.state;
+    } else {
+        *state = BlockState::initial(block);
     }
 }
 
 impl BoundBox {
     #[tactic(auto, unfolding(crate::specs::Steps::BoxSteps::box_inputs))]
-    /// The inputs of the box, by the slots and the states of the places.
-    fn inputs(&self, slots: &[Slot], bits: &[bool]) -> PinsIn
-        ensures { result ≡ box_inputs self.now slots.now bits.now }
+    /// The inputs that a latch reads.
+    fn latch_inputs(&self, slots: &[Slot], bits: &[bool]) -> PinsIn
+        ensures { result ≡ read_by BlockType.SR (box_inputs self.now slots.now bits.now) }
+    {
+        PinsIn {
+            bits: [
+                self.bits[0].is_on(slots, bits),
+                self.bits[1].is_on(slots, bits),
+                false,
+                false,
+            ],
+            int: 0,
+            time: 0,
+        }
+    }
+
+    #[tactic(auto, unfolding(crate::specs::Steps::BoxSteps::box_inputs))]
+    /// The inputs that a counter in one direction reads.
+    fn counter_inputs(&self, slots: &[Slot], bits: &[bool]) -> PinsIn
+        ensures { result ≡ read_by BlockType.CTU (box_inputs self.now slots.now bits.now) }
+    {
+        PinsIn {
+            bits: [
+                self.bits[0].is_on(slots, bits),
+                self.bits[1].is_on(slots, bits),
+                false,
+                false,
+            ],
+            int: self.int.int(slots),
+            time: 0,
+        }
+    }
+
+    #[tactic(auto, unfolding(crate::specs::Steps::BoxSteps::box_inputs))]
+    /// The inputs that a counter in both directions reads.
+    fn up_down_inputs(&self, slots: &[Slot], bits: &[bool]) -> PinsIn
+        ensures { result ≡ read_by BlockType.CTUD (box_inputs self.now slots.now bits.now) }
     {
         PinsIn {
             bits: [
@@ -54,18 +90,40 @@ impl BoundBox {
                 self.bits[3].is_on(slots, bits),
             ],
             int: self.int.int(slots),
+            time: 0,
+        }
+    }
+
+    #[tactic(auto, unfolding(crate::specs::Steps::BoxSteps::box_inputs))]
+    /// The inputs that a timer reads.
+    fn timer_inputs(&self, slots: &[Slot], bits: &[bool]) -> PinsIn
+        ensures { result ≡ read_by BlockType.TON (box_inputs self.now slots.now bits.now) }
+    {
+        PinsIn {
+            bits: [self.bits[0].is_on(slots, bits), false, false, false],
+            int: 0,
             time: self.time.time(slots),
         }
     }
 
-    #[tactic(auto, unfolding(crate::specs::Steps::BoxSteps::box_result))]
-    /// What a step of its block leaves, dt milliseconds after the one before.
-    pub fn step(&self, slots: &[Slot], bits: &[bool], dt: u32) -> Instance
-        ensures { result ≡ box_result self.now slots.now dt bits.now }
+    /// The inputs that a block of this type reads.
+    fn inputs(&self, block: BlockType, slots: &[Slot], bits: &[bool]) -> PinsIn
+        ensures { result ≡ read_by block (box_inputs self.now slots.now bits.now) }
     {
-        let pins = self.inputs(slots, bits);
-        let mut state = block_at(slots, self.instance, self.block);
-        let outputs = state.step(&pins, dt);
-        Instance { state, outputs }
+        match block {
+            BlockType::SR | BlockType::RS => self.latch_inputs(slots, bits),
+            BlockType::CTU | BlockType::CTD => self.counter_inputs(slots, bits),
+            BlockType::CTUD => self.up_down_inputs(slots, bits),
+            BlockType::TP | BlockType::TON | BlockType::TOF => self.timer_inputs(slots, bits),
+        }
+    }
+
+    /// Makes what a step of its block leaves, dt milliseconds after the one before.
+    pub fn step(&self, slots: &[Slot], bits: &[bool], dt: u32, made: &mut Instance)
+        ensures { made.new ≡ box_result self.now slots.now dt bits.now }
+    {
+        take_state(slots, self.instance, self.block, &mut made.state);
+        let pins = self.inputs(made.state.block, slots, bits);
+        made.outputs = made.state.step(&pins, dt);
     }
 }

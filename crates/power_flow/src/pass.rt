@@ -160,7 +160,7 @@ fn step_box(bound: &BoundBox, made: &mut Instance, slots: &[Slot], rows: &mut [b
     ensures made { made.new ≡ box_result bound.now slots.now dt rows.old }
     ensures shown { AreShown bound.now (box_result bound.now slots.now dt rows.old) rows.old rows.new }
 {
-    *made = bound.step(slots, rows, dt);
+    bound.step(slots, rows, dt, made);
     show_outputs(bound, made, rows);
 }
 

@@ -1,8 +1,8 @@
-ghost use Rattle.std.specs.Prelude.{◌≡◌, ◌<◌, ℕ, List, All, length, map, sum_by};
+ghost use Rattle.std.specs.Prelude.{◌≡◌, ◌<◌, ℕ, List, All, length, map, sum_by, slice_set};
 ghost use Rattle.std.specs.List.{AllByRecursion};
 ghost use Rattle.std.specs.Option.{option_map};
 ghost use Rattle.std_blocks.specs.declared.value.Value.TheVariants.{Bool as BoolValue};
-ghost use Rattle.power_flow.specs.Meaning.{coil_value, coil_memory, store, stored, NetworkMeaning, moment};
+ghost use Rattle.power_flow.specs.Meaning.{coil_value, coil_memory, store, stored, bit_at, NetworkMeaning, moment};
 ghost use Rattle.network.specs.Links.{Diagram};
 ghost use Rattle.power_flow.specs.declared.declarations.Declaration.{Declaration};
 ghost use Rattle.power_flow.specs.StateValue.{AreSlotsOf};
@@ -43,12 +43,29 @@ fn memory_of_coil(kind: CoilKind, link: bool, memory: bool) -> bool
     }
 }
 
-/// Stores what a coil stores, by its left link and its memory.
-fn store_coil(slots: &mut [Slot], coil: &BoundCoil, link: bool, memory: bool)
-    ensures { slots.new ≡ stored slots.old (store coil.now.place (option_map BoolValue (coil_value coil.now.kind link memory))) }
+/// Stores what a coil stores, by its left link and its memory, and then its memory.
+fn store_any_coil(coil: &BoundCoil, link: bool, memories: &mut [bool], slots: &mut [Slot])
+    requires { coil.now.memory < length memories.old }
+    ensures slots { slots.new ≡ stored slots.old (store coil.now.place (option_map BoolValue (coil_value coil.now.kind link (bit_at memories.old coil.now.memory)))) }
+    ensures memories { memories.new ≡ slice_set memories.old coil.now.memory (coil_memory coil.now.kind link (bit_at memories.old coil.now.memory)) }
 {
+    let memory = memories[coil.memory];
     if let Some(on) = value_of_coil(coil.kind, link, memory) {
         store_value(slots, coil.place, Value::Bool(on));
+    }
+    memories[coil.memory] = memory_of_coil(coil.kind, link, memory);
+}
+
+/// Stores what a coil stores. A plain coil keeps no memory.
+fn store_coil(coil: &BoundCoil, link: bool, memories: &mut [bool], slots: &mut [Slot])
+    requires { coil.now.memory < length memories.old }
+    ensures slots { slots.new ≡ stored slots.old (store coil.now.place (option_map BoolValue (coil_value coil.now.kind link (bit_at memories.old coil.now.memory)))) }
+    ensures memories { memories.new ≡ slice_set memories.old coil.now.memory (coil_memory coil.now.kind link (bit_at memories.old coil.now.memory)) }
+{
+    if let CoilKind::Plain = coil.kind {
+        store_value(slots, coil.place, Value::Bool(link));
+    } else {
+        store_any_coil(coil, link, memories, slots);
     }
 }
 
@@ -60,9 +77,7 @@ fn store_coils(coils: &[BoundCoil], links: &[bool], memories: &mut [bool], slots
     ensures memories { memories.new ≡ bound_memories coils.now 0 links.now memories.old }
 {
     for k in 0..coils.len() {
-        let memory = coils[k].memory;
-        store_coil(slots, &coils[k], links[k], memories[memory]);
-        memories[memory] = memory_of_coil(coils[k].kind, links[k], memories[memory]);
+        store_coil(&coils[k], links[k], memories, slots);
     }
 }
 

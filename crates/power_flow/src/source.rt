@@ -44,43 +44,65 @@ pub fn is_output_on(outputs: &PinsOut, field: Field) -> bool
 
 impl Source {
     /// The value that these slots have there; none where the state of a row is read.
-    pub fn value(self, slots: &[Slot]) -> Option<Value>
-        ensures { result ≡ source_value slots.now self }
+    fn value(&self, slots: &[Slot]) -> Option<Value>
+        ensures { result ≡ source_value slots.now self.now }
     {
         match self {
             Source::Nothing | Source::Power(_) => None,
-            Source::Variable(place) => match slots.get(place) {
+            Source::Variable(place) => match slots.get(*place) {
                 Some(Slot::Variable(value)) => Some(*value),
                 _ => None,
             },
-            Source::Output(place, field) => match slots.get(place) {
-                Some(Slot::Block(instance)) => Some(output_value(&instance.outputs, field)),
+            Source::Output(place, field) => match slots.get(*place) {
+                Some(Slot::Block(instance)) => Some(output_value(&instance.outputs, *field)),
                 _ => None,
             },
-            Source::Literal(value) => Some(value),
+            Source::Literal(value) => Some(*value),
         }
     }
 
     /// Whether the value there is TRUE.
-    pub fn is_true(self, slots: &[Slot]) -> bool
-        ensures { result ≡ is_true (source_value slots.now self) }
+    #[inline(never)]
+    fn is_true(&self, slots: &[Slot]) -> bool
+        ensures { result ≡ is_true (source_value slots.now self.now) }
     {
         matches!(self.value(slots), Some(Value::Bool(true)))
     }
 
     /// Whether it is ON, a row of the network by its state.
-    pub fn is_on(self, slots: &[Slot], rows: &[bool]) -> bool
-        ensures { result ≡ source_bit slots.now rows.now self }
+    pub fn is_on(&self, slots: &[Slot], rows: &[bool]) -> bool
+        ensures { result ≡ source_bit slots.now rows.now self.now }
     {
         if let Source::Power(row) = self {
-            return matches!(rows.get(row), Some(true));
+            return matches!(rows.get(*row), Some(true));
         }
         self.is_true(slots)
     }
 
     /// The INT there, or 0.
-    pub fn int(self, slots: &[Slot]) -> i16
-        ensures { result ≡ int_or_zero (source_value slots.now self) }
+    pub fn int(&self, slots: &[Slot]) -> i16
+        ensures { result ≡ int_or_zero (source_value slots.now self.now) }
+    {
+        if let Source::Literal(Value::Int(number)) = self {
+            return *number;
+        }
+        self.stored_int(slots)
+    }
+
+    /// The TIME there, or 0.
+    pub fn time(&self, slots: &[Slot]) -> u32
+        ensures { result ≡ time_or_zero (source_value slots.now self.now) }
+    {
+        if let Source::Literal(Value::Time(time)) = self {
+            return *time;
+        }
+        self.stored_time(slots)
+    }
+
+    /// The INT there, or 0.
+    #[inline(never)]
+    fn stored_int(&self, slots: &[Slot]) -> i16
+        ensures { result ≡ int_or_zero (source_value slots.now self.now) }
     {
         match self.value(slots) {
             Some(Value::Int(number)) => number,
@@ -89,8 +111,9 @@ impl Source {
     }
 
     /// The TIME there, or 0.
-    pub fn time(self, slots: &[Slot]) -> u32
-        ensures { result ≡ time_or_zero (source_value slots.now self) }
+    #[inline(never)]
+    fn stored_time(&self, slots: &[Slot]) -> u32
+        ensures { result ≡ time_or_zero (source_value slots.now self.now) }
     {
         match self.value(slots) {
             Some(Value::Time(time)) => time,

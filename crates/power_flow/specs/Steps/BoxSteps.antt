@@ -1,11 +1,12 @@
-use Rattle.std.specs.Prelude.{◌≡◌, ℕ, List, [], ◌∷◌, ◌++◌, Bool, true, Option, Some, None, Any, slice_get, slice_index_or}
+use Rattle.std.specs.Prelude.{◌≡◌, ℕ, List, [], ◌∷◌, ◌++◌, Bool, true, false, pos, Option, Some, None, Any, slice_get, slice_index_or}
 use Rattle.std.specs.List.{flat_map}
 use Rattle.std_blocks.specs.declared.value.Value.{Value}
 use Rattle.std_blocks.specs.declared.block_type.BlockType.{BlockType}
+use Rattle.std_blocks.specs.declared.block_type.BlockType.TheVariants.{SR, RS, CTU, CTD, CTUD, TP, TON, TOF}
 use Rattle.std_blocks.specs.declared.block_state.BlockState.{BlockState}
 use Rattle.std_blocks.specs.declared.pins.PinsIn.{PinsIn}
 use Rattle.std_blocks.specs.declared.pins.PinsOut.{PinsOut}
-use Rattle.std_blocks.specs.Blocks.{initial, after, outputs_after}
+use Rattle.std_blocks.specs.Blocks.{initial, bit, after, outputs_after}
 use Rattle.std_blocks.specs.Pins.{field_value}
 use Rattle.power_flow.specs.declared.state.Instance.{Instance}
 use Rattle.power_flow.specs.declared.state.Slot.{Slot}
@@ -29,11 +30,26 @@ box_inputs e slots bits = record {
   time = time_or_zero (source_value slots e.time);
 }
 
+-- the inputs that a block of this type reads, and no others
+abbrev pub read_by : BlockType → PinsIn → PinsIn
+read_by SR pins = record { bits = bit pins 0 ∷ bit pins 1 ∷ false ∷ false ∷ []; int = pos 0; time = 0 }
+read_by RS pins = record { bits = bit pins 0 ∷ bit pins 1 ∷ false ∷ false ∷ []; int = pos 0; time = 0 }
+read_by CTU pins = record { bits = bit pins 0 ∷ bit pins 1 ∷ false ∷ false ∷ []; int = pins.int; time = 0 }
+read_by CTD pins = record { bits = bit pins 0 ∷ bit pins 1 ∷ false ∷ false ∷ []; int = pins.int; time = 0 }
+read_by CTUD pins = record { bits = bit pins 0 ∷ bit pins 1 ∷ bit pins 2 ∷ bit pins 3 ∷ []; int = pins.int; time = 0 }
+read_by TP pins = record { bits = bit pins 0 ∷ false ∷ false ∷ false ∷ []; int = pos 0; time = pins.time }
+read_by TON pins = record { bits = bit pins 0 ∷ false ∷ false ∷ false ∷ []; int = pos 0; time = pins.time }
+read_by TOF pins = record { bits = bit pins 0 ∷ false ∷ false ∷ false ∷ []; int = pos 0; time = pins.time }
+
 -- the state of the block in a slot, or a new one of this type
 abbrev pub state_in : BlockType → Option Slot → BlockState
 state_in block None = initial block
 state_in block (Some (Variable v)) = initial block
 state_in block (Some (Block i)) = i.state
+
+-- what a step of a block leaves
+abbrev pub made_by : BlockState → PinsIn → ℕ → Instance
+made_by s pins dt = record { state = after s pins dt; outputs = outputs_after s pins dt }
 
 -- what the step of a box leaves
 unfoldable pub box_result : BoundBox → List Slot → ℕ → List Bool → Instance
