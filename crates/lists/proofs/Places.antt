@@ -1,5 +1,5 @@
 -- What stands at which place of a list.
-use Rattle.std.proofs.Common.{◌≡◌, ℕ, zero, suc, ◌<◌, ◌+◌, ◌⊎◌, inl, inr, List, [], ◌∷◌, ◌++◌, Option, Some, None, is_some, false, length, map, set, slice_get, refl, sym, ap, ◌∙◌, arith}
+use Rattle.std.proofs.Common.{◌≡◌, ℕ, zero, suc, ◌<◌, ◌⊎◌, inl, inr, List, [], ◌∷◌, ◌++◌, Option, Some, None, is_some, false, length, map, set, slice_get, refl, sym, ap, ◌∙◌, arith}
 use Rattle.std.proofs.lemmas.Bool.{cases_lt}
 use Rattle.std.proofs.lemmas.Option.{same_Some, slice_get_past}
 
@@ -33,7 +33,11 @@ same_by_each (x ∷ xs) (y ∷ ys) l h =
     let rest : xs ≡ ys = same_by_each xs ys (omega arith) (λ k. h (suc k)) in
     cc
 
--- each element in Some, and out again
+-- what is the same in Some is the same
+pub some_same : {X : Type 0} {a b : X} → Some a ≡ Some b → a ≡ b
+some_same e = cc
+
+-- so it is with each element of a list
 pub somes_same : {X : Type 0} (xs ys : List X) → map (λ v. Some v) xs ≡ map (λ v. Some v) ys → xs ≡ ys
 somes_same [] [] e = refl
 somes_same [] (y ∷ ys) e = absurd cc

@@ -1,4 +1,4 @@
-use Rattle.std.proofs.Common.{◌≡◌, ℕ, ◌⊎◌, inl, inr, MatchOption, Result, Ok, Err, OnOk, List, [], ◌∷◌, Option, Some, None, Contains, get_or, set, length-set, map, slice_get, zero, suc, refl, sym, ap, ◌∙◌, arith}
+use Rattle.std.proofs.Common.{◌≡◌, ℕ, ◌⊎◌, inl, inr, MatchOption, Result, Ok, Err, OnOk, List, [], ◌∷◌, Option, Some, None, get_or, set, length-set, map, slice_get, zero, suc, refl, sym, ap, ◌∙◌, arith}
 use Rattle.std.proofs.lemmas.Bool.{cases_eq}
 use Rattle.std.proofs.lemmas.List.{get_or-set_same, get_or-set_other}
 use Rattle.std.proofs.lemmas.Option.{slice_get_within, slice_get-get_or, get_or_from_slice_get, slice_get-map}
@@ -11,12 +11,6 @@ some_is a b e = cc
 -- what stands at one number of a list is one thing
 pub one_at : {A : Type 0} (xs : List A) (j k : ℕ) (a b : A) → j ≡ k → slice_get xs j ≡ Some a → slice_get xs k ≡ Some b → a ≡ b
 one_at xs j k a b e f h = some_is a b (sym f ∙ ap (slice_get xs) e ∙ h)
-
-pub contains_at : {A : Type 0} (xs : List A) (k : ℕ) (x : A) → slice_get xs k ≡ Some x → Contains xs x
-contains_at xs k x at = (k, slice_get_within xs k x at, get_or_from_slice_get xs k x x at)
-
-pub at_contains : {A : Type 0} (xs : List A) (x : A) → Contains xs x → (k : ℕ) × (slice_get xs k ≡ Some x)
-at_contains xs x in' = (in'.0, slice_get-get_or xs in'.0 x in'.1 ∙ ap Some in'.2)
 
 pub get_map : {A B : Type 0} (f : A → B) (xs : List A) (k : ℕ) (x : A) → slice_get xs k ≡ Some x → slice_get (map f xs) k ≡ Some (f x)
 get_map f xs k x at = slice_get-map f xs k ∙ ap (option_map f) at

@@ -3,6 +3,8 @@ use Rattle.std.proofs.lemmas.Bool.{cases_eq, cases_lt}
 use Rattle.std.proofs.lemmas.Option.{slice_get_within, slice_get-get_or, get_or_from_slice_get}
 use Rattle.std.proofs.lemmas.List.Elements.{Contains-append_left, Contains-push}
 use Rattle.std.specs.Str.{str_eq_ignore_ascii_case}
+use Rattle.lists.proofs.Places.{push_cases}
+use Rattle.lists.proofs.Members.{contains_at, at_contains}
 use Rattle.ladder_text.specs.declared.place.Place.{Place}
 use Rattle.ladder_text.specs.declared.drawn_box.DrawnBox.{DrawnBox}
 use Rattle.network.specs.declared.element.Element.{Element}
@@ -11,8 +13,7 @@ use Rattle.network.specs.Apart.{first_place}
 use Rattle.network.specs.Networks.{IsBefore, lowest_row}
 use Rattle.network.specs.Steps.Ranks.{ArePlaces, IsUnmetAt, IsTall, IsTallAt, IsFirstOf}
 use Rattle.network.specs.Steps.Twice.{IsTwiceIn}
-use Rattle.network.proofs.Basics.{one_at, contains_at, at_contains}
-use Rattle.network.proofs.Spots.{push_cases}
+use Rattle.network.proofs.Basics.{one_at}
 
 -- the first of the first n places
 pub record FirstTo (places : List Place) (least : Place) (n : ℕ) : Type 0 where

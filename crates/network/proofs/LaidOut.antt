@@ -1,6 +1,7 @@
 -- In each row the elements of a drawing stand one right of the other.
 use Rattle.std.proofs.Common.{◌≡◌, ℕ, ◌+◌, ◌<◌, ◌≤◌, inl, inr, List, Some, slice_get, sym, ap, ◌∙◌, arith}
 use Rattle.std.proofs.lemmas.Bool.{cases_lt}
+use Rattle.lists.proofs.Members.{at_contains}
 use Rattle.ladder_text.specs.Picture.{Picture, IsSound, IsBoxPlace, mark_at}
 use Rattle.ladder_text.specs.Picture.{IsSymbolPlace as IsPlaceOf}
 use Rattle.ladder_text.specs.declared.place.Place.{Place}
@@ -11,7 +12,7 @@ use Rattle.network.specs.Apart.{first_place, Has}
 use Rattle.network.specs.Networks.{IsElementOf}
 use Rattle.network.specs.Steps.Listing.{AreElementsOf}
 use Rattle.network.specs.Steps.Pairs.{AreLaidOut}
-use Rattle.network.proofs.Basics.{one_at, at_contains}
+use Rattle.network.proofs.Basics.{one_at}
 use Rattle.network.proofs.Sharing.{mark_of, wire_place, join_place, upright_place, symbol_place, box_place, has_on_page, precedes_not}
 
 -- the element is drawn in this row and column, a box also within its frame

@@ -2,13 +2,14 @@ use Rattle.std.proofs.Common.{◌≡◌, ℕ, ◌+◌, ◌<◌, inl, inr, List, 
 use Rattle.std.proofs.lemmas.Bool.{cases_eq}
 use Rattle.std.proofs.lemmas.Option.{slice_get_within}
 use Rattle.std.proofs.lemmas.List.Elements.{Contains-append_left}
+use Rattle.lists.proofs.Places.{push_cases, push_here}
+use Rattle.lists.proofs.Members.{contains_at}
 use Rattle.ladder_text.specs.Picture.{Picture, IsSound, mark_at}
 use Rattle.ladder_text.specs.declared.mark.Mark.TheVariants.{Rail}
 use Rattle.ladder_text.specs.declared.place.Place.{Place}
 use Rattle.network.specs.Links.{place}
 use Rattle.network.specs.Networks.{IsLeftRail, AreLeftRails}
-use Rattle.network.proofs.Basics.{contains_at, place_same}
-use Rattle.network.proofs.Spots.{push_here, push_cases}
+use Rattle.network.proofs.Basics.{place_same}
 use Rattle.network.proofs.Sharing.{rail_row}
 
 -- the places of the left rail in the rows above n

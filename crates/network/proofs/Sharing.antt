@@ -1,6 +1,7 @@
 -- No two elements of a drawing share a place.
 use Rattle.std.proofs.Common.{◌≡◌, ℕ, ◌<◌, ◌≤◌, ◌⊎◌, inl, inr, List, Some, Any, Contains, slice_get, refl, sym, ap, ◌∙◌, arith}
 use Rattle.std.proofs.lemmas.Bool.{cases_eq, cases_lt}
+use Rattle.lists.proofs.Members.{at_contains}
 use Rattle.ladder_text.specs.Picture.{Picture, IsSound, IsBoxPlace, mark_at}
 use Rattle.ladder_text.specs.Picture.{IsSymbolPlace as IsPlaceOf}
 use Rattle.ladder_text.specs.declared.mark.Mark.{Mark}
@@ -16,7 +17,7 @@ use Rattle.network.specs.Links.{place, IsSymbolPlace}
 use Rattle.network.specs.Apart.{first_place, Has}
 use Rattle.network.specs.Networks.{IsElementOf, IsLeftRail, Precedes, lowest_row}
 use Rattle.network.specs.Steps.Listing.{AreElementsOf, IsTheElementAt, IsNoElementAt}
-use Rattle.network.proofs.Basics.{one_at, at_contains}
+use Rattle.network.proofs.Basics.{one_at}
 
 -- the mark at each place of an element
 abbrev pub mark_of : Element → Mark

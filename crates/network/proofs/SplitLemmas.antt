@@ -1,14 +1,12 @@
 use Rattle.std.proofs.Common.{◌≡◌, ℕ, ◌+◌, ◌<◌, ◌⊎◌, inl, inr, List, [], ◌∷◌, ◌++◌, Option, Some, None, set, length-set, slice_get, length, sym, ap, ◌∙◌, arith}
 use Rattle.std.proofs.lemmas.Bool.{cases_eq}
-use Rattle.std.proofs.lemmas.List.{get_or-set_same, get_or-set_other}
+use Rattle.std.proofs.lemmas.List.{get_or-set_other}
 use Rattle.std.proofs.lemmas.Option.{slice_get_within, slice_get-get_or, get_or_from_slice_get}
+use Rattle.lists.proofs.Places.{slice_get-set_same, push_cases, push_here}
 use Rattle.network.specs.declared.element.Element.{Element}
 use Rattle.network.specs.Steps.Ranks.{IsIn, AreSplit, IsPut}
 use Rattle.network.proofs.Basics.{some_is, one_at, get_set}
-use Rattle.network.proofs.Spots.{push_old, push_here, push_cases}
-
-set_get : {A : Type 0} (xs : List A) (i : ℕ) (x : A) → i < length xs → slice_get (set xs i x) i ≡ Some x
-set_get xs i x lt = slice_get-get_or (set xs i x) i x (let l = length-set xs i x in omega arith) ∙ ap Some (get_or-set_same xs i x x lt)
+use Rattle.network.proofs.Spots.{push_old}
 
 set_get_other : {A : Type 0} (xs : List A) (i k : ℕ) (x y : A) → (k ≡ i → ⊥) → slice_get xs k ≡ Some y → slice_get (set xs i x) k ≡ Some y
 set_get_other xs i k x y ne at =
@@ -54,14 +52,14 @@ module _ (es : List Element) (ranks : List (Option ℕ)) (count : ℕ) (networks
   in_keep x i f is = elim (cases_eq x m) [
     | inl same ↦ (
       old ++ e ∷ [],
-      ap (slice_get (set networks m (old ++ e ∷ []))) same ∙ set_get networks m (old ++ e ∷ []) (slice_get_within networks m old at_m),
+      ap (slice_get (set networks m (old ++ e ∷ []))) same ∙ slice_get-set_same networks m (old ++ e ∷ []) (slice_get_within networks m old at_m),
       push_old old e i f (ap (λ (y : List Element). slice_get y i) (one_at networks m x old is.0 (sym same) at_m is.1) ∙ is.2),
     )
     | inr ne ↦ (is.0, set_get_other networks m x (old ++ e ∷ []) is.0 ne is.1, is.2)
   ]
 
   in_new : IsIn (set networks m (old ++ e ∷ [])) m (length old) e
-  in_new = (old ++ e ∷ [], set_get networks m (old ++ e ∷ []) (slice_get_within networks m old at_m), push_here old e)
+  in_new = (old ++ e ∷ [], slice_get-set_same networks m (old ++ e ∷ []) (slice_get_within networks m old at_m), push_here old e)
 
   within_old : (i : ℕ) (f : Element) (x : ℕ) → x ≡ m → IsIn networks x i f → i < length old
   within_old i f x same is = slice_get_within old i f (ap (λ (y : List Element). slice_get y i) (one_at networks m x old is.0 (sym same) at_m is.1) ∙ is.2)

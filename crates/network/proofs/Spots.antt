@@ -1,5 +1,6 @@
-use Rattle.std.proofs.Common.{◌≡◌, ◌≢◌, ℕ, ◌⊎◌, Bool, true, false, ◌&&◌, nat_eq, None, inl, inr, List, [], ◌∷◌, ◌++◌, Option, Some, slice_get, suc, zero, length, refl, sym, ap, ◌∙◌}
+use Rattle.std.proofs.Common.{◌≡◌, ◌≢◌, ℕ, Bool, true, false, ◌&&◌, nat_eq, None, inl, inr, List, [], ◌∷◌, ◌++◌, Option, Some, slice_get, suc, zero, length, refl, sym, ap, ◌∙◌}
 use Rattle.std.proofs.lemmas.Bool.{eqb-true, eq-eqb}
+use Rattle.lists.proofs.Places.{push_cases}
 use Rattle.ladder_text.specs.declared.place.Place.{Place}
 use Rattle.network.specs.declared.numbering.Spot.{Spot}
 use Rattle.network.specs.Steps.Numbers.{AreNumbers, IsSpot, number_at}
@@ -9,16 +10,6 @@ pub push_old : {A : Type 0} (xs : List A) (x : A) (k : ℕ) (s : A) → slice_ge
 push_old [] x k s h = absurd (cc)
 push_old (y ∷ xs) x zero s h = h
 push_old (y ∷ xs) x (suc k) s h = push_old xs x k s h
-
-pub push_here : {A : Type 0} (xs : List A) (x : A) → slice_get (xs ++ x ∷ []) (length xs) ≡ Some x
-push_here [] x = refl
-push_here (y ∷ xs) x = push_here xs x
-
-pub push_cases : {A : Type 0} (xs : List A) (x : A) (k : ℕ) (s : A) → slice_get (xs ++ x ∷ []) k ≡ Some s → (slice_get xs k ≡ Some s) ⊎ ((k ≡ length xs) × (s ≡ x))
-push_cases [] x zero s h = inr (refl, cc)
-push_cases [] x (suc k) s h = absurd (cc)
-push_cases (y ∷ xs) x zero s h = inl h
-push_cases (y ∷ xs) x (suc k) s h = elim (push_cases xs x k s h) [ inl old ↦ inl old | inr e ↦ inr (ap suc e.0, e.1) ]
 
 -- what is written at other places than p stays
 abbrev pub StaysBeside : Place → List (List ℕ) → List (List ℕ) → Type 0

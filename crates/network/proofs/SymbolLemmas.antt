@@ -1,6 +1,7 @@
 use Rattle.std.proofs.Common.{◌≡◌, ℕ, ◌+◌, ◌<◌, ◌≤◌, ◌⊎◌, inl, inr, List, [], Some, slice_get, length, sym, ap, ◌∙◌, arith}
 use Rattle.std.proofs.lemmas.Bool.{cases_eq}
 use Rattle.std.proofs.lemmas.Option.{slice_get_within}
+use Rattle.lists.proofs.Members.{contains_at, at_contains}
 use Rattle.ladder_text.specs.Picture.{Picture, IsSound, mark_at}
 use Rattle.ladder_text.specs.declared.mark.Mark.{Mark}
 use Rattle.ladder_text.specs.declared.mark.Mark.TheVariants.{ContactPart, CoilPart, BoxPart}
@@ -18,7 +19,7 @@ use Rattle.network.specs.Apart.{first_place}
 use Rattle.network.specs.Networks.{IsElementOf}
 use Rattle.network.specs.Steps.Listing.{IsIndex, IsTheElementAt, IsNoElementAt}
 use Rattle.network.specs.Steps.Symbols.{AreSymbols}
-use Rattle.network.proofs.Basics.{one_at, at_contains, contains_at, get_map, map_get}
+use Rattle.network.proofs.Basics.{one_at, get_map, map_get}
 use Rattle.network.proofs.Sharing.{mark_of, has_mark, begins, the_element}
 
 -- the first n places have their positions

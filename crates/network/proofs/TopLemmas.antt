@@ -1,6 +1,8 @@
 use Rattle.std.proofs.Common.{◌≡◌, ℕ, ◌+◌, ◌<◌, ◌≤◌, inl, inr, List, [], ◌∷◌, ◌++◌, Option, Some, None, Any, get_or, length-append, slice_get, slice_index, length, refl, sym, ap, ◌∙◌, arith}
 use Rattle.std.proofs.lemmas.Bool.{cases_eq, cases_lt}
 use Rattle.std.proofs.lemmas.Option.{slice_get_within, slice_get-get_or, get_or_from_slice_get}
+use Rattle.lists.proofs.Places.{push_cases, push_here}
+use Rattle.lists.proofs.Members.{at_contains}
 use Rattle.ladder_text.specs.Picture.{Picture, IsSound, mark_at}
 use Rattle.ladder_text.specs.declared.place.Place.{Place}
 use Rattle.network.specs.declared.element.Element.{Element}
@@ -11,8 +13,8 @@ use Rattle.network.specs.Networks.Chained.{here, along}
 use Rattle.network.specs.Steps.Listing.{AreElementsOf}
 use Rattle.network.specs.Steps.Pairs.{AreLabels}
 use Rattle.network.specs.Steps.Ranks.{AreTops, AreRanksOf, AreEntries, AreRanks}
-use Rattle.network.proofs.Basics.{some_is, one_at, at_contains, place_same}
-use Rattle.network.proofs.Spots.{push_old, push_here, push_cases}
+use Rattle.network.proofs.Basics.{some_is, one_at, place_same}
+use Rattle.network.proofs.Spots.{push_old}
 
 pub chained_is : (g : Picture) {e f : Element} → IsElementOf g e → Chained g e f → IsElementOf g f
 chained_is g is here = is

@@ -4,6 +4,7 @@ use Rattle.std.proofs.lemmas.Option.{slice_get_within, slice_get-get_or, get_or_
 use Rattle.std.specs.Result.{is_ok}
 use Rattle.std.specs.Str.{str_eq_ignore_ascii_case, str_to_ascii_lowercase}
 use Rattle.std.proofs.lemmas.Slice.Eq.{bytes_eq-Decides}
+use Rattle.lists.proofs.Members.{contains_at, at_contains}
 use Rattle.ladder_text.specs.Picture.{Picture, IsSound}
 use Rattle.ladder_text.specs.declared.place.Place.{Place}
 use Rattle.ladder_text.specs.declared.drawn_box.DrawnBox.{DrawnBox}
@@ -17,7 +18,7 @@ use Rattle.network.specs.Networks.Chained.{here, along}
 use Rattle.network.specs.Steps.Listing.{AreElementsOf}
 use Rattle.network.specs.Steps.Ranks.{AreRanks, AreSplit, IsIn, ArePlaces, IsUnmetAt, IsTallAt, IsFirstOf}
 use Rattle.network.specs.Steps.Twice.{IsTwiceIn}
-use Rattle.network.proofs.Basics.{one_at, contains_at, at_contains}
+use Rattle.network.proofs.Basics.{one_at}
 use Rattle.network.proofs.Sharing.{shared, has_mark, has_on_page, within_rows, within_box, pin_within, precedes_not, marks_no_rail}
 use Rattle.network.proofs.TopLemmas.{chained_is, chained_then}
 

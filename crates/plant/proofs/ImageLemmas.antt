@@ -1,5 +1,5 @@
 -- The outputs of programs, one program and one variable more at a time.
-use Rattle.std.proofs.Common.{◌≡◌, ℕ, ◌+◌, ◌<◌, ◌≤◌, zero, suc, List, [], ◌∷◌, ◌++◌, length, take, Option, Some, None, refl, sym, ap, ◌∙◌, subst, append_assoc, get_or, arith}
+use Rattle.std.proofs.Common.{◌≡◌, ℕ, ◌+◌, ◌<◌, ◌≤◌, suc, List, [], ◌∷◌, ◌++◌, length, take, Option, Some, None, refl, sym, ap, ◌∙◌, subst, append_assoc, get_or, arith}
 use Rattle.std.specs.Prelude.{slice_get, All}
 use Rattle.std.specs.List.{flat_map, enumerate_from}
 use Rattle.std.proofs.lemmas.List.{take_more, take_all, append-nil}
@@ -8,16 +8,12 @@ use Rattle.std.proofs.lemmas.Grind.{flat_map-append}
 use Rattle.std.proofs.lemmas.Option.{slice_get_within, get_or_from_slice_get}
 use Rattle.std.specs.Option.{option_map}
 use Rattle.std.proofs.lemmas.List.Elements.{All-append, All-nil, All-cons}
+use Rattle.lists.proofs.Places.{element_at}
 use Rattle.power_flow.specs.declared.declarations.Kind.{Kind}
 use Rattle.power_flow.specs.declared.declarations.Declaration.{Declaration}
 use Rattle.plant.specs.declared.task_output.TaskOutput.{TaskOutput}
 use Rattle.plant.specs.PlantValue.{ProgramValue, CodeValue, IsOutputOf, items_or_none, output_kind, outputs_of, outputs_in, output_at}
 use Rattle.plant.specs.Steps.Outputs.{output_if}
-
-some_at : {X : Type 0} (xs : List X) (n : ℕ) → n < length xs → (x : X) × (slice_get xs n ≡ Some x)
-some_at [] n lt = absurd (omega arith)
-some_at (x ∷ xs) zero lt = (x, refl)
-some_at (x ∷ xs) (suc n) lt = some_at xs n (let long : suc n < suc (length xs) = lt in omega arith)
 
 -- one more number of a list that is counted
 one_more : {X A : Type 0} (f : ℕ × X → List A) (xs : List X) (n : ℕ) (x : X) → n < length xs → x ≡ get_or xs n x
@@ -47,7 +43,7 @@ pub within_more : (i : ℕ) (ds : List Declaration) (n : ℕ) (before old new : 
     → old ≡ before ++ flat_map (variable_outputs i) (take n (enumerate_from 0 ds)) → new ≡ old ++ output_if i n (slice_get ds n)
     → new ≡ before ++ flat_map (variable_outputs i) (take (n + 1) (enumerate_from 0 ds))
 within_more i ds n before old new lt e f =
-    let at = some_at ds n lt in
+    let at = element_at ds n lt in
     let d = at.0 in
     let some : slice_get ds n ≡ Some d = at.1 in
     let here : d ≡ get_or ds n d = sym (get_or_from_slice_get ds n d d some) in

@@ -1,5 +1,5 @@
 -- Lines of a resource, and what is known of them.
-use Rattle.std.proofs.Common.{◌≡◌, ◌⊎◌, inl, inr, ℕ, ◌+◌, ◌<◌, ◌≤◌, zero, suc, List, [], ◌∷◌, ◌++◌, length, map, take, Some, slice_get, cond, refl, sym, ap, subst, ◌∙◌, arith}
+use Rattle.std.proofs.Common.{◌≡◌, inl, inr, ℕ, ◌+◌, ◌<◌, ◌≤◌, List, [], ◌∷◌, ◌++◌, length, map, take, Some, slice_get, cond, refl, sym, ap, subst, ◌∙◌, arith}
 use Rattle.std.specs.Prelude.{All}
 use Rattle.std.proofs.lemmas.List.{append-nil, length-append, take-append-le}
 use Rattle.std.proofs.lemmas.List.Elements.{All-push}
@@ -8,6 +8,7 @@ use Rattle.std.proofs.Math.Seq.{take-append_seam}
 use Rattle.std.specs.List.{flat_map, count_by}
 use Rattle.std.proofs.lemmas.List.Concat.{flat_map-cons}
 use Rattle.std.proofs.lemmas.List.Recursion.{is_count_by}
+use Rattle.lists.proofs.Places.{push_cases}
 use Rattle.plant.specs.declared.tree.Item.{Item}
 use Rattle.plant.specs.declared.tree.Item.TheVariants as item
 use Rattle.plant.specs.declared.tree.Bind.{Bind}
@@ -27,12 +28,6 @@ counted (item.Use u) xs = ap length (flat_map-cons task_of (item.Use u) xs)
 
 pub tasks_counted : (xs : List Item) → length (flat_map task_of xs) ≡ count_by is_task_line xs
 tasks_counted xs = is_count_by (λ ys. length (flat_map task_of ys)) is_task_line refl counted xs
-
-push_cases : {A : Type 0} (xs : List A) (x : A) (k : ℕ) (s : A) → slice_get (xs ++ x ∷ []) k ≡ Some s → (slice_get xs k ≡ Some s) ⊎ ((k ≡ length xs) × (s ≡ x))
-push_cases [] x zero s h = inr (refl, cc)
-push_cases [] x (suc k) s h = absurd (cc)
-push_cases (y ∷ xs) x zero s h = inl h
-push_cases (y ∷ xs) x (suc k) s h = elim (push_cases xs x k s h) [ inl old ↦ inl old | inr e ↦ inr (ap suc e.0, e.1) ]
 
 -- the uses stay lawful when a line comes behind them, and it is lawful if it is a use
 uses_more : (tree : Tree) (xs : List Item) (x : Item) → AreItemsLawful tree xs → ((u : Use) → x ≡ item.Use u → IsUseLawful tree xs u)

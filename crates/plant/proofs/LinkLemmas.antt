@@ -6,6 +6,9 @@ use Rattle.std.specs.Option.{option_map}
 use Rattle.std.proofs.lemmas.Option.{slice_get-get_or, slice_get-map, get_or_from_slice_get}
 use Rattle.std.proofs.lemmas.List.{length-map}
 use Rattle.std.proofs.lemmas.List.Elements.{All-nil, All-cons}
+use Rattle.lists.proofs.Places.{some_same}
+use Rattle.lists.proofs.Members.{all_from_places}
+use Rattle.lists.proofs.Zips.{zip_length, zip_at, zip_back}
 use Rattle.power_flow.specs.declared.declarations.Kind.{Kind}
 use Rattle.power_flow.specs.declared.declarations.Declaration.{Declaration}
 use Rattle.plant.specs.declared.binding.Source.{Source}
@@ -28,7 +31,7 @@ use Rattle.plant.specs.Steps.Drafts.{IsOriginOf, AreKindsOf, IsFeedOf, AreFeedsO
 use Rattle.plant.proofs.NameLemmas.{one_name}
 use Rattle.plant.proofs.ImageLemmas.{outputs_placed}
 use Rattle.plant.proofs.ProducerLemmas.{firsts_all, firsts_hold, firsts_distinct, all_flat, flat_all}
-use Rattle.plant.proofs.Zips.{some_same, zip_at, zip_back, zip_length, item_at, all_from, all_at}
+use Rattle.plant.proofs.Zips.{item_at, all_at}
 
 -- a source is resolved, with its task by its place among the producers
 pub source_linked : (plant : PlantValue) (c : CodeValue) (s : SourceName) (o : Origin) (x : Source) (kind : Kind) → AllZip (AreKindsOf plant) c.producers c.expected
@@ -111,14 +114,14 @@ module _ (plant : PlantValue) (us : List Use) (ps : List ProgramValue) (fs : Lis
       let p = item_at ps fs (sym fed) i f at in
       let u = item_at us ps many i p.0 p.1 in
       let each = feeds i u.0 p.0 f u.1 p.1 at in
-      all_flat (IsTaskOf plant) tasks_taken f (all_from (λ x. All (IsTaskOf plant) (tasks_taken x)) f (λ k x here.
+      all_flat (IsTaskOf plant) tasks_taken f (all_from_places (λ x. All (IsTaskOf plant) (tasks_taken x)) f (λ k x here.
       let b = zip_back (IsFeedOf plant p.0.ladder.declarations) (binds_of u.0) f each k x here in
       taken_is plant x.place x.kind x.kind b.0.source x.origin b.2.origin_is))
 
   -- each producer is a task of the plant
   pub producers_known : (producers : List TaskRef) → producers ≡ firsts (all_taken fs) → All (IsTaskOf plant) producers
   producers_known producers e =
-      let all : All (IsTaskOf plant) (all_taken fs) = all_flat (IsTaskOf plant) (λ f. flat_map tasks_taken f) fs (all_from (λ f. All (IsTaskOf plant) (flat_map tasks_taken f)) fs feed_taken) in
+      let all : All (IsTaskOf plant) (all_taken fs) = all_flat (IsTaskOf plant) (λ f. flat_map tasks_taken f) fs (all_from_places (λ f. All (IsTaskOf plant) (flat_map tasks_taken f)) fs feed_taken) in
       subst (λ (ts : List TaskRef). All (IsTaskOf plant) ts) (sym e) (firsts_all (IsTaskOf plant) (all_taken fs) all)
 
 -- each bound input takes from one of the producers
@@ -159,7 +162,7 @@ module _ (plant : PlantValue) (us : List Use) (draft : CodeValue) (fs : List (Li
       let c : CodeValue = code in
       let u = item_at us draft.programs many i p at in
       let each = bound_at i u.0 p u.1 at in
-      all_from (IsBindingSound c p) (items_or_none (slice_get bs i)) (λ k x here.
+      all_from_places (IsBindingSound c p) (items_or_none (slice_get bs i)) (λ k x here.
       let b = zip_back (IsBindingBy plant c p.ladder.declarations) (binds_of u.0) (items_or_none (slice_get bs i)) each k x here in
       (b.2.kind, b.2.input_kind_is, b.2.source_kind_is))
 

@@ -10,6 +10,7 @@ use Rattle.std.proofs.lemmas.List.{length-map, get_or-map}
 use Rattle.std.proofs.lemmas.List.Elements.{All-append, All-map, All-head, All-tail}
 use Rattle.std.proofs.lemmas.List.Kept.{AllPairs-cons}
 use Rattle.std.proofs.lemmas.Cmp.{tied_itself}
+use Rattle.lists.proofs.Members.{cons_later, cons_cases, cons_first}
 
 pub pairs_head : {X : Type 0} (R : X → X → Type 0) (x : X) (xs : List X) → AllPairs R (x ∷ xs) → All (R x) xs
 pairs_head R x xs pairs = λ k d lt. pairs 0 (suc k) d (omega arith) (omega (arith, lt))
@@ -32,29 +33,15 @@ pairs_map R f (x ∷ xs) pairs =
 pub contains_map : {X Y : Type 0} (f : X → Y) (xs : List X) (x : X) → Contains xs x → Contains (map f xs) (f x)
 contains_map f xs x there = (there.0, simp length-map there.1, get_or-map f xs there.0 x (f x) there.1 ∙ ap f there.2)
 
-further : {X : Type 0} (y : X) (ys : List X) (x : X) → Contains ys x → Contains (y ∷ ys) x
-further y ys x there = (suc there.0, omega (arith, there.1), there.2)
-
 filter_at : {X : Type 0} (p : X → Bool) (xs : List X) (k : ℕ) (x : X) → k < length xs → get_or xs k x ≡ x → p x ≡ true → Contains (filter p xs) x
 filter_at p [] k x lt is passes = absurd (omega (arith, lt))
 filter_at p (y ∷ ys) zero x lt is passes = let here : p y ≡ true = ap p is ∙ passes in rw here (0, omega arith, is)
 filter_at p (y ∷ ys) (suc k) x lt is passes =
     let more = filter_at p ys k x (omega (arith, lt)) is passes in
-    elim (p y) as (λ b. Contains (cond b (y ∷ filter p ys) (filter p ys)) x) [ true ↦ further y (filter p ys) x more | false ↦ more ]
+    elim (p y) as (λ b. Contains (cond b (y ∷ filter p ys) (filter p ys)) x) [ true ↦ cons_later y (filter p ys) x more | false ↦ more ]
 
 pub contains_filter : {X : Type 0} (p : X → Bool) (xs : List X) (x : X) → Contains xs x → p x ≡ true → Contains (filter p xs) x
 contains_filter p xs x there passes = filter_at p xs there.0 x there.1 there.2 passes
-
--- the first element, or one of the others
-cases_at : {X : Type 0} (y : X) (ys : List X) (k : ℕ) (x : X) → k < length (y ∷ ys) → get_or (y ∷ ys) k x ≡ x → (y ≡ x) ⊎ Contains ys x
-cases_at y ys zero x lt is = inl is
-cases_at y ys (suc k) x lt is = inr (k, omega (arith, lt), is)
-
-contains_cases : {X : Type 0} (y : X) (ys : List X) (x : X) → Contains (y ∷ ys) x → (y ≡ x) ⊎ Contains ys x
-contains_cases y ys x there = cases_at y ys there.0 x there.1 there.2
-
-here : {X : Type 0} (y : X) (ys : List X) → Contains (y ∷ ys) y
-here y ys = (0, omega arith, refl)
 
 none_here : {X : Type 0} (x : X) → Contains [] x → ⊥
 none_here x there = omega (arith, there.1)
@@ -72,15 +59,15 @@ not_itself R o x less = let e : Less ≡ Equal = sym less ∙ tied_itself o x in
 same_first : {X : Type 0} (R : X → X → Ordering) → IsTotalOrder R → (x y : X) (xs ys : List X) → AllPairs (λ a b. R a b ≡ Less) (x ∷ xs) → AllPairs (λ a b. R a b ≡ Less) (y ∷ ys)
     → Contains (y ∷ ys) x → Contains (x ∷ xs) y → x ≡ y
 same_first R o x y xs ys rising rising' in-ys in-xs =
-    elim (contains_cases y ys x in-ys) [
+    elim (cons_cases y ys x in-ys) [
       | inl e ↦ sym e
-      | inr later ↦ elim (contains_cases x xs y in-xs) [ inl e ↦ e | inr later' ↦ absurd (not_both R o x y (after_first R x xs y rising later') (after_first R y ys x rising' later)) ]
+      | inr later ↦ elim (cons_cases x xs y in-xs) [ inl e ↦ e | inr later' ↦ absurd (not_both R o x y (after_first R x xs y rising later') (after_first R y ys x rising' later)) ]
     ]
 
 rest_in : {X : Type 0} (R : X → X → Ordering) → IsTotalOrder R → (x y : X) (xs ys : List X) → x ≡ y → AllPairs (λ a b. R a b ≡ Less) (x ∷ xs)
     → ((z : X) → Contains (x ∷ xs) z → Contains (y ∷ ys) z) → (z : X) → Contains xs z → Contains ys z
 rest_in R o x y xs ys same rising within z there =
-    elim (contains_cases y ys z (within z (further x xs z there))) [
+    elim (cons_cases y ys z (within z (cons_later x xs z there))) [
       | inl e ↦ absurd (not_itself R o z (subst (λ w. R w z ≡ Less) (same ∙ e) (after_first R x xs z rising there)))
       | inr later ↦ later
     ]
@@ -89,10 +76,10 @@ rest_in R o x y xs ys same rising within z there =
 pub rising_same : {X : Type 0} (R : X → X → Ordering) → IsTotalOrder R → (xs ys : List X) → AllPairs (λ a b. R a b ≡ Less) xs → AllPairs (λ a b. R a b ≡ Less) ys
     → ((z : X) → Contains xs z → Contains ys z) → ((z : X) → Contains ys z → Contains xs z) → xs ≡ ys
 rising_same R o [] [] rising rising' within within' = refl
-rising_same R o [] (y ∷ ys) rising rising' within within' = absurd (none_here y (within' y (here y ys)))
-rising_same R o (x ∷ xs) [] rising rising' within within' = absurd (none_here x (within x (here x xs)))
+rising_same R o [] (y ∷ ys) rising rising' within within' = absurd (none_here y (within' y (cons_first y ys)))
+rising_same R o (x ∷ xs) [] rising rising' within within' = absurd (none_here x (within x (cons_first x xs)))
 rising_same R o (x ∷ xs) (y ∷ ys) rising rising' within within' =
-    let same = same_first R o x y xs ys rising rising' (within x (here x xs)) (within' y (here y ys)) in
+    let same = same_first R o x y xs ys rising rising' (within x (cons_first x xs)) (within' y (cons_first y ys)) in
     let rest = rising_same R o xs ys (pairs_tail (λ a b. R a b ≡ Less) x xs rising) (pairs_tail (λ a b. R a b ≡ Less) y ys rising')
     (rest_in R o x y xs ys same rising within) (rest_in R o y x ys xs (sym same) rising' within') in
     rw (same, rest) refl

@@ -6,10 +6,11 @@ use Rattle.std.proofs.lemmas.Bool.Decides.{nat_tests}
 use Rattle.std.proofs.lemmas.List.{append-nil, length-append, get_or-append-add}
 use Rattle.std.proofs.Math.ListN.{get_or-append}
 use Rattle.std.proofs.lemmas.List.Elements.{filter-append, All-append, All-nil, All-cons}
+use Rattle.lists.proofs.Places.{some_same}
 use Rattle.plant.specs.declared.task_ref.TaskRef.{TaskRef}
 use Rattle.plant.specs.StandsFor.{firsts}
 use Rattle.plant.specs.PlantValue.{AreDistinct}
-use Rattle.plant.proofs.Zips.{all_filter, some_same}
+use Rattle.plant.proofs.Zips.{all_filter}
 
 -- one task
 abbrev pub is_same : TaskRef → TaskRef → Bool

@@ -1,17 +1,6 @@
 -- Lists that are the same by what is found at each place.
 use Rattle.std.proofs.Common.{◌≡◌, ℕ, suc, ◌<◌, List, [], ◌∷◌, length, slice_get, arith, refl}
-use Rattle.std.proofs.lemmas.Option.{same_Some}
 use Rattle.plant.specs.PlantValue.{items_or_none}
-
--- lists of one length are equal where the items found at each place are
-pub same_by_places : {X : Type 0} (xs ys : List X) → length xs ≡ length ys → ((k : ℕ) → k < length xs → slice_get xs k ≡ slice_get ys k) → xs ≡ ys
-same_by_places [] [] l h = refl
-same_by_places [] (y ∷ ys) l h = absurd (omega arith)
-same_by_places (x ∷ xs) [] l h = absurd (omega arith)
-same_by_places (x ∷ xs) (y ∷ ys) l h =
-    let first : x ≡ y = same_Some x y (h 0 (omega arith)) in
-    let rest : xs ≡ ys = same_by_places xs ys (omega arith) (λ k lt. h (suc k) (omega arith)) in
-    cc
 
 -- lists of lists of one length are equal where the lists found at each place are
 pub same_by_items : {X : Type 0} (xs ys : List (List X)) → length xs ≡ length ys → ((k : ℕ) → k < length xs → items_or_none (slice_get xs k) ≡ items_or_none (slice_get ys k)) → xs ≡ ys

@@ -4,6 +4,8 @@ use Rattle.std.specs.Prelude.{slice_get, All}
 use Rattle.std.specs.List.{flat_map, AllZip}
 use Rattle.std.proofs.lemmas.List.{length-map}
 use Rattle.std.proofs.lemmas.List.Elements.{All-nil, All-cons}
+use Rattle.lists.proofs.Places.{some_same}
+use Rattle.lists.proofs.Zips.{zip_length, zip_at, zip_back}
 use Rattle.power_flow.specs.declared.declarations.Declaration.{Declaration}
 use Rattle.plant.specs.declared.binding.Source.{Source}
 use Rattle.plant.specs.declared.binding.Source.TheVariants as source
@@ -24,7 +26,7 @@ use Rattle.plant.specs.Faultless.{variables, IsLadderOf, tasks_of, use_of, binds
 use Rattle.plant.specs.PlantValue.{TaskValue, ProgramValue, CodeValue, ResourceValue, PlantValue, code_at, bindings_at, IsSoundPlant, AreProducersOf}
 use Rattle.plant.specs.StandsFor.{runs_in, IsOrigin, IsSourceOf, IsBindingOf, IsCodeOf, IsResourceOf, IsPlantOf, task_value}
 use Rattle.plant.specs.Steps.Drafts.{drafted, IsProgramOf, IsDraftOf, IsResourceDraft, IsReady, IsOnceBound, IsBindingBy, IsLinked, IsResourceLinked, HasPrograms, Triples}
-use Rattle.plant.proofs.Zips.{some_same, zip_at, zip_back, zip_length, zip_imply, item_at}
+use Rattle.plant.proofs.Zips.{zip_imply, item_at}
 
 -- two lists of one length whose items go together by place
 zip_from : {A B : Type 0} (R : A → B → Type 0) (xs : List A) (ys : List B) → length xs ≡ length ys → ((k : ℕ) (x : A) (y : B) → slice_get xs k ≡ Some x → slice_get ys k ≡ Some y → R x y) → AllZip R xs ys

@@ -1,42 +1,16 @@
 -- Lists whose items go together, place by place, and what holds of all items.
-use Rattle.std.proofs.Common.{◌≡◌, ℕ, zero, suc, ◌+◌, ◌<◌, Bool, true, false, List, [], ◌∷◌, ◌++◌, length, map, take, get_or, Some, ◌⊎◌, inl, inr, refl, sym, ap, ◌∙◌, subst, arith}
+use Rattle.std.proofs.Common.{◌≡◌, ℕ, zero, suc, ◌+◌, ◌<◌, Bool, true, false, List, [], ◌∷◌, ◌++◌, length, map, take, get_or, Some, inl, inr, refl, sym, ap, ◌∙◌, subst, arith}
 use Rattle.std.specs.Borrow.{Bor}
 use Rattle.std.specs.Prelude.{slice_get, All}
 use Rattle.std.specs.List.{AllZip, filter, flat_map}
 use Rattle.std.proofs.lemmas.List.Elements.{All-nil, All-cons, All-append, All-push}
 use Rattle.std.specs.Option.{option_map}
-use Rattle.std.proofs.lemmas.Option.{slice_get_read, slice_get-map, slice_get-get_or, slice_get_within, get_or_from_slice_get}
+use Rattle.std.proofs.lemmas.Option.{slice_get_read, slice_get-map, slice_get_within, get_or_from_slice_get}
 use Rattle.plant.specs.Steps.Drafts.{Triples}
 use Rattle.std.proofs.lemmas.List.{take_more, map-append, length-map, flat_map_more}
-
-pub some_same : {A : Type 0} {x y : A} → Some x ≡ Some y → x ≡ y
-some_same e = cc
-
-pub zip_at : {A B : Type 0} (R : A → B → Type 0) (xs : List A) (ys : List B) → AllZip R xs ys → (k : ℕ) (x : A) → slice_get xs k ≡ Some x → (y : B) × (slice_get ys k ≡ Some y) × R x y
-zip_at R [] [] z k x at = cc
-zip_at R [] (y ∷ ys) z k x at = absurd z
-zip_at R (x' ∷ xs) [] z k x at = absurd z
-zip_at R (x' ∷ xs) (y ∷ ys) z zero x at = let P : _ → Type 0 = λ w. R w y in (y, refl, subst P (some_same at) z.0)
-zip_at R (x' ∷ xs) (y ∷ ys) z (suc k) x at = zip_at R xs ys z.1 k x at
-
-pub zip_back : {A B : Type 0} (R : A → B → Type 0) (xs : List A) (ys : List B) → AllZip R xs ys → (k : ℕ) (y : B) → slice_get ys k ≡ Some y → (x : A) × (slice_get xs k ≡ Some x) × R x y
-zip_back R [] [] z k y at = cc
-zip_back R [] (y' ∷ ys) z k y at = absurd z
-zip_back R (x ∷ xs) [] z k y at = absurd z
-zip_back R (x ∷ xs) (y' ∷ ys) z zero y at = let P : _ → Type 0 = λ w. R x w in (x, refl, subst P (some_same at) z.0)
-zip_back R (x ∷ xs) (y' ∷ ys) z (suc k) y at = zip_back R xs ys z.1 k y at
-
-pub zip_length : {A B : Type 0} (R : A → B → Type 0) (xs : List A) (ys : List B) → AllZip R xs ys → length xs ≡ length ys
-zip_length R [] [] z = refl
-zip_length R [] (y ∷ ys) z = absurd z
-zip_length R (x ∷ xs) [] z = absurd z
-zip_length R (x ∷ xs) (y ∷ ys) z = ap suc (zip_length R xs ys z.1)
-
-pub zip_push : {A B : Type 0} (R : A → B → Type 0) (xs : List A) (ys : List B) (x : A) (y : B) → AllZip R xs ys → R x y → AllZip R (xs ++ x ∷ []) (ys ++ y ∷ [])
-zip_push R [] [] x y z r = (r, tt)
-zip_push R [] (y' ∷ ys) x y z r = absurd z
-zip_push R (x' ∷ xs) [] x y z r = absurd z
-zip_push R (x' ∷ xs) (y' ∷ ys) x y z r = (z.0, zip_push R xs ys x y z.1 r)
+use Rattle.lists.proofs.Members.{all_from_places}
+use Rattle.lists.proofs.Places.{push_cases, some_same}
+use Rattle.lists.proofs.Zips.{zip_push}
 
 -- what follows of each pair follows of all
 pub zip_imply : {A B : Type 0} (R S : A → B → Type 0) → ((x : A) (y : B) → R x y → S x y) → (xs : List A) (ys : List B) → AllZip R xs ys → AllZip S xs ys
@@ -73,18 +47,11 @@ zip_more_right R g xs n ys new x y lt is z r e =
     let front : take (n + 1) xs ≡ take n xs ++ x ∷ [] = take_more xs n x lt ∙ ap (λ p. take n xs ++ p ∷ []) (sym is) in
     rw (front, e, map-append g ys (y ∷ [])) (zip_push R (take n xs) (map g ys) x (g y) z r)
 
--- what is at a place of a list with one more item
-pub at_push : {A : Type 0} (xs : List A) (x : A) (k : ℕ) (y : A) → slice_get (xs ++ x ∷ []) k ≡ Some y → (slice_get xs k ≡ Some y) ⊎ ((k ≡ length xs) × (y ≡ x))
-at_push [] x zero y e = inr (refl, sym (some_same e))
-at_push [] x (suc k) y e = cc
-at_push (z ∷ xs) x zero y e = inl e
-at_push (z ∷ xs) x (suc k) y e = elim (at_push xs x k y e) [ inl h ↦ inl h | inr h ↦ inr (ap suc h.0, h.1) ]
-
 -- one more triple
 pub triples_push : {A B C : Type 0} (R : A → B → C → Type 0) (xs : List A) (ys : List B) (zs new : List C) (n : ℕ) (x : A) (y : B) (z : C)
     → length zs ≡ n → slice_get xs n ≡ Some x → slice_get ys n ≡ Some y → Triples R xs ys zs → R x y z → new ≡ zs ++ z ∷ [] → Triples R xs ys new
 triples_push R xs ys zs new n x y z long at at' before r e k x' y' w h h' h'' =
-    elim (at_push zs z k w (rw e at h'')) [
+    elim (push_cases zs z k w (rw e at h'')) [
       | inl old ↦ before k x' y' w h h' old
       | inr last ↦
           let same : k ≡ n = last.0 ∙ long in
@@ -116,17 +83,13 @@ item_at (x ∷ xs) [] e k y at = cc
 item_at (x ∷ xs) (y' ∷ ys) e zero y at = (x, refl)
 item_at (x ∷ xs) (y' ∷ ys) e (suc k) y at = item_at xs ys (omega arith) k y at
 
--- what holds of each item by its place holds of all
-pub all_from : {A : Type 0} (P : A → Type 0) (xs : List A) → ((k : ℕ) (x : A) → slice_get xs k ≡ Some x → P x) → All P xs
-all_from P xs h = λ k d lt. h k (get_or xs k d) (slice_get-get_or xs k d lt)
-
 pub all_at : {A : Type 0} (P : A → Type 0) (xs : List A) → All P xs → (k : ℕ) (x : A) → slice_get xs k ≡ Some x → P x
 all_at P xs h k x at = subst P (get_or_from_slice_get xs k x x at) (h k x (slice_get_within xs k x at))
 
 -- what holds of all holds of those that pass a test
 pub all_filter : {A : Type 0} (P : A → Type 0) (p : A → Bool) (xs : List A) → All P xs → All P (filter p xs)
 all_filter P p [] h = All-nil P
-all_filter P p (x ∷ xs) h = by (p x) refl (all_filter P p xs (all_from P xs (λ k y at. all_at P (x ∷ xs) h (suc k) y at)))
+all_filter P p (x ∷ xs) h = by (p x) refl (all_filter P p xs (all_from_places P xs (λ k y at. all_at P (x ∷ xs) h (suc k) y at)))
   where
     by : (b : Bool) → p x ≡ b → All P (filter p xs) → All P (filter p (x ∷ xs))
     by true e rest = rw e (All-cons P x (filter p xs) (all_at P (x ∷ xs) h 0 x refl) rest)

@@ -1,12 +1,15 @@
 use Rattle.std.proofs.Common.{◌≡◌, ℕ, zero, suc, ◌+◌, ◌<◌, List, [], ◌∷◌, ◌++◌, Option, Some, None, All, Contains, MatchOption, slice_get, get_or, take, length, arith, refl, sym, ap, ◌∙◌}
-use Rattle.std.specs.List.{AllZip, AllByRecursion, cons_option}
+use Rattle.std.specs.List.{AllZip, cons_option}
 use Rattle.std.specs.Option.{option_and_then, option_map}
 use Rattle.power_flow.specs.Lookup.{declared_at}
 use Rattle.power_flow.specs.declared.declarations.Declared.{Declared}
 use Rattle.power_flow.specs.declared.source.Source.{Source}
 use Rattle.power_flow.specs.declared.source.Source.TheVariants as source
 use Rattle.std.proofs.lemmas.List.{take_more, append-nil}
-use Rattle.std.proofs.lemmas.List.Elements.{filter_map-append, All-nil, All-cons, All-tail, recursion_from_All}
+use Rattle.std.proofs.lemmas.List.Elements.{filter_map-append, All-nil, All-cons}
+use Rattle.lists.proofs.Places.{some_same}
+use Rattle.lists.proofs.Zips.{zip_push}
+use Rattle.lists.proofs.Members.{at_contains}
 use Rattle.std_blocks.specs.declared.block_type.BlockType.{BlockType}
 use Rattle.std_blocks.specs.declared.pin.Field.{Field}
 use Rattle.std_blocks.specs.Pins.{input}
@@ -23,14 +26,12 @@ use Rattle.power_flow.specs.Names.{place_of}
 use Rattle.power_flow.specs.Meaning.{IsDrawn}
 use Rattle.power_flow.specs.Steps.NamedBox.{IsDrawnOnce, AreInRange, IsInRange}
 use Rattle.power_flow.specs.Steps.BoxTable.{right_pin, right_pins, output_if, box_of, boxes_of}
-use Rattle.power_flow.proofs.Lists.{some_same}
-use Rattle.power_flow.proofs.BoxesSources.{contains_at}
 
 -- an input is drawn once
 pub same_drawn : (b : DrawnBox) (block : BlockType) (field : Field) (p q : DrawnPin) → IsDrawnOnce b block → IsDrawn b block field p → IsDrawn b block field q → p ≡ q
 same_drawn b block field p q once is is' =
-    let one = contains_at b.pins p is.drawn in
-    let other = contains_at b.pins q is'.drawn in
+    let one = at_contains b.pins p is.drawn in
+    let other = at_contains b.pins q is'.drawn in
     let same = once one.0 other.0 p q (input field) one.1 other.1 is.named is'.named in
     some_same (sym one.1 ∙ ap (slice_get b.pins) same ∙ other.1)
 
@@ -40,12 +41,6 @@ in_range_of b pin fine in' = go pin.operand refl
     go : (o : Option Operand) → pin.operand ≡ o → MatchOption o (Unit {0}) (λ w. IsInRange w.text)
     go None e = tt
     go (Some w) e = fine pin w in' e
-
-pub zip_push : {A B : Type 0} (R : A → B → Type 0) (xs : List A) (ys : List B) (x : A) (y : B) → AllZip R xs ys → R x y → AllZip R (xs ++ x ∷ []) (ys ++ y ∷ [])
-zip_push R [] [] x y z r = (r, tt)
-zip_push R [] (y' ∷ ys) x y z r = absurd z
-zip_push R (x' ∷ xs) [] x y z r = absurd z
-zip_push R (x' ∷ xs) (y' ∷ ys) x y z r = (z.0, zip_push R xs ys x y z.1 r)
 
 -- one more pin
 pub outputs_more : (R : DrawnPin → BoundOutput → Type 0) (pins : List DrawnPin) (i : ℕ) (pin : DrawnPin) (outputs : List BoundOutput) (o : BoundOutput) → i < length pins → pin ≡ get_or pins i pin
@@ -101,15 +96,3 @@ pub boxes_more : (es : List Element) (i : ℕ) (e : Element) → i < length es �
 boxes_more es i e lt is =
     let front : take (i + 1) es ≡ take i es ++ e ∷ [] = take_more es i e lt ∙ ap (λ p. take i es ++ p ∷ []) (sym is) in
     ap boxes_of front ∙ filter_map-append box_of (take i es) (e ∷ [])
-
--- what holds of two lists holds of each
-pub all_first : {X : Type 0} (P : X → Type 0) (xs ys : List X) → All P (xs ++ ys) → All P xs
-all_first P xs ys all = recursion_first P xs ys (recursion_from_All P (xs ++ ys) all)
-  where
-    recursion_first : {X : Type 0} (P : X → Type 0) (xs ys : List X) → AllByRecursion P (xs ++ ys) → All P xs
-    recursion_first P [] ys all = All-nil P
-    recursion_first P (x ∷ xs) ys all = All-cons P x xs all.0 (recursion_first P xs ys all.1)
-
-pub all_last : {X : Type 0} (P : X → Type 0) (xs ys : List X) → All P (xs ++ ys) → All P ys
-all_last P [] ys all = all
-all_last P (x ∷ xs) ys all = all_last P xs ys (All-tail P x (xs ++ ys) all)

@@ -14,10 +14,8 @@ use Rattle.power_flow.specs.Steps.ElementFindings.{IsFirstOf}
 use Rattle.power_flow.specs.Steps.Earlier.{IsEarlier}
 use Rattle.power_flow.specs.declared.bind.Finding.{Finding}
 use Rattle.std.proofs.lemmas.List.{append-nil}
-use Rattle.power_flow.proofs.BoxesSources.{contains_at}
 use Rattle.std_blocks.specs.declared.pin.Pin.{Pin}
 use Rattle.std_blocks.specs.Pins.{pin_of, output}
-use Rattle.power_flow.proofs.Lists.{some_same}
 use Rattle.ladder_text.specs.declared.place.Place.{Place}
 use Rattle.ladder_text.specs.declared.drawn_box.DrawnBox.{DrawnBox}
 use Rattle.ladder_text.specs.declared.drawn_box.DrawnPin.{DrawnPin}
@@ -38,6 +36,8 @@ use Rattle.power_flow.specs.Steps.BoxFindings.{IsFaultless, fault_here, instance
 use Rattle.power_flow.specs.Steps.NamedBox.{IsNamedBox}
 use Rattle.power_flow.specs.Names.{is_dot}
 use Rattle.std.specs.List.{before_first}
+use Rattle.lists.proofs.Places.{some_same}
+use Rattle.lists.proofs.Members.{at_contains}
 
 -- types of one number are one
 pub same_number : (a b : BlockType) → eqb (type_number a) (type_number b) ≡ true → a ≡ b
@@ -167,8 +167,8 @@ named_box ds es b fine = record {
       | inr le ↦ elim (cases_lt j i) [ inl lt ↦ absurd (early j i q p pin lt at' at is' is) | inr le' ↦ omega arith ]
     ]
 
-    right : (pin : DrawnPin) (in' : Contains b.pins pin) → PinRight ds b (contains_at b.pins pin in').0 pin
-    right pin in' = at_pin (contains_at b.pins pin in').0 pin (contains_at b.pins pin in').1
+    right : (pin : DrawnPin) (in' : Contains b.pins pin) → PinRight ds b (at_contains b.pins pin in').0 pin
+    right pin in' = at_pin (at_contains b.pins pin in').0 pin (at_contains b.pins pin in').1
 
     left_false : (pin : Pin) (field : Field) → field_on Right (Some pin) ≡ Some field → pin ≡ output field
     left_false pin field e = go pin.left pin.field e
@@ -203,7 +203,7 @@ named_box ds es b fine = record {
 
     literals : (pin : DrawnPin) (o : Operand) (v : Value) → Contains b.pins pin → pin.operand ≡ Some o → literal_value o.text ≡ Some v → in_range v ≡ true
     literals pin o v in' has lit =
-        let at = contains_at b.pins pin in' in
+        let at = at_contains b.pins pin in' in
         let r = at_pin at.0 pin at.1 in
         go (own_field b pin) pin.side (operand_none pin pin.operand o r.operand has) r.known
       where

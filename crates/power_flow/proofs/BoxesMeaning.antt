@@ -4,6 +4,9 @@ use Rattle.std.specs.List.{AllZip, flat_map, enumerate_from, filter_map, cons_op
 use Rattle.std.specs.Option.{option_and_then, option_map_or, option_map}
 use Rattle.std.proofs.lemmas.List.{get_or-set_same, get_or-set_other}
 use Rattle.std.proofs.lemmas.Option.{slice_get-get_or, slice_get_within}
+use Rattle.lists.proofs.Places.{some_same}
+use Rattle.lists.proofs.Zips.{zip_length, zip_at, zip_back}
+use Rattle.lists.proofs.Members.{at_contains, contains_at}
 use Rattle.ladder_text.specs.declared.place.Place.{Place}
 use Rattle.ladder_text.specs.declared.contact.Contact.{Contact as DrawnContact}
 use Rattle.ladder_text.specs.declared.coil.Coil.{Coil as DrawnCoil}
@@ -45,14 +48,13 @@ use Rattle.power_flow.specs.Steps.BoxTable.{IsBitSource, IsBoundOutput, IsBoundB
 use Rattle.power_flow.specs.Steps.Circuit.{IsCircuit, bound_coil, bound_coils}
 use Rattle.power_flow.specs.Steps.Passing.{Pass, ArePassed, bound_stores, bound_memories}
 use Rattle.power_flow.specs.Waiting.{box_of, coils_of}
-use Rattle.power_flow.proofs.Lists.{Contains-slice_get, any_at, any_found, same_bit}
+use Rattle.power_flow.proofs.Lists.{any_at, any_found, same_bit}
 use Rattle.power_flow.proofs.Stepping.{stored-append}
-use Rattle.power_flow.proofs.Lists.{some_same}
 use Rattle.power_flow.proofs.Fusing.{fewer_passed}
-use Rattle.power_flow.proofs.BoxesSources.{zip_at, zip_back, zip_length, box_in, contains_at, right_pin_in, right_pin_at, pin_value, block_at, name_bit, name_value, pin_source_value, block_kept}
+use Rattle.power_flow.proofs.BoxesSources.{box_in, right_pin_in, right_pin_at, pin_value, block_at, name_bit, name_value, pin_source_value, block_kept}
 use Rattle.power_flow.proofs.Sweeping as sweeping
 use Rattle.power_flow.proofs.ColumnSteps as steps
-use Rattle.power_flow.proofs.ColumnSteps.{number_at, box_same, coil_same}
+use Rattle.power_flow.proofs.ColumnSteps.{number_at}
 
 -- the block results are those of the boxes alone
 only_boxes : (ds : List Declaration) (between : List Slot) (es : List Element)
@@ -350,7 +352,7 @@ module _ (ds : List Declaration) (d : Diagram) (circuit : Circuit) (dt : ℕ) (s
       (b, refl, (out.0, any_at (λ w. (w.side ≡ Right) × (w.row ≡ p.row)) b.pins pin.0 pin.1 pin.2 (pin.3.0, pin.3.1)))
 
   no_source : (k : ℕ) (e : Element) (p : Place) → slice_get d.elements k ≡ Some e → IsStop e p → Starts p → ⊥
-  no_source k e p at stop (inl rail) = is.sound.apart.rails e p (Contains-slice_get d.elements k e at) (has_of e p stop) rail
+  no_source k e p at stop (inl rail) = is.sound.apart.rails e p (contains_at d.elements k e at) (has_of e p stop) rail
   no_source k e p at stop (inr any) =
       let found = any_found (λ f. IsOutputOn ds between f p) d.elements any in
       let out = output_gives found.1 p found.3 in
@@ -358,7 +360,7 @@ module _ (ds : List Declaration) (d : Diagram) (circuit : Circuit) (dt : ℕ) (s
       let same = is.sound.apart.elements k found.0 e (Box out.0) p at at' (has_of e p stop) (inr (inl out.2)) in
       let box : e ≡ Box out.0 = some_same (sym at ∙ ap (slice_get d.elements) same ∙ at') in
       let P : Element → Type 0 = λ w. IsStop w p in
-      let wide = is.sound.wide out.0 (Contains-slice_get d.elements found.0 (Box out.0) at') in
+      let wide = is.sound.wide out.0 (contains_at d.elements found.0 (Box out.0) at') in
       let right = out.2.0 in
       no_stop out.0 wide right (subst P box stop)
     where
@@ -403,14 +405,14 @@ module _ (ds : List Declaration) (d : Diagram) (circuit : Circuit) (dt : ℕ) (s
           ∙ pin_value (box_result e slots dt rows) e.block name field (made_block b e rows is') named
 
       row_in : (x : Place) → Gives (Box b) x → is.top ≤ x.row
-      row_in x gives' = (is.rows (Box b) x (Contains-slice_get d.elements k (Box b) at) (inr (inl gives'))).0
+      row_in x gives' = (is.rows (Box b) x (contains_at d.elements k (Box b) at) (inr (inl gives'))).0
 
       there : IsMarked e.outputs.items (box_result e slots dt rows).outputs (q.row - is.top) → Starts q
       there marked =
           let o = any_found (λ w. (w.row ≡ q.row - is.top) × (is_true (Some (field_value (box_result e slots dt rows).outputs w.field)) ≡ true)) e.outputs.items marked in
           let pin = zip_back (IsBoundOutput ds is.top e.block) (right_pins b.pins) e.outputs.items is'.outputs o.0 o.1 o.2 in
           let right = right_pin_in b.pins o.0 pin.0 pin.1 in
-          let found = contains_at b.pins pin.0 right.0 in
+          let found = at_contains b.pins pin.0 right.0 in
           let gives' : Gives (Box b) (place pin.0.row b.right) = (refl, any_at (λ w. (w.side ≡ Right) × (w.row ≡ pin.0.row)) b.pins found.0 pin.0 found.1 (right.1, refl)) in
           let ge = row_in (place pin.0.row b.right) gives' in
           let ge' = row_in q gives in
@@ -424,7 +426,7 @@ module _ (ds : List Declaration) (d : Diagram) (circuit : Circuit) (dt : ℕ) (s
           ))
 
       back : Starts q → IsMarked e.outputs.items (box_result e slots dt rows).outputs (q.row - is.top)
-      back (inl rail) = absurd (is.sound.apart.rails (Box b) q (Contains-slice_get d.elements k (Box b) at) (inr (inl gives)) rail)
+      back (inl rail) = absurd (is.sound.apart.rails (Box b) q (contains_at d.elements k (Box b) at) (inr (inl gives)) rail)
       back (inr any) =
           let found = any_found (λ f. IsOutputOn ds between f q) d.elements any in
           let out = output_gives found.1 q found.3 in
@@ -523,7 +525,7 @@ module _ (ds : List Declaration) (d : Diagram) (circuit : Circuit) (dt : ℕ) (s
       one : (b : DrawnBox) (k : ℕ) (i : Instance) → Contains d.elements (Box b) → place_of ds b.instance ≡ Some k → slice_get slots k ≡ Some (Block i)
           → (pins : PinsIn) × AreInputs ds d before' between b i.state.block pins × (slice_get between k ≡ Some (Block record { state = after i.state pins dt; outputs = outputs_after i.state pins dt }))
       one b k i in' at was =
-          let found = contains_at d.elements (Box b) in' in
+          let found = at_contains d.elements (Box b) in' in
           let made = all_seen.made found.0 b (slice_get_within d.elements found.0 (Box b) found.1) found.1 in
           let e = made.box in
           let is' = box_is found.0 b e found.1 made.box_at in

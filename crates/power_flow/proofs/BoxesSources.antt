@@ -2,7 +2,10 @@ use Rattle.std.proofs.Common.{◌≡◌, ℕ, zero, suc, ◌<◌, ◌≤◌, inl
 use Rattle.std.specs.List.{AllZip, cons_option, before_first, after_first}
 use Rattle.std.specs.Option.{option_and_then, option_map_or}
 use Rattle.std.proofs.lemmas.Bool.{cases_lt}
-use Rattle.std.proofs.lemmas.Option.{slice_get-get_or, slice_get_within, slice_get_past}
+use Rattle.std.proofs.lemmas.Option.{slice_get_within, slice_get_past}
+use Rattle.lists.proofs.Members.{cons_later}
+use Rattle.lists.proofs.Zips.{zip_back}
+use Rattle.lists.proofs.Places.{element_at, some_same}
 use Rattle.ladder_text.specs.declared.place.Place.{Place}
 use Rattle.ladder_text.specs.declared.drawn_box.DrawnBox.{DrawnBox}
 use Rattle.ladder_text.specs.declared.drawn_box.DrawnPin.{DrawnPin}
@@ -36,42 +39,17 @@ use Rattle.power_flow.specs.Steps.Sources.{source_value, source_bit, slot_output
 use Rattle.power_flow.specs.StateValue.{variable_of}
 use Rattle.power_flow.specs.StateValue.{IsSlotOf, AreSlotsOf}
 use Rattle.power_flow.specs.Steps.BoxTable.{IsBlockAt, IsBoundBox, right_pin, right_pins, boxes_of}
-use Rattle.power_flow.proofs.Lists.{some_same}
-
--- lists that go together do so at each place
-pub zip_at : {A B : Type 0} (R : A → B → Type 0) (xs : List A) (ys : List B) → AllZip R xs ys → (k : ℕ) (x : A) → slice_get xs k ≡ Some x → (y : B) × (slice_get ys k ≡ Some y) × R x y
-zip_at R [] [] z k x at = cc
-zip_at R [] (y ∷ ys) z k x at = absurd z
-zip_at R (x' ∷ xs) [] z k x at = absurd z
-zip_at R (x' ∷ xs) (y ∷ ys) z zero x at = let P : _ → Type 0 = λ w. R w y in (y, refl, subst P (some_same at) z.0)
-zip_at R (x' ∷ xs) (y ∷ ys) z (suc k) x at = zip_at R xs ys z.1 k x at
-
-pub zip_back : {A B : Type 0} (R : A → B → Type 0) (xs : List A) (ys : List B) → AllZip R xs ys → (k : ℕ) (y : B) → slice_get ys k ≡ Some y → (x : A) × (slice_get xs k ≡ Some x) × R x y
-zip_back R [] [] z k y at = cc
-zip_back R [] (y' ∷ ys) z k y at = absurd z
-zip_back R (x ∷ xs) [] z k y at = absurd z
-zip_back R (x ∷ xs) (y' ∷ ys) z zero y at = let P : _ → Type 0 = λ w. R x w in (x, refl, subst P (some_same at) z.0)
-zip_back R (x ∷ xs) (y' ∷ ys) z (suc k) y at = zip_back R xs ys z.1 k y at
-
-pub zip_length : {A B : Type 0} (R : A → B → Type 0) (xs : List A) (ys : List B) → AllZip R xs ys → length xs ≡ length ys
-zip_length R [] [] z = refl
-zip_length R [] (y ∷ ys) z = absurd z
-zip_length R (x ∷ xs) [] z = absurd z
-zip_length R (x ∷ xs) (y ∷ ys) z = ap suc (zip_length R xs ys z.1)
-
-pub contains_later : {X : Type 0} (y : X) (xs : List X) (x : X) → Contains xs x → Contains (y ∷ xs) x
-contains_later y xs x (k, lt, at) = (suc k, (let long : length (y ∷ xs) ≡ suc (length xs) = refl in omega arith), at)
 
 -- the boxes are the elements that are boxes
 pub box_in : (es : List Element) (j : ℕ) (b : DrawnBox) → slice_get (boxes_of es) j ≡ Some b → Contains es (Box b)
 box_in [] j b at = cc
-box_in (Wire p ∷ es) j b at = contains_later (Wire p) es (Box b) (box_in es j b at)
-box_in (Join p ∷ es) j b at = contains_later (Join p) es (Box b) (box_in es j b at)
-box_in (Upright p ∷ es) j b at = contains_later (Upright p) es (Box b) (box_in es j b at)
-box_in (Contact p ∷ es) j b at = contains_later (Contact p) es (Box b) (box_in es j b at)
-box_in (Coil p ∷ es) j b at = contains_later (Coil p) es (Box b) (box_in es j b at)
+box_in (Wire p ∷ es) j b at = cons_later (Wire p) es (Box b) (box_in es j b at)
+box_in (Join p ∷ es) j b at = cons_later (Join p) es (Box b) (box_in es j b at)
+box_in (Upright p ∷ es) j b at = cons_later (Upright p) es (Box b) (box_in es j b at)
+box_in (Contact p ∷ es) j b at = cons_later (Contact p) es (Box b) (box_in es j b at)
+box_in (Coil p ∷ es) j b at = cons_later (Coil p) es (Box b) (box_in es j b at)
 box_in (Box a ∷ es) zero b at = (zero, (let long : length (Box a ∷ es) ≡ suc (length es) = refl in omega arith), ap Box (some_same at))
-box_in (Box a ∷ es) (suc j) b at = contains_later (Box a) es (Box b) (box_in es j b at)
+box_in (Box a ∷ es) (suc j) b at = cons_later (Box a) es (Box b) (box_in es j b at)
 
 pub box_at : (es : List Element) (b : DrawnBox) (k : ℕ) → slice_get es k ≡ Some (Box b) → (j : ℕ) × (slice_get (boxes_of es) j ≡ Some b)
 box_at [] b k at = cc
@@ -88,13 +66,10 @@ box_at (Upright p ∷ es) b (suc k) at = box_at es b k at
 box_at (Contact p ∷ es) b (suc k) at = box_at es b k at
 box_at (Coil p ∷ es) b (suc k) at = box_at es b k at
 
-pub contains_at : {X : Type 0} (xs : List X) (x : X) → Contains xs x → (k : ℕ) × (slice_get xs k ≡ Some x)
-contains_at xs x (k, lt, at) = (k, slice_get-get_or xs k x lt ∙ ap Some at)
-
 -- the right pins are the pins of the right side
 pub right_pin_in : (pins : List DrawnPin) (m : ℕ) (pin : DrawnPin) → slice_get (right_pins pins) m ≡ Some pin → Contains pins pin × (pin.side ≡ Right)
 right_pin_in [] m pin at = cc
-right_pin_in (p ∷ pins) m pin at = go (λ n at'. let h = right_pin_in pins n pin at' in (contains_later p pins pin h.0, h.1)) p.side refl m at
+right_pin_in (p ∷ pins) m pin at = go (λ n at'. let h = right_pin_in pins n pin at' in (cons_later p pins pin h.0, h.1)) p.side refl m at
   where
     go : ((n : ℕ) → slice_get (right_pins pins) n ≡ Some pin → Contains (p ∷ pins) pin × (pin.side ≡ Right)) → (s : Side) → p.side ≡ s → (n : ℕ) → slice_get (cons_option (right_pin p s) (right_pins pins)) n ≡ Some pin → Contains (p ∷ pins) pin × (pin.side ≡ Right)
     go later Left e n at' = later n at'
@@ -139,11 +114,6 @@ pub pin_value : (i : Instance) (block : BlockType) (name : List ℕ) (field : Fi
 pin_value i block [] field is at = absurd (no_pin block field at)
 pin_value i block (c ∷ name) field is at =
     ap (λ b. option_and_then (shown_at i.outputs) (pin_of b (c ∷ name))) is ∙ ap (option_and_then (shown_at i.outputs)) at
-
-pub element_at : {X : Type 0} (xs : List X) (k : ℕ) → k < length xs → (x : X) × (slice_get xs k ≡ Some x)
-element_at [] k lt = absurd (omega arith)
-element_at (x ∷ xs) zero lt = (x, refl)
-element_at (x ∷ xs) (suc k) lt = let short : suc k < suc (length xs) = lt in element_at xs k (omega arith)
 
 some_none : {X : Type 0} {x : X} → Some x ≡ None → ⊥
 some_none e = cc

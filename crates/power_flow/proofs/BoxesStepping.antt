@@ -1,7 +1,8 @@
-use Rattle.std.proofs.Common.{◌≡◌, ℕ, zero, suc, ◌+◌, ◌<◌, ◌⊎◌, ◌↔◌, inl, inr, List, [], ◌∷◌, ◌++◌, Bool, true, false, Some, Any, length, slice_get, get_or, set, take, drop, drop-cons, add-one, arith, refl, sym, ap, ◌∙◌, subst}
+use Rattle.std.proofs.Common.{◌≡◌, ℕ, suc, ◌+◌, ◌<◌, ◌⊎◌, ◌↔◌, inl, inr, List, [], ◌∷◌, ◌++◌, Bool, true, false, Some, Any, length, slice_get, get_or, set, take, drop, drop-cons, add-one, arith, refl, sym, ap, ◌∙◌, subst}
 use Rattle.std.proofs.lemmas.Bool.{cases_eq}
 use Rattle.std.proofs.lemmas.List.{get_or-take, length-take, get_or-set_same, get_or-set_other}
 use Rattle.std.proofs.lemmas.Option.{slice_get-get_or}
+use Rattle.lists.proofs.Places.{slice_get-set_same, slice_get-set_other, some_same}
 use Rattle.std_blocks.specs.declared.block_type.BlockType.{BlockType}
 use Rattle.std_blocks.specs.declared.block_type.BlockType.TheVariants.{SR, RS, CTU, CTD, CTUD, TP, TON, TOF}
 use Rattle.std_blocks.specs.declared.block_state.BlockState.{BlockState}
@@ -15,21 +16,8 @@ use Rattle.power_flow.specs.declared.state.Slot.TheVariants.{Block}
 use Rattle.power_flow.specs.declared.bound_box.BoundBox.{BoundBox}
 use Rattle.power_flow.specs.declared.bound_box.BoundOutput.{BoundOutput}
 use Rattle.power_flow.specs.Names.{is_true}
-use Rattle.power_flow.proofs.Lists.{some_same}
 use Rattle.power_flow.specs.Meaning.{bit_at}
 use Rattle.power_flow.specs.Steps.BoxSteps.{IsMarked, HasOutput, AreApartBoxes, pin_stores, output_stores, read_by, made_by, state_in, box_inputs, box_result}
-
-pub slice_get-set_same : {X : Type 0} (xs : List X) (i : ℕ) (a : X) → i < length xs → slice_get (set xs i a) i ≡ Some a
-slice_get-set_same [] i a lt = absurd (omega arith)
-slice_get-set_same (x ∷ xs) zero a lt = refl
-slice_get-set_same (x ∷ xs) (suc i) a lt = slice_get-set_same xs i a (let long : suc i < suc (length xs) = lt in omega arith)
-
-pub slice_get-set_other : {X : Type 0} (xs : List X) (i j : ℕ) (a : X) → (j ≡ i → ⊥) → slice_get (set xs i a) j ≡ slice_get xs j
-slice_get-set_other [] i j a ne = refl
-slice_get-set_other (x ∷ xs) zero zero a ne = absurd (ne refl)
-slice_get-set_other (x ∷ xs) zero (suc j) a ne = refl
-slice_get-set_other (x ∷ xs) (suc i) zero a ne = refl
-slice_get-set_other (x ∷ xs) (suc i) (suc j) a ne = slice_get-set_other xs i j a (λ e. ne (ap suc e))
 
 -- a block's step is that of the inputs that a block of its type reads
 pub read_state : (block : BlockType) (s : BlockState) (pins : PinsIn) (dt : ℕ) → state_after block s (read_by block pins) dt ≡ state_after block s pins dt

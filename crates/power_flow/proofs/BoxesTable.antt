@@ -5,6 +5,8 @@ use Rattle.std.proofs.lemmas.Slice.Eq.{bytes_eq-Decides}
 use Rattle.std.proofs.lemmas.Bool.{cases_lt}
 use Rattle.std.specs.List.{AllZip}
 use Rattle.std.proofs.lemmas.Option.{slice_get_within, slice_get-get_or}
+use Rattle.lists.proofs.Places.{some_same}
+use Rattle.lists.proofs.Zips.{zip_back}
 use Rattle.ladder_text.specs.declared.place.Place.{Place}
 use Rattle.ladder_text.specs.declared.drawn_box.DrawnBox.{DrawnBox}
 use Rattle.network.specs.declared.element.Element.{Element}
@@ -16,8 +18,7 @@ use Rattle.power_flow.specs.Names.{place_of}
 use Rattle.power_flow.specs.Steps.BoxSteps.{AreApartBoxes}
 use Rattle.power_flow.specs.Steps.BoxTable.{IsBoundBox, AreBoundBoxes, AreByColumn, boxes_of}
 use Rattle.power_flow.proofs.Places.{place_at}
-use Rattle.power_flow.proofs.Lists.{some_same}
-use Rattle.power_flow.proofs.BoxesSources.{zip_back, box_in}
+use Rattle.power_flow.proofs.BoxesSources.{box_in}
 
 -- where the boxes stand among the elements: each further on than the one before
 place_of_box : List Element → ℕ → ℕ

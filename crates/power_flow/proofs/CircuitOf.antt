@@ -22,12 +22,13 @@ use Rattle.power_flow.specs.Steps.Columns.Joins.{within, lowest}
 use Rattle.power_flow.specs.Steps.Circuit.{IsStepIn, bound_coil, bound_coils}
 use Rattle.power_flow.specs.Steps.RowEnds.{AreRows}
 use Rattle.power_flow.specs.Waiting.{coil_of, coils_of, box_of, boxes_of}
-use Rattle.power_flow.proofs.BoxesSources.{element_at, contains_later, contains_at}
 use Rattle.power_flow.proofs.BoxesTable.{all_boxes}
 use Rattle.power_flow.specs.Steps.NamedBox.{ArePinsIn}
 use Rattle.power_flow.proofs.Leading.{in_rows, pins_in}
 use Rattle.power_flow.proofs.StepLemmas.{kept_before}
 use Rattle.std.proofs.Common.{inl, Contains, MatchOption}
+use Rattle.lists.proofs.Places.{element_at}
+use Rattle.lists.proofs.Members.{at_contains, cons_later}
 
 -- what holds of the parts holds of all
 joined_all : (P : Step → Type 0) (parts : List (List Step)) → ((k : ℕ) (part : List Step) → slice_get parts k ≡ Some part → All P part) → All P (joined parts)
@@ -70,7 +71,7 @@ module _ (ds : List Declaration) (d : Diagram) (top rows : ℕ) where
   pins_all b [] [] rows_in zip = All-nil In
   pins_all b [] (begin ∷ begins) rows_in zip = absurd zip
   pins_all b (pin ∷ pins) begins rows_in zip = go pin.side begins (rows_in pin (zero, (let long : length (pin ∷ pins) ≡ suc (length pins) = refl in omega arith), refl))
-      (λ rest. pins_all b pins rest (λ q in'. rows_in q (contains_later pin pins q in'))) zip
+      (λ rest. pins_all b pins rest (λ q in'. rows_in q (cons_later pin pins q in'))) zip
     where
       go : (s : Side) (begins : List (List Step)) → pin.row - top < rows → ((rest : List (List Step)) → AllZip (IsLeftPinBegun d top b) (left_pins pins) rest → All In (joined rest))
           → AllZip (IsLeftPinBegun d top b) (cons_option (left_pin pin s) (left_pins pins)) begins → All In (joined begins)
@@ -148,7 +149,7 @@ bound_coils_counted ds es = count_from ds es 0
 -- the pins of the boxes lie in the rows
 pub boxes_in_rows : (es : List Element) (top rows : ℕ) → AreRows es top rows → All (ArePinsIn top rows) (boxes_of es)
 boxes_in_rows es top rows are = all_boxes (ArePinsIn top rows) es (λ b in' pin drawn.
-    let at = contains_at es (Box b) in' in
+    let at = at_contains es (Box b) in' in
     let h = pins_in es top rows are at.0 b at.1 pin drawn in
     let low = h.0 in let high = h.1 in
     omega arith)

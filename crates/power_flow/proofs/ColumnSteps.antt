@@ -4,6 +4,9 @@ use Rattle.std.specs.List.{AllZip, filter_map, cons_option}
 use Rattle.std.proofs.lemmas.Bool.{cases_eq}
 use Rattle.std.proofs.lemmas.List.{get_or-set_same, get_or-set_other}
 use Rattle.std.proofs.lemmas.Option.{slice_get_within}
+use Rattle.lists.proofs.Zips.{zip_at, zip_back}
+use Rattle.lists.proofs.Places.{element_at, slice_get-set_same, slice_get-set_other, some_same}
+use Rattle.lists.proofs.Members.{at_contains, contains_at}
 use Rattle.ladder_text.specs.declared.place.Place.{Place}
 use Rattle.ladder_text.specs.declared.contact.Contact.{Contact as DrawnContact}
 use Rattle.ladder_text.specs.declared.coil.Coil.{Coil as DrawnCoil}
@@ -35,10 +38,8 @@ use Rattle.power_flow.specs.Steps.BoxSteps.{box_result, IsMarked, HasOutput}
 use Rattle.power_flow.specs.Steps.BoxTable.{IsBoundBox, IsBoundOutput, AreBoundBoxes, right_pins}
 use Rattle.power_flow.specs.Waiting.{box_of, boxes_of, coil_of, coils_of}
 use Rattle.power_flow.proofs.PowerLemmas.{on_source}
-use Rattle.power_flow.proofs.Lists.{Contains-slice_get, any_at, any_found}
-use Rattle.power_flow.proofs.BoxesStepping.{slice_get-set_same, slice_get-set_other}
-use Rattle.power_flow.proofs.Lists.{some_same}
-use Rattle.power_flow.proofs.BoxesSources.{zip_at, zip_back, right_pin_in, right_pin_at, contains_at, element_at}
+use Rattle.power_flow.proofs.Lists.{any_at, any_found}
+use Rattle.power_flow.proofs.BoxesSources.{right_pin_in, right_pin_at}
 use Rattle.power_flow.proofs.Walking.{same_place, ends_has, Lets, Comes}
 use Rattle.power_flow.proofs.Sweeping as sweeping
 use Rattle.power_flow.proofs.Sweeping.{at_row, Touches}
@@ -170,7 +171,7 @@ module _ (ds : List Declaration) (d : Diagram) (top count : ℕ) (boxes : List B
   off_begun p a b ge lt long is none = set_begun p a b false ge lt long is ((λ e. absurd cc), (λ comes. absurd (none comes)))
 
   rail_lets : (r : Place) → Contains d.rails r → Lets d conducts r
-  rail_lets r rail k ends = absurd (sound.apart.rails ends.0 r (Contains-slice_get d.elements k ends.0 ends.1) (ends_has ends.0 r ends.2) rail)
+  rail_lets r rail k ends = absurd (sound.apart.rails ends.0 r (contains_at d.elements k ends.0 ends.1) (ends_has ends.0 r ends.2) rail)
 
   -- how a row begins where an element takes state
   pub begun : (n : ℕ) (f : Element) (p : Place) (a b : Pass) (steps : List Step) → slice_get d.elements n ≡ Some f → Takes f p → length a.rows ≡ count
@@ -552,7 +553,7 @@ module _ (ds : List Declaration) (d : Diagram) (top count : ℕ) (boxes : List B
       left_takes : (k : ℕ) (pin : DrawnPin) → slice_get (left_pins b.pins) k ≡ Some pin → Takes (Box b) (place pin.row b.left)
       left_takes k pin at' =
           let in' = left_pin_in b.pins k pin at' in
-          let found = contains_at b.pins pin in'.0 in
+          let found = at_contains b.pins pin in'.0 in
           (refl, any_at (λ w. (w.side ≡ Left) × (w.row ≡ pin.row)) b.pins found.0 pin found.1 (in'.1, refl))
 
       box_is : (e : BoundBox) → slice_get boxes (box_number n) ≡ Some e → IsBoundBox ds top b e
@@ -573,7 +574,7 @@ module _ (ds : List Declaration) (d : Diagram) (top count : ℕ) (boxes : List B
           let o = any_found (λ w. w.row ≡ q.row - top) e.outputs.items has in
           let pin = zip_back (IsBoundOutput ds top e.block) (right_pins b.pins) e.outputs.items is.outputs o.0 o.1 o.2 in
           let right = right_pin_in b.pins o.0 pin.0 pin.1 in
-          let found = contains_at b.pins pin.0 right.0 in
+          let found = at_contains b.pins pin.0 right.0 in
           let gives : Gives (Box b) (place pin.0.row b.right) = (refl, any_at (λ w. (w.side ≡ Right) × (w.row ≡ pin.0.row)) b.pins found.0 pin.0 found.1 (right.1, refl)) in
           let in' = (sweeping.in_rows d top count conducts IsSource sound rows_in no_source rail_source n (Box b) (place pin.0.row b.right) at (inr (inl gives))).0 in
           let one = o.3 in
@@ -614,7 +615,7 @@ module _ (ds : List Declaration) (d : Diagram) (top count : ℕ) (boxes : List B
             box_at = obeyed.at;
             result_at = result_here;
             power = λ pin in' side none.
-                let found = contains_at b.pins pin in' in
+                let found = at_contains b.pins pin in' in
                 let left = left_pin_at b.pins pin found.0 found.1 side in
                 let state = begins.states left.0 pin left.1 none in
                 let power = symbol_power n (Box b) (place pin.row b.left) at (left_takes left.0 pin left.1) (λ s. s) in

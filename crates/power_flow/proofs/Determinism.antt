@@ -3,6 +3,8 @@ use Rattle.std.specs.Option.{option_and_then}
 use Rattle.std.specs.List.{enumerate_from}
 use Rattle.power_flow.specs.Meaning.{bit_at}
 use Rattle.std.proofs.lemmas.Bool.{cases_eq}
+use Rattle.lists.proofs.Places.{same_by_slice_get}
+use Rattle.lists.proofs.Members.{cons_later, cons_cases, cons_first}
 use Rattle.ladder_text.specs.declared.place.Place.{Place}
 use Rattle.ladder_text.specs.declared.drawn_box.DrawnBox.{DrawnBox}
 use Rattle.ladder_text.specs.declared.drawn_box.DrawnPin.{DrawnPin}
@@ -22,7 +24,7 @@ use Rattle.power_flow.specs.Names.{place_of, value_at, value_of, slot_value, is_
 use Rattle.power_flow.specs.Meaning.{Moment, moment, HasPower, IsSource, IsOutputOn, AreInputs, IsInputBit, IsDrawn, BlocksStep, conducts, AreLinks, NetworkMeaning, next_memory, stored, stores}
 use Rattle.power_flow.specs.Scan.{AreWide, AllAreWide, ScanMeaning}
 use Rattle.power_flow.proofs.PowerLemmas.{on_sources}
-use Rattle.power_flow.proofs.Lists.{cons_first, same_by_slice_get, same_bit, same_bits, stable_bit, stable_number, stable_integer}
+use Rattle.power_flow.proofs.Lists.{same_bit, same_bits, stable_bit, stable_number, stable_integer}
 
 -- the slots x and y agree at the instances of the boxes that end at column c or before
 pub Agrees : List Declaration → Diagram → List Slot → List Slot → ℕ → Type 0
@@ -123,13 +125,6 @@ pub agrees_all : (ds : List Declaration) (d : Diagram) (dt : ℕ) (old : Moment)
 unfolding Agrees
 agrees_all ds d dt old x y wide f g zero = λ b k in' le at. let narrow = wide b in' in absurd (omega arith)
 agrees_all ds d dt old x y wide f g (suc c) = agrees_more ds d dt old x y c wide f g (agrees_all ds d dt old x y wide f g c)
-
-cons_cases : {X : Type 0} (y : X) (xs : List X) (x : X) → Contains (y ∷ xs) x → (y ≡ x) ⊎ Contains xs x
-cons_cases y xs x (zero, lt, at) = inl at
-cons_cases y xs x (suc k, lt, at) = inr (k, (let short : suc k < suc (length xs) = lt in omega arith), at)
-
-cons_later : {X : Type 0} (y : X) (xs : List X) (x : X) → Contains xs x → Contains (y ∷ xs) x
-cons_later y xs x (k, lt, at) = (suc k, (let long : length (y ∷ xs) ≡ suc (length xs) = refl in omega arith), at)
 
 -- a place is that of some box, or of none
 InstanceAt : List Declaration → List Element → ℕ → Type 0

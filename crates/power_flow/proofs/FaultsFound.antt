@@ -7,6 +7,8 @@ use Rattle.std.proofs.lemmas.Bool.Decides.{Decides-eqb, Decides-ltb}
 use Rattle.std.proofs.lemmas.Option.{slice_get-get_or, slice_get_within, get_or_from_slice_get}
 use Rattle.std.proofs.lemmas.List.Elements.{All-append, All-weaker, All-nil, All-cons, All-head, All-tail, All-contains, Contains-append_left, Contains-append_right}
 use Rattle.std.proofs.lemmas.List.Folds.{Any-from_list_any, list_any-from_Any}
+use Rattle.lists.proofs.Places.{some_same}
+use Rattle.lists.proofs.Members.{at_contains, cons_first}
 use Rattle.std_blocks.specs.declared.value.Value.{Value}
 use Rattle.std_blocks.specs.declared.pin.Field.{Field}
 use Rattle.std_blocks.specs.declared.pin.Field.TheVariants.{Bit, Int, Time}
@@ -41,11 +43,9 @@ use Rattle.power_flow.specs.Findings.{IsUpTo, IsFault}
 use Rattle.power_flow.specs.Steps.BoxFindings.{name_kind, read_name_fault, read_fault_at, read_fault_by, store_name_fault, store_fault_at, store_fault_by, operand_fault, own_field, kind_at, corner, side_place, fault_here, fault_if, type_number, instance_fault, same_side, is_bit, has_bit, same_field, same_pin, is_among, pin_fault, operand_finding, is_beside, has_line, line_fault, pin_findings, corner_findings, pins_findings, box_findings}
 use Rattle.power_flow.specs.Steps.ElementFindings.{write_fault, fault_with, variable_declared, element_findings, network_findings, findings, IsFirstOf, IsBound, HasNoFinding}
 use Rattle.power_flow.proofs.NameFaults.{ReadFault, StoreFault, LiteralFault, nothing_found, read_found, read_meant, store_found, store_meant, coil_stores, literal_found, literal_meant}
-use Rattle.power_flow.proofs.Lists.{any_at, any_found, cons_first}
-use Rattle.power_flow.proofs.Lists.{some_same}
+use Rattle.power_flow.proofs.Lists.{any_at, any_found}
 use Rattle.power_flow.proofs.FindingLemmas.{none_in_networks}
 use Rattle.power_flow.proofs.BoxesFaults.{same_pin_refl, any_false, slice_get-take, same_number, eqb_same}
-use Rattle.power_flow.proofs.BoxesSources.{contains_at}
 
 -- a fault that stands in a list of findings, if any does
 abbrev Meets : (BindKind → Place → Type 0) → Option Finding → Type 0
@@ -251,7 +251,7 @@ module _ (ds : List Declaration) (es : List Element) where
 
             never : (pin : DrawnPin) (n : ℕ) → Contains b.pins pin → pin.side ≡ side → own_field b pin ≡ Some (Bit n) → ⊥
             never pin n in' on own =
-                let at = contains_at b.pins pin in' in
+                let at = at_contains b.pins pin in' in
                 let test = any_false (λ (q : DrawnPin). same_side side q.side && is_bit (own_field b q)) b.pins at.0 pin lacks at.1 in
                 let passes : (same_side side pin.side && is_bit (own_field b pin)) ≡ true = ap (λ s. same_side side s && is_bit (own_field b pin)) on ∙ ap (λ o. same_side side side && is_bit o) own ∙ ap (λ x. x && true) (same side) in
                 false≢true (sym test ∙ passes)
@@ -475,7 +475,7 @@ module _ (ds : List Declaration) (es : List Element) where
     operand_in : (side : Side) (text : List ℕ) (want : Option Kind) (p : Place) (k : BindKind) → IsOperand b side text want p → operand_fault ds side want text ≡ Some k → Contains (box_findings ds es b) (Some (finding k p))
     unfolding pin_findings
     operand_in side text want p k o is =
-        let at = contains_at b.pins o.pin o.drawn in
+        let at = at_contains b.pins o.pin o.drawn in
         let same : operand_fault ds o.pin.side (kind_at (own_field b o.pin)) o.operand.text ≡ operand_fault ds side want text =
         ap (λ s. operand_fault ds s (kind_at (own_field b o.pin)) o.operand.text) o.on ∙ ap (λ w. operand_fault ds side w o.operand.text) o.want_is ∙ ap (operand_fault ds side want) o.text_is in
         let here : operand_finding ds b o.pin o.pin.operand ≡ Some (finding k p) =

@@ -1,11 +1,11 @@
 -- A network has no more elements than a drawing has places.
 use Rattle.std.proofs.Common.{◌≡◌, inl, inr, ℕ, zero, suc, ◌+◌, ◌*◌, ◌<◌, ◌≤◌, ◌^◌, Some, slice_get, length, refl, arith}
 use Rattle.std.proofs.lemmas.Option.{slice_get_within}
+use Rattle.lists.proofs.Places.{element_at}
 use Rattle.network.specs.declared.element.Element.{Element}
 use Rattle.network.specs.Links.{Diagram}
 use Rattle.network.specs.Apart.{Precedes, first_place}
 use Rattle.network.specs.GraphValue.{IsSoundNetwork}
-use Rattle.power_flow.proofs.BoxesSources.{element_at}
 
 module _ (d : Diagram) (sound : IsSoundNetwork d) where
   -- before an element come no more than there are places before its own, by column and row

@@ -1,10 +1,11 @@
-use Rattle.std.proofs.Common.{◌≡◌, ℕ, suc, ◌+◌, Bool, false, cond, not, List, [], ◌∷◌, ◌++◌, length, Option, None, Some, is_some, position, refl, sym, ap, ◌∙◌}
+use Rattle.std.proofs.Common.{◌≡◌, ℕ, suc, ◌+◌, Bool, false, cond, not, List, [], ◌∷◌, ◌++◌, length, None, is_some, position, refl, sym, ap, ◌∙◌}
 use Rattle.std.specs.List.{prefix_len}
 use Rattle.std.specs.Map.{keys_of, values_of, lookup}
 use Rattle.std.specs.Str.{bytes_eq, str_to_ascii_lowercase, str_eq_ignore_ascii_case}
 use Rattle.std.specs.declared.vec.Vec.{Vec}
 use Rattle.std.proofs.lemmas.Bool.Decides.{same_from_decides, Decides-like}
 use Rattle.std.proofs.lemmas.Slice.Eq.{bytes_eq-Decides}
+use Rattle.lists.proofs.Places.{none_from_is_some}
 use Rattle.indexmap.specs.IndexMap.{insert_entry}
 use Rattle.indexmap.proofs.MapLemmas.{absent_from_lookup, some_index, insert_entry-absent}
 use Rattle.power_flow.specs.declared.declarations.Declaration.{Declaration}
@@ -42,11 +43,6 @@ module _ {A : Type 0} (name : List ℕ) where
       → position (is_key (str_to_ascii_lowercase name)) (keys_of es) ≡ place_of (values_of es) name
   unfolding place_of
   position_folded es h = rw (prefix_same es h, length_same es)
-
--- no place is found by a test that all fail
-none_from_is_some : {X : Type 0} (o : Option X) → is_some o ≡ false → o ≡ None
-none_from_is_some None e = refl
-none_from_is_some (Some x) e = cc
 
 -- keys are compared by their letters
 abbrev pub same_key : {A : Type 0} → Vec ℕ A → Vec ℕ A → Bool

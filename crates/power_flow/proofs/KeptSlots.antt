@@ -48,9 +48,10 @@ use Rattle.ladder_text.specs.declared.drawn_box.Side.{Side}
 use Rattle.ladder_text.specs.declared.drawn_box.Side.TheVariants.{Left, Right}
 use Rattle.std.specs.Option.{option_and_then, option_map_or}
 use Rattle.std.specs.List.{before_first}
+use Rattle.lists.proofs.Members.{at_contains}
 use Rattle.power_flow.proofs.BoxesFaults.{here_none, named_box, pins_right, operand_right}
 use Rattle.power_flow.proofs.BoxesBinding.{declared_place}
-use Rattle.power_flow.proofs.BoxesSources.{contains_at, block_at, pin_value, block_kept}
+use Rattle.power_flow.proofs.BoxesSources.{block_at, pin_value, block_kept}
 use Rattle.power_flow.proofs.Determinism.{box_cases}
 use Rattle.power_flow.specs.Meaning.{Moment, moment, NetworkMeaning, BlocksStep, stored, stores, store, coil_stores, coil_value, result_stores, side_stores}
 use Rattle.power_flow.specs.Scan.{ScanMeaning}
@@ -238,7 +239,7 @@ box_right ds es between b fits fine (pin ∷ pins) within =
         operand None e = tt
         operand (Some o) e =
             let in' = within pin (0, (let long : length (pin ∷ pins) ≡ suc (length pins) = refl in omega arith), refl) in
-            let at = contains_at b.pins pin in' in
+            let at = at_contains b.pins pin in' in
             let right = pins_right ds es b fine at.0 pin at.1 in
             let n = named_box ds es b fine in
             let out = n.outputs pin in' is in

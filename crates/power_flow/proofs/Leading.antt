@@ -3,6 +3,8 @@ use Rattle.std.proofs.Common.{◌≡◌, ◌⊎◌, inl, inr, ℕ, zero, suc, �
 use Rattle.std.proofs.lemmas.Bool.{cases_eq, cases_lt}
 use Rattle.std.proofs.lemmas.List.{get_or-set_same, get_or-set_other}
 use Rattle.std.proofs.lemmas.Option.{slice_get_within, slice_get-get_or}
+use Rattle.lists.proofs.Places.{some_same}
+use Rattle.lists.proofs.Members.{contains_at}
 use Rattle.ladder_text.specs.declared.place.Place.{Place}
 use Rattle.ladder_text.specs.declared.drawn_box.DrawnBox.{DrawnBox}
 use Rattle.ladder_text.specs.declared.drawn_box.DrawnPin.{DrawnPin}
@@ -14,7 +16,7 @@ use Rattle.network.specs.Links.{Diagram, Gives, place}
 use Rattle.network.specs.Apart.{Has, first_place}
 use Rattle.network.specs.GraphValue.{IsSoundNetwork}
 use Rattle.power_flow.specs.Steps.RowEnds.{AreRows, IsGiven, IsGivenByPin, AreEnds, AreEndsTo, AreEndsWithin, TellsLed}
-use Rattle.power_flow.proofs.Lists.{any_at, any_found, some_same, Contains-slice_get}
+use Rattle.power_flow.proofs.Lists.{any_at, any_found}
 
 -- two places of one row and one column are one
 pub same_place : (p q : Place) → p.row ≡ q.row → p.column ≡ q.column → p ≡ q
@@ -47,7 +49,7 @@ module _ (d : Diagram) (sound : IsSoundNetwork d) (top k : ℕ) (e : Element) (a
     | inl lt ↦ lt
     | inr le ↦
         let after = by_column d sound k j e f le there at' in
-        let behind = gives_after d sound f p (Contains-slice_get d.elements j f at') gives in
+        let behind = gives_after d sound f p (contains_at d.elements j f at') gives in
         absurd (omega arith)
   ]
 
@@ -74,7 +76,7 @@ module _ (d : Diagram) (sound : IsSoundNetwork d) (top k : ℕ) (e : Element) (a
           let column = g.0 in
           let found = any_found (λ (pin : DrawnPin). (pin.side ≡ Right) × (pin.row ≡ p.row)) b.pins g.1 in
           let is = found.3.1 in
-          let pins = sound.pins b found.1 (Contains-slice_get d.elements j (Box b) at') (Contains-slice_get b.pins found.0 found.1 found.2) in
+          let pins = sound.pins b found.1 (contains_at d.elements j (Box b) at') (contains_at b.pins found.0 found.1 found.2) in
           let same = sound.clear j k b e at at' there has (omega arith) (omega arith) left (omega arith) in
           omega arith
 
@@ -265,13 +267,13 @@ pin_has b pin in' = go pin.side refl
 
 -- where an element has a place, a row stands for it
 pub in_rows : (elements : List Element) (top rows : ℕ) → AreRows elements top rows → (k : ℕ) (e : Element) (p : Place) → slice_get elements k ≡ Some e → Has e p → (top ≤ p.row) × (p.row - top < rows)
-in_rows elements top rows are k e p at has = let h = are e p (Contains-slice_get elements k e at) has in let low = h.0 in let high = h.1 in (low, omega arith)
+in_rows elements top rows are k e p at has = let h = are e p (contains_at elements k e at) has in let low = h.0 in let high = h.1 in (low, omega arith)
 
 pub pins_in : (elements : List Element) (top rows : ℕ) → AreRows elements top rows → (k : ℕ) (b : DrawnBox) → slice_get elements k ≡ Some (Box b)
     → (pin : DrawnPin) → Contains b.pins pin → (top ≤ pin.row) × (pin.row < top + rows)
 pins_in elements top rows are k b at pin in' =
     let has = pin_has b pin in' in
-    let h = are (Box b) has.0 (Contains-slice_get elements k (Box b) at) has.1 in
+    let h = are (Box b) has.0 (contains_at elements k (Box b) at) has.1 in
     let row = has.2 in let low = h.0 in let high = h.1 in (omega arith, omega arith)
 
 pub pin_at : (pins : List DrawnPin) (n : ℕ) (pin : DrawnPin) → n < length pins → pin ≡ get_or pins n pin → slice_get pins n ≡ Some pin

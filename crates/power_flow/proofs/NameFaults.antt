@@ -2,6 +2,7 @@
 use Rattle.std.proofs.Common.{◌≡◌, ℕ, ◌⊎◌, inl, inr, List, [], ◌∷◌, Bool, true, false, Option, Some, None, Result, Ok, Err, refl, sym, ap, ◌∙◌, subst, if◌then◌else◌}
 use Rattle.std.specs.List.{before_first, after_first}
 use Rattle.std.proofs.lemmas.Bool.{false≢true}
+use Rattle.lists.proofs.Places.{some_same}
 use Rattle.std_blocks.specs.declared.value.Value.{Value}
 use Rattle.std_blocks.specs.declared.block_type.BlockType.{BlockType}
 use Rattle.std_blocks.specs.declared.block_type.BlockType.TheVariants.{SR, RS, CTU, CTD, CTUD, TP, TON, TOF}
@@ -22,7 +23,6 @@ use Rattle.power_flow.specs.Lookup.{declared_at, is_dotted}
 use Rattle.power_flow.specs.BindFaults.{IsVariable, IsNameOf, IsUndeclared, IsVariableName, IsOutputName, CannotRead, reads_part, reads_instance, reads_other, CannotStore, stores_dotted, stores_instance, stores_other, IsInputName, LacksOutput, in_range}
 use Rattle.power_flow.specs.Steps.BoxFindings.{same_kind, wants, output_kind, declared_kind, kind_if_declared, name_kind, read_name_fault, literal_fault, store_declared_fault, store_name_fault}
 use Rattle.power_flow.specs.Steps.ElementFindings.{write_fault, as_variable, fault_with}
-use Rattle.power_flow.proofs.Lists.{some_same}
 
 -- what is wrong with reading a name, kind by kind
 abbrev pub ReadFault : List Declaration → List ℕ → Option Kind → BindKind → Type 0

@@ -1,6 +1,8 @@
 -- The rows of a network, from its topmost to its lowest.
 use Rattle.std.proofs.Common.{◌≡◌, ◌⊎◌, inl, inr, ℕ, ◌+◌, ◌<◌, ◌≤◌, max, min, List, Some, Contains, slice_get, refl, sym, ap, ◌∙◌, subst, arith}
 use Rattle.std.proofs.lemmas.Bool.{cases_eq, cases_lt}
+use Rattle.lists.proofs.Places.{some_same}
+use Rattle.lists.proofs.Members.{contains_at}
 use Rattle.ladder_text.specs.declared.place.Place.{Place}
 use Rattle.ladder_text.specs.declared.drawn_box.DrawnBox.{DrawnBox}
 use Rattle.ladder_text.specs.declared.drawn_box.DrawnPin.{DrawnPin}
@@ -9,7 +11,7 @@ use Rattle.network.specs.declared.element.Element.{Element}
 use Rattle.network.specs.declared.element.Element.TheVariants.{Wire, Join, Upright, Contact, Coil, Box}
 use Rattle.network.specs.Links.{place}
 use Rattle.network.specs.Apart.{Has, first_place}
-use Rattle.power_flow.proofs.Lists.{any_found, some_same, Contains-slice_get}
+use Rattle.power_flow.proofs.Lists.{any_found}
 use Rattle.power_flow.proofs.Leading.{pin_has}
 
 -- no pin of the first n + 1 lies lower
@@ -41,7 +43,7 @@ box_below b lowest top pins p (inr (inr (inr stands))) = absurd stands
 
 pub box_reached : (b : DrawnBox) (lowest : ℕ) → IsReached b lowest → (p : Place) × Has (Box b) p × (p.row ≡ lowest)
 box_reached b lowest (inl top) = (place b.top b.left, inl refl, sym top)
-box_reached b lowest (inr found) = let has = pin_has b found.1 (Contains-slice_get b.pins found.0 found.1 found.2) in (has.0, has.1, has.2 ∙ found.3)
+box_reached b lowest (inr found) = let has = pin_has b found.1 (contains_at b.pins found.0 found.1 found.2) in (has.0, has.1, has.2 ∙ found.3)
 
 -- an element that is no box lies in one row
 pub plain_below : (e : Element) → ((b : DrawnBox) → e ≡ Box b → ⊥) → (p : Place) → Has e p → p.row ≤ (first_place e).row
@@ -83,7 +85,7 @@ pub record IsTopmost (elements : List Element) (row : ℕ) : Type 0 where
 
 pub topmost_more : (elements : List Element) (n : ℕ) (e : Element) (old new : ℕ) → slice_get elements n ≡ Some e → new ≡ min old (first_place e).row → IsTopmost elements old → IsTopmost elements new
 topmost_more elements n e old new at is was = elim (cases_lt (first_place e).row old) [
-  | inl lt ↦ record { element = e; in_list = Contains-slice_get elements n e at; is = omega arith }
+  | inl lt ↦ record { element = e; in_list = contains_at elements n e at; is = omega arith }
   | inr le ↦ record { element = was.element; in_list = was.in_list; is = (let h = was.is in omega arith) }
 ]
 
@@ -97,7 +99,7 @@ above_more elements n e old new at is were j f lt at' = elim (cases_eq j n) [
 pub lowest_more : (elements : List Element) (n : ℕ) (e : Element) (here old new : ℕ) → slice_get elements n ≡ Some e → new ≡ max old here
     → ((p : Place) × Has e p × (p.row ≡ here)) → IsLowest elements old → IsLowest elements new
 lowest_more elements n e here old new at is reached was = elim (cases_lt old here) [
-  | inl lt ↦ record { element = e; at = reached.0; in_list = Contains-slice_get elements n e at; has = reached.1; is = (let h = reached.2 in omega arith) }
+  | inl lt ↦ record { element = e; at = reached.0; in_list = contains_at elements n e at; has = reached.1; is = (let h = reached.2 in omega arith) }
   | inr le ↦ record { element = was.element; at = was.at; in_list = was.in_list; has = was.has; is = (let h = was.is in omega arith) }
 ]
 

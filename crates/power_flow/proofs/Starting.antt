@@ -1,9 +1,9 @@
 use Rattle.std.proofs.Common.{◌≡◌, ℕ, ◌↔◌, List, Bool, Option, Some, None, Contains, IsTrue, is_some, refl, ap, ◌∙◌}
+use Rattle.lists.proofs.Members.{contains_at, at_contains}
 use Rattle.ladder_text.specs.declared.place.Place.{Place}
 use Rattle.network.specs.declared.numbering.Spot.{Spot}
 use Rattle.network.specs.Steps.Numbers.{IsSpot}
 use Rattle.network.specs.Steps.Listing.{IsIndex}
-use Rattle.network.proofs.Basics.{at_contains, contains_at}
 
 -- an index finds the places that it is made of
 pub finds_rail : (places : List Place) (spots : List Spot) → IsIndex places spots → (p : Place) (found : Option ℕ) → ((k : ℕ) → (found ≡ Some k) ↔ IsSpot spots k p) → (b : Bool) → b ≡ is_some found

@@ -4,6 +4,8 @@ use Rattle.std.specs.List.{AllZip, filter_map, cons_option}
 use Rattle.std.proofs.lemmas.List.{append-nil, take_more, length-append}
 use Rattle.std.proofs.lemmas.List.Elements.{filter_map-append}
 use Rattle.std.proofs.lemmas.Option.{slice_get_read}
+use Rattle.lists.proofs.Places.{some_same}
+use Rattle.lists.proofs.Zips.{zip_push}
 use Rattle.ladder_text.proofs.ItemLemmas.{slice_get-append}
 use Rattle.ladder_text.specs.declared.place.Place.{Place}
 use Rattle.ladder_text.specs.declared.drawn_box.DrawnBox.{DrawnBox}
@@ -24,8 +26,6 @@ use Rattle.power_flow.specs.Steps.Sources.{name_source}
 use Rattle.power_flow.specs.Steps.Columns.{Begins, Joins, IsLeftPinBegun, left_pin, left_pins, joined, AreStepsOf, AreSteps}
 use Rattle.power_flow.specs.Steps.RowEnds.{AreRows, AreEndsTo, TellsLed, ArePushed, AreStepsTo}
 use Rattle.power_flow.specs.Waiting.{coil_of, coils_of, boxes_of}
-use Rattle.power_flow.proofs.Lists.{some_same}
-use Rattle.power_flow.proofs.BoxesBinding.{zip_push}
 use Rattle.power_flow.proofs.Leading.{tells_led, in_rows, pins_in}
 use Rattle.network.specs.GraphValue.{IsSoundNetwork}
 

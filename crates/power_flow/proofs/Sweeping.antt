@@ -1,6 +1,8 @@
 -- A pass through the columns of a network: what the states of the rows say after each element.
 use Rattle.std.proofs.Common.{◌≡◌, ℕ, ◌+◌, ◌-◌, ◌<◌, ◌≤◌, ◌⊎◌, ◌↔◌, inl, inr, List, [], ◌∷◌, Bool, true, false, Some, IsTrue, Any, Contains, slice_get, length, arith, refl, sym, ap, ◌∙◌, subst}
 use Rattle.std.proofs.lemmas.Bool.{cases_eq, cases_lt}
+use Rattle.lists.proofs.Places.{some_same}
+use Rattle.lists.proofs.Members.{contains_at}
 use Rattle.ladder_text.specs.declared.place.Place.{Place}
 use Rattle.ladder_text.specs.declared.drawn_box.DrawnBox.{DrawnBox}
 use Rattle.ladder_text.specs.declared.drawn_box.Side.TheVariants.{Left, Right}
@@ -13,10 +15,9 @@ use Rattle.power_flow.specs.Power.{IsWalk, IsOn, SymbolEndsAt, EndsAt}
 use Rattle.power_flow.specs.Meaning.{bit_at}
 use Rattle.power_flow.specs.Steps.Columns.{IsStop, IsLed, StandsIn, IsUpright}
 use Rattle.power_flow.proofs.PowerLemmas.{on_source, on_step}
-use Rattle.power_flow.proofs.Lists.{Contains-slice_get, any_at, any_found}
-use Rattle.power_flow.proofs.Lists.{some_same}
+use Rattle.power_flow.proofs.Lists.{any_at, any_found}
 use Rattle.power_flow.proofs.Walking as walking
-use Rattle.power_flow.proofs.Walking.{same_place, ends_has, Lets, Out, Comes, SomeComes}
+use Rattle.power_flow.proofs.Walking.{same_place, ends_has, Lets, Out, Comes}
 
 -- the state of the row of p
 abbrev pub at_row : List Bool → ℕ → Place → Bool
@@ -102,7 +103,7 @@ module _ (d : Diagram) (top count : ℕ) (conducts : ℕ → Bool) (IsSource : P
   Coming p = Comes d conducts IsSource p
 
   pub in_rows : (k : ℕ) (e : Element) (p : Place) → slice_get d.elements k ≡ Some e → Has e p → (top ≤ p.row) × (p.row < top + count)
-  in_rows k e p at has = rows_in e p (Contains-slice_get d.elements k e at) has
+  in_rows k e p at has = rows_in e p (contains_at d.elements k e at) has
 
   same_at : (i j : ℕ) (e f : Element) → slice_get d.elements i ≡ Some e → slice_get d.elements j ≡ Some f → i ≡ j → e ≡ f
   same_at i j e f at at' same = some_same (sym at ∙ ap (slice_get d.elements) same ∙ at')
@@ -137,7 +138,7 @@ module _ (d : Diagram) (top count : ℕ) (conducts : ℕ → Bool) (IsSource : P
   gives_column k (Upright at) q in' gives = absurd gives
   gives_column k (Contact c) q in' gives = gives.1
   gives_column k (Coil c) q in' gives = gives.1
-  gives_column k (Box b) q in' gives = let column = gives.0 in let wide = sound.wide b (Contains-slice_get d.elements k (Box b) in') in omega arith
+  gives_column k (Box b) q in' gives = let column = gives.0 in let wide = sound.wide b (contains_at d.elements k (Box b) in') in omega arith
 
   -- a place in the row of q, between the beginning of the element that gives there and q, is that element's
   gap : (j k : ℕ) (e f : Element) (q x : Place) → slice_get d.elements j ≡ Some e → slice_get d.elements k ≡ Some f → Gives e q → Has f x → x.row ≡ q.row
@@ -160,7 +161,7 @@ module _ (d : Diagram) (top count : ℕ) (conducts : ℕ → Bool) (IsSource : P
   gap j k (Box b) f q x in' in'' gives has row ge le =
       let column = gives.0 in
       let pin = any_found (λ w. (w.side ≡ Right) × (w.row ≡ q.row)) b.pins gives.1 in
-      let within = sound.pins b pin.1 (Contains-slice_get d.elements j (Box b) in') (Contains-slice_get b.pins pin.0 pin.1 pin.2) in
+      let within = sound.pins b pin.1 (contains_at d.elements j (Box b) in') (contains_at b.pins pin.0 pin.1 pin.2) in
       let above = within.0 in
       let below = within.1 in
       let here = pin.3.1 in
@@ -193,7 +194,7 @@ module _ (d : Diagram) (top count : ℕ) (conducts : ℕ → Bool) (IsSource : P
       let right = needed.column in
       let across = needed.row in
       let later = order_column n needed.index (Box b) needed.element (omega arith) at' needed.at in
-      let wide = sound.wide b (Contains-slice_get d.elements n (Box b) at') in
+      let wide = sound.wide b (contains_at d.elements n (Box b) at') in
       let end = gives'.0 in
       elim (cases_lt b.right needed.spot.column) [
         | inl left ↦
@@ -202,7 +203,7 @@ module _ (d : Diagram) (top count : ℕ) (conducts : ℕ → Bool) (IsSource : P
             omega arith
         | inr over ↦
             let pin = any_found (λ w. (w.side ≡ Right) × (w.row ≡ x.row)) b.pins gives'.1 in
-            let within = sound.pins b pin.1 (Contains-slice_get d.elements n (Box b) at') (Contains-slice_get b.pins pin.0 pin.1 pin.2) in
+            let within = sound.pins b pin.1 (contains_at d.elements n (Box b) at') (contains_at b.pins pin.0 pin.1 pin.2) in
             let above = within.0 in
             let below = within.1 in
             let here = pin.3.1 in
@@ -491,7 +492,7 @@ module _ (d : Diagram) (top count : ℕ) (conducts : ℕ → Bool) (IsSource : P
   box_walk n b q (p ∷ passed) at gives walk = elim walk.0 [
     | inl right ↦
         let takes = box_takes n b q at (inr (inl gives)) right.takes in
-        let wide = sound.wide b (Contains-slice_get d.elements n (Box b) at) in
+        let wide = sound.wide b (contains_at d.elements n (Box b) at) in
         let left = takes.0 in
         let end = gives.0 in
         absurd (omega arith)
@@ -510,7 +511,7 @@ module _ (d : Diagram) (top count : ℕ) (conducts : ℕ → Bool) (IsSource : P
           let comes = (coming_on n (Box b) (place b.top b.left) at (inl refl) (inl refl) (λ s. s)).1 on in
           let takes = box_takes n b (place b.top b.left) at (inl refl) comes.1.takes in
           let pin = any_found (λ w. (w.side ≡ Left) × (w.row ≡ b.top)) b.pins takes.1 in
-          let within = sound.pins b pin.1 (Contains-slice_get d.elements n (Box b) at) (Contains-slice_get b.pins pin.0 pin.1 pin.2) in
+          let within = sound.pins b pin.1 (contains_at d.elements n (Box b) at) (contains_at b.pins pin.0 pin.1 pin.2) in
           let above = within.0 in
           let here = pin.3.1 in
           omega arith

@@ -1,6 +1,7 @@
 -- Which places are ON: by the place on the left, and within an upright by all of its rows.
 use Rattle.std.proofs.Common.{◌≡◌, ℕ, zero, suc, ◌+◌, ◌-◌, ◌≤◌, ◌⊎◌, inl, inr, List, [], ◌∷◌, Bool, Some, IsTrue, Any, slice_get, arith, refl, sym, ap, ◌∙◌, subst}
 use Rattle.std.proofs.lemmas.Bool.{cases_lt}
+use Rattle.lists.proofs.Places.{some_same}
 use Rattle.ladder_text.specs.declared.place.Place.{Place}
 use Rattle.network.specs.declared.element.Element.{Element}
 use Rattle.network.specs.declared.element.Element.TheVariants.{Wire, Join, Upright, Contact, Coil, Box}
@@ -10,7 +11,6 @@ use Rattle.power_flow.specs.Power.{IsWalk, AllConduct, IsOn, SymbolEndsAt, EndsA
 use Rattle.power_flow.specs.Steps.Columns.{IsStop, StandsIn, IsUpright}
 use Rattle.power_flow.proofs.PowerLemmas.{on_step}
 use Rattle.power_flow.proofs.Lists.{any_found}
-use Rattle.power_flow.proofs.Lists.{some_same}
 
 pub same_place : (p q : Place) → p.row ≡ q.row → p.column ≡ q.column → p ≡ q
 same_place p q row column = ap (λ r. place r p.column) row ∙ ap (λ c. place q.row c) column

@@ -2,9 +2,10 @@ use Rattle.std.proofs.Common.{◌≡◌, ◌∙◌, ℕ, Some, slice_get, length
 use Rattle.std.proofs.lemmas.Bool.{cases_eq, cases_lt}
 use Rattle.std.proofs.lemmas.List.{get_or_past}
 use Rattle.std.proofs.lemmas.Option.{slice_get-get_or, slice_get_within}
+use Rattle.lists.proofs.Members.{contains_at, at_contains}
 use Rattle.network.specs.declared.labels.Pair.{Pair}
 use Rattle.network.specs.Steps.Joined.Joined.{here}
-use Rattle.network.proofs.Basics.{one_at, contains_at, at_contains}
+use Rattle.network.proofs.Basics.{one_at}
 use Rattle.network.proofs.Spreading.{labels_tell}
 use Rattle.network.proofs.labels.settle_labels.Goals as goal
 

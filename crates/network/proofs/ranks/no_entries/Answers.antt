@@ -1,5 +1,5 @@
 use Rattle.std.proofs.Common.{◌≡◌, ℕ, List, [], ◌∷◌, ◌++◌, Option, Some, None, length, slice_get, arith, length-append, ap, inl, inr}
-use Rattle.network.proofs.Spots.{push_cases}
+use Rattle.lists.proofs.Places.{push_cases}
 use Rattle.network.proofs.ranks.no_entries.Goals as goal
 
 none_in : (xs : List (Option ℕ)) → xs ≡ [] → (i : ℕ) (r : Option ℕ) → slice_get xs i ≡ Some r → r ≡ None

@@ -1,8 +1,10 @@
 use Rattle.std.proofs.Common.{◌≡◌, ◌∙◌, ◌<◌, ap, sym, subst, Some, length, refl, arith, slice_get}
 use Rattle.std.proofs.lemmas.List.{length_push}
 use Rattle.std.proofs.lemmas.Option.{slice_get_read}
+use Rattle.lists.proofs.Places.{some_same}
+use Rattle.lists.proofs.Zips.{zip_length, zip_at}
 use Rattle.plant.specs.Steps.Drafts.{drafted, IsReady, IsResourceDraft, IsResourceLinked}
-use Rattle.plant.proofs.Zips.{some_same, zip_at, zip_length, triples_push, all_at}
+use Rattle.plant.proofs.Zips.{triples_push, all_at}
 use Rattle.plant.proofs.link.link_resources.Goals as goal
 
 pub bounds-resources-i : goal.bounds-resources-i

@@ -4,6 +4,7 @@ use Rattle.std.specs.Global.{Global}
 use Rattle.std.specs.declared.sync.Arc.{Arc}
 use Rattle.std.proofs.lemmas.List.{length_push, length-map}
 use Rattle.std.proofs.lemmas.Option.{slice_get_read}
+use Rattle.lists.proofs.Zips.{zip_length}
 use Rattle.plant.specs.declared.task_code.TaskCode.{TaskCode}
 use Rattle.plant.specs.declared.tree.TaskLine.{TaskLine}
 use Rattle.plant.specs.declared.tree.Use.{Use}
@@ -12,7 +13,7 @@ use Rattle.plant.specs.Faultless.{uses_of}
 use Rattle.plant.specs.StandsFor.{runs_in}
 use Rattle.plant.specs.Steps.Drafts.{drafted, IsDraftOf, IsLinked, IsOnceBound}
 use Rattle.plant.proofs.StandLemmas.{runs_many}
-use Rattle.plant.proofs.Zips.{zip_length, ref_at, triples_more, all_filter}
+use Rattle.plant.proofs.Zips.{ref_at, triples_more, all_filter}
 use Rattle.plant.proofs.link.link_tasks.Goals as goal
 
 pub bounds-tasks-i : goal.bounds-tasks-i

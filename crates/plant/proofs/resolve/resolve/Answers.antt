@@ -1,16 +1,17 @@
 use Rattle.std.proofs.Common.{◌∙◌, ap, sym, subst, length}
+use Rattle.lists.proofs.Members.{all_from_places}
 use Rattle.plant.specs.Faultless.{IsResourceLawful}
 use Rattle.plant.specs.Steps.Reading.{tree_of}
 use Rattle.plant.specs.StandsFor.{IsPlantOf}
 use Rattle.plant.specs.Steps.Drafts.{programs_in, IsReady}
-use Rattle.plant.proofs.Zips.{all_at, all_from}
+use Rattle.plant.proofs.Zips.{all_at}
 use Rattle.plant.proofs.StandLemmas.{ready_from, stands, sound}
 use Rattle.plant.proofs.resolve.resolve.Goals as goal
 
 pub link_resources-requires-clause-ready : goal.link_resources-requires-clause-ready
 link_resources-requires-clause-ready c =
     let tree = tree_of c.requires.0 c.args.reading.now in
-    rw c.resources-resources.ensures (all_from IsReady tree.resources (λ k r at. ready_from tree r (all_at (IsResourceLawful tree) tree.resources c.requires.1.resources_lawful k r at)))
+    rw c.resources-resources.ensures (all_from_places IsReady tree.resources (λ k r at. ready_from tree r (all_at (IsResourceLawful tree) tree.resources c.requires.1.resources_lawful k r at)))
 
 pub new-requires : goal.new-requires
 new-requires c =

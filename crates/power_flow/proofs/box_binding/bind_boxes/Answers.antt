@@ -1,9 +1,10 @@
 use Rattle.std.proofs.Common.{ℕ, subst, [], ◌∷◌, ◌+◌, ◌++◌, List, All, take, length, sym, ap, ◌∙◌}
 use Rattle.std.proofs.lemmas.List.{length-append, take_all}
+use Rattle.lists.proofs.Members.{all_first, all_last}
 use Rattle.network.specs.declared.element.Element.{Element}
 use Rattle.power_flow.specs.Steps.NamedBox.{IsNamedBox, ArePinsIn, AreOutputsIn}
 use Rattle.power_flow.specs.Steps.BoxTable.{boxes_of}
-use Rattle.power_flow.proofs.BoxesBinding.{boxes_more, all_first, all_last}
+use Rattle.power_flow.proofs.BoxesBinding.{boxes_more}
 use Rattle.power_flow.proofs.box_binding.bind_boxes.Goals as goal
 
 pub loop-element-preserved : goal.loop-element-preserved

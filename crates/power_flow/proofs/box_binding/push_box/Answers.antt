@@ -1,11 +1,12 @@
 use Rattle.std.proofs.Common.{[], ◌∷◌, ◌<◌, All, length, ap, arith}
 use Rattle.std.proofs.lemmas.List.{append-nil, length-append}
 use Rattle.std.proofs.lemmas.List.Elements.{All-head, All-push}
+use Rattle.lists.proofs.Zips.{zip_push}
 use Rattle.power_flow.specs.declared.bound_box.BoundBox.{BoundBox}
 use Rattle.power_flow.specs.declared.bound_box.BoundOutput.{BoundOutput}
 use Rattle.power_flow.specs.Steps.NamedBox.{IsNamedBox, ArePinsIn}
 use Rattle.power_flow.specs.Steps.BoxTable.{IsBoundBox}
-use Rattle.power_flow.proofs.BoxesBinding.{none_pushed, zip_push}
+use Rattle.power_flow.proofs.BoxesBinding.{none_pushed}
 use Rattle.power_flow.proofs.box_binding.push_box.Goals as goal
 
 pub returns-in_default : goal.returns-in_default

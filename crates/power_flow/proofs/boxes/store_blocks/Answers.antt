@@ -1,7 +1,8 @@
 use Rattle.std.proofs.Common.{◌≡◌, ◌<◌, slice_get, set, length, get_or, arith, sym, ap, ◌∙◌}
 use Rattle.std.proofs.lemmas.Option.{slice_get-get_or, slice_get_within}
+use Rattle.lists.proofs.Places.{slice_get-set_other}
 use Rattle.power_flow.specs.declared.state.Slot.TheVariants.{Block}
-use Rattle.power_flow.proofs.BoxesStepping.{placed_more, slice_get-set_other}
+use Rattle.power_flow.proofs.BoxesStepping.{placed_more}
 use Rattle.power_flow.proofs.boxes.store_blocks.Goals as goal
 
 pub loop-k-preserved : goal.loop-k-preserved

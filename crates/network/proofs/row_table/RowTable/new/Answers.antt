@@ -1,6 +1,6 @@
 use Rattle.std.proofs.Common.{◌≡◌, ℕ, List, [], ◌∷◌, ◌++◌, Option, Some, None, length, slice_get, arith, length-append, ap, inl, inr}
+use Rattle.lists.proofs.Places.{push_cases}
 use Rattle.network.specs.declared.row_table.InRow.{InRow}
-use Rattle.network.proofs.Spots.{push_cases}
 use Rattle.network.proofs.row_table.RowTable.new.Goals as goal
 
 none_in : (xs : List (Option InRow)) → xs ≡ [] → (r : ℕ) (t : Option InRow) → slice_get xs r ≡ Some t → t ≡ None

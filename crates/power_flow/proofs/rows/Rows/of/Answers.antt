@@ -1,8 +1,8 @@
 use Rattle.std.proofs.Common.{◌≡◌, max, min, inl, refl, ap, arith}
 use Rattle.std.proofs.lemmas.Option.{slice_get_within}
+use Rattle.lists.proofs.Members.{at_contains}
 use Rattle.ladder_text.specs.declared.place.Place.{Place}
 use Rattle.network.specs.Apart.{first_place}
-use Rattle.power_flow.proofs.BoxesSources.{contains_at}
 use Rattle.power_flow.proofs.StepLemmas.{at_number}
 use Rattle.power_flow.proofs.RowLemmas.{topmost_more, above_more, lowest_more, below_more}
 use Rattle.power_flow.proofs.rows.Rows.of.Goals as goal
@@ -30,7 +30,7 @@ loop-element-preserved c =
 pub overflow_add-result : goal.overflow_add-result
 overflow_add-result c =
     let last = c.loop-element.invariant.lowest in
-    let at = contains_at c.args.elements.now last.element last.in_list in
+    let at = at_contains c.args.elements.now last.element last.in_list in
     let page = c.requires at.0 last.element last.at at.1 last.has in
     let row = page.0 in
     let is = last.is in
@@ -38,7 +38,7 @@ overflow_add-result c =
 
 pub returns-clause-rows : goal.returns-clause-rows
 returns-clause-rows c = λ rails sound e p in' has.
-    let at = contains_at c.args.elements.now e in' in
+    let at = at_contains c.args.elements.now e in' in
     let lt = slice_get_within c.args.elements.now at.0 e at.1 in
     let all = c.loop-element-test.false in
     let below_top = sound.tops e p in' has in
