@@ -19,6 +19,15 @@ fn put(slots: &mut [Slot], place: usize, slot: Slot)
     }
 }
 
+/// Changes the slot at a place to a block, if there is one.
+fn put_block(slots: &mut [Slot], place: usize, block: &Instance)
+    ensures { slots.new ≡ slice_set slots.old place (Block block.now) }
+{
+    if place < slots.len() {
+        slots[place] = Slot::Block(*block);
+    }
+}
+
 /// Puts the blocks back into their slots.
 pub fn store_blocks(boxes: &[BoundBox], results: &[Instance], slots: &mut [Slot])
     requires { length results.now ≡ length boxes.now }
@@ -27,7 +36,7 @@ pub fn store_blocks(boxes: &[BoundBox], results: &[Instance], slots: &mut [Slot]
     ensures others { (k : ℕ) → All (λ e. e.instance ≢ k) boxes.now → slice_get slots.new k ≡ slice_get slots.old k }
 {
     for k in 0..boxes.len() {
-        put(slots, boxes[k].instance, Slot::Block(results[k]));
+        put_block(slots, boxes[k].instance, &results[k]);
     }
 }
 

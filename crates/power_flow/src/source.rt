@@ -36,9 +36,9 @@ pub fn output_value(outputs: &PinsOut, field: Field) -> Value
 pub fn is_output_on(outputs: &PinsOut, field: Field) -> bool
     ensures { result ≡ is_true (Some (field_value outputs.now field)) }
 {
-    match output_value(outputs, field) {
-        Value::Bool(on) => on,
-        _ => false,
+    match field {
+        Field::Bit(k) => matches!(outputs.bits.get(k), Some(true)),
+        Field::Int | Field::Time => false,
     }
 }
 

@@ -14,7 +14,7 @@ loop-k-preserved c =
     let v = get_or results k _ in
     let at = slice_get-get_or boxes k c.index-boxes-k.result c.loop-k-test.true in
     let long : k < length results = omega arith in
-    let is : c.put.new.slots ≡ set c.loop-k.slots here.instance (Block v) = c.put.ensures in
+    let is : c.put_block.new.slots ≡ set c.loop-k.slots here.instance (Block v) = c.put_block.ensures in
     record {
       placed = λ apart j e i in' at' has lt. ap (λ s. slice_get s e.instance) is
           ∙ placed_more boxes results c.loop-k.slots k (length c.args.slots.now) here v at (slice_get-get_or results k _ long) (omega arith) apart (c.loop-k.invariant.placed apart) j e i in' at' has lt;
