@@ -111,7 +111,7 @@ fn join_rows(rows: &mut [bool], first: usize, last: usize)
 }
 
 /// Turns off the rows of the output pins.
-fn clear_outputs(pins: &[BoundOutput], rows: &mut [bool])
+fn clear_many(pins: &[BoundOutput], rows: &mut [bool])
     requires { All (λ o. o.row < length rows.old) pins.now }
     ensures long { length rows.new ≡ length rows.old }
     ensures cleared { (r : ℕ) → HasOutput pins.now r → bit_at rows.new r ≡ false }
@@ -119,6 +119,34 @@ fn clear_outputs(pins: &[BoundOutput], rows: &mut [bool])
 {
     for pin in pins {
         rows[pin.row] = false;
+    }
+}
+
+/// Turns off the rows of two output pins.
+fn clear_two(pins: &[BoundOutput], rows: &mut [bool])
+    requires two { length pins.now ≡ 2 }
+    requires within { All (λ o. o.row < length rows.old) pins.now }
+    ensures long { length rows.new ≡ length rows.old }
+    ensures cleared { (r : ℕ) → HasOutput pins.now r → bit_at rows.new r ≡ false }
+    ensures kept { (r : ℕ) → (HasOutput pins.now r → ⊥) → bit_at rows.new r ≡ bit_at rows.old r }
+{
+    let first = pins[0].row;
+    let second = pins[1].row;
+    rows[first] = false;
+    rows[second] = false;
+}
+
+/// Turns off the rows of the output pins.
+fn clear_outputs(pins: &[BoundOutput], rows: &mut [bool])
+    requires { All (λ o. o.row < length rows.old) pins.now }
+    ensures long { length rows.new ≡ length rows.old }
+    ensures cleared { (r : ℕ) → HasOutput pins.now r → bit_at rows.new r ≡ false }
+    ensures kept { (r : ℕ) → (HasOutput pins.now r → ⊥) → bit_at rows.new r ≡ bit_at rows.old r }
+{
+    if pins.len() == 2 {
+        clear_two(pins, rows);
+    } else {
+        clear_many(pins, rows);
     }
 }
 

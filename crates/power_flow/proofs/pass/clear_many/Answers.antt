@@ -1,7 +1,7 @@
 use Rattle.std.proofs.Common.{length-set, false, ◌∙◌}
 use Rattle.std.proofs.lemmas.List.{take_all}
 use Rattle.power_flow.proofs.BoxesStepping.{clear_more, clear_kept}
-use Rattle.power_flow.proofs.pass.clear_outputs.Goals as goal
+use Rattle.power_flow.proofs.pass.clear_many.Goals as goal
 
 pub loop-pin-preserved : goal.loop-pin-preserved
 loop-pin-preserved c =
