@@ -108,7 +108,7 @@ same_fronts (x ∷ xs) ys (z ∷ zs) us e len =
     let more : xs ≡ zs = same_fronts xs ys zs us rest (omega (arith, len)) in
     cc
 
-map_take : {A B : Type 0} (f : A → B) (xs : List A) (n : ℕ) → map f (take n xs) ≡ take n (map f xs)
+pub map_take : {A B : Type 0} (f : A → B) (xs : List A) (n : ℕ) → map f (take n xs) ≡ take n (map f xs)
 map_take f [] zero = refl
 map_take f [] (suc n) = refl
 map_take f (x ∷ xs) zero = refl

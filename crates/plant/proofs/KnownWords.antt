@@ -29,35 +29,35 @@ use Rattle.plant.specs.declared.tree.Item.TheVariants as item
 use Rattle.plant.specs.declared.tree.Resource.{Resource}
 use Rattle.plant.specs.Grammar.{Tree, key_word, mark, section_word, type_word, name_words, list_words, lists_words, block_words, program_words, interval_words, priority_words, settings, task_words, source_words, bind_words, with_commas, binds_words, listed, use_words, item_words, items_words, resource_words, resources_words, words_of}
 
-abbrev IsKnown : Token → Type 0
+abbrev pub IsKnown : Token → Type 0
 IsKnown t = t ≢ token.Unknown
 
-abbrev AreKnown : List Token → Type 0
+abbrev pub AreKnown : List Token → Type 0
 AreKnown ts = All IsKnown ts
 
-nothing : AreKnown []
+pub nothing : AreKnown []
 nothing = All-nil IsKnown
 
-key_is : (k : Keyword) → IsKnown (key_word k)
+pub key_is : (k : Keyword) → IsKnown (key_word k)
 key_is k e = absurd cc
 
-mark_is : (p : Punctuation) → IsKnown (mark p)
+pub mark_is : (p : Punctuation) → IsKnown (mark p)
 mark_is p e = absurd cc
 
-name_is : (n : List ℕ) → IsKnown (token.Name n)
+pub name_is : (n : List ℕ) → IsKnown (token.Name n)
 name_is n e = absurd cc
 
-behind : (t : Token) (ts : List Token) → IsKnown t → AreKnown ts → AreKnown (t ∷ ts)
+pub behind : (t : Token) (ts : List Token) → IsKnown t → AreKnown ts → AreKnown (t ∷ ts)
 behind t ts one more = All-cons IsKnown t ts one more
 
-both : (ts us : List Token) → AreKnown ts → AreKnown us → AreKnown (ts ++ us)
+pub both : (ts us : List Token) → AreKnown ts → AreKnown us → AreKnown (ts ++ us)
 both ts us one more = All-append IsKnown ts us one more
 
-all_of : {X : Type 0} (f : X → List Token) → ((x : X) → AreKnown (f x)) → (xs : List X) → AreKnown (flat_map f xs)
+pub all_of : {X : Type 0} (f : X → List Token) → ((x : X) → AreKnown (f x)) → (xs : List X) → AreKnown (flat_map f xs)
 all_of f each [] = nothing
 all_of f each (x ∷ xs) = subst AreKnown (sym (flat_map-cons f x xs)) (both (f x) (flat_map f xs) (each x) (all_of f each xs))
 
-section_is : (s : Section) → IsKnown (section_word s)
+pub section_is : (s : Section) → IsKnown (section_word s)
 section_is section.Input e = absurd cc
 section_is section.Output e = absurd cc
 section_is section.Local e = absurd cc
@@ -73,7 +73,7 @@ names_are [] = nothing
 names_are (n ∷ []) = behind (token.Name n) [] (name_is n) nothing
 names_are (n ∷ m ∷ more) = behind (token.Name n) (mark Comma ∷ name_words (m ∷ more)) (name_is n) (behind (mark Comma) (name_words (m ∷ more)) (mark_is Comma) (names_are (m ∷ more)))
 
-list_is : (l : NameList) → AreKnown (list_words l)
+pub list_is : (l : NameList) → AreKnown (list_words l)
 unfolding list_words
 list_is l = both (name_words l.names.items) (mark Colon ∷ type_word l.type_name ∷ mark Semicolon ∷ []) (names_are l.names.items)
     (behind (mark Colon) (type_word l.type_name ∷ mark Semicolon ∷ []) (mark_is Colon) (behind (type_word l.type_name) (mark Semicolon ∷ []) (type_is l.type_name) (behind (mark Semicolon) [] (mark_is Semicolon) nothing)))
@@ -82,14 +82,14 @@ lists_are : (ls : List NameList) → AreKnown (lists_words ls)
 lists_are [] = behind (key_word key.EndVar) [] (key_is key.EndVar) nothing
 lists_are (l ∷ ls) = both (list_words l) (lists_words ls) (list_is l) (lists_are ls)
 
-block_is : (b : VarBlock) → AreKnown (block_words b)
+pub block_is : (b : VarBlock) → AreKnown (block_words b)
 unfolding block_words
 block_is b = behind (section_word b.section) (lists_words b.lists.items) (section_is b.section) (lists_are b.lists.items)
 
 body_is : (b : List ℕ) → IsKnown (token.Body b)
 body_is b e = absurd cc
 
-program_is : (p : Program) → AreKnown (program_words p)
+pub program_is : (p : Program) → AreKnown (program_words p)
 unfolding program_words
 program_is p = let end = token.Body p.body ∷ key_word key.EndProgram ∷ [] in
     behind (key_word key.Program) (token.Name p.name ∷ flat_map block_words p.blocks.items ++ end) (key_is key.Program)
@@ -131,7 +131,7 @@ source_is (source.Output r i o) =
     (behind (token.Name i) (mark Dot ∷ token.Name o ∷ []) (name_is i)
     (behind (mark Dot) (token.Name o ∷ []) (mark_is Dot) (behind (token.Name o) [] (name_is o) nothing))))
 
-bind_is : (b : Bind) → AreKnown (bind_words b)
+pub bind_is : (b : Bind) → AreKnown (bind_words b)
 unfolding bind_words
 bind_is b = behind (token.Name b.input) (mark Assign ∷ source_words b.source) (name_is b.input) (behind (mark Assign) (source_words b.source) (mark_is Assign) (source_is b.source))
 
@@ -155,7 +155,7 @@ use_is u = let end = binds_words (listed u.binds) ++ mark Semicolon ∷ [] in
     (behind (token.Name u.program) end (name_is u.program)
     (both (binds_words (listed u.binds)) (mark Semicolon ∷ []) (binds_are (listed u.binds)) (behind (mark Semicolon) [] (mark_is Semicolon) nothing)))))))
 
-item_is : (x : Item) → AreKnown (item_words x)
+pub item_is : (x : Item) → AreKnown (item_words x)
 item_is (item.Task t) = task_is t
 item_is (item.Use u) = use_is u
 
@@ -163,7 +163,7 @@ items_are : (xs : List Item) → AreKnown (items_words xs)
 items_are [] = behind (key_word key.EndResource) [] (key_is key.EndResource) nothing
 items_are (x ∷ xs) = both (item_words x) (items_words xs) (item_is x) (items_are xs)
 
-resource_is : (r : Resource) → AreKnown (resource_words r)
+pub resource_is : (r : Resource) → AreKnown (resource_words r)
 unfolding resource_words
 resource_is r =
     behind (key_word key.Resource) (token.Name r.name ∷ key_word key.On ∷ token.Name r.node ∷ items_words r.items.items) (key_is key.Resource)

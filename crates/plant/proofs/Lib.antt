@@ -24,6 +24,10 @@ pub mod TypeLemmas
 pub mod BodyLemmas
 pub mod DrawnLemmas
 pub mod FaultLemmas
+pub mod RefusedNames
+pub mod RefusedPlaces
+pub mod AddedNames
+pub mod RefusedKnown
 pub mod VariableLemmas
 pub mod TreeLemmas
 pub mod KnownWords

@@ -8,6 +8,7 @@ pub mod BodyFaults
 pub mod Faultless
 pub mod StandsFor
 pub mod PlantText
+pub mod NameFaults
 pub mod Find
 pub mod OutputNames
 pub mod Plan

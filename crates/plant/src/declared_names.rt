@@ -7,7 +7,7 @@ ghost use Rattle.std.specs.List.{flat_map, find};
 ghost use Rattle.std.specs.Option.{option_map, option_and_then};
 ghost use Rattle.power_flow.specs.Names.{place_of};
 ghost use Rattle.plant.specs.PlantValue.{input_kind_at};
-ghost use Rattle.plant.specs.Steps.Declaring.{TellsOfName};
+ghost use Rattle.plant.specs.NameFaults.{TellsOfName};
 ghost use Rattle.plant.specs.Steps.ReadParts.{is_task_line};
 ghost use Rattle.plant.specs.Steps.Reading.{programs_of};
 ghost use Rattle.plant.specs.Names.{is_named};

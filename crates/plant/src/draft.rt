@@ -1,6 +1,7 @@
 //! What a plant runs, before its sources are resolved: the programs of each task, and their outputs.
 
 ghost use Rattle.std.specs.Prelude.{◌≡◌, ◌++◌, map, IfOk, OnOk, IfErr};
+ghost use Rattle.plant.specs.NameFaults.{TellsOfName};
 ghost use Rattle.plant.specs.Steps.WordFaults.{IsWordFault};
 ghost use Rattle.std.specs.List.{AllZip, filter};
 ghost use Rattle.plant.specs.Names.{is_named};
@@ -77,6 +78,7 @@ fn draft_program(
     run: &Use,
 ) -> Result<ProgramInstance, PlantFault>
     ensures ok { IfOk result (λ p. IsProgramOf (programs_in types.now) run.now p) }
+    ensures tells { IfErr result (λ e. TellsOfName e.kind ⊥ ⊥) }
     ensures value { IfErr result IsWordFault }
 {
     let Some(found) = type_named(types, &run.program) else {
@@ -94,6 +96,7 @@ fn draft_programs(
     runs: &[&Use],
 ) -> Result<Vec<ProgramInstance>, PlantFault>
     ensures ok { IfOk result (λ ps. AllZip (IsProgramOf (programs_in types.now)) (map (λ u. u.now) runs.now) ps.items) }
+    ensures tells { IfErr result (λ e. TellsOfName e.kind ⊥ ⊥) }
     ensures value { IfErr result IsWordFault }
 {
     let mut programs = Vec::new(alloc);
@@ -112,6 +115,7 @@ fn draft_task(
     task: &TaskLine,
 ) -> Result<TaskDraft, PlantFault>
     ensures ok { IfOk result (λ d. IsDraftOf (programs_in types.now) resource.now task.now d) }
+    ensures tells { IfErr result (λ e. TellsOfName e.kind ⊥ ⊥) }
     ensures value { IfErr result IsWordFault }
 {
     let runs = runs_in(alloc, resource, task)?;
@@ -128,6 +132,7 @@ fn draft_tasks(
     tasks: &[&TaskLine],
 ) -> Result<Vec<TaskDraft>, PlantFault>
     ensures ok { IfOk result (λ ds. AllZip (IsDraftOf (programs_in types.now) resource.now) (map (λ t. t.now) tasks.now) ds.items) }
+    ensures tells { IfErr result (λ e. TellsOfName e.kind ⊥ ⊥) }
     ensures value { IfErr result IsWordFault }
 {
     let mut drafts = Vec::new(alloc);
@@ -145,6 +150,7 @@ fn draft_resource(
     resource: &Resource,
 ) -> Result<ResourceDraft, PlantFault>
     ensures ok { IfOk result (λ d. IsResourceDraft (programs_in types.now) resource.now d) }
+    ensures tells { IfErr result (λ e. TellsOfName e.kind ⊥ ⊥) }
     ensures value { IfErr result IsWordFault }
 {
     let tasks = tasks_of(alloc, resource)?;
@@ -160,6 +166,7 @@ pub fn draft_resources(
     resources: &[Resource],
 ) -> Result<Vec<ResourceDraft>, PlantFault>
     ensures ok { IfOk result (λ ds. AllZip (IsResourceDraft (programs_in types.now)) resources.now ds.items) }
+    ensures tells { IfErr result (λ e. TellsOfName e.kind ⊥ ⊥) }
     ensures value { IfErr result IsWordFault }
 {
     let mut drafts = Vec::new(alloc);

@@ -1,6 +1,7 @@
 //! The binds of instances, each with its input and its source found by name.
 
 ghost use Rattle.std.specs.Prelude.{◌≡◌, All, IfOk, OnOk, MatchOption, Some, None, length, map, IfErr};
+ghost use Rattle.plant.specs.NameFaults.{TellsOfName};
 ghost use Rattle.plant.specs.Steps.WordFaults.{IsWordFault};
 ghost use Rattle.std.specs.List.{AllZip, flat_map};
 ghost use Rattle.power_flow.specs.Names.{place_of};
@@ -25,7 +26,8 @@ use std::alloc::Global;
 
 /// The fault of a name that isn't declared where it is sought.
 fn unknown(name: &Name) -> PlantFault
-    ensures { IsWordFault result }
+    ensures tells { TellsOfName result.kind ⊥ ⊥ }
+    ensures value { IsWordFault result }
 {
     PlantFault::at(PlantFaultKind::UnknownName, name.line())
 }
@@ -38,6 +40,7 @@ fn find_value(
     output: &Name,
 ) -> Result<(TaskRef, usize, Kind), PlantFault>
     ensures ok { IfOk result (λ x. IsOrigin (drafted drafts.now) resource.now instance.now output.now x.0 x.1 × IsImageKind (drafted drafts.now) x.0 x.1 x.2) }
+    ensures tells { IfErr result (λ e. TellsOfName e.kind ⊥ ⊥) }
     ensures value { IfErr result IsWordFault }
 {
     let Some(position) = find_resource(drafts, resource.as_str()) else {
@@ -60,6 +63,7 @@ fn find_value(
 /// What a source means, and the kind of its values.
 fn find_origin(drafts: &[ResourceDraft], source: &SourceName) -> Result<(Origin, Kind), PlantFault>
     ensures ok { IfOk result (λ x. IsOriginOf (drafted drafts.now) source.now x.0 x.1) }
+    ensures tells { IfErr result (λ e. TellsOfName e.kind ⊥ ⊥) }
     ensures value { IfErr result IsWordFault }
 {
     match source {
@@ -101,6 +105,7 @@ fn feed(
     bind: &Bind,
 ) -> Result<Feed, PlantFault>
     ensures ok { IfOk result (λ f. IsFeedOf (drafted drafts.now) declarations.now bind.now f) }
+    ensures tells { IfErr result (λ e. TellsOfName e.kind ⊥ ⊥) }
     ensures value { IfErr result IsWordFault }
 {
     let Some((place, kind)) = find_input(declarations, bind.input.as_str()) else {
@@ -135,6 +140,7 @@ fn feeds(
     binds: &[Bind],
 ) -> Result<Vec<Feed>, PlantFault>
     ensures ok { IfOk result (λ fs. AllZip (IsFeedOf (drafted drafts.now) declarations.now) binds.now fs.items) }
+    ensures tells { IfErr result (λ e. TellsOfName e.kind ⊥ ⊥) }
     ensures value { IfErr result IsWordFault }
 {
     let mut feeds = Vec::new(alloc);
@@ -155,6 +161,7 @@ pub fn feeds_of(
     requires { length runs.now ≡ length programs.now }
     ensures many { IfOk result (λ fs. length fs.items ≡ length programs.now) }
     ensures each { IfOk result (λ fs. Triples (AreFeedsOf (drafted drafts.now)) (map (λ u. u.now) runs.now) programs.now (map (λ f. f.items) fs.items)) }
+    ensures tells { IfErr result (λ e. TellsOfName e.kind ⊥ ⊥) }
     ensures value { IfErr result IsWordFault }
 {
     let mut all = Vec::new(alloc);
@@ -173,6 +180,7 @@ fn check_binds(
     binds: &[Bind],
 ) -> Result<(), PlantFault>
     ensures ok { OnOk result (All (HasFeed (drafted drafts.now) declarations.now) binds.now) }
+    ensures tells { IfErr result (λ e. TellsOfName e.kind ⊥ ⊥) }
     ensures value { IfErr result IsWordFault }
 {
     for bind in binds {
@@ -184,6 +192,7 @@ fn check_binds(
 /// Answers the first fault among the binds of an instance.
 fn check_use(drafts: &[ResourceDraft], types: &[ProgramType], run: &Use) -> Result<(), PlantFault>
     ensures ok { OnOk result (IsUseResolved (drafted drafts.now) types.now run.now) }
+    ensures tells { IfErr result (λ e. TellsOfName e.kind ⊥ ⊥) }
     ensures value { IfErr result IsWordFault }
 {
     let Some(found) = type_named(types, &run.program) else {
@@ -199,6 +208,7 @@ fn check_item(
     item: &Item,
 ) -> Result<(), PlantFault>
     ensures ok { OnOk result (All (IsUseResolved (drafted drafts.now) types.now) (use_of item.now)) }
+    ensures tells { IfErr result (λ e. TellsOfName e.kind ⊥ ⊥) }
     ensures value { IfErr result IsWordFault }
 {
     match item {
@@ -214,6 +224,7 @@ fn check_resource(
     resource: &Resource,
 ) -> Result<(), PlantFault>
     ensures ok { OnOk result (All (IsUseResolved (drafted drafts.now) types.now) (uses_of resource.now)) }
+    ensures tells { IfErr result (λ e. TellsOfName e.kind ⊥ ⊥) }
     ensures value { IfErr result IsWordFault }
 {
     for item in &resource.items {
@@ -229,6 +240,7 @@ pub fn check_sources(
     resources: &[Resource],
 ) -> Result<(), PlantFault>
     ensures ok { OnOk result (All (IsUseResolved (drafted drafts.now) types.now) (flat_map uses_of resources.now)) }
+    ensures tells { IfErr result (λ e. TellsOfName e.kind ⊥ ⊥) }
     ensures value { IfErr result IsWordFault }
 {
     for resource in resources {

@@ -1,6 +1,7 @@
 //! The codes of tasks: their drafts with each source resolved.
 
 ghost use Rattle.std.specs.Prelude.{◌≡◌, ◌<◌, List, IfOk, All, length, map, IfErr};
+ghost use Rattle.plant.specs.NameFaults.{TellsOfName};
 ghost use Rattle.plant.specs.Steps.WordFaults.{IsWordFault};
 ghost use Rattle.std.specs.List.{AllZip};
 ghost use Rattle.plant.specs.declared.tree.Program.{Program};
@@ -44,6 +45,7 @@ fn link_runs(
     requires many { length runs.now ≡ length draft.now.programs }
     requires once { All IsOnceBound (map (λ u. u.now) runs.now) }
     ensures ok { IfOk result (λ c. IsLinked (drafted drafts.now) (map (λ u. u.now) runs.now) draft.now c) }
+    ensures tells { IfErr result (λ e. TellsOfName e.kind ⊥ ⊥) }
     ensures value { IfErr result IsWordFault }
 {
     let feeds = feeds_of(alloc, drafts, draft.programs(), runs)?;
@@ -66,6 +68,7 @@ fn link_task(
     requires many { length (runs_in resource.now task.now) ≡ length draft.now.programs }
     requires once { All IsOnceBound (runs_in resource.now task.now) }
     ensures ok { IfOk result (λ c. IsLinked (drafted drafts.now) (runs_in resource.now task.now) draft.now c.value) }
+    ensures tells { IfErr result (λ e. TellsOfName e.kind ⊥ ⊥) }
     ensures value { IfErr result IsWordFault }
 {
     let runs = runs_in(alloc, resource, task)?;
@@ -86,6 +89,7 @@ fn link_tasks(
     requires once { All IsOnceBound (uses_of resource.now) }
     ensures many { IfOk result (λ cs. length cs.items ≡ length tasks.now) }
     ensures each { IfOk result (λ cs. Triples (λ t d c. IsLinked (drafted drafts.now) (runs_in resource.now t) d c) (map (λ t. t.now) tasks.now) task_drafts.now (map (λ c. c.value) cs.items)) }
+    ensures tells { IfErr result (λ e. TellsOfName e.kind ⊥ ⊥) }
     ensures value { IfErr result IsWordFault }
 {
     let mut codes = Vec::new(alloc);
@@ -119,6 +123,7 @@ fn link_resource(
     requires known { (programs : List Program) × IsResourceDraft programs resource.now draft.now }
     requires ready { IsReady resource.now }
     ensures ok { IfOk result (λ v. IsResourceLinked (drafted drafts.now) resource.now draft.now v) }
+    ensures tells { IfErr result (λ e. TellsOfName e.kind ⊥ ⊥) }
     ensures value { IfErr result IsWordFault }
 {
     let lines = tasks_of(alloc, resource)?;
@@ -138,6 +143,7 @@ pub fn link_resources(
     requires ready { All IsReady resources.now }
     ensures many { IfOk result (λ vs. length vs.items ≡ length resources.now) }
     ensures each { IfOk result (λ vs. Triples (IsResourceLinked (drafted drafts.now)) resources.now drafts.now vs.items) }
+    ensures tells { IfErr result (λ e. TellsOfName e.kind ⊥ ⊥) }
     ensures value { IfErr result IsWordFault }
 {
     let mut linked = Vec::new(alloc);

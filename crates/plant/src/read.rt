@@ -1,5 +1,6 @@
 ghost use Rattle.std.specs.Prelude.{IfOk, IfErr};
 ghost use Rattle.plant.specs.Faults.{IsPlantFault, IsOfBody};
+ghost use Rattle.plant.specs.NameFaults.{IsOfName, IsNameFaultIn};
 ghost use Rattle.plant.specs.PlantText.{IsPlantText, IsBodyFaultIn};
 
 use crate::plant::Plant;
@@ -13,11 +14,12 @@ use std::alloc::Global;
 impl Plant {
     /// Reads the text of a plant. The first fault met from top to bottom is answered, with its line; a word that the grammar doesn't have there, or that is no word,
     /// is met where it stands, a program's drawing at its END_PROGRAM, and the sources of bound inputs at END_CONFIGURATION.
-    #[tactic(auto, using(crate::proofs::FaultLemmas::plant_of_word, crate::proofs::FaultLemmas::no_body_fault))]
+    #[tactic(auto, using(crate::proofs::RefusedNames::no_name, crate::proofs::RefusedNames::memory_no_name, crate::proofs::FaultLemmas::plant_of_word, crate::proofs::FaultLemmas::no_body_fault))]
     pub fn read(alloc: Global, text: &str) -> Result<Plant, PlantFault>
         ensures ok { IfOk result (λ p. IsPlantText text.now p) }
         ensures value { IfErr result IsPlantFault }
         ensures body { IfErr result (λ fault. IsOfBody fault.kind → IsBodyFaultIn text.now fault) }
+        ensures name { IfErr result (λ fault. IsOfName fault.kind → IsNameFaultIn text.now fault) }
     {
         let words = read_words(alloc, text)?;
         let mut reader = Reader::new(words.words(), words.last());

@@ -6,7 +6,8 @@ ghost use Rattle.std.specs.List.{flat_map};
 ghost use Rattle.plant.specs.declared.token.Token.TheVariants as token;
 ghost use Rattle.plant.specs.Grammar.{section_word, kind_word, type_word, name_words, list_words, lists_words, block_words, program_words};
 ghost use Rattle.plant.specs.Faultless.{list_variables, block_variables, IsTypeLawful, IsListLawful, IsBlockLawful};
-ghost use Rattle.plant.specs.Steps.Declaring.{TellsOfName, RepeatsName};
+ghost use Rattle.plant.specs.NameFaults.{IsOfName, TellsOfName, RefusesVariable, RefusesList, RefusesBlock, RefusesBlocks, RefusesProgram, RefusesPrograms};
+ghost use Rattle.plant.specs.Steps.Declaring.{RepeatsName, IsNameNext, BeginWith};
 ghost use Rattle.plant.specs.Steps.ReadParts.{IsNew, IsProgramDeclared, AreProgramsDeclared};
 ghost use Rattle.plant.specs.Steps.Reading.{programs_of, lines_of};
 
@@ -37,7 +38,7 @@ impl<'a> Reader<'a> {
     ) -> Result<Name, PlantFault>
         ensures ok { IfOk result (λ name. self.old.words ≡ token.Name name ∷ self.new.words) }
         ensures bodies { OnOk result (self.new.bodies ≡ self.old.bodies) }
-        ensures tells { IfErr result (λ e. TellsOfName e.kind (RepeatsName (λ v. v.name) variables.now self.old.words ⊎ RepeatsName (λ n. n) before.now self.old.words) (1000 ≤ length variables.now + length before.now)) }
+        ensures tells { IfErr result (λ e. TellsOfName e.kind (RepeatsName (λ v. v.name) variables.now self.old.words ⊎ RepeatsName (λ n. n) before.now self.old.words) (IsNameNext self.old.words × (1000 ≤ length variables.now + length before.now))) }
         ensures value { IfErr result IsWordFault }
     {
         let name = self.name(alloc)?;
@@ -46,10 +47,12 @@ impl<'a> Reader<'a> {
     }
 
     /// Names with commas between them.
+    #[tactic(auto, using(crate::proofs::RefusedNames::no_name, crate::proofs::RefusedNames::memory_no_name))]
     fn names(&mut self, alloc: Global, variables: &Variables) -> Result<Vec<Name>, PlantFault>
         ensures ok { IfOk result (λ names. self.old.words ≡ name_words names.items ++ self.new.words) }
         ensures bodies { OnOk result (self.new.bodies ≡ self.old.bodies) }
         ensures some { IfOk result (λ names. 0 < length names.items) }
+        ensures names { IfErr result (λ e. IsOfName e.kind → BeginWith (RefusesVariable e.kind variables.now) self.old.words) }
         ensures value { IfErr result IsWordFault }
     {
         let mut names = Vec::new(alloc);
@@ -65,6 +68,7 @@ impl<'a> Reader<'a> {
     fn kind(&mut self) -> Result<Kind, PlantFault>
         ensures ok { IfOk result (λ kind. self.old.words ≡ kind_word kind ∷ self.new.words) }
         ensures bodies { OnOk result (self.new.bodies ≡ self.old.bodies) }
+        ensures tells { IfErr result (λ e. TellsOfName e.kind ⊥ ⊥) }
         ensures value { IfErr result IsWordFault }
     {
         if self.sees_keyword(Keyword::Int) {
@@ -84,6 +88,7 @@ impl<'a> Reader<'a> {
         ensures ok { IfOk result (λ t. self.old.words ≡ type_word t ∷ self.new.words) }
         ensures bodies { OnOk result (self.new.bodies ≡ self.old.bodies) }
         ensures lawful { IfOk result (λ t. IsTypeLawful section t) }
+        ensures tells { IfErr result (λ e. TellsOfName e.kind ⊥ ⊥) }
         ensures value { IfErr result IsWordFault }
     {
         if !self.sees_block_type() {
@@ -96,7 +101,7 @@ impl<'a> Reader<'a> {
     }
 
     /// A list of names of one type. They are declared.
-    #[tactic(auto, unfolding(crate::specs::Grammar::list_words))]
+    #[tactic(auto, using(crate::proofs::RefusedNames::no_name, crate::proofs::RefusedNames::memory_no_name), unfolding(crate::specs::Grammar::list_words))]
     fn list(
         &mut self,
         alloc: Global,
@@ -107,6 +112,7 @@ impl<'a> Reader<'a> {
         ensures bodies { OnOk result (self.new.bodies ≡ self.old.bodies) }
         ensures declared { IfOk result (λ l. variables.new ≡ variables.old ++ list_variables section l) }
         ensures lawful { IfOk result (λ l. IsListLawful section l) }
+        ensures names { IfErr result (λ e. IsOfName e.kind → BeginWith (RefusesVariable e.kind variables.old) self.old.words) }
         ensures value { IfErr result IsWordFault }
     {
         let names = self.names(alloc, variables)?;
@@ -119,7 +125,7 @@ impl<'a> Reader<'a> {
     }
 
     /// The lists of a block, up to its end. They are declared.
-    #[tactic(auto, using(crate::proofs::WordLists::list_has_words))]
+    #[tactic(auto, using(crate::proofs::RefusedNames::no_name, crate::proofs::RefusedNames::memory_no_name, crate::proofs::WordLists::list_has_words))]
     fn lists(
         &mut self,
         alloc: Global,
@@ -130,6 +136,7 @@ impl<'a> Reader<'a> {
         ensures bodies { OnOk result (self.new.bodies ≡ self.old.bodies) }
         ensures declared { IfOk result (λ ls. variables.new ≡ variables.old ++ flat_map (list_variables section) ls.items) }
         ensures lawful { IfOk result (λ ls. All (IsListLawful section) ls.items) }
+        ensures names { IfErr result (λ e. IsOfName e.kind → BeginWith (RefusesList e.kind section variables.old) self.old.words) }
         ensures value { IfErr result IsWordFault }
     {
         let mut lists = Vec::new(alloc);
@@ -155,6 +162,7 @@ impl<'a> Reader<'a> {
     fn section(&mut self) -> Result<Section, PlantFault>
         ensures ok { IfOk result (λ s. self.old.words ≡ section_word s ∷ self.new.words) }
         ensures bodies { OnOk result (self.new.bodies ≡ self.old.bodies) }
+        ensures tells { IfErr result (λ e. TellsOfName e.kind ⊥ ⊥) }
         ensures value { IfErr result IsWordFault }
     {
         if self.sees_keyword(Keyword::VarInput) {
@@ -170,12 +178,13 @@ impl<'a> Reader<'a> {
     }
 
     /// A block. Its names are declared.
-    #[tactic(auto, unfolding(crate::specs::Grammar::block_words))]
+    #[tactic(auto, using(crate::proofs::RefusedNames::no_name, crate::proofs::RefusedNames::memory_no_name), unfolding(crate::specs::Grammar::block_words))]
     fn block(&mut self, alloc: Global, variables: &mut Variables) -> Result<VarBlock, PlantFault>
         ensures ok { IfOk result (λ b. self.old.words ≡ block_words b ++ self.new.words) }
         ensures bodies { OnOk result (self.new.bodies ≡ self.old.bodies) }
         ensures declared { IfOk result (λ b. variables.new ≡ variables.old ++ block_variables b) }
         ensures lawful { IfOk result (λ b. IsBlockLawful b) }
+        ensures names { IfErr result (λ e. IsOfName e.kind → BeginWith (RefusesBlock e.kind variables.old) self.old.words) }
         ensures value { IfErr result IsWordFault }
     {
         let section = self.section()?;
@@ -184,7 +193,7 @@ impl<'a> Reader<'a> {
     }
 
     /// The blocks of a program. Their names are declared.
-    #[tactic(auto, using(crate::proofs::WordLists::block_has_words))]
+    #[tactic(auto, using(crate::proofs::RefusedNames::no_name, crate::proofs::RefusedNames::memory_no_name, crate::proofs::WordLists::block_has_words))]
     fn blocks(
         &mut self,
         alloc: Global,
@@ -194,6 +203,7 @@ impl<'a> Reader<'a> {
         ensures bodies { OnOk result (self.new.bodies ≡ self.old.bodies) }
         ensures declared { IfOk result (λ bs. variables.new ≡ variables.old ++ flat_map block_variables bs.items) }
         ensures lawful { IfOk result (λ bs. All IsBlockLawful bs.items) }
+        ensures names { IfErr result (λ e. IsOfName e.kind → BeginWith (RefusesBlocks e.kind variables.old) self.old.words) }
         ensures value { IfErr result IsWordFault }
     {
         let mut blocks = Vec::new(alloc);
@@ -205,12 +215,14 @@ impl<'a> Reader<'a> {
     }
 
     /// A new name of a program type, behind these.
+    #[tactic(auto, using(crate::proofs::RefusedNames::no_name, crate::proofs::RefusedNames::memory_no_name))]
     fn new_type(&mut self, alloc: Global, before: &[ProgramText]) -> Result<Name, PlantFault>
         ensures ok { IfOk result (λ name. self.old.words ≡ token.Name name ∷ self.new.words) }
         ensures bodies { OnOk result (self.new.bodies ≡ self.old.bodies) }
         ensures new { IfOk result (λ name. IsNew (λ p. p.name) (programs_of before.now) name) }
         ensures few { OnOk result (length before.now < 64) }
         ensures tells { IfErr result (λ e. TellsOfName e.kind (RepeatsName (λ p. p.name) (programs_of before.now) self.old.words) (64 ≤ length before.now)) }
+        ensures next { IfErr result (λ e. IsOfName e.kind → IsNameNext self.old.words) }
         ensures value { IfErr result IsWordFault }
     {
         let name = self.name(alloc)?;
@@ -219,13 +231,14 @@ impl<'a> Reader<'a> {
     }
 
     /// A program type, behind these. Its body isn't drawn.
-    #[tactic(auto, unfolding(crate::specs::Grammar::program_words))]
+    #[tactic(auto, using(crate::proofs::RefusedNames::no_name, crate::proofs::RefusedNames::memory_no_name), unfolding(crate::specs::Grammar::program_words))]
     fn program(&mut self, alloc: Global, before: &[ProgramText]) -> Result<ProgramText, PlantFault>
         ensures ok { IfOk result (λ p. self.old.words ≡ program_words p.program ++ self.new.words) }
         ensures bodies { IfOk result (λ p. self.old.bodies ≡ p.first_line ∷ self.new.bodies) }
         ensures new { IfOk result (λ p. IsNew (λ p. p.name) (programs_of before.now) p.program.name) }
         ensures few { OnOk result (length before.now < 64) }
         ensures declared { IfOk result (λ p. IsProgramDeclared p.program) }
+        ensures names { IfErr result (λ e. IsOfName e.kind → BeginWith (RefusesProgram e.kind (programs_of before.now)) self.old.words) }
         ensures value { IfErr result IsWordFault }
     {
         self.keyword(Keyword::Program)?;
@@ -240,7 +253,7 @@ impl<'a> Reader<'a> {
     }
 
     /// The program types, their bodies not drawn. They are added to `texts`; after a fault, those before it.
-    #[tactic(auto, using(crate::proofs::WordLists::program_has_words))]
+    #[tactic(auto, using(crate::proofs::RefusedNames::no_name, crate::proofs::RefusedNames::memory_no_name, crate::proofs::WordLists::program_has_words))]
     pub fn programs(
         &mut self,
         alloc: Global,
@@ -252,6 +265,7 @@ impl<'a> Reader<'a> {
         ensures lines { OnOk result (lines_of texts.old.items ++ self.old.bodies ≡ lines_of texts.new.items ++ self.new.bodies) }
         ensures err_lines { OnErr result ((more : List ℕ) × (lines_of texts.old.items ++ self.old.bodies ≡ lines_of texts.new.items ++ more)) }
         ensures declared { AreProgramsDeclared (programs_of texts.new.items) }
+        ensures names { IfErr result (λ e. IsOfName e.kind → BeginWith (RefusesPrograms e.kind) (flat_map program_words (programs_of texts.old.items) ++ self.old.words)) }
         ensures value { IfErr result IsWordFault }
     {
         'programs: while self.sees_keyword(Keyword::Program) {

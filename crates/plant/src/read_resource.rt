@@ -1,15 +1,16 @@
 //! The rules of the grammar from tasks to resources.
 
-ghost use Rattle.std.specs.Prelude.{◌≡◌, [], ◌∷◌, ◌++◌, ◌+◌, ◌<◌, ◌≤◌, IfOk, OnOk, All, Any, Some, map, length, IsTrue, IfErr};
+ghost use Rattle.std.specs.Prelude.{◌≡◌, ◌⊎◌, [], ◌∷◌, ◌++◌, ◌+◌, ◌<◌, ◌≤◌, IfOk, OnOk, All, Any, Some, map, length, IsTrue, IfErr};
 ghost use Rattle.plant.specs.Steps.WordFaults.{IsWordFault};
 ghost use Rattle.std.specs.List.{flat_map};
 ghost use Rattle.plant.specs.declared.token.Token.TheVariants as token;
 ghost use Rattle.plant.specs.declared.token.Keyword.TheVariants as key;
-ghost use Rattle.plant.specs.declared.token.Punctuation.TheVariants.{Close};
+ghost use Rattle.plant.specs.declared.token.Punctuation.TheVariants.{Open, Close};
 ghost use Rattle.plant.specs.Grammar.{interval_words, priority_words, settings, task_words, source_words, bind_words, with_commas, binds_words, listed, use_words, item_words, items_words, resource_words, resources_words};
 ghost use Rattle.plant.specs.Names.{is_named, AreApart};
 ghost use Rattle.plant.specs.Faultless.{task_of, use_of, uses_of, binds_of, IsUseLawful, IsResourceLawful};
-ghost use Rattle.plant.specs.Steps.Declaring.{TellsOfName, RepeatsName};
+ghost use Rattle.plant.specs.NameFaults.{IsOfName, TellsOfName, IsAfter, RefusesTask, RefusesBind, RefusesInstance, RefusesItems, RefusesResource, RefusesResources};
+ghost use Rattle.plant.specs.Steps.Declaring.{RepeatsName, IsNameNext, BeginWith};
 ghost use Rattle.plant.specs.Steps.ReadParts.{types_alone, tally_with, input_kind_of, HasFieldKind, IsNew, MayFollow, AreItemsLawful, AreResourcesLawful};
 ghost use Rattle.plant.specs.declared.tree.Item.TheVariants as item;
 ghost use Rattle.plant.specs.PlantValue.{items_or_none, kind_of_space};
@@ -39,6 +40,7 @@ impl<'a> Reader<'a> {
     fn interval(&mut self) -> Result<u32, PlantFault>
         ensures ok { IfOk result (λ n. self.old.words ≡ interval_words n ++ self.new.words) }
         ensures positive { IfOk result (λ n. 0 < n) }
+        ensures tells { IfErr result (λ e. TellsOfName e.kind ⊥ ⊥) }
         ensures value { IfErr result IsWordFault }
     {
         self.keyword(Keyword::Interval)?;
@@ -55,6 +57,7 @@ impl<'a> Reader<'a> {
     /// A task's priority.
     fn priority(&mut self) -> Result<u16, PlantFault>
         ensures ok { IfOk result (λ n. self.old.words ≡ priority_words n ++ self.new.words) }
+        ensures tells { IfErr result (λ e. TellsOfName e.kind ⊥ ⊥) }
         ensures value { IfErr result IsWordFault }
     {
         self.keyword(Keyword::Priority)?;
@@ -66,6 +69,7 @@ impl<'a> Reader<'a> {
     fn settings(&mut self) -> Result<(Order, u32, u16), PlantFault>
         ensures ok { IfOk result (λ s. self.old.words ≡ settings s.0 s.1 s.2 ++ self.new.words) }
         ensures positive { IfOk result (λ s. 0 < s.1) }
+        ensures tells { IfErr result (λ e. TellsOfName e.kind ⊥ ⊥) }
         ensures value { IfErr result IsWordFault }
     {
         if self.sees_keyword(Keyword::Interval) {
@@ -86,7 +90,7 @@ impl<'a> Reader<'a> {
         ensures ok { IfOk result (λ name. self.old.words ≡ token.Name name ∷ self.new.words) }
         ensures new { IfOk result (λ name. IsNew (λ t. t.name) (flat_map task_of before.now) name) }
         ensures few { OnOk result (length (flat_map task_of before.now) < 16) }
-        ensures tells { IfErr result (λ e. TellsOfName e.kind (RepeatsName (λ t. t.name) (flat_map task_of before.now) self.old.words) (16 ≤ length (flat_map task_of before.now))) }
+        ensures tells { IfErr result (λ e. TellsOfName e.kind (RepeatsName (λ t. t.name) (flat_map task_of before.now) self.old.words) (IsNameNext self.old.words × (16 ≤ length (flat_map task_of before.now)))) }
         ensures value { IfErr result IsWordFault }
     {
         let name = self.name(alloc)?;
@@ -99,12 +103,13 @@ impl<'a> Reader<'a> {
     }
 
     /// A task, behind these lines of its resource.
-    #[tactic(auto, unfolding(crate::specs::Grammar::task_words))]
+    #[tactic(auto, using(crate::proofs::RefusedNames::no_name, crate::proofs::RefusedNames::memory_no_name), unfolding(crate::specs::Grammar::task_words))]
     fn task(&mut self, alloc: Global, before: &[Item]) -> Result<TaskLine, PlantFault>
         ensures ok { IfOk result (λ t. self.old.words ≡ task_words t ++ self.new.words) }
         ensures new { IfOk result (λ t. IsNew (λ t. t.name) (flat_map task_of before.now) t.name) }
         ensures few { OnOk result (length (flat_map task_of before.now) < 16) }
         ensures positive { IfOk result (λ t. 0 < t.interval) }
+        ensures names { IfErr result (λ e. IsOfName e.kind → BeginWith (RefusesTask e.kind before.now) self.old.words) }
         ensures value { IfErr result IsWordFault }
     {
         self.keyword(Keyword::Task)?;
@@ -125,6 +130,7 @@ impl<'a> Reader<'a> {
     fn address_of(&mut self, kind: Kind) -> Result<Address, PlantFault>
         ensures ok { IfOk result (λ a. self.old.words ≡ token.Address a ∷ self.new.words) }
         ensures kind { IfOk result (λ a. kind_of_space a.space ≡ kind) }
+        ensures tells { IfErr result (λ e. TellsOfName e.kind ⊥ ⊥) }
         ensures value { IfErr result IsWordFault }
     {
         let other = PlantFault::at(PlantFaultKind::WrongKind, self.line());
@@ -140,6 +146,7 @@ impl<'a> Reader<'a> {
     fn source(&mut self, alloc: Global, kind: Kind) -> Result<SourceName, PlantFault>
         ensures ok { IfOk result (λ s. self.old.words ≡ source_words s ++ self.new.words) }
         ensures kind { IfOk result (HasFieldKind kind) }
+        ensures tells { IfErr result (λ e. TellsOfName e.kind ⊥ ⊥) }
         ensures value { IfErr result IsWordFault }
     {
         if self.sees_address() {
@@ -171,6 +178,7 @@ impl<'a> Reader<'a> {
         ensures new { IfOk result (λ b. IsNew (λ b. b.input) before.now b.input) }
         ensures kind { IfOk result (λ b. (kind : Kind) × (input_kind_of program.now.ladder.declarations b.input ≡ Some kind) × HasFieldKind kind b.source) }
         ensures tally { OnOk result (tally.new ≡ record { instances = tally.old.instances; binds = tally.old.binds + 1 }) }
+        ensures tells { IfErr result (λ e. TellsOfName e.kind ⊥ (IsNameNext self.old.words × (4096 ≤ tally.old.binds))) }
         ensures value { IfErr result IsWordFault }
     {
         let input = self.name(alloc)?;
@@ -187,6 +195,7 @@ impl<'a> Reader<'a> {
     }
 
     /// The binds of an instance of a type, up to the parenthesis that closes them.
+    #[tactic(auto, using(crate::proofs::RefusedNames::no_name, crate::proofs::RefusedNames::memory_no_name))]
     fn binds(
         &mut self,
         alloc: Global,
@@ -196,6 +205,7 @@ impl<'a> Reader<'a> {
         ensures ok { IfOk result (λ binds. self.old.words ≡ with_commas binds.items ++ token.Punctuation Close ∷ self.new.words) }
         ensures apart { IfOk result (λ binds. AreApart (map (λ b. b.input) binds.items)) }
         ensures tally { IfOk result (λ binds. tally.new ≡ record { instances = tally.old.instances; binds = tally.old.binds + length binds.items }) }
+        ensures names { IfErr result (λ e. IsOfName e.kind → BeginWith (RefusesBind e.kind tally.old.binds) self.old.words) }
         ensures value { IfErr result IsWordFault }
     {
         let mut binds = Vec::new(alloc);
@@ -211,6 +221,7 @@ impl<'a> Reader<'a> {
     }
 
     /// The binds of an instance of a type. There may be no parentheses.
+    #[tactic(auto, using(crate::proofs::RefusedNames::no_name, crate::proofs::RefusedNames::memory_no_name))]
     fn some_binds(
         &mut self,
         alloc: Global,
@@ -220,6 +231,7 @@ impl<'a> Reader<'a> {
         ensures ok { IfOk result (λ binds. self.old.words ≡ binds_words (listed binds) ++ self.new.words) }
         ensures apart { IfOk result (λ binds. AreApart (map (λ b. b.input) (items_or_none (listed binds)))) }
         ensures tally { IfOk result (λ binds. tally.new ≡ record { instances = tally.old.instances; binds = tally.old.binds + length (items_or_none (listed binds)) }) }
+        ensures names { IfErr result (λ e. IsOfName e.kind → BeginWith (IsAfter (token.Punctuation Open) (RefusesBind e.kind tally.old.binds)) self.old.words) }
         ensures value { IfErr result IsWordFault }
     {
         if self.sees_punctuation(Punctuation::Open) {
@@ -240,7 +252,7 @@ impl<'a> Reader<'a> {
         ensures ok { IfOk result (λ name. self.old.words ≡ token.Name name ∷ self.new.words) }
         ensures new { IfOk result (λ name. IsNew (λ u. u.instance) (flat_map use_of before.now) name) }
         ensures tally { OnOk result (tally.new ≡ record { instances = tally.old.instances + 1; binds = tally.old.binds }) }
-        ensures tells { IfErr result (λ e. TellsOfName e.kind (RepeatsName (λ u. u.instance) (flat_map use_of before.now) self.old.words) (tally.old.instances ≡ 64)) }
+        ensures tells { IfErr result (λ e. TellsOfName e.kind (RepeatsName (λ u. u.instance) (flat_map use_of before.now) self.old.words) (IsNameNext self.old.words × (64 ≤ tally.old.instances))) }
         ensures value { IfErr result IsWordFault }
     {
         let name = self.name(alloc)?;
@@ -253,6 +265,7 @@ impl<'a> Reader<'a> {
     fn known_task(&mut self, alloc: Global, before: &[Item]) -> Result<Name, PlantFault>
         ensures ok { IfOk result (λ name. self.old.words ≡ token.Name name ∷ self.new.words) }
         ensures known { IfOk result (λ name. Any (λ t. IsTrue (is_named name t.name)) (flat_map task_of before.now)) }
+        ensures tells { IfErr result (λ e. TellsOfName e.kind ⊥ ⊥) }
         ensures value { IfErr result IsWordFault }
     {
         let name = self.name(alloc)?;
@@ -264,7 +277,7 @@ impl<'a> Reader<'a> {
     }
 
     /// A program instance, behind these lines of its resource.
-    #[tactic(auto, unfolding(crate::specs::Grammar::use_words))]
+    #[tactic(auto, using(crate::proofs::RefusedNames::no_name, crate::proofs::RefusedNames::memory_no_name), unfolding(crate::specs::Grammar::use_words))]
     fn instance(
         &mut self,
         alloc: Global,
@@ -276,6 +289,7 @@ impl<'a> Reader<'a> {
         ensures new { IfOk result (λ u. IsNew (λ u. u.instance) (flat_map use_of before.now) u.instance) }
         ensures lawful { IfOk result (λ u. IsUseLawful (types_alone types.now) before.now u) }
         ensures tally { IfOk result (λ u. tally.new ≡ tally_with tally.old (u ∷ [])) }
+        ensures names { IfErr result (λ e. IsOfName e.kind → BeginWith (RefusesInstance e.kind tally.old.instances tally.old.binds before.now) self.old.words) }
         ensures value { IfErr result IsWordFault }
     {
         self.keyword(Keyword::Program)?;
@@ -298,6 +312,7 @@ impl<'a> Reader<'a> {
     }
 
     /// A line of a resource, behind these.
+    #[tactic(auto, using(crate::proofs::RefusedNames::no_name, crate::proofs::RefusedNames::memory_no_name))]
     fn item(
         &mut self,
         alloc: Global,
@@ -308,6 +323,7 @@ impl<'a> Reader<'a> {
         ensures ok { IfOk result (λ x. self.old.words ≡ item_words x ++ self.new.words) }
         ensures lawful { IfOk result (λ x. MayFollow (types_alone types.now) before.now x) }
         ensures tally { IfOk result (λ x. tally.new ≡ tally_with tally.old (use_of x)) }
+        ensures names { IfErr result (λ e. IsOfName e.kind → BeginWith (λ w. RefusesTask e.kind before.now w ⊎ RefusesInstance e.kind tally.old.instances tally.old.binds before.now w) self.old.words) }
         ensures value { IfErr result IsWordFault }
     {
         if self.sees_keyword(Keyword::Task) {
@@ -318,7 +334,7 @@ impl<'a> Reader<'a> {
     }
 
     /// The lines of a resource, up to its end.
-    #[tactic(auto, using(crate::proofs::WordLists::item_has_words, crate::proofs::ItemLemmas::no_items))]
+    #[tactic(auto, using(crate::proofs::RefusedNames::no_name, crate::proofs::RefusedNames::memory_no_name, crate::proofs::WordLists::item_has_words, crate::proofs::ItemLemmas::no_items))]
     fn items(
         &mut self,
         alloc: Global,
@@ -328,6 +344,7 @@ impl<'a> Reader<'a> {
         ensures ok { IfOk result (λ xs. self.old.words ≡ items_words xs.items ++ self.new.words) }
         ensures lawful { IfOk result (λ xs. AreItemsLawful (types_alone types.now) xs.items) }
         ensures tally { IfOk result (λ xs. tally.new ≡ tally_with tally.old (flat_map use_of xs.items)) }
+        ensures names { IfErr result (λ e. IsOfName e.kind → BeginWith (RefusesItems e.kind tally.old.instances tally.old.binds) self.old.words) }
         ensures value { IfErr result IsWordFault }
     {
         let mut items = Vec::new(alloc);
@@ -340,11 +357,13 @@ impl<'a> Reader<'a> {
     }
 
     /// A new name of a resource, behind these.
+    #[tactic(auto, using(crate::proofs::RefusedNames::no_name, crate::proofs::RefusedNames::memory_no_name))]
     fn resource_name(&mut self, alloc: Global, before: &[Resource]) -> Result<Name, PlantFault>
         ensures ok { IfOk result (λ name. self.old.words ≡ token.Name name ∷ self.new.words) }
         ensures new { IfOk result (λ name. IsNew (λ r. r.name) before.now name) }
         ensures few { OnOk result (length before.now < 16) }
         ensures tells { IfErr result (λ e. TellsOfName e.kind (RepeatsName (λ r. r.name) before.now self.old.words) (16 ≤ length before.now)) }
+        ensures next { IfErr result (λ e. IsOfName e.kind → IsNameNext self.old.words) }
         ensures value { IfErr result IsWordFault }
     {
         let name = self.name(alloc)?;
@@ -357,7 +376,7 @@ impl<'a> Reader<'a> {
     }
 
     /// A resource, behind these.
-    #[tactic(auto, unfolding(crate::specs::Grammar::resource_words), using(crate::proofs::ItemLemmas::resource_is_lawful))]
+    #[tactic(auto, unfolding(crate::specs::Grammar::resource_words), using(crate::proofs::RefusedNames::no_name, crate::proofs::RefusedNames::memory_no_name, crate::proofs::ItemLemmas::resource_is_lawful))]
     fn resource(
         &mut self,
         alloc: Global,
@@ -370,6 +389,7 @@ impl<'a> Reader<'a> {
         ensures few { OnOk result (length before.now < 16) }
         ensures lawful { IfOk result (λ r. IsResourceLawful (types_alone types.now) r) }
         ensures tally { IfOk result (λ r. tally.new ≡ tally_with tally.old (uses_of r)) }
+        ensures names { IfErr result (λ e. IsOfName e.kind → BeginWith (RefusesResource e.kind tally.old.instances tally.old.binds before.now) self.old.words) }
         ensures value { IfErr result IsWordFault }
     {
         self.keyword(Keyword::Resource)?;
@@ -381,7 +401,7 @@ impl<'a> Reader<'a> {
     }
 
     /// The resources, one at least, up to the end of the configuration.
-    #[tactic(auto, using(crate::proofs::WordLists::resource_has_words, crate::proofs::ItemLemmas::no_resources))]
+    #[tactic(auto, using(crate::proofs::RefusedNames::no_name, crate::proofs::RefusedNames::memory_no_name, crate::proofs::WordLists::resource_has_words, crate::proofs::ItemLemmas::no_resources))]
     pub fn resources(
         &mut self,
         alloc: Global,
@@ -392,6 +412,7 @@ impl<'a> Reader<'a> {
         ensures some { IfOk result (λ rs. 0 < length rs.items) }
         ensures lawful { IfOk result (λ rs. AreResourcesLawful (types_alone types.now) rs.items) }
         ensures tally { IfOk result (λ rs. tally.new ≡ tally_with tally.old (flat_map uses_of rs.items)) }
+        ensures names { IfErr result (λ e. IsOfName e.kind → BeginWith (RefusesResources e.kind tally.old.instances tally.old.binds) self.old.words) }
         ensures value { IfErr result IsWordFault }
     {
         let mut resources = Vec::new(alloc);

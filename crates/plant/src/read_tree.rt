@@ -2,6 +2,8 @@
 
 ghost use Rattle.std.specs.Prelude.{IfOk, IfErr};
 ghost use Rattle.plant.specs.Faults.{IsPlantFault, IsOfBody};
+ghost use Rattle.plant.specs.NameFaults.{IsOfName};
+ghost use Rattle.plant.specs.Steps.Declaring.{BeginWith, RefusesPlant};
 ghost use Rattle.plant.specs.Steps.Drawn.{IsFaultOfBodies};
 ghost use Rattle.plant.specs.Steps.Reading.{IsReadingOf};
 
@@ -17,11 +19,12 @@ use std::alloc::Global;
 ///
 /// The bodies before the fault of a word are drawn first, as their faults are met first.
 /// What stands behind the configuration is left in the reader.
-#[tactic(auto, using(crate::proofs::TypeLemmas::no_programs, crate::proofs::FaultLemmas::plant_of_word, crate::proofs::FaultLemmas::no_body_fault), unfolding(crate::specs::Grammar::words_of))]
+#[tactic(auto, using(crate::proofs::RefusedNames::no_name, crate::proofs::RefusedNames::memory_no_name, crate::proofs::TypeLemmas::no_programs, crate::proofs::FaultLemmas::plant_of_word, crate::proofs::FaultLemmas::no_body_fault), unfolding(crate::specs::Grammar::words_of))]
 pub fn read_tree<'a>(alloc: Global, reader: &mut Reader<'a>) -> Result<Reading, PlantFault>
     ensures ok { IfOk result (λ reading. IsReadingOf reader.old.words reading reader.new.words) }
     ensures value { IfErr result IsPlantFault }
     ensures body { IfErr result (λ fault. IsOfBody fault.kind → IsFaultOfBodies reader.old fault) }
+    ensures name { IfErr result (λ fault. IsOfName fault.kind → BeginWith (RefusesPlant fault.kind) reader.old.words) }
 {
     let mut texts = Vec::new(alloc);
     let programs = reader.programs(alloc, &mut texts);

@@ -2,7 +2,7 @@ ghost use Rattle.std.specs.Prelude.{◌≡◌, ◌≢◌, ◌∷◌, List, map, 
 ghost use Rattle.plant.specs.Steps.WordFaults.{IsWordFault};
 ghost use Rattle.plant.specs.declared.token.Token.TheVariants as token;
 ghost use Rattle.plant.specs.declared.plant_fault.PlantFaultKind.TheVariants.{Memory};
-ghost use Rattle.plant.specs.Steps.Declaring.{TellsOfName};
+ghost use Rattle.plant.specs.NameFaults.{TellsOfName};
 ghost use Rattle.plant.specs.Steps.Lines.{next_line, syntax_at, body_lines};
 
 use crate::address::Address;
@@ -67,6 +67,7 @@ impl<'a> Reader<'a> {
     pub fn end(&self) -> Result<(), PlantFault>
         ensures ok { OnOk result (self.now.words ≡ []) }
         ensures err { IfErr result (λ e. (e ≡ syntax_at self.now) × (self.now.words ≢ [])) }
+        ensures tells { IfErr result (λ e. TellsOfName e.kind ⊥ ⊥) }
         ensures value { IfErr result IsWordFault }
     {
         match self.words {
@@ -81,6 +82,7 @@ impl<'a> Reader<'a> {
         ensures bodies { OnOk result (self.new.bodies ≡ self.old.bodies) }
         ensures err { IfErr result (λ e. (e ≡ syntax_at self.old) × (self.new ≡ self.old)) }
         ensures other { OnErr result ((rest : List Token) → self.old.words ≡ token.Keyword keyword ∷ rest → ⊥) }
+        ensures tells { IfErr result (λ e. TellsOfName e.kind ⊥ ⊥) }
         ensures value { IfErr result IsWordFault }
     {
         match self.words {
@@ -98,6 +100,7 @@ impl<'a> Reader<'a> {
         ensures bodies { OnOk result (self.new.bodies ≡ self.old.bodies) }
         ensures err { IfErr result (λ e. (e ≡ syntax_at self.old) × (self.new ≡ self.old)) }
         ensures other { OnErr result ((rest : List Token) → self.old.words ≡ token.Punctuation punctuation ∷ rest → ⊥) }
+        ensures tells { IfErr result (λ e. TellsOfName e.kind ⊥ ⊥) }
         ensures value { IfErr result IsWordFault }
     {
         match self.words {
@@ -137,6 +140,7 @@ impl<'a> Reader<'a> {
         ensures bodies { OnOk result (self.old.bodies ≡ next_line self.old ∷ self.new.bodies) }
         ensures err { IfErr result (λ e. e.kind ≢ Memory → e ≡ syntax_at self.old) }
         ensures kept { OnErr result (self.new ≡ self.old) }
+        ensures tells { IfErr result (λ e. TellsOfName e.kind ⊥ ⊥) }
         ensures value { IfErr result IsWordFault }
     {
         match self.words {
@@ -157,6 +161,7 @@ impl<'a> Reader<'a> {
         ensures ok { IfOk result (λ n. self.old.words ≡ token.Duration n ∷ self.new.words) }
         ensures err { IfErr result (λ e. (e ≡ syntax_at self.old) × (self.new ≡ self.old)) }
         ensures other { OnErr result ((n : ℕ) (rest : List Token) → self.old.words ≡ token.Duration n ∷ rest → ⊥) }
+        ensures tells { IfErr result (λ e. TellsOfName e.kind ⊥ ⊥) }
         ensures value { IfErr result IsWordFault }
     {
         match self.words {
@@ -176,6 +181,7 @@ impl<'a> Reader<'a> {
         ensures ok { IfOk result (λ n. self.old.words ≡ token.Number n ∷ self.new.words) }
         ensures err { IfErr result (λ e. (e ≡ syntax_at self.old) × (self.new ≡ self.old)) }
         ensures other { OnErr result ((n : ℕ) (rest : List Token) → self.old.words ≡ token.Number n ∷ rest → ⊥) }
+        ensures tells { IfErr result (λ e. TellsOfName e.kind ⊥ ⊥) }
         ensures value { IfErr result IsWordFault }
     {
         match self.words {
@@ -195,6 +201,7 @@ impl<'a> Reader<'a> {
         ensures ok { IfOk result (λ a. self.old.words ≡ token.Address a ∷ self.new.words) }
         ensures err { IfErr result (λ e. (e ≡ syntax_at self.old) × (self.new ≡ self.old)) }
         ensures other { OnErr result ((a : Address) (rest : List Token) → self.old.words ≡ token.Address a ∷ rest → ⊥) }
+        ensures tells { IfErr result (λ e. TellsOfName e.kind ⊥ ⊥) }
         ensures value { IfErr result IsWordFault }
     {
         match self.words {
@@ -215,6 +222,7 @@ impl<'a> Reader<'a> {
         ensures bodies { OnOk result (self.new.bodies ≡ self.old.bodies) }
         ensures err { IfErr result (λ e. (e ≡ syntax_at self.old) × (self.new ≡ self.old)) }
         ensures other { OnErr result ((b : BlockType) (rest : List Token) → self.old.words ≡ token.Block b ∷ rest → ⊥) }
+        ensures tells { IfErr result (λ e. TellsOfName e.kind ⊥ ⊥) }
         ensures value { IfErr result IsWordFault }
     {
         match self.words {

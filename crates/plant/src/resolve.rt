@@ -1,4 +1,5 @@
 ghost use Rattle.std.specs.Prelude.{ℕ, List, IfOk, IfErr};
+ghost use Rattle.plant.specs.NameFaults.{TellsOfName};
 ghost use Rattle.plant.specs.Steps.WordFaults.{IsWordFault};
 ghost use Rattle.plant.specs.Faultless.{IsFaultless};
 ghost use Rattle.plant.specs.Steps.Reading.{tree_of};
@@ -16,6 +17,7 @@ use std::alloc::Global;
 pub fn resolve(alloc: Global, reading: &Reading) -> Result<Plant, PlantFault>
     requires { (name : List ℕ) × IsFaultless (tree_of name reading.now) }
     ensures ok { IfOk result (λ p. (name : List ℕ) → IsPlantOf (tree_of name reading.now) p) }
+    ensures tells { IfErr result (λ e. TellsOfName e.kind ⊥ ⊥) }
     ensures value { IfErr result IsWordFault }
 {
     let types = reading.types();

@@ -1,9 +1,9 @@
-ghost use Rattle.std.specs.Prelude.{◌≡◌, ◌↔◌, ◌+◌, ◌<◌, ◌≤◌, ◌⊎◌, ◌++◌, [], ◌∷◌, IsTrue, Any, OnOk, length, IfErr};
+ghost use Rattle.std.specs.Prelude.{◌≡◌, ◌↔◌, ◌+◌, ◌<◌, ◌≤◌, ◌⊎◌, ◌++◌, [], ◌∷◌, ℕ, List, IsTrue, Any, OnOk, length, IfErr};
 ghost use Rattle.plant.specs.Steps.WordFaults.{IsWordFault};
 ghost use Rattle.power_flow.specs.Names.{IsDeclared};
 ghost use Rattle.plant.specs.Names.{is_named};
 ghost use Rattle.plant.specs.Faultless.{declared_as, list_variables};
-ghost use Rattle.plant.specs.Steps.Declaring.{TellsOfName};
+ghost use Rattle.plant.specs.NameFaults.{IsOfName, TellsOfName, IsTaken};
 ghost use Rattle.plant.specs.Steps.ReadParts.{AreVariables};
 
 use crate::declared_names::check_new;
@@ -113,8 +113,10 @@ impl Variables {
     }
 
     /// Declares the names of a list of a section.
+    #[tactic(auto, using(crate::proofs::RefusedNames::no_name, crate::proofs::RefusedNames::memory_no_name))]
     pub fn add_list(&mut self, section: Section, list: &NameList) -> Result<(), PlantFault>
         ensures ok { OnOk result (self.new ≡ self.old ++ list_variables section list.now) }
+        ensures names { IfErr result (λ e. IsOfName e.kind → (names more : List (List ℕ)) × (name : List ℕ) × (list.now.names.items ≡ names ++ name ∷ more) × TellsOfName e.kind (IsTaken (λ v. v.name) self.old name ⊎ IsTaken (λ m. m) names name) (1000 ≤ length self.old + length names)) }
         ensures value { IfErr result IsWordFault }
     {
         let declared = declared_as(section, list.type_name);

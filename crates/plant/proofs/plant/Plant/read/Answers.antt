@@ -12,6 +12,8 @@ use Rattle.plant.specs.PlantText.{IsBodyFaultIn}
 use Rattle.plant.proofs.Moments.{kept_fault}
 use Rattle.plant.proofs.KnownWords.{words_known}
 use Rattle.plant.proofs.BodyCounts.{begun_by_programs}
+use Rattle.plant.specs.NameFaults.{IsOfName, IsNameFaultIn}
+use Rattle.plant.proofs.RefusedKnown.{begun_by_refused}
 use Rattle.plant.proofs.plant.Plant.read.Goals as goal
 
 pub returns-clause-ok : goal.returns-clause-ok
@@ -42,4 +44,20 @@ returns-in_err-reading-clause-body c =
       texts = met.texts;
       begun = begun_by_programs (without_last 13 c.args.text.now) ws met.texts met.rest met.more c.in_ok-words.ensures.begun (words ∙ met.written) (bodies ∙ met.lines);
       first = met.first;
+    })
+
+pub returns-in_err-reading-clause-name : goal.returns-in_err-reading-clause-name
+returns-in_err-reading-clause-name c =
+    let fault = c.in_err-reading.field-0.0 in
+    let ws = c.in_ok-words.words in
+    let words : map (λ (w : WordValue). w.token) ws ≡ c.new-reader.result.words = ap (λ (ws : List WordValue). map (λ (w : WordValue). w.token) ws) (sym c.words-2.ensures) ∙ ap (λ (r : ReaderValue). r.words) (sym c.new-reader.ensures) in
+    kept_fault fault (λ f. IsOfName f.kind → IsNameFaultIn c.args.text.now f) c.from_residual-in_err-reading.result c.from_residual-in_err-reading.ensures.1
+    (λ of.
+    let met = c.in_err-reading.ensures.name of in
+    let begun = begun_by_refused (without_last 13 c.args.text.now) ws fault.kind c.new-reader.result.words c.in_ok-words.ensures.begun words met in
+    record {
+      words = met.front;
+      lines = begun.0;
+      begun = begun.1;
+      refused = met.holds;
     })

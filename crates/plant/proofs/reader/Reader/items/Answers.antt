@@ -1,9 +1,14 @@
-use Rattle.std.proofs.Common.{subst}
+use Rattle.std.proofs.Common.{List, subst}
 use Rattle.plant.specs.Faultless.{use_of}
 use Rattle.plant.specs.Grammar.{item_words}
 use Rattle.plant.specs.Steps.ReadParts.{types_alone, MayFollow}
 use Rattle.plant.proofs.WordLists.{words_more, items_done}
 use Rattle.plant.proofs.ItemLemmas.{items_more, tally_more}
+use Rattle.plant.specs.declared.tree.Item.{Item}
+use Rattle.plant.specs.NameFaults.{IsOfName, RefusesItems}
+use Rattle.plant.specs.Steps.Declaring.{BeginWith}
+use Rattle.plant.proofs.Moments.{kept_fault}
+use Rattle.plant.proofs.RefusedPlaces.{RefusesItem, item_refused}
 use Rattle.plant.proofs.reader.Reader.items.Goals as goal
 
 pub items-preserved : goal.items-preserved
@@ -19,5 +24,13 @@ returns c = record {
   ok = items_done c.items.items.items c.args.self.now.words c.items.self.words c.keyword.new.self.words c.items.invariant.words c.in_ok-keyword.ensures.ok;
   lawful = c.items.invariant.lawful;
   tally = c.items.invariant.tally;
+  names = tt;
   value = tt;
 }
+
+pub returns-in_err-item-clause-names : goal.returns-in_err-item-clause-names
+returns-in_err-item-clause-names c =
+    let fault = c.in_err-item.field-0.0 in
+    kept_fault fault (λ f. IsOfName f.kind → BeginWith (RefusesItems f.kind c.args.tally.now.instances c.args.tally.now.binds) (c.args.self.now.words)) c.from_residual.result c.from_residual.ensures.1
+    (λ of. item_refused fault.kind c.args.tally.now c.items.tally c.items.items.items c.args.self.now.words c.items.self.words c.items.invariant.words c.items.invariant.tally
+    (subst (λ (xs : List Item). BeginWith (RefusesItem fault.kind c.items.tally xs) c.items.self.words) c.deref.ensures.value (c.in_err-item.ensures.names of)))

@@ -9,6 +9,11 @@ use Rattle.plant.specs.Steps.ReadParts.{IsNew}
 use Rattle.plant.specs.Steps.Reading.{programs_of, lines_of}
 use Rattle.plant.proofs.TypeLemmas.{programs_more, map-grown}
 use Rattle.plant.proofs.WordLists.{words_more}
+use Rattle.plant.specs.NameFaults.{IsOfName, RefusesProgram, RefusesPrograms}
+use Rattle.plant.specs.Steps.Declaring.{BeginWith}
+use Rattle.plant.proofs.Moments.{kept_fault}
+use Rattle.plant.proofs.RefusedPlaces.{program_refused}
+use Rattle.plant.proofs.RefusedNames.{memory_result}
 use Rattle.plant.proofs.reader.Reader.programs.Goals as goal
 
 pub programs-preserved : goal.programs-preserved
@@ -40,3 +45,13 @@ returns-in_err-push-clause-err_lines c =
     let lines = c.programs.invariant.lines ∙ ap (λ ts. lines_of ts ++ c.programs.self.bodies) (sym kept) in
     let known : (x : List ℕ) × (lines_of c.args.texts.now.items ++ c.args.self.now.bodies ≡ lines_of c.push.new.self.items ++ x) = (c.programs.self.bodies, lines) in
     search rules
+
+pub returns-in_err-text-clause-names : goal.returns-in_err-text-clause-names
+returns-in_err-text-clause-names c =
+    let fault = c.in_err-text.field-0.0 in
+    kept_fault fault (λ f. IsOfName f.kind → BeginWith (RefusesPrograms f.kind) (flat_map program_words (programs_of c.args.texts.now.items) ++ c.args.self.now.words)) c.from_residual.result c.from_residual.ensures.1
+    (λ of. program_refused fault.kind (programs_of c.programs.texts.items) (flat_map program_words (programs_of c.args.texts.now.items) ++ c.args.self.now.words) c.programs.self.words c.programs.invariant.words
+    (subst (λ (ts : List TextValue). BeginWith (RefusesProgram fault.kind (programs_of ts)) c.programs.self.words) c.as_slice.ensures.value (c.in_err-text.ensures.names of)))
+
+pub returns-in_err-push-clause-names : goal.returns-in_err-push-clause-names
+returns-in_err-push-clause-names c = memory_result (λ f. BeginWith (RefusesPrograms f.kind) (flat_map program_words (programs_of c.args.texts.now.items) ++ c.args.self.now.words)) c.from_residual-in_err-push.result c.from_residual-in_err-push.ensures.1

@@ -5,6 +5,11 @@ use Rattle.plant.specs.Grammar.{resource_words}
 use Rattle.plant.specs.Steps.ReadParts.{types_alone, IsNew}
 use Rattle.plant.proofs.WordLists.{words_more, resources_done}
 use Rattle.plant.proofs.ItemLemmas.{resources_more, tally_more}
+use Rattle.std.proofs.Common.{List}
+use Rattle.plant.specs.NameFaults.{IsOfName, RefusesResource, RefusesResources}
+use Rattle.plant.specs.Steps.Declaring.{BeginWith}
+use Rattle.plant.proofs.Moments.{kept_fault}
+use Rattle.plant.proofs.RefusedPlaces.{resource_refused}
 use Rattle.plant.proofs.reader.Reader.resources.Goals as goal
 
 pub resources-preserved : goal.resources-preserved
@@ -17,3 +22,10 @@ resources-preserved c = record {
 
 pub returns-clause-ok : goal.returns-clause-ok
 returns-clause-ok c = resources_done c.resources.resources.items c.args.self.now.words c.resources.self.words c.keyword.new.self.words c.resources.invariant.words c.in_ok-keyword.ensures.ok
+
+pub returns-in_err-resource-clause-names : goal.returns-in_err-resource-clause-names
+returns-in_err-resource-clause-names c =
+    let fault = c.in_err-resource.field-0.0 in
+    kept_fault fault (λ f. IsOfName f.kind → BeginWith (RefusesResources f.kind c.args.tally.now.instances c.args.tally.now.binds) (c.args.self.now.words)) c.from_residual.result c.from_residual.ensures.1
+    (λ of. resource_refused fault.kind c.args.tally.now c.resources.tally c.resources.resources.items c.args.self.now.words c.resources.self.words c.resources.invariant.words c.resources.invariant.tally
+    (subst (λ (rs : List Resource). BeginWith (RefusesResource fault.kind c.resources.tally.instances c.resources.tally.binds rs) c.resources.self.words) c.deref.ensures.value (c.in_err-resource.ensures.names of)))

@@ -1,0 +1,115 @@
+-- The words up to a name that is refused are words.
+use Rattle.std.proofs.Common.{◌≡◌, ◌⊎◌, inl, inr, ℕ, List, [], ◌∷◌, ◌++◌, map, take, drop, length, sym, ap, subst, ◌∙◌}
+use Rattle.std.specs.List.{flat_map}
+use Rattle.std.proofs.lemmas.List.{take-append-drop}
+use Rattle.std.proofs.Math.Seq.{take-append_seam}
+use Rattle.power_flow.specs.declared.declarations.Declaration.{Declaration}
+use Rattle.plant.specs.declared.plant_fault.PlantFaultKind.{PlantFaultKind}
+use Rattle.plant.specs.declared.token.Token.{Token}
+use Rattle.plant.specs.declared.token.Token.TheVariants as token
+use Rattle.plant.specs.declared.token.Keyword.TheVariants as key
+use Rattle.plant.specs.declared.token.Punctuation.TheVariants.{Open, Colon, Comma}
+use Rattle.plant.specs.declared.tree.Section.{Section}
+use Rattle.plant.specs.declared.tree.Program.{Program}
+use Rattle.plant.specs.declared.tree.Bind.{Bind}
+use Rattle.plant.specs.declared.tree.Item.{Item}
+use Rattle.plant.specs.declared.tree.Resource.{Resource}
+use Rattle.plant.specs.Grammar.{key_word, mark, section_word, bind_words, list_words, block_words, program_words, item_words, resource_words}
+use Rattle.plant.specs.Spelling.{BeginsWith}
+use Rattle.plant.specs.NameFaults.{IsRefused, IsAfter, IsAfterName, IsBehind, name_and_comma, bind_and_comma, RefusesVariable, RefusesList, RefusesBlock, RefusesBlocks, RefusesProgram, RefusesPrograms, RefusesTask, RefusesBind, RefusesBinds, RefusesInstance, RefusesItems, RefusesResource, RefusesResources, RefusesConfiguration}
+use Rattle.plant.specs.Steps.Declaring.{BeginWith, RefusesPlant}
+use Rattle.plant.specs.Steps.Lines.{WordValue, body_lines, IsBegunBy}
+use Rattle.plant.proofs.KnownWords.{IsKnown, AreKnown, nothing, key_is, mark_is, name_is, behind, both, all_of, section_is, list_is, block_is, program_is, bind_is, item_is, resource_is}
+use Rattle.plant.proofs.BodyCounts.{map_take}
+
+refused_known : (k : PlantFaultKind) (Taken : List ℕ → Type 0) (full : Type 0) (words : List Token) → IsRefused k Taken full words → AreKnown words
+refused_known k Taken full words h = subst AreKnown (sym h.alone) (behind (token.Name h.name) [] (name_is h.name) nothing)
+
+after_known : (t : Token) (P : List Token → Type 0) (words : List Token) → IsKnown t → ((w : List Token) → P w → AreKnown w) → IsAfter t P words → AreKnown words
+after_known t P words one more h = subst AreKnown (sym h.parts) (behind t h.more one (more h.more h.holds))
+
+after_name_known : (P : List Token → Type 0) (words : List Token) → ((w : List Token) → P w → AreKnown w) → IsAfterName P words → AreKnown words
+after_name_known P words more h = after_known (token.Name h.name) P words (name_is h.name) more h.after
+
+behind_known : {A : Type 0} (f : A → List Token) (P : List A → List Token → Type 0) (words : List Token) → ((x : A) → AreKnown (f x)) → ((xs : List A) (w : List Token) → P xs w → AreKnown w) → IsBehind f P words → AreKnown words
+behind_known f P words each more h = subst AreKnown (sym h.parts) (both (flat_map f h.whole) h.more (all_of f each h.whole) (more h.whole h.more h.holds))
+
+either_known : (P Q : Type 0) (words : List Token) → (P → AreKnown words) → (Q → AreKnown words) → P ⊎ Q → AreKnown words
+either_known P Q words p q (inl h) = p h
+either_known P Q words p q (inr h) = q h
+
+name_comma_is : (n : List ℕ) → AreKnown (name_and_comma n)
+name_comma_is n = behind (token.Name n) (mark Comma ∷ []) (name_is n) (behind (mark Comma) [] (mark_is Comma) nothing)
+
+bind_comma_is : (b : Bind) → AreKnown (bind_and_comma b)
+bind_comma_is b = both (bind_words b) (mark Comma ∷ []) (bind_is b) (behind (mark Comma) [] (mark_is Comma) nothing)
+
+variable_known : (k : PlantFaultKind) (before : List Declaration) (words : List Token) → RefusesVariable k before words → AreKnown words
+unfolding RefusesVariable
+variable_known k before words h = behind_known name_and_comma _ words name_comma_is (λ ns w r. refused_known k _ _ w r) h
+
+list_known : (k : PlantFaultKind) (s : Section) (before : List Declaration) (words : List Token) → RefusesList k s before words → AreKnown words
+unfolding RefusesList
+list_known k s before words h = behind_known list_words _ words list_is (λ ls w r. variable_known k _ w r) h
+
+block_known : (k : PlantFaultKind) (before : List Declaration) (words : List Token) → RefusesBlock k before words → AreKnown words
+unfolding RefusesBlock
+block_known k before words (s, h) = after_known (section_word s) (RefusesList k s before) words (section_is s) (λ w r. list_known k s before w r) h
+
+blocks_known : (k : PlantFaultKind) (before : List Declaration) (words : List Token) → RefusesBlocks k before words → AreKnown words
+unfolding RefusesBlocks
+blocks_known k before words h = behind_known block_words _ words block_is (λ bs w r. block_known k _ w r) h
+
+program_known : (k : PlantFaultKind) (before : List Program) (words : List Token) → RefusesProgram k before words → AreKnown words
+unfolding RefusesProgram
+program_known k before words h =
+    after_known (key_word key.Program) _ words (key_is key.Program) (λ w r. either_known _ _ w (λ n. refused_known k _ _ w n) (λ n. after_name_known (RefusesBlocks k []) w (λ v b. blocks_known k [] v b) n) r) h
+
+task_known : (k : PlantFaultKind) (before : List Item) (words : List Token) → RefusesTask k before words → AreKnown words
+unfolding RefusesTask
+task_known k before words h = after_known (key_word key.Task) _ words (key_is key.Task) (λ w r. refused_known k _ _ w r) h
+
+bind_known : (k : PlantFaultKind) (n : ℕ) (words : List Token) → RefusesBind k n words → AreKnown words
+unfolding RefusesBind
+bind_known k n words h = behind_known bind_and_comma _ words bind_comma_is (λ bs w r. refused_known k _ _ w r) h
+
+binds_known : (k : PlantFaultKind) (n : ℕ) (words : List Token) → RefusesBinds k n words → AreKnown words
+unfolding RefusesBinds
+binds_known k n words h =
+    after_known (key_word key.With) _ words (key_is key.With) (λ w1 h1. after_name_known _ w1 (λ w2 h2. after_known (mark Colon) _ w2 (mark_is Colon) (λ w3 h3. after_name_known _ w3 (λ w4 h4. after_known (mark Open) _ w4 (mark_is Open) (λ w5 h5. bind_known k n w5 h5) h4) h3) h2) h1) h
+
+instance_known : (k : PlantFaultKind) (i n : ℕ) (before : List Item) (words : List Token) → RefusesInstance k i n before words → AreKnown words
+unfolding RefusesInstance
+instance_known k i n before words h =
+    after_known (key_word key.Program) _ words (key_is key.Program) (λ w r. either_known _ _ w (λ m. refused_known k _ _ w m) (λ m. after_name_known (RefusesBinds k n) w (λ v b. binds_known k n v b) m) r) h
+
+items_known : (k : PlantFaultKind) (i n : ℕ) (words : List Token) → RefusesItems k i n words → AreKnown words
+unfolding RefusesItems
+items_known k i n words h = behind_known item_words _ words item_is (λ xs w r. either_known _ _ w (λ t. task_known k xs w t) (λ u. instance_known k _ _ xs w u) r) h
+
+resource_known : (k : PlantFaultKind) (i n : ℕ) (before : List Resource) (words : List Token) → RefusesResource k i n before words → AreKnown words
+unfolding RefusesResource
+resource_known k i n before words h =
+    after_known (key_word key.Resource) _ words (key_is key.Resource) (λ w r. either_known _ _ w (λ m. refused_known k _ _ w m)
+    (λ m. after_name_known _ w (λ w1 h1. after_known (key_word key.On) _ w1 (key_is key.On) (λ w2 h2. after_name_known (RefusesItems k i n) w2 (λ w3 h3. items_known k i n w3 h3) h2) h1) m) r) h
+
+resources_known : (k : PlantFaultKind) (i n : ℕ) (words : List Token) → RefusesResources k i n words → AreKnown words
+unfolding RefusesResources
+resources_known k i n words h = behind_known resource_words _ words resource_is (λ rs w r. resource_known k _ _ rs w r) h
+
+-- none of the words up to a name refused is unknown
+plant_known : (k : PlantFaultKind) (words : List Token) → RefusesPlant k words → AreKnown words
+unfolding RefusesPrograms RefusesConfiguration
+plant_known k words (inl h) = behind_known program_words _ words program_is (λ ps w r. program_known k ps w r) h
+plant_known k words (inr h) =
+    behind_known program_words _ words program_is (λ ps w r. after_known (key_word key.Configuration) _ w (key_is key.Configuration) (λ w1 h1. after_name_known (RefusesResources k 0 0) w1 (λ w2 h2. resources_known k 0 0 w2 h2) h1) r) h
+
+-- a text that begins with its words, as far as they are words, begins with those up to a name refused
+pub begun_by_refused : (text : List ℕ) (ws : List WordValue) (k : PlantFaultKind) (words : List Token) → IsBegunBy text ws → map (λ (w : WordValue). w.token) ws ≡ words → (b : BeginWith (RefusesPlant k) words)
+    → (lines : List ℕ) × BeginsWith 1 text b.front lines
+begun_by_refused text ws k words begun is b =
+    let front = take (length b.front) ws in
+    let back = drop (length b.front) ws in
+    let parts : ws ≡ front ++ back = sym (take-append-drop (length b.front) ws) in
+    let tokens : map (λ (w : WordValue). w.token) front ≡ b.front = map_take (λ (w : WordValue). w.token) ws (length b.front) ∙ ap (λ x. take (length b.front) x) (is ∙ b.parts) ∙ take-append_seam b.front b.rest in
+    (body_lines front, subst (λ (ts : List Token). BeginsWith 1 text ts (body_lines front)) tokens (begun front back parts (subst AreKnown (sym tokens) (plant_known k b.front b.holds))))
