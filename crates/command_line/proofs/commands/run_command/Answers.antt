@@ -1,0 +1,13 @@
+-- The arguments are added one by one.
+use Rattle.std.proofs.Common.{◌≡◌, rules, codes, ap₂, ◌∙◌}
+use Rattle.std.proofs.lemmas.Result.{IfOk-weaker}
+use Rattle.clap.specs.Words.{app_of, new_app, with_rule}
+use Rattle.command_line.proofs.commands.run_command.Goals as goal
+
+pub returns : goal.returns
+returns c =
+    let top : app_of c.after_help.result ≡ new_app (codes "run") = search rules in
+    let one = c.in_ok-arg.ensures.shape c.plant_arg.ensures.local ∙ ap₂ with_rule top c.plant_arg.ensures.rule in
+    let two = c.in_ok-arg-2.ensures.shape c.until_arg.ensures.local ∙ ap₂ with_rule one c.until_arg.ensures.rule in
+    let three = c.in_ok-arg-3.ensures.shape c.paced_arg.ensures.local ∙ ap₂ with_rule two c.paced_arg.ensures.rule in
+    IfOk-weaker c.arg-4.result _ _ (λ new added. added.shape c.inputs_arg.ensures.local ∙ ap₂ with_rule three c.inputs_arg.ensures.rule) c.arg-4.ensures

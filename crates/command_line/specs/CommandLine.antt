@@ -1,0 +1,172 @@
+-- What the words of the command line ask for.
+use Rattle.std.specs.Prelude.{◌≡◌, ℕ, ◌^◌, ◌<◌, ◌⊎◌, List, [], Option, Some, None, Bool, true, false, bytes_eq, codes, map, unwrap_or}
+use Rattle.std.specs.Option.{option_map_or}
+use Rattle.std.specs.Str.Parse.{IsNumeral, digits_value}
+use Rattle.clap.specs.Lexer.{usize_max}
+use Rattle.clap.specs.Words.{App, Row, Rule, Text, new_app, new_rule, with_rule, with_subcommand, first_of, all_of}
+use Rattle.clap.specs.declared.builder.action.ArgAction.TheVariants.{Set, Append, SetTrue}
+use Rattle.command_line.specs.declared.request.TextRequest.{TextRequest}
+use Rattle.command_line.specs.declared.request.TextRequest.TheVariants.{Eval, Check, Plan}
+use Rattle.command_line.specs.declared.request.Request.{Request}
+use Rattle.command_line.specs.declared.request.Request.TheVariants.{Text as OfText, Sim, Run, Explain}
+
+-- a word that must be given
+abbrev pub needed_word : Text → Rule
+needed_word id = record (new_rule id) { action = Some Set; required = true }
+
+-- an option `--id NUMBER`
+abbrev pub option_of : Text → Rule
+option_of id = record (new_rule id) { action = Some Set; long = Some id; value_names = 1 }
+
+abbrev pub drawing_rule : Rule
+drawing_rule = needed_word (codes "DRAWING")
+
+abbrev pub plant_rule : Rule
+plant_rule = needed_word (codes "PLANT")
+
+abbrev pub kind_rule : Rule
+kind_rule = needed_word (codes "KIND")
+
+abbrev pub dt_rule : Rule
+dt_rule = option_of (codes "dt")
+
+abbrev pub until_rule : Rule
+until_rule = record (option_of (codes "until")) { required = true }
+
+abbrev pub schedule_rule : Rule
+schedule_rule = needed_word (codes "SCHEDULE")
+
+abbrev pub max_number_rule : Rule
+max_number_rule = option_of (codes "max-number")
+
+-- a flag `--paced`
+abbrev pub paced_rule : Rule
+paced_rule = record (new_rule (codes "paced")) { action = Some SetTrue; long = Some (codes "paced") }
+
+-- any number of words
+abbrev pub words_rule : Rule
+words_rule = record (new_rule (codes "words")) {
+  action = Some Append;
+  range = Some (record { start_inclusive = 0; end_inclusive = usize_max });
+  value_names = 1;
+}
+
+-- `eval DRAWING [--dt MS] [NAME=BITS]..`
+abbrev pub eval_app : App
+eval_app = with_rule (with_rule (with_rule (new_app (codes "eval")) drawing_rule) dt_rule) words_rule
+
+-- `check PLANT`
+abbrev pub check_app : App
+check_app = with_rule (new_app (codes "check")) plant_rule
+
+-- `plan PLANT --until MS`
+abbrev pub plan_app : App
+plan_app = with_rule (with_rule (new_app (codes "plan")) plant_rule) until_rule
+
+-- `sim PLANT SCHEDULE [--max-number N]`
+abbrev pub sim_app : App
+sim_app = with_rule (with_rule (with_rule (new_app (codes "sim")) plant_rule) schedule_rule) max_number_rule
+
+-- `run PLANT --until MS [--paced] [ADDRESS=VALUE]..`
+abbrev pub run_app : App
+run_app = with_rule (with_rule (with_rule (with_rule (new_app (codes "run")) plant_rule) until_rule) paced_rule) words_rule
+
+-- `explain KIND`
+abbrev pub explain_app : App
+explain_app = with_rule (new_app (codes "explain")) kind_rule
+
+-- with a version
+abbrev pub versioned : App → App
+versioned a = record a { top = record a.top { has_version = true } }
+
+-- it needs a command
+abbrev pub commanded : App → App
+commanded a = record a { top = record a.top { subcommand_required = true } }
+
+-- `plc`, and one of the six
+abbrev pub plc_app : App
+plc_app = with_subcommand (with_subcommand (with_subcommand (with_subcommand (with_subcommand (with_subcommand (commanded (versioned (new_app (codes "plc")))) eval_app.top) check_app.top) plan_app.top) sim_app.top) run_app.top) explain_app.top
+
+-- digits alone are a number of 32 bits
+abbrev pub IsNumber : List ℕ → Type 0
+IsNumber text = IsNumeral 10 text × (digits_value 10 text < 2 ^ 32)
+
+-- the number of an option, and another where it isn't given
+abbrev pub GivesNumber : ℕ → Option (List ℕ) → ℕ → Type 0
+GivesNumber otherwise None n = n ≡ otherwise
+GivesNumber otherwise (Some text) n = IsNumber text × (n ≡ digits_value 10 text)
+
+-- what stands for a word by its id in what was found
+abbrev pub word_of : Text → List Row → List ℕ
+word_of id found = unwrap_or (first_of id found) []
+
+-- a flag was given: what stands for it is `true`
+abbrev pub is_given : Text → List Row → Bool
+is_given id found = option_map_or (λ text. bytes_eq text (codes "true")) (first_of id found) false
+
+abbrev pub AsksEval : List Row → Request → Type 0
+AsksEval found (OfText (Eval drawing dt words)) = (drawing.now ≡ word_of (codes "DRAWING") found) × GivesNumber 0 (first_of (codes "dt") found) dt
+    × (map (λ w. w.now) words.items ≡ unwrap_or (all_of (codes "words") found) [])
+AsksEval found (OfText (Check plant)) = ⊥
+AsksEval found (OfText (Plan plant until)) = ⊥
+AsksEval found (Sim sim) = ⊥
+AsksEval found (Run run) = ⊥
+AsksEval found (Explain kind) = ⊥
+
+abbrev pub AsksCheck : List Row → Request → Type 0
+AsksCheck found (OfText (Eval drawing dt words)) = ⊥
+AsksCheck found (OfText (Check plant)) = plant.now ≡ word_of (codes "PLANT") found
+AsksCheck found (OfText (Plan plant until)) = ⊥
+AsksCheck found (Sim sim) = ⊥
+AsksCheck found (Run run) = ⊥
+AsksCheck found (Explain kind) = ⊥
+
+abbrev pub AsksPlan : List Row → Request → Type 0
+AsksPlan found (OfText (Eval drawing dt words)) = ⊥
+AsksPlan found (OfText (Check plant)) = ⊥
+AsksPlan found (OfText (Plan plant until)) = (plant.now ≡ word_of (codes "PLANT") found) × GivesNumber 0 (first_of (codes "until") found) until
+AsksPlan found (Sim sim) = ⊥
+AsksPlan found (Run run) = ⊥
+AsksPlan found (Explain kind) = ⊥
+
+abbrev pub AsksSim : List Row → Request → Type 0
+AsksSim found (OfText (Eval drawing dt words)) = ⊥
+AsksSim found (OfText (Check plant)) = ⊥
+AsksSim found (OfText (Plan plant until)) = ⊥
+AsksSim found (Sim sim) =
+    (sim.plant.now ≡ word_of (codes "PLANT") found) × (sim.schedule.now ≡ word_of (codes "SCHEDULE") found) × GivesNumber 4294967295 (first_of (codes "max-number") found) sim.max_number
+AsksSim found (Run run) = ⊥
+AsksSim found (Explain kind) = ⊥
+
+abbrev pub AsksRun : List Row → Request → Type 0
+AsksRun found (OfText (Eval drawing dt words)) = ⊥
+AsksRun found (OfText (Check plant)) = ⊥
+AsksRun found (OfText (Plan plant until)) = ⊥
+AsksRun found (Sim sim) = ⊥
+AsksRun found (Run run) =
+    (run.plant.now ≡ word_of (codes "PLANT") found) × GivesNumber 0 (first_of (codes "until") found) run.until × (run.paced ≡ is_given (codes "paced") found)
+    × (map (λ w. w.now) run.words.items ≡ unwrap_or (all_of (codes "words") found) [])
+AsksRun found (Explain kind) = ⊥
+
+abbrev pub AsksExplain : List Row → Request → Type 0
+AsksExplain found (OfText text) = ⊥
+AsksExplain found (Sim sim) = ⊥
+AsksExplain found (Run run) = ⊥
+AsksExplain found (Explain kind) = kind.now ≡ word_of (codes "KIND") found
+
+-- the request is what the subcommand asks for, with what was found for its options
+abbrev pub IsAsked : Option (Text × List Row) → Request → Type 0
+IsAsked None request = ⊥
+IsAsked (Some (name, found)) request = ((name ≡ codes "eval") × AsksEval found request) ⊎ (((name ≡ codes "check") × AsksCheck found request) ⊎ (((name ≡ codes "plan") × AsksPlan found request) ⊎ (((name ≡ codes "sim") × AsksSim found request) ⊎ (((name ≡ codes "run") × AsksRun found request) ⊎ ((name ≡ codes "explain") × AsksExplain found request)))))
+
+-- the file that is to be read
+abbrev pub file_of : TextRequest → List ℕ
+file_of (Eval drawing dt words) = drawing.now
+file_of (Check plant) = plant.now
+file_of (Plan plant until) = plant.now
+
+-- the words NAME=BITS
+abbrev pub words_in : TextRequest → List (List ℕ)
+words_in (Eval drawing dt words) = map (λ w. w.now) words.items
+words_in (Check plant) = []
+words_in (Plan plant until) = []

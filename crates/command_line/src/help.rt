@@ -1,0 +1,124 @@
+/// What can be tried first.
+pub const FIRST_STEPS: &str = "\
+A first drawing, and its scans (paste both lines into a shell):
+
+  printf '|  START      STOP     RUN\\n+--| |----+---|/|------( )\\n|  RUN    |\\n+--| |----+\\n' >first.ladder
+  plc eval first.ladder START=100 STOP=001
+
+Each digit is the input of one scan: RUN holds itself from START until STOP. plc COMMAND --help tells what the words of a
+command mean, and plc explain KIND what a refused text has wrong.";
+
+/// What `plc eval --help` tells behind the words.
+pub const EVAL_HELP: &str = "\
+Each word NAME=BITS gives the BOOL variable NAME its values: BITS is a row of digits 0 and 1, one for each
+scan. Before scan k the variable is set to the k-th digit, or left alone if there is none. There are as many
+scans as the longest row has digits (at most 1,000), and one if there are no words. A name that the drawing
+uses is a variable; it is written in either case.
+
+After each scan one line of all variables is written, in the order in which they appear in the drawing.
+
+Example, for the drawing examples/start_stop.ladder:
+
+  $ plc eval examples/start_stop.ladder START=100 STOP=001
+  START=1 STOP=0 RUN=1
+  START=0 STOP=0 RUN=1
+  START=0 STOP=1 RUN=0
+
+The exit status is 0; 1 if the text of the drawing is refused, with FILE:LINE:COLUMN: Kind on standard error;
+2 if a word is refused; 3 if the file can't be read, the output can't be written or there is no memory left.";
+
+/// What `plc check --help` tells behind the words.
+pub const CHECK_HELP: &str = "\
+Four lines are written: how many resources, tasks, program instances and bound inputs the plant has.
+
+Example:
+
+  $ plc check examples/pair.plant
+  resources 2
+  tasks 2
+  programs 2
+  connections 3
+
+The exit status is 0; 1 if the text of the plant is refused, with FILE:LINE: Kind on standard error (and the kind of what
+is wrong in a program's drawing behind it, as FILE:LINE: Bind WritesInput); 2 if a word is refused; 3 if the file can't
+be read, the output can't be written or there is no memory left.";
+
+/// What `plc plan --help` tells behind the words.
+pub const PLAN_HELP: &str = "\
+A task is due at each multiple of its INTERVAL, from once the INTERVAL on, up to and with MS. A line is written for each
+moment and task, ordered by moment, priority (0 is the highest), resource and task.
+
+Example:
+
+  $ plc plan examples/pair.plant --until 20
+  10 R1.FAST
+  20 R1.FAST
+  20 R2.SLOW
+
+The exit status is 0; 1 if the text of the plant is refused, with FILE:LINE: Kind on standard error, or if the plan has
+more than 100,000 lines, with plan: TooLong; 2 if a word is refused; 3 if the file can't be read, the output can't be
+written or there is no memory left.";
+
+/// What `plc sim --help` tells behind the words.
+pub const SIM_HELP: &str = "\
+The schedule says what happens in which order, one event a line; the program writes one line for each. Words are parted
+by blanks or tabs, and stand in either case; a line that is blank or begins with # is no event.
+
+  EVAL R1.FAST 10 %IX0=1   task FAST of resource R1 is evaluated, 10 ms after the time before, with these field inputs
+  DELIVER 1 R2             the message of the first evaluation reaches resource R2
+  RESTART R1               resource R1 restarts: it forgets all, and its incarnation is one more
+
+An evaluation takes, from each task that feeds it, the latest evaluation that reached its resource since that restarted
+last; an evaluation that is never delivered is lost, and one may be delivered twice, late or out of order. What names
+nothing that exists changes nothing and is written as REFUSED, with the number of the event and the reason.
+
+Example:
+
+  $ cat examples/one_delivery.schedule
+  EVAL R1.FAST 10 %IX0=1
+  DELIVER 1 R2
+  EVAL R2.SLOW 20
+  $ plc sim examples/pair.plant examples/one_delivery.schedule
+  EVAL 1 R1.FAST 1.1 TAKES - GIVES A.N=1 A.FULL=0
+  DELIVER 1 R2 taken
+  EVAL 2 R2.SLOW 1.1 TAKES R1.FAST=1.1 GIVES B.SEEN=1 B.HIT=0
+
+The exit status is 0; 1 if the text of the plant is refused, with FILE:LINE: Kind on standard error, or a line of the
+schedule is no event, with FILE:LINE: Syntax, after the lines of the events before it; 2 if a word is refused; 3 if a file
+can't be read, the output can't be written or there is no memory left.";
+
+/// What `plc run --help` tells behind the words.
+pub const RUN_HELP: &str = "\
+Each resource of the plant runs in a thread of its own, all of them at once. Each entry of the plan up to and with MS (plc
+plan writes it) is a command to its resource: to evaluate the task, INTERVAL ms after the time before. Each word
+ADDRESS=VALUE gives a field address its value, a bit 0 or 1, a word -32768 to 32767; every other address is 0. A task takes,
+from each task that feeds it, the latest evaluation that has reached its resource; which one that is depends on the threads.
+With --paced each command waits until the one before it is done, and then it is always the same.
+
+A line is written for each evaluation, in an order in which each one takes what was made before it; then UNANSWERED and the
+number of each command that wasn't done, FAULT and the resource, the number of the command and the reason for each thing
+that went wrong; at last whether a run of these evaluations in one thread makes the same ones again.
+
+Example:
+
+  $ plc run examples/pair.plant --until 20 --paced %IX0=1
+  EVAL 1 R1.FAST 1.1 TAKES - GIVES A.N=1 A.FULL=0
+  EVAL 2 R1.FAST 1.2 TAKES - GIVES A.N=1 A.FULL=0
+  EVAL 3 R2.SLOW 1.1 TAKES R1.FAST=1.2 GIVES B.SEEN=1 B.HIT=0
+  REPLAY equal
+
+The exit status is 0; 1 if the text of the plant is refused, with FILE:LINE: Kind on standard error, or if the plan has
+more than 100,000 lines, with plan: TooLong; 2 if a word is refused; 3 if a FAULT was written, the file can't be read, the
+output can't be written, the threads can't be run or there is no memory left.";
+
+/// What `plc explain --help` tells behind the words.
+pub const EXPLAIN_HELP: &str = "\
+KIND is the kind of a fault as the first line of a message tells it, in either case: Crossing in drawing.ladder:3:14: Crossing.
+What is wrong and how it is mended is written, with an example. A kind that several texts have is told for each of them.
+
+Example:
+
+  $ plc explain NameMissing
+
+The exit status is 0; 2 if there is no kind of fault of this name; 3 if the output can't be written or there is no memory
+left.";

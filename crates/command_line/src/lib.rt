@@ -1,0 +1,11 @@
+//! What the words of the command line ask for.
+#![tactic(auto)]
+
+mod commands;
+mod help;
+mod request;
+mod words;
+
+pub use help::FIRST_STEPS;
+pub use request::{Request, RunRequest, SimRequest, TextRequest};
+pub use words::read_words;

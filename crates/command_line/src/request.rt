@@ -1,0 +1,76 @@
+ghost use Rattle.std.specs.Prelude.{◌≡◌, map};
+ghost use Rattle.command_line.specs.CommandLine.{file_of, words_in};
+
+/// What is done with the text of one file.
+#[derive(Drop)]
+pub enum TextRequest<'a> {
+    /// The scans of a drawing, each `dt` milliseconds after the one before; the words set its variables.
+    Eval {
+        drawing: &'a str,
+        dt: u32,
+        words: Vec<&'a str>,
+    },
+    /// How many resources, tasks, programs and connections a plant has.
+    Check {
+        plant: &'a str,
+    },
+    /// When the tasks of a plant are due, up to and with `until` (in ms).
+    Plan {
+        plant: &'a str,
+        until: u32,
+    },
+}
+
+impl<'a> TextRequest<'a> {
+    /// The file that is to be read.
+    pub fn file(&self) -> &'a str
+        ensures { result.now ≡ file_of self.now }
+    {
+        match self {
+            TextRequest::Eval { drawing, .. } => drawing,
+            TextRequest::Check { plant } => plant,
+            TextRequest::Plan { plant, .. } => plant,
+        }
+    }
+
+    /// The words NAME=BITS.
+    pub fn words(&self) -> &[&'a str]
+        ensures { map (λ w. w.now) result.now ≡ words_in self.now }
+    {
+        match self {
+            TextRequest::Eval { words, .. } => words.as_slice(),
+            TextRequest::Check { .. } | TextRequest::Plan { .. } => &[],
+        }
+    }
+}
+
+/// What each event of a schedule does to a plant; in one incarnation a task is evaluated `max_number` times at most.
+#[derive(Clone, Copy)]
+pub struct SimRequest<'a> {
+    pub plant: &'a str,
+    pub schedule: &'a str,
+    pub max_number: u32,
+}
+
+/// One thread for each resource of a plant, and a command for each entry of the plan, up to and with `until` (in ms).
+/// If they are paced, each command waits until the one before it is done. The words give the field inputs.
+#[derive(Drop)]
+pub struct RunRequest<'a> {
+    pub plant: &'a str,
+    pub until: u32,
+    pub paced: bool,
+    pub words: Vec<&'a str>,
+}
+
+/// What the words of the command line ask for.
+#[derive(Drop)]
+pub enum Request<'a> {
+    /// What is done with the text of one file.
+    Text(TextRequest<'a>),
+    /// What a schedule does to a plant.
+    Sim(SimRequest<'a>),
+    /// What the threads of a plant do.
+    Run(RunRequest<'a>),
+    /// What is told of the kinds of faults of this name.
+    Explain(&'a str),
+}

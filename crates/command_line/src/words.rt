@@ -1,0 +1,148 @@
+ghost use Rattle.std.specs.Prelude.{◌≡◌, [], IfOk, MatchOption, codes, map, unwrap_or, string_bytes};
+ghost use Rattle.std.specs.Str.Parse.{digits_value};
+ghost use Rattle.clap.specs.Words.{rows_of, found_of, first_of, all_of, subcommand_of};
+ghost use Rattle.command_line.specs.CommandLine.{plc_app, IsNumber, GivesNumber, AsksEval, AsksPlan, AsksSim, AsksRun, IsAsked, word_of, is_given};
+
+use crate::commands::commands;
+use crate::request::{Request, RunRequest, SimRequest, TextRequest};
+use clap::error::ErrorKind;
+use clap::{ArgMatches, Command, Error};
+use std::alloc::{AllocError, Global};
+
+const UNTIL_REFUSED: &str = "MS of --until is a number from 0 to 4294967295";
+
+/// A number of decimal digits alone, at most 4294967295.
+pub fn number(text: &str) -> Option<u32>
+    ensures { MatchOption result (IsNumber text.now → ⊥) (λ n. IsNumber text.now × (n ≡ digits_value 10 text.now)) }
+{
+    if text.starts_with('+') {
+        return None;
+    }
+    text.parse::<u32>().ok()
+}
+
+fn number_of<'a>(
+    command: &mut Command<'a>,
+    matches: &ArgMatches<'a>,
+    id: &str,
+    otherwise: u32,
+    refusal: &'static str,
+) -> Result<u32, Error>
+    ensures { IfOk result (GivesNumber otherwise (first_of id.now (rows_of (found_of matches.now)))) }
+{
+    match matches.get_str(id) {
+        None => Ok(otherwise),
+        Some(text) => match number(text) {
+            Some(n) => Ok(n),
+            None => Err(command.error(ErrorKind::ValueValidation, refusal)?),
+        },
+    }
+}
+
+/// The word that stands for an argument.
+fn given_word<'a>(matches: &ArgMatches<'a>, id: &str) -> &'a str
+    ensures { result.now ≡ word_of id.now (rows_of (found_of matches.now)) }
+{
+    match matches.get_str(id) {
+        Some(word) => word,
+        None => "",
+    }
+}
+
+/// Whether a flag was given.
+fn is_given(matches: &ArgMatches<'_>, id: &str) -> bool
+    ensures { result ≡ is_given id.now (rows_of (found_of matches.now)) }
+{
+    match matches.get_str(id) {
+        Some(text) => text == "true",
+        None => false,
+    }
+}
+
+fn words_of<'a>(alloc: Global, matches: &ArgMatches<'a>) -> Result<Vec<&'a str>, AllocError>
+    ensures { IfOk result (λ words. map (λ w. w.now) words.items ≡ unwrap_or (all_of (codes "words") (rows_of (found_of matches.now))) []) }
+{
+    match matches.get_strs("words") {
+        Some(words) => Vec::from_slice(alloc, words),
+        None => Ok(Vec::new(alloc)),
+    }
+}
+
+fn eval_request<'a>(
+    alloc: Global,
+    command: &mut Command<'a>,
+    inner: &ArgMatches<'a>,
+) -> Result<Request<'a>, Error>
+    ensures { IfOk result (AsksEval (rows_of (found_of inner.now))) }
+{
+    Ok(Request::Text(TextRequest::Eval {
+        drawing: given_word(inner, "DRAWING"),
+        dt: number_of(
+            command,
+            inner,
+            "dt",
+            0,
+            "MS of --dt is a number from 0 to 4294967295",
+        )?,
+        words: words_of(alloc, inner)?,
+    }))
+}
+
+fn plan_request<'a>(command: &mut Command<'a>, inner: &ArgMatches<'a>) -> Result<Request<'a>, Error>
+    ensures { IfOk result (AsksPlan (rows_of (found_of inner.now))) }
+{
+    Ok(Request::Text(TextRequest::Plan {
+        plant: given_word(inner, "PLANT"),
+        until: number_of(command, inner, "until", 0, UNTIL_REFUSED)?,
+    }))
+}
+
+fn sim_request<'a>(command: &mut Command<'a>, inner: &ArgMatches<'a>) -> Result<Request<'a>, Error>
+    ensures { IfOk result (AsksSim (rows_of (found_of inner.now))) }
+{
+    Ok(Request::Sim(SimRequest {
+        plant: given_word(inner, "PLANT"),
+        schedule: given_word(inner, "SCHEDULE"),
+        max_number: number_of(
+            command,
+            inner,
+            "max-number",
+            u32::MAX,
+            "N of --max-number is a number from 0 to 4294967295",
+        )?,
+    }))
+}
+
+fn run_request<'a>(
+    alloc: Global,
+    command: &mut Command<'a>,
+    inner: &ArgMatches<'a>,
+) -> Result<Request<'a>, Error>
+    ensures { IfOk result (AsksRun (rows_of (found_of inner.now))) }
+{
+    Ok(Request::Run(RunRequest {
+        plant: given_word(inner, "PLANT"),
+        until: number_of(command, inner, "until", 0, UNTIL_REFUSED)?,
+        paced: is_given(inner, "paced"),
+        words: words_of(alloc, inner)?,
+    }))
+}
+
+/// Reads the words, of which the first is the program's own name.
+pub fn read_words<'a>(alloc: Global, words: &'a [String]) -> Result<Request<'a>, Error>
+    ensures { IfOk result (IsAsked (subcommand_of plc_app (map (λ word. string_bytes word) words.now))) }
+{
+    let mut command = commands(alloc)?;
+    let matches = command.try_get_matches_from_mut(words)?;
+    match matches.subcommand() {
+        Some(("eval", inner)) => eval_request(alloc, &mut command, inner),
+        Some(("check", inner)) => Ok(Request::Text(TextRequest::Check {
+            plant: given_word(inner, "PLANT"),
+        })),
+        Some(("plan", inner)) => plan_request(&mut command, inner),
+        Some(("sim", inner)) => sim_request(&mut command, inner),
+        Some(("run", inner)) => run_request(alloc, &mut command, inner),
+        Some(("explain", inner)) => Ok(Request::Explain(given_word(inner, "KIND"))),
+        _ => Err(command.error(ErrorKind::MissingSubcommand, "a command is missing")?),
+    }
+}
