@@ -8,7 +8,6 @@ pub mod Sending
 pub mod PlantBounds
 pub mod PlanExplaining
 pub mod PlantRefusing
-pub mod Matching
 pub mod Commanding
 pub mod Reporting
 pub mod Replaying

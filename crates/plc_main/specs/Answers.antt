@@ -1,9 +1,9 @@
 -- What the program writes for the words of its command line.
 use Rattle.std.specs.Prelude.{ℕ, List, Option}
-use Rattle.plc_main.specs.declared.request.TextRequest.{TextRequest}
-use Rattle.plc_main.specs.declared.request.TextRequest.TheVariants.{Eval, Check, Plan}
+use Rattle.command_line.specs.declared.request.TextRequest.{TextRequest}
+use Rattle.command_line.specs.declared.request.TextRequest.TheVariants.{Eval, Check, Plan}
 use Rattle.plc_main.specs.declared.command_fault.CommandFault.{CommandFault}
-use Rattle.plc_main.specs.CommandLine.{words_in}
+use Rattle.command_line.specs.CommandLine.{words_in}
 use Rattle.plc_main.specs.EvalText.{WritesAll, Explains}
 use Rattle.plc_main.specs.CheckText.{WritesCheck, ExplainsCheck}
 use Rattle.plc_main.specs.PlanText.{WritesPlan, ExplainsPlan}

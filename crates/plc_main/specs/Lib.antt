@@ -4,7 +4,6 @@ pub mod EvalText
 pub mod CheckText
 pub mod Sending
 pub mod PlanText
-pub mod CommandLine
 pub mod FieldWords
 pub mod Answers
 pub mod RunCommands

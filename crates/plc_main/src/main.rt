@@ -10,7 +10,6 @@ mod plan_command;
 mod plant_counts;
 mod replay;
 mod report_text;
-mod request;
 mod row;
 mod rows;
 mod run_command;
@@ -18,7 +17,6 @@ mod run_commands;
 mod send_lines;
 mod text_fault;
 mod word_fault;
-mod words;
 
 ghost use Rattle.std.specs.Prelude.{◌≡◌, length, vec_len, OnOk, IfOk, IfErr};
 ghost use Rattle.plant.specs.PlantText.{IsPlantText};
@@ -29,6 +27,7 @@ ghost use Rattle.plc_main.specs.RunText.{WritesReport, ExplainsRun};
 
 use check_command::{check, read_plant};
 use command_fault::CommandFault;
+use command_line::{FIRST_STEPS, Request, RunRequest, SimRequest, TextRequest, read_words};
 use eval_command::eval;
 use evaluation::{InputFault, Inputs};
 use field_words::read_field_words;
@@ -36,7 +35,6 @@ use guidance::{Refusal, explain, help_with};
 use node::{FreeGate, Gate, Keeper, MemoryKeeper, PacedGate};
 use plan_command::plan_text;
 use plant::Plant;
-use request::{Request, RunRequest, SimRequest, TextRequest};
 use run_command::run_text;
 use std::alloc::{AllocError, Global};
 use std::io::{ErrorKind, Write};
@@ -46,7 +44,6 @@ use std::sync::{Arc, Wait};
 use std::thread::Threads;
 use std::{env, fs, io};
 use text_fault::TextFault;
-use words::{FIRST_STEPS, read_words};
 use world::{SimFault, simulate, write_text};
 
 /// The status after a text is refused.
