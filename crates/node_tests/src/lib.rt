@@ -14,9 +14,9 @@ mod journals;
 #[cfg(test)]
 mod keepers;
 #[cfg(test)]
-mod lists;
-#[cfg(test)]
 mod memory;
+#[cfg(test)]
+mod paced_lists;
 #[cfg(test)]
 mod runs;
 #[cfg(test)]
