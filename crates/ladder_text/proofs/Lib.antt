@@ -10,6 +10,7 @@ pub mod NameLemmas
 pub mod AsciiLemmas
 pub mod TextLemmas
 pub mod MarkLemmas
+pub mod RowMarkLemmas
 pub mod ItemLemmas
 pub mod SymbolPlaces
 pub mod SymbolItems
@@ -25,6 +26,7 @@ pub mod BoxOrder
 pub mod SpanRows
 pub mod SearchLemmas
 pub mod WordOrder
+pub mod WordLemmas
 pub mod SizeLemmas
 pub mod FirstFaults
 pub mod Faultless

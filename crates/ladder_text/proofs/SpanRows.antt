@@ -1,5 +1,5 @@
 -- The words and symbols of rows: there are none outside, and contacts and coils begin where symbols do.
-use Rattle.std.proofs.Common.{ℕ, zero, suc, ◌+◌, ◌<◌, ◌≤◌, ◌≡◌, add-one, inl, inr, Bool, true, false, cond, List, [], ◌∷◌, ◌++◌, length, take, get_or, Option, Some, None, refl, sym, ap, ◌∙◌, arith}
+use Rattle.std.proofs.Common.{ℕ, zero, suc, ◌+◌, ◌<◌, ◌≤◌, ◌≡◌, add-one, inl, inr, Bool, true, false, cond, List, [], ◌∷◌, ◌++◌, length, take, get_or, Option, Some, None, refl, sym, ap, ◌∙◌, append_assoc, arith}
 use Rattle.std.specs.List.{filter_map}
 use Rattle.std.specs.Option.{is_some}
 use Rattle.std.proofs.Math.Seq.{take-suc}
@@ -48,11 +48,19 @@ filter_map-one h x None e = rw e refl
 filter_map-one h x (Some y) e = rw e refl
 
 -- one more item of the list, for which h gives o
-pub filter_map-step : {X Y : Type 0} (h : X → Option Y) (xs : List X) (i : ℕ) (d : X) (o : Option Y) (was now : List Y) → i < length xs → o ≡ h (get_or xs i d)
+filter_map-step : {X Y : Type 0} (h : X → Option Y) (xs : List X) (i : ℕ) (d : X) (o : Option Y) (was now : List Y) → i < length xs → o ≡ h (get_or xs i d)
     → was ≡ filter_map h (take i xs) → now ≡ was ++ option_list o → now ≡ filter_map h (take (i + 1) xs)
 filter_map-step h xs i d o was now l e w n =
     n ∙ ap (λ ys. ys ++ option_list o) w
     ∙ rw (add-one, take-suc xs i d l) (sym (filter_map-append h (take i xs) (get_or xs i d ∷ []) ∙ ap (λ ys. filter_map h (take i xs) ++ ys) (filter_map-one h (get_or xs i d) o (sym e))))
+
+-- the same behind other items
+pub filter_map-step_behind : {X Y : Type 0} (h : X → Option Y) (xs : List X) (i : ℕ) (d : X) (o : Option Y) (front was now : List Y) → i < length xs → o ≡ h (get_or xs i d)
+    → was ≡ front ++ filter_map h (take i xs) → now ≡ was ++ option_list o → now ≡ front ++ filter_map h (take (i + 1) xs)
+filter_map-step_behind {X} {Y} h xs i d o front was now l e w n =
+    n ∙ ap (λ (ys : List Y). ys ++ option_list o) w
+    ∙ append_assoc front (filter_map h (take i xs)) (option_list o)
+    ∙ ap (λ (ys : List Y). front ++ ys) (filter_map-step h xs i d o (filter_map h (take i xs)) (filter_map h (take i xs) ++ option_list o) l e refl refl)
 
 -- what g finds at a place, there being a symbol wherever it finds something
 found_by_symbol : {A : Type 0} (g : ℕ → Option A) (c : ℕ) (o : Option Span) → ((s : Span) → o ≡ Some s → s.first ≡ c) → (o ≡ None → g c ≡ None)

@@ -181,7 +181,7 @@ found_three f r s c x e a b =
       ]
     ]
 
-not_some : {A : Type 0} (o : Option A) → ((x : A) → o ≡ Some x → ⊥) → is_some o ≡ false
+pub not_some : {A : Type 0} (o : Option A) → ((x : A) → o ≡ Some x → ⊥) → is_some o ≡ false
 not_some None h = refl
 not_some (Some x) h = absurd (h x refl)
 

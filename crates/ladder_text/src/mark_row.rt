@@ -37,6 +37,14 @@ impl MarkRow {
         Ok(())
     }
 
+    /// The three places of a symbol.
+    pub fn push_symbol(&mut self, part: Mark) -> Result<(), AllocError>
+        ensures { OnOk result (self.new ≡ self.old ++ part ∷ part ∷ part ∷ []) }
+    {
+        self.marks.extend_from_slice(&[part, part, part])?;
+        Ok(())
+    }
+
     /// The mark in a column, Blank beyond the last one.
     pub fn at(&self, column: usize) -> Mark
         ensures { result ≡ slice_index_or self.now column Mark.Blank }

@@ -51,7 +51,7 @@ fn is_line(mark: Mark) -> bool
 fn has_meaning(c: u8) -> bool
     ensures { result ≡ has_meaning c }
 {
-    matches!(c, b' ' | b'-' | b'|' | b'+' | b'_' | b'.' | b'#') || c.is_ascii_alphanumeric()
+    c.is_ascii_alphanumeric() || matches!(c, b' ' | b'-' | b'|' | b'+' | b'_' | b'.' | b'#')
 }
 
 fn is_vertical(mark: Mark) -> bool
@@ -193,15 +193,16 @@ impl Page {
     }
 
     /// Whether a contact or a coil begins at a place with a mark.
-    #[tactic(auto, using(crate::proofs::SymbolPlaces::first_by_mark))]
+    #[tactic(auto, using(crate::proofs::SymbolPlaces::first_by_mark, crate::proofs::RowMarkLemmas::contact_by_mark, crate::proofs::RowMarkLemmas::coil_by_mark))]
     pub fn begins_symbol(&self, mark: Mark, row: usize, column: usize) -> bool
         requires column { column < 2 ^ 62 }
         requires mark { mark ≡ place_mark (layout_of self.now) row column }
         ensures { result ≡ is_first_of_symbol (layout_of self.now) row column }
     {
-        matches!(mark, Mark::ContactPart | Mark::CoilPart)
-            && (self.sheet().contact_at(row, column).is_some()
-                || self.sheet().coil_at(row, column).is_some())
+        if matches!(mark, Mark::ContactPart) {
+            return self.sheet().contact_at(row, column).is_some();
+        }
+        matches!(mark, Mark::CoilPart) && self.sheet().coil_at(row, column).is_some()
     }
 
     /// Whether a line begins at a place with a mark, and meets a box where there is no pin.
@@ -318,6 +319,7 @@ impl Page {
     }
 
     /// Whether a row without boxes surely has no fault.
+    #[inline(never)]
     fn is_bare_row_fine(&self, marks: &MarkRow, row: usize) -> bool
         requires marks { AreMarksOf (layout_of self.now) row marks.now }
         requires row { row < 2 ^ 62 }

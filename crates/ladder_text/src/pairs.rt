@@ -4,8 +4,7 @@ ghost use Rattle.std.specs.Prelude.{◌≡◌, ◌≤◌, ◌&&◌, nat_le, IsTr
 ghost use Rattle.ladder_text.specs.Names.{overlap};
 ghost use Rattle.ladder_text.specs.Steps.Pairs.{ArePaired};
 
-use crate::span::Span;
-use crate::spans::overlap;
+use crate::span::{Span, overlap};
 
 /// Whether a word and a symbol overlap, and neither begins before a column.
 fn is_pair(from: usize, word: &Span, symbol: &Span) -> bool

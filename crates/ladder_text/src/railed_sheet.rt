@@ -79,17 +79,8 @@ impl RailedSheet {
         !bare && self.sheet.in_box(row, column)
     }
 
-    /// Whether an operand, or a dash on the way to it, is at a place; of a row that is bare it is known.
-    #[tactic(auto, unfolding(crate::specs::Places::layout_of))]
-    fn in_operand(&self, bare: bool, row: usize, column: usize) -> bool
-        requires column { column < 2 ^ 62 }
-        requires bare { IsTrue bare → IsBare (outlines self.now) row }
-        ensures { result ≡ in_operand (layout_of self.now) row column }
-    {
-        !bare && self.sheet.in_operand(row, column)
-    }
-
     /// What stands at a place with a character, of which it is known whether it is in a contact or a coil.
+    #[inline(always)]
     #[tactic(auto, unfolding(crate::specs::Places::layout_of, crate::specs::Places::mark))]
     fn mark_with(
         &self,
@@ -107,6 +98,9 @@ impl RailedSheet {
         requires coil { coil ≡ in_coil (layout_of self.now) row column }
         ensures { result ≡ mark (layout_of self.now) row column }
     {
+        if bare && c == b' ' && !contact && !coil {
+            return Mark::Blank;
+        }
         if self.in_box(bare, row, column) {
             Mark::BoxPart
         } else if contact {
@@ -119,7 +113,7 @@ impl RailedSheet {
             Mark::Join
         } else if c == b'|' {
             Mark::Upright
-        } else if c == b'-' && !self.in_operand(bare, row, column) {
+        } else if c == b'-' && !self.sheet.in_operand_of(bare, row, column) {
             Mark::Wire
         } else {
             Mark::Blank
@@ -144,30 +138,45 @@ impl RailedSheet {
         )
     }
 
-    /// The marks of a row, found from what begins in each column and in the two before it.
+    /// The marks of a row, each place looked up by itself.
+    #[tactic(auto, unfolding(crate::specs::Places::layout_of))]
+    fn row_marks_by_place(&self, alloc: Global, row: usize) -> Result<MarkRow, AllocError>
+        ensures { IfOk result (λ m. m ≡ row_marks (layout_of self.now) row) }
+    {
+        let mut marks = MarkRow::with_room(alloc, self.last())?;
+        for column in 0..self.last() {
+            marks.push(self.mark(row, column + 1))?;
+        }
+        Ok(marks)
+    }
+
+    /// The marks of a row: those of a symbol at once, and each other one by its character.
+    #[inline(never)]
     #[tactic(auto, unfolding(crate::specs::Places::layout_of))]
     fn row_marks(&self, alloc: Global, row: usize) -> Result<MarkRow, AllocError>
         ensures { IfOk result (λ m. m ≡ row_marks (layout_of self.now) row) }
     {
         let sheet = &self.sheet;
+        if sheet.contact_at(row, 0).is_some() || sheet.coil_at(row, 0).is_some() {
+            return self.row_marks_by_place(alloc, row);
+        }
         let bare = sheet.is_bare(row);
-        let mut marks = MarkRow::with_room(alloc, self.last())?;
-        let mut contact = sheet.contact_at(row, 0).is_some();
-        let mut earlier_contact = contact;
-        let mut coil = sheet.coil_at(row, 0).is_some();
-        let mut earlier_coil = coil;
         let cells = sheet.cells(row);
-        for column in 0..self.last() {
+        let last = self.last();
+        let mut marks = MarkRow::with_room(alloc, last)?;
+        let mut column = 0;
+        while column < last {
             let c = sheet.cell(cells, row, column + 1);
-            let next_contact = sheet.begins_contact(c, row, column + 1);
-            let next_coil = sheet.begins_coil(c, row, column + 1);
-            let in_contact = next_contact || contact || earlier_contact;
-            let in_coil = next_coil || coil || earlier_coil;
-            marks.push(self.mark_with(bare, c, row, column + 1, in_contact, in_coil))?;
-            earlier_contact = contact;
-            contact = next_contact;
-            earlier_coil = coil;
-            coil = next_coil;
+            if sheet.begins_contact(c, row, column + 1) {
+                marks.push_symbol(Mark::ContactPart)?;
+                column += 3;
+            } else if sheet.begins_coil(c, row, column + 1) {
+                marks.push_symbol(Mark::CoilPart)?;
+                column += 3;
+            } else {
+                marks.push(self.mark_with(bare, c, row, column + 1, false, false))?;
+                column += 1;
+            }
         }
         Ok(marks)
     }

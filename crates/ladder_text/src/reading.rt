@@ -13,13 +13,13 @@ ghost use Rattle.ladder_text.specs.declared.drawing.DrawFaultKind.TheVariants.{M
 
 use crate::drawing::DrawFaultKind;
 use crate::grid::Grid;
+use crate::names_above::{stray_in_row, unnamed_in_row};
 use crate::page::Page;
 use crate::place::{Place, or_earlier};
 use crate::place_fault::PlaceFault;
 use crate::refusal::Refusal;
 use crate::rows::{first_not_ascii, rows_of};
 use crate::sheet::Sheet;
-use crate::spans::{stray_in_row, unnamed_in_row};
 use crate::worded_page::WordedPage;
 use std::alloc::{AllocError, Global};
 

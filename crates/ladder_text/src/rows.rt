@@ -48,9 +48,10 @@ pub fn trimmed(line: &[u8]) -> &[u8]
 fn row_of(alloc: Global, line: &[u8]) -> Result<Row, AllocError>
     ensures { IfOk result (λ row. row ≡ 32 ∷ trimmed (without_last 13 line.now)) }
 {
-    let mut cells = Vec::new(alloc);
+    let drawn = trimmed(without_last(b'\r', line));
+    let mut cells = Vec::with_capacity(alloc, drawn.len().saturating_add(1))?;
     cells.push(b' ')?;
-    cells.extend_from_slice(trimmed(without_last(b'\r', line)))?;
+    cells.extend_from_slice(drawn)?;
     Ok(Row { cells })
 }
 

@@ -196,6 +196,17 @@ impl Sheet {
         self.any_box(BoxTest::Reaches, row, column)
     }
 
+    /// The same; of a row that is bare it is known.
+    #[inline(always)]
+    #[tactic(auto, unfolding(crate::specs::Places::layout_of))]
+    pub fn in_operand_of(&self, bare: bool, row: usize, column: usize) -> bool
+        requires column { column < 2 ^ 63 }
+        requires bare { IsTrue bare → IsBare (outlines self.now) row }
+        ensures { result ≡ in_operand (layout_of self.now) row column }
+    {
+        !bare && self.in_operand(row, column)
+    }
+
     #[tactic(auto, unfolding(crate::specs::Places::layout_of))]
     pub fn is_right_pin(&self, row: usize, column: usize) -> bool
         requires { column < 2 ^ 63 }

@@ -1,110 +1,82 @@
-//! The words of a row, and the symbols that they name.
+//! The words and the symbols of a row.
 
-ghost use Rattle.std.specs.Prelude.{[], MatchOption, IfNone, IfSome, IsFalse, not, option_copied, find, min, is_some, ◌≡◌, ◌+◌, ◌-◌, ◌<◌, ◌≤◌, ◌^◌, IfOk, IsTrue, count_by, length};
-ghost use Rattle.std.specs.List.{list_any, list_all};
+ghost use Rattle.std.specs.Prelude.{[], ◌≡◌, ◌+◌, ◌-◌, ◌<◌, ◌≤◌, ◌^◌, IfOk, IsTrue, length, slice_index_or};
 ghost use Rattle.ladder_text.specs.Rows.{char_at, width, run};
-ghost use Rattle.ladder_text.specs.Chars.{is_name};
+ghost use Rattle.ladder_text.specs.Boxes.{outlines};
 ghost use Rattle.ladder_text.specs.Places.{layout_of, mark as place_mark};
+ghost use Rattle.ladder_text.specs.Steps.RowBoxes.{IsBare};
 ghost use Rattle.ladder_text.specs.Steps.RowMarks.{AreMarksOf};
-ghost use Rattle.ladder_text.specs.Names.{in_word, words, symbol_at, symbols, tops, things, overlap, word_text, found_text, name_above};
-ghost use Rattle.ladder_text.specs.Faults.{has_earlier, is_second, stray_name, name_missing};
-ghost use Rattle.ladder_text.specs.Steps.Search.{AreNamed};
-ghost use Rattle.ladder_text.specs.FirstFault.{IsSpanAt};
-ghost use Rattle.ladder_text.specs.Steps.Pairs.{StandAbove};
-ghost use Rattle.ladder_text.specs.Steps.Search.{IsFirstColumnOf};
-ghost use Rattle.std.specs.Str.{IsAscii};
+ghost use Rattle.ladder_text.specs.Names.{in_word, words, symbol_at, symbols};
 
 use crate::mark::Mark;
 use crate::mark_row::MarkRow;
-use crate::names::{is_name, is_plain_name, is_word_char};
+use crate::names::is_word_char;
 use crate::page::Page;
-use crate::pairs::are_paired;
 use crate::span::Span;
-use crate::text::Text;
-use crate::worded_page::WordedPage;
 use std::alloc::{AllocError, Global};
 
-pub fn overlap(a: &Span, b: &Span) -> bool
-    ensures { result ≡ overlap a.now b.now }
-{
-    a.first < b.end && b.first < a.end
-}
-
-fn has_earlier(word: &Span, words: &[Span], thing: &Span) -> bool
-    ensures { result ≡ has_earlier word.now words.now thing.now }
-{
-    words
-        .iter()
-        .any(|other| overlap(other, thing) && other.first < word.first)
-}
-
-/// Whether some thing that the word overlaps has a word before it.
-fn is_second(word: &Span, words: &[Span], things: &[Span]) -> bool
-    ensures { result ≡ is_second word.now words.now things.now }
-{
-    things.iter().any(|thing| overlap(word, thing) && has_earlier(word, words, thing))
-}
-
-fn overlaps_any(word: &Span, things: &[Span]) -> bool
-    ensures { result ≡ list_any (overlap word.now) things.now }
-{
-    things.iter().any(|thing| overlap(word, thing))
-}
-
-fn count_overlaps(word: &Span, things: &[Span]) -> usize
-    ensures count { result ≡ count_by (overlap word.now) things.now }
-    ensures few { result ≤ length things.now }
-{
-    things.iter().filter(|thing| overlap(word, thing)).count()
-}
-
-/// Whether a place with a character is one of a word.
+/// Whether a place with a character is one of a word; of a row that is bare it is known.
+#[inline(always)]
 #[tactic(auto, unfolding(crate::specs::Places::layout_of, crate::specs::Names::in_word))]
-fn in_word_with(page: &Page, c: u8, row: usize, column: usize) -> bool
+fn in_word_with(page: &Page, bare: bool, c: u8, row: usize, column: usize) -> bool
     requires column { column < 2 ^ 62 }
+    requires bare { IsTrue bare → IsBare (outlines page.now) row }
     requires char { c ≡ char_at page.now row column }
     ensures { result ≡ in_word (layout_of page.now) row column }
 {
-    is_word_char(c) && !page.is_taken(row, column) && !page.sheet().in_operand(row, column)
+    !matches!(c, b' ' | b'-' | b'|')
+        && is_word_char(c)
+        && !page.is_taken(row, column)
+        && !page.sheet().in_operand_of(bare, row, column)
 }
 
-fn in_word(page: &Page, row: usize, column: usize) -> bool
-    requires { column < 2 ^ 62 }
-    ensures { result ≡ in_word (layout_of page.now) row column }
-{
-    in_word_with(page, page.sheet().at(row, column), row, column)
-}
-
-/// The end of the word that goes on behind a column.
-fn word_end(page: &Page, row: usize, column: usize) -> usize
-    requires { column < 2 ^ 61 }
-    ensures { result ≡ column + 1 + run (in_word (layout_of page.now) row) (column + 1) (width page.now) }
+/// How many places of a word follow a column of a row whose characters are at hand.
+fn word_rest(page: &Page, bare: bool, cells: &[u8], row: usize, column: usize) -> usize
+    requires bare { IsTrue bare → IsBare (outlines page.now) row }
+    requires cells { cells.now ≡ slice_index_or page.now row [] }
+    requires column { column < 2 ^ 61 }
+    ensures rest { result ≡ run (in_word (layout_of page.now) row) (column + 1) (width page.now) }
+    ensures within { column ≤ width page.now → column + result ≤ width page.now }
 {
     let limit = page.last();
     let mut n = 0;
-    while n < limit && in_word(page, row, column + 1 + n) {
+    while n < limit
+        && in_word_with(
+            page,
+            bare,
+            page.sheet().cell(cells, row, column + 1 + n),
+            row,
+            column + 1 + n,
+        )
+    {
         n += 1;
     }
-    column + 1 + n
+    n
 }
 
-/// The words of a row.
+/// The words of a row. Behind one it goes on at its last place.
 #[tactic(auto, unfolding(crate::specs::Places::layout_of, crate::specs::Names::word_at))]
 pub fn words(alloc: Global, page: &Page, row: usize) -> Result<Vec<Span>, AllocError>
     ensures { IfOk result (λ v. v.items ≡ words (layout_of page.now) row) }
 {
     let mut words = Vec::new(alloc);
     let cells = page.sheet().cells(row);
-    let mut inside = in_word(page, row, 0);
-    for column in 0..page.last() {
+    let last = page.last();
+    let bare = page.sheet().is_bare(row);
+    let mut inside = in_word_with(page, bare, page.sheet().cell(cells, row, 0), row, 0);
+    let mut column = 0;
+    while column < last {
         let before = inside;
-        let c = page.sheet().cell(cells, row, column + 1);
-        inside = in_word_with(page, c, row, column + 1);
+        column += 1;
+        let c = page.sheet().cell(cells, row, column);
+        inside = in_word_with(page, bare, c, row, column);
         if inside && !before {
+            let rest = word_rest(page, bare, cells, row, column);
             words.push(Span {
-                first: column + 1,
-                end: word_end(page, row, column + 1),
+                first: column,
+                end: column + 1 + rest,
             })?;
+            column += rest;
         }
     }
     Ok(words)
@@ -127,7 +99,7 @@ fn symbol_with(page: &Page, mark: Mark, row: usize, column: usize) -> Option<Spa
     }
 }
 
-/// The symbols of a row whose marks are at hand.
+/// The symbols of a row whose marks are at hand. None begins in another one.
 fn symbols_in(
     alloc: Global,
     page: &Page,
@@ -138,10 +110,15 @@ fn symbols_in(
     ensures { IfOk result (λ v. v.items ≡ symbols (layout_of page.now) row) }
 {
     let mut symbols = Vec::new(alloc);
-    for column in 0..page.last() {
+    let last = page.last();
+    let mut column = 0;
+    while column < last {
         let mark = page.mark_in(marks, row, column + 1);
         if let Some(symbol) = symbol_with(page, mark, row, column + 1) {
             symbols.push(symbol)?;
+            column += 3;
+        } else {
+            column += 1;
         }
     }
     Ok(symbols)
@@ -169,180 +146,4 @@ pub fn symbols(alloc: Global, page: &Page, row: usize) -> Result<Vec<Span>, Allo
         Some(marks) => symbols_in(alloc, page, marks, row),
         None => symbols_by_place(alloc, page, row),
     }
-}
-
-/// What words name in a row: its symbols and the boxes that begin there.
-#[tactic(auto, unfolding(crate::specs::Names::things))]
-fn things(alloc: Global, page: &WordedPage, row: usize) -> Result<Vec<Span>, AllocError>
-    ensures { IfOk result (λ v. v.items ≡ things (layout_of page.now) row) }
-{
-    let mut things = Vec::new(alloc);
-    things.extend_from_slice(page.symbols(row))?;
-    let tops = page.sheet().tops(alloc, row)?;
-    things.extend_from_slice(&tops)?;
-    Ok(things)
-}
-
-/// The text of a word.
-#[tactic(auto, unfolding(crate::specs::Places::layout_of))]
-fn word_text<'a>(page: &'a WordedPage, row: usize, word: &Span) -> &'a [u8]
-    ensures value { result.now ≡ word_text (layout_of page.now) row word.now }
-    ensures ascii { IsAscii result.now }
-{
-    page.sheet().cut(row, word.first, word.end)
-}
-
-/// What the words of a row may name in the row below it.
-#[derive(Drop)]
-struct Named {
-    tops: Vec<Span>,
-    things: Vec<Span>,
-}
-
-fn named_below(alloc: Global, page: &WordedPage, row: usize) -> Result<Named, AllocError>
-    requires { row < 2 ^ 62 }
-    ensures { IfOk result (λ n. AreNamed (layout_of page.now) row n.tops.items n.things.items) }
-{
-    Ok(Named {
-        tops: page.sheet().tops(alloc, row + 1)?,
-        things: things(alloc, page, row + 1)?,
-    })
-}
-
-/// Whether a word of a row is stray.
-#[tactic(auto, unfolding(crate::specs::Faults::stray_name))]
-fn is_stray(page: &WordedPage, row: usize, word: &Span, named: &Named) -> bool
-    requires row { row < 2 ^ 62 }
-    requires named { AreNamed (layout_of page.now) row named.now.tops.items named.now.things.items }
-    ensures { result ≡ stray_name (layout_of page.now) row word.now }
-{
-    let text = word_text(page, row, word);
-    count_overlaps(word, &named.things) != 1
-        || is_second(word, page.words(row), &named.things)
-        || (!is_name(text) && overlaps_any(word, page.symbols(row + 1)))
-        || (!is_plain_name(text) && overlaps_any(word, &named.tops))
-}
-
-/// Whether the words of a row stand above the symbols of the next one, one above each, and no box begins there.
-fn stand_above(alloc: Global, page: &WordedPage, row: usize) -> Result<bool, AllocError>
-    requires { row < 2 ^ 62 }
-    ensures { IfOk result (λ above. IsTrue above → StandAbove (layout_of page.now) row) }
-{
-    let tops = page.sheet().tops(alloc, row + 1)?;
-    Ok(tops.is_empty() && are_paired(page.words(row), page.symbols(row + 1)))
-}
-
-/// Whether the words of a row are all names.
-#[tactic(auto, unfolding(crate::specs::Places::layout_of))]
-fn are_names(page: &WordedPage, row: usize) -> bool
-    ensures { result ≡ list_all (λ w. is_name (word_text (layout_of page.now) row w)) (words (layout_of page.now) row) }
-{
-    page.words(row)
-        .iter()
-        .all(|word| is_name(word_text(page, row, word)))
-}
-
-/// The first column of a word of a row that is stray.
-pub fn stray_in_row(
-    alloc: Global,
-    page: &WordedPage,
-    row: usize,
-) -> Result<Option<usize>, AllocError>
-    requires { row < 2 ^ 62 }
-    ensures none { IfOk result (λ found. IfNone found
-        (IsFalse (list_any (stray_name (layout_of page.now) row) (words (layout_of page.now) row)))) }
-    ensures some { IfOk result (λ found. IfSome found
-        (λ _. IsTrue (list_any (stray_name (layout_of page.now) row) (words (layout_of page.now) row)))) }
-    ensures first { IfOk result (λ found. IsFirstColumnOf (IsSpanAt (words (layout_of page.now) row) (stray_name (layout_of page.now) row)) found) }
-{
-    let above = stand_above(alloc, page, row)?;
-    if above && are_names(page, row) {
-        return Ok(None);
-    }
-    let named = named_below(alloc, page, row)?;
-    for word in page.words(row) {
-        if is_stray(page, row, word, &named) {
-            return Ok(Some(word.first));
-        }
-    }
-    Ok(None)
-}
-
-#[tactic(auto, unfolding(crate::specs::Faults::name_missing))]
-fn is_unnamed(page: &WordedPage, row: usize, thing: &Span) -> bool
-    ensures { result ≡ name_missing (layout_of page.now) row thing.now }
-{
-    !overlaps_any(thing, page.words(row.saturating_sub(1)))
-}
-
-/// The first column of a symbol or box of a row that has no name.
-pub fn unnamed_in_row(
-    alloc: Global,
-    page: &WordedPage,
-    row: usize,
-) -> Result<Option<usize>, AllocError>
-    requires { row < 2 ^ 62 }
-    ensures none { IfOk result (λ found. IfNone found
-        (IsFalse (list_any (name_missing (layout_of page.now) row) (things (layout_of page.now) row)))) }
-    ensures some { IfOk result (λ found. IfSome found
-        (λ _. IsTrue (list_any (name_missing (layout_of page.now) row) (things (layout_of page.now) row)))) }
-    ensures first { IfOk result (λ found. IsFirstColumnOf (IsSpanAt (things (layout_of page.now) row) (name_missing (layout_of page.now) row)) found) }
-{
-    if row > 0 {
-        let above = stand_above(alloc, page, row - 1)?;
-        if above {
-            return Ok(None);
-        }
-    }
-    let here = things(alloc, page, row)?;
-    let mut first = None;
-    for thing in &here {
-        if is_unnamed(page, row, thing) {
-            first = Some(least(first, thing.first));
-        }
-    }
-    Ok(first)
-}
-
-fn least(found: Option<usize>, column: usize) -> usize
-    ensures { MatchOption found (result ≡ column) (λ other. result ≡ min column other) }
-{
-    found.map_or(column, |other| column.min(other))
-}
-
-fn find_overlap<'a>(span: &Span, above: &'a [Span]) -> Option<&'a Span>
-    ensures { option_copied result ≡ find (overlap span.now) above.now }
-{
-    above.iter().find(|word| overlap(span, word))
-}
-
-fn first_overlap(span: &Span, above: &[Span]) -> Option<Span>
-    ensures { result ≡ find (overlap span.now) above.now }
-{
-    find_overlap(span, above).copied()
-}
-
-fn found_text(page: &WordedPage, row: usize, found: Option<Span>) -> &[u8]
-    ensures value { result.now ≡ found_text (layout_of page.now) row found }
-    ensures ascii { IsAscii result.now }
-{
-    match found {
-        Some(word) => word_text(page, row, &word),
-        None => &[],
-    }
-}
-
-/// The name of what stands at a span of a row.
-#[tactic(auto, unfolding(crate::specs::Names::name_above))]
-pub fn name_above(
-    alloc: Global,
-    page: &WordedPage,
-    row: usize,
-    span: &Span,
-) -> Result<Text, AllocError>
-    ensures { IfOk result (λ t. t ≡ name_above (layout_of page.now) row span.now) }
-{
-    let above = row.saturating_sub(1);
-    let found = first_overlap(span, page.words(above));
-    Text::from_ascii(alloc, found_text(page, above, found))
 }

@@ -1,15 +1,15 @@
 //! The symbols and boxes of a page, with their names.
 
-ghost use Rattle.std.specs.Prelude.{◌≡◌, ◌+◌, ◌-◌, ◌<◌, ◌^◌, IfOk, length, map, take};
+ghost use Rattle.std.specs.Prelude.{◌≡◌, ◌+◌, ◌-◌, ◌++◌, ◌<◌, ◌^◌, IfOk, OnOk, length, map, take};
 ghost use Rattle.ladder_text.specs.Places.{layout_of, contact_at, coil_at};
 ghost use Rattle.ladder_text.specs.Names.{contact_with, coil_with, row_contacts, row_coils, contacts, coils, drawn_box, drawn_boxes};
 
 use crate::coil::Coil;
 use crate::contact::Contact;
 use crate::drawn_box::DrawnBox;
+use crate::names_above::name_above;
 use crate::outline::Outline;
 use crate::span::Span;
-use crate::spans::name_above;
 use crate::worded_page::WordedPage;
 use std::alloc::{AllocError, Global};
 
@@ -75,28 +75,38 @@ fn coil_here(
     }
 }
 
-fn row_contacts(alloc: Global, page: &WordedPage, row: usize) -> Result<Vec<Contact>, AllocError>
-    ensures { IfOk result (λ v. v.items ≡ row_contacts (layout_of page.now) row) }
+/// Adds the contacts of a row.
+fn push_contacts(
+    alloc: Global,
+    page: &WordedPage,
+    row: usize,
+    all: &mut Vec<Contact>,
+) -> Result<(), AllocError>
+    ensures { OnOk result (all.new.items ≡ all.old.items ++ row_contacts (layout_of page.now) row) }
 {
-    let mut found = Vec::new(alloc);
     for symbol in page.symbols(row) {
         if let Some(contact) = contact_here(alloc, page, row, symbol.first)? {
-            found.push(contact)?;
+            all.push(contact)?;
         }
     }
-    Ok(found)
+    Ok(())
 }
 
-fn row_coils(alloc: Global, page: &WordedPage, row: usize) -> Result<Vec<Coil>, AllocError>
-    ensures { IfOk result (λ v. v.items ≡ row_coils (layout_of page.now) row) }
+/// Adds the coils of a row.
+fn push_coils(
+    alloc: Global,
+    page: &WordedPage,
+    row: usize,
+    all: &mut Vec<Coil>,
+) -> Result<(), AllocError>
+    ensures { OnOk result (all.new.items ≡ all.old.items ++ row_coils (layout_of page.now) row) }
 {
-    let mut found = Vec::new(alloc);
     for symbol in page.symbols(row) {
         if let Some(coil) = coil_here(alloc, page, row, symbol.first)? {
-            found.push(coil)?;
+            all.push(coil)?;
         }
     }
-    Ok(found)
+    Ok(())
 }
 
 /// The contacts, by row and then column.
@@ -106,8 +116,7 @@ pub fn contacts(alloc: Global, page: &WordedPage) -> Result<Vec<Contact>, AllocE
 {
     let mut all = Vec::new(alloc);
     for row in 0..page.sheet().row_end().saturating_sub(1) {
-        let mut more = row_contacts(alloc, page, row + 1)?;
-        all.append(&mut more)?;
+        push_contacts(alloc, page, row + 1, &mut all)?;
     }
     Ok(all)
 }
@@ -119,8 +128,7 @@ pub fn coils(alloc: Global, page: &WordedPage) -> Result<Vec<Coil>, AllocError>
 {
     let mut all = Vec::new(alloc);
     for row in 0..page.sheet().row_end().saturating_sub(1) {
-        let mut more = row_coils(alloc, page, row + 1)?;
-        all.append(&mut more)?;
+        push_coils(alloc, page, row + 1, &mut all)?;
     }
     Ok(all)
 }

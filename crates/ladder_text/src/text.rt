@@ -1,21 +1,30 @@
-ghost use Rattle.std.specs.Prelude.{◌≡◌, IfOk, string_bytes};
+ghost use Rattle.std.specs.Prelude.{◌≡◌, IfOk};
 ghost use Rattle.std.specs.Str.{IsAscii};
 
+use crate::short_word::{SHORT, ShortWord};
 use std::alloc::{AllocError, Global};
 use std::marker::Model;
+
+/// Where the bytes of a word lie.
+#[derive(Debug, Drop)]
+enum Letters {
+    Short(ShortWord),
+    Long(Box<String>),
+}
 
 /// A word of a drawing, seen by contracts as its bytes.
 #[derive(Debug, Drop)]
 pub struct Text {
-    text: String,
+    letters: Letters,
 }
 
 impl Model for Text {
-    ghost use Rattle.std.specs.Prelude.{List, ℕ, string_bytes};
+    ghost use Rattle.std.specs.Prelude.{List, ℕ};
+    ghost use Rattle.ladder_text.specs.Steps.Letters.{letters_of};
 
     ghost Value = { List ℕ };
 
-    ghost view = { λ t. string_bytes t.text };
+    ghost view = { λ t. letters_of t.letters };
 }
 
 impl Text {
@@ -23,8 +32,13 @@ impl Text {
     pub fn new(alloc: Global, text: &str) -> Result<Text, AllocError>
         ensures { IfOk result (λ t. t ≡ text.now) }
     {
-        let text = String::from_str(alloc, text)?;
-        Ok(Text { text })
+        let letters = if text.len() <= SHORT {
+            Letters::Short(ShortWord::new(text.as_bytes()))
+        } else {
+            let text = String::from_str(alloc, text)?;
+            Letters::Long(Box::new(alloc, text)?)
+        };
+        Ok(Text { letters })
     }
 
     /// A copy of ASCII characters.
@@ -33,21 +47,44 @@ impl Text {
         requires { IsAscii bytes.now }
         ensures { IfOk result (λ t. t ≡ bytes.now) }
     {
-        let text = String::from_utf8_lossy(alloc, bytes)?;
-        Ok(Text { text })
+        let letters = if bytes.len() <= SHORT {
+            Letters::Short(ShortWord::new(bytes))
+        } else {
+            let text = String::from_utf8_lossy(alloc, bytes)?;
+            Letters::Long(Box::new(alloc, text)?)
+        };
+        Ok(Text { letters })
     }
 
     /// The characters.
     pub fn as_str(&self) -> &str
         ensures { result.now ≡ self.now }
     {
-        self.text.as_str()
+        match &self.letters {
+            Letters::Short(word) => word.as_str(),
+            Letters::Long(text) => text.as_str(),
+        }
+    }
+
+    /// The bytes of its characters.
+    pub fn as_bytes(&self) -> &[u8]
+        ensures { result.now ≡ self.now }
+    {
+        match &self.letters {
+            Letters::Short(word) => word.as_bytes(),
+            Letters::Long(text) => text.as_bytes(),
+        }
     }
 
     /// A copy with memory of its own.
     pub fn try_copy(&self, alloc: Global) -> Result<Text, AllocError>
         ensures { IfOk result (λ t. t ≡ self.now) }
     {
-        Text::new(alloc, self.as_str())
+        match &self.letters {
+            Letters::Short(word) => Ok(Text {
+                letters: Letters::Short(word.copy()),
+            }),
+            Letters::Long(text) => Text::new(alloc, text.as_str()),
+        }
     }
 }

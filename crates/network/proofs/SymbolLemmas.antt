@@ -1,4 +1,5 @@
-use Rattle.std.proofs.Common.{◌≡◌, ℕ, ◌+◌, ◌<◌, ◌≤◌, ◌⊎◌, inl, inr, List, [], Some, slice_get, length, sym, ap, ◌∙◌, arith}
+-- Symbols that are found by their places.
+use Rattle.std.proofs.Common.{◌≡◌, ℕ, ◌-◌, ◌<◌, ◌≤◌, ◌⊎◌, inl, inr, List, [], Some, slice_get, length, sym, ap, ◌∙◌, arith}
 use Rattle.std.proofs.lemmas.Bool.{cases_eq}
 use Rattle.std.proofs.lemmas.Option.{slice_get_within}
 use Rattle.lists.proofs.Members.{contains_at, at_contains}
@@ -22,31 +23,31 @@ use Rattle.network.specs.Steps.Symbols.{AreSymbols}
 use Rattle.network.proofs.Basics.{one_at, get_map, map_get}
 use Rattle.network.proofs.Sharing.{mark_of, has_mark, begins, the_element}
 
--- the first n places have their positions
-pub record IndexTo (places : List Place) (spots : List Spot) (n : ℕ) : Type 0 where
+-- the places from n on have their positions
+pub record IndexFrom (places : List Place) (spots : List Spot) (n : ℕ) : Type 0 where
   pub owned : (k : ℕ) (s : Spot) → slice_get spots k ≡ Some s → slice_get places s.element ≡ Some s.place
-  pub whole : (k : ℕ) (p : Place) → k < n → slice_get places k ≡ Some p → (m : ℕ) × IsSpot spots m p
+  pub whole : (k : ℕ) (p : Place) → n ≤ k → slice_get places k ≡ Some p → (m : ℕ) × IsSpot spots m p
 
-pub index_none : (places : List Place) (spots : List Spot) → spots ≡ [] → IndexTo places spots 0
+pub index_none : (places : List Place) (spots : List Spot) → spots ≡ [] → IndexFrom places spots (length places)
 index_none places spots e = record {
   owned = λ k s at. absurd (let h = sym (ap (λ (x : List Spot). slice_get x k) e) ∙ at in cc);
-  whole = λ k p lt. absurd (omega arith);
+  whole = λ k p le at. absurd (let lt = slice_get_within places k p at in omega arith);
 }
 
-pub index_more : (places : List Place) (old new : List Spot) (n m : ℕ) (p : Place) → slice_get places n ≡ Some p
+pub index_before : (places : List Place) (old new : List Spot) (n m : ℕ) (p : Place) → 0 < n → slice_get places (n - 1) ≡ Some p
     → IsSpot new m p → ((k : ℕ) (s : Spot) → slice_get old k ≡ Some s → slice_get new k ≡ Some s)
-    → ((k : ℕ) (s : Spot) → slice_get new k ≡ Some s → (slice_get old k ≡ Some s) ⊎ (s ≡ record { place = p; element = n }))
-    → IndexTo places old n → IndexTo places new (n + 1)
-index_more places old new n m p at found kept each done = record {
+    → ((k : ℕ) (s : Spot) → slice_get new k ≡ Some s → (slice_get old k ≡ Some s) ⊎ (s ≡ record { place = p; element = n - 1 }))
+    → IndexFrom places old n → IndexFrom places new (n - 1)
+index_before places old new n m p above at found kept each done = record {
   owned = λ k s at'. elim (each k s at') [ inl was ↦ done.owned k s was | inr e ↦ rw e at ];
-  whole = λ k q lt at'. elim (cases_eq k n) [
-    | inl e ↦ (m, rw (one_at places k n q p e at' at) found)
+  whole = λ k q le at'. elim (cases_eq k (n - 1)) [
+    | inl e ↦ (m, rw (one_at places k (n - 1) q p e at' at) found)
     | inr ne ↦ (let w = done.whole k q (omega arith) at' in (w.0, (w.1.0, kept w.0 w.1.0 w.1.1, w.1.2)))
   ];
 }
 
-pub index_all : (places : List Place) (spots : List Spot) (n : ℕ) → length places ≤ n → IndexTo places spots n → IsIndex places spots
-index_all places spots n all done = record { owned = done.owned; whole = λ k p at. done.whole k p (let lt = slice_get_within places k p at in omega arith) at }
+pub index_all : (places : List Place) (spots : List Spot) (n : ℕ) → n ≤ 0 → IndexFrom places spots n → IsIndex places spots
+index_all places spots n le done = record { owned = done.owned; whole = λ k p at. done.whole k p (omega arith) at }
 
 module _ (g : Picture) (sound : IsSound g) (symbols : Symbols) (are : AreSymbols g symbols) (at : Place) where
   -- what begins at a place of the index

@@ -1,3 +1,4 @@
+-- What a whole graph promises, of the answers of its parts.
 use Rattle.std.proofs.Common.{◌≡◌, ℕ, ◌+◌, ◌<◌, inl, inr, List, [], ◌∷◌, true, false, Option, Some, None, Result, Ok, Err, MatchResult, IfOk, IsTrue, Contains, get_or, slice_get, length, refl, sym, ap, ◌∙◌, arith}
 use Rattle.std.proofs.lemmas.Bool.{cases_lt}
 use Rattle.std.proofs.lemmas.Option.{slice_get_within, slice_get-get_or, get_or_from_slice_get}

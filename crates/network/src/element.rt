@@ -1,7 +1,7 @@
 use crate::element_box::ElementBox;
 use ladder_text::{Coil, Contact, Place};
 
-/// A graphic element outside the rails. Each takes 56 bytes, since a box lies apart.
+/// A graphic element outside the rails. Each takes 48 bytes, since a box lies apart.
 #[derive(Drop)]
 pub enum Element {
     Wire(Place),

@@ -1,6 +1,5 @@
-ghost use Rattle.std.specs.Prelude.{◌≡◌, ◌+◌, ◌++◌, ◌∷◌, ◌≤◌, ◌↔◌, ◌⊎◌, [], MatchOption, IsTrue, IfOk, OnOk};
+ghost use Rattle.std.specs.Prelude.{◌≡◌, ◌+◌, ◌++◌, ◌∷◌, [], MatchOption, IfOk, OnOk};
 ghost use Rattle.ladder_text.specs.Picture.{IsSound};
-ghost use Rattle.ladder_text.specs.declared.mark.Mark.TheVariants.{Wire, Join, Upright};
 ghost use Rattle.network.specs.Links.{place};
 ghost use Rattle.network.specs.Steps.Listing.{AreElementsBefore, AreElementsOf};
 ghost use Rattle.network.specs.Steps.Symbols.{AreSymbols};
@@ -58,45 +57,13 @@ fn push_column(
     Ok(())
 }
 
-fn is_line(mark: Mark) -> bool
-    ensures { IsTrue result ↔ (mark ≡ Wire) ⊎ ((mark ≡ Join) ⊎ (mark ≡ Upright)) }
-{
-    matches!(mark, Mark::Wire | Mark::Join | Mark::Upright)
-}
-
-/// How many wires, joins and uprights stand in a row.
-fn lines_in(drawing: &Drawing, row: usize) -> usize
-    requires { IsSound drawing.now }
-    ensures { result ≤ drawing.now.columns }
-{
-    let columns = 1..drawing.columns() + 1;
-    columns
-        .filter(|column| is_line(drawing.mark(row, *column)))
-        .count()
-}
-
-/// How many elements the drawing has, to give their list its room.
-fn count_of(drawing: &Drawing) -> usize
-    requires { IsSound drawing.now }
-{
-    let symbols = drawing
-        .contacts()
-        .len()
-        .saturating_add(drawing.coils().len());
-    let mut count = symbols.saturating_add(drawing.boxes().len());
-    for row in 1..drawing.rows() + 1 {
-        count = count.saturating_add(lines_in(drawing, row));
-    }
-    count
-}
-
 /// All elements of the drawing, by column and then row.
 pub fn elements_of(alloc: Global, drawing: &Drawing) -> Result<Vec<Element>, AllocError>
     requires { IsSound drawing.now }
     ensures { IfOk result (λ elements. AreElementsOf drawing.now elements.items) }
 {
     let symbols = symbols_of(alloc, drawing)?;
-    let mut elements = Vec::with_capacity(alloc, count_of(drawing))?;
+    let mut elements = Vec::new(alloc);
     for column in 1..drawing.columns() + 1 {
         push_column(alloc, &mut elements, drawing, &symbols, column)?;
     }

@@ -21,12 +21,14 @@ pub struct Symbols {
     pub boxes: Numbering,
 }
 
-/// The places with their positions.
+/// The places with their positions, from the last one on: so that each row gets its room at once.
 pub fn index_of(alloc: Global, places: &[Place]) -> Result<Numbering, AllocError>
     ensures { IfOk result (λ index. IsIndex places.now index) }
 {
     let mut index = Numbering::with_capacity(alloc, places.len())?;
-    for k in 0..places.len() {
+    let mut k = places.len();
+    while k > 0 {
+        k -= 1;
         index.number(places[k], k)?;
     }
     Ok(index)

@@ -1,3 +1,4 @@
+-- Names at which nothing is wrong, and the networks that they bind.
 use Rattle.std.proofs.Common.{◌≡◌, ℕ, ◌+◌, ◌≤◌, List, [], Bool, true, false, Option, Some, None, Contains, slice_get, length, arith, refl, sym, ap, ◌∙◌}
 use Rattle.std.specs.Option.{option_and_then, option_map}
 use Rattle.std.specs.List.{before_first, after_first, position_or_len}

@@ -1,3 +1,4 @@
+-- A ladder that is bound network by network.
 use Rattle.std.proofs.Common.{◌≡◌, ℕ, suc, ◌+◌, ◌<◌, ◌≤◌, Some, slice_get, take, List, [], ◌∷◌, ◌++◌, All, map, max, length, get_or, sym, ap, ◌∙◌, refl, arith}
 use Rattle.std.proofs.lemmas.List.Elements.{All-from_recursion, recursion_from_All, All-push, All-pop, All-more, All-weaker, All-nil, All-cons, All-head, All-tail, All-map}
 use Rattle.std.specs.List.{AllByRecursion}

@@ -1,3 +1,4 @@
+-- The first fault of a box, of its name and its pins.
 use Rattle.std.proofs.Common.{zero, suc, not, ◌&&◌, ◌||◌, eqb, take, get_or, length, ◌++◌, append_assoc, add-one, All, ◌≡◌, ℕ, ◌+◌, ◌<◌, inl, inr, List, [], ◌∷◌, Bool, true, false, Option, Some, None, cond, Contains, slice_get, arith, refl, sym, ap, ◌∙◌, subst}
 use Rattle.std.proofs.lemmas.Bool.{cases_lt}
 use Rattle.std_blocks.specs.declared.value.Value.{Value}

@@ -1,3 +1,4 @@
+-- Where the inputs and outputs of boxes come from.
 use Rattle.std.proofs.Common.{◌≡◌, ℕ, zero, suc, ◌<◌, ◌≤◌, inl, inr, List, [], ◌∷◌, Bool, true, false, Option, Some, None, Contains, length, slice_get, arith, refl, sym, ap, ◌∙◌, subst}
 use Rattle.std.specs.List.{AllZip, cons_option, before_first, after_first}
 use Rattle.std.specs.Option.{option_and_then, option_map_or}

@@ -1,3 +1,4 @@
+-- A scan has one result.
 use Rattle.std.proofs.Common.{◌≡◌, ℕ, zero, suc, ◌<◌, ◌≤◌, ◌⊎◌, ◌↔◌, inl, inr, List, [], ◌∷◌, ◌++◌, take, drop, take-append-drop, Bool, Option, Some, None, IsTrue, Contains, MatchOption, ℤ, length, slice_get, arith, refl, sym, ap, ◌∙◌, subst, map}
 use Rattle.std.specs.Option.{option_and_then}
 use Rattle.std.specs.List.{enumerate_from}

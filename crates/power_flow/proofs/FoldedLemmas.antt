@@ -1,3 +1,4 @@
+-- Names in small letters as keys of a map.
 use Rattle.std.proofs.Common.{◌≡◌, ℕ, suc, ◌+◌, Bool, false, cond, not, List, [], ◌∷◌, ◌++◌, length, None, is_some, position, refl, sym, ap, ◌∙◌}
 use Rattle.std.specs.List.{prefix_len}
 use Rattle.std.specs.Map.{keys_of, values_of, lookup}

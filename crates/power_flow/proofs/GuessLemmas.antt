@@ -1,17 +1,21 @@
+-- Uses of names in their order, and the declarations that they give.
 use Rattle.std.proofs.Common.{◌≡◌, ℕ, ◌+◌, ◌<◌, ◌≤◌, Bool, true, false, cond, not, ◌&&◌, ◌||◌, ltb, eqb, List, [], ◌∷◌, ◌++◌, map, filter, take, length, get_or, refl, sym, ap, ◌∙◌, arith, if◌then◌else◌}
 use Rattle.std.specs.Ordering.{is_lt, nat_cmp, ordering_then}
-use Rattle.std.specs.List.{list_any, enumerate_from}
-use Rattle.std.specs.List.Sorted.{ties}
+use Rattle.std.specs.List.{list_any, enumerate_from, flat_map}
+use Rattle.std.specs.List.Sorted.{ties, IsPermutation, IsStableBy}
+use Rattle.std.proofs.lemmas.List.Sorted.{IsPermutation-append, IsPermutation-refl, IsPermutation-trans}
 use Rattle.std.specs.Str.{bytes_eq, str_eq_ignore_ascii_case, str_to_ascii_lowercase}
 use Rattle.std.proofs.lemmas.Bool.Decides.{nat_tests}
-use Rattle.std.proofs.lemmas.List.{map_push, take_all, append-nil}
-use Rattle.std.proofs.lemmas.List.Elements.{filter_more}
+use Rattle.std.proofs.lemmas.List.{map_push, take_all, take_more, append-nil}
+use Rattle.std.proofs.lemmas.List.Elements.{filter_more, filter-append}
 use Rattle.std.proofs.lemmas.List.Folds.{list_any_more, list_any-append, Any-from_list_any}
+use Rattle.std.proofs.lemmas.Grind.{flat_map-append}
 use Rattle.std.proofs.lemmas.List.FromFn.{length-enumerate_from, get_or-enumerate_from}
 use Rattle.std.proofs.lemmas.Slice.Eq.{bytes_eq-Decides}
 use Rattle.power_flow.specs.declared.declarations.Declaration.{Declaration}
 use Rattle.power_flow.specs.declared.name_use.NameUse.{NameUse}
-use Rattle.power_flow.specs.Guess.{is_before, is_first, declaration_of, first_uses}
+use Rattle.network.specs.declared.element.Element.{Element}
+use Rattle.power_flow.specs.Guess.{is_before, is_first, declaration_of, element_uses, first_uses, uses_of}
 use Rattle.power_flow.specs.Names.{IsDeclared}
 use Rattle.power_flow.proofs.Places.{has_name}
 
@@ -143,3 +147,36 @@ declared_new ds new u given same absent pushed =
 pub ties_are : (x y : NameUse) → ties is_before x y ≡ ties key_before x y
 ties_are x y =
     ap (λ b. not b && not (is_before y x)) (sym (lt_is_before x y)) ∙ ap (λ b. not (key_before x y) && not b) (sym (lt_is_before y x))
+
+-- the same uses, of which those at one place keep their order
+pub record AreOrdered (uses ordered : List NameUse) : Type 0 where
+  pub permutation : IsPermutation uses ordered
+  pub stable : IsStableBy is_before uses ordered
+
+-- two lists, one behind the other
+pub ordered_append : (xs ys us vs : List NameUse) → AreOrdered xs ys → AreOrdered us vs → AreOrdered (xs ++ us) (ys ++ vs)
+ordered_append xs ys us vs a b = record {
+  permutation = IsPermutation-append xs ys us vs a.permutation b.permutation;
+  stable = λ x. filter-append (ties is_before x) ys vs ∙ ap (λ (l : List NameUse). l ++ filter (ties is_before x) vs) (a.stable x)
+      ∙ ap (λ (l : List NameUse). filter (ties is_before x) xs ++ l) (b.stable x) ∙ sym (filter-append (ties is_before x) xs us);
+}
+
+pub ordered_none : AreOrdered [] []
+ordered_none = record { permutation = IsPermutation-refl []; stable = λ x. refl }
+
+-- the uses of one more network
+pub ordered_more : (networks : List (List Element)) (n : ℕ) (es : List Element) (ys vs : List NameUse) → n < length networks → es ≡ get_or networks n es
+    → AreOrdered (uses_of (take n networks)) ys → AreOrdered (flat_map element_uses es) vs → AreOrdered (uses_of (take (n + 1) networks)) (ys ++ vs)
+ordered_more networks n es ys vs lt is a b =
+    let F : List Element → List NameUse = λ elements. flat_map element_uses elements in
+    let here : take (n + 1) networks ≡ take n networks ++ es ∷ [] = take_more networks n es lt ∙ ap (λ y. take n networks ++ y ∷ []) (sym is) in
+    let split : uses_of (take (n + 1) networks) ≡ uses_of (take n networks) ++ F es =
+    ap (flat_map F) here ∙ flat_map-append F (take n networks) (es ∷ []) ∙ ap (λ y. flat_map F (take n networks) ++ y) (append-nil (F es)) in
+    rw split (ordered_append (uses_of (take n networks)) ys (F es) vs a b)
+
+-- in order once more
+pub ordered_again : (xs ys zs : List NameUse) → AreOrdered xs ys → AreOrdered ys zs → AreOrdered xs zs
+ordered_again xs ys zs a b = record {
+  permutation = IsPermutation-trans xs ys zs a.permutation b.permutation;
+  stable = λ x. b.stable x ∙ a.stable x;
+}

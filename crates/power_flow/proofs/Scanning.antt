@@ -1,3 +1,4 @@
+-- A scan of several networks, one after the other.
 use Rattle.std.proofs.Common.{◌≡◌, ℕ, List, ◌∷◌, ◌++◌, Bool, length, map, take, drop, sym, ap, ◌∙◌}
 use Rattle.std.proofs.Math.Seq.{take-append_seam, drop-append_seam}
 use Rattle.ladder_text.specs.declared.place.Place.{Place}

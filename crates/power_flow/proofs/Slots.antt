@@ -1,3 +1,4 @@
+-- Slots of declared kinds, and stores that keep the kinds.
 use Rattle.std.proofs.Common.{◌≡◌, ℕ, ◌<◌, List, length, set, get_or, slice_get, length-set, map, Option, None, Some, refl, sym, ap, ◌∙◌, subst, ◌⊎◌, ◌≢◌, inl, inr, arith}
 use Rattle.std.specs.Option.{option_and_then, option_map}
 use Rattle.std.proofs.lemmas.Bool.{cases_eq}

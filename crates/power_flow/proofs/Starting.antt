@@ -1,3 +1,4 @@
+-- Whether a place stands on the left rail, by the index of its places.
 use Rattle.std.proofs.Common.{◌≡◌, ℕ, ◌↔◌, List, Bool, Option, Some, None, Contains, IsTrue, is_some, refl, ap, ◌∙◌}
 use Rattle.lists.proofs.Members.{contains_at, at_contains}
 use Rattle.ladder_text.specs.declared.place.Place.{Place}

@@ -1,3 +1,4 @@
+-- Stores one after the other.
 use Rattle.std.proofs.Common.{◌≡◌, ℕ, List, [], ◌∷◌, ◌++◌, set, refl}
 use Rattle.std_blocks.specs.declared.value.Value.{Value}
 use Rattle.power_flow.specs.declared.state.Slot.{Slot}

@@ -71,6 +71,9 @@ impl Model for Declarations {
 /// Longer names are sought one by one. No word of a drawing is longer.
 const LONGEST_WORD: usize = 240;
 
+/// Few names are longer.
+const SHORT_WORD: usize = 16;
+
 /// The name in small letters, by which it is found.
 fn key_of(alloc: Global, name: &str) -> Result<Vec<u8>, AllocError>
     ensures { IfOk result (λ key. key.items ≡ str_to_ascii_lowercase name.now) }
@@ -153,10 +156,12 @@ impl Declarations {
     pub fn position(&self, name: &str) -> Option<usize>
         ensures { result ≡ place_of self.now name.now }
     {
-        if name.len() > LONGEST_WORD {
-            self.search(name)
+        if name.len() <= SHORT_WORD {
+            self.look_up(name, &mut [0; SHORT_WORD])
+        } else if name.len() <= LONGEST_WORD {
+            self.look_up(name, &mut [0; LONGEST_WORD])
         } else {
-            self.look_up(name)
+            self.search(name)
         }
     }
 
@@ -183,16 +188,14 @@ impl Declarations {
         Ok(())
     }
 
-    /// The position of a name that is no longer than a word of a drawing.
-    fn look_up(&self, name: &str) -> Option<usize>
-        requires { length name.now ≤ LONGEST_WORD }
+    /// The position of a name, for which there is this room to put it in small letters.
+    fn look_up(&self, name: &str, room: &mut [u8]) -> Option<usize>
+        requires { length name.now ≤ length room.old }
         ensures { result ≡ place_of self.now name.now }
     {
-        let mut letters = [0; LONGEST_WORD];
-        let letters = &mut letters[..name.len()];
-        letters.copy_from_slice(name.as_bytes());
-        letters.make_ascii_lowercase();
-        self.entries.get_index_of(&*letters)
+        room[..name.len()].copy_from_slice(name.as_bytes());
+        room.make_ascii_lowercase();
+        self.entries.get_index_of(&room[..name.len()])
     }
 
     /// The position of a name, sought one by one.

@@ -13,10 +13,9 @@ use std::alloc::{AllocError, Global};
 use std_blocks::BlockType;
 
 /// Whether a word is a name by itself: no number, no duration, and without a dot.
-fn is_plain_name(word: &str) -> bool
-    ensures { result ≡ is_plain word.now }
+fn is_plain_name(letters: &[u8]) -> bool
+    ensures { result ≡ is_plain letters.now }
 {
-    let letters = word.as_bytes();
     match letters {
         [] => false,
         [first, ..] => !first.is_ascii_digit()
@@ -53,7 +52,7 @@ fn push_word(
 ) -> Result<(), AllocError>
     ensures { OnOk result (uses.new.items ≡ uses.old.items ++ word_uses row column word.now declared) }
 {
-    if is_plain_name(word.as_str()) {
+    if is_plain_name(word.as_bytes()) {
         push_use(uses, row, column, word, declared)?;
     }
     Ok(())
@@ -122,17 +121,6 @@ fn push_elements(uses: &mut Vec<NameUse>, elements: &[Element]) -> Result<(), Al
     Ok(())
 }
 
-/// All uses of names, network after network.
-fn all_uses(alloc: Global, networks: &[Network]) -> Result<Vec<NameUse>, AllocError>
-    ensures { IfOk result (λ uses. uses.items ≡ uses_of networks.now) }
-{
-    let mut uses = Vec::new(alloc);
-    for network in networks {
-        push_elements(&mut uses, network.elements())?;
-    }
-    Ok(uses)
-}
-
 /// Puts the uses in order by row and then column.
 fn sort_uses(uses: &mut Vec<NameUse>) -> Result<(), AllocError>
     ensures permutation { IsPermutation uses.old.items uses.new.items }
@@ -141,6 +129,30 @@ fn sort_uses(uses: &mut Vec<NameUse>) -> Result<(), AllocError>
 {
     uses.sort_by_key(|name_use: &NameUse| (name_use.row, name_use.column))?;
     Ok(())
+}
+
+/// The uses of names in a network, by row and then column.
+fn network_uses(alloc: Global, elements: &[Element]) -> Result<Vec<NameUse>, AllocError>
+    ensures permutation { IfOk result (λ uses. IsPermutation (flat_map element_uses elements.now) uses.items) }
+    ensures stable { IfOk result (λ uses. IsStableBy is_before (flat_map element_uses elements.now) uses.items) }
+{
+    let mut uses = Vec::new(alloc);
+    push_elements(&mut uses, elements)?;
+    sort_uses(&mut uses)?;
+    Ok(uses)
+}
+
+/// All uses of names, network after network. Those of one network are in order, so that little is left to sort.
+fn all_uses(alloc: Global, networks: &[Network]) -> Result<Vec<NameUse>, AllocError>
+    ensures permutation { IfOk result (λ uses. IsPermutation (uses_of networks.now) uses.items) }
+    ensures stable { IfOk result (λ uses. IsStableBy is_before (uses_of networks.now) uses.items) }
+{
+    let mut uses = Vec::new(alloc);
+    for network in networks {
+        let mut more = network_uses(alloc, network.elements())?;
+        uses.append(&mut more)?;
+    }
+    Ok(uses)
 }
 
 /// Declares the name of a use, unless it is declared already.
@@ -175,6 +187,7 @@ impl Declarations {
     {
         let mut uses = all_uses(alloc, graph.networks())?;
         sort_uses(&mut uses)?;
-        declare_all(alloc, &uses)
+        let declarations = declare_all(alloc, &uses)?;
+        Ok(declarations)
     }
 }

@@ -10,6 +10,7 @@ mod boxes;
 mod circuit;
 mod circuits;
 mod declarations;
+mod element_faults;
 mod fits;
 mod fused;
 mod guess;

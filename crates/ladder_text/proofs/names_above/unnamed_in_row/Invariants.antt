@@ -4,7 +4,7 @@ use Rattle.ladder_text.specs.Places.{layout_of}
 use Rattle.ladder_text.specs.Faults.{name_missing}
 use Rattle.ladder_text.specs.FirstFault.{IsSpanAt}
 use Rattle.ladder_text.specs.Steps.Search.{IsFirstColumnOf}
-use Rattle.ladder_text.proofs.spans.unnamed_in_row.Given as goal
+use Rattle.ladder_text.proofs.names_above.unnamed_in_row.Given as goal
 
 abbrev pub invariant-loop-thing : goal.invariant-loop-thing
 invariant-loop-thing l = record {

@@ -1,6 +1,6 @@
 use Rattle.power_flow.specs.Steps.ElementFindings.{element_findings}
 use Rattle.power_flow.proofs.FindingLemmas.{first_flat}
-use Rattle.power_flow.proofs.bind.network_finding.Goals as goal
+use Rattle.power_flow.proofs.element_faults.network_finding.Goals as goal
 
 pub loop-element-preserved : goal.loop-element-preserved
 loop-element-preserved c = first_flat (element_findings c.args.declarations.now c.args.elements.now) c.args.elements.now c.loop-element.element-index c.element-item.result c.loop-element.first c.element_finding.result c.earlier-first.result

@@ -1,7 +1,7 @@
 use Rattle.std.proofs.Common.{not, ap, sym, ◌∙◌}
 use Rattle.ladder_text.specs.Places.{layout_of}
 use Rattle.ladder_text.proofs.RowBoxLemmas.{off_operands}
-use Rattle.ladder_text.proofs.railed_sheet.RailedSheet.in_operand.Goals as goal
+use Rattle.ladder_text.proofs.sheet.Sheet.in_operand_of.Goals as goal
 
 pub returns-else-not-bare : goal.returns-else-not-bare
 unfolding layout_of

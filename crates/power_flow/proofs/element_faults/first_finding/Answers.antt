@@ -1,5 +1,5 @@
 use Rattle.power_flow.proofs.FindingLemmas.{first_network, first_none}
-use Rattle.power_flow.proofs.bind.first_finding.Goals as goal
+use Rattle.power_flow.proofs.element_faults.first_finding.Goals as goal
 
 pub loop-network-init : goal.loop-network-init
 loop-network-init c = first_none c.args.declarations.now c.args.networks.now

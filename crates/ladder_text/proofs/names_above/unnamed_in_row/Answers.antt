@@ -6,8 +6,8 @@ use Rattle.ladder_text.specs.Faults.{name_missing}
 use Rattle.ladder_text.specs.Names.{things}
 use Rattle.ladder_text.proofs.PairLemmas.{paired_things}
 use Rattle.ladder_text.proofs.SearchLemmas.{no_span, span_found, span_passed, any_found, any_passed}
-use Rattle.ladder_text.proofs.spans.unnamed_in_row.Goals as goal
-use Rattle.ladder_text.proofs.spans.unnamed_in_row.Goals.{then-is_unnamed, else-is_unnamed}
+use Rattle.ladder_text.proofs.names_above.unnamed_in_row.Goals as goal
+use Rattle.ladder_text.proofs.names_above.unnamed_in_row.Goals.{then-is_unnamed, else-is_unnamed}
 
 pub loop-thing-preserved : goal.loop-thing-preserved
 loop-thing-preserved c =

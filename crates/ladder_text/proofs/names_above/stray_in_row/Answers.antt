@@ -5,7 +5,7 @@ use Rattle.ladder_text.specs.Faults.{stray_name}
 use Rattle.ladder_text.proofs.WordOrder.{first_of_words}
 use Rattle.ladder_text.proofs.PairLemmas.{paired_words}
 use Rattle.ladder_text.proofs.SearchLemmas.{no_span}
-use Rattle.ladder_text.proofs.spans.stray_in_row.Goals as goal
+use Rattle.ladder_text.proofs.names_above.stray_in_row.Goals as goal
 
 pub returns-then-is_stray-clause-first : goal.returns-then-is_stray-clause-first
 returns-then-is_stray-clause-first c =
