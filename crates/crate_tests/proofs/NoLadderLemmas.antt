@@ -21,7 +21,7 @@ use Rattle.network.specs.Networks.{IsFaultless, IsElementOf, Chained, MeetsAt}
 use Rattle.network.specs.Networks.Chained.{here, along}
 use Rattle.network.specs.Links.{place, Takes}
 use Rattle.power_flow.specs.LadderValue.{LadderValue}
-use Rattle.plant.specs.declared.tree.Program.{Program}
+use Rattle.plant.specs.declared.grammar.tree.Program.{Program}
 use Rattle.plant.specs.Faultless.{IsLadderOf}
 use Rattle.crate_tests.specs.Figures.{unattached_box}
 use Rattle.crate_tests.specs.NoLadder.{HasNoLadder, name_twice, tall_box}

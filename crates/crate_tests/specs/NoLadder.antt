@@ -1,7 +1,7 @@
 -- Worked drawings that have no ladder, since their networks have a fault.
 use Rattle.std.specs.Prelude.{◌≡◌, ℕ, List, [], ◌∷◌, ◌++◌, codes, replicate}
 use Rattle.power_flow.specs.LadderValue.{LadderValue}
-use Rattle.plant.specs.declared.tree.Program.{Program}
+use Rattle.plant.specs.declared.grammar.tree.Program.{Program}
 use Rattle.plant.specs.Faultless.{IsLadderOf}
 use Rattle.crate_tests.specs.Figures.{text_of}
 

@@ -14,9 +14,9 @@ use Rattle.power_flow.specs.declared.state.Slot.{Slot}
 use Rattle.power_flow.specs.declared.state.Slot.TheVariants.{Variable, Block}
 use Rattle.power_flow.specs.First.{value_first}
 use Rattle.power_flow.specs.StateValue.{StateValue, variable_of, variable_at, kind_of, IsKindAt, IsSlotOf, AreSlotsOf}
-use Rattle.plant.specs.declared.address.Space.{Space}
-use Rattle.plant.specs.declared.address.Space.TheVariants.{Bit as BitSpace, Word as WordSpace}
-use Rattle.plant.specs.declared.address.Address.{Address}
+use Rattle.plant_text.specs.declared.address.Space.{Space}
+use Rattle.plant_text.specs.declared.address.Space.TheVariants.{Bit as BitSpace, Word as WordSpace}
+use Rattle.plant_text.specs.declared.address.Address.{Address}
 use Rattle.plant.specs.declared.binding.Source.{Source}
 use Rattle.plant.specs.declared.binding.Source.TheVariants.{Field, Given}
 use Rattle.plant.specs.declared.binding.Binding.{Binding}

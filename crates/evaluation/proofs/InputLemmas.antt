@@ -2,7 +2,7 @@
 use Rattle.std.proofs.Common.{◌≡◌, ◌≢◌, ◌≤◌, Bool, true, false, cond, None, IsTrue, nat_cmp, rules, tests, ℕ, ◌+◌, ◌*◌, ◌<◌, ◌⊎◌, ◌↔◌, inl, inr, List, [], ◌∷◌, length, map, slice_get, Some, arith, refl, sym, ap, ◌∙◌}
 use Rattle.std.proofs.lemmas.Bool.{cases_eq}
 use Rattle.std.proofs.lemmas.Option.{slice_get_within, same_Some}
-use Rattle.plant.specs.declared.address.Address.{Address}
+use Rattle.plant_text.specs.declared.address.Address.{Address}
 use Rattle.evaluation.specs.declared.field_input.FieldInput.{FieldInput}
 use Rattle.evaluation.specs.declared.field_input.FieldInput.TheVariants.{Bit, Word}
 use Rattle.evaluation.specs.Inputs.{address_of}

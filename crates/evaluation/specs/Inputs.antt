@@ -4,9 +4,9 @@ use Rattle.std.specs.List.{find}
 use Rattle.std_blocks.specs.declared.value.Value.{Value}
 use Rattle.std_blocks.specs.declared.value.Value.TheVariants.{Bool as BoolValue, Int as IntValue}
 use Rattle.power_flow.specs.First.{value_first}
-use Rattle.plant.specs.declared.address.Space.{Space}
-use Rattle.plant.specs.declared.address.Space.TheVariants.{Bit as BitSpace, Word as WordSpace}
-use Rattle.plant.specs.declared.address.Address.{Address}
+use Rattle.plant_text.specs.declared.address.Space.{Space}
+use Rattle.plant_text.specs.declared.address.Space.TheVariants.{Bit as BitSpace, Word as WordSpace}
+use Rattle.plant_text.specs.declared.address.Address.{Address}
 use Rattle.plant.specs.PlantValue.{kind_of_space}
 use Rattle.evaluation.specs.declared.field_input.FieldInput.{FieldInput}
 use Rattle.evaluation.specs.declared.field_input.FieldInput.TheVariants.{Bit, Word}

@@ -1,7 +1,7 @@
 ghost use Rattle.std.specs.Prelude.{◌↔◌, IsTrue};
 ghost use Rattle.plant.specs.declared.task_ref.TaskRef.{TaskRef};
 ghost use Rattle.evaluation.specs.Takes.{IsTakeOf, AreTakesOf};
-ghost use Rattle.evaluation.specs.States.{AreStatesOf, AreSame};
+ghost use Rattle.evaluation.specs.States.{AreStatesOf};
 
 use crate::take::Take;
 use crate::task_state::TaskState;
@@ -54,19 +54,4 @@ fn is_take_of(producer: TaskRef, kinds: &[Kind], take: &Take) -> bool
     take.producer == producer
         && take.image.has_kinds(kinds)
         && (take.from.is_some() || take.image.is_initial(kinds))
-}
-
-/// Whether states are the same one by one, places to work in aside.
-pub fn are_same(states: &[State], others: &[State]) -> bool
-    ensures { IsTrue result ↔ AreSame states.now others.now }
-{
-    if states.len() != others.len() {
-        return false;
-    }
-    for i in 0..states.len() {
-        if !states[i].same(&others[i]) {
-            return false;
-        }
-    }
-    true
 }

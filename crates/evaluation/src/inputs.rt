@@ -1,5 +1,5 @@
 use crate::field_input::FieldInput;
-use plant::Address;
+use plant::{Address, kind_of_space};
 use power_flow::first_value;
 use std::alloc::{AllocError, Global};
 use std::marker::Model;
@@ -64,7 +64,7 @@ impl Inputs {
     {
         match self.find(address) {
             Some(input) => input.value(),
-            None => first_value(address.space.kind()),
+            None => first_value(kind_of_space(address.space)),
         }
     }
 

@@ -20,7 +20,6 @@ use crate::journals::Journals;
 use crate::node_fault::NodeFault;
 use crate::report::Report;
 use crate::run_fault::RunFault;
-pub(crate) use obedience::is_above;
 use plant::Plant;
 use std::alloc::{AllocError, Global};
 use world::Book;

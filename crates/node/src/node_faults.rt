@@ -1,5 +1,5 @@
-use crate::collector::is_above;
 use crate::node_fault::NodeFault;
+use crate::tickets::is_above;
 use std::alloc::{AllocError, Global};
 use std::marker::Model;
 

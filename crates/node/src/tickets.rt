@@ -15,7 +15,7 @@ impl Model for Tickets {
     ghost view = { λ t. t.listed.items };
 }
 
-ghost use Rattle.std.specs.Prelude.{◌≡◌, [], ◌∷◌, ◌++◌, IfOk, OnOk};
+ghost use Rattle.std.specs.Prelude.{◌≡◌, ◌↔◌, ◌<◌, [], ◌∷◌, ◌++◌, IfOk, IfSome, IsTrue, OnOk};
 
 impl Tickets {
     /// No tickets.
@@ -40,5 +40,15 @@ impl Tickets {
         ensures { result.now ≡ self.now }
     {
         self.listed.as_slice()
+    }
+}
+
+/// Whether a ticket is above the last one before it.
+pub(crate) fn is_above(ticket: u64, last: Option<u64>) -> bool
+    ensures { IsTrue result ↔ IfSome last (λ before. before < ticket) }
+{
+    match last {
+        Some(before) => before < ticket,
+        None => true,
     }
 }

@@ -10,17 +10,13 @@ use Rattle.power_flow.specs.Names.{IsDeclared}
 use Rattle.plant.specs.declared.plant_fault.PlantFaultKind.{PlantFaultKind}
 use Rattle.plant.specs.Names.{is_named}
 use Rattle.plant.specs.NameFaults.{TellsOfName, IsTaken}
-use Rattle.plant.proofs.Apart.{named_back, any_with}
+use Rattle.plant.proofs.Apart.{list_any-map, named_back, any_with}
 use Rattle.plant.proofs.RefusedNames.{tells_with}
 
 split_at : {A : Type 0} (xs : List A) (i : ℕ) (x : A) → i < length xs → x ≡ get_or xs i x → xs ≡ take i xs ++ x ∷ drop (suc i) xs
 split_at [] i x lt is = absurd (omega (arith, lt))
 split_at (y ∷ ys) zero x lt is = ap (λ z. z ∷ ys) (sym is)
 split_at (y ∷ ys) (suc i) x lt is = ap (λ zs. y ∷ zs) (split_at ys i x (omega (arith, lt)) is)
-
-list_any-map : {A B : Type 0} (f : A → B) (p : B → Bool) (xs : List A) → list_any p (map f xs) ≡ list_any (λ x. p (f x)) xs
-list_any-map f p [] = refl
-list_any-map f p (x ∷ xs) = ap (λ b. p (f x) || b) (list_any-map f p xs)
 
 any_split : {A : Type 0} (p : A → Bool) (xs ys : List A) → Any (λ x. IsTrue (p x)) (xs ++ ys) → Any (λ x. IsTrue (p x)) xs ⊎ Any (λ x. IsTrue (p x)) ys
 any_split p xs ys some = by_case (list_any p xs) refl (sym (list_any-append p xs ys) ∙ list_any-from_Any p (xs ++ ys) some)

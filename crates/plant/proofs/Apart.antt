@@ -1,7 +1,7 @@
 -- Names that are apart, and lists of lists.
 use Rattle.std.proofs.Common.{◌≡◌, ℕ, ◌-◌, ◌≤◌, ◌<◌, ◌++◌, ◌||◌, ◌↔◌, Bool, IsTrue, inl, inr, List, [], ◌∷◌, length, map, get_or, refl, sym, ap, ◌∙◌, subst, arith, zero, suc}
 use Rattle.std.proofs.Math.Seq.{get_or-append_right}
-use Rattle.std.proofs.lemmas.List.{get_or-map, get_or_append_left, length-append, length-map}
+use Rattle.std.proofs.lemmas.List.{get_or-map, get_or_append_left, length-append, length-map, map-append}
 use Rattle.std.proofs.lemmas.List.Folds.{Any-from_list_any, list_any-from_Any, list_any-append}
 use Rattle.std.proofs.lemmas.List.Concat.{flat_map-cons}
 use Rattle.std.proofs.lemmas.Bool.{cases_lt}
@@ -19,14 +19,14 @@ named_back a b same =
     let y = str_to_ascii_lowercase b in
     (bytes_eq-Decides y x).1 (sym ((bytes_eq-Decides x y).0 same))
 
+pub list_any-map : {A B : Type 0} (f : A → B) (p : B → Bool) (xs : List A) → list_any p (map f xs) ≡ list_any (λ x. p (f x)) xs
+list_any-map f p [] = refl
+list_any-map f p (x ∷ xs) = ap (λ b. p (f x) || b) (list_any-map f p xs)
+
 get_or-itself : {A : Type 0} (xs : List A) (i : ℕ) (e : A) → i < length xs → get_or xs i (get_or xs i e) ≡ get_or xs i e
 get_or-itself [] i e lt = absurd (omega arith)
 get_or-itself (x ∷ xs) zero e lt = refl
 get_or-itself (x ∷ xs) (suc i) e lt = get_or-itself xs i e (omega arith)
-
-pub map-push : {A B : Type 0} (f : A → B) (xs : List A) (y : A) → map f (xs ++ y ∷ []) ≡ map f xs ++ f y ∷ []
-map-push f [] y = refl
-map-push f (x ∷ xs) y = ap (λ ys. f x ∷ ys) (map-push f xs y)
 
 apart_push : {A : Type 0} (f : A → List ℕ) (xs : List A) (y : A) → AreApart (map f xs) → IsNew f xs (f y) → AreApart (map f xs ++ f y ∷ [])
 apart_push f xs y apart new j k d within inside same =
@@ -55,7 +55,7 @@ apart_push f xs y apart new j k d within inside same =
 
 -- a new name keeps the names apart
 pub apart_more : {A : Type 0} (f : A → List ℕ) (xs ys : List A) (y : A) → ys ≡ xs ++ y ∷ [] → AreApart (map f xs) → IsNew f xs (f y) → AreApart (map f ys)
-apart_more f xs ys y e apart new = subst (λ zs. AreApart (map f zs)) (sym e) (subst AreApart (sym (map-push f xs y)) (apart_push f xs y apart new))
+apart_more f xs ys y e apart new = subst (λ zs. AreApart (map f zs)) (sym e) (subst AreApart (sym (map-append f xs (y ∷ []))) (apart_push f xs y apart new))
 
 pub apart_none : AreApart []
 apart_none j k d within inside same = absurd (omega (arith, within))

@@ -2,27 +2,26 @@
 use Rattle.std.proofs.Common.{◌≡◌, ◌≢◌, ℕ, zero, suc, ◌+◌, List, [], ◌∷◌, ◌++◌, length, map, All, take, drop, refl, sym, ap, subst, ◌∙◌, arith}
 use Rattle.std.specs.List.{flat_map}
 use Rattle.std.proofs.lemmas.List.{length-append, length-map, take-append-drop}
-use Rattle.std.proofs.lemmas.List.Concat.{flat_map-cons}
+use Rattle.std.proofs.lemmas.List.Concat.{flat_map-cons, flat_map-append}
 use Rattle.std.proofs.Math.Seq.{take-append_seam}
 use Rattle.power_flow.specs.declared.declarations.Kind.TheVariants as kind
-use Rattle.plant.specs.declared.token.Token.{Token}
-use Rattle.plant.specs.declared.token.Token.TheVariants as token
-use Rattle.plant.specs.declared.token.Keyword.TheVariants as key
-use Rattle.plant.specs.declared.token.Punctuation.TheVariants.{Colon, Semicolon}
-use Rattle.plant.specs.declared.tree.Section.{Section}
-use Rattle.plant.specs.declared.tree.Section.TheVariants as section
-use Rattle.plant.specs.declared.tree.TypeName.{TypeName}
-use Rattle.plant.specs.declared.tree.TypeName.TheVariants.{Elementary, Block}
-use Rattle.plant.specs.declared.tree.NameList.{NameList}
-use Rattle.plant.specs.declared.tree.VarBlock.{VarBlock}
-use Rattle.plant.specs.declared.tree.Program.{Program}
+use Rattle.plant_text.specs.declared.token.Token.{Token}
+use Rattle.plant_text.specs.declared.token.Token.TheVariants as token
+use Rattle.plant_text.specs.declared.token.Keyword.TheVariants as key
+use Rattle.plant_text.specs.declared.token.Punctuation.TheVariants.{Colon, Semicolon}
+use Rattle.plant.specs.declared.grammar.tree.Section.{Section}
+use Rattle.plant.specs.declared.grammar.tree.Section.TheVariants as section
+use Rattle.plant.specs.declared.grammar.tree.TypeName.{TypeName}
+use Rattle.plant.specs.declared.grammar.tree.TypeName.TheVariants.{Elementary, Block}
+use Rattle.plant.specs.declared.grammar.tree.NameList.{NameList}
+use Rattle.plant.specs.declared.grammar.tree.VarBlock.{VarBlock}
+use Rattle.plant.specs.declared.grammar.tree.Program.{Program}
 use Rattle.plant.specs.Grammar.{key_word, mark, section_word, type_word, name_words, list_words, lists_words, block_words, program_words}
-use Rattle.plant.specs.Spelling.{BeginsWith}
+use Rattle.plant_text.specs.Spelling.{BeginsWith}
 use Rattle.plant.specs.BodyFaults.{TextValue}
-use Rattle.plant.specs.Steps.Lines.{WordValue, body_line, body_lines, IsBegunBy}
+use Rattle.plant_text.specs.Lines.{WordValue, body_line, body_lines, IsBegunBy}
 use Rattle.plant.specs.Steps.Reading.{programs_of, lines_of}
 use Rattle.plant.proofs.KnownWords.{programs_known}
-use Rattle.plant.proofs.WordLists.{flat_map-append}
 
 abbrev one_body : Token → ℕ
 one_body (token.Body body) = 1

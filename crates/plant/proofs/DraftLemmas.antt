@@ -10,9 +10,9 @@ use Rattle.std.proofs.lemmas.List.Elements.{filter-append}
 use Rattle.lists.proofs.Places.{some_same}
 use Rattle.power_flow.specs.declared.declarations.Kind.{Kind}
 use Rattle.power_flow.specs.Names.{place_of}
-use Rattle.plant.specs.declared.tree.Use.{Use}
-use Rattle.plant.specs.declared.tree.Item.{Item}
-use Rattle.plant.specs.declared.tree.Item.TheVariants as item
+use Rattle.plant.specs.declared.grammar.tree.Use.{Use}
+use Rattle.plant.specs.declared.grammar.tree.Item.{Item}
+use Rattle.plant.specs.declared.grammar.tree.Item.TheVariants as item
 use Rattle.plant.specs.Names.{is_named}
 use Rattle.plant.specs.Faultless.{use_of, IsLadderOf}
 use Rattle.plant.specs.Steps.Reading.{TypeValue}

@@ -1,14 +1,13 @@
 -- Program types that are drawn one by one.
 use Rattle.std.proofs.Common.{◌≡◌, List, [], ◌∷◌, ◌++◌, map, sym, ap, ◌∙◌, subst, append_assoc}
 use Rattle.std.specs.Prelude.{All}
-use Rattle.std.proofs.lemmas.List.{append-nil}
+use Rattle.std.proofs.lemmas.List.{append-nil, map-append}
 use Rattle.std.proofs.lemmas.List.Elements.{All-nil, All-cons, All-tail, All-head}
 use Rattle.plant.specs.declared.plant_fault.PlantFault.{PlantFault}
 use Rattle.plant.specs.Faultless.{IsLadderOf}
 use Rattle.plant.specs.BodyFaults.{TextValue, HasLadder, IsBodyFault, IsFirstBodyFault}
 use Rattle.plant.specs.Steps.Drawn.{AreDrawn}
 use Rattle.plant.specs.Steps.Reading.{TypeValue, programs_of}
-use Rattle.plant.proofs.Apart.{map-push}
 use Rattle.plant.proofs.WordLists.{all_more}
 use Rattle.plant.proofs.TypeLemmas.{map-grown}
 
@@ -17,7 +16,7 @@ pub drawn_more : (before : List TextValue) (xs ys : List TypeValue) (x : TypeVal
 drawn_more before xs ys x t more same ladder drawn = record {
   programs_are =
       map-grown (λ (t : TypeValue). t.program) xs ys x more ∙ ap (λ p. map (λ (t : TypeValue). t.program) xs ++ p ∷ []) same
-      ∙ ap (λ ps. ps ++ t.program ∷ []) drawn.programs_are ∙ sym (map-push (λ (t : TextValue). t.program) before t);
+      ∙ ap (λ ps. ps ++ t.program ∷ []) drawn.programs_are ∙ sym (map-append (λ (t : TextValue). t.program) before (t ∷ []));
   ladders = all_more (λ (t : TypeValue). IsLadderOf t.program t.ladder) xs ys x more drawn.ladders ladder;
 }
 

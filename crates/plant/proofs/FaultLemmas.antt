@@ -7,7 +7,7 @@ use Rattle.plant.specs.Steps.Drawn.{IsFaultOfBodies}
 use Rattle.plant.specs.Steps.Lines.{ReaderValue}
 use Rattle.plant.specs.Grammar.{program_words}
 use Rattle.plant.specs.Steps.Reading.{programs_of, lines_of}
-use Rattle.plant.specs.declared.token.Token.{Token}
+use Rattle.plant_text.specs.declared.token.Token.{Token}
 use Rattle.plant.specs.declared.plant_fault.BodyFault.{BodyFault}
 use Rattle.plant.specs.declared.plant_fault.PlantFault.{PlantFault}
 use Rattle.plant.specs.declared.plant_fault.PlantFaultKind.{PlantFaultKind}

@@ -6,21 +6,21 @@ use Rattle.std.proofs.lemmas.List.Elements.{All-push}
 use Rattle.std.proofs.lemmas.Option.{slice_get_within}
 use Rattle.std.proofs.Math.Seq.{take-append_seam}
 use Rattle.std.specs.List.{flat_map, count_by}
-use Rattle.std.proofs.lemmas.List.Concat.{flat_map-cons}
+use Rattle.std.proofs.lemmas.List.Concat.{flat_map-cons, flat_map-append}
 use Rattle.std.proofs.lemmas.List.Recursion.{is_count_by}
 use Rattle.lists.proofs.Places.{push_cases}
-use Rattle.plant.specs.declared.tree.Item.{Item}
-use Rattle.plant.specs.declared.tree.Item.TheVariants as item
-use Rattle.plant.specs.declared.tree.Bind.{Bind}
-use Rattle.plant.specs.declared.tree.TaskLine.{TaskLine}
-use Rattle.plant.specs.declared.tree.Use.{Use}
-use Rattle.plant.specs.declared.tree.Resource.{Resource}
+use Rattle.plant.specs.declared.grammar.tree.Item.{Item}
+use Rattle.plant.specs.declared.grammar.tree.Item.TheVariants as item
+use Rattle.plant.specs.declared.grammar.tree.Bind.{Bind}
+use Rattle.plant.specs.declared.grammar.tree.TaskLine.{TaskLine}
+use Rattle.plant.specs.declared.grammar.tree.Use.{Use}
+use Rattle.plant.specs.declared.grammar.tree.Resource.{Resource}
 use Rattle.plant.specs.Grammar.{Tree}
 use Rattle.plant.specs.Names.{AreApart}
 use Rattle.plant.specs.Faultless.{task_of, use_of, binds_of, IsUseLawful, IsResourceLawful}
 use Rattle.plant.specs.Steps.ReadParts.{TallyValue, tally_with, is_task_line, IsNew, MayFollow, AreItemsLawful, AreResourcesLawful}
 use Rattle.plant.proofs.Apart.{apart_more, apart_none}
-use Rattle.plant.proofs.WordLists.{flat_map-push, flat_map-grown, flat_map-append, grown}
+use Rattle.plant.proofs.WordLists.{flat_map-push, flat_map-grown, grown}
 
 counted : (x : Item) (xs : List Item) → length (flat_map task_of (x ∷ xs)) ≡ cond (is_task_line x) (1 + length (flat_map task_of xs)) (length (flat_map task_of xs))
 counted (item.Task t) xs = omega (arith, ap length (flat_map-cons task_of (item.Task t) xs))

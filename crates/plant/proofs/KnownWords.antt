@@ -4,29 +4,29 @@ use Rattle.std.specs.List.{flat_map}
 use Rattle.std.proofs.lemmas.List.Elements.{All-nil, All-cons, All-append}
 use Rattle.std.proofs.lemmas.List.Concat.{flat_map-cons}
 use Rattle.power_flow.specs.declared.declarations.Kind.TheVariants as kind
-use Rattle.plant.specs.declared.token.Token.{Token}
-use Rattle.plant.specs.declared.token.Token.TheVariants as token
-use Rattle.plant.specs.declared.token.Keyword.{Keyword}
-use Rattle.plant.specs.declared.token.Keyword.TheVariants as key
-use Rattle.plant.specs.declared.token.Punctuation.{Punctuation}
-use Rattle.plant.specs.declared.token.Punctuation.TheVariants.{Open, Close, Colon, Semicolon, Comma, Dot, Assign}
-use Rattle.plant.specs.declared.tree.Section.{Section}
-use Rattle.plant.specs.declared.tree.Section.TheVariants as section
-use Rattle.plant.specs.declared.tree.TypeName.{TypeName}
-use Rattle.plant.specs.declared.tree.TypeName.TheVariants.{Elementary, Block}
-use Rattle.plant.specs.declared.tree.NameList.{NameList}
-use Rattle.plant.specs.declared.tree.VarBlock.{VarBlock}
-use Rattle.plant.specs.declared.tree.Program.{Program}
-use Rattle.plant.specs.declared.tree.Order.{Order}
-use Rattle.plant.specs.declared.tree.Order.TheVariants.{IntervalFirst, PriorityFirst}
-use Rattle.plant.specs.declared.tree.TaskLine.{TaskLine}
-use Rattle.plant.specs.declared.tree.SourceName.{SourceName}
-use Rattle.plant.specs.declared.tree.SourceName.TheVariants as source
-use Rattle.plant.specs.declared.tree.Bind.{Bind}
-use Rattle.plant.specs.declared.tree.Use.{Use}
-use Rattle.plant.specs.declared.tree.Item.{Item}
-use Rattle.plant.specs.declared.tree.Item.TheVariants as item
-use Rattle.plant.specs.declared.tree.Resource.{Resource}
+use Rattle.plant_text.specs.declared.token.Token.{Token}
+use Rattle.plant_text.specs.declared.token.Token.TheVariants as token
+use Rattle.plant_text.specs.declared.token.Keyword.{Keyword}
+use Rattle.plant_text.specs.declared.token.Keyword.TheVariants as key
+use Rattle.plant_text.specs.declared.token.Punctuation.{Punctuation}
+use Rattle.plant_text.specs.declared.token.Punctuation.TheVariants.{Open, Close, Colon, Semicolon, Comma, Dot, Assign}
+use Rattle.plant.specs.declared.grammar.tree.Section.{Section}
+use Rattle.plant.specs.declared.grammar.tree.Section.TheVariants as section
+use Rattle.plant.specs.declared.grammar.tree.TypeName.{TypeName}
+use Rattle.plant.specs.declared.grammar.tree.TypeName.TheVariants.{Elementary, Block}
+use Rattle.plant.specs.declared.grammar.tree.NameList.{NameList}
+use Rattle.plant.specs.declared.grammar.tree.VarBlock.{VarBlock}
+use Rattle.plant.specs.declared.grammar.tree.Program.{Program}
+use Rattle.plant.specs.declared.grammar.tree.Order.{Order}
+use Rattle.plant.specs.declared.grammar.tree.Order.TheVariants.{IntervalFirst, PriorityFirst}
+use Rattle.plant.specs.declared.grammar.tree.TaskLine.{TaskLine}
+use Rattle.plant.specs.declared.grammar.tree.SourceName.{SourceName}
+use Rattle.plant.specs.declared.grammar.tree.SourceName.TheVariants as source
+use Rattle.plant.specs.declared.grammar.tree.Bind.{Bind}
+use Rattle.plant.specs.declared.grammar.tree.Use.{Use}
+use Rattle.plant.specs.declared.grammar.tree.Item.{Item}
+use Rattle.plant.specs.declared.grammar.tree.Item.TheVariants as item
+use Rattle.plant.specs.declared.grammar.tree.Resource.{Resource}
 use Rattle.plant.specs.Grammar.{Tree, key_word, mark, section_word, type_word, name_words, list_words, lists_words, block_words, program_words, interval_words, priority_words, settings, task_words, source_words, bind_words, with_commas, binds_words, listed, use_words, item_words, items_words, resource_words, resources_words, words_of}
 
 abbrev pub IsKnown : Token → Type 0

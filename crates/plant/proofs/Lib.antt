@@ -1,10 +1,3 @@
-pub mod GapLemmas
-pub mod WordLemmas
-pub mod FrontLemmas
-pub mod LineLemmas
-pub mod SpellingLemmas
-pub mod LineCounts
-pub mod BodyUnique
 pub mod ImageLemmas
 pub mod OutputOrder
 pub mod NameLemmas

@@ -6,10 +6,10 @@ use Rattle.std.proofs.lemmas.List.Concat.{flat_map-cons}
 use Rattle.plant.specs.declared.plant_fault.PlantFault.{PlantFault}
 use Rattle.plant.specs.declared.plant_fault.PlantFaultKind.{PlantFaultKind}
 use Rattle.plant.specs.declared.plant_fault.PlantFaultKind.TheVariants as kind
-use Rattle.plant.specs.declared.token.Token.{Token}
-use Rattle.plant.specs.declared.token.Token.TheVariants as token
-use Rattle.plant.specs.declared.token.Punctuation.TheVariants.{Comma}
-use Rattle.plant.specs.declared.tree.Bind.{Bind}
+use Rattle.plant_text.specs.declared.token.Token.{Token}
+use Rattle.plant_text.specs.declared.token.Token.TheVariants as token
+use Rattle.plant_text.specs.declared.token.Punctuation.TheVariants.{Comma}
+use Rattle.plant.specs.declared.grammar.tree.Bind.{Bind}
 use Rattle.plant.specs.Grammar.{mark, name_words, bind_words, with_commas}
 use Rattle.plant.specs.Faults.{IsPlantFault}
 use Rattle.plant.specs.Steps.WordFaults.{IsWordFault}

@@ -3,19 +3,19 @@ use Rattle.std.proofs.Common.{◌≡◌, ◌⊎◌, inl, inr, ℕ, ◌+◌, ◌<
 use Rattle.std.specs.List.{flat_map}
 use Rattle.power_flow.specs.declared.declarations.Declaration.{Declaration}
 use Rattle.plant.specs.declared.plant_fault.PlantFaultKind.{PlantFaultKind}
-use Rattle.plant.specs.declared.token.Token.{Token}
-use Rattle.plant.specs.declared.token.Token.TheVariants as token
-use Rattle.plant.specs.declared.token.Keyword.TheVariants as key
-use Rattle.plant.specs.declared.token.Punctuation.TheVariants.{Open, Colon, Comma}
-use Rattle.plant.specs.declared.tree.Section.{Section}
-use Rattle.plant.specs.declared.tree.NameList.{NameList}
-use Rattle.plant.specs.declared.tree.VarBlock.{VarBlock}
-use Rattle.plant.specs.declared.tree.Program.{Program}
-use Rattle.plant.specs.declared.tree.TaskLine.{TaskLine}
-use Rattle.plant.specs.declared.tree.Bind.{Bind}
-use Rattle.plant.specs.declared.tree.Use.{Use}
-use Rattle.plant.specs.declared.tree.Item.{Item}
-use Rattle.plant.specs.declared.tree.Resource.{Resource}
+use Rattle.plant_text.specs.declared.token.Token.{Token}
+use Rattle.plant_text.specs.declared.token.Token.TheVariants as token
+use Rattle.plant_text.specs.declared.token.Keyword.TheVariants as key
+use Rattle.plant_text.specs.declared.token.Punctuation.TheVariants.{Open, Colon, Comma}
+use Rattle.plant.specs.declared.grammar.tree.Section.{Section}
+use Rattle.plant.specs.declared.grammar.tree.NameList.{NameList}
+use Rattle.plant.specs.declared.grammar.tree.VarBlock.{VarBlock}
+use Rattle.plant.specs.declared.grammar.tree.Program.{Program}
+use Rattle.plant.specs.declared.grammar.tree.TaskLine.{TaskLine}
+use Rattle.plant.specs.declared.grammar.tree.Bind.{Bind}
+use Rattle.plant.specs.declared.grammar.tree.Use.{Use}
+use Rattle.plant.specs.declared.grammar.tree.Item.{Item}
+use Rattle.plant.specs.declared.grammar.tree.Resource.{Resource}
 use Rattle.plant.specs.Grammar.{key_word, mark, section_word, name_words, list_words, block_words, program_words, with_commas, item_words, resource_words}
 use Rattle.plant.specs.Faultless.{list_variables, block_variables, task_of, use_of, uses_of}
 use Rattle.plant.specs.NameFaults.{IsOfName, TellsOfName, IsTaken, IsRefused, IsAfter, IsAfterName, name_and_comma, bind_and_comma, RefusesVariable, RefusesList, RefusesBlock, RefusesBlocks, RefusesProgram, RefusesPrograms, RefusesTask, RefusesBind, RefusesBinds, RefusesInstance, RefusesItems, RefusesResource, RefusesResources, RefusesConfiguration}

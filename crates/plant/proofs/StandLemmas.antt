@@ -11,15 +11,15 @@ use Rattle.plant.specs.declared.binding.Source.{Source}
 use Rattle.plant.specs.declared.binding.Source.TheVariants as source
 use Rattle.plant.specs.declared.binding.Binding.{Binding}
 use Rattle.plant.specs.declared.task_ref.TaskRef.{TaskRef}
-use Rattle.plant.specs.declared.tree.Program.{Program}
-use Rattle.plant.specs.declared.tree.TaskLine.{TaskLine}
-use Rattle.plant.specs.declared.tree.SourceName.{SourceName}
-use Rattle.plant.specs.declared.tree.SourceName.TheVariants as named
-use Rattle.plant.specs.declared.tree.Bind.{Bind}
-use Rattle.plant.specs.declared.tree.Use.{Use}
-use Rattle.plant.specs.declared.tree.Item.{Item}
-use Rattle.plant.specs.declared.tree.Item.TheVariants as item
-use Rattle.plant.specs.declared.tree.Resource.{Resource}
+use Rattle.plant.specs.declared.grammar.tree.Program.{Program}
+use Rattle.plant.specs.declared.grammar.tree.TaskLine.{TaskLine}
+use Rattle.plant.specs.declared.grammar.tree.SourceName.{SourceName}
+use Rattle.plant.specs.declared.grammar.tree.SourceName.TheVariants as named
+use Rattle.plant.specs.declared.grammar.tree.Bind.{Bind}
+use Rattle.plant.specs.declared.grammar.tree.Use.{Use}
+use Rattle.plant.specs.declared.grammar.tree.Item.{Item}
+use Rattle.plant.specs.declared.grammar.tree.Item.TheVariants as item
+use Rattle.plant.specs.declared.grammar.tree.Resource.{Resource}
 use Rattle.plant.specs.Grammar.{Tree}
 use Rattle.plant.specs.Names.{is_named, IsAt}
 use Rattle.plant.specs.Faultless.{variables, IsLadderOf, tasks_of, use_of, binds_of, IsResourceLawful}

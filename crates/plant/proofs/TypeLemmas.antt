@@ -1,14 +1,15 @@
 -- Program types that are sought by name.
 use Rattle.std.proofs.Common.{◌≡◌, ℕ, ◌<◌, ◌++◌, length, arith, ◌||◌, ◌↔◌, Bool, true, false, IsTrue, List, [], ◌∷◌, map, cond, Option, Some, is_some, refl, sym, ap, ◌∙◌}
+use Rattle.std.proofs.lemmas.List.{map-append}
 use Rattle.std.proofs.lemmas.List.Folds.{Any-from_list_any, list_any-from_Any}
 use Rattle.std.specs.Prelude.{All, Any}
 use Rattle.std.proofs.lemmas.List.Elements.{All-nil, All-cons, All-head, All-tail}
 use Rattle.std.specs.List.{list_any, find}
-use Rattle.plant.specs.declared.tree.Program.{Program}
+use Rattle.plant.specs.declared.grammar.tree.Program.{Program}
 use Rattle.plant.specs.Faultless.{IsProgramLawful, IsLadderOf}
 use Rattle.plant.specs.Names.{is_named}
 use Rattle.plant.specs.Steps.ReadParts.{IsNew, IsProgramDeclared, AreProgramsDeclared}
-use Rattle.plant.proofs.Apart.{map-push, apart_more, apart_none}
+use Rattle.plant.proofs.Apart.{list_any-map, apart_more, apart_none}
 use Rattle.plant.proofs.WordLists.{all_more, grown}
 use Rattle.plant.specs.Steps.Reading.{TypeValue}
 
@@ -24,10 +25,6 @@ found_is p (x ∷ xs) = either (p x) x (find p xs) (list_any p xs) (found_is p x
 pub found_any : {A : Type 0} (p : A → Bool) (xs : List A) → IsTrue (is_some (find p xs)) ↔ Any (λ x. IsTrue (p x)) xs
 found_any p xs = ((λ some. Any-from_list_any p xs (sym (found_is p xs) ∙ some)), (λ any. found_is p xs ∙ list_any-from_Any p xs any))
 
-list_any-map : {A B : Type 0} (f : A → B) (p : B → Bool) (xs : List A) → list_any p (map f xs) ≡ list_any (λ x. p (f x)) xs
-list_any-map f p [] = refl
-list_any-map f p (x ∷ xs) = ap (λ b. p (f x) || b) (list_any-map f p xs)
-
 -- the same of what they hold
 pub found_any_of : {A B : Type 0} (f : A → B) (p : B → Bool) (xs : List A) → IsTrue (is_some (find (λ x. p (f x)) xs)) ↔ Any (λ y. IsTrue (p y)) (map f xs)
 found_any_of f p xs =
@@ -42,7 +39,7 @@ known_type types name t at =
     (list_any-map (λ (t : TypeValue). t.program) (λ p. is_named name p.name) types ∙ sym (found_is is types) ∙ ap is_some at)
 
 pub map-grown : {A B : Type 0} (f : A → B) (xs ys : List A) (y : A) → ys ≡ xs ++ y ∷ [] → map f ys ≡ map f xs ++ f y ∷ []
-map-grown f xs ys y e = ap (λ zs. map f zs) e ∙ map-push f xs y
+map-grown f xs ys y e = ap (λ zs. map f zs) e ∙ map-append f xs (y ∷ [])
 
 -- a program was read
 pub programs_more : (ps qs : List Program) (p : Program) → qs ≡ ps ++ p ∷ [] → AreProgramsDeclared ps → IsNew (λ (p : Program). p.name) ps p.name → length ps < 64 → IsProgramDeclared p → AreProgramsDeclared qs

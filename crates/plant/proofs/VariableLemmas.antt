@@ -8,7 +8,7 @@ use Rattle.power_flow.specs.declared.declarations.DeclareFault.TheVariants.{Twic
 use Rattle.power_flow.specs.Names.{IsDeclared, place_of}
 use Rattle.power_flow.proofs.Places.{declared_place, place_declared}
 use Rattle.power_flow.specs.LadderValue.{LadderValue}
-use Rattle.plant.specs.declared.tree.Program.{Program}
+use Rattle.plant.specs.declared.grammar.tree.Program.{Program}
 use Rattle.plant.specs.Faultless.{variables, IsBlockLawful, IsLadderOf, IsProgramLawful}
 use Rattle.plant.specs.Names.{AreApart}
 use Rattle.plant.specs.Steps.ReadParts.{AreVariables}

@@ -3,31 +3,26 @@ use Rattle.std.proofs.Common.{◌≡◌, ℕ, ◌+◌, ◌<◌, List, [], ◌∷
 use Rattle.std.specs.Prelude.{All}
 use Rattle.std.proofs.lemmas.List.Elements.{All-push}
 use Rattle.std.specs.List.{flat_map}
-use Rattle.std.proofs.lemmas.List.{append-nil, length-append}
+use Rattle.std.proofs.lemmas.List.{append-nil, length-append, flat_map_more}
 use Rattle.std.proofs.lemmas.List.Concat.{flat_map-cons}
-use Rattle.plant.specs.declared.token.Token.{Token}
-use Rattle.plant.specs.declared.token.Punctuation.TheVariants.{Comma, Colon, Semicolon}
-use Rattle.plant.specs.declared.token.Token.TheVariants as token
-use Rattle.plant.specs.declared.token.Keyword.TheVariants as key
-use Rattle.plant.specs.declared.tree.Bind.{Bind}
-use Rattle.plant.specs.declared.tree.Item.{Item}
-use Rattle.plant.specs.declared.tree.Item.TheVariants as item
-use Rattle.plant.specs.declared.tree.TaskLine.{TaskLine}
-use Rattle.plant.specs.declared.tree.Use.{Use}
-use Rattle.plant.specs.declared.tree.Resource.{Resource}
-use Rattle.plant.specs.declared.tree.NameList.{NameList}
-use Rattle.plant.specs.declared.tree.VarBlock.{VarBlock}
-use Rattle.plant.specs.declared.tree.Program.{Program}
-use Rattle.plant.specs.Steps.Lines.{WordValue}
+use Rattle.plant_text.specs.declared.token.Token.{Token}
+use Rattle.plant_text.specs.declared.token.Punctuation.TheVariants.{Comma, Colon, Semicolon}
+use Rattle.plant_text.specs.declared.token.Token.TheVariants as token
+use Rattle.plant_text.specs.declared.token.Keyword.TheVariants as key
+use Rattle.plant.specs.declared.grammar.tree.Bind.{Bind}
+use Rattle.plant.specs.declared.grammar.tree.Item.{Item}
+use Rattle.plant.specs.declared.grammar.tree.Item.TheVariants as item
+use Rattle.plant.specs.declared.grammar.tree.TaskLine.{TaskLine}
+use Rattle.plant.specs.declared.grammar.tree.Use.{Use}
+use Rattle.plant.specs.declared.grammar.tree.Resource.{Resource}
+use Rattle.plant.specs.declared.grammar.tree.NameList.{NameList}
+use Rattle.plant.specs.declared.grammar.tree.VarBlock.{VarBlock}
+use Rattle.plant.specs.declared.grammar.tree.Program.{Program}
+use Rattle.plant_text.specs.Lines.{WordValue}
 use Rattle.plant.specs.Grammar.{mark, key_word, bind_words, with_commas, item_words, items_words, task_words, use_words, resource_words, resources_words, name_words, list_words, lists_words, type_word, block_words, program_words}
 
 pub flat_map-push : {A B : Type 0} (f : A → List B) (xs : List A) (y : A) → flat_map f (xs ++ y ∷ []) ≡ flat_map f xs ++ f y
-flat_map-push f [] y = flat_map-cons f y [] ∙ append-nil (f y)
-flat_map-push f (x ∷ xs) y = flat_map-cons f x (xs ++ y ∷ []) ∙ ap (λ ws. f x ++ ws) (flat_map-push f xs y) ∙ sym (append_assoc (f x) (flat_map f xs) (f y)) ∙ ap (λ ws. ws ++ f y) (sym (flat_map-cons f x xs))
-
-pub flat_map-append : {A B : Type 0} (f : A → List B) (xs ys : List A) → flat_map f (xs ++ ys) ≡ flat_map f xs ++ flat_map f ys
-flat_map-append f [] ys = refl
-flat_map-append f (x ∷ xs) ys = flat_map-cons f x (xs ++ ys) ∙ ap (λ ws. f x ++ ws) (flat_map-append f xs ys) ∙ sym (append_assoc (f x) (flat_map f xs) (flat_map f ys)) ∙ ap (λ ws. ws ++ flat_map f ys) (sym (flat_map-cons f x xs))
+flat_map-push f xs y = sym (flat_map_more f [] xs y)
 
 pub flat_map-grown : {A B : Type 0} (f : A → List B) (xs ys : List A) (y : A) → ys ≡ xs ++ y ∷ [] → flat_map f ys ≡ flat_map f xs ++ f y
 flat_map-grown f xs ys y e = ap (λ zs. flat_map f zs) e ∙ flat_map-push f xs y

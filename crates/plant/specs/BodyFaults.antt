@@ -17,7 +17,7 @@ use Rattle.plant.specs.declared.plant_fault.BodyFault.TheVariants as body
 use Rattle.plant.specs.declared.plant_fault.PlantFault.{PlantFault}
 use Rattle.plant.specs.declared.plant_fault.PlantFaultKind.{PlantFaultKind}
 use Rattle.plant.specs.declared.plant_fault.PlantFaultKind.TheVariants as kind
-use Rattle.plant.specs.declared.tree.Program.{Program}
+use Rattle.plant.specs.declared.grammar.tree.Program.{Program}
 use Rattle.plant.specs.Faultless.{variables, IsLadderOf}
 
 -- a program as it is written, and the line that its body begins on

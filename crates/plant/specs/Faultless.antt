@@ -10,21 +10,22 @@ use Rattle.network.specs.Networks.{AreNetworks, IsFaultless as HasFaultlessNetwo
 use Rattle.power_flow.specs.declared.declarations.Declared.{Declared}
 use Rattle.power_flow.specs.declared.declarations.Declared.TheVariants.{Input, Output, Local, Instance}
 use Rattle.power_flow.specs.declared.declarations.Declaration.{Declaration}
+use Rattle.power_flow.specs.PinKinds.{type_of}
 use Rattle.power_flow.specs.Binding.{CanBind}
 use Rattle.power_flow.specs.LadderValue.{LadderValue, diagrams}
-use Rattle.plant.specs.declared.tree.Section.{Section}
-use Rattle.plant.specs.declared.tree.Section.TheVariants as section
-use Rattle.plant.specs.declared.tree.TypeName.{TypeName}
-use Rattle.plant.specs.declared.tree.TypeName.TheVariants.{Elementary, Block}
-use Rattle.plant.specs.declared.tree.NameList.{NameList}
-use Rattle.plant.specs.declared.tree.VarBlock.{VarBlock}
-use Rattle.plant.specs.declared.tree.Program.{Program}
-use Rattle.plant.specs.declared.tree.TaskLine.{TaskLine}
-use Rattle.plant.specs.declared.tree.Bind.{Bind}
-use Rattle.plant.specs.declared.tree.Use.{Use}
-use Rattle.plant.specs.declared.tree.Item.{Item}
-use Rattle.plant.specs.declared.tree.Item.TheVariants as item
-use Rattle.plant.specs.declared.tree.Resource.{Resource}
+use Rattle.plant.specs.declared.grammar.tree.Section.{Section}
+use Rattle.plant.specs.declared.grammar.tree.Section.TheVariants as section
+use Rattle.plant.specs.declared.grammar.tree.TypeName.{TypeName}
+use Rattle.plant.specs.declared.grammar.tree.TypeName.TheVariants.{Elementary, Block}
+use Rattle.plant.specs.declared.grammar.tree.NameList.{NameList}
+use Rattle.plant.specs.declared.grammar.tree.VarBlock.{VarBlock}
+use Rattle.plant.specs.declared.grammar.tree.Program.{Program}
+use Rattle.plant.specs.declared.grammar.tree.TaskLine.{TaskLine}
+use Rattle.plant.specs.declared.grammar.tree.Bind.{Bind}
+use Rattle.plant.specs.declared.grammar.tree.Use.{Use}
+use Rattle.plant.specs.declared.grammar.tree.Item.{Item}
+use Rattle.plant.specs.declared.grammar.tree.Item.TheVariants as item
+use Rattle.plant.specs.declared.grammar.tree.Resource.{Resource}
 use Rattle.plant.specs.Grammar.{Tree, listed}
 use Rattle.plant.specs.Names.{is_named, AreApart}
 use Rattle.plant.specs.PlantValue.{items_or_none}
@@ -34,9 +35,9 @@ abbrev pub declared_as : Section → TypeName → Declared
 declared_as section.Input (Elementary k) = Input k
 declared_as section.Output (Elementary k) = Output k
 declared_as section.Local (Elementary k) = Local k
-declared_as section.Input (Block b) = Instance b
-declared_as section.Output (Block b) = Instance b
-declared_as section.Local (Block b) = Instance b
+declared_as section.Input (Block b) = Instance (type_of b)
+declared_as section.Output (Block b) = Instance (type_of b)
+declared_as section.Local (Block b) = Instance (type_of b)
 
 abbrev pub list_variables : Section → NameList → List Declaration
 list_variables s l = map (λ n. record { name = n; declared = declared_as s l.type_name }) l.names.items

@@ -1,5 +1,3 @@
-pub mod Words
-pub mod Spelling
 pub mod PlantValue
 pub mod Faults
 pub mod Names

@@ -6,20 +6,20 @@ use Rattle.power_flow.specs.declared.declarations.Declaration.{Declaration}
 use Rattle.plant.specs.declared.plant_fault.PlantFault.{PlantFault}
 use Rattle.plant.specs.declared.plant_fault.PlantFaultKind.{PlantFaultKind}
 use Rattle.plant.specs.declared.plant_fault.PlantFaultKind.TheVariants as kind
-use Rattle.plant.specs.declared.token.Token.{Token}
-use Rattle.plant.specs.declared.token.Token.TheVariants as token
-use Rattle.plant.specs.declared.token.Keyword.TheVariants as key
-use Rattle.plant.specs.declared.token.Punctuation.TheVariants.{Open, Colon, Comma}
-use Rattle.plant.specs.declared.tree.Section.{Section}
-use Rattle.plant.specs.declared.tree.NameList.{NameList}
-use Rattle.plant.specs.declared.tree.VarBlock.{VarBlock}
-use Rattle.plant.specs.declared.tree.Program.{Program}
-use Rattle.plant.specs.declared.tree.TaskLine.{TaskLine}
-use Rattle.plant.specs.declared.tree.Bind.{Bind}
-use Rattle.plant.specs.declared.tree.Use.{Use}
-use Rattle.plant.specs.declared.tree.Item.{Item}
-use Rattle.plant.specs.declared.tree.Resource.{Resource}
-use Rattle.plant.specs.Spelling.{BeginsWith}
+use Rattle.plant_text.specs.declared.token.Token.{Token}
+use Rattle.plant_text.specs.declared.token.Token.TheVariants as token
+use Rattle.plant_text.specs.declared.token.Keyword.TheVariants as key
+use Rattle.plant_text.specs.declared.token.Punctuation.TheVariants.{Open, Colon, Comma}
+use Rattle.plant.specs.declared.grammar.tree.Section.{Section}
+use Rattle.plant.specs.declared.grammar.tree.NameList.{NameList}
+use Rattle.plant.specs.declared.grammar.tree.VarBlock.{VarBlock}
+use Rattle.plant.specs.declared.grammar.tree.Program.{Program}
+use Rattle.plant.specs.declared.grammar.tree.TaskLine.{TaskLine}
+use Rattle.plant.specs.declared.grammar.tree.Bind.{Bind}
+use Rattle.plant.specs.declared.grammar.tree.Use.{Use}
+use Rattle.plant.specs.declared.grammar.tree.Item.{Item}
+use Rattle.plant.specs.declared.grammar.tree.Resource.{Resource}
+use Rattle.plant_text.specs.Spelling.{BeginsWith}
 use Rattle.plant.specs.Grammar.{key_word, mark, section_word, list_words, block_words, program_words, bind_words, item_words, resource_words}
 use Rattle.plant.specs.Names.{is_named}
 use Rattle.plant.specs.Faultless.{list_variables, block_variables, task_of, use_of, uses_of, binds_of}

@@ -4,7 +4,7 @@ use Rattle.std.specs.List.{flat_map}
 use Rattle.ladder_text.specs.Rows.{without_last}
 use Rattle.plant.specs.declared.plant_fault.PlantFault.{PlantFault}
 use Rattle.plant.specs.BodyFaults.{TextValue, IsFirstBodyFault}
-use Rattle.plant.specs.Spelling.{Spells, BeginsWith}
+use Rattle.plant_text.specs.Spelling.{Spells, BeginsWith}
 use Rattle.plant.specs.Grammar.{Tree, program_words, words_of}
 use Rattle.plant.specs.Faultless.{IsFaultless}
 use Rattle.plant.specs.PlantValue.{PlantValue}

@@ -8,8 +8,8 @@ use Rattle.power_flow.specs.declared.declarations.Declared.{Declared}
 use Rattle.power_flow.specs.declared.declarations.Declared.TheVariants.{Input, Output, Local, Instance}
 use Rattle.power_flow.specs.declared.declarations.Declaration.{Declaration}
 use Rattle.power_flow.specs.LadderValue.{LadderValue}
-use Rattle.plant.specs.declared.address.Space.{Space}
-use Rattle.plant.specs.declared.address.Space.TheVariants.{Bit, Word}
+use Rattle.plant_text.specs.declared.address.Space.{Space}
+use Rattle.plant_text.specs.declared.address.Space.TheVariants.{Bit, Word}
 use Rattle.plant.specs.declared.binding.Source.{Source}
 use Rattle.plant.specs.declared.binding.Source.TheVariants.{Field, Given}
 use Rattle.plant.specs.declared.binding.Binding.{Binding}

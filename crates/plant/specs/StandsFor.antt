@@ -9,13 +9,13 @@ use Rattle.plant.specs.declared.binding.Source.TheVariants.{Field, Given}
 use Rattle.plant.specs.declared.binding.Binding.{Binding}
 use Rattle.plant.specs.declared.task_ref.TaskRef.{TaskRef}
 use Rattle.plant.specs.declared.task_output.TaskOutput.{TaskOutput}
-use Rattle.plant.specs.declared.tree.Program.{Program}
-use Rattle.plant.specs.declared.tree.TaskLine.{TaskLine}
-use Rattle.plant.specs.declared.tree.SourceName.{SourceName}
-use Rattle.plant.specs.declared.tree.SourceName.TheVariants as source
-use Rattle.plant.specs.declared.tree.Bind.{Bind}
-use Rattle.plant.specs.declared.tree.Use.{Use}
-use Rattle.plant.specs.declared.tree.Resource.{Resource}
+use Rattle.plant.specs.declared.grammar.tree.Program.{Program}
+use Rattle.plant.specs.declared.grammar.tree.TaskLine.{TaskLine}
+use Rattle.plant.specs.declared.grammar.tree.SourceName.{SourceName}
+use Rattle.plant.specs.declared.grammar.tree.SourceName.TheVariants as source
+use Rattle.plant.specs.declared.grammar.tree.Bind.{Bind}
+use Rattle.plant.specs.declared.grammar.tree.Use.{Use}
+use Rattle.plant.specs.declared.grammar.tree.Resource.{Resource}
 use Rattle.plant.specs.Grammar.{Tree}
 use Rattle.plant.specs.Names.{is_named, IsAt}
 use Rattle.plant.specs.Faultless.{variables, IsLadderOf, tasks_of, uses_of, binds_of}

@@ -2,8 +2,6 @@
 pub mod Declaring
 pub mod Drafts
 pub mod Drawn
-pub mod Gaps
-pub mod Lexing
 pub mod Lines
 pub mod Outputs
 pub mod ReadParts

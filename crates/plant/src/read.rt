@@ -3,12 +3,12 @@ ghost use Rattle.plant.specs.Faults.{IsPlantFault, IsOfBody};
 ghost use Rattle.plant.specs.NameFaults.{IsOfName, IsNameFaultIn};
 ghost use Rattle.plant.specs.PlantText.{IsPlantText, IsBodyFaultIn};
 
+use crate::grammar::read_tree::read_tree;
+use crate::grammar::reader::Reader;
 use crate::plant::Plant;
 use crate::plant_fault::PlantFault;
-use crate::read_tree::read_tree;
-use crate::reader::Reader;
-use crate::resolve::resolve;
-use crate::words::read_words;
+use crate::sources::resolve::resolve;
+use plant_text::read_words;
 use std::alloc::Global;
 
 impl Plant {

@@ -13,7 +13,7 @@ use Rattle.plc_main.specs.Steps.Giving.{GivenFor}
 use Rattle.plc_main.specs.Rows.{RowValue, AreRows}
 use Rattle.plc_main.specs.declared.command_fault.CommandFault.{CommandFault}
 use Rattle.plc_main.specs.declared.command_fault.CommandFault.TheVariants.{Text, Word, Write, Run, Memory}
-use Rattle.plc_main.specs.EvalText.{IsLadderOf, Asked, WritesAll, WritesScans, WritesSomeScans, RefusesNames, RefusesNetworks, Explains}
+use Rattle.plc_main.specs.EvalText.{IsLadderOfDrawing, Asked, WritesAll, WritesScans, WritesSomeScans, RefusesNames, RefusesNetworks, Explains}
 use Rattle.plc_main.specs.Steps.Refusing.{RefusesLadder, RefusesRows, IsLate}
 
 pub explain_ladder : (drawing : List ℕ) (words : List (List ℕ)) (dt : ℕ) (old : Option (List ℕ)) (fault : CommandFault) → RefusesLadder drawing fault
@@ -25,7 +25,7 @@ explain_ladder drawing words dt old (Run fault) refused = absurd refused
 explain_ladder drawing words dt old Memory refused = inl (Keeps-refl old)
 
 pub explain_rows : (drawing : List ℕ) (words : List (List ℕ)) (dt : ℕ) (old : Option (List ℕ)) (ds : List Declaration) (networks : List Diagram) (fault : CommandFault)
-    → IsLadderOf drawing ds networks → RefusesRows ds words fault → Explains drawing words dt old old fault
+    → IsLadderOfDrawing drawing ds networks → RefusesRows ds words fault → Explains drawing words dt old old fault
 explain_rows drawing words dt old ds networks (Text fault) ladder refused = absurd refused
 explain_rows drawing words dt old ds networks (Word fault) ladder refused = (record { declarations = ds; networks = networks; ladder = ladder; refused = refused.0; first = refused.1 }, Keeps-refl old)
 explain_rows drawing words dt old ds networks Write ladder refused = absurd refused
@@ -41,17 +41,17 @@ explain_scans drawing words dt old new asked (Run fault) written late = absurd l
 explain_scans drawing words dt old new asked Memory written late = inr (asked, written)
 
 -- the scans of the ladder that was asked for
-asked_of : (drawing : List ℕ) (words : List (List ℕ)) (ds : List Declaration) (networks : List Diagram) (rows : List RowValue) → IsLadderOf drawing ds networks → AreRows ds words rows → Asked drawing words
+asked_of : (drawing : List ℕ) (words : List (List ℕ)) (ds : List Declaration) (networks : List Diagram) (rows : List RowValue) → IsLadderOfDrawing drawing ds networks → AreRows ds words rows → Asked drawing words
 asked_of drawing words ds networks rows ladder read = record { declarations = ds; networks = networks; ladder = ladder; rows = rows; read = read }
 
 pub all_written : {T E : Type 0} (drawing : List ℕ) (words : List (List ℕ)) (dt : ℕ) (old new : Option (List ℕ)) (ds : List Declaration) (networks : List Diagram) (rows : List RowValue) (r : Result T E)
-    → IsLadderOf drawing ds networks → AreRows ds words rows → OnOk r (WritesScans ds networks dt rows old new) → OnOk r (WritesAll drawing words dt old new)
+    → IsLadderOfDrawing drawing ds networks → AreRows ds words rows → OnOk r (WritesScans ds networks dt rows old new) → OnOk r (WritesAll drawing words dt old new)
 unfolding asked_of
 all_written drawing words dt old new ds networks rows (Ok x) ladder read written = (asked_of drawing words ds networks rows ladder read, written)
 all_written drawing words dt old new ds networks rows (Err e) ladder read written = tt
 
 pub part_written : {T : Type 0} (drawing : List ℕ) (words : List (List ℕ)) (dt : ℕ) (old new : Option (List ℕ)) (ds : List Declaration) (networks : List Diagram) (rows : List RowValue) (r : Result T CommandFault)
-    → IsLadderOf drawing ds networks → AreRows ds words rows → OnErr r (WritesSomeScans ds networks dt rows old new) → IfErr r IsLate
+    → IsLadderOfDrawing drawing ds networks → AreRows ds words rows → OnErr r (WritesSomeScans ds networks dt rows old new) → IfErr r IsLate
     → IfErr r (Explains drawing words dt old new)
 unfolding asked_of
 part_written drawing words dt old new ds networks rows (Ok x) ladder read written late = tt

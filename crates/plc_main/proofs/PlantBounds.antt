@@ -11,8 +11,8 @@ use Rattle.lists.proofs.Zips.{zip_length}
 use Rattle.lists.proofs.Members.{all_from_places, all_first, all_last}
 use Rattle.lists.proofs.Places.{element_at}
 use Rattle.plant.specs.declared.binding.Binding.{Binding}
-use Rattle.plant.specs.declared.tree.Resource.{Resource}
-use Rattle.plant.specs.declared.tree.TaskLine.{TaskLine}
+use Rattle.plant.specs.declared.grammar.tree.Resource.{Resource}
+use Rattle.plant.specs.declared.grammar.tree.TaskLine.{TaskLine}
 use Rattle.plant.specs.Grammar.{Tree}
 use Rattle.plant.specs.Faultless.{tasks_of, uses_of, binds_of, all_uses, IsFaultless, IsResourceLawful}
 use Rattle.plant.specs.PlantValue.{CodeValue, ResourceValue, PlantValue, items_or_none, bindings_at}

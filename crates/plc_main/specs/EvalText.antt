@@ -37,7 +37,7 @@ pub record IsDrawn (text : List ℕ) (drawn : Picture) : Type 0 where
 
 -- The ladder of a drawing: its networks in order, and its names, declared by their use. Each network meets the left rail and has at most 200 rows,
 -- no two boxes have one name, and the names can be bound.
-pub record IsLadderOf (text : List ℕ) (ds : List Declaration) (networks : List Diagram) : Type 0 where
+pub record IsLadderOfDrawing (text : List ℕ) (ds : List Declaration) (networks : List Diagram) : Type 0 where
   pub picture : Picture
   pub graph : GraphValue
   pub drawn : IsDrawn text picture
@@ -90,7 +90,7 @@ pub record WritesSomeScans (ds : List Declaration) (networks : List Diagram) (dt
 pub record Asked (drawing : List ℕ) (words : List (List ℕ)) : Type 0 where
   pub declarations : List Declaration
   pub networks : List Diagram
-  pub ladder : IsLadderOf drawing declarations networks
+  pub ladder : IsLadderOfDrawing drawing declarations networks
   pub rows : List RowValue
   pub read : AreRows declarations words rows
 
@@ -106,7 +106,7 @@ WritesPart drawing words dt old new = (asked : Asked drawing words) × WritesSom
 pub record RefusesWords (drawing : List ℕ) (words : List (List ℕ)) (fault : WordFault) : Type 0 where
   pub declarations : List Declaration
   pub networks : List Diagram
-  pub ladder : IsLadderOf drawing declarations networks
+  pub ladder : IsLadderOfDrawing drawing declarations networks
   pub refused : (rows : List RowValue) → AreRows declarations words rows → ⊥
   pub first : IsFirstRefused declarations words fault
 

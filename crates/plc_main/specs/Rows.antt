@@ -30,8 +30,9 @@ name_in word = before_first is_equals word
 abbrev pub digits_in : List ℕ → List ℕ
 digits_in word = after_first is_equals word
 
-abbrev pub is_digit : ℕ → Bool
-is_digit c = c == 48 || c == 49
+-- 0 or 1
+abbrev pub is_bit : ℕ → Bool
+is_bit c = c == 48 || c == 49
 
 abbrev pub is_bool_kind : Kind → Bool
 is_bool_kind kind.Bool = true
@@ -53,7 +54,7 @@ IsBoolAt ds place = (e : Declaration) × (slice_get ds place ≡ Some e) × IsTr
 pub record AreDigits (digits : List ℕ) : Type 0 where
   pub some : 0 < length digits
   pub few : length digits ≤ 1000
-  pub each : All (λ c. IsTrue (is_digit c)) digits
+  pub each : All (λ c. IsTrue (is_bit c)) digits
 
 -- the word names a BOOL variable, and gives it a row of digits
 pub record IsRow (ds : List Declaration) (word : List ℕ) (row : RowValue) : Type 0 where

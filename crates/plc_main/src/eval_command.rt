@@ -2,7 +2,7 @@ ghost use Rattle.std.specs.Prelude.{◌≡◌, List, OnOk, IfOk, IfErr, OnErr, A
 ghost use Rattle.power_flow.specs.declared.declarations.Declaration.{Declaration};
 ghost use Rattle.power_flow.specs.StateValue.{AreSlotsOf};
 ghost use Rattle.plc_main.specs.Rows.{IsBoolAt, texts};
-ghost use Rattle.plc_main.specs.EvalText.{IsLadderOf, WritesScans, WritesSomeScans, WritesAll, Explains, set_digit, set_before};
+ghost use Rattle.plc_main.specs.EvalText.{IsLadderOfDrawing, WritesScans, WritesSomeScans, WritesAll, Explains, set_digit, set_before};
 ghost use Rattle.plc_main.specs.Steps.Refusing.{IsLate, RefusesLadder};
 
 use crate::command_fault::CommandFault;
@@ -19,7 +19,7 @@ use world::write_text;
 
 /// The ladder of a drawing, its names declared by their use.
 fn read_ladder(alloc: Global, drawing: &str) -> Result<Ladder, CommandFault>
-    ensures ok { IfOk result (λ ladder. IsLadderOf drawing.now ladder.declarations ladder.networks) }
+    ensures ok { IfOk result (λ ladder. IsLadderOfDrawing drawing.now ladder.declarations ladder.networks) }
     ensures err { IfErr result (RefusesLadder drawing.now) }
 {
     let drawing = Drawing::read(alloc, drawing, 1)?;

@@ -1,6 +1,6 @@
 ghost use Rattle.std.specs.Prelude.{◌≡◌, ◌↔◌, IfOk, IfErr, OnErr, IsTrue, MatchOption, ℕ, [], Any, Some, slice_get};
 ghost use Rattle.power_flow.specs.Names.{place_of};
-ghost use Rattle.plc_main.specs.Rows.{RowValue, IsRow, IsBoolAt, IsRefusedFor, AreDigits, is_bool, is_digit};
+ghost use Rattle.plc_main.specs.Rows.{RowValue, IsRow, IsBoolAt, IsRefusedFor, AreDigits, is_bool, is_bit};
 
 use crate::word_fault::WordFaultKind;
 use power_flow::{Declarations, Declared, Kind};

@@ -1,4 +1,4 @@
-ghost use Rattle.std.specs.Prelude.{◌≡◌, ◌↔◌, ◌<◌, ◌≤◌, IsTrue, IfSome, All, Contains};
+ghost use Rattle.std.specs.Prelude.{◌≡◌, ◌↔◌, ◌≤◌, IsTrue, IfSome, All, Contains};
 ghost use Rattle.std.specs.List.Sorted.{IsStrictlyIncreasing};
 ghost use Rattle.node.specs.declared.act.Act.TheVariants.{Restart};
 ghost use Rattle.node.specs.Reports.{command_of, IsCommanded, IsObedient, ticket_of, tickets_of};
@@ -7,6 +7,7 @@ use crate::act::Act;
 use crate::command::Command;
 use crate::journal::Journal;
 use crate::step::Step;
+use crate::tickets::is_above;
 use evaluation::{Evaluation, Frame};
 
 /// The command at the place of a ticket.
@@ -122,16 +123,6 @@ fn ticket(step: &Step) -> Option<u64>
         Step::Took(_) => None,
         Step::Made(frame) => Some(frame.evaluation().ticket()),
         Step::Restarted { ticket, .. } => Some(*ticket),
-    }
-}
-
-/// Whether a ticket is above the last one before it.
-pub(crate) fn is_above(ticket: u64, last: Option<u64>) -> bool
-    ensures { IsTrue result ↔ IfSome last (λ before. before < ticket) }
-{
-    match last {
-        Some(before) => before < ticket,
-        None => true,
     }
 }
 

@@ -1,8 +1,8 @@
 -- What a fault tells of a name that is declared.
 use Rattle.std.specs.Prelude.{◌≡◌, ◌⊎◌, ℕ, List, ◌∷◌, ◌++◌, Any, IsTrue}
 use Rattle.plant.specs.declared.plant_fault.PlantFaultKind.{PlantFaultKind}
-use Rattle.plant.specs.declared.token.Token.{Token}
-use Rattle.plant.specs.declared.token.Token.TheVariants as token
+use Rattle.plant_text.specs.declared.token.Token.{Token}
+use Rattle.plant_text.specs.declared.token.Token.TheVariants as token
 use Rattle.plant.specs.NameFaults.{RefusesPrograms, RefusesConfiguration}
 use Rattle.plant.specs.Names.{is_named}
 

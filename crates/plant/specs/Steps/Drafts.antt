@@ -9,16 +9,16 @@ use Rattle.plant.specs.declared.binding.Source.TheVariants as source
 use Rattle.plant.specs.declared.binding.Binding.{Binding}
 use Rattle.plant.specs.declared.task_ref.TaskRef.{TaskRef}
 use Rattle.plant.specs.declared.task_output.TaskOutput.{TaskOutput}
-use Rattle.plant.specs.declared.tree.Program.{Program}
-use Rattle.plant.specs.declared.tree.TaskLine.{TaskLine}
-use Rattle.plant.specs.declared.tree.SourceName.{SourceName}
-use Rattle.plant.specs.declared.tree.SourceName.TheVariants as named
-use Rattle.plant.specs.declared.tree.Bind.{Bind}
-use Rattle.plant.specs.declared.tree.Use.{Use}
-use Rattle.plant.specs.declared.tree.Resource.{Resource}
-use Rattle.plant.specs.declared.feed.Origin.{Origin}
-use Rattle.plant.specs.declared.feed.Origin.TheVariants as origin
-use Rattle.plant.specs.declared.feed.Feed.{Feed}
+use Rattle.plant.specs.declared.grammar.tree.Program.{Program}
+use Rattle.plant.specs.declared.grammar.tree.TaskLine.{TaskLine}
+use Rattle.plant.specs.declared.grammar.tree.SourceName.{SourceName}
+use Rattle.plant.specs.declared.grammar.tree.SourceName.TheVariants as named
+use Rattle.plant.specs.declared.grammar.tree.Bind.{Bind}
+use Rattle.plant.specs.declared.grammar.tree.Use.{Use}
+use Rattle.plant.specs.declared.grammar.tree.Resource.{Resource}
+use Rattle.plant.specs.declared.sources.feed.Origin.{Origin}
+use Rattle.plant.specs.declared.sources.feed.Origin.TheVariants as origin
+use Rattle.plant.specs.declared.sources.feed.Feed.{Feed}
 use Rattle.plant.specs.Names.{is_named, IsAt, AreApart}
 use Rattle.plant.specs.Faultless.{IsLadderOf, tasks_of, uses_of, binds_of}
 use Rattle.plant.specs.Steps.Reading.{TypeValue}

@@ -4,7 +4,7 @@ use Rattle.std.specs.List.{flat_map}
 use Rattle.plant.specs.declared.plant_fault.PlantFault.{PlantFault}
 use Rattle.plant.specs.BodyFaults.{TextValue, IsFirstBodyFault}
 use Rattle.plant.specs.Faultless.{IsLadderOf}
-use Rattle.plant.specs.declared.token.Token.{Token}
+use Rattle.plant_text.specs.declared.token.Token.{Token}
 use Rattle.plant.specs.Grammar.{program_words}
 use Rattle.plant.specs.Steps.Lines.{ReaderValue}
 use Rattle.plant.specs.Steps.Reading.{TypeValue, programs_of, lines_of}

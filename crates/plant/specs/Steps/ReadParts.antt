@@ -2,14 +2,14 @@
 use Rattle.std.specs.Prelude.{◌≡◌, ℕ, ◌+◌, ◌<◌, ◌≤◌, Bool, true, false, IsTrue, List, [], length, map, take, slice_get, Option, Some, All, Any, option_and_then}
 use Rattle.power_flow.specs.Names.{place_of}
 use Rattle.std.specs.List.{flat_map}
-use Rattle.plant.specs.declared.tree.Use.{Use}
+use Rattle.plant.specs.declared.grammar.tree.Use.{Use}
 use Rattle.power_flow.specs.declared.declarations.Declaration.{Declaration}
-use Rattle.plant.specs.declared.tree.Program.{Program}
-use Rattle.plant.specs.declared.tree.Item.{Item}
-use Rattle.plant.specs.declared.tree.Item.TheVariants as item
-use Rattle.plant.specs.declared.tree.Resource.{Resource}
-use Rattle.plant.specs.declared.tree.SourceName.{SourceName}
-use Rattle.plant.specs.declared.tree.SourceName.TheVariants as source
+use Rattle.plant.specs.declared.grammar.tree.Program.{Program}
+use Rattle.plant.specs.declared.grammar.tree.Item.{Item}
+use Rattle.plant.specs.declared.grammar.tree.Item.TheVariants as item
+use Rattle.plant.specs.declared.grammar.tree.Resource.{Resource}
+use Rattle.plant.specs.declared.grammar.tree.SourceName.{SourceName}
+use Rattle.plant.specs.declared.grammar.tree.SourceName.TheVariants as source
 use Rattle.power_flow.specs.declared.declarations.Kind.{Kind}
 use Rattle.plant.specs.PlantValue.{kind_of_space, input_kind_at}
 use Rattle.plant.specs.Grammar.{Tree}

@@ -1,9 +1,9 @@
 -- What is known of a plant's text once it is read, its sources not yet resolved.
 use Rattle.std.specs.Prelude.{◌≡◌, ℕ, List, ◌++◌, map, All}
 use Rattle.power_flow.specs.LadderValue.{LadderValue}
-use Rattle.plant.specs.declared.tree.Program.{Program}
-use Rattle.plant.specs.declared.tree.Resource.{Resource}
-use Rattle.plant.specs.declared.token.Token.{Token}
+use Rattle.plant.specs.declared.grammar.tree.Program.{Program}
+use Rattle.plant.specs.declared.grammar.tree.Resource.{Resource}
+use Rattle.plant_text.specs.declared.token.Token.{Token}
 use Rattle.plant.specs.Grammar.{Tree, words_of}
 use Rattle.plant.specs.BodyFaults.{TextValue}
 use Rattle.plant.specs.Faultless.{IsLadderOf, IsFaultless}

@@ -1,7 +1,7 @@
 use Rattle.std.proofs.Common.{◌≡◌, ◌+◌, Some, slice_get, get_or, sym, arith, subst, ◌∙◌}
 use Rattle.std.proofs.lemmas.Option.{slice_get-get_or, same_Some}
 use Rattle.power_flow.specs.StateValue.{StateValue, IsKindAt}
-use Rattle.plant.specs.declared.address.Space.TheVariants.{Bit}
+use Rattle.plant_text.specs.declared.address.Space.TheVariants.{Bit}
 use Rattle.plant.specs.declared.binding.Source.TheVariants.{Field}
 use Rattle.plant.specs.declared.binding.Binding.{Binding}
 use Rattle.std_blocks.specs.declared.value.Value.{Value}

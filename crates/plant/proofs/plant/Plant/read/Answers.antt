@@ -1,12 +1,13 @@
 use Rattle.std.proofs.Common.{◌≡◌, ◌≢◌, List, ◌++◌, All, map, ap, sym, subst, ◌∙◌}
 use Rattle.std.proofs.lemmas.List.{append-nil}
 use Rattle.ladder_text.specs.Rows.{without_last}
-use Rattle.plant.specs.declared.token.Token.{Token}
-use Rattle.plant.specs.declared.token.Token.TheVariants as token
-use Rattle.plant.specs.Spelling.{Spells}
+use Rattle.plant_text.specs.declared.token.Token.{Token}
+use Rattle.plant_text.specs.declared.token.Token.TheVariants as token
+use Rattle.plant_text.specs.Spelling.{Spells}
 use Rattle.plant.specs.Grammar.{words_of}
 use Rattle.plant.specs.Steps.Reading.{tree_of}
-use Rattle.plant.specs.Steps.Lines.{WordValue, ReaderValue, body_lines}
+use Rattle.plant.specs.Steps.Lines.{ReaderValue}
+use Rattle.plant_text.specs.Lines.{WordValue, body_lines}
 use Rattle.plant.specs.Faults.{IsOfBody}
 use Rattle.plant.specs.PlantText.{IsBodyFaultIn}
 use Rattle.plant.proofs.Moments.{kept_fault}

@@ -1,7 +1,0 @@
-use Rattle.std.proofs.Common.{take}
-use Rattle.std.specs.Prelude.{All}
-use Rattle.plant.specs.Steps.Drafts.{drafted, HasFeed}
-use Rattle.plant.proofs.feeds.check_binds.Given as goal
-
-abbrev pub invariant-loop-bind : goal.invariant-loop-bind
-invariant-loop-bind l = All (HasFeed (drafted l.drafts) l.declarations) (take l.bind-index l.binds)

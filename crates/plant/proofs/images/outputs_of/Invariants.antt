@@ -1,7 +1,0 @@
-use Rattle.std.proofs.Common.{◌≡◌, ℕ, take}
-use Rattle.std.specs.List.{flat_map, enumerate_from}
-use Rattle.plant.specs.PlantValue.{ProgramValue, outputs_in}
-use Rattle.plant.proofs.images.outputs_of.Given as goal
-
-abbrev pub invariant-loop-i : goal.invariant-loop-i
-invariant-loop-i l = l.outputs.items ≡ flat_map (λ (e : ℕ × ProgramValue). outputs_in e.0 e.1.ladder.declarations) (take l.i (enumerate_from 0 l.programs))

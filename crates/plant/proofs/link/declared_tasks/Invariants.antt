@@ -1,8 +1,0 @@
-use Rattle.std.proofs.Common.{◌≡◌, take, map}
-use Rattle.std.specs.Borrow.{Bor}
-use Rattle.plant.specs.declared.tree.TaskLine.{TaskLine}
-use Rattle.plant.specs.StandsFor.{task_value}
-use Rattle.plant.proofs.link.declared_tasks.Given as goal
-
-abbrev pub invariant-loop-line : goal.invariant-loop-line
-invariant-loop-line l = l.tasks.items ≡ map task_value (map (λ (t : Bor TaskLine). t.now) (take l.line-index l.lines))

@@ -1,5 +1,0 @@
-use Rattle.std.proofs.Common.{arith}
-use Rattle.plant.proofs.producers.position_of.Goals as goal
-
-pub unreachable-requires : goal.unreachable-requires
-unreachable-requires c = c.loop-k.invariant c.requires.0 c.args.task (omega (arith, c.requires.1)) c.requires.2

@@ -1,0 +1,13 @@
+use Rattle.std.proofs.Common.{rules, ◌≡◌, ◌∙◌, ap, Some}
+use Rattle.std.specs.List.{find}
+use Rattle.plant.specs.Names.{is_named}
+use Rattle.plant.specs.Steps.Reading.{TypeValue}
+use Rattle.plant.specs.PlantValue.{ProgramValue}
+use Rattle.plant.proofs.DraftLemmas.{program_made}
+use Rattle.plant.proofs.sources.draft.draft_program.Goals as goal
+
+pub returns-clause-ok : goal.returns-clause-ok
+returns-clause-ok c =
+    let found : find (λ (t : TypeValue). is_named c.args.run.now.program t.program.name) c.args.types.now ≡ Some c.in-Some.found.now = search rules in
+    let kept : c.new.result.ladder ≡ c.in-Some.found.now.ladder = ap (λ (p : ProgramValue). p.ladder) c.new.ensures ∙ c.in_ok-ladder.ensures ∙ c.ladder.ensures.ladder in
+    program_made c.args.types.now c.args.run.now c.in-Some.found.now c.new.result found c.ladder.ensures.drawn (ap (λ (p : ProgramValue). p.name) c.new.ensures ∙ c.in_ok-name.ensures) kept

@@ -1,0 +1,10 @@
+use Rattle.std.proofs.Common.{◌≡◌, take, map}
+use Rattle.std.specs.Borrow.{Bor}
+use Rattle.std.specs.List.{flat_map, filter}
+use Rattle.plant.specs.declared.grammar.tree.Use.{Use}
+use Rattle.plant.specs.Names.{is_named}
+use Rattle.plant.specs.Faultless.{use_of}
+use Rattle.plant.proofs.sources.draft.runs_in.Given as goal
+
+abbrev pub invariant-loop-item : goal.invariant-loop-item
+invariant-loop-item l = map (λ (u : Bor Use). u.now) l.runs.items ≡ filter (λ (u : Use). is_named u.task l.task.name) (flat_map use_of (take l.item-index l.resource.items.items))

@@ -1,0 +1,17 @@
+use Rattle.std.proofs.Common.{subst}
+use Rattle.std.specs.Prelude.{All}
+use Rattle.std.specs.List.{flat_map}
+use Rattle.std.proofs.lemmas.List.{take_all}
+use Rattle.plant.specs.Faultless.{uses_of}
+use Rattle.plant.specs.Steps.Drafts.{drafted, IsUseResolved}
+use Rattle.plant.proofs.Zips.{all_flat_more}
+use Rattle.plant.proofs.sources.feeds.check_sources.Goals as goal
+
+pub loop-resource-preserved : goal.loop-resource-preserved
+loop-resource-preserved c =
+    all_flat_more (IsUseResolved (drafted c.args.drafts.now) c.args.types.now) uses_of c.args.resources.now c.loop-resource.resource-index c.resource-item.result
+    c.loop-resource-test.true c.resource-item.is c.loop-resource.invariant c.in_ok-check_resource.ensures.ok
+
+pub returns-clause-ok : goal.returns-clause-ok
+returns-clause-ok c =
+    subst (λ rs. All (IsUseResolved (drafted c.args.drafts.now) c.args.types.now) (flat_map uses_of rs)) (take_all c.loop-resource.resource-index c.args.resources.now c.loop-resource-test.false) c.loop-resource.invariant

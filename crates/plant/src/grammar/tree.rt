@@ -1,0 +1,105 @@
+//! The parts of a plant's text, as they are written.
+
+use crate::grammar::name::Name;
+use ladder_text::{BlockName, Text};
+use plant_text::Address;
+use power_flow::Kind;
+
+/// Which variables a block declares.
+#[derive(Clone, Copy, Debug, PartialEq, Eq)]
+pub enum Section {
+    /// VAR_INPUT.
+    Input,
+    /// VAR_OUTPUT.
+    Output,
+    /// VAR.
+    Local,
+}
+
+/// What stands behind the colon of a declaration.
+#[derive(Clone, Copy, Debug, PartialEq, Eq)]
+pub enum TypeName {
+    Elementary(Kind),
+    Block(BlockName),
+}
+
+/// Names of one type.
+#[derive(Debug, Drop)]
+pub struct NameList {
+    pub names: Vec<Name>,
+    pub type_name: TypeName,
+}
+
+/// A block of declarations, from VAR, VAR_INPUT or VAR_OUTPUT to END_VAR.
+#[derive(Debug, Drop)]
+pub struct VarBlock {
+    pub section: Section,
+    pub lists: Vec<NameList>,
+}
+
+/// A program type: its name, its variables and the lines of its drawing.
+#[derive(Debug, Drop)]
+pub struct Program {
+    pub name: Name,
+    pub blocks: Vec<VarBlock>,
+    pub body: Text,
+}
+
+/// Which setting of a task stands first.
+#[derive(Clone, Copy, Debug, PartialEq, Eq)]
+pub enum Order {
+    IntervalFirst,
+    PriorityFirst,
+}
+
+/// A task of a resource.
+#[derive(Debug, Drop)]
+pub struct TaskLine {
+    pub name: Name,
+    pub order: Order,
+    /// In ms.
+    pub interval: u32,
+    pub priority: u16,
+}
+
+/// Where a bound input comes from.
+#[derive(Debug, Drop)]
+pub enum SourceName {
+    Field(Address),
+    Output {
+        resource: Name,
+        instance: Name,
+        output: Name,
+    },
+}
+
+/// An input and its source.
+#[derive(Debug, Drop)]
+pub struct Bind {
+    pub input: Name,
+    pub source: SourceName,
+}
+
+/// An instance of a program. There may be no parentheses.
+#[derive(Debug, Drop)]
+pub struct Use {
+    pub instance: Name,
+    pub task: Name,
+    pub program: Name,
+    pub binds: Option<Vec<Bind>>,
+}
+
+/// A line of a resource.
+#[derive(Debug, Drop)]
+pub enum Item {
+    Task(TaskLine),
+    Use(Use),
+}
+
+/// A resource.
+#[derive(Debug, Drop)]
+pub struct Resource {
+    pub name: Name,
+    pub node: Name,
+    pub items: Vec<Item>,
+}

@@ -1,0 +1,12 @@
+//! What each source means, and the code of each task.
+
+pub mod draft;
+pub mod feed;
+pub mod feeds;
+pub mod images;
+pub mod link;
+pub mod lookup;
+pub mod producers;
+pub mod resolve;
+pub mod resource_draft;
+pub mod task_draft;

@@ -1,0 +1,178 @@
+//! What a plant runs, before its sources are resolved: the programs of each task, and their outputs.
+
+ghost use Rattle.std.specs.Prelude.{◌≡◌, ◌++◌, map, IfOk, OnOk, IfErr};
+ghost use Rattle.plant.specs.NameFaults.{TellsOfName};
+ghost use Rattle.plant.specs.Steps.WordFaults.{IsWordFault};
+ghost use Rattle.std.specs.List.{AllZip, filter};
+ghost use Rattle.plant.specs.Names.{is_named};
+ghost use Rattle.plant.specs.Faultless.{tasks_of, uses_of, task_of, use_of};
+ghost use Rattle.plant.specs.StandsFor.{runs_in};
+ghost use Rattle.plant.specs.Steps.Drafts.{programs_in, IsProgramOf, IsDraftOf, IsResourceDraft};
+
+use crate::bodies::program_type::ProgramType;
+use crate::grammar::declared_names::type_named;
+use crate::grammar::tree::{Item, Resource, TaskLine, Use};
+use crate::plant_fault::{PlantFault, PlantFaultKind};
+use crate::program_instance::ProgramInstance;
+use crate::sources::resource_draft::ResourceDraft;
+use crate::sources::task_draft::TaskDraft;
+use std::alloc::{AllocError, Global};
+use std::sync::Arc;
+
+/// Adds an item if it is a task.
+fn push_task<'a>(tasks: &mut Vec<&'a TaskLine>, item: &'a Item) -> Result<(), AllocError>
+    ensures { OnOk result (map (λ t. t.now) tasks.new.items ≡ map (λ t. t.now) tasks.old.items ++ task_of item.now) }
+{
+    match item {
+        Item::Task(task) => {
+            tasks.push(task)?;
+            Ok(())
+        }
+        Item::Use(_) => Ok(()),
+    }
+}
+
+/// The tasks of a resource, in order of declaration.
+pub fn tasks_of<'a>(alloc: Global, resource: &'a Resource) -> Result<Vec<&'a TaskLine>, AllocError>
+    ensures { IfOk result (λ ts. map (λ t. t.now) ts.items ≡ tasks_of resource.now) }
+{
+    let mut tasks = Vec::new(alloc);
+    for item in &resource.items {
+        push_task(&mut tasks, item)?;
+    }
+    Ok(tasks)
+}
+
+/// Adds an item if it is an instance that the task of a name runs.
+fn push_run<'a>(runs: &mut Vec<&'a Use>, task: &str, item: &'a Item) -> Result<(), AllocError>
+    ensures { OnOk result (map (λ u. u.now) runs.new.items ≡ map (λ u. u.now) runs.old.items ++ filter (λ u. is_named u.task task.now) (use_of item.now)) }
+{
+    match item {
+        Item::Use(run) if run.task.as_str().eq_ignore_ascii_case(task) => {
+            runs.push(run)?;
+            Ok(())
+        }
+        _ => Ok(()),
+    }
+}
+
+/// The instances that a task of a resource runs, in order of declaration.
+pub fn runs_in<'a>(
+    alloc: Global,
+    resource: &'a Resource,
+    task: &TaskLine,
+) -> Result<Vec<&'a Use>, AllocError>
+    ensures { IfOk result (λ us. map (λ u. u.now) us.items ≡ runs_in resource.now task.now) }
+{
+    let mut runs = Vec::new(alloc);
+    for item in &resource.items {
+        push_run(&mut runs, task.name.as_str(), item)?;
+    }
+    Ok(runs)
+}
+
+/// The program that an instance runs, by its type.
+fn draft_program(
+    alloc: Global,
+    types: &[ProgramType],
+    run: &Use,
+) -> Result<ProgramInstance, PlantFault>
+    ensures ok { IfOk result (λ p. IsProgramOf (programs_in types.now) run.now p) }
+    ensures tells { IfErr result (λ e. TellsOfName e.kind ⊥ ⊥) }
+    ensures value { IfErr result IsWordFault }
+{
+    let Some(found) = type_named(types, &run.program) else {
+        return Err(PlantFault::at(PlantFaultKind::UnknownName, run.program.line()));
+    };
+    let name = run.instance.try_text(alloc)?;
+    let ladder = Arc::try_clone(found.ladder())?;
+    Ok(ProgramInstance::new(name, ladder))
+}
+
+/// The programs that instances run.
+fn draft_programs(
+    alloc: Global,
+    types: &[ProgramType],
+    runs: &[&Use],
+) -> Result<Vec<ProgramInstance>, PlantFault>
+    ensures ok { IfOk result (λ ps. AllZip (IsProgramOf (programs_in types.now)) (map (λ u. u.now) runs.now) ps.items) }
+    ensures tells { IfErr result (λ e. TellsOfName e.kind ⊥ ⊥) }
+    ensures value { IfErr result IsWordFault }
+{
+    let mut programs = Vec::new(alloc);
+    for run in runs {
+        let program = draft_program(alloc, types, run)?;
+        programs.push(program)?;
+    }
+    Ok(programs)
+}
+
+/// The draft of a task.
+fn draft_task(
+    alloc: Global,
+    types: &[ProgramType],
+    resource: &Resource,
+    task: &TaskLine,
+) -> Result<TaskDraft, PlantFault>
+    ensures ok { IfOk result (λ d. IsDraftOf (programs_in types.now) resource.now task.now d) }
+    ensures tells { IfErr result (λ e. TellsOfName e.kind ⊥ ⊥) }
+    ensures value { IfErr result IsWordFault }
+{
+    let runs = runs_in(alloc, resource, task)?;
+    let programs = draft_programs(alloc, types, runs.as_slice())?;
+    let draft = TaskDraft::new(alloc, programs)?;
+    Ok(draft)
+}
+
+/// The drafts of tasks of a resource.
+fn draft_tasks(
+    alloc: Global,
+    types: &[ProgramType],
+    resource: &Resource,
+    tasks: &[&TaskLine],
+) -> Result<Vec<TaskDraft>, PlantFault>
+    ensures ok { IfOk result (λ ds. AllZip (IsDraftOf (programs_in types.now) resource.now) (map (λ t. t.now) tasks.now) ds.items) }
+    ensures tells { IfErr result (λ e. TellsOfName e.kind ⊥ ⊥) }
+    ensures value { IfErr result IsWordFault }
+{
+    let mut drafts = Vec::new(alloc);
+    for task in tasks {
+        let draft = draft_task(alloc, types, resource, task)?;
+        drafts.push(draft)?;
+    }
+    Ok(drafts)
+}
+
+/// The draft of a resource.
+fn draft_resource(
+    alloc: Global,
+    types: &[ProgramType],
+    resource: &Resource,
+) -> Result<ResourceDraft, PlantFault>
+    ensures ok { IfOk result (λ d. IsResourceDraft (programs_in types.now) resource.now d) }
+    ensures tells { IfErr result (λ e. TellsOfName e.kind ⊥ ⊥) }
+    ensures value { IfErr result IsWordFault }
+{
+    let tasks = tasks_of(alloc, resource)?;
+    let drafts = draft_tasks(alloc, types, resource, tasks.as_slice())?;
+    let name = resource.name.try_text(alloc)?;
+    Ok(ResourceDraft::new(name, drafts))
+}
+
+/// The drafts of resources.
+pub fn draft_resources(
+    alloc: Global,
+    types: &[ProgramType],
+    resources: &[Resource],
+) -> Result<Vec<ResourceDraft>, PlantFault>
+    ensures ok { IfOk result (λ ds. AllZip (IsResourceDraft (programs_in types.now)) resources.now ds.items) }
+    ensures tells { IfErr result (λ e. TellsOfName e.kind ⊥ ⊥) }
+    ensures value { IfErr result IsWordFault }
+{
+    let mut drafts = Vec::new(alloc);
+    for resource in resources {
+        let draft = draft_resource(alloc, types, resource)?;
+        drafts.push(draft)?;
+    }
+    Ok(drafts)
+}

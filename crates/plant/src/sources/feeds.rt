@@ -1,0 +1,251 @@
+//! The binds of instances, each with its input and its source found by name.
+
+ghost use Rattle.std.specs.Prelude.{◌≡◌, All, IfOk, OnOk, MatchOption, Some, None, length, map, IfErr};
+ghost use Rattle.plant.specs.NameFaults.{TellsOfName};
+ghost use Rattle.plant.specs.Steps.WordFaults.{IsWordFault};
+ghost use Rattle.std.specs.List.{AllZip, flat_map};
+ghost use Rattle.power_flow.specs.Names.{place_of};
+ghost use Rattle.plant.specs.Faultless.{binds_of, use_of, uses_of};
+ghost use Rattle.plant.specs.PlantValue.{PlantValue, input_kind_at};
+ghost use Rattle.plant.specs.StandsFor.{IsOrigin};
+ghost use Rattle.plant.specs.Steps.ReadParts.{input_kind_of};
+ghost use Rattle.plant.specs.Steps.Drafts.{drafted, IsOriginOf, IsImageKind, IsFeedOf, HasFeed, AreFeedsOf, IsUseResolved, Triples};
+
+use crate::binding::kind_of_space;
+use crate::bodies::program_type::ProgramType;
+use crate::grammar::declared_names::type_named;
+use crate::grammar::name::Name;
+use crate::grammar::tree::{Bind, Item, Resource, SourceName, Use};
+use crate::plant_fault::{PlantFault, PlantFaultKind};
+use crate::program_instance::ProgramInstance;
+use crate::sources::feed::{Feed, Origin};
+use crate::sources::lookup::{find_instance, find_output, find_resource};
+use crate::sources::resource_draft::ResourceDraft;
+use crate::task_ref::TaskRef;
+use power_flow::{Declarations, Declared, Kind};
+use std::alloc::Global;
+
+/// The fault of a name that isn't declared where it is sought.
+fn unknown(name: &Name) -> PlantFault
+    ensures tells { TellsOfName result.kind ⊥ ⊥ }
+    ensures value { IsWordFault result }
+{
+    PlantFault::at(PlantFaultKind::UnknownName, name.line())
+}
+
+/// The value of a task's image that names mean, and its kind.
+fn find_value(
+    drafts: &[ResourceDraft],
+    resource: &Name,
+    instance: &Name,
+    output: &Name,
+) -> Result<(TaskRef, usize, Kind), PlantFault>
+    ensures ok { IfOk result (λ x. IsOrigin (drafted drafts.now) resource.now instance.now output.now x.0 x.1 × IsImageKind (drafted drafts.now) x.0 x.1 x.2) }
+    ensures tells { IfErr result (λ e. TellsOfName e.kind ⊥ ⊥) }
+    ensures value { IfErr result IsWordFault }
+{
+    let Some(position) = find_resource(drafts, resource.as_str()) else {
+        return Err(unknown(resource));
+    };
+    let tasks = drafts[position].tasks();
+    let Some((task, program)) = find_instance(tasks, instance.as_str()) else {
+        return Err(unknown(instance));
+    };
+    let Some((place, kind)) = find_output(&tasks[task], program, output.as_str()) else {
+        return Err(unknown(output));
+    };
+    let found = TaskRef {
+        resource: position,
+        task,
+    };
+    Ok((found, place, kind))
+}
+
+/// What a source means, and the kind of its values.
+fn find_origin(drafts: &[ResourceDraft], source: &SourceName) -> Result<(Origin, Kind), PlantFault>
+    ensures ok { IfOk result (λ x. IsOriginOf (drafted drafts.now) source.now x.0 x.1) }
+    ensures tells { IfErr result (λ e. TellsOfName e.kind ⊥ ⊥) }
+    ensures value { IfErr result IsWordFault }
+{
+    match source {
+        SourceName::Field(address) => Ok((Origin::Field(*address), kind_of_space(address.space))),
+        SourceName::Output {
+            resource,
+            instance,
+            output,
+        } => {
+            let (task, output, kind) = find_value(drafts, resource, instance, output)?;
+            Ok((Origin::Output { task, output }, kind))
+        }
+    }
+}
+
+/// The place of an input, and its kind. `None`: the name is no input's.
+fn find_input(declarations: &Declarations, name: &str) -> Option<(usize, Kind)>
+    ensures { MatchOption result (input_kind_of declarations.now name.now ≡ None) (λ x. (place_of declarations.now name.now ≡ Some x.0) × (input_kind_at declarations.now x.0 ≡ Some x.1)) }
+{
+    let place = declarations.position(name)?;
+    match declarations.entry(place) {
+        Some((_, Declared::Input(kind))) => Some((place, kind)),
+        _ => None,
+    }
+}
+
+/// The line on which a source of another kind than its input is refused.
+fn source_line(bind: &Bind) -> u64 {
+    match &bind.source {
+        SourceName::Field(_) => bind.input.line(),
+        SourceName::Output { output, .. } => output.line(),
+    }
+}
+
+/// A bind with its names resolved.
+fn feed(
+    drafts: &[ResourceDraft],
+    declarations: &Declarations,
+    bind: &Bind,
+) -> Result<Feed, PlantFault>
+    ensures ok { IfOk result (λ f. IsFeedOf (drafted drafts.now) declarations.now bind.now f) }
+    ensures tells { IfErr result (λ e. TellsOfName e.kind ⊥ ⊥) }
+    ensures value { IfErr result IsWordFault }
+{
+    let Some((place, kind)) = find_input(declarations, bind.input.as_str()) else {
+        return Err(unknown(&bind.input));
+    };
+    let (origin, given) = find_origin(drafts, &bind.source)?;
+    if given != kind {
+        return Err(PlantFault::at(PlantFaultKind::WrongKind, source_line(bind)));
+    }
+    Ok(Feed {
+        place,
+        kind,
+        origin,
+    })
+}
+
+/// The binds of an instance; none where it has no parentheses.
+fn binds_of(run: &Use) -> &[Bind]
+    ensures { result.now ≡ binds_of run.now }
+{
+    match &run.binds {
+        Some(binds) => binds.as_slice(),
+        None => &[],
+    }
+}
+
+/// The binds of an instance with their names resolved.
+fn feeds(
+    alloc: Global,
+    drafts: &[ResourceDraft],
+    declarations: &Declarations,
+    binds: &[Bind],
+) -> Result<Vec<Feed>, PlantFault>
+    ensures ok { IfOk result (λ fs. AllZip (IsFeedOf (drafted drafts.now) declarations.now) binds.now fs.items) }
+    ensures tells { IfErr result (λ e. TellsOfName e.kind ⊥ ⊥) }
+    ensures value { IfErr result IsWordFault }
+{
+    let mut feeds = Vec::new(alloc);
+    for bind in binds {
+        let found = feed(drafts, declarations, bind)?;
+        feeds.push(found)?;
+    }
+    Ok(feeds)
+}
+
+/// The binds of the instances of a task with their names resolved.
+pub fn feeds_of(
+    alloc: Global,
+    drafts: &[ResourceDraft],
+    programs: &[ProgramInstance],
+    runs: &[&Use],
+) -> Result<Vec<Vec<Feed>>, PlantFault>
+    requires { length runs.now ≡ length programs.now }
+    ensures many { IfOk result (λ fs. length fs.items ≡ length programs.now) }
+    ensures each { IfOk result (λ fs. Triples (AreFeedsOf (drafted drafts.now)) (map (λ u. u.now) runs.now) programs.now (map (λ f. f.items) fs.items)) }
+    ensures tells { IfErr result (λ e. TellsOfName e.kind ⊥ ⊥) }
+    ensures value { IfErr result IsWordFault }
+{
+    let mut all = Vec::new(alloc);
+    for (i, program) in programs.iter().enumerate() {
+        let declarations = program.ladder().declarations();
+        let found = feeds(alloc, drafts, declarations, binds_of(runs[i]))?;
+        all.push(found)?;
+    }
+    Ok(all)
+}
+
+/// Answers the first fault among binds of inputs that are declared.
+fn check_binds(
+    drafts: &[ResourceDraft],
+    declarations: &Declarations,
+    binds: &[Bind],
+) -> Result<(), PlantFault>
+    ensures ok { OnOk result (All (HasFeed (drafted drafts.now) declarations.now) binds.now) }
+    ensures tells { IfErr result (λ e. TellsOfName e.kind ⊥ ⊥) }
+    ensures value { IfErr result IsWordFault }
+{
+    for bind in binds {
+        feed(drafts, declarations, bind)?;
+    }
+    Ok(())
+}
+
+/// Answers the first fault among the binds of an instance.
+fn check_use(drafts: &[ResourceDraft], types: &[ProgramType], run: &Use) -> Result<(), PlantFault>
+    ensures ok { OnOk result (IsUseResolved (drafted drafts.now) types.now run.now) }
+    ensures tells { IfErr result (λ e. TellsOfName e.kind ⊥ ⊥) }
+    ensures value { IfErr result IsWordFault }
+{
+    let Some(found) = type_named(types, &run.program) else {
+        return Err(unknown(&run.program));
+    };
+    check_binds(drafts, found.ladder().declarations(), binds_of(run))
+}
+
+/// Answers the first fault among the binds of a line of a resource.
+fn check_item(
+    drafts: &[ResourceDraft],
+    types: &[ProgramType],
+    item: &Item,
+) -> Result<(), PlantFault>
+    ensures ok { OnOk result (All (IsUseResolved (drafted drafts.now) types.now) (use_of item.now)) }
+    ensures tells { IfErr result (λ e. TellsOfName e.kind ⊥ ⊥) }
+    ensures value { IfErr result IsWordFault }
+{
+    match item {
+        Item::Task(_) => Ok(()),
+        Item::Use(run) => check_use(drafts, types, run),
+    }
+}
+
+/// Answers the first fault among the binds of a resource.
+fn check_resource(
+    drafts: &[ResourceDraft],
+    types: &[ProgramType],
+    resource: &Resource,
+) -> Result<(), PlantFault>
+    ensures ok { OnOk result (All (IsUseResolved (drafted drafts.now) types.now) (uses_of resource.now)) }
+    ensures tells { IfErr result (λ e. TellsOfName e.kind ⊥ ⊥) }
+    ensures value { IfErr result IsWordFault }
+{
+    for item in &resource.items {
+        check_item(drafts, types, item)?;
+    }
+    Ok(())
+}
+
+/// Answers the first fault among the binds of a plant, from top to bottom.
+pub fn check_sources(
+    drafts: &[ResourceDraft],
+    types: &[ProgramType],
+    resources: &[Resource],
+) -> Result<(), PlantFault>
+    ensures ok { OnOk result (All (IsUseResolved (drafted drafts.now) types.now) (flat_map uses_of resources.now)) }
+    ensures tells { IfErr result (λ e. TellsOfName e.kind ⊥ ⊥) }
+    ensures value { IfErr result IsWordFault }
+{
+    for resource in resources {
+        check_resource(drafts, types, resource)?;
+    }
+    Ok(())
+}

@@ -1,0 +1,155 @@
+//! The codes of tasks: their drafts with each source resolved.
+
+ghost use Rattle.std.specs.Prelude.{◌≡◌, ◌<◌, List, IfOk, All, length, map, IfErr};
+ghost use Rattle.plant.specs.NameFaults.{TellsOfName};
+ghost use Rattle.plant.specs.Steps.WordFaults.{IsWordFault};
+ghost use Rattle.std.specs.List.{AllZip};
+ghost use Rattle.plant.specs.declared.grammar.tree.Program.{Program};
+ghost use Rattle.plant.specs.Faultless.{tasks_of, uses_of};
+ghost use Rattle.plant.specs.StandsFor.{runs_in, task_value};
+ghost use Rattle.plant.specs.Steps.Drafts.{drafted, IsDraftOf, IsResourceDraft, IsReady, IsOnceBound, IsLinked, IsResourceLinked, Triples};
+
+use crate::grammar::tree::{Resource, TaskLine, Use};
+use crate::plant_fault::PlantFault;
+use crate::plant_resource::PlantResource;
+use crate::program_instance::ProgramInstance;
+use crate::sources::draft::{runs_in, tasks_of};
+use crate::sources::feeds::feeds_of;
+use crate::sources::producers::{bindings_of, expected_of, producers_of};
+use crate::sources::resource_draft::ResourceDraft;
+use crate::sources::task_draft::TaskDraft;
+use crate::task::Task;
+use crate::task_code::TaskCode;
+use std::alloc::{AllocError, Global};
+use std::sync::Arc;
+
+/// Copies of programs, which share their ladders.
+fn copies(alloc: Global, programs: &[ProgramInstance]) -> Result<Vec<ProgramInstance>, AllocError>
+    ensures { IfOk result (λ ps. ps.items ≡ programs.now) }
+{
+    let mut copies = Vec::new(alloc);
+    for program in programs {
+        let copy = program.try_copy(alloc)?;
+        copies.push(copy)?;
+    }
+    Ok(copies)
+}
+
+/// The code of a task whose programs are those of the instances.
+fn link_runs(
+    alloc: Global,
+    drafts: &[ResourceDraft],
+    draft: &TaskDraft,
+    runs: &[&Use],
+) -> Result<TaskCode, PlantFault>
+    requires many { length runs.now ≡ length draft.now.programs }
+    requires once { All IsOnceBound (map (λ u. u.now) runs.now) }
+    ensures ok { IfOk result (λ c. IsLinked (drafted drafts.now) (map (λ u. u.now) runs.now) draft.now c) }
+    ensures tells { IfErr result (λ e. TellsOfName e.kind ⊥ ⊥) }
+    ensures value { IfErr result IsWordFault }
+{
+    let feeds = feeds_of(alloc, drafts, draft.programs(), runs)?;
+    let producers = producers_of(alloc, feeds.as_slice())?;
+    let expected = expected_of(alloc, drafts, producers.as_slice())?;
+    let bindings = bindings_of(alloc, producers.as_slice(), feeds.as_slice())?;
+    let programs = copies(alloc, draft.programs())?;
+    let outputs = Vec::from_slice(alloc, draft.outputs())?;
+    Ok(TaskCode::new(programs, bindings, producers, expected, outputs))
+}
+
+/// The code of a task of a resource.
+fn link_task(
+    alloc: Global,
+    drafts: &[ResourceDraft],
+    resource: &Resource,
+    task: &TaskLine,
+    draft: &TaskDraft,
+) -> Result<Arc<TaskCode>, PlantFault>
+    requires many { length (runs_in resource.now task.now) ≡ length draft.now.programs }
+    requires once { All IsOnceBound (runs_in resource.now task.now) }
+    ensures ok { IfOk result (λ c. IsLinked (drafted drafts.now) (runs_in resource.now task.now) draft.now c.value) }
+    ensures tells { IfErr result (λ e. TellsOfName e.kind ⊥ ⊥) }
+    ensures value { IfErr result IsWordFault }
+{
+    let runs = runs_in(alloc, resource, task)?;
+    let code = link_runs(alloc, drafts, draft, runs.as_slice())?;
+    let shared = Arc::new(alloc, code)?;
+    Ok(shared)
+}
+
+/// The codes of tasks of a resource.
+fn link_tasks(
+    alloc: Global,
+    drafts: &[ResourceDraft],
+    resource: &Resource,
+    tasks: &[&TaskLine],
+    task_drafts: &[TaskDraft],
+) -> Result<Vec<Arc<TaskCode>>, PlantFault>
+    requires known { (programs : List Program) × AllZip (IsDraftOf programs resource.now) (map (λ t. t.now) tasks.now) task_drafts.now }
+    requires once { All IsOnceBound (uses_of resource.now) }
+    ensures many { IfOk result (λ cs. length cs.items ≡ length tasks.now) }
+    ensures each { IfOk result (λ cs. Triples (λ t d c. IsLinked (drafted drafts.now) (runs_in resource.now t) d c) (map (λ t. t.now) tasks.now) task_drafts.now (map (λ c. c.value) cs.items)) }
+    ensures tells { IfErr result (λ e. TellsOfName e.kind ⊥ ⊥) }
+    ensures value { IfErr result IsWordFault }
+{
+    let mut codes = Vec::new(alloc);
+    for (i, draft) in task_drafts.iter().enumerate() {
+        let code = link_task(alloc, drafts, resource, tasks[i], draft)?;
+        codes.push(code)?;
+    }
+    Ok(codes)
+}
+
+/// Tasks as they are declared.
+fn declared_tasks(alloc: Global, lines: &[&TaskLine]) -> Result<Vec<Task>, AllocError>
+    requires { All (λ t. 0 < t.interval) (map (λ t. t.now) lines.now) }
+    ensures { IfOk result (λ ts. ts.items ≡ map task_value (map (λ t. t.now) lines.now)) }
+{
+    let mut tasks = Vec::new(alloc);
+    for line in lines {
+        let name = line.name.try_text(alloc)?;
+        tasks.push(Task::new(name, line.interval, line.priority))?;
+    }
+    Ok(tasks)
+}
+
+/// A resource with the codes of its tasks.
+fn link_resource(
+    alloc: Global,
+    drafts: &[ResourceDraft],
+    resource: &Resource,
+    draft: &ResourceDraft,
+) -> Result<PlantResource, PlantFault>
+    requires known { (programs : List Program) × IsResourceDraft programs resource.now draft.now }
+    requires ready { IsReady resource.now }
+    ensures ok { IfOk result (λ v. IsResourceLinked (drafted drafts.now) resource.now draft.now v) }
+    ensures tells { IfErr result (λ e. TellsOfName e.kind ⊥ ⊥) }
+    ensures value { IfErr result IsWordFault }
+{
+    let lines = tasks_of(alloc, resource)?;
+    let codes = link_tasks(alloc, drafts, resource, lines.as_slice(), draft.tasks())?;
+    let tasks = declared_tasks(alloc, lines.as_slice())?;
+    let name = resource.name.try_text(alloc)?;
+    Ok(PlantResource::new(name, tasks, codes))
+}
+
+/// The resources of a plant with the codes of their tasks.
+pub fn link_resources(
+    alloc: Global,
+    drafts: &[ResourceDraft],
+    resources: &[Resource],
+) -> Result<Vec<PlantResource>, PlantFault>
+    requires known { (programs : List Program) × AllZip (IsResourceDraft programs) resources.now drafts.now }
+    requires ready { All IsReady resources.now }
+    ensures many { IfOk result (λ vs. length vs.items ≡ length resources.now) }
+    ensures each { IfOk result (λ vs. Triples (IsResourceLinked (drafted drafts.now)) resources.now drafts.now vs.items) }
+    ensures tells { IfErr result (λ e. TellsOfName e.kind ⊥ ⊥) }
+    ensures value { IfErr result IsWordFault }
+{
+    let mut linked = Vec::new(alloc);
+    for (i, draft) in drafts.iter().enumerate() {
+        let resource = link_resource(alloc, drafts, &resources[i], draft)?;
+        linked.push(resource)?;
+    }
+    Ok(linked)
+}

@@ -1,0 +1,161 @@
+//! The tasks from which a task takes, and its bindings once they are known.
+
+ghost use Rattle.std.specs.Prelude.{◌≡◌, ◌++◌, ◌∷◌, [], ℕ, List, Some, All, Contains, IfOk, OnOk, map, slice_get};
+ghost use Rattle.std.specs.List.{AllZip, flat_map};
+ghost use Rattle.plant.specs.declared.task_ref.TaskRef.{TaskRef};
+ghost use Rattle.plant.specs.PlantValue.{code_at};
+ghost use Rattle.plant.specs.StandsFor.{firsts};
+ghost use Rattle.plant.specs.Steps.Drafts.{drafted, tasks_taken, all_taken, AreKindsOf, IsPlaced, IsTakenFrom, IsTaskOf};
+
+use crate::binding::{Binding, Source};
+use crate::sources::feed::{Feed, Origin};
+use crate::sources::resource_draft::ResourceDraft;
+use crate::sources::task_draft::TaskDraft;
+use crate::task_ref::TaskRef;
+use power_flow::Kind;
+use std::alloc::{AllocError, Global};
+
+/// Adds a task if it isn't there yet.
+fn push_first(producers: &mut Vec<TaskRef>, task: TaskRef) -> Result<(), AllocError>
+    ensures { OnOk result ((ts : List TaskRef) → producers.old.items ≡ firsts ts → producers.new.items ≡ firsts (ts ++ task ∷ [])) }
+{
+    if producers.contains(&task) {
+        return Ok(());
+    }
+    producers.push(task)?;
+    Ok(())
+}
+
+/// Adds the task from which a bound input takes.
+fn push_taken(producers: &mut Vec<TaskRef>, feed: &Feed) -> Result<(), AllocError>
+    ensures { OnOk result ((ts : List TaskRef) → producers.old.items ≡ firsts ts → producers.new.items ≡ firsts (ts ++ tasks_taken feed.now)) }
+{
+    match feed.origin {
+        Origin::Field(_) => Ok(()),
+        Origin::Output { task, .. } => {
+            push_first(producers, task)?;
+            Ok(())
+        }
+    }
+}
+
+/// Adds the tasks from which the bound inputs of a program take.
+fn push_all_taken(producers: &mut Vec<TaskRef>, feeds: &[Feed]) -> Result<(), AllocError>
+    ensures { OnOk result ((ts : List TaskRef) → producers.old.items ≡ firsts ts → producers.new.items ≡ firsts (ts ++ flat_map tasks_taken feeds.now)) }
+{
+    for feed in feeds {
+        push_taken(producers, feed)?;
+    }
+    Ok(())
+}
+
+/// The tasks from which the programs of a task take, in order of first mention.
+pub fn producers_of(alloc: Global, feeds: &[Vec<Feed>]) -> Result<Vec<TaskRef>, AllocError>
+    ensures { IfOk result (λ ps. ps.items ≡ firsts (all_taken (map (λ f. f.items) feeds.now))) }
+{
+    let mut producers = Vec::new(alloc);
+    for of_program in feeds {
+        push_all_taken(&mut producers, of_program)?;
+    }
+    Ok(producers)
+}
+
+/// The draft of a task.
+fn draft_at(drafts: &[ResourceDraft], task: TaskRef) -> &TaskDraft
+    requires { IsTaskOf (drafted drafts.now) task }
+    ensures { code_at (drafted drafts.now) task ≡ Some result.now }
+{
+    &drafts[task.resource].tasks()[task.task]
+}
+
+/// The kinds of the values of a task's image.
+fn kinds_of(alloc: Global, task: &TaskDraft) -> Result<Vec<Kind>, AllocError>
+    ensures { IfOk result (λ ks. ks.items ≡ map (λ o. o.kind) task.now.outputs) }
+{
+    let mut kinds = Vec::new(alloc);
+    for output in task.outputs() {
+        kinds.push(output.kind)?;
+    }
+    Ok(kinds)
+}
+
+/// The kinds of the values of each producer's image.
+pub fn expected_of(
+    alloc: Global,
+    drafts: &[ResourceDraft],
+    producers: &[TaskRef],
+) -> Result<Vec<Vec<Kind>>, AllocError>
+    requires { All (IsTaskOf (drafted drafts.now)) producers.now }
+    ensures { IfOk result (λ es. AllZip (AreKindsOf (drafted drafts.now)) producers.now (map (λ ks. ks.items) es.items)) }
+{
+    let mut expected = Vec::new(alloc);
+    for producer in producers {
+        let kinds = kinds_of(alloc, draft_at(drafts, *producer))?;
+        expected.push(kinds)?;
+    }
+    Ok(expected)
+}
+
+/// The position of a task among the producers.
+fn position_of(producers: &[TaskRef], task: TaskRef) -> usize
+    requires { Contains producers.now task }
+    ensures { slice_get producers.now result ≡ Some task }
+{
+    for (k, producer) in producers.iter().enumerate() {
+        if *producer == task {
+            return k;
+        }
+    }
+    unreachable!()
+}
+
+/// The binding of a bound input.
+fn binding(producers: &[TaskRef], feed: &Feed) -> Binding
+    requires { IsTakenFrom producers.now feed.now }
+    ensures { IsPlaced producers.now feed.now result }
+{
+    let source = match feed.origin {
+        Origin::Field(address) => Source::Field(address),
+        Origin::Output { task, output } => Source::Given {
+            producer: position_of(producers, task),
+            output,
+        },
+    };
+    Binding {
+        place: feed.place,
+        source,
+    }
+}
+
+/// The bindings of a program.
+fn bindings(
+    alloc: Global,
+    producers: &[TaskRef],
+    feeds: &[Feed],
+) -> Result<Vec<Binding>, AllocError>
+    requires { All (IsTakenFrom producers.now) feeds.now }
+    ensures { IfOk result (λ bs. AllZip (IsPlaced producers.now) feeds.now bs.items) }
+{
+    let mut bindings = Vec::new(alloc);
+    for feed in feeds {
+        bindings.push(binding(producers, feed))?;
+    }
+    Ok(bindings)
+}
+
+/// The bindings of the programs of a task.
+pub fn bindings_of(
+    alloc: Global,
+    producers: &[TaskRef],
+    feeds: &[Vec<Feed>],
+) -> Result<Vec<Vec<Binding>>, AllocError>
+    requires { All (All (IsTakenFrom producers.now)) (map (λ f. f.items) feeds.now) }
+    ensures { IfOk result (λ bs. AllZip (AllZip (IsPlaced producers.now)) (map (λ f. f.items) feeds.now) (map (λ b. b.items) bs.items)) }
+{
+    let mut all = Vec::new(alloc);
+    for of_program in feeds {
+        let found = bindings(alloc, producers, of_program)?;
+        all.push(found)?;
+    }
+    Ok(all)
+}

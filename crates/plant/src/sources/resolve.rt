@@ -1,0 +1,29 @@
+ghost use Rattle.std.specs.Prelude.{ℕ, List, IfOk, IfErr};
+ghost use Rattle.plant.specs.NameFaults.{TellsOfName};
+ghost use Rattle.plant.specs.Steps.WordFaults.{IsWordFault};
+ghost use Rattle.plant.specs.Faultless.{IsFaultless};
+ghost use Rattle.plant.specs.Steps.Reading.{tree_of};
+ghost use Rattle.plant.specs.StandsFor.{IsPlantOf};
+
+use crate::grammar::reading::Reading;
+use crate::plant::Plant;
+use crate::plant_fault::PlantFault;
+use crate::sources::draft::draft_resources;
+use crate::sources::feeds::check_sources;
+use crate::sources::link::link_resources;
+use std::alloc::Global;
+
+/// The plant that is read, with each source resolved. The first source with a fault is answered, in order of the text.
+pub fn resolve(alloc: Global, reading: &Reading) -> Result<Plant, PlantFault>
+    requires { (name : List ℕ) × IsFaultless (tree_of name reading.now) }
+    ensures ok { IfOk result (λ p. (name : List ℕ) → IsPlantOf (tree_of name reading.now) p) }
+    ensures tells { IfErr result (λ e. TellsOfName e.kind ⊥ ⊥) }
+    ensures value { IfErr result IsWordFault }
+{
+    let types = reading.types();
+    let resources = reading.resources();
+    let drafts = draft_resources(alloc, types, resources)?;
+    check_sources(drafts.as_slice(), types, resources)?;
+    let linked = link_resources(alloc, drafts.as_slice(), resources)?;
+    Ok(Plant::new(linked))
+}

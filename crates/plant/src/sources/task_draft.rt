@@ -1,0 +1,51 @@
+ghost use Rattle.std.specs.Prelude.{◌≡◌, IfOk, length};
+ghost use Rattle.plant.specs.PlantValue.{outputs_of};
+
+use crate::program_instance::ProgramInstance;
+use crate::sources::images::outputs_of;
+use crate::task_output::TaskOutput;
+use std::alloc::{AllocError, Global};
+use std::marker::Model;
+
+/// The programs of a task and their outputs, before the task's sources are resolved. Contracts see a code without bindings.
+#[derive(Drop)]
+pub struct TaskDraft {
+    programs: Vec<ProgramInstance>,
+    outputs: Vec<TaskOutput>,
+}
+
+impl Model for TaskDraft {
+    ghost use Rattle.std.specs.Prelude.{◌≡◌, []};
+    ghost use Rattle.plant.specs.PlantValue.{CodeValue, outputs_of};
+
+    ghost Value = { CodeValue };
+
+    ghost view = { λ d. record { programs = d.programs.items; bindings = []; producers = []; expected = []; outputs = d.outputs.items } };
+
+    ghost invariant = { λ d. d.outputs.items ≡ outputs_of d.programs.items };
+}
+
+impl TaskDraft {
+    /// The draft of a task that runs these programs.
+    pub fn new(alloc: Global, programs: Vec<ProgramInstance>) -> Result<TaskDraft, AllocError>
+        ensures { IfOk result (λ d. d.programs ≡ programs.items) }
+    {
+        let outputs = outputs_of(alloc, programs.as_slice())?;
+        Ok(TaskDraft { programs, outputs })
+    }
+
+    /// The programs in order of declaration.
+    pub fn programs(&self) -> &[ProgramInstance]
+        ensures list { result.now ≡ self.now.programs }
+        ensures outputs { self.now.outputs ≡ outputs_of self.now.programs }
+    {
+        self.programs.as_slice()
+    }
+
+    /// The outputs in order of program and place.
+    pub fn outputs(&self) -> &[TaskOutput]
+        ensures { result.now ≡ self.now.outputs }
+    {
+        self.outputs.as_slice()
+    }
+}

@@ -1,0 +1,4 @@
+pub mod Words
+pub mod Spelling
+pub mod Lines
+pub mod Steps

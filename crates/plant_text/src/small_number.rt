@@ -1,0 +1,17 @@
+//! Numbers up to 65,535, alone and in addresses.
+
+ghost use Rattle.std.specs.Prelude.{◌≡◌};
+ghost use Rattle.ladder_text.specs.Numbers.{number_up_to};
+
+use ladder_text::number_up_to;
+
+/// A number up to 65,535.
+#[tactic(auto, using(crate::proofs::WordLemmas::number_within))]
+pub fn small_number(word: &[u8]) -> Option<u16>
+    ensures { result ≡ number_up_to 65535 word.now }
+{
+    match number_up_to(word, 65_535) {
+        Some(number) => u16::try_from(number).ok(),
+        None => None,
+    }
+}
