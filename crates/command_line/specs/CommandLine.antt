@@ -83,9 +83,13 @@ versioned a = record a { top = record a.top { has_version = true } }
 abbrev pub commanded : App → App
 commanded a = record a { top = record a.top { subcommand_required = true } }
 
+-- `plc` with the three commands of one text
+abbrev pub text_app : App
+text_app = with_subcommand (with_subcommand (with_subcommand (commanded (versioned (new_app (codes "plc")))) eval_app.top) check_app.top) plan_app.top
+
 -- `plc`, and one of the six
 abbrev pub plc_app : App
-plc_app = with_subcommand (with_subcommand (with_subcommand (with_subcommand (with_subcommand (with_subcommand (commanded (versioned (new_app (codes "plc")))) eval_app.top) check_app.top) plan_app.top) sim_app.top) run_app.top) explain_app.top
+plc_app = with_subcommand (with_subcommand (with_subcommand text_app sim_app.top) run_app.top) explain_app.top
 
 -- digits alone are a number of 32 bits
 abbrev pub IsNumber : List ℕ → Type 0

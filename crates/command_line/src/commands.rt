@@ -1,6 +1,6 @@
 ghost use Rattle.std.specs.Prelude.{◌≡◌, false, IfOk, codes};
 ghost use Rattle.clap.specs.Words.{app_of, new_app, rule_of};
-ghost use Rattle.command_line.specs.CommandLine.{drawing_rule, dt_rule, words_rule, plant_rule, until_rule, schedule_rule, max_number_rule, paced_rule, kind_rule, eval_app, check_app, plan_app, sim_app, run_app, explain_app, versioned, commanded, plc_app};
+ghost use Rattle.command_line.specs.CommandLine.{drawing_rule, dt_rule, words_rule, plant_rule, until_rule, schedule_rule, max_number_rule, paced_rule, kind_rule, eval_app, check_app, plan_app, sim_app, run_app, explain_app, versioned, commanded, plc_app, text_app};
 
 use crate::help::{
     CHECK_HELP, EVAL_HELP, EXPLAIN_HELP, FIRST_STEPS, PLAN_HELP, RUN_HELP, SIM_HELP,
@@ -199,14 +199,21 @@ fn plc_command<'a>(alloc: Global) -> Result<Command<'a>, AllocError>
     )
 }
 
-/// The commands of the program.
-pub fn commands<'a>(alloc: Global) -> Result<Command<'a>, AllocError>
-    ensures { IfOk result (λ c. app_of c ≡ plc_app) }
+/// The program with the commands of one text: a drawing or a plant.
+fn text_commands<'a>(alloc: Global) -> Result<Command<'a>, AllocError>
+    ensures { IfOk result (λ c. app_of c ≡ text_app) }
 {
     plc_command(alloc)?
         .subcommand(eval_command(alloc)?)?
         .subcommand(check_command(alloc)?)?
-        .subcommand(plan_command(alloc)?)?
+        .subcommand(plan_command(alloc)?)
+}
+
+/// The commands of the program.
+pub fn commands<'a>(alloc: Global) -> Result<Command<'a>, AllocError>
+    ensures { IfOk result (λ c. app_of c ≡ plc_app) }
+{
+    text_commands(alloc)?
         .subcommand(sim_command(alloc)?)?
         .subcommand(run_command(alloc)?)?
         .subcommand(explain_command(alloc)?)

@@ -1,4 +1,4 @@
-ghost use Rattle.std.specs.Prelude.{◌≡◌, [], IfOk, MatchOption, codes, map, unwrap_or, string_bytes};
+ghost use Rattle.std.specs.Prelude.{◌≡◌, [], IfOk, MatchOption, Some, codes, map, unwrap_or, string_bytes};
 ghost use Rattle.std.specs.Str.Parse.{digits_value};
 ghost use Rattle.clap.specs.Words.{rows_of, found_of, first_of, all_of, subcommand_of};
 ghost use Rattle.command_line.specs.CommandLine.{plc_app, IsNumber, GivesNumber, AsksEval, AsksPlan, AsksSim, AsksRun, IsAsked, word_of, is_given};
@@ -128,6 +128,28 @@ fn run_request<'a>(
     }))
 }
 
+/// What a command of that name asks for, by what was found for it.
+fn request_of<'a>(
+    alloc: Global,
+    command: &mut Command<'a>,
+    name: &str,
+    inner: &ArgMatches<'a>,
+) -> Result<Request<'a>, Error>
+    ensures { IfOk result (IsAsked (Some (name.now, rows_of (found_of inner.now)))) }
+{
+    match name {
+        "eval" => eval_request(alloc, command, inner),
+        "check" => Ok(Request::Text(TextRequest::Check {
+            plant: given_word(inner, "PLANT"),
+        })),
+        "plan" => plan_request(command, inner),
+        "sim" => sim_request(command, inner),
+        "run" => run_request(alloc, command, inner),
+        "explain" => Ok(Request::Explain(given_word(inner, "KIND"))),
+        _ => Err(command.error(ErrorKind::MissingSubcommand, "a command is missing")?),
+    }
+}
+
 /// Reads the words, of which the first is the program's own name.
 pub fn read_words<'a>(alloc: Global, words: &'a [String]) -> Result<Request<'a>, Error>
     ensures { IfOk result (IsAsked (subcommand_of plc_app (map (λ word. string_bytes word) words.now))) }
@@ -135,14 +157,7 @@ pub fn read_words<'a>(alloc: Global, words: &'a [String]) -> Result<Request<'a>,
     let mut command = commands(alloc)?;
     let matches = command.try_get_matches_from_mut(words)?;
     match matches.subcommand() {
-        Some(("eval", inner)) => eval_request(alloc, &mut command, inner),
-        Some(("check", inner)) => Ok(Request::Text(TextRequest::Check {
-            plant: given_word(inner, "PLANT"),
-        })),
-        Some(("plan", inner)) => plan_request(&mut command, inner),
-        Some(("sim", inner)) => sim_request(&mut command, inner),
-        Some(("run", inner)) => run_request(alloc, &mut command, inner),
-        Some(("explain", inner)) => Ok(Request::Explain(given_word(inner, "KIND"))),
-        _ => Err(command.error(ErrorKind::MissingSubcommand, "a command is missing")?),
+        Some((name, inner)) => request_of(alloc, &mut command, name, inner),
+        None => Err(command.error(ErrorKind::MissingSubcommand, "a command is missing")?),
     }
 }
