@@ -6,7 +6,7 @@ use Rattle.std.proofs.lemmas.List.Elements.{filter_map-append}
 use Rattle.std.proofs.lemmas.Option.{slice_get_read}
 use Rattle.lists.proofs.Places.{some_same}
 use Rattle.lists.proofs.Zips.{zip_push}
-use Rattle.ladder_text.proofs.ItemLemmas.{slice_get-append}
+use Rattle.lists.proofs.Places.{slice_get-append}
 use Rattle.ladder_text.specs.declared.place.Place.{Place}
 use Rattle.ladder_text.specs.declared.drawn_box.DrawnBox.{DrawnBox}
 use Rattle.ladder_text.specs.declared.drawn_box.DrawnPin.{DrawnPin}
