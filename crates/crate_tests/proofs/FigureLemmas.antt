@@ -5,7 +5,8 @@ use Rattle.std.proofs.lemmas.Bool.{and_parts, not-true, leb-true, ltb-true, true
 use Rattle.ladder_text.specs.declared.place_fault.PlaceFault.{PlaceFault}
 use Rattle.ladder_text.specs.declared.place_fault.PlaceFault.TheVariants.{BadMark, Crossing, NoSource}
 use Rattle.ladder_text.specs.Rows.{Rows, rows_of, char_at, height, width}
-use Rattle.ladder_text.specs.Chars.{block_name, is_value_word, is_program_word, is_resource_word, is_task_word, is_reserved, is_identifier, is_plain_name, is_name, contact_kind, coil_kind, is_part, has_parts, is_duration_behind, is_duration, is_operand}
+use Rattle.words.specs.Chars.{block_name, is_value_word, is_program_word, is_resource_word, is_task_word, is_reserved, is_identifier, is_plain_name, is_name, is_part, has_parts, is_duration_behind, is_duration, is_operand}
+use Rattle.ladder_text.specs.SymbolKinds.{contact_kind, coil_kind}
 use Rattle.ladder_text.specs.Boxes.{left_column, begins_box, nearer_pin, outline_at, box_at, row_outlines, outlines}
 use Rattle.ladder_text.specs.Places.{contact_at, coil_at, may_be_rail, has_right_rail, mark, gives, layout_of}
 use Rattle.ladder_text.specs.Names.{in_word, word_at, words, symbol_at, symbols, tops, things, name_above, row_contacts, contacts, row_coils, coils, drawn_boxes}

@@ -12,8 +12,8 @@ use Rattle.std.specs.Ordering.{is_eq}
 use Rattle.std.specs.declared.cmp.Ordering.TheVariants.{Less, Equal, Greater}
 use Rattle.std.specs.Cmp.{nat_cmp_is}
 use Rattle.std.proofs.lemmas.Bool.{cases_lt}
-use Rattle.ladder_text.specs.Chars.{is_number}
-use Rattle.ladder_text.specs.Numbers.{number_value, limited, number_up_to}
+use Rattle.words.specs.Chars.{is_number}
+use Rattle.words.specs.Numbers.{number_value, limited, number_up_to}
 
 pub map_map : {X Y Z : Type 0} (f : Y → Z) (g : X → Y) (xs : List X) → map f (map g xs) ≡ map (λ x. f (g x)) xs
 map_map f g [] = refl

@@ -2,7 +2,7 @@
 use Rattle.std.specs.Prelude.{◌≡◌, ℕ, ◌+◌, ◌==◌, ◌||◌, Bool, false, not, if◌then◌else◌, List, [], ◌∷◌, map, take, drop, length, slice_get, position, Option, Some, None, ℤ, pos, ◌-ℤ◌}
 use Rattle.std.specs.List.{slice_split, filter}
 use Rattle.std.specs.Option.{option_map, option_and_then}
-use Rattle.ladder_text.specs.Numbers.{number_up_to}
+use Rattle.words.specs.Numbers.{number_up_to}
 use Rattle.plant_text.specs.declared.address.Space.{Space}
 use Rattle.plant_text.specs.declared.address.Space.TheVariants.{Bit as BitSpace, Word as WordSpace}
 use Rattle.plant_text.specs.declared.address.Address.{Address}

@@ -56,7 +56,7 @@ fn is_below_zero(word: &[u8]) -> bool
 }
 
 /// A number behind a sign, down to -32,768.
-#[tactic(auto, unfolding(ladder_text::specs::Numbers::number_up_to))]
+#[tactic(auto, unfolding(words::specs::Numbers::number_up_to))]
 fn value_below(digits: &[u8]) -> Option<i16>
     ensures { result ≡ value_below digits.now }
 {
@@ -67,7 +67,7 @@ fn value_below(digits: &[u8]) -> Option<i16>
 }
 
 /// A number without a sign, up to 32,767.
-#[tactic(auto, unfolding(ladder_text::specs::Numbers::number_up_to))]
+#[tactic(auto, unfolding(words::specs::Numbers::number_up_to))]
 fn value_above(digits: &[u8]) -> Option<i16>
     ensures { result ≡ value_above digits.now }
 {

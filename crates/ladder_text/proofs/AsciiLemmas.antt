@@ -1,13 +1,12 @@
 -- Every character of a text that was looked at is ASCII.
-use Rattle.std.proofs.Common.{ℕ, ◌-◌, ◌<◌, ◌≡◌, List, [], ◌∷◌, length, drop, get_or, true, arith, rules, tests, inl, inr}
+use Rattle.std.proofs.Common.{ℕ, ◌-◌, ◌<◌, ◌≡◌, [], length, drop, get_or, arith, rules, tests, inl, inr}
 use Rattle.std.proofs.lemmas.Bool.{cases_lt}
 use Rattle.std.proofs.lemmas.List.{get_or_default}
 use Rattle.std.proofs.lemmas.Str.{IsAscii-take, IsAscii-drop}
-use Rattle.std.proofs.lemmas.Str.Ascii.{IsAscii-from_reads, IsAscii-nil, IsAscii-cons}
+use Rattle.std.proofs.lemmas.Str.Ascii.{IsAscii-from_reads, IsAscii-nil}
 use Rattle.std.proofs.Math.ListN.{get_or-eq_default}
 use Rattle.std.specs.Str.{IsAscii}
 use Rattle.ladder_text.specs.Rows.{Rows, char_at}
-use Rattle.ladder_text.specs.Chars.{is_letter_or_digit, is_rest, is_identifier}
 use Rattle.ladder_text.specs.Boxes.{cut}
 use Rattle.ladder_text.specs.Faults.{Nowhere, not_ascii}
 use Rattle.ladder_text.proofs.WidthLemmas.{row-narrow}
@@ -27,15 +26,3 @@ row_ascii d r n = elim (cases_lt r (length d)) [
 
 pub cut_ascii : (d : Rows) (r a b : ℕ) → Nowhere d (not_ascii d) → IsAscii (cut d r a b)
 cut_ascii d r a b n = IsAscii-take (drop a (get_or d r [])) (b - a) (IsAscii-drop (get_or d r []) a (row_ascii d r n))
-
-pub letter_small : (c : ℕ) → is_letter_or_digit c ≡ true → c < 128
-letter_small c h = search (rules, tests)
-
-pub rest_ascii : (w : List ℕ) → is_rest w ≡ true → IsAscii w
-rest_ascii [] h = IsAscii-nil
-rest_ascii (c ∷ []) h = IsAscii-cons c [] (letter_small c h) IsAscii-nil
-rest_ascii (c ∷ e ∷ more) h = IsAscii-cons c (e ∷ more) (search (rules, tests)) (rest_ascii (e ∷ more) (search (rules, tests)))
-
-pub identifier_ascii : (w : List ℕ) → is_identifier w ≡ true → IsAscii w
-unfolding is_identifier
-identifier_ascii w h = rest_ascii w (search (rules, tests))

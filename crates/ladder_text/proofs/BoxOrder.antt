@@ -15,7 +15,7 @@ use Rattle.ladder_text.specs.Steps.RowBoxes.{AreInOrder}
 use Rattle.ladder_text.specs.FirstFault.{shares_before}
 use Rattle.ladder_text.proofs.PinRows.{IsFromTo}
 use Rattle.ladder_text.proofs.BoxPlaces.{box_there}
-use Rattle.ladder_text.proofs.RisingItems.{outlines_rising}
+use Rattle.ladder_text.proofs.RisingBoxes.{outlines_rising}
 
 pub boxes_in_order : (d : Rows) → AreInOrder (height d) (outlines d)
 boxes_in_order d = record {

@@ -5,7 +5,7 @@ use Rattle.std.proofs.lemmas.Bool.{and_parts, and_from, or_cases, not-true, both
 use Rattle.std.proofs.lemmas.Option.{none-some, same_Some, slice_get_within, get_or_from_slice_get}
 use Rattle.std.proofs.lemmas.List.Folds.{list_any_at, list_all_at}
 use Rattle.ladder_text.specs.declared.mark.Mark.TheVariants.{BoxPart}
-use Rattle.ladder_text.specs.declared.drawn_box.BlockName.{BlockName}
+use Rattle.words.specs.declared.names.BlockName.{BlockName}
 use Rattle.ladder_text.specs.declared.drawn_box.DrawnPin.{DrawnPin}
 use Rattle.ladder_text.specs.declared.drawn_box.DrawnBox.{DrawnBox}
 use Rattle.ladder_text.specs.declared.outline.Outline.{Outline}

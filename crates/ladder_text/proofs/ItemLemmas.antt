@@ -1,19 +1,11 @@
--- The items of lists that are put one after the other, and where they come from.
-use Rattle.std.proofs.Common.{ℕ, zero, suc, ◌+◌, ◌<◌, ◌≤◌, ◌≡◌, List, [], ◌∷◌, ◌++◌, length, map, Option, Some, None, refl, sym, ◌∙◌, arith, ◌⊎◌, inl, inr}
+-- The items of lists that are put one after the other: where they come from, and in which order they stand.
+use Rattle.std.proofs.Common.{ℕ, zero, suc, ◌<◌, ◌≤◌, ◌≡◌, List, [], ◌∷◌, map, Option, Some, None, refl, sym, ◌∙◌, arith, ◌⊎◌, inl, inr}
 use Rattle.std.specs.List.{slice_get}
+use Rattle.std.proofs.lemmas.Bool.{cases_lt}
 use Rattle.std.proofs.lemmas.Option.{none-some}
+use Rattle.lists.proofs.Places.{slice_get-append}
 use Rattle.ladder_text.specs.Rows.{upto}
 use Rattle.ladder_text.specs.Boxes.{option_list}
-
--- an item of two lists is one of the first or one of the second
-pub slice_get-append : {A : Type 0} (xs ys : List A) (k : ℕ)
-    → ((k < length xs) × (slice_get (xs ++ ys) k ≡ slice_get xs k)) ⊎ ((j : ℕ) × (k ≡ length xs + j) × (slice_get (xs ++ ys) k ≡ slice_get ys j))
-slice_get-append [] ys k = inr (k, omega arith, refl)
-slice_get-append (x ∷ xs) ys zero = inl (omega arith, refl)
-slice_get-append (x ∷ xs) ys (suc k) = elim (slice_get-append xs ys k) [
-  | inl w ↦ inl (omega (arith, w.0), w.1)
-  | inr w ↦ inr (w.0, omega (arith, w.1), w.2)
-]
 
 pub option_item : {A : Type 0} (o : Option A) (k : ℕ) (x : A) → slice_get (option_list o) k ≡ Some x → (k ≡ 0) × (o ≡ Some x)
 option_item None k x e = absurd (none-some x e)
@@ -44,29 +36,10 @@ upto_item (suc n) f k x e = elim (slice_get-append (upto n f) (f (suc n)) k) [
 abbrev pub IsKeyed : {A : Type 0} → (A → ℕ) → (ℕ → List A) → Type 0
 IsKeyed {A} key f = (i k : ℕ) (x : A) → slice_get (f i) k ≡ Some x → key x ≡ i
 
--- two items that are alike are at one place
-abbrev pub IsAlikeOnce : {A : Type 0} → (A → A → Type 0) → List A → Type 0
-IsAlikeOnce {A} alike xs = (j k : ℕ) (x y : A) → slice_get xs j ≡ Some x → slice_get xs k ≡ Some y → alike x y → j ≡ k
-
 pub upto_key : {A : Type 0} (key : A → ℕ) (f : ℕ → List A) (n k : ℕ) (x : A) → IsKeyed key f → slice_get (upto n f) k ≡ Some x → key x ≤ n
 upto_key key f n k x keyed e =
     let i = upto_item n f k x e in
     omega (arith, keyed i.list i.place x i.is, i.within)
-
--- where items of one list that are alike are at one place, so are those of all lists that have one key and are alike
-pub upto_once : {A : Type 0} (key : A → ℕ) (alike : A → A → Type 0) (f : ℕ → List A) → IsKeyed key f → ((i : ℕ) → IsAlikeOnce alike (f i))
-    → (n : ℕ) → IsAlikeOnce (λ x y. (key x ≡ key y) × alike x y) (upto n f)
-upto_once key alike f keyed once zero j k x y a b s = absurd (none-some x a)
-upto_once key alike f keyed once (suc n) j k x y a b s = elim (slice_get-append (upto n f) (f (suc n)) j) [
-  | inl v ↦ elim (slice_get-append (upto n f) (f (suc n)) k) [
-    | inl w ↦ upto_once key alike f keyed once n j k x y (sym v.1 ∙ a) (sym w.1 ∙ b) s
-    | inr w ↦ absurd (omega (arith, s.0, upto_key key f n j x keyed (sym v.1 ∙ a), keyed (suc n) w.0 y (sym w.2 ∙ b)))
-  ]
-  | inr v ↦ elim (slice_get-append (upto n f) (f (suc n)) k) [
-    | inl w ↦ absurd (omega (arith, s.0, upto_key key f n k y keyed (sym w.1 ∙ b), keyed (suc n) v.0 x (sym v.2 ∙ a)))
-    | inr w ↦ omega (arith, v.1, w.1, once (suc n) v.0 w.0 x y (sym v.2 ∙ a) (sym w.2 ∙ b) s.1)
-  ]
-]
 
 -- what f finds at the places of h rows and w columns, row by row
 abbrev pub found : {A : Type 0} → (ℕ → ℕ → Option A) → ℕ → ℕ → List A
@@ -100,13 +73,65 @@ found_item f h w k x e =
 abbrev pub IsPlaced : {A : Type 0} → (A → ℕ) → (A → ℕ) → (ℕ → ℕ → Option A) → Type 0
 IsPlaced {A} row column f = (r c : ℕ) (x : A) → f r c ≡ Some x → (row x ≡ r) × (column x ≡ c)
 
+-- of two items the one before is below the other
+abbrev pub IsRising : {A : Type 0} → (A → A → Type 0) → List A → Type 0
+IsRising {A} IsBelow xs = (j k : ℕ) (x y : A) → j < k → slice_get xs j ≡ Some x → slice_get xs k ≡ Some y → IsBelow x y
+
+pub upto_rising : {A : Type 0} (key : A → ℕ) (IsBelow : A → A → Type 0) (f : ℕ → List A) → IsKeyed key f → ((i : ℕ) → IsRising IsBelow (f i))
+    → (n : ℕ) → IsRising (λ x y. (key x < key y) ⊎ ((key x ≡ key y) × IsBelow x y)) (upto n f)
+upto_rising key IsBelow f keyed rising zero j k x y h a b = absurd (none-some x a)
+upto_rising key IsBelow f keyed rising (suc n) j k x y h a b = elim (slice_get-append (upto n f) (f (suc n)) j) [
+  | inl v ↦ elim (slice_get-append (upto n f) (f (suc n)) k) [
+    | inl w ↦ upto_rising key IsBelow f keyed rising n j k x y h (sym v.1 ∙ a) (sym w.1 ∙ b)
+    | inr w ↦ inl (omega (arith, upto_key key f n j x keyed (sym v.1 ∙ a), keyed (suc n) w.0 y (sym w.2 ∙ b)))
+  ]
+  | inr v ↦ elim (slice_get-append (upto n f) (f (suc n)) k) [
+    | inl w ↦ absurd (omega (arith, v.1, w.0))
+    | inr w ↦ inr (
+      omega (arith, keyed (suc n) v.0 x (sym v.2 ∙ a), keyed (suc n) w.0 y (sym w.2 ∙ b)),
+      rising (suc n) v.0 w.0 x y (omega (arith, v.1, w.1)) (sym v.2 ∙ a) (sym w.2 ∙ b),
+    )
+  ]
+]
+
+below_alone : (a b : ℕ) → (a < b) ⊎ ((a ≡ b) × ⊥) → a < b
+below_alone a b (inl h) = h
+below_alone a b (inr w) = absurd w.1
+
+-- what f finds at the places 1 to n, where it says at which
+pub options_rising : {A : Type 0} (key : A → ℕ) (f : ℕ → Option A) → ((c : ℕ) (x : A) → f c ≡ Some x → key x ≡ c) → (n : ℕ) → IsRising (λ x y. key x < key y) (upto n (λ c. option_list (f c)))
+options_rising key f placed n j k x y l a b =
+    below_alone (key x) (key y) (upto_rising key (λ x y. ⊥) (λ c. option_list (f c))
+    (λ c k x e. placed c x (option_item (f c) k x e).1)
+    (λ c j k x y l a b. absurd (omega (arith, l, (option_item (f c) j x a).0, (option_item (f c) k y b).0)))
+    n j k x y l a b)
+
+-- what is found at places stands by row and then column
+abbrev pub IsBefore : {A : Type 0} → (A → ℕ) → (A → ℕ) → A → A → Type 0
+IsBefore row column x y = (row x < row y) ⊎ ((row x ≡ row y) × (column x < column y))
+
+pub found_rising : {A : Type 0} (row column : A → ℕ) (f : ℕ → ℕ → Option A) → IsPlaced row column f → (h w : ℕ) → IsRising (IsBefore row column) (found f h w)
+found_rising {A} row column f placed h w =
+    upto_rising row (λ x y. column x < column y) (λ r. upto w (λ c. option_list (f r c)))
+    (λ r k x e. let j = upto_item w (λ c. option_list (f r c)) k x e in (placed r j.list x (option_item (f r j.list) j.place x j.is).1).0)
+    (λ r. options_rising column (f r) (λ c x e. (placed r c x e).1) w)
+    h
+
+-- two items that are alike are at one place
+abbrev pub IsAlikeOnce : {A : Type 0} → (A → A → Type 0) → List A → Type 0
+IsAlikeOnce {A} alike xs = (j k : ℕ) (x y : A) → slice_get xs j ≡ Some x → slice_get xs k ≡ Some y → alike x y → j ≡ k
+
+not_before : (a b c e : ℕ) → a ≡ c → b ≡ e → (a < c) ⊎ ((a ≡ c) × (b < e)) → ⊥
+not_before a b c e i j (inl l) = absurd (omega (arith, i, l))
+not_before a b c e i j (inr w) = absurd (omega (arith, j, w.1))
+
+-- what is found at places is found once at each
 pub found_once : {A : Type 0} (row column : A → ℕ) (f : ℕ → ℕ → Option A) → IsPlaced row column f → (h w : ℕ)
     → IsAlikeOnce (λ x y. (row x ≡ row y) × (column x ≡ column y)) (found f h w)
-found_once {A} row column f placed h w =
-    upto_once row (λ x y. column x ≡ column y) (λ r. upto w (λ c. option_list (f r c)))
-    (λ r k x e. let j = upto_item w (λ c. option_list (f r c)) k x e in (placed r j.list x (option_item (f r j.list) j.place x j.is).1).0)
-    (λ r j k x y a b s. upto_once column (λ x y. Unit {0}) (λ c. option_list (f r c))
-    (λ c k x e. (placed r c x (option_item (f r c) k x e).1).1)
-    (λ c j k x y a b s. omega (arith, (option_item (f r c) j x a).0, (option_item (f r c) k y b).0))
-    w j k x y a b (s, tt))
-    h
+found_once row column f placed h w j k x y a b s = elim (cases_lt j k) [
+  | inl l ↦ absurd (not_before (row x) (column x) (row y) (column y) s.0 s.1 (found_rising row column f placed h w j k x y l a b))
+  | inr m ↦ elim (cases_lt k j) [
+    | inl l ↦ absurd (not_before (row y) (column y) (row x) (column x) (sym s.0) (sym s.1) (found_rising row column f placed h w k j y x l b a))
+    | inr n ↦ omega (arith, m, n)
+  ]
+]

@@ -1,12 +1,14 @@
 -- The left rail's column of a text is one of its columns.
-use Rattle.std.proofs.Common.{ℕ, zero, suc, ◌+◌, ◌-◌, ◌<◌, ◌≤◌, ◌≡◌, ◌≢◌, ◌==◌, add-one, Bool, true, false, cond, List, [], ◌∷◌, length, map, get_or, refl, sym, ap, ◌∙◌, arith, rules, tests, inl, inr}
+use Rattle.std.proofs.Common.{ℕ, zero, suc, ◌+◌, ◌-◌, ◌<◌, ◌≤◌, ◌≡◌, ◌≢◌, ◌==◌, add-one, Bool, true, List, [], ◌∷◌, length, map, get_or, refl, sym, ap, ◌∙◌, arith, rules, tests, inl, inr}
 use Rattle.std.specs.Prelude.{max}
 use Rattle.std.specs.List.{fold, list_all}
 use Rattle.std.proofs.lemmas.Bool.{both_ways, true_from_ne_false, eqb-true, cases_lt}
 use Rattle.std.proofs.lemmas.List.{get_or_past}
 use Rattle.std.proofs.lemmas.List.Folds.{list_all_at}
-use Rattle.ladder_text.specs.Rows.{Rows, rows_of, row_of, lines_of, trimmed, put_before, without_last, width, run}
+use Rattle.words.specs.Lines.{lines_of, without_last}
+use Rattle.ladder_text.specs.Rows.{Rows, rows_of, row_of, trimmed, put_before, width}
 use Rattle.ladder_text.specs.Boxes.{is_blank_column, left_column}
+use Rattle.ladder_text.proofs.RunLemmas.{run_passes}
 use Rattle.ladder_text.proofs.WidthLemmas.{row-narrow}
 
 -- the last of the characters, a blank where there are none
@@ -60,22 +62,6 @@ left_above text =
     let d = rows_of text in
     let e = text_margin text in
     rw (add-one, e) (omega arith)
-
-later_in : (b : Bool) (m j : ℕ) → suc j < cond b (suc m) 0 → j < m
-later_in true m j h = omega arith
-later_in false m j h = absurd (omega arith)
-
-passes_first : (b : Bool) (m : ℕ) → 0 < cond b m 0 → b ≡ true
-passes_first true m h = refl
-passes_first false m h = absurd (omega arith)
-
--- each place of a run passes
-run_passes : (p : ℕ → Bool) (i n j : ℕ) → j < run p i n → p (i + j) ≡ true
-run_passes p i zero j h = absurd (omega arith)
-run_passes p i (suc n) zero h = let q : i + 0 ≡ i = omega arith in rw q (passes_first (p i) (suc (run p (i + 1) n)) h)
-run_passes p i (suc n) (suc j) h =
-    let q : i + suc j ≡ i + 1 + j = omega arith in
-    rw q (run_passes p (i + 1) n j (later_in (p i) (run p (i + 1) n) j h))
 
 fold-max_within : (m a : ℕ) (d : Rows) → a ≤ m → ((r : ℕ) → length (get_or d r []) ≤ m) → fold max a (map length d) ≤ m
 fold-max_within m a [] h rows = h

@@ -6,9 +6,7 @@ pub mod WellDrawn
 pub mod PictureLemmas
 pub mod WidthLemmas
 pub mod IllDrawn
-pub mod NameLemmas
 pub mod AsciiLemmas
-pub mod TextLemmas
 pub mod MarkLemmas
 pub mod RowMarkLemmas
 pub mod ItemLemmas
@@ -19,8 +17,7 @@ pub mod LeftLemmas
 pub mod Soundness
 pub mod RowBoxLemmas
 pub mod PinRows
-pub mod RisingItems
-pub mod NumberLemmas
+pub mod RisingBoxes
 pub mod RowPins
 pub mod BoxOrder
 pub mod SpanRows
@@ -30,9 +27,6 @@ pub mod WordLemmas
 pub mod SizeLemmas
 pub mod FirstFaults
 pub mod Faultless
-pub mod DurationLemmas
-pub mod DurationParse
-pub mod DurationWords
 pub mod PairLemmas
 pub mod FinePlaces
 pub mod CornerLemmas

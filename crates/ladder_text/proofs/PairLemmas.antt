@@ -7,7 +7,7 @@ use Rattle.std.proofs.lemmas.List.{append-nil}
 use Rattle.std.proofs.lemmas.List.Folds.{list_any_at, list_all_at}
 use Rattle.std.proofs.lemmas.List.Sums.{sum_by-cons}
 use Rattle.ladder_text.specs.declared.span.Span.{Span}
-use Rattle.ladder_text.specs.Chars.{is_name}
+use Rattle.words.specs.Chars.{is_name}
 use Rattle.ladder_text.specs.Places.{Layout}
 use Rattle.ladder_text.specs.Names.{overlap, words, symbols, tops, things, word_text}
 use Rattle.ladder_text.specs.Faults.{stray_name, name_missing, has_earlier, is_second}

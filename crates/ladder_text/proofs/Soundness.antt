@@ -7,7 +7,7 @@ use Rattle.ladder_text.specs.Picture.{Picture, picture_of, IsSound}
 use Rattle.ladder_text.proofs.LeftLemmas.{left_above, left_within}
 use Rattle.ladder_text.proofs.SymbolItems.{mark_at-contact, mark_at-coil, contacts_sharing, coils_sharing}
 use Rattle.ladder_text.proofs.PictureLemmas.{mark_at-drawn}
-use Rattle.ladder_text.proofs.RisingItems.{boxes_rising_of}
+use Rattle.ladder_text.proofs.RisingBoxes.{boxes_rising_of}
 use Rattle.ladder_text.proofs.BoxPlaces.{mark_at-box, boxes_sharing, box_whole}
 
 pub sound_of_text : (line : ℕ) (text : List ℕ) → IsWellDrawn (rows_of text) → IsSound (picture_of line (layout_of (rows_of text)))

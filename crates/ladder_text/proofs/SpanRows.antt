@@ -3,10 +3,11 @@ use Rattle.std.proofs.Common.{ℕ, zero, suc, ◌+◌, ◌<◌, ◌≤◌, ◌�
 use Rattle.std.specs.List.{filter_map}
 use Rattle.std.specs.Option.{is_some}
 use Rattle.std.proofs.Math.Seq.{take-suc}
-use Rattle.std.proofs.lemmas.Bool.{both_ways, or_parts, cases_lt}
+use Rattle.std.proofs.lemmas.Bool.{or_parts, cases_lt}
 use Rattle.std.proofs.lemmas.List.{get_or_past}
 use Rattle.std.proofs.lemmas.List.Elements.{filter_map-append}
 use Rattle.std.proofs.lemmas.Option.{same_Some, none-some}
+use Rattle.lists.proofs.Places.{none_from_is_some}
 use Rattle.ladder_text.specs.declared.span.Span.{Span}
 use Rattle.ladder_text.specs.Rows.{Rows, char_at, width, upto}
 use Rattle.ladder_text.specs.Boxes.{option_list}
@@ -79,21 +80,17 @@ cond_none_of : {A : Type 0} (b : Bool) (x : A) → cond b (Some x) None ≡ None
 cond_none_of true x e = absurd (none-some x (sym e))
 cond_none_of false x e = refl
 
-none_of : {A : Type 0} (o : Option A) → is_some o ≡ false → o ≡ None
-none_of None e = refl
-none_of (Some x) e = absurd (both_ways true e refl)
-
 contact_none : (p : Layout) (r c : ℕ) → symbol_at p r c ≡ None → contact_with p r c (contact_at p r c) ≡ None
 unfolding symbol_at
 contact_none p r c e =
     let q = or_parts (is_some (contact_at p r c)) (is_some (coil_at p r c)) (cond_none_of (is_first_of_symbol p r c) _ e) in
-    rw (none_of (contact_at p r c) q.0) refl
+    rw (none_from_is_some (contact_at p r c) q.0) refl
 
 coil_none : (p : Layout) (r c : ℕ) → symbol_at p r c ≡ None → coil_with p r c (coil_at p r c) ≡ None
 unfolding symbol_at
 coil_none p r c e =
     let q = or_parts (is_some (contact_at p r c)) (is_some (coil_at p r c)) (cond_none_of (is_first_of_symbol p r c) _ e) in
-    rw (none_of (coil_at p r c) q.1) refl
+    rw (none_from_is_some (coil_at p r c) q.1) refl
 
 -- the contacts of a row stand where its symbols begin
 pub row_contacts_by_symbol : (p : Layout) (r : ℕ) → filter_map (λ (s : Span). contact_with p r s.first (contact_at p r s.first)) (symbols p r) ≡ row_contacts p r
@@ -108,9 +105,9 @@ row_coils_by_symbol p r = upto-by_symbol (λ c. coil_with p r c (coil_at p r c))
 pub contact_beside : (p : Layout) (r c : ℕ) → width p.rows < c → contact_with p r c (contact_at p r c) ≡ None
 contact_beside p r c h =
     let q = or_parts (is_some (contact_at p r c)) (is_some (coil_at p r c)) (no_symbol p r c (blank_beside p.rows r c h)) in
-    rw (none_of (contact_at p r c) q.0) refl
+    rw (none_from_is_some (contact_at p r c) q.0) refl
 
 pub coil_beside : (p : Layout) (r c : ℕ) → width p.rows < c → coil_with p r c (coil_at p r c) ≡ None
 coil_beside p r c h =
     let q = or_parts (is_some (contact_at p r c)) (is_some (coil_at p r c)) (no_symbol p r c (blank_beside p.rows r c h)) in
-    rw (none_of (coil_at p r c) q.1) refl
+    rw (none_from_is_some (coil_at p r c) q.1) refl

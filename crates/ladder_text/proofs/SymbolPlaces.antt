@@ -8,7 +8,7 @@ use Rattle.ladder_text.specs.declared.mark.Mark.TheVariants.{ContactPart, CoilPa
 use Rattle.ladder_text.specs.declared.contact.ContactKind.{ContactKind}
 use Rattle.ladder_text.specs.declared.coil.CoilKind.{CoilKind}
 use Rattle.ladder_text.specs.Rows.{Rows, char_at, width}
-use Rattle.ladder_text.specs.Chars.{contact_kind, coil_kind}
+use Rattle.ladder_text.specs.SymbolKinds.{contact_kind, coil_kind}
 use Rattle.ladder_text.specs.Places.{Layout, contact_at, coil_at, in_box, in_contact, in_coil, within_three, mark, is_symbol}
 use Rattle.ladder_text.specs.Faults.{is_first_of_symbol}
 use Rattle.ladder_text.proofs.WidthLemmas.{row-narrow}

@@ -1,17 +1,17 @@
 -- The words and the symbols of a row from left to right.
-use Rattle.std.proofs.Common.{ℕ, zero, suc, ◌+◌, ◌-◌, ◌<◌, ◌≤◌, ◌≡◌, ◌++◌, ◌&&◌, ◌||◌, not, Some, inl, inr, [], ◌∷◌, List, Bool, true, false, refl, ap, ◌∙◌, arith}
+use Rattle.std.proofs.Common.{ℕ, zero, suc, ◌+◌, ◌-◌, ◌<◌, ◌≤◌, ◌≡◌, ◌++◌, ◌&&◌, ◌||◌, not, Some, inl, inr, [], ◌∷◌, List, true, false, refl, ap, ◌∙◌, arith}
 use Rattle.std.proofs.lemmas.List.{append-nil}
 use Rattle.std.proofs.lemmas.Bool.{and_parts, and_right, both_ways, or_cases}
 use Rattle.std.specs.Option.{is_some}
 use Rattle.ladder_text.specs.declared.span.Span.{Span}
 use Rattle.ladder_text.specs.Rows.{run, upto, width, char_at}
-use Rattle.ladder_text.specs.Chars.{is_word_char}
+use Rattle.words.specs.Chars.{is_word_char}
 use Rattle.ladder_text.specs.Boxes.{option_list}
 use Rattle.ladder_text.specs.declared.mark.Mark.{Mark}
 use Rattle.ladder_text.specs.declared.mark.Mark.TheVariants.{ContactPart, CoilPart}
 use Rattle.ladder_text.specs.Places.{Layout, contact_at, coil_at}
 use Rattle.ladder_text.specs.Names.{in_word, word_at, symbol_at}
-use Rattle.ladder_text.proofs.RunLemmas.{upto-more}
+use Rattle.ladder_text.proofs.RunLemmas.{upto-more, run_passes}
 use Rattle.ladder_text.proofs.RowMarkLemmas.{IsPassed, contact_passed, coil_passed}
 use Rattle.ladder_text.proofs.SymbolPlaces.{cond_some_of, drawn_inside}
 
@@ -30,22 +30,6 @@ word_within p r c (suc n) within h =
     let e : c + 1 + n ≡ c + suc n = omega arith in
     let last = drawn_inside p.rows r (c + 1 + n) (word_drawn p r (c + 1 + n) (h n (omega arith))) in
     omega (arith, last, e)
-
-run_step : (test : ℕ → Bool) (i n k : ℕ) → k < run test i (suc n) → (test i ≡ true) × (k < suc (run test (i + 1) n))
-run_step test i n k h = by (test i) refl
-  where
-    by : (b : Bool) → test i ≡ b → (test i ≡ true) × (k < suc (run test (i + 1) n))
-    by false e = let none : run test i (suc n) ≡ 0 = rw e refl in absurd (omega (arith, none))
-    by true e = let more : run test i (suc n) ≡ suc (run test (i + 1) n) = rw e refl in (e, omega (arith, more))
-
--- each place of a run passes the test
-run_passes : (test : ℕ → Bool) (i n k : ℕ) → k < run test i n → test (i + k) ≡ true
-run_passes test i zero k h = absurd (omega arith)
-run_passes test i (suc n) zero h = let q : i + 0 ≡ i = omega arith in rw q (run_step test i n zero h).0
-run_passes test i (suc n) (suc k) h =
-    let q : i + suc k ≡ i + 1 + k = omega arith in
-    let l = (run_step test i n (suc k) h).1 in
-    rw q (run_passes test (i + 1) n k (omega arith))
 
 -- no word begins behind a place of one
 no_word : (p : Layout) (r c : ℕ) → in_word p r (c - 1) ≡ true → option_list (word_at p r c) ≡ []

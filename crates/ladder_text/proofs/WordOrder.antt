@@ -1,5 +1,5 @@
 -- The words of a row stand by their first columns.
-use Rattle.std.proofs.Common.{ℕ, ◌<◌, ◌≡◌, List, length, take, get_or, Some, refl, sym, ap, ◌∙◌, subst, arith, Bool, true, IsFalse, ◌⊎◌, inl, inr, length-take-le}
+use Rattle.std.proofs.Common.{ℕ, ◌<◌, ◌≡◌, List, length, take, get_or, Some, refl, sym, ap, ◌∙◌, subst, arith, Bool, true, IsFalse, inl, inr, length-take-le}
 use Rattle.std.specs.List.{slice_get, list_any}
 use Rattle.std.proofs.lemmas.Bool.{cases_lt, both_ways}
 use Rattle.std.proofs.lemmas.List.{get_or-take, get_or_default}
@@ -7,13 +7,11 @@ use Rattle.std.proofs.lemmas.List.Folds.{list_any_at}
 use Rattle.std.proofs.lemmas.Option.{slice_get_read}
 use Rattle.ladder_text.specs.declared.span.Span.{Span}
 use Rattle.ladder_text.specs.Rows.{width}
-use Rattle.ladder_text.specs.Boxes.{option_list}
 use Rattle.ladder_text.specs.Places.{Layout}
 use Rattle.ladder_text.specs.Names.{in_word, word_at, words}
 use Rattle.ladder_text.specs.FirstFault.{IsSpanAt}
 use Rattle.ladder_text.specs.Steps.Search.{IsFirstColumn}
-use Rattle.ladder_text.proofs.ItemLemmas.{option_item}
-use Rattle.ladder_text.proofs.RisingItems.{IsRising, upto_rising}
+use Rattle.ladder_text.proofs.ItemLemmas.{IsRising, options_rising}
 use Rattle.ladder_text.proofs.SymbolPlaces.{cond_some_of}
 use Rattle.std.proofs.lemmas.Option.{same_Some}
 use Rattle.std.proofs.Common.{◌&&◌, not, ◌-◌}
@@ -22,17 +20,9 @@ word_first : (p : Layout) (r c : ℕ) (s : Span) → word_at p r c ≡ Some s �
 unfolding word_at
 word_first p r c s e = ap (λ (t : Span). t.first) (sym (same_Some _ s (cond_some_of (in_word p r c && not (in_word p r (c - 1))) _ s e).1))
 
-by_first : (a b : ℕ) → (a < b) ⊎ ((a ≡ b) × ⊥) → a < b
-by_first a b (inl h) = h
-by_first a b (inr w) = absurd w.1
-
 words_rising : (p : Layout) (r : ℕ) → IsRising (λ (x y : Span). x.first < y.first) (words p r)
 unfolding words
-words_rising p r j k x y l a b =
-    by_first x.first y.first (upto_rising (λ (s : Span). s.first) (λ x y. ⊥) (λ c. option_list (word_at p r c))
-    (λ c k x e. word_first p r c x (option_item (word_at p r c) k x e).1)
-    (λ c j k x y l a b. absurd (omega (arith, l, (option_item (word_at p r c) j x a).0, (option_item (word_at p r c) k y b).0)))
-    (width p.rows) j k x y l a b)
+words_rising p r = options_rising (λ (s : Span). s.first) (word_at p r) (word_first p r) (width p.rows)
 
 -- the first span that passes begins before the others, where they are the words
 first_word : (p : Layout) (r : ℕ) (test : Span → Bool) (xs : List Span) (i : ℕ) (x d : Span) → xs ≡ words p r → i < length xs → x ≡ get_or xs i d

@@ -1,13 +1,13 @@
 -- Where boxes begin, and what they are.
 use Rattle.std.specs.Prelude.{ℕ, zero, suc, ◌+◌, ◌-◌, List, [], ◌∷◌, ◌++◌, ◌==◌, if◌then◌else◌, length, slice_index_or, take, drop, Bool, true, false, ◌&&◌, ◌||◌, not, nat_lt, nat_le, Option, Some, None, is_some}
 use Rattle.std.specs.List.{slice_split, list_all, filter}
-use Rattle.ladder_text.specs.declared.drawn_box.BlockName.{BlockName}
+use Rattle.words.specs.declared.names.BlockName.{BlockName}
 use Rattle.ladder_text.specs.declared.drawn_box.DrawnPin.{DrawnPin}
 use Rattle.ladder_text.specs.declared.outline.Outline.{Outline}
 use Rattle.ladder_text.specs.declared.drawn_box.Operand.{Operand}
 use Rattle.ladder_text.specs.declared.drawn_box.Side.TheVariants as side
 use Rattle.ladder_text.specs.Rows.{Rows, char_at, height, width, run, run_back, upto, trimmed}
-use Rattle.ladder_text.specs.Chars.{block_name, is_identifier, is_word_char}
+use Rattle.words.specs.Chars.{block_name, is_identifier, is_word_char}
 
 -- nothing is drawn in column c
 abbrev pub is_blank_column : Rows → ℕ → Bool

@@ -10,7 +10,7 @@ use Rattle.ladder_text.specs.declared.place_fault.PlaceFault.{PlaceFault}
 use Rattle.ladder_text.specs.declared.place_fault.PlaceFault.TheVariants.{BadMark, Crossing, NoSource}
 use Rattle.ladder_text.specs.declared.outline.Outline.{Outline}
 use Rattle.ladder_text.specs.Rows.{Rows, char_at, height, width, run}
-use Rattle.ladder_text.specs.Chars.{between, is_word_char, is_name, is_plain_name, is_operand}
+use Rattle.words.specs.Chars.{between, is_word_char, is_name, is_plain_name, is_operand}
 use Rattle.ladder_text.specs.Boxes.{outline_at, begins_box, covers, left_column}
 use Rattle.ladder_text.specs.Places.{Layout, contact_at, coil_at, is_taken, is_rail_char, mark, is_wire, is_join, is_upright, is_vertical, is_line, is_box_part, gives, pin_on, layout_of}
 use Rattle.ladder_text.specs.Names.{overlap, words, symbols, tops, things, word_text}

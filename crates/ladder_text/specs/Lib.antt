@@ -1,7 +1,5 @@
 pub mod Rows
-pub mod Chars
-pub mod Numbers
-pub mod Durations
+pub mod SymbolKinds
 pub mod Boxes
 pub mod Places
 pub mod Names

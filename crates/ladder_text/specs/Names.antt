@@ -9,7 +9,7 @@ use Rattle.ladder_text.specs.declared.outline.Outline.{Outline}
 use Rattle.ladder_text.specs.declared.contact.ContactKind.{ContactKind}
 use Rattle.ladder_text.specs.declared.coil.CoilKind.{CoilKind}
 use Rattle.ladder_text.specs.Rows.{char_at, height, width, run, upto}
-use Rattle.ladder_text.specs.Chars.{is_word_char}
+use Rattle.words.specs.Chars.{is_word_char}
 use Rattle.ladder_text.specs.Boxes.{cut, option_list}
 use Rattle.ladder_text.specs.Places.{Layout, contact_at, coil_at, is_taken, in_operand}
 

@@ -1,5 +1,4 @@
 -- Steps of the proofs: what the reading knows halfway. Only contracts inside this crate cite them, so no reader has to believe them.
-pub mod Letters
 pub mod Pairs
 pub mod RowBoxes
 pub mod RowMarks

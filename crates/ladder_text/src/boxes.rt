@@ -13,7 +13,6 @@ ghost use Rattle.ladder_text.specs.Steps.Search.{IsFirstOf};
 use crate::box_test::BoxTest;
 use crate::drawn_box::{DrawnPin, Side};
 use crate::grid::Grid;
-use crate::names::is_operand;
 use crate::outline::Outline;
 use crate::outlines::outlines;
 use crate::place::{Place, or_earlier};
@@ -21,6 +20,7 @@ use crate::row_numbers::RowNumbers;
 use crate::span::Span;
 use std::alloc::{AllocError, Global};
 use std::marker::Model;
+use words::is_operand;
 
 /// The boxes of a text by row and then column, and for each row the numbers of those that have it.
 #[derive(Drop)]

@@ -1,4 +1,4 @@
-use crate::text::Text;
+use words::Text;
 
 /// What a coil stores (IEC 61131-3, 4.2.4).
 #[derive(Clone, Copy, Debug, PartialEq, Eq)]

@@ -1,4 +1,4 @@
-use crate::text::Text;
+use words::Text;
 
 /// When a contact conducts (IEC 61131-3, 4.2.3).
 #[derive(Clone, Copy, Debug, PartialEq, Eq)]

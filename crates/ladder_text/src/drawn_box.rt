@@ -1,21 +1,8 @@
 ghost use Rattle.std.specs.Prelude.{◌≡◌, [], ◌∷◌, ◌++◌, IfOk, OnErr, OnOk};
 
-use crate::text::Text;
 use std::alloc::{AllocError, Global};
 use std::marker::Model;
-
-/// The types of the standard function blocks (IEC 61131-3, 2.5.2.3).
-#[derive(Clone, Copy, Debug, PartialEq, Eq)]
-pub enum BlockName {
-    Sr,
-    Rs,
-    Ctu,
-    Ctd,
-    Ctud,
-    Tp,
-    Ton,
-    Tof,
-}
+use words::{BlockName, Text};
 
 /// A side of a box: inputs stand on the left, outputs on the right.
 #[derive(Clone, Copy, Debug, PartialEq, Eq)]

@@ -8,11 +8,10 @@ ghost use Rattle.ladder_text.specs.Steps.Search.{first_long, first_beyond};
 ghost use Rattle.ladder_text.specs.FirstFault.{IsFirstAt, IsTooLargeAt};
 ghost use Rattle.std.specs.Str.{IsAscii};
 
-use crate::drawn_box::BlockName;
-use crate::names::block_name;
 use crate::place::Place;
 use crate::rows::{Row, cells_of, char_at, cut, left_column, trimmed, width};
 use std::marker::Model;
+use words::{BlockName, block_name};
 
 /// The rows of a text, with the column of the left rail and the last column.
 #[derive(Drop)]

@@ -17,13 +17,10 @@ mod coil;
 mod contact;
 mod drawing;
 mod drawn_box;
-mod durations;
 mod grid;
 mod mark;
 mod mark_row;
-mod names;
 mod names_above;
-mod numbers;
 mod outline;
 mod outlines;
 mod page;
@@ -36,21 +33,19 @@ mod refusal;
 mod row_numbers;
 mod rows;
 mod sheet;
-mod short_word;
 mod span;
 mod span_row;
 mod spans;
 mod symbols;
-mod text;
 mod worded_page;
 
 pub use coil::{Coil, CoilKind};
 pub use contact::{Contact, ContactKind};
 pub use drawing::{DrawFault, DrawFaultKind, Drawing};
-pub use drawn_box::{BlockName, DrawnBox, DrawnPin, Operand, Pins, Side};
-pub use durations::{duration_up_to, is_duration};
+pub use drawn_box::{DrawnBox, DrawnPin, Operand, Pins, Side};
 pub use mark::Mark;
-pub use names::{block_name, is_identifier, is_plain_name};
-pub use numbers::{is_number, number_up_to};
 pub use place::Place;
-pub use text::Text;
+pub use words::{
+    BlockName, Text, block_name, duration_up_to, is_duration, is_identifier, is_number,
+    is_plain_name, number_up_to,
+};

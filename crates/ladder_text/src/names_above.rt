@@ -2,7 +2,7 @@
 
 ghost use Rattle.std.specs.Prelude.{MatchOption, IfNone, IfSome, IsFalse, option_copied, find, min, ◌≡◌, ◌<◌, ◌≤◌, ◌^◌, IfOk, IsTrue, count_by, length};
 ghost use Rattle.std.specs.List.{list_any, list_all};
-ghost use Rattle.ladder_text.specs.Chars.{is_name};
+ghost use Rattle.words.specs.Chars.{is_name};
 ghost use Rattle.ladder_text.specs.Places.{layout_of};
 ghost use Rattle.ladder_text.specs.Names.{words, things, overlap, word_text, found_text, name_above};
 ghost use Rattle.ladder_text.specs.Faults.{has_earlier, is_second, stray_name, name_missing};
@@ -11,12 +11,11 @@ ghost use Rattle.ladder_text.specs.FirstFault.{IsSpanAt};
 ghost use Rattle.ladder_text.specs.Steps.Pairs.{StandAbove};
 ghost use Rattle.std.specs.Str.{IsAscii};
 
-use crate::names::{is_name, is_plain_name};
 use crate::pairs::are_paired;
 use crate::span::{Span, overlap};
-use crate::text::Text;
 use crate::worded_page::WordedPage;
 use std::alloc::{AllocError, Global};
+use words::{Text, is_name, is_plain_name};
 
 fn has_earlier(word: &Span, words: &[Span], thing: &Span) -> bool
     ensures { result ≡ has_earlier word.now words.now thing.now }

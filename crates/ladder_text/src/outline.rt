@@ -12,8 +12,9 @@ ghost use Rattle.ladder_text.specs.Faults.{share_place, takes_word, blind_right_
 ghost use Rattle.ladder_text.specs.Steps.RowBoxes.{box_test, row_of_pin};
 
 use crate::box_test::BoxTest;
-use crate::drawn_box::{BlockName, DrawnPin, Pins, Side};
+use crate::drawn_box::{DrawnPin, Pins, Side};
 use crate::span::Span;
+use words::BlockName;
 
 /// A box as it is drawn, its name aside.
 #[derive(Debug, Drop)]

@@ -11,12 +11,11 @@ ghost use Rattle.std.specs.Str.{IsAscii};
 
 use crate::drawn_box::{DrawnPin, Operand, Pins, Side};
 use crate::grid::{Grid, without_leading};
-use crate::names::{is_identifier, is_word_char};
 use crate::outline::Outline;
 use crate::place::Place;
 use crate::rows::trimmed;
-use crate::text::Text;
 use std::alloc::{AllocError, Global};
+use words::{Text, is_identifier, is_word_char};
 
 /// The words between blanks.
 fn blank_words(alloc: Global, text: &[u8]) -> Result<Vec<&[u8]>, AllocError>
@@ -183,7 +182,7 @@ fn nearer_pin(
     }
 }
 
-#[tactic(auto, using(crate::proofs::AsciiLemmas::identifier_ascii))]
+#[tactic(auto, using(words::proofs::AsciiLemmas::identifier_ascii))]
 fn pins_from(
     alloc: Global,
     grid: &Grid,

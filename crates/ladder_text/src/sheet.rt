@@ -2,7 +2,8 @@
 
 ghost use Rattle.std.specs.Prelude.{[], not, ◌||◌, ◌≡◌, ◌∷◌, ◌+◌, ◌-◌, ◌<◌, ◌≤◌, ◌^◌, IfOk, IfErr, IfNone, IfSome, length, vec_len, slice_index_or, is_some, is_none, IsTrue};
 ghost use Rattle.ladder_text.specs.Rows.{char_at, width, height};
-ghost use Rattle.ladder_text.specs.Chars.{contact_kind, coil_kind, is_word_char};
+ghost use Rattle.words.specs.Chars.{is_word_char};
+ghost use Rattle.ladder_text.specs.SymbolKinds.{contact_kind, coil_kind};
 ghost use Rattle.ladder_text.specs.Boxes.{begins_box, cut, left_column, outlines};
 ghost use Rattle.ladder_text.specs.Places.{layout_of, contact_at, coil_at, in_box, in_contact, in_coil, is_taken, may_be_rail, has_right_rail, in_operand, is_right_pin};
 ghost use Rattle.ladder_text.specs.Names.{tops};
@@ -44,7 +45,7 @@ impl Model for Sheet {
     ghost invariant = { λ s. s.boxes ≡ outlines s.grid };
 }
 
-#[tactic(auto, unfolding(crate::specs::Chars::contact_kind))]
+#[tactic(auto, unfolding(crate::specs::SymbolKinds::contact_kind))]
 fn contact_kind(c: u8) -> Option<ContactKind>
     ensures { result ≡ contact_kind c }
 {
@@ -57,7 +58,7 @@ fn contact_kind(c: u8) -> Option<ContactKind>
     }
 }
 
-#[tactic(auto, unfolding(crate::specs::Chars::coil_kind))]
+#[tactic(auto, unfolding(crate::specs::SymbolKinds::coil_kind))]
 fn coil_kind(c: u8) -> Option<CoilKind>
     ensures { result ≡ coil_kind c }
 {

@@ -10,10 +10,10 @@ ghost use Rattle.ladder_text.specs.Names.{in_word, words, symbol_at, symbols};
 
 use crate::mark::Mark;
 use crate::mark_row::MarkRow;
-use crate::names::is_word_char;
 use crate::page::Page;
 use crate::span::Span;
 use std::alloc::{AllocError, Global};
+use words::is_word_char;
 
 /// Whether a place with a character is one of a word; of a row that is bare it is known.
 #[inline(always)]

@@ -2,7 +2,7 @@
 
 ghost use Rattle.std.specs.Prelude.{◌≡◌, ◌+◌, ◌-◌, ◌++◌, ◌<◌, ◌^◌, IfOk, OnOk, length, map, take};
 ghost use Rattle.ladder_text.specs.Places.{layout_of, contact_at, coil_at};
-ghost use Rattle.ladder_text.specs.Names.{contact_with, coil_with, row_contacts, row_coils, contacts, coils, drawn_box, drawn_boxes};
+ghost use Rattle.ladder_text.specs.Names.{name_above, contact_with, coil_with, row_contacts, row_coils, contacts, coils, drawn_box, drawn_boxes};
 
 use crate::coil::Coil;
 use crate::contact::Contact;
@@ -12,6 +12,24 @@ use crate::outline::Outline;
 use crate::span::Span;
 use crate::worded_page::WordedPage;
 use std::alloc::{AllocError, Global};
+use words::Text;
+
+/// The name of the symbol whose first place is in a column.
+fn symbol_name(
+    alloc: Global,
+    page: &WordedPage,
+    row: usize,
+    column: usize,
+) -> Result<Text, AllocError>
+    requires { column < 2 ^ 62 }
+    ensures { IfOk result (λ t. t ≡ name_above (layout_of page.now) row (record { first = column; end = column + 3 })) }
+{
+    let span = Span {
+        first: column,
+        end: column + 3,
+    };
+    name_above(alloc, page, row, &span)
+}
 
 /// The contact whose first place is in a column, with its name.
 #[tactic(auto, unfolding(crate::specs::Places::layout_of), using(crate::proofs::SpanRows::contact_beside))]
@@ -29,11 +47,7 @@ fn contact_here(
     match page.sheet().contact_at(row, column) {
         None => Ok(None),
         Some(kind) => {
-            let span = Span {
-                first: column,
-                end: column + 3,
-            };
-            let name = name_above(alloc, page, row, &span)?;
+            let name = symbol_name(alloc, page, row, column)?;
             Ok(Some(Contact {
                 row,
                 column,
@@ -60,11 +74,7 @@ fn coil_here(
     match page.sheet().coil_at(row, column) {
         None => Ok(None),
         Some(kind) => {
-            let span = Span {
-                first: column,
-                end: column + 3,
-            };
-            let name = name_above(alloc, page, row, &span)?;
+            let name = symbol_name(alloc, page, row, column)?;
             Ok(Some(Coil {
                 row,
                 column,

@@ -1,5 +1,5 @@
 -- What stands at which place of a list.
-use Rattle.std.proofs.Common.{◌≡◌, ℕ, zero, suc, ◌<◌, ◌⊎◌, inl, inr, List, [], ◌∷◌, ◌++◌, Option, Some, None, is_some, false, length, map, set, slice_get, refl, sym, ap, ◌∙◌, arith}
+use Rattle.std.proofs.Common.{◌≡◌, ℕ, zero, suc, ◌+◌, ◌<◌, ◌⊎◌, inl, inr, List, [], ◌∷◌, ◌++◌, Option, Some, None, is_some, false, length, map, set, slice_get, refl, sym, ap, ◌∙◌, arith}
 use Rattle.std.proofs.lemmas.Bool.{cases_lt}
 use Rattle.std.proofs.lemmas.Option.{same_Some, slice_get_past}
 
@@ -76,3 +76,13 @@ push_cases (y ∷ xs) x (suc k) s h = elim (push_cases xs x k s h) [ inl old ↦
 pub none_from_is_some : {X : Type 0} (o : Option X) → is_some o ≡ false → o ≡ None
 none_from_is_some None e = refl
 none_from_is_some (Some x) e = cc
+
+-- an item of two lists is one of the first or one of the second
+pub slice_get-append : {A : Type 0} (xs ys : List A) (k : ℕ)
+    → ((k < length xs) × (slice_get (xs ++ ys) k ≡ slice_get xs k)) ⊎ ((j : ℕ) × (k ≡ length xs + j) × (slice_get (xs ++ ys) k ≡ slice_get ys j))
+slice_get-append [] ys k = inr (k, omega arith, refl)
+slice_get-append (x ∷ xs) ys zero = inl (omega arith, refl)
+slice_get-append (x ∷ xs) ys (suc k) = elim (slice_get-append xs ys k) [
+  | inl w ↦ inl (omega (arith, w.0), w.1)
+  | inr w ↦ inr (w.0, omega (arith, w.1), w.2)
+]

@@ -1,7 +1,7 @@
 -- The name at which a plant's text is refused, because its space has it already or is full.
 use Rattle.std.specs.Prelude.{◌≡◌, ◌⊎◌, ℕ, ◌+◌, ◌≤◌, IsTrue, List, [], ◌∷◌, ◌++◌, length, Any}
 use Rattle.std.specs.List.{flat_map}
-use Rattle.ladder_text.specs.Rows.{without_last}
+use Rattle.words.specs.Lines.{without_last}
 use Rattle.power_flow.specs.declared.declarations.Declaration.{Declaration}
 use Rattle.plant.specs.declared.plant_fault.PlantFault.{PlantFault}
 use Rattle.plant.specs.declared.plant_fault.PlantFaultKind.{PlantFaultKind}

@@ -1,7 +1,7 @@
 -- The plant that a text is.
 use Rattle.std.specs.Prelude.{ℕ, List, map}
 use Rattle.std.specs.List.{flat_map}
-use Rattle.ladder_text.specs.Rows.{without_last}
+use Rattle.words.specs.Lines.{without_last}
 use Rattle.plant.specs.declared.plant_fault.PlantFault.{PlantFault}
 use Rattle.plant.specs.BodyFaults.{TextValue, IsFirstBodyFault}
 use Rattle.plant_text.specs.Spelling.{Spells, BeginsWith}

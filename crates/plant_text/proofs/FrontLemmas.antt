@@ -7,9 +7,9 @@ use Rattle.std.proofs.lemmas.Slice.Eq.{bytes_eq-Decides}
 use Rattle.std.proofs.lemmas.List.{take_all}
 use Rattle.std.proofs.lemmas.List.Sums.{take_while-cons}
 use Rattle.std.specs.Prelude.{unwrap_or}
-use Rattle.ladder_text.specs.Chars.{same_word, block_name, is_plain_name}
-use Rattle.ladder_text.specs.declared.drawn_box.BlockName.{BlockName}
-use Rattle.ladder_text.specs.Numbers.{number_up_to, duration_up_to}
+use Rattle.words.specs.Chars.{same_word, block_name, is_plain_name}
+use Rattle.words.specs.declared.names.BlockName.{BlockName}
+use Rattle.words.specs.Numbers.{number_up_to, duration_up_to}
 use Rattle.plant_text.specs.declared.address.Address.{Address}
 use Rattle.plant_text.specs.declared.token.Token.{Token}
 use Rattle.plant_text.specs.declared.token.Token.TheVariants as token

@@ -4,7 +4,7 @@ use Rattle.std.proofs.lemmas.Bool.{eqb-true, and_parts, and_right, cases_Bool}
 use Rattle.std.proofs.lemmas.List.{append-nil, append_cancel_left, drop_at, length-append, take_all}
 use Rattle.std.proofs.Math.Seq.{take-append_seam}
 use Rattle.std.specs.List.{flat_map, AllByRecursion}
-use Rattle.ladder_text.specs.Rows.{without_last}
+use Rattle.words.specs.Lines.{without_last}
 use Rattle.plant_text.specs.declared.token.Token.TheVariants as token
 use Rattle.plant_text.specs.declared.token.Keyword.{Keyword}
 use Rattle.plant_text.specs.declared.token.Keyword.TheVariants as key

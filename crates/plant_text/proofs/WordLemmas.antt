@@ -2,9 +2,9 @@
 use Rattle.std.proofs.Common.{◌≡◌, ◌≤◌, ℕ, true, List, Some, None, inl, inr, rules, tests}
 use Rattle.std.specs.Str.{IsUtf8}
 use Rattle.std.proofs.lemmas.Str.{IsUtf8-from_ascii}
-use Rattle.ladder_text.specs.Chars.{is_number, is_duration, is_plain_name}
-use Rattle.ladder_text.specs.Numbers.{number_value, duration_value, limited, number_up_to, duration_up_to}
-use Rattle.ladder_text.proofs.AsciiLemmas.{identifier_ascii}
+use Rattle.words.specs.Chars.{is_number, is_duration, is_plain_name}
+use Rattle.words.specs.Numbers.{number_value, duration_value, limited, number_up_to, duration_up_to}
+use Rattle.words.proofs.AsciiLemmas.{identifier_ascii}
 use Rattle.plant_text.proofs.GapLemmas.{cases_of_cond}
 
 limited_within : (most n m : ℕ) → limited most n ≡ Some m → m ≤ most

@@ -1,7 +1,7 @@
 -- What single words of a plant's text are.
 use Rattle.std.specs.Prelude.{ℕ, ◌==◌, ◌||◌, Bool, if◌then◌else◌, List, [], ◌∷◌, take, drop, codes, Option, Some, None, unwrap_or}
 use Rattle.std.specs.Option.{option_map, option_and_then}
-use Rattle.ladder_text.specs.Chars.{is_letter_or_digit, same_word, first_that, is_plain_name, block_name}
+use Rattle.words.specs.Chars.{is_letter_or_digit, same_word, first_that, is_plain_name, block_name}
 use Rattle.plant_text.specs.declared.address.Space.{Space}
 use Rattle.plant_text.specs.declared.address.Space.TheVariants.{Bit as BitSpace, Word as WordSpace}
 use Rattle.plant_text.specs.declared.address.Address.{Address}
@@ -11,7 +11,7 @@ use Rattle.plant_text.specs.declared.token.Keyword.{Keyword}
 use Rattle.plant_text.specs.declared.token.Keyword.TheVariants as key
 use Rattle.plant_text.specs.declared.token.Punctuation.{Punctuation}
 use Rattle.plant_text.specs.declared.token.Punctuation.TheVariants.{Open, Close, Colon, Semicolon, Comma, Dot, Assign}
-use Rattle.ladder_text.specs.Numbers.{number_up_to, duration_up_to}
+use Rattle.words.specs.Numbers.{number_up_to, duration_up_to}
 
 -- a letter, a digit or an underscore
 abbrev pub is_name_char : ℕ → Bool

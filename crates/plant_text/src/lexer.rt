@@ -2,7 +2,7 @@
 
 ghost use Rattle.std.specs.Prelude.{◌≡◌, ◌≢◌, ◌<◌, ◌+◌, ◌-◌, ℕ, List, [], IfOk, IfSome, OnOk, IsTrue, MatchOption, length, min, take};
 ghost use Rattle.std.specs.Str.{IsUtf8};
-ghost use Rattle.ladder_text.specs.Rows.{without_last};
+ghost use Rattle.words.specs.Lines.{without_last};
 ghost use Rattle.plant_text.specs.declared.token.Token.TheVariants as token;
 ghost use Rattle.plant_text.specs.Spelling.{BeginsNoBlock, feeds};
 ghost use Rattle.plant_text.specs.Steps.Gaps.{IsBehindGap};
@@ -16,9 +16,9 @@ use crate::gaps::behind_gap;
 use crate::token::{Keyword, Token};
 use crate::word::Word;
 use crate::word_kinds::word_of;
-use ladder_text::Text;
 use std::alloc::{AllocError, Global};
 use std::marker::Model;
+use words::Text;
 
 /// How many program types a plant may have.
 const MOST_PROGRAM_TYPES: usize = 64;

@@ -10,9 +10,9 @@ mod small_number;
 mod token;
 mod word;
 mod word_kinds;
-mod words;
+mod word_list;
 
 pub use address::{Address, Space};
 pub use token::{Keyword, Punctuation, Token};
 pub use word::Word;
-pub use words::{Words, read_words};
+pub use word_list::{Words, read_words};

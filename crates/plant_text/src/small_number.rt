@@ -1,9 +1,9 @@
 //! Numbers up to 65,535, alone and in addresses.
 
 ghost use Rattle.std.specs.Prelude.{◌≡◌};
-ghost use Rattle.ladder_text.specs.Numbers.{number_up_to};
+ghost use Rattle.words.specs.Numbers.{number_up_to};
 
-use ladder_text::number_up_to;
+use words::number_up_to;
 
 /// A number up to 65,535.
 #[tactic(auto, using(crate::proofs::WordLemmas::number_within))]

@@ -1,5 +1,5 @@
 use crate::address::Address;
-use ladder_text::{BlockName, Text};
+use words::{BlockName, Text};
 
 /// The words that are fixed, in either case.
 #[derive(Clone, Copy, Debug, PartialEq, Eq)]

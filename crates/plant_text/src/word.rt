@@ -1,7 +1,7 @@
 ghost use Rattle.std.specs.Prelude.{◌≡◌, ◌↔◌, IsTrue};
 ghost use Rattle.plant_text.specs.declared.token.Token.TheVariants as token;
 ghost use Rattle.plant_text.specs.declared.address.Address.{Address};
-ghost use Rattle.ladder_text.specs.declared.drawn_box.BlockName.{BlockName};
+ghost use Rattle.words.specs.declared.names.BlockName.{BlockName};
 
 use crate::token::{Keyword, Punctuation, Token};
 use std::marker::Model;

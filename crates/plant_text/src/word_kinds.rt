@@ -3,13 +3,13 @@
 ghost use Rattle.std.specs.Prelude.{◌≡◌, IfOk, unwrap_or};
 ghost use Rattle.plant_text.specs.declared.token.Token.TheVariants as token;
 ghost use Rattle.plant_text.specs.Words.{program_keyword, configuration_keyword, task_keyword, keyword, punctuation, fixed_word, value_word, name, word_of};
-ghost use Rattle.ladder_text.specs.Numbers.{duration_up_to};
+ghost use Rattle.words.specs.Numbers.{duration_up_to};
 
 use crate::address::Address;
 use crate::small_number::small_number;
 use crate::token::{Keyword, Punctuation, Token};
-use ladder_text::{Text, block_name, duration_up_to, is_plain_name};
 use std::alloc::{AllocError, Global};
+use words::{Text, block_name, duration_up_to, is_plain_name};
 
 #[tactic(auto, unfolding(crate::specs::Words::program_keyword))]
 fn program_keyword(word: &[u8]) -> Option<Keyword>

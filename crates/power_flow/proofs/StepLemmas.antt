@@ -4,9 +4,8 @@ use Rattle.std.specs.List.{AllZip, filter_map, cons_option}
 use Rattle.std.proofs.lemmas.List.{append-nil, take_more, length-append}
 use Rattle.std.proofs.lemmas.List.Elements.{filter_map-append}
 use Rattle.std.proofs.lemmas.Option.{slice_get_read}
-use Rattle.lists.proofs.Places.{some_same}
+use Rattle.lists.proofs.Places.{some_same, slice_get-append}
 use Rattle.lists.proofs.Zips.{zip_push}
-use Rattle.ladder_text.proofs.ItemLemmas.{slice_get-append}
 use Rattle.ladder_text.specs.declared.place.Place.{Place}
 use Rattle.ladder_text.specs.declared.drawn_box.DrawnBox.{DrawnBox}
 use Rattle.ladder_text.specs.declared.drawn_box.DrawnPin.{DrawnPin}

@@ -8,8 +8,8 @@ use Rattle.ladder_text.specs.declared.drawn_box.DrawnPin.{DrawnPin}
 use Rattle.ladder_text.specs.declared.drawn_box.Operand.{Operand}
 use Rattle.ladder_text.specs.declared.drawn_box.Side.{Side}
 use Rattle.ladder_text.specs.declared.drawn_box.Side.TheVariants.{Left}
-use Rattle.ladder_text.specs.declared.drawn_box.BlockName.{BlockName}
-use Rattle.ladder_text.specs.declared.drawn_box.BlockName.TheVariants.{Ctu, Ton}
+use Rattle.words.specs.declared.names.BlockName.{BlockName}
+use Rattle.words.specs.declared.names.BlockName.TheVariants.{Ctu, Ton}
 use Rattle.network.specs.declared.element.Element.TheVariants.{Wire, Box}
 use Rattle.network.specs.Links.{place}
 use Rattle.power_flow.specs.declared.bind.BindKind.TheVariants.{UnknownName, WrongKind, UnknownPin, PinMissing, LiteralOutOfRange}

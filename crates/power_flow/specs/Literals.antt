@@ -2,8 +2,8 @@
 use Rattle.std.specs.Prelude.{ℕ, List, if◌then◌else◌, Option, Some, None, pos}
 use Rattle.std_blocks.specs.declared.value.Value.{Value}
 use Rattle.std_blocks.specs.declared.value.Value.TheVariants.{Int as IntValue, Time as TimeValue}
-use Rattle.ladder_text.specs.Chars.{is_number, is_duration}
-use Rattle.ladder_text.specs.Numbers.{number_value, duration_value}
+use Rattle.words.specs.Chars.{is_number, is_duration}
+use Rattle.words.specs.Numbers.{number_value, duration_value}
 use Rattle.power_flow.specs.declared.declarations.Declaration.{Declaration}
 use Rattle.power_flow.specs.declared.state.Slot.{Slot}
 use Rattle.power_flow.specs.Names.{value_of}

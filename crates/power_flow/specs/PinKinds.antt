@@ -6,8 +6,8 @@ use Rattle.std_blocks.specs.declared.pin.Field.{Field}
 use Rattle.std_blocks.specs.declared.pin.Field.TheVariants as field
 use Rattle.std_blocks.specs.declared.pin.Pin.{Pin}
 use Rattle.std_blocks.specs.Pins.{pin_of}
-use Rattle.ladder_text.specs.declared.drawn_box.BlockName.{BlockName}
-use Rattle.ladder_text.specs.declared.drawn_box.BlockName.TheVariants.{Sr, Rs, Ctu, Ctd, Ctud, Tp, Ton, Tof}
+use Rattle.words.specs.declared.names.BlockName.{BlockName}
+use Rattle.words.specs.declared.names.BlockName.TheVariants.{Sr, Rs, Ctu, Ctd, Ctud, Tp, Ton, Tof}
 use Rattle.ladder_text.specs.declared.drawn_box.Side.{Side}
 use Rattle.ladder_text.specs.declared.drawn_box.Side.TheVariants.{Left, Right}
 use Rattle.ladder_text.specs.declared.drawn_box.DrawnPin.{DrawnPin}

@@ -1,6 +1,6 @@
 ghost use Rattle.std.specs.Prelude.{◌≡◌, pos, Some, IsTrue};
-ghost use Rattle.ladder_text.specs.Chars.{is_number, is_duration};
-ghost use Rattle.ladder_text.specs.Numbers.{number_value, duration_value};
+ghost use Rattle.words.specs.Chars.{is_number, is_duration};
+ghost use Rattle.words.specs.Numbers.{number_value, duration_value};
 ghost use Rattle.power_flow.specs.Literals.{literal_value};
 ghost use Rattle.power_flow.specs.Steps.BoxFindings.{literal_of};
 ghost use Rattle.power_flow.specs.Steps.NamedBox.{IsInRange};
@@ -21,7 +21,7 @@ pub enum Literal {
 }
 
 /// A number: an INT is at most 32767.
-#[tactic(auto, unfolding(ladder_text::specs::Numbers::number_up_to))]
+#[tactic(auto, unfolding(words::specs::Numbers::number_up_to))]
 fn int_of(word: &[u8]) -> Literal
     requires { IsTrue (is_number word.now) }
     ensures { result ≡ literal_of (Some (Value.Int (pos (number_value word.now)))) }
@@ -33,7 +33,7 @@ fn int_of(word: &[u8]) -> Literal
 }
 
 /// A duration: it is at most 2147483647 ms.
-#[tactic(auto, unfolding(ladder_text::specs::Numbers::duration_up_to))]
+#[tactic(auto, unfolding(words::specs::Numbers::duration_up_to))]
 fn time_of(word: &[u8]) -> Literal
     requires { IsTrue (is_duration word.now) }
     ensures { result ≡ literal_of (Some (Value.Time (duration_value word.now))) }

@@ -12,7 +12,7 @@ use Rattle.std.proofs.Common.{length-take-le}
 use Rattle.std.proofs.lemmas.List.Splits.{length-slice_split}
 use Rattle.std.proofs.lemmas.Option.{slice_get-map, slice_get_read}
 use Rattle.plant.specs.PlantValue.{PlantValue}
-use Rattle.ladder_text.specs.Rows.{without_last, lines_of}
+use Rattle.words.specs.Lines.{without_last, lines_of}
 use Rattle.evaluation.specs.InputTexts.{words_of}
 use Rattle.world.specs.History.{Setting}
 use Rattle.world.specs.World.{WorldValue}

@@ -6,8 +6,8 @@ use Rattle.std.specs.Str.{bytes_eq, str_to_ascii_lowercase}
 use Rattle.std.proofs.lemmas.Slice.Eq.{bytes_eq-Decides}
 use Rattle.std.proofs.lemmas.Option.{slice_get-map, same_Some}
 use Rattle.lists.proofs.Places.{somes_same}
-use Rattle.ladder_text.specs.Chars.{same_word, first_that}
-use Rattle.ladder_text.specs.Numbers.{number_up_to}
+use Rattle.words.specs.Chars.{same_word, first_that}
+use Rattle.words.specs.Numbers.{number_up_to}
 use Rattle.plant.specs.declared.task_ref.TaskRef.{TaskRef}
 use Rattle.plant.specs.PlantValue.{PlantValue}
 use Rattle.evaluation.specs.declared.field_input.FieldInput.{FieldInput}

@@ -1,9 +1,9 @@
 -- Schedules: which texts spell a list of events.
 use Rattle.std.specs.Prelude.{◌≡◌, ℕ, ◌+◌, ◌==◌, Bool, true, false, not, IsTrue, List, [], ◌∷◌, ◌++◌, map, filter, codes, Some}
 use Rattle.std.specs.List.{position_or_len}
-use Rattle.ladder_text.specs.Rows.{lines_of, without_last}
-use Rattle.ladder_text.specs.Chars.{same_word, is_plain_name}
-use Rattle.ladder_text.specs.Numbers.{number_up_to}
+use Rattle.words.specs.Lines.{lines_of, without_last}
+use Rattle.words.specs.Chars.{same_word, is_plain_name}
+use Rattle.words.specs.Numbers.{number_up_to}
 use Rattle.plant.specs.declared.task_ref.TaskRef.{TaskRef}
 use Rattle.plant.specs.PlantValue.{PlantValue, ResourceValue, TaskValue, tasks_at}
 use Rattle.evaluation.specs.declared.field_input.FieldInput.{FieldInput}

@@ -36,7 +36,7 @@ impl<'a> Reader<'a> {
     ghost use Rattle.std.specs.Prelude.{[], ℕ};
     ghost use Rattle.plant_text.specs.declared.token.Token.{Token};
     ghost use Rattle.plant_text.specs.declared.address.Address.{Address};
-    ghost use Rattle.ladder_text.specs.declared.drawn_box.BlockName.{BlockName};
+    ghost use Rattle.words.specs.declared.names.BlockName.{BlockName};
 
     /// A reader of all the words of a text that ends on a line.
     pub fn new(words: &'a [Word], last: u64) -> Reader<'a>

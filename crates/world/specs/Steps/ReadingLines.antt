@@ -1,6 +1,6 @@
 -- Steps of proofs: the keyword of a line.
 use Rattle.std.specs.Prelude.{ℕ, List, [], ◌∷◌, codes, Option}
-use Rattle.ladder_text.specs.Chars.{same_word, first_that}
+use Rattle.words.specs.Chars.{same_word, first_that}
 use Rattle.world.specs.declared.schedule.read_line.Keyword.{Keyword}
 use Rattle.world.specs.declared.schedule.read_line.Keyword.TheVariants as key
 

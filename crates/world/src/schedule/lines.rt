@@ -1,7 +1,7 @@
 //! Lines and their words.
 
 ghost use Rattle.std.specs.Prelude.{◌≡◌};
-ghost use Rattle.ladder_text.specs.Rows.{without_last};
+ghost use Rattle.words.specs.Lines.{without_last};
 ghost use Rattle.world.specs.ScheduleText.{is_idle};
 ghost use Rattle.std.specs.Prelude.{map};
 

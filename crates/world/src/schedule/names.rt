@@ -1,7 +1,7 @@
 //! The places of named resources and tasks.
 
 ghost use Rattle.std.specs.Prelude.{◌≡◌, ◌<◌, ◌==◌, ℕ, IfSome, MatchOption, Some, length, position, slice_get};
-ghost use Rattle.ladder_text.specs.Chars.{same_word};
+ghost use Rattle.words.specs.Chars.{same_word};
 ghost use Rattle.plant.specs.declared.task_ref.TaskRef.{TaskRef};
 ghost use Rattle.plant.specs.PlantValue.{ResourceValue, TaskValue};
 ghost use Rattle.world.specs.ScheduleText.{resource_named, task_in, IsTaskWord, IsResourceWord};

@@ -1,7 +1,7 @@
 //! A schedule is done line by line.
 
 ghost use Rattle.std.specs.Prelude.{◌≡◌, ◌<◌, [], IfErr, IfOk, OnErr, OnOk, length, map, replicate};
-ghost use Rattle.ladder_text.specs.Rows.{without_last};
+ghost use Rattle.words.specs.Lines.{without_last};
 ghost use Rattle.evaluation.specs.InputTexts.{words_of};
 ghost use Rattle.world.specs.Simulated.{from_one, WritesRun, EndsEarly};
 ghost use Rattle.world.specs.Steps.Simulating.{HasDone, HasStopped};

@@ -1,5 +1,5 @@
 use Rattle.std.proofs.Common.{◌≡◌, ◌∙◌, List, ℕ, subst, ap}
-use Rattle.ladder_text.specs.Rows.{without_last}
+use Rattle.words.specs.Lines.{without_last}
 use Rattle.plant_text.specs.Spelling.{first_line}
 use Rattle.plant_text.specs.Steps.Gaps.{IsBehindGap}
 use Rattle.plant_text.proofs.LineLemmas.{gap_both}

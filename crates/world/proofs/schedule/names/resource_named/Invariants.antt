@@ -1,5 +1,5 @@
 use Rattle.std.proofs.Common.{◌≡◌, ℕ, ◌<◌, false, get_or}
-use Rattle.ladder_text.specs.Chars.{same_word}
+use Rattle.words.specs.Chars.{same_word}
 use Rattle.world.proofs.ScheduleWords.{no_resource}
 use Rattle.world.proofs.schedule.names.resource_named.Given as goal
 

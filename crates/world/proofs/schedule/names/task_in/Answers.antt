@@ -1,6 +1,6 @@
 use Rattle.std.proofs.Common.{sym, ◌∙◌, ap, length}
 use Rattle.std.specs.List.{position}
-use Rattle.ladder_text.specs.Chars.{same_word}
+use Rattle.words.specs.Chars.{same_word}
 use Rattle.plant.specs.PlantValue.{TaskValue}
 use Rattle.world.proofs.ScheduleWords.{place_found, place_missing}
 use Rattle.world.proofs.schedule.names.task_in.Goals as goal

@@ -1,7 +1,7 @@
 use Rattle.std.proofs.Common.{◌+◌, sym, ap, ◌∙◌}
 use Rattle.world.specs.ScheduleText.{task_in}
 use Rattle.world.proofs.ScheduleLists.{to_the_end}
-use Rattle.ladder_text.specs.Chars.{is_plain_name}
+use Rattle.words.specs.Chars.{is_plain_name}
 use Rattle.world.proofs.ScheduleWords.{no_dot, task_parts, task_whole}
 use Rattle.world.proofs.schedule.names.task_of.Goals as goal
 

@@ -1,6 +1,6 @@
 use Rattle.std.proofs.Common.{◌≡◌, length, map}
 use Rattle.evaluation.specs.InputTexts.{words_of}
-use Rattle.ladder_text.specs.Rows.{without_last}
+use Rattle.words.specs.Lines.{without_last}
 use Rattle.world.specs.Simulated.{from_one}
 use Rattle.world.proofs.Simulating.{Stands}
 use Rattle.world.proofs.schedule.simulation.simulate.Given as goal

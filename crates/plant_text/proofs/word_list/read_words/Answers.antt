@@ -1,0 +1,34 @@
+use Rattle.std.proofs.Common.{map, [], ◌∷◌, ap, sym, subst, ◌∙◌}
+use Rattle.std.proofs.lemmas.List.{map-append}
+use Rattle.words.specs.Lines.{without_last}
+use Rattle.plant_text.specs.Lines.{WordValue}
+use Rattle.plant_text.specs.Steps.Lexing.{LexerValue}
+use Rattle.plant_text.proofs.SpellingLemmas.{IsReadTo, read_first, read_next, read_all}
+use Rattle.plant_text.proofs.LineCounts.{counted_first, counted_next, begun_first, begun_next}
+use Rattle.plant_text.proofs.word_list.read_words.Goals as goal
+
+pub words-init : goal.words-init
+words-init c =
+    let text = without_last 13 c.args.text.now in
+    let none = c.new-words.ensures.items in
+    record {
+      spelled = rw none (subst (λ (l : LexerValue). IsReadTo text [] l.text) (sym c.new-lexer.ensures) (read_first text));
+      counted = rw none (counted_first text c.new-lexer.result c.new-lexer.ensures);
+      begun = rw none (begun_first text);
+    }
+
+pub words-preserved : goal.words-preserved
+words-preserved c =
+    let text = without_last 13 c.args.text.now in
+    let token_of : WordValue → _ = λ w. w.token in
+    let word = c.in-Some.word in
+    let counted = counted_next text c.words.words.items c.push.new.self.items word c.words.lexer c.next.new.self c.in_ok-push.ensures.items c.words.invariant.counted (rw c.in-Some.is at c.in_ok-word.ensures.first) in
+    record {
+      spelled = read_next text (map token_of c.words.words.items) (map token_of c.push.new.self.items) word.token c.words.lexer.text c.next.new.self.text
+          (ap (map token_of) c.in_ok-push.ensures.items ∙ map-append token_of c.words.words.items (word ∷ [])) c.words.invariant.spelled (rw c.in-Some.is at c.in_ok-word.ensures.word);
+      counted = counted;
+      begun = begun_next text c.words.words.items c.push.new.self.items word c.next.new.self c.in_ok-push.ensures.items c.words.invariant.begun counted;
+    }
+
+pub returns-clause-spelled : goal.returns-clause-spelled
+returns-clause-spelled c = read_all (without_last 13 c.args.text.now) (map (λ (w : WordValue). w.token) c.words.words.items) c.words.lexer.text c.words.invariant.spelled (rw c.in_default.is at c.in_ok-word.ensures.word)

@@ -1,0 +1,53 @@
+ghost use Rattle.std.specs.Prelude.{◌≡◌, IfOk};
+ghost use Rattle.words.specs.Lines.{without_last};
+ghost use Rattle.plant_text.specs.Lines.{IsSpelledBy, IsBegunBy};
+
+use crate::lexer::Lexer;
+use crate::word::Word;
+use std::alloc::{AllocError, Global};
+use std::marker::Model;
+
+/// The words of a text, in order. Contracts see them with their lines.
+#[derive(Debug, Drop)]
+pub struct Words {
+    words: Vec<Word>,
+    last: u64,
+}
+
+impl Model for Words {
+    ghost use Rattle.std.specs.Prelude.{List};
+    ghost use Rattle.plant_text.specs.Lines.{WordValue};
+
+    ghost Value = { List WordValue };
+
+    ghost view = { λ w. w.words.items };
+}
+
+impl Words {
+    /// The words.
+    pub fn words(&self) -> &[Word]
+        ensures { result.now ≡ self.now }
+    {
+        self.words.as_slice()
+    }
+
+    /// The number of the text's last line.
+    pub fn last(&self) -> u64 {
+        self.last
+    }
+}
+
+/// Reads the words of a plant's text. What is no word ends them as `Unknown`: an unknown character, an unfinished
+/// comment, a number out of its limits, a body without an end, the body of a 66th program.
+pub fn read_words(alloc: Global, text: &str) -> Result<Words, AllocError>
+    ensures spelled { IfOk result (IsSpelledBy (without_last 13 text.now)) }
+    ensures begun { IfOk result (IsBegunBy (without_last 13 text.now)) }
+{
+    let mut lexer = Lexer::new(text);
+    let last = lexer.last();
+    let mut words = Vec::new(alloc);
+    'words: while let Some(word) = lexer.next(alloc)? {
+        words.push(word)?;
+    }
+    Ok(Words { words, last })
+}

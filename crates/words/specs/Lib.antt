@@ -1,0 +1,5 @@
+pub mod Lines
+pub mod Chars
+pub mod Numbers
+pub mod Durations
+pub mod Steps

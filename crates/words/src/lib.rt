@@ -1,0 +1,16 @@
+//! The words that drawings and plants are written in: identifiers, reserved words, numbers and durations of
+//! IEC 61131-3, and [`Text`], the characters of a word.
+#![tactic(auto)]
+
+mod durations;
+mod names;
+mod numbers;
+mod short_word;
+mod text;
+
+pub use durations::{duration_up_to, is_duration};
+pub use names::{
+    BlockName, block_name, is_identifier, is_name, is_operand, is_plain_name, is_word_char,
+};
+pub use numbers::{is_number, number_up_to};
+pub use text::Text;
