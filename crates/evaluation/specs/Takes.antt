@@ -4,7 +4,7 @@ use Rattle.std_blocks.specs.declared.value.Value.{Value}
 use Rattle.power_flow.specs.declared.declarations.Kind.{Kind}
 use Rattle.power_flow.specs.First.{value_first}
 use Rattle.power_flow.specs.StateValue.{kind_of}
-use Rattle.plant.specs.declared.task_ref.TaskRef.{TaskRef}
+use Rattle.due_list.specs.declared.task_ref.TaskRef.{TaskRef}
 use Rattle.plant.specs.PlantValue.{CodeValue, expected_at}
 use Rattle.evaluation.specs.declared.take.Take.{Take}
 

@@ -1,5 +1,5 @@
 ghost use Rattle.std.specs.Prelude.{◌↔◌, IsTrue};
-ghost use Rattle.plant.specs.declared.task_ref.TaskRef.{TaskRef};
+ghost use Rattle.due_list.specs.declared.task_ref.TaskRef.{TaskRef};
 ghost use Rattle.evaluation.specs.Takes.{IsTakeOf, AreTakesOf};
 ghost use Rattle.evaluation.specs.States.{AreStatesOf};
 

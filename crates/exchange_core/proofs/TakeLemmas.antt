@@ -10,7 +10,7 @@ use Rattle.power_flow.specs.declared.declarations.Kind.{Kind}
 use Rattle.power_flow.specs.declared.declarations.Kind.TheVariants as kind
 use Rattle.power_flow.specs.First.{value_first}
 use Rattle.power_flow.specs.StateValue.{kind_of}
-use Rattle.plant.specs.declared.task_ref.TaskRef.{TaskRef}
+use Rattle.due_list.specs.declared.task_ref.TaskRef.{TaskRef}
 use Rattle.plant.specs.PlantValue.{CodeValue, code_at, expected_at, items_or_none, image_kinds, IsSoundCode}
 use Rattle.evaluation.specs.declared.take.Take.{Take}
 use Rattle.evaluation.specs.Takes.{initial_image, IsTakeOf, AreTakesOf}

@@ -1,6 +1,6 @@
 -- A table of the last evaluation known of each task, by resource and task.
 use Rattle.std.specs.Prelude.{◌≡◌, List, [], Option, None, length, map, replicate, slice_index_or, slice_set}
-use Rattle.plant.specs.declared.task_ref.TaskRef.{TaskRef}
+use Rattle.due_list.specs.declared.task_ref.TaskRef.{TaskRef}
 use Rattle.plant.specs.PlantValue.{ResourceValue, PlantValue}
 use Rattle.evaluation.specs.Meaning.{Evaluated}
 

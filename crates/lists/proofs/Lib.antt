@@ -1,3 +1,5 @@
 pub mod Members
+pub mod Pairs
 pub mod Places
+pub mod Results
 pub mod Zips

@@ -7,7 +7,7 @@ use Rattle.std.proofs.lemmas.Option.{same_Some}
 use Rattle.std_blocks.specs.declared.value.Value.{Value}
 use Rattle.power_flow.specs.declared.declarations.Kind.{Kind}
 use Rattle.power_flow.specs.StateValue.{StateValue}
-use Rattle.plant.specs.declared.task_ref.TaskRef.{TaskRef}
+use Rattle.due_list.specs.declared.task_ref.TaskRef.{TaskRef}
 use Rattle.plant.specs.PlantValue.{CodeValue, PlantValue, code_at, expected_at, image_kinds, items_or_none, IsSoundPlant}
 use Rattle.evaluation.specs.declared.field_input.FieldInput.{FieldInput}
 use Rattle.evaluation.specs.declared.name.Name.{Name}

@@ -7,9 +7,6 @@ pub mod ProducerLemmas
 pub mod LinkLemmas
 pub mod StandLemmas
 pub mod FindLemmas
-mod Moments
-mod Ordered
-mod Planned
 pub mod Apart
 pub mod WordLists
 pub mod ItemLemmas
@@ -26,3 +23,4 @@ pub mod TreeLemmas
 pub mod KnownWords
 pub mod BodyCounts
 pub mod SameCode
+mod PlanLemmas

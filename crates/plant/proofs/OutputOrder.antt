@@ -12,7 +12,7 @@ use Rattle.plant.specs.declared.task_output.TaskOutput.{TaskOutput}
 use Rattle.plant.specs.PlantValue.{ProgramValue, items_or_none, output_kind, outputs_of, outputs_in, output_at}
 use Rattle.plant.specs.Steps.Outputs.{StandsBefore, IsBefore}
 use Rattle.plant.specs.Steps.Drafts.{IsPlacedAt}
-use Rattle.plant.proofs.Ordered.{pairs_append}
+use Rattle.lists.proofs.Pairs.{pairs_append}
 
 abbrev variable_outputs : ℕ → ℕ × Declaration → List TaskOutput
 variable_outputs i e = output_at i e.0 e.1

@@ -10,7 +10,7 @@ use Rattle.power_flow.specs.declared.declarations.Declaration.{Declaration}
 use Rattle.plant.specs.declared.binding.Source.{Source}
 use Rattle.plant.specs.declared.binding.Source.TheVariants as source
 use Rattle.plant.specs.declared.binding.Binding.{Binding}
-use Rattle.plant.specs.declared.task_ref.TaskRef.{TaskRef}
+use Rattle.due_list.specs.declared.task_ref.TaskRef.{TaskRef}
 use Rattle.plant.specs.declared.grammar.tree.Program.{Program}
 use Rattle.plant.specs.declared.grammar.tree.TaskLine.{TaskLine}
 use Rattle.plant.specs.declared.grammar.tree.SourceName.{SourceName}

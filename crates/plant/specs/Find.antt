@@ -2,7 +2,7 @@
 use Rattle.std.specs.Prelude.{◌≡◌, ℕ, List, Contains}
 use Rattle.std.specs.List.{before_first, after_first}
 use Rattle.power_flow.specs.Names.{is_dot}
-use Rattle.plant.specs.declared.task_ref.TaskRef.{TaskRef}
+use Rattle.due_list.specs.declared.task_ref.TaskRef.{TaskRef}
 use Rattle.plant.specs.Names.{IsAt}
 use Rattle.plant.specs.PlantValue.{TaskValue, ResourceValue, PlantValue}
 

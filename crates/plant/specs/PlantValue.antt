@@ -13,7 +13,7 @@ use Rattle.plant_text.specs.declared.address.Space.TheVariants.{Bit, Word}
 use Rattle.plant.specs.declared.binding.Source.{Source}
 use Rattle.plant.specs.declared.binding.Source.TheVariants.{Field, Given}
 use Rattle.plant.specs.declared.binding.Binding.{Binding}
-use Rattle.plant.specs.declared.task_ref.TaskRef.{TaskRef}
+use Rattle.due_list.specs.declared.task_ref.TaskRef.{TaskRef}
 use Rattle.plant.specs.declared.task_output.TaskOutput.{TaskOutput}
 
 -- a task as it is declared

@@ -6,5 +6,4 @@ pub mod Lines
 pub mod Outputs
 pub mod ReadParts
 pub mod Reading
-pub mod Slots
 pub mod WordFaults

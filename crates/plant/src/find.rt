@@ -1,12 +1,12 @@
 ghost use Rattle.std.specs.Prelude.{◌≡◌, ℕ, MatchOption, Contains};
-ghost use Rattle.plant.specs.declared.task_ref.TaskRef.{TaskRef};
+ghost use Rattle.due_list.specs.declared.task_ref.TaskRef.{TaskRef};
 ghost use Rattle.plant.specs.Names.{IsAt};
 ghost use Rattle.plant.specs.PlantValue.{TaskValue};
 ghost use Rattle.plant.specs.Find.{ArePartsOf, IsTaskAt, IsTaskNamed};
 
 use crate::plant::Plant;
 use crate::task::Task;
-use crate::task_ref::TaskRef;
+use due_list::TaskRef;
 
 /// The position of the first task of a name.
 fn find_task(tasks: &[Task], name: &str) -> Option<usize>

@@ -3,10 +3,8 @@
 
 mod binding;
 mod bodies;
-mod due;
 mod find;
 mod grammar;
-mod plan_fault;
 mod planning;
 mod plant;
 mod plant_fault;
@@ -14,16 +12,13 @@ mod plant_resource;
 mod program_instance;
 mod read;
 mod same_code;
-mod slot;
 mod sources;
 mod task;
 mod task_code;
 mod task_output;
-mod task_ref;
 
 pub use binding::{Binding, Source, kind_of_space};
-pub use due::Due;
-pub use plan_fault::PlanFault;
+pub use due_list::{Due, PlanFault, TaskRef, one_plan};
 pub use planning::plan;
 pub use plant::Plant;
 pub use plant_fault::{BodyFault, PlantFault, PlantFaultKind};
@@ -31,4 +26,3 @@ pub use plant_text::{Address, Space};
 pub use task::Task;
 pub use task_code::TaskCode;
 pub use task_output::TaskOutput;
-pub use task_ref::TaskRef;

@@ -1,131 +1,47 @@
-ghost use Rattle.std.specs.Prelude.{◌≡◌, ℕ, List, ◌<◌, ◌≤◌, ◌++◌, length, IfOk, IfErr, OnOk, All};
-ghost use Rattle.plant.specs.Steps.Slots.{slots_within, slots_of, is_due, dues_at, dues_until, NoneDue};
-ghost use Rattle.plant.specs.Plan.{IsPlan};
-ghost use Rattle.plant.specs.declared.due.Due.{Due};
-ghost use Rattle.plant.specs.declared.plan_fault.PlanFault.TheVariants.{Memory, TooLong};
+ghost use Rattle.std.specs.Prelude.{◌≡◌, ◌<◌, ◌≤◌, List, length, map, IfOk, IfErr, All};
+ghost use Rattle.due_list.specs.declared.due.Due.{Due};
+ghost use Rattle.due_list.specs.declared.plan_fault.PlanFault.TheVariants.{TooLong};
+ghost use Rattle.due_list.specs.Plan.{AllTimed, timings_in};
+ghost use Rattle.plant.specs.Plan.{timing_of, timings_of, IsPlan};
 
-use crate::due::Due;
-use crate::plan_fault::PlanFault;
 use crate::plant::Plant;
-use crate::slot::Slot;
 use crate::task::Task;
-use crate::task_ref::TaskRef;
-use std::alloc::Global;
+use due_list::{Due, PlanFault, Timing};
+use std::alloc::{AllocError, Global};
 
-/// The most entries that a plan has.
-const MOST_ENTRIES: usize = 100_000;
-
-/// Adds the tasks of a resource.
-fn push_slots(slots: &mut Vec<Slot>, tasks: &[Task], resource: usize) -> Result<(), PlanFault>
-    ensures ok { OnOk result (slots.new.items ≡ slots.old.items ++ slots_within resource tasks.now (length tasks.now)) }
-    ensures positive { OnOk result (All (λ s. 0 < s.interval) slots.old.items → All (λ s. 0 < s.interval) slots.new.items) }
-    ensures err { IfErr result (λ fault. fault ≡ Memory) }
+/// When the tasks of a resource are due.
+fn timings_of(alloc: Global, tasks: &[Task]) -> Result<Vec<Timing>, AllocError>
+    ensures ok { IfOk result (λ timings. timings.items ≡ map timing_of tasks.now) }
+    ensures positive { IfOk result (λ timings. AllTimed timings.items) }
 {
-    for (task, found) in tasks.iter().enumerate() {
-        slots.push(Slot {
-            priority: found.priority(),
-            resource,
-            task,
-            interval: found.interval(),
+    let mut timings = Vec::new(alloc);
+    for task in tasks {
+        timings.push(Timing {
+            interval: task.interval(),
+            priority: task.priority(),
         })?;
     }
-    Ok(())
+    Ok(timings)
 }
 
-/// All tasks of a plant, by resource and task.
-fn slots(alloc: Global, plant: &Plant) -> Result<Vec<Slot>, PlanFault>
-    ensures ok { IfOk result (λ slots. slots.items ≡ slots_of plant.now) }
-    ensures positive { IfOk result (λ slots. All (λ s. 0 < s.interval) slots.items) }
-    ensures err { IfErr result (λ fault. fault ≡ Memory) }
+/// When the tasks of each resource are due.
+fn all_timings(alloc: Global, plant: &Plant) -> Result<Vec<Vec<Timing>>, AllocError>
+    ensures ok { IfOk result (λ timings. timings_in timings.items ≡ timings_of plant.now) }
+    ensures positive { IfOk result (λ timings. All AllTimed (timings_in timings.items)) }
 {
-    let mut slots = Vec::new(alloc);
+    let mut timings = Vec::new(alloc);
     for resource in 0..plant.resources() {
-        push_slots(&mut slots, plant.tasks(resource), resource)?;
+        timings.push(timings_of(alloc, plant.tasks(resource))?)?;
     }
-    Ok(slots)
-}
-
-fn is_due(moment: u32, slot: &Slot) -> bool
-    requires { 0 < slot.now.interval }
-    ensures { result ≡ is_due moment slot.now }
-{
-    moment % slot.interval == 0
-}
-
-/// The first moment above a moment at which a task is due, at most `end`.
-fn next_of(slot: &Slot, moment: u32, end: u64) -> u64
-    requires positive { 0 < slot.now.interval }
-    requires before { moment < end }
-    ensures above { moment < result }
-    ensures end { result ≤ end }
-    ensures none { NoneDue slot.now moment result }
-{
-    let wait = slot.interval - moment % slot.interval;
-    (u64::from(moment) + u64::from(wait)).min(end)
-}
-
-/// The first moment above a moment at which one of the tasks is due, at most `end`.
-fn first_after(order: &[Slot], moment: u32, end: u64) -> u64
-    requires positive { All (λ s. 0 < s.interval) order.now }
-    requires before { moment < end }
-    ensures above { moment < result }
-    ensures end { result ≤ end }
-    ensures none { All (λ s. NoneDue s moment result) order.now }
-{
-    let mut first = end;
-    for slot in order {
-        first = first.min(next_of(slot, moment, end));
-    }
-    first
-}
-
-/// Adds what is due at a moment.
-fn push_dues(dues: &mut Vec<Due>, order: &[Slot], moment: u32) -> Result<(), PlanFault>
-    requires positive { All (λ s. 0 < s.interval) order.now }
-    requires few { length dues.old.items ≤ 100000 }
-    ensures ok { OnOk result (dues.new.items ≡ dues.old.items ++ dues_at order.now moment) }
-    ensures few { OnOk result (length dues.new.items ≤ 100000) }
-    ensures too_long { IfErr result (λ fault. fault ≡ TooLong → 100000 < length (dues.old.items ++ dues_at order.now moment)) }
-{
-    for slot in order {
-        if is_due(moment, slot) {
-            if dues.len() == MOST_ENTRIES {
-                return Err(PlanFault::TooLong);
-            }
-            let task = TaskRef {
-                resource: slot.resource,
-                task: slot.task,
-            };
-            dues.push(Due { moment, task })?;
-        }
-    }
-    Ok(())
-}
-
-/// What is due up to and with `until`, where the tasks stand in order.
-fn dues_until(alloc: Global, order: &[Slot], until: u32) -> Result<Vec<Due>, PlanFault>
-    requires { All (λ s. 0 < s.interval) order.now }
-    ensures ok { IfOk result (λ dues. (dues.items ≡ dues_until order.now until) × (length dues.items ≤ 100000)) }
-    ensures too_long { IfErr result (λ fault. fault ≡ TooLong → 100000 < length (dues_until order.now until)) }
-{
-    let end = u64::from(until) + 1;
-    let mut dues = Vec::new(alloc);
-    let mut moment = first_after(order, 0, end);
-    'moments: while moment < end {
-        push_dues(&mut dues, order, moment as u32)?;
-        moment = first_after(order, moment as u32, end);
-    }
-    Ok(dues)
+    Ok(timings)
 }
 
 /// The plan up to and with `until` (in ms): all pairs of a task and a positive multiple of its interval, by moment, priority, resource and task.
-/// `TooLong` comes exactly where they are more than 100,000.
+/// `TooLong` comes exactly where they are more than 100,000. By `one_plan` there is one.
 pub fn plan(alloc: Global, plant: &Plant, until: u32) -> Result<Vec<Due>, PlanFault>
     ensures ok { IfOk result (λ dues. IsPlan plant.now until dues.items × (length dues.items ≤ 100000)) }
     ensures too_long { IfErr result (λ fault. fault ≡ TooLong → (dues : List Due) × IsPlan plant.now until dues × (100000 < length dues)) }
-    ensures one { (a b : List Due) → IsPlan plant.now until a → IsPlan plant.now until b → a ≡ b }
 {
-    let mut order = slots(alloc, plant)?;
-    order.sort_unstable();
-    dues_until(alloc, &order, until)
+    let timings = all_timings(alloc, plant)?;
+    due_list::plan(alloc, &timings, until)
 }

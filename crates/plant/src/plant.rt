@@ -1,7 +1,7 @@
 use crate::plant_resource::PlantResource;
 use crate::task::Task;
 use crate::task_code::TaskCode;
-use crate::task_ref::TaskRef;
+use due_list::TaskRef;
 use std::marker::Model;
 use std::sync::Arc;
 

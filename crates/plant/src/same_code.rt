@@ -4,7 +4,7 @@ ghost use Rattle.plant.specs.PlantValue.{bindings_at, expected_at, IsSoundCode};
 
 use crate::binding::{Binding, Source};
 use crate::task_code::TaskCode;
-use crate::task_ref::TaskRef;
+use due_list::TaskRef;
 use power_flow::{Kind, Ladder};
 
 fn is_same_source(source: Source, other: Source) -> bool

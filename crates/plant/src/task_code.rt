@@ -1,7 +1,7 @@
 use crate::binding::Binding;
 use crate::program_instance::ProgramInstance;
 use crate::task_output::TaskOutput;
-use crate::task_ref::TaskRef;
+use due_list::TaskRef;
 use power_flow::{Kind, Ladder};
 use std::marker::Model;
 

@@ -1,7 +1,7 @@
 -- The commands for the entries of a plan.
 use Rattle.std.proofs.Common.{◌≡◌, ℕ, suc, ◌+◌, ◌<◌, ◌++◌, List, [], ◌∷◌, length, take, get_or, sym, ap, ◌∙◌, arith}
 use Rattle.std.proofs.lemmas.List.{take_more, length-take}
-use Rattle.plant.specs.declared.due.Due.{Due}
+use Rattle.due_list.specs.declared.due.Due.{Due}
 use Rattle.plant.specs.PlantValue.{PlantValue}
 use Rattle.evaluation.specs.declared.field_input.FieldInput.{FieldInput}
 use Rattle.node.specs.declared.command.Command.{Command}

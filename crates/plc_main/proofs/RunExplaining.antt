@@ -5,10 +5,13 @@ use Rattle.std.proofs.KnownBytes.{Keeps-refl}
 use Rattle.std.proofs.lemmas.Bool.{eqb-true}
 use Rattle.std.proofs.lemmas.Option.{none-some, slice_get_within}
 use Rattle.std.specs.Io.KnownBytes.{Appends}
-use Rattle.std.specs.Option.{option_map}
-use Rattle.plant.specs.declared.due.Due.{Due}
-use Rattle.plant.specs.PlantValue.{TaskValue, ResourceValue, PlantValue, items_or_none}
-use Rattle.plant.specs.Plan.{IsDue, task_at}
+use Rattle.std.specs.Prelude.{unwrap_or}
+use Rattle.std.proofs.lemmas.List.{length-map}
+use Rattle.due_list.specs.declared.due.Due.{Due}
+use Rattle.due_list.specs.declared.timing.Timing.{Timing}
+use Rattle.due_list.specs.Plan.{IsDue, timing_at}
+use Rattle.plant.specs.PlantValue.{PlantValue}
+use Rattle.plant.specs.Plan.{timings_of}
 use Rattle.evaluation.specs.declared.field_input.FieldInput.{FieldInput}
 use Rattle.node.specs.declared.command.Command.{Command}
 use Rattle.node.specs.declared.node_fault.NodeFault.{NodeFault}
@@ -36,16 +39,16 @@ numbered_from plant inputs j (d ∷ dues) (suc k) c at = let more = numbered_fro
 pub numbered : (plant : PlantValue) (inputs : List FieldInput) (dues : List Due) → AreNumbered (commands_from plant inputs 1 dues)
 numbered plant inputs dues k c at = let n = numbered_from plant inputs 1 dues k c at in omega (arith, n)
 
--- a task that exists is of a resource that exists
-resource_exists : (plant : PlantValue) (d : Due) (task : TaskValue) → task_at plant d.task ≡ Some task → d.task.resource < length plant.resources
-resource_exists plant d task stands = by (slice_get plant.resources d.task.resource) refl where
-  by : (o : Option ResourceValue) → slice_get plant.resources d.task.resource ≡ o → d.task.resource < length plant.resources
-  by None at = absurd (none-some task (sym (ap (λ (o : Option ResourceValue). slice_get (items_or_none (option_map (λ (r : ResourceValue). r.tasks) o)) d.task.task) at) ∙ stands))
-  by (Some r) at = slice_get_within plant.resources d.task.resource r at
+-- what is due is a task of a resource that exists
+resource_exists : (plant : PlantValue) (d : Due) (timing : Timing) → timing_at (timings_of plant) d.task ≡ Some timing → d.task.resource < length plant.resources
+resource_exists plant d timing stands = by (slice_get (timings_of plant) d.task.resource) refl where
+  by : (o : Option (List Timing)) → slice_get (timings_of plant) d.task.resource ≡ o → d.task.resource < length plant.resources
+  by None is = absurd (none-some timing (sym (ap (λ (o : Option (List Timing)). slice_get (unwrap_or o []) d.task.task) is) ∙ stands))
+  by (Some ts) is = simp length-map at (slice_get_within (timings_of plant) d.task.resource ts is)
 
-for_plant_from : (plant : PlantValue) (until : ℕ) (inputs : List FieldInput) (j : ℕ) (dues : List Due) → All (IsDue plant until) dues → AreForPlant plant (commands_from plant inputs j dues)
+for_plant_from : (plant : PlantValue) (until : ℕ) (inputs : List FieldInput) (j : ℕ) (dues : List Due) → All (IsDue (timings_of plant) until) dues → AreForPlant plant (commands_from plant inputs j dues)
 for_plant_from plant until inputs j [] each k c lt = absurd (omega arith)
-for_plant_from plant until inputs j (d ∷ dues) each zero c lt = let due = each 0 d (omega arith) in resource_exists plant d due.task due.stands
+for_plant_from plant until inputs j (d ∷ dues) each zero c lt = let due = each 0 d (omega arith) in resource_exists plant d due.timing due.stands
 for_plant_from plant until inputs j (d ∷ dues) each (suc k) c lt = for_plant_from plant until inputs (j + 1) dues (λ i x inside. each (suc i) x (omega arith)) k c (omega arith)
 
 pub planned_numbered : (plant : PlantValue) (until : ℕ) (inputs : List FieldInput) (commands : List Command) → ArePlanned plant until inputs commands → AreNumbered commands

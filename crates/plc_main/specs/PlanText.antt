@@ -4,8 +4,8 @@ use Rattle.std.specs.Option.{option_map}
 use Rattle.std.specs.List.{flat_map}
 use Rattle.std.specs.Fmt.{decimal}
 use Rattle.std.specs.Io.KnownBytes.{Appends, Keeps}
-use Rattle.plant.specs.declared.due.Due.{Due}
-use Rattle.plant.specs.declared.task_ref.TaskRef.{TaskRef}
+use Rattle.due_list.specs.declared.due.Due.{Due}
+use Rattle.due_list.specs.declared.task_ref.TaskRef.{TaskRef}
 use Rattle.plant.specs.PlantValue.{TaskValue, ResourceValue, PlantValue, items_or_none}
 use Rattle.plant.specs.PlantText.{IsPlantText}
 use Rattle.plant.specs.Plan.{task_at, IsPlan}

@@ -1,8 +1,8 @@
 -- The commands of `plc run`.
 use Rattle.std.specs.Prelude.{ℕ, ◌+◌, List, [], ◌∷◌, unwrap_or}
 use Rattle.std.specs.Option.{option_map}
-use Rattle.plant.specs.declared.due.Due.{Due}
-use Rattle.plant.specs.declared.task_ref.TaskRef.{TaskRef}
+use Rattle.due_list.specs.declared.due.Due.{Due}
+use Rattle.due_list.specs.declared.task_ref.TaskRef.{TaskRef}
 use Rattle.plant.specs.PlantValue.{TaskValue, PlantValue}
 use Rattle.plant.specs.Plan.{task_at}
 use Rattle.evaluation.specs.declared.field_input.FieldInput.{FieldInput}

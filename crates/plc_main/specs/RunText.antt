@@ -1,7 +1,7 @@
 -- What `plc run` writes.
 use Rattle.std.specs.Prelude.{◌≡◌, ◌≢◌, ◌↔◌, ℕ, ◌≤◌, ◌++◌, ◌⊎◌, Bool, IsTrue, true, List, [], Option, length}
 use Rattle.std.specs.Io.KnownBytes.{Appends, Keeps}
-use Rattle.plant.specs.declared.due.Due.{Due}
+use Rattle.due_list.specs.declared.due.Due.{Due}
 use Rattle.plant.specs.PlantValue.{PlantValue}
 use Rattle.plant.specs.Plan.{IsPlan}
 use Rattle.evaluation.specs.declared.field_input.FieldInput.{FieldInput}

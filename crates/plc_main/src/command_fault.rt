@@ -123,7 +123,7 @@ impl From<PlantFault> for CommandFault {
 
 impl From<PlanFault> for CommandFault {
     ghost use Rattle.plc_main.specs.Steps.Giving.{GivenFor};
-    ghost use Rattle.plant.specs.declared.plan_fault.PlanFault.TheVariants as plan;
+    ghost use Rattle.due_list.specs.declared.plan_fault.PlanFault.TheVariants as plan;
     ghost use Rattle.plc_main.specs.declared.text_fault.TextFault.TheVariants.{TooLong};
 
     ghost from_gives = { λ found fault. GivenFor (found ≡ plan.Memory) TooLong fault };

@@ -1,7 +1,7 @@
 -- A history has one log.
 use Rattle.std.proofs.Common.{◌≡◌, ℕ, List, [], ◌∷◌, refl, sym, ◌∙◌, subst}
 use Rattle.std.proofs.lemmas.Option.{same_Some}
-use Rattle.plant.specs.declared.task_ref.TaskRef.{TaskRef}
+use Rattle.due_list.specs.declared.task_ref.TaskRef.{TaskRef}
 use Rattle.evaluation.specs.declared.field_input.FieldInput.{FieldInput}
 use Rattle.evaluation.specs.Meaning.{Evaluated, IsAsked}
 use Rattle.evaluation.proofs.Meant.{one_evaluation}

@@ -2,7 +2,7 @@
 use Rattle.std.proofs.Common.{◌≡◌, ℕ, ◌+◌, ◌<◌, ◌≤◌, Bool, true, false, List, [], ◌∷◌, length, Some, refl, ap, sym, ◌∙◌, subst, arith, eqb, ltb}
 use Rattle.std.specs.Prelude.{is_some, slice_index, reverse}
 use Rattle.std.proofs.lemmas.Bool.{and_parts, ltb-true, eqb-true}
-use Rattle.plant.specs.declared.task_ref.TaskRef.{TaskRef}
+use Rattle.due_list.specs.declared.task_ref.TaskRef.{TaskRef}
 use Rattle.plant.specs.PlantValue.{code_at}
 use Rattle.evaluation.specs.declared.field_input.FieldInput.{FieldInput}
 use Rattle.evaluation.specs.Meaning.{Evaluated}

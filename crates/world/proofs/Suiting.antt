@@ -3,7 +3,7 @@ use Rattle.std.proofs.Common.{◌≡◌, inl, inr, ℕ, zero, suc, List, [], ◌
 use Rattle.std.specs.Prelude.{slice_get}
 use Rattle.std.proofs.lemmas.Option.{none-some, same_Some}
 use Rattle.power_flow.specs.declared.declarations.Kind.{Kind}
-use Rattle.plant.specs.declared.task_ref.TaskRef.{TaskRef}
+use Rattle.due_list.specs.declared.task_ref.TaskRef.{TaskRef}
 use Rattle.plant.specs.PlantValue.{CodeValue, PlantValue, AreDistinct, AreProducersOf, image_kinds, items_or_none}
 use Rattle.evaluation.specs.declared.take.Take.{Take}
 use Rattle.evaluation.specs.Takes.{initial_image, IsTakeOf, AreTakesOf}

@@ -5,7 +5,7 @@ use Rattle.std_blocks.specs.declared.value.Value.{Value}
 use Rattle.power_flow.specs.First.{value_first}
 use Rattle.plant.specs.declared.binding.Source.TheVariants.{Given}
 use Rattle.plant.specs.declared.binding.Binding.{Binding}
-use Rattle.plant.specs.declared.task_ref.TaskRef.{TaskRef}
+use Rattle.due_list.specs.declared.task_ref.TaskRef.{TaskRef}
 use Rattle.plant.specs.PlantValue.{PlantValue, bindings_at, source_kind, code_at}
 use Rattle.evaluation.specs.declared.take.Take.{Take}
 use Rattle.evaluation.specs.Meaning.{Evaluated, IsMeant, IsWhole, given}

@@ -1,6 +1,6 @@
 -- What has happened in a plant: lists of events. A history has the newest event first.
 use Rattle.std.specs.Prelude.{ℕ, ◌+◌, ◌==◌, ◌&&◌, Bool, true, false, nat_lt, nat_le, List, [], ◌∷◌, is_some, slice_index, length, filter, if◌then◌else◌}
-use Rattle.plant.specs.declared.task_ref.TaskRef.{TaskRef}
+use Rattle.due_list.specs.declared.task_ref.TaskRef.{TaskRef}
 use Rattle.plant.specs.PlantValue.{PlantValue, code_at}
 use Rattle.exchange_core.specs.Last.{same_task}
 use Rattle.world.specs.declared.event.Event.{Event}

@@ -1,7 +1,7 @@
 -- The run of a list of events: the evaluations that it makes. A log has the newest evaluation first.
 use Rattle.std.specs.Prelude.{◌≡◌, ℕ, ◌+◌, suc, ◌==◌, ◌&&◌, Bool, nat_lt, List, [], ◌∷◌, reverse, Option, Some, None, length, if◌then◌else◌}
 use Rattle.std.specs.List.{list_any}
-use Rattle.plant.specs.declared.task_ref.TaskRef.{TaskRef}
+use Rattle.due_list.specs.declared.task_ref.TaskRef.{TaskRef}
 use Rattle.plant.specs.PlantValue.{CodeValue, code_at}
 use Rattle.evaluation.specs.declared.field_input.FieldInput.{FieldInput}
 use Rattle.evaluation.specs.declared.name.Name.{Name}

@@ -4,7 +4,7 @@ use Rattle.std.specs.List.{position_or_len}
 use Rattle.words.specs.Lines.{lines_of, without_last}
 use Rattle.words.specs.Chars.{same_word, is_plain_name}
 use Rattle.words.specs.Numbers.{number_up_to}
-use Rattle.plant.specs.declared.task_ref.TaskRef.{TaskRef}
+use Rattle.due_list.specs.declared.task_ref.TaskRef.{TaskRef}
 use Rattle.plant.specs.PlantValue.{PlantValue, ResourceValue, TaskValue, tasks_at}
 use Rattle.evaluation.specs.declared.field_input.FieldInput.{FieldInput}
 use Rattle.evaluation.specs.InputTexts.{words_of, AreInputs}

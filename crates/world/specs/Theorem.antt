@@ -1,6 +1,6 @@
 -- The consistency theorem: what holds of every list of events and of its run.
 use Rattle.std.specs.Prelude.{◌≡◌, ℕ, true, List, ◌∷◌, ◌++◌, reverse, Some, slice_get, take}
-use Rattle.plant.specs.declared.task_ref.TaskRef.{TaskRef}
+use Rattle.due_list.specs.declared.task_ref.TaskRef.{TaskRef}
 use Rattle.plant.specs.PlantValue.{code_at}
 use Rattle.evaluation.specs.declared.field_input.FieldInput.{FieldInput}
 use Rattle.evaluation.specs.Meaning.{Evaluated, IsMeant}

@@ -1,7 +1,7 @@
 -- What a world is, to a contract: its setting, the events that were done, and the evaluations made, in their order.
 use Rattle.std.specs.Prelude.{ℕ, ◌==◌, Bool, List, Option, None, reverse, if◌then◌else◌}
 use Rattle.std.specs.List.{list_any}
-use Rattle.plant.specs.declared.task_ref.TaskRef.{TaskRef}
+use Rattle.due_list.specs.declared.task_ref.TaskRef.{TaskRef}
 use Rattle.plant.specs.PlantValue.{CodeValue, PlantValue, codes_at}
 use Rattle.evaluation.specs.Meaning.{Evaluated}
 use Rattle.exchange_core.specs.Last.{same_task}

@@ -1,4 +1,4 @@
-use crate::task_ref::TaskRef;
+use due_list::TaskRef;
 use plant_text::Address;
 use power_flow::Kind;
 

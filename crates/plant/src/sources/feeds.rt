@@ -21,7 +21,7 @@ use crate::program_instance::ProgramInstance;
 use crate::sources::feed::{Feed, Origin};
 use crate::sources::lookup::{find_instance, find_output, find_resource};
 use crate::sources::resource_draft::ResourceDraft;
-use crate::task_ref::TaskRef;
+use due_list::TaskRef;
 use power_flow::{Declarations, Declared, Kind};
 use std::alloc::Global;
 

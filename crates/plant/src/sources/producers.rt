@@ -2,7 +2,7 @@
 
 ghost use Rattle.std.specs.Prelude.{◌≡◌, ◌++◌, ◌∷◌, [], ℕ, List, Some, All, Contains, IfOk, OnOk, map, slice_get};
 ghost use Rattle.std.specs.List.{AllZip, flat_map};
-ghost use Rattle.plant.specs.declared.task_ref.TaskRef.{TaskRef};
+ghost use Rattle.due_list.specs.declared.task_ref.TaskRef.{TaskRef};
 ghost use Rattle.plant.specs.PlantValue.{code_at};
 ghost use Rattle.plant.specs.StandsFor.{firsts};
 ghost use Rattle.plant.specs.Steps.Drafts.{drafted, tasks_taken, all_taken, AreKindsOf, IsPlaced, IsTakenFrom, IsTaskOf};
@@ -11,7 +11,7 @@ use crate::binding::{Binding, Source};
 use crate::sources::feed::{Feed, Origin};
 use crate::sources::resource_draft::ResourceDraft;
 use crate::sources::task_draft::TaskDraft;
-use crate::task_ref::TaskRef;
+use due_list::TaskRef;
 use power_flow::Kind;
 use std::alloc::{AllocError, Global};
 

@@ -1,7 +1,7 @@
 //! The event that a line spells.
 
 ghost use Rattle.std.specs.Prelude.{◌≡◌, ◌≢◌, ℕ, List, IfOk, IfErr, MatchOption, map};
-ghost use Rattle.plant.specs.declared.task_ref.TaskRef.{TaskRef};
+ghost use Rattle.due_list.specs.declared.task_ref.TaskRef.{TaskRef};
 ghost use Rattle.evaluation.specs.declared.field_input.FieldInput.{FieldInput};
 ghost use Rattle.world.specs.declared.event.Event.{Event};
 ghost use Rattle.world.specs.declared.schedule.line_fault.LineFault.TheVariants.{Syntax, Write};

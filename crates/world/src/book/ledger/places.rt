@@ -1,7 +1,7 @@
 ghost use Rattle.std.specs.Prelude.{◌≡◌, ◌++◌, ◌∷◌, [], OnOk, OnErr, if◌then◌else◌};
 ghost use Rattle.std.specs.List.{find, position};
 ghost use Rattle.std.specs.Option.{option_copied};
-ghost use Rattle.plant.specs.declared.task_ref.TaskRef.{TaskRef as Task};
+ghost use Rattle.due_list.specs.declared.task_ref.TaskRef.{TaskRef as Task};
 ghost use Rattle.exchange_core.specs.Last.{same_task};
 ghost use Rattle.world.specs.Steps.Ledger.{is_row, places_in, last_index, index_of, AreRising};
 

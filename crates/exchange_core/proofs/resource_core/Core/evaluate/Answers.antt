@@ -1,5 +1,5 @@
 use Rattle.std.proofs.Common.{sym, subst}
-use Rattle.plant.specs.declared.task_ref.TaskRef.{TaskRef}
+use Rattle.due_list.specs.declared.task_ref.TaskRef.{TaskRef}
 use Rattle.exchange_core.specs.CoreValue.{CoreValue, IsKnownOf}
 use Rattle.exchange_core.proofs.Keeping.{core-with, next-known, place-known}
 use Rattle.exchange_core.proofs.resource_core.Core.evaluate.Goals as goal

@@ -1,7 +1,7 @@
 use Rattle.std.proofs.Common.{◌≢◌, ◌++◌, ◌∷◌, []}
 use Rattle.plant.specs.declared.plant_fault.PlantFaultKind.TheVariants.{Memory}
 use Rattle.plant.specs.BodyFaults.{IsFirstBodyFault}
-use Rattle.plant.proofs.Moments.{kept_fault}
+use Rattle.lists.proofs.Results.{kept_fault}
 use Rattle.plant.proofs.DrawnLemmas.{drawn_more, passed_more, first_refused}
 use Rattle.plant.proofs.bodies.drawn.draw_all.Goals as goal
 

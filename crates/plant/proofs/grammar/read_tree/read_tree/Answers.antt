@@ -5,7 +5,7 @@ use Rattle.plant.specs.Faults.{IsOfBody}
 use Rattle.plant.specs.declared.plant_fault.PlantFaultKind.TheVariants.{Memory}
 use Rattle.plant_text.specs.declared.token.Token.{Token}
 use Rattle.plant.proofs.FaultLemmas.{body_met}
-use Rattle.plant.proofs.Moments.{kept_fault}
+use Rattle.lists.proofs.Results.{kept_fault}
 use Rattle.std.specs.List.{flat_map}
 use Rattle.plant.specs.Faultless.{uses_of}
 use Rattle.plant.specs.Grammar.{program_words}

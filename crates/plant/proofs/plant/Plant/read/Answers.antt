@@ -10,7 +10,7 @@ use Rattle.plant.specs.Steps.Lines.{ReaderValue}
 use Rattle.plant_text.specs.Lines.{WordValue, body_lines}
 use Rattle.plant.specs.Faults.{IsOfBody}
 use Rattle.plant.specs.PlantText.{IsBodyFaultIn}
-use Rattle.plant.proofs.Moments.{kept_fault}
+use Rattle.lists.proofs.Results.{kept_fault}
 use Rattle.plant.proofs.KnownWords.{words_known}
 use Rattle.plant.proofs.BodyCounts.{begun_by_programs}
 use Rattle.plant.specs.NameFaults.{IsOfName, IsNameFaultIn}

@@ -8,7 +8,7 @@ use Rattle.std.proofs.Common.{ap}
 use Rattle.plant.specs.Steps.ReadParts.{TallyValue}
 use Rattle.plant.specs.NameFaults.{IsOfName, RefusesBind}
 use Rattle.plant.specs.Steps.Declaring.{BeginWith}
-use Rattle.plant.proofs.Moments.{kept_fault}
+use Rattle.lists.proofs.Results.{kept_fault}
 use Rattle.plant.proofs.RefusedPlaces.{first_bind, next_bind}
 use Rattle.plant.proofs.grammar.reader.Reader.binds.Goals as goal
 

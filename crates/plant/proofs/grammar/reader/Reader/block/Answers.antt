@@ -1,6 +1,6 @@
 use Rattle.plant.specs.NameFaults.{IsOfName, RefusesBlock}
 use Rattle.plant.specs.Steps.Declaring.{BeginWith}
-use Rattle.plant.proofs.Moments.{kept_fault}
+use Rattle.lists.proofs.Results.{kept_fault}
 use Rattle.plant.proofs.RefusedPlaces.{in_block}
 use Rattle.plant.proofs.grammar.reader.Reader.block.Goals as goal
 

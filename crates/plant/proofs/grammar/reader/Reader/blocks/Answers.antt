@@ -4,7 +4,7 @@ use Rattle.plant.specs.Grammar.{block_words}
 use Rattle.plant.proofs.WordLists.{words_more, declared_more, all_more}
 use Rattle.plant.specs.NameFaults.{IsOfName, RefusesBlocks}
 use Rattle.plant.specs.Steps.Declaring.{BeginWith}
-use Rattle.plant.proofs.Moments.{kept_fault}
+use Rattle.lists.proofs.Results.{kept_fault}
 use Rattle.plant.proofs.RefusedPlaces.{block_refused}
 use Rattle.plant.proofs.grammar.reader.Reader.blocks.Goals as goal
 

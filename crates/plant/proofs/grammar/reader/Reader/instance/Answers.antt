@@ -7,7 +7,7 @@ use Rattle.std.proofs.Common.{ap}
 use Rattle.plant.specs.Steps.ReadParts.{TallyValue}
 use Rattle.plant.specs.NameFaults.{IsOfName, RefusesInstance}
 use Rattle.plant.specs.Steps.Declaring.{BeginWith}
-use Rattle.plant.proofs.Moments.{kept_fault}
+use Rattle.lists.proofs.Results.{kept_fault}
 use Rattle.plant.proofs.RefusedPlaces.{instance_named, in_instance}
 use Rattle.plant.proofs.grammar.reader.Reader.instance.Goals as goal
 

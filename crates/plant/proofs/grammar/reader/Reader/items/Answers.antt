@@ -7,7 +7,7 @@ use Rattle.plant.proofs.ItemLemmas.{items_more, tally_more}
 use Rattle.plant.specs.declared.grammar.tree.Item.{Item}
 use Rattle.plant.specs.NameFaults.{IsOfName, RefusesItems}
 use Rattle.plant.specs.Steps.Declaring.{BeginWith}
-use Rattle.plant.proofs.Moments.{kept_fault}
+use Rattle.lists.proofs.Results.{kept_fault}
 use Rattle.plant.proofs.RefusedPlaces.{RefusesItem, item_refused}
 use Rattle.plant.proofs.grammar.reader.Reader.items.Goals as goal
 

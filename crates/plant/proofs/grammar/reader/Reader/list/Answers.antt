@@ -1,6 +1,6 @@
 use Rattle.plant.specs.NameFaults.{IsOfName, RefusesVariable}
 use Rattle.plant.specs.Steps.Declaring.{BeginWith}
-use Rattle.plant.proofs.Moments.{kept_fault}
+use Rattle.lists.proofs.Results.{kept_fault}
 use Rattle.plant.proofs.RefusedPlaces.{listed_variable}
 use Rattle.plant.proofs.grammar.reader.Reader.list.Goals as goal
 

@@ -2,7 +2,7 @@ use Rattle.std.proofs.Common.{◌∙◌, arith}
 use Rattle.plant.proofs.WordLists.{names_more, grown}
 use Rattle.plant.specs.NameFaults.{IsOfName, RefusesVariable}
 use Rattle.plant.specs.Steps.Declaring.{BeginWith}
-use Rattle.plant.proofs.Moments.{kept_fault}
+use Rattle.lists.proofs.Results.{kept_fault}
 use Rattle.plant.proofs.RefusedPlaces.{first_variable, next_variable}
 use Rattle.plant.proofs.grammar.reader.Reader.names.Goals as goal
 

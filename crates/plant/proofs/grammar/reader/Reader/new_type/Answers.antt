@@ -1,6 +1,6 @@
 use Rattle.plant.specs.NameFaults.{IsOfName}
 use Rattle.plant.specs.Steps.Declaring.{IsNameNext}
-use Rattle.plant.proofs.Moments.{kept_fault}
+use Rattle.lists.proofs.Results.{kept_fault}
 use Rattle.plant.proofs.grammar.reader.Reader.new_type.Goals as goal
 
 pub returns-in_err-check_new-clause-next : goal.returns-in_err-check_new-clause-next

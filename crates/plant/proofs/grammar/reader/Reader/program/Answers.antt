@@ -7,7 +7,7 @@ use Rattle.plant.specs.Steps.Reading.{programs_of}
 use Rattle.plant.specs.NameFaults.{IsOfName, RefusesProgram}
 use Rattle.plant.specs.Steps.Declaring.{RepeatsName, IsNameNext, BeginWith}
 use Rattle.plant.proofs.RefusedNames.{tells_with}
-use Rattle.plant.proofs.Moments.{kept_fault}
+use Rattle.lists.proofs.Results.{kept_fault}
 use Rattle.plant.proofs.RefusedPlaces.{program_named, in_program}
 use Rattle.plant.proofs.grammar.reader.Reader.program.Goals as goal
 

@@ -11,7 +11,7 @@ use Rattle.plant.proofs.TypeLemmas.{programs_more, map-grown}
 use Rattle.plant.proofs.WordLists.{words_more}
 use Rattle.plant.specs.NameFaults.{IsOfName, RefusesProgram, RefusesPrograms}
 use Rattle.plant.specs.Steps.Declaring.{BeginWith}
-use Rattle.plant.proofs.Moments.{kept_fault}
+use Rattle.lists.proofs.Results.{kept_fault}
 use Rattle.plant.proofs.RefusedPlaces.{program_refused}
 use Rattle.plant.proofs.RefusedNames.{memory_result}
 use Rattle.plant.proofs.grammar.reader.Reader.programs.Goals as goal

@@ -3,7 +3,7 @@ use Rattle.plant.specs.Steps.Declaring.{RepeatsName, IsNameNext, BeginWith}
 use Rattle.plant.proofs.RefusedNames.{tells_with}
 use Rattle.plant.specs.declared.grammar.tree.Resource.{Resource}
 use Rattle.std.proofs.Common.{◌≤◌, length}
-use Rattle.plant.proofs.Moments.{kept_fault}
+use Rattle.lists.proofs.Results.{kept_fault}
 use Rattle.plant.proofs.RefusedPlaces.{resource_named, in_resource}
 use Rattle.plant.proofs.grammar.reader.Reader.resource.Goals as goal
 

@@ -8,7 +8,7 @@ use Rattle.plant.proofs.ItemLemmas.{resources_more, tally_more}
 use Rattle.std.proofs.Common.{List}
 use Rattle.plant.specs.NameFaults.{IsOfName, RefusesResource, RefusesResources}
 use Rattle.plant.specs.Steps.Declaring.{BeginWith}
-use Rattle.plant.proofs.Moments.{kept_fault}
+use Rattle.lists.proofs.Results.{kept_fault}
 use Rattle.plant.proofs.RefusedPlaces.{resource_refused}
 use Rattle.plant.proofs.grammar.reader.Reader.resources.Goals as goal
 

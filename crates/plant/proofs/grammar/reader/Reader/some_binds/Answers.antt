@@ -2,7 +2,7 @@ use Rattle.plant_text.specs.declared.token.Punctuation.TheVariants.{Open}
 use Rattle.plant.specs.Grammar.{mark}
 use Rattle.plant.specs.NameFaults.{IsOfName, IsAfter, RefusesBind}
 use Rattle.plant.specs.Steps.Declaring.{BeginWith}
-use Rattle.plant.proofs.Moments.{kept_fault}
+use Rattle.lists.proofs.Results.{kept_fault}
 use Rattle.plant.proofs.RefusedPlaces.{in_binds}
 use Rattle.plant.proofs.grammar.reader.Reader.some_binds.Goals as goal
 

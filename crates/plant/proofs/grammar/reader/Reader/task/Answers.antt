@@ -1,6 +1,6 @@
 use Rattle.plant.specs.NameFaults.{IsOfName, RefusesTask}
 use Rattle.plant.specs.Steps.Declaring.{BeginWith}
-use Rattle.plant.proofs.Moments.{kept_fault}
+use Rattle.lists.proofs.Results.{kept_fault}
 use Rattle.plant.proofs.RefusedPlaces.{task_refused}
 use Rattle.plant.proofs.grammar.reader.Reader.task.Goals as goal
 

@@ -2,7 +2,7 @@ use Rattle.std.proofs.Common.{◌≡◌, ◌⊎◌, ◌∷◌, ◌++◌, ◌+◌
 use Rattle.power_flow.specs.declared.declarations.Declaration.{Declaration}
 use Rattle.plant.specs.Faultless.{declared_as}
 use Rattle.plant.specs.NameFaults.{IsOfName, TellsOfName, IsTaken}
-use Rattle.plant.proofs.Moments.{kept_fault}
+use Rattle.lists.proofs.Results.{kept_fault}
 use Rattle.plant.proofs.AddedNames.{add_refused}
 use Rattle.plant.proofs.grammar.variables.Variables.add_list.Goals as goal
 

@@ -1,6 +1,6 @@
 -- The rows tell the same, and there is one for each producer so far.
 use Rattle.std.proofs.Common.{◌≡◌, ℕ, true, take}
-use Rattle.plant.specs.declared.task_ref.TaskRef.{TaskRef}
+use Rattle.due_list.specs.declared.task_ref.TaskRef.{TaskRef}
 use Rattle.evaluation.specs.declared.take.Take.{Take}
 use Rattle.world.specs.Fits.{Each}
 use Rattle.world.specs.Steps.Ledger.{taker_in, has_row}

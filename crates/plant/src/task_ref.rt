@@ -1,6 +1,0 @@
-/// A task of a plant: the position of its resource, and its own among the resource's tasks, both from 0.
-#[derive(Clone, Copy, Debug, PartialEq, Eq)]
-pub struct TaskRef {
-    pub resource: usize,
-    pub task: usize,
-}
