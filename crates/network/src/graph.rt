@@ -92,6 +92,7 @@ fn empty_networks(alloc: Global, sizes: &[usize]) -> Result<Vec<Network>, AllocE
 }
 
 /// Puts an element at the end of the network of its rank.
+#[inline(never)]
 fn put(networks: &mut Vec<Network>, rank: Option<usize>, element: Element) -> Result<(), AllocError>
     requires { IfSome rank (λ m. m < length networks.old.items) }
     ensures { OnOk result (IsPut networks.old.items rank element networks.new.items) }

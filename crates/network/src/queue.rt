@@ -32,6 +32,7 @@ impl Queue {
     }
 
     /// Takes the first element.
+    #[inline(never)]
     pub fn take(&mut self) -> Option<Element>
         ensures { MatchOption result (self.old ≡ []) (λ e. self.old ≡ e ∷ self.new) }
     {
