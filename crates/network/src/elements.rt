@@ -5,18 +5,26 @@ ghost use Rattle.network.specs.Steps.Listing.{AreElementsBefore, AreElementsOf};
 ghost use Rattle.network.specs.Steps.Symbols.{AreSymbols};
 
 use crate::element::Element;
-use crate::symbols::{Symbols, element_at, symbols_of};
+use crate::symbols::{Symbols, box_at, coil_at, contact_at, symbols_of};
 use ladder_text::{Drawing, Mark, Place};
 use std::alloc::{AllocError, Global};
+
+/// Adds an element at the end.
+fn push(elements: &mut Vec<Element>, element: Element) -> Result<(), AllocError>
+    ensures { OnOk result (elements.new.items ≡ elements.old.items ++ element ∷ []) }
+{
+    elements.push(element)?;
+    Ok(())
+}
 
 /// Adds an element at the end, if there is one.
 fn push_found(elements: &mut Vec<Element>, found: Option<Element>) -> Result<(), AllocError>
     ensures { OnOk result (MatchOption found (elements.new.items ≡ elements.old.items) (λ e. elements.new.items ≡ elements.old.items ++ e ∷ [])) }
 {
-    if let Some(element) = found {
-        elements.push(element)?;
+    match found {
+        Some(element) => push(elements, element),
+        None => Ok(()),
     }
-    Ok(())
 }
 
 /// Adds the element that begins at a place, if there is one.
@@ -32,8 +40,24 @@ fn push_at(
     requires before { AreElementsBefore drawing.now at elements.old.items }
     ensures { OnOk result (AreElementsBefore drawing.now (place (at.row + 1) at.column) elements.new.items) }
 {
-    let found = element_at(alloc, drawing, symbols, at)?;
-    push_found(elements, found)
+    match drawing.mark(at.row, at.column) {
+        Mark::Blank | Mark::Rail => Ok(()),
+        Mark::Wire => push(elements, Element::Wire(at)),
+        Mark::Join => push(elements, Element::Join(at)),
+        Mark::Upright => push(elements, Element::Upright(at)),
+        Mark::ContactPart => {
+            let contact = contact_at(alloc, drawing, symbols, at)?;
+            push_found(elements, contact)
+        }
+        Mark::CoilPart => {
+            let coil = coil_at(alloc, drawing, symbols, at)?;
+            push_found(elements, coil)
+        }
+        Mark::BoxPart => {
+            let boxed = box_at(alloc, drawing, symbols, at)?;
+            push_found(elements, boxed)
+        }
+    }
 }
 
 /// Adds the elements that begin in a column, by row.

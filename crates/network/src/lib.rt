@@ -15,6 +15,7 @@ mod number_row;
 mod numbering;
 mod pairs;
 mod places;
+mod queue;
 mod rails;
 mod ranks;
 mod row_table;

@@ -78,7 +78,8 @@ pub fn symbols_of(alloc: Global, drawing: &Drawing) -> Result<Symbols, AllocErro
     })
 }
 
-fn contact_at(
+/// The contact that begins at a place.
+pub fn contact_at(
     alloc: Global,
     drawing: &Drawing,
     symbols: &Symbols,
@@ -96,7 +97,8 @@ fn contact_at(
     Ok(Some(Element::Contact(contact)))
 }
 
-fn coil_at(
+/// The coil that begins at a place.
+pub fn coil_at(
     alloc: Global,
     drawing: &Drawing,
     symbols: &Symbols,
@@ -114,7 +116,8 @@ fn coil_at(
     Ok(Some(Element::Coil(coil)))
 }
 
-fn box_at(
+/// The box that begins at a place.
+pub fn box_at(
     alloc: Global,
     drawing: &Drawing,
     symbols: &Symbols,
@@ -131,26 +134,4 @@ fn box_at(
     let drawn = copy_box(alloc, &drawing.boxes()[k])?;
     let boxed = ElementBox::new(alloc, drawn)?;
     Ok(Some(Element::Box(boxed)))
-}
-
-/// The element that begins at a place.
-pub fn element_at(
-    alloc: Global,
-    drawing: &Drawing,
-    symbols: &Symbols,
-    at: Place,
-) -> Result<Option<Element>, AllocError>
-    requires symbols { AreSymbols drawing.now symbols.now }
-    requires sound { IsSound drawing.now }
-    ensures { IfOk result (λ e. MatchOption e (IsNoElementAt drawing.now at) (IsTheElementAt drawing.now at)) }
-{
-    match drawing.mark(at.row, at.column) {
-        Mark::Blank | Mark::Rail => Ok(None),
-        Mark::Wire => Ok(Some(Element::Wire(at))),
-        Mark::Join => Ok(Some(Element::Join(at))),
-        Mark::Upright => Ok(Some(Element::Upright(at))),
-        Mark::ContactPart => contact_at(alloc, drawing, symbols, at),
-        Mark::CoilPart => coil_at(alloc, drawing, symbols, at),
-        Mark::BoxPart => box_at(alloc, drawing, symbols, at),
-    }
 }

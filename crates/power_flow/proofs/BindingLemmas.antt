@@ -1,5 +1,6 @@
 -- Names at which nothing is wrong, and the networks that they bind.
-use Rattle.std.proofs.Common.{◌≡◌, ℕ, ◌+◌, ◌≤◌, List, [], Bool, true, false, Option, Some, None, Contains, slice_get, length, arith, refl, sym, ap, ◌∙◌}
+use Rattle.std.proofs.Common.{◌≡◌, ℕ, ◌+◌, ◌≤◌, List, [], Bool, true, false, Option, Some, None, Contains, cond, ltb, is_some, position, slice_get, length, arith, refl, sym, ap, ◌∙◌}
+use Rattle.std.specs.Bool.{OnFalse}
 use Rattle.std.specs.Option.{option_and_then, option_map}
 use Rattle.std.specs.List.{before_first, after_first, position_or_len}
 use Rattle.std.proofs.lemmas.Bool.{ltb-false}
@@ -28,6 +29,26 @@ no_dot name h =
     let short = length-take n name in
     let past : length name ≤ n = omega arith in
     (take_all n name past, drop_all (n + 1) name (omega arith))
+
+-- a name in which no dot is found
+no_dot_found : (name : List ℕ) (o : Option ℕ) → o ≡ position is_dot name → is_some o ≡ false → (before_first is_dot name ≡ name) × (after_first is_dot name ≡ [])
+no_dot_found name o at none = by (ltb (position_or_len is_dot name) (length name)) refl
+  where
+    n : ℕ
+    n = position_or_len is_dot name
+
+    by : (b : Bool) → ltb n (length name) ≡ b → (before_first is_dot name ≡ name) × (after_first is_dot name ≡ [])
+    by false past = let long = ltb-false n (length name) past in (take_all n name (omega arith), drop_all (n + 1) name (omega arith))
+    by true within =
+        let there : is_some o ≡ true = ap is_some at ∙ ap (λ b. is_some (cond b (Some n) None)) within in
+        let wrong : false ≡ true = sym none ∙ there in
+        absurd cc
+
+-- the same, by the answer
+pub on_no_dot : (name : List ℕ) (o : Option ℕ) → o ≡ position is_dot name → (b : Bool) → b ≡ is_some o
+    → OnFalse b (before_first is_dot name ≡ name) × OnFalse b (after_first is_dot name ≡ [])
+on_no_dot name o at true is = (tt, tt)
+on_no_dot name o at false is = no_dot_found name o at (sym is)
 
 -- a name at which nothing is wrong is that of one variable
 pub record IsVariable (ds : List Declaration) (name : List ℕ) (fault : Declared → Option BindKind) : Type 0 where

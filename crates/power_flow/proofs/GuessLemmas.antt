@@ -1,5 +1,5 @@
 -- Uses of names in their order, and the declarations that they give.
-use Rattle.std.proofs.Common.{◌≡◌, ℕ, ◌+◌, ◌<◌, ◌≤◌, Bool, true, false, cond, not, ◌&&◌, ◌||◌, ltb, eqb, List, [], ◌∷◌, ◌++◌, map, filter, take, length, get_or, refl, sym, ap, ◌∙◌, arith, if◌then◌else◌}
+use Rattle.std.proofs.Common.{◌≡◌, ℕ, ◌+◌, ◌<◌, ◌≤◌, Bool, true, false, cond, not, ◌&&◌, ◌||◌, ltb, eqb, List, [], ◌∷◌, ◌++◌, Option, Some, None, is_some, map, filter, take, length, get_or, refl, sym, ap, ◌∙◌, arith, if◌then◌else◌}
 use Rattle.std.specs.Ordering.{is_lt, nat_cmp, ordering_then}
 use Rattle.std.specs.List.{list_any, enumerate_from, flat_map}
 use Rattle.std.specs.List.Sorted.{ties, IsPermutation, IsStableBy}
@@ -8,7 +8,7 @@ use Rattle.std.specs.Str.{bytes_eq, str_eq_ignore_ascii_case, str_to_ascii_lower
 use Rattle.std.proofs.lemmas.Bool.Decides.{nat_tests}
 use Rattle.std.proofs.lemmas.List.{map_push, take_all, take_more, append-nil}
 use Rattle.std.proofs.lemmas.List.Elements.{filter_more, filter-append}
-use Rattle.std.proofs.lemmas.List.Folds.{list_any_more, list_any-append, Any-from_list_any}
+use Rattle.std.proofs.lemmas.List.Folds.{list_any_more, list_any-append, Any-from_list_any, list_any-from_Any}
 use Rattle.std.proofs.lemmas.Grind.{flat_map-append}
 use Rattle.std.proofs.lemmas.List.FromFn.{length-enumerate_from, get_or-enumerate_from}
 use Rattle.std.proofs.lemmas.Slice.Eq.{bytes_eq-Decides}
@@ -16,8 +16,8 @@ use Rattle.power_flow.specs.declared.declarations.Declaration.{Declaration}
 use Rattle.power_flow.specs.declared.name_use.NameUse.{NameUse}
 use Rattle.network.specs.declared.element.Element.{Element}
 use Rattle.power_flow.specs.Guess.{is_before, is_first, declaration_of, element_uses, first_uses, uses_of}
-use Rattle.power_flow.specs.Names.{IsDeclared}
-use Rattle.power_flow.proofs.Places.{has_name}
+use Rattle.power_flow.specs.Names.{place_of, IsDeclared}
+use Rattle.power_flow.proofs.Places.{has_name, place_declared}
 
 -- the order by the keys of the sort
 abbrev pub key_before : NameUse → NameUse → Bool
@@ -134,6 +134,13 @@ unfolding first_uses
 FirstsTo-all uses ds k le h =
     let long : length (enumerate_from 0 uses) ≤ k = omega (arith, length-enumerate_from 0 uses) in
     h.list ∙ ap (λ (es : List (ℕ × NameUse)). map entry_of (filter (counts uses) es)) (take_all k (enumerate_from 0 uses) long)
+
+-- a name that has a place is declared already
+pub declared_before : (ds : List Declaration) (u : NameUse) (o : Option ℕ) → o ≡ place_of ds u.name → is_some o ≡ true → ds ≡ declared_with ds u
+declared_before ds u None at some = absurd cc
+declared_before ds u (Some i) at some =
+    let there : list_any (has_name u.name) ds ≡ true = list_any-from_Any (has_name u.name) ds (place_declared ds u.name i (sym at)) in
+    sym (ap (λ b. if b then ds else ds ++ declaration_of u ∷ []) there)
 
 -- what is declared is the name of the use
 pub declared_new : (ds new : List Declaration) (u : NameUse) (given : List ℕ) → given ≡ u.name → (IsDeclared ds given → ⊥)

@@ -1,7 +1,5 @@
 ghost use Rattle.std.specs.Prelude.{◌≡◌};
 ghost use Rattle.std.specs.Bool.{OnTrue, OnFalse};
-ghost use Rattle.std.specs.List.{before_first};
-ghost use Rattle.power_flow.specs.Names.{is_dot};
 ghost use Rattle.power_flow.specs.Lookup.{declared_at};
 ghost use Rattle.power_flow.specs.Findings.{kind_rank, IsUpTo, bind_fault};
 ghost use Rattle.power_flow.specs.Steps.Earlier.{IsEarlier};
@@ -60,22 +58,12 @@ pub struct Finding {
 }
 
 #[tactic(auto, unfolding(crate::specs::Lookup::declared_at))]
-pub fn declared_at(declarations: &Declarations, name: &str) -> Option<Declared>
+pub fn declared_at(declarations: &Declarations, name: &[u8]) -> Option<Declared>
     ensures { result ≡ declared_at declarations.now name.now }
 {
-    let place = declarations.position(name)?;
+    let place = declarations.position_of(name)?;
     let (_, declared) = declarations.entry(place)?;
     Some(declared)
-}
-
-/// The part of a name before its dot.
-pub fn first_part(name: &str) -> &str
-    ensures { result.now ≡ before_first is_dot name.now }
-{
-    match name.split_once('.') {
-        Some((first, _)) => first,
-        None => name,
-    }
 }
 
 /// The place of a kind in the order in which the kinds are sought.

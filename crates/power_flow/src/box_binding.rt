@@ -19,7 +19,7 @@ use crate::kinds::block_type;
 use crate::literal::literal_value;
 use crate::names::name_source;
 use crate::source::Source;
-use ladder_text::{DrawnBox, DrawnPin, Side};
+use ladder_text::{DrawnBox, DrawnPin, Side, Text};
 use network::Element;
 use std::alloc::{AllocError, Global};
 use std_blocks::{BlockType, Field, Pin};
@@ -66,7 +66,7 @@ fn pin_bit_source(declarations: &Declarations, top: usize, pin: &DrawnPin) -> So
     ensures { IsBitSource declarations.now top pin.now result }
 {
     match &pin.operand {
-        Some(operand) => name_source(declarations, operand.text.as_str()),
+        Some(operand) => name_source(declarations, &operand.text),
         None => Source::Power(pin.row.saturating_sub(top)),
     }
 }
@@ -90,7 +90,7 @@ fn bit_source(
 
 /// The source of an operand that is in range: a literal, or what its name stands for.
 #[tactic(auto, unfolding(crate::specs::Steps::Sources::operand_source))]
-fn operand_source(declarations: &Declarations, text: &str) -> Source
+fn operand_source(declarations: &Declarations, text: &Text) -> Source
     ensures { IsInRange text.now → result ≡ operand_source declarations.now text.now }
 {
     match literal_value(text) {
@@ -104,7 +104,7 @@ fn pin_value_source(declarations: &Declarations, pin: &DrawnPin) -> Source
     ensures { MatchOption pin.now.operand (Unit {0}) (λ o. IsInRange o.text) → result ≡ pin_source declarations.now pin.now }
 {
     match &pin.operand {
-        Some(operand) => operand_source(declarations, operand.text.as_str()),
+        Some(operand) => operand_source(declarations, &operand.text),
         None => Source::Nothing,
     }
 }
@@ -140,7 +140,7 @@ fn store_place(declarations: &Declarations, pin: &DrawnPin) -> Option<usize>
     ensures { result ≡ option_and_then (λ w. place_of declarations.now w.text) pin.now.operand }
 {
     match &pin.operand {
-        Some(operand) => declarations.position(operand.text.as_str()),
+        Some(operand) => declarations.position_of(operand.text.as_bytes()),
         None => None,
     }
 }
@@ -212,7 +212,9 @@ fn bind_box(
     let outputs = outputs_of(alloc, declarations, top, drawn, block)?;
     Ok(BoundBox {
         block,
-        instance: declarations.position(drawn.instance.as_str()).unwrap_or(0),
+        instance: declarations
+            .position_of(drawn.instance.as_bytes())
+            .unwrap_or(0),
         bits: [
             bit_source(declarations, top, drawn, block, 0),
             bit_source(declarations, top, drawn, block, 1),

@@ -8,12 +8,12 @@ ghost use Rattle.power_flow.specs.Lookup.{declared_at, is_dotted};
 ghost use Rattle.power_flow.specs.Steps.ElementFindings.{IsFirstOf};
 ghost use Rattle.power_flow.specs.Steps.BoxFindings.{same_kind, wants, output_kind, declared_kind, name_kind, read_name_fault, literal_of, literal_fault, literal_kind_fault, store_name_fault, read_fault_at, store_declared_fault, store_fault_at, operand_fault, field_on, own_field, kind_at, fault_here, fault_if, type_number, instance_fault, same_side, is_bit, has_bit, same_field, same_pin, is_among, pin_fault, operand_finding, is_beside, has_line, line_fault, pin_findings, corner_findings, pins_findings, box_findings, side_place, corner};
 
-use crate::bind::{BindKind, Finding, declared_at, earlier, first_part};
+use crate::bind::{BindKind, Finding, declared_at, earlier};
 use crate::declarations::{Declarations, Declared, Kind};
 use crate::kinds::{block_type, is_on_side, kind_of, kind_of_field};
 use crate::literal::{Literal, read_literal};
 use crate::names::parts;
-use ladder_text::{DrawnBox, DrawnPin, Place, Side};
+use ladder_text::{DrawnBox, DrawnPin, Place, Side, Text};
 use network::Element;
 use std_blocks::{BlockType, Field, Pin};
 
@@ -88,7 +88,7 @@ fn declared_kind(declared: Declared, pin: &str) -> Result<Option<Kind>, BindKind
 
 /// The kind of the value at a name; None for a block itself.
 #[tactic(auto, unfolding(crate::specs::Steps::BoxFindings::name_kind))]
-pub fn name_kind(declarations: &Declarations, name: &str) -> Result<Option<Kind>, BindKind>
+pub fn name_kind(declarations: &Declarations, name: &Text) -> Result<Option<Kind>, BindKind>
     ensures { result ≡ name_kind declarations.now name.now }
 {
     let (first, pin) = parts(name);
@@ -131,7 +131,7 @@ fn literal_kind_fault(want: Option<Kind>, kind: Kind, fits: bool) -> Option<Bind
 
 /// What is wrong with reading an operand.
 #[tactic(auto, unfolding(crate::specs::Steps::BoxFindings::read_fault_at))]
-fn read_fault_at(declarations: &Declarations, want: Option<Kind>, text: &str) -> Option<BindKind>
+fn read_fault_at(declarations: &Declarations, want: Option<Kind>, text: &Text) -> Option<BindKind>
     ensures { result ≡ read_fault_at declarations.now want text.now }
 {
     match read_literal(text) {
@@ -160,14 +160,18 @@ fn store_declared_fault(want: Option<Kind>, declared: Declared) -> Option<BindKi
     }
 }
 
-fn store_name_fault(declarations: &Declarations, want: Option<Kind>, text: &str) -> Option<BindKind>
+fn store_name_fault(
+    declarations: &Declarations,
+    want: Option<Kind>,
+    text: &Text,
+) -> Option<BindKind>
     ensures { result ≡ store_name_fault want (is_dotted text.now) (declared_at declarations.now (before_first is_dot text.now)) }
 {
-    let first = first_part(text);
+    let (first, _) = parts(text);
     match declared_at(declarations, first) {
         None => Some(BindKind::UnknownName),
         Some(declared) => {
-            if first.len() < text.len() {
+            if first.len() < text.as_bytes().len() {
                 Some(BindKind::WrongKind)
             } else {
                 store_declared_fault(want, declared)
@@ -178,7 +182,7 @@ fn store_name_fault(declarations: &Declarations, want: Option<Kind>, text: &str)
 
 /// What is wrong with storing at an operand.
 #[tactic(auto, unfolding(crate::specs::Steps::BoxFindings::store_fault_at))]
-fn store_fault_at(declarations: &Declarations, want: Option<Kind>, text: &str) -> Option<BindKind>
+fn store_fault_at(declarations: &Declarations, want: Option<Kind>, text: &Text) -> Option<BindKind>
     ensures { result ≡ store_fault_at declarations.now want text.now }
 {
     match read_literal(text) {
@@ -191,7 +195,7 @@ fn operand_fault(
     declarations: &Declarations,
     side: Side,
     want: Option<Kind>,
-    text: &str,
+    text: &Text,
 ) -> Option<BindKind>
     ensures { result ≡ operand_fault declarations.now side want text.now }
 {
@@ -351,7 +355,7 @@ fn operand_finding(declarations: &Declarations, drawn: &DrawnBox, pin: &DrawnPin
         None => None,
         Some(operand) => {
             let want = kind_at(own_field(drawn, pin));
-            let fault = operand_fault(declarations, pin.side, want, operand.text.as_str());
+            let fault = operand_fault(declarations, pin.side, want, &operand.text);
             fault_here(
                 fault,
                 Place {
@@ -464,7 +468,7 @@ fn corner_finding(declarations: &Declarations, drawn: &DrawnBox) -> Option<Findi
         row: drawn.top,
         column: drawn.left,
     };
-    let declared = declared_at(declarations, drawn.instance.as_str());
+    let declared = declared_at(declarations, drawn.instance.as_bytes());
     first_of_three(
         fault_here(instance_fault(block_type(drawn.block), declared), place),
         fault_here(

@@ -27,7 +27,7 @@ fn bound_coil(declarations: &Declarations, k: usize, element: &Element) -> Optio
     match element {
         Element::Coil(coil) => Some(BoundCoil {
             kind: coil.kind,
-            place: declarations.position(coil.name.as_str()),
+            place: declarations.position_of(coil.name.as_bytes()),
             memory: k,
         }),
         _ => None,

@@ -156,6 +156,13 @@ impl Declarations {
     pub fn position(&self, name: &str) -> Option<usize>
         ensures { result ≡ place_of self.now name.now }
     {
+        self.position_of(name.as_bytes())
+    }
+
+    /// The position of a name by its letters, in either case.
+    pub(crate) fn position_of(&self, name: &[u8]) -> Option<usize>
+        ensures { result ≡ place_of self.now name.now }
+    {
         if name.len() <= SHORT_WORD {
             self.look_up(name, &mut [0; SHORT_WORD])
         } else if name.len() <= LONGEST_WORD {
@@ -189,17 +196,17 @@ impl Declarations {
     }
 
     /// The position of a name, for which there is this room to put it in small letters.
-    fn look_up(&self, name: &str, room: &mut [u8]) -> Option<usize>
+    fn look_up(&self, name: &[u8], room: &mut [u8]) -> Option<usize>
         requires { length name.now ≤ length room.old }
         ensures { result ≡ place_of self.now name.now }
     {
-        room[..name.len()].copy_from_slice(name.as_bytes());
+        room[..name.len()].copy_from_slice(name);
         room.make_ascii_lowercase();
         self.entries.get_index_of(&room[..name.len()])
     }
 
     /// The position of a name, sought one by one.
-    fn search(&self, name: &str) -> Option<usize>
+    fn search(&self, name: &[u8]) -> Option<usize>
         ensures { result ≡ place_of self.now name.now }
     {
         for i in 0..self.len() {
@@ -211,12 +218,12 @@ impl Declarations {
     }
 
     /// Whether the declaration at a position has the name.
-    fn is_named(&self, i: usize, name: &str) -> bool
+    fn is_named(&self, i: usize, name: &[u8]) -> bool
         requires { i < length self.now }
         ensures { (d : Declaration) → result ≡ str_eq_ignore_ascii_case (slice_index_or self.now i d).name name.now }
     {
         match self.entry(i) {
-            Some((entry, _)) => entry.eq_ignore_ascii_case(name),
+            Some((entry, _)) => entry.as_bytes().eq_ignore_ascii_case(name),
             None => false,
         }
     }

@@ -4,10 +4,11 @@ ghost use Rattle.std.specs.Prelude.{◌≡◌, Some};
 ghost use Rattle.power_flow.specs.Steps.ElementFindings.{kind_fault, write_fault, fault_with, variable_declared, element_findings, IsFirstOf, network_findings, findings};
 ghost use Rattle.power_flow.specs.Steps.BoxFindings.{read_name_fault, name_kind};
 
-use crate::bind::{BindKind, Finding, declared_at, earlier, first_part};
+use crate::bind::{BindKind, Finding, declared_at, earlier};
 use crate::box_faults::{box_finding, fault_here, name_kind, read_name_fault};
 use crate::declarations::{Declarations, Declared, Kind};
-use ladder_text::Place;
+use crate::names::parts;
+use ladder_text::{Place, Text};
 use network::{Element, Network};
 
 fn kind_fault(kind: Kind) -> Option<BindKind>
@@ -32,28 +33,28 @@ fn write_fault(declared: Declared) -> Option<BindKind>
 
 /// What is declared at the name of a symbol. A dotted name is that of no variable.
 #[tactic(auto, unfolding(crate::specs::Steps::ElementFindings::variable_declared))]
-fn variable_declared(declarations: &Declarations, name: &str) -> Result<Declared, BindKind>
+fn variable_declared(declarations: &Declarations, name: &Text) -> Result<Declared, BindKind>
     ensures { result ≡ variable_declared declarations.now name.now }
 {
-    let first = first_part(name);
+    let (first, _) = parts(name);
     let Some(declared) = declared_at(declarations, first) else {
         return Err(BindKind::UnknownName);
     };
-    if first.len() < name.len() {
+    if first.len() < name.as_bytes().len() {
         return Err(BindKind::WrongKind);
     }
     Ok(declared)
 }
 
 /// What is wrong with what a contact reads.
-fn contact_fault(declarations: &Declarations, name: &str) -> Option<BindKind>
+fn contact_fault(declarations: &Declarations, name: &Text) -> Option<BindKind>
     ensures { result ≡ read_name_fault (Some Kind.Bool) (name_kind declarations.now name.now) }
 {
     read_name_fault(Some(Kind::Bool), name_kind(declarations, name))
 }
 
 /// What is wrong with what a coil writes.
-fn coil_fault(declarations: &Declarations, name: &str) -> Option<BindKind>
+fn coil_fault(declarations: &Declarations, name: &Text) -> Option<BindKind>
     ensures { result ≡ fault_with write_fault (variable_declared declarations.now name.now) }
 {
     match variable_declared(declarations, name) {
@@ -77,14 +78,14 @@ fn element_finding(
                 row: contact.row,
                 column: contact.column,
             };
-            fault_here(contact_fault(declarations, contact.name.as_str()), place)
+            fault_here(contact_fault(declarations, &contact.name), place)
         }
         Element::Coil(coil) => {
             let place = Place {
                 row: coil.row,
                 column: coil.column,
             };
-            fault_here(coil_fault(declarations, coil.name.as_str()), place)
+            fault_here(coil_fault(declarations, &coil.name), place)
         }
         Element::Box(boxed) => box_finding(declarations, elements, boxed.drawn()),
     }

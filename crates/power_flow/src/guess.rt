@@ -160,6 +160,9 @@ fn declare(declarations: &mut Declarations, first: &NameUse) -> Result<(), Alloc
     ensures { OnOk result (declarations.new ≡ (if list_any (λ d. str_eq_ignore_ascii_case d.name first.now.name) declarations.old
         then declarations.old else declarations.old ++ declaration_of first.now ∷ [])) }
 {
+    if declarations.position_of(first.name.as_bytes()).is_some() {
+        return Ok(());
+    }
     match declarations.add(first.name.as_str(), first.declared) {
         Ok(()) => Ok(()),
         Err(DeclareFault::Twice) => Ok(()),

@@ -6,7 +6,7 @@ ghost use Rattle.power_flow.specs.Steps.BoxFindings.{literal_of};
 ghost use Rattle.power_flow.specs.Steps.NamedBox.{IsInRange};
 
 use crate::declarations::Kind;
-use ladder_text::{duration_up_to, is_duration, is_number, number_up_to};
+use ladder_text::{Text, duration_up_to, is_duration, is_number, number_up_to};
 use std_blocks::Value;
 
 /// What an operand is by itself.
@@ -46,7 +46,7 @@ fn time_of(word: &[u8]) -> Literal
 
 /// What an operand is by itself: a number, a duration, or a name.
 #[tactic(auto, unfolding(crate::specs::Literals::literal_value))]
-pub fn read_literal(text: &str) -> Literal
+pub fn read_literal(text: &Text) -> Literal
     ensures { result ≡ literal_of (literal_value text.now) }
 {
     let word = text.as_bytes();
@@ -60,7 +60,7 @@ pub fn read_literal(text: &str) -> Literal
 }
 
 /// The value of a number or a duration that is in range.
-pub fn literal_value(text: &str) -> Option<Value>
+pub fn literal_value(text: &Text) -> Option<Value>
     ensures { IsInRange text.now → result ≡ literal_value text.now }
 {
     match read_literal(text) {

@@ -206,7 +206,7 @@ fn contact_step(
     requires { k < 2 ^ 32 }
     ensures { IfOk result (λ s. s ≡ Step.Contact record { kind = contact.now.kind; row = row; source = name_source declarations.now contact.now.name; memory = k }) }
 {
-    let source = name_source(declarations, contact.name.as_str());
+    let source = name_source(declarations, &contact.name);
     match BoundContact::new(contact.kind, row, source, k as u32) {
         Some(bound) => Ok(Step::Contact(bound)),
         None => Err(AllocError),

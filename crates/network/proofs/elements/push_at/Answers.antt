@@ -1,9 +1,55 @@
+use Rattle.std.proofs.Common.{◌≡◌, ◌+◌, ◌++◌, ◌∷◌, [], List, OnOk, Result, Some, refl, sym}
+use Rattle.std.specs.declared.alloc.AllocError.{AllocError}
+use Rattle.ladder_text.specs.Picture.{Picture, IsSound}
+use Rattle.ladder_text.specs.declared.place.Place.{Place}
+use Rattle.network.specs.declared.element.Element.{Element}
+use Rattle.network.specs.declared.element.Element.TheVariants.{Wire, Join, Upright}
+use Rattle.network.specs.Apart.{first_place}
+use Rattle.network.specs.Links.{place}
+use Rattle.network.specs.Networks.{IsElementOf}
+use Rattle.network.specs.Steps.Listing.{AreElementsBefore}
 use Rattle.network.proofs.Basics.{on_ok}
 use Rattle.network.proofs.ListLemmas.{elements_found}
+use Rattle.network.proofs.Sharing.{the_element}
 use Rattle.network.proofs.elements.push_at.Goals as goal
 
-pub returns : goal.returns
-returns c =
+-- an element of one place is added
+pushed : (g : Picture) (sound : IsSound g) (at : Place) (es new : List Element) (e : Element) (r : Result (Unit {0}) AllocError) → IsElementOf g e → first_place e ≡ at
+    → AreElementsBefore g at es → OnOk r (new ≡ es ++ e ∷ []) → OnOk r (AreElementsBefore g (place (at.row + 1) at.column) new)
+pushed g sound at es new e r is begins before =
+    on_ok r _ _ (λ made. elements_found g at.row at.column es new (Some e) (the_element g sound e at is begins) made before)
+
+pub returns-in-Wire : goal.returns-in-Wire
+returns-in-Wire c = pushed c.args.drawing.now c.requires.sound c.args.at c.args.elements.now.items c.push.new.elements.items (Wire c.args.at) c.push.result
+    (sym c.in-Wire.ensures) refl c.requires.before c.push.ensures
+
+pub returns-in-Join : goal.returns-in-Join
+returns-in-Join c = pushed c.args.drawing.now c.requires.sound c.args.at c.args.elements.now.items c.push-in-Join.new.elements.items (Join c.args.at) c.push-in-Join.result
+    (sym c.in-Join.ensures) refl c.requires.before c.push-in-Join.ensures
+
+pub returns-in-Upright : goal.returns-in-Upright
+returns-in-Upright c = pushed c.args.drawing.now c.requires.sound c.args.at c.args.elements.now.items c.push-in-Upright.new.elements.items (Upright c.args.at) c.push-in-Upright.result
+    (sym c.in-Upright.ensures) refl c.requires.before c.push-in-Upright.ensures
+
+pub returns-in_ok-contact-in-ContactPart : goal.returns-in_ok-contact-in-ContactPart
+returns-in_ok-contact-in-ContactPart c =
     let g = c.args.drawing.now in
     let at = c.args.at in
-    on_ok c.push_found.result _ _ (λ made. elements_found g at.row at.column c.args.elements.now.items c.push_found.new.elements.items c.in_ok-found.found c.in_ok-found.ensures made c.requires.before) c.push_found.ensures
+    let found = c.in_ok-contact-in-ContactPart in
+    on_ok c.push_found.result _ _ (λ made. elements_found g at.row at.column c.args.elements.now.items c.push_found.new.elements.items found.contact found.ensures made c.requires.before) c.push_found.ensures
+
+pub returns-in_ok-coil-in-CoilPart : goal.returns-in_ok-coil-in-CoilPart
+returns-in_ok-coil-in-CoilPart c =
+    let g = c.args.drawing.now in
+    let at = c.args.at in
+    let found = c.in_ok-coil-in-CoilPart in
+    let push = c.push_found-in-CoilPart in
+    on_ok push.result _ _ (λ made. elements_found g at.row at.column c.args.elements.now.items push.new.elements.items found.coil found.ensures made c.requires.before) push.ensures
+
+pub returns-in_ok-boxed-in-BoxPart : goal.returns-in_ok-boxed-in-BoxPart
+returns-in_ok-boxed-in-BoxPart c =
+    let g = c.args.drawing.now in
+    let at = c.args.at in
+    let found = c.in_ok-boxed-in-BoxPart in
+    let push = c.push_found-in-BoxPart in
+    on_ok push.result _ _ (λ made. elements_found g at.row at.column c.args.elements.now.items push.new.elements.items found.boxed found.ensures made c.requires.before) push.ensures

@@ -22,7 +22,7 @@ returns-clause-bound c = λ named.
     let Outputs : BlockType → Type 0 = λ t. AreOutputs b t in
     let once = subst Once type named.once in
     let at = declared_place ds b.instance (declared.Instance _) named.instance in
-    let instance : c.unwrap_or.result ≡ at.0 = c.unwrap_or.ensures ∙ ap (λ o. unwrap_or o 0) (c.position.ensures ∙ ap (place_of ds) c.as_str.ensures ∙ at.2) in
+    let instance : c.unwrap_or.result ≡ at.0 = c.unwrap_or.ensures ∙ ap (λ o. unwrap_or o 0) (c.position_of.ensures ∙ ap (place_of ds) c.as_bytes.ensures ∙ at.2) in
     let Reads : ℕ → Source → Type 0 = λ k s. (pin : DrawnPin) → IsDrawn b block (Bit k) pin → IsBitSource ds c.args.top pin s in
     let Undrawn : ℕ → Source → Type 0 = λ k s. ((pin : DrawnPin) → IsDrawn b block (Bit k) pin → ⊥) → s ≡ source.Nothing in
     record {

@@ -17,7 +17,7 @@ returns c =
     let small : take n c.make_ascii_lowercase.new.self ≡ str_to_ascii_lowercase name
     = ap (λ (l : List ℕ). take n l) c.make_ascii_lowercase.ensures.after
     ∙ take-map to_ascii_lowercase n (c.copy_from_slice.new.self ++ rest)
-    ∙ ap (λ (l : List ℕ). map to_ascii_lowercase (take n (l ++ rest))) (c.copy_from_slice.ensures.after ∙ c.as_bytes.ensures.value)
+    ∙ ap (λ (l : List ℕ). map to_ascii_lowercase (take n (l ++ rest))) c.copy_from_slice.ensures.after
     ∙ ap (map to_ascii_lowercase) (take-append-le n name rest (omega arith) ∙ take_all n name (omega arith)) in
     c.get_index_of.ensures.index
     ∙ ap (λ (l : List ℕ). position (is_key l) (keys_of entries)) small
