@@ -1,7 +1,7 @@
 -- Elements that are put into the lists of their networks, one by one.
-use Rattle.std.proofs.Common.{◌≡◌, ℕ, ◌+◌, ◌<◌, ◌⊎◌, inl, inr, List, [], ◌∷◌, ◌++◌, Option, Some, None, drop, get_or, set, length-set, slice_get, length, sym, ap, ◌∙◌, arith}
+use Rattle.std.proofs.Common.{◌≡◌, ℕ, ◌+◌, ◌<◌, ◌⊎◌, inl, inr, List, [], ◌∷◌, ◌++◌, Option, Some, None, set, length-set, slice_get, length, sym, ap, ◌∙◌, arith}
 use Rattle.std.proofs.lemmas.Bool.{cases_eq}
-use Rattle.std.proofs.lemmas.List.{drop_more, get_or-set_other}
+use Rattle.std.proofs.lemmas.List.{get_or-set_other}
 use Rattle.std.proofs.lemmas.Option.{slice_get_within, slice_get-get_or, get_or_from_slice_get}
 use Rattle.lists.proofs.Places.{slice_get-set_same, push_cases, push_here}
 use Rattle.network.specs.declared.element.Element.{Element}
@@ -98,11 +98,3 @@ pub split_put : (es : List Element) (ranks : List (Option ℕ)) (count : ℕ) (n
     → slice_get es n ≡ Some e → slice_get ranks n ≡ Some rank → IsPut networks rank e new → AreSplit es ranks count networks n → AreSplit es ranks count new (n + 1)
 split_put es ranks count networks new n e None at_e at put done = rw put (split_skip es ranks count networks n at done)
 split_put es ranks count networks new n e (Some m) at_e at put done = rw put.2 (split_more es ranks count networks n m e put.0 at_e at put.1 done)
-
--- the first of what is left of a list after its first k
-pub first_left : (es : List Element) (k : ℕ) (e : Element) (rest : List Element) → k < length es → drop k es ≡ e ∷ rest → slice_get es k ≡ Some e
-first_left es k e rest lt left = slice_get-get_or es k e lt ∙ ap Some (ap (λ xs. get_or xs 0 e) (sym (drop_more es k e lt) ∙ left))
-
--- what is left behind it
-pub rest_left : (es : List Element) (k : ℕ) (e : Element) (rest : List Element) → k < length es → drop k es ≡ e ∷ rest → drop (k + 1) es ≡ rest
-rest_left es k e rest lt left = ap (drop 1) (sym (drop_more es k e lt) ∙ left)

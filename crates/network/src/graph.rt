@@ -7,7 +7,6 @@ use crate::elements::elements_of;
 use crate::fault::{GraphFault, GraphFaultKind, fault_at, no_memory};
 use crate::found::{tall_places, twice_places, unmet_places};
 use crate::places::first_of;
-use crate::queue::Queue;
 use crate::rails::rails_of;
 use crate::ranks::ranks_of;
 use ladder_text::{Drawing, Place};
@@ -92,7 +91,6 @@ fn empty_networks(alloc: Global, sizes: &[usize]) -> Result<Vec<Network>, AllocE
 }
 
 /// Puts an element at the end of the network of its rank.
-#[inline(never)]
 fn put(networks: &mut Vec<Network>, rank: Option<usize>, element: Element) -> Result<(), AllocError>
     requires { IfSome rank (λ m. m < length networks.old.items) }
     ensures { OnOk result (IsPut networks.old.items rank element networks.new.items) }
@@ -116,9 +114,8 @@ fn split(
 {
     let sizes = sizes_of(alloc, ranks, count)?;
     let mut networks = empty_networks(alloc, &sizes)?;
-    let mut queue = Queue::new(elements);
     let mut k = 0;
-    while let Some(element) = queue.take() {
+    for element in elements {
         put(&mut networks, ranks[k], element)?;
         k += 1;
     }

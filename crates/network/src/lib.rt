@@ -15,7 +15,6 @@ mod number_row;
 mod numbering;
 mod pairs;
 mod places;
-mod queue;
 mod rails;
 mod ranks;
 mod row_table;
