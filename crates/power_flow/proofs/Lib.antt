@@ -13,6 +13,7 @@ pub mod Determinism
 pub mod Starting
 pub mod BindingLemmas
 pub mod FoldedLemmas
+pub mod PairSteps
 pub mod Places
 pub mod Slots
 pub mod Binds

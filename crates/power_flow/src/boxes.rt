@@ -63,11 +63,31 @@ fn store_pin(pin: &BoundOutput, outputs: &PinsOut, slots: &mut [Slot])
 }
 
 /// Stores the outputs of a box at their operands.
-fn store_pins(pins: &[BoundOutput], outputs: &PinsOut, slots: &mut [Slot])
+fn store_many(pins: &[BoundOutput], outputs: &PinsOut, slots: &mut [Slot])
     ensures { slots.new ≡ stored slots.old (pin_stores outputs.now pins.now) }
 {
     for pin in pins {
         store_pin(pin, outputs, slots);
+    }
+}
+
+/// Stores two outputs at their operands.
+fn store_two(pins: &[BoundOutput], outputs: &PinsOut, slots: &mut [Slot])
+    requires { length pins.now ≡ 2 }
+    ensures { slots.new ≡ stored slots.old (pin_stores outputs.now pins.now) }
+{
+    store_pin(&pins[0], outputs, slots);
+    store_pin(&pins[1], outputs, slots);
+}
+
+/// Stores the outputs of a box at their operands.
+fn store_pins(pins: &[BoundOutput], outputs: &PinsOut, slots: &mut [Slot])
+    ensures { slots.new ≡ stored slots.old (pin_stores outputs.now pins.now) }
+{
+    if pins.len() == 2 {
+        store_two(pins, outputs, slots);
+    } else {
+        store_many(pins, outputs, slots);
     }
 }
 

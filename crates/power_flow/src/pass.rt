@@ -1,17 +1,18 @@
-ghost use Rattle.std.specs.Prelude.{◌≡◌, ◌<◌, ◌≤◌, ◌+◌, ◌⊎◌, ◌↔◌, ◌&&◌, ℕ, All, Some, true, false, length, slice_get, slice_set};
+ghost use Rattle.std.specs.Prelude.{◌≡◌, ◌<◌, ◌≤◌, ◌+◌, ◌⊎◌, ◌↔◌, ◌&&◌, ℕ, List, Bool, All, Some, true, false, length, slice_get, slice_set};
 ghost use Rattle.power_flow.specs.Meaning.{bit_at, contact_conducts, contact_memory};
 ghost use Rattle.std_blocks.specs.Pins.{field_value};
 ghost use Rattle.power_flow.specs.Names.{is_true};
 ghost use Rattle.power_flow.specs.Steps.BoxSteps.{IsMarked, HasOutput, box_result};
 ghost use Rattle.power_flow.specs.Steps.Circuit.{IsStepIn};
-ghost use Rattle.power_flow.specs.Steps.Passing.{AreJoined, AreShown, IsObeyed, ArePassed, pass_of, read_rows, read_memories};
+ghost use Rattle.power_flow.specs.Steps.Contacts.{contact_of};
+ghost use Rattle.power_flow.specs.Steps.Passing.{AreJoined, AreShown, IsBoxObeyed, IsObeyed, ArePassed, pass_of, read_rows, read_memories};
 
 use crate::bound_box::{BoundBox, BoundOutput};
-use crate::bound_contact::BoundContact;
+use crate::bound_contact::{BoundContact, VariableContact};
 use crate::source::is_output_on;
 use crate::state::{Instance, Slot};
 use crate::step::Step;
-use crate::variable_pair::read_pair;
+use crate::variable_pair::{read_pair, read_variable};
 use ladder_text::ContactKind;
 use std_blocks::PinsOut;
 
@@ -110,6 +111,24 @@ fn join_rows(rows: &mut [bool], first: usize, last: usize)
     }
 }
 
+/// The row below this one takes its state.
+fn go_down(rows: &mut [bool], row: usize)
+    requires { row + 1 < length rows.old }
+    ensures { AreJoined row (row + 1) (slice_set rows.old (row + 1) false) rows.new }
+{
+    let on = rows[row];
+    rows[row + 1] = on;
+}
+
+/// A row takes the state of the row below.
+fn go_up(rows: &mut [bool], row: usize)
+    requires { row + 1 < length rows.old }
+    ensures { AreJoined row (row + 1) (slice_set rows.old row false) rows.new }
+{
+    let on = rows[row + 1];
+    rows[row] = on;
+}
+
 /// Turns off the rows of the output pins.
 fn clear_many(pins: &[BoundOutput], rows: &mut [bool])
     requires { All (λ o. o.row < length rows.old) pins.now }
@@ -163,13 +182,37 @@ fn mark_output(pin: &BoundOutput, outputs: &PinsOut, rows: &mut [bool])
 }
 
 /// Turns on the rows of the output pins that are ON.
-fn mark_outputs(pins: &[BoundOutput], outputs: &PinsOut, rows: &mut [bool])
+fn mark_many(pins: &[BoundOutput], outputs: &PinsOut, rows: &mut [bool])
     requires { All (λ o. o.row < length rows.old) pins.now }
     ensures long { length rows.new ≡ length rows.old }
     ensures marked { (r : ℕ) → (bit_at rows.new r ≡ true) ↔ ((bit_at rows.old r ≡ true) ⊎ IsMarked pins.now outputs.now r) }
 {
     for pin in pins {
         mark_output(pin, outputs, rows);
+    }
+}
+
+/// Turns on the rows of two output pins that are ON.
+fn mark_two(pins: &[BoundOutput], outputs: &PinsOut, rows: &mut [bool])
+    requires two { length pins.now ≡ 2 }
+    requires within { All (λ o. o.row < length rows.old) pins.now }
+    ensures long { length rows.new ≡ length rows.old }
+    ensures marked { (r : ℕ) → (bit_at rows.new r ≡ true) ↔ ((bit_at rows.old r ≡ true) ⊎ IsMarked pins.now outputs.now r) }
+{
+    mark_output(&pins[0], outputs, rows);
+    mark_output(&pins[1], outputs, rows);
+}
+
+/// Turns on the rows of the output pins that are ON.
+fn mark_outputs(pins: &[BoundOutput], outputs: &PinsOut, rows: &mut [bool])
+    requires { All (λ o. o.row < length rows.old) pins.now }
+    ensures long { length rows.new ≡ length rows.old }
+    ensures marked { (r : ℕ) → (bit_at rows.new r ≡ true) ↔ ((bit_at rows.old r ≡ true) ⊎ IsMarked pins.now outputs.now r) }
+{
+    if pins.len() == 2 {
+        mark_two(pins, outputs, rows);
+    } else {
+        mark_many(pins, outputs, rows);
     }
 }
 
@@ -223,6 +266,33 @@ fn read_contact(contact: &BoundContact, slots: &[Slot], rows: &mut [bool], memor
     }
 }
 
+/// Reads a contact of a variable that follows the left rail: the state of its row is ON if it conducts.
+fn read_at_rail(contact: VariableContact, slots: &[Slot], rows: &mut [bool])
+    requires { contact.row < length rows.old }
+    ensures { (memories : List Bool) → rows.new ≡ read_rows (contact_of contact) slots.now (slice_set rows.old contact.row true) memories }
+{
+    rows[contact.row as usize] = true;
+    read_variable(contact.negated, contact.row, contact.place, slots, rows);
+}
+
+/// Steps the box with this number.
+#[inline(always)]
+fn obey_box(
+    number: usize,
+    boxes: &[BoundBox],
+    slots: &[Slot],
+    rows: &mut [bool],
+    results: &mut [Instance],
+    dt: u32,
+)
+    requires number { number < length boxes.now }
+    requires outputs { All (λ e. All (λ o. o.row < length rows.old) e.outputs.items) boxes.now }
+    requires results { length results.old ≡ length boxes.now }
+    ensures { (memories links : List Bool) → IsBoxObeyed boxes.now slots.now dt number (pass_of rows.old memories links results.old) (pass_of rows.new memories links results.new) }
+{
+    step_box(&boxes[number], &mut results[number], slots, rows, dt);
+}
+
 /// Does what a step says.
 fn obey(
     step: &Step,
@@ -247,12 +317,20 @@ fn obey(
             rows[*row as usize] = false;
             join_rows(rows, *first as usize, *last as usize)
         }
+        Step::Down(row) => go_down(rows, *row as usize),
+        Step::Up(row) => go_up(rows, *row as usize),
         Step::Contact(contact) => read_contact(contact, slots, rows, memories),
+        Step::RailContact(contact) => read_at_rail(*contact, slots, rows),
         Step::Pair(pair, places) => read_pair(*pair, *places, slots, rows),
+        Step::JoinedPair(pair, places) => {
+            join_rows(rows, pair.first as usize, pair.second as usize);
+            read_pair(*pair, *places, slots, rows)
+        }
         Step::Coil(row, number) => links[*number as usize] = rows[*row as usize],
-        Step::Box(number) => {
-            let number = *number as usize;
-            step_box(&boxes[number], &mut results[number], slots, rows, dt)
+        Step::Box(number) => obey_box(*number as usize, boxes, slots, rows, results, dt),
+        Step::BoxCoil(number, row, coil) => {
+            obey_box(*number as usize, boxes, slots, rows, results, dt);
+            links[*coil as usize] = rows[*row as usize];
         }
     }
 }

@@ -60,7 +60,7 @@ impl Negated {
 }
 
 /// State goes on in a row behind a contact of the variable at a place, if it conducts.
-fn read_variable(negated: bool, row: u8, place: u32, slots: &[Slot], rows: &mut [bool])
+pub fn read_variable(negated: bool, row: u8, place: u32, slots: &[Slot], rows: &mut [bool])
     requires { row < length rows.old }
     ensures { (memory : Bool) → rows.new ≡ slice_set rows.old row (bit_at rows.old row && contact_conducts (plain_kind negated) (is_true (variable_at slots.now place)) memory) }
 {

@@ -22,11 +22,17 @@ IsStepIn rows memories coils boxes (step.Rail row) = row < rows
 IsStepIn rows memories coils boxes (step.Off row) = row < rows
 IsStepIn rows memories coils boxes (step.Upright first last) = last < rows
 IsStepIn rows memories coils boxes (step.OffUpright row first last) = (row < rows) × (last < rows)
+IsStepIn rows memories coils boxes (step.Down row) = row + 1 < rows
+IsStepIn rows memories coils boxes (step.Up row) = row + 1 < rows
 IsStepIn rows memories coils boxes (step.Contact c) = (c.row < rows) × (c.memory < memories)
+IsStepIn rows memories coils boxes (step.RailContact v) = (v.row < rows) × (v.memory < memories)
 IsStepIn rows memories coils boxes (step.Pair pair places) =
+    (pair.first < rows) × (places.memory < memories) × (pair.second < rows) × (places.memory + 1 < memories)
+IsStepIn rows memories coils boxes (step.JoinedPair pair places) =
     (pair.first < rows) × (places.memory < memories) × (pair.second < rows) × (places.memory + 1 < memories)
 IsStepIn rows memories coils boxes (step.Coil row k) = (row < rows) × (k < coils)
 IsStepIn rows memories coils boxes (step.Box k) = k < boxes
+IsStepIn rows memories coils boxes (step.BoxCoil k row coil) = (k < boxes) × (row < rows) × (coil < coils)
 
 -- the lists of a circuit fit each other
 pub record HasShape (c : Circuit) : Type 0 where

@@ -5,6 +5,7 @@ use Rattle.ladder_text.specs.declared.contact.ContactKind.TheVariants.{Plain, Ne
 use Rattle.std_blocks.specs.declared.pin.Field.TheVariants as field
 use Rattle.power_flow.specs.declared.bound_contact.Reads.{Reads}
 use Rattle.power_flow.specs.declared.bound_contact.Reads.TheVariants as reads
+use Rattle.power_flow.specs.declared.bound_contact.VariableContact.{VariableContact}
 use Rattle.power_flow.specs.declared.variable_pair.Negated.{Negated}
 use Rattle.power_flow.specs.declared.variable_pair.PairRows.{PairRows}
 use Rattle.power_flow.specs.declared.variable_pair.PairPlaces.{PairPlaces}
@@ -47,6 +48,10 @@ plain_kind true = NegatedKind
 -- a contact of the variable at a place
 abbrev pub variable_contact : Bool → ℕ → ℕ → ℕ → ContactValue
 variable_contact negated row place memory = record { kind = plain_kind negated; row = row; source = source.Variable place; memory = memory }
+
+-- the same contact as any other
+abbrev pub contact_of : VariableContact → ContactValue
+contact_of v = variable_contact v.negated v.row v.place v.memory
 
 -- the contacts of a pair
 abbrev pub first_of : PairRows → PairPlaces → ContactValue

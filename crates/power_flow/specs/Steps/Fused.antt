@@ -1,8 +1,8 @@
 -- Steps that stand for two.
-use Rattle.std.specs.Prelude.{List, [], ◌∷◌, ◌++◌}
+use Rattle.std.specs.Prelude.{◌+◌, List, [], ◌∷◌, ◌++◌}
 use Rattle.power_flow.specs.declared.step.Step.{Step}
 use Rattle.power_flow.specs.declared.step.Step.TheVariants as step
-use Rattle.power_flow.specs.Steps.Contacts.{first_of, second_of}
+use Rattle.power_flow.specs.Steps.Contacts.{contact_of, first_of, second_of}
 
 -- the steps that a step stands for
 abbrev pub single : Step → List Step
@@ -10,10 +10,15 @@ single (step.Rail row) = step.Rail row ∷ []
 single (step.Off row) = step.Off row ∷ []
 single (step.Upright first last) = step.Upright first last ∷ []
 single (step.OffUpright row first last) = step.Off row ∷ step.Upright first last ∷ []
+single (step.Down row) = step.Off (row + 1) ∷ step.Upright row (row + 1) ∷ []
+single (step.Up row) = step.Off row ∷ step.Upright row (row + 1) ∷ []
 single (step.Contact c) = step.Contact c ∷ []
+single (step.RailContact v) = step.Rail v.row ∷ step.Contact (contact_of v) ∷ []
 single (step.Pair rows places) = step.Contact (first_of rows places) ∷ step.Contact (second_of rows places) ∷ []
+single (step.JoinedPair rows places) = step.Upright rows.first rows.second ∷ step.Contact (first_of rows places) ∷ step.Contact (second_of rows places) ∷ []
 single (step.Coil row k) = step.Coil row k ∷ []
 single (step.Box k) = step.Box k ∷ []
+single (step.BoxCoil k row coil) = step.Box k ∷ step.Coil row coil ∷ []
 
 -- the steps that some steps stand for, one after the other
 abbrev pub singles : List Step → List Step

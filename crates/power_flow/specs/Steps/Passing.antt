@@ -8,7 +8,9 @@ use Rattle.power_flow.specs.declared.state.Slot.{Slot}
 use Rattle.power_flow.specs.declared.bound_box.BoundBox.{BoundBox}
 use Rattle.power_flow.specs.declared.step.Step.{Step}
 use Rattle.power_flow.specs.declared.step.Step.TheVariants as step
-use Rattle.power_flow.specs.Steps.Contacts.{ContactValue, first_of, second_of}
+use Rattle.power_flow.specs.Steps.Contacts.{ContactValue, contact_of, first_of, second_of}
+use Rattle.power_flow.specs.declared.variable_pair.PairRows.{PairRows}
+use Rattle.power_flow.specs.declared.variable_pair.PairPlaces.{PairPlaces}
 use Rattle.power_flow.specs.declared.step.BoundCoil.{BoundCoil}
 use Rattle.power_flow.specs.Names.{is_true}
 use Rattle.power_flow.specs.Meaning.{bit_at, contact_conducts, contact_memory, coil_value, coil_memory, store}
@@ -45,6 +47,20 @@ read_rows c slots rows memories = slice_set rows c.row (bit_at rows c.row && con
 abbrev pub read_memories : ContactValue → List Slot → List Bool → List Bool
 read_memories c slots memories = slice_set memories c.memory (contact_memory c.kind (is_true (source_value slots c.source)) (bit_at memories c.memory))
 
+-- what the contacts of a pair leave
+abbrev pub after_pair : List Slot → PairRows → PairPlaces → Pass → Pass
+after_pair slots rows places a =
+    let first = first_of rows places in
+    let second = second_of rows places in
+    record a {
+      rows = read_rows second slots (read_rows first slots a.rows a.memories) (read_memories first slots a.memories);
+      memories = read_memories second slots (read_memories first slots a.memories);
+    }
+
+-- the rows from first to last of the first list are joined, and all else stays
+abbrev pub AreRowsJoined : ℕ → ℕ → List Bool → Pass → Pass → Type 0
+AreRowsJoined first last rows a b = AreJoined first last rows b.rows × (b.memories ≡ a.memories) × (b.links ≡ a.links) × (b.results ≡ a.results)
+
 -- the box k is stepped, and its outputs are shown
 pub record IsBoxObeyed (boxes : List BoundBox) (slots : List Slot) (dt k : ℕ) (a b : Pass) : Type 0 where
   pub box : BoundBox
@@ -58,19 +74,18 @@ pub record IsBoxObeyed (boxes : List BoundBox) (slots : List Slot) (dt k : ℕ) 
 abbrev pub IsObeyed : List BoundBox → List Slot → ℕ → Step → Pass → Pass → Type 0
 IsObeyed boxes slots dt (step.Rail r) a b = b ≡ record a { rows = slice_set a.rows r true }
 IsObeyed boxes slots dt (step.Off r) a b = b ≡ record a { rows = slice_set a.rows r false }
-IsObeyed boxes slots dt (step.Upright first last) a b = AreJoined first last a.rows b.rows × (b.memories ≡ a.memories) × (b.links ≡ a.links) × (b.results ≡ a.results)
-IsObeyed boxes slots dt (step.OffUpright r first last) a b =
-    AreJoined first last (slice_set a.rows r false) b.rows × (b.memories ≡ a.memories) × (b.links ≡ a.links) × (b.results ≡ a.results)
+IsObeyed boxes slots dt (step.Upright first last) a b = AreRowsJoined first last a.rows a b
+IsObeyed boxes slots dt (step.OffUpright r first last) a b = AreRowsJoined first last (slice_set a.rows r false) a b
+IsObeyed boxes slots dt (step.Down r) a b = AreRowsJoined r (r + 1) (slice_set a.rows (r + 1) false) a b
+IsObeyed boxes slots dt (step.Up r) a b = AreRowsJoined r (r + 1) (slice_set a.rows r false) a b
 IsObeyed boxes slots dt (step.Contact c) a b = b ≡ record a { rows = read_rows c slots a.rows a.memories; memories = read_memories c slots a.memories }
-IsObeyed boxes slots dt (step.Pair rows places) a b =
-    let first = first_of rows places in
-    let second = second_of rows places in
-    b ≡ record a {
-      rows = read_rows second slots (read_rows first slots a.rows a.memories) (read_memories first slots a.memories);
-      memories = read_memories second slots (read_memories first slots a.memories);
-    }
+IsObeyed boxes slots dt (step.RailContact v) a b =
+    b ≡ record a { rows = read_rows (contact_of v) slots (slice_set a.rows v.row true) a.memories; memories = read_memories (contact_of v) slots a.memories }
+IsObeyed boxes slots dt (step.Pair rows places) a b = b ≡ after_pair slots rows places a
+IsObeyed boxes slots dt (step.JoinedPair rows places) a b = (mid : Pass) × AreRowsJoined rows.first rows.second a.rows a mid × (b ≡ after_pair slots rows places mid)
 IsObeyed boxes slots dt (step.Coil r k) a b = b ≡ record a { links = slice_set a.links k (bit_at a.rows r) }
 IsObeyed boxes slots dt (step.Box k) a b = IsBoxObeyed boxes slots dt k a b
+IsObeyed boxes slots dt (step.BoxCoil k r coil) a b = (mid : Pass) × IsBoxObeyed boxes slots dt k a mid × (b ≡ record mid { links = slice_set mid.links coil (bit_at mid.rows r) })
 
 -- what steps leave, one after the other
 abbrev pub ArePassed : List BoundBox → List Slot → ℕ → List Step → Pass → Pass → Type 0

@@ -1,14 +1,26 @@
-use Rattle.std.proofs.Common.{Some, refl, sym, ap, ◌∙◌, set}
-use Rattle.std.proofs.lemmas.Option.{slice_get-get_or}
+use Rattle.std.proofs.Common.{List, Bool, refl, sym, ap, ◌∙◌}
+use Rattle.power_flow.specs.Steps.Contacts.{first_of, second_of}
+use Rattle.power_flow.specs.Steps.Passing.{Pass, pass_of, read_memories}
+use Rattle.power_flow.proofs.PairSteps.{pair_keeps}
 use Rattle.power_flow.proofs.pass.obey.Goals as goal
 
-pub returns-in-Box : goal.returns-in-Box
-returns-in-Box c =
-    rw c.in-Box.is (record {
-      box = c.index-boxes-number.result;
-      at = slice_get-get_or c.args.boxes.now c.in-Box.number c.index-boxes-number.result (rw c.in-Box.is at c.requires.step) ∙ ap Some (sym c.index-boxes-number.is);
-      results = ap (set c.args.results.now c.in-Box.number) c.step_box.ensures.made;
-      shown = c.step_box.ensures.shown;
-      memories = refl;
-      links = refl;
-    })
+pub returns-in-JoinedPair : goal.returns-in-JoinedPair
+returns-in-JoinedPair c =
+    let pair = c.in-JoinedPair.pair in
+    let places = c.in-JoinedPair.places in
+    let slots = c.args.slots.now in
+    let memories = c.args.memories.now in
+    let links = c.args.links.now in
+    let results = c.args.results.now in
+    let of_rows : List Bool → Pass = λ rows. pass_of rows memories links results in
+    let read = c.read_pair-in-JoinedPair.ensures memories (read_memories (first_of pair places) slots memories) in
+    let later = read_memories (second_of pair places) slots (read_memories (first_of pair places) slots memories) in
+    let kept : List Bool → Pass = λ m. pass_of c.read_pair-in-JoinedPair.new.rows m links results in
+    rw c.in-JoinedPair.is
+    (of_rows c.join_rows-in-JoinedPair.new.rows, (c.join_rows-in-JoinedPair.ensures, refl, refl, refl), ap kept (sym (pair_keeps pair places slots memories)) ∙ ap (λ rows. pass_of rows later links results) read)
+
+pub returns-in-BoxCoil : goal.returns-in-BoxCoil
+returns-in-BoxCoil c =
+    let memories = c.args.memories.now in
+    let links = c.args.links.now in
+    rw c.in-BoxCoil.is (pass_of c.obey_box-in-BoxCoil.new.rows memories links c.obey_box-in-BoxCoil.new.results, c.obey_box-in-BoxCoil.ensures memories links, refl)

@@ -1,7 +1,7 @@
 use Rattle.std.proofs.Common.{◌≡◌, ℕ, ◌⊎◌, ◌↔◌, true, take, length}
 use Rattle.power_flow.specs.Meaning.{bit_at}
 use Rattle.power_flow.specs.Steps.BoxSteps.{IsMarked}
-use Rattle.power_flow.proofs.pass.mark_outputs.Given as goal
+use Rattle.power_flow.proofs.pass.mark_many.Given as goal
 
 abbrev pub invariant-loop-pin : goal.invariant-loop-pin
 invariant-loop-pin l = record {

@@ -1,7 +1,7 @@
 use Rattle.std.proofs.Common.{◌∙◌}
 use Rattle.std.proofs.lemmas.List.{take_all}
 use Rattle.power_flow.proofs.BoxesStepping.{mark_more}
-use Rattle.power_flow.proofs.pass.mark_outputs.Goals as goal
+use Rattle.power_flow.proofs.pass.mark_many.Goals as goal
 
 pub loop-pin-preserved : goal.loop-pin-preserved
 loop-pin-preserved c = record {
