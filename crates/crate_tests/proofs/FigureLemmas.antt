@@ -2,8 +2,8 @@
 use Rattle.std.proofs.Common.{ℕ, zero, suc, ◌+◌, ◌<◌, ◌≡◌, length, Bool, true, false, ◌&&◌, not, leb, ltb, refl, arith, below_more, sym, ◌∙◌, IsTrue, IsFalse}
 use Rattle.std.specs.List.{list_any}
 use Rattle.std.proofs.lemmas.Bool.{and_parts, not-true, leb-true, ltb-true, true≢false}
-use Rattle.ladder_text.specs.declared.place_fault.PlaceFault.{PlaceFault}
-use Rattle.ladder_text.specs.declared.place_fault.PlaceFault.TheVariants.{BadMark, Crossing, NoSource}
+use Rattle.ladder_text.specs.declared.places.place_fault.PlaceFault.{PlaceFault}
+use Rattle.ladder_text.specs.declared.places.place_fault.PlaceFault.TheVariants.{BadMark, Crossing, NoSource}
 use Rattle.ladder_text.specs.Rows.{Rows, rows_of, char_at, height, width}
 use Rattle.words.specs.Chars.{block_name, is_value_word, is_program_word, is_resource_word, is_task_word, is_reserved, is_identifier, is_plain_name, is_name, is_part, has_parts, is_duration_behind, is_duration, is_operand}
 use Rattle.ladder_text.specs.SymbolKinds.{contact_kind, coil_kind}

@@ -1,7 +1,7 @@
 -- What is told of each kind of fault.
 use Rattle.std.specs.Prelude.{ℕ, List, Option, Some, None}
-use Rattle.ladder_text.specs.declared.drawing.DrawFaultKind.{DrawFaultKind}
-use Rattle.ladder_text.specs.declared.drawing.DrawFaultKind.TheVariants as draw
+use Rattle.ladder_text.specs.declared.draw_fault.DrawFaultKind.{DrawFaultKind}
+use Rattle.ladder_text.specs.declared.draw_fault.DrawFaultKind.TheVariants as draw
 use Rattle.network.specs.declared.fault.GraphFaultKind.{GraphFaultKind}
 use Rattle.network.specs.declared.fault.GraphFaultKind.TheVariants as graph
 use Rattle.power_flow.specs.declared.bind.BindKind.{BindKind}

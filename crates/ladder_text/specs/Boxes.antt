@@ -3,7 +3,7 @@ use Rattle.std.specs.Prelude.{ℕ, zero, suc, ◌+◌, ◌-◌, List, [], ◌∷
 use Rattle.std.specs.List.{slice_split, list_all, filter}
 use Rattle.words.specs.declared.names.BlockName.{BlockName}
 use Rattle.ladder_text.specs.declared.drawn_box.DrawnPin.{DrawnPin}
-use Rattle.ladder_text.specs.declared.outline.Outline.{Outline}
+use Rattle.ladder_text.specs.declared.boxes.outline.Outline.{Outline}
 use Rattle.ladder_text.specs.declared.drawn_box.Operand.{Operand}
 use Rattle.ladder_text.specs.declared.drawn_box.Side.TheVariants as side
 use Rattle.ladder_text.specs.Rows.{Rows, char_at, height, width, run, run_back, upto, trimmed}

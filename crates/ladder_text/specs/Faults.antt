@@ -1,14 +1,14 @@
 -- The faults, each as a test of a place, and when a drawing is well drawn.
 use Rattle.std.specs.Prelude.{ℕ, false, ◌+◌, ◌-◌, ◌≤◌, ◌<◌, IsTrue, IsFalse, List, ◌==◌, if◌then◌else◌, length, Bool, ◌&&◌, ◌||◌, not, nat_lt, nat_le, Option, Some, None, is_some, is_none}
 use Rattle.std.specs.List.{list_all, list_any, range_with_len, count_by}
-use Rattle.ladder_text.specs.declared.span.Span.{Span}
+use Rattle.ladder_text.specs.declared.names.span.Span.{Span}
 use Rattle.ladder_text.specs.declared.drawn_box.Operand.{Operand}
 use Rattle.ladder_text.specs.declared.drawn_box.Side.{Side}
 use Rattle.ladder_text.specs.declared.drawn_box.Side.TheVariants as side
 use Rattle.ladder_text.specs.declared.drawn_box.DrawnPin.{DrawnPin}
-use Rattle.ladder_text.specs.declared.place_fault.PlaceFault.{PlaceFault}
-use Rattle.ladder_text.specs.declared.place_fault.PlaceFault.TheVariants.{BadMark, Crossing, NoSource}
-use Rattle.ladder_text.specs.declared.outline.Outline.{Outline}
+use Rattle.ladder_text.specs.declared.places.place_fault.PlaceFault.{PlaceFault}
+use Rattle.ladder_text.specs.declared.places.place_fault.PlaceFault.TheVariants.{BadMark, Crossing, NoSource}
+use Rattle.ladder_text.specs.declared.boxes.outline.Outline.{Outline}
 use Rattle.ladder_text.specs.Rows.{Rows, char_at, height, width, run}
 use Rattle.words.specs.Chars.{between, is_word_char, is_name, is_plain_name, is_operand}
 use Rattle.ladder_text.specs.Boxes.{outline_at, begins_box, covers, left_column}

@@ -1,13 +1,13 @@
 -- The first fault of a text: each kind of fault as a property of a place, and which of all faults is told.
 use Rattle.std.specs.Prelude.{ℕ, ◌+◌, ◌-◌, ◌≡◌, ◌≢◌, ◌<◌, ◌≤◌, ◌⊎◌, IsTrue, List, [], length, take, min, slice_get, slice_index_or, Bool, Some}
 use Rattle.std.specs.List.{Any, list_any}
-use Rattle.ladder_text.specs.declared.drawing.DrawFault.{DrawFault}
-use Rattle.ladder_text.specs.declared.drawing.DrawFaultKind.{DrawFaultKind}
-use Rattle.ladder_text.specs.declared.drawing.DrawFaultKind.TheVariants as kind
+use Rattle.ladder_text.specs.declared.draw_fault.DrawFault.{DrawFault}
+use Rattle.ladder_text.specs.declared.draw_fault.DrawFaultKind.{DrawFaultKind}
+use Rattle.ladder_text.specs.declared.draw_fault.DrawFaultKind.TheVariants as kind
 use Rattle.ladder_text.specs.declared.drawn_box.DrawnPin.{DrawnPin}
 use Rattle.ladder_text.specs.declared.drawn_box.Operand.{Operand}
-use Rattle.ladder_text.specs.declared.outline.Outline.{Outline}
-use Rattle.ladder_text.specs.declared.span.Span.{Span}
+use Rattle.ladder_text.specs.declared.boxes.outline.Outline.{Outline}
+use Rattle.ladder_text.specs.declared.names.span.Span.{Span}
 use Rattle.ladder_text.specs.Rows.{Rows, rows_of, width}
 use Rattle.ladder_text.specs.Boxes.{left_column, outlines}
 use Rattle.ladder_text.specs.Places.{layout_of}

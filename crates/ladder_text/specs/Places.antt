@@ -10,7 +10,7 @@ use Rattle.ladder_text.specs.declared.drawn_box.DrawnPin.{DrawnPin}
 use Rattle.ladder_text.specs.declared.drawn_box.Side.{Side}
 use Rattle.ladder_text.specs.declared.drawn_box.Side.TheVariants as side
 use Rattle.ladder_text.specs.declared.place.Place.{Place}
-use Rattle.ladder_text.specs.declared.outline.Outline.{Outline}
+use Rattle.ladder_text.specs.declared.boxes.outline.Outline.{Outline}
 use Rattle.ladder_text.specs.Rows.{Rows, char_at, height, width}
 use Rattle.ladder_text.specs.SymbolKinds.{contact_kind, coil_kind}
 use Rattle.ladder_text.specs.Boxes.{outlines, covers, meets_row, left_column}

@@ -1,4 +1,4 @@
-//! A drawing, and the faults of a text that is none.
+//! A drawing.
 
 ghost use Rattle.std.specs.Prelude.{◌≡◌, ◌≢◌, ◌↔◌, ◌<◌, ◌≤◌, ◌+◌, ◌-◌, ◌^◌, IfOk, IfErr, min};
 ghost use Rattle.ladder_text.specs.Rows.{rows_of};
@@ -6,19 +6,19 @@ ghost use Rattle.ladder_text.specs.Places.{layout_of};
 ghost use Rattle.ladder_text.specs.Faults.{IsWellDrawn, IsIllDrawn};
 ghost use Rattle.ladder_text.specs.FirstFault.{IsFaultless, IsFirstFault, TellsFirstFault};
 ghost use Rattle.ladder_text.specs.Picture.{IsSound, mark_at, picture_of};
-ghost use Rattle.ladder_text.specs.declared.drawing.DrawFaultKind.TheVariants.{Memory};
+ghost use Rattle.ladder_text.specs.declared.draw_fault.DrawFaultKind.TheVariants.{Memory};
 
 use crate::coil::Coil;
 use crate::contact::Contact;
+use crate::draw_fault::DrawFault;
 use crate::drawn_box::DrawnBox;
 use crate::mark::Mark;
-use crate::mark_row::MarkRow;
-use crate::reading::read_page;
+use crate::places::mark_row::MarkRow;
+use crate::reading::read_well_drawn;
 use crate::refusal::Refusal;
 use crate::symbols::{coils, contacts, drawn_boxes};
 use std::alloc::Global;
 use std::marker::Model;
-use thiserror::Error;
 
 /// A ladder drawn in characters: what stands at each place, and its contacts, coils and boxes.
 #[derive(Drop)]
@@ -43,66 +43,6 @@ impl Model for Drawing {
     ghost invariant = { λ d. IsSound (picture d.first_line d.rows d.columns d.left d.marks.items d.contacts.items d.coils.items d.boxes.items) };
 }
 
-/// The kinds of faults of a drawing, in the order in which they are sought.
-#[derive(Clone, Copy, Debug, PartialEq, Eq)]
-pub enum DrawFaultKind {
-    /// A character outside 32 to 126; tabs too.
-    NotAscii,
-    /// Line 2,001, or column 241 of a line; blanks at the end of a line don't count.
-    TooLarge,
-    /// Nothing is drawn, or the leftmost column has another character than `|` and `+`.
-    NoLeftRail,
-    /// The top left corner of a box that isn't closed or has other pins than it may, or shares a place with one before it.
-    BadBox,
-    /// A character without a meaning, or a line that ends at a box where there is no pin.
-    BadMark,
-    /// A `|` that touches a line or a box, or that ends its upright.
-    Crossing,
-    /// A line, or an upright at its topmost place, that state enters from nowhere.
-    NoSource,
-    /// A symbol or box without a word above it.
-    NameMissing,
-    /// A word of another form than is wanted there, or one that names nothing, two things, or a thing that has a name.
-    StrayName,
-    /// There was no memory left; line and column are 0.
-    Memory,
-}
-
-/// Why a text is no drawing, and where: the first fault of the first kind that there is.
-#[derive(Clone, Copy, Debug, PartialEq, Eq, Error)]
-#[error("{line}:{column}: {kind:?}")]
-pub struct DrawFault {
-    pub kind: DrawFaultKind,
-    /// The number of the line, counted on from that of the first.
-    pub line: u64,
-    /// The column, from 1 on.
-    pub column: usize,
-}
-
-impl Refusal {
-    /// The fault, where the first row has a number.
-    fn on_lines(self, first_line: u64) -> DrawFault
-        requires { 1 ≤ first_line }
-        ensures kind { result.kind ≡ self.kind }
-        ensures memory { self.kind ≡ Memory → (result.line ≡ 0) × (result.column ≡ 0) }
-        ensures line { self.kind ≢ Memory → result.line ≡ min (first_line + self.place.row - 1) u64.MAX }
-        ensures column { self.kind ≢ Memory → result.column ≡ self.place.column }
-    {
-        if self.kind == DrawFaultKind::Memory {
-            return DrawFault {
-                kind: self.kind,
-                line: 0,
-                column: 0,
-            };
-        }
-        DrawFault {
-            kind: self.kind,
-            line: (first_line - 1).saturating_add(self.place.row as u64),
-            column: self.place.column,
-        }
-    }
-}
-
 #[tactic(auto, unfolding(crate::specs::Picture::picture_of, crate::specs::Places::layout_of))]
 fn read_drawing(alloc: Global, text: &str, first_line: u64) -> Result<Drawing, Refusal>
     ensures well_drawn { IfOk result (λ _. IsWellDrawn (rows_of text.now)) }
@@ -110,17 +50,17 @@ fn read_drawing(alloc: Global, text: &str, first_line: u64) -> Result<Drawing, R
     ensures refused { IfErr result (λ e. e.kind ≢ Memory → IsIllDrawn (rows_of text.now)) }
     ensures first { IfErr result (λ e. e.kind ≢ Memory → IsFirstFault (rows_of text.now) e.kind e.place.row e.place.column) }
 {
-    let page = read_page(alloc, text)?;
-    let contacts = contacts(alloc, &page)?;
-    let coils = coils(alloc, &page)?;
-    let boxes = drawn_boxes(alloc, &page)?;
-    let sheet = page.sheet();
+    let worded = read_well_drawn(alloc, text)?;
+    let contacts = contacts(alloc, &worded)?;
+    let coils = coils(alloc, &worded)?;
+    let boxes = drawn_boxes(alloc, &worded)?;
+    let boxed = worded.boxed();
     Ok(Drawing {
         first_line,
-        rows: sheet.row_end().saturating_sub(1),
-        columns: sheet.last(),
-        left: sheet.left(),
-        marks: page.into_marks(),
+        rows: boxed.row_end().saturating_sub(1),
+        columns: boxed.last(),
+        left: boxed.left(),
+        marks: worded.into_marks(),
         contacts,
         coils,
         boxes,

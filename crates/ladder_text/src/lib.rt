@@ -11,37 +11,25 @@
 //! its contacts, coils and boxes with their names. Rows and columns count from 1.
 #![tactic(auto)]
 
-mod box_test;
 mod boxes;
+mod characters;
 mod coil;
 mod contact;
+mod draw_fault;
 mod drawing;
 mod drawn_box;
-mod grid;
 mod mark;
-mod mark_row;
-mod names_above;
-mod outline;
-mod outlines;
-mod page;
-mod pairs;
+mod names;
 mod place;
-mod place_fault;
-mod railed_sheet;
+mod places;
 mod reading;
 mod refusal;
-mod row_numbers;
-mod rows;
-mod sheet;
-mod span;
-mod span_row;
-mod spans;
 mod symbols;
-mod worded_page;
 
 pub use coil::{Coil, CoilKind};
 pub use contact::{Contact, ContactKind};
-pub use drawing::{DrawFault, DrawFaultKind, Drawing};
+pub use draw_fault::{DrawFault, DrawFaultKind};
+pub use drawing::Drawing;
 pub use drawn_box::{DrawnBox, DrawnPin, Operand, Pins, Side};
 pub use mark::Mark;
 pub use place::Place;

@@ -9,18 +9,18 @@ ghost use Rattle.ladder_text.specs.Names.{words, things};
 ghost use Rattle.ladder_text.specs.Faults.{IsWellDrawn, IsIllDrawn, Nowhere, has_fault, not_ascii, no_left_rail, bad_box, boxes_apart, name_missing, stray_name, has_stray_operand};
 ghost use Rattle.ladder_text.specs.FirstFault.{IsFirstFault, IsStrayWordAt};
 ghost use Rattle.ladder_text.specs.Steps.Search.{IsFirstFrom, IsFirstOf};
-ghost use Rattle.ladder_text.specs.declared.drawing.DrawFaultKind.TheVariants.{Memory};
+ghost use Rattle.ladder_text.specs.declared.draw_fault.DrawFaultKind.TheVariants.{Memory};
 
-use crate::drawing::DrawFaultKind;
-use crate::grid::Grid;
-use crate::names_above::{stray_in_row, unnamed_in_row};
-use crate::page::Page;
+use crate::characters::grid::Grid;
+use crate::characters::rows::{first_not_ascii, rows_of};
+use crate::draw_fault::DrawFaultKind;
+use crate::names::names_above::{stray_in_row, unnamed_in_row};
+use crate::names::worded_grid::WordedGrid;
 use crate::place::{Place, or_earlier};
-use crate::place_fault::PlaceFault;
+use crate::places::boxed_grid::BoxedGrid;
+use crate::places::marked_grid::MarkedGrid;
+use crate::places::place_fault::PlaceFault;
 use crate::refusal::Refusal;
-use crate::rows::{first_not_ascii, rows_of};
-use crate::sheet::Sheet;
-use crate::worded_page::WordedPage;
 use std::alloc::{AllocError, Global};
 
 fn fault(kind: DrawFaultKind, place: Place) -> Refusal
@@ -29,36 +29,36 @@ fn fault(kind: DrawFaultKind, place: Place) -> Refusal
     Refusal { kind, place }
 }
 
-#[tactic(auto, using(crate::proofs::FirstFaults::mark_first, crate::proofs::FirstFaults::crossing_first, crate::proofs::FirstFaults::source_first))]
-fn check_places(page: &Page) -> Result<(), Refusal>
-    ensures none { IfOk result (λ _. (f : PlaceFault) → Nowhere page.now (has_fault f (layout_of page.now))) }
-    ensures refused { IfErr result (λ _. IsIllDrawn page.now) }
-    ensures first { IfErr result (λ e. IsFirstFrom page.now 5 e.kind e.place.row e.place.column) }
+#[tactic(auto, using(crate::proofs::Faults::FirstFaults::mark_first, crate::proofs::Faults::FirstFaults::crossing_first, crate::proofs::Faults::FirstFaults::source_first))]
+fn check_places(marked: &MarkedGrid) -> Result<(), Refusal>
+    ensures none { IfOk result (λ _. (f : PlaceFault) → Nowhere marked.now (has_fault f (layout_of marked.now))) }
+    ensures refused { IfErr result (λ _. IsIllDrawn marked.now) }
+    ensures first { IfErr result (λ e. IsFirstFrom marked.now 5 e.kind e.place.row e.place.column) }
 {
-    if page.is_fine_everywhere() {
+    if marked.is_fine_everywhere() {
         return Ok(());
     }
-    if let Some(place) = page.first_fault(PlaceFault::BadMark) {
+    if let Some(place) = marked.first_fault(PlaceFault::BadMark) {
         return Err(fault(DrawFaultKind::BadMark, place));
     }
-    if let Some(place) = page.first_fault(PlaceFault::Crossing) {
+    if let Some(place) = marked.first_fault(PlaceFault::Crossing) {
         return Err(fault(DrawFaultKind::Crossing, place));
     }
-    if let Some(place) = page.first_fault(PlaceFault::NoSource) {
+    if let Some(place) = marked.first_fault(PlaceFault::NoSource) {
         return Err(fault(DrawFaultKind::NoSource, place));
     }
     Ok(())
 }
 
-#[tactic(auto, using(crate::proofs::IllDrawn::ill_missing, crate::proofs::FirstFaults::unnamed_first))]
-fn check_names(alloc: Global, page: &WordedPage) -> Result<(), Refusal>
-    ensures named { IfOk result (λ _. (r : ℕ) → r < length page.now
-        → IsFalse (list_any (name_missing (layout_of page.now) r) (things (layout_of page.now) r))) }
-    ensures refused { IfErr result (λ e. e.kind ≢ Memory → IsIllDrawn page.now) }
-    ensures first { IfErr result (λ e. e.kind ≢ Memory → IsFirstFrom page.now 8 e.kind e.place.row e.place.column) }
+#[tactic(auto, using(crate::proofs::Faults::IllDrawn::ill_missing, crate::proofs::Faults::FirstFaults::unnamed_first))]
+fn check_names(alloc: Global, worded: &WordedGrid) -> Result<(), Refusal>
+    ensures named { IfOk result (λ _. (r : ℕ) → r < length worded.now
+        → IsFalse (list_any (name_missing (layout_of worded.now) r) (things (layout_of worded.now) r))) }
+    ensures refused { IfErr result (λ e. e.kind ≢ Memory → IsIllDrawn worded.now) }
+    ensures first { IfErr result (λ e. e.kind ≢ Memory → IsFirstFrom worded.now 8 e.kind e.place.row e.place.column) }
 {
-    for row in 0..page.sheet().row_end() {
-        if let Some(column) = unnamed_in_row(alloc, page, row)? {
+    for row in 0..worded.boxed().row_end() {
+        if let Some(column) = unnamed_in_row(alloc, worded, row)? {
             return Err(fault(DrawFaultKind::NameMissing, Place { row, column }));
         }
     }
@@ -66,33 +66,33 @@ fn check_names(alloc: Global, page: &WordedPage) -> Result<(), Refusal>
 }
 
 /// The first stray word that is no operand.
-#[tactic(auto, using(crate::proofs::FirstFaults::word_first, crate::proofs::FirstFaults::none_word))]
-fn first_stray_word(alloc: Global, page: &WordedPage) -> Result<Option<Place>, AllocError>
-    ensures none { IfOk result (λ found. IfNone found ((r : ℕ) → r < length page.now
-        → IsFalse (list_any (stray_name (layout_of page.now) r) (words (layout_of page.now) r)))) }
-    ensures inside { IfOk result (λ found. IfSome found (λ p. p.row < length page.now)) }
+#[tactic(auto, using(crate::proofs::Faults::FirstFaults::word_first, crate::proofs::Faults::FirstFaults::none_word))]
+fn first_stray_word(alloc: Global, worded: &WordedGrid) -> Result<Option<Place>, AllocError>
+    ensures none { IfOk result (λ found. IfNone found ((r : ℕ) → r < length worded.now
+        → IsFalse (list_any (stray_name (layout_of worded.now) r) (words (layout_of worded.now) r)))) }
+    ensures inside { IfOk result (λ found. IfSome found (λ p. p.row < length worded.now)) }
     ensures some { IfOk result (λ found. IfSome found
-        (λ p. IsTrue (list_any (stray_name (layout_of page.now) p.row) (words (layout_of page.now) p.row)))) }
-    ensures first { IfOk result (λ found. IsFirstOf (IsStrayWordAt page.now) found) }
+        (λ p. IsTrue (list_any (stray_name (layout_of worded.now) p.row) (words (layout_of worded.now) p.row)))) }
+    ensures first { IfOk result (λ found. IsFirstOf (IsStrayWordAt worded.now) found) }
 {
-    for row in 0..page.sheet().row_end() {
-        if let Some(column) = stray_in_row(alloc, page, row)? {
+    for row in 0..worded.boxed().row_end() {
+        if let Some(column) = stray_in_row(alloc, worded, row)? {
             return Ok(Some(Place { row, column }));
         }
     }
     Ok(None)
 }
 
-#[tactic(auto, using(crate::proofs::IllDrawn::ill_stray, crate::proofs::IllDrawn::ill_operand, crate::proofs::FirstFaults::stray_first, crate::proofs::FirstFaults::operand_first))]
-fn check_strays(alloc: Global, page: &WordedPage) -> Result<(), Refusal>
-    ensures words { IfOk result (λ _. (r : ℕ) → r < length page.now
-        → IsFalse (list_any (stray_name (layout_of page.now) r) (words (layout_of page.now) r))) }
-    ensures operands { IfOk result (λ _. IsFalse (has_stray_operand (layout_of page.now))) }
-    ensures refused { IfErr result (λ e. e.kind ≢ Memory → IsIllDrawn page.now) }
-    ensures first { IfErr result (λ e. e.kind ≢ Memory → IsFirstFrom page.now 9 e.kind e.place.row e.place.column) }
+#[tactic(auto, using(crate::proofs::Faults::IllDrawn::ill_stray, crate::proofs::Faults::IllDrawn::ill_operand, crate::proofs::Faults::FirstFaults::stray_first, crate::proofs::Faults::FirstFaults::operand_first))]
+fn check_strays(alloc: Global, worded: &WordedGrid) -> Result<(), Refusal>
+    ensures words { IfOk result (λ _. (r : ℕ) → r < length worded.now
+        → IsFalse (list_any (stray_name (layout_of worded.now) r) (words (layout_of worded.now) r))) }
+    ensures operands { IfOk result (λ _. IsFalse (has_stray_operand (layout_of worded.now))) }
+    ensures refused { IfErr result (λ e. e.kind ≢ Memory → IsIllDrawn worded.now) }
+    ensures first { IfErr result (λ e. e.kind ≢ Memory → IsFirstFrom worded.now 9 e.kind e.place.row e.place.column) }
 {
-    let operand = page.sheet().first_stray_operand();
-    match first_stray_word(alloc, page)? {
+    let operand = worded.boxed().first_stray_operand();
+    match first_stray_word(alloc, worded)? {
         Some(word) => Err(fault(DrawFaultKind::StrayName, or_earlier(word, operand))),
         None => match operand {
             Some(place) => Err(fault(DrawFaultKind::StrayName, place)),
@@ -101,7 +101,7 @@ fn check_strays(alloc: Global, page: &WordedPage) -> Result<(), Refusal>
     }
 }
 
-#[tactic(auto, using(crate::proofs::IllDrawn::ill_ascii, crate::proofs::IllDrawn::ill_large, crate::proofs::IllDrawn::ill_empty, crate::proofs::IllDrawn::ill_rail, crate::proofs::FirstFaults::ascii_first, crate::proofs::FirstFaults::large_first, crate::proofs::FirstFaults::empty_first, crate::proofs::FirstFaults::rail_first))]
+#[tactic(auto, using(crate::proofs::Faults::IllDrawn::ill_ascii, crate::proofs::Faults::IllDrawn::ill_large, crate::proofs::Faults::IllDrawn::ill_empty, crate::proofs::Faults::IllDrawn::ill_rail, crate::proofs::Faults::FirstFaults::ascii_first, crate::proofs::Faults::FirstFaults::large_first, crate::proofs::Faults::FirstFaults::empty_first, crate::proofs::Faults::FirstFaults::rail_first))]
 fn read_grid(alloc: Global, text: &str) -> Result<Grid, Refusal>
     ensures same { IfOk result (λ g. g ≡ rows_of text.now) }
     ensures ascii { IfOk result (λ g. Nowhere g (not_ascii g)) }
@@ -130,37 +130,37 @@ fn read_grid(alloc: Global, text: &str) -> Result<Grid, Refusal>
     Ok(grid)
 }
 
-#[tactic(auto, using(crate::proofs::IllDrawn::ill_box, crate::proofs::IllDrawn::ill_apart, crate::proofs::FirstFaults::box_first, crate::proofs::FirstFaults::shared_first))]
-fn read_sheet(alloc: Global, grid: Grid) -> Result<Sheet, Refusal>
+#[tactic(auto, using(crate::proofs::Faults::IllDrawn::ill_box, crate::proofs::Faults::IllDrawn::ill_apart, crate::proofs::Faults::FirstFaults::box_first, crate::proofs::Faults::FirstFaults::shared_first))]
+fn read_boxes(alloc: Global, grid: Grid) -> Result<BoxedGrid, Refusal>
     ensures same { IfOk result (λ s. s ≡ grid) }
     ensures whole { IfOk result (λ s. Nowhere s (bad_box s)) }
     ensures apart { IfOk result (λ s. IsTrue (boxes_apart (layout_of s))) }
     ensures refused { IfErr result (λ e. e.kind ≢ Memory → IsIllDrawn grid) }
     ensures first { IfErr result (λ e. e.kind ≢ Memory → IsFirstFrom grid 4 e.kind e.place.row e.place.column) }
 {
-    let sheet = Sheet::new(alloc, grid)?;
-    let shared = sheet.first_shared_box();
-    if let Some(place) = sheet.first_bad_box(alloc)? {
+    let boxed = BoxedGrid::new(alloc, grid)?;
+    let shared = boxed.first_shared_box();
+    if let Some(place) = boxed.first_bad_box(alloc)? {
         return Err(fault(DrawFaultKind::BadBox, or_earlier(place, shared)));
     }
     match shared {
-        None => Ok(sheet),
+        None => Ok(boxed),
         Some(place) => Err(fault(DrawFaultKind::BadBox, place)),
     }
 }
 
-/// The page of a text that is well drawn.
-pub fn read_page(alloc: Global, text: &str) -> Result<WordedPage, Refusal>
+/// The rows of a text that is well drawn, with all that is known of them.
+pub fn read_well_drawn(alloc: Global, text: &str) -> Result<WordedGrid, Refusal>
     ensures same { IfOk result (λ p. p ≡ rows_of text.now) }
     ensures well_drawn { IfOk result (λ p. IsWellDrawn p) }
     ensures refused { IfErr result (λ e. e.kind ≢ Memory → IsIllDrawn (rows_of text.now)) }
     ensures first { IfErr result (λ e. e.kind ≢ Memory → IsFirstFault (rows_of text.now) e.kind e.place.row e.place.column) }
 {
     let grid = read_grid(alloc, text)?;
-    let sheet = read_sheet(alloc, grid)?;
-    let page = Page::new(alloc, sheet)?;
-    check_places(&page)?;
-    let worded = WordedPage::new(alloc, page)?;
+    let boxed = read_boxes(alloc, grid)?;
+    let marked = MarkedGrid::new(alloc, boxed)?;
+    check_places(&marked)?;
+    let worded = WordedGrid::new(alloc, marked)?;
     check_names(alloc, &worded)?;
     check_strays(alloc, &worded)?;
     Ok(worded)

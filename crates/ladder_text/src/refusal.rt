@@ -1,9 +1,9 @@
 //! Why a reading ends, before the lines have numbers.
 
-ghost use Rattle.std.specs.Prelude.{◌≡◌};
-ghost use Rattle.ladder_text.specs.declared.drawing.DrawFaultKind.TheVariants.{Memory};
+ghost use Rattle.std.specs.Prelude.{◌≡◌, ◌≢◌, ◌≤◌, ◌+◌, ◌-◌, min};
+ghost use Rattle.ladder_text.specs.declared.draw_fault.DrawFaultKind.TheVariants.{Memory};
 
-use crate::drawing::DrawFaultKind;
+use crate::draw_fault::{DrawFault, DrawFaultKind};
 use crate::place::Place;
 use std::alloc::AllocError;
 
@@ -21,6 +21,30 @@ impl From<AllocError> for Refusal {
         Refusal {
             kind: DrawFaultKind::Memory,
             place: Place { row: 0, column: 0 },
+        }
+    }
+}
+
+impl Refusal {
+    /// The fault, where the first row has a number.
+    pub fn on_lines(self, first_line: u64) -> DrawFault
+        requires { 1 ≤ first_line }
+        ensures kind { result.kind ≡ self.kind }
+        ensures memory { self.kind ≡ Memory → (result.line ≡ 0) × (result.column ≡ 0) }
+        ensures line { self.kind ≢ Memory → result.line ≡ min (first_line + self.place.row - 1) u64.MAX }
+        ensures column { self.kind ≢ Memory → result.column ≡ self.place.column }
+    {
+        if self.kind == DrawFaultKind::Memory {
+            return DrawFault {
+                kind: self.kind,
+                line: 0,
+                column: 0,
+            };
+        }
+        DrawFault {
+            kind: self.kind,
+            line: (first_line - 1).saturating_add(self.place.row as u64),
+            column: self.place.column,
         }
     }
 }

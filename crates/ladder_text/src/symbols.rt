@@ -1,53 +1,53 @@
-//! The symbols and boxes of a page, with their names.
+//! The symbols and boxes of a text, with their names.
 
 ghost use Rattle.std.specs.Prelude.{◌≡◌, ◌+◌, ◌-◌, ◌++◌, ◌<◌, ◌^◌, IfOk, OnOk, length, map, take};
 ghost use Rattle.ladder_text.specs.Places.{layout_of, contact_at, coil_at};
 ghost use Rattle.ladder_text.specs.Names.{name_above, contact_with, coil_with, row_contacts, row_coils, contacts, coils, drawn_box, drawn_boxes};
 
+use crate::boxes::outline::Outline;
 use crate::coil::Coil;
 use crate::contact::Contact;
 use crate::drawn_box::DrawnBox;
-use crate::names_above::name_above;
-use crate::outline::Outline;
-use crate::span::Span;
-use crate::worded_page::WordedPage;
+use crate::names::names_above::name_above;
+use crate::names::span::Span;
+use crate::names::worded_grid::WordedGrid;
 use std::alloc::{AllocError, Global};
 use words::Text;
 
 /// The name of the symbol whose first place is in a column.
 fn symbol_name(
     alloc: Global,
-    page: &WordedPage,
+    worded: &WordedGrid,
     row: usize,
     column: usize,
 ) -> Result<Text, AllocError>
     requires { column < 2 ^ 62 }
-    ensures { IfOk result (λ t. t ≡ name_above (layout_of page.now) row (record { first = column; end = column + 3 })) }
+    ensures { IfOk result (λ t. t ≡ name_above (layout_of worded.now) row (record { first = column; end = column + 3 })) }
 {
     let span = Span {
         first: column,
         end: column + 3,
     };
-    name_above(alloc, page, row, &span)
+    name_above(alloc, worded, row, &span)
 }
 
 /// The contact whose first place is in a column, with its name.
-#[tactic(auto, unfolding(crate::specs::Places::layout_of), using(crate::proofs::SpanRows::contact_beside))]
+#[tactic(auto, unfolding(crate::specs::Places::layout_of), using(crate::proofs::Words::SpanRows::contact_beside))]
 fn contact_here(
     alloc: Global,
-    page: &WordedPage,
+    worded: &WordedGrid,
     row: usize,
     column: usize,
 ) -> Result<Option<Contact>, AllocError>
-    ensures { IfOk result (λ o. o ≡ contact_with (layout_of page.now) row column (contact_at (layout_of page.now) row column)) }
+    ensures { IfOk result (λ o. o ≡ contact_with (layout_of worded.now) row column (contact_at (layout_of worded.now) row column)) }
 {
-    if page.sheet().last() < column {
+    if worded.boxed().last() < column {
         return Ok(None);
     }
-    match page.sheet().contact_at(row, column) {
+    match worded.boxed().contact_at(row, column) {
         None => Ok(None),
         Some(kind) => {
-            let name = symbol_name(alloc, page, row, column)?;
+            let name = symbol_name(alloc, worded, row, column)?;
             Ok(Some(Contact {
                 row,
                 column,
@@ -59,22 +59,22 @@ fn contact_here(
 }
 
 /// The coil whose first place is in a column, with its name.
-#[tactic(auto, unfolding(crate::specs::Places::layout_of), using(crate::proofs::SpanRows::coil_beside))]
+#[tactic(auto, unfolding(crate::specs::Places::layout_of), using(crate::proofs::Words::SpanRows::coil_beside))]
 fn coil_here(
     alloc: Global,
-    page: &WordedPage,
+    worded: &WordedGrid,
     row: usize,
     column: usize,
 ) -> Result<Option<Coil>, AllocError>
-    ensures { IfOk result (λ o. o ≡ coil_with (layout_of page.now) row column (coil_at (layout_of page.now) row column)) }
+    ensures { IfOk result (λ o. o ≡ coil_with (layout_of worded.now) row column (coil_at (layout_of worded.now) row column)) }
 {
-    if page.sheet().last() < column {
+    if worded.boxed().last() < column {
         return Ok(None);
     }
-    match page.sheet().coil_at(row, column) {
+    match worded.boxed().coil_at(row, column) {
         None => Ok(None),
         Some(kind) => {
-            let name = symbol_name(alloc, page, row, column)?;
+            let name = symbol_name(alloc, worded, row, column)?;
             Ok(Some(Coil {
                 row,
                 column,
@@ -88,14 +88,14 @@ fn coil_here(
 /// Adds the contacts of a row.
 fn push_contacts(
     alloc: Global,
-    page: &WordedPage,
+    worded: &WordedGrid,
     row: usize,
     all: &mut Vec<Contact>,
 ) -> Result<(), AllocError>
-    ensures { OnOk result (all.new.items ≡ all.old.items ++ row_contacts (layout_of page.now) row) }
+    ensures { OnOk result (all.new.items ≡ all.old.items ++ row_contacts (layout_of worded.now) row) }
 {
-    for symbol in page.symbols(row) {
-        if let Some(contact) = contact_here(alloc, page, row, symbol.first)? {
+    for symbol in worded.symbols(row) {
+        if let Some(contact) = contact_here(alloc, worded, row, symbol.first)? {
             all.push(contact)?;
         }
     }
@@ -105,14 +105,14 @@ fn push_contacts(
 /// Adds the coils of a row.
 fn push_coils(
     alloc: Global,
-    page: &WordedPage,
+    worded: &WordedGrid,
     row: usize,
     all: &mut Vec<Coil>,
 ) -> Result<(), AllocError>
-    ensures { OnOk result (all.new.items ≡ all.old.items ++ row_coils (layout_of page.now) row) }
+    ensures { OnOk result (all.new.items ≡ all.old.items ++ row_coils (layout_of worded.now) row) }
 {
-    for symbol in page.symbols(row) {
-        if let Some(coil) = coil_here(alloc, page, row, symbol.first)? {
+    for symbol in worded.symbols(row) {
+        if let Some(coil) = coil_here(alloc, worded, row, symbol.first)? {
             all.push(coil)?;
         }
     }
@@ -121,31 +121,31 @@ fn push_coils(
 
 /// The contacts, by row and then column.
 #[tactic(auto, unfolding(crate::specs::Places::layout_of, crate::specs::Names::contacts))]
-pub fn contacts(alloc: Global, page: &WordedPage) -> Result<Vec<Contact>, AllocError>
-    ensures { IfOk result (λ v. v.items ≡ contacts (layout_of page.now)) }
+pub fn contacts(alloc: Global, worded: &WordedGrid) -> Result<Vec<Contact>, AllocError>
+    ensures { IfOk result (λ v. v.items ≡ contacts (layout_of worded.now)) }
 {
     let mut all = Vec::new(alloc);
-    for row in 0..page.sheet().row_end().saturating_sub(1) {
-        push_contacts(alloc, page, row + 1, &mut all)?;
+    for row in 0..worded.boxed().row_end().saturating_sub(1) {
+        push_contacts(alloc, worded, row + 1, &mut all)?;
     }
     Ok(all)
 }
 
 /// The coils, by row and then column.
 #[tactic(auto, unfolding(crate::specs::Places::layout_of, crate::specs::Names::coils))]
-pub fn coils(alloc: Global, page: &WordedPage) -> Result<Vec<Coil>, AllocError>
-    ensures { IfOk result (λ v. v.items ≡ coils (layout_of page.now)) }
+pub fn coils(alloc: Global, worded: &WordedGrid) -> Result<Vec<Coil>, AllocError>
+    ensures { IfOk result (λ v. v.items ≡ coils (layout_of worded.now)) }
 {
     let mut all = Vec::new(alloc);
-    for row in 0..page.sheet().row_end().saturating_sub(1) {
-        push_coils(alloc, page, row + 1, &mut all)?;
+    for row in 0..worded.boxed().row_end().saturating_sub(1) {
+        push_coils(alloc, worded, row + 1, &mut all)?;
     }
     Ok(all)
 }
 
 /// A box with its name.
-fn drawn_box(alloc: Global, page: &WordedPage, outline: &Outline) -> Result<DrawnBox, AllocError>
-    ensures { IfOk result (λ b. b ≡ drawn_box (layout_of page.now) outline.now) }
+fn drawn_box(alloc: Global, worded: &WordedGrid, outline: &Outline) -> Result<DrawnBox, AllocError>
+    ensures { IfOk result (λ b. b ≡ drawn_box (layout_of worded.now) outline.now) }
 {
     let right = outline.right as usize;
     let span = Span {
@@ -158,19 +158,19 @@ fn drawn_box(alloc: Global, page: &WordedPage, outline: &Outline) -> Result<Draw
         bottom: outline.bottom,
         right,
         block: outline.block,
-        instance: name_above(alloc, page, outline.top, &span)?,
+        instance: name_above(alloc, worded, outline.top, &span)?,
         pins: outline.pins.try_copy(alloc)?,
     })
 }
 
 /// The boxes, by row and then column.
 #[tactic(auto, unfolding(crate::specs::Places::layout_of, crate::specs::Names::drawn_boxes))]
-pub fn drawn_boxes(alloc: Global, page: &WordedPage) -> Result<Vec<DrawnBox>, AllocError>
-    ensures { IfOk result (λ v. v.items ≡ drawn_boxes (layout_of page.now)) }
+pub fn drawn_boxes(alloc: Global, worded: &WordedGrid) -> Result<Vec<DrawnBox>, AllocError>
+    ensures { IfOk result (λ v. v.items ≡ drawn_boxes (layout_of worded.now)) }
 {
     let mut all = Vec::new(alloc);
-    for outline in page.sheet().boxes() {
-        all.push(drawn_box(alloc, page, outline)?)?;
+    for outline in worded.boxed().boxes() {
+        all.push(drawn_box(alloc, worded, outline)?)?;
     }
     Ok(all)
 }

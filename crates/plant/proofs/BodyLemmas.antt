@@ -6,8 +6,8 @@ use Rattle.ladder_text.specs.Rows.{rows_of}
 use Rattle.ladder_text.specs.Picture as pictures
 use Rattle.ladder_text.specs.FirstFault.{TellsFirstFault}
 use Rattle.ladder_text.specs.Faults.{IsWellDrawn, IsIllDrawn}
-use Rattle.ladder_text.specs.declared.drawing.DrawFault.{DrawFault}
-use Rattle.ladder_text.specs.declared.drawing.DrawFaultKind.TheVariants as draw
+use Rattle.ladder_text.specs.declared.draw_fault.DrawFault.{DrawFault}
+use Rattle.ladder_text.specs.declared.draw_fault.DrawFaultKind.TheVariants as draw
 use Rattle.network.specs.declared.fault.GraphFault.{GraphFault}
 use Rattle.network.specs.declared.fault.GraphFaultKind.TheVariants as graph
 use Rattle.network.specs.Networks.{IsFaultAt, IsFoundAt}

@@ -1,6 +1,6 @@
 -- What a fault of a plant's text is, as a value.
 use Rattle.std.specs.Prelude.{◌≡◌, ◌≢◌, ◌⊎◌, ℕ, Option, None, Some}
-use Rattle.ladder_text.specs.declared.drawing.DrawFaultKind.TheVariants as draw
+use Rattle.ladder_text.specs.declared.draw_fault.DrawFaultKind.TheVariants as draw
 use Rattle.network.specs.declared.fault.GraphFaultKind.TheVariants as graph
 use Rattle.power_flow.specs.declared.bind.BindKind.TheVariants as bind
 use Rattle.plant.specs.declared.plant_fault.BodyFault.{BodyFault}

@@ -6,7 +6,7 @@ use Rattle.ladder_text.specs.Places.{layout_of}
 use Rattle.ladder_text.specs.Picture.{Picture, picture_of}
 use Rattle.ladder_text.specs.Faults.{IsWellDrawn, IsIllDrawn}
 use Rattle.ladder_text.specs.declared.place.Place.{Place}
-use Rattle.ladder_text.specs.declared.drawing.DrawFaultKind.TheVariants as draw
+use Rattle.ladder_text.specs.declared.draw_fault.DrawFaultKind.TheVariants as draw
 use Rattle.network.specs.Links.{Diagram}
 use Rattle.network.specs.GraphValue.{GraphValue}
 use Rattle.network.specs.Networks.{AreNetworks, IsFaultless, IsFaultAt, IsFoundAt}

@@ -63,7 +63,7 @@ impl From<WriteFault> for CommandFault {
 
 impl From<DrawFault> for CommandFault {
     ghost use Rattle.plc_main.specs.Steps.Giving.{GivenFor};
-    ghost use Rattle.ladder_text.specs.declared.drawing.DrawFaultKind.TheVariants as draw;
+    ghost use Rattle.ladder_text.specs.declared.draw_fault.DrawFaultKind.TheVariants as draw;
     ghost use Rattle.plc_main.specs.declared.text_fault.TextFault.TheVariants.{Draw};
 
     ghost from_gives = { λ found fault. GivenFor (found.kind ≡ draw.Memory) (Draw found) fault };

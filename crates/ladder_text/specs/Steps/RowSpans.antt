@@ -1,6 +1,6 @@
 -- The spans that are kept row by row.
 use Rattle.std.specs.Prelude.{ℕ, ◌<◌, ◌≡◌, List, [], length, slice_index_or}
-use Rattle.ladder_text.specs.declared.span.Span.{Span}
+use Rattle.ladder_text.specs.declared.names.span.Span.{Span}
 
 -- for each of the first n rows its spans
 abbrev pub AreOfRows : (ℕ → List Span) → ℕ → List (List Span) → Type 0

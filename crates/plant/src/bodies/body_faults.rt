@@ -19,7 +19,7 @@ fn body_fault(kind: PlantFaultKind, line: u64, inner: BodyFault) -> PlantFault
 }
 
 impl From<DrawFault> for PlantFault {
-    ghost use Rattle.ladder_text.specs.declared.drawing.DrawFaultKind.TheVariants as draw;
+    ghost use Rattle.ladder_text.specs.declared.draw_fault.DrawFaultKind.TheVariants as draw;
     ghost use Rattle.plant.specs.declared.plant_fault.PlantFaultKind.TheVariants.{Memory, Drawing};
     ghost use Rattle.plant.specs.declared.plant_fault.BodyFault.TheVariants as body;
     ghost use Rattle.plant.specs.Faults.{IsPlantFault};

@@ -6,4 +6,4 @@ use Rattle.ladder_text.specs.Faults.{name_missing}
 use Rattle.ladder_text.proofs.reading.check_names.Given as goal
 
 abbrev pub invariant-loop-row : goal.invariant-loop-row
-invariant-loop-row l = (r : ℕ) → r < l.row → IsFalse (list_any (name_missing (layout_of l.page) r) (things (layout_of l.page) r))
+invariant-loop-row l = (r : ℕ) → r < l.row → IsFalse (list_any (name_missing (layout_of l.worded) r) (things (layout_of l.worded) r))

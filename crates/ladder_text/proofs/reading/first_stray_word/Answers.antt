@@ -5,14 +5,14 @@ use Rattle.ladder_text.specs.Names.{words}
 use Rattle.ladder_text.specs.Faults.{stray_name}
 use Rattle.ladder_text.specs.FirstFault.{IsSpanAt}
 use Rattle.ladder_text.specs.Steps.Search.{IsFirstColumnOf}
-use Rattle.ladder_text.proofs.FirstFaults.{word_first}
+use Rattle.ladder_text.proofs.Faults.FirstFaults.{word_first}
 use Rattle.ladder_text.proofs.reading.first_stray_word.Goals as goal
 
 pub returns-in-Some-clause-first : goal.returns-in-Some-clause-first
 returns-in-Some-clause-first c =
-    let d = c.args.page.now in
+    let d = c.args.worded.now in
     let p = layout_of d in
     let r = c.loop-row.row in
-    let size = ap (λ (e : Rows). length e) c.sheet.ensures in
+    let size = ap (λ (e : Rows). length e) c.boxed.ensures in
     let inside : r < length d = omega (arith, c.row_end-row-end.ensures.rows, size, c.loop-row-test.true) in
     word_first d r c.in-Some.column inside c.loop-row.invariant (subst (IsFirstColumnOf (IsSpanAt (words p r) (stray_name p r))) c.in-Some.is c.in_ok-column.ensures.first)

@@ -6,4 +6,4 @@ use Rattle.ladder_text.specs.Faults.{stray_name}
 use Rattle.ladder_text.proofs.reading.first_stray_word.Given as goal
 
 abbrev pub invariant-loop-row : goal.invariant-loop-row
-invariant-loop-row l = (r : ℕ) → r < l.row → IsFalse (list_any (stray_name (layout_of l.page) r) (words (layout_of l.page) r))
+invariant-loop-row l = (r : ℕ) → r < l.row → IsFalse (list_any (stray_name (layout_of l.worded) r) (words (layout_of l.worded) r))

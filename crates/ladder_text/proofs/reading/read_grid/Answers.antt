@@ -1,9 +1,9 @@
 use Rattle.std.proofs.Common.{ℕ, ◌<◌, length, subst, IsFalse}
-use Rattle.ladder_text.specs.declared.drawing.DrawFaultKind.TheVariants.{TooLarge}
+use Rattle.ladder_text.specs.declared.draw_fault.DrawFaultKind.TheVariants.{TooLarge}
 use Rattle.ladder_text.specs.Rows.{Rows}
 use Rattle.ladder_text.specs.Faults.{not_ascii}
 use Rattle.ladder_text.specs.FirstFault.{IsFirstFault}
-use Rattle.ladder_text.proofs.FirstFaults.{large_first}
+use Rattle.ladder_text.proofs.Faults.FirstFaults.{large_first}
 use Rattle.ladder_text.proofs.reading.read_grid.Goals as goal
 
 pub returns-in-Err-clause-first : goal.returns-in-Err-clause-first

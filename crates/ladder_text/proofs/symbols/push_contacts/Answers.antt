@@ -1,17 +1,17 @@
 use Rattle.std.proofs.Common.{◌∙◌, ◌++◌, List, ap, rules}
 use Rattle.std.specs.List.{filter_map}
 use Rattle.std.proofs.lemmas.List.{take_all}
-use Rattle.ladder_text.specs.declared.span.Span.{Span}
+use Rattle.ladder_text.specs.declared.names.span.Span.{Span}
 use Rattle.ladder_text.specs.declared.contact.Contact.{Contact}
 use Rattle.ladder_text.specs.Places.{layout_of, contact_at}
 use Rattle.ladder_text.specs.Names.{contact_with}
-use Rattle.ladder_text.proofs.SpanRows.{filter_map-step_behind, row_contacts_by_symbol}
+use Rattle.ladder_text.proofs.Words.SpanRows.{filter_map-step_behind, row_contacts_by_symbol}
 use Rattle.ladder_text.proofs.symbols.push_contacts.Goals as goal
 use Rattle.ladder_text.proofs.symbols.push_contacts.Goals.{in-Some+in_ok-push, in_default}
 
 pub loop-symbol-preserved : goal.loop-symbol-preserved
 loop-symbol-preserved c =
-    let p = layout_of c.args.page.now in
+    let p = layout_of c.args.worded.now in
     let step = filter_map-step_behind (λ (s : Span). contact_with p c.args.row s.first (contact_at p c.args.row s.first)) c.symbols-symbol-items.result.now c.loop-symbol.symbol-index
     (record { first = 0; end = 0 }) c.in_ok-contact.field-0 c.args.all.now.items c.loop-symbol.all.items c.match-branch-2.all.items c.loop-symbol-test.true c.in_ok-contact.ensures c.loop-symbol.invariant in
     elim c.match-branch-2.branch [
@@ -21,7 +21,7 @@ loop-symbol-preserved c =
 
 pub returns : goal.returns
 returns c =
-    let p = layout_of c.args.page.now in
+    let p = layout_of c.args.worded.now in
     let r = c.args.row in
     let items = c.symbols-symbol-items.result.now in
     let all = take_all c.loop-symbol.symbol-index items c.loop-symbol-test.false in

@@ -1,6 +1,6 @@
 use Rattle.ladder_text.specs.Rows.{rows_of}
-use Rattle.ladder_text.proofs.Faultless.{well_drawn_of}
-use Rattle.ladder_text.proofs.FirstFaults.{faultless_of}
+use Rattle.ladder_text.proofs.Faults.Faultless.{well_drawn_of}
+use Rattle.ladder_text.proofs.Faults.FirstFaults.{faultless_of}
 use Rattle.ladder_text.proofs.drawing.Drawing.read.Goals as goal
 
 pub returns-in-Ok-clause-same : goal.returns-in-Ok-clause-same

@@ -1,0 +1,10 @@
+use Rattle.std.proofs.Common.{not, ap, sym, ◌∙◌}
+use Rattle.ladder_text.specs.Places.{layout_of}
+use Rattle.ladder_text.proofs.Outlines.RowBoxLemmas.{off_boxes}
+use Rattle.ladder_text.proofs.places.railed_grid.RailedGrid.in_box.Goals as goal
+
+pub returns-else-not-bare : goal.returns-else-not-bare
+unfolding layout_of
+returns-else-not-bare c =
+    let a = c.args in
+    ap not c.if-not-bare.false ∙ sym (off_boxes (layout_of a.self.now) a.row a.column (c.requires.bare c.if-not-bare.false))

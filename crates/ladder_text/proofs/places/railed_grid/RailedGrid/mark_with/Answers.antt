@@ -1,0 +1,18 @@
+use Rattle.std.proofs.Common.{not, sym, ◌∙◌, true, false, ◌≡◌, Bool, refl}
+use Rattle.ladder_text.specs.Places.{layout_of}
+use Rattle.ladder_text.specs.declared.boxes.box_test.BoxTest.TheVariants.{Covers}
+use Rattle.ladder_text.proofs.Marks.RowMarkLemmas.{blank_mark}
+use Rattle.ladder_text.proofs.places.railed_grid.RailedGrid.mark_with.Goals as goal
+
+not_false : (b : Bool) → not b ≡ true → b ≡ false
+not_false false e = refl
+not_false true e = absurd (cc)
+
+pub returns-then-not-coil : goal.returns-then-not-coil
+unfolding layout_of
+returns-then-not-coil c =
+    let a = c.args in
+    let p = layout_of a.self.now in
+    sym (blank_mark p a.row a.column ((c.requires.bare c.if-bare.true).none Covers a.column)
+    (sym c.requires.contact ∙ c.if-not-contact.true) (sym c.requires.coil ∙ c.if-not-coil.true)
+    (sym c.requires.char ∙ c.if-c-eq32.true))

@@ -1,7 +1,0 @@
-use Rattle.ladder_text.specs.Places.{layout_of}
-use Rattle.ladder_text.specs.Names.{words}
-use Rattle.ladder_text.specs.Steps.RowSpans.{AreOfRows}
-use Rattle.ladder_text.proofs.worded_page.words_by_row.Given as goal
-
-abbrev pub invariant-loop-row : goal.invariant-loop-row
-invariant-loop-row l = AreOfRows (words (layout_of l.page)) l.row l.all.items

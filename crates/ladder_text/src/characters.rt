@@ -1,0 +1,4 @@
+//! The text as rows of characters.
+
+pub mod grid;
+pub mod rows;

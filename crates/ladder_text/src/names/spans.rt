@@ -1,0 +1,149 @@
+//! The words and the symbols of a row.
+
+ghost use Rattle.std.specs.Prelude.{[], ◌≡◌, ◌+◌, ◌-◌, ◌<◌, ◌≤◌, ◌^◌, IfOk, IsTrue, length, slice_index_or};
+ghost use Rattle.ladder_text.specs.Rows.{char_at, width, run};
+ghost use Rattle.ladder_text.specs.Boxes.{outlines};
+ghost use Rattle.ladder_text.specs.Places.{layout_of, mark as place_mark};
+ghost use Rattle.ladder_text.specs.Steps.RowBoxes.{IsBare};
+ghost use Rattle.ladder_text.specs.Steps.RowMarks.{AreMarksOf};
+ghost use Rattle.ladder_text.specs.Names.{in_word, words, symbol_at, symbols};
+
+use crate::mark::Mark;
+use crate::names::span::Span;
+use crate::places::mark_row::MarkRow;
+use crate::places::marked_grid::MarkedGrid;
+use std::alloc::{AllocError, Global};
+use words::is_word_char;
+
+/// Whether a place with a character is one of a word; of a row that is bare it is known.
+#[inline(always)]
+#[tactic(auto, unfolding(crate::specs::Places::layout_of, crate::specs::Names::in_word))]
+fn in_word_with(marked: &MarkedGrid, bare: bool, c: u8, row: usize, column: usize) -> bool
+    requires column { column < 2 ^ 62 }
+    requires bare { IsTrue bare → IsBare (outlines marked.now) row }
+    requires char { c ≡ char_at marked.now row column }
+    ensures { result ≡ in_word (layout_of marked.now) row column }
+{
+    !matches!(c, b' ' | b'-' | b'|')
+        && is_word_char(c)
+        && !marked.is_taken(row, column)
+        && !marked.boxed().in_operand_of(bare, row, column)
+}
+
+/// How many places of a word follow a column of a row whose characters are at hand.
+fn word_rest(marked: &MarkedGrid, bare: bool, cells: &[u8], row: usize, column: usize) -> usize
+    requires bare { IsTrue bare → IsBare (outlines marked.now) row }
+    requires cells { cells.now ≡ slice_index_or marked.now row [] }
+    requires column { column < 2 ^ 61 }
+    ensures rest { result ≡ run (in_word (layout_of marked.now) row) (column + 1) (width marked.now) }
+    ensures within { column ≤ width marked.now → column + result ≤ width marked.now }
+{
+    let limit = marked.last();
+    let mut n = 0;
+    while n < limit
+        && in_word_with(
+            marked,
+            bare,
+            marked.boxed().cell(cells, row, column + 1 + n),
+            row,
+            column + 1 + n,
+        )
+    {
+        n += 1;
+    }
+    n
+}
+
+/// The words of a row. Behind one it goes on at its last place.
+#[tactic(auto, unfolding(crate::specs::Places::layout_of, crate::specs::Names::word_at))]
+pub fn words(alloc: Global, marked: &MarkedGrid, row: usize) -> Result<Vec<Span>, AllocError>
+    ensures { IfOk result (λ v. v.items ≡ words (layout_of marked.now) row) }
+{
+    let mut words = Vec::new(alloc);
+    let cells = marked.boxed().cells(row);
+    let last = marked.last();
+    let bare = marked.boxed().is_bare(row);
+    let mut inside = in_word_with(marked, bare, marked.boxed().cell(cells, row, 0), row, 0);
+    let mut column = 0;
+    while column < last {
+        let before = inside;
+        column += 1;
+        let c = marked.boxed().cell(cells, row, column);
+        inside = in_word_with(marked, bare, c, row, column);
+        if inside && !before {
+            let rest = word_rest(marked, bare, cells, row, column);
+            words.push(Span {
+                first: column,
+                end: column + 1 + rest,
+            })?;
+            column += rest;
+        }
+    }
+    Ok(words)
+}
+
+/// The columns of the symbol that begins at a place with a mark.
+#[tactic(auto, unfolding(crate::specs::Places::layout_of, crate::specs::Names::symbol_at))]
+fn symbol_with(marked: &MarkedGrid, mark: Mark, row: usize, column: usize) -> Option<Span>
+    requires column { column < 2 ^ 61 }
+    requires mark { mark ≡ place_mark (layout_of marked.now) row column }
+    ensures { result ≡ symbol_at (layout_of marked.now) row column }
+{
+    if marked.begins_symbol(mark, row, column) {
+        Some(Span {
+            first: column,
+            end: column + 3,
+        })
+    } else {
+        None
+    }
+}
+
+/// The symbols of a row whose marks are at hand. None begins in another one.
+fn symbols_in(
+    alloc: Global,
+    marked: &MarkedGrid,
+    marks: &MarkRow,
+    row: usize,
+) -> Result<Vec<Span>, AllocError>
+    requires { AreMarksOf (layout_of marked.now) row marks.now }
+    ensures { IfOk result (λ v. v.items ≡ symbols (layout_of marked.now) row) }
+{
+    let mut symbols = Vec::new(alloc);
+    let last = marked.last();
+    let mut column = 0;
+    while column < last {
+        let mark = marked.mark_in(marks, row, column + 1);
+        if let Some(symbol) = symbol_with(marked, mark, row, column + 1) {
+            symbols.push(symbol)?;
+            column += 3;
+        } else {
+            column += 1;
+        }
+    }
+    Ok(symbols)
+}
+
+/// The symbols of a row, each place's mark looked up by itself.
+fn symbols_by_place(alloc: Global, marked: &MarkedGrid, row: usize) -> Result<Vec<Span>, AllocError>
+    ensures { IfOk result (λ v. v.items ≡ symbols (layout_of marked.now) row) }
+{
+    let mut symbols = Vec::new(alloc);
+    for column in 0..marked.last() {
+        let mark = marked.mark(row, column + 1);
+        if let Some(symbol) = symbol_with(marked, mark, row, column + 1) {
+            symbols.push(symbol)?;
+        }
+    }
+    Ok(symbols)
+}
+
+/// The three columns of each symbol of a row.
+pub fn symbols(alloc: Global, marked: &MarkedGrid, row: usize) -> Result<Vec<Span>, AllocError>
+    ensures { IfOk result (λ v. v.items ≡ symbols (layout_of marked.now) row) }
+{
+    match marked.marks_on(row) {
+        Some(marks) => symbols_in(alloc, marked, marks, row),
+        None => symbols_by_place(alloc, marked, row),
+    }
+}
