@@ -1,13 +1,3 @@
-pub mod LineLemmas
-pub mod Setting
-pub mod Scanning
-pub mod RowLemmas
-pub mod Explaining
-pub mod Counting
-pub mod Sending
-pub mod PlantBounds
-pub mod PlanExplaining
-pub mod PlantRefusing
 pub mod Commanding
 pub mod Reporting
 pub mod Replaying

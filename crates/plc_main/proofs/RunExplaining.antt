@@ -20,15 +20,17 @@ use Rattle.node.specs.declared.run_fault.RunFault.{RunFault}
 use Rattle.node.specs.Reports.{AreNumbered, AreForPlant}
 use Rattle.plc_main.specs.declared.command_fault.CommandFault.{CommandFault}
 use Rattle.plc_main.specs.declared.command_fault.CommandFault.TheVariants.{Text, Word, Write, Run, Memory}
-use Rattle.plc_main.specs.Steps.Refusing.{IsLate}
-use Rattle.plc_main.specs.PlanText.{RefusesPlanOf}
-use Rattle.plc_main.specs.Steps.Giving.{GivenForRun}
-use Rattle.plc_main.specs.Sending.{SendsPart}
+use Rattle.text_writer.specs.declared.send_fault.SendFault.{SendFault}
+use Rattle.text_writer.specs.declared.send_fault.SendFault.TheVariants as sending
+use Rattle.text_writer.specs.Sending.{SendsPart}
+use Rattle.text_commands.specs.declared.text_command_fault.TextCommandFault.{TextCommandFault}
+use Rattle.text_commands.specs.declared.text_command_fault.TextCommandFault.TheVariants as text
+use Rattle.text_commands.specs.PlanText.{RefusesPlanOf}
+use Rattle.plc_main.specs.Steps.Giving.{GivenForRun, command_fault, sending_fault}
 use Rattle.plc_main.specs.RunCommands.{command_for, commands_from}
 use Rattle.plc_main.specs.ReportText.{report_lines, replay_line}
 use Rattle.plc_main.specs.RunText.{ArePlanned, IsReportOf, ExplainsRun}
-use Rattle.plc_main.proofs.Sending.{begins}
-use Rattle.plc_main.proofs.Reporting.{part_of_first, part_of_second}
+use Rattle.text_writer.proofs.Sending.{begins, part_of_first, part_of_second}
 
 -- the tickets count from k on
 numbered_from : (plant : PlantValue) (inputs : List FieldInput) (j : ℕ) (dues : List Due) (k : ℕ) (c : Command) → slice_get (commands_from plant inputs j dues) k ≡ Some c → c.ticket ≡ j + k
@@ -57,27 +59,36 @@ planned_numbered plant until inputs commands p = subst AreNumbered (sym p.comman
 pub planned_for_plant : (plant : PlantValue) (until : ℕ) (inputs : List FieldInput) (commands : List Command) → ArePlanned plant until inputs commands → AreForPlant plant commands
 planned_for_plant plant until inputs commands p = subst (AreForPlant plant) (sym p.commands_are) (for_plant_from plant until inputs 1 p.dues p.planned.each)
 
+-- the fault is the one that was met
+pub kept_fault : {T : Type 0} (e : CommandFault) (P : CommandFault → Type 0) (r : Result T CommandFault) → IsErrAnd r (λ fault. fault ≡ e) → P e → IfErr r P
+kept_fault e P (Ok x) is h = tt
+kept_fault e P (Err fault) is h = subst P (sym is) h
+
+no_plan : (plant : PlantValue) (until : ℕ) (inputs : List FieldInput) (old : Option (List ℕ)) (found : TextCommandFault) → RefusesPlanOf plant until found → ExplainsRun plant until inputs old old (command_fault found)
+no_plan plant until inputs old (text.Text fault) refused = (refused, Keeps-refl old)
+no_plan plant until inputs old (text.Word fault) refused = absurd refused
+no_plan plant until inputs old text.Write refused = absurd refused
+no_plan plant until inputs old text.Memory refused = inl (Keeps-refl old)
+
 -- no plan
-pub run_refused : (plant : PlantValue) (until : ℕ) (inputs : List FieldInput) (old : Option (List ℕ)) (fault : CommandFault) → RefusesPlanOf plant until fault → ExplainsRun plant until inputs old old fault
-run_refused plant until inputs old (Text fault) refused = (refused, Keeps-refl old)
-run_refused plant until inputs old (Word fault) refused = absurd refused
-run_refused plant until inputs old Write refused = absurd refused
-run_refused plant until inputs old (Run fault) refused = absurd refused
-run_refused plant until inputs old Memory refused = inl (Keeps-refl old)
+pub run_refused : {T : Type 0} (plant : PlantValue) (until : ℕ) (inputs : List FieldInput) (old : Option (List ℕ)) (found : TextCommandFault) (r : Result T CommandFault) → IsErrAnd r (λ fault. fault ≡ command_fault found)
+    → RefusesPlanOf plant until found → IfErr r (ExplainsRun plant until inputs old old)
+run_refused plant until inputs old found r is refused = kept_fault (command_fault found) (ExplainsRun plant until inputs old old) r is (no_plan plant until inputs old found refused)
 
 -- no report
 pub no_report : {T : Type 0} (plant : PlantValue) (until : ℕ) (inputs : List FieldInput) (old : Option (List ℕ)) (found : RunFault) (r : Result T CommandFault) → IsErrAnd r (GivenForRun found) → IfErr r (ExplainsRun plant until inputs old old)
 no_report plant until inputs old found (Ok x) given = tt
 no_report plant until inputs old found (Err fault) given = elim given [ inl w ↦ subst (ExplainsRun plant until inputs old old) (sym w.1) (inl (Keeps-refl old)) | inr w ↦ subst (ExplainsRun plant until inputs old old) (sym w.1) (Keeps-refl old) ]
 
+lines_sent : (plant : PlantValue) (until : ℕ) (inputs : List FieldInput) (old new : Option (List ℕ)) (report : Report) (found : SendFault) → IsReportOf plant until inputs report → SendsPart (report_lines plant report) old new
+    → ExplainsRun plant until inputs old new (sending_fault found)
+lines_sent plant until inputs old new report sending.Write is part = record { report = report; is_report = is; sent = part_of_first (report_lines plant report) (replay_line true) old new part }
+lines_sent plant until inputs old new report sending.Memory is part = inr (record { report = report; is_report = is; sent = part_of_first (report_lines plant report) [] old new part })
+
 -- the lines were written in part
-pub lines_partly : (plant : PlantValue) (until : ℕ) (inputs : List FieldInput) (old new : Option (List ℕ)) (report : Report) (fault : CommandFault) → IsReportOf plant until inputs report → SendsPart (report_lines plant report) old new
-    → IsLate fault → ExplainsRun plant until inputs old new fault
-lines_partly plant until inputs old new report (Text fault) is part late = absurd late
-lines_partly plant until inputs old new report (Word fault) is part late = absurd late
-lines_partly plant until inputs old new report Write is part late = record { report = report; is_report = is; sent = part_of_first (report_lines plant report) (replay_line true) old new part }
-lines_partly plant until inputs old new report (Run fault) is part late = absurd late
-lines_partly plant until inputs old new report Memory is part late = inr (record { report = report; is_report = is; sent = part_of_first (report_lines plant report) [] old new part })
+pub lines_partly : {T : Type 0} (plant : PlantValue) (until : ℕ) (inputs : List FieldInput) (old new : Option (List ℕ)) (report : Report) (found : SendFault) (r : Result T CommandFault) → IsErrAnd r (λ fault. fault ≡ sending_fault found)
+    → IsReportOf plant until inputs report → SendsPart (report_lines plant report) old new → IfErr r (ExplainsRun plant until inputs old new)
+lines_partly plant until inputs old new report found r given is part = kept_fault (sending_fault found) (ExplainsRun plant until inputs old new) r given (lines_sent plant until inputs old new report found is part)
 
 -- all lines were written, and then there was no memory for the replay
 pub lines_alone : (plant : PlantValue) (until : ℕ) (inputs : List FieldInput) (old new : Option (List ℕ)) (report : Report) → IsReportOf plant until inputs report → Appends old new (report_lines plant report) → ExplainsRun plant until inputs old new Memory

@@ -1,9 +1,3 @@
-pub mod Rows
-pub mod Lines
-pub mod EvalText
-pub mod CheckText
-pub mod Sending
-pub mod PlanText
 pub mod FieldWords
 pub mod Answers
 pub mod RunCommands

@@ -10,8 +10,9 @@ use Rattle.node.specs.declared.report.Report.{Report}
 use Rattle.node.specs.Reports.{IsFittingBook, AreJournalsOf, AreInBook, AreAnswers, RunsAgain, AreTold}
 use Rattle.plc_main.specs.declared.command_fault.CommandFault.{CommandFault}
 use Rattle.plc_main.specs.declared.command_fault.CommandFault.TheVariants.{Text, Word, Write, Run, Memory}
-use Rattle.plc_main.specs.Sending.{SendsPart}
-use Rattle.plc_main.specs.PlanText.{RefusesPlanOf}
+use Rattle.text_writer.specs.Sending.{SendsPart}
+use Rattle.text_commands.specs.declared.text_command_fault.TextCommandFault.TheVariants as text
+use Rattle.text_commands.specs.PlanText.{RefusesPlanOf}
 use Rattle.plc_main.specs.RunCommands.{commands_from}
 use Rattle.plc_main.specs.ReportText.{report_lines, replay_line}
 
@@ -52,7 +53,7 @@ pub record WritesReportPart (plant : PlantValue) (until : ℕ) (inputs : List Fi
 
 -- why there was a fault, and what was written before: nothing before a plan that is too long and threads that gave no report, and after want of memory no last line
 abbrev pub ExplainsRun : PlantValue → ℕ → List FieldInput → Option (List ℕ) → Option (List ℕ) → CommandFault → Type 0
-ExplainsRun plant until inputs old new (Text fault) = RefusesPlanOf plant until (Text fault) × Keeps old new
+ExplainsRun plant until inputs old new (Text fault) = RefusesPlanOf plant until (text.Text fault) × Keeps old new
 ExplainsRun plant until inputs old new (Word fault) = ⊥
 ExplainsRun plant until inputs old new Write = WritesReportPart plant until inputs (replay_line true) old new
 ExplainsRun plant until inputs old new (Run fault) = Keeps old new

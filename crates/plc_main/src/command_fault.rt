@@ -1,15 +1,10 @@
 ghost use Rattle.std.specs.Prelude.{◌≡◌};
 
-use crate::text_fault::TextFault;
-use crate::word_fault::WordFault;
-use ladder_text::{DrawFault, DrawFaultKind};
-use network::{GraphFault, GraphFaultKind};
 use node::RunFault;
-use plant::{PlanFault, PlantFault, PlantFaultKind};
-use power_flow::{BindFault, BindKind};
 use std::alloc::{AllocError, AllocFailed};
+use text_commands::{TextCommandFault, TextFault, WordFault};
+use text_writer::{SendFault, WriteFault};
 use thiserror::Error;
-use world::WriteFault;
 
 /// Why a command of the program ends without its answer.
 #[derive(Clone, Copy, Debug, PartialEq, Eq, Error)]
@@ -61,77 +56,30 @@ impl From<WriteFault> for CommandFault {
     }
 }
 
-impl From<DrawFault> for CommandFault {
-    ghost use Rattle.plc_main.specs.Steps.Giving.{GivenFor};
-    ghost use Rattle.ladder_text.specs.declared.draw_fault.DrawFaultKind.TheVariants as draw;
-    ghost use Rattle.plc_main.specs.declared.text_fault.TextFault.TheVariants.{Draw};
+impl From<SendFault> for CommandFault {
+    ghost use Rattle.plc_main.specs.Steps.Giving.{sending_fault};
 
-    ghost from_gives = { λ found fault. GivenFor (found.kind ≡ draw.Memory) (Draw found) fault };
+    ghost from_gives = { λ found fault. fault ≡ sending_fault found };
 
-    fn from(fault: DrawFault) -> CommandFault {
-        match fault.kind {
-            DrawFaultKind::Memory => CommandFault::Memory,
-            _ => CommandFault::Text(TextFault::Draw(fault)),
-        }
-    }
-}
-
-impl From<GraphFault> for CommandFault {
-    ghost use Rattle.plc_main.specs.Steps.Giving.{GivenFor};
-    ghost use Rattle.network.specs.declared.fault.GraphFaultKind.TheVariants as graph;
-    ghost use Rattle.plc_main.specs.declared.text_fault.TextFault.TheVariants.{Graph};
-
-    ghost from_gives = { λ found fault. GivenFor (found.kind ≡ graph.Memory) (Graph found) fault };
-
-    fn from(fault: GraphFault) -> CommandFault {
-        match fault.kind {
-            GraphFaultKind::Memory => CommandFault::Memory,
-            _ => CommandFault::Text(TextFault::Graph(fault)),
-        }
-    }
-}
-
-impl From<BindFault> for CommandFault {
-    ghost use Rattle.plc_main.specs.Steps.Giving.{GivenFor};
-    ghost use Rattle.power_flow.specs.declared.bind.BindKind.TheVariants as bind;
-    ghost use Rattle.plc_main.specs.declared.text_fault.TextFault.TheVariants.{Bind};
-
-    ghost from_gives = { λ found fault. GivenFor (found.kind ≡ bind.Memory) (Bind found) fault };
-
-    fn from(fault: BindFault) -> CommandFault {
-        match fault.kind {
-            BindKind::Memory => CommandFault::Memory,
-            _ => CommandFault::Text(TextFault::Bind(fault)),
-        }
-    }
-}
-
-impl From<PlantFault> for CommandFault {
-    ghost use Rattle.plc_main.specs.Steps.Giving.{GivenFor};
-    ghost use Rattle.plant.specs.declared.plant_fault.PlantFaultKind.TheVariants as plant;
-    ghost use Rattle.plc_main.specs.declared.text_fault.TextFault.TheVariants.{Plant};
-
-    ghost from_gives = { λ found fault. GivenFor (found.kind ≡ plant.Memory) (Plant found) fault };
-
-    fn from(fault: PlantFault) -> CommandFault {
-        match fault.kind {
-            PlantFaultKind::Memory => CommandFault::Memory,
-            _ => CommandFault::Text(TextFault::Plant(fault)),
-        }
-    }
-}
-
-impl From<PlanFault> for CommandFault {
-    ghost use Rattle.plc_main.specs.Steps.Giving.{GivenFor};
-    ghost use Rattle.due_list.specs.declared.plan_fault.PlanFault.TheVariants as plan;
-    ghost use Rattle.plc_main.specs.declared.text_fault.TextFault.TheVariants.{TooLong};
-
-    ghost from_gives = { λ found fault. GivenFor (found ≡ plan.Memory) TooLong fault };
-
-    fn from(fault: PlanFault) -> CommandFault {
+    fn from(fault: SendFault) -> CommandFault {
         match fault {
-            PlanFault::Memory => CommandFault::Memory,
-            PlanFault::TooLong => CommandFault::Text(TextFault::TooLong),
+            SendFault::Write => CommandFault::Write,
+            SendFault::Memory => CommandFault::Memory,
+        }
+    }
+}
+
+impl From<TextCommandFault> for CommandFault {
+    ghost use Rattle.plc_main.specs.Steps.Giving.{command_fault};
+
+    ghost from_gives = { λ found fault. fault ≡ command_fault found };
+
+    fn from(fault: TextCommandFault) -> CommandFault {
+        match fault {
+            TextCommandFault::Text(fault) => CommandFault::Text(fault),
+            TextCommandFault::Word(fault) => CommandFault::Word(fault),
+            TextCommandFault::Write => CommandFault::Write,
+            TextCommandFault::Memory => CommandFault::Memory,
         }
     }
 }

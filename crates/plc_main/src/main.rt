@@ -1,40 +1,29 @@
 //! The program `plc`.
 #![tactic(auto)]
 
-mod check_command;
 mod command_fault;
-mod eval_command;
 mod field_words;
-mod line;
-mod plan_command;
-mod plant_counts;
+mod refusal;
 mod replay;
 mod report_text;
-mod row;
-mod rows;
 mod run_command;
 mod run_commands;
-mod send_lines;
-mod text_fault;
-mod word_fault;
 
 ghost use Rattle.std.specs.Prelude.{◌≡◌, length, vec_len, OnOk, IfOk, IfErr};
 ghost use Rattle.plant.specs.PlantText.{IsPlantText};
 ghost use Rattle.world.specs.Simulated.{WritesRun, EndsEarly};
 ghost use Rattle.plc_main.specs.Answers.{WritesAnswer, ExplainsAnswer};
-ghost use Rattle.plc_main.specs.CheckText.{RefusesPlant};
+ghost use Rattle.text_commands.specs.CheckText.{RefusesPlant};
 ghost use Rattle.plc_main.specs.RunText.{WritesReport, ExplainsRun};
 
-use check_command::{check, read_plant};
 use command_fault::CommandFault;
 use command_line::{FIRST_STEPS, Request, RunRequest, SimRequest, TextRequest, read_words};
-use eval_command::eval;
 use evaluation::{InputFault, Inputs};
 use field_words::read_field_words;
 use guidance::{Refusal, explain, help_with};
 use node::{FreeGate, Gate, Keeper, MemoryKeeper, PacedGate};
-use plan_command::plan_text;
 use plant::Plant;
+use refusal::refusal_of;
 use run_command::run_text;
 use std::alloc::{AllocError, Global};
 use std::io::{ErrorKind, Write};
@@ -43,8 +32,9 @@ use std::rt::{Env, Files};
 use std::sync::{Arc, Wait};
 use std::thread::Threads;
 use std::{env, fs, io};
-use text_fault::TextFault;
-use world::{SimFault, simulate, write_text};
+use text_commands::{TextCommandFault, TextFault, WordFault, check, eval, plan_text, read_plant};
+use text_writer::write_text;
+use world::{SimFault, simulate};
 
 /// The status after a text is refused.
 const TEXT_REFUSED: u8 = 1;
@@ -69,8 +59,7 @@ fn print_given_fault<R: Eprint>(rt: &R, error: &io::Error) -> io::Result<u8> {
 
 fn print_usage<R: Print + Eprint>(rt: &R, error: &clap::Error) -> io::Result<u8> {
     if error.kind() == clap::error::ErrorKind::OutOfMemory {
-        eprintln!(rt; "plc: {}", CommandFault::Memory)?;
-        return Ok(FAILED);
+        return print_failure(rt, CommandFault::Memory);
     }
     error.print(rt)?;
     if error.kind() == clap::error::ErrorKind::MissingSubcommand {
@@ -90,7 +79,35 @@ fn print_help<R: Eprint + AllocGlobal>(rt: &R, text: &str, refusal: Refusal) {
     }
 }
 
-/// Tells a fault of a command; the text is that of the file.
+/// Tells why a text is refused; the status.
+fn print_text_fault<R: Eprint + AllocGlobal>(
+    rt: &R,
+    file: &str,
+    text: &str,
+    fault: TextFault,
+) -> io::Result<u8> {
+    match fault {
+        TextFault::TooLong => eprintln!(rt; "{fault}")?,
+        _ => eprintln!(rt; "{file}:{fault}")?,
+    }
+    print_help(rt, text, refusal_of(fault));
+    Ok(TEXT_REFUSED)
+}
+
+/// Tells why a word is refused; the status.
+fn print_word_fault<R: Eprint>(rt: &R, words: &[&str], fault: WordFault) -> io::Result<u8> {
+    let word = words.get(fault.number).copied().unwrap_or("");
+    eprintln!(rt; "plc: {word}: {fault}")?;
+    Ok(WORD_REFUSED)
+}
+
+/// Tells that the output failed, or the threads, or memory; the status.
+fn print_failure<R: Eprint>(rt: &R, fault: CommandFault) -> io::Result<u8> {
+    eprintln!(rt; "plc: {fault}")?;
+    Ok(FAILED)
+}
+
+/// Tells a fault of a command; the text is that of the file. The status.
 fn print_fault<R: Eprint + AllocGlobal>(
     rt: &R,
     file: &str,
@@ -99,32 +116,15 @@ fn print_fault<R: Eprint + AllocGlobal>(
     fault: CommandFault,
 ) -> io::Result<u8> {
     match fault {
-        CommandFault::Text(fault) => {
-            match fault {
-                TextFault::TooLong => eprintln!(rt; "{fault}")?,
-                _ => eprintln!(rt; "{file}:{fault}")?,
-            }
-            print_help(rt, text, fault.refusal());
-            Ok(TEXT_REFUSED)
-        }
-        CommandFault::Word(fault) => {
-            let word = words.get(fault.number).copied().unwrap_or("");
-            eprintln!(rt; "plc: {word}: {fault}")?;
-            Ok(WORD_REFUSED)
-        }
+        CommandFault::Text(fault) => print_text_fault(rt, file, text, fault),
+        CommandFault::Word(fault) => print_word_fault(rt, words, fault),
         CommandFault::Write | CommandFault::Run(_) | CommandFault::Memory => {
-            eprintln!(rt; "plc: {fault}")?;
-            Ok(FAILED)
+            print_failure(rt, fault)
         }
     }
 }
 
-/// Tells that the output failed, or memory.
-fn print_failure<R: Eprint + AllocGlobal>(rt: &R, fault: CommandFault) -> io::Result<u8> {
-    print_fault(rt, "", "", &[], fault)
-}
-
-fn print_input_fault<R: Eprint + AllocGlobal>(rt: &R, fault: InputFault) -> io::Result<u8> {
+fn print_input_fault<R: Eprint>(rt: &R, fault: InputFault) -> io::Result<u8> {
     match fault {
         InputFault::Syntax => {
             eprintln!(rt; "plc: a word is no ADDRESS=VALUE such as %IX0=1 or %IW2=-7")?;
@@ -175,7 +175,7 @@ fn obey<W: Write>(
     request: &TextRequest<'_>,
     text: &str,
     writer: &mut W,
-) -> Result<(), CommandFault>
+) -> Result<(), TextCommandFault>
     ensures ok { OnOk result (WritesAnswer request.now text.now (W.contents writer.old) (W.contents writer.new)) }
     ensures fault { IfErr result (ExplainsAnswer request.now text.now (W.contents writer.old) (W.contents writer.new)) }
 {
@@ -199,17 +199,38 @@ fn answer_text<R: Files + Print + Eprint + AllocGlobal>(
     let mut writer = io::writer(rt);
     match obey(rt.alloc(), request, text.as_str(), &mut writer) {
         Ok(()) => Ok(0),
-        Err(fault) => print_fault(rt, file, text.as_str(), request.words(), fault),
+        Err(fault) => print_fault(rt, file, text.as_str(), request.words(), fault.into()),
     }
 }
 
 /// Reads a plant that is to be shared.
-fn shared_plant(alloc: Global, text: &str) -> Result<Arc<Plant>, CommandFault>
+fn shared_plant(alloc: Global, text: &str) -> Result<Arc<Plant>, TextCommandFault>
     ensures ok { IfOk result (λ plant. IsPlantText text.now plant.value) }
     ensures err { IfErr result (RefusesPlant text.now) }
 {
     let plant = read_plant(alloc, text)?;
     Ok(Arc::new(alloc, plant)?)
+}
+
+/// The plant of a file, or the status after its fault was told.
+fn file_plant<R: Files + Eprint + AllocGlobal>(
+    rt: &R,
+    file: &str,
+) -> io::Result<Result<Arc<Plant>, u8>> {
+    let text = match file_text(rt, file)? {
+        Ok(text) => text,
+        Err(status) => return Ok(Err(status)),
+    };
+    match shared_plant(rt.alloc(), text.as_str()) {
+        Ok(plant) => Ok(Ok(plant)),
+        Err(fault) => Ok(Err(print_fault(
+            rt,
+            file,
+            text.as_str(),
+            &[],
+            fault.into(),
+        )?)),
+    }
 }
 
 /// Writes what each event of a schedule does to the plant, as the words ask for it.
@@ -226,27 +247,32 @@ fn obey_schedule<W: Write>(
     simulate(alloc, plant, schedule, request.max_number, writer)
 }
 
+/// Writes what each event of a schedule does; the status.
+fn answer_schedule<R: Print + Eprint + AllocGlobal>(
+    rt: &R,
+    request: &SimRequest<'_>,
+    plant: Arc<Plant>,
+    schedule: &str,
+) -> io::Result<u8> {
+    let mut writer = io::writer(rt);
+    match obey_schedule(rt.alloc(), request, plant, schedule, &mut writer) {
+        Ok(()) => Ok(0),
+        Err(fault) => print_sim_fault(rt, request.schedule, schedule, fault),
+    }
+}
+
 /// Reads the file of a plant and then that of a schedule, and writes what each event does; the status.
 fn run_schedule<R: Files + Print + Eprint + AllocGlobal>(
     rt: &R,
     request: &SimRequest<'_>,
 ) -> io::Result<u8> {
-    let text = match file_text(rt, request.plant)? {
-        Ok(text) => text,
-        Err(status) => return Ok(status),
-    };
-    let plant = match shared_plant(rt.alloc(), text.as_str()) {
+    let plant = match file_plant(rt, request.plant)? {
         Ok(plant) => plant,
-        Err(fault) => return print_fault(rt, request.plant, text.as_str(), &[], fault),
-    };
-    let schedule = match file_text(rt, request.schedule)? {
-        Ok(schedule) => schedule,
         Err(status) => return Ok(status),
     };
-    let mut writer = io::writer(rt);
-    match obey_schedule(rt.alloc(), request, plant, schedule.as_str(), &mut writer) {
-        Ok(()) => Ok(0),
-        Err(fault) => print_sim_fault(rt, request.schedule, schedule.as_str(), fault),
+    match file_text(rt, request.schedule)? {
+        Ok(schedule) => answer_schedule(rt, request, plant, schedule.as_str()),
+        Err(status) => Ok(status),
     }
 }
 
@@ -266,14 +292,10 @@ fn prepare<R: Files + Eprint + AllocGlobal>(
         Ok(inputs) => inputs,
         Err(fault) => return Ok(Err(print_input_fault(rt, fault)?)),
     };
-    let text = match file_text(rt, request.plant)? {
-        Ok(text) => text,
-        Err(status) => return Ok(Err(status)),
-    };
-    match shared_plant(rt.alloc(), text.as_str()) {
-        Ok(plant) => Ok(Ok(Prepared { plant, inputs })),
-        Err(fault) => Ok(Err(print_fault(rt, request.plant, text.as_str(), &[], fault)?)),
-    }
+    Ok(match file_plant(rt, request.plant)? {
+        Ok(plant) => Ok(Prepared { plant, inputs }),
+        Err(status) => Err(status),
+    })
 }
 
 /// A keeper for each resource, in memory. The first incarnations are 1.
@@ -327,7 +349,7 @@ fn run_with<R: Print + Eprint + AllocGlobal + Threads + Wait + Sync, K: Keeper, 
     match obey_run(rt, request, prepared, keepers, gate, &mut writer) {
         Ok(false) => Ok(0),
         Ok(true) => Ok(FAILED),
-        Err(fault) => print_failure(rt, fault),
+        Err(fault) => print_fault(rt, "", "", &[], fault),
     }
 }
 

@@ -1,22 +1,20 @@
 //! The lines of a report: what the threads made, what they didn't do, and what went wrong.
 
-ghost use Rattle.std.specs.Prelude.{◌≡◌, ◌++◌, OnOk, OnErr, IfErr, string_bytes};
+ghost use Rattle.std.specs.Prelude.{◌≡◌, ◌++◌, OnOk, OnErr, string_bytes};
 ghost use Rattle.std.specs.List.{flat_map};
 ghost use Rattle.std.specs.Io.KnownBytes.{Appends};
 ghost use Rattle.world.specs.RunLines.{resource_text};
-ghost use Rattle.plc_main.specs.Steps.Refusing.{IsLate};
-ghost use Rattle.plc_main.specs.Sending.{SendsPart};
+ghost use Rattle.text_writer.specs.Sending.{SendsPart};
 ghost use Rattle.plc_main.specs.ReportText.{cause_text, unanswered_line, fault_line, entry_lines, report_lines, replay_line};
 
-use crate::command_fault::CommandFault;
-use crate::send_lines::send_full;
 use evaluation::Frame;
 use node::{Cause, NodeFault, Report};
 use plant::Plant;
 use std::alloc::{AllocError, Global};
 use std::fmt::Write as _;
 use std::io::Write;
-use world::{push_evaluation, write_text};
+use text_writer::{SendFault, send_full, write_text};
+use world::push_evaluation;
 
 fn cause_name(cause: Cause) -> &'static str
     ensures { result.now ≡ cause_text cause }
@@ -63,10 +61,9 @@ fn write_entries<W: Write>(
     plant: &Plant,
     entries: &[Frame],
     writer: &mut W,
-) -> Result<(), CommandFault>
+) -> Result<(), SendFault>
     ensures ok { OnOk result (Appends (W.contents writer.old) (W.contents writer.new) (entry_lines plant.now 1 entries.now)) }
     ensures part { OnErr result (SendsPart (entry_lines plant.now 1 entries.now) (W.contents writer.old) (W.contents writer.new)) }
-    ensures late { IfErr result IsLate }
 {
     let mut lines = String::new(alloc);
     for i in 0..entries.len() {
@@ -82,10 +79,9 @@ fn write_unanswered<W: Write>(
     alloc: Global,
     tickets: &[u64],
     writer: &mut W,
-) -> Result<(), CommandFault>
+) -> Result<(), SendFault>
     ensures ok { OnOk result (Appends (W.contents writer.old) (W.contents writer.new) (flat_map unanswered_line tickets.now)) }
     ensures part { OnErr result (SendsPart (flat_map unanswered_line tickets.now) (W.contents writer.old) (W.contents writer.new)) }
-    ensures late { IfErr result IsLate }
 {
     let mut lines = String::new(alloc);
     for ticket in tickets {
@@ -101,10 +97,9 @@ fn write_faults<W: Write>(
     plant: &Plant,
     faults: &[NodeFault],
     writer: &mut W,
-) -> Result<(), CommandFault>
+) -> Result<(), SendFault>
     ensures ok { OnOk result (Appends (W.contents writer.old) (W.contents writer.new) (flat_map (fault_line plant.now) faults.now)) }
     ensures part { OnErr result (SendsPart (flat_map (fault_line plant.now) faults.now) (W.contents writer.old) (W.contents writer.new)) }
-    ensures late { IfErr result IsLate }
 {
     let mut lines = String::new(alloc);
     for fault in faults {
@@ -120,10 +115,9 @@ pub fn write_report<W: Write>(
     plant: &Plant,
     report: &Report,
     writer: &mut W,
-) -> Result<(), CommandFault>
+) -> Result<(), SendFault>
     ensures ok { OnOk result (Appends (W.contents writer.old) (W.contents writer.new) (report_lines plant.now report.now)) }
     ensures part { OnErr result (SendsPart (report_lines plant.now report.now) (W.contents writer.old) (W.contents writer.new)) }
-    ensures late { IfErr result IsLate }
 {
     write_entries(alloc, plant, report.book.entries(), writer)?;
     write_unanswered(alloc, report.unanswered.as_slice(), writer)?;

@@ -1,9 +1,8 @@
 ghost use Rattle.std.specs.Prelude.{◌≡◌, length, vec_len, IfOk, IfErr};
-ghost use Rattle.plc_main.specs.PlanText.{RefusesPlanOf};
+ghost use Rattle.text_commands.specs.PlanText.{RefusesPlanOf};
 ghost use Rattle.plc_main.specs.RunText.{ArePlanned, WritesReport, ExplainsRun};
 
 use crate::command_fault::CommandFault;
-use crate::plan_command::plan_of;
 use crate::replay::replay;
 use crate::report_text::{replay_line, write_report};
 use crate::run_commands::commands_of;
@@ -14,7 +13,8 @@ use std::alloc::Global;
 use std::io::Write;
 use std::sync::{Arc, Wait};
 use std::thread::Threads;
-use world::write_text;
+use text_commands::{TextCommandFault, plan_of};
+use text_writer::write_text;
 
 /// The commands for the entries of a plan.
 fn planned_commands(
@@ -22,7 +22,7 @@ fn planned_commands(
     plant: &Plant,
     until: u32,
     inputs: &Inputs,
-) -> Result<Vec<Command>, CommandFault>
+) -> Result<Vec<Command>, TextCommandFault>
     ensures ok { IfOk result (λ commands. ArePlanned plant.now until inputs.now commands.items) }
     ensures fault { IfErr result (RefusesPlanOf plant.now until) }
 {

@@ -8,7 +8,6 @@ mod laws;
 mod log_laws;
 mod replay_laws;
 mod schedule;
-mod text_output;
 mod world;
 mod world_fault;
 
@@ -22,6 +21,6 @@ pub use log_laws::{
 };
 pub use replay_laws::{runs_could_be_made, runs_replay};
 pub use schedule::{SimFault, one_reading, push_evaluation, simulate};
-pub use text_output::{WriteFault, write_text};
+pub use text_writer::{WriteFault, write_text};
 pub use world::World;
 pub use world_fault::WorldFault;

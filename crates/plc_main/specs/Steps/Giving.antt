@@ -1,14 +1,25 @@
--- How a refusal by a lower crate becomes a fault of a command.
+-- How a fault of a lower crate becomes a fault of a command.
 use Rattle.std.specs.Prelude.{◌≡◌, ◌⊎◌}
-use Rattle.plc_main.specs.declared.command_fault.CommandFault.{CommandFault}
-use Rattle.plc_main.specs.declared.command_fault.CommandFault.TheVariants.{Text, Run, Memory}
-use Rattle.plc_main.specs.declared.text_fault.TextFault.{TextFault}
+use Rattle.text_writer.specs.declared.send_fault.SendFault.{SendFault}
+use Rattle.text_writer.specs.declared.send_fault.SendFault.TheVariants as sending
+use Rattle.text_commands.specs.declared.text_command_fault.TextCommandFault.{TextCommandFault}
+use Rattle.text_commands.specs.declared.text_command_fault.TextCommandFault.TheVariants as text
 use Rattle.node.specs.declared.run_fault.RunFault.{RunFault}
 use Rattle.node.specs.declared.run_fault.RunFault.TheVariants as run
+use Rattle.plc_main.specs.declared.command_fault.CommandFault.{CommandFault}
+use Rattle.plc_main.specs.declared.command_fault.CommandFault.TheVariants.{Text, Word, Write, Run, Memory}
 
--- want of memory is one fault, whoever meets it; else the text is refused for this
-abbrev pub GivenFor : Type 0 → TextFault → CommandFault → Type 0
-GivenFor OfMemory refusal fault = (OfMemory × (fault ≡ Memory)) ⊎ ((OfMemory → ⊥) × (fault ≡ Text refusal))
+-- why lines didn't go out whole
+abbrev pub sending_fault : SendFault → CommandFault
+sending_fault sending.Write = Write
+sending_fault sending.Memory = Memory
+
+-- a fault of a command that needs one text is the same one of the program
+abbrev pub command_fault : TextCommandFault → CommandFault
+command_fault (text.Text fault) = Text fault
+command_fault (text.Word fault) = Word fault
+command_fault text.Write = Write
+command_fault text.Memory = Memory
 
 -- want of memory is one fault; else the threads gave no report for this
 abbrev pub GivenForRun : RunFault → CommandFault → Type 0

@@ -1,6 +1,6 @@
-use crate::text_output::WriteFault;
 use evaluation::InputFault;
 use std::alloc::AllocError;
+use text_writer::WriteFault;
 
 /// Why a line isn't done.
 #[derive(Clone, Copy, Debug, PartialEq, Eq)]

@@ -11,13 +11,13 @@ use crate::schedule::line_fault::LineFault;
 use crate::schedule::lines::{is_idle, without_last};
 use crate::schedule::read_line::read_event;
 use crate::schedule::sim_fault::SimFault;
-use crate::text_output::write_text;
 use crate::world::World;
 use evaluation::push_words;
 use plant::Plant;
 use std::alloc::{AllocError, Global};
 use std::io::Write;
 use std::sync::Arc;
+use text_writer::write_text;
 
 /// The first incarnations: 1 for each resource.
 fn ones(alloc: Global, resources: usize) -> Result<Vec<u32>, AllocError>

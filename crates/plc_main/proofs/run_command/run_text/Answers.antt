@@ -6,8 +6,7 @@ use Rattle.node.specs.Reports.{AreNumbered, AreForPlant}
 use Rattle.plc_main.specs.declared.command_fault.CommandFault.TheVariants.{Write, Memory}
 use Rattle.plc_main.specs.ReportText.{report_lines, replay_line}
 use Rattle.plc_main.specs.RunText.{ArePlanned, IsReportOf, ExplainsRun}
-use Rattle.plc_main.proofs.PlanExplaining.{kept_fault}
-use Rattle.plc_main.proofs.RunExplaining.{planned_numbered, planned_for_plant, lines_partly, lines_alone, last_partly, faulty}
+use Rattle.plc_main.proofs.RunExplaining.{kept_fault, planned_numbered, planned_for_plant, run_refused, lines_partly, lines_alone, last_partly, faulty}
 use Rattle.plc_main.proofs.run_command.run_text.Goals as goal
 
 pub run_threads-requires-clause-numbered : goal.run_threads-requires-clause-numbered
@@ -18,6 +17,10 @@ pub run_threads-requires-clause-resources : goal.run_threads-requires-clause-res
 run_threads-requires-clause-resources g c κs within =
     subst (λ (plant : PlantValue). AreForPlant plant c.deref-2.result.now) (sym c.in_ok-shared.ensures)
     (subst (AreForPlant c.args.plant.value) (sym c.deref-2.ensures.value) (planned_for_plant c.args.plant.value c.args.until c.args.inputs c.in_ok-commands.commands.items (rw c.deref.ensures at c.in_ok-commands.ensures.ok)))
+
+pub returns-in_err-commands-clause-fault : goal.returns-in_err-commands-clause-fault
+returns-in_err-commands-clause-fault g c =
+    run_refused c.args.plant.value c.args.until c.args.inputs _ c.in_err-commands.field-0.0 _ c.from_residual-in_err-commands.ensures.1 (rw c.deref.ensures at c.in_err-commands.ensures.fault)
 
 pub returns-in_err-write_report-clause-fault : goal.returns-in_err-write_report-clause-fault
 returns-in_err-write_report-clause-fault g c =
@@ -36,8 +39,7 @@ returns-in_err-write_report-clause-fault g c =
       planned = planned;
       reported = record { fitting = ended.fitting; journals = journals; made = ended.made; answers = rw c.deref-2.ensures.value at ended.answers; again = again; faults = faults };
     } in
-    kept_fault c.in_err-write_report.field-0.0 (ExplainsRun plant until inputs _ _) _ c.from_residual-in_err-write_report.ensures.1
-    (lines_partly plant until inputs _ _ report c.in_err-write_report.field-0.0 is_report (rw c.deref-3.ensures at c.in_err-write_report.ensures.part) c.in_err-write_report.ensures.late)
+    lines_partly plant until inputs _ _ report c.in_err-write_report.field-0.0 _ c.from_residual-in_err-write_report.ensures.1 is_report (rw c.deref-3.ensures at c.in_err-write_report.ensures.part)
 
 pub returns-in_err-equal-clause-fault : goal.returns-in_err-equal-clause-fault
 returns-in_err-equal-clause-fault g c =

@@ -1,5 +1,0 @@
-use Rattle.plc_main.proofs.PlantBounds.{counts_are}
-use Rattle.plc_main.proofs.check_command.check.Goals as goal
-
-pub check_lines-requires : goal.check_lines-requires
-check_lines-requires g c = counts_are c.args.plant.now c.in_ok-plant.plant c.in_ok-plant.ensures.ok

@@ -1,6 +1,0 @@
-use Rattle.std.proofs.Common.{◌≡◌, length, take, sum_by}
-use Rattle.plant.specs.PlantValue.{CodeValue, codes_at}
-use Rattle.plc_main.proofs.plant_counts.connections_of.Given as goal
-
-abbrev pub invariant-loop-task : goal.invariant-loop-task
-invariant-loop-task l = l.count ≡ sum_by (λ (c : CodeValue). sum_by length c.bindings) (take l.task (codes_at l.plant l.resource))

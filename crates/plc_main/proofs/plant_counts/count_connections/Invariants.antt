@@ -1,7 +1,0 @@
-use Rattle.std.proofs.Common.{◌≡◌, take, sum_by}
-use Rattle.plant.specs.PlantValue.{ResourceValue}
-use Rattle.plc_main.specs.CheckText.{connections_of}
-use Rattle.plc_main.proofs.plant_counts.count_connections.Given as goal
-
-abbrev pub invariant-loop-resource : goal.invariant-loop-resource
-invariant-loop-resource l = l.count ≡ sum_by (λ (r : ResourceValue). connections_of r.codes) (take l.resource l.plant.resources)

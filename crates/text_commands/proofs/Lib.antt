@@ -1,0 +1,9 @@
+pub mod LineLemmas
+pub mod Setting
+pub mod Scanning
+pub mod RowLemmas
+pub mod Explaining
+pub mod Counting
+pub mod PlantBounds
+pub mod PlanExplaining
+pub mod PlantRefusing

@@ -1,0 +1,17 @@
+-- Why no plant was read, from why the reader of plants refused its text.
+use Rattle.std.proofs.Common.{◌≡◌, List, ℕ, Result, Ok, Err, IfErr, inl, inr}
+use Rattle.std.specs.Result.{IsErrAnd}
+use Rattle.plant.specs.Faults.{IsPlantFault, IsOfBody}
+use Rattle.plant.specs.PlantText.{IsBodyFaultIn}
+use Rattle.plant.specs.declared.plant_fault.PlantFault.{PlantFault}
+use Rattle.plant.specs.declared.plant_fault.PlantFaultKind.TheVariants.{Memory}
+use Rattle.text_commands.specs.declared.text_command_fault.TextCommandFault.{TextCommandFault}
+use Rattle.text_commands.specs.declared.text_fault.TextFault.TheVariants.{Plant}
+use Rattle.text_commands.specs.CheckText.{RefusesPlant}
+use Rattle.text_commands.specs.Giving.{GivenFor}
+
+-- a refusal by the reader of plants is one of the text, or of memory
+pub plant_refused : {T : Type 0} (text : List ℕ) (found : PlantFault) (r : Result T TextCommandFault) → IsErrAnd r (GivenFor (found.kind ≡ Memory) (Plant found))
+    → IsPlantFault found → (IsOfBody found.kind → IsBodyFaultIn text found) → IfErr r (RefusesPlant text)
+plant_refused text found (Ok x) given value body = tt
+plant_refused text found (Err fault) given value body = elim given [ inl w ↦ rw w.1 tt | inr w ↦ rw w.1 (record { not_memory = w.0; value = value; body = body }) ]

@@ -1,0 +1,28 @@
+use Rattle.text_commands.proofs.Explaining.{names_refused, networks_refused}
+use Rattle.text_commands.proofs.eval_command.read_ladder.Goals as goal
+
+pub returns-in_err-bind-clause-err : goal.returns-in_err-bind-clause-err
+returns-in_err-bind-clause-err c =
+    names_refused c.args.drawing.now c.in_err-bind.field-0.0 c.from_residual-in_err-bind.result c.from_residual-in_err-bind.ensures.1
+    (λ other. record {
+      picture = c.in_ok-drawing.drawing;
+      graph = c.in_ok-graph.graph;
+      declarations = c.in_ok-declarations.declarations;
+      drawn = record { well_drawn = c.in_ok-drawing.ensures.well_drawn; picture = c.in_ok-drawing.ensures.drawing };
+      built = c.in_ok-graph.ensures.ok.0;
+      faultless = c.in_ok-graph.ensures.ok.1;
+      guessed = c.in_ok-declarations.ensures;
+      refused = c.in_err-bind.ensures.only other;
+      first = c.in_err-bind.ensures.first other;
+    })
+
+pub returns-in_err-graph-clause-err : goal.returns-in_err-graph-clause-err
+returns-in_err-graph-clause-err c =
+    networks_refused c.args.drawing.now c.in_err-graph.field-0.0 c.from_residual-in_err-graph.result c.from_residual-in_err-graph.ensures.1
+    (λ other. let fault = c.in_err-graph.ensures.fault other in record {
+      picture = c.in_ok-drawing.drawing;
+      drawn = record { well_drawn = c.in_ok-drawing.ensures.well_drawn; picture = c.in_ok-drawing.ensures.drawing };
+      place = fault.0;
+      first = fault.1;
+      found = fault.2;
+    })

@@ -1,0 +1,9 @@
+use Rattle.std.proofs.Common.{◌≡◌, List, take}
+use Rattle.power_flow.specs.declared.declarations.Declaration.{Declaration}
+use Rattle.power_flow.specs.StateValue.{AreSlotsOf}
+use Rattle.text_commands.specs.EvalText.{set_before}
+use Rattle.text_commands.proofs.eval_command.set_rows.Given as goal
+
+abbrev pub invariant-loop-row : goal.invariant-loop-row
+invariant-loop-row l = (l.state ≡ record l.initial.state { slots = set_before (take l.row-index l.rows) l.k l.initial.state.slots })
+    × ((ds : List Declaration) → AreSlotsOf ds l.initial.state.slots → AreSlotsOf ds l.state.slots)

@@ -1,0 +1,59 @@
+use Rattle.std.proofs.Common.{◌≡◌, ◌+◌, ◌≤◌, ◌++◌, [], ◌∙◌, ap, arith}
+use Rattle.std.proofs.KnownBytes.{Appends-nil, Appends-trans}
+use Rattle.text_commands.specs.Rows.{scans_of}
+use Rattle.text_commands.specs.Lines.{line_of}
+use Rattle.text_commands.proofs.Scanning.{begun_at, scan_more, written_some, written_nothing, written_part}
+use Rattle.text_writer.proofs.Sending.{on_err}
+use Rattle.text_commands.proofs.Setting.{fits_after}
+use Rattle.text_commands.proofs.eval_command.write_scans.Goals as goal
+
+pub returns-in_err-state-clause-part : goal.returns-in_err-state-clause-part
+returns-in_err-state-clause-part g c = on_err _ (written_nothing _ _ _ _ _)
+
+pub loop-k-init : goal.loop-k-init
+loop-k-init g c = record {
+  fits = c.in_ok-state.ensures.fits;
+  text = [];
+  scanned = begun_at _ _ _ _ _ _ c.in_ok-state.ensures.slots c.in_ok-state.ensures.fits.memories c.in_ok-state.ensures.memories;
+  appended = Appends-nil _;
+}
+
+pub returns-in_err-line-clause-part : goal.returns-in_err-line-clause-part
+returns-in_err-line-clause-part g c =
+    let few : c.loop-k.k ≤ scans_of c.args.rows.now = let e = c.scan_count-k-end.ensures in omega arith in
+    on_err _ (written_some _ _ _ _ _ _ _ _ _ _ few c.loop-k.invariant.scanned c.loop-k.invariant.appended)
+
+pub returns-in_err-write_text-clause-part : goal.returns-in_err-write_text-clause-part
+returns-in_err-write_text-clause-part g c =
+    let few : c.loop-k.k + 1 ≤ scans_of c.args.rows.now = let e = c.scan_count-k-end.ensures in omega arith in
+    let line : c.as_str.result.now ≡ line_of c.args.ladder.now.declarations c.scan.new.state.slots =
+    c.as_str.ensures.value ∙ c.in_ok-line.ensures ∙ ap (λ ds. line_of ds c.scan.new.state.slots) c.declarations.ensures.list in
+    let scanned = scan_more _ _ _ _ _ c.loop-k.state c.set_rows.new.state c.scan.new.state _ _ c.loop-k.invariant.scanned c.set_rows.ensures.slots c.scan.ensures.meaning line in
+    let part = c.in_err-write_text.ensures.prefix in
+    on_err _ (written_part _ _ _ _ _ _ _ _ _ _ _ _ part.0 few scanned c.loop-k.invariant.appended part.2)
+
+pub loop-k-preserved : goal.loop-k-preserved
+loop-k-preserved g c =
+    let line : c.as_str.result.now ≡ line_of c.args.ladder.now.declarations c.scan.new.state.slots =
+    c.as_str.ensures.value ∙ c.in_ok-line.ensures ∙ ap (λ ds. line_of ds c.scan.new.state.slots) c.declarations.ensures.list in
+    record {
+      fits = c.scan.ensures.fits;
+      text = c.loop-k.invariant.text ++ c.as_str.result.now;
+      scanned = scan_more _ _ _ _ _ c.loop-k.state c.set_rows.new.state c.scan.new.state _ _ c.loop-k.invariant.scanned c.set_rows.ensures.slots c.scan.ensures.meaning line;
+      appended = Appends-trans _ _ _ _ _ c.loop-k.invariant.appended c.in_ok-write_text.ensures.whole;
+    }
+
+pub returns-clause-ok : goal.returns-clause-ok
+returns-clause-ok g c =
+    let all : c.loop-k.k ≡ scans_of c.args.rows.now = let e = c.scan_count-k-end.ensures in omega arith in
+    record {
+      made = record { scans = c.loop-k.k; few = omega arith; slots = _; memories = _; text = c.loop-k.invariant.text; scanned = c.loop-k.invariant.scanned };
+      all = all;
+      appended = c.loop-k.invariant.appended;
+    }
+
+pub set_rows-requires : goal.set_rows-requires
+set_rows-requires g c = (c.args.ladder.now.declarations, c.loop-k.invariant.fits.slots, c.requires)
+
+pub scan-requires : goal.scan-requires
+scan-requires g c = fits_after c.args.ladder.now c.loop-k.state c.set_rows.new.state _ c.loop-k.invariant.fits c.set_rows.ensures.slots c.set_rows.ensures.declared

@@ -1,0 +1,6 @@
+use Rattle.std.proofs.Common.{◌≡◌, length, take, sum_by}
+use Rattle.plant.specs.PlantValue.{CodeValue, codes_at}
+use Rattle.text_commands.proofs.plant_counts.connections_of.Given as goal
+
+abbrev pub invariant-loop-task : goal.invariant-loop-task
+invariant-loop-task l = l.count ≡ sum_by (λ (c : CodeValue). sum_by length c.bindings) (take l.task (codes_at l.plant l.resource))

@@ -1,0 +1,76 @@
+-- What `plc check` writes.
+use Rattle.std.specs.Prelude.{◌≢◌, ℕ, ◌++◌, List, Option, length, codes, take, sum_by}
+use Rattle.std.specs.Fmt.{decimal}
+use Rattle.std.specs.Io.KnownBytes.{Appends, Keeps}
+use Rattle.plant.specs.PlantValue.{CodeValue, ResourceValue, PlantValue}
+use Rattle.plant.specs.Faults.{IsPlantFault, IsOfBody}
+use Rattle.plant.specs.PlantText.{IsPlantText, IsBodyFaultIn}
+use Rattle.plant.specs.declared.plant_fault.PlantFault.{PlantFault}
+use Rattle.plant.specs.declared.plant_fault.PlantFaultKind.TheVariants as plant
+use Rattle.text_commands.specs.declared.text_command_fault.TextCommandFault.{TextCommandFault}
+use Rattle.text_commands.specs.declared.text_command_fault.TextCommandFault.TheVariants.{Text, Word, Write, Memory}
+use Rattle.text_commands.specs.declared.text_fault.TextFault.{TextFault}
+use Rattle.text_commands.specs.declared.text_fault.TextFault.TheVariants.{Draw, Graph, Bind, Plant, TooLong}
+
+-- how many tasks a plant has
+abbrev pub task_count : PlantValue → ℕ
+task_count plant = sum_by (λ (r : ResourceValue). length r.tasks) plant.resources
+
+-- how many program instances the tasks run
+abbrev pub programs_of : List CodeValue → ℕ
+programs_of codes = sum_by (λ (c : CodeValue). length c.programs) codes
+
+abbrev pub program_count : PlantValue → ℕ
+program_count plant = sum_by (λ (r : ResourceValue). programs_of r.codes) plant.resources
+
+-- how many inputs of the instances are bound
+abbrev pub connections_of : List CodeValue → ℕ
+connections_of codes = sum_by (λ (c : CodeValue). sum_by length c.bindings) codes
+
+abbrev pub connection_count : PlantValue → ℕ
+connection_count plant = sum_by (λ (r : ResourceValue). connections_of r.codes) plant.resources
+
+-- a line `what n`
+abbrev pub count_line : List ℕ → ℕ → List ℕ
+count_line what n = what ++ codes " " ++ decimal n ++ codes "\n"
+
+-- four lines: how many resources, tasks, program instances and bound inputs a plant has
+abbrev pub check_lines : PlantValue → List ℕ
+check_lines plant =
+    count_line (codes "resources") (length plant.resources) ++ count_line (codes "tasks") (task_count plant) ++ count_line (codes "programs") (program_count plant) ++ count_line (codes "connections") (connection_count plant)
+
+-- the text is a plant, and its four lines were written
+abbrev pub WritesCheck : List ℕ → Option (List ℕ) → Option (List ℕ) → Type 0
+WritesCheck text old new = (plant : PlantValue) × IsPlantText text plant × Appends old new (check_lines plant)
+
+-- the text is a plant, and no more than a beginning of its four lines was written
+abbrev pub WritesCheckPart : List ℕ → Option (List ℕ) → Option (List ℕ) → Type 0
+WritesCheckPart text old new = (plant : PlantValue) × IsPlantText text plant × (written : ℕ) × Appends old new (take written (check_lines plant))
+
+-- a refusal of the text of a plant: not want of memory, with what belongs to its kind; the fault of a body is that of the first body that is refused
+pub record IsRefusal (text : List ℕ) (fault : PlantFault) : Type 0 where
+  pub not_memory : fault.kind ≢ plant.Memory
+  pub value : IsPlantFault fault
+  pub body : IsOfBody fault.kind → IsBodyFaultIn text fault
+
+-- only the reader of plants refuses a text here
+abbrev pub RefusesText : List ℕ → TextFault → Type 0
+RefusesText text (Draw fault) = ⊥
+RefusesText text (Graph fault) = ⊥
+RefusesText text (Bind fault) = ⊥
+RefusesText text (Plant fault) = IsRefusal text fault
+RefusesText text TooLong = ⊥
+
+-- no plant was read: its text is refused, or memory
+abbrev pub RefusesPlant : List ℕ → TextCommandFault → Type 0
+RefusesPlant text (Text fault) = RefusesText text fault
+RefusesPlant text (Word fault) = ⊥
+RefusesPlant text Write = ⊥
+RefusesPlant text Memory = Unit {0}
+
+-- why there was a fault, and what was written before: nothing but where the output failed
+abbrev pub ExplainsCheck : List ℕ → Option (List ℕ) → Option (List ℕ) → TextCommandFault → Type 0
+ExplainsCheck text old new (Text fault) = RefusesText text fault × Keeps old new
+ExplainsCheck text old new (Word fault) = ⊥
+ExplainsCheck text old new Write = WritesCheckPart text old new
+ExplainsCheck text old new Memory = Keeps old new

@@ -1,0 +1,77 @@
+-- What `plc plan` writes.
+use Rattle.std.specs.Prelude.{ℕ, ◌<◌, ◌≤◌, ◌++◌, ◌⊎◌, List, Option, length, codes, slice_get}
+use Rattle.std.specs.Option.{option_map}
+use Rattle.std.specs.List.{flat_map}
+use Rattle.std.specs.Fmt.{decimal}
+use Rattle.std.specs.Io.KnownBytes.{Appends, Keeps}
+use Rattle.due_list.specs.declared.due.Due.{Due}
+use Rattle.due_list.specs.declared.task_ref.TaskRef.{TaskRef}
+use Rattle.plant.specs.PlantValue.{TaskValue, ResourceValue, PlantValue, items_or_none}
+use Rattle.plant.specs.PlantText.{IsPlantText}
+use Rattle.plant.specs.Plan.{task_at, IsPlan}
+use Rattle.text_commands.specs.CheckText.{IsRefusal}
+use Rattle.text_writer.specs.Sending.{SendsPart}
+use Rattle.text_commands.specs.declared.text_command_fault.TextCommandFault.{TextCommandFault}
+use Rattle.text_commands.specs.declared.text_command_fault.TextCommandFault.TheVariants.{Text, Word, Write, Memory}
+use Rattle.text_commands.specs.declared.text_fault.TextFault.{TextFault}
+use Rattle.text_commands.specs.declared.text_fault.TextFault.TheVariants.{Draw, Graph, Bind, Plant, TooLong}
+
+-- the name of a task's resource, and its own
+abbrev pub resource_name : PlantValue → TaskRef → List ℕ
+resource_name plant t = items_or_none (option_map (λ (r : ResourceValue). r.name) (slice_get plant.resources t.resource))
+
+abbrev pub task_name : PlantValue → TaskRef → List ℕ
+task_name plant t = items_or_none (option_map (λ (found : TaskValue). found.name) (task_at plant t))
+
+-- a line `10 R1.FAST`: the moment, and the task
+abbrev pub due_line : PlantValue → Due → List ℕ
+due_line plant d = decimal d.moment ++ codes " " ++ resource_name plant d.task ++ codes "." ++ task_name plant d.task ++ codes "\n"
+
+-- a line for each entry of a plan
+abbrev pub plan_lines : PlantValue → List Due → List ℕ
+plan_lines plant dues = flat_map (due_line plant) dues
+
+-- there is no plan: it is too long, or memory
+abbrev pub RefusesPlanOf : PlantValue → ℕ → TextCommandFault → Type 0
+RefusesPlanOf plant until (Text (Draw fault)) = ⊥
+RefusesPlanOf plant until (Text (Graph fault)) = ⊥
+RefusesPlanOf plant until (Text (Bind fault)) = ⊥
+RefusesPlanOf plant until (Text (Plant fault)) = ⊥
+RefusesPlanOf plant until (Text TooLong) = (dues : List Due) × IsPlan plant until dues × (100000 < length dues)
+RefusesPlanOf plant until (Word fault) = ⊥
+RefusesPlanOf plant until Write = ⊥
+RefusesPlanOf plant until Memory = Unit {0}
+
+-- the text is a plant, and this is its plan
+pub record Planned (text : List ℕ) (until : ℕ) : Type 0 where
+  pub plant : PlantValue
+  pub read : IsPlantText text plant
+  pub dues : List Due
+  pub planned : IsPlan plant until dues
+
+-- the plan has at most 100,000 entries, and their lines were written
+pub record WritesPlan (text : List ℕ) (until : ℕ) (old new : Option (List ℕ)) : Type 0 where
+  pub plan : Planned text until
+  pub few : length plan.dues ≤ 100000
+  pub appended : Appends old new (plan_lines plan.plant plan.dues)
+
+-- the plan has at most 100,000 entries, and no more than a beginning of their lines was written
+pub record WritesPlanPart (text : List ℕ) (until : ℕ) (old new : Option (List ℕ)) : Type 0 where
+  pub plan : Planned text until
+  pub few : length plan.dues ≤ 100000
+  pub sent : SendsPart (plan_lines plan.plant plan.dues) old new
+
+-- what holds after a refusal by the text: a plan that is too long has more than 100,000 entries
+abbrev pub RefusesPlan : List ℕ → ℕ → TextFault → Type 0
+RefusesPlan text until (Draw fault) = ⊥
+RefusesPlan text until (Graph fault) = ⊥
+RefusesPlan text until (Bind fault) = ⊥
+RefusesPlan text until (Plant fault) = IsRefusal text fault
+RefusesPlan text until TooLong = (p : Planned text until) × (100000 < length p.dues)
+
+-- why there was a fault, and what was written before: nothing before a fault of the text
+abbrev pub ExplainsPlan : List ℕ → ℕ → Option (List ℕ) → Option (List ℕ) → TextCommandFault → Type 0
+ExplainsPlan text until old new (Text fault) = RefusesPlan text until fault × Keeps old new
+ExplainsPlan text until old new (Word fault) = ⊥
+ExplainsPlan text until old new Write = WritesPlanPart text until old new
+ExplainsPlan text until old new Memory = Keeps old new ⊎ WritesPlanPart text until old new

@@ -1,0 +1,51 @@
+ghost use Rattle.std.specs.Prelude.{◌≡◌, ◌<◌, ◌^◌, ◌++◌, OnOk, IfOk, IfErr, string_bytes};
+ghost use Rattle.plant.specs.PlantText.{IsPlantText};
+ghost use Rattle.text_commands.specs.CheckText.{count_line, check_lines, RefusesPlant, WritesCheck, ExplainsCheck};
+ghost use Rattle.text_commands.specs.Steps.Counting.{AreCounts};
+
+use crate::text_command_fault::TextCommandFault;
+use crate::plant_counts::{count_connections, count_programs, count_tasks};
+use plant::Plant;
+use std::alloc::{AllocError, Global};
+use std::fmt::Write as _;
+use std::io::Write;
+use text_writer::write_text;
+
+/// Reads the text of a plant.
+pub fn read_plant(alloc: Global, text: &str) -> Result<Plant, TextCommandFault>
+    ensures ok { IfOk result (λ plant. IsPlantText text.now plant) }
+    ensures err { IfErr result (RefusesPlant text.now) }
+{
+    Ok(Plant::read(alloc, text)?)
+}
+
+fn push_count(text: &mut String, what: &str, count: usize) -> Result<(), AllocError>
+    ensures { OnOk result (string_bytes text.new ≡ string_bytes text.old ++ count_line what.now count) }
+{
+    write!(text, "{what} {count}\n")
+}
+
+/// Four lines: how many resources, tasks, program instances and bound inputs a plant has.
+fn check_lines(alloc: Global, plant: &Plant) -> Result<String, AllocError>
+    requires { AreCounts plant.now }
+    ensures { IfOk result (λ text. string_bytes text ≡ check_lines plant.now) }
+{
+    let mut text = String::new(alloc);
+    push_count(&mut text, "resources", plant.resources())?;
+    push_count(&mut text, "tasks", count_tasks(plant))?;
+    push_count(&mut text, "programs", count_programs(plant))?;
+    push_count(&mut text, "connections", count_connections(plant))?;
+    Ok(text)
+}
+
+/// Reads a plant, and writes how many resources, tasks, program instances and bound inputs it has, a line for each.
+///
+/// `Text` and `Memory` come before anything is written. After `Write` what went out is a prefix.
+pub fn check<W: Write>(alloc: Global, plant: &str, writer: &mut W) -> Result<(), TextCommandFault>
+    ensures ok { OnOk result (WritesCheck plant.now (W.contents writer.old) (W.contents writer.new)) }
+    ensures fault { IfErr result (ExplainsCheck plant.now (W.contents writer.old) (W.contents writer.new)) }
+{
+    let plant = read_plant(alloc, plant)?;
+    let text = check_lines(alloc, &plant)?;
+    Ok(write_text(writer, text.as_str())?)
+}

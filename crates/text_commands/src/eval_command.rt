@@ -1,0 +1,93 @@
+ghost use Rattle.std.specs.Prelude.{◌≡◌, List, OnOk, IfOk, IfErr, OnErr, All, slice_get};
+ghost use Rattle.power_flow.specs.declared.declarations.Declaration.{Declaration};
+ghost use Rattle.power_flow.specs.StateValue.{AreSlotsOf};
+ghost use Rattle.text_commands.specs.Rows.{IsBoolAt, texts};
+ghost use Rattle.text_commands.specs.EvalText.{IsLadderOfDrawing, WritesScans, WritesSomeScans, WritesAll, Explains, set_digit, set_before};
+ghost use Rattle.text_commands.specs.Steps.Refusing.{RefusesLadder};
+
+use crate::text_command_fault::TextCommandFault;
+use crate::line::state_line;
+use crate::row::Row;
+use crate::rows::{read_rows, scan_count};
+use ladder_text::Drawing;
+use network::Graph;
+use power_flow::{Declarations, Ladder, State};
+use std::alloc::Global;
+use std::io::Write;
+use std_blocks::Value;
+use text_writer::{SendFault, write_text};
+
+/// The ladder of a drawing, its names declared by their use.
+fn read_ladder(alloc: Global, drawing: &str) -> Result<Ladder, TextCommandFault>
+    ensures ok { IfOk result (λ ladder. IsLadderOfDrawing drawing.now ladder.declarations ladder.networks) }
+    ensures err { IfErr result (RefusesLadder drawing.now) }
+{
+    let drawing = Drawing::read(alloc, drawing, 1)?;
+    let graph = Graph::build(alloc, &drawing)?;
+    let declarations = Declarations::guess(alloc, &graph)?;
+    Ok(Ladder::bind(alloc, graph, declarations)?)
+}
+
+/// Sets the variable of a row to its digit for scan k, counted from 0, if it has one.
+fn set_row(row: &Row<'_>, k: usize, state: &mut State)
+    requires { (ds : List Declaration) × AreSlotsOf ds state.old.slots × IsBoolAt ds row.now.place }
+    ensures slots { state.new ≡ record state.old { slots = set_digit state.old.slots row.now.place (slice_get row.now.digits k) } }
+    ensures declared { (ds : List Declaration) → AreSlotsOf ds state.old.slots → AreSlotsOf ds state.new.slots }
+{
+    if let Some(digit) = row.digit(k) {
+        let _set = state.set(row.place(), Value::Bool(digit == b'1'));
+    }
+}
+
+/// Sets the variable of each row to its digit for scan k, counted from 0, if it has one.
+fn set_rows(rows: &[Row<'_>], k: usize, state: &mut State)
+    requires { (ds : List Declaration) × AreSlotsOf ds state.old.slots × All (λ row. IsBoolAt ds row.place) rows.now }
+    ensures slots { state.new ≡ record state.old { slots = set_before rows.now k state.old.slots } }
+    ensures declared { (ds : List Declaration) → AreSlotsOf ds state.old.slots → AreSlotsOf ds state.new.slots }
+{
+    for row in rows {
+        set_row(row, k, state);
+    }
+}
+
+/// Makes the scans that the rows ask for, and writes a line after each.
+fn write_scans<W: Write>(
+    alloc: Global,
+    ladder: &Ladder,
+    rows: &[Row<'_>],
+    dt: u32,
+    writer: &mut W,
+) -> Result<(), SendFault>
+    requires { All (λ row. IsBoolAt ladder.now.declarations row.place) rows.now }
+    ensures ok { OnOk result (WritesScans ladder.now.declarations ladder.now.networks dt rows.now (W.contents writer.old) (W.contents writer.new)) }
+    ensures part { OnErr result (WritesSomeScans ladder.now.declarations ladder.now.networks dt rows.now (W.contents writer.old) (W.contents writer.new)) }
+{
+    let mut state = ladder.initial(alloc)?;
+    for k in 0..scan_count(rows) {
+        set_rows(rows, k, &mut state);
+        ladder.scan(&mut state, dt);
+        let line = state_line(alloc, ladder.declarations(), &state)?;
+        write_text(writer, line.as_str())?;
+    }
+    Ok(())
+}
+
+/// Writes the values of all variables after each scan of a drawing, one line a scan.
+///
+/// A word NAME=BITS sets its variable before scan k to the k-th digit. There are as many scans as the longest
+/// row has digits, and one without words. `dt` is the time between two scans in milliseconds.
+/// `Text` and `Word` come before anything is written. After `Write` and `Memory` what went out is a prefix.
+pub fn eval<W: Write>(
+    alloc: Global,
+    drawing: &str,
+    words: &[&str],
+    dt: u32,
+    writer: &mut W,
+) -> Result<(), TextCommandFault>
+    ensures ok { OnOk result (WritesAll drawing.now (texts words.now) dt (W.contents writer.old) (W.contents writer.new)) }
+    ensures fault { IfErr result (Explains drawing.now (texts words.now) dt (W.contents writer.old) (W.contents writer.new)) }
+{
+    let ladder = read_ladder(alloc, drawing)?;
+    let rows = read_rows(alloc, ladder.declarations(), words)?;
+    Ok(write_scans(alloc, &ladder, &rows, dt, writer)?)
+}

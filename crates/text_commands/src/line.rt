@@ -1,0 +1,77 @@
+ghost use Rattle.std.specs.Prelude.{◌≡◌, ◌+◌, ◌<◌, ◌++◌, OnOk, IfOk, length, string_bytes, take};
+ghost use Rattle.std.specs.List.{join_with_byte};
+ghost use Rattle.text_commands.specs.Lines.{value_text, item_text, items_of, line_of};
+ghost use Rattle.text_commands.specs.Steps.Joining.{ready};
+
+use power_flow::{Declarations, State};
+use std::alloc::{AllocError, Global};
+use std::fmt::Write;
+use std_blocks::Value;
+
+fn push_value(line: &mut String, value: Value) -> Result<(), AllocError>
+    ensures { OnOk result (string_bytes line.new ≡ string_bytes line.old ++ value_text value) }
+{
+    match value {
+        Value::Bool(true) => line.push_str("1"),
+        Value::Bool(false) => line.push_str("0"),
+        Value::Int(number) => write!(line, "{number}"),
+        Value::Time(time) => write!(line, "T#{time}ms"),
+    }
+}
+
+/// Makes a line ready for the next item.
+fn push_blank(line: &mut String) -> Result<(), AllocError>
+    ensures { OnOk result (string_bytes line.new ≡ ready (string_bytes line.old)) }
+{
+    if line.is_empty() {
+        Ok(())
+    } else {
+        line.push_str(" ")
+    }
+}
+
+/// Writes a variable behind those before it.
+fn push_item(line: &mut String, name: &str, value: Value) -> Result<(), AllocError>
+    ensures { OnOk result (string_bytes line.new ≡ ready (string_bytes line.old) ++ item_text name.now value) }
+{
+    push_blank(line)?;
+    line.push_str(name)?;
+    line.push_str("=")?;
+    push_value(line, value)
+}
+
+/// Writes the variable at a place, if it is none of an instance.
+fn push_variable(
+    line: &mut String,
+    declarations: &Declarations,
+    state: &State,
+    place: usize,
+) -> Result<(), AllocError>
+    requires place { place < length declarations.now }
+    requires before { string_bytes line.old ≡ join_with_byte 32 (items_of (take place declarations.now) state.now.slots) }
+    ensures { OnOk result (string_bytes line.new ≡ join_with_byte 32 (items_of (take (place + 1) declarations.now) state.now.slots)) }
+{
+    let Some((name, _)) = declarations.entry(place) else {
+        return Ok(());
+    };
+    let Some(value) = state.get(place) else {
+        return Ok(());
+    };
+    push_item(line, name, value)
+}
+
+/// The line of a state: its variables in order of declaration, with one blank between.
+pub fn state_line(
+    alloc: Global,
+    declarations: &Declarations,
+    state: &State,
+) -> Result<String, AllocError>
+    ensures { IfOk result (λ line. string_bytes line ≡ line_of declarations.now state.now.slots) }
+{
+    let mut line = String::new(alloc);
+    for place in 0..declarations.len() {
+        push_variable(&mut line, declarations, state, place)?;
+    }
+    line.push_str("\n")?;
+    Ok(line)
+}

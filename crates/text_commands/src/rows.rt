@@ -1,0 +1,50 @@
+ghost use Rattle.std.specs.Prelude.{◌≡◌, ◌↔◌, ◌⊎◌, IfOk, IfErr, IsTrue, ℕ, List, Any, fold, length};
+ghost use Rattle.text_commands.specs.Rows.{RowValue, AreRows, scans_of, texts};
+ghost use Rattle.text_commands.specs.Steps.Refusing.{RefusesRows};
+
+use crate::text_command_fault::TextCommandFault;
+use crate::row::{Row, read_row};
+use crate::word_fault::{WordFault, WordFaultKind};
+use power_flow::Declarations;
+use std::alloc::Global;
+
+fn has_place(rows: &[Row<'_>], place: usize) -> bool
+    ensures { IsTrue result ↔ Any (λ row. row.place ≡ place) rows.now }
+{
+    rows.iter().any(|row| row.place() == place)
+}
+
+/// Reads the words as rows, each of another variable.
+pub fn read_rows<'a>(
+    alloc: Global,
+    declarations: &Declarations,
+    words: &[&'a str],
+) -> Result<Vec<Row<'a>>, TextCommandFault>
+    ensures ok { IfOk result (λ rows. AreRows declarations.now (texts words.now) rows.items) }
+    ensures err { IfErr result (λ fault. RefusesRows declarations.now (texts words.now) fault) }
+{
+    let mut rows = Vec::new(alloc);
+    for (number, word) in words.iter().enumerate() {
+        let row = match read_row(declarations, word) {
+            Ok(row) => row,
+            Err(kind) => return Err(TextCommandFault::Word(WordFault { number, kind })),
+        };
+        if has_place(&rows, row.place()) {
+            let kind = WordFaultKind::Twice;
+            return Err(TextCommandFault::Word(WordFault { number, kind }));
+        }
+        rows.push(row)?;
+    }
+    Ok(rows)
+}
+
+/// As many scans as the longest row has digits, and one if there are no rows.
+pub fn scan_count(rows: &[Row<'_>]) -> usize
+    ensures { result ≡ scans_of rows.now }
+{
+    let mut most = 1;
+    for row in rows {
+        most = most.max(row.digits().len());
+    }
+    most
+}

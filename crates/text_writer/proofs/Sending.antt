@@ -1,0 +1,87 @@
+-- Lines are made one by one, and written some at a time.
+use Rattle.std.proofs.Common.{◌≡◌, ℕ, ◌+◌, ◌<◌, ◌++◌, List, [], ◌∷◌, length, take, drop, get_or, Option, Result, Ok, Err, OnOk, OnErr, sym, ap, subst, ◌∙◌, append_assoc}
+use Rattle.std.proofs.Math.Seq.{take-append_seam}
+use Rattle.std.proofs.lemmas.List.{take-append-drop, take_more, append-nil}
+use Rattle.std.proofs.lemmas.List.Concat.{flat_map-append}
+use Rattle.std.proofs.KnownBytes.{Appends-nil, Appends-trans}
+use Rattle.std.specs.Io.KnownBytes.{Appends}
+use Rattle.std.specs.List.{flat_map}
+use Rattle.text_writer.specs.Sending.{Sends, SendsPart}
+
+-- a beginning was written
+pub begins : (whole sent rest : List ℕ) (old new : Option (List ℕ)) → sent ++ rest ≡ whole → Appends old new sent → SendsPart whole old new
+begins whole sent rest old new is appended = record {
+  written = length sent;
+  appended = subst (Appends old new) (sym (ap (take (length sent)) (sym is) ∙ take-append_seam sent rest)) appended;
+}
+
+-- a beginning of the first part is a beginning of the whole
+pub part_of_first : (first second : List ℕ) (old new : Option (List ℕ)) → SendsPart first old new → SendsPart (first ++ second) old new
+part_of_first first second old new part =
+    let k = part.written in
+    let whole : take k first ++ (drop k first ++ second) ≡ first ++ second = sym (append_assoc (take k first) (drop k first) second) ∙ ap (λ t. t ++ second) (take-append-drop k first) in
+    begins (first ++ second) (take k first) (drop k first ++ second) old new whole part.appended
+
+-- the first part, and then a beginning of the second, is a beginning of the whole
+pub part_of_second : (first second : List ℕ) (old mid new : Option (List ℕ)) → Appends old mid first → SendsPart second mid new → SendsPart (first ++ second) old new
+part_of_second first second old mid new appended part =
+    let k = part.written in
+    let whole : (first ++ take k second) ++ drop k second ≡ first ++ second = append_assoc first (take k second) (drop k second) ∙ ap (λ t. first ++ t) (take-append-drop k second) in
+    begins (first ++ second) (first ++ take k second) (drop k second) old new whole (Appends-trans old mid new first (take k second) appended part.appended)
+
+-- one line more was made
+pub more_made : (made rest line more after : List ℕ) (old new : Option (List ℕ)) → Sends made rest old new → after ≡ rest ++ line → more ≡ made ++ line → Sends more after old new
+more_made made rest line more after old new sends is all = record {
+  sent = sends.sent;
+  appended = sends.appended;
+  whole = ap (λ t. sends.sent ++ t) is ∙ sym (append_assoc sends.sent rest line) ∙ ap (λ t. t ++ line) sends.whole ∙ sym all;
+}
+
+-- some of what was left was written
+pub sends_on : (made rest after : List ℕ) (old mid new : Option (List ℕ)) → Sends made rest old mid → Sends rest after mid new → Sends made after old new
+sends_on made rest after old mid new sends then = record {
+  sent = sends.sent ++ then.sent;
+  appended = Appends-trans old mid new sends.sent then.sent sends.appended then.appended;
+  whole = append_assoc sends.sent then.sent after ∙ ap (λ t. sends.sent ++ t) then.whole ∙ sends.whole;
+}
+
+-- no more than a beginning of what was made went out
+pub part_sent : (made rest others whole : List ℕ) (old new : Option (List ℕ)) → made ++ others ≡ whole → Sends made rest old new → SendsPart whole old new
+part_sent made rest others whole old new is sends = subst (λ t. SendsPart t old new) is (part_of_first made others old new (begins made sends.sent rest old new sends.whole sends.appended))
+
+-- nor did it where a beginning of what was left followed
+pub part_left : (made rest others whole : List ℕ) (old mid new : Option (List ℕ)) (k : ℕ) → made ++ others ≡ whole → Sends made rest old mid → Appends mid new (take k rest) → SendsPart whole old new
+part_left made rest others whole old mid new k is sends then =
+    let part : SendsPart made old new = subst (λ t. SendsPart t old new) sends.whole (part_of_second sends.sent rest old mid new sends.appended (record { written = k; appended = then })) in
+    subst (λ t. SendsPart t old new) is (part_of_first made others old new part)
+
+-- all that was left was written
+pub all_sent : (made rest : List ℕ) (old mid new : Option (List ℕ)) → Sends made rest old mid → Appends mid new rest → Appends old new made
+all_sent made rest old mid new sends then = subst (Appends old new) sends.whole (Appends-trans old mid new sends.sent rest sends.appended then)
+
+-- nothing was made yet
+pub none_made : (rest : List ℕ) (old : Option (List ℕ)) → rest ≡ [] → Sends [] rest old old
+none_made rest old is = record { sent = []; appended = Appends-nil old; whole = is }
+
+-- the lines of the first items and those of the others are the lines of all
+pub lines_parted : {X : Type 0} (line : X → List ℕ) (xs : List X) (i : ℕ) → flat_map line (take i xs) ++ flat_map line (drop i xs) ≡ flat_map line xs
+lines_parted line xs i = sym (flat_map-append line (take i xs) (drop i xs)) ∙ ap (flat_map line) (take-append-drop i xs)
+
+-- the line of one item more
+pub line_more : {X : Type 0} (line : X → List ℕ) (xs : List X) (i : ℕ) (d : X) → i < length xs → flat_map line (take (i + 1) xs) ≡ flat_map line (take i xs) ++ line (get_or xs i d)
+line_more line xs i d lt =
+    ap (flat_map line) (take_more xs i d lt) ∙ flat_map-append line (take i xs) (get_or xs i d ∷ []) ∙ ap (λ t. flat_map line (take i xs) ++ t) (append-nil (line (get_or xs i d)))
+
+-- what holds anyway holds after a fault
+pub on_err : {T E P : Type 0} (r : Result T E) → P → OnErr r P
+on_err (Ok x) p = tt
+on_err (Err e) p = p
+
+-- the second part comes behind the first
+pub then_ok : {T E : Type 0} (r : Result T E) (first second : List ℕ) (old mid new : Option (List ℕ)) → Appends old mid first → OnOk r (Appends mid new second) → OnOk r (Appends old new (first ++ second))
+then_ok (Ok x) first second old mid new appended more = Appends-trans old mid new first second appended more
+then_ok (Err e) first second old mid new appended more = tt
+
+pub then_part : {T E : Type 0} (r : Result T E) (first second : List ℕ) (old mid new : Option (List ℕ)) → Appends old mid first → OnErr r (SendsPart second mid new) → OnErr r (SendsPart (first ++ second) old new)
+then_part (Ok x) first second old mid new appended part = tt
+then_part (Err e) first second old mid new appended part = part_of_second first second old mid new appended part

@@ -1,0 +1,14 @@
+-- A text that is written some at a time.
+use Rattle.std.specs.Prelude.{◌≡◌, ℕ, ◌++◌, List, Option, take}
+use Rattle.std.specs.Io.KnownBytes.{Appends}
+
+-- some of the text that stood to be written was written, and the rest stands still
+pub record Sends (before after : List ℕ) (old new : Option (List ℕ)) : Type 0 where
+  pub sent : List ℕ
+  pub appended : Appends old new sent
+  pub whole : sent ++ after ≡ before
+
+-- no more than a beginning of a text was written
+pub record SendsPart (text : List ℕ) (old new : Option (List ℕ)) : Type 0 where
+  pub written : ℕ
+  pub appended : Appends old new (take written text)
