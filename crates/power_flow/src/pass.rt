@@ -276,7 +276,6 @@ fn read_at_rail(contact: VariableContact, slots: &[Slot], rows: &mut [bool])
 }
 
 /// Steps the box with this number.
-#[inline(always)]
 fn obey_box(
     number: usize,
     boxes: &[BoundBox],
@@ -327,10 +326,11 @@ fn obey(
             read_pair(*pair, *places, slots, rows)
         }
         Step::Coil(row, number) => links[*number as usize] = rows[*row as usize],
-        Step::Box(number) => obey_box(*number as usize, boxes, slots, rows, results, dt),
-        Step::BoxCoil(number, row, coil) => {
+        Step::Box(number) | Step::BoxCoil(number, _, _) => {
             obey_box(*number as usize, boxes, slots, rows, results, dt);
-            links[*coil as usize] = rows[*row as usize];
+            if let Step::BoxCoil(_, row, coil) = step {
+                links[*coil as usize] = rows[*row as usize];
+            }
         }
     }
 }
