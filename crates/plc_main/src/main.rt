@@ -223,13 +223,7 @@ fn file_plant<R: Files + Eprint + AllocGlobal>(
     };
     match shared_plant(rt.alloc(), text.as_str()) {
         Ok(plant) => Ok(Ok(plant)),
-        Err(fault) => Ok(Err(print_fault(
-            rt,
-            file,
-            text.as_str(),
-            &[],
-            fault.into(),
-        )?)),
+        Err(fault) => Ok(Err(print_fault(rt, file, text.as_str(), &[], fault.into())?)),
     }
 }
 

@@ -3,8 +3,8 @@ ghost use Rattle.plant.specs.PlantText.{IsPlantText};
 ghost use Rattle.text_commands.specs.CheckText.{count_line, check_lines, RefusesPlant, WritesCheck, ExplainsCheck};
 ghost use Rattle.text_commands.specs.Steps.Counting.{AreCounts};
 
-use crate::text_command_fault::TextCommandFault;
 use crate::plant_counts::{count_connections, count_programs, count_tasks};
+use crate::text_command_fault::TextCommandFault;
 use plant::Plant;
 use std::alloc::{AllocError, Global};
 use std::fmt::Write as _;

@@ -5,10 +5,10 @@ ghost use Rattle.text_commands.specs.Rows.{IsBoolAt, texts};
 ghost use Rattle.text_commands.specs.EvalText.{IsLadderOfDrawing, WritesScans, WritesSomeScans, WritesAll, Explains, set_digit, set_before};
 ghost use Rattle.text_commands.specs.Steps.Refusing.{RefusesLadder};
 
-use crate::text_command_fault::TextCommandFault;
 use crate::line::state_line;
 use crate::row::Row;
 use crate::rows::{read_rows, scan_count};
+use crate::text_command_fault::TextCommandFault;
 use ladder_text::Drawing;
 use network::Graph;
 use power_flow::{Declarations, Ladder, State};

@@ -2,8 +2,8 @@ ghost use Rattle.std.specs.Prelude.{◌≡◌, ◌↔◌, ◌⊎◌, IfOk, IfErr
 ghost use Rattle.text_commands.specs.Rows.{RowValue, AreRows, scans_of, texts};
 ghost use Rattle.text_commands.specs.Steps.Refusing.{RefusesRows};
 
-use crate::text_command_fault::TextCommandFault;
 use crate::row::{Row, read_row};
+use crate::text_command_fault::TextCommandFault;
 use crate::word_fault::{WordFault, WordFaultKind};
 use power_flow::Declarations;
 use std::alloc::Global;
