@@ -2,13 +2,14 @@
 use Rattle.std.proofs.Common.{◌≡◌, ◌≢◌, ◌⊎◌, ℕ, zero, suc, inl, inr, List, [], ◌∷◌, slice_get, map, Bool, Option, Some, None, arith, refl, sym, ap, ◌∙◌, subst}
 use Rattle.std.proofs.lemmas.Bool.{cases_eq}
 use Rattle.std.proofs.lemmas.Option.{slice_get_within, same_Some}
+use Rattle.network.specs.Links.{Diagram}
+use Rattle.power_flow.specs.declared.declarations.Declaration.{Declaration}
 use Rattle.power_flow.specs.declared.state.Slot.{Slot}
 use Rattle.power_flow.specs.StateValue.{StateValue, IsSame, variable_at}
-use Rattle.power_flow.specs.Scan.{ScanMeaning}
+use Rattle.power_flow.specs.Scan.{AllAreWide, ScanMeaning}
 use Rattle.std.specs.Option.{option_and_then}
 use Rattle.lists.proofs.Places.{element_at, same_by_slice_get, somes_same}
 use Rattle.power_flow.specs.LadderValue.{LadderValue}
-use Rattle.power_flow.proofs.Determinism.{scan_same}
 use Rattle.plant.specs.declared.binding.Binding.{Binding}
 use Rattle.plant.specs.declared.task_output.TaskOutput.{TaskOutput}
 use Rattle.plant.specs.PlantValue.{CodeValue, bindings_at}
@@ -62,17 +63,23 @@ all_filled_same c inputs takes before before2 x y same a b = record {
       filled_same inputs takes (bindings_at c k) was.0 was2.0 s t (same.each k was.0 was2.0 was.1 was2.1) (a.each k was.0 s was.1 at) (b.each k was2.0 t was2.1 found);
 }
 
-scanned_same : (l : LadderValue) (dt : ℕ) (s s2 x y : StateValue) → IsSame s s2 → IsScanned l dt s x → IsScanned l dt s2 y → IsSame x y
-scanned_same l dt s s2 x y same a b =
+-- a scan has one result, as power_flow promises
+abbrev pub OneScan : Type 0
+OneScan =
+    (ds : List Declaration) (dt : ℕ) (networks : List Diagram) (slots : List Slot) (ms : List Bool) (a b : List Slot) (one two : List Bool)
+    → AllAreWide networks → ScanMeaning ds dt networks slots ms a one → ScanMeaning ds dt networks slots ms b two → (a ≡ b) × (one ≡ two)
+
+scanned_same : OneScan → (l : LadderValue) (dt : ℕ) (s s2 x y : StateValue) → IsSame s s2 → IsScanned l dt s x → IsScanned l dt s2 y → IsSame x y
+scanned_same one_scan l dt s s2 x y same a b =
     let memories : ScanMeaning l.declarations dt l.networks s2.slots s.memories y.slots y.memories =
     subst (λ (ms : List Bool). ScanMeaning l.declarations dt l.networks s2.slots ms y.slots y.memories) (sym same.memories) b.scan in
     let slots : ScanMeaning l.declarations dt l.networks s.slots s.memories y.slots y.memories =
     subst (λ (x : List Slot). ScanMeaning l.declarations dt l.networks x s.memories y.slots y.memories) (sym same.slots) memories in
-    let one = scan_same l.declarations dt l.networks s.slots s.memories x.slots y.slots x.memories y.memories a.wide a.scan slots in
+    let one = one_scan l.declarations dt l.networks s.slots s.memories x.slots y.slots x.memories y.memories a.wide a.scan slots in
     record { slots = one.0; memories = one.1 }
 
-all_scanned_same : (c : CodeValue) (dt : ℕ) (filled filled2 x y : List StateValue) → AreSame filled filled2 → AllScanned c dt filled x → AllScanned c dt filled2 y → AreSame x y
-all_scanned_same c dt filled filled2 x y same a b = record {
+all_scanned_same : OneScan → (c : CodeValue) (dt : ℕ) (filled filled2 x y : List StateValue) → AreSame filled filled2 → AllScanned c dt filled x → AllScanned c dt filled2 y → AreSame x y
+all_scanned_same one_scan c dt filled filled2 x y same a b = record {
   many = a.as_many ∙ same.many ∙ sym b.as_many;
   each = λ k s t at found.
       let lt = slice_get_within x k s at in
@@ -82,7 +89,7 @@ all_scanned_same c dt filled filled2 x y same a b = record {
       let was = element_at filled k (omega arith) in
       let was2 = element_at filled2 k (omega arith) in
       let p = element_at c.programs k (omega arith) in
-      scanned_same (p.0).ladder dt was.0 was2.0 s t (same.each k was.0 was2.0 was.1 was2.1) (a.each k p.0 was.0 s p.1 was.1 at) (b.each k p.0 was2.0 t p.1 was2.1 found);
+      scanned_same one_scan (p.0).ladder dt was.0 was2.0 s t (same.each k was.0 was2.0 was.1 was2.1) (a.each k p.0 was.0 s p.1 was.1 at) (b.each k p.0 was2.0 t p.1 was2.1 found);
 }
 
 -- an output has one value in states that are the same
@@ -103,15 +110,15 @@ outputs_same a b same [] = refl
 outputs_same a b same (o ∷ outputs) =
     ap (λ v. v ∷ map (output_value a) outputs) (output_same a b o same) ∙ ap (λ vs. output_value b o ∷ vs) (outputs_same a b same outputs)
 
-pub one_meaning : OneMeaning
+pub one_meaning : OneScan → OneMeaning
 unfolding Means
-one_meaning c inputs takes dt before before2 outputs outputs2 after after2 same a b =
+one_meaning one_scan c inputs takes dt before before2 outputs outputs2 after after2 same a b =
     let filled = all_filled_same c inputs takes before before2 a.filled b.filled same a.inputs_filled b.inputs_filled in
-    let left = all_scanned_same c dt a.filled b.filled after after2 filled a.programs_scanned b.programs_scanned in
+    let left = all_scanned_same one_scan c dt a.filled b.filled after after2 filled a.programs_scanned b.programs_scanned in
     (somes_same outputs outputs2 (a.outputs_read ∙ outputs_same after after2 left c.outputs ∙ sym b.outputs_read), left)
 
-pub one_evaluation : OneEvaluation
-one_evaluation ticket name dt inputs takes before code x y a b =
+pub one_evaluation : OneMeaning → OneEvaluation
+one_evaluation one_meaning ticket name dt inputs takes before code x y a b =
     a.is ∙ ap (λ o. evaluated ticket name dt inputs takes before code o x.after) same.0 ∙ ap (λ s. evaluated ticket name dt inputs takes before code y.outputs s) left ∙ sym b.is
   where
     means : (z : Evaluated) → IsAsked ticket name dt inputs takes before code z → Means code inputs takes dt before z.outputs z.after

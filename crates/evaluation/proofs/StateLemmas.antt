@@ -6,8 +6,7 @@ use Rattle.std.specs.Option.{option_map}
 use Rattle.lists.proofs.Places.{element_at, same_by_each}
 use Rattle.power_flow.specs.declared.declarations.Declaration.{Declaration}
 use Rattle.power_flow.specs.First.{slot_first}
-use Rattle.power_flow.specs.LadderValue.{LadderValue, Fits, holding}
-use Rattle.power_flow.proofs.FittingStates.{holds, fitting_states}
+use Rattle.power_flow.specs.LadderValue.{LadderValue, Fits}
 use Rattle.power_flow.specs.StateValue.{StateValue}
 use Rattle.plant.specs.PlantValue.{ProgramValue, CodeValue}
 use Rattle.evaluation.specs.States.{initial_state_of, initial_state, AreStatesOf, AreSame}
@@ -19,12 +18,15 @@ all_off (m ∷ ms) h =
     let rest : ms ≡ replicate (length ms) false = all_off ms (All-tail (λ m. m ≡ false) m ms h) in
     ap (λ x. x ∷ ms) first ∙ ap (λ x. false ∷ x) rest
 
+-- states are equal where all that they have is
+same_state : (s t : StateValue) → s.slots ≡ t.slots → s.memories ≡ t.memories → s.waiting_links ≡ t.waiting_links → s.waiting_results ≡ t.waiting_results → s ≡ t
+same_state s t slots memories links results = rw (slots, memories, links, results) refl
+
 pub initial_is : (l : LadderValue) (s : StateValue) → Fits l s → s.slots ≡ map (λ (d : Declaration). slot_first d.declared) l.declarations → All (λ m. m ≡ false) s.memories
     → s ≡ initial_state_of l
 unfolding initial_state_of
 initial_is l s fits slots off =
-    holds l s fits ∙ ap (λ x. holding l x s.memories) slots
-    ∙ ap (holding l (map (λ (d : Declaration). slot_first d.declared) l.declarations)) (all_off s.memories off ∙ ap (λ n. replicate n false) fits.memories)
+    same_state s (initial_state_of l) slots (all_off s.memories off ∙ ap (λ n. replicate n false) fits.memories) fits.waiting_links fits.waiting_results
 
 pub initial_fits : (c : CodeValue) (states : List StateValue) → states ≡ initial_state c → ((i : ℕ) (p : ProgramValue) → slice_get c.programs i ≡ Some p → Fits p.ladder (initial_state_of p.ladder))
     → length states ≡ length c.programs → AreStatesOf c states
@@ -50,4 +52,7 @@ states_of_one c a b one other same = same_by_each a b same.many (λ k s t at fou
     let lt = slice_get_within a k s at in
     let many = one.many in
     let p = element_at c.programs k (omega arith) in
-    fitting_states (p.0).ladder s t (one.each k p.0 s p.1 at) (other.each k p.0 t p.1 found) (same.each k s t at found))
+    let x = one.each k p.0 s p.1 at in
+    let y = other.each k p.0 t p.1 found in
+    let is = same.each k s t at found in
+    same_state s t is.slots is.memories (x.waiting_links ∙ sym y.waiting_links) (x.waiting_results ∙ sym y.waiting_results))

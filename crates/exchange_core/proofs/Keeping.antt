@@ -1,24 +1,36 @@
 -- The parts of a core go on suiting each other.
-use Rattle.std.proofs.Common.{◌≡◌, ℕ, Bool, true, false, List, Option, Some, None, refl, ap, sym, ◌∙◌, subst}
+use Rattle.std.proofs.Common.{◌≡◌, ℕ, Bool, true, false, List, Option, Some, None, length, refl, ap, sym, ◌∙◌, subst}
 use Rattle.std.proofs.lemmas.Option.{none-some, same_Some}
+use Rattle.lists.proofs.Tables.{both_same, cell_same, cell_other, cell_filled, row_lengths_kept, row_lengths_filled}
 use Rattle.due_list.specs.declared.task_ref.TaskRef.{TaskRef}
-use Rattle.plant.specs.PlantValue.{CodeValue, PlantValue, code_at, items_or_none, image_kinds, IsSoundPlant}
+use Rattle.plant.specs.PlantValue.{CodeValue, ResourceValue, PlantValue, code_at, items_or_none, image_kinds, IsSoundPlant}
 use Rattle.evaluation.specs.declared.field_input.FieldInput.{FieldInput}
 use Rattle.evaluation.specs.Meaning.{Evaluated}
 use Rattle.exchange_core.specs.Last.{same_task}
 use Rattle.exchange_core.specs.Held.{known, with_known}
 use Rattle.exchange_core.specs.CoreValue.{CoreValue, fresh_core, own_task, IsUsable, IsNextOf, IsCore, IsKnownOf}
 use Rattle.exchange_core.specs.Steps.Knowing.{has_place, FitsLast}
-use Rattle.exchange_core.proofs.Tables.{same_task-true, place_of_code, shape-kept, shape-empty, known-empty, known-same, known-other}
+use Rattle.exchange_core.proofs.Tables.{place_of_code}
+
+-- the task of a resource that two numbers name
+abbrev task_ref : ℕ → ℕ → TaskRef
+task_ref resource task = record { resource = resource; task = task }
+
+-- how many tasks a resource has
+abbrev codes_long : ResourceValue → ℕ
+codes_long r = length r.codes
+
+abbrev no_evaluation : Option Evaluated
+no_evaluation = None
 
 -- the core with this as what is known of a task
-abbrev pub core_with : CoreValue → TaskRef → Evaluated → CoreValue
+abbrev core_with : CoreValue → TaskRef → Evaluated → CoreValue
 core_with core p x = record core { table = with_known core.table p (Some x) }
 
 -- a core with one more evaluation of a task that it may know
 pub core-with : (core : CoreValue) (p : TaskRef) (x : Evaluated) → IsCore core → IsKnownOf core p x → IsCore (record core { table = with_known core.table p (Some x) })
 core-with core p x is may =
-    record { sound = is.sound; shaped = shape-kept core.plant core.table p (Some x) is.shaped; each = λ q y at. by q y (same_task p q) refl at } where
+    record { sound = is.sound; shaped = row_lengths_kept core.table p.resource p.task (Some x) ∙ is.shaped; each = λ q y at. by q y (same_task p q) refl at } where
       place : has_place core.table p
       place = place_of_code core.plant core.table p may.code is.shaped may.found
 
@@ -27,10 +39,10 @@ core-with core p x is may =
 
       by : (q : TaskRef) (y : Evaluated) (b : Bool) → same_task p q ≡ b → known (with_known core.table p (Some x)) q ≡ Some y → IsKnownOf (core_with core p x) q y
       by q y true e at =
-          let same : p ≡ q = same_task-true p q e in
-          let is_it : x ≡ y = same_Some x y (sym (known-same core.table p (Some x) place) ∙ ap (known (with_known core.table p (Some x))) same ∙ at) in
+          let same : p ≡ q = both_same task_ref p.resource p.task q.resource q.task e in
+          let is_it : x ≡ y = same_Some x y (sym (cell_same core.table p.resource p.task (Some x) None place.0 place.1) ∙ ap (known (with_known core.table p (Some x))) same ∙ at) in
           again q y (subst (λ r. IsKnownOf core r y) same (subst (IsKnownOf core p) is_it may))
-      by q y false e at = again q y (is.each q y (sym (known-other core.table p q (Some x) place e) ∙ at))
+      by q y false e at = again q y (is.each q y (sym (cell_other core.table p.resource p.task q.resource q.task (Some x) None place.0 e) ∙ at))
 
 -- an evaluation that is of use may be known
 pub usable-known : (core : CoreValue) (x : Evaluated) → IsCore core → IsUsable core x → IsKnownOf core x.name.task x
@@ -52,7 +64,7 @@ next-known core ticket task dt inputs x next =
 
 pub core-fresh : (plant : PlantValue) (resource incarnation max_number : ℕ) → IsSoundPlant plant → IsCore (fresh_core plant resource incarnation max_number)
 core-fresh plant resource incarnation max_number sound =
-    record { sound = sound; shaped = shape-empty plant; each = λ p x at. absurd (none-some x (sym (known-empty plant p) ∙ at)) }
+    record { sound = sound; shaped = row_lengths_filled codes_long no_evaluation plant.resources; each = λ p x at. absurd (none-some x (sym (cell_filled codes_long no_evaluation plant.resources p.resource p.task) ∙ at)) }
 
 -- what is known of an own task was made by the task's code
 pub fits-last : (core : CoreValue) (p : TaskRef) (code : CodeValue) → IsCore core → p.resource ≡ core.resource → code_at core.plant p ≡ Some code → FitsLast code (known core.table p)

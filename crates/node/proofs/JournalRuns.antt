@@ -14,35 +14,30 @@ use Rattle.node.specs.declared.step.Step.TheVariants.{Took, Made, Restarted}
 use Rattle.node.specs.Journals.{incarnation_of, made, newest, made_of, last_made, IsNextMade, Follows, EachAfter}
 use Rattle.node.specs.Reports.{entries_of}
 
--- what holds of each holds of each in weaker words
-pub each_weaker : {X : Type 0} (P Q : X → Type 0) → ((x : X) → P x → Q x) → (xs : List X) → Each P xs → Each Q xs
-each_weaker P Q weaker [] each = tt
-each_weaker P Q weaker (x ∷ xs) each = (weaker x each.0, each_weaker P Q weaker xs each.1)
-
 -- no evaluation of a lawful journal is of a later incarnation than the present one
 pub below_present : (plant : PlantValue) (max_number resource first : ℕ) (steps : List Step) → EachAfter (Follows plant max_number resource first) steps
     → Each (λ (y : Evaluated). y.name.incarnation ≤ incarnation_of first steps) (made steps)
 below_present plant max_number resource first [] lawful = tt
 below_present plant max_number resource first (Took x ∷ steps) lawful = below_present plant max_number resource first steps lawful.1
 below_present plant max_number resource first (Made x ∷ steps) lawful = (let is = lawful.0.incarnation_is in omega arith, below_present plant max_number resource first steps lawful.1)
-below_present plant max_number resource first (Restarted ticket incarnation ∷ steps) lawful =
-    let raised = lawful.0 in
-    each_weaker (λ (y : Evaluated). y.name.incarnation ≤ incarnation_of first steps) (λ (y : Evaluated). y.name.incarnation ≤ incarnation) (λ y below. omega arith) (made steps)
-    (below_present plant max_number resource first steps lawful.1)
+below_present plant max_number resource first (Restarted ticket incarnation ∷ steps) lawful = by (made steps) (below_present plant max_number resource first steps lawful.1) where
+  by : (ys : List Evaluated) → Each (λ (y : Evaluated). y.name.incarnation ≤ incarnation_of first steps) ys → Each (λ (y : Evaluated). y.name.incarnation ≤ incarnation) ys
+  by [] low = tt
+  by (y ∷ ys) low = (let here = low.0 in let raised = lawful.0 in omega arith, by ys low.1)
 
 and_false : (b : Bool) → (b && false) ≡ false
 and_false true = refl
 and_false false = refl
 
 -- in an incarnation above all of these there is no last one
-last_above : (t : TaskRef) (incarnation : ℕ) (ys : List Evaluated) → Each (λ (y : Evaluated). y.name.incarnation < incarnation) ys → last_in ys t incarnation ≡ None
-last_above t incarnation [] below = refl
-last_above t incarnation (y ∷ ys) below =
+last_above : (t : TaskRef) (most incarnation : ℕ) → most < incarnation → (ys : List Evaluated) → Each (λ (y : Evaluated). y.name.incarnation ≤ most) ys → last_in ys t incarnation ≡ None
+last_above t most incarnation above [] below = refl
+last_above t most incarnation above (y ∷ ys) below =
     let lower = below.0 in
     let other : (eqb y.name.incarnation incarnation) ≡ false = grind (arith, nat_tests) in
     ap (λ b. cond (same_task y.name.task t && b) (Some y) (last_in ys t incarnation)) other
     ∙ ap (λ b. cond b (Some y) (last_in ys t incarnation)) (and_false (same_task y.name.task t))
-    ∙ last_above t incarnation ys below.1
+    ∙ last_above t most incarnation above ys below.1
 
 -- what a lawful journal made last of a task since its last restart is the last one in the present incarnation
 pub last_made_is : (plant : PlantValue) (max_number resource first : ℕ) (t : TaskRef) (steps : List Step) → EachAfter (Follows plant max_number resource first) steps
@@ -58,10 +53,7 @@ last_made_is plant max_number resource first t (Made x ∷ steps) lawful =
     by true c now before = rw now refl
     by false c now before = before
 last_made_is plant max_number resource first t (Restarted ticket incarnation ∷ steps) lawful =
-    let raised = lawful.0 in
-    sym (last_above t incarnation (made steps)
-    (each_weaker (λ (y : Evaluated). y.name.incarnation ≤ incarnation_of first steps) (λ (y : Evaluated). y.name.incarnation < incarnation) (λ y below. omega arith) (made steps)
-    (below_present plant max_number resource first steps lawful.1)))
+    sym (last_above t (incarnation_of first steps) incarnation lawful.0 (made steps) (below_present plant max_number resource first steps lawful.1))
 
 -- An evaluation of a lawful journal, in front of older ones: it is the next one after the steps that made those.
 pub record IsMadeAfter (plant : PlantValue) (max_number resource first : ℕ) (x : Evaluated) (older : List Evaluated) : Type 0 where

@@ -1,14 +1,16 @@
 -- A core goes on standing where its resource's steps leave it.
-use Rattle.std.proofs.Common.{◌≡◌, ◌+◌, ℕ, Bool, true, false, cond, List, [], ◌∷◌, length, Some, refl, ap, sym, ◌∙◌, subst, arith, add-one}
+use Rattle.std.proofs.Common.{◌≡◌, ◌+◌, ℕ, Bool, true, false, cond, List, [], ◌∷◌, length, Option, Some, None, refl, ap, sym, ◌∙◌, subst, arith, add-one}
 use Rattle.std.specs.Prelude.{slice_get, ◌≢◌}
 use Rattle.std.proofs.lemmas.Bool.{false≢true}
 use Rattle.std.proofs.lemmas.List.Elements.{All-nil}
 use Rattle.std.proofs.lemmas.Option.{same_Some}
+use Rattle.std.specs.Option.{option_map}
+use Rattle.lists.proofs.Tables.{both_same, both_itself, cell_same, cell_other, cell_filled, cell_place, row_lengths_kept, row_lengths_filled}
 use Rattle.std_blocks.specs.declared.value.Value.{Value}
 use Rattle.power_flow.specs.declared.declarations.Kind.{Kind}
 use Rattle.power_flow.specs.StateValue.{StateValue}
 use Rattle.due_list.specs.declared.task_ref.TaskRef.{TaskRef}
-use Rattle.plant.specs.PlantValue.{CodeValue, PlantValue, code_at, expected_at, image_kinds, items_or_none, IsSoundPlant}
+use Rattle.plant.specs.PlantValue.{CodeValue, ResourceValue, PlantValue, code_at, expected_at, image_kinds, items_or_none, IsSoundPlant}
 use Rattle.evaluation.specs.declared.field_input.FieldInput.{FieldInput}
 use Rattle.evaluation.specs.declared.name.Name.{Name}
 use Rattle.evaluation.specs.declared.take.Take.{Take}
@@ -16,10 +18,9 @@ use Rattle.evaluation.specs.Meaning.{Evaluated, IsAsked, evaluated}
 use Rattle.exchange_core.specs.declared.accepted.Accepted.{Accepted}
 use Rattle.exchange_core.specs.declared.accepted.Accepted.TheVariants.{Taken, Old, Unused}
 use Rattle.exchange_core.specs.Last.{same_task, last_number, takes_of, state_of}
-use Rattle.exchange_core.specs.Held.{known, with_known}
+use Rattle.exchange_core.specs.Held.{known, with_known, empty_for}
 use Rattle.exchange_core.specs.CoreValue.{CoreValue, fresh_core, own_task, is_greater, IsUsable, IsAccepted, IsNext, IsNextOf}
 use Rattle.exchange_core.specs.Steps.Knowing.{has_place}
-use Rattle.exchange_core.proofs.Tables.{same_task-true, same_task-itself, place_of_code, shape-kept, shape-empty, known-empty, known-same, known-other}
 use Rattle.node.specs.declared.step.Step.{Step}
 use Rattle.node.specs.declared.step.Step.TheVariants.{Took, Made, Restarted}
 use Rattle.node.specs.Journals.{since_restarted, received, newest, made_of, last_made, ComesFrom, IsGreatest, IsNextMade}
@@ -34,6 +35,18 @@ same_kinds plant t u p c d j k sound found_c found_d at_c at_d =
     let two = sound.taken u d found_d k p at_d in
     let same : one.0 ≡ two.0 = same_Some one.0 two.0 (sym one.1 ∙ two.1) in
     ap items_or_none one.2 ∙ ap image_kinds same ∙ sym (ap items_or_none two.2)
+
+-- the task of a resource that two numbers name
+abbrev task_ref : ℕ → ℕ → TaskRef
+task_ref resource task = record { resource = resource; task = task }
+
+-- an evaluation that passes the test is of that task
+named : (x : Evaluated) (p : TaskRef) → same_task x.name.task p ≡ true → x.name.task ≡ p
+named x p e = both_same task_ref x.name.task.resource x.name.task.task p.resource p.task e
+
+-- the codes of a resource; none where there is no resource
+abbrev codes_in : Option ResourceValue → List CodeValue
+codes_in o = items_or_none (option_map (λ (r : ResourceValue). r.codes) o)
 
 same_ref_of : (t : TaskRef) (r : ℕ) → t.resource ≡ r → t ≡ record { resource = r; task = t.task }
 same_ref_of t r e = rw e refl
@@ -76,7 +89,7 @@ module _ (resource first : ℕ) (before : List Step) (core : CoreValue) (x : Eva
       )
 
   another_task : (p : TaskRef) (kinds : List Kind) → same_task x.name.task p ≡ false → ComesFrom p kinds x → ⊥
-  another_task p kinds other from = false≢true (sym other ∙ subst (λ r. same_task x.name.task r ≡ true) from.0 (same_task-itself x.name.task))
+  another_task p kinds other from = false≢true (sym other ∙ subst (λ r. same_task x.name.task r ≡ true) from.0 (both_itself x.name.task.resource x.name.task.task))
 
   unused : (t p : TaskRef) (code : CodeValue) (k : ℕ) → (IsUsable core x → ⊥) → Taking t p code k
       → IsGreatest (ComesFrom p (expected_at code k)) (x ∷ received (since_restarted before)) (known core.table p)
@@ -90,7 +103,7 @@ module _ (resource first : ℕ) (before : List Step) (core : CoreValue) (x : Eva
     P = ComesFrom p (expected_at code k)
 
     by : (b : Bool) → same_task x.name.task p ≡ b → IsGreatest P (x ∷ received (since_restarted before)) (known core.table p)
-    by true e = greatest-old P (received (since_restarted before)) (known core.table p) x (subst (λ r. is_greater (known core.table r) x.name ≡ false) (same_task-true x.name.task p e) old) (before_it t p code k w)
+    by true e = greatest-old P (received (since_restarted before)) (known core.table p) x (subst (λ r. is_greater (known core.table r) x.name ≡ false) (named x p e) old) (before_it t p code k w)
     by false e = greatest-other P (received (since_restarted before)) (known core.table p) x (another_task p (expected_at code k) e) (before_it t p code k w)
 
   module _ (usable : IsUsable core x) (greater : is_greater (known core.table x.name.task) x.name ≡ true) where
@@ -98,7 +111,7 @@ module _ (resource first : ℕ) (before : List Step) (core : CoreValue) (x : Eva
     place =
         let taker = usable.expected in
         let giver = stands.sound.taken (record { resource = core.resource; task = taker.task }) taker.code taker.found taker.place x.name.task taker.producer_is in
-        place_of_code core.plant core.table x.name.task giver.0 stands.shaped giver.1
+        cell_place codes_in core.plant.resources core.table x.name.task.resource x.name.task.task giver.0 refl stands.shaped giver.1
 
     taken_one : (t p : TaskRef) (code : CodeValue) (k : ℕ) → Taking t p code k
         → IsGreatest (ComesFrom p (expected_at code k)) (x ∷ received (since_restarted before)) (known (with_known core.table x.name.task (Some x)) p)
@@ -108,19 +121,19 @@ module _ (resource first : ℕ) (before : List Step) (core : CoreValue) (x : Eva
 
       by : (b : Bool) → same_task x.name.task p ≡ b → IsGreatest P (x ∷ received (since_restarted before)) (known (with_known core.table x.name.task (Some x)) p)
       by true e =
-          let same : x.name.task ≡ p = same_task-true x.name.task p e in
-          let now : known (with_known core.table x.name.task (Some x)) p ≡ Some x = subst (λ r. known (with_known core.table x.name.task (Some x)) r ≡ Some x) same (known-same core.table x.name.task (Some x) place) in
+          let same : x.name.task ≡ p = named x p e in
+          let now : known (with_known core.table x.name.task (Some x)) p ≡ Some x = subst (λ r. known (with_known core.table x.name.task (Some x)) r ≡ Some x) same (cell_same core.table x.name.task.resource x.name.task.task (Some x) None place.0 place.1) in
           subst (IsGreatest P (x ∷ received (since_restarted before))) (sym now)
           (greatest-taken P (received (since_restarted before)) (known core.table p) x (comes_from t p code k w usable same) (subst (λ r. is_greater (known core.table r) x.name ≡ true) same greater) (before_it t p code k w))
       by false e =
-          subst (IsGreatest P (x ∷ received (since_restarted before))) (sym (known-other core.table x.name.task p (Some x) place e))
+          subst (IsGreatest P (x ∷ received (since_restarted before))) (sym (cell_other core.table x.name.task.resource x.name.task.task p.resource p.task (Some x) None place.0 e))
           (greatest-other P (received (since_restarted before)) (known core.table p) x (another_task p (expected_at code k) e) (before_it t p code k w))
 
     own_stays : (p : TaskRef) → p.resource ≡ resource → known (with_known core.table x.name.task (Some x)) p ≡ last_made p before
     own_stays p here = by (same_task x.name.task p) refl where
       by : (b : Bool) → same_task x.name.task p ≡ b → known (with_known core.table x.name.task (Some x)) p ≡ last_made p before
-      by true e = absurd (usable.another (ap (λ (r : TaskRef). r.resource) (same_task-true x.name.task p e) ∙ here ∙ sym stands.resource_is))
-      by false e = known-other core.table x.name.task p (Some x) place e ∙ stands.own p here
+      by true e = absurd (usable.another (ap (λ (r : TaskRef). r.resource) (named x p e) ∙ here ∙ sym stands.resource_is))
+      by false e = cell_other core.table x.name.task.resource x.name.task.task p.resource p.task (Some x) None place.0 e ∙ stands.own p here
 
   -- the core goes on standing where the steps have left it
   pub stands-took : (new : CoreValue) (answer : Accepted) → IsAccepted core new x answer → Stands resource first (Took x ∷ before) new
@@ -144,7 +157,7 @@ module _ (resource first : ℕ) (before : List Step) (core : CoreValue) (x : Eva
   })
   stands-took new Taken done = subst (Stands resource first (Took x ∷ before)) (sym done.2) (record {
     sound = stands.sound;
-    shaped = shape-kept core.plant core.table x.name.task (Some x) stands.shaped;
+    shaped = row_lengths_kept core.table x.name.task.resource x.name.task.task (Some x) ∙ stands.shaped;
     resource_is = stands.resource_is;
     incarnation_is = stands.incarnation_is;
     own = own_stays done.0 done.1;
@@ -169,7 +182,7 @@ module _ (resource first : ℕ) (before : List Step) (core new : CoreValue) (tic
   task_is = ap (λ (y : Evaluated). y.name.task) next.asked.is
 
   place_of : has_place core.table own_ref
-  place_of = place_of_code core.plant core.table own_ref next.code stands.shaped next.found
+  place_of = cell_place codes_in core.plant.resources core.table own_ref.resource own_ref.task next.code refl stands.shaped next.found
 
   number_of : x.name.number ≡ length (made_of x.name.task before) + 1
   number_of =
@@ -185,13 +198,13 @@ module _ (resource first : ℕ) (before : List Step) (core new : CoreValue) (tic
   made_other p e = ap (λ b. cond b (x ∷ made_of p before) (made_of p before)) e
 
   after_table : (p : TaskRef) → same_task x.name.task p ≡ false → known (with_known core.table own_ref (Some x)) p ≡ known core.table p
-  after_table p e = known-other core.table own_ref p (Some x) place_of (subst (λ r. same_task r p ≡ false) task_is e)
+  after_table p e = cell_other core.table own_ref.resource own_ref.task p.resource p.task (Some x) None place_of.0 (subst (λ r. same_task r p ≡ false) task_is e)
 
   own_after : (p : TaskRef) → p.resource ≡ resource → known (with_known core.table own_ref (Some x)) p ≡ last_made p (Made x ∷ before)
   own_after p here = by (same_task x.name.task p) refl where
     by : (b : Bool) → same_task x.name.task p ≡ b → known (with_known core.table own_ref (Some x)) p ≡ last_made p (Made x ∷ before)
     by true e =
-        subst (λ r. known (with_known core.table own_ref (Some x)) r ≡ Some x) (sym task_is ∙ same_task-true x.name.task p e) (known-same core.table own_ref (Some x) place_of)
+        subst (λ r. known (with_known core.table own_ref (Some x)) r ≡ Some x) (sym task_is ∙ named x p e) (cell_same core.table own_ref.resource own_ref.task (Some x) None place_of.0 place_of.1)
         ∙ sym (ap newest (made_now p e))
     by false e = after_table p e ∙ stands.own p here ∙ sym (ap newest (made_other p e))
 
@@ -201,7 +214,7 @@ module _ (resource first : ℕ) (before : List Step) (core new : CoreValue) (tic
     by true e =
         ap (λ xs. last_number (newest xs)) (made_now p e)
         ∙ number_of
-        ∙ ap (λ t. length (made_of t before) + 1) (same_task-true x.name.task p e)
+        ∙ ap (λ t. length (made_of t before) + 1) (named x p e)
         ∙ add-one (length (made_of p before))
         ∙ sym (ap length (made_now p e))
     by false e = ap (λ xs. last_number (newest xs)) (made_other p e) ∙ stands.counted p here ∙ sym (ap length (made_other p e))
@@ -210,14 +223,14 @@ module _ (resource first : ℕ) (before : List Step) (core new : CoreValue) (tic
       → IsGreatest (ComesFrom p (expected_at code k)) (received (since_restarted before)) (known (with_known core.table own_ref (Some x)) p)
   others_after t code k p here found at away = by (same_task x.name.task p) refl where
     by : (b : Bool) → same_task x.name.task p ≡ b → IsGreatest (ComesFrom p (expected_at code k)) (received (since_restarted before)) (known (with_known core.table own_ref (Some x)) p)
-    by true e = absurd (away (sym (ap (λ (r : TaskRef). r.resource) (sym task_is ∙ same_task-true x.name.task p e)) ∙ stands.resource_is))
+    by true e = absurd (away (sym (ap (λ (r : TaskRef). r.resource) (sym task_is ∙ named x p e)) ∙ stands.resource_is))
     by false e = subst (IsGreatest (ComesFrom p (expected_at code k)) (received (since_restarted before))) (sym (after_table p e)) (stands.others t code k p here found at away)
 
   -- the core goes on standing where the steps have left it
   pub stands-made : Stands resource first (Made x ∷ before) new
   stands-made = subst (Stands resource first (Made x ∷ before)) (sym done.after) (record {
     sound = stands.sound;
-    shaped = shape-kept core.plant core.table own_ref (Some x) stands.shaped;
+    shaped = row_lengths_kept core.table own_ref.resource own_ref.task (Some x) ∙ stands.shaped;
     resource_is = stands.resource_is;
     incarnation_is = stands.incarnation_is;
     own = own_after;
@@ -251,26 +264,35 @@ module _ (resource first : ℕ) (before : List Step) (core new : CoreValue) (tic
     asked = asked_so;
   }
 
+abbrev codes_long : ResourceValue → ℕ
+codes_long r = length r.codes
+
+abbrev none_known : Option Evaluated
+none_known = None
+
+nothing_known : (plant : PlantValue) (p : TaskRef) → known (empty_for plant) p ≡ None
+nothing_known plant p = cell_filled codes_long none_known plant.resources p.resource p.task
+
 -- a core that holds nothing stands where nothing was done yet, and where the last step is a restart
 module _ (plant : PlantValue) (resource incarnation max_number : ℕ) (sound : IsSoundPlant plant) where
   pub stands-fresh : Stands resource incarnation [] (fresh_core plant resource incarnation max_number)
   stands-fresh = record {
     sound = sound;
-    shaped = shape-empty plant;
+    shaped = row_lengths_filled codes_long none_known plant.resources;
     resource_is = refl;
     incarnation_is = refl;
-    own = λ p here. known-empty plant p;
+    own = λ p here. nothing_known plant p;
     counted = λ p here. refl;
-    others = λ t code k p here found at away. subst (IsGreatest (ComesFrom p (expected_at code k)) []) (sym (known-empty plant p)) (All-nil (λ y. ComesFrom p (expected_at code k) y → ⊥));
+    others = λ t code k p here found at away. subst (IsGreatest (ComesFrom p (expected_at code k)) []) (sym (nothing_known plant p)) (All-nil (λ y. ComesFrom p (expected_at code k) y → ⊥));
   }
 
   pub stands-restarted : (first ticket : ℕ) (before : List Step) → Stands resource first (Restarted ticket incarnation ∷ before) (fresh_core plant resource incarnation max_number)
   stands-restarted first ticket before = record {
     sound = sound;
-    shaped = shape-empty plant;
+    shaped = row_lengths_filled codes_long none_known plant.resources;
     resource_is = refl;
     incarnation_is = refl;
-    own = λ p here. known-empty plant p;
+    own = λ p here. nothing_known plant p;
     counted = λ p here. refl;
-    others = λ t code k p here found at away. subst (IsGreatest (ComesFrom p (expected_at code k)) []) (sym (known-empty plant p)) (All-nil (λ y. ComesFrom p (expected_at code k) y → ⊥));
+    others = λ t code k p here found at away. subst (IsGreatest (ComesFrom p (expected_at code k)) []) (sym (nothing_known plant p)) (All-nil (λ y. ComesFrom p (expected_at code k) y → ⊥));
   }

@@ -18,7 +18,7 @@ mod worker_state;
 ghost use Rattle.std.specs.Prelude.{◌≡◌, All, IfOk};
 ghost use Rattle.node.specs.declared.threads.ended.Ended.{Ended};
 ghost use Rattle.node.specs.Journals.{IsLawful};
-ghost use Rattle.node.specs.Steps.Working.{WorkerValue};
+ghost use Rattle.node.specs.Steps.Working.{IsWorkerFor};
 
 use crate::command::Command;
 use crate::gate::Gate;
@@ -56,7 +56,7 @@ fn run_in<'s, E, R: Threads + Wait + Sync, K: Keeper, G: Gate>(
 ) -> Result<Vec<Ended>, RunFault>
 where
     K: 's,
-    requires { All (λ (w : WorkerValue). (w.plant ≡ desk.plant.now) × (w.max_number ≡ max_number)) workers.items }
+    requires { All (IsWorkerFor desk.plant.now max_number) workers.items }
     ensures { IfOk result (λ es. All (λ e. IsLawful desk.entry.plant.now max_number e.journal) es.items) }
 {
     let started = start_all(
@@ -89,14 +89,14 @@ fn run_scoped<R: Threads + Wait + Sync, K: Keeper, G: Gate>(
     commands: &[Command],
     faults: &mut Vec<NodeFault>,
 ) -> Result<Vec<Ended>, RunFault>
-    requires { All (λ (w : WorkerValue). (w.plant ≡ desk.plant.now) × (w.max_number ≡ max_number)) workers.items }
+    requires { All (IsWorkerFor desk.plant.now max_number) workers.items }
     ensures { IfOk result (λ es. All (λ e. IsLawful desk.entry.plant.now max_number e.journal) es.items) }
 {
     thread::scope(
         thread::scope_env(),
         rt,
         |scope| -> Result<Vec<Ended>, RunFault>
-            requires { All (λ (w : WorkerValue). (w.plant ≡ desk.plant.now) × (w.max_number ≡ max_number)) workers.items }
+            requires { All (IsWorkerFor desk.plant.now max_number) workers.items }
             ensures { IfOk result (λ es. All (λ e. IsLawful desk.entry.plant.now max_number e.journal) es.items) }
         {
             run_in(

@@ -2,19 +2,18 @@
 use Rattle.std.proofs.Common.{◌≡◌, inl, inr, ℕ, ◌+◌, ◌≤◌, true, List, [], ◌∷◌, length, Option, Some, None, refl, ap, sym, ◌∙◌, subst, arith}
 use Rattle.std.specs.Prelude.{MatchOption}
 use Rattle.std.proofs.lemmas.Bool.{false≢true}
-use Rattle.std.proofs.lemmas.Option.{slice_get_within}
 use Rattle.power_flow.specs.declared.declarations.Kind.{Kind}
 use Rattle.due_list.specs.declared.task_ref.TaskRef.{TaskRef}
 use Rattle.evaluation.specs.declared.field_input.FieldInput.{FieldInput}
 use Rattle.evaluation.specs.Names.{precedes}
 use Rattle.evaluation.specs.Meaning.{Evaluated, evaluated}
 use Rattle.exchange_core.specs.Last.{same_task, last_number, from_of, take_of, takes_of, state_of}
-use Rattle.exchange_core.proofs.Tables.{same_task-true, resource_of_code}
 use Rattle.world.specs.declared.event.Event.{Event}
 use Rattle.world.specs.declared.event.Event.TheVariants.{Evaluate, Deliver, Restart}
 use Rattle.world.specs.History.{Setting, incarnation_of, number_of}
 use Rattle.world.specs.Run.{IsLog, IsNextEvaluation, next_name, latest, has_reached}
 use Rattle.world.specs.Fits.{Among, last_in, name_from, IsKnown, IsUntorn, IsNotBack, IsOwnLatest, Fits, AllFit}
+use Rattle.world.proofs.Tasks.{same_task-true, resource_exists}
 use Rattle.world.proofs.Latest.{Rises, precedes-irreflexive}
 use Rattle.world.proofs.Names.{AllLawful, log-rises}
 use Rattle.world.proofs.Steps.{number-latest}
@@ -68,7 +67,7 @@ next-fits s h log k t dt inputs x firsts all is next =
     let last : TaskRef → Option Evaluated = λ p. latest t.resource h p log in
     let fits : Fits s.first log (evaluated k (next_name s t h) dt inputs (takes_of last next.code) (state_of next.code (last t)) next.code x.outputs x.after) = record {
       numbered = record {
-        exists = let at = resource_of_code s.plant t next.code next.found in let here = slice_get_within s.plant.resources t.resource at.0 at.1 in omega (arith, here, firsts);
+        exists = let here = resource_exists s.plant t next.code next.found in omega (arith, here, firsts);
         not_below_first = omega arith;
         not_below_latest = Each-from _ log (λ y among e. subst (λ r. y.name.incarnation ≤ incarnation_of s r h) e (incarnation-low s h log is y among));
         next = next-number s t h log all is;

@@ -11,7 +11,6 @@ use Rattle.exchange_core.specs.declared.accepted.Accepted.{Accepted}
 use Rattle.exchange_core.specs.declared.accepted.Accepted.TheVariants.{Taken, Old, Unused}
 use Rattle.exchange_core.specs.Held.{known}
 use Rattle.exchange_core.specs.CoreValue.{CoreValue, IsAccepted, is_greater}
-use Rattle.exchange_core.proofs.Tables.{same_task-itself}
 use Rattle.world.specs.declared.event.Event.{Event}
 use Rattle.world.specs.declared.event.Event.TheVariants.{Deliver}
 use Rattle.world.specs.History.{Setting, history_of}
@@ -20,6 +19,7 @@ use Rattle.world.specs.Laws.{greater, held_with}
 use Rattle.world.specs.World.{WorldValue, node_takes}
 use Rattle.world.specs.Step.{Answers, IsDelivered}
 use Rattle.world.specs.Nodes.{IsNode, IsWorld}
+use Rattle.world.proofs.Tasks.{same_task-itself}
 use Rattle.world.proofs.Latest.{not_itself}
 use Rattle.world.proofs.Names.{log-rises}
 use Rattle.world.proofs.Steps.{latest-deliver}

@@ -14,9 +14,9 @@ use Rattle.evaluation.specs.declared.name.Name.{Name}
 use Rattle.evaluation.specs.declared.take.Take.{Take}
 use Rattle.evaluation.specs.Meaning.{Evaluated}
 use Rattle.exchange_core.specs.Last.{same_task, last_number, from_of}
-use Rattle.exchange_core.proofs.Tables.{same_task-true, same_task-itself}
 use Rattle.world.specs.Fits.{Among, Each, last_in, name_from, is_below, IsNumbered, IsKnown, IsUntorn, IsNotBack, IsOwnLatest, AllFit}
 use Rattle.world.specs.Steps.Deciding.{same_name, is_named, same_value, same_values, same_from, incarnation_in, present_in, is_of_task, if_of, newest_in, is_numbered, has_named, known_from, is_known, keeps_image, untorn_from, is_untorn, takes_from, keeps_take, keeps_takes, is_not_back, is_own_latest}
+use Rattle.world.proofs.Tasks.{same_task-true, same_task-itself}
 use Rattle.world.proofs.Lists.{Each-at}
 use Rattle.world.proofs.NotBack.{is_below-trans}
 

@@ -6,12 +6,12 @@ use Rattle.std.proofs.lemmas.Option.{none-some, same_Some}
 use Rattle.due_list.specs.declared.task_ref.TaskRef.{TaskRef}
 use Rattle.evaluation.specs.Meaning.{Evaluated}
 use Rattle.exchange_core.specs.Last.{same_task}
-use Rattle.exchange_core.proofs.Tables.{same_task-itself}
 use Rattle.world.specs.History.{history_of}
 use Rattle.world.specs.Run.{has_reached}
 use Rattle.world.specs.World.{WorldValue, node_takes, latest_at, held_at}
 use Rattle.world.specs.Fits.{Among, Fits, AllFit}
 use Rattle.world.specs.BookLaws.{RunsFit, RunsAreEntered, HoldersAgree}
+use Rattle.world.proofs.Tasks.{same_task-itself}
 use Rattle.world.proofs.Misfits.{only-memory}
 use Rattle.world.proofs.Names.{AllLawful-after, log-rises}
 use Rattle.world.proofs.Fitting.{last_among-entry}

@@ -9,12 +9,12 @@ use Rattle.evaluation.specs.declared.name.Name.{Name}
 use Rattle.evaluation.specs.Names.{precedes}
 use Rattle.evaluation.specs.Meaning.{Evaluated}
 use Rattle.exchange_core.specs.Last.{same_task, takes_of}
-use Rattle.exchange_core.proofs.Tables.{same_task-true, same_task-itself}
 use Rattle.world.specs.declared.event.Event.{Event}
 use Rattle.world.specs.declared.event.Event.TheVariants.{Evaluate, Deliver, Restart}
 use Rattle.world.specs.History.{Setting, incarnation_of}
 use Rattle.world.specs.Run.{IsLog, IsNextEvaluation, next_name, latest, last_among}
 use Rattle.world.specs.Fits.{Among, last_in}
+use Rattle.world.proofs.Tasks.{same_task-true, same_task-itself}
 use Rattle.world.proofs.Latest.{AllBefore}
 use Rattle.world.proofs.Names.{AllLawful, length-log, before_next, named}
 use Rattle.world.proofs.Steps.{latest-own_deliver, latest-restart, latest-other_restart, latest-evaluate, latest-other_evaluate, incarnation-restart}

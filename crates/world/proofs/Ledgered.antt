@@ -14,7 +14,6 @@ use Rattle.evaluation.specs.declared.name.Name.{Name}
 use Rattle.evaluation.specs.declared.take.Take.{Take}
 use Rattle.evaluation.specs.Meaning.{Evaluated}
 use Rattle.exchange_core.specs.Last.{same_task, last_number}
-use Rattle.exchange_core.proofs.Tables.{same_task-true}
 use Rattle.world.specs.declared.book.ledger.Ledger.{Ledger}
 use Rattle.world.specs.declared.book.ledger.place.Place.{Place}
 use Rattle.world.specs.declared.book.ledger.task_places.TaskPlaces.{TaskPlaces}
@@ -22,6 +21,7 @@ use Rattle.world.specs.declared.book.ledger.taker.Taker.{Taker}
 use Rattle.world.specs.Fits.{Each, last_in, IsNumbered, AllFit}
 use Rattle.world.specs.Steps.Deciding.{present_in, is_of_task, is_named, takes_from, incarnation_in}
 use Rattle.world.specs.Steps.Ledger.{newest_place, presents, place_of, places_of, places_in, last_index, pair_cmp, index_of, AreRising, taker_in, has_row, noted, AreTables, Tells}
+use Rattle.world.proofs.Tasks.{same_task-true}
 use Rattle.world.proofs.Deciding.{last-greatest}
 use Rattle.world.proofs.Ledgers.{taker-noted}
 use Rattle.world.proofs.Telling.{last_of}

@@ -14,11 +14,11 @@ use Rattle.std.proofs.lemmas.Bool.{false≢true, eq-eqb, eqb-true, and_parts, ca
 use Rattle.due_list.specs.declared.task_ref.TaskRef.{TaskRef}
 use Rattle.evaluation.specs.declared.take.Take.{Take}
 use Rattle.exchange_core.specs.Last.{same_task}
-use Rattle.exchange_core.proofs.Tables.{same_task-true, same_task-itself}
 use Rattle.world.specs.declared.book.ledger.place.Place.{Place}
 use Rattle.world.specs.declared.book.ledger.task_places.TaskPlaces.{TaskPlaces}
 use Rattle.world.specs.declared.book.ledger.taker.Taker.{Taker}
 use Rattle.world.specs.Steps.Ledger.{is_row, row_places, places_in, is_taker, row_place, taker_in, has_row, noted, pair_cmp, index_of, AreRising}
+use Rattle.world.proofs.Tasks.{same_task-true, same_task-itself}
 
 alike : (t u v : TaskRef) → same_task t u ≡ true → same_task t v ≡ same_task u v
 alike t u v e = ap (λ w. same_task w v) (same_task-true t u e)

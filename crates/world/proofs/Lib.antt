@@ -1,3 +1,4 @@
+pub mod Tasks
 pub mod Latest
 pub mod Names
 pub mod Steps

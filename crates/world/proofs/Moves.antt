@@ -5,18 +5,18 @@ use Rattle.std.proofs.lemmas.Bool.{eq-eqb, ne_eqb, eqb-false, false≢true, lt-l
 use Rattle.std.proofs.lemmas.Bool.Decides.{nat_tests}
 use Rattle.std.proofs.lemmas.List.{length-set, reverse-append, reverse-reverse, length-reverse}
 use Rattle.std.proofs.lemmas.Option.{none-some, same_Some, slice_get_within, slice_get_read}
+use Rattle.lists.proofs.Tables.{cell_same, cell_other, cell_filled, cell_place, row_lengths_kept, row_lengths_filled}
 use Rattle.power_flow.specs.StateValue.{kind_of}
 use Rattle.due_list.specs.declared.task_ref.TaskRef.{TaskRef}
-use Rattle.plant.specs.PlantValue.{CodeValue, code_at, image_kinds, IsSoundPlant}
+use Rattle.plant.specs.PlantValue.{CodeValue, ResourceValue, PlantValue, code_at, image_kinds, IsSoundPlant}
 use Rattle.evaluation.specs.declared.field_input.FieldInput.{FieldInput}
 use Rattle.evaluation.specs.Meaning.{Evaluated}
 use Rattle.exchange_core.specs.declared.accepted.Accepted.{Accepted}
 use Rattle.exchange_core.specs.declared.accepted.Accepted.TheVariants.{Taken, Old, Unused}
 use Rattle.exchange_core.specs.Last.{same_task}
-use Rattle.exchange_core.specs.Held.{known, with_known}
+use Rattle.exchange_core.specs.Held.{known, with_known, empty_for, IsShaped}
 use Rattle.exchange_core.specs.Steps.Knowing.{has_place}
 use Rattle.exchange_core.specs.CoreValue.{CoreValue, IsUsable, IsAccepted, is_greater, fresh_core}
-use Rattle.exchange_core.proofs.Tables.{same_task-true, place_of_code, shape-kept, shape-empty, known-empty, known-same, known-other}
 use Rattle.world.specs.declared.event.Event.{Event}
 use Rattle.world.specs.declared.event.Event.TheVariants.{Evaluate, Deliver, Restart}
 use Rattle.world.specs.History.{Setting, made_count, is_lawful, history_of, after_events}
@@ -24,6 +24,7 @@ use Rattle.world.specs.Run.{IsLog, IsNextEvaluation, next_name, latest, message}
 use Rattle.world.specs.World.{node_takes}
 use Rattle.world.specs.Laws.{greater, held_with}
 use Rattle.world.specs.Nodes.{kept_of, IsNode, IsWorld}
+use Rattle.world.proofs.Tasks.{same_task-true, codes_in}
 use Rattle.world.proofs.Names.{AllLawful, length-log, log-rises, named}
 use Rattle.world.proofs.Steps.{latest-deliver, latest-own_deliver, latest-other_deliver, latest-restart, latest-other_restart, latest-evaluate, latest-other_evaluate, incarnation-restart}
 use Rattle.world.proofs.Takes.{usable-takes, takes-usable}
@@ -128,14 +129,14 @@ module _ (s : Setting) (h : List Event) (log : List Evaluated) (n k : ℕ) (core
   keeps-taken usable f p = by (same_task x.name.task p) refl where
     place : has_place core.table x.name.task
     place = let made = message-of_plant s h log is k x came in
-        place_of_code core.plant core.table x.name.task made.0 node.shaped (subst (λ w. code_at w x.name.task ≡ Some made.0) (sym node.plant) made.1)
+        cell_place codes_in core.plant.resources core.table x.name.task.resource x.name.task.task made.0 refl node.shaped (subst (λ w. code_at w x.name.task ≡ Some made.0) (sym node.plant) made.1)
 
     by : (b : Bool) → same_task x.name.task p ≡ b → known (with_known core.table x.name.task (Some x)) p ≡ kept_of s n (Deliver k n ∷ h) log p
     by true same =
-        subst (λ r. known (with_known core.table x.name.task (Some x)) r ≡ Some x) (same_task-true x.name.task p same) (known-same core.table x.name.task (Some x) place)
+        subst (λ r. known (with_known core.table x.name.task (Some x)) r ≡ Some x) (same_task-true x.name.task p same) (cell_same core.table x.name.task.resource x.name.task.task (Some x) None place.0 place.1)
         ∙ taken-same usable f p same
     by false other =
-        known-other core.table x.name.task p (Some x) place other
+        cell_other core.table x.name.task.resource x.name.task.task p.resource p.task (Some x) None place.0 other
         ∙ node.keeps p
         ∙ sym (same-kept s h log n k p x is came (λ away wanted same. absurd (false≢true (sym other ∙ same))))
 
@@ -146,7 +147,7 @@ module _ (s : Setting) (h : List Event) (log : List Evaluated) (n k : ℕ) (core
     resource = node.resource;
     incarnation = node.incarnation;
     max_number = node.max_number;
-    shaped = shape-kept core.plant core.table x.name.task (Some x) node.shaped;
+    shaped = row_lengths_kept core.table x.name.task.resource x.name.task.task (Some x) ∙ node.shaped;
     keeps = keeps-taken done.0 done.1;
   })
   node-deliver new Old done = subst (IsNode s (Deliver k n ∷ h) log n) (sym done.2) (record {
@@ -258,6 +259,19 @@ world-deliver_at s events log cores m n core new x a world inside at low high ca
     done
     (subst (λ k. is_lawful s (history_of s events) (Deliver k n) ≡ true) (sym e) (deliver-lawful s events log cores m n world inside low high)))
 
+abbrev codes_long : ResourceValue → ℕ
+codes_long r = length r.codes
+
+abbrev none_known : Option Evaluated
+none_known = None
+
+-- a core that holds nothing has its places, and knows of no task
+pub fresh_shape : (plant : PlantValue) → IsShaped plant (empty_for plant)
+fresh_shape plant = row_lengths_filled codes_long none_known plant.resources
+
+pub fresh_known : (plant : PlantValue) (p : TaskRef) → known (empty_for plant) p ≡ None
+fresh_known plant p = cell_filled codes_long none_known plant.resources p.resource p.task
+
 -- a core that restarts
 pub node-restart : (s : Setting) (h : List Event) (log : List Evaluated) (n : ℕ) (core : CoreValue) → IsLog s h log → IsNode s h log n core
     → IsNode s (Restart n ∷ h) log n (fresh_core core.plant core.resource (core.incarnation + 1) core.max_number)
@@ -267,8 +281,8 @@ node-restart s h log n core is node =
       resource = node.resource;
       max_number = node.max_number;
       incarnation = ap (λ i. i + 1) node.incarnation ∙ sym (incarnation-restart s n h);
-      shaped = shape-empty core.plant;
-      keeps = λ p. known-empty core.plant p ∙ sym (ap (λ o. cond (eqb p.resource n || node_takes s.plant n p) o None) (latest-restart n h p log (length-log s h log is)) ∙ cond-same (eqb p.resource n || node_takes s.plant n p));
+      shaped = fresh_shape core.plant;
+      keeps = λ p. fresh_known core.plant p ∙ sym (ap (λ o. cond (eqb p.resource n || node_takes s.plant n p) o None) (latest-restart n h p log (length-log s h log is)) ∙ cond-same (eqb p.resource n || node_takes s.plant n p));
     } where
       cond-same : (b : Bool) → ◌≡◌ {A = Option Evaluated} (cond b None None) None
       cond-same true = refl
@@ -296,14 +310,14 @@ node-evaluate s h log core k t dt inputs x all is next node =
       resource = node.resource;
       max_number = node.max_number;
       incarnation = node.incarnation;
-      shaped = shape-kept core.plant core.table t (Some x) node.shaped;
+      shaped = row_lengths_kept core.table t.resource t.task (Some x) ∙ node.shaped;
       keeps = λ p. by p (same_task t p) refl;
     } where
       at : x.name ≡ next_name s t h
       at = named s h log k t dt inputs x next
 
       place : has_place core.table t
-      place = place_of_code core.plant core.table t next.code node.shaped (subst (λ w. code_at w t ≡ Some next.code) (sym node.plant) next.found)
+      place = cell_place codes_in core.plant.resources core.table t.resource t.task next.code refl node.shaped (subst (λ w. code_at w t ≡ Some next.code) (sym node.plant) next.found)
 
       own : kept_of s t.resource (Evaluate k t dt inputs ∷ h) (x ∷ log) t ≡ Some x
       own =
@@ -314,9 +328,9 @@ node-evaluate s h log core k t dt inputs x all is next node =
       by : (p : TaskRef) (b : Bool) → same_task t p ≡ b → known (with_known core.table t (Some x)) p ≡ kept_of s t.resource (Evaluate k t dt inputs ∷ h) (x ∷ log) p
       by p true e =
           subst (λ r. known (with_known core.table t (Some x)) r ≡ kept_of s t.resource (Evaluate k t dt inputs ∷ h) (x ∷ log) r) (same_task-true t p e)
-          (known-same core.table t (Some x) place ∙ sym own)
+          (cell_same core.table t.resource t.task (Some x) None place.0 place.1 ∙ sym own)
       by p false e =
-          known-other core.table t p (Some x) place e
+          cell_other core.table t.resource t.task p.resource p.task (Some x) None place.0 e
           ∙ node.keeps p
           ∙ ap (λ o. cond (eqb p.resource t.resource || node_takes s.plant t.resource p) o None)
           (sym (latest-other_evaluate s t.resource k t dt inputs h p x log all (length-log s h log is) (rw (at, e))))

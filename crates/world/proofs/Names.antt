@@ -8,11 +8,11 @@ use Rattle.evaluation.specs.declared.name.Name.{Name}
 use Rattle.evaluation.specs.Names.{precedes}
 use Rattle.evaluation.specs.Meaning.{Evaluated}
 use Rattle.exchange_core.specs.Last.{same_task}
-use Rattle.exchange_core.proofs.Tables.{same_task-true}
 use Rattle.world.specs.declared.event.Event.{Event}
 use Rattle.world.specs.declared.event.Event.TheVariants.{Evaluate, Deliver, Restart}
 use Rattle.world.specs.History.{Setting, made_count, number_of, incarnation_of, is_lawful, after_events}
 use Rattle.world.specs.Run.{IsLog, IsNextEvaluation, next_name}
+use Rattle.world.proofs.Tasks.{same_task-true}
 use Rattle.world.proofs.Latest.{AllBefore, Rises}
 
 -- each event of the history was lawful when it happened

@@ -13,13 +13,13 @@ use Rattle.evaluation.specs.declared.take.Take.{Take}
 use Rattle.evaluation.specs.Names.{precedes}
 use Rattle.evaluation.specs.Meaning.{Evaluated}
 use Rattle.exchange_core.specs.Last.{same_task, from_of, take_of, takes_of}
-use Rattle.exchange_core.proofs.Tables.{same_task-true}
 use Rattle.world.specs.declared.event.Event.{Event}
 use Rattle.world.specs.declared.event.Event.TheVariants.{Evaluate, Deliver, Restart}
 use Rattle.world.specs.History.{Setting, incarnation_of, number_of}
 use Rattle.world.specs.Run.{IsLog, IsNextEvaluation, next_name, latest, message, has_reached}
 use Rattle.world.specs.Laws.{greater, held_with}
 use Rattle.world.specs.Fits.{Among, Each, is_below, name_from}
+use Rattle.world.proofs.Tasks.{same_task-true}
 use Rattle.world.proofs.Latest.{precedes-irreflexive, not_itself}
 use Rattle.world.proofs.Names.{AllLawful, length-log, before_next, log-rises, named}
 use Rattle.world.proofs.Steps.{latest-deliver, latest-own_deliver, latest-other_deliver, latest-other_restart, latest-evaluate, latest-other_evaluate, incarnation-restart}

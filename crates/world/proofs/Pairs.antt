@@ -9,10 +9,10 @@ use Rattle.evaluation.specs.declared.name.Name.{Name}
 use Rattle.evaluation.specs.Names.{precedes}
 use Rattle.evaluation.specs.Meaning.{Evaluated}
 use Rattle.exchange_core.specs.Last.{same_task}
-use Rattle.exchange_core.proofs.Tables.{same_task-itself}
 use Rattle.world.specs.History.{history_of}
 use Rattle.world.specs.Run.{message}
 use Rattle.world.specs.Laws.{PairsRise}
+use Rattle.world.proofs.Tasks.{same_task-itself}
 use Rattle.world.proofs.Latest.{AllBefore, Rises}
 use Rattle.world.proofs.Names.{log-rises}
 use Rattle.world.proofs.Moves.{run-message}

@@ -17,13 +17,13 @@ use Rattle.evaluation.specs.Names.{precedes}
 use Rattle.evaluation.specs.Takes.{initial_image, IsTakeOf}
 use Rattle.evaluation.specs.Meaning.{Evaluated, IsMeant, IsWhole, given}
 use Rattle.exchange_core.specs.Last.{same_task, from_of, image_of, takes_of}
-use Rattle.exchange_core.proofs.Tables.{same_task-true, same_task-itself}
 use Rattle.world.specs.declared.event.Event.{Event}
 use Rattle.world.specs.declared.event.Event.TheVariants.{Evaluate, Deliver, Restart}
 use Rattle.world.specs.History.{Setting, history_of}
 use Rattle.world.specs.Run.{IsLog, IsRun, IsNextEvaluation, next_name, latest, message, has_reached}
 use Rattle.world.specs.Fits.{Among, Each, name_from, is_below}
 use Rattle.world.specs.Consistent.{IsBoundTo, HaveValuesOf, AreInitial, AreTakenFrom, TakesOnly, TakesOneEntry, IsPlace, IsConsistent}
+use Rattle.world.proofs.Tasks.{same_task-true, same_task-itself}
 use Rattle.world.proofs.Latest.{Rises}
 use Rattle.world.proofs.Names.{AllLawful, AllLawful-after, log-rises, named}
 use Rattle.world.proofs.Pairs.{message-within, rises-messages}

@@ -10,7 +10,6 @@ use Rattle.evaluation.specs.declared.take.Take.{Take}
 use Rattle.evaluation.specs.Names.{precedes}
 use Rattle.evaluation.specs.Meaning.{Evaluated}
 use Rattle.exchange_core.specs.Last.{same_task, from_of}
-use Rattle.exchange_core.proofs.Tables.{same_task-true, same_task-itself}
 use Rattle.world.specs.declared.event.Event.{Event}
 use Rattle.world.specs.declared.event.Event.TheVariants.{Deliver, Restart}
 use Rattle.world.specs.History.{Setting, made_count, is_lawful, after_events, incarnation_of}
@@ -19,6 +18,7 @@ use Rattle.world.specs.Laws.{greater, held_with}
 use Rattle.world.specs.Fits.{Among, Each, name_from, is_below, IsKnown}
 use Rattle.world.specs.Steps.Deciding.{same_name}
 use Rattle.world.specs.Schedule.{is_from, message_of, taken_in, takes_from, last_taken, delivery_from, delivery}
+use Rattle.world.proofs.Tasks.{same_task-true, same_task-itself}
 use Rattle.world.proofs.Names.{AllLawful, after_append, length-log, log-rises}
 use Rattle.world.proofs.Steps.{latest-deliver, latest-other_deliver, latest-restart, latest-other_restart, incarnation-restart}
 use Rattle.world.proofs.Deciding.{test-name}

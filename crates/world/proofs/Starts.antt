@@ -4,12 +4,10 @@ use Rattle.std.specs.Prelude.{is_some, slice_get, slice_index}
 use Rattle.std.proofs.lemmas.Bool.{eqb-true, lt-ltb, le-ltb}
 use Rattle.std.proofs.lemmas.Bool.Decides.{nat_tests}
 use Rattle.std.proofs.lemmas.List.{append_assoc, append-nil, take_more}
-use Rattle.std.proofs.lemmas.Option.{none-some, same_Some, slice_get_within, slice_get_read}
-use Rattle.due_list.specs.declared.task_ref.TaskRef.{TaskRef}
+use Rattle.std.proofs.lemmas.Option.{none-some, same_Some, slice_get_read}
 use Rattle.plant.specs.PlantValue.{CodeValue, PlantValue, code_at, IsSoundPlant}
 use Rattle.evaluation.specs.Meaning.{Evaluated}
 use Rattle.exchange_core.specs.CoreValue.{CoreValue, fresh_core}
-use Rattle.exchange_core.proofs.Tables.{resource_of_code, shape-empty, known-empty}
 use Rattle.world.specs.declared.event.Event.{Event}
 use Rattle.world.specs.declared.event.Event.TheVariants.{Evaluate, Deliver, Restart}
 use Rattle.world.specs.declared.done.Done.{Done}
@@ -21,7 +19,8 @@ use Rattle.world.specs.World.{WorldValue, node_takes}
 use Rattle.world.specs.Step.{IsDone, IsCause, IsStep, IsLawfulAt, Follows}
 use Rattle.world.specs.Nodes.{IsNode, IsWorld}
 use Rattle.world.specs.Steps.Fresh.{AreFresh}
-use Rattle.world.proofs.Moves.{slice_get-push, history-one_more}
+use Rattle.world.proofs.Tasks.{resource_exists}
+use Rattle.world.proofs.Moves.{slice_get-push, history-one_more, fresh_shape, fresh_known}
 
 pub fresh-none : (plant : PlantValue) (first : List ℕ) (max_number : ℕ) → AreFresh plant first max_number 0 []
 fresh-none plant first max_number = record { sized = refl; fresh = λ n core e. absurd (none-some core e) }
@@ -54,8 +53,8 @@ world-new s cores planned firsts all =
         resource = refl;
         max_number = refl;
         incarnation = omega arith;
-        shaped = shape-empty s.plant;
-        keeps = λ p. known-empty s.plant p ∙ sym (nothing (eqb p.resource n || node_takes s.plant n p));
+        shaped = fresh_shape s.plant;
+        keeps = λ p. fresh_known s.plant p ∙ sym (nothing (eqb p.resource n || node_takes s.plant n p));
       }
 
 -- the history after the lawful ones of some events
@@ -120,9 +119,6 @@ follows-step a b (Restart n) (Restarted i) is = follows-done a b (Restart n) _ i
 unmade : (m made : ℕ) → (m ≡ 0) ⊎ (made < m) → (leb 1 m && leb m made) ≡ false
 unmade m made (inl e) = grind (arith, nat_tests)
 unmade m made (inr e) = grind (arith, nat_tests)
-
-resource_exists : (plant : PlantValue) (t : TaskRef) (code : CodeValue) → code_at plant t ≡ Some code → t.resource < length plant.resources
-resource_exists plant t code found = let at = resource_of_code plant t code found in slice_get_within plant.resources t.resource at.0 at.1
 
 -- what is refused for another cause than memory is unlawful
 pub unlawful : (w : WorldValue) (e : Event) (f : WorldFault) → (f ≡ Memory → ⊥) → IsCause w e f → is_lawful w.setting (history_of w.setting w.events) e ≡ false

@@ -7,12 +7,12 @@ use Rattle.due_list.specs.declared.task_ref.TaskRef.{TaskRef}
 use Rattle.evaluation.specs.declared.field_input.FieldInput.{FieldInput}
 use Rattle.evaluation.specs.Meaning.{Evaluated}
 use Rattle.exchange_core.specs.Last.{same_task, last_number}
-use Rattle.exchange_core.proofs.Tables.{same_task-true, same_task-itself}
 use Rattle.world.specs.declared.event.Event.{Event}
 use Rattle.world.specs.declared.event.Event.TheVariants.{Evaluate, Deliver, Restart}
 use Rattle.world.specs.History.{Setting, is_deliver_of, made_count, number_of, incarnation_of, since_restart}
 use Rattle.world.specs.Run.{IsLog, has_reached, latest, message, next_name}
 use Rattle.world.specs.Laws.{held_with}
+use Rattle.world.proofs.Tasks.{same_task-true, same_task-itself}
 use Rattle.world.proofs.Latest.{Rises, last_among-agree, last_among-none, last_among-arrival}
 use Rattle.world.proofs.Names.{AllLawful, length-log, named}
 

@@ -12,12 +12,12 @@ use Rattle.evaluation.specs.Meaning.{Evaluated}
 use Rattle.exchange_core.specs.Last.{same_task, take_of, takes_of}
 use Rattle.exchange_core.specs.Held.{known}
 use Rattle.exchange_core.specs.CoreValue.{CoreValue, IsUsable}
-use Rattle.exchange_core.proofs.Tables.{same_task-itself, same_task-true}
 use Rattle.world.specs.declared.event.Event.{Event}
 use Rattle.world.specs.History.{Setting}
 use Rattle.world.specs.Run.{latest}
 use Rattle.world.specs.World.{node_takes}
 use Rattle.world.specs.Nodes.{IsNode}
+use Rattle.world.proofs.Tasks.{same_task-itself, same_task-true}
 
 list_any-found : {X : Type 0} (f : X → Bool) (xs : List X) (i : ℕ) (x : X) → slice_get xs i ≡ Some x → f x ≡ true → list_any f xs ≡ true
 list_any-found f xs i x at h = list_any_at f xs i x (slice_get_within xs i x at) (ap f (get_or_from_slice_get xs i x x at) ∙ h)

@@ -13,8 +13,6 @@ use Rattle.evaluation.specs.Meaning.{Evaluated, IsAsked}
 use Rattle.exchange_core.specs.Last.{state_of, takes_of, last_number}
 use Rattle.exchange_core.specs.Held.{known, with_known}
 use Rattle.exchange_core.specs.CoreValue.{CoreValue, IsNext, IsNextOf, IsDue, next_name_of, own_task, fresh_core}
-use Rattle.exchange_core.proofs.Tables.{same_ref}
-use Rattle.exchange_core.proofs.Keeping.{core_with}
 use Rattle.world.specs.declared.event.Event.{Event}
 use Rattle.world.specs.declared.event.Event.TheVariants.{Evaluate, Restart}
 use Rattle.world.specs.History.{Setting, is_lawful, history_of, incarnation_of, number_of}
@@ -27,12 +25,16 @@ use Rattle.world.proofs.Steps.{incarnation-restart, number-latest}
 use Rattle.world.proofs.Takes.{node-takes}
 use Rattle.world.proofs.Moves.{history-one_more, set-found, node-restart, node-other_restart, node-evaluate, node-other_evaluate}
 
+-- the core with this as what is known of a task
+abbrev core_with : CoreValue → TaskRef → Evaluated → CoreValue
+core_with core p x = record core { table = with_known core.table p (Some x) }
+
 same_name : (a b : TaskRef) (i j m n : ℕ) → a ≡ b → i ≡ j → m ≡ n → ◌≡◌ {A = Name} (record { task = a; incarnation = i; number = m }) (record { task = b; incarnation = j; number = n })
 same_name a b i j m n e f g = rw (e, f, g) refl
 
 module _ (s : Setting) (h : List Event) (log : List Evaluated) (core : CoreValue) (k : ℕ) (t : TaskRef) (dt : ℕ) (inputs : List FieldInput) (all : AllLawful s h) (is : IsLog s h log) (node : IsNode s h log t.resource core) where
   own : own_task core t.task ≡ t
-  own = same_ref (own_task core t.task) t node.resource refl
+  own = rw node.resource refl
 
   known-own : known core.table (own_task core t.task) ≡ latest t.resource h t log
   known-own = ap (known core.table) own ∙ node.keeps t ∙ ap (λ w. cond w (latest t.resource h t log) None) (on (node_takes s.plant t.resource t)) where

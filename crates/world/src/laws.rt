@@ -1,10 +1,14 @@
 // What holds for every list of events.
 ghost use Rattle.world.specs.Laws.{KeptIsLatest, PairsRise, OneRun};
 
+use evaluation::one_evaluation;
+
 /// A list of events has one run.
 pub fn one_run()
     ensures { OneRun }
-{}
+{
+    one_evaluation();
+}
 
 /// In each task's list of evaluations the pairs of incarnation and number rise strictly.
 pub fn pairs_rise()

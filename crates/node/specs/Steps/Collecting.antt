@@ -1,5 +1,5 @@
 -- What the checks of a report decide, step by step.
-use Rattle.std.specs.Prelude.{◌≡◌, ℕ, ◌+◌, ◌-◌, ◌<◌, ◌≤◌, ◌==◌, ◌++◌, Bool, true, false, List, [], Option, Some, IfSome, All, Contains, length, map, drop, reverse, take, slice_get, slice_index_or}
+use Rattle.std.specs.Prelude.{◌≡◌, ℕ, ◌+◌, ◌-◌, ◌<◌, ◌≤◌, ◌==◌, ◌||◌, ◌++◌, Bool, true, false, List, [], Option, Some, IfSome, All, Contains, length, map, drop, reverse, take, slice_get, slice_index_or}
 use Rattle.std.specs.List.{list_any}
 use Rattle.std.specs.List.Sorted.{IsStrictlyIncreasing}
 use Rattle.plant.specs.PlantValue.{PlantValue, IsSoundPlant}
@@ -33,6 +33,10 @@ AreAtEnd journals at = (k : ℕ) (j : Journal) → slice_get journals k ≡ Some
 -- what each journal made are, in order, the entries of the resource at its place
 abbrev pub AllMade : List Evaluated → List Journal → Type 0
 AllMade entries journals = (k : ℕ) (j : Journal) → slice_get journals k ≡ Some j → made j.steps ≡ entries_of k entries
+
+-- each place is marked where it was, or where the test passes for its ticket, which is one more than the place
+abbrev pub AreMarkedAlso : (ℕ → Bool) → List Bool → List Bool → Type 0
+AreMarkedAlso test old new = (k : ℕ) → k < length old → slice_index_or new k false ≡ (slice_index_or old k false || test (k + 1))
 
 -- for each place, whether an entry has its ticket, which is one more than the place
 pub record AreMarks (count : ℕ) (entries : List Evaluated) (marks : List Bool) : Type 0 where

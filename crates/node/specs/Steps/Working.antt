@@ -10,6 +10,10 @@ pub record WorkerValue : Type 0 where
   pub plant : PlantValue
   pub max_number : ℕ
 
+-- a worker is of this plant, and numbers its evaluations up to this
+abbrev pub IsWorkerFor : PlantValue → ℕ → WorkerValue → Type 0
+IsWorkerFor plant max_number w = (w.plant ≡ plant) × (w.max_number ≡ max_number)
+
 -- while it runs, its core is of this plant and limit, and in the incarnation that is kept; what it has done once it is stopped is lawful
 abbrev pub IsWorking : PlantValue → ℕ → ℕ → WorkerState → Type 0
 IsWorking plant max_number last (Running s) = (s.core.plant ≡ plant) × (s.core.max_number ≡ max_number) × (s.core.incarnation ≡ last)

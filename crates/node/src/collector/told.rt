@@ -3,7 +3,7 @@ ghost use Rattle.std.specs.List.{list_any};
 ghost use Rattle.node.specs.declared.act.Act.TheVariants.{Restart};
 ghost use Rattle.node.specs.declared.journal.Journal.{Journal as JournalValue};
 ghost use Rattle.node.specs.Reports.{is_restart_of, HasTask, LacksTask, IsUnobeyed, MayMeet, IsToldOf, AreTold};
-ghost use Rattle.node.specs.Steps.Collecting.{AreRestartMarks, IsUnmarked, AreByTicket};
+ghost use Rattle.node.specs.Steps.Collecting.{AreMarkedAlso, AreRestartMarks, IsUnmarked, AreByTicket};
 
 use crate::act::Act;
 use crate::cause::Cause;
@@ -21,7 +21,7 @@ use std::alloc::{AllocError, Global};
 
 /// Marks the place of the ticket of a restart.
 fn mark_restart(marks: &mut [bool], step: &Step)
-    ensures { (k : ℕ) → k < length marks.old → slice_index_or marks.new k false ≡ (slice_index_or marks.old k false || is_restart_of (k + 1) step.now) }
+    ensures { AreMarkedAlso (λ n. is_restart_of n step.now) marks.old marks.new }
 {
     match step {
         Step::Took(_) => {}
@@ -32,7 +32,7 @@ fn mark_restart(marks: &mut [bool], step: &Step)
 
 /// Marks the places of the tickets of restarts.
 fn mark_restarts(marks: &mut [bool], steps: &[Step])
-    ensures { (k : ℕ) → k < length marks.old → slice_index_or marks.new k false ≡ (slice_index_or marks.old k false || list_any (is_restart_of (k + 1)) steps.now) }
+    ensures { AreMarkedAlso (λ n. list_any (is_restart_of n) steps.now) marks.old marks.new }
 {
     for i in 0..steps.len() {
         mark_restart(marks, &steps[i]);

@@ -1,7 +1,7 @@
 ghost use Rattle.std.specs.Prelude.{◌≡◌, ◌==◌, ◌||◌, ◌&&◌, ◌+◌, ◌<◌, ℕ, Bool, false, not, IfOk, length, vec_len, slice_index_or};
 ghost use Rattle.std.specs.List.{list_any};
 ghost use Rattle.node.specs.Reports.{AreNumbered, unanswered_of, is_evaluate};
-ghost use Rattle.node.specs.Steps.Collecting.{AreMarks};
+ghost use Rattle.node.specs.Steps.Collecting.{AreMarkedAlso, AreMarks};
 
 use crate::act::Act;
 use crate::command::Command;
@@ -11,7 +11,7 @@ use std::alloc::{AllocError, Global};
 
 /// Marks the place of a ticket, if it has one.
 pub(crate) fn mark(marks: &mut [bool], ticket: u64)
-    ensures { (k : ℕ) → k < length marks.old → slice_index_or marks.new k false ≡ (slice_index_or marks.old k false || ticket == k + 1) }
+    ensures { AreMarkedAlso (λ n. ticket == n) marks.old marks.new }
 {
     if ticket == 0 {
         return;

@@ -1,5 +1,5 @@
 ghost use Rattle.std.specs.Prelude.{◌≡◌, All, IfOk};
-ghost use Rattle.node.specs.Steps.Working.{WorkerValue};
+ghost use Rattle.node.specs.Steps.Working.{IsWorkerFor};
 
 use crate::keeper::Keeper;
 use crate::run_fault::RunFault;
@@ -50,7 +50,7 @@ pub(crate) fn make_workers<K: Keeper>(
     keepers: Vec<K>,
     max_number: u32,
 ) -> Result<(Vec<Worker<K>>, Vec<u32>), RunFault>
-    ensures { IfOk result (λ r. All (λ (w : WorkerValue). (w.plant ≡ plant.now.value) × (w.max_number ≡ max_number)) r.0.items) }
+    ensures { IfOk result (λ r. All (IsWorkerFor plant.now.value max_number) r.0.items) }
 {
     let mut workers = Vec::new(alloc);
     let mut first = Vec::new(alloc);

@@ -1,6 +1,6 @@
 ghost use Rattle.std.specs.Prelude.{◌≡◌, All, IfOk};
 ghost use Rattle.node.specs.Journals.{IsLawful};
-ghost use Rattle.node.specs.Steps.Working.{WorkerValue};
+ghost use Rattle.node.specs.Steps.Working.{IsWorkerFor};
 
 use crate::command::Command;
 use crate::gate::Gate;
@@ -68,7 +68,7 @@ pub(crate) fn start_all<'s, E, R: Threads + Wait + Sync, K: Keeper, G: Gate>(
 ) -> Result<Vec<PromisedHandle<Ended, LawfulFor<'s>>>, RunFault>
 where
     K: 's,
-    requires { All (λ (w : WorkerValue). (w.plant ≡ desk.plant.now) × (w.max_number ≡ max_number)) workers.items }
+    requires { All (IsWorkerFor desk.plant.now max_number) workers.items }
     ensures { IfOk result (λ hs. All (λ h. (h.promise.plant.now ≡ desk.entry.plant.now) × (h.promise.max_number ≡ max_number)) hs.items) }
 {
     let mut handles = Vec::new(alloc);
