@@ -20,7 +20,7 @@ run_threads-requires-clause-resources g c κs within =
 
 pub returns-in_err-commands-clause-fault : goal.returns-in_err-commands-clause-fault
 returns-in_err-commands-clause-fault g c =
-    run_refused c.args.plant.value c.args.until c.args.inputs _ c.in_err-commands.field-0.0 _ c.from_residual-in_err-commands.ensures.1 (rw c.deref.ensures at c.in_err-commands.ensures.fault)
+    run_refused c.args.plant.value c.args.until c.args.inputs _ c.in_err-commands.field-0.0 _ c.from_residual.ensures.1 (rw c.deref.ensures at c.in_err-commands.ensures.fault)
 
 pub returns-in_err-write_report-clause-fault : goal.returns-in_err-write_report-clause-fault
 returns-in_err-write_report-clause-fault g c =
