@@ -1,2 +1,1 @@
-pub mod FigureLemmas
 pub mod NoLadderLemmas

@@ -24,8 +24,8 @@ use Rattle.network.specs.Links.{place, Takes}
 use Rattle.power_flow.specs.LadderValue.{LadderValue}
 use Rattle.plant.specs.declared.grammar.tree.Program.{Program}
 use Rattle.plant.specs.Faultless.{IsLadderOf}
-use Rattle.crate_tests.specs.Figures.{unattached_box}
-use Rattle.crate_tests.specs.NoLadder.{HasNoLadder, name_twice, tall_box}
+use Rattle.worked_drawings.specs.Figures.{unattached_box}
+use Rattle.plant_tests.specs.NoLadder.{HasNoLadder, name_twice, tall_box}
 
 -- unfolds the words of drawings
 drawing_words : Unit {0}

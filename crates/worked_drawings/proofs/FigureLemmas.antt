@@ -12,7 +12,7 @@ use Rattle.ladder_text.specs.Places.{contact_at, coil_at, may_be_rail, has_right
 use Rattle.ladder_text.specs.Names.{in_word, word_at, words, symbol_at, symbols, tops, things, name_above, row_contacts, contacts, row_coils, coils, drawn_boxes}
 use Rattle.ladder_text.specs.Faults.{IsWellDrawn, IsIllDrawn, IsFoundAt, Nowhere, has_fault, not_ascii, no_left_rail, bad_box, boxes_apart, name_missing, stray_name, some_takes_word, has_stray_operand}
 use Rattle.ladder_text.specs.Picture.{marks_of, picture_of}
-use Rattle.crate_tests.specs.Figures.{IsDrawnAs, IsBranchesListed, IsOnDelayListed, branches, branches_marks, start_stop, start_stop_marks, rising_contact, rising_contact_marks, on_delay, on_delay_marks, parallel_wire, parallel_wire_marks, unattached_box, unattached_box_marks, wire_beside_box, box_without_type, box_without_bottom, cut_drawing, two_words, word_of_two, loose_upright, loose_contact}
+use Rattle.worked_drawings.specs.Figures.{IsDrawnAs, IsBranchesListed, IsOnDelayListed, branches, branches_marks, start_stop, start_stop_marks, rising_contact, rising_contact_marks, on_delay, on_delay_marks, parallel_wire, parallel_wire_marks, unattached_box, unattached_box_marks, wire_beside_box, box_without_type, box_without_bottom, cut_drawing, two_words, word_of_two, loose_upright, loose_contact}
 
 -- nothing is true and false
 clash : (b : Bool) → b ≡ true → b ≡ false → ⊥

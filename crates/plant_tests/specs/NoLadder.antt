@@ -3,7 +3,7 @@ use Rattle.std.specs.Prelude.{◌≡◌, ℕ, List, [], ◌∷◌, ◌++◌, cod
 use Rattle.power_flow.specs.LadderValue.{LadderValue}
 use Rattle.plant.specs.declared.grammar.tree.Program.{Program}
 use Rattle.plant.specs.Faultless.{IsLadderOf}
-use Rattle.crate_tests.specs.Figures.{text_of}
+use Rattle.worked_drawings.specs.Figures.{text_of}
 
 -- no program with this body has a ladder
 abbrev pub HasNoLadder : List ℕ → Type 0

@@ -2,7 +2,7 @@
 
 ghost use Rattle.ladder_text.specs.Rows.{rows_of};
 ghost use Rattle.ladder_text.specs.Faults.{IsIllDrawn};
-ghost use Rattle.crate_tests.specs.Figures.{IsDrawnAs, IsBranchesListed, IsOnDelayListed, branches, branches_marks, start_stop, start_stop_marks, rising_contact, rising_contact_marks, on_delay, on_delay_marks, parallel_wire, parallel_wire_marks, unattached_box, unattached_box_marks, wire_beside_box, box_without_type, box_without_bottom, cut_drawing, two_words, word_of_two, loose_upright, loose_contact};
+ghost use Rattle.worked_drawings.specs.Figures.{IsDrawnAs, IsBranchesListed, IsOnDelayListed, branches, branches_marks, start_stop, start_stop_marks, rising_contact, rising_contact_marks, on_delay, on_delay_marks, parallel_wire, parallel_wire_marks, unattached_box, unattached_box_marks, wire_beside_box, box_without_type, box_without_bottom, cut_drawing, two_words, word_of_two, loose_upright, loose_contact};
 
 /// The worked drawings are well drawn, and have the marks that are shown.
 #[tactic(auto, using(crate::proofs::FigureLemmas::branches_drawn, crate::proofs::FigureLemmas::start_stop_drawn, crate::proofs::FigureLemmas::rising_contact_drawn, crate::proofs::FigureLemmas::on_delay_drawn, crate::proofs::FigureLemmas::parallel_wire_drawn, crate::proofs::FigureLemmas::unattached_box_drawn))]
