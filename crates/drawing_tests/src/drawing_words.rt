@@ -2,9 +2,9 @@
 
 use crate::checks::equal;
 use ladder_text::{
-    BlockName, block_name, duration_up_to, is_duration, is_identifier, is_number, is_plain_name,
-    number_up_to,
+    block_type, duration_up_to, is_duration, is_identifier, is_number, is_plain_name, number_up_to,
 };
+use std_blocks::BlockType;
 
 const LONGEST_TIME: u64 = 2_147_483_647;
 
@@ -84,7 +84,7 @@ fn knows_names(rt: HostRuntime) {
         let found = (is_identifier(bytes), is_plain_name(bytes));
         equal(&rt, word, &found, &(identifier, name));
     }
-    for &(word, block) in &[("ctud", Some(BlockName::Ctud)), ("TONE", None)] {
-        equal(&rt, word, &block_name(word.as_bytes()), &block);
+    for &(word, block) in &[("ctud", Some(BlockType::CTUD)), ("TONE", None)] {
+        equal(&rt, word, &block_type(word.as_bytes()), &block);
     }
 }

@@ -1,12 +1,11 @@
 //! What a drawing gives, and where its first fault is.
 
 use crate::checks::equal;
-use ladder_text::{
-    BlockName, CoilKind, ContactKind, DrawFault, DrawFaultKind, Drawing, DrawnBox, Mark, Side,
-};
+use ladder_text::{CoilKind, ContactKind, DrawFault, DrawFaultKind, Drawing, DrawnBox, Mark, Side};
 use std::alloc::{AllocError, Global};
 use std::process::Abort;
 use std::test::Fail;
+use std_blocks::BlockType;
 
 fn fault_of(alloc: Global, text: &str) -> Option<DrawFault> {
     Drawing::read(alloc, text, 1).err()
@@ -150,7 +149,7 @@ fn is_the_timer(rt: &impl Abort, drawn: &DrawnBox) {
         &(drawn.top, drawn.left, drawn.bottom, drawn.right),
         &(2, 11, 6, 19),
     );
-    equal(rt, "type", &drawn.block, &BlockName::Ton);
+    equal(rt, "type", &drawn.block, &BlockType::TON);
     equal(rt, "name", &drawn.instance.as_str(), &"T1");
     has_pins(
         rt,

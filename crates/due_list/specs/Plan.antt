@@ -1,5 +1,5 @@
 -- The plan of the tasks of some resources: what is due, and when.
-use Rattle.std.specs.Prelude.{◌≡◌, ℕ, ◌<◌, ◌≤◌, ◌*◌, List, [], Option, Some, map, slice_get, unwrap_or, All, AllPairs, Contains}
+use Rattle.std.specs.Prelude.{◌≡◌, ℕ, ◌<◌, ◌≤◌, ◌*◌, List, [], Option, Some, map, slice_get, unwrap_or, length, All, AllPairs, Contains}
 use Rattle.std.specs.Global.{Vec}
 use Rattle.std.specs.Option.{option_map}
 use Rattle.std.specs.Ordering.{nat_cmp, ordering_then}
@@ -47,3 +47,15 @@ pub record IsPlanOf (resources : List (List Timing)) (until : ℕ) (dues : List 
   pub each : All (IsDue resources until) dues
   pub whole : (d : Due) → IsDue resources until d → Contains dues d
   pub in_order : AllPairs (λ a b. due_cmp resources a b ≡ Less) dues
+
+-- the plan of these tasks, with 100,000 entries at most
+abbrev pub IsShortPlanOf : List (List Timing) → ℕ → List Due → Type 0
+IsShortPlanOf resources until dues = IsPlanOf resources until dues × (length dues ≤ 100000)
+
+-- the plan of these tasks has more than 100,000 entries
+abbrev pub HasLongPlan : List (List Timing) → ℕ → Type 0
+HasLongPlan resources until = (dues : List Due) × IsPlanOf resources until dues × (100000 < length dues)
+
+-- there is one plan
+abbrev pub OnePlan : Type 0
+OnePlan = (resources : List (List Timing)) (until : ℕ) (a b : List Due) → IsPlanOf resources until a → IsPlanOf resources until b → a ≡ b

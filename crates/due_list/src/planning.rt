@@ -1,6 +1,6 @@
 ghost use Rattle.std.specs.Prelude.{◌≡◌, ℕ, List, ◌<◌, ◌≤◌, ◌++◌, length, IfOk, IfErr, OnOk, All};
-ghost use Rattle.due_list.specs.Steps.Slots.{slots_within, slots_of, is_due, dues_at, dues_until, NoneDue};
-ghost use Rattle.due_list.specs.Plan.{AllTimed, timings_in, IsPlanOf};
+ghost use Rattle.due_list.specs.Steps.Slots.{slots_in, slots_of, HaveIntervals, is_due, dues_at, dues_until, NoneDue};
+ghost use Rattle.due_list.specs.Plan.{AllTimed, timings_in, IsShortPlanOf, HasLongPlan};
 ghost use Rattle.due_list.specs.declared.due.Due.{Due};
 ghost use Rattle.due_list.specs.declared.plan_fault.PlanFault.TheVariants.{Memory, TooLong};
 
@@ -17,8 +17,8 @@ const MOST_ENTRIES: usize = 100_000;
 /// Adds the tasks of a resource.
 fn push_slots(slots: &mut Vec<Slot>, tasks: &[Timing], resource: usize) -> Result<(), PlanFault>
     requires { AllTimed tasks.now }
-    ensures ok { OnOk result (slots.new.items ≡ slots.old.items ++ slots_within resource tasks.now (length tasks.now)) }
-    ensures positive { OnOk result (All (λ s. 0 < s.interval) slots.old.items → All (λ s. 0 < s.interval) slots.new.items) }
+    ensures ok { OnOk result (slots.new.items ≡ slots.old.items ++ slots_in resource tasks.now) }
+    ensures positive { OnOk result (HaveIntervals slots.old.items → HaveIntervals slots.new.items) }
     ensures err { IfErr result (λ fault. fault ≡ Memory) }
 {
     for (task, timing) in tasks.iter().enumerate() {
@@ -36,7 +36,7 @@ fn push_slots(slots: &mut Vec<Slot>, tasks: &[Timing], resource: usize) -> Resul
 fn slots(alloc: Global, tasks: &[Vec<Timing>]) -> Result<Vec<Slot>, PlanFault>
     requires { All AllTimed (timings_in tasks.now) }
     ensures ok { IfOk result (λ slots. slots.items ≡ slots_of (timings_in tasks.now)) }
-    ensures positive { IfOk result (λ slots. All (λ s. 0 < s.interval) slots.items) }
+    ensures positive { IfOk result (λ slots. HaveIntervals slots.items) }
     ensures err { IfErr result (λ fault. fault ≡ Memory) }
 {
     let mut slots = Vec::new(alloc);
@@ -67,7 +67,7 @@ fn next_of(slot: &Slot, moment: u32, end: u64) -> u64
 
 /// The first moment above a moment at which one of the tasks is due, at most `end`.
 fn first_after(order: &[Slot], moment: u32, end: u64) -> u64
-    requires positive { All (λ s. 0 < s.interval) order.now }
+    requires positive { HaveIntervals order.now }
     requires before { moment < end }
     ensures above { moment < result }
     ensures end { result ≤ end }
@@ -82,7 +82,7 @@ fn first_after(order: &[Slot], moment: u32, end: u64) -> u64
 
 /// Adds what is due at a moment.
 fn push_dues(dues: &mut Vec<Due>, order: &[Slot], moment: u32) -> Result<(), PlanFault>
-    requires positive { All (λ s. 0 < s.interval) order.now }
+    requires positive { HaveIntervals order.now }
     requires few { length dues.old.items ≤ 100000 }
     ensures ok { OnOk result (dues.new.items ≡ dues.old.items ++ dues_at order.now moment) }
     ensures few { OnOk result (length dues.new.items ≤ 100000) }
@@ -105,7 +105,7 @@ fn push_dues(dues: &mut Vec<Due>, order: &[Slot], moment: u32) -> Result<(), Pla
 
 /// What is due up to and with `until`, where the tasks stand in order.
 fn dues_until(alloc: Global, order: &[Slot], until: u32) -> Result<Vec<Due>, PlanFault>
-    requires { All (λ s. 0 < s.interval) order.now }
+    requires { HaveIntervals order.now }
     ensures ok { IfOk result (λ dues. (dues.items ≡ dues_until order.now until) × (length dues.items ≤ 100000)) }
     ensures too_long { IfErr result (λ fault. fault ≡ TooLong → 100000 < length (dues_until order.now until)) }
 {
@@ -123,8 +123,8 @@ fn dues_until(alloc: Global, order: &[Slot], until: u32) -> Result<Vec<Due>, Pla
 /// `TooLong` comes exactly where they are more than 100,000.
 pub fn plan(alloc: Global, tasks: &[Vec<Timing>], until: u32) -> Result<Vec<Due>, PlanFault>
     requires { All AllTimed (timings_in tasks.now) }
-    ensures ok { IfOk result (λ dues. IsPlanOf (timings_in tasks.now) until dues.items × (length dues.items ≤ 100000)) }
-    ensures too_long { IfErr result (λ fault. fault ≡ TooLong → (dues : List Due) × IsPlanOf (timings_in tasks.now) until dues × (100000 < length dues)) }
+    ensures ok { IfOk result (λ dues. IsShortPlanOf (timings_in tasks.now) until dues.items) }
+    ensures too_long { IfErr result (λ fault. fault ≡ TooLong → HasLongPlan (timings_in tasks.now) until) }
 {
     let mut order = slots(alloc, tasks)?;
     order.sort_unstable();

@@ -6,14 +6,15 @@ use Rattle.std.proofs.lemmas.Bool.{cases_eq}
 use Rattle.std.proofs.lemmas.Option.{slice_get_within, slice_get-map, get_or_from_slice_get, same_Some}
 use Rattle.lists.proofs.Places.{element_at, slice_get-set_same, slice_get-set_other}
 use Rattle.std_blocks.specs.declared.value.Value.{Value}
-use Rattle.power_flow.specs.declared.declarations.Kind.{Kind}
-use Rattle.power_flow.specs.declared.declarations.Declared.{Declared}
-use Rattle.power_flow.specs.declared.declarations.Declared.TheVariants.{Input, Output, Local, Instance}
-use Rattle.power_flow.specs.declared.declarations.Declaration.{Declaration}
+use Rattle.variable_binding.specs.declared.declarations.Kind.{Kind}
+use Rattle.variable_binding.specs.declared.declarations.Declared.{Declared}
+use Rattle.variable_binding.specs.declared.declarations.Declared.TheVariants.{Input, Output, Local, Instance}
+use Rattle.variable_binding.specs.declared.declarations.Declaration.{Declaration}
 use Rattle.power_flow.specs.declared.state.Slot.{Slot}
 use Rattle.power_flow.specs.declared.state.Slot.TheVariants.{Variable, Block}
-use Rattle.power_flow.specs.First.{value_first}
-use Rattle.power_flow.specs.StateValue.{StateValue, variable_of, variable_at, kind_of, IsKindAt, IsSlotOf, AreSlotsOf}
+use Rattle.variable_binding.specs.Kinds.{value_first}
+use Rattle.variable_binding.specs.Kinds.{kind_of}
+use Rattle.power_flow.specs.StateValue.{StateValue, variable_of, variable_at, IsKindAt, IsSlotOf, AreSlotsOf}
 use Rattle.plant_text.specs.declared.address.Space.{Space}
 use Rattle.plant_text.specs.declared.address.Space.TheVariants.{Bit as BitSpace, Word as WordSpace}
 use Rattle.plant_text.specs.declared.address.Address.{Address}

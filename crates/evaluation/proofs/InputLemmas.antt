@@ -1,5 +1,5 @@
 -- Field inputs that are read.
-use Rattle.std.proofs.Common.{◌≡◌, ◌≢◌, ◌≤◌, Bool, true, false, cond, None, IsTrue, nat_cmp, rules, tests, ℕ, ◌+◌, ◌*◌, ◌<◌, ◌⊎◌, ◌↔◌, inl, inr, List, [], ◌∷◌, length, map, slice_get, Some, arith, refl, sym, ap, ◌∙◌}
+use Rattle.std.proofs.Common.{◌≡◌, ◌≢◌, Bool, true, false, cond, IsTrue, nat_cmp, ℕ, ◌+◌, ◌*◌, ◌<◌, ◌⊎◌, ◌↔◌, inl, inr, List, [], ◌∷◌, length, map, slice_get, Some, arith, refl, sym, ap, ◌∙◌}
 use Rattle.std.proofs.lemmas.Bool.{cases_eq}
 use Rattle.std.proofs.lemmas.Option.{slice_get_within, same_Some}
 use Rattle.plant_text.specs.declared.address.Address.{Address}
@@ -12,8 +12,6 @@ use Rattle.std.specs.Ordering.{is_eq}
 use Rattle.std.specs.declared.cmp.Ordering.TheVariants.{Less, Equal, Greater}
 use Rattle.std.specs.Cmp.{nat_cmp_is}
 use Rattle.std.proofs.lemmas.Bool.{cases_lt}
-use Rattle.words.specs.Chars.{is_number}
-use Rattle.words.specs.Numbers.{number_value, limited, number_up_to}
 
 pub map_map : {X Y Z : Type 0} (f : Y → Z) (g : X → Y) (xs : List X) → map f (map g xs) ≡ map (λ x. f (g x)) xs
 map_map f g [] = refl
@@ -94,15 +92,3 @@ known_more inputs n x i old new at is h = elim (cases_eq (key_of i) x) [
     other : (key_of i ≡ x) ⊎ HasKey inputs n x → key_of i ≢ x → HasKey inputs n x
     other (inl e) ne = absurd (ne e)
     other (inr k) ne = k
-
-limited_within : (most n m : ℕ) → limited most n ≡ Some m → m ≤ most
-limited_within most n m h = search (rules, tests)
-
--- a number that is read is within its limit
-pub number_within : (most : ℕ) (w : List ℕ) (m : ℕ) → Some m ≡ number_up_to most w → m ≤ most
-unfolding number_up_to
-number_within most w m h = by (is_number w) (sym h)
-  where
-    by : (b : Bool) → cond b (limited most (number_value w)) None ≡ Some m → m ≤ most
-    by true e = limited_within most (number_value w) m e
-    by false e = absurd cc

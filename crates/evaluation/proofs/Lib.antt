@@ -1,3 +1,4 @@
+pub mod Contents
 pub mod Lists
 pub mod FillLemmas
 pub mod ScanLemmas

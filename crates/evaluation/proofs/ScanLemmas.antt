@@ -5,12 +5,13 @@ use Rattle.std.proofs.lemmas.List.{map_push, take_more}
 use Rattle.std.proofs.lemmas.Option.{slice_get_within, get_or_from_slice_get, same_Some}
 use Rattle.lists.proofs.Places.{element_at}
 use Rattle.std_blocks.specs.declared.value.Value.{Value}
-use Rattle.power_flow.specs.declared.declarations.Declared.{Declared}
-use Rattle.power_flow.specs.declared.declarations.Declared.TheVariants.{Input, Output, Local, Instance}
+use Rattle.variable_binding.specs.declared.declarations.Declared.{Declared}
+use Rattle.variable_binding.specs.declared.declarations.Declared.TheVariants.{Input, Output, Local, Instance}
 use Rattle.power_flow.specs.declared.state.Slot.{Slot}
 use Rattle.power_flow.specs.declared.state.Slot.TheVariants.{Variable, Block}
 use Rattle.power_flow.specs.LadderValue.{LadderValue, Fits}
-use Rattle.power_flow.specs.StateValue.{StateValue, variable_of, variable_at, kind_of, IsSlotOf}
+use Rattle.variable_binding.specs.Kinds.{kind_of}
+use Rattle.power_flow.specs.StateValue.{StateValue, variable_of, variable_at, IsSlotOf}
 use Rattle.plant.specs.declared.task_output.TaskOutput.{TaskOutput}
 use Rattle.plant.specs.PlantValue.{ProgramValue, CodeValue, output_kind, IsOutputOf, IsSoundCode}
 use Rattle.evaluation.specs.Meaning.{IsScanned, AllScanned, output_value}

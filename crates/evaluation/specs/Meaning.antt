@@ -5,7 +5,8 @@ use Rattle.std_blocks.specs.declared.value.Value.{Value}
 use Rattle.power_flow.specs.declared.state.Slot.{Slot}
 use Rattle.power_flow.specs.declared.state.Slot.TheVariants.{Variable}
 use Rattle.power_flow.specs.LadderValue.{LadderValue}
-use Rattle.power_flow.specs.StateValue.{StateValue, variable_at, kind_of}
+use Rattle.variable_binding.specs.Kinds.{kind_of}
+use Rattle.power_flow.specs.StateValue.{StateValue, variable_at}
 use Rattle.power_flow.specs.Scan.{ScanMeaning, AllAreWide}
 use Rattle.plant.specs.declared.binding.Source.{Source}
 use Rattle.plant.specs.declared.binding.Source.TheVariants.{Field, Given}
@@ -17,7 +18,7 @@ use Rattle.evaluation.specs.declared.name.Name.{Name}
 use Rattle.evaluation.specs.declared.take.Take.{Take}
 use Rattle.evaluation.specs.Inputs.{field_value}
 use Rattle.evaluation.specs.Takes.{AreTakesOf}
-use Rattle.evaluation.specs.States.{AreStatesOf, AreSame}
+use Rattle.evaluation.specs.States.{AreStatesOf}
 
 -- One evaluation: what it was asked, what it took, the state before, what it gave, the state after, and the code.
 pub record Evaluated : Type 0 where
@@ -107,15 +108,3 @@ pub record IsAsked (ticket : ℕ) (name : Name) (dt : ℕ) (inputs : List FieldI
   pub is : x ≡ evaluated ticket name dt inputs takes before code x.outputs x.after
   pub meant : IsMeant x
   pub whole : IsWhole x
-
--- two evaluations with the same contents, waiting places aside
-pub record IsSameEvaluation (x y : Evaluated) : Type 0 where
-  pub ticket : x.ticket ≡ y.ticket
-  pub name : x.name ≡ y.name
-  pub dt : x.dt ≡ y.dt
-  pub inputs : x.inputs ≡ y.inputs
-  pub takes : x.takes ≡ y.takes
-  pub before : AreSame x.before y.before
-  pub outputs : x.outputs ≡ y.outputs
-  pub after : AreSame x.after y.after
-  pub code : x.code ≡ y.code

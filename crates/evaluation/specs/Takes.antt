@@ -1,9 +1,9 @@
 -- What a task takes from its producers.
 use Rattle.std.specs.Prelude.{◌≡◌, ℕ, List, Some, None, length, map, slice_get}
 use Rattle.std_blocks.specs.declared.value.Value.{Value}
-use Rattle.power_flow.specs.declared.declarations.Kind.{Kind}
-use Rattle.power_flow.specs.First.{value_first}
-use Rattle.power_flow.specs.StateValue.{kind_of}
+use Rattle.variable_binding.specs.declared.declarations.Kind.{Kind}
+use Rattle.variable_binding.specs.Kinds.{value_first}
+use Rattle.variable_binding.specs.Kinds.{kind_of}
 use Rattle.due_list.specs.declared.task_ref.TaskRef.{TaskRef}
 use Rattle.plant.specs.PlantValue.{CodeValue, expected_at}
 use Rattle.evaluation.specs.declared.take.Take.{Take}

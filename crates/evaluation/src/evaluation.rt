@@ -36,11 +36,12 @@ impl Model for Evaluation {
 }
 
 ghost use Rattle.std.specs.Prelude.{◌≡◌, ◌↔◌, IsTrue, IfOk, map};
-ghost use Rattle.power_flow.specs.StateValue.{kind_of};
+ghost use Rattle.variable_binding.specs.Kinds.{kind_of};
 ghost use Rattle.plant.specs.PlantValue.{image_kinds};
 ghost use Rattle.evaluation.specs.Takes.{AreTakesOf};
 ghost use Rattle.evaluation.specs.States.{AreStatesOf};
-ghost use Rattle.evaluation.specs.Meaning.{Means, IsMeant, IsWhole, IsAsked, IsSameEvaluation};
+ghost use Rattle.evaluation.specs.Meaning.{Means, IsMeant, IsWhole, IsAsked};
+ghost use Rattle.evaluation.specs.Steps.Contents.{HaveSameContents};
 
 /// The outputs and the state after.
 #[tactic(auto, unfolding(crate::specs::Meaning::Means))]
@@ -165,9 +166,17 @@ impl Evaluation {
         &self.code
     }
 
-    /// Whether both have the same contents. Places for a scan to work in do not count.
+    /// Whether both are equal.
     pub fn same(&self, other: &Self) -> bool
-        ensures { IsTrue result ↔ IsSameEvaluation self.now other.now }
+        ensures { IsTrue result ↔ (self.now ≡ other.now) }
+    {
+        self.has_same_contents(other)
+    }
+
+    /// Whether both have the same contents. Places for a scan to work in do not count.
+    fn has_same_contents(&self, other: &Self) -> bool
+        ensures contents { IsTrue result ↔ HaveSameContents self.now other.now }
+        ensures whole { IsWhole self.now × IsWhole other.now }
     {
         self.ticket == other.ticket
             && self.name.same(&other.name)

@@ -20,7 +20,7 @@ impl Model for Frame {
 }
 
 ghost use Rattle.std.specs.Prelude.{◌≡◌, ◌↔◌, IsTrue, IfOk};
-ghost use Rattle.evaluation.specs.Meaning.{IsMeant, IsWhole, IsSameEvaluation};
+ghost use Rattle.evaluation.specs.Meaning.{IsMeant, IsWhole};
 
 impl Frame {
     /// A frame of an evaluation.
@@ -64,9 +64,9 @@ impl Frame {
         self.shared.outputs()
     }
 
-    /// Whether both share evaluations with the same contents. Places for a scan to work in do not count.
+    /// Whether both share evaluations that are equal.
     pub fn same(&self, other: &Self) -> bool
-        ensures { IsTrue result ↔ IsSameEvaluation self.now other.now }
+        ensures { IsTrue result ↔ (self.now ≡ other.now) }
     {
         self.shared.same(&other.shared)
     }

@@ -1,5 +1,5 @@
 ghost use Rattle.std.specs.Prelude.{◌≡◌, IfOk, map};
-ghost use Rattle.power_flow.specs.StateValue.{kind_of};
+ghost use Rattle.variable_binding.specs.Kinds.{kind_of};
 ghost use Rattle.plant.specs.PlantValue.{image_kinds, IsSoundCode};
 ghost use Rattle.evaluation.specs.States.{AreStatesOf};
 ghost use Rattle.evaluation.specs.Meaning.{output_value, AreOutputs};

@@ -1,7 +1,7 @@
 -- What a core is, and what it answers.
 use Rattle.std.specs.Prelude.{◌≡◌, ◌≢◌, ℕ, ◌+◌, ◌<◌, ◌≤◌, ◌==◌, Bool, true, false, List, Option, Some, None, is_some, length, map, slice_get, if◌then◌else◌}
-use Rattle.power_flow.specs.declared.declarations.Kind.{Kind}
-use Rattle.power_flow.specs.StateValue.{kind_of}
+use Rattle.variable_binding.specs.declared.declarations.Kind.{Kind}
+use Rattle.variable_binding.specs.Kinds.{kind_of}
 use Rattle.due_list.specs.declared.task_ref.TaskRef.{TaskRef}
 use Rattle.plant.specs.PlantValue.{CodeValue, PlantValue, code_at, expected_at, image_kinds, IsSoundPlant}
 use Rattle.evaluation.specs.declared.field_input.FieldInput.{FieldInput}

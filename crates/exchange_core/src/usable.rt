@@ -1,5 +1,5 @@
 ghost use Rattle.std.specs.Prelude.{◌↔◌, IsTrue, Some, map};
-ghost use Rattle.power_flow.specs.StateValue.{kind_of};
+ghost use Rattle.variable_binding.specs.Kinds.{kind_of};
 ghost use Rattle.exchange_core.specs.CoreValue.{Expects};
 ghost use Rattle.exchange_core.specs.Steps.Knowing.{ExpectsOf};
 

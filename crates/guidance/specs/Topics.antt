@@ -4,8 +4,8 @@ use Rattle.ladder_text.specs.declared.draw_fault.DrawFaultKind.{DrawFaultKind}
 use Rattle.ladder_text.specs.declared.draw_fault.DrawFaultKind.TheVariants as draw
 use Rattle.network.specs.declared.fault.GraphFaultKind.{GraphFaultKind}
 use Rattle.network.specs.declared.fault.GraphFaultKind.TheVariants as graph
-use Rattle.power_flow.specs.declared.bind.BindKind.{BindKind}
-use Rattle.power_flow.specs.declared.bind.BindKind.TheVariants as bind
+use Rattle.variable_binding.specs.declared.bind_fault.BindKind.{BindKind}
+use Rattle.variable_binding.specs.declared.bind_fault.BindKind.TheVariants as bind
 use Rattle.plant.specs.declared.plant_fault.PlantFaultKind.{PlantFaultKind}
 use Rattle.plant.specs.declared.plant_fault.PlantFaultKind.TheVariants as plant
 use Rattle.plant.specs.declared.plant_fault.BodyFault.{BodyFault}

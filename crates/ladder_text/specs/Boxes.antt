@@ -1,13 +1,13 @@
 -- Where boxes begin, and what they are.
 use Rattle.std.specs.Prelude.{ℕ, zero, suc, ◌+◌, ◌-◌, List, [], ◌∷◌, ◌++◌, ◌==◌, if◌then◌else◌, length, slice_index_or, take, drop, Bool, true, false, ◌&&◌, ◌||◌, not, nat_lt, nat_le, Option, Some, None, is_some}
 use Rattle.std.specs.List.{slice_split, list_all, filter}
-use Rattle.words.specs.declared.names.BlockName.{BlockName}
+use Rattle.std_blocks.specs.declared.block_type.BlockType.{BlockType}
 use Rattle.ladder_text.specs.declared.drawn_box.DrawnPin.{DrawnPin}
 use Rattle.ladder_text.specs.declared.boxes.outline.Outline.{Outline}
 use Rattle.ladder_text.specs.declared.drawn_box.Operand.{Operand}
 use Rattle.ladder_text.specs.declared.drawn_box.Side.TheVariants as side
 use Rattle.ladder_text.specs.Rows.{Rows, char_at, height, width, run, run_back, upto, trimmed}
-use Rattle.words.specs.Chars.{block_name, is_identifier, is_word_char}
+use Rattle.words.specs.Chars.{block_type, is_identifier, is_word_char}
 
 -- nothing is drawn in column c
 abbrev pub is_blank_column : Rows → ℕ → Bool
@@ -43,8 +43,8 @@ without_leading [] = []
 without_leading (x ∷ xs) = if x == 32 then without_leading xs else x ∷ xs
 
 -- the block type that stands alone, blanks aside, in the row below the top side
-abbrev pub block_in : Rows → ℕ → ℕ → Option BlockName
-block_in d r c = block_name (trimmed (without_leading (cut d (r + 1) (c + 1) (top_end d r c))))
+abbrev pub block_in : Rows → ℕ → ℕ → Option BlockType
+block_in d r c = block_type (trimmed (without_leading (cut d (r + 1) (c + 1) (top_end d r c))))
 
 -- a box begins at (r, c)
 unfoldable pub begins_box : Rows → ℕ → ℕ → Bool
@@ -133,7 +133,7 @@ abbrev pub is_edge : Rows → ℕ → ℕ → ℕ → Bool
 is_edge d a e r = char_at d r a == 43 && a + 1 + dashes_after d r a == e && char_at d r e == 43
 
 -- the box that begins at (r, c), if its sides, bottom and inner rows are as they should be
-abbrev pub outline_with : Rows → ℕ → ℕ → ℕ → ℕ → Option BlockName → Option (List DrawnPin) → Option Outline
+abbrev pub outline_with : Rows → ℕ → ℕ → ℕ → ℕ → Option BlockType → Option (List DrawnPin) → Option Outline
 outline_with d r c bottom e (Some block) (Some pins) =
     if is_edge d c e bottom then Some (record { top = r; left = c; bottom = bottom; right = e; block = block; pins = pins }) else None
 outline_with d r c bottom e None pins = None

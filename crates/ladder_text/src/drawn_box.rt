@@ -2,7 +2,8 @@ ghost use Rattle.std.specs.Prelude.{◌≡◌, [], ◌∷◌, ◌++◌, IfOk, On
 
 use std::alloc::{AllocError, Global};
 use std::marker::Model;
-use words::{BlockName, Text};
+use std_blocks::BlockType;
+use words::Text;
 
 /// A side of a box: inputs stand on the left, outputs on the right.
 #[derive(Clone, Copy, Debug, PartialEq, Eq)]
@@ -125,7 +126,7 @@ pub struct DrawnBox {
     pub left: usize,
     pub bottom: usize,
     pub right: usize,
-    pub block: BlockName,
+    pub block: BlockType,
     /// The word above the top side, an identifier.
     pub instance: Text,
     pub pins: Pins,

@@ -33,7 +33,8 @@ pub use drawing::Drawing;
 pub use drawn_box::{DrawnBox, DrawnPin, Operand, Pins, Side};
 pub use mark::Mark;
 pub use place::Place;
+pub use std_blocks::BlockType;
 pub use words::{
-    BlockName, Text, block_name, duration_up_to, is_duration, is_identifier, is_number,
-    is_plain_name, number_up_to,
+    Text, block_type, duration_up_to, is_duration, is_identifier, is_number, is_plain_name,
+    number_up_to,
 };

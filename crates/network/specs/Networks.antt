@@ -1,5 +1,5 @@
 -- The networks of a drawing.
-use Rattle.std.specs.Prelude.{◌≡◌, ℕ, ◌+◌, ◌-◌, min, ◌<◌, ◌≤◌, ◌⊎◌, ◌↔◌, List, Some, IsTrue, Contains, slice_get, length}
+use Rattle.std.specs.Prelude.{◌≡◌, ◌≢◌, ℕ, ◌+◌, ◌-◌, min, ◌<◌, ◌≤◌, ◌⊎◌, ◌↔◌, List, Some, IsTrue, Contains, slice_get, length}
 use Rattle.std.specs.Str.{str_eq_ignore_ascii_case}
 use Rattle.ladder_text.specs.Picture.{Picture, mark_at}
 use Rattle.ladder_text.specs.declared.mark.Mark.TheVariants.{Rail as RailMark, Wire as WireMark, Join as JoinMark, Upright as UprightMark}
@@ -121,3 +121,11 @@ IsFaultAt g Memory p = Unit {0}
 pub record IsFoundAt (first_line : ℕ) (p : Place) (fault : GraphFault) : Type 0 where
   pub line : fault.line ≡ min (first_line + (p.row - 1)) 18446744073709551615
   pub column : fault.column ≡ p.column
+
+-- a fault other than want of memory is the first one of the drawing's networks, and is told with its place
+abbrev pub IsFirstFault : Picture → GraphFault → Type 0
+IsFirstFault g fault = fault.kind ≢ Memory → (p : Place) × IsFaultAt g fault.kind p × IsFoundAt g.first_line p fault
+
+-- want of memory has no place: line 0 and column 0
+abbrev pub HasPlaceUnlessMemory : GraphFault → Type 0
+HasPlaceUnlessMemory fault = fault.kind ≡ Memory → (fault.line ≡ 0) × (fault.column ≡ 0)

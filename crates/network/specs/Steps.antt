@@ -7,4 +7,5 @@ pub mod Pairs
 pub mod Ranks
 pub mod Rows
 pub mod Symbols
+pub mod Tables
 pub mod Twice

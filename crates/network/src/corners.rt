@@ -3,7 +3,7 @@ ghost use Rattle.std.specs.BTreeMap.{get_by_text};
 ghost use Rattle.std.specs.Str.{str_to_ascii_lowercase};
 ghost use Rattle.network.specs.Links.{place};
 ghost use Rattle.network.specs.Networks.{IsBefore};
-ghost use Rattle.network.specs.Steps.Corners.{AreFirstCorners, IsEarlier, TakesCorner};
+ghost use Rattle.network.specs.Steps.Corners.{AreFirstCorners, IsEarlier, TakesBox, HasEarlier};
 
 use crate::places::is_before;
 use ladder_text::{DrawnBox, Place};
@@ -51,7 +51,7 @@ fn known_corner(corners: &Corners, key: &str) -> Option<Place>
 
 /// Takes a box's corner for its name, unless an earlier one is there.
 fn take_corner(alloc: Global, corners: &mut Corners, drawn: &DrawnBox) -> Result<(), AllocError>
-    ensures { OnOk result (TakesCorner corners.old (str_to_ascii_lowercase drawn.now.instance) (place drawn.now.top drawn.now.left) corners.new) }
+    ensures { OnOk result (TakesBox corners.old drawn.now corners.new) }
 {
     let key = key_of(alloc, drawn)?;
     let known = known_corner(corners, key.as_str());
@@ -73,7 +73,7 @@ pub fn corners_of(alloc: Global, boxes: &[DrawnBox]) -> Result<Corners, AllocErr
 
 /// Whether an earlier corner is known for the box's name.
 pub fn is_twice(alloc: Global, corners: &Corners, drawn: &DrawnBox) -> Result<bool, AllocError>
-    ensures { IfOk result (λ twice. IsTrue twice ↔ IsSomeAnd (get_by_text corners.now (str_to_ascii_lowercase drawn.now.instance)) (λ p. IsBefore p (place drawn.now.top drawn.now.left))) }
+    ensures { IfOk result (λ twice. IsTrue twice ↔ HasEarlier corners.now drawn.now) }
 {
     let key = key_of(alloc, drawn)?;
     let known = known_corner(corners, key.as_str());

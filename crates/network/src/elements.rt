@@ -1,7 +1,7 @@
 ghost use Rattle.std.specs.Prelude.{◌≡◌, ◌+◌, ◌++◌, ◌∷◌, [], MatchOption, IfOk, OnOk};
 ghost use Rattle.ladder_text.specs.Picture.{IsSound};
 ghost use Rattle.network.specs.Links.{place};
-ghost use Rattle.network.specs.Steps.Listing.{AreElementsBefore, AreElementsOf};
+ghost use Rattle.network.specs.Steps.Listing.{AreElementsBefore, AreElementsOf, AddsFound};
 ghost use Rattle.network.specs.Steps.Symbols.{AreSymbols};
 
 use crate::element::Element;
@@ -19,7 +19,7 @@ fn push(elements: &mut Vec<Element>, element: Element) -> Result<(), AllocError>
 
 /// Adds an element at the end, if there is one.
 fn push_found(elements: &mut Vec<Element>, found: Option<Element>) -> Result<(), AllocError>
-    ensures { OnOk result (MatchOption found (elements.new.items ≡ elements.old.items) (λ e. elements.new.items ≡ elements.old.items ++ e ∷ [])) }
+    ensures { OnOk result (AddsFound found elements.old.items elements.new.items) }
 {
     match found {
         Some(element) => push(elements, element),

@@ -2,8 +2,9 @@ ghost use Rattle.std.specs.Prelude.{◌≡◌, ◌+◌, max, ◌≤◌, ◌↔�
 ghost use Rattle.ladder_text.specs.declared.place.Place.{Place};
 ghost use Rattle.network.specs.Apart.{first_place};
 ghost use Rattle.network.specs.Networks.{lowest_row};
-ghost use Rattle.network.specs.Steps.Ranks.{ArePlaces, IsUnmetAt, IsTall, IsTallAt};
+ghost use Rattle.network.specs.Steps.Ranks.{ArePlaces, BeginsAt, IsUnmetAt, IsTall, IsTallAt};
 ghost use Rattle.network.specs.Steps.Twice.{IsTwiceIn};
+ghost use Rattle.network.specs.Steps.Tables.{AreSuch};
 
 use crate::corners::{corner_of, corners_of, is_twice};
 use crate::element::Element;
@@ -59,9 +60,9 @@ fn is_tall(elements: &[Element]) -> bool
 
 /// Adds the places where the elements begin.
 fn push_firsts(places: &mut Vec<Place>, elements: &[Element]) -> Result<(), AllocError>
-    ensures each { OnOk result ((k : ℕ) (p : Place) → slice_get places.new.items k ≡ Some p → Contains places.old.items p ⊎ Any (λ e. first_place e ≡ p) elements.now) }
+    ensures each { OnOk result (AreSuch (λ p. Contains places.old.items p ⊎ BeginsAt elements.now p) places.new.items) }
     ensures kept { OnOk result ((p : Place) → Contains places.old.items p → Contains places.new.items p) }
-    ensures added { OnOk result ((p : Place) → Any (λ e. first_place e ≡ p) elements.now → Contains places.new.items p) }
+    ensures added { OnOk result ((p : Place) → BeginsAt elements.now p → Contains places.new.items p) }
 {
     for element in elements {
         places.push(element.first_place())?;

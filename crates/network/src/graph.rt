@@ -1,6 +1,7 @@
 ghost use Rattle.std.specs.Prelude.{◌≡◌, ◌<◌, ℕ, List, [], Some, IfOk, IfSome, OnOk, slice_get, length};
 ghost use Rattle.network.specs.declared.element.Element.{Element};
-ghost use Rattle.network.specs.Steps.Ranks.{AreSplit, IsPut};
+ghost use Rattle.network.specs.Steps.Ranks.{AreAllSplit, IsPut};
+ghost use Rattle.network.specs.Steps.Tables.{AreSuch};
 
 use crate::element::Element;
 use crate::elements::elements_of;
@@ -81,7 +82,7 @@ fn sizes_of(alloc: Global, ranks: &[Option<usize>], count: usize) -> Result<Vec<
 /// Networks without elements, with room for so many in each.
 fn empty_networks(alloc: Global, sizes: &[usize]) -> Result<Vec<Network>, AllocError>
     ensures long { IfOk result (λ networks. length networks.items ≡ length sizes.now) }
-    ensures empty { IfOk result (λ networks. (m : ℕ) (es : List Element) → slice_get networks.items m ≡ Some es → es ≡ []) }
+    ensures empty { IfOk result (λ networks. AreSuch (λ (es : List Element). es ≡ []) networks.items) }
 {
     let mut networks = Vec::with_capacity(alloc, sizes.len())?;
     for size in sizes {
@@ -110,7 +111,7 @@ fn split(
 ) -> Result<Vec<Network>, AllocError>
     requires long { length ranks.now ≡ length elements.items }
     requires within { (i m : ℕ) → slice_get ranks.now i ≡ Some (Some m) → m < count }
-    ensures { IfOk result (λ networks. AreSplit elements.items ranks.now count networks.items (length elements.items)) }
+    ensures { IfOk result (λ networks. AreAllSplit elements.items ranks.now count networks.items) }
 {
     let sizes = sizes_of(alloc, ranks, count)?;
     let mut networks = empty_networks(alloc, &sizes)?;
@@ -145,15 +146,15 @@ impl Graph {
     ghost use Rattle.std.specs.Prelude.{◌≡◌, ◌≢◌, ◌↔◌, ◌+◌, IsTrue, Any, IfOk, IfErr};
     ghost use Rattle.network.specs.GraphValue.{IsSoundGraph};
     ghost use Rattle.ladder_text.specs.declared.place.Place.{Place};
-    ghost use Rattle.network.specs.Networks.{AreNetworks, IsFaultless, IsFaultAt, IsFoundAt};
+    ghost use Rattle.network.specs.Networks.{AreNetworks, IsFaultless, IsFirstFault, HasPlaceUnlessMemory};
 
     /// The networks of a drawing.
     ///
     /// Refuses a drawing with a network that doesn't meet the left rail or has more than 200 rows, or with two boxes of one name.
     pub fn build(alloc: Global, drawing: &Drawing) -> Result<Graph, GraphFault>
         ensures ok { IfOk result (λ graph. AreNetworks drawing.now graph × IsFaultless drawing.now) }
-        ensures fault { IfErr result (λ fault. fault.kind ≢ GraphFaultKind.Memory → (p : Place) × IsFaultAt drawing.now fault.kind p × IsFoundAt drawing.now.first_line p fault) }
-        ensures memory { IfErr result (λ fault. fault.kind ≡ GraphFaultKind.Memory → (fault.line ≡ 0) × (fault.column ≡ 0)) }
+        ensures fault { IfErr result (IsFirstFault drawing.now) }
+        ensures memory { IfErr result HasPlaceUnlessMemory }
     {
         let _rows = drawing.rows();
         let first_line = drawing.first_line();

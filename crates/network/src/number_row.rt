@@ -1,4 +1,5 @@
 ghost use Rattle.std.specs.Prelude.{◌≡◌, ◌≢◌, ℕ, [], Some, OnOk, slice_get};
+ghost use Rattle.network.specs.Steps.Tables.{KeepsOthers};
 
 use std::alloc::{AllocError, Global};
 use std::marker::Model;
@@ -36,7 +37,7 @@ impl NumberRow {
     /// Writes a number into a column. Columns that are new on its left get 0.
     pub fn put(&mut self, column: usize, number: usize) -> Result<(), AllocError>
         ensures here { OnOk result (slice_get self.new column ≡ Some number) }
-        ensures kept { (k n : ℕ) → k ≢ column → slice_get self.old k ≡ Some n → slice_get self.new k ≡ Some n }
+        ensures kept { KeepsOthers column self.old self.new }
     {
         if self.numbers.len() <= column {
             self.numbers.resize(column.saturating_add(1), 0)?;

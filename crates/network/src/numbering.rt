@@ -1,6 +1,7 @@
 ghost use Rattle.std.specs.Prelude.{◌≡◌, ◌≢◌, ◌≤◌, ℕ, List, OnOk, Some, length, slice_get};
 ghost use Rattle.ladder_text.specs.declared.place.Place.{Place};
-ghost use Rattle.network.specs.Steps.Numbers.{number_at};
+ghost use Rattle.network.specs.Steps.Numbers.{number_at, KeepsNumbers};
+ghost use Rattle.network.specs.Steps.Tables.{Keeps, HasNoOther};
 
 use crate::number_row::NumberRow;
 use ladder_text::Place;
@@ -37,7 +38,7 @@ impl Model for Numbering {
 
 /// Adds rows without numbers, until there are so many.
 fn add_rows(alloc: Global, rows: &mut Vec<NumberRow>, count: usize) -> Result<(), AllocError>
-    ensures kept { (k : ℕ) (row : List ℕ) → slice_get rows.old.items k ≡ Some row → slice_get rows.new.items k ≡ Some row }
+    ensures kept { Keeps rows.old.items rows.new.items }
     ensures many { OnOk result (count ≤ length rows.new.items) }
 {
     for _row in rows.len()..count {
@@ -54,7 +55,7 @@ fn put_number(
     number: usize,
 ) -> Result<(), AllocError>
     ensures here { OnOk result (number_at rows.new.items place ≡ Some number) }
-    ensures kept { (p : Place) (n : ℕ) → p ≢ place → number_at rows.old.items p ≡ Some n → number_at rows.new.items p ≡ Some n }
+    ensures kept { KeepsNumbers place rows.old.items rows.new.items }
 {
     add_rows(alloc, rows, place.row.saturating_add(1))?;
     rows[place.row].put(place.column, number)?;
@@ -77,7 +78,7 @@ fn spot_at(spots: &[Spot], number: usize) -> Option<Spot>
 impl Numbering {
     ghost use Rattle.network.specs.declared.numbering.Spot.{Spot};
     ghost use Rattle.std.specs.Prelude.{◌≡◌, ◌⊎◌, ◌↔◌, ℕ, [], ◌∷◌, ◌++◌, Some, IfOk, OnOk, MatchOption, slice_get, length};
-    ghost use Rattle.network.specs.Steps.Numbers.{IsSpot};
+    ghost use Rattle.network.specs.Steps.Numbers.{IsSpot, IsNoSpot, IsOwner, spot};
 
     /// Without numbers, with room for so many.
     pub fn with_capacity(alloc: Global, capacity: usize) -> Result<Self, AllocError>
@@ -106,8 +107,8 @@ impl Numbering {
 
     /// The number of the element that a place belongs to.
     pub fn owner(&self, place: Place) -> Option<usize>
-        ensures at { MatchOption result ((k : ℕ) → IsSpot self.now k place → ⊥) (λ e. (k : ℕ) × (slice_get self.now k ≡ Some (record { place = place; element = e }))) }
-        ensures only { (k e : ℕ) → slice_get self.now k ≡ Some (record { place = place; element = e }) → result ≡ Some e }
+        ensures at { MatchOption result (IsNoSpot self.now place) (IsOwner self.now place) }
+        ensures only { (k e : ℕ) → slice_get self.now k ≡ Some (spot place e) → result ≡ Some e }
     {
         let number = self.find(place)?;
         Some(self.spots[number].element)
@@ -116,8 +117,8 @@ impl Numbering {
     /// The number of a place, which is added if it is new.
     pub fn number(&mut self, place: Place, element: usize) -> Result<usize, AllocError>
         ensures found { IfOk result (λ k. IsSpot self.new k place) }
-        ensures kept { OnOk result ((k : ℕ) (s : Spot) → slice_get self.old k ≡ Some s → slice_get self.new k ≡ Some s) }
-        ensures each { OnOk result ((k : ℕ) (s : Spot) → slice_get self.new k ≡ Some s → (slice_get self.old k ≡ Some s) ⊎ (s ≡ record { place = place; element = element })) }
+        ensures kept { OnOk result (Keeps self.old self.new) }
+        ensures each { OnOk result (HasNoOther (spot place element) self.old self.new) }
     {
         if let Some(number) = self.find(place) {
             return Ok(number);

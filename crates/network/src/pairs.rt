@@ -7,8 +7,9 @@ ghost use Rattle.network.specs.declared.labels.Pair.{Pair};
 ghost use Rattle.network.specs.Links.{IsPinPlace};
 ghost use Rattle.network.specs.Apart.{Has};
 ghost use Rattle.network.specs.Steps.Listing.{AreElementsOf};
-ghost use Rattle.network.specs.Steps.Pairs.{AreLaidOut, Leaves, AreLast, IsLeftPair, IsUnder, IsUpperPair, IsNewPair, Adds, ArePairsTo, AreLabels};
+ghost use Rattle.network.specs.Steps.Pairs.{AreLaidOut, Leaves, AreLast, IsLeftPair, IsUnder, IsUpperPair, IsNewPair, Adds, ArePairsTo, AreLabels, IsLeftPinPair, StandsInRows, AddsPairsOf, AreLabelsOf};
 ghost use Rattle.network.specs.Steps.Rows.{Puts};
+ghost use Rattle.network.specs.Steps.Tables.{AreBelow};
 
 use crate::element::Element;
 use crate::labels::{Pair, settle_labels};
@@ -45,7 +46,7 @@ fn push_left_pins(
     element: usize,
 ) -> Result<(), AllocError>
     requires { (p : Place) → IsPinPlace Left drawn.now p → p.row < length last.now }
-    ensures { OnOk result (Adds (λ m. (p : Place) × IsPinPlace Left drawn.now p × IsLeftPair last.now p element m) pairs.old.items pairs.new.items) }
+    ensures { OnOk result (Adds (IsLeftPinPair last.now drawn.now element) pairs.old.items pairs.new.items) }
 {
     let column = drawn.left;
     for pin in drawn.pins.as_slice() {
@@ -100,8 +101,8 @@ fn push_pairs(
     k: usize,
 ) -> Result<(), AllocError>
     requires within { k < length elements.now }
-    requires rows { (e : Element) (p : Place) → slice_get elements.now k ≡ Some e → Has e p → p.row < length last.now }
-    ensures { OnOk result ((e : Element) → slice_get elements.now k ≡ Some e → Adds (IsNewPair elements.now last.now e k) pairs.old.items pairs.new.items) }
+    requires rows { StandsInRows elements.now k (length last.now) }
+    ensures { OnOk result (AddsPairsOf elements.now last.now k pairs.old.items pairs.new.items) }
 {
     match &elements[k] {
         Element::Wire(at) => push_left(pairs, last, *at, k),
@@ -175,9 +176,9 @@ fn own_labels(alloc: Global, count: usize) -> Result<Vec<usize>, AllocError>
 /// A label for each element: one for those that a chain joins.
 pub fn labels_of(alloc: Global, rows: usize, elements: &[Element]) -> Result<Vec<usize>, AllocError>
     requires { AreLaidOut rows elements.now }
-    ensures labels { IfOk result (λ labels. (g : Picture) → IsSound g → AreElementsOf g elements.now → AreLabels g elements.now labels.items) }
+    ensures labels { IfOk result (λ labels. AreLabelsOf elements.now labels.items) }
     ensures long { IfOk result (λ labels. length labels.items ≡ length elements.now) }
-    ensures within { IfOk result (λ labels. (k : ℕ) → k < length elements.now → slice_index labels.items k < length elements.now) }
+    ensures within { IfOk result (λ labels. AreBelow (length elements.now) labels.items (length elements.now)) }
 {
     let pairs = pairs_of(alloc, rows, elements)?;
     let mut labels = own_labels(alloc, elements.len())?;

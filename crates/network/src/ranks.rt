@@ -6,7 +6,8 @@ ghost use Rattle.network.specs.declared.row_table.InRow.{InRow};
 ghost use Rattle.network.specs.Networks.{AreLeftRails};
 ghost use Rattle.network.specs.Steps.Listing.{AreElementsOf};
 ghost use Rattle.network.specs.Steps.Pairs.{AreTakers, AreLabels};
-ghost use Rattle.network.specs.Steps.Ranks.{AreTops, AreRanksOf, AreEntries, AreRanks};
+ghost use Rattle.network.specs.Steps.Ranks.{AreTops, AreRanksOf, AreEntries, AreRanks, AreTopsOf, HaveLabels};
+ghost use Rattle.network.specs.Steps.Tables.{AreNone, AreBelow};
 
 use crate::element::Element;
 use crate::pairs::labels_of;
@@ -16,7 +17,7 @@ use ladder_text::{Drawing, Place};
 use std::alloc::{AllocError, Global};
 
 /// A network's label, with the topmost row at which the network meets the left rail.
-#[derive(Clone, Copy, Debug, PartialEq, Eq)]
+#[derive(Clone, Copy)]
 pub struct Top {
     pub label: usize,
     pub row: usize,
@@ -60,11 +61,10 @@ fn tops_of(
     table: &mut [Option<usize>],
 ) -> Result<Vec<Top>, AllocError>
     requires rows { (k : ℕ) (p : Place) → slice_get rails.now k ≡ Some p → p.row < length takers.now }
-    requires owners { (r : ℕ) (t : InRow) → slice_get takers.now r ≡ Some (Some t) → t.element < length labels.now }
-    requires within { (k : ℕ) → k < length labels.now → slice_index labels.now k < length table.old }
-    requires none { (l : ℕ) (r : Option ℕ) → slice_get table.old l ≡ Some r → r ≡ None }
-    ensures tops { IfOk result (λ tops. (g : Picture) (elements : List Element) → IsSound g → AreElementsOf g elements → AreLeftRails g rails.now
-        → AreTakers elements (g.left + 1) takers.now (length elements) → AreLabels g elements labels.now → AreTops g elements labels.now tops.items) }
+    requires owners { HaveLabels takers.now (length labels.now) }
+    requires within { AreBelow (length labels.now) labels.now (length table.old) }
+    requires none { AreNone table.old }
+    ensures tops { IfOk result (λ tops. AreTopsOf rails.now takers.now labels.now tops.items) }
     ensures table { IfOk result (λ tops. AreRanksOf tops.items table.new) }
 {
     let mut tops = Vec::new(alloc);
@@ -79,7 +79,7 @@ fn tops_of(
 
 fn no_entries(alloc: Global, count: usize) -> Result<Vec<Option<usize>>, AllocError>
     ensures long { IfOk result (λ table. length table.items ≡ count) }
-    ensures none { IfOk result (λ table. (l : ℕ) (r : Option ℕ) → slice_get table.items l ≡ Some r → r ≡ None) }
+    ensures none { IfOk result (λ table. AreNone table.items) }
 {
     let mut table = Vec::with_capacity(alloc, count)?;
     for _entry in 0..count {

@@ -1,11 +1,12 @@
 ghost use Rattle.std.specs.Prelude.{◌≡◌};
+ghost use Rattle.network.specs.Steps.Tables.{AreNone};
 
 use ladder_text::{DrawnBox, Place, Side};
 use std::alloc::{AllocError, Global};
 use std::marker::Model;
 
 /// An element's place in a row: the element's number, and the column.
-#[derive(Clone, Copy, Debug, PartialEq, Eq)]
+#[derive(Clone, Copy)]
 pub struct InRow {
     pub element: usize,
     pub column: usize,
@@ -36,7 +37,7 @@ impl RowTable {
     /// So many rows without places.
     pub fn new(alloc: Global, count: usize) -> Result<Self, AllocError>
         ensures long { IfOk result (λ table. length table ≡ count) }
-        ensures none { IfOk result (λ table. (r : ℕ) (t : Option InRow) → slice_get table r ≡ Some t → t ≡ None) }
+        ensures none { IfOk result (λ table. AreNone table) }
     {
         let mut rows = Vec::with_capacity(alloc, count)?;
         for _row in 0..count {

@@ -7,64 +7,13 @@ use Rattle.std.proofs.lemmas.List.{take_more, length_push, get_or_push, get_or_a
 use Rattle.std.proofs.lemmas.List.Elements.{filter_map-append, filter-append}
 use Rattle.std.proofs.lemmas.Option.{same_Some, slice_get_within, slice_get-map, get_or_from_slice_get, slice_get-get_or}
 use Rattle.lists.proofs.Places.{element_at, same_by_each}
-use Rattle.plant.specs.PlantValue.{CodeValue}
-use Rattle.power_flow.specs.StateValue.{StateValue}
-use Rattle.evaluation.specs.Meaning.{Evaluated, IsWhole, IsSameEvaluation}
-use Rattle.evaluation.specs.States.{AreStatesOf, AreSame}
-use Rattle.world.specs.Book.{BookValue}
+use Rattle.evaluation.specs.Meaning.{Evaluated}
+use Rattle.exchange.specs.Book.{BookValue}
 use Rattle.node.specs.declared.command.Command.{Command}
 use Rattle.node.specs.declared.step.Step.{Step}
 use Rattle.node.specs.declared.journal.Journal.{Journal}
 use Rattle.node.specs.Reports.{firsts_of, ticket_of, tickets_of, is_evaluate, is_unanswered, unanswered_of, AreNumbered}
 use Rattle.node.specs.Steps.Collecting.{AllBegin, AreMarks, RiseTo}
-
--- a state that fits a ladder has the ladder's waiting places, so values and memories are all that can differ
-same_states : (s t : StateValue) → s.slots ≡ t.slots → s.memories ≡ t.memories → s.waiting_links ≡ t.waiting_links → s.waiting_results ≡ t.waiting_results → s ≡ t
-same_states s t slots memories links results = rw (slots, memories, links, results) refl
-
-states_equal : (c : CodeValue) (a b : List StateValue) → AreStatesOf c a → AreStatesOf c b → AreSame a b → a ≡ b
-states_equal c a b one other same = same_by_each a b same.many (λ k s t at found.
-    let lt = slice_get_within a k s at in
-    let many = one.many in
-    let p = element_at c.programs k (omega arith) in
-    let x = one.each k p.0 s p.1 at in
-    let y = other.each k p.0 t p.1 found in
-    let is = same.each k s t at found in
-    same_states s t is.slots is.memories (x.waiting_links ∙ sym y.waiting_links) (x.waiting_results ∙ sym y.waiting_results))
-
--- whole evaluations with the same contents are equal
-pub evaluations_equal : (x y : Evaluated) → IsWhole x → IsWhole y → IsSameEvaluation x y → x ≡ y
-evaluations_equal x y one other same =
-    rw (same.ticket, same.name, same.dt, same.inputs, same.takes, before, same.outputs, after, same.code) refl
-  where
-    of_x : (states : List StateValue) → AreStatesOf y.code states → AreStatesOf x.code states
-    of_x states fit = subst (λ (c : CodeValue). AreStatesOf c states) (sym same.code) fit
-
-    before : x.before ≡ y.before
-    before = states_equal x.code x.before y.before one.before_fits (of_x y.before other.before_fits) same.before
-
-    after : x.after ≡ y.after
-    after = states_equal x.code x.after y.after one.after_fits (of_x y.after other.after_fits) same.after
-
-same_as_itself : (states : List StateValue) → AreSame states states
-same_as_itself states = record {
-  many = refl;
-  each = λ i s t at found. (let same : s ≡ t = same_Some s t (sym at ∙ found) in record { slots = ap (λ (x : StateValue). x.slots) same; memories = ap (λ (x : StateValue). x.memories) same });
-}
-
--- an evaluation has its own contents
-pub has_own_contents : (x y : Evaluated) → x ≡ y → IsSameEvaluation x y
-has_own_contents x y e = subst (IsSameEvaluation x) e record {
-  ticket = refl;
-  name = refl;
-  dt = refl;
-  inputs = refl;
-  takes = refl;
-  before = same_as_itself x.before;
-  outputs = refl;
-  after = same_as_itself x.after;
-  code = refl;
-}
 
 -- the book begins in the first incarnations of the journals that stand at their places
 pub firsts_are : (book : BookValue) (journals : List Journal) → length journals ≡ length book.first → AllBegin book.first journals → book.first ≡ firsts_of journals

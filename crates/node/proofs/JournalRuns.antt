@@ -8,7 +8,7 @@ use Rattle.due_list.specs.declared.task_ref.TaskRef.{TaskRef}
 use Rattle.plant.specs.PlantValue.{PlantValue}
 use Rattle.evaluation.specs.Meaning.{Evaluated}
 use Rattle.exchange_core.specs.Last.{same_task}
-use Rattle.world.specs.Fits.{Each, last_in}
+use Rattle.exchange.specs.Fits.{Each, last_in}
 use Rattle.node.specs.declared.step.Step.{Step}
 use Rattle.node.specs.declared.step.Step.TheVariants.{Took, Made, Restarted}
 use Rattle.node.specs.Journals.{incarnation_of, made, newest, made_of, last_made, IsNextMade, Follows, EachAfter}

@@ -7,9 +7,9 @@ use Rattle.lists.proofs.Places.{element_at}
 use Rattle.plant.specs.PlantValue.{PlantValue, IsSoundPlant}
 use Rattle.evaluation.specs.Meaning.{Evaluated}
 use Rattle.exchange_core.specs.Last.{state_of}
-use Rattle.world.specs.Run.{IsRun}
-use Rattle.world.specs.Fits.{Each, Fits, AllFit, last_in}
-use Rattle.world.specs.Book.{BookValue, CouldBeMade, AllCouldBeMade}
+use Rattle.exchange.specs.Run.{IsRun}
+use Rattle.exchange.specs.Fits.{Each, Fits, AllFit, last_in}
+use Rattle.exchange.specs.Book.{BookValue, CouldBeMade, AllCouldBeMade}
 use Rattle.node.specs.declared.journal.Journal.{Journal}
 use Rattle.node.specs.Journals.{made, last_made, IsLawful}
 use Rattle.node.specs.Reports.{entries_of, IsFittingBook, AreJournalsOf, AreInBook, RunsAgain}

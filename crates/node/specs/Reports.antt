@@ -4,11 +4,11 @@ use Rattle.std.specs.List.{filter_map, list_any}
 use Rattle.std.specs.List.Sorted.{IsStrictlyIncreasing}
 use Rattle.plant.specs.PlantValue.{PlantValue, tasks_at}
 use Rattle.evaluation.specs.Meaning.{Evaluated}
-use Rattle.world.specs.declared.event.Event.{Event}
-use Rattle.world.specs.History.{Setting}
-use Rattle.world.specs.Run.{IsRun}
-use Rattle.world.specs.Fits.{AllFit}
-use Rattle.world.specs.Book.{BookValue, Replays}
+use Rattle.exchange.specs.declared.event.Event.{Event}
+use Rattle.exchange.specs.History.{Setting}
+use Rattle.exchange.specs.Run.{IsRun}
+use Rattle.exchange.specs.Fits.{AllFit}
+use Rattle.exchange.specs.Book.{BookValue, Replays}
 use Rattle.node.specs.declared.command.Command.{Command}
 use Rattle.node.specs.declared.act.Act.{Act}
 use Rattle.node.specs.declared.act.Act.TheVariants.{Evaluate, Restart}

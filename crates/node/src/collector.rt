@@ -20,9 +20,9 @@ use crate::journals::Journals;
 use crate::node_fault::NodeFault;
 use crate::report::Report;
 use crate::run_fault::RunFault;
+use exchange::Book;
 use plant::Plant;
 use std::alloc::{AllocError, Global};
-use world::Book;
 
 /// Whether the journals are those of the plant's resources in order, begin in the book's first incarnations, and made the book's entries.
 fn agrees(

@@ -34,13 +34,13 @@ use crate::threads::preparing::{make_inboxes, make_workers};
 use crate::threads::starting::start_all;
 use crate::threads::worker::Worker;
 use crossbeam_channel::Receiver;
+use exchange::Book;
 pub(crate) use outcome::Outcome;
 use plant::Plant;
 use std::alloc::Global;
 use std::sync::{Arc, Mutex, Wait};
 use std::thread;
 use std::thread::{Scope, Threads};
-use world::Book;
 
 /// Runs the commands in threads that all end before the scope does.
 fn run_in<'s, E, R: Threads + Wait + Sync, K: Keeper, G: Gate>(

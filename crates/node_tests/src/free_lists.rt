@@ -5,6 +5,7 @@ use crate::drawn::{drawn_asks, fan, ring};
 use crate::gates::SlowFirst;
 use crate::runs::{Ask, commands_of, is_made_again, keepers_of, run_on};
 use evaluation::{Evaluation, Frame};
+use exchange::Book;
 use node::{Act, Command, FreeGate, Journal, Report, Step};
 use plant::{Plant, plan};
 use std::alloc::Global;
@@ -13,7 +14,6 @@ use std::sync::{Arc, Wait};
 use std::test::Fail;
 use std::thread::Threads;
 use worked_texts::PAIR;
-use world::Book;
 
 /// Each entry is let in by a book that has those before it.
 fn is_entered_again(rt: &impl Abort, alloc: Global, report: &Report) -> Result<(), Fail> {

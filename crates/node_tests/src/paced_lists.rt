@@ -3,6 +3,7 @@
 use crate::checks::{equal, holds};
 use crate::drawn::{drawn_asks, ring};
 use crate::runs::{commands_of, keepers_of, run_on};
+use exchange::{Event, World};
 use node::{Act, Command, PacedGate, Report};
 use plant::{Plant, TaskRef};
 use std::alloc::Global;
@@ -11,7 +12,6 @@ use std::sync::{Arc, Wait};
 use std::test::Fail;
 use std::thread::Threads;
 use worked_texts::PAIR;
-use world::{Event, World};
 
 const TURNS: u64 = 10_000_000;
 

@@ -2,6 +2,7 @@
 
 use crate::checks::{equal, holds};
 use evaluation::{Frame, Inputs};
+use exchange::{Event, World};
 use node::{
     Act, Cause, Command, Gate, Keeper, MemoryKeeper, Report, are_for_plant, are_numbered,
     run_threads,
@@ -14,7 +15,6 @@ use std::test::Fail;
 use std::thread::Threads;
 use std_blocks::Value;
 use worked_texts::PAIR;
-use world::{Event, World};
 
 /// What a command asks for.
 #[derive(Clone, Copy, Debug, PartialEq, Eq)]

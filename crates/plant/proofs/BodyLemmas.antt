@@ -11,8 +11,8 @@ use Rattle.ladder_text.specs.declared.draw_fault.DrawFaultKind.TheVariants as dr
 use Rattle.network.specs.declared.fault.GraphFault.{GraphFault}
 use Rattle.network.specs.declared.fault.GraphFaultKind.TheVariants as graph
 use Rattle.network.specs.Networks.{IsFaultAt, IsFoundAt}
-use Rattle.power_flow.specs.declared.bind.BindFault.{BindFault}
-use Rattle.power_flow.specs.declared.bind.BindKind.TheVariants as bind
+use Rattle.variable_binding.specs.declared.bind_fault.BindFault.{BindFault}
+use Rattle.variable_binding.specs.declared.bind_fault.BindKind.TheVariants as bind
 use Rattle.plant.specs.declared.plant_fault.BodyFault.{BodyFault}
 use Rattle.plant.specs.declared.plant_fault.BodyFault.TheVariants as body
 use Rattle.plant.specs.declared.plant_fault.PlantFault.{PlantFault}

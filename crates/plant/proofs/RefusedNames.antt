@@ -120,6 +120,12 @@ tells_with kind.InputBoundTwice a b c d f g h = tt
 tells_with kind.TooMany a b c d f g h = g h
 tells_with kind.Memory a b c d f g h = tt
 
+-- what is told of the name that stands next
+pub tells_next : {A : Type 0} (k : PlantFaultKind) (name_of : A → List ℕ) (xs : List A) (name : List ℕ) (words rest : List Token) (twice full many : Type 0) → words ≡ token.Name name ∷ rest → (twice → IsTaken name_of xs name) → (full → many)
+    → TellsOfName k twice full → TellsOfName k (RepeatsName name_of xs words) (IsNameNext words × many)
+tells_next k name_of xs name words rest twice full many e is_taken is_full tells =
+    tells_with k twice full (RepeatsName name_of xs words) (IsNameNext words × many) (λ t. (name, rest, e, is_taken t)) (λ f. ((name, rest, e), is_full f)) tells
+
 -- a name of a list, with a comma behind each before it
 pub names_split : (before : List (List ℕ)) (n : List ℕ) (more : List (List ℕ)) (rest : List Token) → (after : List Token) × (name_words (before ++ n ∷ more) ++ rest ≡ flat_map name_and_comma before ++ token.Name n ∷ after)
 names_split [] n [] rest = (rest, refl)

@@ -1,7 +1,7 @@
 -- Where a name is refused, with what was read in front of it, rule by rule of the grammar.
 use Rattle.std.proofs.Common.{◌≡◌, ◌⊎◌, inl, inr, ℕ, ◌+◌, ◌<◌, ◌≤◌, List, [], ◌∷◌, ◌++◌, length, refl, sym, ap, subst, ◌∙◌, arith}
 use Rattle.std.specs.List.{flat_map}
-use Rattle.power_flow.specs.declared.declarations.Declaration.{Declaration}
+use Rattle.variable_binding.specs.declared.declarations.Declaration.{Declaration}
 use Rattle.plant.specs.declared.plant_fault.PlantFaultKind.{PlantFaultKind}
 use Rattle.plant_text.specs.declared.token.Token.{Token}
 use Rattle.plant_text.specs.declared.token.Token.TheVariants as token
@@ -18,8 +18,8 @@ use Rattle.plant.specs.declared.grammar.tree.Item.{Item}
 use Rattle.plant.specs.declared.grammar.tree.Resource.{Resource}
 use Rattle.plant.specs.Grammar.{key_word, mark, section_word, name_words, list_words, block_words, program_words, with_commas, item_words, resource_words}
 use Rattle.plant.specs.Faultless.{list_variables, block_variables, task_of, use_of, uses_of}
-use Rattle.plant.specs.NameFaults.{IsOfName, TellsOfName, IsTaken, IsRefused, IsAfter, IsAfterName, name_and_comma, bind_and_comma, RefusesVariable, RefusesList, RefusesBlock, RefusesBlocks, RefusesProgram, RefusesPrograms, RefusesTask, RefusesBind, RefusesBinds, RefusesInstance, RefusesItems, RefusesResource, RefusesResources, RefusesConfiguration}
-use Rattle.plant.specs.Steps.Declaring.{RepeatsName, IsNameNext, BeginWith}
+use Rattle.plant.specs.NameFaults.{IsOfName, TellsOfName, IsTaken, IsRefused, IsAfter, IsAfterName, name_and_comma, bind_and_comma, RefusesVariable, RefusesList, RefusesBlock, RefusesBlocks, RefusesProgramName, RefusesProgram, RefusesPrograms, RefusesTask, RefusesBind, RefusesBinds, RefusesInstanceName, RefusesInstance, RefusesItems, RefusesResourceName, RefusesResource, RefusesResources, RefusesConfiguration}
+use Rattle.plant.specs.Steps.Declaring.{RepeatsName, IsNameNext, BeginWith, RefusesItem}
 use Rattle.plant.specs.Steps.ReadParts.{TallyValue, tally_with}
 use Rattle.plant.proofs.RefusedNames.{name_next, name_repeated, begin_with, begin_after, begin_after_name, begin_behind, names_and_commas, names_split, binds_and_commas}
 
@@ -86,24 +86,21 @@ unfolding RefusesBlocks
 block_refused k before now_declared blocks start now e declared b =
     begin_behind block_words (λ (bs : List VarBlock) more. RefusesBlock k (before ++ flat_map block_variables bs) more) blocks start now e (subst (λ ds. BeginWith (RefusesBlock k ds) now) declared b)
 
-abbrev named_program : PlantFaultKind → List Program → List Token → Type 0
-named_program k before = IsRefused k (IsTaken (λ (p : Program). p.name) before) (64 ≤ length before)
-
 -- a program up to its name
 pub program_named : (k : PlantFaultKind) (before : List Program) (start now : List Token) → start ≡ key_word key.Program ∷ now
     → TellsOfName k (RepeatsName (λ (p : Program). p.name) before now) (IsNameNext now × (64 ≤ length before)) → IsOfName k → BeginWith (RefusesProgram k before) start
 unfolding RefusesProgram
 program_named k before start now e tells of =
-    begin_after (key_word key.Program) (λ more. named_program k before more ⊎ IsAfterName (RefusesBlocks k []) more) start now e
-    (begin_left (named_program k before) (IsAfterName (RefusesBlocks k [])) now (name_repeated k now (λ (p : Program). p.name) before (64 ≤ length before) tells of))
+    begin_after (key_word key.Program) (λ more. RefusesProgramName k before more ⊎ IsAfterName (RefusesBlocks k []) more) start now e
+    (begin_left (RefusesProgramName k before) (IsAfterName (RefusesBlocks k [])) now (name_repeated k now (λ (p : Program). p.name) before (64 ≤ length before) tells of))
 
 -- a program up to a variable
 pub in_program : (k : PlantFaultKind) (before : List Program) (n : List ℕ) (declared : List Declaration) (start one two : List Token) → start ≡ key_word key.Program ∷ one → one ≡ token.Name n ∷ two → declared ≡ []
     → BeginWith (RefusesBlocks k declared) two → BeginWith (RefusesProgram k before) start
 unfolding RefusesProgram
 in_program k before n declared start one two h1 h2 none b =
-    begin_after (key_word key.Program) (λ more. named_program k before more ⊎ IsAfterName (RefusesBlocks k []) more) start one h1
-    (begin_right (named_program k before) (IsAfterName (RefusesBlocks k [])) one (begin_after_name n (RefusesBlocks k []) one two h2 (subst (λ ds. BeginWith (RefusesBlocks k ds) two) none b)))
+    begin_after (key_word key.Program) (λ more. RefusesProgramName k before more ⊎ IsAfterName (RefusesBlocks k []) more) start one h1
+    (begin_right (RefusesProgramName k before) (IsAfterName (RefusesBlocks k [])) one (begin_after_name n (RefusesBlocks k []) one two h2 (subst (λ ds. BeginWith (RefusesBlocks k ds) two) none b)))
 
 -- a program behind others
 pub program_refused : (k : PlantFaultKind) (programs : List Program) (start now : List Token) → start ≡ flat_map program_words programs ++ now → BeginWith (RefusesProgram k programs) now → BeginWith (RefusesPrograms k) start
@@ -138,16 +135,13 @@ next_bind k n m binds start now mid some h1 h2 many tells of = bind_refused k n 
 pub in_binds : (k : PlantFaultKind) (m : ℕ) (start now : List Token) → start ≡ mark Open ∷ now → BeginWith (RefusesBind k m) now → BeginWith (IsAfter (mark Open) (RefusesBind k m)) start
 in_binds k m start now e b = begin_after (mark Open) (RefusesBind k m) start now e b
 
-abbrev named_instance : PlantFaultKind → ℕ → List Item → List Token → Type 0
-named_instance k i before = IsRefused k (IsTaken (λ (u : Use). u.instance) (flat_map use_of before)) (64 ≤ i)
-
 -- an instance up to its name
 pub instance_named : (k : PlantFaultKind) (i m : ℕ) (before : List Item) (start now : List Token) → start ≡ key_word key.Program ∷ now
     → TellsOfName k (RepeatsName (λ (u : Use). u.instance) (flat_map use_of before) now) (IsNameNext now × (64 ≤ i)) → IsOfName k → BeginWith (RefusesInstance k i m before) start
 unfolding RefusesInstance
 instance_named k i m before start now e tells of =
-    begin_after (key_word key.Program) (λ more. named_instance k i before more ⊎ IsAfterName (RefusesBinds k m) more) start now e
-    (begin_left (named_instance k i before) (IsAfterName (RefusesBinds k m)) now (name_repeated k now (λ (u : Use). u.instance) (flat_map use_of before) (64 ≤ i) tells of))
+    begin_after (key_word key.Program) (λ more. RefusesInstanceName k i before more ⊎ IsAfterName (RefusesBinds k m) more) start now e
+    (begin_left (RefusesInstanceName k i before) (IsAfterName (RefusesBinds k m)) now (name_repeated k now (λ (u : Use). u.instance) (flat_map use_of before) (64 ≤ i) tells of))
 
 -- an instance up to one of its binds
 pub in_instance : (k : PlantFaultKind) (i m n : ℕ) (before : List Item) (name task type : List ℕ) (start one two three four five six : List Token)
@@ -156,26 +150,20 @@ pub in_instance : (k : PlantFaultKind) (i m n : ℕ) (before : List Item) (name 
 unfolding RefusesInstance RefusesBinds
 in_instance k i m n before name task type start one two three four five six h1 h2 h3 h4 h5 h6 same b =
     let binds = IsAfter (mark Open) (RefusesBind k m) in
-    begin_after (key_word key.Program) (λ more. named_instance k i before more ⊎ IsAfterName (RefusesBinds k m) more) start one h1
-    (begin_right (named_instance k i before) (IsAfterName (RefusesBinds k m)) one
+    begin_after (key_word key.Program) (λ more. RefusesInstanceName k i before more ⊎ IsAfterName (RefusesBinds k m) more) start one h1
+    (begin_right (RefusesInstanceName k i before) (IsAfterName (RefusesBinds k m)) one
     (begin_after_name name (RefusesBinds k m) one two h2
     (begin_after (key_word key.With) (IsAfterName (IsAfter (mark Colon) (IsAfterName binds))) two three h3
     (begin_after_name task (IsAfter (mark Colon) (IsAfterName binds)) three four h4
     (begin_after (mark Colon) (IsAfterName binds) four five h5
     (begin_after_name type binds five six h6 (subst (λ (j : ℕ). BeginWith (IsAfter (mark Open) (RefusesBind k j)) six) same b)))))))
 
-abbrev pub RefusesItem : PlantFaultKind → TallyValue → List Item → List Token → Type 0
-RefusesItem k t before words = RefusesTask k before words ⊎ RefusesInstance k t.instances t.binds before words
-
 -- a line of a resource behind others
 pub item_refused : (k : PlantFaultKind) (old tally : TallyValue) (items : List Item) (start now : List Token) → start ≡ flat_map item_words items ++ now → tally ≡ tally_with old (flat_map use_of items)
-    → BeginWith (RefusesItem k tally items) now → BeginWith (RefusesItems k old.instances old.binds) start
+    → BeginWith (RefusesItem tally items k) now → BeginWith (RefusesItems k old.instances old.binds) start
 unfolding RefusesItems
 item_refused k old tally items start now e counted b =
-    begin_behind item_words (λ (xs : List Item) more. RefusesItem k (tally_with old (flat_map use_of xs)) xs more) items start now e (subst (λ t. BeginWith (RefusesItem k t items) now) counted b)
-
-abbrev named_resource : PlantFaultKind → List Resource → List Token → Type 0
-named_resource k before = IsRefused k (IsTaken (λ (r : Resource). r.name) before) (16 ≤ length before)
+    begin_behind item_words (λ (xs : List Item) more. RefusesItem (tally_with old (flat_map use_of xs)) xs k more) items start now e (subst (λ t. BeginWith (RefusesItem t items k) now) counted b)
 
 -- a resource up to its name
 pub resource_named : (k : PlantFaultKind) (i m : ℕ) (before : List Resource) (start now : List Token) → start ≡ key_word key.Resource ∷ now
@@ -183,8 +171,8 @@ pub resource_named : (k : PlantFaultKind) (i m : ℕ) (before : List Resource) (
 unfolding RefusesResource
 resource_named k i m before start now e tells of =
     let inside = IsAfterName (IsAfter (key_word key.On) (IsAfterName (RefusesItems k i m))) in
-    begin_after (key_word key.Resource) (λ more. named_resource k before more ⊎ inside more) start now e
-    (begin_left (named_resource k before) inside now (name_repeated k now (λ (r : Resource). r.name) before (16 ≤ length before) tells of))
+    begin_after (key_word key.Resource) (λ more. RefusesResourceName k before more ⊎ inside more) start now e
+    (begin_left (RefusesResourceName k before) inside now (name_repeated k now (λ (r : Resource). r.name) before (16 ≤ length before) tells of))
 
 -- a resource up to a name in one of its lines
 pub in_resource : (k : PlantFaultKind) (i m : ℕ) (before : List Resource) (name node : List ℕ) (start one two three four : List Token)
@@ -194,8 +182,8 @@ unfolding RefusesResource
 in_resource k i m before name node start one two three four h1 h2 h3 h4 b =
     let items = RefusesItems k i m in
     let inside = IsAfterName (IsAfter (key_word key.On) (IsAfterName items)) in
-    begin_after (key_word key.Resource) (λ more. named_resource k before more ⊎ inside more) start one h1
-    (begin_right (named_resource k before) inside one
+    begin_after (key_word key.Resource) (λ more. RefusesResourceName k before more ⊎ inside more) start one h1
+    (begin_right (RefusesResourceName k before) inside one
     (begin_after_name name (IsAfter (key_word key.On) (IsAfterName items)) one two h2 (begin_after (key_word key.On) (IsAfterName items) two three h3 (begin_after_name node items three four h4 b))))
 
 -- a resource behind others

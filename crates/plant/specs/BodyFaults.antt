@@ -9,9 +9,9 @@ use Rattle.ladder_text.specs.FirstFault.{TellsFirstFault}
 use Rattle.network.specs.GraphValue.{GraphValue}
 use Rattle.network.specs.Networks.{AreNetworks, IsFaultAt, IsFoundAt, IsFaultless as HasFaultlessNetworks}
 use Rattle.power_flow.specs.LadderValue.{LadderValue, diagrams}
-use Rattle.power_flow.specs.Binding.{CanBind}
-use Rattle.power_flow.specs.Findings.{IsFirstFault}
-use Rattle.power_flow.specs.declared.bind.BindFault.{BindFault}
+use Rattle.variable_binding.specs.Binding.{CanBind}
+use Rattle.variable_binding.specs.Findings.{IsFirstFault}
+use Rattle.variable_binding.specs.declared.bind_fault.BindFault.{BindFault}
 use Rattle.plant.specs.declared.plant_fault.BodyFault.{BodyFault}
 use Rattle.plant.specs.declared.plant_fault.BodyFault.TheVariants as body
 use Rattle.plant.specs.declared.plant_fault.PlantFault.{PlantFault}

@@ -7,11 +7,10 @@ use Rattle.ladder_text.specs.Picture.{picture_of}
 use Rattle.ladder_text.specs.Faults.{IsWellDrawn}
 use Rattle.network.specs.GraphValue.{GraphValue}
 use Rattle.network.specs.Networks.{AreNetworks, IsFaultless as HasFaultlessNetworks}
-use Rattle.power_flow.specs.declared.declarations.Declared.{Declared}
-use Rattle.power_flow.specs.declared.declarations.Declared.TheVariants.{Input, Output, Local, Instance}
-use Rattle.power_flow.specs.declared.declarations.Declaration.{Declaration}
-use Rattle.power_flow.specs.PinKinds.{type_of}
-use Rattle.power_flow.specs.Binding.{CanBind}
+use Rattle.variable_binding.specs.declared.declarations.Declared.{Declared}
+use Rattle.variable_binding.specs.declared.declarations.Declared.TheVariants.{Input, Output, Local, Instance}
+use Rattle.variable_binding.specs.declared.declarations.Declaration.{Declaration}
+use Rattle.variable_binding.specs.Binding.{CanBind}
 use Rattle.power_flow.specs.LadderValue.{LadderValue, diagrams}
 use Rattle.plant.specs.declared.grammar.tree.Section.{Section}
 use Rattle.plant.specs.declared.grammar.tree.Section.TheVariants as section
@@ -35,15 +34,18 @@ abbrev pub declared_as : Section → TypeName → Declared
 declared_as section.Input (Elementary k) = Input k
 declared_as section.Output (Elementary k) = Output k
 declared_as section.Local (Elementary k) = Local k
-declared_as section.Input (Block b) = Instance (type_of b)
-declared_as section.Output (Block b) = Instance (type_of b)
-declared_as section.Local (Block b) = Instance (type_of b)
+declared_as section.Input (Block b) = Instance b
+declared_as section.Output (Block b) = Instance b
+declared_as section.Local (Block b) = Instance b
 
 abbrev pub list_variables : Section → NameList → List Declaration
 list_variables s l = map (λ n. record { name = n; declared = declared_as s l.type_name }) l.names.items
 
+abbrev pub lists_variables : Section → List NameList → List Declaration
+lists_variables s ls = flat_map (list_variables s) ls
+
 abbrev pub block_variables : VarBlock → List Declaration
-block_variables b = flat_map (list_variables b.section) b.lists.items
+block_variables b = lists_variables b.section b.lists.items
 
 -- the variables of a program, in order of declaration
 abbrev pub variables : Program → List Declaration

@@ -2,7 +2,7 @@
 use Rattle.std.specs.Prelude.{◌≡◌, ◌≢◌, ◌⊎◌, ℕ, Option, None, Some}
 use Rattle.ladder_text.specs.declared.draw_fault.DrawFaultKind.TheVariants as draw
 use Rattle.network.specs.declared.fault.GraphFaultKind.TheVariants as graph
-use Rattle.power_flow.specs.declared.bind.BindKind.TheVariants as bind
+use Rattle.variable_binding.specs.declared.bind_fault.BindKind.TheVariants as bind
 use Rattle.plant.specs.declared.plant_fault.BodyFault.{BodyFault}
 use Rattle.plant.specs.declared.plant_fault.BodyFault.TheVariants as body
 use Rattle.plant.specs.declared.plant_fault.PlantFault.{PlantFault}

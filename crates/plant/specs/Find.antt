@@ -1,7 +1,7 @@
 -- The task of a name.
-use Rattle.std.specs.Prelude.{◌≡◌, ℕ, List, Contains}
+use Rattle.std.specs.Prelude.{◌≡◌, ℕ, List, Option, MatchOption, Contains}
 use Rattle.std.specs.List.{before_first, after_first}
-use Rattle.power_flow.specs.Names.{is_dot}
+use Rattle.variable_binding.specs.Names.{is_dot}
 use Rattle.due_list.specs.declared.task_ref.TaskRef.{TaskRef}
 use Rattle.plant.specs.Names.{IsAt}
 use Rattle.plant.specs.PlantValue.{TaskValue, ResourceValue, PlantValue}
@@ -18,6 +18,10 @@ pub record ArePartsOf (name first second : List ℕ) : Type 0 where
   pub dotted : Contains name 46
   pub before : first ≡ before_first is_dot name
   pub behind : second ≡ after_first is_dot name
+
+-- what is found is something of which this holds; it is none only where it holds of nothing
+abbrev pub Finds : {A : Type 0} → (A → Type 0) → Option A → Type 0
+Finds {A} P found = MatchOption found ((x : A) → P x → ⊥) P
 
 -- the name is a resource's, a dot, and a task's
 pub record IsTaskNamed (plant : PlantValue) (name : List ℕ) (t : TaskRef) : Type 0 where

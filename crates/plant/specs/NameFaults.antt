@@ -2,7 +2,7 @@
 use Rattle.std.specs.Prelude.{◌≡◌, ◌⊎◌, ℕ, ◌+◌, ◌≤◌, IsTrue, List, [], ◌∷◌, ◌++◌, length, Any}
 use Rattle.std.specs.List.{flat_map}
 use Rattle.words.specs.Lines.{without_last}
-use Rattle.power_flow.specs.declared.declarations.Declaration.{Declaration}
+use Rattle.variable_binding.specs.declared.declarations.Declaration.{Declaration}
 use Rattle.plant.specs.declared.plant_fault.PlantFault.{PlantFault}
 use Rattle.plant.specs.declared.plant_fault.PlantFaultKind.{PlantFaultKind}
 use Rattle.plant.specs.declared.plant_fault.PlantFaultKind.TheVariants as kind
@@ -93,9 +93,13 @@ RefusesBlock k before words = (s : Section) × IsAfter (section_word s) (Refuses
 unfoldable pub RefusesBlocks : PlantFaultKind → List Declaration → List Token → Type 0
 RefusesBlocks k before words = IsBehind block_words (λ (blocks : List VarBlock) more. RefusesBlock k (before ++ flat_map block_variables blocks) more) words
 
+-- the name of a program, if one of these programs has it or they are 64
+abbrev pub RefusesProgramName : PlantFaultKind → List Program → List Token → Type 0
+RefusesProgramName k before words = IsRefused k (IsTaken (λ (p : Program). p.name) before) (64 ≤ length before) words
+
 -- a program up to its own name, if these programs have it or are 64, or up to a variable refused
 unfoldable pub RefusesProgram : PlantFaultKind → List Program → List Token → Type 0
-RefusesProgram k before words = IsAfter (key_word key.Program) (λ more. IsRefused k (IsTaken (λ (p : Program). p.name) before) (64 ≤ length before) more ⊎ IsAfterName (RefusesBlocks k []) more) words
+RefusesProgram k before words = IsAfter (key_word key.Program) (λ more. RefusesProgramName k before more ⊎ IsAfterName (RefusesBlocks k []) more) words
 
 -- programs up to a name refused
 unfoldable pub RefusesPrograms : PlantFaultKind → List Token → Type 0
@@ -113,20 +117,28 @@ RefusesBind k binds words = IsBehind bind_and_comma (λ (before : List Bind) mor
 unfoldable pub RefusesBinds : PlantFaultKind → ℕ → List Token → Type 0
 RefusesBinds k binds words = IsAfter (key_word key.With) (IsAfterName (IsAfter (mark Colon) (IsAfterName (IsAfter (mark Open) (RefusesBind k binds))))) words
 
+-- the name of a program instance, if an instance of these lines of its resource has it or the plant has 64
+abbrev pub RefusesInstanceName : PlantFaultKind → ℕ → List Item → List Token → Type 0
+RefusesInstanceName k instances before words = IsRefused k (IsTaken (λ (u : Use). u.instance) (flat_map use_of before)) (64 ≤ instances) words
+
 -- A program instance behind so many instances and binds of the plant: up to its name, if an instance of these lines of its resource has it or the plant has 64, or up to the bind that is too many.
 unfoldable pub RefusesInstance : PlantFaultKind → ℕ → ℕ → List Item → List Token → Type 0
 RefusesInstance k instances binds before words =
-    IsAfter (key_word key.Program) (λ more. IsRefused k (IsTaken (λ (u : Use). u.instance) (flat_map use_of before)) (64 ≤ instances) more ⊎ IsAfterName (RefusesBinds k binds) more) words
+    IsAfter (key_word key.Program) (λ more. RefusesInstanceName k instances before more ⊎ IsAfterName (RefusesBinds k binds) more) words
 
 -- the lines of a resource up to a name refused, behind so many instances and binds of the plant
 unfoldable pub RefusesItems : PlantFaultKind → ℕ → ℕ → List Token → Type 0
 RefusesItems k instances binds words =
     IsBehind item_words (λ (items : List Item) more. RefusesTask k items more ⊎ RefusesInstance k (instances + length (flat_map use_of items)) (binds + length (flat_map binds_of (flat_map use_of items))) items more) words
 
+-- the name of a resource, if one of these resources has it or they are 16
+abbrev pub RefusesResourceName : PlantFaultKind → List Resource → List Token → Type 0
+RefusesResourceName k before words = IsRefused k (IsTaken (λ (r : Resource). r.name) before) (16 ≤ length before) words
+
 -- A resource behind so many instances and binds of the plant: up to its own name, if these resources have it or are 16, or up to a name refused in one of its lines.
 unfoldable pub RefusesResource : PlantFaultKind → ℕ → ℕ → List Resource → List Token → Type 0
 RefusesResource k instances binds before words =
-    IsAfter (key_word key.Resource) (λ more. IsRefused k (IsTaken (λ (r : Resource). r.name) before) (16 ≤ length before) more ⊎ IsAfterName (IsAfter (key_word key.On) (IsAfterName (RefusesItems k instances binds))) more) words
+    IsAfter (key_word key.Resource) (λ more. RefusesResourceName k before more ⊎ IsAfterName (IsAfter (key_word key.On) (IsAfterName (RefusesItems k instances binds))) more) words
 
 -- resources up to a name refused, behind so many instances and binds of the plant
 unfoldable pub RefusesResources : PlantFaultKind → ℕ → ℕ → List Token → Type 0

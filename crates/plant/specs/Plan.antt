@@ -1,5 +1,5 @@
 -- The plan of a plant: what is due of its tasks, and when.
-use Rattle.std.specs.Prelude.{ℕ, List, Option, map, slice_get}
+use Rattle.std.specs.Prelude.{ℕ, ◌<◌, List, Option, length, map, slice_get}
 use Rattle.due_list.specs.declared.due.Due.{Due}
 use Rattle.due_list.specs.declared.task_ref.TaskRef.{TaskRef}
 use Rattle.due_list.specs.declared.timing.Timing.{Timing}
@@ -21,3 +21,7 @@ timings_of plant = map (λ (r : ResourceValue). map timing_of r.tasks) plant.res
 -- the plan: what is due of these tasks up to and with until
 abbrev pub IsPlan : PlantValue → ℕ → List Due → Type 0
 IsPlan plant until dues = IsPlanOf (timings_of plant) until dues
+
+-- the plan up to and with until has more than 100,000 entries
+abbrev pub IsPlanTooLong : PlantValue → ℕ → Type 0
+IsPlanTooLong plant until = (dues : List Due) × IsPlan plant until dues × (100000 < length dues)

@@ -1,12 +1,13 @@
 -- A plant and the codes of its tasks, as values.
 use Rattle.std.specs.Prelude.{◌≡◌, ℕ, ◌<◌, List, [], ◌∷◌, Option, Some, None, length, map, slice_get, slice_index_or, All}
+use Rattle.std.specs.Global.{Vec}
 use Rattle.std.specs.List.{flat_map, enumerate_from}
 use Rattle.std.specs.Option.{option_and_then, option_map}
-use Rattle.power_flow.specs.declared.declarations.Kind.{Kind}
-use Rattle.power_flow.specs.declared.declarations.Kind.TheVariants as kind
-use Rattle.power_flow.specs.declared.declarations.Declared.{Declared}
-use Rattle.power_flow.specs.declared.declarations.Declared.TheVariants.{Input, Output, Local, Instance}
-use Rattle.power_flow.specs.declared.declarations.Declaration.{Declaration}
+use Rattle.variable_binding.specs.declared.declarations.Kind.{Kind}
+use Rattle.variable_binding.specs.declared.declarations.Kind.TheVariants as kind
+use Rattle.variable_binding.specs.declared.declarations.Declared.{Declared}
+use Rattle.variable_binding.specs.declared.declarations.Declared.TheVariants.{Input, Output, Local, Instance}
+use Rattle.variable_binding.specs.declared.declarations.Declaration.{Declaration}
 use Rattle.power_flow.specs.LadderValue.{LadderValue}
 use Rattle.plant_text.specs.declared.address.Space.{Space}
 use Rattle.plant_text.specs.declared.address.Space.TheVariants.{Bit, Word}
@@ -35,6 +36,15 @@ pub record CodeValue : Type 0 where
   pub expected : List (List Kind)
   pub outputs : List TaskOutput
 
+-- the items of several lists
+abbrev pub lists_of : {A : Type 0} → List (Vec A) → List (List A)
+lists_of xs = map (λ x. x.items) xs
+
+-- the code of these parts
+abbrev pub code_with : Vec ProgramValue → Vec (Vec Binding) → Vec TaskRef → Vec (Vec Kind) → Vec TaskOutput → CodeValue
+code_with programs bindings producers expected outputs =
+    record { programs = programs.items; bindings = lists_of bindings.items; producers = producers.items; expected = lists_of expected.items; outputs = outputs.items }
+
 -- a resource: its name, its tasks, and the code of each
 pub record ResourceValue : Type 0 where
   pub name : List ℕ
@@ -49,6 +59,10 @@ pub record PlantValue : Type 0 where
 abbrev pub items_or_none : {A : Type 0} → Option (List A) → List A
 items_or_none None = []
 items_or_none (Some xs) = xs
+
+-- the name of a resource as it was declared
+abbrev pub resource_name_at : PlantValue → ℕ → Option (List ℕ)
+resource_name_at plant resource = option_map (λ (r : ResourceValue). r.name) (slice_get plant.resources resource)
 
 -- the tasks of a resource; none where there is no such resource
 abbrev pub tasks_at : PlantValue → ℕ → List TaskValue

@@ -2,6 +2,7 @@
 pub mod Declaring
 pub mod Drafts
 pub mod Drawn
+pub mod Found
 pub mod Lines
 pub mod Outputs
 pub mod ReadParts

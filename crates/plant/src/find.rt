@@ -1,19 +1,19 @@
-ghost use Rattle.std.specs.Prelude.{◌≡◌, ℕ, MatchOption, Contains};
-ghost use Rattle.due_list.specs.declared.task_ref.TaskRef.{TaskRef};
-ghost use Rattle.plant.specs.Names.{IsAt};
+ghost use Rattle.std.specs.Prelude.{MatchOption, Contains};
 ghost use Rattle.plant.specs.PlantValue.{TaskValue};
-ghost use Rattle.plant.specs.Find.{ArePartsOf, IsTaskAt, IsTaskNamed};
+ghost use Rattle.plant.specs.Find.{ArePartsOf, IsTaskAt, IsTaskNamed, Finds};
+ghost use Rattle.plant.specs.Steps.Found.{FindsAt};
 
+use crate::names::is_named;
 use crate::plant::Plant;
 use crate::task::Task;
 use due_list::TaskRef;
 
 /// The position of the first task of a name.
 fn find_task(tasks: &[Task], name: &str) -> Option<usize>
-    ensures { MatchOption result ((k : ℕ) (t : TaskValue) → IsAt (λ (t : TaskValue). t.name) tasks.now name.now k t → ⊥) (λ k. (t : TaskValue) × IsAt (λ (t : TaskValue). t.name) tasks.now name.now k t) }
+    ensures { FindsAt (λ (t : TaskValue). t.name) tasks.now name.now result }
 {
     for (k, task) in tasks.iter().enumerate() {
-        if name.eq_ignore_ascii_case(task.name()) {
+        if is_named(name, task.name()) {
             return Some(k);
         }
     }
@@ -30,10 +30,10 @@ fn parts(name: &str) -> Option<(&str, &str)>
 impl Plant {
     /// The position of a task in a resource, if that has the other name.
     fn task_in(&self, resource: usize, owner: &str, task: &str) -> Option<usize>
-        ensures { MatchOption result ((k : ℕ) → IsTaskAt self.now owner.now task.now (record { resource = resource; task = k }) → ⊥) (λ k. IsTaskAt self.now owner.now task.now (record { resource = resource; task = k })) }
+        ensures { Finds (λ k. IsTaskAt self.now owner.now task.now (record { resource = resource; task = k })) result }
     {
         let name = self.resource_name(resource)?;
-        if !owner.eq_ignore_ascii_case(name) {
+        if !is_named(owner, name) {
             return None;
         }
         find_task(self.tasks(resource), task)
@@ -41,7 +41,7 @@ impl Plant {
 
     /// The task of two names, its resource's and its own.
     fn task_of(&self, owner: &str, task: &str) -> Option<TaskRef>
-        ensures { MatchOption result ((t : TaskRef) → IsTaskAt self.now owner.now task.now t → ⊥) (λ t. IsTaskAt self.now owner.now task.now t) }
+        ensures { Finds (IsTaskAt self.now owner.now task.now) result }
     {
         for resource in 0..self.resources() {
             match self.task_in(resource, owner, task) {
@@ -54,7 +54,7 @@ impl Plant {
 
     /// The task of a name such as `R1.MAIN`: the resource's name, a dot, and the task's, in either case.
     pub fn find(&self, name: &str) -> Option<TaskRef>
-        ensures { MatchOption result ((t : TaskRef) → IsTaskNamed self.now name.now t → ⊥) (λ t. IsTaskNamed self.now name.now t) }
+        ensures { Finds (IsTaskNamed self.now name.now) result }
     {
         match parts(name) {
             Some((owner, task)) => self.task_of(owner, task),

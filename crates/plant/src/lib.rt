@@ -5,6 +5,7 @@ mod binding;
 mod bodies;
 mod find;
 mod grammar;
+mod names;
 mod planning;
 mod plant;
 mod plant_fault;

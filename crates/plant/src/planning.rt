@@ -1,8 +1,7 @@
-ghost use Rattle.std.specs.Prelude.{◌≡◌, ◌<◌, ◌≤◌, List, length, map, IfOk, IfErr, All};
-ghost use Rattle.due_list.specs.declared.due.Due.{Due};
+ghost use Rattle.std.specs.Prelude.{◌≡◌, ◌≤◌, length, map, IfOk, IfErr, All};
 ghost use Rattle.due_list.specs.declared.plan_fault.PlanFault.TheVariants.{TooLong};
 ghost use Rattle.due_list.specs.Plan.{AllTimed, timings_in};
-ghost use Rattle.plant.specs.Plan.{timing_of, timings_of, IsPlan};
+ghost use Rattle.plant.specs.Plan.{timing_of, timings_of, IsPlan, IsPlanTooLong};
 
 use crate::plant::Plant;
 use crate::task::Task;
@@ -40,7 +39,7 @@ fn all_timings(alloc: Global, plant: &Plant) -> Result<Vec<Vec<Timing>>, AllocEr
 /// `TooLong` comes exactly where they are more than 100,000. By `one_plan` there is one.
 pub fn plan(alloc: Global, plant: &Plant, until: u32) -> Result<Vec<Due>, PlanFault>
     ensures ok { IfOk result (λ dues. IsPlan plant.now until dues.items × (length dues.items ≤ 100000)) }
-    ensures too_long { IfErr result (λ fault. fault ≡ TooLong → (dues : List Due) × IsPlan plant.now until dues × (100000 < length dues)) }
+    ensures too_long { IfErr result (λ fault. fault ≡ TooLong → IsPlanTooLong plant.now until) }
 {
     let timings = all_timings(alloc, plant)?;
     due_list::plan(alloc, &timings, until)

@@ -22,9 +22,9 @@ impl Model for Plant {
 }
 
 impl Plant {
-    ghost use Rattle.std.specs.Prelude.{◌≡◌, List, length, slice_get};
+    ghost use Rattle.std.specs.Prelude.{◌≡◌, length};
     ghost use Rattle.std.specs.Option.{option_map};
-    ghost use Rattle.plant.specs.PlantValue.{IsSoundPlant, tasks_at, code_at, producers_at};
+    ghost use Rattle.plant.specs.PlantValue.{IsSoundPlant, resource_name_at, tasks_at, code_at, producers_at};
 
     /// A plant of these resources.
     pub(crate) fn new(resources: Vec<PlantResource>) -> Plant
@@ -44,7 +44,7 @@ impl Plant {
 
     /// The name of a resource as it was declared.
     pub fn resource_name(&self, resource: usize) -> Option<&str>
-        ensures { option_map (λ n. n.now) result ≡ option_map (λ r. r.name) (slice_get self.now.resources resource) }
+        ensures { option_map (λ n. n.now) result ≡ resource_name_at self.now resource }
     {
         match self.resources.get(resource) {
             Some(found) => Some(found.name()),

@@ -2,75 +2,27 @@ ghost use Rattle.std.specs.Prelude.{◌≡◌, ◌↔◌, IsTrue, length, map, s
 ghost use Rattle.std.specs.Option.{option_map};
 ghost use Rattle.plant.specs.PlantValue.{bindings_at, expected_at, IsSoundCode};
 
-use crate::binding::{Binding, Source};
+use crate::binding::Binding;
 use crate::task_code::TaskCode;
 use due_list::TaskRef;
 use power_flow::{Kind, Ladder};
 
-fn is_same_source(source: Source, other: Source) -> bool
-    ensures { IsTrue result ↔ (source ≡ other) }
-{
-    match (source, other) {
-        (Source::Field(address), Source::Field(other_address)) => {
-            address.space == other_address.space && address.number == other_address.number
-        }
-        (
-            Source::Given { producer, output },
-            Source::Given {
-                producer: other_producer,
-                output: other_output,
-            },
-        ) => producer == other_producer && output == other_output,
-        _ => false,
-    }
-}
-
-fn is_same_binding(binding: Binding, other: Binding) -> bool
-    ensures { IsTrue result ↔ (binding ≡ other) }
-{
-    binding.place == other.place && is_same_source(binding.source, other.source)
-}
-
 fn are_same_bindings(bindings: &[Binding], others: &[Binding]) -> bool
     ensures { IsTrue result ↔ (bindings.now ≡ others.now) }
 {
-    if bindings.len() != others.len() {
-        return false;
-    }
-    for i in 0..bindings.len() {
-        if !is_same_binding(bindings[i], others[i]) {
-            return false;
-        }
-    }
-    true
+    bindings == others
 }
 
 fn are_same_tasks(tasks: &[TaskRef], others: &[TaskRef]) -> bool
     ensures { IsTrue result ↔ (tasks.now ≡ others.now) }
 {
-    if tasks.len() != others.len() {
-        return false;
-    }
-    for i in 0..tasks.len() {
-        if tasks[i] != others[i] {
-            return false;
-        }
-    }
-    true
+    tasks == others
 }
 
 fn are_same_kinds(kinds: &[Kind], others: &[Kind]) -> bool
     ensures { IsTrue result ↔ (kinds.now ≡ others.now) }
 {
-    if kinds.len() != others.len() {
-        return false;
-    }
-    for i in 0..kinds.len() {
-        if kinds[i] != others[i] {
-            return false;
-        }
-    }
-    true
+    kinds == others
 }
 
 fn are_same_names(name: Option<&str>, other: Option<&str>) -> bool

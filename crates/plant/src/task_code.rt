@@ -17,22 +17,21 @@ pub struct TaskCode {
 }
 
 impl Model for TaskCode {
-    ghost use Rattle.std.specs.Prelude.{map};
-    ghost use Rattle.plant.specs.PlantValue.{CodeValue, IsSoundCode};
+    ghost use Rattle.plant.specs.PlantValue.{CodeValue, code_with, IsSoundCode};
 
     ghost Value = { CodeValue };
 
-    ghost view = { λ c. record { programs = c.programs.items; bindings = map (λ bs. bs.items) c.bindings.items; producers = c.producers.items; expected = map (λ ks. ks.items) c.expected.items; outputs = c.outputs.items } };
+    ghost view = { λ c. code_with c.programs c.bindings c.producers c.expected c.outputs };
 
-    ghost invariant = { λ c. IsSoundCode (record { programs = c.programs.items; bindings = map (λ bs. bs.items) c.bindings.items; producers = c.producers.items; expected = map (λ ks. ks.items) c.expected.items; outputs = c.outputs.items }) };
+    ghost invariant = { λ c. IsSoundCode (code_with c.programs c.bindings c.producers c.expected c.outputs) };
 }
 
 impl TaskCode {
-    ghost use Rattle.std.specs.Prelude.{◌≡◌, MatchOption, length, map, slice_get};
+    ghost use Rattle.std.specs.Prelude.{◌≡◌, length, slice_get};
     ghost use Rattle.std.specs.Option.{option_map};
-    ghost use Rattle.plant.specs.PlantValue.{CodeValue, IsSoundCode, bindings_at, expected_at};
+    ghost use Rattle.plant.specs.PlantValue.{code_with, IsSoundCode, bindings_at, expected_at};
     ghost use Rattle.plant.specs.declared.task_output.TaskOutput.{TaskOutput};
-    ghost use Rattle.plant.specs.OutputNames.{IsOutputName};
+    ghost use Rattle.plant.specs.OutputNames.{NamesOutput};
 
     /// A code of these parts.
     pub(crate) fn new(
@@ -42,8 +41,8 @@ impl TaskCode {
         expected: Vec<Vec<Kind>>,
         outputs: Vec<TaskOutput>,
     ) -> TaskCode
-        requires { IsSoundCode (record { programs = programs.items; bindings = map (λ bs. bs.items) bindings.items; producers = producers.items; expected = map (λ ks. ks.items) expected.items; outputs = outputs.items }) }
-        ensures { result ≡ record { programs = programs.items; bindings = map (λ bs. bs.items) bindings.items; producers = producers.items; expected = map (λ ks. ks.items) expected.items; outputs = outputs.items } }
+        requires { IsSoundCode (code_with programs bindings producers expected outputs) }
+        ensures { result ≡ code_with programs bindings producers expected outputs }
     {
         TaskCode {
             programs,
@@ -135,7 +134,7 @@ impl TaskCode {
 
     /// The name of the output at a position: the instance's, and the variable's as it was declared.
     pub fn output_name(&self, i: usize) -> Option<(&str, &str)>
-        ensures { MatchOption result (slice_get self.now.outputs i ≡ None) (λ n. IsOutputName self.now i n.0.now n.1.now) }
+        ensures { NamesOutput self.now i result }
     {
         let output = self.outputs.get(i)?;
         let program = self.programs.get(output.program)?;

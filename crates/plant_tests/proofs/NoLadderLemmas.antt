@@ -4,9 +4,9 @@ use Rattle.std.specs.List.{list_all}
 use Rattle.std.proofs.lemmas.Bool.{and_parts, true≢false}
 use Rattle.std.specs.Prelude.{slice_index_or}
 use Rattle.ladder_text.specs.declared.drawn_box.DrawnBox.{DrawnBox}
-use Rattle.words.specs.declared.names.BlockName.TheVariants as block
+use Rattle.std_blocks.specs.declared.block_type.BlockType.TheVariants as block
 use Rattle.ladder_text.specs.Rows.{rows_of, char_at}
-use Rattle.words.specs.Chars.{block_name, is_value_word, is_program_word, is_resource_word, is_task_word, is_reserved, is_identifier, is_plain_name, is_name, is_part, has_parts, is_duration_behind, is_duration, is_operand}
+use Rattle.words.specs.Chars.{block_type, is_value_word, is_program_word, is_resource_word, is_task_word, is_reserved, is_identifier, is_plain_name, is_name, is_part, has_parts, is_duration_behind, is_duration, is_operand}
 use Rattle.ladder_text.specs.SymbolKinds.{contact_kind, coil_kind}
 use Rattle.ladder_text.specs.Boxes.{left_column, begins_box, nearer_pin, outline_at, box_at, row_outlines, outlines}
 use Rattle.ladder_text.specs.Places.{contact_at, coil_at, may_be_rail, has_right_rail, mark, gives, layout_of}
@@ -29,7 +29,7 @@ use Rattle.plant_tests.specs.NoLadder.{HasNoLadder, name_twice, tall_box}
 
 -- unfolds the words of drawings
 drawing_words : Unit {0}
-unfolding rows_of char_at block_name is_value_word is_program_word is_resource_word is_task_word is_reserved is_identifier is_plain_name is_name contact_kind coil_kind is_part has_parts is_duration_behind is_duration is_operand left_column begins_box nearer_pin outline_at box_at row_outlines outlines contact_at coil_at may_be_rail has_right_rail mark gives layout_of in_word word_at words symbol_at symbols tops things name_above row_contacts contacts row_coils coils drawn_boxes stray_name name_missing some_takes_word has_stray_operand marks_of picture_of
+unfolding rows_of char_at block_type is_value_word is_program_word is_resource_word is_task_word is_reserved is_identifier is_plain_name is_name contact_kind coil_kind is_part has_parts is_duration_behind is_duration is_operand left_column begins_box nearer_pin outline_at box_at row_outlines outlines contact_at coil_at may_be_rail has_right_rail mark gives layout_of in_word word_at words symbol_at symbols tops things name_above row_contacts contacts row_coils coils drawn_boxes stray_name name_missing some_takes_word has_stray_operand marks_of picture_of
 drawing_words = tt
 
 -- the networks of a body that has a ladder have no fault
@@ -37,7 +37,7 @@ faultless_of : (text : List ℕ) (p : Program) (l : LadderValue) → p.body ≡ 
 faultless_of text p l body is = subst (λ t. IsFaultless (picture_of is.first_line (layout_of (rows_of t)))) body is.networks_faultless
 
 any_box : DrawnBox
-any_box = record { top = 0; left = 0; bottom = 0; right = 0; block = block.Ton; instance = []; pins = [] }
+any_box = record { top = 0; left = 0; bottom = 0; right = 0; block = block.TON; instance = []; pins = [] }
 
 -- box k of a drawing
 abbrev box_of : List ℕ → ℕ → DrawnBox

@@ -7,8 +7,8 @@ use Rattle.std.proofs.lemmas.Slice.Eq.{bytes_eq-Decides}
 use Rattle.std.proofs.lemmas.List.{take_all}
 use Rattle.std.proofs.lemmas.List.Sums.{take_while-cons}
 use Rattle.std.specs.Prelude.{unwrap_or}
-use Rattle.words.specs.Chars.{same_word, block_name, is_plain_name}
-use Rattle.words.specs.declared.names.BlockName.{BlockName}
+use Rattle.words.specs.Chars.{same_word, block_type, is_plain_name}
+use Rattle.std_blocks.specs.declared.block_type.BlockType.{BlockType}
 use Rattle.words.specs.Numbers.{number_up_to, duration_up_to}
 use Rattle.plant_text.specs.declared.address.Address.{Address}
 use Rattle.plant_text.specs.declared.token.Token.{Token}
@@ -148,13 +148,13 @@ keyword_letters w k h = elim (first_some (program_keyword w) (or_else (configura
 ]
 
 -- what the parts of `word_of` say
-abbrev told : Option Keyword → Option BlockName → Option Punctuation → Option ℕ → Option ℕ → Option Address → Bool → List ℕ → Token
+abbrev told : Option Keyword → Option BlockType → Option Punctuation → Option ℕ → Option ℕ → Option Address → Bool → List ℕ → Token
 told q b p n m a t w = unwrap_or (
     or_else (or_else (option_map (λ k. token.Keyword k) q) (or_else (option_map (λ x. token.Block x) b) (option_map (λ x. token.Punctuation x) p)))
     (or_else (or_else (option_map (λ x. token.Number x) n) (or_else (option_map (λ x. token.Duration x) m) (option_map (λ x. token.Address x) a)))
     (cond t (Some (token.Name w)) None))) token.Unknown
 
-told_keyword : (q : Option Keyword) (b : Option BlockName) (p : Option Punctuation) (n m : Option ℕ) (a : Option Address) (t : Bool) (w : List ℕ) (k : Keyword)
+told_keyword : (q : Option Keyword) (b : Option BlockType) (p : Option Punctuation) (n m : Option ℕ) (a : Option Address) (t : Bool) (w : List ℕ) (k : Keyword)
     → told q b p n m a t w ≡ token.Keyword k → q ≡ Some k
 told_keyword (Some q) b p n m a t w k h = cc
 told_keyword None (Some b) p n m a t w k h = absurd cc
@@ -165,7 +165,7 @@ told_keyword None None None None None (Some a) t w k h = absurd cc
 told_keyword None None None None None None true w k h = absurd cc
 told_keyword None None None None None None false w k h = absurd cc
 
-told_body : (q : Option Keyword) (b : Option BlockName) (p : Option Punctuation) (n m : Option ℕ) (a : Option Address) (t : Bool) (w x : List ℕ)
+told_body : (q : Option Keyword) (b : Option BlockType) (p : Option Punctuation) (n m : Option ℕ) (a : Option Address) (t : Bool) (w x : List ℕ)
     → told q b p n m a t w ≡ token.Body x → ⊥
 told_body (Some q) b p n m a t w x h = cc
 told_body None (Some b) p n m a t w x h = cc
@@ -179,7 +179,7 @@ told_body None None None None None None false w x h = cc
 -- a word that is said to be a keyword is one
 pub word_of-keyword : (w : List ℕ) (k : Keyword) → word_of w ≡ token.Keyword k → keyword w ≡ Some k
 unfolding word_of fixed_word value_word name
-word_of-keyword w k h = told_keyword (keyword w) (block_name w) (punctuation w) (number_up_to 65535 w) (duration_up_to 2147483647 w) (address w) (is_plain_name w) w k h
+word_of-keyword w k h = told_keyword (keyword w) (block_type w) (punctuation w) (number_up_to 65535 w) (duration_up_to 2147483647 w) (address w) (is_plain_name w) w k h
 
 pub keyword-word_of : (w : List ℕ) (k : Keyword) → keyword w ≡ Some k → word_of w ≡ token.Keyword k
 unfolding word_of fixed_word
@@ -188,7 +188,7 @@ keyword-word_of w k h = rw h refl
 -- no word is a body
 pub word_of-body : (w x : List ℕ) → word_of w ≡ token.Body x → ⊥
 unfolding word_of fixed_word value_word name
-word_of-body w x h = told_body (keyword w) (block_name w) (punctuation w) (number_up_to 65535 w) (duration_up_to 2147483647 w) (address w) (is_plain_name w) w x h
+word_of-body w x h = told_body (keyword w) (block_type w) (punctuation w) (number_up_to 65535 w) (duration_up_to 2147483647 w) (address w) (is_plain_name w) w x h
 
 pub take_while-yes : (p : ℕ → Bool) (c : ℕ) (t : List ℕ) → p c ≡ true → take_while p (c ∷ t) ≡ c ∷ take_while p t
 take_while-yes p c t e = take_while-cons p c t ∙ ap (λ b. cond b (c ∷ take_while p t) []) e

@@ -1,7 +1,7 @@
 -- What single words of a plant's text are.
 use Rattle.std.specs.Prelude.{ℕ, ◌==◌, ◌||◌, Bool, if◌then◌else◌, List, [], ◌∷◌, take, drop, codes, Option, Some, None, unwrap_or}
 use Rattle.std.specs.Option.{option_map, option_and_then}
-use Rattle.words.specs.Chars.{is_letter_or_digit, same_word, first_that, is_plain_name, block_name}
+use Rattle.words.specs.Chars.{is_letter_or_digit, same_word, first_that, is_plain_name, block_type}
 use Rattle.plant_text.specs.declared.address.Space.{Space}
 use Rattle.plant_text.specs.declared.address.Space.TheVariants.{Bit as BitSpace, Word as WordSpace}
 use Rattle.plant_text.specs.declared.address.Address.{Address}
@@ -66,7 +66,7 @@ name w = if is_plain_name w then Some (token.Name w) else None
 unfoldable pub fixed_word : List ℕ → Option Token
 fixed_word w =
     or_else (option_map (λ k. token.Keyword k) (keyword w)) (
-    or_else (option_map (λ b. token.Block b) (block_name w)) (option_map (λ p. token.Punctuation p) (punctuation w)))
+    or_else (option_map (λ b. token.Block b) (block_type w)) (option_map (λ p. token.Punctuation p) (punctuation w)))
 
 -- a number up to 65535, a duration up to 2147483647 ms, or an address
 unfoldable pub value_word : List ℕ → Option Token

@@ -5,7 +5,7 @@ ghost use Rattle.words.specs.Lines.{without_last};
 ghost use Rattle.plant_text.specs.declared.token.Keyword.TheVariants as key;
 ghost use Rattle.plant_text.specs.Words.{keyword};
 ghost use Rattle.plant_text.specs.Spelling.{first_line, is_one_line, IsGap, IsEndLine, BeginsNoBlock};
-ghost use Rattle.plant_text.specs.Steps.Lexing.{begins_block, may_run_on, IsBlankLine, IsBehindBody};
+ghost use Rattle.plant_text.specs.Steps.Lexing.{begins_block, may_run_on, IsBehindLine, IsBlankLine, HasNoBlankLine, HasNoBody, IsBehindWholeBody};
 
 use crate::front_word::{behind, letters};
 use crate::gaps::behind_gap;
@@ -37,7 +37,7 @@ fn first_line(text: &[u8]) -> &[u8]
 
 /// What is left behind the first line feed. `None`: there is no line feed.
 fn behind_line(text: &[u8]) -> Option<&[u8]>
-    ensures { MatchOption result (IsTrue (is_one_line text.now)) (λ rest. text.now ≡ first_line text.now ++ 10 ∷ rest.now) }
+    ensures { MatchOption result (IsTrue (is_one_line text.now)) (λ rest. IsBehindLine text.now rest.now) }
 {
     match behind(text, line_len(text)) {
         [_, rest @ ..] => Some(rest),
@@ -70,7 +70,7 @@ pub fn is_blank_line(text: &[u8]) -> bool
 
 /// What is left behind a line that holds no word. `None`: the text begins with no such line.
 pub fn behind_blank_line(text: &[u8]) -> Option<&[u8]>
-    ensures { MatchOption result ((rest : List ℕ) → IsBlankLine text.now rest → ⊥) (λ rest. IsBlankLine text.now rest.now) }
+    ensures { MatchOption result (HasNoBlankLine text.now) (λ rest. IsBlankLine text.now rest.now) }
 {
     match behind_line(text) {
         Some(rest) if is_blank_line(text) => Some(rest),
@@ -102,7 +102,7 @@ fn is_end_line(line: &[u8]) -> bool
 
 /// What is left behind a body: from the line of END_PROGRAM on. `None`: there is no such line.
 pub fn behind_body(text: &[u8]) -> Option<&[u8]>
-    ensures { MatchOption result ((rest : List ℕ) → IsBehindBody text.now rest → IsEndLine (first_line rest) → ⊥) (λ rest. IsBehindBody text.now rest.now × IsEndLine (first_line rest.now)) }
+    ensures { MatchOption result (HasNoBody text.now) (λ rest. IsBehindWholeBody text.now rest.now) }
 {
     let mut rest = text;
     'lines: while !is_end_line(first_line(rest)) {

@@ -1,12 +1,11 @@
 //! The lexer: a plant's text word by word, with the line of each.
 
 ghost use Rattle.std.specs.Prelude.{◌≡◌, ◌≢◌, ◌<◌, ◌+◌, ◌-◌, ℕ, List, [], IfOk, IfSome, OnOk, IsTrue, MatchOption, length, min, take};
-ghost use Rattle.std.specs.Str.{IsUtf8};
 ghost use Rattle.words.specs.Lines.{without_last};
 ghost use Rattle.plant_text.specs.declared.token.Token.TheVariants as token;
 ghost use Rattle.plant_text.specs.Spelling.{BeginsNoBlock, feeds};
 ghost use Rattle.plant_text.specs.Steps.Gaps.{IsBehindGap};
-ghost use Rattle.plant_text.specs.Steps.Lexing.{IsBodyThen, IsWordThen, IsFirstWord, IsNext, StandsFirst};
+ghost use Rattle.plant_text.specs.Steps.Lexing.{part_before, IsPart, HasNoBodyThen, IsKnownThen, IsFirstWord, IsNext, StandsFirst};
 
 use crate::bodies::{
     begins_no_block, behind_blank_line, behind_body, is_blank_line, without_return,
@@ -24,7 +23,7 @@ use words::Text;
 const MOST_PROGRAM_TYPES: usize = 64;
 
 /// Where the next word stands.
-#[derive(Clone, Copy, Debug, PartialEq, Eq)]
+#[derive(Clone, Copy, PartialEq, Eq)]
 enum Stage {
     /// Between programs.
     Outside,
@@ -67,7 +66,7 @@ fn last_line(text: &[u8]) -> u64 {
 
 /// The text of a body that lies before `rest`. `None`: it is not UTF-8.
 fn body_before(alloc: Global, text: &[u8], rest: &[u8]) -> Result<Option<Text>, AllocError>
-    ensures { IfOk result (λ body. MatchOption body (IsUtf8 (take (length text.now - length rest.now) text.now) → ⊥) (λ b. b ≡ take (length text.now - length rest.now) text.now)) }
+    ensures { IfOk result (IsPart (part_before text.now rest.now)) }
 {
     match str::from_utf8(&text[..text.len().saturating_sub(rest.len())]) {
         Ok(body) => Ok(Some(Text::new(alloc, body)?)),
@@ -123,7 +122,7 @@ impl<'a> Lexer<'a> {
     /// Goes on to what is left behind a part of the text.
     fn advance(&mut self, rest: &'a [u8])
         ensures text { self.new.text ≡ rest.now }
-        ensures line { self.new.line ≡ min (self.old.line + feeds (take (length self.old.text - length rest.now) self.old.text)) 18446744073709551615 }
+        ensures line { self.new.line ≡ min (self.old.line + feeds (part_before self.old.text rest.now)) 18446744073709551615 }
     {
         let passed = &self.rest[..self.rest.len().saturating_sub(rest.len())];
         self.line = self.line.saturating_add(feeds(passed));
@@ -143,7 +142,7 @@ impl<'a> Lexer<'a> {
     /// The word that stands in front.
     fn word(&mut self, alloc: Global) -> Result<Word, AllocError>
         requires { 0 < length self.old.text }
-        ensures word { IfOk result (λ w. w.token ≢ token.Unknown → IsWordThen self.old.text w.token self.new.text) }
+        ensures word { IfOk result (λ w. IsKnownThen self.old.text w.token self.new.text) }
         ensures line { OnOk result (self.new.line ≡ self.old.line) }
         ensures shorter { OnOk result (length self.new.text < length self.old.text) }
     {
@@ -165,7 +164,7 @@ impl<'a> Lexer<'a> {
         requires some { 0 < length self.old.text }
         ensures word { IfOk result (λ w. IsFirstWord self.old.text w.token self.new.text) }
         ensures first { IfOk result (λ w. StandsFirst self.old w self.new) }
-        ensures none { IfOk result (λ w. w.token ≡ token.Unknown → (body rest : List ℕ) → IsBodyThen self.old.text body rest → IsUtf8 body → ⊥) }
+        ensures none { IfOk result (λ w. w.token ≡ token.Unknown → HasNoBodyThen self.old.text) }
         ensures shorter { OnOk result (length self.new.text < length self.old.text) }
     {
         let line = self.line;

@@ -6,7 +6,6 @@ ghost use Rattle.words.specs.Numbers.{number_up_to};
 use words::number_up_to;
 
 /// A number up to 65,535.
-#[tactic(auto, using(crate::proofs::WordLemmas::number_within))]
 pub fn small_number(word: &[u8]) -> Option<u16>
     ensures { result ≡ number_up_to 65535 word.now }
 {

@@ -1,5 +1,6 @@
 use crate::address::Address;
-use words::{BlockName, Text};
+use std_blocks::BlockType;
+use words::Text;
 
 /// The words that are fixed, in either case.
 #[derive(Clone, Copy, Debug, PartialEq, Eq)]
@@ -41,7 +42,7 @@ pub enum Punctuation {
 pub enum Token {
     Keyword(Keyword),
     /// The type of a standard block.
-    Block(BlockName),
+    Block(BlockType),
     Punctuation(Punctuation),
     Name(Text),
     /// From 0 to 65,535.

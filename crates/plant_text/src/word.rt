@@ -1,7 +1,7 @@
 ghost use Rattle.std.specs.Prelude.{◌≡◌, ◌↔◌, IsTrue};
 ghost use Rattle.plant_text.specs.declared.token.Token.TheVariants as token;
 ghost use Rattle.plant_text.specs.declared.address.Address.{Address};
-ghost use Rattle.words.specs.declared.names.BlockName.{BlockName};
+ghost use Rattle.std_blocks.specs.declared.block_type.BlockType.{BlockType};
 
 use crate::token::{Keyword, Punctuation, Token};
 use std::marker::Model;
@@ -72,7 +72,7 @@ impl Word {
 
     /// Whether it is the type of a standard block.
     pub fn is_block_type(&self) -> bool
-        ensures { IsTrue result ↔ (b : BlockName) × (self.now.token ≡ token.Block b) }
+        ensures { IsTrue result ↔ (b : BlockType) × (self.now.token ≡ token.Block b) }
     {
         matches!(self.token, Token::Block(_))
     }

@@ -9,7 +9,7 @@ use crate::address::Address;
 use crate::small_number::small_number;
 use crate::token::{Keyword, Punctuation, Token};
 use std::alloc::{AllocError, Global};
-use words::{Text, block_name, duration_up_to, is_plain_name};
+use words::{Text, block_type, duration_up_to, is_plain_name};
 
 #[tactic(auto, unfolding(crate::specs::Words::program_keyword))]
 fn program_keyword(word: &[u8]) -> Option<Keyword>
@@ -113,7 +113,6 @@ fn punctuation(word: &[u8]) -> Option<Punctuation>
 }
 
 /// A duration up to 2,147,483,647 ms.
-#[tactic(auto, using(crate::proofs::WordLemmas::duration_within))]
 fn milliseconds(word: &[u8]) -> Option<u32>
     ensures { result ≡ duration_up_to 2147483647 word.now }
 {
@@ -131,7 +130,7 @@ fn fixed_word(word: &[u8]) -> Option<Token>
     if let Some(found) = keyword(word) {
         return Some(Token::Keyword(found));
     }
-    if let Some(found) = block_name(word) {
+    if let Some(found) = block_type(word) {
         return Some(Token::Block(found));
     }
     match punctuation(word) {

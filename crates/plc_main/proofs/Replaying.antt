@@ -1,20 +1,17 @@
 -- A replay in one thread.
 use Rattle.std.proofs.Common.{◌≡◌, true, false, Bool, List, [], ◌∷◌, reverse, refl, sym, ap, ◌∙◌, subst, if◌then◌else◌}
-use Rattle.std.proofs.lemmas.Option.{same_Some}
-use Rattle.power_flow.specs.StateValue.{StateValue, IsSame}
 use Rattle.plant.specs.PlantValue.{PlantValue}
-use Rattle.evaluation.specs.Meaning.{Evaluated, IsSameEvaluation}
-use Rattle.evaluation.specs.States.{AreSame}
-use Rattle.world.specs.declared.event.Event.{Event}
-use Rattle.world.specs.History.{Setting, is_lawful, after_events, lawful_among}
-use Rattle.world.specs.Run.{IsLog, IsRun}
-use Rattle.world.specs.World.{WorldValue}
-use Rattle.world.specs.Step.{Follows}
-use Rattle.world.specs.Laws.{OneRun}
-use Rattle.world.specs.Book.{BookValue}
+use Rattle.evaluation.specs.Meaning.{Evaluated}
+use Rattle.exchange.specs.declared.event.Event.{Event}
+use Rattle.exchange.specs.History.{Setting, is_lawful, after_events, lawful_among}
+use Rattle.exchange.specs.Run.{IsLog, IsRun}
+use Rattle.exchange.specs.World.{WorldValue}
+use Rattle.exchange.specs.Step.{Follows}
+use Rattle.exchange.specs.Laws.{OneRun}
+use Rattle.exchange.specs.Book.{BookValue}
 use Rattle.node.specs.declared.journal.Journal.{Journal}
 use Rattle.node.specs.Reports.{RunsAgain, firsts_of}
-use Rattle.plc_main.specs.Steps.Replaying.{AreSameEvaluations, IsReplay}
+use Rattle.plc_main.specs.Steps.Replaying.{IsReplay}
 
 -- the lawful events of a list have the history of all of them
 pub lawful_history : (s : Setting) (h : List Event) (es : List Event) → after_events s h (lawful_among s h es) ≡ after_events s h es
@@ -34,17 +31,8 @@ run_of s old new es log is follows run same =
     let of_all = subst (λ (h : List Event). IsLog s h (reverse new.log)) (lawful_history s [] es) done in
     subst (IsRun s es) (sym same) of_all
 
-same_state : (a : List StateValue) → AreSame a a
-same_state a = record { many = refl; each = λ i s t at at2. subst (IsSame s) (same_Some s t (sym at ∙ at2)) (record { slots = refl; memories = refl }) }
-
-same_evaluation : (x : Evaluated) → IsSameEvaluation x x
-same_evaluation x = record { ticket = refl; name = refl; dt = refl; inputs = refl; takes = refl; before = same_state x.before; outputs = refl; after = same_state x.after; code = refl }
-
-same_evaluations : (xs : List Evaluated) → AreSameEvaluations xs xs
-same_evaluations xs = record { many = refl; each = λ i x y at at2. subst (IsSameEvaluation x) (same_Some x y (sym at ∙ at2)) (same_evaluation x) }
-
 -- where the entries are the run of each schedule that makes them again, a replay is equal
 pub replayed_equal : (plant : PlantValue) (book : BookValue) (journals : List Journal) (equal : Bool) → OneRun → RunsAgain plant 4294967295 book journals → IsReplay plant (firsts_of journals) book equal → equal ≡ true
 replayed_equal plant book journals equal one_run again replay =
     let same : replay.log ≡ book.entries = one_run _ replay.schedule replay.log book.entries replay.run (again replay.schedule replay.again) in
-    replay.equal_is.1 (subst (AreSameEvaluations replay.log) same (same_evaluations replay.log))
+    replay.equal_is.1 same

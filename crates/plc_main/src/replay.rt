@@ -2,17 +2,17 @@
 
 ghost use Rattle.std.specs.Prelude.{◌≡◌, ◌↔◌, true, length, IfOk, IsTrue};
 ghost use Rattle.node.specs.Reports.{RunsAgain, firsts_of};
-ghost use Rattle.plc_main.specs.Steps.Replaying.{AreSameEvaluations, IsReplay};
+ghost use Rattle.plc_main.specs.Steps.Replaying.{IsReplay};
 
 use evaluation::Frame;
+use exchange::{Book, World, one_run};
 use node::{Journal, Report};
 use plant::Plant;
 use std::alloc::{AllocError, Global};
 use std::sync::Arc;
-use world::{Book, World, one_run};
 
 fn are_same(frames: &[Frame], others: &[Frame]) -> bool
-    ensures { IsTrue result ↔ AreSameEvaluations frames.now others.now }
+    ensures { IsTrue result ↔ (frames.now ≡ others.now) }
 {
     if frames.len() != others.len() {
         return false;

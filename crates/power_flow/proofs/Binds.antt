@@ -1,15 +1,16 @@
 -- A ladder that is bound network by network.
 use Rattle.std.proofs.Common.{◌≡◌, ℕ, suc, ◌+◌, ◌<◌, ◌≤◌, Some, slice_get, take, List, [], ◌∷◌, ◌++◌, All, map, max, length, get_or, sym, ap, ◌∙◌, refl, arith}
-use Rattle.std.proofs.lemmas.List.Elements.{All-from_recursion, recursion_from_All, All-push, All-pop, All-more, All-weaker, All-nil, All-cons, All-head, All-tail, All-map}
+use Rattle.std.proofs.lemmas.List.Elements.{All-from_recursion, recursion_from_All, All-push, All-pop, All-more, All-weaker, All-nil, All-cons, All-head, All-tail}
 use Rattle.std.specs.List.{AllByRecursion}
 use Rattle.std.proofs.lemmas.List.{map-append}
 use Rattle.ladder_text.specs.declared.place.Place.{Place}
 use Rattle.network.specs.declared.element.Element.{Element}
 use Rattle.network.specs.Links.{Diagram}
 use Rattle.network.specs.GraphValue.{diagram, IsSoundNetwork}
-use Rattle.power_flow.specs.declared.circuit.Circuit.{Circuit}
-use Rattle.power_flow.specs.declared.declarations.Declaration.{Declaration}
-use Rattle.power_flow.specs.Binding.{IsBoundNetwork, CanBind}
+use Rattle.power_flow.specs.declared.steps.circuit.Circuit.{Circuit}
+use Rattle.variable_binding.specs.declared.declarations.Declaration.{Declaration}
+use Rattle.variable_binding.specs.Binding.{IsBoundNetwork, CanBind}
+use Rattle.variable_binding.specs.Steps.Named.{AreNamed}
 use Rattle.power_flow.specs.Steps.Circuit.{IsCircuit, AreCircuits, HasShape, HasRoom, circuit_diagram}
 use Rattle.power_flow.specs.Scan.{AllAreWide}
 
@@ -21,10 +22,10 @@ elements_more circuits yielded c network was here =
     map-append (λ (c : Circuit). c.elements.items) circuits (c ∷ []) ∙ ap (λ x. x ++ c.elements.items ∷ []) was ∙ ap (λ n. yielded ++ n ∷ []) here
 
 pub circuits_more : (ds : List Declaration) (rails : List Place) (circuits : List Circuit) (yielded : List (List Element)) (c : Circuit) (network : List Element)
-    → (All (IsBoundNetwork ds) yielded → AreCircuits ds rails circuits) → (IsBoundNetwork ds network → IsCircuit ds (diagram rails network) c) → c.elements.items ≡ network
-    → All (IsBoundNetwork ds) (yielded ++ network ∷ []) → AreCircuits ds rails (circuits ++ c ∷ [])
-circuits_more ds rails circuits yielded c network were here same bound =
-    let parts = All-pop (IsBoundNetwork ds) (yielded ++ network ∷ []) yielded (Some network) refl bound in
+    → (All (AreNamed ds) yielded → AreCircuits ds rails circuits) → (AreNamed ds network → IsCircuit ds (diagram rails network) c) → c.elements.items ≡ network
+    → All (AreNamed ds) (yielded ++ network ∷ []) → AreCircuits ds rails (circuits ++ c ∷ [])
+circuits_more ds rails circuits yielded c network were here same named =
+    let parts = All-pop (AreNamed ds) (yielded ++ network ∷ []) yielded (Some network) refl named in
     let one : IsCircuit ds (circuit_diagram rails c) c = moved network c.elements.items (sym same) (here parts.1) in
     let P : Circuit → Type 0 = λ c. IsCircuit ds (circuit_diagram rails c) c in
     recursion_from_All P (circuits ++ c ∷ []) (All-push P circuits c (All-from_recursion P circuits (were parts.0)) one)
@@ -77,5 +78,14 @@ networks_are rails circuits networks same = same_diagrams circuits ∙ ap (map (
     same_diagrams [] = refl
     same_diagrams (c ∷ cs) = ap (λ x. diagram rails (elements_of c) ∷ x) (same_diagrams cs)
 
-pub can_bind_from : (ds : List Declaration) (rails : List Place) (networks : List (List Element)) → All (IsBoundNetwork ds) networks → CanBind ds (map (diagram rails) networks)
-can_bind_from ds rails networks h = All-map (λ (d : Diagram). IsBoundNetwork ds d.elements) (diagram rails) networks h
+-- a ladder of networks can be made where it can be made of each
+pub can_bind_each : (ds : List Declaration) (rails : List Place) (networks : List (List Element)) → CanBind ds (map (diagram rails) networks) → All (IsBoundNetwork ds) networks
+can_bind_each ds rails [] h = All-nil (IsBoundNetwork ds)
+can_bind_each ds rails (es ∷ networks) h = All-cons (IsBoundNetwork ds) es networks
+    (All-head (λ (d : Diagram). IsBoundNetwork ds d.elements) (diagram rails es) (map (diagram rails) networks) h)
+    (can_bind_each ds rails networks (All-tail (λ (d : Diagram). IsBoundNetwork ds d.elements) (diagram rails es) (map (diagram rails) networks) h))
+
+-- the names of circuits are those of their networks
+pub circuits_named : (ds : List Declaration) (rails : List Place) (circuits : List Circuit) → AreCircuits ds rails circuits → AllByRecursion (λ (d : Diagram). AreNamed ds d.elements) (map (circuit_diagram rails) circuits)
+circuits_named ds rails [] are = tt
+circuits_named ds rails (c ∷ circuits) are = (are.0.named, circuits_named ds rails circuits are.1)

@@ -2,10 +2,10 @@
 use Rattle.std.proofs.Common.{◌≡◌, ℕ, zero, suc, ◌+◌, ◌<◌, List, [], ◌∷◌, ◌++◌, Option, Some, None, All, Contains, MatchOption, slice_get, get_or, take, length, arith, refl, sym, ap, ◌∙◌}
 use Rattle.std.specs.List.{AllZip, cons_option}
 use Rattle.std.specs.Option.{option_and_then, option_map}
-use Rattle.power_flow.specs.Lookup.{declared_at}
-use Rattle.power_flow.specs.declared.declarations.Declared.{Declared}
-use Rattle.power_flow.specs.declared.source.Source.{Source}
-use Rattle.power_flow.specs.declared.source.Source.TheVariants as source
+use Rattle.variable_binding.specs.Lookup.{declared_at}
+use Rattle.variable_binding.specs.declared.declarations.Declared.{Declared}
+use Rattle.power_flow.specs.declared.binding.source.Source.{Source}
+use Rattle.power_flow.specs.declared.binding.source.Source.TheVariants as source
 use Rattle.std.proofs.lemmas.List.{take_more, append-nil}
 use Rattle.std.proofs.lemmas.List.Elements.{filter_map-append, All-nil, All-cons}
 use Rattle.lists.proofs.Places.{some_same}
@@ -21,11 +21,11 @@ use Rattle.ladder_text.specs.declared.drawn_box.Side.{Side}
 use Rattle.ladder_text.specs.declared.drawn_box.Side.TheVariants.{Left, Right}
 use Rattle.network.specs.declared.element.Element.{Element}
 use Rattle.network.specs.declared.element.Element.TheVariants.{Wire, Join, Upright, Contact, Coil, Box}
-use Rattle.power_flow.specs.declared.declarations.Declaration.{Declaration}
-use Rattle.power_flow.specs.declared.bound_box.BoundOutput.{BoundOutput}
-use Rattle.power_flow.specs.Names.{place_of}
+use Rattle.variable_binding.specs.declared.declarations.Declaration.{Declaration}
+use Rattle.power_flow.specs.declared.binding.bound_box.BoundOutput.{BoundOutput}
+use Rattle.variable_binding.specs.Names.{place_of}
 use Rattle.power_flow.specs.Meaning.{IsDrawn}
-use Rattle.power_flow.specs.Steps.NamedBox.{IsDrawnOnce, AreInRange, IsInRange}
+use Rattle.variable_binding.specs.Steps.Named.{IsDrawnOnce, AreInRange, IsInRange}
 use Rattle.power_flow.specs.Steps.BoxTable.{right_pin, right_pins, output_if, box_of, boxes_of}
 
 -- an input is drawn once

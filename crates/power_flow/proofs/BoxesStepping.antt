@@ -14,9 +14,9 @@ use Rattle.std_blocks.specs.Pins.{field_value}
 use Rattle.power_flow.specs.declared.state.Instance.{Instance}
 use Rattle.power_flow.specs.declared.state.Slot.{Slot}
 use Rattle.power_flow.specs.declared.state.Slot.TheVariants.{Block}
-use Rattle.power_flow.specs.declared.bound_box.BoundBox.{BoundBox}
-use Rattle.power_flow.specs.declared.bound_box.BoundOutput.{BoundOutput}
-use Rattle.power_flow.specs.Names.{is_true}
+use Rattle.power_flow.specs.declared.binding.bound_box.BoundBox.{BoundBox}
+use Rattle.power_flow.specs.declared.binding.bound_box.BoundOutput.{BoundOutput}
+use Rattle.power_flow.specs.Values.{is_true}
 use Rattle.power_flow.specs.Meaning.{bit_at}
 use Rattle.power_flow.specs.Steps.BoxSteps.{IsMarked, HasOutput, AreApartBoxes, pin_stores, output_stores, read_by, made_by, state_in, box_inputs, box_result}
 

@@ -1,7 +1,6 @@
 -- The boxes of a sound network keep their order, and no two are of one name.
-use Rattle.std.proofs.Common.{◌≡◌, ℕ, zero, suc, ◌<◌, ◌≤◌, inl, inr, List, [], ◌∷◌, Some, IsTrue, All, Contains, slice_get, get_or, length, arith, refl, sym, ap, ◌∙◌}
-use Rattle.std.specs.Str.{str_eq_ignore_ascii_case, str_to_ascii_lowercase}
-use Rattle.std.proofs.lemmas.Slice.Eq.{bytes_eq-Decides}
+use Rattle.std.proofs.Common.{◌≡◌, ℕ, zero, suc, ◌<◌, ◌≤◌, inl, inr, List, [], ◌∷◌, Some, IsTrue, All, Contains, slice_get, get_or, length, arith, refl, ap, ◌∙◌}
+use Rattle.std.specs.Str.{str_eq_ignore_ascii_case}
 use Rattle.std.proofs.lemmas.Bool.{cases_lt}
 use Rattle.std.specs.List.{AllZip}
 use Rattle.std.proofs.lemmas.Option.{slice_get_within, slice_get-get_or}
@@ -12,12 +11,11 @@ use Rattle.ladder_text.specs.declared.drawn_box.DrawnBox.{DrawnBox}
 use Rattle.network.specs.declared.element.Element.{Element}
 use Rattle.network.specs.declared.element.Element.TheVariants.{Wire, Join, Upright, Contact, Coil, Box}
 use Rattle.network.specs.GraphValue.{diagram, IsSoundNetwork}
-use Rattle.power_flow.specs.declared.declarations.Declaration.{Declaration}
-use Rattle.power_flow.specs.declared.bound_box.BoundBox.{BoundBox}
-use Rattle.power_flow.specs.Names.{place_of}
+use Rattle.variable_binding.specs.declared.declarations.Declaration.{Declaration}
+use Rattle.power_flow.specs.declared.binding.bound_box.BoundBox.{BoundBox}
+use Rattle.variable_binding.specs.Names.{place_of}
 use Rattle.power_flow.specs.Steps.BoxSteps.{AreApartBoxes}
 use Rattle.power_flow.specs.Steps.BoxTable.{IsBoundBox, AreBoundBoxes, AreByColumn, boxes_of}
-use Rattle.power_flow.proofs.Places.{place_at}
 use Rattle.power_flow.proofs.BoxesSources.{box_in}
 
 -- where the boxes stand among the elements: each further on than the one before
@@ -75,22 +73,15 @@ box_once (Box b ∷ es) (suc i) (suc j) in' in'' same =
     let two : suc j < suc (length (boxes_of es)) = in'' in
     let h = box_once es i j (omega arith) (omega arith) (omega arith) in omega arith
 
--- names at one place are one name
-one_name : (ds : List Declaration) (a b : List ℕ) (k : ℕ) (e : Declaration) → place_of ds a ≡ Some k → place_of ds b ≡ Some k → IsTrue (str_eq_ignore_ascii_case a b)
-one_name ds a b k e at at' =
-    let d = get_or ds k e in
-    let one = (bytes_eq-Decides (str_to_ascii_lowercase d.name) (str_to_ascii_lowercase a)).0 (place_at ds a k e at).1 in
-    let two = (bytes_eq-Decides (str_to_ascii_lowercase d.name) (str_to_ascii_lowercase b)).0 (place_at ds b k e at').1 in
-    (bytes_eq-Decides (str_to_ascii_lowercase a) (str_to_ascii_lowercase b)).1 (sym one ∙ two)
-
 -- what holds of each box among the elements holds of all boxes
 pub all_boxes : (P : DrawnBox → Type 0) (es : List Element) → ((b : DrawnBox) → Contains es (Box b) → P b) → All P (boxes_of es)
 all_boxes P es each k d lt = each (get_or (boxes_of es) k d) (box_in es k (get_or (boxes_of es) k d) (slice_get-get_or (boxes_of es) k d lt))
 
 -- bound boxes with what the network promises are the boxes of the table
 module _ (rails : List Place) (es : List Element) (sound : IsSoundNetwork (diagram rails es)) where
-  pub bound_boxes_are : (ds : List Declaration) (top : ℕ) (boxes : List BoundBox) → AllZip (IsBoundBox ds top) (boxes_of es) boxes → AreBoundBoxes ds (diagram rails es) top boxes
-  bound_boxes_are ds top boxes bound = record { bound = bound; by_column = by_column; apart = apart }
+  pub bound_boxes_are : (ds : List Declaration) (top : ℕ) (boxes : List BoundBox) → ((a b : List ℕ) (k : ℕ) → place_of ds a ≡ Some k → place_of ds b ≡ Some k → IsTrue (str_eq_ignore_ascii_case a b))
+      → AllZip (IsBoundBox ds top) (boxes_of es) boxes → AreBoundBoxes ds (diagram rails es) top boxes
+  bound_boxes_are ds top boxes one_name bound = record { bound = bound; by_column = by_column; apart = apart }
     where
       by_column : AreByColumn (boxes_of es)
       by_column i j a b at at' left = elim (cases_lt i j) [
@@ -105,6 +96,6 @@ module _ (rails : List Place) (es : List Element) (sound : IsSoundNetwork (diagr
       apart i j e f at at' same =
           let a = zip_back (IsBoundBox ds top) (boxes_of es) boxes bound i e at in
           let b = zip_back (IsBoundBox ds top) (boxes_of es) boxes bound j f at' in
-          let names = one_name ds a.0.instance b.0.instance f.instance a.2.declared.entry (a.2.place ∙ ap Some same) b.2.place in
+          let names = one_name a.0.instance b.0.instance f.instance (a.2.place ∙ ap Some same) b.2.place in
           let places = sound.names (place_of_box es i) (place_of_box es j) a.0 b.0 (box_there es i a.0 a.1) (box_there es j b.0 b.1) names in
           box_once es i j (slice_get_within (boxes_of es) i a.0 a.1) (slice_get_within (boxes_of es) j b.0 b.1) places

@@ -12,10 +12,10 @@ use Rattle.ladder_text.specs.declared.drawn_box.Side.TheVariants.{Left, Right}
 use Rattle.network.specs.declared.element.Element.{Element}
 use Rattle.network.specs.declared.element.Element.TheVariants.{Wire, Join, Upright, Contact, Coil, Box}
 use Rattle.network.specs.Links.{Diagram, place}
-use Rattle.power_flow.specs.declared.declarations.Declaration.{Declaration}
-use Rattle.power_flow.specs.declared.step.Step.{Step}
-use Rattle.power_flow.specs.declared.step.Step.TheVariants as step
-use Rattle.power_flow.specs.declared.step.BoundCoil.{BoundCoil}
+use Rattle.variable_binding.specs.declared.declarations.Declaration.{Declaration}
+use Rattle.power_flow.specs.declared.steps.step.Step.{Step}
+use Rattle.power_flow.specs.declared.steps.step.Step.TheVariants as step
+use Rattle.power_flow.specs.declared.steps.step.BoundCoil.{BoundCoil}
 use Rattle.power_flow.specs.Steps.Columns.{Begins, Joins, IsLeftPinBegun, left_pin, left_pins, joined, AreStepsOf, AreSteps}
 use Rattle.power_flow.specs.Steps.Columns.Begins.{goes_on, at_rail, is_off}
 use Rattle.power_flow.specs.Steps.Columns.Joins.{within, lowest}
@@ -23,7 +23,7 @@ use Rattle.power_flow.specs.Steps.Circuit.{IsStepIn, bound_coil, bound_coils}
 use Rattle.power_flow.specs.Steps.RowEnds.{AreRows}
 use Rattle.power_flow.specs.Waiting.{coil_of, coils_of, box_of, boxes_of}
 use Rattle.power_flow.proofs.BoxesTable.{all_boxes}
-use Rattle.power_flow.specs.Steps.NamedBox.{ArePinsIn}
+use Rattle.power_flow.specs.Steps.BoxTable.{ArePinsIn}
 use Rattle.power_flow.proofs.Leading.{in_rows, pins_in}
 use Rattle.power_flow.proofs.StepLemmas.{kept_before}
 use Rattle.std.proofs.Common.{inl, Contains, MatchOption}

@@ -22,13 +22,13 @@ use Rattle.network.specs.Apart.{first_place, Has}
 use Rattle.network.specs.GraphValue.{IsSoundNetwork}
 use Rattle.power_flow.specs.Power.{IsOn}
 use Rattle.power_flow.specs.Meaning.{bit_at, contact_conducts, contact_memory}
-use Rattle.power_flow.specs.declared.declarations.Declaration.{Declaration}
+use Rattle.variable_binding.specs.declared.declarations.Declaration.{Declaration}
 use Rattle.power_flow.specs.declared.state.Instance.{Instance}
 use Rattle.power_flow.specs.declared.state.Slot.{Slot}
-use Rattle.power_flow.specs.declared.bound_box.BoundBox.{BoundBox}
-use Rattle.power_flow.specs.declared.step.Step.{Step}
-use Rattle.power_flow.specs.declared.step.Step.TheVariants as step
-use Rattle.power_flow.specs.Names.{is_true}
+use Rattle.power_flow.specs.declared.binding.bound_box.BoundBox.{BoundBox}
+use Rattle.power_flow.specs.declared.steps.step.Step.{Step}
+use Rattle.power_flow.specs.declared.steps.step.Step.TheVariants as step
+use Rattle.power_flow.specs.Values.{is_true}
 use Rattle.power_flow.specs.Steps.Sources.{source_value, name_source}
 use Rattle.power_flow.specs.Steps.Columns.{IsStop, IsLed, Begins, Joins, left_pin, left_pins, IsLeftPinBegun, joined, AreStepsOf}
 use Rattle.power_flow.specs.Steps.Columns.Begins.{goes_on, at_rail, is_off}

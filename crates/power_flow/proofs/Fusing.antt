@@ -2,10 +2,10 @@
 use Rattle.std.proofs.Common.{◌≡◌, ℕ, ◌+◌, List, [], ◌∷◌, ◌++◌, All, append_assoc, false, true, slice_set, arith, refl, sym, ap, ◌∙◌, subst}
 use Rattle.std.proofs.lemmas.List.{append-nil}
 use Rattle.std.proofs.lemmas.List.Elements.{All-cons, All-head, All-tail}
-use Rattle.power_flow.specs.declared.bound_box.BoundBox.{BoundBox}
+use Rattle.power_flow.specs.declared.binding.bound_box.BoundBox.{BoundBox}
 use Rattle.power_flow.specs.declared.state.Slot.{Slot}
-use Rattle.power_flow.specs.declared.step.Step.{Step}
-use Rattle.power_flow.specs.declared.step.Step.TheVariants as step
+use Rattle.power_flow.specs.declared.steps.step.Step.{Step}
+use Rattle.power_flow.specs.declared.steps.step.Step.TheVariants as step
 use Rattle.power_flow.specs.Steps.Circuit.{IsStepIn}
 use Rattle.power_flow.specs.Steps.Contacts.{contact_of, first_of, second_of}
 use Rattle.power_flow.specs.Steps.Fused.{single, singles}

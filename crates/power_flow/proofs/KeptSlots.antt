@@ -1,43 +1,39 @@
 -- What is stored is of the kind that its slot keeps.
-use Rattle.std.proofs.Common.{◌≡◌, ℕ, suc, ◌+◌, ◌<◌, ◌⊎◌, ◌≢◌, inl, inr, List, [], ◌∷◌, ◌++◌, Bool, true, false, cond, Option, Some, None, Contains, set, length-set, get_or, take, drop, length, slice_get, map, sum_by, refl, sym, ap, ◌∙◌, subst, arith}
+use Rattle.std.proofs.Common.{◌≡◌, ℕ, ◌+◌, ◌<◌, ◌⊎◌, ◌≢◌, inl, inr, List, [], ◌∷◌, ◌++◌, Bool, Option, Some, None, Contains, set, length-set, get_or, take, drop, length, slice_get, map, sum_by, refl, sym, ap, ◌∙◌, subst, arith}
 use Rattle.std.specs.Option.{option_map}
 use Rattle.std.specs.List.{AllByRecursion, flat_map, enumerate_from}
 use Rattle.std.proofs.lemmas.Bool.{cases_eq}
 use Rattle.std.proofs.lemmas.List.{get_or-set_same, get_or-set_other}
-use Rattle.std.proofs.lemmas.List.Elements.{recursion_from_All}
 use Rattle.std.proofs.lemmas.Option.{slice_get-get_or, get_or_from_slice_get, slice_get_within}
 use Rattle.std_blocks.specs.declared.value.Value.{Value}
 use Rattle.std_blocks.specs.declared.value.Value.TheVariants.{Bool as BoolValue}
+use Rattle.ladder_text.specs.declared.coil.Coil.{Coil as DrawnCoil}
 use Rattle.ladder_text.specs.declared.drawn_box.DrawnBox.{DrawnBox}
 use Rattle.network.specs.declared.element.Element.{Element}
 use Rattle.network.specs.declared.element.Element.TheVariants.{Wire, Join, Upright, Contact, Coil, Box}
 use Rattle.network.specs.Links.{Diagram}
-use Rattle.power_flow.specs.declared.declarations.Declaration.{Declaration}
-use Rattle.power_flow.specs.declared.declarations.Declared.{Declared}
-use Rattle.power_flow.specs.declared.declarations.Declared.TheVariants.{Input, Output, Local, Instance}
-use Rattle.power_flow.specs.declared.declarations.Kind.TheVariants as kind
+use Rattle.variable_binding.specs.declared.declarations.Declaration.{Declaration}
+use Rattle.variable_binding.specs.declared.declarations.Declared.{Declared}
+use Rattle.variable_binding.specs.declared.declarations.Declared.TheVariants.{Input, Output, Local, Instance}
+use Rattle.variable_binding.specs.declared.declarations.Kind.TheVariants as kind
 use Rattle.power_flow.specs.declared.state.Slot.{Slot}
 use Rattle.power_flow.specs.declared.state.Slot.TheVariants.{Variable}
 use Rattle.power_flow.specs.Meaning.{bit_at}
-use Rattle.power_flow.specs.Names.{place_of, value_at, slot_value, is_dot}
-use Rattle.power_flow.specs.StateValue.{StateValue, IsSlotOf, AreSlotsOf, kind_of}
+use Rattle.variable_binding.specs.Names.{place_of}
+use Rattle.power_flow.specs.Values.{value_at, slot_value}
+use Rattle.variable_binding.specs.Kinds.{kind_of}
+use Rattle.power_flow.specs.StateValue.{StateValue, IsSlotOf, AreSlotsOf}
 use Rattle.ladder_text.specs.declared.place.Place.{Place}
 use Rattle.std.proofs.lemmas.List.Sums.{sum_by-cons}
-use Rattle.power_flow.specs.declared.circuit.Circuit.{Circuit}
+use Rattle.power_flow.specs.declared.steps.circuit.Circuit.{Circuit}
 use Rattle.power_flow.specs.Steps.Circuit.{circuit_diagram}
 use Rattle.power_flow.specs.LadderValue.{LadderValue, Fits}
-use Rattle.power_flow.specs.Binding.{IsBoundNetwork, CanBind}
-use Rattle.power_flow.specs.Steps.ElementFindings.{IsBound, write_fault, fault_with, as_variable, variable_declared}
-use Rattle.power_flow.specs.declared.bind.BindKind.{BindKind}
-use Rattle.power_flow.specs.declared.bind.BindKind.TheVariants.{WritesInput, WrongKind}
-use Rattle.power_flow.specs.declared.declarations.Kind.{Kind}
+use Rattle.variable_binding.specs.BindFaults.{IsVariable}
+use Rattle.variable_binding.specs.declared.declarations.Kind.{Kind}
 use Rattle.power_flow.specs.declared.state.Instance.{Instance as InstanceRecord}
 use Rattle.power_flow.specs.declared.state.Slot.TheVariants.{Block}
-use Rattle.power_flow.specs.Lookup.{declared_at, is_dotted}
-use Rattle.power_flow.specs.Literals.{literal_value}
-use Rattle.power_flow.specs.PinKinds.{type_of, field_kind}
-use Rattle.power_flow.specs.Steps.BoxFindings.{IsFaultless, same_kind, store_declared_fault, store_name_fault, store_fault_by, store_fault_at, operand_fault, own_field, field_on, kind_at}
-use Rattle.power_flow.specs.Steps.NamedBox.{IsNamedBox}
+use Rattle.variable_binding.specs.PinKinds.{field_kind}
+use Rattle.variable_binding.specs.Steps.Named.{IsNamedBox, IsVariableAt, AreNamed}
 use Rattle.std_blocks.specs.declared.pin.Field.{Field}
 use Rattle.std_blocks.specs.declared.pin.Field.TheVariants.{Bit, Int, Time}
 use Rattle.std_blocks.specs.declared.pins.PinsOut.{PinsOut}
@@ -48,17 +44,12 @@ use Rattle.ladder_text.specs.declared.drawn_box.Operand.{Operand}
 use Rattle.ladder_text.specs.declared.drawn_box.Side.{Side}
 use Rattle.ladder_text.specs.declared.drawn_box.Side.TheVariants.{Left, Right}
 use Rattle.std.specs.Option.{option_and_then, option_map_or}
-use Rattle.std.specs.List.{before_first}
-use Rattle.lists.proofs.Members.{at_contains}
-use Rattle.power_flow.proofs.BoxesFaults.{here_none, named_box, pins_right, operand_right}
+use Rattle.lists.proofs.Members.{cons_first, cons_later}
 use Rattle.power_flow.proofs.BoxesBinding.{declared_place}
 use Rattle.power_flow.proofs.BoxesSources.{block_at, pin_value, block_kept}
 use Rattle.power_flow.proofs.Determinism.{box_cases}
 use Rattle.power_flow.specs.Meaning.{Moment, moment, NetworkMeaning, BlocksStep, stored, stores, store, coil_stores, coil_value, result_stores, side_stores}
 use Rattle.power_flow.specs.Scan.{ScanMeaning}
-use Rattle.power_flow.proofs.BindingLemmas.{IsVariable, variable_is}
-use Rattle.power_flow.proofs.NameFaults.{kinds_agree}
-use Rattle.power_flow.proofs.FaultsFound.{no_finding}
 
 -- what is stored is of the declared kind
 abbrev IsRight : List Declaration → ℕ × Value → Type 0
@@ -89,46 +80,55 @@ both : (ds : List Declaration) (xs ys : List (ℕ × Value)) → AllByRecursion 
 both ds [] ys h k = k
 both ds (x ∷ xs) ys h k = (h.0, both ds xs ys h.1 k)
 
--- what a coil may write is a BOOL
-bool_slot : (d : Declared) (b : Bool) → write_fault d ≡ None → IsSlotOf d (Variable (BoolValue b))
-bool_slot (Input kind.Bool) b h = absurd (cc)
-bool_slot (Input kind.Int) b h = absurd (cc)
-bool_slot (Input kind.Time) b h = absurd (cc)
-bool_slot (Output kind.Bool) b h = refl
-bool_slot (Output kind.Int) b h = absurd (cc)
-bool_slot (Output kind.Time) b h = absurd (cc)
-bool_slot (Local kind.Bool) b h = refl
-bool_slot (Local kind.Int) b h = absurd (cc)
-bool_slot (Local kind.Time) b h = absurd (cc)
-bool_slot (Instance block) b h = absurd (cc)
+-- a value of the declared kind may stand there
+kept_kind : (w : Declared) (k : Kind) (v : Value) → IsVariable w k → kind_of v ≡ k → IsSlotOf w (Variable v)
+kept_kind (Input j) k v is same = same ∙ sym is
+kept_kind (Output j) k v is same = same ∙ sym is
+kept_kind (Local j) k v is same = same ∙ sym is
+kept_kind (Instance block) k v is same = absurd is
 
-coil_right : (ds : List Declaration) (name : List ℕ) (value : Option Bool) → IsVariable ds name write_fault → AllByRecursion (IsRight ds) (store (place_of ds name) (option_map BoolValue value))
-coil_right ds name value v = by (place_of ds name) value v.named.at
+-- a store at a variable of the kind is of the declared kind
+store_right : (ds : List Declaration) (name : List ℕ) (k : Kind) (v : Value) → IsVariableAt ds name k → kind_of v ≡ k → AllByRecursion (IsRight ds) (store (place_of ds name) (Some v))
+store_right ds name k v (w, at, is) same = by (place_of ds name) place.2
   where
-    by : (place : Option ℕ) (value : Option Bool) → place ≡ Some v.place → AllByRecursion (IsRight ds) (store place (option_map BoolValue value))
-    by None value is = absurd (cc)
-    by (Some place) None is = tt
-    by (Some place) (Some b) is = (
-      λ e at.
-          (let same : place ≡ v.place = cc in
-          let there : Some v.entry ≡ Some e = sym v.there ∙ ap (slice_get ds) (sym same) ∙ at in
-          let one : v.entry ≡ e = cc in
-          bool_slot e.declared b (ap (λ (x : Declaration). write_fault x.declared) (sym one) ∙ v.right)),
+    place : (k : ℕ) × (e : Declaration) × (place_of ds name ≡ Some k) × (slice_get ds k ≡ Some e) × (e.declared ≡ w)
+    place = declared_place ds name w at
+
+    by : (o : Option ℕ) → o ≡ Some place.0 → AllByRecursion (IsRight ds) (store o (Some v))
+    by None at' = absurd (cc)
+    by (Some n) at' = (
+      λ e there.
+          (let here : n ≡ place.0 = cc in
+          let entry : Some place.1 ≡ Some e = sym place.3 ∙ ap (slice_get ds) (sym here) ∙ there in
+          let one : place.1 ≡ e = cc in
+          let declared : e.declared ≡ w = ap (λ (x : Declaration). x.declared) (sym one) ∙ place.4 in
+          subst (λ d. IsSlotOf d (Variable v)) (sym declared) (kept_kind w k v is same)),
       tt,
     )
 
-coils_right : (ds : List Declaration) (old : Moment) (links : List Bool) (n : ℕ) (all es : List Element) → AllByRecursion (IsBound ds all) es
-    → AllByRecursion (IsRight ds) (flat_map (λ e. coil_stores ds old links e.0 e.1) (enumerate_from n es))
-coils_right ds old links n all [] bound = tt
-coils_right ds old links n all (e ∷ es) bound = both ds (coil_stores ds old links n e) (flat_map (λ e. coil_stores ds old links e.0 e.1) (enumerate_from (n + 1) es)) (one e bound.0) (coils_right ds old links (n + 1) all es bound.1)
+coil_right : (ds : List Declaration) (name : List ℕ) (value : Option Bool) → IsVariableAt ds name kind.Bool → AllByRecursion (IsRight ds) (store (place_of ds name) (option_map BoolValue value))
+coil_right ds name (Some b) at = store_right ds name kind.Bool (BoolValue b) at refl
+coil_right ds name None at = by (place_of ds name)
   where
-    one : (e : Element) → IsBound ds all e → AllByRecursion (IsRight ds) (coil_stores ds old links n e)
-    one (Wire at) h = tt
-    one (Join at) h = tt
-    one (Upright at) h = tt
-    one (Contact c) h = tt
-    one (Coil c) h = coil_right ds c.name (coil_value c.kind (bit_at links n) (bit_at old.memories n)) (variable_is ds c.name write_fault (here_none _ _ (h 0 None (omega arith))))
-    one (Box b) h = tt
+    by : (o : Option ℕ) → AllByRecursion (IsRight ds) (store o None)
+    by None = tt
+    by (Some n) = tt
+
+coils_right : (ds : List Declaration) (old : Moment) (links : List Bool) (n : ℕ) (es : List Element) → ((c : DrawnCoil) → Contains es (Coil c) → IsVariableAt ds c.name kind.Bool)
+    → AllByRecursion (IsRight ds) (flat_map (λ e. coil_stores ds old links e.0 e.1) (enumerate_from n es))
+coils_right ds old links n [] named = tt
+coils_right ds old links n (e ∷ es) named =
+    both ds (coil_stores ds old links n e) (flat_map (λ e. coil_stores ds old links e.0 e.1) (enumerate_from (n + 1) es))
+    (one e refl) (coils_right ds old links (n + 1) es (λ c in'. named c (cons_later e es (Coil c) in')))
+  where
+    one : (x : Element) → x ≡ e → AllByRecursion (IsRight ds) (coil_stores ds old links n x)
+    one (Wire at) is = tt
+    one (Join at) is = tt
+    one (Upright at) is = tt
+    one (Contact c) is = tt
+    one (Coil c) is =
+        coil_right ds c.name (coil_value c.kind (bit_at links n) (bit_at old.memories n)) (named c (subst (λ x. Contains (e ∷ es) x) (sym is) (cons_first e es)))
+    one (Box b) is = tt
 
 -- a step of a block leaves one of its type
 between_keeps : (ds : List Declaration) (d : Diagram) (dt : ℕ) (old : Moment) (between : List Slot) → BlocksStep ds d dt old between → AreSlotsOf ds old.slots → AreSlotsOf ds between
@@ -153,83 +153,27 @@ between_keeps ds d dt old between step fits = record { long = step.same_length �
         subst (IsSlotOf e.declared) (sym one) (block_right e.declared i new (block_kept i.state made.0 dt) (fits.each k e (Block i) declared h.4))
     by k e s declared found (inr none) = fits.each k e s declared (sym (step.others k none) ∙ found)
 
--- the fault of a store is that of its variable
-same_fault : (want : Option Kind) (dotted : Bool) (o : Option Declared) → store_name_fault want dotted o ≡ fault_with (store_declared_fault want) (as_variable dotted o)
-same_fault want dotted None = refl
-same_fault want true (Some w) = refl
-same_fault want false (Some w) = refl
-
-stored_slot : (w : Declared) (field : Field) (v : Value) → store_declared_fault (Some (field_kind field)) w ≡ None → kind_of v ≡ field_kind field → IsSlotOf w (Variable v)
-stored_slot (Input k) field v h is = go (same_kind (field_kind field) k) h
-  where
-    go : (x : Bool) → ◌≡◌ {A = Option BindKind} (cond x (Some WritesInput) (Some WrongKind)) None → kind_of v ≡ k
-    go true e = absurd (cc)
-    go false e = absurd (cc)
-stored_slot (Output k) field v h is = is ∙ go (same_kind (field_kind field) k) refl h
-  where
-    go : (x : Bool) → same_kind (field_kind field) k ≡ x → ◌≡◌ {A = Option BindKind} (cond x None (Some WrongKind)) None → field_kind field ≡ k
-    go true same e = kinds_agree (field_kind field) k same
-    go false same e = absurd (cc)
-stored_slot (Local k) field v h is = is ∙ go (same_kind (field_kind field) k) refl h
-  where
-    go : (x : Bool) → same_kind (field_kind field) k ≡ x → ◌≡◌ {A = Option BindKind} (cond x None (Some WrongKind)) None → field_kind field ≡ k
-    go true same e = kinds_agree (field_kind field) k same
-    go false same e = absurd (cc)
-stored_slot (Instance b) field v h is = absurd (cc)
-
 field_value_kind : (out : PinsOut) (field : Field) → kind_of (field_value out field) ≡ field_kind field
 field_value_kind out (Bit k) = refl
 field_value_kind out Int = refl
 field_value_kind out Time = refl
 
--- a store at an operand at which nothing is wrong is of the declared kind
-operand_store : (ds : List Declaration) (text : List ℕ) (field : Field) (v : Value) → store_fault_at ds (Some (field_kind field)) text ≡ None → kind_of v ≡ field_kind field
-    → AllByRecursion (IsRight ds) (store (place_of ds text) (Some v))
-unfolding store_fault_at variable_declared
-operand_store ds text field v h is = by (place_of ds text) variable.named.at
-  where
-    named : (o : Option Value) → store_fault_by (Some (field_kind field)) o (store_name_fault (Some (field_kind field)) (is_dotted text) (declared_at ds (before_first is_dot text))) ≡ None
-        → store_name_fault (Some (field_kind field)) (is_dotted text) (declared_at ds (before_first is_dot text)) ≡ None
-    named None e = e
-    named (Some w) e = absurd (cc)
-
-    variable : IsVariable ds text (store_declared_fault (Some (field_kind field)))
-    variable = variable_is ds text (store_declared_fault (Some (field_kind field))) (sym (same_fault (Some (field_kind field)) (is_dotted text) (declared_at ds (before_first is_dot text))) ∙ named (literal_value text) h)
-
-    by : (place : Option ℕ) → place ≡ Some variable.place → AllByRecursion (IsRight ds) (store place (Some v))
-    by None at = absurd (cc)
-    by (Some place) at = (
-      λ e there.
-          (let same : place ≡ variable.place = cc in
-          let entry : Some variable.entry ≡ Some e = sym variable.there ∙ ap (slice_get ds) (sym same) ∙ there in
-          let one : variable.entry ≡ e = cc in
-          stored_slot e.declared field v (ap (λ (x : Declaration). store_declared_fault (Some (field_kind field)) x.declared) (sym one) ∙ variable.right) is),
-      tt,
-    )
-
--- the stores of a box without faults are of the declared kinds
-box_right : (ds : List Declaration) (es : List Element) (between : List Slot) (b : DrawnBox) → AreSlotsOf ds between → IsFaultless ds es b
+-- the stores of a box whose names are in order are of the declared kinds
+box_right : (ds : List Declaration) (between : List Slot) (b : DrawnBox) → AreSlotsOf ds between → IsNamedBox ds b
     → (pins : List DrawnPin) → ((pin : DrawnPin) → Contains pins pin → Contains b.pins pin) → AllByRecursion (IsRight ds) (flat_map (λ pin. side_stores ds between b pin pin.side) pins)
-box_right ds es between b fits fine [] within = tt
-box_right ds es between b fits fine (pin ∷ pins) within =
+box_right ds between b fits named [] within = tt
+box_right ds between b fits named (pin ∷ pins) within =
     both ds (side_stores ds between b pin pin.side) (flat_map (λ p. side_stores ds between b p p.side) pins)
     (side pin.side refl)
-    (box_right ds es between b fits fine pins (λ p in'. within p (later in')))
+    (box_right ds between b fits named pins (λ p in'. within p (cons_later pin pins p in')))
   where
-    later : {p : DrawnPin} → Contains pins p → Contains (pin ∷ pins) p
-    later (k, lt, at) = (suc k, (let long : length (pin ∷ pins) ≡ suc (length pins) = refl in omega arith), at)
-
-    names : IsNamedBox ds b
-    names = named_box ds es b fine
-
-    value : (field : Field) → pin_of (type_of b.block) pin.name ≡ Some (output field) → (out : PinsOut) × (value_at ds between b.instance pin.name ≡ Some (field_value out field))
+    value : (field : Field) → pin_of b.block pin.name ≡ Some (output field) → (out : PinsOut) × (value_at ds between b.instance pin.name ≡ Some (field_value out field))
     value field named' =
-        let n = named_box ds es b fine in
-        let at = declared_place ds b.instance (Instance (type_of b.block)) n.instance in
-        let block = block_at ds between at.0 (type_of b.block) fits (record { entry = at.1; at = at.3; is = at.4 }) in (
+        let at = declared_place ds b.instance (Instance b.block) named.instance in
+        let block = block_at ds between at.0 b.block fits (record { entry = at.1; at = at.3; is = at.4 }) in (
           block.0.outputs,
           ap (option_and_then (λ k. option_and_then (λ s. slot_value s pin.name) (slice_get between k))) at.2 ∙ ap (option_and_then (λ s. slot_value s pin.name)) block.1
-              ∙ pin_value block.0 (type_of b.block) pin.name field block.2 named',
+              ∙ pin_value block.0 b.block pin.name field block.2 named',
         )
 
     side : (s : Side) → pin.side ≡ s → AllByRecursion (IsRight ds) (side_stores ds between b pin s)
@@ -239,56 +183,49 @@ box_right ds es between b fits fine (pin ∷ pins) within =
         operand : (o : Option Operand) → pin.operand ≡ o → AllByRecursion (IsRight ds) (option_map_or (λ w. store (place_of ds w.text) (value_at ds between b.instance pin.name)) o [])
         operand None e = tt
         operand (Some o) e =
-            let in' = within pin (0, (let long : length (pin ∷ pins) ≡ suc (length pins) = refl in omega arith), refl) in
-            let at = at_contains b.pins pin in' in
-            let right = pins_right ds es b fine at.0 pin at.1 in
-            let n = named_box ds es b fine in
-            let out = n.outputs pin in' is in
-            let own : own_field b pin ≡ Some out.0 = ap (field_on pin.side) out.1 ∙ ap (λ x. field_on x (Some (output out.0))) is in
-            let fault = operand_right ds b pin pin.operand o right.operand e in
-            let here : store_fault_at ds (Some (field_kind out.0)) o.text ≡ None = (let P : Option Field → Type 0 = λ f. operand_fault ds pin.side (kind_at f) o.text ≡ None in
-            let Q : Side → Type 0 = λ s. operand_fault ds s (kind_at (Some out.0)) o.text ≡ None in subst Q is (subst P own fault)) in
+            let in' = within pin (cons_first pin pins) in
+            let out = named.outputs pin in' is in
             let v = value out.0 out.1 in
-            rw v.1 (operand_store ds o.text out.0 (field_value v.0 out.0) here (field_value_kind v.0 out.0))
+            rw v.1 (store_right ds o.text (field_kind out.0) (field_value v.0 out.0) (named.stored pin o out.0 in' is e out.1) (field_value_kind v.0 out.0))
 
-results_right : (ds : List Declaration) (all : List Element) (between : List Slot) → AreSlotsOf ds between → (es : List Element) → AllByRecursion (IsBound ds all) es
+results_right : (ds : List Declaration) (between : List Slot) → AreSlotsOf ds between → (es : List Element) → ((b : DrawnBox) → Contains es (Box b) → IsNamedBox ds b)
     → AllByRecursion (IsRight ds) (flat_map (result_stores ds between) es)
-results_right ds all between fits [] bound = tt
-results_right ds all between fits (e ∷ es) bound = both ds (result_stores ds between e) (flat_map (result_stores ds between) es) (one e bound.0) (results_right ds all between fits es bound.1)
+results_right ds between fits [] named = tt
+results_right ds between fits (e ∷ es) named =
+    both ds (result_stores ds between e) (flat_map (result_stores ds between) es) (one e refl) (results_right ds between fits es (λ b in'. named b (cons_later e es (Box b) in')))
   where
-    one : (e : Element) → IsBound ds all e → AllByRecursion (IsRight ds) (result_stores ds between e)
-    one (Wire at) h = tt
-    one (Join at) h = tt
-    one (Upright at) h = tt
-    one (Contact c) h = tt
-    one (Coil c) h = tt
-    one (Box b) h = box_right ds all between b fits h b.pins (λ pin in'. in')
+    one : (x : Element) → x ≡ e → AllByRecursion (IsRight ds) (result_stores ds between x)
+    one (Wire at) is = tt
+    one (Join at) is = tt
+    one (Upright at) is = tt
+    one (Contact c) is = tt
+    one (Coil c) is = tt
+    one (Box b) is = box_right ds between b fits (named b (subst (λ x. Contains (e ∷ es) x) (sym is) (cons_first e es))) b.pins (λ pin in'. in')
 
 -- a network leaves the slots of the kinds that are declared
-pub meaning_keeps : (ds : List Declaration) (d : Diagram) (dt : ℕ) (old new : Moment) → IsBoundNetwork ds d.elements → NetworkMeaning ds d dt old new
+pub meaning_keeps : (ds : List Declaration) (d : Diagram) (dt : ℕ) (old new : Moment) → AreNamed ds d.elements → NetworkMeaning ds d dt old new
     → AreSlotsOf ds old.slots → AreSlotsOf ds new.slots
 unfolding stores
-meaning_keeps ds d dt old new bound m h =
+meaning_keeps ds d dt old new named m h =
     let between = between_keeps ds d dt old m.between m.blocks h in
-    let each = recursion_from_All (IsBound ds d.elements) d.elements (no_finding ds d.elements bound) in
     let right = both ds (flat_map (result_stores ds m.between) d.elements) (flat_map (λ e. coil_stores ds old m.links e.0 e.1) (enumerate_from 0 d.elements))
-    (results_right ds d.elements m.between between d.elements each) (coils_right ds old m.links 0 d.elements d.elements each) in
+    (results_right ds m.between between d.elements named.boxes) (coils_right ds old m.links 0 d.elements named.coils) in
     subst (AreSlotsOf ds) (sym m.slots) (stored_keeps ds m.between _ right between)
 
-pub scan_keeps : (ds : List Declaration) (dt : ℕ) (networks : List Diagram) (slots slots' : List Slot) (ms ms' : List Bool) → AllByRecursion (λ d. IsBoundNetwork ds d.elements) networks
+pub scan_keeps : (ds : List Declaration) (dt : ℕ) (networks : List Diagram) (slots slots' : List Slot) (ms ms' : List Bool) → AllByRecursion (λ (d : Diagram). AreNamed ds d.elements) networks
     → ScanMeaning ds dt networks slots ms slots' ms' → AreSlotsOf ds slots → AreSlotsOf ds slots'
-scan_keeps ds dt [] slots slots' ms ms' bound m h = subst (AreSlotsOf ds) (sym m.0) h
-scan_keeps ds dt (d ∷ networks) slots slots' ms ms' bound m h =
+scan_keeps ds dt [] slots slots' ms ms' named m h = subst (AreSlotsOf ds) (sym m.0) h
+scan_keeps ds dt (d ∷ networks) slots slots' ms ms' named m h =
     let n = length d.elements in
-    scan_keeps ds dt networks m.0 slots' (drop n ms) (drop n ms') bound.1 m.2
-    (meaning_keeps ds d dt (moment slots (take n ms)) (moment m.0 (take n ms')) bound.0 m.1 h)
+    scan_keeps ds dt networks m.0 slots' (drop n ms) (drop n ms') named.1 m.2
+    (meaning_keeps ds d dt (moment slots (take n ms)) (moment m.0 (take n ms')) named.0 m.1 h)
 
 -- a scan leaves a state that fits
-pub fits_after : (l : LadderValue) (old new : StateValue) (dt : ℕ) → CanBind l.declarations l.networks → Fits l old
+pub fits_after : (l : LadderValue) (old new : StateValue) (dt : ℕ) → AllByRecursion (λ (d : Diagram). AreNamed l.declarations d.elements) l.networks → Fits l old
     → ScanMeaning l.declarations dt l.networks old.slots old.memories new.slots new.memories
     → length new.memories ≡ length old.memories → new.waiting_links ≡ old.waiting_links → new.waiting_results ≡ old.waiting_results → Fits l new
-fits_after l old new dt bound fits meaning memories links results = record {
-  slots = scan_keeps l.declarations dt l.networks old.slots new.slots old.memories new.memories (recursion_from_All (λ (d : Diagram). IsBoundNetwork l.declarations d.elements) l.networks bound) meaning fits.slots;
+fits_after l old new dt named fits meaning memories links results = record {
+  slots = scan_keeps l.declarations dt l.networks old.slots new.slots old.memories new.memories named meaning fits.slots;
   memories = memories ∙ fits.memories;
   waiting_links = links ∙ fits.waiting_links;
   waiting_results = results ∙ fits.waiting_results;

@@ -2,8 +2,8 @@
 use Rattle.std.proofs.Common.{◌≡◌, ℕ, List, Bool, true, false, ◌∙◌}
 use Rattle.std.proofs.lemmas.List.{set-get_or}
 use Rattle.power_flow.specs.declared.state.Slot.{Slot}
-use Rattle.power_flow.specs.declared.variable_pair.PairRows.{PairRows}
-use Rattle.power_flow.specs.declared.variable_pair.PairPlaces.{PairPlaces}
+use Rattle.power_flow.specs.declared.steps.variable_pair.PairRows.{PairRows}
+use Rattle.power_flow.specs.declared.steps.variable_pair.PairPlaces.{PairPlaces}
 use Rattle.power_flow.specs.Steps.Contacts.{variable_contact, first_of, second_of, is_first_negated, is_second_negated}
 use Rattle.power_flow.specs.Steps.Passing.{read_memories}
 

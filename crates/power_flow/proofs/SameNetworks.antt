@@ -4,7 +4,7 @@ use Rattle.std.proofs.lemmas.List.{get_or-map, length-map}
 use Rattle.ladder_text.specs.declared.place.Place.{Place}
 use Rattle.network.specs.Links.{Diagram}
 use Rattle.network.specs.GraphValue.{diagram}
-use Rattle.power_flow.specs.declared.circuit.Circuit.{Circuit}
+use Rattle.power_flow.specs.declared.steps.circuit.Circuit.{Circuit}
 use Rattle.power_flow.specs.Steps.Circuit.{circuit_diagram}
 use Rattle.power_flow.proofs.Binds.{elements_of, networks_are}
 

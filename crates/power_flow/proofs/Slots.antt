@@ -5,15 +5,17 @@ use Rattle.std.proofs.lemmas.Bool.{cases_eq}
 use Rattle.std.proofs.lemmas.List.{get_or-set_same, get_or-set_other, length-map}
 use Rattle.std.proofs.lemmas.Option.{slice_get-get_or, get_or_from_slice_get, slice_get_within, slice_get-map}
 use Rattle.std_blocks.specs.declared.value.Value.{Value}
-use Rattle.power_flow.specs.declared.declarations.Declaration.{Declaration}
-use Rattle.power_flow.specs.declared.declarations.Declared.{Declared}
-use Rattle.power_flow.specs.declared.declarations.Declared.TheVariants.{Input, Output, Local, Instance}
-use Rattle.power_flow.specs.declared.declarations.Kind.{Kind}
-use Rattle.power_flow.specs.declared.declarations.Kind.TheVariants as kind
-use Rattle.power_flow.specs.First.{value_first, slot_first}
+use Rattle.variable_binding.specs.declared.declarations.Declaration.{Declaration}
+use Rattle.variable_binding.specs.declared.declarations.Declared.{Declared}
+use Rattle.variable_binding.specs.declared.declarations.Declared.TheVariants.{Input, Output, Local, Instance}
+use Rattle.variable_binding.specs.declared.declarations.Kind.{Kind}
+use Rattle.variable_binding.specs.declared.declarations.Kind.TheVariants as kind
+use Rattle.variable_binding.specs.Kinds.{value_first}
+use Rattle.power_flow.specs.First.{slot_first}
 use Rattle.power_flow.specs.declared.state.Slot.{Slot}
 use Rattle.power_flow.specs.declared.state.Slot.TheVariants.{Variable, Block}
-use Rattle.power_flow.specs.StateValue.{variable_of, variable_at, kind_of, IsSlotOf, AreSlotsOf}
+use Rattle.variable_binding.specs.Kinds.{kind_of}
+use Rattle.power_flow.specs.StateValue.{variable_of, variable_at, IsSlotOf, AreSlotsOf}
 
 -- a value of the same kind serves as well
 pub same_kind : (d : Declared) (v w : Value) → kind_of v ≡ kind_of w → IsSlotOf d (Variable v) → IsSlotOf d (Variable w)

@@ -1,21 +1,12 @@
 use Rattle.std.specs.Prelude.{◌∷◌, [], false, pos}
-use Rattle.std_blocks.specs.declared.value.Value.{Value}
-use Rattle.std_blocks.specs.declared.value.Value.TheVariants.{Bool as BoolValue, Int as IntValue, Time as TimeValue}
 use Rattle.std_blocks.specs.declared.block_type.BlockType.{BlockType}
 use Rattle.std_blocks.specs.Blocks.{initial}
-use Rattle.power_flow.specs.declared.declarations.Kind.{Kind}
-use Rattle.power_flow.specs.declared.declarations.Kind.TheVariants as kind
-use Rattle.power_flow.specs.declared.declarations.Declared.{Declared}
-use Rattle.power_flow.specs.declared.declarations.Declared.TheVariants.{Input, Output, Local, Instance}
+use Rattle.variable_binding.specs.Kinds.{value_first}
+use Rattle.variable_binding.specs.declared.declarations.Declared.{Declared}
+use Rattle.variable_binding.specs.declared.declarations.Declared.TheVariants.{Input, Output, Local, Instance}
 use Rattle.power_flow.specs.declared.state.Instance.{Instance as InstanceRecord}
 use Rattle.power_flow.specs.declared.state.Slot.{Slot}
 use Rattle.power_flow.specs.declared.state.Slot.TheVariants.{Variable, Block}
-
--- a variable is FALSE, 0 or T#0ms at first
-abbrev pub value_first : Kind → Value
-value_first kind.Bool = BoolValue false
-value_first kind.Int = IntValue (pos 0)
-value_first kind.Time = TimeValue 0
 
 -- a block before its first step: its outputs are OFF, 0 and T#0ms
 abbrev pub instance_first : BlockType → InstanceRecord

@@ -3,14 +3,7 @@ pub mod Meaning
 pub mod StateValue
 pub mod LadderValue
 pub mod Waiting
-pub mod Names
+pub mod Values
 pub mod Scan
-pub mod Binding
 pub mod First
-pub mod Findings
-pub mod PinKinds
-pub mod BindFaults
-pub mod Literals
-pub mod Lookup
-pub mod Guess
 pub mod Steps

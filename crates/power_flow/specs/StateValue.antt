@@ -1,12 +1,10 @@
 use Rattle.std.specs.Prelude.{◌≡◌, ℕ, List, Bool, Option, Some, None, length, slice_get}
 use Rattle.std.specs.Option.{option_and_then}
 use Rattle.std_blocks.specs.declared.value.Value.{Value}
-use Rattle.std_blocks.specs.declared.value.Value.TheVariants.{Bool as BoolValue, Int as IntValue, Time as TimeValue}
-use Rattle.power_flow.specs.declared.declarations.Kind.{Kind}
-use Rattle.power_flow.specs.declared.declarations.Kind.TheVariants as kind
-use Rattle.power_flow.specs.declared.declarations.Declared.{Declared}
-use Rattle.power_flow.specs.declared.declarations.Declared.TheVariants.{Input, Output, Local, Instance}
-use Rattle.power_flow.specs.declared.declarations.Declaration.{Declaration}
+use Rattle.variable_binding.specs.Kinds.{kind_of}
+use Rattle.variable_binding.specs.declared.declarations.Declared.{Declared}
+use Rattle.variable_binding.specs.declared.declarations.Declared.TheVariants.{Input, Output, Local, Instance}
+use Rattle.variable_binding.specs.declared.declarations.Declaration.{Declaration}
 use Rattle.power_flow.specs.declared.state.Slot.{Slot}
 use Rattle.power_flow.specs.declared.state.Slot.TheVariants.{Variable, Block}
 
@@ -29,11 +27,6 @@ variable_of (Block b) = None
 -- the value of the variable at a place
 abbrev pub variable_at : List Slot → ℕ → Option Value
 variable_at slots place = option_and_then variable_of (slice_get slots place)
-
-abbrev pub kind_of : Value → Kind
-kind_of (BoolValue b) = kind.Bool
-kind_of (IntValue n) = kind.Int
-kind_of (TimeValue t) = kind.Time
 
 -- there is a variable at the place, of the value's kind
 abbrev pub IsKindAt : List Slot → ℕ → Value → Type 0

@@ -1,9 +1,8 @@
 ghost use Rattle.std.specs.Prelude.{◌≡◌, ◌↔◌, IsTrue};
 ghost use Rattle.power_flow.specs.StateValue.{IsSlotOf, AreSlotsOf};
 
-use crate::declarations::{Declarations, Declared};
-use crate::kinds::kind_of;
 use crate::state::Slot;
+use variable_binding::{Declarations, Declared, kind_of};
 
 /// Whether a variable of the declared kind stands there, or a block of the declared type.
 fn is_slot_of(declared: Declared, slot: &Slot) -> bool

@@ -2,10 +2,10 @@
 use Rattle.std.proofs.Common.{◌≡◌, ℕ, List, Option, Result, Ok, Err, IfErr, inl, inr, sym, subst}
 use Rattle.std.proofs.KnownBytes.{Keeps-refl}
 use Rattle.network.specs.Links.{Diagram}
-use Rattle.power_flow.specs.declared.declarations.Declaration.{Declaration}
+use Rattle.variable_binding.specs.declared.declarations.Declaration.{Declaration}
 use Rattle.std.specs.Result.{IsErrAnd}
-use Rattle.power_flow.specs.declared.bind.BindFault.{BindFault}
-use Rattle.power_flow.specs.declared.bind.BindKind.TheVariants.{Memory as BindMemory}
+use Rattle.variable_binding.specs.declared.bind_fault.BindFault.{BindFault}
+use Rattle.variable_binding.specs.declared.bind_fault.BindKind.TheVariants.{Memory as BindMemory}
 use Rattle.network.specs.declared.fault.GraphFault.{GraphFault}
 use Rattle.network.specs.declared.fault.GraphFaultKind.TheVariants.{Memory as GraphMemory}
 use Rattle.text_commands.specs.declared.text_fault.TextFault.TheVariants.{Bind, Graph}

@@ -12,16 +12,16 @@ use Rattle.network.specs.GraphValue.{GraphValue}
 use Rattle.network.specs.Networks.{AreNetworks, IsFaultless, IsFaultAt, IsFoundAt}
 use Rattle.network.specs.declared.fault.GraphFault.{GraphFault}
 use Rattle.std_blocks.specs.declared.value.Value.TheVariants.{Bool as BoolValue}
-use Rattle.power_flow.specs.declared.declarations.Declaration.{Declaration}
+use Rattle.variable_binding.specs.declared.declarations.Declaration.{Declaration}
 use Rattle.power_flow.specs.declared.state.Slot.{Slot}
 use Rattle.power_flow.specs.declared.state.Slot.TheVariants.{Variable}
 use Rattle.power_flow.specs.First.{slot_first}
-use Rattle.power_flow.specs.Guess.{AreGuessed}
-use Rattle.power_flow.specs.Binding.{CanBind}
+use Rattle.variable_binding.specs.Guess.{AreGuessed}
+use Rattle.variable_binding.specs.Binding.{CanBind}
 use Rattle.power_flow.specs.Scan.{ScanMeaning}
 use Rattle.power_flow.specs.LadderValue.{diagrams as diagrams_of}
-use Rattle.power_flow.specs.Findings.{IsFirstFault}
-use Rattle.power_flow.specs.declared.bind.BindFault.{BindFault}
+use Rattle.variable_binding.specs.Findings.{IsFirstFault}
+use Rattle.variable_binding.specs.declared.bind_fault.BindFault.{BindFault}
 use Rattle.text_commands.specs.declared.word_fault.WordFault.{WordFault}
 use Rattle.text_commands.specs.declared.text_command_fault.TextCommandFault.{TextCommandFault}
 use Rattle.text_commands.specs.declared.text_command_fault.TextCommandFault.TheVariants.{Text, Word, Write, Memory}

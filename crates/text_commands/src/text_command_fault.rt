@@ -102,7 +102,7 @@ impl From<GraphFault> for TextCommandFault {
 
 impl From<BindFault> for TextCommandFault {
     ghost use Rattle.text_commands.specs.Giving.{GivenFor};
-    ghost use Rattle.power_flow.specs.declared.bind.BindKind.TheVariants as bind;
+    ghost use Rattle.variable_binding.specs.declared.bind_fault.BindKind.TheVariants as bind;
     ghost use Rattle.text_commands.specs.declared.text_fault.TextFault.TheVariants.{Bind};
 
     ghost from_gives = { λ found fault. GivenFor (found.kind ≡ bind.Memory) (Bind found) fault };

@@ -2,8 +2,8 @@
 use Rattle.std.specs.Prelude.{zero, suc, unwrap_or, take_while, ℕ, ◌+◌, List, [], ◌∷◌, ◌==◌, if◌then◌else◌, length, slice_index_or, take, drop, position, Bool, true, false, ◌&&◌, ◌||◌, not, nat_lt, nat_le, Option, Some, None, codes, is_some}
 use Rattle.std.specs.List.{list_any}
 use Rattle.std.specs.Str.{str_eq_ignore_ascii_case}
-use Rattle.words.specs.declared.names.BlockName.{BlockName}
-use Rattle.words.specs.declared.names.BlockName.TheVariants.{Sr, Rs, Ctu, Ctd, Ctud, Tp, Ton, Tof}
+use Rattle.std_blocks.specs.declared.block_type.BlockType.{BlockType}
+use Rattle.std_blocks.specs.declared.block_type.BlockType.TheVariants.{SR, RS, CTU, CTD, CTUD, TP, TON, TOF}
 
 -- low ≤ c ≤ high
 abbrev pub between : ℕ → ℕ → ℕ → Bool
@@ -35,10 +35,10 @@ first_that [] = None
 first_that (x ∷ more) = if x.0 then Some x.1 else first_that more
 
 -- the block type that a word names
-unfoldable pub block_name : List ℕ → Option BlockName
-block_name w = first_that (
-    (same_word w (codes "SR"), Sr) ∷ (same_word w (codes "RS"), Rs) ∷ (same_word w (codes "CTU"), Ctu) ∷ (same_word w (codes "CTD"), Ctd)
-    ∷ (same_word w (codes "CTUD"), Ctud) ∷ (same_word w (codes "TP"), Tp) ∷ (same_word w (codes "TON"), Ton) ∷ (same_word w (codes "TOF"), Tof) ∷ [])
+unfoldable pub block_type : List ℕ → Option BlockType
+block_type w = first_that (
+    (same_word w (codes "SR"), SR) ∷ (same_word w (codes "RS"), RS) ∷ (same_word w (codes "CTU"), CTU) ∷ (same_word w (codes "CTD"), CTD)
+    ∷ (same_word w (codes "CTUD"), CTUD) ∷ (same_word w (codes "TP"), TP) ∷ (same_word w (codes "TON"), TON) ∷ (same_word w (codes "TOF"), TOF) ∷ [])
 
 -- the words for kinds and values
 unfoldable pub is_value_word : List ℕ → Bool
@@ -58,7 +58,7 @@ is_task_word w = list_any (same_word w) (codes "TASK" ∷ codes "WITH" ∷ codes
 
 -- the reserved words, which are no names
 unfoldable pub is_reserved : List ℕ → Bool
-is_reserved w = is_some (block_name w) || is_value_word w || is_program_word w || is_resource_word w || is_task_word w
+is_reserved w = is_some (block_type w) || is_value_word w || is_program_word w || is_resource_word w || is_task_word w
 
 -- letters, digits and single underscores, no digit first and no underscore last
 abbrev pub is_rest : List ℕ → Bool

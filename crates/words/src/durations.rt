@@ -1,6 +1,6 @@
 //! What durations look like, and how much they are.
 
-ghost use Rattle.std.specs.Prelude.{◌≡◌, ◌≤◌, ◌*◌, List, None, IsTrue, length, take_while, drop};
+ghost use Rattle.std.specs.Prelude.{◌≡◌, ◌≤◌, ◌*◌, List, None, IsTrue, IfSome, length, take_while, drop};
 ghost use Rattle.words.specs.Durations.{Part, IsDurationOf, milliseconds};
 ghost use Rattle.words.specs.Chars.{is_letter, is_digit_or_score, unit_rank, without_score, part_rest, part_unit, part_more, is_part, is_parts, has_parts, is_duration_behind, is_duration};
 ghost use Rattle.words.specs.Numbers.{number_value, unit_length, parts_value, duration_value, limited, duration_up_to};
@@ -207,6 +207,7 @@ fn milliseconds_up_to(word: &[u8], most: u64) -> Option<u64>
 #[tactic(auto, unfolding(crate::specs::Numbers::duration_up_to), using(crate::proofs::DurationWords::duration_none))]
 pub fn duration_up_to(word: &[u8], most: u64) -> Option<u64>
     ensures value { result ≡ duration_up_to most word.now }
+    ensures within { IfSome result (λ n. n ≤ most) }
     ensures sum { (ps : List Part) → IsDurationOf word.now ps → result ≡ limited most (milliseconds ps) }
     ensures none { ((ps : List Part) → IsDurationOf word.now ps → ⊥) → result ≡ None }
 {

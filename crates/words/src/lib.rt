@@ -9,8 +9,6 @@ mod short_word;
 mod text;
 
 pub use durations::{duration_up_to, is_duration};
-pub use names::{
-    BlockName, block_name, is_identifier, is_name, is_operand, is_plain_name, is_word_char,
-};
+pub use names::{block_type, is_identifier, is_name, is_operand, is_plain_name, is_word_char};
 pub use numbers::{is_number, number_up_to};
 pub use text::Text;

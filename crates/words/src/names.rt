@@ -1,23 +1,11 @@
 //! What names look like.
 
 ghost use Rattle.std.specs.Prelude.{◌==◌, IfSome, position, ◌≡◌, ◌<◌, length};
-ghost use Rattle.words.specs.Chars.{is_letter_or_digit, is_rest, block_name, is_identifier, is_value_word, is_program_word, is_resource_word, is_task_word, is_reserved, is_plain_name, is_name, is_word_char, is_operand};
+ghost use Rattle.words.specs.Chars.{is_letter_or_digit, is_rest, block_type, is_identifier, is_value_word, is_program_word, is_resource_word, is_task_word, is_reserved, is_plain_name, is_name, is_word_char, is_operand};
 
 use crate::durations::is_duration;
 use crate::numbers::is_number;
-
-/// The types of the standard function blocks (IEC 61131-3, 2.5.2.3).
-#[derive(Clone, Copy, Debug, PartialEq, Eq)]
-pub enum BlockName {
-    Sr,
-    Rs,
-    Ctu,
-    Ctd,
-    Ctud,
-    Tp,
-    Ton,
-    Tof,
-}
+use std_blocks::BlockType;
 
 fn is_letter_or_digit(c: u8) -> bool
     ensures { result ≡ is_letter_or_digit c }
@@ -59,26 +47,26 @@ pub fn is_identifier(word: &[u8]) -> bool
 }
 
 /// The block type that a word names, whatever the case of its letters. `None`: it names none.
-#[tactic(auto, unfolding(crate::specs::Chars::block_name))]
-pub fn block_name(word: &[u8]) -> Option<BlockName>
-    ensures { result ≡ block_name word.now }
+#[tactic(auto, unfolding(crate::specs::Chars::block_type))]
+pub fn block_type(word: &[u8]) -> Option<BlockType>
+    ensures { result ≡ block_type word.now }
 {
     if word.eq_ignore_ascii_case(b"SR") {
-        Some(BlockName::Sr)
+        Some(BlockType::SR)
     } else if word.eq_ignore_ascii_case(b"RS") {
-        Some(BlockName::Rs)
+        Some(BlockType::RS)
     } else if word.eq_ignore_ascii_case(b"CTU") {
-        Some(BlockName::Ctu)
+        Some(BlockType::CTU)
     } else if word.eq_ignore_ascii_case(b"CTD") {
-        Some(BlockName::Ctd)
+        Some(BlockType::CTD)
     } else if word.eq_ignore_ascii_case(b"CTUD") {
-        Some(BlockName::Ctud)
+        Some(BlockType::CTUD)
     } else if word.eq_ignore_ascii_case(b"TP") {
-        Some(BlockName::Tp)
+        Some(BlockType::TP)
     } else if word.eq_ignore_ascii_case(b"TON") {
-        Some(BlockName::Ton)
+        Some(BlockType::TON)
     } else if word.eq_ignore_ascii_case(b"TOF") {
-        Some(BlockName::Tof)
+        Some(BlockType::TOF)
     } else {
         None
     }
@@ -133,7 +121,7 @@ fn is_task_word(word: &[u8]) -> bool
 fn is_reserved(word: &[u8]) -> bool
     ensures { result ≡ is_reserved word.now }
 {
-    block_name(word).is_some()
+    block_type(word).is_some()
         || is_value_word(word)
         || is_program_word(word)
         || is_resource_word(word)

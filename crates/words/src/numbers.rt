@@ -1,6 +1,6 @@
 //! What numbers look like, and how much they are.
 
-ghost use Rattle.std.specs.Prelude.{◌≡◌, ◌≤◌};
+ghost use Rattle.std.specs.Prelude.{◌≡◌, ◌≤◌, IfSome};
 ghost use Rattle.words.specs.Chars.{is_number, is_number_rest};
 ghost use Rattle.words.specs.Numbers.{with_digit, digits_value, limited, number_up_to};
 
@@ -53,7 +53,8 @@ fn with_digit(number: u64, digit: u8, most: u64) -> Option<u64>
 
 /// How much some digits are, unless it is above the limit.
 pub fn digits_up_to(digits: &[u8], most: u64) -> Option<u64>
-    ensures { result ≡ limited most (digits_value 0 digits.now) }
+    ensures value { result ≡ limited most (digits_value 0 digits.now) }
+    ensures within { IfSome result (λ n. n ≤ most) }
 {
     let mut number = 0;
     for digit in digits {
@@ -65,7 +66,8 @@ pub fn digits_up_to(digits: &[u8], most: u64) -> Option<u64>
 /// How much a number is (see [`is_number`]). `None`: the word is no number, or it is above `most`.
 #[tactic(auto, unfolding(crate::specs::Numbers::number_up_to))]
 pub fn number_up_to(word: &[u8], most: u64) -> Option<u64>
-    ensures { result ≡ number_up_to most word.now }
+    ensures value { result ≡ number_up_to most word.now }
+    ensures within { IfSome result (λ n. n ≤ most) }
 {
     if is_number(word) {
         digits_up_to(word, most)

@@ -5,7 +5,7 @@ use Rattle.std.proofs.lemmas.Bool.{and_parts, not-true, leb-true, ltb-true, true
 use Rattle.ladder_text.specs.declared.places.place_fault.PlaceFault.{PlaceFault}
 use Rattle.ladder_text.specs.declared.places.place_fault.PlaceFault.TheVariants.{BadMark, Crossing, NoSource}
 use Rattle.ladder_text.specs.Rows.{Rows, rows_of, char_at, height, width}
-use Rattle.words.specs.Chars.{block_name, is_value_word, is_program_word, is_resource_word, is_task_word, is_reserved, is_identifier, is_plain_name, is_name, is_part, has_parts, is_duration_behind, is_duration, is_operand}
+use Rattle.words.specs.Chars.{block_type, is_value_word, is_program_word, is_resource_word, is_task_word, is_reserved, is_identifier, is_plain_name, is_name, is_part, has_parts, is_duration_behind, is_duration, is_operand}
 use Rattle.ladder_text.specs.SymbolKinds.{contact_kind, coil_kind}
 use Rattle.ladder_text.specs.Boxes.{left_column, begins_box, nearer_pin, outline_at, box_at, row_outlines, outlines}
 use Rattle.ladder_text.specs.Places.{contact_at, coil_at, may_be_rail, has_right_rail, mark, gives, layout_of}
@@ -91,7 +91,7 @@ well_drawn_clear d clear = record {
 
 -- unfolds the words of drawings
 drawing_words : Unit {0}
-unfolding rows_of char_at block_name is_value_word is_program_word is_resource_word is_task_word is_reserved is_identifier is_plain_name is_name contact_kind coil_kind is_part has_parts is_duration_behind is_duration is_operand left_column begins_box nearer_pin outline_at box_at row_outlines outlines contact_at coil_at may_be_rail has_right_rail mark gives layout_of in_word word_at words symbol_at symbols tops things name_above row_contacts contacts row_coils coils drawn_boxes stray_name name_missing some_takes_word has_stray_operand marks_of picture_of
+unfolding rows_of char_at block_type is_value_word is_program_word is_resource_word is_task_word is_reserved is_identifier is_plain_name is_name contact_kind coil_kind is_part has_parts is_duration_behind is_duration is_operand left_column begins_box nearer_pin outline_at box_at row_outlines outlines contact_at coil_at may_be_rail has_right_rail mark gives layout_of in_word word_at words symbol_at symbols tops things name_above row_contacts contacts row_coils coils drawn_boxes stray_name name_missing some_takes_word has_stray_operand marks_of picture_of
 drawing_words = tt
 
 branches_clear : IsClear (rows_of branches)

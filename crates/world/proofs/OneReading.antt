@@ -5,8 +5,8 @@ use Rattle.std.specs.List.{filter}
 use Rattle.due_list.specs.declared.task_ref.TaskRef.{TaskRef}
 use Rattle.plant.specs.PlantValue.{PlantValue}
 use Rattle.evaluation.specs.declared.field_input.FieldInput.{FieldInput}
-use Rattle.world.specs.declared.event.Event.{Event}
-use Rattle.world.specs.declared.event.Event.TheVariants.{Evaluate, Deliver, Restart}
+use Rattle.exchange.specs.declared.event.Event.{Event}
+use Rattle.exchange.specs.declared.event.Event.TheVariants.{Evaluate, Deliver, Restart}
 use Rattle.world.specs.ScheduleText.{is_idle, task_in, IsTaskWord, SpellsEvaluate, SpellsDeliver, SpellsRestart, SpellsEvent, SpellEvents, schedule_lines}
 use Rattle.world.specs.ScheduleLaws.{OneReading}
 use Rattle.world.proofs.ScheduleWords.{cut_at, task_parts}

@@ -14,10 +14,10 @@ use Rattle.evaluation.specs.declared.field_input.FieldInput.{FieldInput}
 use Rattle.evaluation.specs.declared.input_fault.InputFault.{InputFault}
 use Rattle.evaluation.specs.declared.input_fault.InputFault.TheVariants as input
 use Rattle.evaluation.specs.InputTexts.{input_of, AreInputs, AreApart, HasBadWord, HasAddressTwice, IsFaultOfWords}
-use Rattle.world.specs.declared.event.Event.{Event}
-use Rattle.world.specs.declared.event.Event.TheVariants.{Evaluate, Deliver, Restart}
-use Rattle.world.specs.declared.schedule.read_line.Keyword.{Keyword}
-use Rattle.world.specs.declared.schedule.read_line.Keyword.TheVariants as key
+use Rattle.exchange.specs.declared.event.Event.{Event}
+use Rattle.exchange.specs.declared.event.Event.TheVariants.{Evaluate, Deliver, Restart}
+use Rattle.world.specs.declared.read_line.Keyword.{Keyword}
+use Rattle.world.specs.declared.read_line.Keyword.TheVariants as key
 use Rattle.world.specs.ScheduleText.{IsTaskWord, SpellsEvaluate, SpellsDeliver, SpellsRestart, SpellsEvent}
 use Rattle.world.specs.Steps.ReadingLines.{keyword_of}
 use Rattle.world.proofs.ScheduleLists.{to_the_end}

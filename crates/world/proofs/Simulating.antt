@@ -16,82 +16,74 @@ use Rattle.plant.specs.PlantValue.{PlantValue}
 use Rattle.evaluation.specs.Meaning.{Evaluated}
 use Rattle.exchange_core.specs.declared.accepted.Accepted.{Accepted}
 use Rattle.exchange_core.specs.declared.accepted.Accepted.TheVariants.{Taken, Old, Unused}
-use Rattle.world.specs.declared.event.Event.{Event}
-use Rattle.world.specs.declared.event.Event.TheVariants.{Evaluate, Deliver, Restart}
-use Rattle.world.specs.declared.world_fault.WorldFault.{WorldFault}
-use Rattle.world.specs.declared.world_fault.WorldFault.TheVariants.{NoSuchResource, NoSuchTask, NoSuchMessage, NumbersSpent, IncarnationsSpent, Memory}
-use Rattle.world.specs.History.{Setting, history_of, after_events, is_lawful, incarnation_of, number_of, made_count}
-use Rattle.world.specs.Run.{IsLog, latest}
-use Rattle.world.specs.World.{WorldValue}
-use Rattle.world.specs.Step.{IsCause, Answers}
+use Rattle.exchange.specs.declared.event.Event.{Event}
+use Rattle.exchange.specs.declared.event.Event.TheVariants.{Evaluate, Deliver, Restart}
+use Rattle.exchange.specs.declared.world_fault.WorldFault.{WorldFault}
+use Rattle.exchange.specs.declared.world_fault.WorldFault.TheVariants.{NoSuchResource, NoSuchTask, NoSuchMessage, NumbersSpent, IncarnationsSpent, Memory}
+use Rattle.exchange.specs.History.{Setting, history_of, after_events, is_lawful, incarnation_of, number_of, made_count}
+use Rattle.exchange.specs.Run.{IsLog, latest}
+use Rattle.exchange.specs.World.{WorldValue}
+use Rattle.exchange.specs.Step.{history_at, IsCause, Answers}
 use Rattle.world.specs.RunText.{IsDoneLine, Tells, IsLineAfter, IsRunText, restart_line}
 use Rattle.world.specs.ScheduleText.{is_idle, SpellsEvent, SpellEvents, Spell}
 use Rattle.world.specs.Steps.Telling.{IsTold}
 use Rattle.world.specs.Steps.Simulating.{HasTold, HasRested, HasWritten, HasDone}
-use Rattle.world.proofs.Names.{after_append}
-use Rattle.world.proofs.Telling.{length-one_more}
-
--- the history of events after other events
-pub history_append : (s : Setting) (xs ys : List Event) → history_of s (xs ++ ys) ≡ after_events s (history_of s xs) ys
-history_append s xs ys = after_append s [] xs ys
+use Rattle.world.proofs.Telling.{length-one_more, one_more}
 
 -- one more event after lists of one history
 pub history_with : (s : Setting) (es fs : List Event) (e : Event) → history_of s es ≡ history_of s fs → history_of s (es ++ e ∷ []) ≡ history_of s (fs ++ e ∷ [])
-history_with s es fs e same = history_append s es (e ∷ []) ∙ ap (λ h. after_events s h (e ∷ [])) same ∙ sym (history_append s fs (e ∷ []))
+history_with s es fs e same = one_more s es e ∙ ap (λ h. after_events s h (e ∷ [])) same ∙ sym (one_more s fs e)
 
--- a world by its parts
-abbrev world : Setting → List Event → List Evaluated → WorldValue
-world s es log = record { setting = s; events = es; log = log }
-
-answers_moved : (s : Setting) (es fs : List Event) (log : List Evaluated) (k n : ℕ) (p : TaskRef) (a : Accepted) → history_of s es ≡ history_of s fs → Answers (world s es log) k n p a → Answers (world s fs log) k n p a
-answers_moved s es fs log k n p Unused same h = h
-answers_moved s es fs log k n p Taken same h =
-    (h.0, h.1, subst (λ (l : List Event). latest n (Deliver k n ∷ l) p (reverse log) ≡ latest n l p (reverse log) → ⊥) same h.2)
-answers_moved s es fs log k n p Old same h =
-    (h.0, h.1, subst (λ (l : List Event). latest n (Deliver k n ∷ l) p (reverse log) ≡ latest n l p (reverse log)) same h.2)
+answers_moved : (w : WorldValue) (events : List Event) (k n : ℕ) (p : TaskRef) (a : Accepted) → history_at w ≡ history_of w.setting events → Answers w k n p a → Answers (record w { events = events }) k n p a
+answers_moved w events k n p Unused same h = h
+answers_moved w events k n p Taken same h =
+    (h.0, h.1, subst (λ (l : List Event). latest n (Deliver k n ∷ l) p (reverse w.log) ≡ latest n l p (reverse w.log) → ⊥) same h.2)
+answers_moved w events k n p Old same h =
+    (h.0, h.1, subst (λ (l : List Event). latest n (Deliver k n ∷ l) p (reverse w.log) ≡ latest n l p (reverse w.log)) same h.2)
 
 -- what an event does hangs on the history alone
-done_moved : (s : Setting) (es fs : List Event) (log : List Evaluated) (e : Event) (line : List ℕ) → history_of s es ≡ history_of s fs → IsDoneLine (world s es log) e line → IsDoneLine (world s fs log) e line
-done_moved s es fs log (Evaluate ticket task dt inputs) line same h =
-    (h.0, subst (λ l. IsLog s l (reverse (log ++ h.0 ∷ []))) (history_with s es fs (Evaluate ticket task dt inputs) same) h.1, h.2)
-done_moved s es fs log (Deliver k n) line same h = (h.0, (h.1.0, h.1.1, answers_moved s es fs log k n h.1.0.name.task h.0 same h.1.2), h.2)
-done_moved s es fs log (Restart n) line same h = h ∙ ap (λ (l : List Event). restart_line s.plant n (incarnation_of s n l)) (history_with s es fs (Restart n) same)
+done_moved : (w : WorldValue) (events : List Event) (e : Event) (line : List ℕ) → history_at w ≡ history_of w.setting events → IsDoneLine w e line → IsDoneLine (record w { events = events }) e line
+done_moved w events (Evaluate ticket task dt inputs) line same h =
+    (h.0, subst (λ l. IsLog w.setting l (reverse (w.log ++ h.0 ∷ []))) (history_with w.setting w.events events (Evaluate ticket task dt inputs) same) h.1, h.2)
+done_moved w events (Deliver k n) line same h = (h.0, (h.1.0, h.1.1, answers_moved w events k n h.1.0.name.task h.0 same h.1.2), h.2)
+done_moved w events (Restart n) line same h = h ∙ ap (λ (l : List Event). restart_line w.setting.plant n (incarnation_of w.setting n l)) (history_with w.setting w.events events (Restart n) same)
 
-cause_moved : (s : Setting) (es fs : List Event) (log : List Evaluated) (e : Event) (f : WorldFault) → history_of s es ≡ history_of s fs → IsCause (world s es log) e f → IsCause (world s fs log) e f
-cause_moved s es fs log (Evaluate ticket task dt inputs) NoSuchResource same h = h
-cause_moved s es fs log (Evaluate ticket task dt inputs) NoSuchTask same h = h
-cause_moved s es fs log (Evaluate ticket task dt inputs) NumbersSpent same h = (h.0, subst (λ (l : List Event). s.max_number ≤ number_of task l) same h.1)
-cause_moved s es fs log (Evaluate ticket task dt inputs) NoSuchMessage same h = h
-cause_moved s es fs log (Evaluate ticket task dt inputs) IncarnationsSpent same h = h
-cause_moved s es fs log (Evaluate ticket task dt inputs) Memory same h = subst (λ (l : List Event). is_lawful s l (Evaluate ticket task dt inputs) ≡ true) same h
-cause_moved s es fs log (Deliver k n) NoSuchResource same h = h
-cause_moved s es fs log (Deliver k n) NoSuchMessage same h = (h.0, subst (λ (l : List Event). (k ≡ 0) ⊎ (made_count l < k)) same h.1)
-cause_moved s es fs log (Deliver k n) NoSuchTask same h = h
-cause_moved s es fs log (Deliver k n) NumbersSpent same h = h
-cause_moved s es fs log (Deliver k n) IncarnationsSpent same h = h
-cause_moved s es fs log (Deliver k n) Memory same h = subst (λ (l : List Event). is_lawful s l (Deliver k n) ≡ true) same h
-cause_moved s es fs log (Restart n) NoSuchResource same h = h
-cause_moved s es fs log (Restart n) IncarnationsSpent same h = (h.0, subst (λ (l : List Event). 4294967295 ≤ incarnation_of s n l) same h.1)
-cause_moved s es fs log (Restart n) NoSuchTask same h = h
-cause_moved s es fs log (Restart n) NoSuchMessage same h = h
-cause_moved s es fs log (Restart n) NumbersSpent same h = h
-cause_moved s es fs log (Restart n) Memory same h = subst (λ (l : List Event). is_lawful s l (Restart n) ≡ true) same h
+cause_moved : (w : WorldValue) (events : List Event) (e : Event) (f : WorldFault) → history_at w ≡ history_of w.setting events → IsCause w e f → IsCause (record w { events = events }) e f
+cause_moved w events (Evaluate ticket task dt inputs) NoSuchResource same h = h
+cause_moved w events (Evaluate ticket task dt inputs) NoSuchTask same h = h
+cause_moved w events (Evaluate ticket task dt inputs) NumbersSpent same h = (h.0, subst (λ (l : List Event). w.setting.max_number ≤ number_of task l) same h.1)
+cause_moved w events (Evaluate ticket task dt inputs) NoSuchMessage same h = h
+cause_moved w events (Evaluate ticket task dt inputs) IncarnationsSpent same h = h
+cause_moved w events (Evaluate ticket task dt inputs) Memory same h = subst (λ (l : List Event). is_lawful w.setting l (Evaluate ticket task dt inputs) ≡ true) same h
+cause_moved w events (Deliver k n) NoSuchResource same h = h
+cause_moved w events (Deliver k n) NoSuchMessage same h = (h.0, subst (λ (l : List Event). (k ≡ 0) ⊎ (made_count l < k)) same h.1)
+cause_moved w events (Deliver k n) NoSuchTask same h = h
+cause_moved w events (Deliver k n) NumbersSpent same h = h
+cause_moved w events (Deliver k n) IncarnationsSpent same h = h
+cause_moved w events (Deliver k n) Memory same h = subst (λ (l : List Event). is_lawful w.setting l (Deliver k n) ≡ true) same h
+cause_moved w events (Restart n) NoSuchResource same h = h
+cause_moved w events (Restart n) IncarnationsSpent same h = (h.0, subst (λ (l : List Event). 4294967295 ≤ incarnation_of w.setting n l) same h.1)
+cause_moved w events (Restart n) NoSuchTask same h = h
+cause_moved w events (Restart n) NoSuchMessage same h = h
+cause_moved w events (Restart n) NumbersSpent same h = h
+cause_moved w events (Restart n) Memory same h = subst (λ (l : List Event). is_lawful w.setting l (Restart n) ≡ true) same h
 
-tells_moved : (s : Setting) (es fs : List Event) (log : List Evaluated) (n : ℕ) (e : Event) (line : List ℕ) → history_of s es ≡ history_of s fs → Tells (world s es log) n e line → Tells (world s fs log) n e line
-tells_moved s es fs log n e line same (inl h) = inl (subst (λ (l : List Event). is_lawful s l e ≡ true) same h.0, done_moved s es fs log e line same h.1)
-tells_moved s es fs log n e line same (inr h) =
-    inr (subst (λ (l : List Event). is_lawful s l e ≡ false) same h.0, (h.1.0, cause_moved s es fs log e h.1.0 same h.1.1, h.1.2, h.1.3))
+tells_moved : (w : WorldValue) (events : List Event) (n : ℕ) (e : Event) (line : List ℕ) → history_at w ≡ history_of w.setting events → Tells w n e line → Tells (record w { events = events }) n e line
+tells_moved w events n e line same (inl h) = inl (subst (λ (l : List Event). is_lawful w.setting l e ≡ true) same h.0, done_moved w events e line same h.1)
+tells_moved w events n e line same (inr h) =
+    inr (subst (λ (l : List Event). is_lawful w.setting l e ≡ false) same h.0, (h.1.0, cause_moved w events e h.1.0 same h.1.1, h.1.2, h.1.3))
 
 -- what was told is the line after the events
 line_after : (s : Setting) (events : List Event) (old new : WorldValue) (n : ℕ) (e : Event) (line : List ℕ) → old.setting ≡ s → history_of s old.events ≡ history_of s events → n ≡ length events + 1 → IsTold old new n e line
     → IsLineAfter s events e line
 line_after s events old new n e line setting same number t =
     let run : IsLog s (history_of s old.events) (reverse old.log) = subst (λ (x : Setting). IsLog x (history_of x old.events) (reverse old.log)) setting t.run in
-    let tells : Tells (world s old.events old.log) n e line = subst (λ (x : Setting). Tells (world x old.events old.log) n e line) setting t.tells in
+    let moved : Tells (record old { events = events }) n e line = tells_moved old events n e line (subst (λ (x : Setting). history_of x old.events ≡ history_of x events) (sym setting) same) t.tells in
+    let tells : Tells (record { setting = s; events = events; log = old.log }) n e line = subst (λ (x : Setting). Tells (record { setting = x; events = events; log = old.log }) n e line) setting moved in
     record {
       log = old.log;
       run = subst (λ (l : List Event). IsLog s l (reverse old.log)) same run;
-      tells = subst (λ k. Tells (world s events old.log) k e line) number (tells_moved s old.events events old.log n e line same tells);
+      tells = subst (λ k. Tells (record { setting = s; events = events; log = old.log }) k e line) number tells;
     }
 
 front : {X : Type 0} (xs ys : List X) (k : ℕ) → k < length xs → slice_get (xs ++ ys) k ≡ slice_get xs k
@@ -211,7 +203,7 @@ written s lines w new n m words old now next a r =
       history =
           ap (λ (x : Setting). history_of x new.events) (sym (t.setting ∙ a.setting)) ∙ t.history
           ∙ ap (λ (x : Setting). after_events x (history_of x w.events) (e ∷ [])) a.setting
-          ∙ ap (λ (h : List Event). after_events s h (e ∷ [])) a.history ∙ sym (history_append s a.events (e ∷ []));
+          ∙ ap (λ (h : List Event). after_events s h (e ∷ [])) a.history ∙ sym (one_more s a.events e);
       number = r.number ∙ ap (λ k. k + 1) a.number ∙ sym (length-one_more a.events e);
       few = omega (arith, r.number, a.few, length-one_more lines words);
       spelled = both.0;

@@ -1,15 +1,3 @@
-pub mod History
-pub mod Run
-pub mod World
-pub mod Nodes
-pub mod Step
-pub mod Laws
-pub mod Fits
-pub mod Book
-pub mod Schedule
-pub mod Consistent
-pub mod Theorem
-pub mod BookLaws
 pub mod Steps
 pub mod RunLines
 pub mod RunText

@@ -6,14 +6,14 @@ use Rattle.plant.specs.PlantValue.{PlantValue}
 use Rattle.evaluation.specs.Meaning.{Evaluated}
 use Rattle.exchange_core.specs.declared.accepted.Accepted.{Accepted}
 use Rattle.exchange_core.specs.declared.accepted.Accepted.TheVariants.{Taken, Old, Unused}
-use Rattle.world.specs.declared.event.Event.{Event}
-use Rattle.world.specs.declared.event.Event.TheVariants.{Evaluate, Deliver, Restart}
-use Rattle.world.specs.declared.world_fault.WorldFault.{WorldFault}
-use Rattle.world.specs.declared.world_fault.WorldFault.TheVariants.{NoSuchResource, NoSuchTask, NoSuchMessage, NumbersSpent, IncarnationsSpent, Memory}
-use Rattle.world.specs.History.{Setting, history_of, is_lawful, incarnation_of}
-use Rattle.world.specs.Run.{IsRun}
-use Rattle.world.specs.World.{WorldValue}
-use Rattle.world.specs.Step.{IsCause, IsDelivered}
+use Rattle.exchange.specs.declared.event.Event.{Event}
+use Rattle.exchange.specs.declared.event.Event.TheVariants.{Evaluate, Deliver, Restart}
+use Rattle.exchange.specs.declared.world_fault.WorldFault.{WorldFault}
+use Rattle.exchange.specs.declared.world_fault.WorldFault.TheVariants.{NoSuchResource, NoSuchTask, NoSuchMessage, NumbersSpent, IncarnationsSpent, Memory}
+use Rattle.exchange.specs.History.{Setting, history_of, is_lawful, incarnation_of}
+use Rattle.exchange.specs.Run.{IsRun}
+use Rattle.exchange.specs.World.{WorldValue}
+use Rattle.exchange.specs.Step.{IsCause, IsDelivered}
 use Rattle.world.specs.RunLines.{resource_text, evaluation_line}
 
 -- what a resource answers to a message

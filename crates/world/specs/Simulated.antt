@@ -2,10 +2,10 @@
 use Rattle.std.specs.Prelude.{◌≡◌, ℕ, ◌+◌, ◌<◌, List, Option, Some, length, take, replicate, slice_get}
 use Rattle.std.specs.Io.KnownBytes.{Appends}
 use Rattle.plant.specs.PlantValue.{PlantValue}
-use Rattle.world.specs.declared.event.Event.{Event}
-use Rattle.world.specs.declared.schedule.sim_fault.SimFault.{SimFault}
-use Rattle.world.specs.declared.schedule.sim_fault.SimFault.TheVariants.{Syntax, Write, Memory}
-use Rattle.world.specs.History.{Setting}
+use Rattle.exchange.specs.declared.event.Event.{Event}
+use Rattle.exchange.specs.History.{Setting}
+use Rattle.world.specs.declared.sim_fault.SimFault.{SimFault}
+use Rattle.world.specs.declared.sim_fault.SimFault.TheVariants.{Syntax, Write, Memory}
 use Rattle.world.specs.RunText.{IsRunText}
 use Rattle.world.specs.ScheduleText.{Spell, IsSchedule, IsBadLine, schedule_lines}
 

@@ -1,26 +1,24 @@
-//! All resources of a plant in one thread, by a list of events.
+//! Schedules: texts of events, read and done line by line to all resources of a plant, and the lines that tell what each event did.
+//! The resources themselves and the book stand in `exchange`.
 #![tactic(auto)]
 
-mod book;
-mod done;
-mod event;
-mod laws;
-mod log_laws;
-mod replay_laws;
-mod schedule;
-mod world;
-mod world_fault;
+mod evaluation_line;
+mod event_line;
+mod line_fault;
+mod lines;
+mod names;
+mod read_line;
+mod schedule_laws;
+mod sim_fault;
+mod simulation;
 
-pub use book::{Book, Misfit};
-pub use done::Done;
-pub use event::Event;
-pub use laws::{keeping_the_greatest_keeps_the_latest, one_run, pairs_rise};
-pub use log_laws::{
-    books_are_consistent, consistency_theorem, holders_agree, runs_are_consistent,
-    runs_are_entered, runs_fit,
+pub use evaluation_line::push_evaluation;
+pub use exchange::{
+    Book, Done, Event, Misfit, World, WorldFault, books_are_consistent, consistency_theorem,
+    holders_agree, keeping_the_greatest_keeps_the_latest, one_run, pairs_rise, runs_are_consistent,
+    runs_are_entered, runs_could_be_made, runs_fit, runs_replay,
 };
-pub use replay_laws::{runs_could_be_made, runs_replay};
-pub use schedule::{SimFault, one_reading, push_evaluation, simulate};
+pub use schedule_laws::one_reading;
+pub use sim_fault::SimFault;
+pub use simulation::simulate;
 pub use text_writer::{WriteFault, write_text};
-pub use world::World;
-pub use world_fault::WorldFault;

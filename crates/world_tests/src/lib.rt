@@ -1,4 +1,4 @@
-//! Tests of `world`, by its public calls alone.
+//! Tests of `exchange` and `world`, by their public calls alone.
 #![tactic(auto)]
 
 #[cfg(test)]

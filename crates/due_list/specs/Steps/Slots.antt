@@ -1,5 +1,5 @@
 -- The tasks in a row, and what is due of them.
-use Rattle.std.specs.Prelude.{ℕ, zero, suc, ◌<◌, ◌%◌, ◌==◌, Bool, List, [], ◌∷◌, ◌++◌, map, length, slice_get, Option, Some, None, IsFalse}
+use Rattle.std.specs.Prelude.{ℕ, zero, suc, ◌<◌, ◌%◌, ◌==◌, Bool, List, [], ◌∷◌, ◌++◌, map, length, slice_get, Option, Some, None, IsFalse, All}
 use Rattle.std.specs.List.{filter}
 use Rattle.std.specs.Ordering.{nat_cmp, ordering_then}
 use Rattle.std.specs.declared.cmp.Ordering.{Ordering}
@@ -21,6 +21,10 @@ abbrev pub slots_within : ℕ → List Timing → ℕ → List Slot
 slots_within r ts zero = []
 slots_within r ts (suc n) = slots_within r ts n ++ slot_at r n (slice_get ts n)
 
+-- all tasks of resource r
+abbrev pub slots_in : ℕ → List Timing → List Slot
+slots_in r ts = slots_within r ts (length ts)
+
 -- the tasks of the first n resources
 abbrev pub slots_before : List (List Timing) → ℕ → List Slot
 slots_before resources zero = []
@@ -29,6 +33,10 @@ slots_before resources (suc n) = slots_before resources n ++ slots_within n (tim
 -- all tasks
 abbrev pub slots_of : List (List Timing) → List Slot
 slots_of resources = slots_before resources (length resources)
+
+-- none has the interval 0
+abbrev pub HaveIntervals : List Slot → Type 0
+HaveIntervals slots = All (λ s. 0 < s.interval) slots
 
 -- a multiple of the interval
 abbrev pub is_due : ℕ → Slot → Bool

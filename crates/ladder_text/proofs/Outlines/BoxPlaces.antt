@@ -5,7 +5,7 @@ use Rattle.std.proofs.lemmas.Bool.{and_parts, and_from, or_cases, not-true, both
 use Rattle.std.proofs.lemmas.Option.{none-some, same_Some, slice_get_within, get_or_from_slice_get}
 use Rattle.std.proofs.lemmas.List.Folds.{list_any_at, list_all_at}
 use Rattle.ladder_text.specs.declared.mark.Mark.TheVariants.{BoxPart}
-use Rattle.words.specs.declared.names.BlockName.{BlockName}
+use Rattle.std_blocks.specs.declared.block_type.BlockType.{BlockType}
 use Rattle.ladder_text.specs.declared.drawn_box.DrawnPin.{DrawnPin}
 use Rattle.ladder_text.specs.declared.drawn_box.DrawnBox.{DrawnBox}
 use Rattle.ladder_text.specs.declared.boxes.outline.Outline.{Outline}
@@ -35,7 +35,7 @@ pub record IsOutlineAt (d : Rows) (r c : ℕ) (o : Outline) : Type 0 where
   pub pins : All (IsFromTo (o.top + 1) o.bottom) o.pins
   pub by_row : IsNonDecreasingBy row_of_pin o.pins
 
-outline_with_parts : (d : Rows) (r c bottom e : ℕ) (block : Option BlockName) (pins : Option (List DrawnPin)) (o : Outline)
+outline_with_parts : (d : Rows) (r c bottom e : ℕ) (block : Option BlockType) (pins : Option (List DrawnPin)) (o : Outline)
     → outline_with d r c bottom e block pins ≡ Some o → r < bottom → c < e
     → ((ps : List DrawnPin) → pins ≡ Some ps → All (IsFromTo (r + 1) bottom) ps × IsNonDecreasingBy row_of_pin ps) → IsOutlineAt d r c o
 outline_with_parts d r c bottom e None pins o q h w f = absurd (none-some o q)

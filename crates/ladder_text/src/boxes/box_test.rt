@@ -1,5 +1,5 @@
 /// What can be asked of a box at a place.
-#[derive(Clone, Copy, Debug, PartialEq, Eq)]
+#[derive(Clone, Copy)]
 pub enum BoxTest {
     /// It covers the place.
     Covers,

@@ -14,16 +14,16 @@ ghost use Rattle.ladder_text.specs.Steps.RowBoxes.{box_test, row_of_pin};
 use crate::boxes::box_test::BoxTest;
 use crate::drawn_box::{DrawnPin, Pins, Side};
 use crate::names::span::Span;
-use words::BlockName;
+use std_blocks::BlockType;
 
 /// A box as it is drawn, its name aside.
-#[derive(Debug, Drop)]
+#[derive(Drop)]
 pub struct Outline {
     pub top: usize,
     pub left: usize,
     pub bottom: usize,
     pub right: u32,
-    pub block: BlockName,
+    pub block: BlockType,
     pub pins: Pins,
 }
 

@@ -11,7 +11,8 @@ ghost use Rattle.std.specs.Str.{IsAscii};
 use crate::characters::rows::{Row, cells_of, char_at, cut, left_column, trimmed, width};
 use crate::place::Place;
 use std::marker::Model;
-use words::{BlockName, block_name};
+use std_blocks::BlockType;
+use words::block_type;
 
 /// The rows of a text, with the column of the left rail and the last column.
 #[derive(Drop)]
@@ -141,13 +142,13 @@ impl Grid {
     }
 
     /// The block type alone in the row below a top side.
-    pub fn block_in(&self, row: usize, column: usize) -> Option<BlockName>
+    pub fn block_in(&self, row: usize, column: usize) -> Option<BlockType>
         requires row { row < 2 ^ 62 }
         requires column { column < 2 ^ 62 }
         ensures { result ≡ block_in self.now row column }
     {
         let right = column + 1 + self.dashes_after(row, column);
-        block_name(trimmed(without_leading(cut(&self.rows, row + 1, column + 1, right))))
+        block_type(trimmed(without_leading(cut(&self.rows, row + 1, column + 1, right))))
     }
 
     /// Whether a box begins at a place.

@@ -1,5 +1,5 @@
 /// The faults that a single place can have.
-#[derive(Clone, Copy, Debug, PartialEq, Eq)]
+#[derive(Clone, Copy)]
 pub enum PlaceFault {
     BadMark,
     Crossing,

@@ -1,5 +1,5 @@
 -- The first corner of the boxes of each name.
-use Rattle.std.specs.Prelude.{◌≡◌, ◌<◌, ◌⊎◌, ℕ, List, Option, Some, None, String, slice_get}
+use Rattle.std.specs.Prelude.{◌≡◌, ◌<◌, ◌⊎◌, ℕ, List, Option, Some, None, String, IsSomeAnd, slice_get}
 use Rattle.std.specs.Global.{Global}
 use Rattle.std.specs.BTreeMap.{BTreeMap, get_by_text}
 use Rattle.std.specs.Str.{str_to_ascii_lowercase}
@@ -26,3 +26,11 @@ IsEarlier (Some known) corner p = (IsBefore known corner × (p ≡ known)) ⊎ (
 pub record TakesCorner (old : BTreeMap (String Global) Place) (name : List ℕ) (corner : Place) (new : BTreeMap (String Global) Place) : Type 0 where
   pub here : (p : Place) × (get_by_text new name ≡ Some p) × IsEarlier (get_by_text old name) corner p
   pub others : (other : List ℕ) → (other ≡ name → ⊥) → get_by_text new other ≡ get_by_text old other
+
+-- the name of a box has the earlier of its corner and the one that it had; other names keep theirs
+abbrev pub TakesBox : BTreeMap (String Global) Place → DrawnBox → BTreeMap (String Global) Place → Type 0
+TakesBox old b new = TakesCorner old (str_to_ascii_lowercase b.instance) (place b.top b.left) new
+
+-- the name of a box has a corner before its own
+abbrev pub HasEarlier : BTreeMap (String Global) Place → DrawnBox → Type 0
+HasEarlier corners b = IsSomeAnd (get_by_text corners (str_to_ascii_lowercase b.instance)) (λ p. IsBefore p (place b.top b.left))

@@ -1,5 +1,5 @@
 -- Elements of a drawing in a list.
-use Rattle.std.specs.Prelude.{◌≡◌, ℕ, ◌<◌, List, Some, slice_get}
+use Rattle.std.specs.Prelude.{◌≡◌, ℕ, ◌<◌, List, Some, slice_get, Option, None, [], ◌∷◌, ◌++◌, MatchOption}
 use Rattle.ladder_text.specs.Picture.{Picture}
 use Rattle.ladder_text.specs.declared.place.Place.{Place}
 use Rattle.network.specs.declared.element.Element.{Element}
@@ -19,6 +19,10 @@ pub record AreElementsBefore (g : Picture) (at : Place) (elements : List Element
   pub before : (k : ℕ) (e : Element) → slice_get elements k ≡ Some e → Precedes (first_place e) at
   pub whole : (e : Element) → IsElementOf g e → Precedes (first_place e) at → (k : ℕ) × (slice_get elements k ≡ Some e)
   pub rising : (j k : ℕ) (e f : Element) → j < k → slice_get elements j ≡ Some e → slice_get elements k ≡ Some f → Precedes (first_place e) (first_place f)
+
+-- what was found, if anything, is added at the end
+abbrev pub AddsFound : Option Element → List Element → List Element → Type 0
+AddsFound found old new = MatchOption found (new ≡ old) (λ e. new ≡ old ++ e ∷ [])
 
 -- the answer is the one element that begins at a place
 pub record IsTheElementAt (g : Picture) (p : Place) (e : Element) : Type 0 where

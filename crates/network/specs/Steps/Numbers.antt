@@ -1,4 +1,5 @@
-use Rattle.std.specs.Prelude.{◌≡◌, ℕ, List, Option, Some, None, slice_get}
+-- The numbers of places.
+use Rattle.std.specs.Prelude.{◌≡◌, ◌≢◌, ℕ, List, Option, Some, None, slice_get}
 use Rattle.ladder_text.specs.declared.place.Place.{Place}
 use Rattle.network.specs.declared.numbering.Spot.{Spot}
 
@@ -18,3 +19,18 @@ number_at rows p = number_in (slice_get rows p.row) p.column
 -- the number of each place in the list is written there
 pub record AreNumbers (spots : List Spot) (rows : List (List ℕ)) : Type 0 where
   pub whole : (p : Place) (k : ℕ) → IsSpot spots k p → number_at rows p ≡ Some k
+
+-- the numbers of other places are kept
+abbrev pub KeepsNumbers : Place → List (List ℕ) → List (List ℕ) → Type 0
+KeepsNumbers place old new = (p : Place) (n : ℕ) → p ≢ place → number_at old p ≡ Some n → number_at new p ≡ Some n
+
+-- a place with the number of the element that it belongs to
+abbrev pub spot : Place → ℕ → Spot
+spot place element = record { place = place; element = element }
+
+abbrev pub IsNoSpot : List Spot → Place → Type 0
+IsNoSpot spots place = (k : ℕ) → IsSpot spots k place → ⊥
+
+-- the place belongs to the element
+abbrev pub IsOwner : List Spot → Place → ℕ → Type 0
+IsOwner spots place element = (k : ℕ) × (slice_get spots k ≡ Some (spot place element))

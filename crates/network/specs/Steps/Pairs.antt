@@ -1,7 +1,8 @@
 -- Pairs of elements between which state passes, by their numbers.
 use Rattle.std.specs.Prelude.{◌≡◌, ◌+◌, ◌<◌, ◌≤◌, ◌↔◌, ◌⊎◌, ℕ, List, Option, Some, Contains, slice_get, slice_index, length}
-use Rattle.ladder_text.specs.Picture.{Picture}
+use Rattle.ladder_text.specs.Picture.{Picture, IsSound}
 use Rattle.ladder_text.specs.declared.place.Place.{Place}
+use Rattle.ladder_text.specs.declared.drawn_box.DrawnBox.{DrawnBox}
 use Rattle.ladder_text.specs.declared.drawn_box.Side.TheVariants.{Left, Right}
 use Rattle.network.specs.declared.element.Element.{Element}
 use Rattle.network.specs.declared.element.Element.TheVariants.{Wire, Join, Upright, Contact, Coil, Box}
@@ -10,6 +11,7 @@ use Rattle.network.specs.declared.row_table.InRow.{InRow}
 use Rattle.network.specs.Links.{place, Gives, Takes, Stands, IsPinPlace}
 use Rattle.network.specs.Apart.{first_place, Has, Precedes}
 use Rattle.network.specs.Networks.{AreLinked, Chained}
+use Rattle.network.specs.Steps.Listing.{AreElementsOf}
 
 -- Elements by column and row, all above a row and on the page, of which a later one stands right of an earlier one where they share a row.
 pub record AreLaidOut (rows : ℕ) (elements : List Element) : Type 0 where
@@ -56,6 +58,10 @@ pub record AreTakers (elements : List Element) (column : ℕ) (takers : List (Op
 abbrev pub IsLeftPair : List (Option InRow) → Place → ℕ → Pair → Type 0
 IsLeftPair last p k m = (t : InRow) × (slice_get last p.row ≡ Some (Some t)) × (p.column ≡ t.column + 1) × (m ≡ pair_of t.element k)
 
+-- the pair of a box with the element on the left of one of its left pins
+abbrev pub IsLeftPinPair : List (Option InRow) → DrawnBox → ℕ → Pair → Type 0
+IsLeftPinPair last b element m = (p : Place) × IsPinPlace Left b p × IsLeftPair last p element m
+
 -- p is under a place of an upright of this element
 abbrev pub IsUnder : Element → Place → Type 0
 IsUnder e p = (q : Place) × Stands e q × (p.row ≡ q.row + 1) × (p.column ≡ q.column)
@@ -74,6 +80,14 @@ pub record Adds (IsSuch : Pair → Type 0) (old new : List Pair) : Type 0 where
   pub each : (m : Pair) → Contains new m → Contains old m ⊎ IsSuch m
   pub added : (m : Pair) → IsSuch m → Contains new m
 
+-- the pairs of element k with earlier ones are added
+abbrev pub AddsPairsOf : List Element → List (Option InRow) → ℕ → List Pair → List Pair → Type 0
+AddsPairsOf elements last k old new = (e : Element) → slice_get elements k ≡ Some e → Adds (IsNewPair elements last e k) old new
+
+-- the places of element k are in these rows
+abbrev pub StandsInRows : List Element → ℕ → ℕ → Type 0
+StandsInRows elements k rows = (e : Element) (p : Place) → slice_get elements k ≡ Some e → Has e p → p.row < rows
+
 -- the pairs are the linked ones of the first n elements
 pub record ArePairsTo (elements : List Element) (pairs : List Pair) (n : ℕ) : Type 0 where
   pub each : (m : Pair) → Contains pairs m → IsPairOf elements m
@@ -84,3 +98,7 @@ pub record AreLabels (g : Picture) (elements : List Element) (labels : List ℕ)
   pub long : length labels ≡ length elements
   pub label : (k : ℕ) → k < length elements → slice_index labels k < length elements
   pub joined : (i j : ℕ) (e f : Element) → slice_get elements i ≡ Some e → slice_get elements j ≡ Some f → (slice_index labels i ≡ slice_index labels j) ↔ Chained g e f
+
+-- the labels of the elements of a sound drawing
+abbrev pub AreLabelsOf : List Element → List ℕ → Type 0
+AreLabelsOf elements labels = (g : Picture) → IsSound g → AreElementsOf g elements → AreLabels g elements labels

@@ -1,17 +1,30 @@
 -- The networks of a drawing by their order.
-use Rattle.std.specs.Prelude.{◌≡◌, ◌+◌, ◌<◌, ◌≤◌, ℕ, List, Option, Some, None, ◌∷◌, ◌++◌, [], slice_set, Contains, slice_get, slice_index, length}
-use Rattle.ladder_text.specs.Picture.{Picture}
+use Rattle.std.specs.Prelude.{◌≡◌, ◌+◌, ◌<◌, ◌≤◌, ℕ, List, Option, Some, None, ◌∷◌, ◌++◌, [], slice_set, Any, Contains, slice_get, slice_index, length}
+use Rattle.ladder_text.specs.Picture.{Picture, IsSound}
 use Rattle.ladder_text.specs.declared.place.Place.{Place}
 use Rattle.network.specs.declared.element.Element.{Element}
 use Rattle.network.specs.declared.ranks.Top.{Top}
+use Rattle.network.specs.declared.row_table.InRow.{InRow}
 use Rattle.network.specs.Apart.{first_place}
-use Rattle.network.specs.Networks.{IsTop, MeetsAt, IsBefore, lowest_row}
+use Rattle.network.specs.Steps.Listing.{AreElementsOf}
+use Rattle.network.specs.Steps.Pairs.{AreTakers, AreLabels}
+use Rattle.network.specs.Networks.{IsTop, MeetsAt, IsBefore, AreLeftRails, lowest_row}
 
 -- the labels of the networks that meet the rail, by the topmost row at which each does
 pub record AreTops (g : Picture) (elements : List Element) (labels : List ℕ) (tops : List Top) : Type 0 where
   pub each : (k : ℕ) (t : Top) → slice_get tops k ≡ Some t → (i : ℕ) × (e : Element) × (slice_get elements i ≡ Some e) × (slice_index labels i ≡ t.label) × IsTop g e t.row
   pub rising : (j k : ℕ) (s t : Top) → j < k → slice_get tops j ≡ Some s → slice_get tops k ≡ Some t → s.row < t.row
   pub whole : (i : ℕ) (e : Element) (row : ℕ) → slice_get elements i ≡ Some e → MeetsAt g e row → (k : ℕ) × (t : Top) × (slice_get tops k ≡ Some t) × (t.label ≡ slice_index labels i)
+
+-- in each sound drawing that has these elements, rails and takers, and whose networks have these labels, these are the tops
+abbrev pub AreTopsOf : List Place → List (Option InRow) → List ℕ → List Top → Type 0
+AreTopsOf rails takers labels tops =
+    (g : Picture) (elements : List Element) → IsSound g → AreElementsOf g elements → AreLeftRails g rails → AreTakers elements (g.left + 1) takers (length elements)
+    → AreLabels g elements labels → AreTops g elements labels tops
+
+-- each of these is of an element that has a label
+abbrev pub HaveLabels : List (Option InRow) → ℕ → Type 0
+HaveLabels takers labels = (r : ℕ) (t : InRow) → slice_get takers r ≡ Some (Some t) → t.element < labels
 
 -- a label's entry is a top with that label, and none where no top has it
 pub record AreRanksOf (tops : List Top) (table : List (Option ℕ)) : Type 0 where
@@ -46,10 +59,18 @@ pub record AreSplit (elements : List Element) (ranks : List (Option ℕ)) (count
   pub whole : (k m : ℕ) (e : Element) → k < n → slice_get elements k ≡ Some e → slice_get ranks k ≡ Some (Some m) → (i : ℕ) × IsIn networks m i e
   pub rising : (m i j : ℕ) (e f : Element) → i < j → IsIn networks m i e → IsIn networks m j f → (a b : ℕ) × (a < b) × (slice_get elements a ≡ Some e) × (slice_get elements b ≡ Some f)
 
+-- all elements stand in the networks of their ranks, in their order
+abbrev pub AreAllSplit : List Element → List (Option ℕ) → ℕ → List (List Element) → Type 0
+AreAllSplit elements ranks count networks = AreSplit elements ranks count networks (length elements)
+
 -- the places are those that this tells of
 pub record ArePlaces (IsSuch : Place → Type 0) (places : List Place) : Type 0 where
   pub each : (k : ℕ) (p : Place) → slice_get places k ≡ Some p → IsSuch p
   pub whole : (p : Place) → IsSuch p → Contains places p
+
+-- one of the elements begins at p
+abbrev pub BeginsAt : List Element → Place → Type 0
+BeginsAt elements p = Any (λ e. first_place e ≡ p) elements
 
 -- an element with the rank None begins at p
 abbrev pub IsUnmetAt : List Element → List (Option ℕ) → ℕ → Place → Type 0

@@ -4,8 +4,8 @@ use Rattle.std.specs.List.{list_any}
 use Rattle.std.specs.List.Sorted.{IsStrictlyIncreasing}
 use Rattle.plant.specs.PlantValue.{PlantValue, IsSoundPlant}
 use Rattle.evaluation.specs.Meaning.{Evaluated}
-use Rattle.world.specs.Fits.{AllFit}
-use Rattle.world.specs.Book.{BookValue}
+use Rattle.exchange.specs.Fits.{AllFit}
+use Rattle.exchange.specs.Book.{BookValue}
 use Rattle.node.specs.declared.journal.Journal.{Journal}
 use Rattle.node.specs.declared.cause.Cause.TheVariants.{Stopped}
 use Rattle.node.specs.declared.node_fault.NodeFault.{NodeFault}

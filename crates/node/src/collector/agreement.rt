@@ -8,16 +8,6 @@ use crate::step::Step;
 use evaluation::Frame;
 use std::alloc::{AllocError, Global};
 
-/// Whether both hold one evaluation.
-fn are_equal(frame: &Frame, other: &Frame) -> bool
-    ensures { IsTrue result ↔ (frame.now ≡ other.now) }
-{
-    // The getters hand out that each one's states are those of its code.
-    let _outputs = frame.outputs();
-    let _others = other.outputs();
-    frame.same(other)
-}
-
 /// The place of the next evaluation made, from a place on.
 fn next_made(steps: &[Step], from: usize) -> Option<usize>
     ensures { MatchOption result (made (drop from steps.now) ≡ [])
@@ -37,13 +27,7 @@ fn behind(steps: &[Step], from: usize, entry: &Frame) -> Option<usize>
 {
     let k = next_made(steps, from)?;
     match &steps[k] {
-        Step::Made(frame) => {
-            if are_equal(entry, frame) {
-                Some(k + 1)
-            } else {
-                None
-            }
-        }
+        Step::Made(frame) => { if entry.same(frame) { Some(k + 1) } else { None } }
         Step::Took(_) => None,
         Step::Restarted { .. } => None,
     }

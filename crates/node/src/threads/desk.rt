@@ -1,9 +1,9 @@
 use crate::gate::Gate;
 use crate::threads::inbox::Inbox;
 use crossbeam_channel::Sender;
+use exchange::Book;
 use plant::Plant;
 use std::sync::Mutex;
-use world::Book;
 
 /// What all threads of a run share.
 #[derive_where(Clone, Copy)]

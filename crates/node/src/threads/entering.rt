@@ -4,8 +4,8 @@ use crate::cause::Cause;
 use crate::station::PendingEvaluation;
 use crate::threads::worker_state::WorkerState;
 use evaluation::Frame;
+use exchange::{Book, Misfit};
 use std::sync::{Mutex, Wait};
-use world::{Book, Misfit};
 
 /// Enters a copy of an evaluation. The lock is held for that alone.
 fn enter<R: Wait>(rt: &R, book: &Mutex<Book>, frame: &Frame) -> Result<(), Cause> {

@@ -1,6 +1,6 @@
 use crate::journal::Journal;
 use crate::node_fault::NodeFault;
-use world::Book;
+use exchange::Book;
 
 /// What the threads of a run left.
 #[derive(Drop)]

@@ -7,11 +7,11 @@ use crate::threads::entering::enter_pending;
 use crate::threads::restarting::restart_station;
 use crate::threads::worker_state::WorkerState;
 use evaluation::{Frame, Inputs};
+use exchange::Book;
 use plant::Plant;
 use std::alloc::Global;
 use std::marker::Model;
 use std::sync::{Arc, Mutex, Wait};
-use world::Book;
 
 /// A resource in its thread: the keeper of its incarnation, and what it does until it is stopped.
 #[derive(Drop)]

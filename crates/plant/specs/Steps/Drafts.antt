@@ -1,9 +1,11 @@
 -- What is known of a plant while its sources are resolved. Its codes have programs and outputs, and no bindings yet.
-use Rattle.std.specs.Prelude.{◌≡◌, ℕ, ◌<◌, List, [], ◌∷◌, map, slice_get, length, Some, All, Contains}
-use Rattle.std.specs.List.{flat_map, find, AllZip}
-use Rattle.power_flow.specs.declared.declarations.Kind.{Kind}
-use Rattle.power_flow.specs.declared.declarations.Declaration.{Declaration}
-use Rattle.power_flow.specs.Names.{place_of}
+use Rattle.std.specs.Prelude.{◌≡◌, ℕ, ◌<◌, List, [], ◌∷◌, ◌++◌, map, slice_get, length, Some, All, Contains}
+use Rattle.std.specs.Borrow.{Bor}
+use Rattle.std.specs.Global.{Vec}
+use Rattle.std.specs.List.{flat_map, filter, find, AllZip}
+use Rattle.variable_binding.specs.declared.declarations.Kind.{Kind}
+use Rattle.variable_binding.specs.declared.declarations.Declaration.{Declaration}
+use Rattle.variable_binding.specs.Names.{place_of}
 use Rattle.plant.specs.declared.binding.Source.{Source}
 use Rattle.plant.specs.declared.binding.Source.TheVariants as source
 use Rattle.plant.specs.declared.binding.Binding.{Binding}
@@ -15,15 +17,20 @@ use Rattle.plant.specs.declared.grammar.tree.SourceName.{SourceName}
 use Rattle.plant.specs.declared.grammar.tree.SourceName.TheVariants as named
 use Rattle.plant.specs.declared.grammar.tree.Bind.{Bind}
 use Rattle.plant.specs.declared.grammar.tree.Use.{Use}
+use Rattle.plant.specs.declared.grammar.tree.Item.{Item}
 use Rattle.plant.specs.declared.grammar.tree.Resource.{Resource}
 use Rattle.plant.specs.declared.sources.feed.Origin.{Origin}
 use Rattle.plant.specs.declared.sources.feed.Origin.TheVariants as origin
 use Rattle.plant.specs.declared.sources.feed.Feed.{Feed}
 use Rattle.plant.specs.Names.{is_named, IsAt, AreApart}
-use Rattle.plant.specs.Faultless.{IsLadderOf, tasks_of, uses_of, binds_of}
+use Rattle.plant.specs.Faultless.{IsLadderOf, use_of, tasks_of, uses_of, binds_of}
 use Rattle.plant.specs.Steps.Reading.{TypeValue}
-use Rattle.plant.specs.PlantValue.{ProgramValue, CodeValue, ResourceValue, PlantValue, code_at, image_kinds, outputs_of, input_kind_at, kind_of_space, source_kind, bindings_at, IsSoundCode, AreProducersOf}
+use Rattle.plant.specs.PlantValue.{ProgramValue, CodeValue, ResourceValue, PlantValue, lists_of, code_at, image_kinds, outputs_of, input_kind_at, kind_of_space, source_kind, bindings_at, IsSoundCode, AreProducersOf}
 use Rattle.plant.specs.StandsFor.{runs_in, IsOrigin, IsSourceOf, firsts, mention, task_value}
+
+-- what references point to
+abbrev pub seen : {A : Type 0} → List (Bor A) → List A
+seen refs = map (λ r. r.now) refs
 
 -- the plant that drafts of resources are
 abbrev pub drafted : List ResourceValue → PlantValue
@@ -50,6 +57,14 @@ pub record IsDraftOf (programs : List Program) (r : Resource) (t : TaskLine) (c 
 pub record IsResourceDraft (programs : List Program) (r : Resource) (v : ResourceValue) : Type 0 where
   pub name_is : v.name ≡ r.name
   pub codes_are : AllZip (IsDraftOf programs r) (tasks_of r) v.codes
+
+-- the instance of a line, if the task of this name runs it
+abbrev pub runs_at : List ℕ → Item → List Use
+runs_at task x = filter (λ u. is_named u.task task) (use_of x)
+
+-- the drafts of tasks of a resource, by some program types
+abbrev pub AreDrafts : Resource → List TaskLine → List CodeValue → Type 0
+AreDrafts r tasks drafts = (programs : List Program) × AllZip (IsDraftOf programs r) tasks drafts
 
 -- the instance binds no input twice
 abbrev pub IsOnceBound : Use → Type 0
@@ -87,12 +102,16 @@ pub record IsImageKind (plant : PlantValue) (t : TaskRef) (k : ℕ) (kind : Kind
   pub code_is : code_at plant t ≡ Some code
   pub kind_is : slice_get (image_kinds code) k ≡ Some kind
 
+-- `resource.instance.output` names a value of a task's image, which is of this kind
+abbrev pub IsValue : PlantValue → List ℕ → List ℕ → List ℕ → TaskRef × ℕ × Kind → Type 0
+IsValue plant resource instance output x = IsOrigin plant resource instance output x.0 x.1 × IsImageKind plant x.0 x.1 x.2
+
 -- a source is the address that is written, or the value that the names mean, and gives values of this kind
 abbrev pub IsOriginOf : PlantValue → SourceName → Origin → Kind → Type 0
 IsOriginOf plant (named.Field a) (origin.Field b) kind = (a ≡ b) × (kind_of_space b.space ≡ kind)
 IsOriginOf plant (named.Field a) (origin.Output t k) kind = ⊥
 IsOriginOf plant (named.Output r i o) (origin.Field b) kind = ⊥
-IsOriginOf plant (named.Output r i o) (origin.Output t k) kind = IsOrigin plant r i o t k × IsImageKind plant t k kind
+IsOriginOf plant (named.Output r i o) (origin.Output t k) kind = IsValue plant r i o (t, k, kind)
 
 -- a bind by its names: the input's place, its kind, and a source of that kind
 pub record IsFeedOf (plant : PlantValue) (ds : List Declaration) (b : Bind) (f : Feed) : Type 0 where
@@ -118,6 +137,10 @@ Triples {A} {B} {C} R xs ys zs = (k : ℕ) (x : A) (y : B) (z : C) → slice_get
 abbrev pub AreFeedsOf : PlantValue → Use → ProgramValue → List Feed → Type 0
 AreFeedsOf plant u p fs = AllZip (IsFeedOf plant p.ladder.declarations) (binds_of u) fs
 
+-- the binds of each instance are resolved, by the variables of its program
+abbrev pub AreAllFeeds : PlantValue → List (Bor Use) → List ProgramValue → List (Vec Feed) → Type 0
+AreAllFeeds plant runs programs feeds = Triples (AreFeedsOf plant) (seen runs) programs (lists_of feeds)
+
 -- the task from which a bound input takes
 abbrev pub tasks_taken : Feed → List TaskRef
 tasks_taken f = of_origin f.origin where
@@ -128,6 +151,10 @@ tasks_taken f = of_origin f.origin where
 -- the tasks from which the instances of a task take, in order
 abbrev pub all_taken : List (List Feed) → List TaskRef
 all_taken fs = flat_map (λ f. flat_map tasks_taken f) fs
+
+-- where the one list has the first of each of some tasks, the other has the first of each of these and of more tasks
+abbrev pub AddsFirsts : List TaskRef → List TaskRef → List TaskRef → Type 0
+AddsFirsts old new more = (ts : List TaskRef) → old ≡ firsts ts → new ≡ firsts (ts ++ more)
 
 -- each task from which a bound input takes is one of the producers
 abbrev pub IsTakenFrom : List TaskRef → Feed → Type 0
@@ -178,9 +205,13 @@ pub record IsLinked (plant : PlantValue) (us : List Use) (draft code : CodeValue
   pub sound : IsSoundCode code
   pub taken : AreProducersOf plant code
 
+-- the codes of drafts of tasks of a resource
+abbrev pub AreLinked : PlantValue → Resource → List TaskLine → List CodeValue → List CodeValue → Type 0
+AreLinked plant r tasks drafts codes = Triples (λ t d c. IsLinked plant (runs_in r t) d c) tasks drafts codes
+
 -- a resource with its tasks, and the code of each draft
 pub record IsResourceLinked (plant : PlantValue) (r : Resource) (draft v : ResourceValue) : Type 0 where
   pub name_is : v.name ≡ r.name
   pub tasks_are : v.tasks ≡ map task_value (tasks_of r)
   pub many : length v.codes ≡ length (tasks_of r)
-  pub codes_are : Triples (λ t d c. IsLinked plant (runs_in r t) d c) (tasks_of r) draft.codes v.codes
+  pub codes_are : AreLinked plant r (tasks_of r) draft.codes v.codes

@@ -1,13 +1,11 @@
 -- What is known of program types whose bodies are drawn, and of the first one that is refused.
-use Rattle.std.specs.Prelude.{◌≡◌, ℕ, List, ◌++◌, map, All}
-use Rattle.std.specs.List.{flat_map}
+use Rattle.std.specs.Prelude.{◌≡◌, ℕ, List, map, All}
 use Rattle.plant.specs.declared.plant_fault.PlantFault.{PlantFault}
 use Rattle.plant.specs.BodyFaults.{TextValue, IsFirstBodyFault}
 use Rattle.plant.specs.Faultless.{IsLadderOf}
 use Rattle.plant_text.specs.declared.token.Token.{Token}
-use Rattle.plant.specs.Grammar.{program_words}
 use Rattle.plant.specs.Steps.Lines.{ReaderValue}
-use Rattle.plant.specs.Steps.Reading.{TypeValue, programs_of, lines_of}
+use Rattle.plant.specs.Steps.Reading.{TypeValue, programs_of, all_words, all_lines}
 
 -- the types of these programs, in order, each with its ladder
 pub record AreDrawn (texts : List TextValue) (types : List TypeValue) : Type 0 where
@@ -19,6 +17,6 @@ pub record IsFaultOfBodies (r : ReaderValue) (fault : PlantFault) : Type 0 where
   pub texts : List TextValue
   pub rest : List Token
   pub more : List ℕ
-  pub written : r.words ≡ flat_map program_words (programs_of texts) ++ rest
-  pub lines : r.bodies ≡ lines_of texts ++ more
+  pub written : r.words ≡ all_words texts rest
+  pub lines : r.bodies ≡ all_lines texts more
   pub first : IsFirstBodyFault texts fault

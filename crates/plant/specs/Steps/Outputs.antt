@@ -1,6 +1,7 @@
 -- Outputs of a task one by one, and their order.
-use Rattle.std.specs.Prelude.{◌≡◌, ◌<◌, ◌⊎◌, ℕ, List, [], Option, Some, None}
-use Rattle.power_flow.specs.declared.declarations.Declaration.{Declaration}
+use Rattle.std.specs.Prelude.{◌≡◌, ◌<◌, ◌⊎◌, ℕ, List, [], ◌++◌, Option, Some, None, slice_get}
+use Rattle.variable_binding.specs.declared.declarations.Declared.{Declared}
+use Rattle.variable_binding.specs.declared.declarations.Declaration.{Declaration}
 use Rattle.plant.specs.declared.task_output.TaskOutput.{TaskOutput}
 use Rattle.plant.specs.PlantValue.{output_at}
 
@@ -8,6 +9,14 @@ use Rattle.plant.specs.PlantValue.{output_at}
 abbrev pub output_if : ℕ → ℕ → Option Declaration → List TaskOutput
 output_if i k None = []
 output_if i k (Some d) = output_at i k d
+
+-- the output that the variable at place k of program i is, if there is such a variable and it is an output
+abbrev pub output_placed : ℕ → List Declaration → ℕ → List TaskOutput
+output_placed i ds k = output_if i k (slice_get ds k)
+
+-- the new outputs are the old ones and the one that variable k of program i is, if what it is declared as is an output
+abbrev pub AddsOutput : List TaskOutput → List TaskOutput → ℕ → ℕ → Declared → Type 0
+AddsOutput old new i k declared = (d : Declaration) → d.declared ≡ declared → new ≡ old ++ output_at i k d
 
 -- the output is of an earlier program than this one, or of this one at an earlier place
 abbrev pub StandsBefore : TaskOutput → ℕ → ℕ → Type 0

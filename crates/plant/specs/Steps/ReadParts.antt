@@ -1,19 +1,24 @@
 -- What is known of the parts of a plant's text while it is read.
-use Rattle.std.specs.Prelude.{◌≡◌, ℕ, ◌+◌, ◌<◌, ◌≤◌, Bool, true, false, IsTrue, List, [], length, map, take, slice_get, Option, Some, All, Any, option_and_then}
-use Rattle.power_flow.specs.Names.{place_of}
+use Rattle.std.specs.Prelude.{◌≡◌, ℕ, ◌+◌, ◌<◌, ◌≤◌, ◌++◌, ◌∷◌, Bool, true, false, List, [], length, map, take, slice_get, Option, None, Some, MatchOption, All, option_and_then}
+use Rattle.variable_binding.specs.Names.{place_of}
 use Rattle.std.specs.List.{flat_map}
+use Rattle.std.specs.Global.{Vec}
 use Rattle.plant.specs.declared.grammar.tree.Use.{Use}
-use Rattle.power_flow.specs.declared.declarations.Declaration.{Declaration}
+use Rattle.variable_binding.specs.declared.declarations.Declaration.{Declaration}
 use Rattle.plant.specs.declared.grammar.tree.Program.{Program}
 use Rattle.plant.specs.declared.grammar.tree.Item.{Item}
 use Rattle.plant.specs.declared.grammar.tree.Item.TheVariants as item
 use Rattle.plant.specs.declared.grammar.tree.Resource.{Resource}
 use Rattle.plant.specs.declared.grammar.tree.SourceName.{SourceName}
 use Rattle.plant.specs.declared.grammar.tree.SourceName.TheVariants as source
-use Rattle.power_flow.specs.declared.declarations.Kind.{Kind}
-use Rattle.plant.specs.PlantValue.{kind_of_space, input_kind_at}
-use Rattle.plant.specs.Grammar.{Tree}
-use Rattle.plant.specs.Names.{is_named, AreApart}
+use Rattle.variable_binding.specs.declared.declarations.Kind.{Kind}
+use Rattle.plant.specs.PlantValue.{items_or_none, kind_of_space, input_kind_at}
+use Rattle.plant.specs.declared.grammar.tree.Bind.{Bind}
+use Rattle.plant_text.specs.declared.token.Token.{Token}
+use Rattle.plant_text.specs.declared.token.Punctuation.TheVariants.{Close}
+use Rattle.plant.specs.Grammar.{Tree, mark, with_commas, listed}
+use Rattle.plant.specs.Names.{AreApart}
+use Rattle.plant.specs.NameFaults.{IsTaken}
 use Rattle.plant.specs.Faultless.{variables, task_of, use_of, binds_of, IsBlockLawful, IsUseLawful, IsResourceLawful}
 use Rattle.plant.specs.Steps.Reading.{TypeValue}
 
@@ -25,6 +30,22 @@ pub record TallyValue : Type 0 where
 -- these instances counted too, with their binds
 abbrev pub tally_with : TallyValue → List Use → TallyValue
 tally_with t us = record { instances = t.instances + length us; binds = t.binds + length (flat_map binds_of us) }
+
+-- one instance counted too
+abbrev pub with_instance : TallyValue → TallyValue
+with_instance t = record { instances = t.instances + 1; binds = t.binds }
+
+-- so many binds counted too
+abbrev pub with_binds : TallyValue → ℕ → TallyValue
+with_binds t n = record { instances = t.instances; binds = t.binds + n }
+
+-- the binds of an instance, none where it has no parentheses
+abbrev pub bound_in : Option (Vec Bind) → List Bind
+bound_in binds = items_or_none (listed binds)
+
+-- the words begin with these binds and the parenthesis that closes them, and behind it stand the others
+abbrev pub EndWithBinds : List Bind → List Token → List Token → Type 0
+EndWithBinds binds words rest = words ≡ with_commas binds ++ mark Close ∷ rest
 
 -- the program types alone
 abbrev pub types_alone : List TypeValue → Tree
@@ -48,7 +69,7 @@ pub record AreProgramsDeclared (programs : List Program) : Type 0 where
 
 -- nothing in the list has this name
 abbrev pub IsNew : {A : Type 0} → (A → List ℕ) → List A → List ℕ → Type 0
-IsNew name_of xs name = Any (λ x. IsTrue (is_named name (name_of x))) xs → ⊥
+IsNew name_of xs name = IsTaken name_of xs name → ⊥
 
 abbrev pub is_task_line : Item → Bool
 is_task_line (item.Task t) = true
@@ -81,3 +102,11 @@ input_kind_of ds name = option_and_then (input_kind_at ds) (place_of ds name)
 abbrev pub HasFieldKind : Kind → SourceName → Type 0
 HasFieldKind kind (source.Field a) = kind_of_space a.space ≡ kind
 HasFieldKind kind (source.Output resource instance output) = Unit
+
+-- the bind's input is one of these, and has the kind of its source, if that is an address
+abbrev pub IsOfInputKind : List Declaration → Bind → Type 0
+IsOfInputKind ds b = (kind : Kind) × (input_kind_of ds b.input ≡ Some kind) × HasFieldKind kind b.source
+
+-- the place of the input of this name, with its kind; none where the name is no input's
+abbrev pub FindsInput : List Declaration → List ℕ → Option (ℕ × Kind) → Type 0
+FindsInput ds name found = MatchOption found (input_kind_of ds name ≡ None) (λ x. (place_of ds name ≡ Some x.0) × (input_kind_at ds x.0 ≡ Some x.1))

@@ -55,7 +55,7 @@ impl From<GraphFault> for PlantFault {
 }
 
 impl From<BindFault> for PlantFault {
-    ghost use Rattle.power_flow.specs.declared.bind.BindKind.TheVariants as bind;
+    ghost use Rattle.variable_binding.specs.declared.bind_fault.BindKind.TheVariants as bind;
     ghost use Rattle.plant.specs.declared.plant_fault.PlantFaultKind.TheVariants.{Memory, Bind};
     ghost use Rattle.plant.specs.declared.plant_fault.BodyFault.TheVariants as body;
     ghost use Rattle.plant.specs.Faults.{IsPlantFault};

@@ -4,11 +4,9 @@ ghost use Rattle.std.specs.Prelude.{◌≡◌, ◌↔◌, ◌<◌, IsTrue, IsFal
 ghost use Rattle.plant.specs.Steps.WordFaults.{IsWordFault};
 ghost use Rattle.plant.specs.declared.plant_fault.PlantFaultKind.TheVariants.{NameTwice, TooMany};
 ghost use Rattle.std.specs.List.{flat_map, find};
-ghost use Rattle.std.specs.Option.{option_map, option_and_then};
-ghost use Rattle.power_flow.specs.Names.{place_of};
-ghost use Rattle.plant.specs.PlantValue.{input_kind_at};
+ghost use Rattle.std.specs.Option.{option_map};
 ghost use Rattle.plant.specs.NameFaults.{TellsOfName};
-ghost use Rattle.plant.specs.Steps.ReadParts.{is_task_line};
+ghost use Rattle.plant.specs.Steps.ReadParts.{is_task_line, input_kind_of};
 ghost use Rattle.plant.specs.Steps.Reading.{programs_of};
 ghost use Rattle.plant.specs.Names.{is_named};
 ghost use Rattle.plant.specs.Faultless.{task_of, use_of};
@@ -41,8 +39,7 @@ pub fn check_new(name: &Name, is_twice: bool, is_full: bool) -> Result<(), Plant
 fn program_named<'a>(texts: &'a [ProgramText], name: &Name) -> Option<&'a ProgramText>
     ensures { option_map (λ t. t.now) result ≡ find (λ t. is_named name.now t.program.name) texts.now }
 {
-    let name = name.as_str();
-    texts.iter().find(|text| name.eq_ignore_ascii_case(text.program().name.as_str()))
+    texts.iter().find(|text| name.is_same(&text.program().name))
 }
 
 /// Whether a program has the name.
@@ -56,13 +53,14 @@ pub fn is_program(texts: &[ProgramText], name: &Name) -> bool
 pub fn type_named<'a>(types: &'a [ProgramType], name: &Name) -> Option<&'a ProgramType>
     ensures { option_map (λ t. t.now) result ≡ find (λ t. is_named name.now t.program.name) types.now }
 {
-    let name = name.as_str();
-    types.iter().find(|found| name.eq_ignore_ascii_case(found.program().name.as_str()))
+    types
+        .iter()
+        .find(|found| name.is_same(&found.program().name))
 }
 
 /// The kind of a program's input, by its name.
 pub fn input_kind(program: &ProgramType, input: &Name) -> Option<Kind>
-    ensures { result ≡ option_and_then (input_kind_at program.now.ladder.declarations) (place_of program.now.ladder.declarations input.now) }
+    ensures { result ≡ input_kind_of program.now.ladder.declarations input.now }
 {
     let declarations = program.ladder().declarations();
     let place = declarations.position(input.as_str())?;
@@ -76,8 +74,9 @@ pub fn input_kind(program: &ProgramType, input: &Name) -> Option<Kind>
 pub fn resource_named<'a>(resources: &'a [Resource], name: &Name) -> Option<&'a Resource>
     ensures { option_map (λ r. r.now) result ≡ find (λ r. is_named name.now r.name) resources.now }
 {
-    let name = name.as_str();
-    resources.iter().find(|resource| name.eq_ignore_ascii_case(resource.name.as_str()))
+    resources
+        .iter()
+        .find(|resource| name.is_same(&resource.name))
 }
 
 /// Whether a resource has the name.
@@ -91,29 +90,26 @@ pub fn is_resource(resources: &[Resource], name: &Name) -> bool
 pub fn is_bound(binds: &[Bind], input: &Name) -> bool
     ensures { IsTrue result ↔ Any (λ b. IsTrue (is_named input.now b.input)) binds.now }
 {
-    let input = input.as_str();
-    binds
-        .iter()
-        .any(|bind| input.eq_ignore_ascii_case(bind.input.as_str()))
+    binds.iter().any(|bind| input.is_same(&bind.input))
 }
 
 /// Whether the line is a task of the name.
-fn names_task(item: &Item, name: &str) -> bool
+fn names_task(item: &Item, name: &Name) -> bool
     ensures { IsTrue result ↔ Any (λ t. IsTrue (is_named name.now t.name)) (task_of item.now) }
 {
     match item {
-        Item::Task(task) => name.eq_ignore_ascii_case(task.name.as_str()),
+        Item::Task(task) => name.is_same(&task.name),
         Item::Use(_) => false,
     }
 }
 
 /// Whether the line is a program instance of the name.
-fn names_instance(item: &Item, name: &str) -> bool
+fn names_instance(item: &Item, name: &Name) -> bool
     ensures { IsTrue result ↔ Any (λ u. IsTrue (is_named name.now u.instance)) (use_of item.now) }
 {
     match item {
         Item::Task(_) => false,
-        Item::Use(instance) => name.eq_ignore_ascii_case(instance.instance.as_str()),
+        Item::Use(instance) => name.is_same(&instance.instance),
     }
 }
 
@@ -121,7 +117,6 @@ fn names_instance(item: &Item, name: &str) -> bool
 pub fn is_task(items: &[Item], name: &Name) -> bool
     ensures { IsTrue result ↔ Any (λ t. IsTrue (is_named name.now t.name)) (flat_map task_of items.now) }
 {
-    let name = name.as_str();
     items.iter().any(|item| names_task(item, name))
 }
 
@@ -143,6 +138,5 @@ fn is_task_line(item: &Item) -> bool
 pub fn is_instance(items: &[Item], name: &Name) -> bool
     ensures { IsTrue result ↔ Any (λ u. IsTrue (is_named name.now u.instance)) (flat_map use_of items.now) }
 {
-    let name = name.as_str();
     items.iter().any(|item| names_instance(item, name))
 }

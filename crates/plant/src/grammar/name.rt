@@ -1,11 +1,13 @@
 ghost use Rattle.std.specs.Prelude.{◌≡◌, IfOk};
+ghost use Rattle.plant.specs.Names.{is_named};
 
+use crate::names::is_named;
 use ladder_text::Text;
 use std::alloc::{AllocError, Global};
 use std::marker::Model;
 
 /// A name as it is written, and the line that it stands on. Contracts see its characters.
-#[derive(Debug, Drop)]
+#[derive(Drop)]
 pub struct Name {
     text: Text,
     line: u64,
@@ -32,6 +34,13 @@ impl Name {
         ensures { result.now ≡ self.now }
     {
         self.text.as_str()
+    }
+
+    /// Whether both are one name, whatever the case of their letters.
+    pub fn is_same(&self, other: &Name) -> bool
+        ensures { result ≡ is_named self.now other.now }
+    {
+        is_named(self.as_str(), other.as_str())
     }
 
     /// The number of the line.

@@ -5,11 +5,12 @@ ghost use Rattle.plant.specs.Steps.WordFaults.{IsWordFault};
 ghost use Rattle.std.specs.List.{flat_map};
 ghost use Rattle.plant_text.specs.declared.token.Token.TheVariants as token;
 ghost use Rattle.plant.specs.Grammar.{section_word, kind_word, type_word, name_words, list_words, lists_words, block_words, program_words};
-ghost use Rattle.plant.specs.Faultless.{list_variables, block_variables, IsTypeLawful, IsListLawful, IsBlockLawful};
-ghost use Rattle.plant.specs.NameFaults.{IsOfName, TellsOfName, RefusesVariable, RefusesList, RefusesBlock, RefusesBlocks, RefusesProgram, RefusesPrograms};
-ghost use Rattle.plant.specs.Steps.Declaring.{RepeatsName, IsNameNext, BeginWith};
+ghost use Rattle.plant.specs.Faultless.{list_variables, lists_variables, block_variables, IsTypeLawful, IsListLawful, IsBlockLawful};
+ghost use Rattle.plant.specs.NameFaults.{TellsOfName, RefusesVariable, RefusesList, RefusesBlock, RefusesBlocks, RefusesProgram, RefusesPrograms};
+ghost use Rattle.plant.specs.Steps.Declaring.{TellsOfType, TellsOfVariable, BeginRefused};
+ghost use Rattle.plant.specs.Steps.Lines.{IsOneNext, IsNoneNext};
 ghost use Rattle.plant.specs.Steps.ReadParts.{IsNew, IsProgramDeclared, AreProgramsDeclared};
-ghost use Rattle.plant.specs.Steps.Reading.{programs_of, lines_of};
+ghost use Rattle.plant.specs.Steps.Reading.{programs_of, all_words, AreSameWords, AreSameLines};
 
 use crate::bodies::program_text::ProgramText;
 use crate::grammar::declared_names::{check_new, is_program};
@@ -27,7 +28,6 @@ const MOST_TYPES: usize = 64;
 
 impl<'a> Reader<'a> {
     ghost use Rattle.plant_text.specs.declared.token.Token.{Token};
-    ghost use Rattle.plant.specs.declared.grammar.tree.Section.{Section};
 
     /// A further name of a program, behind the variables and the names of the same list.
     fn variable(
@@ -38,7 +38,7 @@ impl<'a> Reader<'a> {
     ) -> Result<Name, PlantFault>
         ensures ok { IfOk result (λ name. self.old.words ≡ token.Name name ∷ self.new.words) }
         ensures bodies { OnOk result (self.new.bodies ≡ self.old.bodies) }
-        ensures tells { IfErr result (λ e. TellsOfName e.kind (RepeatsName (λ v. v.name) variables.now self.old.words ⊎ RepeatsName (λ n. n) before.now self.old.words) (IsNameNext self.old.words × (1000 ≤ length variables.now + length before.now))) }
+        ensures tells { IfErr result (TellsOfVariable variables.now before.now self.old.words) }
         ensures value { IfErr result IsWordFault }
     {
         let name = self.name(alloc)?;
@@ -52,7 +52,7 @@ impl<'a> Reader<'a> {
         ensures ok { IfOk result (λ names. self.old.words ≡ name_words names.items ++ self.new.words) }
         ensures bodies { OnOk result (self.new.bodies ≡ self.old.bodies) }
         ensures some { IfOk result (λ names. 0 < length names.items) }
-        ensures names { IfErr result (λ e. IsOfName e.kind → BeginWith (RefusesVariable e.kind variables.now) self.old.words) }
+        ensures names { IfErr result (BeginRefused (λ k. RefusesVariable k variables.now) self.old.words) }
         ensures value { IfErr result IsWordFault }
     {
         let mut names = Vec::new(alloc);
@@ -112,7 +112,7 @@ impl<'a> Reader<'a> {
         ensures bodies { OnOk result (self.new.bodies ≡ self.old.bodies) }
         ensures declared { IfOk result (λ l. variables.new ≡ variables.old ++ list_variables section l) }
         ensures lawful { IfOk result (λ l. IsListLawful section l) }
-        ensures names { IfErr result (λ e. IsOfName e.kind → BeginWith (RefusesVariable e.kind variables.old) self.old.words) }
+        ensures names { IfErr result (BeginRefused (λ k. RefusesVariable k variables.old) self.old.words) }
         ensures value { IfErr result IsWordFault }
     {
         let names = self.names(alloc, variables)?;
@@ -134,9 +134,9 @@ impl<'a> Reader<'a> {
     ) -> Result<Vec<NameList>, PlantFault>
         ensures ok { IfOk result (λ ls. self.old.words ≡ lists_words ls.items ++ self.new.words) }
         ensures bodies { OnOk result (self.new.bodies ≡ self.old.bodies) }
-        ensures declared { IfOk result (λ ls. variables.new ≡ variables.old ++ flat_map (list_variables section) ls.items) }
+        ensures declared { IfOk result (λ ls. variables.new ≡ variables.old ++ lists_variables section ls.items) }
         ensures lawful { IfOk result (λ ls. All (IsListLawful section) ls.items) }
-        ensures names { IfErr result (λ e. IsOfName e.kind → BeginWith (RefusesList e.kind section variables.old) self.old.words) }
+        ensures names { IfErr result (BeginRefused (λ k. RefusesList k section variables.old) self.old.words) }
         ensures value { IfErr result IsWordFault }
     {
         let mut lists = Vec::new(alloc);
@@ -150,8 +150,8 @@ impl<'a> Reader<'a> {
 
     /// Whether a block begins.
     fn sees_section(&self) -> bool
-        ensures yes { IsTrue result → (s : Section) × (rest : List Token) × (self.now.words ≡ section_word s ∷ rest) }
-        ensures no { IsFalse result → (s : Section) (rest : List Token) → self.now.words ≡ section_word s ∷ rest → ⊥ }
+        ensures yes { IsTrue result → IsOneNext section_word self.now.words }
+        ensures no { IsFalse result → IsNoneNext section_word self.now.words }
     {
         self.sees_keyword(Keyword::VarInput)
             || self.sees_keyword(Keyword::VarOutput)
@@ -184,7 +184,7 @@ impl<'a> Reader<'a> {
         ensures bodies { OnOk result (self.new.bodies ≡ self.old.bodies) }
         ensures declared { IfOk result (λ b. variables.new ≡ variables.old ++ block_variables b) }
         ensures lawful { IfOk result (λ b. IsBlockLawful b) }
-        ensures names { IfErr result (λ e. IsOfName e.kind → BeginWith (RefusesBlock e.kind variables.old) self.old.words) }
+        ensures names { IfErr result (BeginRefused (λ k. RefusesBlock k variables.old) self.old.words) }
         ensures value { IfErr result IsWordFault }
     {
         let section = self.section()?;
@@ -203,7 +203,7 @@ impl<'a> Reader<'a> {
         ensures bodies { OnOk result (self.new.bodies ≡ self.old.bodies) }
         ensures declared { IfOk result (λ bs. variables.new ≡ variables.old ++ flat_map block_variables bs.items) }
         ensures lawful { IfOk result (λ bs. All IsBlockLawful bs.items) }
-        ensures names { IfErr result (λ e. IsOfName e.kind → BeginWith (RefusesBlocks e.kind variables.old) self.old.words) }
+        ensures names { IfErr result (BeginRefused (λ k. RefusesBlocks k variables.old) self.old.words) }
         ensures value { IfErr result IsWordFault }
     {
         let mut blocks = Vec::new(alloc);
@@ -215,14 +215,12 @@ impl<'a> Reader<'a> {
     }
 
     /// A new name of a program type, behind these.
-    #[tactic(auto, using(crate::proofs::RefusedNames::no_name, crate::proofs::RefusedNames::memory_no_name))]
     fn new_type(&mut self, alloc: Global, before: &[ProgramText]) -> Result<Name, PlantFault>
         ensures ok { IfOk result (λ name. self.old.words ≡ token.Name name ∷ self.new.words) }
         ensures bodies { OnOk result (self.new.bodies ≡ self.old.bodies) }
         ensures new { IfOk result (λ name. IsNew (λ p. p.name) (programs_of before.now) name) }
         ensures few { OnOk result (length before.now < 64) }
-        ensures tells { IfErr result (λ e. TellsOfName e.kind (RepeatsName (λ p. p.name) (programs_of before.now) self.old.words) (64 ≤ length before.now)) }
-        ensures next { IfErr result (λ e. IsOfName e.kind → IsNameNext self.old.words) }
+        ensures tells { IfErr result (TellsOfType before.now self.old.words) }
         ensures value { IfErr result IsWordFault }
     {
         let name = self.name(alloc)?;
@@ -238,7 +236,7 @@ impl<'a> Reader<'a> {
         ensures new { IfOk result (λ p. IsNew (λ p. p.name) (programs_of before.now) p.program.name) }
         ensures few { OnOk result (length before.now < 64) }
         ensures declared { IfOk result (λ p. IsProgramDeclared p.program) }
-        ensures names { IfErr result (λ e. IsOfName e.kind → BeginWith (RefusesProgram e.kind (programs_of before.now)) self.old.words) }
+        ensures names { IfErr result (BeginRefused (λ k. RefusesProgram k (programs_of before.now)) self.old.words) }
         ensures value { IfErr result IsWordFault }
     {
         self.keyword(Keyword::Program)?;
@@ -260,12 +258,12 @@ impl<'a> Reader<'a> {
         texts: &mut Vec<ProgramText>,
     ) -> Result<(), PlantFault>
         requires { AreProgramsDeclared (programs_of texts.old.items) }
-        ensures ok { OnOk result (flat_map program_words (programs_of texts.old.items) ++ self.old.words ≡ flat_map program_words (programs_of texts.new.items) ++ self.new.words) }
-        ensures err { OnErr result ((rest : List Token) × (flat_map program_words (programs_of texts.old.items) ++ self.old.words ≡ flat_map program_words (programs_of texts.new.items) ++ rest)) }
-        ensures lines { OnOk result (lines_of texts.old.items ++ self.old.bodies ≡ lines_of texts.new.items ++ self.new.bodies) }
-        ensures err_lines { OnErr result ((more : List ℕ) × (lines_of texts.old.items ++ self.old.bodies ≡ lines_of texts.new.items ++ more)) }
+        ensures ok { OnOk result (AreSameWords texts.old.items self.old.words texts.new.items self.new.words) }
+        ensures err { OnErr result ((rest : List Token) × AreSameWords texts.old.items self.old.words texts.new.items rest) }
+        ensures lines { OnOk result (AreSameLines texts.old.items self.old.bodies texts.new.items self.new.bodies) }
+        ensures err_lines { OnErr result ((more : List ℕ) × AreSameLines texts.old.items self.old.bodies texts.new.items more) }
         ensures declared { AreProgramsDeclared (programs_of texts.new.items) }
-        ensures names { IfErr result (λ e. IsOfName e.kind → BeginWith (RefusesPrograms e.kind) (flat_map program_words (programs_of texts.old.items) ++ self.old.words)) }
+        ensures names { IfErr result (BeginRefused RefusesPrograms (all_words texts.old.items self.old.words)) }
         ensures value { IfErr result IsWordFault }
     {
         'programs: while self.sees_keyword(Keyword::Program) {

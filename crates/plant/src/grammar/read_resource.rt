@@ -5,13 +5,12 @@ ghost use Rattle.plant.specs.Steps.WordFaults.{IsWordFault};
 ghost use Rattle.std.specs.List.{flat_map};
 ghost use Rattle.plant_text.specs.declared.token.Token.TheVariants as token;
 ghost use Rattle.plant_text.specs.declared.token.Keyword.TheVariants as key;
-ghost use Rattle.plant_text.specs.declared.token.Punctuation.TheVariants.{Open, Close};
 ghost use Rattle.plant.specs.Grammar.{interval_words, priority_words, settings, task_words, source_words, bind_words, with_commas, binds_words, listed, use_words, item_words, items_words, resource_words, resources_words};
 ghost use Rattle.plant.specs.Names.{is_named, AreApart};
 ghost use Rattle.plant.specs.Faultless.{task_of, use_of, uses_of, binds_of, IsUseLawful, IsResourceLawful};
-ghost use Rattle.plant.specs.NameFaults.{IsOfName, TellsOfName, IsAfter, RefusesTask, RefusesBind, RefusesInstance, RefusesItems, RefusesResource, RefusesResources};
-ghost use Rattle.plant.specs.Steps.Declaring.{RepeatsName, IsNameNext, BeginWith};
-ghost use Rattle.plant.specs.Steps.ReadParts.{types_alone, tally_with, input_kind_of, HasFieldKind, IsNew, MayFollow, AreItemsLawful, AreResourcesLawful};
+ghost use Rattle.plant.specs.NameFaults.{TellsOfName, RefusesTask, RefusesBind};
+ghost use Rattle.plant.specs.Steps.Declaring.{TellsOfTask, TellsOfInstance, TellsOfBind, TellsOfResource, BeginRefused, RefusesFurtherInstance, RefusesItem, RefusesFurtherItems, RefusesFurtherResource, RefusesFurtherResources, RefusesInParentheses};
+ghost use Rattle.plant.specs.Steps.ReadParts.{types_alone, with_instance, with_binds, tally_with, EndWithBinds, bound_in, HasFieldKind, IsOfInputKind, IsNew, MayFollow, AreItemsLawful, AreResourcesLawful};
 ghost use Rattle.plant.specs.declared.grammar.tree.Item.TheVariants as item;
 ghost use Rattle.plant.specs.PlantValue.{items_or_none, kind_of_space};
 
@@ -90,7 +89,7 @@ impl<'a> Reader<'a> {
         ensures ok { IfOk result (λ name. self.old.words ≡ token.Name name ∷ self.new.words) }
         ensures new { IfOk result (λ name. IsNew (λ t. t.name) (flat_map task_of before.now) name) }
         ensures few { OnOk result (length (flat_map task_of before.now) < 16) }
-        ensures tells { IfErr result (λ e. TellsOfName e.kind (RepeatsName (λ t. t.name) (flat_map task_of before.now) self.old.words) (IsNameNext self.old.words × (16 ≤ length (flat_map task_of before.now)))) }
+        ensures tells { IfErr result (TellsOfTask before.now self.old.words) }
         ensures value { IfErr result IsWordFault }
     {
         let name = self.name(alloc)?;
@@ -109,7 +108,7 @@ impl<'a> Reader<'a> {
         ensures new { IfOk result (λ t. IsNew (λ t. t.name) (flat_map task_of before.now) t.name) }
         ensures few { OnOk result (length (flat_map task_of before.now) < 16) }
         ensures positive { IfOk result (λ t. 0 < t.interval) }
-        ensures names { IfErr result (λ e. IsOfName e.kind → BeginWith (RefusesTask e.kind before.now) self.old.words) }
+        ensures names { IfErr result (BeginRefused (λ k. RefusesTask k before.now) self.old.words) }
         ensures value { IfErr result IsWordFault }
     {
         self.keyword(Keyword::Task)?;
@@ -176,9 +175,9 @@ impl<'a> Reader<'a> {
     ) -> Result<Bind, PlantFault>
         ensures ok { IfOk result (λ b. self.old.words ≡ bind_words b ++ self.new.words) }
         ensures new { IfOk result (λ b. IsNew (λ b. b.input) before.now b.input) }
-        ensures kind { IfOk result (λ b. (kind : Kind) × (input_kind_of program.now.ladder.declarations b.input ≡ Some kind) × HasFieldKind kind b.source) }
-        ensures tally { OnOk result (tally.new ≡ record { instances = tally.old.instances; binds = tally.old.binds + 1 }) }
-        ensures tells { IfErr result (λ e. TellsOfName e.kind ⊥ (IsNameNext self.old.words × (4096 ≤ tally.old.binds))) }
+        ensures kind { IfOk result (IsOfInputKind program.now.ladder.declarations) }
+        ensures tally { OnOk result (tally.new ≡ with_binds tally.old 1) }
+        ensures tells { IfErr result (TellsOfBind tally.old.binds self.old.words) }
         ensures value { IfErr result IsWordFault }
     {
         let input = self.name(alloc)?;
@@ -202,10 +201,10 @@ impl<'a> Reader<'a> {
         program: &ProgramType,
         tally: &mut Tally,
     ) -> Result<Vec<Bind>, PlantFault>
-        ensures ok { IfOk result (λ binds. self.old.words ≡ with_commas binds.items ++ token.Punctuation Close ∷ self.new.words) }
+        ensures ok { IfOk result (λ binds. EndWithBinds binds.items self.old.words self.new.words) }
         ensures apart { IfOk result (λ binds. AreApart (map (λ b. b.input) binds.items)) }
-        ensures tally { IfOk result (λ binds. tally.new ≡ record { instances = tally.old.instances; binds = tally.old.binds + length binds.items }) }
-        ensures names { IfErr result (λ e. IsOfName e.kind → BeginWith (RefusesBind e.kind tally.old.binds) self.old.words) }
+        ensures tally { IfOk result (λ binds. tally.new ≡ with_binds tally.old (length binds.items)) }
+        ensures names { IfErr result (BeginRefused (λ k. RefusesBind k tally.old.binds) self.old.words) }
         ensures value { IfErr result IsWordFault }
     {
         let mut binds = Vec::new(alloc);
@@ -229,9 +228,9 @@ impl<'a> Reader<'a> {
         tally: &mut Tally,
     ) -> Result<Option<Vec<Bind>>, PlantFault>
         ensures ok { IfOk result (λ binds. self.old.words ≡ binds_words (listed binds) ++ self.new.words) }
-        ensures apart { IfOk result (λ binds. AreApart (map (λ b. b.input) (items_or_none (listed binds)))) }
-        ensures tally { IfOk result (λ binds. tally.new ≡ record { instances = tally.old.instances; binds = tally.old.binds + length (items_or_none (listed binds)) }) }
-        ensures names { IfErr result (λ e. IsOfName e.kind → BeginWith (IsAfter (token.Punctuation Open) (RefusesBind e.kind tally.old.binds)) self.old.words) }
+        ensures apart { IfOk result (λ binds. AreApart (map (λ b. b.input) (bound_in binds))) }
+        ensures tally { IfOk result (λ binds. tally.new ≡ with_binds tally.old (length (bound_in binds))) }
+        ensures names { IfErr result (BeginRefused (RefusesInParentheses tally.old.binds) self.old.words) }
         ensures value { IfErr result IsWordFault }
     {
         if self.sees_punctuation(Punctuation::Open) {
@@ -251,8 +250,8 @@ impl<'a> Reader<'a> {
     ) -> Result<Name, PlantFault>
         ensures ok { IfOk result (λ name. self.old.words ≡ token.Name name ∷ self.new.words) }
         ensures new { IfOk result (λ name. IsNew (λ u. u.instance) (flat_map use_of before.now) name) }
-        ensures tally { OnOk result (tally.new ≡ record { instances = tally.old.instances + 1; binds = tally.old.binds }) }
-        ensures tells { IfErr result (λ e. TellsOfName e.kind (RepeatsName (λ u. u.instance) (flat_map use_of before.now) self.old.words) (IsNameNext self.old.words × (64 ≤ tally.old.instances))) }
+        ensures tally { OnOk result (tally.new ≡ with_instance tally.old) }
+        ensures tells { IfErr result (TellsOfInstance before.now tally.old.instances self.old.words) }
         ensures value { IfErr result IsWordFault }
     {
         let name = self.name(alloc)?;
@@ -289,7 +288,7 @@ impl<'a> Reader<'a> {
         ensures new { IfOk result (λ u. IsNew (λ u. u.instance) (flat_map use_of before.now) u.instance) }
         ensures lawful { IfOk result (λ u. IsUseLawful (types_alone types.now) before.now u) }
         ensures tally { IfOk result (λ u. tally.new ≡ tally_with tally.old (u ∷ [])) }
-        ensures names { IfErr result (λ e. IsOfName e.kind → BeginWith (RefusesInstance e.kind tally.old.instances tally.old.binds before.now) self.old.words) }
+        ensures names { IfErr result (BeginRefused (RefusesFurtherInstance tally.old before.now) self.old.words) }
         ensures value { IfErr result IsWordFault }
     {
         self.keyword(Keyword::Program)?;
@@ -323,7 +322,7 @@ impl<'a> Reader<'a> {
         ensures ok { IfOk result (λ x. self.old.words ≡ item_words x ++ self.new.words) }
         ensures lawful { IfOk result (λ x. MayFollow (types_alone types.now) before.now x) }
         ensures tally { IfOk result (λ x. tally.new ≡ tally_with tally.old (use_of x)) }
-        ensures names { IfErr result (λ e. IsOfName e.kind → BeginWith (λ w. RefusesTask e.kind before.now w ⊎ RefusesInstance e.kind tally.old.instances tally.old.binds before.now w) self.old.words) }
+        ensures names { IfErr result (BeginRefused (RefusesItem tally.old before.now) self.old.words) }
         ensures value { IfErr result IsWordFault }
     {
         if self.sees_keyword(Keyword::Task) {
@@ -344,7 +343,7 @@ impl<'a> Reader<'a> {
         ensures ok { IfOk result (λ xs. self.old.words ≡ items_words xs.items ++ self.new.words) }
         ensures lawful { IfOk result (λ xs. AreItemsLawful (types_alone types.now) xs.items) }
         ensures tally { IfOk result (λ xs. tally.new ≡ tally_with tally.old (flat_map use_of xs.items)) }
-        ensures names { IfErr result (λ e. IsOfName e.kind → BeginWith (RefusesItems e.kind tally.old.instances tally.old.binds) self.old.words) }
+        ensures names { IfErr result (BeginRefused (RefusesFurtherItems tally.old) self.old.words) }
         ensures value { IfErr result IsWordFault }
     {
         let mut items = Vec::new(alloc);
@@ -357,13 +356,11 @@ impl<'a> Reader<'a> {
     }
 
     /// A new name of a resource, behind these.
-    #[tactic(auto, using(crate::proofs::RefusedNames::no_name, crate::proofs::RefusedNames::memory_no_name))]
     fn resource_name(&mut self, alloc: Global, before: &[Resource]) -> Result<Name, PlantFault>
         ensures ok { IfOk result (λ name. self.old.words ≡ token.Name name ∷ self.new.words) }
         ensures new { IfOk result (λ name. IsNew (λ r. r.name) before.now name) }
         ensures few { OnOk result (length before.now < 16) }
-        ensures tells { IfErr result (λ e. TellsOfName e.kind (RepeatsName (λ r. r.name) before.now self.old.words) (16 ≤ length before.now)) }
-        ensures next { IfErr result (λ e. IsOfName e.kind → IsNameNext self.old.words) }
+        ensures tells { IfErr result (TellsOfResource before.now self.old.words) }
         ensures value { IfErr result IsWordFault }
     {
         let name = self.name(alloc)?;
@@ -389,7 +386,7 @@ impl<'a> Reader<'a> {
         ensures few { OnOk result (length before.now < 16) }
         ensures lawful { IfOk result (λ r. IsResourceLawful (types_alone types.now) r) }
         ensures tally { IfOk result (λ r. tally.new ≡ tally_with tally.old (uses_of r)) }
-        ensures names { IfErr result (λ e. IsOfName e.kind → BeginWith (RefusesResource e.kind tally.old.instances tally.old.binds before.now) self.old.words) }
+        ensures names { IfErr result (BeginRefused (RefusesFurtherResource tally.old before.now) self.old.words) }
         ensures value { IfErr result IsWordFault }
     {
         self.keyword(Keyword::Resource)?;
@@ -412,7 +409,7 @@ impl<'a> Reader<'a> {
         ensures some { IfOk result (λ rs. 0 < length rs.items) }
         ensures lawful { IfOk result (λ rs. AreResourcesLawful (types_alone types.now) rs.items) }
         ensures tally { IfOk result (λ rs. tally.new ≡ tally_with tally.old (flat_map uses_of rs.items)) }
-        ensures names { IfErr result (λ e. IsOfName e.kind → BeginWith (RefusesResources e.kind tally.old.instances tally.old.binds) self.old.words) }
+        ensures names { IfErr result (BeginRefused (RefusesFurtherResources tally.old) self.old.words) }
         ensures value { IfErr result IsWordFault }
     {
         let mut resources = Vec::new(alloc);

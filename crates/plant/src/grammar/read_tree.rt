@@ -2,8 +2,7 @@
 
 ghost use Rattle.std.specs.Prelude.{IfOk, IfErr};
 ghost use Rattle.plant.specs.Faults.{IsPlantFault, IsOfBody};
-ghost use Rattle.plant.specs.NameFaults.{IsOfName};
-ghost use Rattle.plant.specs.Steps.Declaring.{BeginWith, RefusesPlant};
+ghost use Rattle.plant.specs.Steps.Declaring.{BeginRefused, RefusesPlant};
 ghost use Rattle.plant.specs.Steps.Drawn.{IsFaultOfBodies};
 ghost use Rattle.plant.specs.Steps.Reading.{IsReadingOf};
 
@@ -24,7 +23,7 @@ pub fn read_tree<'a>(alloc: Global, reader: &mut Reader<'a>) -> Result<Reading, 
     ensures ok { IfOk result (λ reading. IsReadingOf reader.old.words reading reader.new.words) }
     ensures value { IfErr result IsPlantFault }
     ensures body { IfErr result (λ fault. IsOfBody fault.kind → IsFaultOfBodies reader.old fault) }
-    ensures name { IfErr result (λ fault. IsOfName fault.kind → BeginWith (RefusesPlant fault.kind) reader.old.words) }
+    ensures name { IfErr result (BeginRefused RefusesPlant reader.old.words) }
 {
     let mut texts = Vec::new(alloc);
     let programs = reader.programs(alloc, &mut texts);

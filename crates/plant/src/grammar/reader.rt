@@ -1,17 +1,17 @@
-ghost use Rattle.std.specs.Prelude.{◌≡◌, ◌≢◌, ◌∷◌, List, map, OnOk, IfOk, OnErr, IfErr, IsTrue, IsFalse};
+ghost use Rattle.std.specs.Prelude.{◌≡◌, ◌≢◌, ◌∷◌, List, OnOk, IfOk, OnErr, IfErr, IsTrue, IsFalse};
 ghost use Rattle.plant.specs.Steps.WordFaults.{IsWordFault};
 ghost use Rattle.plant_text.specs.declared.token.Token.TheVariants as token;
 ghost use Rattle.plant.specs.declared.plant_fault.PlantFaultKind.TheVariants.{Memory};
 ghost use Rattle.plant.specs.NameFaults.{TellsOfName};
-ghost use Rattle.plant.specs.Steps.Lines.{next_line, syntax_at};
-ghost use Rattle.plant_text.specs.Lines.{body_lines};
+ghost use Rattle.plant.specs.Steps.Lines.{all_left, next_line, syntax_at, behind, IsLeft, IsNext, IsNotNext, IsOneNext, IsNoneNext, TellsNext};
 
 use crate::grammar::name::Name;
 use crate::plant_fault::{PlantFault, PlantFaultKind};
-use ladder_text::{BlockName, Text};
+use ladder_text::Text;
 use plant_text::{Address, Keyword, Punctuation, Token, Word};
 use std::alloc::Global;
 use std::marker::Model;
+use std_blocks::BlockType;
 
 /// The words that are left to be read, and the line on which the text ends. Contracts see the words and their lines.
 ///
@@ -23,24 +23,22 @@ pub struct Reader<'a> {
 }
 
 impl<'a> Model for Reader<'a> {
-    ghost use Rattle.std.specs.Prelude.{map};
-    ghost use Rattle.plant.specs.Steps.Lines.{ReaderValue};
-    ghost use Rattle.plant_text.specs.Lines.{body_lines};
+    ghost use Rattle.plant.specs.Steps.Lines.{ReaderValue, all_left};
 
     ghost Value = { ReaderValue };
 
-    ghost view = { λ r. record { words = map (λ w. w.token) r.words.now; lines = map (λ w. w.line) r.words.now; bodies = body_lines r.words.now; last = r.last } };
+    ghost view = { λ r. all_left r.words.now r.last };
 }
 
 impl<'a> Reader<'a> {
     ghost use Rattle.std.specs.Prelude.{[], ℕ};
     ghost use Rattle.plant_text.specs.declared.token.Token.{Token};
     ghost use Rattle.plant_text.specs.declared.address.Address.{Address};
-    ghost use Rattle.words.specs.declared.names.BlockName.{BlockName};
+    ghost use Rattle.std_blocks.specs.declared.block_type.BlockType.{BlockType};
 
     /// A reader of all the words of a text that ends on a line.
     pub fn new(words: &'a [Word], last: u64) -> Reader<'a>
-        ensures { result ≡ record { words = map (λ w. w.token) words.now; lines = map (λ w. w.line) words.now; bodies = body_lines words.now; last = last } }
+        ensures { result ≡ all_left words.now last }
     {
         Reader { words, last }
     }
@@ -62,6 +60,27 @@ impl<'a> Reader<'a> {
         PlantFault::at(PlantFaultKind::Syntax, self.line())
     }
 
+    /// The next word, if there is one.
+    fn peek(&self) -> Option<&'a Token>
+        ensures { TellsNext self.now.words result }
+    {
+        match self.words {
+            [word, ..] => Some(word.token()),
+            [] => None,
+        }
+    }
+
+    /// Leaves the next word behind.
+    fn advance(&mut self)
+        ensures words { self.new.words ≡ behind self.old.words }
+        ensures bodies { (t : Token) (rest : List Token) → self.old.words ≡ t ∷ rest → IsLeft t self.old self.new }
+    {
+        match self.words {
+            [_, rest @ ..] => self.words = rest,
+            [] => {}
+        }
+    }
+
     /// No further word.
     pub fn end(&self) -> Result<(), PlantFault>
         ensures ok { OnOk result (self.now.words ≡ []) }
@@ -80,17 +99,15 @@ impl<'a> Reader<'a> {
         ensures ok { OnOk result (self.old.words ≡ token.Keyword keyword ∷ self.new.words) }
         ensures bodies { OnOk result (self.new.bodies ≡ self.old.bodies) }
         ensures err { IfErr result (λ e. (e ≡ syntax_at self.old) × (self.new ≡ self.old)) }
-        ensures other { OnErr result ((rest : List Token) → self.old.words ≡ token.Keyword keyword ∷ rest → ⊥) }
+        ensures other { OnErr result (IsNotNext (token.Keyword keyword) self.old.words) }
         ensures tells { IfErr result (λ e. TellsOfName e.kind ⊥ ⊥) }
         ensures value { IfErr result IsWordFault }
     {
-        match self.words {
-            [word, rest @ ..] if word.is_keyword(keyword) => {
-                self.words = rest;
-                Ok(())
-            }
-            _ => Err(self.syntax()),
+        if !self.sees_keyword(keyword) {
+            return Err(self.syntax());
         }
+        self.advance();
+        Ok(())
     }
 
     /// A mark.
@@ -98,17 +115,15 @@ impl<'a> Reader<'a> {
         ensures ok { OnOk result (self.old.words ≡ token.Punctuation punctuation ∷ self.new.words) }
         ensures bodies { OnOk result (self.new.bodies ≡ self.old.bodies) }
         ensures err { IfErr result (λ e. (e ≡ syntax_at self.old) × (self.new ≡ self.old)) }
-        ensures other { OnErr result ((rest : List Token) → self.old.words ≡ token.Punctuation punctuation ∷ rest → ⊥) }
+        ensures other { OnErr result (IsNotNext (token.Punctuation punctuation) self.old.words) }
         ensures tells { IfErr result (λ e. TellsOfName e.kind ⊥ ⊥) }
         ensures value { IfErr result IsWordFault }
     {
-        match self.words {
-            [word, rest @ ..] if word.is_punctuation(punctuation) => {
-                self.words = rest;
-                Ok(())
-            }
-            _ => Err(self.syntax()),
+        if !self.sees_punctuation(punctuation) {
+            return Err(self.syntax());
         }
+        self.advance();
+        Ok(())
     }
 
     /// A name.
@@ -120,16 +135,13 @@ impl<'a> Reader<'a> {
         ensures tells { IfErr result (λ e. TellsOfName e.kind ⊥ ⊥) }
         ensures value { IfErr result IsWordFault }
     {
-        match self.words {
-            [word, rest @ ..] => match word.token() {
-                Token::Name(name) => {
-                    let name = Name::new(name.try_copy(alloc)?, word.line());
-                    self.words = rest;
-                    Ok(name)
-                }
-                _ => Err(self.syntax()),
-            },
-            [] => Err(self.syntax()),
+        match self.peek() {
+            Some(Token::Name(text)) => {
+                let name = Name::new(text.try_copy(alloc)?, self.line());
+                self.advance();
+                Ok(name)
+            }
+            _ => Err(self.syntax()),
         }
     }
 
@@ -142,16 +154,13 @@ impl<'a> Reader<'a> {
         ensures tells { IfErr result (λ e. TellsOfName e.kind ⊥ ⊥) }
         ensures value { IfErr result IsWordFault }
     {
-        match self.words {
-            [word, rest @ ..] => match word.token() {
-                Token::Body(body) => {
-                    let body = body.try_copy(alloc)?;
-                    self.words = rest;
-                    Ok(body)
-                }
-                _ => Err(self.syntax()),
-            },
-            [] => Err(self.syntax()),
+        match self.peek() {
+            Some(Token::Body(text)) => {
+                let body = text.try_copy(alloc)?;
+                self.advance();
+                Ok(body)
+            }
+            _ => Err(self.syntax()),
         }
     }
 
@@ -159,19 +168,16 @@ impl<'a> Reader<'a> {
     pub fn duration(&mut self) -> Result<u32, PlantFault>
         ensures ok { IfOk result (λ n. self.old.words ≡ token.Duration n ∷ self.new.words) }
         ensures err { IfErr result (λ e. (e ≡ syntax_at self.old) × (self.new ≡ self.old)) }
-        ensures other { OnErr result ((n : ℕ) (rest : List Token) → self.old.words ≡ token.Duration n ∷ rest → ⊥) }
+        ensures other { OnErr result (IsNoneNext token.Duration self.old.words) }
         ensures tells { IfErr result (λ e. TellsOfName e.kind ⊥ ⊥) }
         ensures value { IfErr result IsWordFault }
     {
-        match self.words {
-            [word, rest @ ..] => match word.token() {
-                Token::Duration(n) => {
-                    self.words = rest;
-                    Ok(*n)
-                }
-                _ => Err(self.syntax()),
-            },
-            [] => Err(self.syntax()),
+        match self.peek() {
+            Some(Token::Duration(n)) => {
+                self.advance();
+                Ok(*n)
+            }
+            _ => Err(self.syntax()),
         }
     }
 
@@ -179,19 +185,16 @@ impl<'a> Reader<'a> {
     pub fn number(&mut self) -> Result<u16, PlantFault>
         ensures ok { IfOk result (λ n. self.old.words ≡ token.Number n ∷ self.new.words) }
         ensures err { IfErr result (λ e. (e ≡ syntax_at self.old) × (self.new ≡ self.old)) }
-        ensures other { OnErr result ((n : ℕ) (rest : List Token) → self.old.words ≡ token.Number n ∷ rest → ⊥) }
+        ensures other { OnErr result (IsNoneNext token.Number self.old.words) }
         ensures tells { IfErr result (λ e. TellsOfName e.kind ⊥ ⊥) }
         ensures value { IfErr result IsWordFault }
     {
-        match self.words {
-            [word, rest @ ..] => match word.token() {
-                Token::Number(n) => {
-                    self.words = rest;
-                    Ok(*n)
-                }
-                _ => Err(self.syntax()),
-            },
-            [] => Err(self.syntax()),
+        match self.peek() {
+            Some(Token::Number(n)) => {
+                self.advance();
+                Ok(*n)
+            }
+            _ => Err(self.syntax()),
         }
     }
 
@@ -199,47 +202,41 @@ impl<'a> Reader<'a> {
     pub fn address(&mut self) -> Result<Address, PlantFault>
         ensures ok { IfOk result (λ a. self.old.words ≡ token.Address a ∷ self.new.words) }
         ensures err { IfErr result (λ e. (e ≡ syntax_at self.old) × (self.new ≡ self.old)) }
-        ensures other { OnErr result ((a : Address) (rest : List Token) → self.old.words ≡ token.Address a ∷ rest → ⊥) }
+        ensures other { OnErr result (IsNoneNext token.Address self.old.words) }
         ensures tells { IfErr result (λ e. TellsOfName e.kind ⊥ ⊥) }
         ensures value { IfErr result IsWordFault }
     {
-        match self.words {
-            [word, rest @ ..] => match word.token() {
-                Token::Address(address) => {
-                    self.words = rest;
-                    Ok(*address)
-                }
-                _ => Err(self.syntax()),
-            },
-            [] => Err(self.syntax()),
+        match self.peek() {
+            Some(Token::Address(address)) => {
+                self.advance();
+                Ok(*address)
+            }
+            _ => Err(self.syntax()),
         }
     }
 
     /// The type of a standard block.
-    pub fn block_type(&mut self) -> Result<BlockName, PlantFault>
+    pub fn block_type(&mut self) -> Result<BlockType, PlantFault>
         ensures ok { IfOk result (λ b. self.old.words ≡ token.Block b ∷ self.new.words) }
         ensures bodies { OnOk result (self.new.bodies ≡ self.old.bodies) }
         ensures err { IfErr result (λ e. (e ≡ syntax_at self.old) × (self.new ≡ self.old)) }
-        ensures other { OnErr result ((b : BlockName) (rest : List Token) → self.old.words ≡ token.Block b ∷ rest → ⊥) }
+        ensures other { OnErr result ((b : BlockType) (rest : List Token) → self.old.words ≡ token.Block b ∷ rest → ⊥) }
         ensures tells { IfErr result (λ e. TellsOfName e.kind ⊥ ⊥) }
         ensures value { IfErr result IsWordFault }
     {
-        match self.words {
-            [word, rest @ ..] => match word.token() {
-                Token::Block(block) => {
-                    self.words = rest;
-                    Ok(*block)
-                }
-                _ => Err(self.syntax()),
-            },
-            [] => Err(self.syntax()),
+        match self.peek() {
+            Some(Token::Block(block)) => {
+                self.advance();
+                Ok(*block)
+            }
+            _ => Err(self.syntax()),
         }
     }
 
     /// Whether the next word is a keyword.
     pub fn sees_keyword(&self, keyword: Keyword) -> bool
-        ensures yes { IsTrue result → (rest : List Token) × (self.now.words ≡ token.Keyword keyword ∷ rest) }
-        ensures no { IsFalse result → (rest : List Token) → self.now.words ≡ token.Keyword keyword ∷ rest → ⊥ }
+        ensures yes { IsTrue result → IsNext (token.Keyword keyword) self.now.words }
+        ensures no { IsFalse result → IsNotNext (token.Keyword keyword) self.now.words }
     {
         match self.words {
             [word, ..] => word.is_keyword(keyword),
@@ -249,8 +246,8 @@ impl<'a> Reader<'a> {
 
     /// Whether the next word is a mark.
     pub fn sees_punctuation(&self, punctuation: Punctuation) -> bool
-        ensures yes { IsTrue result → (rest : List Token) × (self.now.words ≡ token.Punctuation punctuation ∷ rest) }
-        ensures no { IsFalse result → (rest : List Token) → self.now.words ≡ token.Punctuation punctuation ∷ rest → ⊥ }
+        ensures yes { IsTrue result → IsNext (token.Punctuation punctuation) self.now.words }
+        ensures no { IsFalse result → IsNotNext (token.Punctuation punctuation) self.now.words }
     {
         match self.words {
             [word, ..] => word.is_punctuation(punctuation),
@@ -260,8 +257,8 @@ impl<'a> Reader<'a> {
 
     /// Whether the next word is a field address.
     pub fn sees_address(&self) -> bool
-        ensures yes { IsTrue result → (a : Address) × (rest : List Token) × (self.now.words ≡ token.Address a ∷ rest) }
-        ensures no { IsFalse result → (a : Address) (rest : List Token) → self.now.words ≡ token.Address a ∷ rest → ⊥ }
+        ensures yes { IsTrue result → IsOneNext token.Address self.now.words }
+        ensures no { IsFalse result → IsNoneNext token.Address self.now.words }
     {
         match self.words {
             [word, ..] => word.is_address(),
@@ -271,8 +268,8 @@ impl<'a> Reader<'a> {
 
     /// Whether the next word is the type of a standard block.
     pub fn sees_block_type(&self) -> bool
-        ensures yes { IsTrue result → (b : BlockName) × (rest : List Token) × (self.now.words ≡ token.Block b ∷ rest) }
-        ensures no { IsFalse result → (b : BlockName) (rest : List Token) → self.now.words ≡ token.Block b ∷ rest → ⊥ }
+        ensures yes { IsTrue result → (b : BlockType) × (rest : List Token) × (self.now.words ≡ token.Block b ∷ rest) }
+        ensures no { IsFalse result → (b : BlockType) (rest : List Token) → self.now.words ≡ token.Block b ∷ rest → ⊥ }
     {
         match self.words {
             [word, ..] => word.is_block_type(),

@@ -13,7 +13,7 @@ const MOST_INSTANCES: usize = 64;
 const MOST_BINDS: usize = 4096;
 
 /// How many program instances and binds a plant has so far.
-#[derive(Debug, Drop)]
+#[derive(Drop)]
 pub struct Tally {
     instances: usize,
     binds: usize,
@@ -31,7 +31,7 @@ impl Model for Tally {
 }
 
 impl Tally {
-    ghost use Rattle.plant.specs.Steps.ReadParts.{TallyValue};
+    ghost use Rattle.plant.specs.Steps.ReadParts.{with_instance, with_binds};
 
     /// None yet.
     pub fn new() -> Tally
@@ -61,7 +61,7 @@ impl Tally {
 
     /// Counts a program instance of a name, if there may be one more.
     pub fn add_instance(&mut self, name: &Name) -> Result<(), PlantFault>
-        ensures ok { OnOk result (self.new ≡ record { instances = self.old.instances + 1; binds = self.old.binds }) }
+        ensures ok { OnOk result (self.new ≡ with_instance self.old) }
         ensures err { IfErr result (λ e. (e.kind ≡ TooMany) × (self.new ≡ self.old) × (self.old.instances ≡ 64)) }
         ensures value { IfErr result IsWordFault }
     {
@@ -74,7 +74,7 @@ impl Tally {
 
     /// Counts a bind of an input, if there may be one more.
     pub fn add_bind(&mut self, input: &Name) -> Result<(), PlantFault>
-        ensures ok { OnOk result (self.new ≡ record { instances = self.old.instances; binds = self.old.binds + 1 }) }
+        ensures ok { OnOk result (self.new ≡ with_binds self.old 1) }
         ensures err { IfErr result (λ e. (e.kind ≡ TooMany) × (self.new ≡ self.old) × (self.old.binds ≡ 4096)) }
         ensures value { IfErr result IsWordFault }
     {

@@ -1,12 +1,13 @@
 //! The parts of a plant's text, as they are written.
 
 use crate::grammar::name::Name;
-use ladder_text::{BlockName, Text};
+use ladder_text::Text;
 use plant_text::Address;
 use power_flow::Kind;
+use std_blocks::BlockType;
 
 /// Which variables a block declares.
-#[derive(Clone, Copy, Debug, PartialEq, Eq)]
+#[derive(Clone, Copy)]
 pub enum Section {
     /// VAR_INPUT.
     Input,
@@ -17,28 +18,28 @@ pub enum Section {
 }
 
 /// What stands behind the colon of a declaration.
-#[derive(Clone, Copy, Debug, PartialEq, Eq)]
+#[derive(Clone, Copy)]
 pub enum TypeName {
     Elementary(Kind),
-    Block(BlockName),
+    Block(BlockType),
 }
 
 /// Names of one type.
-#[derive(Debug, Drop)]
+#[derive(Drop)]
 pub struct NameList {
     pub names: Vec<Name>,
     pub type_name: TypeName,
 }
 
 /// A block of declarations, from VAR, VAR_INPUT or VAR_OUTPUT to END_VAR.
-#[derive(Debug, Drop)]
+#[derive(Drop)]
 pub struct VarBlock {
     pub section: Section,
     pub lists: Vec<NameList>,
 }
 
 /// A program type: its name, its variables and the lines of its drawing.
-#[derive(Debug, Drop)]
+#[derive(Drop)]
 pub struct Program {
     pub name: Name,
     pub blocks: Vec<VarBlock>,
@@ -46,14 +47,14 @@ pub struct Program {
 }
 
 /// Which setting of a task stands first.
-#[derive(Clone, Copy, Debug, PartialEq, Eq)]
+#[derive(Clone, Copy)]
 pub enum Order {
     IntervalFirst,
     PriorityFirst,
 }
 
 /// A task of a resource.
-#[derive(Debug, Drop)]
+#[derive(Drop)]
 pub struct TaskLine {
     pub name: Name,
     pub order: Order,
@@ -63,7 +64,7 @@ pub struct TaskLine {
 }
 
 /// Where a bound input comes from.
-#[derive(Debug, Drop)]
+#[derive(Drop)]
 pub enum SourceName {
     Field(Address),
     Output {
@@ -74,14 +75,14 @@ pub enum SourceName {
 }
 
 /// An input and its source.
-#[derive(Debug, Drop)]
+#[derive(Drop)]
 pub struct Bind {
     pub input: Name,
     pub source: SourceName,
 }
 
 /// An instance of a program. There may be no parentheses.
-#[derive(Debug, Drop)]
+#[derive(Drop)]
 pub struct Use {
     pub instance: Name,
     pub task: Name,
@@ -90,14 +91,14 @@ pub struct Use {
 }
 
 /// A line of a resource.
-#[derive(Debug, Drop)]
+#[derive(Drop)]
 pub enum Item {
     Task(TaskLine),
     Use(Use),
 }
 
 /// A resource.
-#[derive(Debug, Drop)]
+#[derive(Drop)]
 pub struct Resource {
     pub name: Name,
     pub node: Name,

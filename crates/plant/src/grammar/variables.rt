@@ -1,16 +1,16 @@
-ghost use Rattle.std.specs.Prelude.{◌≡◌, ◌↔◌, ◌+◌, ◌<◌, ◌≤◌, ◌⊎◌, ◌++◌, [], ◌∷◌, ℕ, List, IsTrue, Any, OnOk, length, IfErr};
+ghost use Rattle.std.specs.Prelude.{◌≡◌, ◌↔◌, ◌+◌, ◌<◌, ◌≤◌, ◌++◌, [], ◌∷◌, List, IsTrue, OnOk, length, IfErr};
 ghost use Rattle.plant.specs.Steps.WordFaults.{IsWordFault};
-ghost use Rattle.power_flow.specs.Names.{IsDeclared};
-ghost use Rattle.plant.specs.Names.{is_named};
+ghost use Rattle.variable_binding.specs.Names.{IsDeclared};
 ghost use Rattle.plant.specs.Faultless.{declared_as, list_variables};
-ghost use Rattle.plant.specs.NameFaults.{IsOfName, TellsOfName, IsTaken};
-ghost use Rattle.plant.specs.Steps.ReadParts.{AreVariables};
+ghost use Rattle.plant.specs.NameFaults.{IsOfName, IsTaken};
+ghost use Rattle.plant.specs.Steps.Declaring.{TellsOfChecked, TellsOfAdded, RefusesOneOf};
+ghost use Rattle.plant.specs.Steps.ReadParts.{AreVariables, IsNew};
 
 use crate::grammar::declared_names::check_new;
 use crate::grammar::name::Name;
 use crate::grammar::tree::{NameList, Section, TypeName};
 use crate::plant_fault::{PlantFault, PlantFaultKind};
-use power_flow::{Declarations, DeclareFault, Declared, block_type};
+use power_flow::{Declarations, DeclareFault, Declared};
 use std::alloc::Global;
 use std::marker::Model;
 
@@ -25,7 +25,7 @@ pub struct Variables {
 
 impl Model for Variables {
     ghost use Rattle.std.specs.Prelude.{List};
-    ghost use Rattle.power_flow.specs.declared.declarations.Declaration.{Declaration};
+    ghost use Rattle.variable_binding.specs.declared.declarations.Declaration.{Declaration};
     ghost use Rattle.plant.specs.Steps.ReadParts.{AreVariables};
 
     ghost Value = { List Declaration };
@@ -37,12 +37,9 @@ impl Model for Variables {
 
 /// Whether one of the names is this one.
 fn is_among(names: &[Name], name: &Name) -> bool
-    ensures { IsTrue result ↔ Any (λ n. IsTrue (is_named name.now n)) names.now }
+    ensures { IsTrue result ↔ IsTaken (λ n. n) names.now name.now }
 {
-    let name = name.as_str();
-    names
-        .iter()
-        .any(|other| name.eq_ignore_ascii_case(other.as_str()))
+    names.iter().any(|other| name.is_same(other))
 }
 
 /// What a name of a section is declared as.
@@ -50,7 +47,7 @@ fn declared_as(section: Section, type_name: TypeName) -> Declared
     ensures { result ≡ declared_as section type_name }
 {
     match (section, type_name) {
-        (_, TypeName::Block(block)) => Declared::Instance(block_type(block)),
+        (_, TypeName::Block(block)) => Declared::Instance(block),
         (Section::Input, TypeName::Elementary(kind)) => Declared::Input(kind),
         (Section::Output, TypeName::Elementary(kind)) => Declared::Output(kind),
         (Section::Local, TypeName::Elementary(kind)) => Declared::Local(kind),
@@ -58,7 +55,7 @@ fn declared_as(section: Section, type_name: TypeName) -> Declared
 }
 
 impl Variables {
-    ghost use Rattle.power_flow.specs.declared.declarations.Declaration.{Declaration};
+    ghost use Rattle.variable_binding.specs.declared.declarations.Declaration.{Declaration};
 
     /// No variables yet.
     pub fn new(alloc: Global) -> Variables
@@ -87,9 +84,9 @@ impl Variables {
     /// Refuses a name that is declared, or that stands among `more`, which are to be declared next; and one too many.
     pub fn check(&self, more: &[Name], name: &Name) -> Result<(), PlantFault>
         ensures undeclared { OnOk result (IsDeclared self.now name.now → ⊥) }
-        ensures new { OnOk result (Any (λ n. IsTrue (is_named name.now n)) more.now → ⊥) }
+        ensures new { OnOk result (IsNew (λ n. n) more.now name.now) }
         ensures few { OnOk result (length self.now + length more.now < 1000) }
-        ensures tells { IfErr result (λ e. TellsOfName e.kind (IsDeclared self.now name.now ⊎ Any (λ n. IsTrue (is_named name.now n)) more.now) (1000 ≤ length self.now + length more.now)) }
+        ensures tells { IfErr result (TellsOfChecked self.now more.now name.now) }
         ensures value { IfErr result IsWordFault }
     {
         let is_full = more.len() >= MOST_NAMES - self.len();
@@ -99,7 +96,7 @@ impl Variables {
     /// Declares a name at the end. After an error the variables are as before.
     fn add(&mut self, name: &Name, declared: Declared) -> Result<(), PlantFault>
         ensures ok { OnOk result (self.new ≡ self.old ++ record { name = name.now; declared = declared } ∷ []) }
-        ensures tells { IfErr result (λ e. TellsOfName e.kind (IsDeclared self.old name.now) (1000 ≤ length self.old)) }
+        ensures tells { IfErr result (TellsOfAdded self.old name.now) }
         ensures value { IfErr result IsWordFault }
     {
         if self.declarations.len() >= MOST_NAMES {
@@ -116,7 +113,7 @@ impl Variables {
     #[tactic(auto, using(crate::proofs::RefusedNames::no_name, crate::proofs::RefusedNames::memory_no_name))]
     pub fn add_list(&mut self, section: Section, list: &NameList) -> Result<(), PlantFault>
         ensures ok { OnOk result (self.new ≡ self.old ++ list_variables section list.now) }
-        ensures names { IfErr result (λ e. IsOfName e.kind → (names more : List (List ℕ)) × (name : List ℕ) × (list.now.names.items ≡ names ++ name ∷ more) × TellsOfName e.kind (IsTaken (λ v. v.name) self.old name ⊎ IsTaken (λ m. m) names name) (1000 ≤ length self.old + length names)) }
+        ensures names { IfErr result (λ e. IsOfName e.kind → RefusesOneOf list.now.names.items self.old e.kind) }
         ensures value { IfErr result IsWordFault }
     {
         let declared = declared_as(section, list.type_name);

@@ -1,16 +1,16 @@
 //! What a plant runs, before its sources are resolved: the programs of each task, and their outputs.
 
-ghost use Rattle.std.specs.Prelude.{◌≡◌, ◌++◌, map, IfOk, OnOk, IfErr};
+ghost use Rattle.std.specs.Prelude.{◌≡◌, ◌++◌, IfOk, OnOk, IfErr};
 ghost use Rattle.plant.specs.NameFaults.{TellsOfName};
 ghost use Rattle.plant.specs.Steps.WordFaults.{IsWordFault};
-ghost use Rattle.std.specs.List.{AllZip, filter};
-ghost use Rattle.plant.specs.Names.{is_named};
-ghost use Rattle.plant.specs.Faultless.{tasks_of, uses_of, task_of, use_of};
+ghost use Rattle.std.specs.List.{AllZip};
+ghost use Rattle.plant.specs.Faultless.{tasks_of, task_of};
 ghost use Rattle.plant.specs.StandsFor.{runs_in};
-ghost use Rattle.plant.specs.Steps.Drafts.{programs_in, IsProgramOf, IsDraftOf, IsResourceDraft};
+ghost use Rattle.plant.specs.Steps.Drafts.{seen, runs_at, programs_in, IsProgramOf, IsDraftOf, IsResourceDraft};
 
 use crate::bodies::program_type::ProgramType;
 use crate::grammar::declared_names::type_named;
+use crate::grammar::name::Name;
 use crate::grammar::tree::{Item, Resource, TaskLine, Use};
 use crate::plant_fault::{PlantFault, PlantFaultKind};
 use crate::program_instance::ProgramInstance;
@@ -21,7 +21,7 @@ use std::sync::Arc;
 
 /// Adds an item if it is a task.
 fn push_task<'a>(tasks: &mut Vec<&'a TaskLine>, item: &'a Item) -> Result<(), AllocError>
-    ensures { OnOk result (map (λ t. t.now) tasks.new.items ≡ map (λ t. t.now) tasks.old.items ++ task_of item.now) }
+    ensures { OnOk result (seen tasks.new.items ≡ seen tasks.old.items ++ task_of item.now) }
 {
     match item {
         Item::Task(task) => {
@@ -34,7 +34,7 @@ fn push_task<'a>(tasks: &mut Vec<&'a TaskLine>, item: &'a Item) -> Result<(), Al
 
 /// The tasks of a resource, in order of declaration.
 pub fn tasks_of<'a>(alloc: Global, resource: &'a Resource) -> Result<Vec<&'a TaskLine>, AllocError>
-    ensures { IfOk result (λ ts. map (λ t. t.now) ts.items ≡ tasks_of resource.now) }
+    ensures { IfOk result (λ ts. seen ts.items ≡ tasks_of resource.now) }
 {
     let mut tasks = Vec::new(alloc);
     for item in &resource.items {
@@ -44,11 +44,11 @@ pub fn tasks_of<'a>(alloc: Global, resource: &'a Resource) -> Result<Vec<&'a Tas
 }
 
 /// Adds an item if it is an instance that the task of a name runs.
-fn push_run<'a>(runs: &mut Vec<&'a Use>, task: &str, item: &'a Item) -> Result<(), AllocError>
-    ensures { OnOk result (map (λ u. u.now) runs.new.items ≡ map (λ u. u.now) runs.old.items ++ filter (λ u. is_named u.task task.now) (use_of item.now)) }
+fn push_run<'a>(runs: &mut Vec<&'a Use>, task: &Name, item: &'a Item) -> Result<(), AllocError>
+    ensures { OnOk result (seen runs.new.items ≡ seen runs.old.items ++ runs_at task.now item.now) }
 {
     match item {
-        Item::Use(run) if run.task.as_str().eq_ignore_ascii_case(task) => {
+        Item::Use(run) if run.task.is_same(task) => {
             runs.push(run)?;
             Ok(())
         }
@@ -62,11 +62,11 @@ pub fn runs_in<'a>(
     resource: &'a Resource,
     task: &TaskLine,
 ) -> Result<Vec<&'a Use>, AllocError>
-    ensures { IfOk result (λ us. map (λ u. u.now) us.items ≡ runs_in resource.now task.now) }
+    ensures { IfOk result (λ us. seen us.items ≡ runs_in resource.now task.now) }
 {
     let mut runs = Vec::new(alloc);
     for item in &resource.items {
-        push_run(&mut runs, task.name.as_str(), item)?;
+        push_run(&mut runs, &task.name, item)?;
     }
     Ok(runs)
 }
@@ -95,7 +95,7 @@ fn draft_programs(
     types: &[ProgramType],
     runs: &[&Use],
 ) -> Result<Vec<ProgramInstance>, PlantFault>
-    ensures ok { IfOk result (λ ps. AllZip (IsProgramOf (programs_in types.now)) (map (λ u. u.now) runs.now) ps.items) }
+    ensures ok { IfOk result (λ ps. AllZip (IsProgramOf (programs_in types.now)) (seen runs.now) ps.items) }
     ensures tells { IfErr result (λ e. TellsOfName e.kind ⊥ ⊥) }
     ensures value { IfErr result IsWordFault }
 {
@@ -131,7 +131,7 @@ fn draft_tasks(
     resource: &Resource,
     tasks: &[&TaskLine],
 ) -> Result<Vec<TaskDraft>, PlantFault>
-    ensures ok { IfOk result (λ ds. AllZip (IsDraftOf (programs_in types.now) resource.now) (map (λ t. t.now) tasks.now) ds.items) }
+    ensures ok { IfOk result (λ ds. AllZip (IsDraftOf (programs_in types.now) resource.now) (seen tasks.now) ds.items) }
     ensures tells { IfErr result (λ e. TellsOfName e.kind ⊥ ⊥) }
     ensures value { IfErr result IsWordFault }
 {

@@ -3,7 +3,7 @@ use plant_text::Address;
 use power_flow::Kind;
 
 /// Where a bound input takes its values from.
-#[derive(Clone, Copy, Debug, PartialEq, Eq)]
+#[derive(Clone, Copy)]
 pub enum Origin {
     /// A field address.
     Field(Address),
@@ -12,7 +12,7 @@ pub enum Origin {
 }
 
 /// A bound input of a program: the place of the variable, its kind, and where it takes its values from.
-#[derive(Clone, Copy, Debug, PartialEq, Eq)]
+#[derive(Clone, Copy)]
 pub struct Feed {
     pub place: usize,
     pub kind: Kind,

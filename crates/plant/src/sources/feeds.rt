@@ -1,15 +1,12 @@
 //! The binds of instances, each with its input and its source found by name.
 
-ghost use Rattle.std.specs.Prelude.{◌≡◌, All, IfOk, OnOk, MatchOption, Some, None, length, map, IfErr};
+ghost use Rattle.std.specs.Prelude.{◌≡◌, All, IfOk, OnOk, length, IfErr};
 ghost use Rattle.plant.specs.NameFaults.{TellsOfName};
 ghost use Rattle.plant.specs.Steps.WordFaults.{IsWordFault};
 ghost use Rattle.std.specs.List.{AllZip, flat_map};
-ghost use Rattle.power_flow.specs.Names.{place_of};
 ghost use Rattle.plant.specs.Faultless.{binds_of, use_of, uses_of};
-ghost use Rattle.plant.specs.PlantValue.{PlantValue, input_kind_at};
-ghost use Rattle.plant.specs.StandsFor.{IsOrigin};
-ghost use Rattle.plant.specs.Steps.ReadParts.{input_kind_of};
-ghost use Rattle.plant.specs.Steps.Drafts.{drafted, IsOriginOf, IsImageKind, IsFeedOf, HasFeed, AreFeedsOf, IsUseResolved, Triples};
+ghost use Rattle.plant.specs.Steps.ReadParts.{FindsInput};
+ghost use Rattle.plant.specs.Steps.Drafts.{drafted, IsValue, IsOriginOf, IsFeedOf, HasFeed, AreAllFeeds, IsUseResolved};
 
 use crate::binding::kind_of_space;
 use crate::bodies::program_type::ProgramType;
@@ -40,7 +37,7 @@ fn find_value(
     instance: &Name,
     output: &Name,
 ) -> Result<(TaskRef, usize, Kind), PlantFault>
-    ensures ok { IfOk result (λ x. IsOrigin (drafted drafts.now) resource.now instance.now output.now x.0 x.1 × IsImageKind (drafted drafts.now) x.0 x.1 x.2) }
+    ensures ok { IfOk result (IsValue (drafted drafts.now) resource.now instance.now output.now) }
     ensures tells { IfErr result (λ e. TellsOfName e.kind ⊥ ⊥) }
     ensures value { IfErr result IsWordFault }
 {
@@ -82,7 +79,7 @@ fn find_origin(drafts: &[ResourceDraft], source: &SourceName) -> Result<(Origin,
 
 /// The place of an input, and its kind. `None`: the name is no input's.
 fn find_input(declarations: &Declarations, name: &str) -> Option<(usize, Kind)>
-    ensures { MatchOption result (input_kind_of declarations.now name.now ≡ None) (λ x. (place_of declarations.now name.now ≡ Some x.0) × (input_kind_at declarations.now x.0 ≡ Some x.1)) }
+    ensures { FindsInput declarations.now name.now result }
 {
     let place = declarations.position(name)?;
     match declarations.entry(place) {
@@ -161,7 +158,7 @@ pub fn feeds_of(
 ) -> Result<Vec<Vec<Feed>>, PlantFault>
     requires { length runs.now ≡ length programs.now }
     ensures many { IfOk result (λ fs. length fs.items ≡ length programs.now) }
-    ensures each { IfOk result (λ fs. Triples (AreFeedsOf (drafted drafts.now)) (map (λ u. u.now) runs.now) programs.now (map (λ f. f.items) fs.items)) }
+    ensures each { IfOk result (λ fs. AreAllFeeds (drafted drafts.now) runs.now programs.now fs.items) }
     ensures tells { IfErr result (λ e. TellsOfName e.kind ⊥ ⊥) }
     ensures value { IfErr result IsWordFault }
 {

@@ -1,9 +1,8 @@
 //! The outputs of programs, in the order of a task's image.
 
-ghost use Rattle.std.specs.Prelude.{◌≡◌, ◌++◌, ◌∷◌, [], IfOk, OnOk, slice_get};
-ghost use Rattle.power_flow.specs.declared.declarations.Declaration.{Declaration};
-ghost use Rattle.plant.specs.PlantValue.{outputs_of, outputs_in, output_at};
-ghost use Rattle.plant.specs.Steps.Outputs.{output_if};
+ghost use Rattle.std.specs.Prelude.{◌≡◌, ◌++◌, IfOk, OnOk};
+ghost use Rattle.plant.specs.PlantValue.{outputs_of, outputs_in};
+ghost use Rattle.plant.specs.Steps.Outputs.{output_placed, AddsOutput};
 
 use crate::program_instance::ProgramInstance;
 use crate::task_output::TaskOutput;
@@ -17,7 +16,7 @@ fn push_output(
     place: usize,
     declared: Declared,
 ) -> Result<(), AllocError>
-    ensures { OnOk result ((d : Declaration) → d.declared ≡ declared → outputs.new.items ≡ outputs.old.items ++ output_at program place d) }
+    ensures { OnOk result (AddsOutput outputs.old.items outputs.new.items program place declared) }
 {
     match declared {
         Declared::Output(kind) => {
@@ -39,7 +38,7 @@ fn push_place(
     declarations: &Declarations,
     place: usize,
 ) -> Result<(), AllocError>
-    ensures { OnOk result (outputs.new.items ≡ outputs.old.items ++ output_if program place (slice_get declarations.now place)) }
+    ensures { OnOk result (outputs.new.items ≡ outputs.old.items ++ output_placed program declarations.now place) }
 {
     match declarations.entry(place) {
         Some((_, declared)) => {

@@ -7,7 +7,7 @@ ghost use Rattle.std.specs.List.{AllZip};
 ghost use Rattle.plant.specs.declared.grammar.tree.Program.{Program};
 ghost use Rattle.plant.specs.Faultless.{tasks_of, uses_of};
 ghost use Rattle.plant.specs.StandsFor.{runs_in, task_value};
-ghost use Rattle.plant.specs.Steps.Drafts.{drafted, IsDraftOf, IsResourceDraft, IsReady, IsOnceBound, IsLinked, IsResourceLinked, Triples};
+ghost use Rattle.plant.specs.Steps.Drafts.{seen, drafted, AreDrafts, IsResourceDraft, IsReady, IsOnceBound, IsLinked, AreLinked, IsResourceLinked, Triples};
 
 use crate::grammar::tree::{Resource, TaskLine, Use};
 use crate::plant_fault::PlantFault;
@@ -43,8 +43,8 @@ fn link_runs(
     runs: &[&Use],
 ) -> Result<TaskCode, PlantFault>
     requires many { length runs.now ≡ length draft.now.programs }
-    requires once { All IsOnceBound (map (λ u. u.now) runs.now) }
-    ensures ok { IfOk result (λ c. IsLinked (drafted drafts.now) (map (λ u. u.now) runs.now) draft.now c) }
+    requires once { All IsOnceBound (seen runs.now) }
+    ensures ok { IfOk result (IsLinked (drafted drafts.now) (seen runs.now) draft.now) }
     ensures tells { IfErr result (λ e. TellsOfName e.kind ⊥ ⊥) }
     ensures value { IfErr result IsWordFault }
 {
@@ -85,10 +85,10 @@ fn link_tasks(
     tasks: &[&TaskLine],
     task_drafts: &[TaskDraft],
 ) -> Result<Vec<Arc<TaskCode>>, PlantFault>
-    requires known { (programs : List Program) × AllZip (IsDraftOf programs resource.now) (map (λ t. t.now) tasks.now) task_drafts.now }
+    requires known { AreDrafts resource.now (seen tasks.now) task_drafts.now }
     requires once { All IsOnceBound (uses_of resource.now) }
     ensures many { IfOk result (λ cs. length cs.items ≡ length tasks.now) }
-    ensures each { IfOk result (λ cs. Triples (λ t d c. IsLinked (drafted drafts.now) (runs_in resource.now t) d c) (map (λ t. t.now) tasks.now) task_drafts.now (map (λ c. c.value) cs.items)) }
+    ensures each { IfOk result (λ cs. AreLinked (drafted drafts.now) resource.now (seen tasks.now) task_drafts.now (map (λ c. c.value) cs.items)) }
     ensures tells { IfErr result (λ e. TellsOfName e.kind ⊥ ⊥) }
     ensures value { IfErr result IsWordFault }
 {
@@ -102,8 +102,8 @@ fn link_tasks(
 
 /// Tasks as they are declared.
 fn declared_tasks(alloc: Global, lines: &[&TaskLine]) -> Result<Vec<Task>, AllocError>
-    requires { All (λ t. 0 < t.interval) (map (λ t. t.now) lines.now) }
-    ensures { IfOk result (λ ts. ts.items ≡ map task_value (map (λ t. t.now) lines.now)) }
+    requires { All (λ t. 0 < t.interval) (seen lines.now) }
+    ensures { IfOk result (λ ts. ts.items ≡ map task_value (seen lines.now)) }
 {
     let mut tasks = Vec::new(alloc);
     for line in lines {

@@ -1,13 +1,12 @@
 //! What stands under a name: resources, instances and their outputs.
 
-ghost use Rattle.std.specs.Prelude.{◌≡◌, ◌↔◌, ℕ, IsTrue, AllPairs, MatchOption, slice_get};
-ghost use Rattle.power_flow.specs.declared.declarations.Kind.{Kind};
-ghost use Rattle.plant.specs.declared.task_output.TaskOutput.{TaskOutput};
-ghost use Rattle.plant.specs.Names.{IsAt};
+ghost use Rattle.std.specs.Prelude.{◌≡◌, ◌↔◌, IsTrue, AllPairs};
 ghost use Rattle.plant.specs.PlantValue.{ResourceValue, ProgramValue};
 ghost use Rattle.plant.specs.Steps.Drafts.{IsInstanceAt, IsPlacedAt, IsOutputAt};
+ghost use Rattle.plant.specs.Steps.Found.{FindsBoth, FindsAt};
 ghost use Rattle.plant.specs.Steps.Outputs.{StandsBefore, IsBefore};
 
+use crate::names::is_named;
 use crate::program_instance::ProgramInstance;
 use crate::sources::resource_draft::ResourceDraft;
 use crate::sources::task_draft::TaskDraft;
@@ -16,10 +15,10 @@ use power_flow::Kind;
 
 /// The position of the resource of a name.
 pub fn find_resource(resources: &[ResourceDraft], name: &str) -> Option<usize>
-    ensures { MatchOption result ((k : ℕ) (r : ResourceValue) → IsAt (λ (r : ResourceValue). r.name) resources.now name.now k r → ⊥) (λ k. (owner : ResourceValue) × IsAt (λ (r : ResourceValue). r.name) resources.now name.now k owner) }
+    ensures { FindsAt (λ (r : ResourceValue). r.name) resources.now name.now result }
 {
     for (k, resource) in resources.iter().enumerate() {
-        if name.eq_ignore_ascii_case(resource.name()) {
+        if is_named(name, resource.name()) {
             return Some(k);
         }
     }
@@ -28,10 +27,10 @@ pub fn find_resource(resources: &[ResourceDraft], name: &str) -> Option<usize>
 
 /// The position of the program of a name.
 fn find_program(programs: &[ProgramInstance], name: &str) -> Option<usize>
-    ensures { MatchOption result ((k : ℕ) (p : ProgramValue) → IsAt (λ (p : ProgramValue). p.name) programs.now name.now k p → ⊥) (λ k. (p : ProgramValue) × IsAt (λ (p : ProgramValue). p.name) programs.now name.now k p) }
+    ensures { FindsAt (λ (p : ProgramValue). p.name) programs.now name.now result }
 {
     for (k, program) in programs.iter().enumerate() {
-        if name.eq_ignore_ascii_case(program.name()) {
+        if is_named(name, program.name()) {
             return Some(k);
         }
     }
@@ -40,7 +39,7 @@ fn find_program(programs: &[ProgramInstance], name: &str) -> Option<usize>
 
 /// The positions of the task that runs the instance of a name, and of its program there.
 pub fn find_instance(tasks: &[TaskDraft], name: &str) -> Option<(usize, usize)>
-    ensures { MatchOption result ((k j : ℕ) → IsInstanceAt tasks.now name.now k j → ⊥) (λ x. IsInstanceAt tasks.now name.now x.0 x.1) }
+    ensures { FindsBoth (IsInstanceAt tasks.now name.now) result }
 {
     for (k, task) in tasks.iter().enumerate() {
         if let Some(program) = find_program(task.programs(), name) {
@@ -67,7 +66,7 @@ fn stands_at(output: TaskOutput, program: usize, place: usize) -> bool
 /// The position of the output of a program at a place, and its kind. Outputs stand in order of program and place, so that halving finds it.
 fn output_position(outputs: &[TaskOutput], program: usize, place: usize) -> Option<(usize, Kind)>
     requires { AllPairs IsBefore outputs.now }
-    ensures { MatchOption result ((k : ℕ) (kind : Kind) → IsPlacedAt outputs.now program place k kind → ⊥) (λ x. IsPlacedAt outputs.now program place x.0 x.1) }
+    ensures { FindsBoth (IsPlacedAt outputs.now program place) result }
 {
     let mut low = 0;
     let mut high = outputs.len();
@@ -88,7 +87,7 @@ fn output_position(outputs: &[TaskOutput], program: usize, place: usize) -> Opti
 
 /// The position in a task's image of the output that a name means in a program, and its kind. `None`: it means none.
 pub fn find_output(task: &TaskDraft, program: usize, name: &str) -> Option<(usize, Kind)>
-    ensures { MatchOption result ((k : ℕ) (kind : Kind) → IsOutputAt task.now program name.now k kind → ⊥) (λ x. IsOutputAt task.now program name.now x.0 x.1) }
+    ensures { FindsBoth (IsOutputAt task.now program name.now) result }
 {
     let owner = task.programs().get(program)?;
     let place = owner.ladder().declarations().position(name)?;

@@ -1,11 +1,10 @@
 //! The tasks from which a task takes, and its bindings once they are known.
 
-ghost use Rattle.std.specs.Prelude.{◌≡◌, ◌++◌, ◌∷◌, [], ℕ, List, Some, All, Contains, IfOk, OnOk, map, slice_get};
+ghost use Rattle.std.specs.Prelude.{◌≡◌, ◌∷◌, [], Some, All, Contains, IfOk, OnOk, map, slice_get};
 ghost use Rattle.std.specs.List.{AllZip, flat_map};
-ghost use Rattle.due_list.specs.declared.task_ref.TaskRef.{TaskRef};
-ghost use Rattle.plant.specs.PlantValue.{code_at};
+ghost use Rattle.plant.specs.PlantValue.{lists_of, code_at};
 ghost use Rattle.plant.specs.StandsFor.{firsts};
-ghost use Rattle.plant.specs.Steps.Drafts.{drafted, tasks_taken, all_taken, AreKindsOf, IsPlaced, IsTakenFrom, IsTaskOf};
+ghost use Rattle.plant.specs.Steps.Drafts.{drafted, AddsFirsts, tasks_taken, all_taken, AreKindsOf, IsPlaced, IsTakenFrom, IsTaskOf};
 
 use crate::binding::{Binding, Source};
 use crate::sources::feed::{Feed, Origin};
@@ -17,7 +16,7 @@ use std::alloc::{AllocError, Global};
 
 /// Adds a task if it isn't there yet.
 fn push_first(producers: &mut Vec<TaskRef>, task: TaskRef) -> Result<(), AllocError>
-    ensures { OnOk result ((ts : List TaskRef) → producers.old.items ≡ firsts ts → producers.new.items ≡ firsts (ts ++ task ∷ [])) }
+    ensures { OnOk result (AddsFirsts producers.old.items producers.new.items (task ∷ [])) }
 {
     if producers.contains(&task) {
         return Ok(());
@@ -28,7 +27,7 @@ fn push_first(producers: &mut Vec<TaskRef>, task: TaskRef) -> Result<(), AllocEr
 
 /// Adds the task from which a bound input takes.
 fn push_taken(producers: &mut Vec<TaskRef>, feed: &Feed) -> Result<(), AllocError>
-    ensures { OnOk result ((ts : List TaskRef) → producers.old.items ≡ firsts ts → producers.new.items ≡ firsts (ts ++ tasks_taken feed.now)) }
+    ensures { OnOk result (AddsFirsts producers.old.items producers.new.items (tasks_taken feed.now)) }
 {
     match feed.origin {
         Origin::Field(_) => Ok(()),
@@ -41,7 +40,7 @@ fn push_taken(producers: &mut Vec<TaskRef>, feed: &Feed) -> Result<(), AllocErro
 
 /// Adds the tasks from which the bound inputs of a program take.
 fn push_all_taken(producers: &mut Vec<TaskRef>, feeds: &[Feed]) -> Result<(), AllocError>
-    ensures { OnOk result ((ts : List TaskRef) → producers.old.items ≡ firsts ts → producers.new.items ≡ firsts (ts ++ flat_map tasks_taken feeds.now)) }
+    ensures { OnOk result (AddsFirsts producers.old.items producers.new.items (flat_map tasks_taken feeds.now)) }
 {
     for feed in feeds {
         push_taken(producers, feed)?;
@@ -51,7 +50,7 @@ fn push_all_taken(producers: &mut Vec<TaskRef>, feeds: &[Feed]) -> Result<(), Al
 
 /// The tasks from which the programs of a task take, in order of first mention.
 pub fn producers_of(alloc: Global, feeds: &[Vec<Feed>]) -> Result<Vec<TaskRef>, AllocError>
-    ensures { IfOk result (λ ps. ps.items ≡ firsts (all_taken (map (λ f. f.items) feeds.now))) }
+    ensures { IfOk result (λ ps. ps.items ≡ firsts (all_taken (lists_of feeds.now))) }
 {
     let mut producers = Vec::new(alloc);
     for of_program in feeds {
@@ -86,7 +85,7 @@ pub fn expected_of(
     producers: &[TaskRef],
 ) -> Result<Vec<Vec<Kind>>, AllocError>
     requires { All (IsTaskOf (drafted drafts.now)) producers.now }
-    ensures { IfOk result (λ es. AllZip (AreKindsOf (drafted drafts.now)) producers.now (map (λ ks. ks.items) es.items)) }
+    ensures { IfOk result (λ es. AllZip (AreKindsOf (drafted drafts.now)) producers.now (lists_of es.items)) }
 {
     let mut expected = Vec::new(alloc);
     for producer in producers {
@@ -149,8 +148,8 @@ pub fn bindings_of(
     producers: &[TaskRef],
     feeds: &[Vec<Feed>],
 ) -> Result<Vec<Vec<Binding>>, AllocError>
-    requires { All (All (IsTakenFrom producers.now)) (map (λ f. f.items) feeds.now) }
-    ensures { IfOk result (λ bs. AllZip (AllZip (IsPlaced producers.now)) (map (λ f. f.items) feeds.now) (map (λ b. b.items) bs.items)) }
+    requires { All (All (IsTakenFrom producers.now)) (lists_of feeds.now) }
+    ensures { IfOk result (λ bs. AllZip (AllZip (IsPlaced producers.now)) (lists_of feeds.now) (lists_of bs.items)) }
 {
     let mut all = Vec::new(alloc);
     for of_program in feeds {

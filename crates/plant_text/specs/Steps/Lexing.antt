@@ -1,5 +1,6 @@
 -- What the lexer asks of a text, and promises of one word.
-use Rattle.std.specs.Prelude.{ℕ, min, MatchOption, ◌≡◌, ◌≢◌, ◌==◌, ◌&&◌, ◌||◌, Bool, true, false, List, [], ◌∷◌, ◌++◌, Option, Some, take_while}
+use Rattle.std.specs.Prelude.{ℕ, ◌-◌, min, take, length, MatchOption, ◌≡◌, ◌≢◌, ◌==◌, ◌&&◌, ◌||◌, Bool, true, false, List, [], ◌∷◌, ◌++◌, Option, Some, take_while}
+use Rattle.std.specs.Str.{IsUtf8}
 use Rattle.plant_text.specs.declared.token.Token.{Token}
 use Rattle.plant_text.specs.declared.token.Token.TheVariants as token
 use Rattle.plant_text.specs.declared.token.Keyword.{Keyword}
@@ -33,17 +34,49 @@ may_run_on (c ∷ e ∷ more) = c == 40 && e == 42
 abbrev pub IsBlankLine : List ℕ → List ℕ → Type 0
 IsBlankLine text rest = (gap line_end : List ℕ) × (text ≡ gap ++ line_end ++ rest) × IsGap gap × (is_one_line gap ≡ true) × IsLineEnd line_end
 
+-- The text begins with no blank line.
+abbrev pub HasNoBlankLine : List ℕ → Type 0
+HasNoBlankLine text = (rest : List ℕ) → IsBlankLine text rest → ⊥
+
+-- The text is its first line, the line feed behind that, and the rest.
+abbrev pub IsBehindLine : List ℕ → List ℕ → Type 0
+IsBehindLine text rest = text ≡ first_line text ++ 10 ∷ rest
+
 -- The text is a body and the rest.
 abbrev pub IsBehindBody : List ℕ → List ℕ → Type 0
 IsBehindBody text rest = (body : List ℕ) × (text ≡ body ++ rest) × IsBody body
+
+-- The text is a body and the rest, which begins with a line of END_PROGRAM.
+abbrev pub IsBehindWholeBody : List ℕ → List ℕ → Type 0
+IsBehindWholeBody text rest = IsBehindBody text rest × IsEndLine (first_line rest)
+
+-- No body in front of the text ends before a line of END_PROGRAM.
+abbrev pub HasNoBody : List ℕ → Type 0
+HasNoBody text = (rest : List ℕ) → IsBehindBody text rest → IsEndLine (first_line rest) → ⊥
+
+-- the part of a text that lies before the rest
+abbrev pub part_before : List ℕ → List ℕ → List ℕ
+part_before text rest = take (length text - length rest) text
+
+-- this is the part, unless that isn't UTF-8
+abbrev pub IsPart : List ℕ → Option (List ℕ) → Type 0
+IsPart part body = MatchOption body (IsUtf8 part → ⊥) (λ b. b ≡ part)
 
 -- The rest of a line is blank, and then comes this body, before a line of END_PROGRAM.
 abbrev pub IsBodyThen : List ℕ → List ℕ → List ℕ → Type 0
 IsBodyThen text body rest = IsBlankLine text (body ++ rest) × IsBody body × IsEndLine (first_line rest)
 
+-- No body that is UTF-8 comes behind a rest of a line that is blank.
+abbrev pub HasNoBodyThen : List ℕ → Type 0
+HasNoBodyThen text = (body rest : List ℕ) → IsBodyThen text body rest → IsUtf8 body → ⊥
+
 -- The text is a word, and the rest behind it.
 abbrev pub IsWordThen : List ℕ → Token → List ℕ → Type 0
 IsWordThen text t rest = (word : List ℕ) × (text ≡ word ++ rest) × (word_of word ≡ t) × (is_parted word rest ≡ true)
+
+-- The text is a word, if it is a known one, and the rest behind it.
+abbrev pub IsKnownThen : List ℕ → Token → List ℕ → Type 0
+IsKnownThen text t rest = t ≢ token.Unknown → IsWordThen text t rest
 
 -- The text spells this word and then what the rest spells.
 abbrev pub IsFirstWord : List ℕ → Token → List ℕ → Type 0

@@ -11,11 +11,11 @@ use Rattle.std_blocks.specs.Pins.{field_value}
 use Rattle.power_flow.specs.declared.state.Instance.{Instance}
 use Rattle.power_flow.specs.declared.state.Slot.{Slot}
 use Rattle.power_flow.specs.declared.state.Slot.TheVariants.{Variable, Block}
-use Rattle.power_flow.specs.declared.source.Source.{Source}
-use Rattle.power_flow.specs.declared.source.Source.TheVariants as source
-use Rattle.power_flow.specs.declared.bound_box.BoundBox.{BoundBox}
-use Rattle.power_flow.specs.declared.bound_box.BoundOutput.{BoundOutput}
-use Rattle.power_flow.specs.Names.{is_true, int_or_zero, time_or_zero}
+use Rattle.power_flow.specs.declared.binding.source.Source.{Source}
+use Rattle.power_flow.specs.declared.binding.source.Source.TheVariants as source
+use Rattle.power_flow.specs.declared.binding.bound_box.BoundBox.{BoundBox}
+use Rattle.power_flow.specs.declared.binding.bound_box.BoundOutput.{BoundOutput}
+use Rattle.power_flow.specs.Values.{is_true, int_or_zero, time_or_zero}
 use Rattle.power_flow.specs.Steps.Sources.{source_value, source_bit}
 
 -- the source of a Boolean input

@@ -1,5 +1,5 @@
 -- What the names of a drawing with boxes are bound to.
-use Rattle.std.specs.Prelude.{◌≡◌, ℕ, ◌-◌, ◌<◌, List, [], ◌∷◌, Option, Some, None, MatchOption, slice_get}
+use Rattle.std.specs.Prelude.{◌≡◌, ℕ, ◌-◌, ◌<◌, List, [], ◌∷◌, Option, Some, None, All, Contains, MatchOption, slice_get}
 use Rattle.std.specs.List.{AllZip, filter_map}
 use Rattle.std.specs.Option.{option_and_then}
 use Rattle.ladder_text.specs.declared.place.Place.{Place}
@@ -11,13 +11,13 @@ use Rattle.network.specs.Links.{Diagram}
 use Rattle.std_blocks.specs.declared.block_type.BlockType.{BlockType}
 use Rattle.std_blocks.specs.declared.pin.Field.TheVariants.{Bit, Int, Time}
 use Rattle.std_blocks.specs.Pins.{pin_of, output}
-use Rattle.power_flow.specs.declared.declarations.Declaration.{Declaration}
-use Rattle.power_flow.specs.declared.declarations.Declared.TheVariants as declared
-use Rattle.power_flow.specs.declared.source.Source.{Source}
-use Rattle.power_flow.specs.declared.source.Source.TheVariants as source
-use Rattle.power_flow.specs.declared.bound_box.BoundBox.{BoundBox}
-use Rattle.power_flow.specs.declared.bound_box.BoundOutput.{BoundOutput}
-use Rattle.power_flow.specs.Names.{place_of}
+use Rattle.variable_binding.specs.declared.declarations.Declaration.{Declaration}
+use Rattle.variable_binding.specs.declared.declarations.Declared.TheVariants as declared
+use Rattle.power_flow.specs.declared.binding.source.Source.{Source}
+use Rattle.power_flow.specs.declared.binding.source.Source.TheVariants as source
+use Rattle.power_flow.specs.declared.binding.bound_box.BoundBox.{BoundBox}
+use Rattle.power_flow.specs.declared.binding.bound_box.BoundOutput.{BoundOutput}
+use Rattle.variable_binding.specs.Names.{place_of}
 use Rattle.power_flow.specs.Meaning.{IsDrawn}
 use Rattle.power_flow.specs.Steps.Sources.{name_source, pin_source}
 pub use Rattle.power_flow.specs.Waiting.{box_of, boxes_of}
@@ -80,3 +80,11 @@ pub record AreBoundBoxes (ds : List Declaration) (d : Diagram) (top : ℕ) (boxe
   pub bound : AllZip (IsBoundBox ds top) (boxes_of d.elements) boxes
   pub by_column : AreByColumn (boxes_of d.elements)
   pub apart : AreApartBoxes boxes
+
+-- the pins lie in these rows, counted from the topmost on
+abbrev pub ArePinsIn : ℕ → ℕ → DrawnBox → Type 0
+ArePinsIn top rows b = (pin : DrawnPin) → Contains b.pins pin → pin.row - top < rows
+
+-- the outputs of the boxes lie in these rows
+abbrev pub AreOutputsIn : ℕ → List BoundBox → Type 0
+AreOutputsIn rows boxes = All (λ e. All (λ o. o.row < rows) e.outputs.items) boxes

@@ -1,17 +1,18 @@
-use Rattle.std.specs.Prelude.{◌≡◌, ℕ, ◌+◌, ◌<◌, ◌≤◌, List, [], Option, Some, None, All, Contains, length}
-use Rattle.std.specs.List.{before_first, after_first, filter_map, enumerate_from, AllByRecursion}
+use Rattle.std.specs.Prelude.{◌≡◌, ℕ, ◌+◌, ◌<◌, ◌≤◌, List, Option, Some, None, All, Contains, length}
+use Rattle.std.specs.List.{filter_map, enumerate_from, AllByRecursion}
 use Rattle.ladder_text.specs.declared.place.Place.{Place}
 use Rattle.network.specs.declared.element.Element.{Element}
 use Rattle.network.specs.declared.element.Element.TheVariants.{Wire, Join, Upright, Contact, Coil, Box}
 use Rattle.network.specs.Links.{Diagram}
 use Rattle.network.specs.Apart.{Has}
 use Rattle.network.specs.GraphValue.{diagram, IsSoundNetwork}
-use Rattle.power_flow.specs.declared.declarations.Declaration.{Declaration}
-use Rattle.power_flow.specs.declared.circuit.Circuit.{Circuit}
-use Rattle.power_flow.specs.declared.step.Step.{Step}
-use Rattle.power_flow.specs.declared.step.Step.TheVariants as step
-use Rattle.power_flow.specs.declared.step.BoundCoil.{BoundCoil}
-use Rattle.power_flow.specs.Names.{place_of, is_dot}
+use Rattle.variable_binding.specs.declared.declarations.Declaration.{Declaration}
+use Rattle.power_flow.specs.declared.steps.circuit.Circuit.{Circuit}
+use Rattle.power_flow.specs.declared.steps.step.Step.{Step}
+use Rattle.power_flow.specs.declared.steps.step.Step.TheVariants as step
+use Rattle.power_flow.specs.declared.steps.step.BoundCoil.{BoundCoil}
+use Rattle.variable_binding.specs.Names.{place_of}
+use Rattle.variable_binding.specs.Steps.Named.{AreNamed}
 use Rattle.power_flow.specs.Steps.Columns.{AreSteps}
 use Rattle.power_flow.specs.Steps.Fused.{singles}
 use Rattle.power_flow.specs.Steps.BoxTable.{AreBoundBoxes}
@@ -41,12 +42,6 @@ pub record HasShape (c : Circuit) : Type 0 where
   pub coils_in : All (λ x. x.memory < length c.elements.items) c.coils.items
   pub outputs_in : All (λ e. All (λ o. o.row < c.rows) e.outputs.items) c.boxes.items
 
--- the name is that of the variable at this place
-pub record IsNamed (ds : List Declaration) (name : List ℕ) (place : ℕ) : Type 0 where
-  pub at : place_of ds name ≡ Some place
-  pub base : before_first is_dot name ≡ name
-  pub no_pin : after_first is_dot name ≡ []
-
 -- the element with the number k, bound if it is a coil
 abbrev pub bound_coil : List Declaration → ℕ → Element → Option BoundCoil
 bound_coil ds k (Wire at) = None
@@ -71,6 +66,7 @@ pub record IsCircuit (ds : List Declaration) (d : Diagram) (c : Circuit) : Type 
   pub fused : singles c.steps.items ≡ singles plain
   pub coils : c.coils.items ≡ bound_coils ds d.elements
   pub boxes : AreBoundBoxes ds d top c.boxes.items
+  pub named : AreNamed ds d.elements
 
 -- there is room for a scan of the circuit
 pub record HasRoom (links results : ℕ) (c : Circuit) : Type 0 where

@@ -3,15 +3,15 @@ use Rattle.std.specs.Prelude.{ℕ, ◌+◌, Bool, true, false}
 use Rattle.ladder_text.specs.declared.contact.ContactKind.{ContactKind}
 use Rattle.ladder_text.specs.declared.contact.ContactKind.TheVariants.{Plain, Negated as NegatedKind}
 use Rattle.std_blocks.specs.declared.pin.Field.TheVariants as field
-use Rattle.power_flow.specs.declared.bound_contact.Reads.{Reads}
-use Rattle.power_flow.specs.declared.bound_contact.Reads.TheVariants as reads
-use Rattle.power_flow.specs.declared.bound_contact.VariableContact.{VariableContact}
-use Rattle.power_flow.specs.declared.variable_pair.Negated.{Negated}
-use Rattle.power_flow.specs.declared.variable_pair.PairRows.{PairRows}
-use Rattle.power_flow.specs.declared.variable_pair.PairPlaces.{PairPlaces}
-use Rattle.power_flow.specs.declared.variable_pair.Negated.TheVariants.{Neither, First, Second, Both}
-use Rattle.power_flow.specs.declared.source.Source.{Source}
-use Rattle.power_flow.specs.declared.source.Source.TheVariants as source
+use Rattle.power_flow.specs.declared.binding.bound_contact.Reads.{Reads}
+use Rattle.power_flow.specs.declared.binding.bound_contact.Reads.TheVariants as reads
+use Rattle.power_flow.specs.declared.binding.bound_contact.VariableContact.{VariableContact}
+use Rattle.power_flow.specs.declared.steps.variable_pair.Negated.{Negated}
+use Rattle.power_flow.specs.declared.steps.variable_pair.PairRows.{PairRows}
+use Rattle.power_flow.specs.declared.steps.variable_pair.PairPlaces.{PairPlaces}
+use Rattle.power_flow.specs.declared.steps.variable_pair.Negated.TheVariants.{Neither, First, Second, Both}
+use Rattle.power_flow.specs.declared.binding.source.Source.{Source}
+use Rattle.power_flow.specs.declared.binding.source.Source.TheVariants as source
 
 -- a contact with its name bound: its row from the network's topmost row on, the source of its state, and the number of its memory
 pub record ContactValue : Type 0 where

@@ -1,7 +1,7 @@
 -- Steps that stand for two.
 use Rattle.std.specs.Prelude.{◌+◌, List, [], ◌∷◌, ◌++◌}
-use Rattle.power_flow.specs.declared.step.Step.{Step}
-use Rattle.power_flow.specs.declared.step.Step.TheVariants as step
+use Rattle.power_flow.specs.declared.steps.step.Step.{Step}
+use Rattle.power_flow.specs.declared.steps.step.Step.TheVariants as step
 use Rattle.power_flow.specs.Steps.Contacts.{contact_of, first_of, second_of}
 
 -- the steps that a step stands for

@@ -5,14 +5,14 @@ use Rattle.std_blocks.specs.declared.value.Value.{Value}
 use Rattle.std_blocks.specs.declared.value.Value.TheVariants.{Bool as BoolValue}
 use Rattle.power_flow.specs.declared.state.Instance.{Instance}
 use Rattle.power_flow.specs.declared.state.Slot.{Slot}
-use Rattle.power_flow.specs.declared.bound_box.BoundBox.{BoundBox}
-use Rattle.power_flow.specs.declared.step.Step.{Step}
-use Rattle.power_flow.specs.declared.step.Step.TheVariants as step
+use Rattle.power_flow.specs.declared.binding.bound_box.BoundBox.{BoundBox}
+use Rattle.power_flow.specs.declared.steps.step.Step.{Step}
+use Rattle.power_flow.specs.declared.steps.step.Step.TheVariants as step
 use Rattle.power_flow.specs.Steps.Contacts.{ContactValue, contact_of, first_of, second_of}
-use Rattle.power_flow.specs.declared.variable_pair.PairRows.{PairRows}
-use Rattle.power_flow.specs.declared.variable_pair.PairPlaces.{PairPlaces}
-use Rattle.power_flow.specs.declared.step.BoundCoil.{BoundCoil}
-use Rattle.power_flow.specs.Names.{is_true}
+use Rattle.power_flow.specs.declared.steps.variable_pair.PairRows.{PairRows}
+use Rattle.power_flow.specs.declared.steps.variable_pair.PairPlaces.{PairPlaces}
+use Rattle.power_flow.specs.declared.steps.step.BoundCoil.{BoundCoil}
+use Rattle.power_flow.specs.Values.{is_true}
 use Rattle.power_flow.specs.Meaning.{bit_at, contact_conducts, contact_memory, coil_value, coil_memory, store}
 use Rattle.power_flow.specs.Steps.Sources.{source_value}
 use Rattle.power_flow.specs.Steps.BoxSteps.{box_result, IsMarked, HasOutput}

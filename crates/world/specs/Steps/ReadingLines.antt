@@ -1,8 +1,8 @@
 -- Steps of proofs: the keyword of a line.
 use Rattle.std.specs.Prelude.{ℕ, List, [], ◌∷◌, codes, Option}
 use Rattle.words.specs.Chars.{same_word, first_that}
-use Rattle.world.specs.declared.schedule.read_line.Keyword.{Keyword}
-use Rattle.world.specs.declared.schedule.read_line.Keyword.TheVariants as key
+use Rattle.world.specs.declared.read_line.Keyword.{Keyword}
+use Rattle.world.specs.declared.read_line.Keyword.TheVariants as key
 
 -- the keyword that a word is
 unfoldable pub keyword_of : List ℕ → Option Keyword

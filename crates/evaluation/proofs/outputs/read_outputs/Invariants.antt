@@ -1,5 +1,5 @@
 use Rattle.std.proofs.Common.{◌≡◌, Some, map, take}
-use Rattle.power_flow.specs.StateValue.{kind_of}
+use Rattle.variable_binding.specs.Kinds.{kind_of}
 use Rattle.plant.specs.declared.task_output.TaskOutput.{TaskOutput}
 use Rattle.evaluation.specs.Meaning.{output_value}
 use Rattle.evaluation.proofs.outputs.read_outputs.Given as goal

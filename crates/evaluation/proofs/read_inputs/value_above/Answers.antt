@@ -1,13 +1,12 @@
 use Rattle.std.proofs.Common.{Some, pos, ap, arith, ◌∙◌}
 use Rattle.std.specs.Option.{option_map}
 use Rattle.std.proofs.lemmas.Int.{ints}
-use Rattle.evaluation.proofs.InputLemmas.{number_within}
 use Rattle.evaluation.proofs.read_inputs.value_above.Goals as goal
 
 pub overflow_cast-result : goal.overflow_cast-result
-overflow_cast-result c = let h = number_within 32767 c.args.digits.now c.in-Some.number c.in-Some.ensures in omega (arith, ints)
+overflow_cast-result c = let h = c.in-Some.ensures.within in omega (arith, ints)
 
 pub returns-in-Some : goal.returns-in-Some
 returns-in-Some c =
-    let h = number_within 32767 c.args.digits.now c.in-Some.number c.in-Some.ensures in
-    ap (λ n. Some n) (omega (arith, ints)) ∙ ap (option_map (λ n. pos n)) c.in-Some.ensures
+    let h = c.in-Some.ensures.within in
+    ap (λ n. Some n) (omega (arith, ints)) ∙ ap (option_map (λ n. pos n)) c.in-Some.ensures.value

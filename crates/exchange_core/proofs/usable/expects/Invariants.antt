@@ -1,5 +1,5 @@
 use Rattle.std.proofs.Common.{◌≡◌, ◌<◌, ℕ, Some, map}
-use Rattle.power_flow.specs.StateValue.{kind_of}
+use Rattle.variable_binding.specs.Kinds.{kind_of}
 use Rattle.plant.specs.PlantValue.{CodeValue, code_at}
 use Rattle.exchange_core.specs.Steps.Knowing.{ExpectsOf}
 use Rattle.exchange_core.proofs.usable.expects.Given as goal

@@ -1,5 +1,5 @@
 use Rattle.std.proofs.Common.{◌≡◌, ◌<◌, ℕ, Some, map, slice_get}
-use Rattle.power_flow.specs.StateValue.{kind_of}
+use Rattle.variable_binding.specs.Kinds.{kind_of}
 use Rattle.plant.specs.PlantValue.{expected_at}
 use Rattle.exchange_core.proofs.usable.expects_of.Given as goal
 

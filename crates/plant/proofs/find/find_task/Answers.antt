@@ -1,25 +1,20 @@
-use Rattle.std.proofs.Common.{◌≡◌, ◌∙◌, ◌<◌, ap, sym, true, arith}
-use Rattle.std.specs.Str.{str_to_ascii_lowercase}
+use Rattle.std.proofs.Common.{◌<◌, IsTrue, arith}
 use Rattle.std.proofs.lemmas.Option.{slice_get_within}
+use Rattle.plant.specs.Names.{is_named}
 use Rattle.plant.specs.PlantValue.{TaskValue}
-use Rattle.plant.proofs.NameLemmas.{at_index, named_alike, same_letters, none_more}
+use Rattle.plant.proofs.NameLemmas.{at_index, none_more}
 use Rattle.plant.proofs.find.find_task.Goals as goal
 
-pub returns-then-eq_ignore_ascii_case : goal.returns-then-eq_ignore_ascii_case
-returns-then-eq_ignore_ascii_case c =
+pub returns-then-is_named : goal.returns-then-is_named
+returns-then-is_named c =
     let found = c.index-tasks-k.result in
-    let letters = c.eq_ignore_ascii_case.ensures.test.0 c.if-eq_ignore_ascii_case.true ∙ ap str_to_ascii_lowercase c.name.ensures in
-    (found, at_index (λ (t : TaskValue). t.name) c.args.tasks.now c.args.name.now c.loop-k.k found c.loop-k-test.true c.index-tasks-k.is (named_alike c.args.name.now found.name letters))
+    let named : IsTrue (is_named c.args.name.now found.name) = cc in
+    (found, at_index (λ (t : TaskValue). t.name) c.args.tasks.now c.args.name.now c.loop-k.k found c.loop-k-test.true c.index-tasks-k.is named)
 
 pub loop-k-preserved : goal.loop-k-preserved
 loop-k-preserved c =
-    let found = c.index-tasks-k.result in
-    none_more (λ (t : TaskValue). t.name) c.args.tasks.now c.args.name.now c.loop-k.k found c.index-tasks-k.is
-    (λ named.
-    let yes : c.eq_ignore_ascii_case.result ≡ true = c.eq_ignore_ascii_case.ensures.test.1 (same_letters c.args.name.now found.name named ∙ ap str_to_ascii_lowercase (sym c.name.ensures)) in
-    let no = c.if-eq_ignore_ascii_case.false in
-    cc)
-    c.loop-k.invariant
+    let no = c.if-is_named.false in
+    none_more (λ (t : TaskValue). t.name) c.args.tasks.now c.args.name.now c.loop-k.k c.index-tasks-k.result c.index-tasks-k.is (λ named. cc) c.loop-k.invariant
 
 pub returns : goal.returns
 returns c = λ k t at.

@@ -1,10 +1,10 @@
-use Rattle.std.proofs.Common.{◌≡◌, ◌++◌, ◌∷◌, [], ℕ, ◌+◌, List, Some, slice_get, map, take, ◌∙◌, ap, sym, arith}
+use Rattle.std.proofs.Common.{◌≡◌, ◌++◌, ◌∷◌, [], ℕ, ◌+◌, ◌<◌, List, Some, None, length, slice_get, map, take, ◌∙◌, ap, sym, arith}
 use Rattle.std.proofs.lemmas.List.{map_push, take_more}
 use Rattle.std.proofs.lemmas.Option.{get_or_from_slice_get, slice_get_within}
-use Rattle.power_flow.specs.declared.declarations.Declaration.{Declaration}
+use Rattle.lists.proofs.Places.{element_at}
+use Rattle.variable_binding.specs.declared.declarations.Declaration.{Declaration}
 use Rattle.power_flow.specs.declared.state.Slot.{Slot}
 use Rattle.power_flow.specs.First.{slot_first}
-use Rattle.power_flow.proofs.Places.{slice_get_none}
 use Rattle.power_flow.proofs.state.first_slots.Goals as goal
 use Rattle.power_flow.proofs.state.first_slots.Goals.{in-Some+in_ok-push, in_default}
 
@@ -18,6 +18,9 @@ step ds k e done found is =
     ∙ ap (λ (d : Declaration). map (λ (e : Declaration). slot_first e.declared) (take k ds ++ d ∷ [])) (sym here)
     ∙ ap (map (λ (e : Declaration). slot_first e.declared)) (sym more)
 
+nothing_at : (ds : List Declaration) (k : ℕ) → k < length ds → slice_get ds k ≡ None → ⊥
+nothing_at ds k lt none = let some = element_at ds k lt in let is = some.1 in cc
+
 pub loop-place-preserved : goal.loop-place-preserved
 loop-place-preserved c = elim c.match-entry.branch [
   | in-Some+in_ok-push w ↦
@@ -27,5 +30,5 @@ loop-place-preserved c = elim c.match-entry.branch [
       let z = w.slots-is in
       let b = w.initial.ensures in
       cc
-  | in_default w ↦ absurd (slice_get_none c.args.declarations.now c.loop-place.place (omega arith) w.in_default.ensures)
+  | in_default w ↦ absurd (nothing_at c.args.declarations.now c.loop-place.place (omega arith) w.in_default.ensures)
 ]

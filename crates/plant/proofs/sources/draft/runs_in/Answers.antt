@@ -1,12 +1,10 @@
-use Rattle.std.proofs.Common.{map}
-use Rattle.std.specs.Borrow.{Bor}
 use Rattle.plant.specs.declared.grammar.tree.Use.{Use}
 use Rattle.plant.specs.Names.{is_named}
+use Rattle.plant.specs.Steps.Drafts.{seen}
 use Rattle.plant.proofs.DraftLemmas.{runs_more}
 use Rattle.plant.proofs.sources.draft.runs_in.Goals as goal
 
 pub loop-item-preserved : goal.loop-item-preserved
 loop-item-preserved c =
-    let pushed = rw c.as_str.ensures at c.in_ok-push_run.ensures in
     rw (← c.deref-item-items.ensures.value) (runs_more (λ (u : Use). is_named u.task c.args.task.now.name) c.deref-item-items.result.now c.loop-item.item-index c.item-item.result
-    (map (λ (u : Bor Use). u.now) c.loop-item.runs.items) (map (λ (u : Bor Use). u.now) c.push_run.new.runs.items) c.loop-item-test.true c.item-item.is (rw c.deref-item-items.ensures.value c.loop-item.invariant) pushed)
+    (seen c.loop-item.runs.items) (seen c.push_run.new.runs.items) c.loop-item-test.true c.item-item.is (rw c.deref-item-items.ensures.value c.loop-item.invariant) c.in_ok-push_run.ensures)

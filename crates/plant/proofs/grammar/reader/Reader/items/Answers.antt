@@ -6,9 +6,9 @@ use Rattle.plant.proofs.WordLists.{words_more, items_done}
 use Rattle.plant.proofs.ItemLemmas.{items_more, tally_more}
 use Rattle.plant.specs.declared.grammar.tree.Item.{Item}
 use Rattle.plant.specs.NameFaults.{IsOfName, RefusesItems}
-use Rattle.plant.specs.Steps.Declaring.{BeginWith}
+use Rattle.plant.specs.Steps.Declaring.{BeginWith, RefusesItem}
 use Rattle.lists.proofs.Results.{kept_fault}
-use Rattle.plant.proofs.RefusedPlaces.{RefusesItem, item_refused}
+use Rattle.plant.proofs.RefusedPlaces.{item_refused}
 use Rattle.plant.proofs.grammar.reader.Reader.items.Goals as goal
 
 pub items-preserved : goal.items-preserved
@@ -33,4 +33,4 @@ returns-in_err-item-clause-names c =
     let fault = c.in_err-item.field-0.0 in
     kept_fault fault (λ f. IsOfName f.kind → BeginWith (RefusesItems f.kind c.args.tally.now.instances c.args.tally.now.binds) (c.args.self.now.words)) c.from_residual.result c.from_residual.ensures.1
     (λ of. item_refused fault.kind c.args.tally.now c.items.tally c.items.items.items c.args.self.now.words c.items.self.words c.items.invariant.words c.items.invariant.tally
-    (subst (λ (xs : List Item). BeginWith (RefusesItem fault.kind c.items.tally xs) c.items.self.words) c.deref.ensures.value (c.in_err-item.ensures.names of)))
+    (subst (λ (xs : List Item). BeginWith (RefusesItem c.items.tally xs fault.kind) c.items.self.words) c.deref.ensures.value (c.in_err-item.ensures.names of)))

@@ -1,8 +1,5 @@
-use Rattle.plant.specs.NameFaults.{IsOfName, RefusesResource}
-use Rattle.plant.specs.Steps.Declaring.{RepeatsName, IsNameNext, BeginWith}
-use Rattle.plant.proofs.RefusedNames.{tells_with}
-use Rattle.plant.specs.declared.grammar.tree.Resource.{Resource}
-use Rattle.std.proofs.Common.{◌≤◌, length}
+use Rattle.plant.specs.NameFaults.{RefusesResource}
+use Rattle.plant.specs.Steps.Declaring.{BeginRefused}
 use Rattle.lists.proofs.Results.{kept_fault}
 use Rattle.plant.proofs.RefusedPlaces.{resource_named, in_resource}
 use Rattle.plant.proofs.grammar.reader.Reader.resource.Goals as goal
@@ -10,17 +7,15 @@ use Rattle.plant.proofs.grammar.reader.Reader.resource.Goals as goal
 pub returns-in_err-name-clause-names : goal.returns-in_err-name-clause-names
 returns-in_err-name-clause-names c =
     let fault = c.in_err-name.field-0.0 in
-    let before = c.args.before.now in
-    let words = c.keyword.new.self.words in
-    kept_fault fault (λ f. IsOfName f.kind → BeginWith (RefusesResource f.kind c.args.tally.now.instances c.args.tally.now.binds c.args.before.now) (c.args.self.now.words)) c.from_residual-in_err-name.result c.from_residual-in_err-name.ensures.1
-    (λ of. resource_named fault.kind c.args.tally.now.instances c.args.tally.now.binds c.args.before.now c.args.self.now.words c.keyword.new.self.words c.in_ok-keyword.ensures.ok
-    (tells_with fault.kind (RepeatsName (λ (x : Resource). x.name) before words) (16 ≤ length before) (RepeatsName (λ (x : Resource). x.name) before words) (IsNameNext words × (16 ≤ length before)) (λ twice. twice)
-    (λ full. (c.in_err-name.ensures.next of, full)) c.in_err-name.ensures.tells) of)
+    let tally = c.args.tally.now in
+    kept_fault fault (BeginRefused (λ k. RefusesResource k tally.instances tally.binds c.args.before.now) c.args.self.now.words) c.from_residual-in_err-name.result c.from_residual-in_err-name.ensures.1
+    (λ of. resource_named fault.kind tally.instances tally.binds c.args.before.now c.args.self.now.words c.keyword.new.self.words c.in_ok-keyword.ensures.ok c.in_err-name.ensures.tells of)
 
 pub returns-in_err-items-clause-names : goal.returns-in_err-items-clause-names
 returns-in_err-items-clause-names c =
     let fault = c.in_err-items.field-0.0 in
-    kept_fault fault (λ f. IsOfName f.kind → BeginWith (RefusesResource f.kind c.args.tally.now.instances c.args.tally.now.binds c.args.before.now) (c.args.self.now.words)) c.from_residual-in_err-items.result c.from_residual-in_err-items.ensures.1
-    (λ of. in_resource fault.kind c.args.tally.now.instances c.args.tally.now.binds c.args.before.now c.in_ok-name.name c.in_ok-node.node
+    let tally = c.args.tally.now in
+    kept_fault fault (BeginRefused (λ k. RefusesResource k tally.instances tally.binds c.args.before.now) c.args.self.now.words) c.from_residual-in_err-items.result c.from_residual-in_err-items.ensures.1
+    (λ of. in_resource fault.kind tally.instances tally.binds c.args.before.now c.in_ok-name.name c.in_ok-node.node
     c.args.self.now.words c.keyword.new.self.words c.resource_name.new.self.words c.keyword-2.new.self.words c.name-2.new.self.words
     c.in_ok-keyword.ensures.ok c.in_ok-name.ensures.ok c.in_ok-keyword-2.ensures.ok c.in_ok-node.ensures.ok (c.in_err-items.ensures.names of))

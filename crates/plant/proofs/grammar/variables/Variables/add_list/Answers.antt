@@ -1,5 +1,5 @@
 use Rattle.std.proofs.Common.{◌≡◌, ◌⊎◌, ◌∷◌, ◌++◌, ◌+◌, ◌≤◌, ℕ, List, length, arith}
-use Rattle.power_flow.specs.declared.declarations.Declaration.{Declaration}
+use Rattle.variable_binding.specs.declared.declarations.Declaration.{Declaration}
 use Rattle.plant.specs.Faultless.{declared_as}
 use Rattle.plant.specs.NameFaults.{IsOfName, TellsOfName, IsTaken}
 use Rattle.lists.proofs.Results.{kept_fault}

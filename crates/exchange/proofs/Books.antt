@@ -1,0 +1,6 @@
+-- The tests and the tables of a book.
+pub mod Deciding
+pub mod Misfits
+pub mod Ledgers
+pub mod Ledgered
+pub mod Entered

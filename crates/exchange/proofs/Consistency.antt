@@ -1,0 +1,6 @@
+-- Each entry of a log fits those before it, and the log is consistent: the theorem.
+pub mod Fitting
+pub mod NotBack
+pub mod AllFits
+pub mod Places
+pub mod Makings

@@ -1,0 +1,8 @@
+-- Histories of lawful events, and their logs.
+pub mod Tasks
+pub mod Lists
+pub mod Latest
+pub mod Names
+pub mod Steps
+pub mod OneLog
+pub mod Pairs

@@ -1,0 +1,5 @@
+pub mod Histories
+pub mod Worlds
+pub mod Consistency
+pub mod Books
+pub mod Schedules

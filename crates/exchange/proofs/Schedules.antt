@@ -1,0 +1,5 @@
+-- The schedule of a book makes its entries again.
+pub mod Suiting
+pub mod Scheduling
+pub mod Replaying
+pub mod Replayable

@@ -1,0 +1,7 @@
+-- Cores and worlds follow the history.
+pub mod Takes
+pub mod Moves
+pub mod Events
+pub mod Starts
+pub mod Answered
+pub mod Holding

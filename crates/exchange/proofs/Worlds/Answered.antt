@@ -1,0 +1,79 @@
+-- What a delivery answers.
+use Rattle.std.proofs.Common.{◌≡◌, ◌≢◌, ◌⊎◌, inl, inr, ℕ, suc, ◌<◌, ◌≤◌, ◌-◌, get_or, Bool, true, false, List, ◌∷◌, length, Option, Some, None, refl, ap, sym, ◌∙◌, subst, arith}
+use Rattle.std.specs.Prelude.{slice_get, reverse}
+use Rattle.std.proofs.lemmas.Bool.{ne_eqb, false≢true, cases_eq}
+use Rattle.std.proofs.lemmas.List.{reverse-reverse}
+use Rattle.std.proofs.lemmas.Option.{none-some, same_Some, slice_get_read}
+use Rattle.plant.specs.PlantValue.{IsSoundPlant}
+use Rattle.evaluation.specs.Names.{precedes}
+use Rattle.evaluation.specs.Meaning.{Evaluated}
+use Rattle.exchange_core.specs.declared.accepted.Accepted.{Accepted}
+use Rattle.exchange_core.specs.declared.accepted.Accepted.TheVariants.{Taken, Old, Unused}
+use Rattle.exchange_core.specs.Held.{known}
+use Rattle.exchange_core.specs.CoreValue.{CoreValue, IsAccepted, is_greater}
+use Rattle.exchange.specs.declared.event.Event.{Event}
+use Rattle.exchange.specs.declared.event.Event.TheVariants.{Deliver}
+use Rattle.exchange.specs.History.{Setting, history_of}
+use Rattle.exchange.specs.Run.{IsLog, latest, message}
+use Rattle.exchange.specs.Laws.{greater, held_with}
+use Rattle.exchange.specs.World.{WorldValue, node_takes}
+use Rattle.exchange.specs.Step.{Answers, IsDelivered}
+use Rattle.exchange.specs.Nodes.{IsNode, IsWorld}
+use Rattle.exchange.proofs.Histories.Tasks.{same_task-itself}
+use Rattle.exchange.proofs.Histories.Latest.{not_itself}
+use Rattle.exchange.proofs.Histories.Names.{log-rises}
+use Rattle.exchange.proofs.Histories.Steps.{latest-deliver}
+use Rattle.exchange.proofs.Worlds.Takes.{usable-takes}
+use Rattle.exchange.proofs.Worlds.Moves.{message-usable, stays, grows, run-message}
+use Rattle.exchange.proofs.Worlds.Events.{world_data}
+
+same : (x : Evaluated) (o : Option Evaluated) → held_with x.name.task o (Some x) ≡ greater o x
+same x o = rw (same_task-itself x.name.task) refl
+
+moved : (x : Evaluated) (o : Option Evaluated) → is_greater o x.name ≡ true → Some x ≢ o
+moved x None e = λ f. none-some x (sym f)
+moved x (Some y) e = λ f. false≢true (sym (not_itself x.name) ∙ subst (λ z. precedes z.name x.name ≡ true) (sym (same_Some x y f)) e)
+
+pub delivered : (s : Setting) (events : List Event) (log : List Evaluated) (n k : ℕ) (core new : CoreValue) (x : Evaluated) (a : Accepted) → IsSoundPlant s.plant
+    → IsLog s (history_of s events) (reverse log) → IsNode s (history_of s events) (reverse log) n core → message (reverse log) k ≡ Some x → IsAccepted core new x a
+    → IsDelivered (world_data s events log) k n a
+delivered s events log n k core new x a sound is node came done = (x, came, by a done) where
+  h : List Event
+  h = history_of s events
+
+  now : Option Evaluated
+  now = latest n h x.name.task (reverse log)
+
+  after : x.name.task.resource ≢ n → latest n (Deliver k n ∷ h) x.name.task (reverse log) ≡ greater now x
+  after away =
+      latest-deliver n k h x.name.task (reverse log) (ne_eqb x.name.task.resource n away) (log-rises s x.name.task h (reverse log) is)
+      ∙ ap (held_with x.name.task now) came
+      ∙ same x now
+
+  keeps : x.name.task.resource ≢ n → node_takes s.plant n x.name.task ≡ true → known core.table x.name.task ≡ now
+  keeps away takes = node.keeps x.name.task ∙ rw (ne_eqb x.name.task.resource n away, takes)
+
+  unused : ((x.name.task.resource ≢ n) → node_takes s.plant n x.name.task ≡ true → ⊥) → (x.name.task.resource ≡ n) ⊎ (x.name.task.resource ≢ n) → (b : Bool) → node_takes s.plant n x.name.task ≡ b
+      → (x.name.task.resource ≡ n) ⊎ (node_takes s.plant n x.name.task ≡ false)
+  unused none (inl own) b e = inl own
+  unused none (inr away) false e = inr e
+  unused none (inr away) true e = absurd (none away e)
+
+  by : (a : Accepted) → IsAccepted core new x a → Answers (world_data s events log) k n x.name.task a
+  by Unused d = unused (λ away takes. d.0 (message-usable s h (reverse log) n k core x sound is node came away takes)) (cases_eq x.name.task.resource n) (node_takes s.plant n x.name.task) refl
+  by Taken d =
+      let parts = usable-takes s h (reverse log) n core x node d.0 in
+      let g : is_greater now x.name ≡ true = subst (λ o. is_greater o x.name ≡ true) (keeps parts.0 parts.1) d.1 in
+      (parts.0, parts.1, (λ e. moved x now g (sym (after parts.0 ∙ grows x now g) ∙ e)))
+  by Old d =
+      let parts = usable-takes s h (reverse log) n core x node d.0 in
+      let g : is_greater now x.name ≡ false = subst (λ o. is_greater o x.name ≡ false) (keeps parts.0 parts.1) d.1 in
+      (parts.0, parts.1, after parts.0 ∙ stays x now g)
+
+pub delivered_at : (old : WorldValue) (s : Setting) (events : List Event) (log : List Evaluated) (cores : List CoreValue) (m n : ℕ) (core new : CoreValue) (x : Evaluated) (a : Accepted) → world_data s events log ≡ old
+    → IsWorld s events log cores → n < length cores → core ≡ get_or cores n core → 1 ≤ m → m ≤ length log → x ≡ get_or log (m - 1) x → IsAccepted core new x a → IsDelivered old m n a
+delivered_at old s events log cores m n core new x a view world inside at low high came done =
+    let e : suc (m - 1) ≡ m = omega arith in
+    let arrived : message (reverse log) (suc (m - 1)) ≡ Some x = sym (run-message (reverse log) (m - 1)) ∙ ap (λ l. slice_get l (m - 1)) (reverse-reverse log) ∙ slice_get_read log (length log) (m - 1) x refl (omega (arith, low, high)) came in
+    subst (λ w. IsDelivered w m n a) view
+    (delivered s events log n m core new x a world.planned world.logged (world.nodes n core (slice_get_read cores (length cores) n core refl inside at)) (subst (λ k. message (reverse log) k ≡ Some x) e arrived) done)

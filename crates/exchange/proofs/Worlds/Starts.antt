@@ -1,0 +1,146 @@
+-- A world before its first event, and after a list of events.
+use Rattle.std.proofs.Common.{◌≡◌, ◌⊎◌, inl, inr, ℕ, suc, ◌+◌, ◌<◌, get_or, Bool, true, false, cond, ◌&&◌, ◌||◌, List, [], ◌∷◌, ◌++◌, length, Option, Some, None, refl, ap, sym, ◌∙◌, subst, arith, eqb, ltb, leb, take}
+use Rattle.std.specs.Prelude.{is_some, slice_get, slice_index}
+use Rattle.std.proofs.lemmas.Bool.{eqb-true, lt-ltb, le-ltb}
+use Rattle.std.proofs.lemmas.Bool.Decides.{nat_tests}
+use Rattle.std.proofs.lemmas.List.{append_assoc, append-nil, take_more}
+use Rattle.std.proofs.lemmas.Option.{none-some, same_Some, slice_get_read}
+use Rattle.plant.specs.PlantValue.{CodeValue, PlantValue, code_at, IsSoundPlant}
+use Rattle.evaluation.specs.Meaning.{Evaluated}
+use Rattle.exchange_core.specs.CoreValue.{CoreValue, fresh_core}
+use Rattle.exchange.specs.declared.event.Event.{Event}
+use Rattle.exchange.specs.declared.event.Event.TheVariants.{Evaluate, Deliver, Restart}
+use Rattle.exchange.specs.declared.world_fault.WorldFault.{WorldFault}
+use Rattle.exchange.specs.declared.world_fault.WorldFault.TheVariants.{NoSuchResource, NoSuchTask, NoSuchMessage, NumbersSpent, IncarnationsSpent, Memory}
+use Rattle.exchange.specs.History.{Setting, history_of, after_events, is_lawful, number_of, lawful_among}
+use Rattle.exchange.specs.World.{WorldValue, node_takes}
+use Rattle.exchange.specs.Step.{IsDone, IsCause, IsLawfulAt, Follows}
+use Rattle.exchange.specs.Nodes.{IsNode, IsWorld}
+use Rattle.exchange.specs.Steps.Fresh.{AreFresh}
+use Rattle.exchange.proofs.Histories.Tasks.{resource_exists}
+use Rattle.exchange.proofs.Worlds.Moves.{slice_get-push, history-one_more, fresh_shape, fresh_known}
+
+pub fresh-none : (plant : PlantValue) (first : List ℕ) (max_number : ℕ) → AreFresh plant first max_number 0 []
+fresh-none plant first max_number = record { sized = refl; fresh = λ n core e. absurd (none-some core e) }
+
+pub fresh-more : (plant : PlantValue) (first : List ℕ) (max_number count : ℕ) (cores : List CoreValue) (core : CoreValue) → AreFresh plant first max_number count cores → core ≡ fresh_core plant count (slice_index first count) max_number
+    → AreFresh plant first max_number (count + 1) (cores ++ core ∷ [])
+fresh-more plant first max_number count cores core all new =
+    record { sized = length-push cores ∙ ap (λ n. n + 1) all.sized; fresh = λ n c e. by n c (eqb (suc n) (suc (length cores))) refl (sym (slice_get-push cores core n) ∙ e) } where
+      length-push : (xs : List CoreValue) → length (xs ++ core ∷ []) ≡ length xs + 1
+      length-push [] = refl
+      length-push (x ∷ xs) = rw (length-push xs) (omega arith)
+
+      by : (n : ℕ) (c : CoreValue) (b : Bool) → eqb (suc n) (suc (length cores)) ≡ b → cond b (Some core) (slice_get cores n) ≡ Some c → c ≡ fresh_core plant n (slice_index first n) max_number
+      by n c false e f = all.fresh n c f
+      by n c true e f =
+          let at : count ≡ n = omega (arith, all.sized, eqb-true (suc n) (suc (length cores)) e) in
+          sym (same_Some core c f) ∙ new ∙ ap (λ m. fresh_core plant m (slice_index first m) max_number) at
+
+-- the world of no events
+pub world-new : (s : Setting) (cores : List CoreValue) → IsSoundPlant s.plant → length s.first ≡ length s.plant.resources → AreFresh s.plant s.first s.max_number (length s.plant.resources) cores → IsWorld s [] [] cores
+world-new s cores planned firsts all =
+    record { planned = planned; logged = tt; firsts = firsts; sized = all.sized; nodes = λ n core e. subst (IsNode s [] [] n) (sym (all.fresh n core e)) (node n) } where
+      nothing : (b : Bool) → ◌≡◌ {A = Option Evaluated} (cond b None None) None
+      nothing true = refl
+      nothing false = refl
+
+      node : (n : ℕ) → IsNode s [] [] n (fresh_core s.plant n (slice_index s.first n) s.max_number)
+      node n = record {
+        plant = refl;
+        resource = refl;
+        max_number = refl;
+        incarnation = omega arith;
+        shaped = fresh_shape s.plant;
+        keeps = λ p. fresh_known s.plant p ∙ sym (nothing (eqb p.resource n || node_takes s.plant n p));
+      }
+
+-- the history after the lawful ones of some events
+pub history-lawful : (s : Setting) (events es : List Event) → history_of s (events ++ lawful_among s (history_of s events) es) ≡ after_events s (history_of s events) es
+history-lawful s events [] = ap (history_of s) (append-nil events)
+history-lawful s events (e ∷ es) = by (history-lawful s events es) (history-lawful s (events ++ e ∷ []) es) (is_lawful s (history_of s events) e) refl where
+  by : history_of s (events ++ lawful_among s (history_of s events) es) ≡ after_events s (history_of s events) es
+      → history_of s ((events ++ e ∷ []) ++ lawful_among s (history_of s (events ++ e ∷ [])) es) ≡ after_events s (history_of s (events ++ e ∷ [])) es
+      → (b : Bool) → is_lawful s (history_of s events) e ≡ b
+      → history_of s (events ++ cond b (e ∷ lawful_among s (e ∷ history_of s events) es) (lawful_among s (history_of s events) es)) ≡ after_events s (cond b (e ∷ history_of s events) (history_of s events)) es
+  by ih new false f = ih
+  by ih new true f =
+      let more : history_of s (events ++ e ∷ []) ≡ e ∷ history_of s events = history-one_more s events e f in
+      ap (history_of s) (sym (append_assoc events (e ∷ []) (lawful_among s (e ∷ history_of s events) es)))
+      ∙ subst (λ h. history_of s ((events ++ e ∷ []) ++ lawful_among s h es) ≡ after_events s h es) more new
+
+pub lawful-more : (s : Setting) (h xs : List Event) (ys : List Event) → lawful_among s h (xs ++ ys) ≡ lawful_among s h xs ++ lawful_among s (after_events s h xs) ys
+lawful-more s h [] ys = refl
+lawful-more s h (x ∷ xs) ys = by (lawful-more s (x ∷ h) xs ys) (lawful-more s h xs ys) (is_lawful s h x) where
+  by : lawful_among s (x ∷ h) (xs ++ ys) ≡ lawful_among s (x ∷ h) xs ++ lawful_among s (after_events s (x ∷ h) xs) ys
+      → lawful_among s h (xs ++ ys) ≡ lawful_among s h xs ++ lawful_among s (after_events s h xs) ys
+      → (b : Bool) → cond b (x ∷ lawful_among s (x ∷ h) (xs ++ ys)) (lawful_among s h (xs ++ ys))
+      ≡ cond b (x ∷ lawful_among s (x ∷ h) xs) (lawful_among s h xs) ++ lawful_among s (after_events s (cond b (x ∷ h) h) xs) ys
+  by a b true = ap (λ l. x ∷ l) a
+  by a b false = b
+
+pub follows-none : (w : WorldValue) → Follows w w []
+follows-none w = record { setting = refl; events = sym (append-nil w.events) }
+
+pub follows-more : (a b c : WorldValue) (xs ys : List Event) → Follows a b xs → Follows b c ys → Follows a c (xs ++ ys)
+follows-more a b c xs ys f g =
+    record {
+      setting = g.setting ∙ f.setting;
+      events =
+          g.events
+          ∙ subst (λ s. b.events ++ lawful_among s (history_of s b.events) ys ≡ a.events ++ lawful_among a.setting h (xs ++ ys)) (sym f.setting)
+          (subst (λ l. l ++ lawful_among a.setting (history_of a.setting l) ys ≡ a.events ++ lawful_among a.setting h (xs ++ ys)) (sym f.events)
+          (ap (λ g. (a.events ++ lawful_among a.setting h xs) ++ lawful_among a.setting g ys) (history-lawful a.setting a.events xs)
+          ∙ append_assoc a.events (lawful_among a.setting h xs) (lawful_among a.setting (after_events a.setting h xs) ys)
+          ∙ ap (λ l. a.events ++ l) (sym (lawful-more a.setting h xs ys))));
+    } where
+      h : List Event
+      h = history_of a.setting a.events
+
+pub follows-done : (a b : WorldValue) (e : Event) (log : List Evaluated) → IsDone a b e log → Follows a b (e ∷ [])
+follows-done a b e log done = record { setting = ap (λ w. w.setting) done.is; events = ap (λ w. w.events) done.is ∙ rw done.lawful }
+
+pub follows-refused : (a b : WorldValue) (e : Event) → b ≡ a → is_lawful a.setting (history_of a.setting a.events) e ≡ false → Follows a b (e ∷ [])
+follows-refused a b e same refused = record { setting = ap (λ w. w.setting) same; events = ap (λ w. w.events) same ∙ sym (append-nil a.events) ∙ rw refused }
+
+unmade : (m made : ℕ) → (m ≡ 0) ⊎ (made < m) → (leb 1 m && leb m made) ≡ false
+unmade m made (inl e) = grind (arith, nat_tests)
+unmade m made (inr e) = grind (arith, nat_tests)
+
+-- what is refused for another cause than memory is unlawful
+pub unlawful : (w : WorldValue) (e : Event) (f : WorldFault) → (f ≡ Memory → ⊥) → IsCause w e f → is_lawful w.setting (history_of w.setting w.events) e ≡ false
+unlawful w (Evaluate k t dt inputs) NoSuchResource ne c = by (code_at w.setting.plant t) refl where
+  by : (o : Option CodeValue) → code_at w.setting.plant t ≡ o → (is_some o && ltb (number_of t (history_of w.setting w.events)) w.setting.max_number) ≡ false
+  by None g = refl
+  by (Some code) g = absurd (let here = resource_exists w.setting.plant t code g in omega (arith, c))
+unlawful w (Evaluate k t dt inputs) NoSuchTask ne c = rw c.1
+unlawful w (Evaluate k t dt inputs) NumbersSpent ne c = rw c.0 (le-ltb _ _ c.1)
+unlawful w (Evaluate k t dt inputs) NoSuchMessage ne c = absurd c
+unlawful w (Evaluate k t dt inputs) IncarnationsSpent ne c = absurd c
+unlawful w (Evaluate k t dt inputs) Memory ne c = absurd (ne refl)
+unlawful w (Deliver m n) NoSuchResource ne c = rw (le-ltb n (length w.setting.plant.resources) c)
+unlawful w (Deliver m n) NoSuchMessage ne c = rw (lt-ltb n (length w.setting.plant.resources) c.0) (unmade m _ c.1)
+unlawful w (Deliver m n) NoSuchTask ne c = absurd c
+unlawful w (Deliver m n) NumbersSpent ne c = absurd c
+unlawful w (Deliver m n) IncarnationsSpent ne c = absurd c
+unlawful w (Deliver m n) Memory ne c = absurd (ne refl)
+unlawful w (Restart n) NoSuchResource ne c = rw (le-ltb n (length w.setting.plant.resources) c)
+unlawful w (Restart n) IncarnationsSpent ne c = rw (lt-ltb n (length w.setting.plant.resources) c.0) (le-ltb _ _ c.1)
+unlawful w (Restart n) NoSuchTask ne c = absurd c
+unlawful w (Restart n) NoSuchMessage ne c = absurd c
+unlawful w (Restart n) NumbersSpent ne c = absurd c
+unlawful w (Restart n) Memory ne c = absurd (ne refl)
+
+pub follows-next : (a b c : WorldValue) (es : List Event) (i : ℕ) (e : Event) → i < length es → e ≡ get_or es i e → Follows a b (take i es) → Follows b c (e ∷ []) → Follows a c (take (i + 1) es)
+follows-next a b c es i e inside at f g =
+    subst (Follows a c) (ap (λ x. take i es ++ x ∷ []) at ∙ sym (take_more es i e inside)) (follows-more a b c (take i es) (e ∷ []) f g)
+
+-- memory is wanting only for a lawful event
+pub memory-lawful : (w : WorldValue) (e : Event) → IsCause w e Memory → is_lawful w.setting (history_of w.setting w.events) e ≡ true
+memory-lawful w (Evaluate k t dt inputs) h = h
+memory-lawful w (Deliver m n) h = h
+memory-lawful w (Restart n) h = h
+
+pub stopped-at : (a b : WorldValue) (es : List Event) (i : ℕ) (e : Event) → i < length es → e ≡ get_or es i e → b ≡ a → is_lawful a.setting (history_of a.setting a.events) e ≡ true → IsLawfulAt b es i
+stopped-at a b es i e inside at same lawful =
+    (e, slice_get_read es (length es) i e refl inside at, subst (λ (w : WorldValue). is_lawful w.setting (history_of w.setting w.events) e ≡ true) (sym same) lawful)

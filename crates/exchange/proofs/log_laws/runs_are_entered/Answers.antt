@@ -1,0 +1,6 @@
+-- The log of a run is entered without a misfit.
+use Rattle.exchange.proofs.Books.Entered.{runs-entered}
+use Rattle.exchange.proofs.log_laws.runs_are_entered.Goals as goal
+
+pub returns : goal.returns
+returns c = runs-entered

@@ -1,0 +1,13 @@
+use Rattle.std.proofs.Common.{◌≡◌, false, sym, subst}
+use Rattle.exchange.specs.declared.event.Event.{Event}
+use Rattle.exchange.specs.declared.event.Event.TheVariants.{Evaluate}
+use Rattle.exchange.specs.History.{is_lawful}
+use Rattle.exchange.specs.Step.{history_at}
+use Rattle.exchange.proofs.Worlds.Starts.{unlawful}
+use Rattle.exchange.proofs.plant_world.World.step.Goals as goal
+
+pub returns-in-Err-clause-refused : goal.returns-in-Err-clause-refused
+returns-in-Err-clause-refused c =
+    let w = c.args.self.now in
+    λ other. subst (λ (e : Event). is_lawful w.setting (history_at w) e ≡ false) (sym c.in-Evaluate.is)
+    (unlawful w (Evaluate c.in-Evaluate.ticket c.in-Evaluate.task c.in-Evaluate.dt c.in-Evaluate.inputs) c.in-Err.fault other c.in-Err.ensures.cause)

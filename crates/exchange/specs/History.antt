@@ -1,0 +1,74 @@
+-- What has happened in a plant: lists of events. A history has the newest event first.
+use Rattle.std.specs.Prelude.{ℕ, ◌+◌, ◌==◌, ◌&&◌, Bool, true, false, nat_lt, nat_le, List, [], ◌∷◌, is_some, slice_index, length, filter, if◌then◌else◌}
+use Rattle.due_list.specs.declared.task_ref.TaskRef.{TaskRef}
+use Rattle.plant.specs.PlantValue.{PlantValue, code_at}
+use Rattle.exchange_core.specs.Last.{same_task}
+use Rattle.exchange.specs.declared.event.Event.{Event}
+use Rattle.exchange.specs.declared.event.Event.TheVariants.{Evaluate, Deliver, Restart}
+
+-- What a run is over: the plant, the first incarnation of each resource, and the greatest number of an evaluation.
+pub record Setting : Type 0 where
+  pub plant : PlantValue
+  pub first : List ℕ
+  pub max_number : ℕ
+
+-- an evaluation
+abbrev pub is_evaluate : Event → Bool
+is_evaluate (Evaluate ticket task dt inputs) = true
+is_evaluate (Deliver message resource) = false
+is_evaluate (Restart resource) = false
+
+-- an evaluation of this task
+abbrev pub is_evaluate_of : TaskRef → Event → Bool
+is_evaluate_of t (Evaluate ticket task dt inputs) = same_task task t
+is_evaluate_of t (Deliver message resource) = false
+is_evaluate_of t (Restart resource) = false
+
+-- a restart of this resource
+abbrev pub is_restart_of : ℕ → Event → Bool
+is_restart_of n (Evaluate ticket task dt inputs) = false
+is_restart_of n (Deliver message resource) = false
+is_restart_of n (Restart resource) = resource == n
+
+-- a delivery of message k to resource n
+abbrev pub is_deliver_of : ℕ → ℕ → Event → Bool
+is_deliver_of k n (Evaluate ticket task dt inputs) = false
+is_deliver_of k n (Deliver message resource) = message == k && resource == n
+is_deliver_of k n (Restart resource) = false
+
+-- the events after the last restart of a resource; all of them where there is none
+abbrev pub since_restart : ℕ → List Event → List Event
+since_restart n [] = []
+since_restart n (e ∷ earlier) = if is_restart_of n e then [] else e ∷ since_restart n earlier
+
+-- how many evaluations were made
+abbrev pub made_count : List Event → ℕ
+made_count history = length (filter is_evaluate history)
+
+-- how many evaluations of a task were made since its resource's last restart
+abbrev pub number_of : TaskRef → List Event → ℕ
+number_of t history = length (filter (is_evaluate_of t) (since_restart t.resource history))
+
+-- the present incarnation of a resource: its first one, and one more for each restart
+abbrev pub incarnation_of : Setting → ℕ → List Event → ℕ
+incarnation_of s n history = slice_index s.first n + length (filter (is_restart_of n) history)
+
+-- An event is lawful after a history: its resource, task or message exists, and its task's numbers or its resource's incarnations aren't spent.
+abbrev pub is_lawful : Setting → List Event → Event → Bool
+is_lawful s history (Evaluate ticket task dt inputs) = is_some (code_at s.plant task) && nat_lt (number_of task history) s.max_number
+is_lawful s history (Deliver message resource) = nat_lt resource (length s.plant.resources) && (nat_le 1 message && nat_le message (made_count history))
+is_lawful s history (Restart resource) = nat_lt resource (length s.plant.resources) && nat_lt (incarnation_of s resource history) 4294967295
+
+-- the history after these events: each lawful one has happened, every other one has changed nothing
+abbrev pub after_events : Setting → List Event → List Event → List Event
+after_events s history [] = history
+after_events s history (e ∷ es) = after_events s (if is_lawful s history e then e ∷ history else history) es
+
+-- the history of a list of events from the beginning
+abbrev pub history_of : Setting → List Event → List Event
+history_of s events = after_events s [] events
+
+-- the lawful ones among these events, in their order, after a history
+abbrev pub lawful_among : Setting → List Event → List Event → List Event
+lawful_among s history [] = []
+lawful_among s history (e ∷ es) = if is_lawful s history e then e ∷ lawful_among s (e ∷ history) es else lawful_among s history es

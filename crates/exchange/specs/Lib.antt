@@ -1,0 +1,13 @@
+pub mod History
+pub mod Run
+pub mod World
+pub mod Nodes
+pub mod Step
+pub mod Laws
+pub mod Fits
+pub mod Book
+pub mod Schedule
+pub mod Consistent
+pub mod Theorem
+pub mod BookLaws
+pub mod Steps

@@ -1,0 +1,27 @@
+-- What a world is, to a contract: its setting, the events that were done, and the evaluations made, in their order.
+use Rattle.std.specs.Prelude.{ℕ, ◌==◌, Bool, List, Option, None, reverse, if◌then◌else◌}
+use Rattle.std.specs.List.{list_any}
+use Rattle.due_list.specs.declared.task_ref.TaskRef.{TaskRef}
+use Rattle.plant.specs.PlantValue.{CodeValue, PlantValue, codes_at}
+use Rattle.evaluation.specs.Meaning.{Evaluated}
+use Rattle.exchange_core.specs.Last.{same_task}
+use Rattle.exchange.specs.declared.event.Event.{Event}
+use Rattle.exchange.specs.History.{Setting, history_of}
+use Rattle.exchange.specs.Run.{latest}
+
+pub record WorldValue : Type 0 where
+  pub setting : Setting
+  pub events : List Event
+  pub log : List Evaluated
+
+-- whether some task of resource n takes from task p
+abbrev pub node_takes : PlantValue → ℕ → TaskRef → Bool
+node_takes plant n p = list_any (λ (c : CodeValue). list_any (λ q. same_task q p) c.producers) (codes_at plant n)
+
+-- the latest of task p at resource n after all events
+abbrev pub latest_at : WorldValue → ℕ → TaskRef → Option Evaluated
+latest_at w n p = latest n (history_of w.setting w.events) p (reverse w.log)
+
+-- what resource n holds of task p: the latest, if p is another resource's and n takes from it; else nothing
+abbrev pub held_at : WorldValue → ℕ → TaskRef → Option Evaluated
+held_at w n p = if p.resource == n then None else if node_takes w.setting.plant n p then latest_at w n p else None

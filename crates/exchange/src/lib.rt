@@ -1,0 +1,23 @@
+//! The exchange of all resources of a plant, in one thread, by a list of events; and the book of the evaluations made.
+#![tactic(auto)]
+
+mod book;
+mod done;
+mod event;
+mod laws;
+mod log_laws;
+mod plant_world;
+mod replay_laws;
+mod world_fault;
+
+pub use book::{Book, Misfit};
+pub use done::Done;
+pub use event::Event;
+pub use laws::{keeping_the_greatest_keeps_the_latest, one_run, pairs_rise};
+pub use log_laws::{
+    books_are_consistent, consistency_theorem, holders_agree, runs_are_consistent,
+    runs_are_entered, runs_fit,
+};
+pub use plant_world::World;
+pub use replay_laws::{runs_could_be_made, runs_replay};
+pub use world_fault::WorldFault;

@@ -1,0 +1,35 @@
+// What holds of the log of every list of events: the consistency theorem, and that the log is a book.
+ghost use Rattle.exchange.specs.BookLaws.{RunsAreConsistent, RunsFit, RunsAreEntered, BooksAreConsistent, HoldersAgree};
+ghost use Rattle.exchange.specs.Theorem.{ConsistencyTheorem};
+
+/// The consistency theorem. Over every list of evaluations, deliveries and restarts, all inputs that an evaluation takes from one producing task come from one evaluation of it,
+/// the latest that reached the taker's resource since that one's restart (initial values if none did); evaluations taken never go back within an incarnation;
+/// resources that hold one evaluation hold equal values; each evaluation's outputs are the ladder meaning of its inputs and stored state.
+pub fn consistency_theorem()
+    ensures { ConsistencyTheorem }
+{}
+
+/// A run is a consistent log.
+pub fn runs_are_consistent()
+    ensures { RunsAreConsistent }
+{}
+
+/// Each evaluation of a run fits those before it.
+pub fn runs_fit()
+    ensures { RunsFit }
+{}
+
+/// Entering the log of a run into a book, in order, is refused for nothing but want of memory.
+pub fn runs_are_entered()
+    ensures { RunsAreEntered }
+{}
+
+/// Where events make the entries of a book again, the consistency theorem holds of these events and entries, and the entries are a consistent log.
+pub fn books_are_consistent()
+    ensures { BooksAreConsistent }
+{}
+
+/// Resources that hold one evaluation hold equal values.
+pub fn holders_agree()
+    ensures { HoldersAgree }
+{}

@@ -1,0 +1,301 @@
+use crate::done::Done;
+use crate::event::Event;
+use crate::world_fault::WorldFault;
+use evaluation::{Frame, Inputs};
+use exchange_core::{Accepted, Core, CoreFault, EvalFault};
+use plant::{Plant, TaskRef};
+use std::alloc::{AllocError, Global};
+use std::marker::Model;
+use std::sync::Arc;
+
+/// The resources of a plant, the events that were done to them, and the evaluations that they made.
+#[derive(Drop)]
+pub struct World {
+    plant: Arc<Plant>,
+    first: Vec<u32>,
+    max_number: u32,
+    cores: Vec<Core>,
+    log: Vec<Frame>,
+    events: Vec<Event>,
+}
+
+impl Model for World {
+    ghost use Rattle.exchange.specs.World.{WorldValue};
+    ghost use Rattle.exchange.specs.Nodes.{IsWorld};
+
+    ghost Value = { WorldValue };
+
+    ghost view = { λ w. record { setting = record { plant = w.plant.value; first = w.first.items; max_number = w.max_number }; events = w.events.items; log = w.log.items } };
+
+    ghost invariant = { λ w. IsWorld (record { plant = w.plant.value; first = w.first.items; max_number = w.max_number }) w.events.items w.log.items w.cores.items };
+}
+
+ghost use Rattle.std.specs.Prelude.{◌≡◌, ◌≢◌, ◌∷◌, [], true, false, IfOk, IfErr, IfSome, OnOk, OnErr, Contains, length, reverse, take};
+ghost use Rattle.std.specs.Option.{option_copied};
+ghost use Rattle.exchange.specs.declared.event.Event.TheVariants.{Evaluate, Deliver, Restart};
+ghost use Rattle.exchange.specs.declared.world_fault.WorldFault.TheVariants.{Memory};
+ghost use Rattle.exchange.specs.History.{incarnation_of, is_lawful};
+ghost use Rattle.exchange.specs.Run.{IsRun};
+ghost use Rattle.exchange.specs.World.{held_at};
+ghost use Rattle.exchange.specs.Fits.{AllFit};
+ghost use Rattle.exchange.specs.Consistent.{IsConsistent};
+ghost use Rattle.exchange.specs.Theorem.{IsDataConsistent};
+ghost use Rattle.exchange.specs.Step.{history_at, IsDone, IsEvaluatedNow, IsCause, IsStep, IsDelivered, IsLawfulAt, Follows};
+ghost use Rattle.exchange.specs.Steps.Fresh.{AreFresh};
+
+/// The cores before the first event.
+fn fresh_cores(
+    alloc: Global,
+    plant: &Arc<Plant>,
+    first: &[u32],
+    max_number: u32,
+) -> Result<Vec<Core>, AllocError>
+    requires { length first.now ≡ length plant.now.value.resources }
+    ensures { IfOk result (λ cores. AreFresh plant.now.value first.now max_number (length plant.now.value.resources) cores.items) }
+{
+    let mut cores = Vec::with_capacity(alloc, plant.resources())?;
+    for resource in 0..plant.resources() {
+        let shared = Arc::try_clone(plant)?;
+        let core = match Core::new(alloc, shared, resource, first[resource], max_number) {
+            Ok(core) => core,
+            Err(CoreFault::NoSuchResource) => unreachable!(),
+            Err(CoreFault::Memory) => return Err(AllocError),
+        };
+        cores.push(core)?;
+    }
+    Ok(cores)
+}
+
+impl World {
+    /// A plant before the first event. Each resource is in its first incarnation; the numbers of evaluations go up to `max_number`.
+    pub fn new(
+        alloc: Global,
+        plant: Arc<Plant>,
+        first: &[u32],
+        max_number: u32,
+    ) -> Result<World, AllocError>
+        requires { length first.now ≡ length plant.value.resources }
+        ensures { IfOk result (λ w. w ≡ record { setting = record { plant = plant.value; first = first.now; max_number = max_number }; events = []; log = [] }) }
+    {
+        let resources = plant.resources();
+        prove!(resources == first.len());
+        let cores = fresh_cores(alloc, &plant, first, max_number)?;
+        let first = Vec::from_slice(alloc, first)?;
+        Ok(World {
+            plant,
+            first,
+            max_number,
+            cores,
+            log: Vec::new(alloc),
+            events: Vec::new(alloc),
+        })
+    }
+
+    /// Does one event, if it is lawful; else it answers why it isn't, and changes nothing. Want of memory is looked at last.
+    #[tactic(auto, using(crate::proofs::Worlds::Starts::unlawful))]
+    pub fn step(&mut self, alloc: Global, event: &Event) -> Result<Done, WorldFault>
+        ensures done { IfOk result (IsStep self.old self.new event.now) }
+        ensures err { OnErr result (self.new ≡ self.old) }
+        ensures cause { IfErr result (IsCause self.old event.now) }
+        ensures refused { IfErr result (λ fault. fault ≢ Memory → is_lawful self.old.setting (history_at self.old) event.now ≡ false) }
+    {
+        match event {
+            Event::Evaluate {
+                ticket,
+                task,
+                dt,
+                inputs,
+            } => match self.evaluate(alloc, *ticket, *task, *dt, inputs) {
+                Ok(message) => Ok(Done::Evaluated { message }),
+                Err(fault) => Err(fault),
+            },
+            Event::Deliver { message, resource } => match self.deliver(*message, *resource) {
+                Ok(accepted) => Ok(Done::Delivered { accepted }),
+                Err(fault) => Err(fault),
+            },
+            Event::Restart { resource } => match self.restart(alloc, *resource) {
+                Ok(incarnation) => Ok(Done::Restarted { incarnation }),
+                Err(fault) => Err(fault),
+            },
+        }
+    }
+
+    /// Does these events, but for the unlawful ones. Without memory it tells the place, from 0, of the first lawful one that isn't done; those before it are.
+    pub fn run(&mut self, alloc: Global, events: &[Event]) -> Result<(), usize>
+        ensures ok { OnOk result (Follows self.old self.new events.now) }
+        ensures err { IfErr result (λ i. Follows self.old self.new (take i events.now)) }
+        ensures stopped { IfErr result (λ i. IsLawfulAt self.new events.now i) }
+    {
+        for i in 0..events.len() {
+            match self.go(alloc, &events[i]) {
+                Ok(()) => {}
+                Err(_) => return Err(i),
+            }
+        }
+        Ok(())
+    }
+
+    /// The evaluations made, in the order of their making: at every moment the run of the events. It is a consistent log, each evaluation fits those before it,
+    /// and each took the latest of each producer that had reached its resource (`consistency_theorem`).
+    pub fn log(&self) -> &[Frame]
+        ensures value { result.now ≡ self.now.log }
+        ensures run { IsRun self.now.setting self.now.events self.now.log }
+        ensures consistent { IsConsistent self.now.setting.plant (reverse self.now.log) }
+        ensures fit { AllFit self.now.setting.first (reverse self.now.log) }
+        ensures data { IsDataConsistent self.now.setting self.now.events self.now.log }
+    {
+        self.log.as_slice()
+    }
+
+    /// The events that were done, in order.
+    pub fn events(&self) -> &[Event]
+        ensures { result.now ≡ self.now.events }
+    {
+        self.events.as_slice()
+    }
+
+    /// What a resource holds of a task: for a task of another resource from which it takes, the latest that reached it, which is an entry of the log; nothing for every other one.
+    pub fn held(&self, resource: usize, task: TaskRef) -> Option<&Frame>
+        ensures latest { option_copied result ≡ held_at self.now resource task }
+        ensures entry { IfSome result (λ frame. Contains self.now.log frame.now) }
+    {
+        match self.cores.get(resource) {
+            None => None,
+            Some(core) => core.held(task),
+        }
+    }
+
+    /// The plant.
+    pub fn plant(&self) -> &Plant
+        ensures { result.now ≡ self.now.setting.plant }
+    {
+        &self.plant
+    }
+
+    /// Does one event if it is lawful.
+    fn go(&mut self, alloc: Global, event: &Event) -> Result<(), AllocError>
+        ensures ok { OnOk result (Follows self.old self.new (event.now ∷ [])) }
+        ensures err { OnErr result (self.new ≡ self.old) }
+        ensures lawful { OnErr result (is_lawful self.old.setting (history_at self.old) event.now ≡ true) }
+    {
+        match self.step(alloc, event) {
+            Ok(_) => Ok(()),
+            Err(fault) => match fault {
+                WorldFault::Memory => Err(AllocError),
+                _ => Ok(()),
+            },
+        }
+    }
+
+    /// Evaluates a task on its resource.
+    fn evaluate(
+        &mut self,
+        alloc: Global,
+        ticket: u64,
+        task: TaskRef,
+        dt: u32,
+        inputs: &Inputs,
+    ) -> Result<u64, WorldFault>
+        ensures done { IfOk result (IsEvaluatedNow self.old self.new (Evaluate ticket task dt inputs.now)) }
+        ensures err { OnErr result (self.new ≡ self.old) }
+        ensures cause { IfErr result (IsCause self.old (Evaluate ticket task dt inputs.now)) }
+    {
+        if task.resource >= self.cores.len() {
+            return Err(WorldFault::NoSuchResource);
+        }
+        match self.cores[task.resource].next_number(task.task) {
+            Ok(_) => {}
+            Err(EvalFault::NoSuchTask) => return Err(WorldFault::NoSuchTask),
+            Err(EvalFault::NumbersSpent) => return Err(WorldFault::NumbersSpent),
+            Err(EvalFault::Memory) => unreachable!(),
+        }
+        let Ok(copy) = inputs.try_copy() else {
+            return Err(WorldFault::Memory);
+        };
+        if self.events.reserve(1).is_err() {
+            return Err(WorldFault::Memory);
+        }
+        if self.log.reserve(1).is_err() {
+            return Err(WorldFault::Memory);
+        }
+        let core = &mut self.cores[task.resource];
+        let Ok(frame) = core.evaluate(alloc, ticket, task.task, dt, inputs) else {
+            return Err(WorldFault::Memory);
+        };
+        let Ok(()) = self.log.push(frame) else {
+            unreachable!()
+        };
+        let event = Event::Evaluate {
+            ticket,
+            task,
+            dt,
+            inputs: copy,
+        };
+        match self.events.push(event) {
+            Ok(()) => Ok(self.log.len() as u64),
+            Err(_) => unreachable!(),
+        }
+    }
+
+    /// Delivers a message to a resource.
+    fn deliver(&mut self, message: u64, resource: usize) -> Result<Accepted, WorldFault>
+        ensures done { OnOk result (IsDone self.old self.new (Deliver message resource) self.old.log) }
+        ensures answer { IfOk result (IsDelivered self.old message resource) }
+        ensures err { OnErr result (self.new ≡ self.old) }
+        ensures cause { IfErr result (IsCause self.old (Deliver message resource)) }
+    {
+        if resource >= self.cores.len() {
+            return Err(WorldFault::NoSuchResource);
+        }
+        if message == 0 {
+            return Err(WorldFault::NoSuchMessage);
+        }
+        if message > self.log.len() as u64 {
+            return Err(WorldFault::NoSuchMessage);
+        }
+        let place = (message - 1) as usize;
+        let Ok(frame) = self.log[place].try_clone() else {
+            return Err(WorldFault::Memory);
+        };
+        if self.events.reserve(1).is_err() {
+            return Err(WorldFault::Memory);
+        }
+        let core = &mut self.cores[resource];
+        let accepted = core.accept(frame);
+        match self.events.push(Event::Deliver { message, resource }) {
+            Ok(()) => Ok(accepted),
+            Err(_) => unreachable!(),
+        }
+    }
+
+    /// Restarts a resource, in its next incarnation.
+    fn restart(&mut self, alloc: Global, resource: usize) -> Result<u32, WorldFault>
+        ensures done { OnOk result (IsDone self.old self.new (Restart resource) self.old.log) }
+        ensures answer { IfOk result (λ i. i ≡ incarnation_of self.new.setting resource (history_at self.new)) }
+        ensures err { OnErr result (self.new ≡ self.old) }
+        ensures cause { IfErr result (IsCause self.old (Restart resource)) }
+    {
+        if resource >= self.cores.len() {
+            return Err(WorldFault::NoSuchResource);
+        }
+        let last = self.cores[resource].incarnation();
+        if last == u32::MAX {
+            return Err(WorldFault::IncarnationsSpent);
+        }
+        let incarnation = last + 1;
+        let Ok(plant) = Arc::try_clone(&self.plant) else {
+            return Err(WorldFault::Memory);
+        };
+        let Ok(core) = Core::new(alloc, plant, resource, incarnation, self.max_number) else {
+            return Err(WorldFault::Memory);
+        };
+        if self.events.reserve(1).is_err() {
+            return Err(WorldFault::Memory);
+        }
+        self.cores[resource] = core;
+        match self.events.push(Event::Restart { resource }) {
+            Ok(()) => Ok(incarnation),
+            Err(_) => unreachable!(),
+        }
+    }
+}

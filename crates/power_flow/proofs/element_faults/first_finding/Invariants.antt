@@ -1,6 +1,0 @@
-use Rattle.std.proofs.Common.{take}
-use Rattle.power_flow.specs.Steps.ElementFindings.{findings, IsFirstOf}
-use Rattle.power_flow.proofs.element_faults.first_finding.Given as goal
-
-abbrev pub invariant-loop-network : goal.invariant-loop-network
-invariant-loop-network l = IsFirstOf (findings l.declarations (take l.network-index l.networks)) l.first

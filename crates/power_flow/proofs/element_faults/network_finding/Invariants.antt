@@ -1,8 +1,0 @@
-use Rattle.std.proofs.Common.{take}
-use Rattle.std.specs.List.{flat_map}
-use Rattle.power_flow.specs.Steps.ElementFindings.{element_findings}
-use Rattle.power_flow.specs.Steps.ElementFindings.{IsFirstOf}
-use Rattle.power_flow.proofs.element_faults.network_finding.Given as goal
-
-abbrev pub invariant-loop-element : goal.invariant-loop-element
-invariant-loop-element l = IsFirstOf (flat_map (element_findings l.declarations l.elements) (take l.element-index l.elements)) l.first

@@ -1,5 +1,0 @@
-use Rattle.std.proofs.Common.{◌≤◌, ℕ, All, take, length}
-use Rattle.power_flow.proofs.room.most_boxes.Given as goal
-
-abbrev pub invariant-loop-circuit : goal.invariant-loop-circuit
-invariant-loop-circuit l = All (λ c. length c.boxes.items ≤ l.most) (take l.circuit-index l.circuits) × ((n : ℕ) → All (λ c. length c.boxes.items ≤ n) l.circuits → l.most ≤ n)

@@ -1,0 +1,102 @@
+ghost use Rattle.std.specs.Prelude.{◌≡◌, ◌<◌, ◌≤◌, ◌⊎◌, ◌↔◌, ◌≢◌, ℕ, All, Any, IfSome, Some, true, length, slice_get, slice_set};
+ghost use Rattle.power_flow.specs.declared.binding.bound_box.BoundBox.{BoundBox};
+ghost use Rattle.power_flow.specs.declared.state.Instance.{Instance};
+ghost use Rattle.power_flow.specs.declared.state.Slot.TheVariants.{Block};
+ghost use Rattle.power_flow.specs.Meaning.{store, stored};
+ghost use Rattle.power_flow.specs.Steps.BoxSteps.{AreApartBoxes, pin_store, pin_stores, output_stores};
+
+use crate::binding::bound_box::{BoundBox, BoundOutput};
+use crate::binding::source::output_value;
+use crate::state::{Instance, Slot};
+use std_blocks::{PinsOut, Value};
+
+/// Changes the slot at a place, if there is one.
+fn put(slots: &mut [Slot], place: usize, slot: Slot)
+    ensures { slots.new ≡ slice_set slots.old place slot }
+{
+    if place < slots.len() {
+        slots[place] = slot;
+    }
+}
+
+/// Changes the slot at a place to a block, if there is one.
+fn put_block(slots: &mut [Slot], place: usize, block: &Instance)
+    ensures { slots.new ≡ slice_set slots.old place (Block block.now) }
+{
+    if place < slots.len() {
+        slots[place] = Slot::Block(*block);
+    }
+}
+
+/// Puts the blocks back into their slots.
+pub fn store_blocks(boxes: &[BoundBox], results: &[Instance], slots: &mut [Slot])
+    requires { length results.now ≡ length boxes.now }
+    ensures placed { AreApartBoxes boxes.now → (j : ℕ) (e : BoundBox) (i : Instance) → slice_get boxes.now j ≡ Some e → slice_get results.now j ≡ Some i
+        → e.instance < length slots.old → slice_get slots.new e.instance ≡ Some (Block i) }
+    ensures others { (k : ℕ) → All (λ e. e.instance ≢ k) boxes.now → slice_get slots.new k ≡ slice_get slots.old k }
+{
+    for k in 0..boxes.len() {
+        put_block(slots, boxes[k].instance, &results[k]);
+    }
+}
+
+/// Stores a value at the place of a variable, if there is one.
+pub fn store_value(slots: &mut [Slot], place: Option<usize>, value: Value)
+    ensures { slots.new ≡ stored slots.old (store place (Some value)) }
+{
+    if let Some(place) = place {
+        put(slots, place, Slot::Variable(value));
+    }
+}
+
+/// Stores an output at its operand.
+fn store_pin(pin: &BoundOutput, outputs: &PinsOut, slots: &mut [Slot])
+    ensures { slots.new ≡ stored slots.old (pin_store outputs.now pin.now pin.now.store) }
+{
+    if let Some(place) = pin.store {
+        put(
+            slots,
+            place,
+            Slot::Variable(output_value(outputs, pin.field)),
+        );
+    }
+}
+
+/// Stores the outputs of a box at their operands.
+fn store_many(pins: &[BoundOutput], outputs: &PinsOut, slots: &mut [Slot])
+    ensures { slots.new ≡ stored slots.old (pin_stores outputs.now pins.now) }
+{
+    for pin in pins {
+        store_pin(pin, outputs, slots);
+    }
+}
+
+/// Stores two outputs at their operands.
+fn store_two(pins: &[BoundOutput], outputs: &PinsOut, slots: &mut [Slot])
+    requires { length pins.now ≡ 2 }
+    ensures { slots.new ≡ stored slots.old (pin_stores outputs.now pins.now) }
+{
+    store_pin(&pins[0], outputs, slots);
+    store_pin(&pins[1], outputs, slots);
+}
+
+/// Stores the outputs of a box at their operands.
+fn store_pins(pins: &[BoundOutput], outputs: &PinsOut, slots: &mut [Slot])
+    ensures { slots.new ≡ stored slots.old (pin_stores outputs.now pins.now) }
+{
+    if pins.len() == 2 {
+        store_two(pins, outputs, slots);
+    } else {
+        store_many(pins, outputs, slots);
+    }
+}
+
+/// Stores the outputs of the boxes at their operands, in order.
+pub fn store_outputs(boxes: &[BoundBox], results: &[Instance], slots: &mut [Slot])
+    requires { length results.now ≡ length boxes.now }
+    ensures { slots.new ≡ stored slots.old (output_stores boxes.now results.now) }
+{
+    for k in 0..boxes.len() {
+        store_pins(&boxes[k].outputs, &results[k].outputs, slots);
+    }
+}

@@ -1,0 +1,175 @@
+ghost use Rattle.std.specs.Prelude.{◌≡◌, ◌<◌, ℕ, List, All, length, map, sum_by, slice_set};
+ghost use Rattle.std.specs.List.{AllByRecursion};
+ghost use Rattle.std.specs.Option.{option_map};
+ghost use Rattle.std_blocks.specs.declared.value.Value.TheVariants.{Bool as BoolValue};
+ghost use Rattle.power_flow.specs.Meaning.{coil_value, coil_memory, store, stored, bit_at, NetworkMeaning, moment};
+ghost use Rattle.network.specs.Links.{Diagram};
+ghost use Rattle.variable_binding.specs.declared.declarations.Declaration.{Declaration};
+ghost use Rattle.power_flow.specs.StateValue.{AreSlotsOf};
+ghost use Rattle.power_flow.specs.Scan.{AllAreWide, ScanMeaning};
+ghost use Rattle.ladder_text.specs.declared.place.Place.{Place};
+ghost use Rattle.power_flow.specs.Steps.Circuit.{HasShape, IsCircuit, HasRoom, AreCircuits, circuit_diagram};
+ghost use Rattle.power_flow.specs.Steps.Passing.{bound_stores, bound_memories};
+
+use crate::scan::boxes::{store_blocks, store_outputs, store_value};
+use crate::scan::pass::pass;
+use crate::state::{Instance, Slot, State};
+use crate::steps::circuit::Circuit;
+use crate::steps::step::BoundCoil;
+use arrayvec::ArrayVec;
+use ladder_text::CoilKind;
+use std_blocks::Value;
+
+fn value_of_coil(kind: CoilKind, link: bool, memory: bool) -> Option<bool>
+    ensures { result ≡ coil_value kind link memory }
+{
+    match kind {
+        CoilKind::Plain => Some(link),
+        CoilKind::Negated => Some(!link),
+        CoilKind::Set => link.then_some(true),
+        CoilKind::Reset => link.then_some(false),
+        CoilKind::Rise => Some(link && !memory),
+        CoilKind::Fall => Some(!link && memory),
+    }
+}
+
+fn memory_of_coil(kind: CoilKind, link: bool, memory: bool) -> bool
+    ensures { result ≡ coil_memory kind link memory }
+{
+    match kind {
+        CoilKind::Rise | CoilKind::Fall => link,
+        CoilKind::Plain | CoilKind::Negated | CoilKind::Set | CoilKind::Reset => memory,
+    }
+}
+
+/// Stores what a coil stores, by its left link and its memory, and then its memory.
+fn store_any_coil(coil: &BoundCoil, link: bool, memories: &mut [bool], slots: &mut [Slot])
+    requires { coil.now.memory < length memories.old }
+    ensures slots { slots.new ≡ stored slots.old (store coil.now.place (option_map BoolValue (coil_value coil.now.kind link (bit_at memories.old coil.now.memory)))) }
+    ensures memories { memories.new ≡ slice_set memories.old coil.now.memory (coil_memory coil.now.kind link (bit_at memories.old coil.now.memory)) }
+{
+    let memory = memories[coil.memory];
+    if let Some(on) = value_of_coil(coil.kind, link, memory) {
+        store_value(slots, coil.place, Value::Bool(on));
+    }
+    memories[coil.memory] = memory_of_coil(coil.kind, link, memory);
+}
+
+/// Stores what a coil stores. A plain coil keeps no memory.
+fn store_coil(coil: &BoundCoil, link: bool, memories: &mut [bool], slots: &mut [Slot])
+    requires { coil.now.memory < length memories.old }
+    ensures slots { slots.new ≡ stored slots.old (store coil.now.place (option_map BoolValue (coil_value coil.now.kind link (bit_at memories.old coil.now.memory)))) }
+    ensures memories { memories.new ≡ slice_set memories.old coil.now.memory (coil_memory coil.now.kind link (bit_at memories.old coil.now.memory)) }
+{
+    if let CoilKind::Plain = coil.kind {
+        store_value(slots, coil.place, Value::Bool(link));
+    } else {
+        store_any_coil(coil, link, memories, slots);
+    }
+}
+
+/// Stores the coils in their order, and their memories.
+fn store_coils(coils: &[BoundCoil], links: &[bool], memories: &mut [bool], slots: &mut [Slot])
+    requires links { length links.now ≡ length coils.now }
+    requires memories { All (λ c. c.memory < length memories.old) coils.now }
+    ensures slots { slots.new ≡ stored slots.old (bound_stores coils.now 0 links.now memories.old) }
+    ensures memories { memories.new ≡ bound_memories coils.now 0 links.now memories.old }
+{
+    for k in 0..coils.len() {
+        store_coil(&coils[k], links[k], memories, slots);
+    }
+}
+
+/// One scan of a network, dt milliseconds after the one before.
+fn scan_circuit(
+    circuit: &Circuit,
+    slots: &mut [Slot],
+    memories: &mut [bool],
+    rows: &mut [bool],
+    links: &mut [bool],
+    results: &mut [Instance],
+    dt: u32,
+)
+    requires shape { HasShape circuit.now }
+    requires memories { length memories.old ≡ length circuit.now.elements.items }
+    requires rows { length rows.old ≡ circuit.now.rows }
+    requires links { length links.old ≡ length circuit.now.coils.items }
+    requires results { length results.old ≡ length circuit.now.boxes.items }
+    ensures { (ds : List Declaration) (d : Diagram) → IsCircuit ds d circuit.now → AreSlotsOf ds slots.old
+        → NetworkMeaning ds d dt (moment slots.old memories.old) (moment slots.new memories.new) }
+{
+    pass(
+        &circuit.steps,
+        &circuit.boxes,
+        slots,
+        rows,
+        memories,
+        links,
+        results,
+        dt,
+    );
+    store_blocks(&circuit.boxes, results, slots);
+    store_outputs(&circuit.boxes, results, slots);
+    store_coils(&circuit.coils, links, memories, slots);
+}
+
+/// One scan of the networks, one after the other.
+pub fn scan_circuits(
+    circuits: &[Circuit],
+    slots: &mut [Slot],
+    memories: &mut [bool],
+    rows: &mut [bool],
+    links: &mut [bool],
+    results: &mut [Instance],
+    dt: u32,
+)
+    requires room { AllByRecursion (HasRoom (length links.old) (length results.old)) circuits.now }
+    requires rows { length rows.old ≡ 200 }
+    requires memories { length memories.old ≡ sum_by (λ c. length c.elements.items) circuits.now }
+    ensures { (ds : List Declaration) (rails : List Place) → AreCircuits ds rails circuits.now
+        → AllAreWide (map (circuit_diagram rails) circuits.now) → AreSlotsOf ds slots.old
+        → ScanMeaning ds dt (map (circuit_diagram rails) circuits.now) slots.old memories.old slots.new memories.new }
+{
+    if let Some((first, rest)) = circuits.split_first() {
+        let elements = first.elements.len();
+        let coils = first.coils.len();
+        let boxes = first.boxes.len();
+        let (here, later) = memories.split_at_mut(elements);
+        scan_circuit(
+            first,
+            slots,
+            here,
+            &mut rows[..first.rows],
+            &mut links[..coils],
+            &mut results[..boxes],
+            dt,
+        );
+        scan_circuits(rest, slots, later, rows, links, results, dt);
+    }
+}
+
+impl State {
+    /// One scan of these networks.
+    pub(crate) fn run(&mut self, circuits: &[Circuit], dt: u32)
+        requires room { AllByRecursion (HasRoom self.old.waiting_links self.old.waiting_results) circuits.now }
+        requires memories { length self.old.memories ≡ sum_by (λ c. length c.elements.items) circuits.now }
+        ensures meaning { (ds : List Declaration) (rails : List Place) → AreCircuits ds rails circuits.now
+            → AllAreWide (map (circuit_diagram rails) circuits.now) → AreSlotsOf ds self.old.slots
+            → ScanMeaning ds dt (map (circuit_diagram rails) circuits.now) self.old.slots self.old.memories self.new.slots self.new.memories }
+        ensures slots { length self.new.slots ≡ length self.old.slots }
+        ensures memories { length self.new.memories ≡ length self.old.memories }
+        ensures links { self.new.waiting_links ≡ self.old.waiting_links }
+        ensures results { self.new.waiting_results ≡ self.old.waiting_results }
+    {
+        let mut rows = ArrayVec::<bool, 200>::from([false; 200]);
+        scan_circuits(
+            circuits,
+            self.slots.as_mut_slice(),
+            self.memories.as_mut_slice(),
+            rows.as_mut_slice(),
+            self.links.as_mut_slice(),
+            self.results.as_mut_slice(),
+            dt,
+        );
+    }
+}

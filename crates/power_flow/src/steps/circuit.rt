@@ -1,0 +1,17 @@
+use crate::binding::bound_box::BoundBox;
+use crate::steps::step::{BoundCoil, Step};
+use network::Element;
+
+/// A network made ready for scans: its elements, and the steps of a scan through its columns.
+#[derive(Drop)]
+pub struct Circuit {
+    pub elements: Vec<Element>,
+    /// How many rows it has, from its topmost to its lowest.
+    pub rows: usize,
+    /// By column, and in a column by row.
+    pub steps: Vec<Step>,
+    /// The coils among the elements, in their order.
+    pub coils: Vec<BoundCoil>,
+    /// The boxes among the elements, in their order.
+    pub boxes: Vec<BoundBox>,
+}

@@ -1,0 +1,113 @@
+ghost use Rattle.std.specs.Prelude.{◌≡◌, ◌++◌, IfOk, IfSome, OnOk};
+ghost use Rattle.power_flow.specs.Steps.Fused.{single, singles};
+
+use crate::binding::bound_contact::BoundContact;
+use crate::steps::step::Step;
+use crate::steps::variable_pair::{PairPlaces, PairRows, pair_of};
+use std::alloc::{AllocError, Global};
+
+/// A row that is turned off, and then rows that are joined.
+fn off_upright(row: u8, first: u8, lowest: u8) -> Step
+    ensures { single result ≡ single (Step.Off row) ++ single (Step.Upright first lowest) }
+{
+    if lowest > first && lowest - first == 1 {
+        if row == lowest {
+            return Step::Down(first);
+        }
+        if row == first {
+            return Step::Up(first);
+        }
+    }
+    Step::OffUpright(row, first, lowest)
+}
+
+/// A row that is turned on, and then a contact in it, if that is one of a variable.
+fn rail_contact(row: u8, contact: &BoundContact) -> Option<Step>
+    ensures { IfSome result (λ s. single s ≡ single (Step.Rail row) ++ single (Step.Contact contact.now)) }
+{
+    let variable = contact.as_variable()?;
+    if variable.row != row {
+        return None;
+    }
+    Some(Step::RailContact(variable))
+}
+
+/// Two contacts, if they are a pair.
+fn contact_pair(first: &BoundContact, second: &BoundContact) -> Option<Step>
+    ensures { IfSome result (λ s. single s ≡ single (Step.Contact first.now) ++ single (Step.Contact second.now)) }
+{
+    let (rows, places) = pair_of(first, second)?;
+    Some(Step::Pair(rows, places))
+}
+
+/// Rows that are joined, and then a pair of contacts, if they are the pair's rows.
+fn joined_pair(first: u8, lowest: u8, rows: PairRows, places: PairPlaces) -> Option<Step>
+    ensures { IfSome result (λ s. single s ≡ single (Step.Upright first lowest) ++ single (Step.Pair rows places)) }
+{
+    if first != rows.first || lowest != rows.second {
+        return None;
+    }
+    Some(Step::JoinedPair(rows, places))
+}
+
+/// The step that stands for both, if there is one.
+fn both(last: &Step, step: &Step) -> Option<Step>
+    ensures { IfSome result (λ s. single s ≡ single last.now ++ single step.now) }
+{
+    match (last, step) {
+        (Step::Off(row), Step::Upright(first, lowest)) => Some(off_upright(*row, *first, *lowest)),
+        (Step::Rail(row), Step::Contact(contact)) => rail_contact(*row, contact),
+        (Step::Contact(first), Step::Contact(second)) => contact_pair(first, second),
+        (Step::Upright(first, lowest), Step::Pair(rows, places)) => joined_pair(
+            *first, *lowest, *rows, *places,
+        ),
+        (Step::Box(number), Step::Coil(row, coil)) => Some(Step::BoxCoil(*number, *row, *coil)),
+        _ => None,
+    }
+}
+
+/// Adds two steps, as one where a step stands for both.
+fn push_both(steps: &mut Vec<Step>, last: Step, step: Step) -> Result<(), AllocError>
+    ensures { OnOk result (singles steps.new.items ≡ (singles steps.old.items ++ single last) ++ single step) }
+{
+    match both(&last, &step) {
+        Some(one) => steps.push(one)?,
+        None => {
+            steps.push(last)?;
+            steps.push(step)?;
+        }
+    }
+    Ok(())
+}
+
+/// Adds a step, to the last one where a step stands for both.
+fn push_fused(steps: &mut Vec<Step>, step: Step) -> Result<(), AllocError>
+    ensures { OnOk result (singles steps.new.items ≡ singles steps.old.items ++ single step) }
+{
+    match steps.pop() {
+        Some(last) => push_both(steps, last, step),
+        None => {
+            steps.push(step)?;
+            Ok(())
+        }
+    }
+}
+
+/// These steps, with one step in place of two where it stands for both.
+fn fewer(alloc: Global, steps: Vec<Step>) -> Result<Vec<Step>, AllocError>
+    ensures { IfOk result (λ fewer. singles fewer.items ≡ singles steps.items) }
+{
+    let mut fewer = Vec::with_capacity(alloc, steps.len())?;
+    for step in steps {
+        push_fused(&mut fewer, step)?;
+    }
+    Ok(fewer)
+}
+
+/// These steps, with one step in place of two where it stands for both, and once more where such a step and the one before have one.
+pub fn fused(alloc: Global, steps: Vec<Step>) -> Result<Vec<Step>, AllocError>
+    ensures { IfOk result (λ fewer. singles fewer.items ≡ singles steps.items) }
+{
+    let once = fewer(alloc, steps)?;
+    fewer(alloc, once)
+}

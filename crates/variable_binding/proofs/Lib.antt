@@ -1,0 +1,11 @@
+pub mod Lists
+pub mod Dots
+pub mod Places
+pub mod FoldedLemmas
+pub mod FindingLemmas
+pub mod NameFaults
+pub mod BoxesFaults
+pub mod FaultsFound
+pub mod NamedNetworks
+pub mod WorkedFaults
+pub mod GuessLemmas

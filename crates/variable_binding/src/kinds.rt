@@ -1,0 +1,68 @@
+ghost use Rattle.std.specs.Prelude.{◌≡◌, ◌↔◌, IsTrue};
+ghost use Rattle.variable_binding.specs.Kinds.{value_first};
+ghost use Rattle.variable_binding.specs.PinKinds.{field_kind, stands_on, pin_kind};
+ghost use Rattle.variable_binding.specs.Kinds.{kind_of};
+
+use crate::declarations::Kind;
+use ladder_text::{DrawnPin, Side};
+use std_blocks::{BlockType, Field, Pin, Value};
+
+/// The kind of a value.
+pub fn kind_of(value: Value) -> Kind
+    ensures { result ≡ kind_of value }
+{
+    match value {
+        Value::Bool(_) => Kind::Bool,
+        Value::Int(_) => Kind::Int,
+        Value::Time(_) => Kind::Time,
+    }
+}
+
+/// Whether two values are of one kind.
+pub fn is_of_kind(value: Value, other: Value) -> bool
+    ensures { IsTrue result ↔ (kind_of value ≡ kind_of other) }
+{
+    kind_of(value) == kind_of(other)
+}
+
+/// FALSE, 0 or T#0ms.
+pub fn first_value(kind: Kind) -> Value
+    ensures { result ≡ value_first kind }
+{
+    match kind {
+        Kind::Bool => Value::Bool(false),
+        Kind::Int => Value::Int(0),
+        Kind::Time => Value::Time(0),
+    }
+}
+
+/// The kind of the values of a field.
+pub fn kind_of_field(field: Field) -> Kind
+    ensures { result ≡ field_kind field }
+{
+    match field {
+        Field::Bit(_) => Kind::Bool,
+        Field::Int => Kind::Int,
+        Field::Time => Kind::Time,
+    }
+}
+
+/// Whether a pin belongs on that side of a box.
+pub fn is_on_side(side: Side, pin: Pin) -> bool
+    ensures { result ≡ stands_on side pin }
+{
+    match side {
+        Side::Left => pin.left,
+        Side::Right => !pin.left,
+    }
+}
+
+/// The kind of a drawn pin of a block of this type; BOOL if the type has no such pin on that side.
+pub fn kind_of_pin(block: BlockType, pin: &DrawnPin) -> Kind
+    ensures { result ≡ pin_kind block pin.now }
+{
+    match block.pin(pin.name.as_str()) {
+        Some(found) if is_on_side(pin.side, found) => kind_of_field(found.field),
+        _ => Kind::Bool,
+    }
+}

@@ -1,5 +1,0 @@
-use Rattle.world.proofs.Pairs.{pairs-rise}
-use Rattle.world.proofs.laws.pairs_rise.Goals as goal
-
-pub returns : goal.returns
-returns c = pairs-rise

@@ -1,6 +1,0 @@
--- Where the entries of a book are made again, they are a consistent log.
-use Rattle.world.proofs.Makings.{books-consistent}
-use Rattle.world.proofs.log_laws.books_are_consistent.Goals as goal
-
-pub returns : goal.returns
-returns c = books-consistent

@@ -1,5 +1,0 @@
-use Rattle.world.proofs.Replayable.{run_again}
-use Rattle.world.proofs.replay_laws.runs_replay.Goals as goal
-
-pub returns : goal.returns
-returns c = run_again
