@@ -1,6 +1,6 @@
 ghost use Rattle.std.specs.Prelude.{◌≡◌, false, IfOk, codes};
 ghost use Rattle.clap.specs.Words.{app_of, new_app, rule_of};
-ghost use Rattle.command_line.specs.CommandLine.{drawing_rule, dt_rule, words_rule, plant_rule, until_rule, schedule_rule, max_number_rule, paced_rule, kind_rule, eval_app, check_app, plan_app, sim_app, run_app, explain_app, versioned, commanded, plc_app, text_app};
+ghost use Rattle.command_line.specs.CommandLine.{needed_word, option_of, words_rule, plant_rule, until_rule, paced_rule, eval_app, check_app, plan_app, sim_app, run_app, explain_app, versioned, commanded, plc_app, text_app};
 
 use crate::help::{
     CHECK_HELP, EVAL_HELP, EXPLAIN_HELP, FIRST_STEPS, PLAN_HELP, RUN_HELP, SIM_HELP,
@@ -11,92 +11,59 @@ use std::alloc::{AllocError, Global};
 /// The version of the program.
 const VERSION: &str = "0.1.0";
 
-fn drawing_arg<'a>(alloc: Global) -> Arg<'a>
-    ensures rule { rule_of result ≡ drawing_rule }
+/// A word that must be given.
+fn needed_arg<'a>(alloc: Global, id: &'a str, help: &'a str) -> Arg<'a>
+    ensures rule { rule_of result ≡ needed_word id.entry.now }
     ensures local { result.global ≡ false }
 {
-    Arg::new(alloc, "DRAWING")
+    Arg::new(alloc, id)
         .required(true)
         .action(ArgAction::Set)
-        .help("The file of the drawing")
+        .help(help)
 }
 
-fn dt_arg<'a>(alloc: Global) -> Arg<'a>
-    ensures rule { rule_of result ≡ dt_rule }
+/// An option `--id`, with a number behind it.
+fn number_arg<'a>(alloc: Global, id: &'a str, unit: &'a str, help: &'a str) -> Arg<'a>
+    ensures rule { rule_of result ≡ option_of id.entry.now }
     ensures local { result.global ≡ false }
 {
-    Arg::new(alloc, "dt")
-        .long("dt")
-        .value_name("MS")
+    Arg::new(alloc, id)
+        .long(id)
+        .value_name(unit)
         .action(ArgAction::Set)
-        .help("The time between two scans in milliseconds, 0 to 4294967295 [default: 0]")
+        .help(help)
 }
 
-fn rows_arg<'a>(alloc: Global) -> Arg<'a>
+/// Any number of words.
+fn words_arg<'a>(alloc: Global, form: &'a str, help: &'a str) -> Arg<'a>
     ensures rule { rule_of result ≡ words_rule }
     ensures local { result.global ≡ false }
 {
     Arg::new(alloc, "words")
-        .value_name("NAME=BITS")
+        .value_name(form)
         .action(ArgAction::Append)
         .num_args(0..)
-        .help("The values of a variable, a digit for each scan")
-}
-
-fn eval_command<'a>(alloc: Global) -> Result<Command<'a>, AllocError>
-    ensures { IfOk result (λ c. app_of c ≡ eval_app) }
-{
-    Command::new(alloc, "eval")
-        .about("Evaluates a drawing, scan by scan, and writes its variables after each scan")
-        .after_help(EVAL_HELP)
-        .arg(drawing_arg(alloc))?
-        .arg(dt_arg(alloc))?
-        .arg(rows_arg(alloc))
+        .help(help)
 }
 
 fn plant_arg<'a>(alloc: Global) -> Arg<'a>
     ensures rule { rule_of result ≡ plant_rule }
     ensures local { result.global ≡ false }
 {
-    Arg::new(alloc, "PLANT")
-        .required(true)
-        .action(ArgAction::Set)
-        .help("The file of the plant")
+    needed_arg(alloc, "PLANT", "The file of the plant")
 }
 
 fn until_arg<'a>(alloc: Global) -> Arg<'a>
     ensures rule { rule_of result ≡ until_rule }
     ensures local { result.global ≡ false }
 {
-    Arg::new(alloc, "until")
-        .long("until")
-        .value_name("MS")
-        .required(true)
-        .action(ArgAction::Set)
-        .help("The last moment of the plan in milliseconds, 0 to 4294967295")
-}
-
-fn schedule_arg<'a>(alloc: Global) -> Arg<'a>
-    ensures rule { rule_of result ≡ schedule_rule }
-    ensures local { result.global ≡ false }
-{
-    Arg::new(alloc, "SCHEDULE")
-        .required(true)
-        .action(ArgAction::Set)
-        .help("The file of the schedule")
-}
-
-fn max_number_arg<'a>(alloc: Global) -> Arg<'a>
-    ensures rule { rule_of result ≡ max_number_rule }
-    ensures local { result.global ≡ false }
-{
-    Arg::new(alloc, "max-number")
-        .long("max-number")
-        .value_name("N")
-        .action(ArgAction::Set)
-        .help(
-            "How often a task is evaluated in one incarnation at most, 0 to 4294967295 [default: 4294967295]",
-        )
+    number_arg(
+        alloc,
+        "until",
+        "MS",
+        "The last moment of the plan in milliseconds, 0 to 4294967295",
+    )
+    .required(true)
 }
 
 fn paced_arg<'a>(alloc: Global) -> Arg<'a>
@@ -109,15 +76,24 @@ fn paced_arg<'a>(alloc: Global) -> Arg<'a>
         .help("Each command waits until the one before it is done")
 }
 
-fn inputs_arg<'a>(alloc: Global) -> Arg<'a>
-    ensures rule { rule_of result ≡ words_rule }
-    ensures local { result.global ≡ false }
+fn eval_command<'a>(alloc: Global) -> Result<Command<'a>, AllocError>
+    ensures { IfOk result (λ c. app_of c ≡ eval_app) }
 {
-    Arg::new(alloc, "words")
-        .value_name("ADDRESS=VALUE")
-        .action(ArgAction::Append)
-        .num_args(0..)
-        .help("The value of a field address, as %IX0=1 or %IW2=-7")
+    Command::new(alloc, "eval")
+        .about("Evaluates a drawing, scan by scan, and writes its variables after each scan")
+        .after_help(EVAL_HELP)
+        .arg(needed_arg(alloc, "DRAWING", "The file of the drawing"))?
+        .arg(number_arg(
+            alloc,
+            "dt",
+            "MS",
+            "The time between two scans in milliseconds, 0 to 4294967295 [default: 0]",
+        ))?
+        .arg(words_arg(
+            alloc,
+            "NAME=BITS",
+            "The values of a variable, a digit for each scan",
+        ))
 }
 
 fn check_command<'a>(alloc: Global) -> Result<Command<'a>, AllocError>
@@ -148,8 +124,13 @@ fn sim_command<'a>(alloc: Global) -> Result<Command<'a>, AllocError>
         )
         .after_help(SIM_HELP)
         .arg(plant_arg(alloc))?
-        .arg(schedule_arg(alloc))?
-        .arg(max_number_arg(alloc))
+        .arg(needed_arg(alloc, "SCHEDULE", "The file of the schedule"))?
+        .arg(number_arg(
+            alloc,
+            "max-number",
+            "N",
+            "How often a task is evaluated in one incarnation at most, 0 to 4294967295 [default: 4294967295]",
+        ))
 }
 
 fn run_command<'a>(alloc: Global) -> Result<Command<'a>, AllocError>
@@ -163,17 +144,11 @@ fn run_command<'a>(alloc: Global) -> Result<Command<'a>, AllocError>
         .arg(plant_arg(alloc))?
         .arg(until_arg(alloc))?
         .arg(paced_arg(alloc))?
-        .arg(inputs_arg(alloc))
-}
-
-fn kind_arg<'a>(alloc: Global) -> Arg<'a>
-    ensures rule { rule_of result ≡ kind_rule }
-    ensures local { result.global ≡ false }
-{
-    Arg::new(alloc, "KIND")
-        .required(true)
-        .action(ArgAction::Set)
-        .help("The kind of a fault, as NoSource")
+        .arg(words_arg(
+            alloc,
+            "ADDRESS=VALUE",
+            "The value of a field address, as %IX0=1 or %IW2=-7",
+        ))
 }
 
 fn explain_command<'a>(alloc: Global) -> Result<Command<'a>, AllocError>
@@ -182,21 +157,27 @@ fn explain_command<'a>(alloc: Global) -> Result<Command<'a>, AllocError>
     Command::new(alloc, "explain")
         .about("Tells what a kind of fault is, and how it is mended")
         .after_help(EXPLAIN_HELP)
-        .arg(kind_arg(alloc))
+        .arg(needed_arg(alloc, "KIND", "The kind of a fault, as NoSource"))
+}
+
+/// The program without its commands, and without a version.
+fn named_command<'a>(alloc: Global) -> Result<Command<'a>, AllocError>
+    ensures { IfOk result (λ c. app_of c ≡ new_app (codes "plc")) }
+{
+    let command = Command::new(alloc, "plc").bin_name("plc")?;
+    Ok(
+        command
+            .about("Runs ladder diagrams drawn in characters (IEC 61131-3)")
+            .after_help(FIRST_STEPS),
+    )
 }
 
 /// The program without its commands.
 fn plc_command<'a>(alloc: Global) -> Result<Command<'a>, AllocError>
     ensures { IfOk result (λ c. app_of c ≡ commanded (versioned (new_app (codes "plc")))) }
 {
-    Ok(
-        Command::new(alloc, "plc")
-            .bin_name("plc")?
-            .about("Runs ladder diagrams drawn in characters (IEC 61131-3)")
-            .after_help(FIRST_STEPS)
-            .version(VERSION)
-            .subcommand_required(true),
-    )
+    let command = named_command(alloc)?;
+    Ok(command.version(VERSION).subcommand_required(true))
 }
 
 /// The program with the commands of one text: a drawing or a plant.

@@ -7,6 +7,6 @@ use Rattle.command_line.proofs.commands.eval_command.Goals as goal
 pub returns : goal.returns
 returns c =
     let top : app_of c.after_help.result ≡ new_app (codes "eval") = search rules in
-    let one = c.in_ok-arg.ensures.shape c.drawing_arg.ensures.local ∙ ap₂ with_rule top c.drawing_arg.ensures.rule in
-    let two = c.in_ok-arg-2.ensures.shape c.dt_arg.ensures.local ∙ ap₂ with_rule one c.dt_arg.ensures.rule in
-    IfOk-weaker c.arg-3.result _ _ (λ new added. added.shape c.rows_arg.ensures.local ∙ ap₂ with_rule two c.rows_arg.ensures.rule) c.arg-3.ensures
+    let one = c.in_ok-arg.ensures.shape c.needed_arg.ensures.local ∙ ap₂ with_rule top c.needed_arg.ensures.rule in
+    let two = c.in_ok-arg-2.ensures.shape c.number_arg.ensures.local ∙ ap₂ with_rule one c.number_arg.ensures.rule in
+    IfOk-weaker c.arg-3.result _ _ (λ new added. added.shape c.words_arg.ensures.local ∙ ap₂ with_rule two c.words_arg.ensures.rule) c.arg-3.ensures

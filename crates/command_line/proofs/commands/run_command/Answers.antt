@@ -10,4 +10,4 @@ returns c =
     let one = c.in_ok-arg.ensures.shape c.plant_arg.ensures.local ∙ ap₂ with_rule top c.plant_arg.ensures.rule in
     let two = c.in_ok-arg-2.ensures.shape c.until_arg.ensures.local ∙ ap₂ with_rule one c.until_arg.ensures.rule in
     let three = c.in_ok-arg-3.ensures.shape c.paced_arg.ensures.local ∙ ap₂ with_rule two c.paced_arg.ensures.rule in
-    IfOk-weaker c.arg-4.result _ _ (λ new added. added.shape c.inputs_arg.ensures.local ∙ ap₂ with_rule three c.inputs_arg.ensures.rule) c.arg-4.ensures
+    IfOk-weaker c.arg-4.result _ _ (λ new added. added.shape c.words_arg.ensures.local ∙ ap₂ with_rule three c.words_arg.ensures.rule) c.arg-4.ensures
