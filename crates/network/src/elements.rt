@@ -32,13 +32,14 @@ fn push_at(
     alloc: Global,
     elements: &mut Vec<Element>,
     drawing: &Drawing,
-    symbols: &Symbols,
+    symbols: &mut Symbols,
     at: Place,
 ) -> Result<(), AllocError>
-    requires symbols { AreSymbols drawing.now symbols.now }
+    requires symbols { AreSymbols drawing.now symbols.old }
     requires sound { IsSound drawing.now }
     requires before { AreElementsBefore drawing.now at elements.old.items }
-    ensures { OnOk result (AreElementsBefore drawing.now (place (at.row + 1) at.column) elements.new.items) }
+    ensures elements { OnOk result (AreElementsBefore drawing.now (place (at.row + 1) at.column) elements.new.items) }
+    ensures symbols { OnOk result (AreSymbols drawing.now symbols.new) }
 {
     match drawing.mark(at.row, at.column) {
         Mark::Blank | Mark::Rail => Ok(()),
@@ -46,15 +47,15 @@ fn push_at(
         Mark::Join => push(elements, Element::Join(at)),
         Mark::Upright => push(elements, Element::Upright(at)),
         Mark::ContactPart => {
-            let contact = contact_at(alloc, drawing, symbols, at)?;
+            let contact = contact_at(alloc, drawing, &mut symbols.contacts, at)?;
             push_found(elements, contact)
         }
         Mark::CoilPart => {
-            let coil = coil_at(alloc, drawing, symbols, at)?;
+            let coil = coil_at(alloc, drawing, &mut symbols.coils, at)?;
             push_found(elements, coil)
         }
         Mark::BoxPart => {
-            let boxed = box_at(alloc, drawing, symbols, at)?;
+            let boxed = box_at(alloc, drawing, &symbols.boxes, at)?;
             push_found(elements, boxed)
         }
     }
@@ -65,13 +66,14 @@ fn push_column(
     alloc: Global,
     elements: &mut Vec<Element>,
     drawing: &Drawing,
-    symbols: &Symbols,
+    symbols: &mut Symbols,
     column: usize,
 ) -> Result<(), AllocError>
-    requires symbols { AreSymbols drawing.now symbols.now }
+    requires symbols { AreSymbols drawing.now symbols.old }
     requires sound { IsSound drawing.now }
     requires before { AreElementsBefore drawing.now (place 0 column) elements.old.items }
-    ensures { OnOk result (AreElementsBefore drawing.now (place 0 (column + 1)) elements.new.items) }
+    ensures elements { OnOk result (AreElementsBefore drawing.now (place 0 (column + 1)) elements.new.items) }
+    ensures symbols { OnOk result (AreSymbols drawing.now symbols.new) }
 {
     for row in 1..drawing.rows() + 1 {
         if drawing.mark(row, column) != Mark::Blank {
@@ -86,10 +88,10 @@ pub fn elements_of(alloc: Global, drawing: &Drawing) -> Result<Vec<Element>, All
     requires { IsSound drawing.now }
     ensures { IfOk result (λ elements. AreElementsOf drawing.now elements.items) }
 {
-    let symbols = symbols_of(alloc, drawing)?;
+    let mut symbols = symbols_of(alloc, drawing)?;
     let mut elements = Vec::new(alloc);
     for column in 1..drawing.columns() + 1 {
-        push_column(alloc, &mut elements, drawing, &symbols, column)?;
+        push_column(alloc, &mut elements, drawing, &mut symbols, column)?;
     }
     Ok(elements)
 }

@@ -18,6 +18,7 @@ mod places;
 mod rails;
 mod ranks;
 mod row_table;
+mod symbol_rows;
 mod symbols;
 mod takers;
 

@@ -1,13 +1,14 @@
 -- Symbols and boxes by the place where they begin.
-use Rattle.std.specs.Prelude.{List, map}
+use Rattle.std.specs.Prelude.{◌≡◌, ◌&&◌, Bool, nat_eq, ℕ, ◌+◌, ◌<◌, ◌≤◌, List, Some, slice_get, map}
 use Rattle.ladder_text.specs.Picture.{Picture}
 use Rattle.ladder_text.specs.declared.place.Place.{Place}
 use Rattle.ladder_text.specs.declared.contact.Contact.{Contact}
 use Rattle.ladder_text.specs.declared.coil.Coil.{Coil}
 use Rattle.ladder_text.specs.declared.drawn_box.DrawnBox.{DrawnBox}
+use Rattle.network.specs.declared.symbol_rows.SymbolRow.{SymbolRow}
 use Rattle.network.specs.declared.symbols.Symbols.{Symbols}
 use Rattle.network.specs.Links.{place}
-use Rattle.network.specs.Steps.Listing.{IsIndex}
+use Rattle.network.specs.Steps.Listing.{IsIndex, IsNoElementAt}
 
 abbrev pub contact_places : List Contact → List Place
 contact_places contacts = map (λ (c : Contact). place c.row c.column) contacts
@@ -18,8 +19,35 @@ coil_places coils = map (λ (c : Coil). place c.row c.column) coils
 abbrev pub box_places : List DrawnBox → List Place
 box_places boxes = map (λ (b : DrawnBox). place b.top b.left) boxes
 
--- where the drawing's contacts, coils and boxes begin
+-- the symbol begins at p
+abbrev pub is_contact_at : Place → Contact → Bool
+is_contact_at p c = nat_eq c.row p.row && nat_eq c.column p.column
+
+abbrev pub is_coil_at : Place → Coil → Bool
+is_coil_at p c = nat_eq c.row p.row && nat_eq c.column p.column
+
+-- p is the second or third place of a symbol that begins at a place
+abbrev pub IsBehind : Place → Place → Type 0
+IsBehind first p = (p.row ≡ first.row) × (first.column < p.column) × (p.column ≤ first.column + 2)
+
+-- p is the second or third place of the symbol that was found last in its row
+abbrev pub IsInside : List SymbolRow → Place → Type 0
+IsInside rows p = (s : SymbolRow) × (slice_get rows p.row ≡ Some s) × (0 < s.column) × (s.column < p.column) × (p.column ≤ s.column + 2)
+
+-- no element begins inside a symbol that was found
+abbrev pub BeginNowhereInside : Picture → List SymbolRow → Type 0
+BeginNowhereInside g rows = (p : Place) → IsInside rows p → IsNoElementAt g p
+
+-- none of the places is this one
+abbrev pub AllElsewhere : List Place → Place → Type 0
+AllElsewhere places p = (k : ℕ) → slice_get places k ≡ Some p → ⊥
+
+-- k is the number of a place
+abbrev pub IsNumberOf : List Place → Place → ℕ → Type 0
+IsNumberOf places p k = slice_get places k ≡ Some p
+
+-- no element begins inside a contact or coil that was found, and boxes are found by their corners
 pub record AreSymbols (g : Picture) (symbols : Symbols) : Type 0 where
-  pub contacts : IsIndex (contact_places g.contacts) symbols.contacts
-  pub coils : IsIndex (coil_places g.coils) symbols.coils
+  pub contacts : BeginNowhereInside g symbols.contacts
+  pub coils : BeginNowhereInside g symbols.coils
   pub boxes : IsIndex (box_places g.boxes) symbols.boxes

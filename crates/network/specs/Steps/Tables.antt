@@ -1,5 +1,5 @@
 -- Lists that are written step by step.
-use Rattle.std.specs.Prelude.{◌≡◌, ◌≢◌, ◌<◌, ◌⊎◌, ℕ, List, Option, Some, None, slice_get, slice_index, length}
+use Rattle.std.specs.Prelude.{◌≡◌, ◌≢◌, ◌<◌, ◌⊎◌, ℕ, List, Option, Some, None, slice_get, slice_index}
 
 -- what stands in the old list stands in the new one
 abbrev pub Keeps : {A : Type 0} → List A → List A → Type 0
