@@ -1,3 +1,4 @@
+pub mod PlaceLemmas
 pub mod PowerLemmas
 pub mod Lists
 pub mod Leading
