@@ -71,6 +71,14 @@ fn store_many(pins: &[BoundOutput], outputs: &PinsOut, slots: &mut [Slot])
     }
 }
 
+/// Stores one output at its operand.
+fn store_one(pins: &[BoundOutput], outputs: &PinsOut, slots: &mut [Slot])
+    requires { length pins.now ≡ 1 }
+    ensures { slots.new ≡ stored slots.old (pin_stores outputs.now pins.now) }
+{
+    store_pin(&pins[0], outputs, slots);
+}
+
 /// Stores two outputs at their operands.
 fn store_two(pins: &[BoundOutput], outputs: &PinsOut, slots: &mut [Slot])
     requires { length pins.now ≡ 2 }
@@ -84,10 +92,10 @@ fn store_two(pins: &[BoundOutput], outputs: &PinsOut, slots: &mut [Slot])
 fn store_pins(pins: &[BoundOutput], outputs: &PinsOut, slots: &mut [Slot])
     ensures { slots.new ≡ stored slots.old (pin_stores outputs.now pins.now) }
 {
-    if pins.len() == 2 {
-        store_two(pins, outputs, slots);
-    } else {
-        store_many(pins, outputs, slots);
+    match pins.len() {
+        1 => store_one(pins, outputs, slots),
+        2 => store_two(pins, outputs, slots),
+        _ => store_many(pins, outputs, slots),
     }
 }
 
