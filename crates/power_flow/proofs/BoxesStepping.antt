@@ -1,9 +1,9 @@
 -- The step of a box, by the inputs that its block's type reads.
-use Rattle.std.proofs.Common.{◌≡◌, ℕ, suc, ◌+◌, ◌<◌, ◌⊎◌, ◌↔◌, inl, inr, List, ◌∷◌, ◌++◌, Bool, true, false, Some, Any, length, slice_get, get_or, set, take, drop, drop-cons, add-one, arith, refl, sym, ap, ◌∙◌, subst}
+use Rattle.std.proofs.Common.{◌≡◌, ℕ, ◌+◌, ◌<◌, ◌⊎◌, ◌↔◌, inl, inr, List, Bool, true, false, Some, Any, length, slice_get, get_or, set, take, arith, refl, sym, ap, ◌∙◌, subst}
 use Rattle.std.proofs.lemmas.Bool.{cases_eq}
 use Rattle.std.proofs.lemmas.List.{get_or-take, length-take, get_or-set_same, get_or-set_other}
 use Rattle.std.proofs.lemmas.Option.{slice_get-get_or}
-use Rattle.lists.proofs.Places.{slice_get-set_same, slice_get-set_other, some_same}
+use Rattle.lists.proofs.Places.{some_same}
 use Rattle.std_blocks.specs.declared.block_type.BlockType.{BlockType}
 use Rattle.std_blocks.specs.declared.block_type.BlockType.TheVariants.{SR, RS, CTU, CTD, CTUD, TP, TON, TOF}
 use Rattle.std_blocks.specs.declared.block_state.BlockState.{BlockState}
@@ -11,14 +11,12 @@ use Rattle.std_blocks.specs.Blocks.{state_after, outputs_of, after, outputs_afte
 use Rattle.std_blocks.specs.declared.pins.PinsIn.{PinsIn}
 use Rattle.std_blocks.specs.declared.pins.PinsOut.{PinsOut}
 use Rattle.std_blocks.specs.Pins.{field_value}
-use Rattle.power_flow.specs.declared.state.Instance.{Instance}
 use Rattle.power_flow.specs.declared.state.Slot.{Slot}
-use Rattle.power_flow.specs.declared.state.Slot.TheVariants.{Block}
 use Rattle.power_flow.specs.declared.binding.bound_box.BoundBox.{BoundBox}
 use Rattle.power_flow.specs.declared.binding.bound_box.BoundOutput.{BoundOutput}
 use Rattle.power_flow.specs.Values.{is_true}
 use Rattle.power_flow.specs.Meaning.{bit_at}
-use Rattle.power_flow.specs.Steps.BoxSteps.{IsMarked, HasOutput, AreApartBoxes, pin_stores, output_stores, read_by, made_by, state_in, box_inputs, box_result}
+use Rattle.power_flow.specs.Steps.BoxSteps.{IsMarked, HasOutput, read_by, made_by, state_in, box_inputs, box_result}
 
 -- a block's step is that of the inputs that a block of its type reads
 pub read_state : (block : BlockType) (s : BlockState) (pins : PinsIn) (dt : ℕ) → state_after block s (read_by block pins) dt ≡ state_after block s pins dt
@@ -104,31 +102,6 @@ mark_more pins values i d old bits new lt was one k = (there, back)
     back : (bit_at old k ≡ true) ⊎ IsMarked (take (i + 1) pins) values k → bit_at new k ≡ true
     back (inl o) = (one k).1 (inl ((was k).1 (inl o)))
     back (inr m) = elim (any_less (Marks values k) pins i d lt m) [ inl less ↦ (one k).1 (inl ((was k).1 (inr less))) | inr p ↦ (one k).1 (inr p) ]
-
--- one more block is put back
-pub placed_more : (boxes : List BoundBox) (results : List Instance) (slots : List Slot) (n long : ℕ) (here : BoundBox) (v : Instance)
-    → slice_get boxes n ≡ Some here → slice_get results n ≡ Some v → length slots ≡ long → AreApartBoxes boxes
-    → ((j : ℕ) (e : BoundBox) (i : Instance) → j < n → slice_get boxes j ≡ Some e → slice_get results j ≡ Some i → e.instance < long → slice_get slots e.instance ≡ Some (Block i))
-    → (j : ℕ) (e : BoundBox) (i : Instance) → j < n + 1 → slice_get boxes j ≡ Some e → slice_get results j ≡ Some i → e.instance < long
-    → slice_get (set slots here.instance (Block v)) e.instance ≡ Some (Block i)
-placed_more boxes results slots n long here v box result room apart before j e i in' at has lt = elim (cases_eq j n) [
-  | inl same ↦
-      let is : e ≡ here = some_same (sym at ∙ ap (slice_get boxes) same ∙ box) in
-      let was : i ≡ v = some_same (sym has ∙ ap (slice_get results) same ∙ result) in
-      let P : BoundBox → Type 0 = λ b. b.instance < long in
-      let less : here.instance < long = subst P is lt in
-      ap (slice_get (set slots here.instance (Block v))) (ap (λ (b : BoundBox). b.instance) is) ∙ slice_get-set_same slots here.instance (Block v) (omega arith) ∙ ap (λ w. Some (Block w)) (sym was)
-  | inr ne ↦ slice_get-set_other slots here.instance e.instance (Block v) (λ one. ne (apart j n e here at box one)) ∙ before j e i (omega arith) at has lt
-]
-
--- the stores from box k on are those of box k, and then those from box k + 1 on
-pub output_stores_at : (boxes : List BoundBox) (results : List Instance) (k : ℕ) (here : BoundBox) (v : Instance) → k < length boxes → k < length results
-    → slice_get boxes k ≡ Some here → slice_get results k ≡ Some v
-    → output_stores (drop k boxes) (drop k results) ≡ pin_stores v.outputs here.outputs.items ++ output_stores (drop (k + 1) boxes) (drop (k + 1) results)
-output_stores_at boxes results k here v lt less box result =
-    let front : drop k boxes ≡ here ∷ drop (k + 1) boxes = rw add-one (drop-cons boxes k here lt ∙ ap (λ e. e ∷ drop (suc k) boxes) (some_same (sym (slice_get-get_or boxes k here lt) ∙ box))) in
-    let first : drop k results ≡ v ∷ drop (k + 1) results = rw add-one (drop-cons results k v less ∙ ap (λ e. e ∷ drop (suc k) results) (some_same (sym (slice_get-get_or results k v less) ∙ result))) in
-    rw (front, first) refl
 
 -- one more row is cleared
 pub clear_more : (pins : List BoundOutput) (i : ℕ) (d : BoundOutput) (rows : List Bool) → i < length pins → (get_or pins i d).row < length rows

@@ -40,7 +40,9 @@ use Rattle.power_flow.specs.Waiting.{box_of, boxes_of, coil_of, coils_of}
 use Rattle.power_flow.proofs.PowerLemmas.{on_source}
 use Rattle.power_flow.proofs.Lists.{any_at, any_found}
 use Rattle.power_flow.proofs.BoxesSources.{right_pin_in, right_pin_at}
-use Rattle.power_flow.proofs.Walking.{same_place, ends_has, Lets, Comes}
+use Rattle.power_flow.proofs.Walking.{ends_has, Lets, Comes}
+use Rattle.power_flow.proofs.PlaceLemmas.{same_place}
+use Rattle.power_flow.proofs.StepLemmas.{kept_before}
 use Rattle.power_flow.proofs.Sweeping as sweeping
 use Rattle.power_flow.proofs.Sweeping.{at_row, Touches}
 
@@ -69,19 +71,6 @@ number_less {A} {X} f (y ∷ es) (suc k) (suc n) e x lt at is = go (number_less 
     go : length (filter_map f (take k es)) < length (filter_map f (take n es)) → (o : Option X) → length (cons_option o (filter_map f (take k es))) < length (cons_option o (filter_map f (take n es)))
     go less None = less
     go less (Some z) = let a : length (z ∷ filter_map f (take k es)) ≡ suc (length (filter_map f (take k es))) = refl in let b : length (z ∷ filter_map f (take n es)) ≡ suc (length (filter_map f (take n es))) = refl in omega arith
-
--- what is chosen of the first n is no more than of all
-pub number_least : {A X : Type 0} (f : A → Option X) (es : List A) (k : ℕ) (e : A) (x : X) → slice_get es k ≡ Some e → f e ≡ Some x → length (filter_map f (take k es)) < length (filter_map f es)
-number_least f [] k e x at is = absurd cc
-number_least f (y ∷ es) zero e x at is =
-    let here : f y ≡ Some x = ap f (some_same at) ∙ is in
-    let long : length (cons_option (f y) (filter_map f es)) ≡ suc (length (filter_map f es)) = ap (λ o. length (cons_option o (filter_map f es))) here in
-    omega arith
-number_least {A} {X} f (y ∷ es) (suc k) e x at is = go (number_least f es k e x at is) (f y)
-  where
-    go : length (filter_map f (take k es)) < length (filter_map f es) → (o : Option X) → length (cons_option o (filter_map f (take k es))) < length (cons_option o (filter_map f es))
-    go less None = less
-    go less (Some z) = let a : length (z ∷ filter_map f (take k es)) ≡ suc (length (filter_map f (take k es))) = refl in let b : length (z ∷ filter_map f es) ≡ suc (length (filter_map f es)) = refl in omega arith
 
 pub and_both : (x y : Bool) → ((x && y) ≡ true) ↔ ((x ≡ true) × (y ≡ true))
 and_both true y = (λ h. (refl, h), λ h. h.1)
@@ -450,7 +439,7 @@ module _ (ds : List Declaration) (d : Diagram) (top count : ℕ) (boxes : List B
           let new_results : b.results ≡ a.results = ap (λ (w : Pass). w.results) is ∙ one.rest.results in
           let links_long = seen.links_long in
           let mid_links = ap (λ (w : List Bool). length w) one.rest.links in
-          let least = number_least coil_of d.elements n (Coil c) c at refl in
+          let least = kept_before coil_of d.elements n (Coil c) c at refl in
           let row_is : at_row b.rows top p ≡ v = ap (λ w. bit_at w (c.row - top)) new_rows in
           let link_is : bit_at b.links (coil_number n) ≡ v = ap (λ w. bit_at w (coil_number n)) new_links ∙ get_or-set_same mid.links (coil_number n) v false (omega arith) in
           let power = symbol_power n (Coil c) p at takes (λ s. s) in

@@ -17,12 +17,7 @@ use Rattle.network.specs.Apart.{Has, first_place}
 use Rattle.network.specs.GraphValue.{IsSoundNetwork}
 use Rattle.power_flow.specs.Steps.RowEnds.{AreRows, IsGiven, IsGivenByPin, AreEnds, AreEndsTo, AreEndsWithin, TellsLed}
 use Rattle.power_flow.proofs.Lists.{any_at, any_found}
-
--- two places of one row and one column are one
-pub same_place : (p q : Place) → p.row ≡ q.row → p.column ≡ q.column → p ≡ q
-same_place p q r c =
-    let at : ℕ → ℕ → Place = λ y x. record { row = y; column = x } in
-    ap (λ y. at y p.column) r ∙ ap (λ x. at q.row x) c
+use Rattle.power_flow.proofs.PlaceLemmas.{same_place}
 
 -- a place that gives state isn't left of where its element begins
 gives_after : (d : Diagram) → IsSoundNetwork d → (e : Element) (p : Place) → Contains d.elements e → Gives e p → (first_place e).column ≤ p.column

@@ -1,3 +1,4 @@
+pub mod PlaceLemmas
 pub mod PowerLemmas
 pub mod Lists
 pub mod Leading
@@ -20,6 +21,7 @@ pub mod FittingStates
 pub mod SameNetworks
 pub mod KeptSlots
 pub mod BoxesStepping
+pub mod BlocksStored
 pub mod BoxesSources
 pub mod BoxesMeaning
 pub mod BoxesBinding

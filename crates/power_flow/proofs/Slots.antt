@@ -4,6 +4,7 @@ use Rattle.std.specs.Option.{option_and_then, option_map}
 use Rattle.std.proofs.lemmas.Bool.{cases_eq}
 use Rattle.std.proofs.lemmas.List.{get_or-set_same, get_or-set_other, length-map}
 use Rattle.std.proofs.lemmas.Option.{slice_get-get_or, get_or_from_slice_get, slice_get_within, slice_get-map}
+use Rattle.lists.proofs.Places.{element_at}
 use Rattle.std_blocks.specs.declared.value.Value.{Value}
 use Rattle.variable_binding.specs.declared.declarations.Declaration.{Declaration}
 use Rattle.variable_binding.specs.declared.declarations.Declared.{Declared}
@@ -16,6 +17,11 @@ use Rattle.power_flow.specs.declared.state.Slot.{Slot}
 use Rattle.power_flow.specs.declared.state.Slot.TheVariants.{Variable, Block}
 use Rattle.variable_binding.specs.Kinds.{kind_of}
 use Rattle.power_flow.specs.StateValue.{variable_of, variable_at, IsSlotOf, AreSlotsOf}
+
+-- what is declared at a place before the end is that of the declaration there
+pub declared_there : (ds : List Declaration) (k : ℕ) (o : Option Declared) → k < length ds → o ≡ option_map (λ (d : Declaration). d.declared) (slice_get ds k)
+    → (e : Declaration) × (slice_get ds k ≡ Some e) × (o ≡ Some e.declared)
+declared_there ds k o lt is = let there = element_at ds k lt in (there.0, there.1, is ∙ ap (option_map (λ (d : Declaration). d.declared)) there.1)
 
 -- a value of the same kind serves as well
 pub same_kind : (d : Declared) (v w : Value) → kind_of v ≡ kind_of w → IsSlotOf d (Variable v) → IsSlotOf d (Variable w)

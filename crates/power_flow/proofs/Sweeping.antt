@@ -17,7 +17,8 @@ use Rattle.power_flow.specs.Steps.Columns.{IsStop, IsLed, StandsIn, IsUpright}
 use Rattle.power_flow.proofs.PowerLemmas.{on_source, on_step}
 use Rattle.power_flow.proofs.Lists.{any_at, any_found}
 use Rattle.power_flow.proofs.Walking as walking
-use Rattle.power_flow.proofs.Walking.{same_place, ends_has, Lets, Out, Comes}
+use Rattle.power_flow.proofs.Walking.{ends_has, Lets, Out, Comes}
+use Rattle.power_flow.proofs.PlaceLemmas.{same_place, stands_first}
 
 -- the state of the row of p
 abbrev pub at_row : List Bool → ℕ → Place → Bool
@@ -54,14 +55,6 @@ Touches (Upright at) x = at ≡ x
 Touches (Contact c) x = place c.row c.column ≡ x
 Touches (Coil c) x = place c.row c.column ≡ x
 Touches (Box b) x = Takes (Box b) x ⊎ Gives (Box b) x
-
-pub stands_first : (e : Element) (p : Place) → Stands e p → first_place e ≡ p
-stands_first (Wire at) p stands = absurd stands
-stands_first (Join at) p stands = stands
-stands_first (Upright at) p stands = stands
-stands_first (Contact c) p stands = absurd stands
-stands_first (Coil c) p stands = absurd stands
-stands_first (Box b) p stands = absurd stands
 
 weaker_needed : (d : Diagram) (n : ℕ) (q : Place) → IsNeeded d (n + 1) q → IsNeeded d n q
 weaker_needed d n q needed = record {

@@ -5,21 +5,12 @@ use Rattle.std.proofs.lemmas.Option.{slice_get_within}
 use Rattle.lists.proofs.Places.{element_at, some_same}
 use Rattle.ladder_text.specs.declared.place.Place.{Place}
 use Rattle.network.specs.declared.element.Element.{Element}
-use Rattle.network.specs.declared.element.Element.TheVariants.{Wire, Join, Upright, Contact, Coil, Box}
 use Rattle.network.specs.Links.{Diagram, Stands, place}
 use Rattle.network.specs.Apart.{first_place, Precedes}
 use Rattle.network.specs.GraphValue.{IsSoundNetwork}
 use Rattle.power_flow.specs.Steps.Columns.{StandsIn, IsUpright}
 use Rattle.power_flow.proofs.Lists.{any_found}
-
--- an upright begins where it stands
-stands_first : (e : Element) (p : Place) → Stands e p → first_place e ≡ p
-stands_first (Wire q) p h = absurd h
-stands_first (Join q) p h = h
-stands_first (Upright q) p h = h
-stands_first (Contact c) p h = absurd h
-stands_first (Coil c) p h = absurd h
-stands_first (Box b) p h = absurd h
+use Rattle.power_flow.proofs.PlaceLemmas.{stands_first}
 
 -- nothing comes between two places of which one is right below the other
 none_between : (p q r : Place) → r.column ≡ p.column → r.row ≡ p.row + 1 → Precedes p q → Precedes q r → ⊥

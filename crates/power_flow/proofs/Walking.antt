@@ -12,9 +12,6 @@ use Rattle.power_flow.specs.Steps.Columns.{IsStop, StandsIn, IsUpright}
 use Rattle.power_flow.proofs.PowerLemmas.{on_step}
 use Rattle.power_flow.proofs.Lists.{any_found}
 
-pub same_place : (p q : Place) → p.row ≡ q.row → p.column ≡ q.column → p ≡ q
-same_place p q row column = ap (λ r. place r p.column) row ∙ ap (λ c. place q.row c) column
-
 -- the last place of a symbol is one of its places
 pub ends_has : (e : Element) (p : Place) → EndsAt e p → Has e p
 ends_has (Wire at) p ends = absurd ends

@@ -26,7 +26,7 @@ pub fn are_slots_of(declarations: &Declarations, slots: &[Slot]) -> bool
         return false;
     }
     for place in 0..slots.len() {
-        let Some((_, declared)) = declarations.entry(place) else {
+        let Some(declared) = declarations.declared_at(place) else {
             return false;
         };
         if !is_slot_of(declared, &slots[place]) {

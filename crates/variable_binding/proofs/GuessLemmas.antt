@@ -17,7 +17,7 @@ use Rattle.variable_binding.specs.declared.name_use.NameUse.{NameUse}
 use Rattle.network.specs.declared.element.Element.{Element}
 use Rattle.variable_binding.specs.Guess.{is_before, is_first, declaration_of, element_uses, first_uses, uses_of}
 use Rattle.variable_binding.specs.Names.{place_of, IsDeclared}
-use Rattle.variable_binding.proofs.Places.{has_name, place_declared}
+use Rattle.variable_binding.proofs.Places.{has_name, place_declared, declared_place}
 
 -- the order by the keys of the sort
 abbrev pub key_before : NameUse → NameUse → Bool
@@ -142,11 +142,12 @@ declared_before ds u (Some i) at some =
     let there : list_any (has_name u.name) ds ≡ true = list_any-from_Any (has_name u.name) ds (place_declared ds u.name i (sym at)) in
     sym (ap (λ b. if b then ds else ds ++ declaration_of u ∷ []) there)
 
--- what is declared is the name of the use
-pub declared_new : (ds new : List Declaration) (u : NameUse) (given : List ℕ) → given ≡ u.name → (IsDeclared ds given → ⊥)
+-- what is declared is the name of the use, which has no place yet
+pub declared_new : (ds new : List Declaration) (u : NameUse) (given : List ℕ) (o : Option ℕ) → given ≡ u.name → o ≡ place_of ds u.name → is_some o ≡ false
     → new ≡ ds ++ record { name = given; declared = u.declared } ∷ [] → new ≡ declared_with ds u
-declared_new ds new u given same absent pushed =
-    let none : list_any (has_name u.name) ds ≡ false = ap (λ (n : List ℕ). list_any (has_name n) ds) (sym same) ∙ none_has ds given absent in
+declared_new ds new u given (Some i) same at unplaced pushed = absurd cc
+declared_new ds new u given None same at unplaced pushed =
+    let none : list_any (has_name u.name) ds ≡ false = none_has ds u.name (λ there. declared_place ds u.name there (sym at)) in
     pushed ∙ ap (λ (n : List ℕ). ds ++ record { name = n; declared = u.declared } ∷ []) same
     ∙ sym (ap (λ b. if b then ds else ds ++ declaration_of u ∷ []) none)
 

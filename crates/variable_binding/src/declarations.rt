@@ -85,6 +85,7 @@ fn key_of(alloc: Global, name: &str) -> Result<Vec<u8>, AllocError>
 
 impl Declarations {
     ghost use Rattle.std.specs.Prelude.{◌≡◌, ◌++◌, [], ◌∷◌, OnOk, OnErr, MatchOption, slice_get, slice_index_or, length, ◌<◌, ◌↔◌, IsTrue, None};
+    ghost use Rattle.std.specs.Option.{option_map};
     ghost use Rattle.std.specs.Str.{str_eq_ignore_ascii_case};
     ghost use Rattle.variable_binding.specs.declared.declarations.Declaration.{Declaration};
     ghost use Rattle.variable_binding.specs.Names.{place_of, IsDeclared};
@@ -182,8 +183,16 @@ impl Declarations {
         }
     }
 
+    /// What is declared at a position from 0.
+    pub fn declared_at(&self, i: usize) -> Option<Declared>
+        ensures { result ≡ option_map (λ (d : Declaration). d.declared) (slice_get self.now i) }
+    {
+        let (_, declaration) = self.entries.get_index(i)?;
+        Some(declaration.declared)
+    }
+
     /// Declares a new name at the end.
-    fn push(&mut self, name: &str, declared: Declared) -> Result<(), AllocError>
+    pub(crate) fn push(&mut self, name: &str, declared: Declared) -> Result<(), AllocError>
         requires { place_of self.old name.now ≡ None }
         ensures ok { OnOk result (self.new ≡ self.old ++ record { name = name.now; declared = declared } ∷ []) }
         ensures err { OnErr result (self.new ≡ self.old) }

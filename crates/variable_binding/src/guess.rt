@@ -4,7 +4,7 @@ ghost use Rattle.std.specs.List.Sorted.{IsPermutation, IsSortedBy, IsStableBy};
 ghost use Rattle.std.specs.Str.{str_eq_ignore_ascii_case};
 ghost use Rattle.variable_binding.specs.Guess.{is_plain, name_use, word_uses, pin_uses, element_uses, uses_of, is_before, declaration_of, first_uses, AreGuessed};
 
-use crate::declarations::{Declarations, DeclareFault, Declared, Kind};
+use crate::declarations::{Declarations, Declared, Kind};
 use crate::kinds::kind_of_pin;
 use crate::name_use::NameUse;
 use ladder_text::{DrawnPin, Text};
@@ -163,11 +163,8 @@ fn declare(declarations: &mut Declarations, first: &NameUse) -> Result<(), Alloc
     if declarations.position_of(first.name.as_bytes()).is_some() {
         return Ok(());
     }
-    match declarations.add(first.name.as_str(), first.declared) {
-        Ok(()) => Ok(()),
-        Err(DeclareFault::Twice) => Ok(()),
-        Err(DeclareFault::Memory) => Err(AllocError),
-    }
+    declarations.push(first.name.as_str(), first.declared)?;
+    Ok(())
 }
 
 /// The declarations of the first use of each name.

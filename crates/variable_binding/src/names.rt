@@ -43,6 +43,5 @@ pub fn declared_at(declarations: &Declarations, name: &[u8]) -> Option<Declared>
     ensures { result ≡ declared_at declarations.now name.now }
 {
     let place = declarations.position_of(name)?;
-    let (_, declared) = declarations.entry(place)?;
-    Some(declared)
+    declarations.declared_at(place)
 }

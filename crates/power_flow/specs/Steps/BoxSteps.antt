@@ -1,4 +1,4 @@
-use Rattle.std.specs.Prelude.{◌≡◌, ℕ, List, [], ◌∷◌, ◌++◌, Bool, true, false, pos, Option, Some, None, Any, slice_get, slice_index_or}
+use Rattle.std.specs.Prelude.{◌≡◌, ℕ, List, [], ◌∷◌, ◌++◌, Bool, true, false, pos, Option, Some, None, All, Any, ◌≢◌, slice_get, slice_index_or, slice_set}
 use Rattle.std.specs.List.{flat_map}
 use Rattle.std_blocks.specs.declared.value.Value.{Value}
 use Rattle.std_blocks.specs.declared.block_type.BlockType.{BlockType}
@@ -83,3 +83,17 @@ abbrev pub output_stores : List BoundBox → List Instance → List (ℕ × Valu
 output_stores [] results = []
 output_stores (e ∷ boxes) [] = []
 output_stores (e ∷ boxes) (i ∷ results) = pin_stores i.outputs e.outputs.items ++ output_stores boxes results
+
+-- the slots with the blocks of the boxes put back
+abbrev pub with_blocks : List BoundBox → List Instance → List Slot → List Slot
+with_blocks [] results slots = slots
+with_blocks (e ∷ boxes) [] slots = slots
+with_blocks (e ∷ boxes) (i ∷ results) slots = with_blocks boxes results (slice_set slots e.instance (Block i))
+
+-- no box stands at the place
+abbrev pub HasNoBox : List BoundBox → ℕ → Type 0
+HasNoBox boxes k = All (λ e. e.instance ≢ k) boxes
+
+-- no output is stored where a box stands
+abbrev pub AreBlocksKept : List BoundBox → Type 0
+AreBlocksKept boxes = All (λ e. All (λ o. (k : ℕ) → o.store ≡ Some k → HasNoBox boxes k) e.outputs.items) boxes

@@ -5,7 +5,9 @@ use Rattle.std_blocks.specs.declared.value.Value.{Value}
 use Rattle.std_blocks.specs.declared.value.Value.TheVariants.{Bool as BoolValue}
 use Rattle.power_flow.specs.declared.state.Instance.{Instance}
 use Rattle.power_flow.specs.declared.state.Slot.{Slot}
+use Rattle.std_blocks.specs.declared.pins.PinsOut.{PinsOut}
 use Rattle.power_flow.specs.declared.binding.bound_box.BoundBox.{BoundBox}
+use Rattle.power_flow.specs.declared.binding.bound_box.BoundOutput.{BoundOutput}
 use Rattle.power_flow.specs.declared.steps.step.Step.{Step}
 use Rattle.power_flow.specs.declared.steps.step.Step.TheVariants as step
 use Rattle.power_flow.specs.Steps.Contacts.{ContactValue, contact_of, first_of, second_of}
@@ -34,10 +36,14 @@ pub record AreJoined (first last : ℕ) (old new : List Bool) : Type 0 where
   pub outside : (r : ℕ) → (r < first) ⊎ (last < r) → bit_at new r ≡ bit_at old r
 
 -- the rows of the output pins show the outputs
-pub record AreShown (e : BoundBox) (i : Instance) (old new : List Bool) : Type 0 where
+pub record ArePinsShown (pins : List BoundOutput) (values : PinsOut) (old new : List Bool) : Type 0 where
   pub long : length new ≡ length old
-  pub within : (r : ℕ) → HasOutput e.outputs.items r → (bit_at new r ≡ true) ↔ IsMarked e.outputs.items i.outputs r
-  pub outside : (r : ℕ) → (HasOutput e.outputs.items r → ⊥) → bit_at new r ≡ bit_at old r
+  pub within : (r : ℕ) → HasOutput pins r → (bit_at new r ≡ true) ↔ IsMarked pins values r
+  pub outside : (r : ℕ) → (HasOutput pins r → ⊥) → bit_at new r ≡ bit_at old r
+
+-- so do those of a box
+abbrev pub AreShown : BoundBox → Instance → List Bool → List Bool → Type 0
+AreShown e i old new = ArePinsShown e.outputs.items i.outputs old new
 
 -- state goes on in the row of a contact that conducts
 abbrev pub read_rows : ContactValue → List Slot → List Bool → List Bool → List Bool

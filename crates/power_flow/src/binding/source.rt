@@ -148,8 +148,8 @@ pub fn name_source(declarations: &Declarations, name: &Text) -> Source
     let Some(place) = declarations.position_of(first) else {
         return Source::Nothing;
     };
-    match declarations.entry(place) {
-        Some((_, declared)) => declared_source(declared, place, pin),
+    match declarations.declared_at(place) {
+        Some(declared) => declared_source(declared, place, pin),
         None => Source::Nothing,
     }
 }

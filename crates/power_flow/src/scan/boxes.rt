@@ -1,9 +1,9 @@
-ghost use Rattle.std.specs.Prelude.{◌≡◌, ◌<◌, ◌≤◌, ◌⊎◌, ◌↔◌, ◌≢◌, ℕ, All, Any, IfSome, Some, true, length, slice_get, slice_set};
+ghost use Rattle.std.specs.Prelude.{◌≡◌, Some, length, slice_set};
 ghost use Rattle.power_flow.specs.declared.binding.bound_box.BoundBox.{BoundBox};
 ghost use Rattle.power_flow.specs.declared.state.Instance.{Instance};
 ghost use Rattle.power_flow.specs.declared.state.Slot.TheVariants.{Block};
 ghost use Rattle.power_flow.specs.Meaning.{store, stored};
-ghost use Rattle.power_flow.specs.Steps.BoxSteps.{AreApartBoxes, pin_store, pin_stores, output_stores};
+ghost use Rattle.power_flow.specs.Steps.BoxSteps.{pin_store, pin_stores, output_stores, with_blocks, AreBlocksKept};
 
 use crate::binding::bound_box::{BoundBox, BoundOutput};
 use crate::binding::source::output_value;
@@ -25,18 +25,6 @@ fn put_block(slots: &mut [Slot], place: usize, block: &Instance)
 {
     if place < slots.len() {
         slots[place] = Slot::Block(*block);
-    }
-}
-
-/// Puts the blocks back into their slots.
-pub fn store_blocks(boxes: &[BoundBox], results: &[Instance], slots: &mut [Slot])
-    requires { length results.now ≡ length boxes.now }
-    ensures placed { AreApartBoxes boxes.now → (j : ℕ) (e : BoundBox) (i : Instance) → slice_get boxes.now j ≡ Some e → slice_get results.now j ≡ Some i
-        → e.instance < length slots.old → slice_get slots.new e.instance ≡ Some (Block i) }
-    ensures others { (k : ℕ) → All (λ e. e.instance ≢ k) boxes.now → slice_get slots.new k ≡ slice_get slots.old k }
-{
-    for k in 0..boxes.len() {
-        put_block(slots, boxes[k].instance, &results[k]);
     }
 }
 
@@ -71,6 +59,14 @@ fn store_many(pins: &[BoundOutput], outputs: &PinsOut, slots: &mut [Slot])
     }
 }
 
+/// Stores one output at its operand.
+fn store_one(pins: &[BoundOutput], outputs: &PinsOut, slots: &mut [Slot])
+    requires { length pins.now ≡ 1 }
+    ensures { slots.new ≡ stored slots.old (pin_stores outputs.now pins.now) }
+{
+    store_pin(&pins[0], outputs, slots);
+}
+
 /// Stores two outputs at their operands.
 fn store_two(pins: &[BoundOutput], outputs: &PinsOut, slots: &mut [Slot])
     requires { length pins.now ≡ 2 }
@@ -84,19 +80,22 @@ fn store_two(pins: &[BoundOutput], outputs: &PinsOut, slots: &mut [Slot])
 fn store_pins(pins: &[BoundOutput], outputs: &PinsOut, slots: &mut [Slot])
     ensures { slots.new ≡ stored slots.old (pin_stores outputs.now pins.now) }
 {
-    if pins.len() == 2 {
-        store_two(pins, outputs, slots);
-    } else {
-        store_many(pins, outputs, slots);
+    match pins.len() {
+        1 => store_one(pins, outputs, slots),
+        2 => store_two(pins, outputs, slots),
+        _ => store_many(pins, outputs, slots),
     }
 }
 
-/// Stores the outputs of the boxes at their operands, in order.
-pub fn store_outputs(boxes: &[BoundBox], results: &[Instance], slots: &mut [Slot])
+/// Puts the blocks back into their slots, and stores their outputs at their operands, in order.
+pub fn store_boxes(boxes: &[BoundBox], results: &[Instance], slots: &mut [Slot])
     requires { length results.now ≡ length boxes.now }
-    ensures { slots.new ≡ stored slots.old (output_stores boxes.now results.now) }
+    ensures { AreBlocksKept boxes.now → slots.new ≡ stored (with_blocks boxes.now results.now slots.old) (output_stores boxes.now results.now) }
 {
     for k in 0..boxes.len() {
-        store_pins(&boxes[k].outputs, &results[k].outputs, slots);
+        let bound = &boxes[k];
+        let made = &results[k];
+        put_block(slots, bound.instance, made);
+        store_pins(&bound.outputs, &made.outputs, slots);
     }
 }

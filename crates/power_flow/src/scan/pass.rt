@@ -5,7 +5,7 @@ ghost use Rattle.power_flow.specs.Values.{is_true};
 ghost use Rattle.power_flow.specs.Steps.BoxSteps.{IsMarked, HasOutput, box_result};
 ghost use Rattle.power_flow.specs.Steps.Circuit.{IsStepIn};
 ghost use Rattle.power_flow.specs.Steps.Contacts.{contact_of};
-ghost use Rattle.power_flow.specs.Steps.Passing.{AreJoined, AreShown, IsBoxObeyed, IsObeyed, ArePassed, pass_of, read_rows, read_memories};
+ghost use Rattle.power_flow.specs.Steps.Passing.{AreJoined, ArePinsShown, AreShown, IsBoxObeyed, IsObeyed, ArePassed, pass_of, read_rows, read_memories};
 
 use crate::binding::bound_box::{BoundBox, BoundOutput};
 use crate::binding::bound_contact::{BoundContact, VariableContact};
@@ -155,20 +155,6 @@ fn clear_two(pins: &[BoundOutput], rows: &mut [bool])
     rows[second] = false;
 }
 
-/// Turns off the rows of the output pins.
-fn clear_outputs(pins: &[BoundOutput], rows: &mut [bool])
-    requires { All (λ o. o.row < length rows.old) pins.now }
-    ensures long { length rows.new ≡ length rows.old }
-    ensures cleared { (r : ℕ) → HasOutput pins.now r → bit_at rows.new r ≡ false }
-    ensures kept { (r : ℕ) → (HasOutput pins.now r → ⊥) → bit_at rows.new r ≡ bit_at rows.old r }
-{
-    if pins.len() == 2 {
-        clear_two(pins, rows);
-    } else {
-        clear_many(pins, rows);
-    }
-}
-
 /// Turns on the row of an output pin that is ON.
 fn mark_output(pin: &BoundOutput, outputs: &PinsOut, rows: &mut [bool])
     requires { pin.now.row < length rows.old }
@@ -203,26 +189,44 @@ fn mark_two(pins: &[BoundOutput], outputs: &PinsOut, rows: &mut [bool])
     mark_output(&pins[1], outputs, rows);
 }
 
-/// Turns on the rows of the output pins that are ON.
-fn mark_outputs(pins: &[BoundOutput], outputs: &PinsOut, rows: &mut [bool])
-    requires { All (λ o. o.row < length rows.old) pins.now }
-    ensures long { length rows.new ≡ length rows.old }
-    ensures marked { (r : ℕ) → (bit_at rows.new r ≡ true) ↔ ((bit_at rows.old r ≡ true) ⊎ IsMarked pins.now outputs.now r) }
+/// The row of one output pin shows its output.
+fn show_one(pins: &[BoundOutput], outputs: &PinsOut, rows: &mut [bool])
+    requires one { length pins.now ≡ 1 }
+    requires within { All (λ o. o.row < length rows.old) pins.now }
+    ensures { ArePinsShown pins.now outputs.now rows.old rows.new }
 {
-    if pins.len() == 2 {
-        mark_two(pins, outputs, rows);
-    } else {
-        mark_many(pins, outputs, rows);
-    }
+    rows[pins[0].row] = is_output_on(outputs, pins[0].field);
 }
 
-/// The rows of the output pins show the outputs.
-fn show_outputs(bound: &BoundBox, made: &Instance, rows: &mut [bool])
-    requires { All (λ o. o.row < length rows.old) bound.now.outputs.items }
-    ensures { AreShown bound.now made.now rows.old rows.new }
+/// The rows of two output pins show their outputs.
+fn show_two(pins: &[BoundOutput], outputs: &PinsOut, rows: &mut [bool])
+    requires two { length pins.now ≡ 2 }
+    requires within { All (λ o. o.row < length rows.old) pins.now }
+    ensures { ArePinsShown pins.now outputs.now rows.old rows.new }
 {
-    clear_outputs(&bound.outputs, rows);
-    mark_outputs(&bound.outputs, &made.outputs, rows);
+    clear_two(pins, rows);
+    mark_two(pins, outputs, rows);
+}
+
+/// The rows of the output pins show their outputs.
+fn show_many(pins: &[BoundOutput], outputs: &PinsOut, rows: &mut [bool])
+    requires { All (λ o. o.row < length rows.old) pins.now }
+    ensures { ArePinsShown pins.now outputs.now rows.old rows.new }
+{
+    clear_many(pins, rows);
+    mark_many(pins, outputs, rows);
+}
+
+/// The rows of the output pins show their outputs. Most blocks have one or two.
+fn show_outputs(pins: &[BoundOutput], outputs: &PinsOut, rows: &mut [bool])
+    requires { All (λ o. o.row < length rows.old) pins.now }
+    ensures { ArePinsShown pins.now outputs.now rows.old rows.new }
+{
+    match pins.len() {
+        1 => show_one(pins, outputs, rows),
+        2 => show_two(pins, outputs, rows),
+        _ => show_many(pins, outputs, rows),
+    }
 }
 
 /// Steps a box by the states of the rows on its left, and shows its outputs in those on its right.
@@ -232,7 +236,7 @@ fn step_box(bound: &BoundBox, made: &mut Instance, slots: &[Slot], rows: &mut [b
     ensures shown { AreShown bound.now (box_result bound.now slots.now dt rows.old) rows.old rows.new }
 {
     bound.step(slots, rows, dt, made);
-    show_outputs(bound, made, rows);
+    show_outputs(&bound.outputs, &made.outputs, rows);
 }
 
 /// Reads the contact of an edge: state goes on in its row if it conducts, and its memory is set.

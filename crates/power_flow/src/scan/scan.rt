@@ -11,7 +11,7 @@ ghost use Rattle.ladder_text.specs.declared.place.Place.{Place};
 ghost use Rattle.power_flow.specs.Steps.Circuit.{HasShape, IsCircuit, HasRoom, AreCircuits, circuit_diagram};
 ghost use Rattle.power_flow.specs.Steps.Passing.{bound_stores, bound_memories};
 
-use crate::scan::boxes::{store_blocks, store_outputs, store_value};
+use crate::scan::boxes::{store_boxes, store_value};
 use crate::scan::pass::pass;
 use crate::state::{Instance, Slot, State};
 use crate::steps::circuit::Circuit;
@@ -108,8 +108,7 @@ fn scan_circuit(
         results,
         dt,
     );
-    store_blocks(&circuit.boxes, results, slots);
-    store_outputs(&circuit.boxes, results, slots);
+    store_boxes(&circuit.boxes, results, slots);
     store_coils(&circuit.coils, links, memories, slots);
 }
 
