@@ -7,7 +7,7 @@ use Rattle.variable_binding.specs.Kinds.{value_first}
 use Rattle.plant_text.specs.declared.address.Space.{Space}
 use Rattle.plant_text.specs.declared.address.Space.TheVariants.{Bit as BitSpace, Word as WordSpace}
 use Rattle.plant_text.specs.declared.address.Address.{Address}
-use Rattle.plant.specs.PlantValue.{kind_of_space}
+use Rattle.plant_grammar.specs.Kinds.{kind_of_space}
 use Rattle.evaluation.specs.declared.field_input.FieldInput.{FieldInput}
 use Rattle.evaluation.specs.declared.field_input.FieldInput.TheVariants.{Bit, Word}
 

@@ -3,7 +3,8 @@ use Rattle.std.proofs.Common.{◌≡◌, ℕ, Bool, true, false, List, Option, S
 use Rattle.std.proofs.lemmas.Option.{none-some, same_Some}
 use Rattle.lists.proofs.Tables.{both_same, cell_same, cell_other, cell_filled, row_lengths_kept, row_lengths_filled}
 use Rattle.due_list.specs.declared.task_ref.TaskRef.{TaskRef}
-use Rattle.plant.specs.PlantValue.{CodeValue, ResourceValue, PlantValue, code_at, items_or_none, image_kinds, IsSoundPlant}
+use Rattle.plant_grammar.specs.Kinds.{items_or_none}
+use Rattle.plant.specs.PlantValue.{CodeValue, ResourceValue, PlantValue, code_at, image_kinds, IsSoundPlant}
 use Rattle.evaluation.specs.declared.field_input.FieldInput.{FieldInput}
 use Rattle.evaluation.specs.Meaning.{Evaluated}
 use Rattle.exchange_core.specs.Last.{same_task}

@@ -10,7 +10,8 @@ use Rattle.std_blocks.specs.declared.value.Value.{Value}
 use Rattle.variable_binding.specs.declared.declarations.Kind.{Kind}
 use Rattle.power_flow.specs.StateValue.{StateValue}
 use Rattle.due_list.specs.declared.task_ref.TaskRef.{TaskRef}
-use Rattle.plant.specs.PlantValue.{CodeValue, ResourceValue, PlantValue, code_at, expected_at, image_kinds, items_or_none, IsSoundPlant}
+use Rattle.plant_grammar.specs.Kinds.{items_or_none}
+use Rattle.plant.specs.PlantValue.{CodeValue, ResourceValue, PlantValue, code_at, expected_at, image_kinds, IsSoundPlant}
 use Rattle.evaluation.specs.declared.field_input.FieldInput.{FieldInput}
 use Rattle.evaluation.specs.declared.name.Name.{Name}
 use Rattle.evaluation.specs.declared.take.Take.{Take}

@@ -9,18 +9,18 @@ use Rattle.plant_text.specs.declared.token.Token.{Token}
 use Rattle.plant_text.specs.declared.token.Token.TheVariants as token
 use Rattle.plant_text.specs.declared.token.Keyword.TheVariants as key
 use Rattle.plant_text.specs.declared.token.Punctuation.TheVariants.{Colon, Semicolon}
-use Rattle.plant.specs.declared.grammar.tree.Section.{Section}
-use Rattle.plant.specs.declared.grammar.tree.Section.TheVariants as section
-use Rattle.plant.specs.declared.grammar.tree.TypeName.{TypeName}
-use Rattle.plant.specs.declared.grammar.tree.TypeName.TheVariants.{Elementary, Block}
-use Rattle.plant.specs.declared.grammar.tree.NameList.{NameList}
-use Rattle.plant.specs.declared.grammar.tree.VarBlock.{VarBlock}
-use Rattle.plant.specs.declared.grammar.tree.Program.{Program}
-use Rattle.plant.specs.Grammar.{key_word, mark, section_word, type_word, name_words, list_words, lists_words, block_words, program_words}
+use Rattle.plant_grammar.specs.declared.grammar.tree.Section.{Section}
+use Rattle.plant_grammar.specs.declared.grammar.tree.Section.TheVariants as section
+use Rattle.plant_grammar.specs.declared.grammar.tree.TypeName.{TypeName}
+use Rattle.plant_grammar.specs.declared.grammar.tree.TypeName.TheVariants.{Elementary, Block}
+use Rattle.plant_grammar.specs.declared.grammar.tree.NameList.{NameList}
+use Rattle.plant_grammar.specs.declared.grammar.tree.VarBlock.{VarBlock}
+use Rattle.plant_grammar.specs.declared.grammar.tree.Program.{Program}
+use Rattle.plant_grammar.specs.Grammar.{key_word, mark, section_word, type_word, name_words, list_words, lists_words, block_words, program_words}
 use Rattle.plant_text.specs.Spelling.{BeginsWith}
-use Rattle.plant.specs.BodyFaults.{TextValue}
+use Rattle.plant_grammar.specs.BodyFaults.{TextValue}
 use Rattle.plant_text.specs.Lines.{WordValue, body_line, body_lines, IsBegunBy}
-use Rattle.plant.specs.Steps.Reading.{programs_of, lines_of}
+use Rattle.plant_grammar.specs.Steps.Reading.{programs_of, lines_of}
 use Rattle.plant.proofs.KnownWords.{programs_known}
 
 abbrev one_body : Token → ℕ

@@ -8,7 +8,7 @@ use Rattle.std.proofs.lemmas.List.Sums.{passes_at_first, fails_before_first}
 use Rattle.variable_binding.specs.Names.{is_dot}
 use Rattle.due_list.specs.declared.task_ref.TaskRef.{TaskRef}
 use Rattle.std.proofs.lemmas.Option.{get_or_from_slice_get}
-use Rattle.plant.specs.Names.{IsAt}
+use Rattle.plant_grammar.specs.Names.{IsAt}
 use Rattle.plant.specs.PlantValue.{PlantValue, CodeValue, ProgramValue}
 use Rattle.plant.specs.Steps.Drafts.{IsInstanceAt}
 use Rattle.plant.specs.Find.{ArePartsOf, IsTaskAt, IsTaskNamed}

@@ -12,7 +12,8 @@ use Rattle.lists.proofs.Places.{element_at}
 use Rattle.variable_binding.specs.declared.declarations.Kind.{Kind}
 use Rattle.variable_binding.specs.declared.declarations.Declaration.{Declaration}
 use Rattle.plant.specs.declared.task_output.TaskOutput.{TaskOutput}
-use Rattle.plant.specs.PlantValue.{ProgramValue, CodeValue, IsOutputOf, items_or_none, output_kind, outputs_of, outputs_in, output_at}
+use Rattle.plant_grammar.specs.Kinds.{items_or_none}
+use Rattle.plant.specs.PlantValue.{ProgramValue, CodeValue, IsOutputOf, output_kind, outputs_of, outputs_in, output_at}
 use Rattle.plant.specs.Steps.Outputs.{output_if}
 
 -- one more number of a list that is counted

@@ -10,24 +10,24 @@ use Rattle.plant_text.specs.declared.token.Keyword.{Keyword}
 use Rattle.plant_text.specs.declared.token.Keyword.TheVariants as key
 use Rattle.plant_text.specs.declared.token.Punctuation.{Punctuation}
 use Rattle.plant_text.specs.declared.token.Punctuation.TheVariants.{Open, Close, Colon, Semicolon, Comma, Dot, Assign}
-use Rattle.plant.specs.declared.grammar.tree.Section.{Section}
-use Rattle.plant.specs.declared.grammar.tree.Section.TheVariants as section
-use Rattle.plant.specs.declared.grammar.tree.TypeName.{TypeName}
-use Rattle.plant.specs.declared.grammar.tree.TypeName.TheVariants.{Elementary, Block}
-use Rattle.plant.specs.declared.grammar.tree.NameList.{NameList}
-use Rattle.plant.specs.declared.grammar.tree.VarBlock.{VarBlock}
-use Rattle.plant.specs.declared.grammar.tree.Program.{Program}
-use Rattle.plant.specs.declared.grammar.tree.Order.{Order}
-use Rattle.plant.specs.declared.grammar.tree.Order.TheVariants.{IntervalFirst, PriorityFirst}
-use Rattle.plant.specs.declared.grammar.tree.TaskLine.{TaskLine}
-use Rattle.plant.specs.declared.grammar.tree.SourceName.{SourceName}
-use Rattle.plant.specs.declared.grammar.tree.SourceName.TheVariants as source
-use Rattle.plant.specs.declared.grammar.tree.Bind.{Bind}
-use Rattle.plant.specs.declared.grammar.tree.Use.{Use}
-use Rattle.plant.specs.declared.grammar.tree.Item.{Item}
-use Rattle.plant.specs.declared.grammar.tree.Item.TheVariants as item
-use Rattle.plant.specs.declared.grammar.tree.Resource.{Resource}
-use Rattle.plant.specs.Grammar.{Tree, key_word, mark, section_word, type_word, name_words, list_words, lists_words, block_words, program_words, interval_words, priority_words, settings, task_words, source_words, bind_words, with_commas, binds_words, listed, use_words, item_words, items_words, resource_words, resources_words, words_of}
+use Rattle.plant_grammar.specs.declared.grammar.tree.Section.{Section}
+use Rattle.plant_grammar.specs.declared.grammar.tree.Section.TheVariants as section
+use Rattle.plant_grammar.specs.declared.grammar.tree.TypeName.{TypeName}
+use Rattle.plant_grammar.specs.declared.grammar.tree.TypeName.TheVariants.{Elementary, Block}
+use Rattle.plant_grammar.specs.declared.grammar.tree.NameList.{NameList}
+use Rattle.plant_grammar.specs.declared.grammar.tree.VarBlock.{VarBlock}
+use Rattle.plant_grammar.specs.declared.grammar.tree.Program.{Program}
+use Rattle.plant_grammar.specs.declared.grammar.tree.Order.{Order}
+use Rattle.plant_grammar.specs.declared.grammar.tree.Order.TheVariants.{IntervalFirst, PriorityFirst}
+use Rattle.plant_grammar.specs.declared.grammar.tree.TaskLine.{TaskLine}
+use Rattle.plant_grammar.specs.declared.grammar.tree.SourceName.{SourceName}
+use Rattle.plant_grammar.specs.declared.grammar.tree.SourceName.TheVariants as source
+use Rattle.plant_grammar.specs.declared.grammar.tree.Bind.{Bind}
+use Rattle.plant_grammar.specs.declared.grammar.tree.Use.{Use}
+use Rattle.plant_grammar.specs.declared.grammar.tree.Item.{Item}
+use Rattle.plant_grammar.specs.declared.grammar.tree.Item.TheVariants as item
+use Rattle.plant_grammar.specs.declared.grammar.tree.Resource.{Resource}
+use Rattle.plant_grammar.specs.Grammar.{Tree, key_word, mark, section_word, type_word, name_words, list_words, lists_words, block_words, program_words, interval_words, priority_words, settings, task_words, source_words, bind_words, with_commas, binds_words, listed, use_words, item_words, items_words, resource_words, resources_words, words_of}
 
 abbrev pub IsKnown : Token → Type 0
 IsKnown t = t ≢ token.Unknown

@@ -7,20 +7,9 @@ pub mod ProducerLemmas
 pub mod LinkLemmas
 pub mod StandLemmas
 pub mod FindLemmas
-pub mod Apart
-pub mod WordLists
-pub mod ItemLemmas
-pub mod TypeLemmas
-pub mod BodyLemmas
-pub mod DrawnLemmas
-pub mod FaultLemmas
-pub mod RefusedNames
-pub mod RefusedPlaces
-pub mod AddedNames
 pub mod RefusedKnown
-pub mod VariableLemmas
-pub mod TreeLemmas
 pub mod KnownWords
 pub mod BodyCounts
 pub mod SameCode
 mod PlanLemmas
+pub mod WordFaults

@@ -16,16 +16,17 @@ use Rattle.plant.specs.declared.binding.Source.TheVariants as source
 use Rattle.plant.specs.declared.binding.Binding.{Binding}
 use Rattle.due_list.specs.declared.task_ref.TaskRef.{TaskRef}
 use Rattle.plant.specs.declared.task_output.TaskOutput.{TaskOutput}
-use Rattle.plant.specs.declared.grammar.tree.SourceName.{SourceName}
-use Rattle.plant.specs.declared.grammar.tree.SourceName.TheVariants as named
-use Rattle.plant.specs.declared.grammar.tree.Bind.{Bind}
-use Rattle.plant.specs.declared.grammar.tree.Use.{Use}
+use Rattle.plant_grammar.specs.declared.grammar.tree.SourceName.{SourceName}
+use Rattle.plant_grammar.specs.declared.grammar.tree.SourceName.TheVariants as named
+use Rattle.plant_grammar.specs.declared.grammar.tree.Bind.{Bind}
+use Rattle.plant_grammar.specs.declared.grammar.tree.Use.{Use}
 use Rattle.plant.specs.declared.sources.feed.Origin.{Origin}
 use Rattle.plant.specs.declared.sources.feed.Origin.TheVariants as origin
 use Rattle.plant.specs.declared.sources.feed.Feed.{Feed}
-use Rattle.plant.specs.Names.{is_named, AreApart}
-use Rattle.plant.specs.Faultless.{binds_of}
-use Rattle.plant.specs.PlantValue.{ProgramValue, CodeValue, PlantValue, image_kinds, outputs_of, input_kind_at, kind_of_space, source_kind, expected_at, items_or_none, AreOnce, AreDistinct, IsBindingSound, IsSoundCode}
+use Rattle.plant_grammar.specs.Names.{is_named, AreApart}
+use Rattle.plant_grammar.specs.Faultless.{binds_of}
+use Rattle.plant_grammar.specs.Kinds.{input_kind_at, kind_of_space, items_or_none}
+use Rattle.plant.specs.PlantValue.{ProgramValue, CodeValue, PlantValue, image_kinds, outputs_of, source_kind, expected_at, AreOnce, AreDistinct, IsBindingSound, IsSoundCode}
 use Rattle.plant.specs.StandsFor.{IsOrigin, IsSourceOf, firsts, mention}
 use Rattle.plant.specs.Steps.Drafts.{IsOriginOf, AreKindsOf, IsFeedOf, AreFeedsOf, IsPlaced, IsPlacedSource, IsBindingBy, IsLinked, IsOnceBound, Triples, tasks_taken, all_taken, IsTakenFrom, IsTaskOf}
 use Rattle.plant.proofs.NameLemmas.{one_name}

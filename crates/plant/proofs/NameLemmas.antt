@@ -9,7 +9,7 @@ use Rattle.variable_binding.specs.declared.declarations.Kind.TheVariants as kind
 use Rattle.variable_binding.specs.declared.declarations.Declared.TheVariants as declared
 use Rattle.variable_binding.specs.declared.declarations.Declaration.{Declaration}
 use Rattle.variable_binding.specs.Names.{place_of}
-use Rattle.plant.specs.Names.{is_named, IsAt}
+use Rattle.plant_grammar.specs.Names.{is_named, IsAt}
 
 pub same_letters : (a b : List ℕ) → IsTrue (is_named a b) → str_to_ascii_lowercase a ≡ str_to_ascii_lowercase b
 same_letters a b e = (bytes_eq-Decides (str_to_ascii_lowercase a) (str_to_ascii_lowercase b)).0 e

@@ -4,20 +4,20 @@ use Rattle.std.specs.List.{flat_map}
 use Rattle.std.proofs.lemmas.List.{take-append-drop}
 use Rattle.std.proofs.Math.Seq.{take-append_seam}
 use Rattle.variable_binding.specs.declared.declarations.Declaration.{Declaration}
-use Rattle.plant.specs.declared.plant_fault.PlantFaultKind.{PlantFaultKind}
+use Rattle.plant_grammar.specs.declared.plant_fault.PlantFaultKind.{PlantFaultKind}
 use Rattle.plant_text.specs.declared.token.Token.{Token}
 use Rattle.plant_text.specs.declared.token.Token.TheVariants as token
 use Rattle.plant_text.specs.declared.token.Keyword.TheVariants as key
 use Rattle.plant_text.specs.declared.token.Punctuation.TheVariants.{Open, Colon, Comma}
-use Rattle.plant.specs.declared.grammar.tree.Section.{Section}
-use Rattle.plant.specs.declared.grammar.tree.Program.{Program}
-use Rattle.plant.specs.declared.grammar.tree.Bind.{Bind}
-use Rattle.plant.specs.declared.grammar.tree.Item.{Item}
-use Rattle.plant.specs.declared.grammar.tree.Resource.{Resource}
-use Rattle.plant.specs.Grammar.{key_word, mark, section_word, bind_words, list_words, block_words, program_words, item_words, resource_words}
+use Rattle.plant_grammar.specs.declared.grammar.tree.Section.{Section}
+use Rattle.plant_grammar.specs.declared.grammar.tree.Program.{Program}
+use Rattle.plant_grammar.specs.declared.grammar.tree.Bind.{Bind}
+use Rattle.plant_grammar.specs.declared.grammar.tree.Item.{Item}
+use Rattle.plant_grammar.specs.declared.grammar.tree.Resource.{Resource}
+use Rattle.plant_grammar.specs.Grammar.{key_word, mark, section_word, bind_words, list_words, block_words, program_words, item_words, resource_words}
 use Rattle.plant_text.specs.Spelling.{BeginsWith}
-use Rattle.plant.specs.NameFaults.{IsRefused, IsAfter, IsAfterName, IsBehind, name_and_comma, bind_and_comma, RefusesVariable, RefusesList, RefusesBlock, RefusesBlocks, RefusesProgram, RefusesPrograms, RefusesTask, RefusesBind, RefusesBinds, RefusesInstance, RefusesItems, RefusesResource, RefusesResources, RefusesConfiguration}
-use Rattle.plant.specs.Steps.Declaring.{BeginWith, RefusesPlant}
+use Rattle.plant_grammar.specs.NameFaults.{IsRefused, IsAfter, IsAfterName, IsBehind, name_and_comma, bind_and_comma, RefusesVariable, RefusesList, RefusesBlock, RefusesBlocks, RefusesProgram, RefusesPrograms, RefusesTask, RefusesBind, RefusesBinds, RefusesInstance, RefusesItems, RefusesResource, RefusesResources, RefusesConfiguration}
+use Rattle.plant_grammar.specs.Steps.Declaring.{BeginWith, RefusesPlant}
 use Rattle.plant_text.specs.Lines.{WordValue, body_lines, IsBegunBy}
 use Rattle.plant.proofs.KnownWords.{IsKnown, AreKnown, nothing, key_is, mark_is, name_is, behind, both, all_of, section_is, list_is, block_is, program_is, bind_is, item_is, resource_is}
 use Rattle.plant.proofs.BodyCounts.{map_take}

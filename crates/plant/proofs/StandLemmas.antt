@@ -11,18 +11,18 @@ use Rattle.plant.specs.declared.binding.Source.{Source}
 use Rattle.plant.specs.declared.binding.Source.TheVariants as source
 use Rattle.plant.specs.declared.binding.Binding.{Binding}
 use Rattle.due_list.specs.declared.task_ref.TaskRef.{TaskRef}
-use Rattle.plant.specs.declared.grammar.tree.Program.{Program}
-use Rattle.plant.specs.declared.grammar.tree.TaskLine.{TaskLine}
-use Rattle.plant.specs.declared.grammar.tree.SourceName.{SourceName}
-use Rattle.plant.specs.declared.grammar.tree.SourceName.TheVariants as named
-use Rattle.plant.specs.declared.grammar.tree.Bind.{Bind}
-use Rattle.plant.specs.declared.grammar.tree.Use.{Use}
-use Rattle.plant.specs.declared.grammar.tree.Item.{Item}
-use Rattle.plant.specs.declared.grammar.tree.Item.TheVariants as item
-use Rattle.plant.specs.declared.grammar.tree.Resource.{Resource}
-use Rattle.plant.specs.Grammar.{Tree}
-use Rattle.plant.specs.Names.{is_named, IsAt}
-use Rattle.plant.specs.Faultless.{variables, IsLadderOf, tasks_of, use_of, binds_of, IsResourceLawful}
+use Rattle.plant_grammar.specs.declared.grammar.tree.Program.{Program}
+use Rattle.plant_grammar.specs.declared.grammar.tree.TaskLine.{TaskLine}
+use Rattle.plant_grammar.specs.declared.grammar.tree.SourceName.{SourceName}
+use Rattle.plant_grammar.specs.declared.grammar.tree.SourceName.TheVariants as named
+use Rattle.plant_grammar.specs.declared.grammar.tree.Bind.{Bind}
+use Rattle.plant_grammar.specs.declared.grammar.tree.Use.{Use}
+use Rattle.plant_grammar.specs.declared.grammar.tree.Item.{Item}
+use Rattle.plant_grammar.specs.declared.grammar.tree.Item.TheVariants as item
+use Rattle.plant_grammar.specs.declared.grammar.tree.Resource.{Resource}
+use Rattle.plant_grammar.specs.Grammar.{Tree}
+use Rattle.plant_grammar.specs.Names.{is_named, IsAt}
+use Rattle.plant_grammar.specs.Faultless.{variables, IsLadderOf, tasks_of, use_of, binds_of, IsResourceLawful}
 use Rattle.plant.specs.PlantValue.{TaskValue, ProgramValue, CodeValue, ResourceValue, PlantValue, code_at, bindings_at, IsSoundPlant, AreProducersOf}
 use Rattle.plant.specs.StandsFor.{runs_in, IsOrigin, IsSourceOf, IsBindingOf, IsCodeOf, IsResourceOf, IsPlantOf, task_value}
 use Rattle.plant.specs.Steps.Drafts.{drafted, IsProgramOf, IsDraftOf, IsResourceDraft, IsReady, IsOnceBound, IsBindingBy, IsLinked, IsResourceLinked, HasPrograms, Triples}

@@ -3,7 +3,7 @@ use Rattle.std.specs.Prelude.{◌≡◌, ℕ, List, Option, MatchOption, Contain
 use Rattle.std.specs.List.{before_first, after_first}
 use Rattle.variable_binding.specs.Names.{is_dot}
 use Rattle.due_list.specs.declared.task_ref.TaskRef.{TaskRef}
-use Rattle.plant.specs.Names.{IsAt}
+use Rattle.plant_grammar.specs.Names.{IsAt}
 use Rattle.plant.specs.PlantValue.{TaskValue, ResourceValue, PlantValue}
 
 -- a resource of the first name stands there, and in it a task of the second

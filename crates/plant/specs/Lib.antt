@@ -1,12 +1,6 @@
 pub mod PlantValue
-pub mod Faults
-pub mod Names
-pub mod Grammar
-pub mod BodyFaults
-pub mod Faultless
 pub mod StandsFor
 pub mod PlantText
-pub mod NameFaults
 pub mod Find
 pub mod OutputNames
 pub mod Plan

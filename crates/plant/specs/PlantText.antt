@@ -2,11 +2,11 @@
 use Rattle.std.specs.Prelude.{ℕ, List, map}
 use Rattle.std.specs.List.{flat_map}
 use Rattle.words.specs.Lines.{without_last}
-use Rattle.plant.specs.declared.plant_fault.PlantFault.{PlantFault}
-use Rattle.plant.specs.BodyFaults.{TextValue, IsFirstBodyFault}
+use Rattle.plant_grammar.specs.declared.plant_fault.PlantFault.{PlantFault}
+use Rattle.plant_grammar.specs.BodyFaults.{TextValue, IsFirstBodyFault}
 use Rattle.plant_text.specs.Spelling.{Spells, BeginsWith}
-use Rattle.plant.specs.Grammar.{Tree, program_words, words_of}
-use Rattle.plant.specs.Faultless.{IsFaultless}
+use Rattle.plant_grammar.specs.Grammar.{Tree, program_words, words_of}
+use Rattle.plant_grammar.specs.Faultless.{IsFaultless}
 use Rattle.plant.specs.PlantValue.{PlantValue}
 use Rattle.plant.specs.StandsFor.{IsPlantOf}
 

@@ -2,15 +2,13 @@
 use Rattle.std.specs.Prelude.{◌≡◌, ℕ, ◌<◌, List, [], ◌∷◌, Option, Some, None, length, map, slice_get, slice_index_or, All}
 use Rattle.std.specs.Global.{Vec}
 use Rattle.std.specs.List.{flat_map, enumerate_from}
-use Rattle.std.specs.Option.{option_and_then, option_map}
+use Rattle.std.specs.Option.{option_map}
 use Rattle.variable_binding.specs.declared.declarations.Kind.{Kind}
-use Rattle.variable_binding.specs.declared.declarations.Kind.TheVariants as kind
 use Rattle.variable_binding.specs.declared.declarations.Declared.{Declared}
 use Rattle.variable_binding.specs.declared.declarations.Declared.TheVariants.{Input, Output, Local, Instance}
 use Rattle.variable_binding.specs.declared.declarations.Declaration.{Declaration}
 use Rattle.power_flow.specs.LadderValue.{LadderValue}
-use Rattle.plant_text.specs.declared.address.Space.{Space}
-use Rattle.plant_text.specs.declared.address.Space.TheVariants.{Bit, Word}
+use Rattle.plant_grammar.specs.Kinds.{items_or_none, kind_of_space, input_kind_at}
 use Rattle.plant.specs.declared.binding.Source.{Source}
 use Rattle.plant.specs.declared.binding.Source.TheVariants.{Field, Given}
 use Rattle.plant.specs.declared.binding.Binding.{Binding}
@@ -55,11 +53,6 @@ pub record ResourceValue : Type 0 where
 pub record PlantValue : Type 0 where
   pub resources : List ResourceValue
 
--- the items of a list that may be missing
-abbrev pub items_or_none : {A : Type 0} → Option (List A) → List A
-items_or_none None = []
-items_or_none (Some xs) = xs
-
 -- the name of a resource as it was declared
 abbrev pub resource_name_at : PlantValue → ℕ → Option (List ℕ)
 resource_name_at plant resource = option_map (λ (r : ResourceValue). r.name) (slice_get plant.resources resource)
@@ -80,24 +73,12 @@ code_at plant t = slice_get (codes_at plant t.resource) t.task
 abbrev pub producers_at : PlantValue → TaskRef → List TaskRef
 producers_at plant t = items_or_none (option_map (λ (c : CodeValue). c.producers) (code_at plant t))
 
--- the kind of a variable that is an input
-abbrev pub input_kind : Declared → Option Kind
-input_kind (Input k) = Some k
-input_kind (Output k) = None
-input_kind (Local k) = None
-input_kind (Instance b) = None
-
 -- the kind of a variable that is an output
 abbrev pub output_kind : Declared → Option Kind
 output_kind (Input k) = None
 output_kind (Output k) = Some k
 output_kind (Local k) = None
 output_kind (Instance b) = None
-
--- what a space of addresses holds
-abbrev pub kind_of_space : Space → Kind
-kind_of_space Bit = kind.Bool
-kind_of_space Word = kind.Int
 
 -- the output that variable k of program i is, if it is one
 abbrev pub output_at : ℕ → ℕ → Declaration → List TaskOutput
@@ -127,10 +108,6 @@ expected_at c p = items_or_none (slice_get c.expected p)
 abbrev pub source_kind : CodeValue → Source → Option Kind
 source_kind c (Field a) = Some (kind_of_space a.space)
 source_kind c (Given p o) = slice_get (expected_at c p) o
-
--- the kind of the input at a place
-abbrev pub input_kind_at : List Declaration → ℕ → Option Kind
-input_kind_at ds place = option_and_then (λ (d : Declaration). input_kind d.declared) (slice_get ds place)
 
 -- an input stands at the binding's place, and its source gives values of its kind
 abbrev pub IsBindingSound : CodeValue → ProgramValue → Binding → Type 0

@@ -9,17 +9,18 @@ use Rattle.plant.specs.declared.binding.Source.TheVariants.{Field, Given}
 use Rattle.plant.specs.declared.binding.Binding.{Binding}
 use Rattle.due_list.specs.declared.task_ref.TaskRef.{TaskRef}
 use Rattle.plant.specs.declared.task_output.TaskOutput.{TaskOutput}
-use Rattle.plant.specs.declared.grammar.tree.Program.{Program}
-use Rattle.plant.specs.declared.grammar.tree.TaskLine.{TaskLine}
-use Rattle.plant.specs.declared.grammar.tree.SourceName.{SourceName}
-use Rattle.plant.specs.declared.grammar.tree.SourceName.TheVariants as source
-use Rattle.plant.specs.declared.grammar.tree.Bind.{Bind}
-use Rattle.plant.specs.declared.grammar.tree.Use.{Use}
-use Rattle.plant.specs.declared.grammar.tree.Resource.{Resource}
-use Rattle.plant.specs.Grammar.{Tree}
-use Rattle.plant.specs.Names.{is_named, IsAt}
-use Rattle.plant.specs.Faultless.{variables, IsLadderOf, tasks_of, uses_of, binds_of}
-use Rattle.plant.specs.PlantValue.{TaskValue, ProgramValue, CodeValue, ResourceValue, PlantValue, bindings_at, source_kind, input_kind_at, IsSoundCode, AreProducersOf}
+use Rattle.plant_grammar.specs.declared.grammar.tree.Program.{Program}
+use Rattle.plant_grammar.specs.declared.grammar.tree.TaskLine.{TaskLine}
+use Rattle.plant_grammar.specs.declared.grammar.tree.SourceName.{SourceName}
+use Rattle.plant_grammar.specs.declared.grammar.tree.SourceName.TheVariants as source
+use Rattle.plant_grammar.specs.declared.grammar.tree.Bind.{Bind}
+use Rattle.plant_grammar.specs.declared.grammar.tree.Use.{Use}
+use Rattle.plant_grammar.specs.declared.grammar.tree.Resource.{Resource}
+use Rattle.plant_grammar.specs.Grammar.{Tree}
+use Rattle.plant_grammar.specs.Names.{is_named, IsAt}
+use Rattle.plant_grammar.specs.Faultless.{variables, IsLadderOf, tasks_of, uses_of, binds_of}
+use Rattle.plant_grammar.specs.Kinds.{input_kind_at}
+use Rattle.plant.specs.PlantValue.{TaskValue, ProgramValue, CodeValue, ResourceValue, PlantValue, bindings_at, source_kind, IsSoundCode, AreProducersOf}
 
 -- the instances that a task runs, in order of declaration
 abbrev pub runs_in : Resource → TaskLine → List Use

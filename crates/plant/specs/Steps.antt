@@ -1,10 +1,5 @@
--- Steps of the proofs: what is known of a plant halfway. Only contracts inside this crate cite them, so no reader has to believe them.
-pub mod Declaring
+-- Steps of the proofs: what is known of a plant halfway. Only contracts inside this crate cite them,
+-- so no reader has to believe them.
 pub mod Drafts
-pub mod Drawn
 pub mod Found
-pub mod Lines
 pub mod Outputs
-pub mod ReadParts
-pub mod Reading
-pub mod WordFaults

@@ -1,8 +1,4 @@
-ghost use Rattle.std.specs.Prelude.{◌≡◌};
-ghost use Rattle.plant.specs.PlantValue.{kind_of_space};
-
-use plant_text::{Address, Space};
-use power_flow::Kind;
+use plant_text::Address;
 
 /// Where a bound input is filled from.
 #[derive(Clone, Copy, Debug, PartialEq, Eq)]
@@ -18,14 +14,4 @@ pub enum Source {
 pub struct Binding {
     pub place: usize,
     pub source: Source,
-}
-
-/// The kind of the values that a space of addresses holds: bits are BOOL, words INT.
-pub fn kind_of_space(space: Space) -> Kind
-    ensures { result ≡ kind_of_space space }
-{
-    match space {
-        Space::Bit => Kind::Bool,
-        Space::Word => Kind::Int,
-    }
 }

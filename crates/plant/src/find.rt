@@ -3,10 +3,10 @@ ghost use Rattle.plant.specs.PlantValue.{TaskValue};
 ghost use Rattle.plant.specs.Find.{ArePartsOf, IsTaskAt, IsTaskNamed, Finds};
 ghost use Rattle.plant.specs.Steps.Found.{FindsAt};
 
-use crate::names::is_named;
 use crate::plant::Plant;
 use crate::task::Task;
 use due_list::TaskRef;
+use plant_grammar::is_named;
 
 /// The position of the first task of a name.
 fn find_task(tasks: &[Task], name: &str) -> Option<usize>

@@ -2,13 +2,9 @@
 #![tactic(auto)]
 
 mod binding;
-mod bodies;
 mod find;
-mod grammar;
-mod names;
 mod planning;
 mod plant;
-mod plant_fault;
 mod plant_resource;
 mod program_instance;
 mod read;
@@ -18,11 +14,11 @@ mod task;
 mod task_code;
 mod task_output;
 
-pub use binding::{Binding, Source, kind_of_space};
+pub use binding::{Binding, Source};
 pub use due_list::{Due, PlanFault, TaskRef, one_plan};
 pub use planning::plan;
 pub use plant::Plant;
-pub use plant_fault::{BodyFault, PlantFault, PlantFaultKind};
+pub use plant_grammar::{BodyFault, PlantFault, PlantFaultKind, kind_of_space};
 pub use plant_text::{Address, Space};
 pub use task::Task;
 pub use task_code::TaskCode;

@@ -1,8 +1,8 @@
 -- Worked drawings that have no ladder, since their networks have a fault.
 use Rattle.std.specs.Prelude.{◌≡◌, ℕ, List, [], ◌∷◌, ◌++◌, codes, replicate}
 use Rattle.power_flow.specs.LadderValue.{LadderValue}
-use Rattle.plant.specs.declared.grammar.tree.Program.{Program}
-use Rattle.plant.specs.Faultless.{IsLadderOf}
+use Rattle.plant_grammar.specs.declared.grammar.tree.Program.{Program}
+use Rattle.plant_grammar.specs.Faultless.{IsLadderOf}
 use Rattle.worked_drawings.specs.Figures.{text_of}
 
 -- no program with this body has a ladder

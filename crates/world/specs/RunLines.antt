@@ -8,7 +8,8 @@ use Rattle.std_blocks.specs.declared.value.Value.TheVariants.{Bool as BoolValue,
 use Rattle.variable_binding.specs.declared.declarations.Declaration.{Declaration}
 use Rattle.due_list.specs.declared.task_ref.TaskRef.{TaskRef}
 use Rattle.plant.specs.declared.task_output.TaskOutput.{TaskOutput}
-use Rattle.plant.specs.PlantValue.{TaskValue, ResourceValue, ProgramValue, CodeValue, PlantValue, items_or_none}
+use Rattle.plant_grammar.specs.Kinds.{items_or_none}
+use Rattle.plant.specs.PlantValue.{TaskValue, ResourceValue, ProgramValue, CodeValue, PlantValue}
 use Rattle.plant.specs.Plan.{task_at}
 use Rattle.evaluation.specs.declared.name.Name.{Name}
 use Rattle.evaluation.specs.declared.take.Take.{Take}

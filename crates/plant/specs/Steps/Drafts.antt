@@ -11,21 +11,22 @@ use Rattle.plant.specs.declared.binding.Source.TheVariants as source
 use Rattle.plant.specs.declared.binding.Binding.{Binding}
 use Rattle.due_list.specs.declared.task_ref.TaskRef.{TaskRef}
 use Rattle.plant.specs.declared.task_output.TaskOutput.{TaskOutput}
-use Rattle.plant.specs.declared.grammar.tree.Program.{Program}
-use Rattle.plant.specs.declared.grammar.tree.TaskLine.{TaskLine}
-use Rattle.plant.specs.declared.grammar.tree.SourceName.{SourceName}
-use Rattle.plant.specs.declared.grammar.tree.SourceName.TheVariants as named
-use Rattle.plant.specs.declared.grammar.tree.Bind.{Bind}
-use Rattle.plant.specs.declared.grammar.tree.Use.{Use}
-use Rattle.plant.specs.declared.grammar.tree.Item.{Item}
-use Rattle.plant.specs.declared.grammar.tree.Resource.{Resource}
+use Rattle.plant_grammar.specs.declared.grammar.tree.Program.{Program}
+use Rattle.plant_grammar.specs.declared.grammar.tree.TaskLine.{TaskLine}
+use Rattle.plant_grammar.specs.declared.grammar.tree.SourceName.{SourceName}
+use Rattle.plant_grammar.specs.declared.grammar.tree.SourceName.TheVariants as named
+use Rattle.plant_grammar.specs.declared.grammar.tree.Bind.{Bind}
+use Rattle.plant_grammar.specs.declared.grammar.tree.Use.{Use}
+use Rattle.plant_grammar.specs.declared.grammar.tree.Item.{Item}
+use Rattle.plant_grammar.specs.declared.grammar.tree.Resource.{Resource}
 use Rattle.plant.specs.declared.sources.feed.Origin.{Origin}
 use Rattle.plant.specs.declared.sources.feed.Origin.TheVariants as origin
 use Rattle.plant.specs.declared.sources.feed.Feed.{Feed}
-use Rattle.plant.specs.Names.{is_named, IsAt, AreApart}
-use Rattle.plant.specs.Faultless.{IsLadderOf, use_of, tasks_of, uses_of, binds_of}
-use Rattle.plant.specs.Steps.Reading.{TypeValue}
-use Rattle.plant.specs.PlantValue.{ProgramValue, CodeValue, ResourceValue, PlantValue, lists_of, code_at, image_kinds, outputs_of, input_kind_at, kind_of_space, source_kind, bindings_at, IsSoundCode, AreProducersOf}
+use Rattle.plant_grammar.specs.Names.{is_named, IsAt, AreApart}
+use Rattle.plant_grammar.specs.Faultless.{IsLadderOf, use_of, tasks_of, uses_of, binds_of}
+use Rattle.plant_grammar.specs.Steps.Reading.{TypeValue}
+use Rattle.plant_grammar.specs.Kinds.{input_kind_at, kind_of_space}
+use Rattle.plant.specs.PlantValue.{ProgramValue, CodeValue, ResourceValue, PlantValue, lists_of, code_at, image_kinds, outputs_of, source_kind, bindings_at, IsSoundCode, AreProducersOf}
 use Rattle.plant.specs.StandsFor.{runs_in, IsOrigin, IsSourceOf, firsts, mention, task_value}
 
 -- what references point to

@@ -1,6 +1,6 @@
 -- What is found under a name, or in a place.
 use Rattle.std.specs.Prelude.{ℕ, List, Option, MatchOption}
-use Rattle.plant.specs.Names.{IsAt}
+use Rattle.plant_grammar.specs.Names.{IsAt}
 
 -- what is found are two things of which this holds; it is none only where it holds of no two
 abbrev pub FindsBoth : {A B : Type 0} → (A → B → Type 0) → Option (A × B) → Type 0

@@ -1,21 +1,19 @@
 //! What a plant runs, before its sources are resolved: the programs of each task, and their outputs.
 
 ghost use Rattle.std.specs.Prelude.{◌≡◌, ◌++◌, IfOk, OnOk, IfErr};
-ghost use Rattle.plant.specs.NameFaults.{TellsOfName};
-ghost use Rattle.plant.specs.Steps.WordFaults.{IsWordFault};
+ghost use Rattle.plant_grammar.specs.NameFaults.{TellsOfName};
+ghost use Rattle.plant_grammar.specs.Steps.WordFaults.{IsWordFault};
 ghost use Rattle.std.specs.List.{AllZip};
-ghost use Rattle.plant.specs.Faultless.{tasks_of, task_of};
+ghost use Rattle.plant_grammar.specs.Faultless.{tasks_of, task_of};
 ghost use Rattle.plant.specs.StandsFor.{runs_in};
 ghost use Rattle.plant.specs.Steps.Drafts.{seen, runs_at, programs_in, IsProgramOf, IsDraftOf, IsResourceDraft};
 
-use crate::bodies::program_type::ProgramType;
-use crate::grammar::declared_names::type_named;
-use crate::grammar::name::Name;
-use crate::grammar::tree::{Item, Resource, TaskLine, Use};
-use crate::plant_fault::{PlantFault, PlantFaultKind};
 use crate::program_instance::ProgramInstance;
 use crate::sources::resource_draft::ResourceDraft;
 use crate::sources::task_draft::TaskDraft;
+use plant_grammar::{
+    Item, Name, PlantFault, PlantFaultKind, ProgramType, Resource, TaskLine, Use, type_named,
+};
 use std::alloc::{AllocError, Global};
 use std::sync::Arc;
 

@@ -1,24 +1,22 @@
 //! The binds of instances, each with its input and its source found by name.
 
 ghost use Rattle.std.specs.Prelude.{◌≡◌, All, IfOk, OnOk, length, IfErr};
-ghost use Rattle.plant.specs.NameFaults.{TellsOfName};
-ghost use Rattle.plant.specs.Steps.WordFaults.{IsWordFault};
+ghost use Rattle.plant_grammar.specs.NameFaults.{TellsOfName};
+ghost use Rattle.plant_grammar.specs.Steps.WordFaults.{IsWordFault};
 ghost use Rattle.std.specs.List.{AllZip, flat_map};
-ghost use Rattle.plant.specs.Faultless.{binds_of, use_of, uses_of};
-ghost use Rattle.plant.specs.Steps.ReadParts.{FindsInput};
+ghost use Rattle.plant_grammar.specs.Faultless.{binds_of, use_of, uses_of};
+ghost use Rattle.plant_grammar.specs.Steps.ReadParts.{FindsInput};
 ghost use Rattle.plant.specs.Steps.Drafts.{drafted, IsValue, IsOriginOf, IsFeedOf, HasFeed, AreAllFeeds, IsUseResolved};
 
-use crate::binding::kind_of_space;
-use crate::bodies::program_type::ProgramType;
-use crate::grammar::declared_names::type_named;
-use crate::grammar::name::Name;
-use crate::grammar::tree::{Bind, Item, Resource, SourceName, Use};
-use crate::plant_fault::{PlantFault, PlantFaultKind};
 use crate::program_instance::ProgramInstance;
 use crate::sources::feed::{Feed, Origin};
 use crate::sources::lookup::{find_instance, find_output, find_resource};
 use crate::sources::resource_draft::ResourceDraft;
 use due_list::TaskRef;
+use plant_grammar::{
+    Bind, Item, Name, PlantFault, PlantFaultKind, ProgramType, Resource, SourceName, Use,
+    kind_of_space, type_named,
+};
 use power_flow::{Declarations, Declared, Kind};
 use std::alloc::Global;
 

@@ -1,16 +1,14 @@
 //! The codes of tasks: their drafts with each source resolved.
 
 ghost use Rattle.std.specs.Prelude.{◌≡◌, ◌<◌, List, IfOk, All, length, map, IfErr};
-ghost use Rattle.plant.specs.NameFaults.{TellsOfName};
-ghost use Rattle.plant.specs.Steps.WordFaults.{IsWordFault};
+ghost use Rattle.plant_grammar.specs.NameFaults.{TellsOfName};
+ghost use Rattle.plant_grammar.specs.Steps.WordFaults.{IsWordFault};
 ghost use Rattle.std.specs.List.{AllZip};
-ghost use Rattle.plant.specs.declared.grammar.tree.Program.{Program};
-ghost use Rattle.plant.specs.Faultless.{tasks_of, uses_of};
+ghost use Rattle.plant_grammar.specs.declared.grammar.tree.Program.{Program};
+ghost use Rattle.plant_grammar.specs.Faultless.{tasks_of, uses_of};
 ghost use Rattle.plant.specs.StandsFor.{runs_in, task_value};
 ghost use Rattle.plant.specs.Steps.Drafts.{seen, drafted, AreDrafts, IsResourceDraft, IsReady, IsOnceBound, IsLinked, AreLinked, IsResourceLinked, Triples};
 
-use crate::grammar::tree::{Resource, TaskLine, Use};
-use crate::plant_fault::PlantFault;
 use crate::plant_resource::PlantResource;
 use crate::program_instance::ProgramInstance;
 use crate::sources::draft::{runs_in, tasks_of};
@@ -20,6 +18,7 @@ use crate::sources::resource_draft::ResourceDraft;
 use crate::sources::task_draft::TaskDraft;
 use crate::task::Task;
 use crate::task_code::TaskCode;
+use plant_grammar::{PlantFault, Resource, TaskLine, Use};
 use std::alloc::{AllocError, Global};
 use std::sync::Arc;
 

@@ -6,11 +6,11 @@ ghost use Rattle.plant.specs.Steps.Drafts.{IsInstanceAt, IsPlacedAt, IsOutputAt}
 ghost use Rattle.plant.specs.Steps.Found.{FindsBoth, FindsAt};
 ghost use Rattle.plant.specs.Steps.Outputs.{StandsBefore, IsBefore};
 
-use crate::names::is_named;
 use crate::program_instance::ProgramInstance;
 use crate::sources::resource_draft::ResourceDraft;
 use crate::sources::task_draft::TaskDraft;
 use crate::task_output::TaskOutput;
+use plant_grammar::is_named;
 use power_flow::Kind;
 
 /// The position of the resource of a name.

@@ -1,16 +1,15 @@
 ghost use Rattle.std.specs.Prelude.{ℕ, List, IfOk, IfErr};
-ghost use Rattle.plant.specs.NameFaults.{TellsOfName};
-ghost use Rattle.plant.specs.Steps.WordFaults.{IsWordFault};
-ghost use Rattle.plant.specs.Faultless.{IsFaultless};
-ghost use Rattle.plant.specs.Steps.Reading.{tree_of};
+ghost use Rattle.plant_grammar.specs.NameFaults.{TellsOfName};
+ghost use Rattle.plant_grammar.specs.Steps.WordFaults.{IsWordFault};
+ghost use Rattle.plant_grammar.specs.Faultless.{IsFaultless};
+ghost use Rattle.plant_grammar.specs.Steps.Reading.{tree_of};
 ghost use Rattle.plant.specs.StandsFor.{IsPlantOf};
 
-use crate::grammar::reading::Reading;
 use crate::plant::Plant;
-use crate::plant_fault::PlantFault;
 use crate::sources::draft::draft_resources;
 use crate::sources::feeds::check_sources;
 use crate::sources::link::link_resources;
+use plant_grammar::{PlantFault, Reading};
 use std::alloc::Global;
 
 /// The plant that is read, with each source resolved. The first source with a fault is answered, in order of the text.

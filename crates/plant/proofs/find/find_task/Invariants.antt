@@ -1,5 +1,5 @@
 use Rattle.std.proofs.Common.{ℕ, ◌<◌}
-use Rattle.plant.specs.Names.{IsAt}
+use Rattle.plant_grammar.specs.Names.{IsAt}
 use Rattle.plant.specs.PlantValue.{TaskValue}
 use Rattle.plant.proofs.find.find_task.Given as goal
 

@@ -4,16 +4,16 @@ use Rattle.words.specs.Lines.{without_last}
 use Rattle.plant_text.specs.declared.token.Token.{Token}
 use Rattle.plant_text.specs.declared.token.Token.TheVariants as token
 use Rattle.plant_text.specs.Spelling.{Spells}
-use Rattle.plant.specs.Grammar.{words_of}
-use Rattle.plant.specs.Steps.Reading.{tree_of}
-use Rattle.plant.specs.Steps.Lines.{ReaderValue}
+use Rattle.plant_grammar.specs.Grammar.{words_of}
+use Rattle.plant_grammar.specs.Steps.Reading.{tree_of}
+use Rattle.plant_grammar.specs.Steps.Lines.{ReaderValue}
 use Rattle.plant_text.specs.Lines.{WordValue, body_lines}
-use Rattle.plant.specs.Faults.{IsOfBody}
+use Rattle.plant_grammar.specs.Faults.{IsOfBody}
 use Rattle.plant.specs.PlantText.{IsBodyFaultIn}
 use Rattle.lists.proofs.Results.{kept_fault}
 use Rattle.plant.proofs.KnownWords.{words_known}
 use Rattle.plant.proofs.BodyCounts.{begun_by_programs}
-use Rattle.plant.specs.NameFaults.{IsOfName, IsNameFaultIn}
+use Rattle.plant_grammar.specs.NameFaults.{IsOfName, IsNameFaultIn}
 use Rattle.plant.proofs.RefusedKnown.{begun_by_refused}
 use Rattle.plant.proofs.plant.Plant.read.Goals as goal
 

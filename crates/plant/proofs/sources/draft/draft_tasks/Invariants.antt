@@ -1,7 +1,7 @@
 use Rattle.std.proofs.Common.{take, map}
 use Rattle.std.specs.List.{AllZip}
 use Rattle.std.specs.Borrow.{Bor}
-use Rattle.plant.specs.declared.grammar.tree.TaskLine.{TaskLine}
+use Rattle.plant_grammar.specs.declared.grammar.tree.TaskLine.{TaskLine}
 use Rattle.plant.specs.Steps.Drafts.{programs_in, IsDraftOf}
 use Rattle.plant.proofs.sources.draft.draft_tasks.Given as goal
 

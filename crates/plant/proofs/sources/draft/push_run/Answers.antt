@@ -1,5 +1,5 @@
 use Rattle.std.proofs.Common.{IsTrue}
-use Rattle.plant.specs.Names.{is_named}
+use Rattle.plant_grammar.specs.Names.{is_named}
 use Rattle.plant.proofs.DraftLemmas.{run_pushed}
 use Rattle.plant.proofs.sources.draft.push_run.Goals as goal
 

@@ -1,5 +1,5 @@
-use Rattle.plant.specs.declared.grammar.tree.Use.{Use}
-use Rattle.plant.specs.Names.{is_named}
+use Rattle.plant_grammar.specs.declared.grammar.tree.Use.{Use}
+use Rattle.plant_grammar.specs.Names.{is_named}
 use Rattle.plant.specs.Steps.Drafts.{seen}
 use Rattle.plant.proofs.DraftLemmas.{runs_more}
 use Rattle.plant.proofs.sources.draft.runs_in.Goals as goal

@@ -1,6 +1,6 @@
 use Rattle.std.proofs.Common.{◌≡◌, length, map}
 use Rattle.std.specs.Borrow.{Bor}
-use Rattle.plant.specs.declared.grammar.tree.Use.{Use}
+use Rattle.plant_grammar.specs.declared.grammar.tree.Use.{Use}
 use Rattle.plant.specs.Steps.Drafts.{drafted, AreFeedsOf, Triples}
 use Rattle.plant.proofs.sources.feeds.feeds_of.Given as goal
 

@@ -1,6 +1,6 @@
 use Rattle.std.proofs.Common.{◌<◌, map}
 use Rattle.std.specs.Borrow.{Bor}
-use Rattle.plant.specs.declared.grammar.tree.TaskLine.{TaskLine}
+use Rattle.plant_grammar.specs.declared.grammar.tree.TaskLine.{TaskLine}
 use Rattle.plant.proofs.Zips.{ref_at, all_at}
 use Rattle.plant.proofs.sources.link.declared_tasks.Goals as goal
 

@@ -5,7 +5,7 @@ use Rattle.std.proofs.lemmas.List.{length-map}
 use Rattle.variable_binding.specs.declared.declarations.Kind.{Kind}
 use Rattle.plant.specs.declared.binding.Binding.{Binding}
 use Rattle.plant.specs.declared.sources.feed.Feed.{Feed}
-use Rattle.plant.specs.declared.grammar.tree.Use.{Use}
+use Rattle.plant_grammar.specs.declared.grammar.tree.Use.{Use}
 use Rattle.plant.specs.Steps.Drafts.{drafted, IsLinked}
 use Rattle.plant.proofs.LinkLemmas.{linked_copy, producers_known, taken_known}
 use Rattle.plant.proofs.sources.link.link_runs.Goals as goal

@@ -6,10 +6,10 @@ use Rattle.std.proofs.lemmas.List.{length_push, length-map}
 use Rattle.std.proofs.lemmas.Option.{slice_get_read}
 use Rattle.lists.proofs.Zips.{zip_length}
 use Rattle.plant.specs.declared.task_code.TaskCode.{TaskCode}
-use Rattle.plant.specs.declared.grammar.tree.TaskLine.{TaskLine}
-use Rattle.plant.specs.declared.grammar.tree.Use.{Use}
-use Rattle.plant.specs.Names.{is_named}
-use Rattle.plant.specs.Faultless.{uses_of}
+use Rattle.plant_grammar.specs.declared.grammar.tree.TaskLine.{TaskLine}
+use Rattle.plant_grammar.specs.declared.grammar.tree.Use.{Use}
+use Rattle.plant_grammar.specs.Names.{is_named}
+use Rattle.plant_grammar.specs.Faultless.{uses_of}
 use Rattle.plant.specs.StandsFor.{runs_in}
 use Rattle.plant.specs.Steps.Drafts.{drafted, IsDraftOf, IsLinked, IsOnceBound}
 use Rattle.plant.proofs.StandLemmas.{runs_many}

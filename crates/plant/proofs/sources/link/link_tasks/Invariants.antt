@@ -1,6 +1,6 @@
 use Rattle.std.proofs.Common.{◌≡◌, length, map}
 use Rattle.std.specs.Borrow.{Bor}
-use Rattle.plant.specs.declared.grammar.tree.TaskLine.{TaskLine}
+use Rattle.plant_grammar.specs.declared.grammar.tree.TaskLine.{TaskLine}
 use Rattle.plant.specs.StandsFor.{runs_in}
 use Rattle.plant.specs.Steps.Drafts.{drafted, IsLinked, Triples}
 use Rattle.plant.proofs.sources.link.link_tasks.Given as goal

@@ -1,5 +1,5 @@
 use Rattle.std.proofs.Common.{ℕ, ◌<◌}
-use Rattle.plant.specs.Names.{IsAt}
+use Rattle.plant_grammar.specs.Names.{IsAt}
 use Rattle.plant.specs.PlantValue.{ProgramValue}
 use Rattle.plant.proofs.sources.lookup.find_program.Given as goal
 

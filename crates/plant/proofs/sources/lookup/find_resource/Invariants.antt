@@ -1,5 +1,5 @@
 use Rattle.std.proofs.Common.{ℕ, ◌<◌}
-use Rattle.plant.specs.Names.{IsAt}
+use Rattle.plant_grammar.specs.Names.{IsAt}
 use Rattle.plant.specs.PlantValue.{ResourceValue}
 use Rattle.plant.proofs.sources.lookup.find_resource.Given as goal
 

@@ -1,6 +1,0 @@
-use Rattle.std.proofs.Common.{◌≡◌, ◌++◌, map, take}
-use Rattle.plant.specs.Faultless.{declared_as}
-use Rattle.plant.proofs.grammar.variables.Variables.add_list.Given as goal
-
-abbrev pub invariant-loop-name : goal.invariant-loop-name
-invariant-loop-name l = l.self ≡ l.fn.self ++ map (λ n. record { name = n; declared = declared_as l.fn.section l.list.type_name }) (take l.name-index l.list.names.items)

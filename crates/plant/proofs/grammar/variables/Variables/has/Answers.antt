@@ -1,5 +1,0 @@
-use Rattle.plant.proofs.VariableLemmas.{found_declared}
-use Rattle.plant.proofs.grammar.variables.Variables.has.Goals as goal
-
-pub returns : goal.returns
-returns c = rw (c.is_some.ensures, c.position.ensures, c.as_str.ensures, ← c.self.view_is) (found_declared c.self.inside.declarations c.args.name.now)

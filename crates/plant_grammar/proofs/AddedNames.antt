@@ -1,0 +1,52 @@
+-- A name of a list that is refused while the list is declared.
+use Rattle.std.proofs.Common.{◌≡◌, ◌⊎◌, inl, inr, ℕ, zero, suc, ◌+◌, ◌<◌, ◌≤◌, ◌||◌, Bool, true, false, IsTrue, List, [], ◌∷◌, ◌++◌, length, map, take, drop, get_or, refl, sym, ap, subst, ◌∙◌, arith}
+use Rattle.std.specs.Prelude.{Any}
+use Rattle.std.specs.List.{list_any}
+use Rattle.std.proofs.lemmas.List.{length-append, length-map}
+use Rattle.std.proofs.lemmas.List.Folds.{Any-from_list_any, list_any-from_Any, list_any-append}
+use Rattle.variable_binding.specs.declared.declarations.Declaration.{Declaration}
+use Rattle.variable_binding.specs.declared.declarations.Declared.{Declared}
+use Rattle.variable_binding.specs.Names.{IsDeclared}
+use Rattle.plant_grammar.specs.declared.plant_fault.PlantFaultKind.{PlantFaultKind}
+use Rattle.plant_grammar.specs.Names.{is_named}
+use Rattle.plant_grammar.specs.NameFaults.{TellsOfName, IsTaken}
+use Rattle.plant_grammar.proofs.Apart.{list_any-map, named_back, any_with}
+use Rattle.plant_grammar.proofs.RefusedNames.{tells_with}
+
+split_at : {A : Type 0} (xs : List A) (i : ℕ) (x : A) → i < length xs → x ≡ get_or xs i x → xs ≡ take i xs ++ x ∷ drop (suc i) xs
+split_at [] i x lt is = absurd (omega (arith, lt))
+split_at (y ∷ ys) zero x lt is = ap (λ z. z ∷ ys) (sym is)
+split_at (y ∷ ys) (suc i) x lt is = ap (λ zs. y ∷ zs) (split_at ys i x (omega (arith, lt)) is)
+
+any_split : {A : Type 0} (p : A → Bool) (xs ys : List A) → Any (λ x. IsTrue (p x)) (xs ++ ys) → Any (λ x. IsTrue (p x)) xs ⊎ Any (λ x. IsTrue (p x)) ys
+any_split p xs ys some = by_case (list_any p xs) refl (sym (list_any-append p xs ys) ∙ list_any-from_Any p (xs ++ ys) some)
+  where
+    by_case : (b : Bool) → list_any p xs ≡ b → (b || list_any p ys) ≡ true → Any (λ x. IsTrue (p x)) xs ⊎ Any (λ x. IsTrue (p x)) ys
+    by_case true e h = inl (Any-from_list_any p xs e)
+    by_case false e h = inr (Any-from_list_any p ys h)
+
+declared_apart : (old : List Declaration) (d : Declared) (names : List (List ℕ)) (n : List ℕ) → IsDeclared (old ++ map (λ m. record { name = m; declared = d }) names) n → IsTaken (λ (v : Declaration). v.name) old n ⊎ IsTaken (λ (m : List ℕ). m) names n
+declared_apart old d names n some =
+    let make : List ℕ → Declaration = λ m. record { name = m; declared = d } in
+    let same : Declaration → Bool = λ v. is_named n v.name in
+    let flipped : Any (λ v. IsTrue (same v)) (old ++ map make names) = any_with _ _ (old ++ map make names) (λ v h. named_back v.name n h) some in
+    elim (any_split same old (map make names) flipped) [
+      | inl early ↦ inl early
+      | inr late ↦ inr (Any-from_list_any (is_named n) names (sym (list_any-map make same names) ∙ list_any-from_Any same (map make names) late))
+    ]
+
+-- what is told of the name at this place of the list
+pub add_refused : (k : PlantFaultKind) (old now : List Declaration) (d : Declared) (names read : List (List ℕ)) (i : ℕ) (n : List ℕ) → read ≡ names → now ≡ old ++ map (λ m. record { name = m; declared = d }) (take i names) → i < length read → n ≡ get_or read i n
+    → TellsOfName k (IsDeclared now n) (1000 ≤ length now)
+    → (before more : List (List ℕ)) × (name : List ℕ) × (names ≡ before ++ name ∷ more) × TellsOfName k (IsTaken (λ (v : Declaration). v.name) old name ⊎ IsTaken (λ (m : List ℕ). m) before name) (1000 ≤ length old + length before)
+add_refused k old now d names read i n same grown lt is tells =
+    let make : List ℕ → Declaration = λ m. record { name = m; declared = d } in
+    let before = take i names in
+    let told : TellsOfName k (IsDeclared (old ++ map make before) n) (1000 ≤ length (old ++ map make before)) = subst (λ ds. TellsOfName k (IsDeclared ds n) (1000 ≤ length ds)) grown tells in (
+      before,
+      drop (suc i) names,
+      n,
+      split_at names i n (subst (λ xs. i < length xs) same lt) (subst (λ xs. n ≡ get_or xs i n) same is),
+      tells_with k (IsDeclared (old ++ map make before) n) (1000 ≤ length (old ++ map make before)) _ (1000 ≤ length old + length before) (λ twice. declared_apart old d before n twice)
+          (λ full. omega (arith, full, length-append old (map make before), length-map before make)) told,
+    )

@@ -1,0 +1,134 @@
+-- Words up to a name that is refused, with more read in front of them.
+use Rattle.std.proofs.Common.{◌≡◌, inl, inr, ℕ, ◌<◌, List, [], ◌∷◌, ◌++◌, length, Result, Ok, Err, IfErr, refl, sym, ap, subst, ◌∙◌, append_assoc, arith}
+use Rattle.std.specs.List.{flat_map}
+use Rattle.std.specs.Result.{IsErrAnd}
+use Rattle.std.proofs.lemmas.List.Concat.{flat_map-cons}
+use Rattle.plant_grammar.specs.declared.plant_fault.PlantFault.{PlantFault}
+use Rattle.plant_grammar.specs.declared.plant_fault.PlantFaultKind.{PlantFaultKind}
+use Rattle.plant_grammar.specs.declared.plant_fault.PlantFaultKind.TheVariants as kind
+use Rattle.plant_text.specs.declared.token.Token.{Token}
+use Rattle.plant_text.specs.declared.token.Token.TheVariants as token
+use Rattle.plant_text.specs.declared.token.Punctuation.TheVariants.{Comma}
+use Rattle.plant_grammar.specs.declared.grammar.tree.Bind.{Bind}
+use Rattle.plant_grammar.specs.Grammar.{mark, name_words, bind_words, with_commas}
+use Rattle.plant_grammar.specs.Faults.{IsPlantFault}
+use Rattle.plant_grammar.specs.Steps.WordFaults.{IsWordFault}
+use Rattle.plant_grammar.specs.NameFaults.{IsOfName, TellsOfName, IsTaken, IsRefused, IsAfter, IsAfterName, IsBehind, name_and_comma, bind_and_comma}
+use Rattle.plant_grammar.specs.Steps.Declaring.{RepeatsName, IsNameNext, BeginWith}
+
+-- a fault that tells of no name
+pub no_name : (fault : PlantFault) → TellsOfName fault.kind ⊥ ⊥ → IsOfName fault.kind → ⊥
+no_name fault tells (inl e) = subst (λ k. TellsOfName k ⊥ ⊥) e tells
+no_name fault tells (inr e) = subst (λ k. TellsOfName k ⊥ ⊥) e tells
+
+-- want of memory tells of no name
+pub memory_no_name : (fault : PlantFault) → fault.kind ≡ kind.Memory → IsOfName fault.kind → ⊥
+memory_no_name fault m (inl e) = absurd cc
+memory_no_name fault m (inr e) = absurd cc
+
+-- a name that is refused stands next
+pub name_next : (k : PlantFaultKind) (words : List Token) (Taken : List ℕ → Type 0) (full : Type 0) (Twice : Type 0)
+    → (Twice → (name : List ℕ) × (rest : List Token) × (words ≡ token.Name name ∷ rest) × Taken name)
+    → TellsOfName k Twice (IsNameNext words × full) → IsOfName k → BeginWith (IsRefused k Taken full) words
+name_next k words Taken full Twice two tells (inl e) =
+    let found = two (subst (λ j. TellsOfName j Twice (IsNameNext words × full)) e tells) in
+    record {
+      front = token.Name found.0 ∷ [];
+      rest = found.1;
+      parts = found.2;
+      holds = record { name = found.0; alone = refl; told = subst (λ j. TellsOfName j (Taken found.0) full) (sym e) found.3 };
+    }
+name_next k words Taken full Twice two tells (inr e) =
+    let found = subst (λ j. TellsOfName j Twice (IsNameNext words × full)) e tells in
+    let next = found.0 in
+    record {
+      front = token.Name next.0 ∷ [];
+      rest = next.1;
+      parts = next.2;
+      holds = record { name = next.0; alone = refl; told = subst (λ j. TellsOfName j (Taken next.0) full) (sym e) found.1 };
+    }
+
+-- a name that is refused stands next, and one of these has it
+pub name_repeated : {A : Type 0} (k : PlantFaultKind) (words : List Token) (name_of : A → List ℕ) (xs : List A) (full : Type 0)
+    → TellsOfName k (RepeatsName name_of xs words) (IsNameNext words × full) → IsOfName k → BeginWith (IsRefused k (IsTaken name_of xs) full) words
+name_repeated k words name_of xs full tells of = name_next k words (IsTaken name_of xs) full (RepeatsName name_of xs words) (λ r. r) tells of
+
+-- whatever holds of the front, so does what follows from it
+pub begin_with : (P Q : List Token → Type 0) (words : List Token) → ((front : List Token) → P front → Q front) → BeginWith P words → BeginWith Q words
+begin_with P Q words h b = record { front = b.front; rest = b.rest; parts = b.parts; holds = h b.front b.holds }
+
+-- a word was read before
+pub begin_after : (t : Token) (P : List Token → Type 0) (start now : List Token) → start ≡ t ∷ now → BeginWith P now → BeginWith (IsAfter t P) start
+begin_after t P start now e b = record {
+  front = t ∷ b.front;
+  rest = b.rest;
+  parts = e ∙ ap (λ r. t ∷ r) b.parts;
+  holds = record { more = b.front; parts = refl; holds = b.holds };
+}
+
+-- a name was read before
+pub begin_after_name : (n : List ℕ) (P : List Token → Type 0) (start now : List Token) → start ≡ token.Name n ∷ now → BeginWith P now → BeginWith (IsAfterName P) start
+begin_after_name n P start now e b =
+    begin_with (IsAfter (token.Name n) P) (IsAfterName P) start (λ front h. record { name = n; after = h }) (begin_after (token.Name n) P start now e b)
+
+-- whole things were read before
+pub begin_behind : {A : Type 0} (f : A → List Token) (P : List A → List Token → Type 0) (xs : List A) (start now : List Token) → start ≡ flat_map f xs ++ now → BeginWith (P xs) now → BeginWith (IsBehind f P) start
+begin_behind f P xs start now e b = record {
+  front = flat_map f xs ++ b.front;
+  rest = b.rest;
+  parts = e ∙ ap (λ r. flat_map f xs ++ r) b.parts ∙ sym (append_assoc (flat_map f xs) b.front b.rest);
+  holds = record { whole = xs; more = b.front; parts = refl; holds = b.holds };
+}
+
+-- names with commas between them and one more comma are names with a comma behind each
+pub names_and_commas : (ns : List (List ℕ)) (rest : List Token) → 0 < length ns → name_words ns ++ mark Comma ∷ rest ≡ flat_map name_and_comma ns ++ rest
+names_and_commas [] rest some = absurd (omega (arith, some))
+names_and_commas (n ∷ []) rest some = refl
+names_and_commas (n ∷ m ∷ more) rest some = ap (λ ws. token.Name n ∷ mark Comma ∷ ws) (names_and_commas (m ∷ more) rest (omega arith))
+
+-- binds with commas between them and one more comma are binds with a comma behind each
+pub binds_and_commas : (bs : List Bind) (rest : List Token) → 0 < length bs → with_commas bs ++ mark Comma ∷ rest ≡ flat_map bind_and_comma bs ++ rest
+binds_and_commas [] rest some = absurd (omega (arith, some))
+binds_and_commas (b ∷ []) rest some =
+    sym (append_assoc (bind_words b) (mark Comma ∷ []) rest) ∙ ap (λ ws. ws ++ rest) (sym (flat_map-cons bind_and_comma b [] ∙ nil_behind (bind_and_comma b)))
+  where
+    nil_behind : (ws : List Token) → ws ++ flat_map bind_and_comma [] ≡ ws
+    nil_behind [] = refl
+    nil_behind (w ∷ ws) = ap (λ r. w ∷ r) (nil_behind ws)
+binds_and_commas (b ∷ c ∷ bs) rest some =
+    append_assoc (bind_words b) (mark Comma ∷ with_commas (c ∷ bs)) (mark Comma ∷ rest)
+    ∙ ap (λ ws. bind_words b ++ mark Comma ∷ ws) (binds_and_commas (c ∷ bs) rest (omega arith))
+    ∙ sym (append_assoc (bind_words b) (mark Comma ∷ []) (flat_map bind_and_comma (c ∷ bs) ++ rest))
+    ∙ sym (append_assoc (bind_and_comma b) (flat_map bind_and_comma (c ∷ bs)) rest)
+    ∙ ap (λ ws. ws ++ rest) (sym (flat_map-cons bind_and_comma b (c ∷ bs)))
+
+-- want of memory tells of no name, whatever a name is refused for
+pub memory_result : {T : Type 0} (P : PlantFault → Type 0) (r : Result T PlantFault) → IsErrAnd r (λ fault. (fault.kind ≡ kind.Memory) × IsPlantFault fault × IsWordFault fault) → IfErr r (λ f. IsOfName f.kind → P f)
+memory_result P (Ok x) h = tt
+memory_result P (Err fault) h = λ of. absurd (memory_no_name fault h.0 of)
+
+-- more that each of the two kinds tells
+pub tells_with : (k : PlantFaultKind) (twice full twice_too full_too : Type 0) → (twice → twice_too) → (full → full_too) → TellsOfName k twice full → TellsOfName k twice_too full_too
+tells_with kind.Syntax a b c d f g h = tt
+tells_with kind.Drawing a b c d f g h = tt
+tells_with kind.Graph a b c d f g h = tt
+tells_with kind.Bind a b c d f g h = tt
+tells_with kind.NameTwice a b c d f g h = f h
+tells_with kind.UnknownName a b c d f g h = tt
+tells_with kind.WrongKind a b c d f g h = tt
+tells_with kind.InputBoundTwice a b c d f g h = tt
+tells_with kind.TooMany a b c d f g h = g h
+tells_with kind.Memory a b c d f g h = tt
+
+-- what is told of the name that stands next
+pub tells_next : {A : Type 0} (k : PlantFaultKind) (name_of : A → List ℕ) (xs : List A) (name : List ℕ) (words rest : List Token) (twice full many : Type 0) → words ≡ token.Name name ∷ rest → (twice → IsTaken name_of xs name) → (full → many)
+    → TellsOfName k twice full → TellsOfName k (RepeatsName name_of xs words) (IsNameNext words × many)
+tells_next k name_of xs name words rest twice full many e is_taken is_full tells =
+    tells_with k twice full (RepeatsName name_of xs words) (IsNameNext words × many) (λ t. (name, rest, e, is_taken t)) (λ f. ((name, rest, e), is_full f)) tells
+
+-- a name of a list, with a comma behind each before it
+pub names_split : (before : List (List ℕ)) (n : List ℕ) (more : List (List ℕ)) (rest : List Token) → (after : List Token) × (name_words (before ++ n ∷ more) ++ rest ≡ flat_map name_and_comma before ++ token.Name n ∷ after)
+names_split [] n [] rest = (rest, refl)
+names_split [] n (m ∷ more) rest = (mark Comma ∷ name_words (m ∷ more) ++ rest, refl)
+names_split (x ∷ []) n more rest = let found = names_split [] n more rest in (found.0, ap (λ ws. token.Name x ∷ mark Comma ∷ ws) found.1)
+names_split (x ∷ y ∷ xs) n more rest = let found = names_split (y ∷ xs) n more rest in (found.0, ap (λ ws. token.Name x ∷ mark Comma ∷ ws) found.1)

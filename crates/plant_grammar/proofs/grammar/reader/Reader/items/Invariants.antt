@@ -1,0 +1,16 @@
+use Rattle.std.proofs.Common.{◌≡◌, ◌++◌, length}
+use Rattle.std.specs.List.{flat_map}
+use Rattle.plant_grammar.specs.Faultless.{use_of}
+use Rattle.plant_grammar.specs.Grammar.{item_words}
+use Rattle.plant_grammar.specs.Steps.ReadParts.{types_alone, tally_with, AreItemsLawful}
+use Rattle.plant_grammar.proofs.grammar.reader.Reader.items.Given as goal
+
+abbrev pub invariant-items : goal.invariant-items
+invariant-items l = record {
+  words : l.fn.self.words ≡ flat_map item_words l.items.items ++ l.self.words;
+  lawful : AreItemsLawful (types_alone l.fn.types) l.items.items;
+  tally : l.tally ≡ tally_with l.fn.tally (flat_map use_of l.items.items);
+}
+
+abbrev pub decreases-items : goal.decreases-items
+decreases-items l = length l.self.words

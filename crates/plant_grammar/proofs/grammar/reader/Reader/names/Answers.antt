@@ -1,0 +1,28 @@
+use Rattle.std.proofs.Common.{◌∙◌, arith}
+use Rattle.plant_grammar.proofs.WordLists.{names_more, grown}
+use Rattle.plant_grammar.specs.NameFaults.{IsOfName, RefusesVariable}
+use Rattle.plant_grammar.specs.Steps.Declaring.{BeginWith}
+use Rattle.lists.proofs.Results.{kept_fault}
+use Rattle.plant_grammar.proofs.RefusedPlaces.{first_variable, next_variable}
+use Rattle.plant_grammar.proofs.grammar.reader.Reader.names.Goals as goal
+
+pub names-preserved : goal.names-preserved
+names-preserved c = record {
+  some = omega (arith, grown c.names.names.items c.push-in-names.new.self.items c.in_ok-variable-2.field-0 c.in_ok-push-2.ensures.items);
+  bodies = c.in_ok-variable-2.ensures.bodies ∙ c.in_ok-punctuation.ensures.bodies ∙ c.names.invariant.bodies;
+  words = names_more c.names.names.items c.push-in-names.new.self.items c.in_ok-variable-2.field-0 c.args.self.now.words c.names.self.words c.punctuation.new.self.words c.variable-in-names.new.self.words
+      c.names.invariant.some c.in_ok-push-2.ensures.items c.names.invariant.words c.in_ok-punctuation.ensures.ok c.in_ok-variable-2.ensures.ok;
+}
+
+pub returns-in_err-variable-clause-names : goal.returns-in_err-variable-clause-names
+returns-in_err-variable-clause-names c =
+    let fault = c.in_err-variable.field-0.0 in
+    kept_fault fault (λ f. IsOfName f.kind → BeginWith (RefusesVariable f.kind c.args.variables.now) (c.args.self.now.words)) c.from_residual.result c.from_residual.ensures.1
+    (λ of. first_variable fault.kind c.args.variables.now c.deref.result.now c.args.self.now.words (c.deref.ensures.value ∙ c.new-names.ensures.items) c.in_err-variable.ensures.tells of)
+
+pub returns-in_err-variable-2-clause-names : goal.returns-in_err-variable-2-clause-names
+returns-in_err-variable-2-clause-names c =
+    let fault = c.in_err-variable-2.field-0.0 in
+    kept_fault fault (λ f. IsOfName f.kind → BeginWith (RefusesVariable f.kind c.args.variables.now) (c.args.self.now.words)) c.from_residual-in_err-variable-2.result c.from_residual-in_err-variable-2.ensures.1
+    (λ of. next_variable fault.kind c.args.variables.now c.names.names.items c.args.self.now.words c.names.self.words c.punctuation.new.self.words c.names.invariant.some c.names.invariant.words c.in_ok-punctuation.ensures.ok
+    (rw c.deref-in-names.ensures.value at c.in_err-variable-2.ensures.tells) of)

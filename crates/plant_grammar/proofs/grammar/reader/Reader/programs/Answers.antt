@@ -1,0 +1,57 @@
+use Rattle.std.proofs.Common.{rules, ◌≡◌, ◌++◌, ◌∷◌, [], ◌∙◌, ◌<◌, ℕ, List, append_assoc, length, ap, sym, subst, arith}
+use Rattle.std.proofs.lemmas.List.{length-map}
+use Rattle.std.specs.List.{flat_map}
+use Rattle.plant_grammar.specs.BodyFaults.{TextValue}
+use Rattle.plant_text.specs.declared.token.Token.{Token}
+use Rattle.plant_grammar.specs.declared.grammar.tree.Program.{Program}
+use Rattle.plant_grammar.specs.Grammar.{program_words}
+use Rattle.plant_grammar.specs.Steps.ReadParts.{IsNew}
+use Rattle.plant_grammar.specs.Steps.Reading.{programs_of, lines_of}
+use Rattle.plant_grammar.proofs.TypeLemmas.{programs_more, map-grown}
+use Rattle.plant_grammar.proofs.WordLists.{words_more}
+use Rattle.plant_grammar.specs.NameFaults.{IsOfName, RefusesProgram, RefusesPrograms}
+use Rattle.plant_grammar.specs.Steps.Declaring.{BeginWith}
+use Rattle.lists.proofs.Results.{kept_fault}
+use Rattle.plant_grammar.proofs.RefusedPlaces.{program_refused}
+use Rattle.plant_grammar.proofs.RefusedNames.{memory_result}
+use Rattle.plant_grammar.proofs.grammar.reader.Reader.programs.Goals as goal
+
+pub programs-preserved : goal.programs-preserved
+programs-preserved c =
+    let before = programs_of c.programs.texts.items in
+    let after = programs_of c.push.new.self.items in
+    let program = c.in_ok-text.text.program in
+    let longer : after ≡ before ++ program ∷ [] = map-grown (λ (t : TextValue). t.program) c.programs.texts.items c.push.new.self.items c.in_ok-text.text c.in_ok-push.ensures.items in
+    let few : length c.programs.texts.items < 64 = subst (λ ts. length ts < 64) c.as_slice.ensures.value c.in_ok-text.ensures.few in
+    record {
+      words = words_more program_words before after program (flat_map program_words (programs_of c.args.texts.now.items) ++ c.args.self.now.words) c.programs.self.words c.program.new.self.words longer c.programs.invariant.words c.in_ok-text.ensures.ok;
+      lines = c.programs.invariant.lines ∙ ap (λ (x : List ℕ). lines_of c.programs.texts.items ++ x) c.in_ok-text.ensures.bodies ∙ sym (append_assoc (lines_of c.programs.texts.items) (c.in_ok-text.text.first_line ∷ []) c.program.new.self.bodies)
+          ∙ ap (λ (x : List ℕ). x ++ c.program.new.self.bodies) (sym (map-grown (λ (t : TextValue). t.first_line) c.programs.texts.items c.push.new.self.items c.in_ok-text.text c.in_ok-push.ensures.items));
+      declared = programs_more before after program longer c.programs.invariant.declared
+          (subst (λ ts. IsNew (λ (p : Program). p.name) (programs_of ts) program.name) c.as_slice.ensures.value c.in_ok-text.ensures.new)
+          (omega (arith, few, length-map c.programs.texts.items (λ (t : TextValue). t.program))) c.in_ok-text.ensures.declared;
+    }
+
+pub returns-in_err-push-clause-err : goal.returns-in_err-push-clause-err
+returns-in_err-push-clause-err c =
+    let kept : c.push.new.self.items ≡ c.programs.texts.items = search rules in
+    let words = c.programs.invariant.words ∙ ap (λ ts. flat_map program_words (programs_of ts) ++ c.programs.self.words) (sym kept) in
+    let known : (x : List Token) × (flat_map program_words (programs_of c.args.texts.now.items) ++ c.args.self.now.words ≡ flat_map program_words (programs_of c.push.new.self.items) ++ x) = (c.programs.self.words, words) in
+    search rules
+
+pub returns-in_err-push-clause-err_lines : goal.returns-in_err-push-clause-err_lines
+returns-in_err-push-clause-err_lines c =
+    let kept : c.push.new.self.items ≡ c.programs.texts.items = search rules in
+    let lines = c.programs.invariant.lines ∙ ap (λ ts. lines_of ts ++ c.programs.self.bodies) (sym kept) in
+    let known : (x : List ℕ) × (lines_of c.args.texts.now.items ++ c.args.self.now.bodies ≡ lines_of c.push.new.self.items ++ x) = (c.programs.self.bodies, lines) in
+    search rules
+
+pub returns-in_err-text-clause-names : goal.returns-in_err-text-clause-names
+returns-in_err-text-clause-names c =
+    let fault = c.in_err-text.field-0.0 in
+    kept_fault fault (λ f. IsOfName f.kind → BeginWith (RefusesPrograms f.kind) (flat_map program_words (programs_of c.args.texts.now.items) ++ c.args.self.now.words)) c.from_residual.result c.from_residual.ensures.1
+    (λ of. program_refused fault.kind (programs_of c.programs.texts.items) (flat_map program_words (programs_of c.args.texts.now.items) ++ c.args.self.now.words) c.programs.self.words c.programs.invariant.words
+    (subst (λ (ts : List TextValue). BeginWith (RefusesProgram fault.kind (programs_of ts)) c.programs.self.words) c.as_slice.ensures.value (c.in_err-text.ensures.names of)))
+
+pub returns-in_err-push-clause-names : goal.returns-in_err-push-clause-names
+returns-in_err-push-clause-names c = memory_result (λ f. BeginWith (RefusesPrograms f.kind) (flat_map program_words (programs_of c.args.texts.now.items) ++ c.args.self.now.words)) c.from_residual-in_err-push.result c.from_residual-in_err-push.ensures.1

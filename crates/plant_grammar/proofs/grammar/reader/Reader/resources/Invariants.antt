@@ -1,0 +1,16 @@
+use Rattle.std.proofs.Common.{◌≡◌, ◌++◌, length}
+use Rattle.std.specs.List.{flat_map}
+use Rattle.plant_grammar.specs.Faultless.{uses_of}
+use Rattle.plant_grammar.specs.Grammar.{resource_words}
+use Rattle.plant_grammar.specs.Steps.ReadParts.{types_alone, tally_with, AreResourcesLawful}
+use Rattle.plant_grammar.proofs.grammar.reader.Reader.resources.Given as goal
+
+abbrev pub invariant-resources : goal.invariant-resources
+invariant-resources l = record {
+  words : l.fn.self.words ≡ flat_map resource_words l.resources.items ++ l.self.words;
+  lawful : AreResourcesLawful (types_alone l.fn.types) l.resources.items;
+  tally : l.tally ≡ tally_with l.fn.tally (flat_map uses_of l.resources.items);
+}
+
+abbrev pub decreases-resources : goal.decreases-resources
+decreases-resources l = length l.self.words

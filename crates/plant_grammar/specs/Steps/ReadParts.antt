@@ -1,0 +1,112 @@
+-- What is known of the parts of a plant's text while it is read.
+use Rattle.std.specs.Prelude.{◌≡◌, ℕ, ◌+◌, ◌<◌, ◌≤◌, ◌++◌, ◌∷◌, Bool, true, false, List, [], length, map, take, slice_get, Option, None, Some, MatchOption, All, option_and_then}
+use Rattle.variable_binding.specs.Names.{place_of}
+use Rattle.std.specs.List.{flat_map}
+use Rattle.std.specs.Global.{Vec}
+use Rattle.plant_grammar.specs.declared.grammar.tree.Use.{Use}
+use Rattle.variable_binding.specs.declared.declarations.Declaration.{Declaration}
+use Rattle.plant_grammar.specs.declared.grammar.tree.Program.{Program}
+use Rattle.plant_grammar.specs.declared.grammar.tree.Item.{Item}
+use Rattle.plant_grammar.specs.declared.grammar.tree.Item.TheVariants as item
+use Rattle.plant_grammar.specs.declared.grammar.tree.Resource.{Resource}
+use Rattle.plant_grammar.specs.declared.grammar.tree.SourceName.{SourceName}
+use Rattle.plant_grammar.specs.declared.grammar.tree.SourceName.TheVariants as source
+use Rattle.variable_binding.specs.declared.declarations.Kind.{Kind}
+use Rattle.plant_grammar.specs.Kinds.{items_or_none, kind_of_space, input_kind_at}
+use Rattle.plant_grammar.specs.declared.grammar.tree.Bind.{Bind}
+use Rattle.plant_text.specs.declared.token.Token.{Token}
+use Rattle.plant_text.specs.declared.token.Punctuation.TheVariants.{Close}
+use Rattle.plant_grammar.specs.Grammar.{Tree, mark, with_commas, listed}
+use Rattle.plant_grammar.specs.Names.{AreApart}
+use Rattle.plant_grammar.specs.NameFaults.{IsTaken}
+use Rattle.plant_grammar.specs.Faultless.{variables, task_of, use_of, binds_of, IsBlockLawful, IsUseLawful, IsResourceLawful}
+use Rattle.plant_grammar.specs.Steps.Reading.{TypeValue}
+
+-- how many instances and binds were read
+pub record TallyValue : Type 0 where
+  pub instances : ℕ
+  pub binds : ℕ
+
+-- these instances counted too, with their binds
+abbrev pub tally_with : TallyValue → List Use → TallyValue
+tally_with t us = record { instances = t.instances + length us; binds = t.binds + length (flat_map binds_of us) }
+
+-- one instance counted too
+abbrev pub with_instance : TallyValue → TallyValue
+with_instance t = record { instances = t.instances + 1; binds = t.binds }
+
+-- so many binds counted too
+abbrev pub with_binds : TallyValue → ℕ → TallyValue
+with_binds t n = record { instances = t.instances; binds = t.binds + n }
+
+-- the binds of an instance, none where it has no parentheses
+abbrev pub bound_in : Option (Vec Bind) → List Bind
+bound_in binds = items_or_none (listed binds)
+
+-- the words begin with these binds and the parenthesis that closes them, and behind it stand the others
+abbrev pub EndWithBinds : List Bind → List Token → List Token → Type 0
+EndWithBinds binds words rest = words ≡ with_commas binds ++ mark Close ∷ rest
+
+-- the program types alone
+abbrev pub types_alone : List TypeValue → Tree
+types_alone types = record { programs = map (λ (t : TypeValue). t.program) types; name = []; resources = [] }
+
+-- each name once, and at most 1,000
+pub record AreVariables (variables : List Declaration) : Type 0 where
+  pub apart : AreApart (map (λ v. v.name) variables)
+  pub few : length variables ≤ 1000
+
+-- a program type whose body isn't drawn: each name once, at most 1,000 of them, and blocks in VAR alone
+pub record IsProgramDeclared (p : Program) : Type 0 where
+  pub are_variables : AreVariables (variables p)
+  pub blocks_are : All IsBlockLawful p.blocks.items
+
+-- program types whose bodies aren't drawn: at most 64, their names apart, and each lawful so far
+pub record AreProgramsDeclared (programs : List Program) : Type 0 where
+  pub few : length programs ≤ 64
+  pub apart : AreApart (map (λ p. p.name) programs)
+  pub declared : All IsProgramDeclared programs
+
+-- nothing in the list has this name
+abbrev pub IsNew : {A : Type 0} → (A → List ℕ) → List A → List ℕ → Type 0
+IsNew name_of xs name = IsTaken name_of xs name → ⊥
+
+abbrev pub is_task_line : Item → Bool
+is_task_line (item.Task t) = true
+is_task_line (item.Use u) = false
+
+-- a task or an instance that may follow these
+abbrev pub MayFollow : Tree → List Item → Item → Type 0
+MayFollow tree before (item.Task t) = IsNew (λ t. t.name) (flat_map task_of before) t.name × (length (flat_map task_of before) < 16) × (0 < t.interval)
+MayFollow tree before (item.Use u) = IsNew (λ u. u.instance) (flat_map use_of before) u.instance × IsUseLawful tree before u
+
+-- the lines of a resource: at most 16 tasks, none of interval 0, names apart, and lawful instances
+pub record AreItemsLawful (tree : Tree) (items : List Item) : Type 0 where
+  pub tasks_apart : AreApart (map (λ t. t.name) (flat_map task_of items))
+  pub few_tasks : length (flat_map task_of items) ≤ 16
+  pub intervals : All (λ t. 0 < t.interval) (flat_map task_of items)
+  pub instances_apart : AreApart (map (λ u. u.instance) (flat_map use_of items))
+  pub uses_lawful : (k : ℕ) (u : Use) → slice_get items k ≡ Some (item.Use u) → IsUseLawful tree (take k items) u
+
+-- resources: at most 16, their names apart, and each lawful
+pub record AreResourcesLawful (tree : Tree) (resources : List Resource) : Type 0 where
+  pub few : length resources ≤ 16
+  pub apart : AreApart (map (λ r. r.name) resources)
+  pub lawful : All (IsResourceLawful tree) resources
+
+-- the kind of the input of this name
+abbrev pub input_kind_of : List Declaration → List ℕ → Option Kind
+input_kind_of ds name = option_and_then (input_kind_at ds) (place_of ds name)
+
+-- an address has the kind; what a named output gives is known only when the source is resolved
+abbrev pub HasFieldKind : Kind → SourceName → Type 0
+HasFieldKind kind (source.Field a) = kind_of_space a.space ≡ kind
+HasFieldKind kind (source.Output resource instance output) = Unit
+
+-- the bind's input is one of these, and has the kind of its source, if that is an address
+abbrev pub IsOfInputKind : List Declaration → Bind → Type 0
+IsOfInputKind ds b = (kind : Kind) × (input_kind_of ds b.input ≡ Some kind) × HasFieldKind kind b.source
+
+-- the place of the input of this name, with its kind; none where the name is no input's
+abbrev pub FindsInput : List Declaration → List ℕ → Option (ℕ × Kind) → Type 0
+FindsInput ds name found = MatchOption found (input_kind_of ds name ≡ None) (λ x. (place_of ds name ≡ Some x.0) × (input_kind_at ds x.0 ≡ Some x.1))

@@ -1,0 +1,275 @@
+//! The rules of the grammar from names to programs.
+
+ghost use Rattle.std.specs.Prelude.{◌≡◌, ◌∷◌, ◌++◌, ◌+◌, ◌<◌, ◌≤◌, ◌⊎◌, ℕ, List, IfOk, OnOk, OnErr, IsTrue, IsFalse, All, length, IfErr};
+ghost use Rattle.plant_grammar.specs.Steps.WordFaults.{IsWordFault};
+ghost use Rattle.std.specs.List.{flat_map};
+ghost use Rattle.plant_text.specs.declared.token.Token.TheVariants as token;
+ghost use Rattle.plant_grammar.specs.Grammar.{section_word, kind_word, type_word, name_words, list_words, lists_words, block_words, program_words};
+ghost use Rattle.plant_grammar.specs.Faultless.{list_variables, lists_variables, block_variables, IsTypeLawful, IsListLawful, IsBlockLawful};
+ghost use Rattle.plant_grammar.specs.NameFaults.{TellsOfName, RefusesVariable, RefusesList, RefusesBlock, RefusesBlocks, RefusesProgram, RefusesPrograms};
+ghost use Rattle.plant_grammar.specs.Steps.Declaring.{TellsOfType, TellsOfVariable, BeginRefused};
+ghost use Rattle.plant_grammar.specs.Steps.Lines.{IsOneNext, IsNoneNext};
+ghost use Rattle.plant_grammar.specs.Steps.ReadParts.{IsNew, IsProgramDeclared, AreProgramsDeclared};
+ghost use Rattle.plant_grammar.specs.Steps.Reading.{programs_of, all_words, AreSameWords, AreSameLines};
+
+use crate::bodies::program_text::ProgramText;
+use crate::grammar::declared_names::{check_new, is_program};
+use crate::grammar::name::Name;
+use crate::grammar::reader::Reader;
+use crate::grammar::tree::{NameList, Program, Section, TypeName, VarBlock};
+use crate::grammar::variables::Variables;
+use crate::plant_fault::{PlantFault, PlantFaultKind};
+use plant_text::{Keyword, Punctuation};
+use power_flow::Kind;
+use std::alloc::Global;
+
+/// How many program types a plant may have.
+const MOST_TYPES: usize = 64;
+
+impl<'a> Reader<'a> {
+    ghost use Rattle.plant_text.specs.declared.token.Token.{Token};
+
+    /// A further name of a program, behind the variables and the names of the same list.
+    fn variable(
+        &mut self,
+        alloc: Global,
+        variables: &Variables,
+        before: &[Name],
+    ) -> Result<Name, PlantFault>
+        ensures ok { IfOk result (λ name. self.old.words ≡ token.Name name ∷ self.new.words) }
+        ensures bodies { OnOk result (self.new.bodies ≡ self.old.bodies) }
+        ensures tells { IfErr result (TellsOfVariable variables.now before.now self.old.words) }
+        ensures value { IfErr result IsWordFault }
+    {
+        let name = self.name(alloc)?;
+        variables.check(before, &name)?;
+        Ok(name)
+    }
+
+    /// Names with commas between them.
+    #[tactic(auto, using(crate::proofs::RefusedNames::no_name, crate::proofs::RefusedNames::memory_no_name))]
+    fn names(&mut self, alloc: Global, variables: &Variables) -> Result<Vec<Name>, PlantFault>
+        ensures ok { IfOk result (λ names. self.old.words ≡ name_words names.items ++ self.new.words) }
+        ensures bodies { OnOk result (self.new.bodies ≡ self.old.bodies) }
+        ensures some { IfOk result (λ names. 0 < length names.items) }
+        ensures names { IfErr result (BeginRefused (λ k. RefusesVariable k variables.now) self.old.words) }
+        ensures value { IfErr result IsWordFault }
+    {
+        let mut names = Vec::new(alloc);
+        names.push(self.variable(alloc, variables, &names)?)?;
+        'names: while self.sees_punctuation(Punctuation::Comma) {
+            self.punctuation(Punctuation::Comma)?;
+            names.push(self.variable(alloc, variables, &names)?)?;
+        }
+        Ok(names)
+    }
+
+    /// BOOL, INT or TIME.
+    fn kind(&mut self) -> Result<Kind, PlantFault>
+        ensures ok { IfOk result (λ kind. self.old.words ≡ kind_word kind ∷ self.new.words) }
+        ensures bodies { OnOk result (self.new.bodies ≡ self.old.bodies) }
+        ensures tells { IfErr result (λ e. TellsOfName e.kind ⊥ ⊥) }
+        ensures value { IfErr result IsWordFault }
+    {
+        if self.sees_keyword(Keyword::Int) {
+            self.keyword(Keyword::Int)?;
+            Ok(Kind::Int)
+        } else if self.sees_keyword(Keyword::Time) {
+            self.keyword(Keyword::Time)?;
+            Ok(Kind::Time)
+        } else {
+            self.keyword(Keyword::Bool)?;
+            Ok(Kind::Bool)
+        }
+    }
+
+    /// The type of names of a section.
+    fn type_name(&mut self, section: Section) -> Result<TypeName, PlantFault>
+        ensures ok { IfOk result (λ t. self.old.words ≡ type_word t ∷ self.new.words) }
+        ensures bodies { OnOk result (self.new.bodies ≡ self.old.bodies) }
+        ensures lawful { IfOk result (λ t. IsTypeLawful section t) }
+        ensures tells { IfErr result (λ e. TellsOfName e.kind ⊥ ⊥) }
+        ensures value { IfErr result IsWordFault }
+    {
+        if !self.sees_block_type() {
+            return Ok(TypeName::Elementary(self.kind()?));
+        }
+        match section {
+            Section::Local => Ok(TypeName::Block(self.block_type()?)),
+            _ => Err(PlantFault::at(PlantFaultKind::WrongKind, self.line())),
+        }
+    }
+
+    /// A list of names of one type. They are declared.
+    #[tactic(auto, using(crate::proofs::RefusedNames::no_name, crate::proofs::RefusedNames::memory_no_name), unfolding(crate::specs::Grammar::list_words))]
+    fn list(
+        &mut self,
+        alloc: Global,
+        section: Section,
+        variables: &mut Variables,
+    ) -> Result<NameList, PlantFault>
+        ensures ok { IfOk result (λ l. self.old.words ≡ list_words l ++ self.new.words) }
+        ensures bodies { OnOk result (self.new.bodies ≡ self.old.bodies) }
+        ensures declared { IfOk result (λ l. variables.new ≡ variables.old ++ list_variables section l) }
+        ensures lawful { IfOk result (λ l. IsListLawful section l) }
+        ensures names { IfErr result (BeginRefused (λ k. RefusesVariable k variables.old) self.old.words) }
+        ensures value { IfErr result IsWordFault }
+    {
+        let names = self.names(alloc, variables)?;
+        self.punctuation(Punctuation::Colon)?;
+        let type_name = self.type_name(section)?;
+        self.punctuation(Punctuation::Semicolon)?;
+        let list = NameList { names, type_name };
+        variables.add_list(section, &list)?;
+        Ok(list)
+    }
+
+    /// The lists of a block, up to its end. They are declared.
+    #[tactic(auto, using(crate::proofs::RefusedNames::no_name, crate::proofs::RefusedNames::memory_no_name, crate::proofs::WordLists::list_has_words))]
+    fn lists(
+        &mut self,
+        alloc: Global,
+        section: Section,
+        variables: &mut Variables,
+    ) -> Result<Vec<NameList>, PlantFault>
+        ensures ok { IfOk result (λ ls. self.old.words ≡ lists_words ls.items ++ self.new.words) }
+        ensures bodies { OnOk result (self.new.bodies ≡ self.old.bodies) }
+        ensures declared { IfOk result (λ ls. variables.new ≡ variables.old ++ lists_variables section ls.items) }
+        ensures lawful { IfOk result (λ ls. All (IsListLawful section) ls.items) }
+        ensures names { IfErr result (BeginRefused (λ k. RefusesList k section variables.old) self.old.words) }
+        ensures value { IfErr result IsWordFault }
+    {
+        let mut lists = Vec::new(alloc);
+        'lists: while !self.sees_keyword(Keyword::EndVar) {
+            let list = self.list(alloc, section, variables)?;
+            lists.push(list)?;
+        }
+        self.keyword(Keyword::EndVar)?;
+        Ok(lists)
+    }
+
+    /// Whether a block begins.
+    fn sees_section(&self) -> bool
+        ensures yes { IsTrue result → IsOneNext section_word self.now.words }
+        ensures no { IsFalse result → IsNoneNext section_word self.now.words }
+    {
+        self.sees_keyword(Keyword::VarInput)
+            || self.sees_keyword(Keyword::VarOutput)
+            || self.sees_keyword(Keyword::Var)
+    }
+
+    /// VAR_INPUT, VAR_OUTPUT or VAR.
+    fn section(&mut self) -> Result<Section, PlantFault>
+        ensures ok { IfOk result (λ s. self.old.words ≡ section_word s ∷ self.new.words) }
+        ensures bodies { OnOk result (self.new.bodies ≡ self.old.bodies) }
+        ensures tells { IfErr result (λ e. TellsOfName e.kind ⊥ ⊥) }
+        ensures value { IfErr result IsWordFault }
+    {
+        if self.sees_keyword(Keyword::VarInput) {
+            self.keyword(Keyword::VarInput)?;
+            Ok(Section::Input)
+        } else if self.sees_keyword(Keyword::VarOutput) {
+            self.keyword(Keyword::VarOutput)?;
+            Ok(Section::Output)
+        } else {
+            self.keyword(Keyword::Var)?;
+            Ok(Section::Local)
+        }
+    }
+
+    /// A block. Its names are declared.
+    #[tactic(auto, using(crate::proofs::RefusedNames::no_name, crate::proofs::RefusedNames::memory_no_name), unfolding(crate::specs::Grammar::block_words))]
+    fn block(&mut self, alloc: Global, variables: &mut Variables) -> Result<VarBlock, PlantFault>
+        ensures ok { IfOk result (λ b. self.old.words ≡ block_words b ++ self.new.words) }
+        ensures bodies { OnOk result (self.new.bodies ≡ self.old.bodies) }
+        ensures declared { IfOk result (λ b. variables.new ≡ variables.old ++ block_variables b) }
+        ensures lawful { IfOk result (λ b. IsBlockLawful b) }
+        ensures names { IfErr result (BeginRefused (λ k. RefusesBlock k variables.old) self.old.words) }
+        ensures value { IfErr result IsWordFault }
+    {
+        let section = self.section()?;
+        let lists = self.lists(alloc, section, variables)?;
+        Ok(VarBlock { section, lists })
+    }
+
+    /// The blocks of a program. Their names are declared.
+    #[tactic(auto, using(crate::proofs::RefusedNames::no_name, crate::proofs::RefusedNames::memory_no_name, crate::proofs::WordLists::block_has_words))]
+    fn blocks(
+        &mut self,
+        alloc: Global,
+        variables: &mut Variables,
+    ) -> Result<Vec<VarBlock>, PlantFault>
+        ensures ok { IfOk result (λ bs. self.old.words ≡ flat_map block_words bs.items ++ self.new.words) }
+        ensures bodies { OnOk result (self.new.bodies ≡ self.old.bodies) }
+        ensures declared { IfOk result (λ bs. variables.new ≡ variables.old ++ flat_map block_variables bs.items) }
+        ensures lawful { IfOk result (λ bs. All IsBlockLawful bs.items) }
+        ensures names { IfErr result (BeginRefused (λ k. RefusesBlocks k variables.old) self.old.words) }
+        ensures value { IfErr result IsWordFault }
+    {
+        let mut blocks = Vec::new(alloc);
+        'sections: while self.sees_section() {
+            let block = self.block(alloc, variables)?;
+            blocks.push(block)?;
+        }
+        Ok(blocks)
+    }
+
+    /// A new name of a program type, behind these.
+    fn new_type(&mut self, alloc: Global, before: &[ProgramText]) -> Result<Name, PlantFault>
+        ensures ok { IfOk result (λ name. self.old.words ≡ token.Name name ∷ self.new.words) }
+        ensures bodies { OnOk result (self.new.bodies ≡ self.old.bodies) }
+        ensures new { IfOk result (λ name. IsNew (λ p. p.name) (programs_of before.now) name) }
+        ensures few { OnOk result (length before.now < 64) }
+        ensures tells { IfErr result (TellsOfType before.now self.old.words) }
+        ensures value { IfErr result IsWordFault }
+    {
+        let name = self.name(alloc)?;
+        check_new(&name, is_program(before, &name), before.len() >= MOST_TYPES)?;
+        Ok(name)
+    }
+
+    /// A program type, behind these. Its body isn't drawn.
+    #[tactic(auto, using(crate::proofs::RefusedNames::no_name, crate::proofs::RefusedNames::memory_no_name), unfolding(crate::specs::Grammar::program_words))]
+    fn program(&mut self, alloc: Global, before: &[ProgramText]) -> Result<ProgramText, PlantFault>
+        ensures ok { IfOk result (λ p. self.old.words ≡ program_words p.program ++ self.new.words) }
+        ensures bodies { IfOk result (λ p. self.old.bodies ≡ p.first_line ∷ self.new.bodies) }
+        ensures new { IfOk result (λ p. IsNew (λ p. p.name) (programs_of before.now) p.program.name) }
+        ensures few { OnOk result (length before.now < 64) }
+        ensures declared { IfOk result (λ p. IsProgramDeclared p.program) }
+        ensures names { IfErr result (BeginRefused (λ k. RefusesProgram k (programs_of before.now)) self.old.words) }
+        ensures value { IfErr result IsWordFault }
+    {
+        self.keyword(Keyword::Program)?;
+        let name = self.new_type(alloc, before)?;
+        let mut variables = Variables::new(alloc);
+        let blocks = self.blocks(alloc, &mut variables)?;
+        let first_line = self.line();
+        let body = self.body(alloc)?;
+        self.keyword(Keyword::EndProgram)?;
+        let program = Program { name, blocks, body };
+        Ok(ProgramText::new(program, first_line, variables.into_declarations()))
+    }
+
+    /// The program types, their bodies not drawn. They are added to `texts`; after a fault, those before it.
+    #[tactic(auto, using(crate::proofs::RefusedNames::no_name, crate::proofs::RefusedNames::memory_no_name, crate::proofs::WordLists::program_has_words))]
+    pub fn programs(
+        &mut self,
+        alloc: Global,
+        texts: &mut Vec<ProgramText>,
+    ) -> Result<(), PlantFault>
+        requires { AreProgramsDeclared (programs_of texts.old.items) }
+        ensures ok { OnOk result (AreSameWords texts.old.items self.old.words texts.new.items self.new.words) }
+        ensures err { OnErr result ((rest : List Token) × AreSameWords texts.old.items self.old.words texts.new.items rest) }
+        ensures lines { OnOk result (AreSameLines texts.old.items self.old.bodies texts.new.items self.new.bodies) }
+        ensures err_lines { OnErr result ((more : List ℕ) × AreSameLines texts.old.items self.old.bodies texts.new.items more) }
+        ensures declared { AreProgramsDeclared (programs_of texts.new.items) }
+        ensures names { IfErr result (BeginRefused RefusesPrograms (all_words texts.old.items self.old.words)) }
+        ensures value { IfErr result IsWordFault }
+    {
+        'programs: while self.sees_keyword(Keyword::Program) {
+            let text = self.program(alloc, texts.as_slice())?;
+            texts.push(text)?;
+        }
+        Ok(())
+    }
+}

@@ -1,0 +1,423 @@
+//! The rules of the grammar from tasks to resources.
+
+ghost use Rattle.std.specs.Prelude.{◌≡◌, ◌⊎◌, [], ◌∷◌, ◌++◌, ◌+◌, ◌<◌, ◌≤◌, IfOk, OnOk, All, Any, Some, map, length, IsTrue, IfErr};
+ghost use Rattle.plant_grammar.specs.Steps.WordFaults.{IsWordFault};
+ghost use Rattle.std.specs.List.{flat_map};
+ghost use Rattle.plant_text.specs.declared.token.Token.TheVariants as token;
+ghost use Rattle.plant_text.specs.declared.token.Keyword.TheVariants as key;
+ghost use Rattle.plant_grammar.specs.Grammar.{interval_words, priority_words, settings, task_words, source_words, bind_words, with_commas, binds_words, listed, use_words, item_words, items_words, resource_words, resources_words};
+ghost use Rattle.plant_grammar.specs.Names.{is_named, AreApart};
+ghost use Rattle.plant_grammar.specs.Faultless.{task_of, use_of, uses_of, binds_of, IsUseLawful, IsResourceLawful};
+ghost use Rattle.plant_grammar.specs.NameFaults.{TellsOfName, RefusesTask, RefusesBind};
+ghost use Rattle.plant_grammar.specs.Steps.Declaring.{TellsOfTask, TellsOfInstance, TellsOfBind, TellsOfResource, BeginRefused, RefusesFurtherInstance, RefusesItem, RefusesFurtherItems, RefusesFurtherResource, RefusesFurtherResources, RefusesInParentheses};
+ghost use Rattle.plant_grammar.specs.Steps.ReadParts.{types_alone, with_instance, with_binds, tally_with, EndWithBinds, bound_in, HasFieldKind, IsOfInputKind, IsNew, MayFollow, AreItemsLawful, AreResourcesLawful};
+ghost use Rattle.plant_grammar.specs.declared.grammar.tree.Item.TheVariants as item;
+ghost use Rattle.plant_grammar.specs.Kinds.{items_or_none, kind_of_space};
+
+use crate::bodies::program_type::ProgramType;
+use crate::grammar::declared_names::{
+    check_new, count_tasks, input_kind, is_bound, is_instance, is_resource, is_task, type_named,
+};
+use crate::grammar::name::Name;
+use crate::grammar::reader::Reader;
+use crate::grammar::tally::Tally;
+use crate::grammar::tree::{Bind, Item, Order, Resource, SourceName, TaskLine, Use};
+use crate::plant_fault::{PlantFault, PlantFaultKind};
+use crate::spaces::kind_of_space;
+use plant_text::{Address, Keyword, Punctuation};
+use power_flow::Kind;
+use std::alloc::Global;
+
+/// How many tasks a resource may have.
+const MOST_TASKS: usize = 16;
+
+/// How many resources a plant may have.
+const MOST_RESOURCES: usize = 16;
+
+impl<'a> Reader<'a> {
+    /// A task's interval, in ms. It isn't 0.
+    fn interval(&mut self) -> Result<u32, PlantFault>
+        ensures ok { IfOk result (λ n. self.old.words ≡ interval_words n ++ self.new.words) }
+        ensures positive { IfOk result (λ n. 0 < n) }
+        ensures tells { IfErr result (λ e. TellsOfName e.kind ⊥ ⊥) }
+        ensures value { IfErr result IsWordFault }
+    {
+        self.keyword(Keyword::Interval)?;
+        self.punctuation(Punctuation::Assign)?;
+        let zero = self.syntax();
+        let interval = self.duration()?;
+        if interval == 0 {
+            Err(zero)
+        } else {
+            Ok(interval)
+        }
+    }
+
+    /// A task's priority.
+    fn priority(&mut self) -> Result<u16, PlantFault>
+        ensures ok { IfOk result (λ n. self.old.words ≡ priority_words n ++ self.new.words) }
+        ensures tells { IfErr result (λ e. TellsOfName e.kind ⊥ ⊥) }
+        ensures value { IfErr result IsWordFault }
+    {
+        self.keyword(Keyword::Priority)?;
+        self.punctuation(Punctuation::Assign)?;
+        self.number()
+    }
+
+    /// The two settings of a task, in either order.
+    fn settings(&mut self) -> Result<(Order, u32, u16), PlantFault>
+        ensures ok { IfOk result (λ s. self.old.words ≡ settings s.0 s.1 s.2 ++ self.new.words) }
+        ensures positive { IfOk result (λ s. 0 < s.1) }
+        ensures tells { IfErr result (λ e. TellsOfName e.kind ⊥ ⊥) }
+        ensures value { IfErr result IsWordFault }
+    {
+        if self.sees_keyword(Keyword::Interval) {
+            let interval = self.interval()?;
+            self.punctuation(Punctuation::Comma)?;
+            let priority = self.priority()?;
+            Ok((Order::IntervalFirst, interval, priority))
+        } else {
+            let priority = self.priority()?;
+            self.punctuation(Punctuation::Comma)?;
+            let interval = self.interval()?;
+            Ok((Order::PriorityFirst, interval, priority))
+        }
+    }
+
+    /// A new name of a task, behind these lines of its resource.
+    fn task_name(&mut self, alloc: Global, before: &[Item]) -> Result<Name, PlantFault>
+        ensures ok { IfOk result (λ name. self.old.words ≡ token.Name name ∷ self.new.words) }
+        ensures new { IfOk result (λ name. IsNew (λ t. t.name) (flat_map task_of before.now) name) }
+        ensures few { OnOk result (length (flat_map task_of before.now) < 16) }
+        ensures tells { IfErr result (TellsOfTask before.now self.old.words) }
+        ensures value { IfErr result IsWordFault }
+    {
+        let name = self.name(alloc)?;
+        check_new(
+            &name,
+            is_task(before, &name),
+            count_tasks(before) >= MOST_TASKS,
+        )?;
+        Ok(name)
+    }
+
+    /// A task, behind these lines of its resource.
+    #[tactic(auto, using(crate::proofs::RefusedNames::no_name, crate::proofs::RefusedNames::memory_no_name), unfolding(crate::specs::Grammar::task_words))]
+    fn task(&mut self, alloc: Global, before: &[Item]) -> Result<TaskLine, PlantFault>
+        ensures ok { IfOk result (λ t. self.old.words ≡ task_words t ++ self.new.words) }
+        ensures new { IfOk result (λ t. IsNew (λ t. t.name) (flat_map task_of before.now) t.name) }
+        ensures few { OnOk result (length (flat_map task_of before.now) < 16) }
+        ensures positive { IfOk result (λ t. 0 < t.interval) }
+        ensures names { IfErr result (BeginRefused (λ k. RefusesTask k before.now) self.old.words) }
+        ensures value { IfErr result IsWordFault }
+    {
+        self.keyword(Keyword::Task)?;
+        let name = self.task_name(alloc, before)?;
+        self.punctuation(Punctuation::Open)?;
+        let (order, interval, priority) = self.settings()?;
+        self.punctuation(Punctuation::Close)?;
+        self.punctuation(Punctuation::Semicolon)?;
+        Ok(TaskLine {
+            name,
+            order,
+            interval,
+            priority,
+        })
+    }
+
+    /// A field address of a kind.
+    fn address_of(&mut self, kind: Kind) -> Result<Address, PlantFault>
+        ensures ok { IfOk result (λ a. self.old.words ≡ token.Address a ∷ self.new.words) }
+        ensures kind { IfOk result (λ a. kind_of_space a.space ≡ kind) }
+        ensures tells { IfErr result (λ e. TellsOfName e.kind ⊥ ⊥) }
+        ensures value { IfErr result IsWordFault }
+    {
+        let other = PlantFault::at(PlantFaultKind::WrongKind, self.line());
+        let address = self.address()?;
+        if kind_of_space(address.space) == kind {
+            Ok(address)
+        } else {
+            Err(other)
+        }
+    }
+
+    /// The source of an input of a kind.
+    fn source(&mut self, alloc: Global, kind: Kind) -> Result<SourceName, PlantFault>
+        ensures ok { IfOk result (λ s. self.old.words ≡ source_words s ++ self.new.words) }
+        ensures kind { IfOk result (HasFieldKind kind) }
+        ensures tells { IfErr result (λ e. TellsOfName e.kind ⊥ ⊥) }
+        ensures value { IfErr result IsWordFault }
+    {
+        if self.sees_address() {
+            Ok(SourceName::Field(self.address_of(kind)?))
+        } else {
+            let resource = self.name(alloc)?;
+            self.punctuation(Punctuation::Dot)?;
+            let instance = self.name(alloc)?;
+            self.punctuation(Punctuation::Dot)?;
+            let output = self.name(alloc)?;
+            Ok(SourceName::Output {
+                resource,
+                instance,
+                output,
+            })
+        }
+    }
+
+    /// A bind of an instance of a type, behind these.
+    #[tactic(auto, unfolding(crate::specs::Grammar::bind_words))]
+    fn bind(
+        &mut self,
+        alloc: Global,
+        program: &ProgramType,
+        before: &[Bind],
+        tally: &mut Tally,
+    ) -> Result<Bind, PlantFault>
+        ensures ok { IfOk result (λ b. self.old.words ≡ bind_words b ++ self.new.words) }
+        ensures new { IfOk result (λ b. IsNew (λ b. b.input) before.now b.input) }
+        ensures kind { IfOk result (IsOfInputKind program.now.ladder.declarations) }
+        ensures tally { OnOk result (tally.new ≡ with_binds tally.old 1) }
+        ensures tells { IfErr result (TellsOfBind tally.old.binds self.old.words) }
+        ensures value { IfErr result IsWordFault }
+    {
+        let input = self.name(alloc)?;
+        let Some(kind) = input_kind(program, &input) else {
+            return Err(PlantFault::at(PlantFaultKind::UnknownName, input.line()));
+        };
+        if is_bound(before, &input) {
+            return Err(PlantFault::at(PlantFaultKind::InputBoundTwice, input.line()));
+        }
+        tally.add_bind(&input)?;
+        self.punctuation(Punctuation::Assign)?;
+        let source = self.source(alloc, kind)?;
+        Ok(Bind { input, source })
+    }
+
+    /// The binds of an instance of a type, up to the parenthesis that closes them.
+    #[tactic(auto, using(crate::proofs::RefusedNames::no_name, crate::proofs::RefusedNames::memory_no_name))]
+    fn binds(
+        &mut self,
+        alloc: Global,
+        program: &ProgramType,
+        tally: &mut Tally,
+    ) -> Result<Vec<Bind>, PlantFault>
+        ensures ok { IfOk result (λ binds. EndWithBinds binds.items self.old.words self.new.words) }
+        ensures apart { IfOk result (λ binds. AreApart (map (λ b. b.input) binds.items)) }
+        ensures tally { IfOk result (λ binds. tally.new ≡ with_binds tally.old (length binds.items)) }
+        ensures names { IfErr result (BeginRefused (λ k. RefusesBind k tally.old.binds) self.old.words) }
+        ensures value { IfErr result IsWordFault }
+    {
+        let mut binds = Vec::new(alloc);
+        if !self.sees_punctuation(Punctuation::Close) {
+            binds.push(self.bind(alloc, program, &binds, tally)?)?;
+            'binds: while self.sees_punctuation(Punctuation::Comma) {
+                self.punctuation(Punctuation::Comma)?;
+                binds.push(self.bind(alloc, program, &binds, tally)?)?;
+            }
+        }
+        self.punctuation(Punctuation::Close)?;
+        Ok(binds)
+    }
+
+    /// The binds of an instance of a type. There may be no parentheses.
+    #[tactic(auto, using(crate::proofs::RefusedNames::no_name, crate::proofs::RefusedNames::memory_no_name))]
+    fn some_binds(
+        &mut self,
+        alloc: Global,
+        program: &ProgramType,
+        tally: &mut Tally,
+    ) -> Result<Option<Vec<Bind>>, PlantFault>
+        ensures ok { IfOk result (λ binds. self.old.words ≡ binds_words (listed binds) ++ self.new.words) }
+        ensures apart { IfOk result (λ binds. AreApart (map (λ b. b.input) (bound_in binds))) }
+        ensures tally { IfOk result (λ binds. tally.new ≡ with_binds tally.old (length (bound_in binds))) }
+        ensures names { IfErr result (BeginRefused (RefusesInParentheses tally.old.binds) self.old.words) }
+        ensures value { IfErr result IsWordFault }
+    {
+        if self.sees_punctuation(Punctuation::Open) {
+            self.punctuation(Punctuation::Open)?;
+            Ok(Some(self.binds(alloc, program, tally)?))
+        } else {
+            Ok(None)
+        }
+    }
+
+    /// A new name of an instance, behind these lines of its resource.
+    fn instance_name(
+        &mut self,
+        alloc: Global,
+        before: &[Item],
+        tally: &mut Tally,
+    ) -> Result<Name, PlantFault>
+        ensures ok { IfOk result (λ name. self.old.words ≡ token.Name name ∷ self.new.words) }
+        ensures new { IfOk result (λ name. IsNew (λ u. u.instance) (flat_map use_of before.now) name) }
+        ensures tally { OnOk result (tally.new ≡ with_instance tally.old) }
+        ensures tells { IfErr result (TellsOfInstance before.now tally.old.instances self.old.words) }
+        ensures value { IfErr result IsWordFault }
+    {
+        let name = self.name(alloc)?;
+        check_new(&name, is_instance(before, &name), false)?;
+        tally.add_instance(&name)?;
+        Ok(name)
+    }
+
+    /// The name of a task of these lines.
+    fn known_task(&mut self, alloc: Global, before: &[Item]) -> Result<Name, PlantFault>
+        ensures ok { IfOk result (λ name. self.old.words ≡ token.Name name ∷ self.new.words) }
+        ensures known { IfOk result (λ name. Any (λ t. IsTrue (is_named name t.name)) (flat_map task_of before.now)) }
+        ensures tells { IfErr result (λ e. TellsOfName e.kind ⊥ ⊥) }
+        ensures value { IfErr result IsWordFault }
+    {
+        let name = self.name(alloc)?;
+        if is_task(before, &name) {
+            Ok(name)
+        } else {
+            Err(PlantFault::at(PlantFaultKind::UnknownName, name.line()))
+        }
+    }
+
+    /// A program instance, behind these lines of its resource.
+    #[tactic(auto, using(crate::proofs::RefusedNames::no_name, crate::proofs::RefusedNames::memory_no_name), unfolding(crate::specs::Grammar::use_words))]
+    fn instance(
+        &mut self,
+        alloc: Global,
+        types: &[ProgramType],
+        before: &[Item],
+        tally: &mut Tally,
+    ) -> Result<Use, PlantFault>
+        ensures ok { IfOk result (λ u. self.old.words ≡ use_words u ++ self.new.words) }
+        ensures new { IfOk result (λ u. IsNew (λ u. u.instance) (flat_map use_of before.now) u.instance) }
+        ensures lawful { IfOk result (λ u. IsUseLawful (types_alone types.now) before.now u) }
+        ensures tally { IfOk result (λ u. tally.new ≡ tally_with tally.old (u ∷ [])) }
+        ensures names { IfErr result (BeginRefused (RefusesFurtherInstance tally.old before.now) self.old.words) }
+        ensures value { IfErr result IsWordFault }
+    {
+        self.keyword(Keyword::Program)?;
+        let instance = self.instance_name(alloc, before, tally)?;
+        self.keyword(Keyword::With)?;
+        let task = self.known_task(alloc, before)?;
+        self.punctuation(Punctuation::Colon)?;
+        let program = self.name(alloc)?;
+        let Some(found) = type_named(types, &program) else {
+            return Err(PlantFault::at(PlantFaultKind::UnknownName, program.line()));
+        };
+        let binds = self.some_binds(alloc, found, tally)?;
+        self.punctuation(Punctuation::Semicolon)?;
+        Ok(Use {
+            instance,
+            task,
+            program,
+            binds,
+        })
+    }
+
+    /// A line of a resource, behind these.
+    #[tactic(auto, using(crate::proofs::RefusedNames::no_name, crate::proofs::RefusedNames::memory_no_name))]
+    fn item(
+        &mut self,
+        alloc: Global,
+        types: &[ProgramType],
+        before: &[Item],
+        tally: &mut Tally,
+    ) -> Result<Item, PlantFault>
+        ensures ok { IfOk result (λ x. self.old.words ≡ item_words x ++ self.new.words) }
+        ensures lawful { IfOk result (λ x. MayFollow (types_alone types.now) before.now x) }
+        ensures tally { IfOk result (λ x. tally.new ≡ tally_with tally.old (use_of x)) }
+        ensures names { IfErr result (BeginRefused (RefusesItem tally.old before.now) self.old.words) }
+        ensures value { IfErr result IsWordFault }
+    {
+        if self.sees_keyword(Keyword::Task) {
+            Ok(Item::Task(self.task(alloc, before)?))
+        } else {
+            Ok(Item::Use(self.instance(alloc, types, before, tally)?))
+        }
+    }
+
+    /// The lines of a resource, up to its end.
+    #[tactic(auto, using(crate::proofs::RefusedNames::no_name, crate::proofs::RefusedNames::memory_no_name, crate::proofs::WordLists::item_has_words, crate::proofs::ItemLemmas::no_items))]
+    fn items(
+        &mut self,
+        alloc: Global,
+        types: &[ProgramType],
+        tally: &mut Tally,
+    ) -> Result<Vec<Item>, PlantFault>
+        ensures ok { IfOk result (λ xs. self.old.words ≡ items_words xs.items ++ self.new.words) }
+        ensures lawful { IfOk result (λ xs. AreItemsLawful (types_alone types.now) xs.items) }
+        ensures tally { IfOk result (λ xs. tally.new ≡ tally_with tally.old (flat_map use_of xs.items)) }
+        ensures names { IfErr result (BeginRefused (RefusesFurtherItems tally.old) self.old.words) }
+        ensures value { IfErr result IsWordFault }
+    {
+        let mut items = Vec::new(alloc);
+        'items: while !self.sees_keyword(Keyword::EndResource) {
+            let item = self.item(alloc, types, &items, tally)?;
+            items.push(item)?;
+        }
+        self.keyword(Keyword::EndResource)?;
+        Ok(items)
+    }
+
+    /// A new name of a resource, behind these.
+    fn resource_name(&mut self, alloc: Global, before: &[Resource]) -> Result<Name, PlantFault>
+        ensures ok { IfOk result (λ name. self.old.words ≡ token.Name name ∷ self.new.words) }
+        ensures new { IfOk result (λ name. IsNew (λ r. r.name) before.now name) }
+        ensures few { OnOk result (length before.now < 16) }
+        ensures tells { IfErr result (TellsOfResource before.now self.old.words) }
+        ensures value { IfErr result IsWordFault }
+    {
+        let name = self.name(alloc)?;
+        check_new(
+            &name,
+            is_resource(before, &name),
+            before.len() >= MOST_RESOURCES,
+        )?;
+        Ok(name)
+    }
+
+    /// A resource, behind these.
+    #[tactic(auto, unfolding(crate::specs::Grammar::resource_words), using(crate::proofs::RefusedNames::no_name, crate::proofs::RefusedNames::memory_no_name, crate::proofs::ItemLemmas::resource_is_lawful))]
+    fn resource(
+        &mut self,
+        alloc: Global,
+        types: &[ProgramType],
+        before: &[Resource],
+        tally: &mut Tally,
+    ) -> Result<Resource, PlantFault>
+        ensures ok { IfOk result (λ r. self.old.words ≡ resource_words r ++ self.new.words) }
+        ensures new { IfOk result (λ r. IsNew (λ r. r.name) before.now r.name) }
+        ensures few { OnOk result (length before.now < 16) }
+        ensures lawful { IfOk result (λ r. IsResourceLawful (types_alone types.now) r) }
+        ensures tally { IfOk result (λ r. tally.new ≡ tally_with tally.old (uses_of r)) }
+        ensures names { IfErr result (BeginRefused (RefusesFurtherResource tally.old before.now) self.old.words) }
+        ensures value { IfErr result IsWordFault }
+    {
+        self.keyword(Keyword::Resource)?;
+        let name = self.resource_name(alloc, before)?;
+        self.keyword(Keyword::On)?;
+        let node = self.name(alloc)?;
+        let items = self.items(alloc, types, tally)?;
+        Ok(Resource { name, node, items })
+    }
+
+    /// The resources, one at least, up to the end of the configuration.
+    #[tactic(auto, using(crate::proofs::RefusedNames::no_name, crate::proofs::RefusedNames::memory_no_name, crate::proofs::WordLists::resource_has_words, crate::proofs::ItemLemmas::no_resources))]
+    pub fn resources(
+        &mut self,
+        alloc: Global,
+        types: &[ProgramType],
+        tally: &mut Tally,
+    ) -> Result<Vec<Resource>, PlantFault>
+        ensures ok { IfOk result (λ rs. self.old.words ≡ resources_words rs.items ++ self.new.words) }
+        ensures some { IfOk result (λ rs. 0 < length rs.items) }
+        ensures lawful { IfOk result (λ rs. AreResourcesLawful (types_alone types.now) rs.items) }
+        ensures tally { IfOk result (λ rs. tally.new ≡ tally_with tally.old (flat_map uses_of rs.items)) }
+        ensures names { IfErr result (BeginRefused (RefusesFurtherResources tally.old) self.old.words) }
+        ensures value { IfErr result IsWordFault }
+    {
+        let mut resources = Vec::new(alloc);
+        'resources: while resources.is_empty() || !self.sees_keyword(Keyword::EndConfiguration) {
+            let resource = self.resource(alloc, types, &resources, tally)?;
+            resources.push(resource)?;
+        }
+        self.keyword(Keyword::EndConfiguration)?;
+        Ok(resources)
+    }
+}
