@@ -90,7 +90,8 @@ fn store_pins(pins: &[BoundOutput], outputs: &PinsOut, slots: &mut [Slot])
 /// Puts the blocks back into their slots, and stores their outputs at their operands, in order.
 pub fn store_boxes(boxes: &[BoundBox], results: &[Instance], slots: &mut [Slot])
     requires { length results.now ≡ length boxes.now }
-    ensures { AreBlocksKept boxes.now → slots.new ≡ stored (with_blocks boxes.now results.now slots.old) (output_stores boxes.now results.now) }
+    ensures { AreBlocksKept boxes.now
+        → slots.new ≡ stored (with_blocks boxes.now results.now slots.old) (output_stores boxes.now results.now) }
 {
     for k in 0..boxes.len() {
         let bound = &boxes[k];

@@ -66,32 +66,35 @@ fn both(last: &Step, step: &Step) -> Option<Step>
     }
 }
 
-/// Adds two steps.
-fn push_two(steps: &mut Vec<Step>, last: Step, step: Step) -> Result<(), AllocError>
+/// Adds two steps, as one where a step stands for both.
+fn push_both(steps: &mut Vec<Step>, last: Step, step: Step) -> Result<(), AllocError>
     ensures { OnOk result (singles steps.new.items ≡ (singles steps.old.items ++ single last) ++ single step) }
 {
-    steps.push(last)?;
-    steps.push(step)?;
+    match both(&last, &step) {
+        Some(one) => steps.push(one)?,
+        None => {
+            steps.push(last)?;
+            steps.push(step)?;
+        }
+    }
     Ok(())
 }
 
-/// Adds a step, to the last one where a step stands for both, and that one to the one before, and so on.
+/// Adds a step, to the last one where a step stands for both.
 fn push_fused(steps: &mut Vec<Step>, step: Step) -> Result<(), AllocError>
     ensures { OnOk result (singles steps.new.items ≡ singles steps.old.items ++ single step) }
 {
-    let mut fused = step;
-    while let Some(last) = steps.pop() {
-        match both(&last, &fused) {
-            Some(one) => fused = one,
-            None => return push_two(steps, last, fused),
+    match steps.pop() {
+        Some(last) => push_both(steps, last, step),
+        None => {
+            steps.push(step)?;
+            Ok(())
         }
     }
-    steps.push(fused)?;
-    Ok(())
 }
 
-/// These steps, with one step in place of two where it stands for both, also where it stands for such a step and the one before.
-pub fn fused(alloc: Global, steps: Vec<Step>) -> Result<Vec<Step>, AllocError>
+/// These steps, with one step in place of two where it stands for both.
+fn fewer(alloc: Global, steps: Vec<Step>) -> Result<Vec<Step>, AllocError>
     ensures { IfOk result (λ fewer. singles fewer.items ≡ singles steps.items) }
 {
     let mut fewer = Vec::with_capacity(alloc, steps.len())?;
@@ -99,4 +102,12 @@ pub fn fused(alloc: Global, steps: Vec<Step>) -> Result<Vec<Step>, AllocError>
         push_fused(&mut fewer, step)?;
     }
     Ok(fewer)
+}
+
+/// These steps, with one step in place of two where it stands for both, and once more where such a step and the one before have one.
+pub fn fused(alloc: Global, steps: Vec<Step>) -> Result<Vec<Step>, AllocError>
+    ensures { IfOk result (λ fewer. singles fewer.items ≡ singles steps.items) }
+{
+    let once = fewer(alloc, steps)?;
+    fewer(alloc, once)
 }
