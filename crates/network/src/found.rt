@@ -8,7 +8,7 @@ ghost use Rattle.network.specs.Steps.Tables.{AreSuch};
 
 use crate::corners::{corner_of, corners_of, is_twice};
 use crate::element::Element;
-use crate::graph::Network;
+use crate::networks::Network;
 use ladder_text::{DrawnBox, Place};
 use std::alloc::{AllocError, Global};
 

@@ -1,7 +1,7 @@
 use Rattle.std.proofs.Common.{◌∙◌, Vec, Global, length, sym}
 use Rattle.ladder_text.specs.declared.place.Place.{Place}
 use Rattle.network.specs.declared.element.Element.{Element}
-use Rattle.network.specs.declared.graph.Network.{Network}
+use Rattle.network.specs.declared.networks.Network.{Network}
 use Rattle.network.specs.declared.ranks.Ranks.{Ranks}
 use Rattle.network.specs.Networks.{AreLeftRails, IsUnattachedAt, IsTooTallAt, IsTwiceAt, Nowhere}
 use Rattle.network.specs.Steps.Listing.{AreElementsOf}
