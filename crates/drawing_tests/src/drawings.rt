@@ -1,10 +1,7 @@
 //! What a drawing gives, and where its first fault is.
 
 use crate::checks::equal;
-use ladder_text::{
-    Coil, CoilKind, Contact, ContactKind, DrawFault, DrawFaultKind, Drawing, DrawnBox, DrawnPin,
-    Mark, Side,
-};
+use ladder_text::{CoilKind, ContactKind, DrawFault, DrawFaultKind, Drawing, DrawnBox, Mark, Side};
 use std::alloc::{AllocError, Global};
 use std::process::Abort;
 use std::test::Fail;
@@ -14,13 +11,10 @@ fn fault_of(alloc: Global, text: &str) -> Option<DrawFault> {
     Drawing::read(alloc, text, 1).err()
 }
 
-/// Each part so many times, one part behind the other.
-fn repeated(alloc: Global, parts: &[(&str, usize)]) -> Result<String, AllocError> {
+fn repeated(alloc: Global, line: &str, times: usize) -> Result<String, AllocError> {
     let mut text = String::new(alloc);
-    for &(part, times) in parts {
-        for _ in 0..times {
-            text.push_str(part)?;
-        }
+    for _ in 0..times {
+        text.push_str(line)?;
     }
     Ok(text)
 }
@@ -35,22 +29,14 @@ fn has_marks(rt: &impl Abort, drawing: &Drawing, marks: &[(usize, usize, Mark)])
     }
 }
 
-/// The first line, the rows, the columns, the column of the left rail, and how many boxes there are.
-fn has_size(rt: &impl Abort, drawing: &Drawing, size: (u64, usize, usize, usize, usize)) {
-    let found = (
-        drawing.first_line(),
-        drawing.rows(),
-        drawing.columns(),
-        drawing.left(),
-        drawing.boxes().len(),
-    );
-    equal(rt, "size", &found, &size);
-}
-
 #[test]
 fn gives_its_size_and_marks(rt: HostRuntime) -> Result<(), Fail> {
     let drawing = Drawing::read(rt.alloc(), TWO_COILS, 7)?;
-    has_size(&rt, &drawing, (7, 4, 19, 1, 0));
+    equal(&rt, "first line", &drawing.first_line(), &7);
+    equal(&rt, "rows", &drawing.rows(), &4);
+    equal(&rt, "columns", &drawing.columns(), &19);
+    equal(&rt, "left rail", &drawing.left(), &1);
+    equal(&rt, "boxes", &drawing.boxes().len(), &0);
     has_marks(
         &rt,
         &drawing,
@@ -75,48 +61,40 @@ fn gives_its_size_and_marks(rt: HostRuntime) -> Result<(), Fail> {
     Ok(())
 }
 
-fn is_contact(rt: &impl Abort, found: &Contact, contact: &(usize, usize, ContactKind, &str)) {
-    let found = (found.row, found.column, found.kind, found.name.as_str());
-    equal(rt, "contact", &found, contact);
-}
-
-fn are_contacts(
+fn has_contacts(
     rt: &impl Abort,
-    found: &[Contact],
+    drawing: &Drawing,
     contacts: &[(usize, usize, ContactKind, &str)],
 ) {
-    equal(rt, "contacts", &found.len(), &contacts.len());
-    for (found, contact) in found.iter().zip(contacts) {
-        is_contact(rt, found, contact);
+    equal(rt, "contacts", &drawing.contacts().len(), &contacts.len());
+    for (found, contact) in drawing.contacts().iter().zip(contacts) {
+        let found = (found.row, found.column, found.kind, found.name.as_str());
+        equal(rt, "contact", &found, contact);
     }
 }
 
-fn is_coil(rt: &impl Abort, found: &Coil, coil: &(usize, usize, CoilKind, &str)) {
-    let found = (found.row, found.column, found.kind, found.name.as_str());
-    equal(rt, "coil", &found, coil);
-}
-
-fn are_coils(rt: &impl Abort, found: &[Coil], coils: &[(usize, usize, CoilKind, &str)]) {
-    equal(rt, "coils", &found.len(), &coils.len());
-    for (found, coil) in found.iter().zip(coils) {
-        is_coil(rt, found, coil);
+fn has_coils(rt: &impl Abort, drawing: &Drawing, coils: &[(usize, usize, CoilKind, &str)]) {
+    equal(rt, "coils", &drawing.coils().len(), &coils.len());
+    for (found, coil) in drawing.coils().iter().zip(coils) {
+        let found = (found.row, found.column, found.kind, found.name.as_str());
+        equal(rt, "coil", &found, coil);
     }
 }
 
 #[test]
 fn gives_its_contacts_and_coils(rt: HostRuntime) -> Result<(), Fail> {
     let drawing = Drawing::read(rt.alloc(), TWO_COILS, 1)?;
-    are_contacts(
+    has_contacts(
         &rt,
-        drawing.contacts(),
+        &drawing,
         &[
             (2, 4, ContactKind::Rise, "A"),
             (2, 9, ContactKind::Negated, "b"),
         ],
     );
-    are_coils(
+    has_coils(
         &rt,
-        drawing.coils(),
+        &drawing,
         &[
             (2, 17, CoilKind::Set, "Y"),
             (4, 17, CoilKind::Negated, "X_2"),
@@ -149,15 +127,11 @@ fn drawn_box(drawing: &Drawing) -> Option<&DrawnBox> {
     }
 }
 
-fn is_pin(rt: &impl Abort, found: &DrawnPin, pin: &(usize, Side, &str)) {
-    let found = (found.row, found.side, found.name.as_str());
-    equal(rt, "pin", &found, pin);
-}
-
-fn are_pins(rt: &impl Abort, found: &[DrawnPin], pins: &[(usize, Side, &str)]) {
-    equal(rt, "pins", &found.len(), &pins.len());
-    for (found, pin) in found.iter().zip(pins) {
-        is_pin(rt, found, pin);
+fn has_pins(rt: &impl Abort, drawn: &DrawnBox, pins: &[(usize, Side, &str)]) {
+    equal(rt, "pins", &drawn.pins.as_slice().len(), &pins.len());
+    for (found, pin) in drawn.pins.as_slice().iter().zip(pins) {
+        let found = (found.row, found.side, found.name.as_str());
+        equal(rt, "pin", &found, pin);
     }
 }
 
@@ -177,9 +151,9 @@ fn is_the_timer(rt: &impl Abort, drawn: &DrawnBox) {
     );
     equal(rt, "type", &drawn.block, &BlockType::TON);
     equal(rt, "name", &drawn.instance.as_str(), &"T1");
-    are_pins(
+    has_pins(
         rt,
-        drawn.pins.as_slice(),
+        drawn,
         &[
             (4, Side::Left, "IN"),
             (4, Side::Right, "Q"),
@@ -279,42 +253,64 @@ fn counts_lines_from_the_first(rt: HostRuntime) {
     equal(&rt, "fault", &found, &Some(fault));
 }
 
-/// What these parts draw has so many rows and columns, or is too large at a line and column.
-fn has_extent(
-    rt: &impl Abort,
-    alloc: Global,
-    parts: &[(&str, usize)],
-    extent: Result<(usize, usize), (u64, usize)>,
-) -> Result<(), Fail> {
-    let text = repeated(alloc, parts)?;
-    equal(rt, "extent", &extent_of(alloc, text.as_str())?, &extent);
+#[test]
+fn is_at_most_240_columns_wide(rt: HostRuntime) -> Result<(), Fail> {
+    let alloc = rt.alloc();
+    let mut wide = String::from_str(alloc, "+")?;
+    wide.push_str(repeated(alloc, "-", 239)?.as_str())?;
+    wide.push_str(repeated(alloc, " ", 300)?.as_str())?;
+    let drawing = Drawing::read(alloc, wide.as_str(), 1)?;
+    equal(&rt, "columns", &drawing.columns(), &240);
+    let wider = repeated(alloc, "+", 241)?;
+    equal(
+        &rt,
+        "wider",
+        &fault_of(alloc, wider.as_str()),
+        &beyond(1, 241),
+    );
     Ok(())
 }
 
-fn extent_of(alloc: Global, text: &str) -> Result<Result<(usize, usize), (u64, usize)>, DrawFault> {
-    match Drawing::read(alloc, text, 1) {
-        Ok(drawing) => Ok(Ok((drawing.rows(), drawing.columns()))),
-        Err(fault) if fault.kind == DrawFaultKind::TooLarge => Ok(Err((fault.line, fault.column))),
-        Err(fault) => Err(fault),
-    }
-}
-
-#[test]
-fn is_at_most_240_columns_wide(rt: HostRuntime) -> Result<(), Fail> {
-    let widest = [("+", 1), ("-", 239), (" ", 300)];
-    has_extent(&rt, rt.alloc(), &widest, Ok((1, 240)))?;
-    has_extent(&rt, rt.alloc(), &[("+", 241)], Err((1, 241)))
+/// A place beyond the limits.
+fn beyond(line: u64, column: usize) -> Option<DrawFault> {
+    Some(DrawFault {
+        kind: DrawFaultKind::TooLarge,
+        line,
+        column,
+    })
 }
 
 #[test]
 fn is_at_most_2000_rows_tall(rt: HostRuntime) -> Result<(), Fail> {
-    has_extent(&rt, rt.alloc(), &[("|\n", 2000)], Ok((2000, 1)))?;
-    let taller = [("|\n", 2000), ("\n", 1)];
-    has_extent(&rt, rt.alloc(), &taller, Err((2001, 1)))
+    let alloc = rt.alloc();
+    let mut low = repeated(alloc, "|\n", 2000)?;
+    equal(
+        &rt,
+        "rows",
+        &Drawing::read(alloc, low.as_str(), 1)?.rows(),
+        &2000,
+    );
+    low.push_str("\n")?;
+    equal(
+        &rt,
+        "lower",
+        &fault_of(alloc, low.as_str()),
+        &beyond(2001, 1),
+    );
+    Ok(())
 }
 
 #[test]
 fn is_too_wide_before_it_is_too_tall(rt: HostRuntime) -> Result<(), Fail> {
-    let both = [("|\n", 9), ("+", 241), ("\n|", 2000)];
-    has_extent(&rt, rt.alloc(), &both, Err((10, 241)))
+    let alloc = rt.alloc();
+    let mut both = repeated(alloc, "|\n", 9)?;
+    both.push_str(repeated(alloc, "+", 241)?.as_str())?;
+    both.push_str(repeated(alloc, "\n|", 2000)?.as_str())?;
+    equal(
+        &rt,
+        "both",
+        &fault_of(alloc, both.as_str()),
+        &beyond(10, 241),
+    );
+    Ok(())
 }

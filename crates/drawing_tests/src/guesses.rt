@@ -1,7 +1,8 @@
 //! What the names of a drawing are declared as by their use.
 
 use crate::checks::equal;
-use crate::ladders::graph_of;
+use ladder_text::Drawing;
+use network::Graph;
 use power_flow::{Declarations, Declared, Kind};
 use std::alloc::Global;
 use std::process::Abort;
@@ -14,18 +15,6 @@ const INT: Declared = Declared::Local(Kind::Int);
 
 const TIME: Declared = Declared::Local(Kind::Time);
 
-fn guessed(alloc: Global, drawing: &str) -> Result<Declarations, Fail> {
-    let graph = graph_of(alloc, drawing)?;
-    Ok(Declarations::guess(alloc, &graph)?)
-}
-
-fn are_declared(rt: &impl Abort, declarations: &Declarations, names: &[(&str, Declared)]) {
-    for (place, name) in names.iter().enumerate() {
-        equal(rt, "name", &declarations.entry(place), &Some(*name));
-    }
-    equal(rt, "names", &declarations.len(), &names.len());
-}
-
 /// The names of a drawing are these, in this order.
 fn are_guessed(
     rt: &impl Abort,
@@ -33,8 +22,13 @@ fn are_guessed(
     drawing: &str,
     names: &[(&str, Declared)],
 ) -> Result<(), Fail> {
-    let declarations = guessed(alloc, drawing)?;
-    are_declared(rt, &declarations, names);
+    let drawing = Drawing::read(alloc, drawing, 1)?;
+    let graph = Graph::build(alloc, &drawing)?;
+    let declarations = Declarations::guess(alloc, &graph)?;
+    for (place, name) in names.iter().enumerate() {
+        equal(rt, "name", &declarations.entry(place), &Some(*name));
+    }
+    equal(rt, "names", &declarations.len(), &names.len());
     Ok(())
 }
 

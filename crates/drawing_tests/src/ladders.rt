@@ -53,23 +53,6 @@ pub fn scan(rt: &impl Abort, ladder: &Ladder, state: &mut State, dt: u32) {
     ladder.scan(state, dt);
 }
 
-/// A name has a fault of this kind, on line 5 at a column.
-fn has_name_fault(
-    rt: &impl Abort,
-    alloc: Global,
-    drawing: &str,
-    kind: BindKind,
-    column: usize,
-) -> Result<(), Fail> {
-    let fault = BindFault {
-        kind,
-        line: 5,
-        column,
-    };
-    equal(rt, drawing, &bind(alloc, drawing)?.err(), &Some(fault));
-    Ok(())
-}
-
 #[test]
 fn faults_of_names_stand_at_their_places(rt: HostRuntime) -> Result<(), Fail> {
     let too_large = "|             T1
@@ -86,8 +69,23 @@ fn faults_of_names_stand_at_their_places(rt: HostRuntime) -> Result<(), Fail> {
 | T#30ms--|PX   ET|--E
 |         +-------+
 ";
-    has_name_fault(&rt, rt.alloc(), too_large, BindKind::LiteralOutOfRange, 3)?;
-    has_name_fault(&rt, rt.alloc(), unknown_pin, BindKind::UnknownPin, 11)
+    for &(drawing, kind, column) in &[
+        (too_large, BindKind::LiteralOutOfRange, 3),
+        (unknown_pin, BindKind::UnknownPin, 11),
+    ] {
+        let fault = BindFault {
+            kind,
+            line: 5,
+            column,
+        };
+        equal(
+            &rt,
+            drawing,
+            &bind(rt.alloc(), drawing)?.err(),
+            &Some(fault),
+        );
+    }
+    Ok(())
 }
 
 /// Whether the ladders of both drawings are the same.

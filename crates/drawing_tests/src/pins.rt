@@ -1,99 +1,72 @@
 //! Where the pins of blocks are found, and which values, states and outputs are the same.
 
-use crate::checks::equal;
-use std::process::Abort;
+use crate::checks::{equal, holds};
 use std_blocks::{BlockState, BlockType, Field, Pin, PinsOut, Value};
 
-/// Each of these blocks has these inputs and outputs, and not the last name.
-fn have_pins(rt: &impl Abort, blocks: &[(BlockType, &[(&str, Field)], &[(&str, Field)], &str)]) {
-    for &(block, inputs, outputs, absent) in blocks {
-        are_found(rt, block, true, inputs);
-        are_found(rt, block, false, outputs);
-        equal(rt, absent, &block.pin(absent), &None);
-    }
+fn input(field: Field) -> Option<Pin> {
+    Some(Pin { left: true, field })
 }
 
-/// These are pins of a block, on its left or on its right side.
-fn are_found(rt: &impl Abort, block: BlockType, left: bool, pins: &[(&str, Field)]) {
-    for &(name, field) in pins {
-        equal(rt, name, &block.pin(name), &Some(Pin { left, field }));
-    }
+fn output(field: Field) -> Option<Pin> {
+    Some(Pin { left: false, field })
 }
-
-const FIRST: Field = Field::Bit(0);
-
-const SECOND: Field = Field::Bit(1);
 
 #[test]
 fn finds_pins_of_latches_and_counters(rt: HostRuntime) {
-    have_pins(
-        &rt,
-        &[
-            (
-                BlockType::SR,
-                &[("s1", FIRST), ("R", SECOND)],
-                &[("q1", FIRST)],
-                "S",
-            ),
-            (
-                BlockType::RS,
-                &[("s", FIRST), ("r1", SECOND)],
-                &[("Q1", FIRST)],
-                "q",
-            ),
-            (
-                BlockType::CTU,
-                &[("cu", FIRST), ("r", SECOND), ("pv", Field::Int)],
-                &[("q", FIRST), ("cv", Field::Int)],
-                "CD",
-            ),
-            (
-                BlockType::CTD,
-                &[("Cd", FIRST), ("lD", SECOND), ("Pv", Field::Int)],
-                &[("Q", FIRST), ("cV", Field::Int)],
-                "",
-            ),
-        ],
-    );
+    let table = [
+        (BlockType::SR, "s1", input(Field::Bit(0))),
+        (BlockType::SR, "R", input(Field::Bit(1))),
+        (BlockType::SR, "q1", output(Field::Bit(0))),
+        (BlockType::SR, "S", None),
+        (BlockType::RS, "s", input(Field::Bit(0))),
+        (BlockType::RS, "r1", input(Field::Bit(1))),
+        (BlockType::RS, "Q1", output(Field::Bit(0))),
+        (BlockType::RS, "q", None),
+        (BlockType::CTU, "cu", input(Field::Bit(0))),
+        (BlockType::CTU, "r", input(Field::Bit(1))),
+        (BlockType::CTU, "pv", input(Field::Int)),
+        (BlockType::CTU, "q", output(Field::Bit(0))),
+        (BlockType::CTU, "cv", output(Field::Int)),
+        (BlockType::CTU, "CD", None),
+        (BlockType::CTD, "Cd", input(Field::Bit(0))),
+        (BlockType::CTD, "lD", input(Field::Bit(1))),
+        (BlockType::CTD, "Pv", input(Field::Int)),
+        (BlockType::CTD, "Q", output(Field::Bit(0))),
+        (BlockType::CTD, "cV", output(Field::Int)),
+        (BlockType::CTD, "", None),
+    ];
+    for (row, &(block, name, pin)) in table.iter().enumerate() {
+        equal(&rt, name, &(row, block.pin(name)), &(row, pin));
+    }
 }
 
 #[test]
 fn finds_pins_of_both_ways_and_timers(rt: HostRuntime) {
-    have_pins(
-        &rt,
-        &[
-            (
-                BlockType::CTUD,
-                &[
-                    ("cu", FIRST),
-                    ("cd", SECOND),
-                    ("r", Field::Bit(2)),
-                    ("ld", Field::Bit(3)),
-                    ("pv", Field::Int),
-                ],
-                &[("qu", FIRST), ("qd", SECOND), ("cv", Field::Int)],
-                "q",
-            ),
-            (
-                BlockType::TP,
-                &[("in", FIRST), ("pt", Field::Time)],
-                &[("q", FIRST), ("et", Field::Time)],
-                "cv",
-            ),
-            (
-                BlockType::TON,
-                &[("IN", FIRST)],
-                &[("Et", Field::Time)],
-                "PX",
-            ),
-            (
-                BlockType::TOF,
-                &[("Pt", Field::Time)],
-                &[("Q", FIRST)],
-                "IN1",
-            ),
-        ],
-    );
+    let table = [
+        (BlockType::CTUD, "cu", input(Field::Bit(0))),
+        (BlockType::CTUD, "cd", input(Field::Bit(1))),
+        (BlockType::CTUD, "r", input(Field::Bit(2))),
+        (BlockType::CTUD, "ld", input(Field::Bit(3))),
+        (BlockType::CTUD, "pv", input(Field::Int)),
+        (BlockType::CTUD, "qu", output(Field::Bit(0))),
+        (BlockType::CTUD, "qd", output(Field::Bit(1))),
+        (BlockType::CTUD, "cv", output(Field::Int)),
+        (BlockType::CTUD, "q", None),
+        (BlockType::TP, "in", input(Field::Bit(0))),
+        (BlockType::TP, "pt", input(Field::Time)),
+        (BlockType::TP, "q", output(Field::Bit(0))),
+        (BlockType::TP, "et", output(Field::Time)),
+        (BlockType::TP, "cv", None),
+        (BlockType::TON, "IN", input(Field::Bit(0))),
+        (BlockType::TON, "Et", output(Field::Time)),
+        (BlockType::TON, "PX", None),
+        (BlockType::TOF, "Pt", input(Field::Time)),
+        (BlockType::TOF, "Q", output(Field::Bit(0))),
+        (BlockType::TOF, "IN1", None),
+    ];
+    for (row, &(block, name, pin)) in table.iter().enumerate() {
+        equal(&rt, name, &(row, block.pin(name)), &(row, pin));
+    }
 }
 
 #[test]
@@ -116,92 +89,58 @@ fn values_are_same_by_kind_and_contents(rt: HostRuntime) {
     }
 }
 
-/// An up-down counter as it begins.
-const BEGUN: BlockState = BlockState {
-    block: BlockType::CTUD,
-    on: false,
-    last_in: false,
-    last_cu: false,
-    last_cd: false,
-    count: 0,
-    elapsed: 0,
-};
-
 #[test]
 fn states_are_same_in_all_fields(rt: HostRuntime) {
     let state = BlockState::initial(BlockType::CTUD);
-    for &(other, is_same) in &[
-        (BEGUN, true),
-        (
-            BlockState {
-                block: BlockType::CTU,
-                ..BEGUN
-            },
-            false,
-        ),
-        (BlockState { on: true, ..BEGUN }, false),
-        (
-            BlockState {
-                last_in: true,
-                ..BEGUN
-            },
-            false,
-        ),
-        (
-            BlockState {
-                last_cu: true,
-                ..BEGUN
-            },
-            false,
-        ),
-        (
-            BlockState {
-                last_cd: true,
-                ..BEGUN
-            },
-            false,
-        ),
-        (BlockState { count: 1, ..BEGUN }, false),
-        (
-            BlockState {
-                elapsed: 1,
-                ..BEGUN
-            },
-            false,
-        ),
-    ] {
-        equal(&rt, "same", &(other, state.same(&other)), &(other, is_same));
+    let again = BlockState::initial(BlockType::CTUD);
+    holds(&rt, "a state is the same as itself", state.same(&again));
+    let others = [
+        BlockState::initial(BlockType::CTU),
+        BlockState { on: true, ..state },
+        BlockState {
+            last_in: true,
+            ..state
+        },
+        BlockState {
+            last_cu: true,
+            ..state
+        },
+        BlockState {
+            last_cd: true,
+            ..state
+        },
+        BlockState { count: 1, ..state },
+        BlockState {
+            elapsed: 1,
+            ..state
+        },
+    ];
+    for (place, other) in others.iter().enumerate() {
+        equal(&rt, "same", &(place, state.same(other)), &(place, false));
     }
 }
 
-/// Outputs with a value in each field.
-const SHOWN: PinsOut = PinsOut {
-    bits: [true, false],
-    int: 3,
-    time: 4,
-};
-
 #[test]
 fn outputs_are_same_in_all_fields(rt: HostRuntime) {
-    for &(other, is_same) in &[
-        (SHOWN, true),
-        (
-            PinsOut {
-                bits: [false, false],
-                ..SHOWN
-            },
-            false,
-        ),
-        (
-            PinsOut {
-                bits: [true, true],
-                ..SHOWN
-            },
-            false,
-        ),
-        (PinsOut { int: 4, ..SHOWN }, false),
-        (PinsOut { time: 3, ..SHOWN }, false),
-    ] {
-        equal(&rt, "same", &(other, SHOWN.same(&other)), &(other, is_same));
+    let shown = PinsOut {
+        bits: [true, false],
+        int: 3,
+        time: 4,
+    };
+    holds(&rt, "a copy is the same", shown.same(&PinsOut { ..shown }));
+    let others = [
+        PinsOut {
+            bits: [false, false],
+            ..shown
+        },
+        PinsOut {
+            bits: [true, true],
+            ..shown
+        },
+        PinsOut { int: 4, ..shown },
+        PinsOut { time: 3, ..shown },
+    ];
+    for (place, other) in others.iter().enumerate() {
+        equal(&rt, "same", &(place, shown.same(other)), &(place, false));
     }
 }

@@ -47,22 +47,6 @@ fn are_shown(rt: &impl Abort, ladder: &Ladder, state: &State, shown: &[(&str, &[
     }
 }
 
-/// Scans, dt milliseconds apart, as long as values are given.
-fn scan_through(
-    rt: &impl Abort,
-    ladder: &Ladder,
-    state: &mut State,
-    dt: u32,
-    digits: &[(&str, &str)],
-    shown: &[(&str, &[i64])],
-) {
-    for k in 0..scans_in(shown) {
-        set_digits(rt, ladder, state, digits, k);
-        scan(rt, ladder, state, dt);
-        are_shown(rt, ladder, state, shown, k);
-    }
-}
-
 /// Scans a drawing, dt milliseconds apart: before scan k each BOOL is set to its k-th digit, and after it each variable has its k-th value.
 pub fn compare(
     rt: &impl Abort,
@@ -74,7 +58,11 @@ pub fn compare(
 ) -> Result<(), Fail> {
     let ladder = ladder_of(alloc, drawing)?;
     let mut state = ladder.initial(alloc)?;
-    scan_through(rt, &ladder, &mut state, dt, digits, shown);
+    for k in 0..scans_in(shown) {
+        set_digits(rt, &ladder, &mut state, digits, k);
+        scan(rt, &ladder, &mut state, dt);
+        are_shown(rt, &ladder, &state, shown, k);
+    }
     Ok(())
 }
 
@@ -233,30 +221,21 @@ fn has_counted(rt: &impl Abort, ladder: &Ladder, state: &State, count: i64, full
     are_shown(rt, ladder, state, &[("N", &[count]), ("FULL", &[full])], 0);
 }
 
-fn counts_to_the_end(rt: &impl Abort, ladder: &Ladder, state: &mut State) {
-    for _ in 0..32_766 {
-        count_up(rt, ladder, state);
-    }
-    has_counted(rt, ladder, state, 32_766, 0);
-    for _ in 0..2 {
-        count_up(rt, ladder, state);
-        has_counted(rt, ladder, state, 32_767, 1);
-    }
-}
-
-fn is_cleared(rt: &impl Abort, ladder: &Ladder, state: &mut State) {
-    for &name in &["UP", "CLR"] {
-        set(rt, ladder, state, name, true);
-    }
-    scan(rt, ladder, state, 0);
-    has_counted(rt, ladder, state, 0, 0);
-}
-
 #[test]
 fn an_up_counter_stops_at_the_greatest_number(rt: HostRuntime) -> Result<(), Fail> {
     let ladder = ladder_of(rt.alloc(), UP_COUNTER)?;
     let mut state = ladder.initial(rt.alloc())?;
-    counts_to_the_end(&rt, &ladder, &mut state);
-    is_cleared(&rt, &ladder, &mut state);
+    for _ in 0..32_766 {
+        count_up(&rt, &ladder, &mut state);
+    }
+    has_counted(&rt, &ladder, &state, 32_766, 0);
+    for _ in 0..2 {
+        count_up(&rt, &ladder, &mut state);
+        has_counted(&rt, &ladder, &state, 32_767, 1);
+    }
+    set(&rt, &ladder, &mut state, "UP", true);
+    set(&rt, &ladder, &mut state, "CLR", true);
+    scan(&rt, &ladder, &mut state, 0);
+    has_counted(&rt, &ladder, &state, 0, 0);
     Ok(())
 }

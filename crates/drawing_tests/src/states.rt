@@ -41,65 +41,33 @@ fn has_values(rt: &impl Abort, state: &State, values: &[Option<Value>]) {
     }
 }
 
-/// Whether each of these places can be set to this value.
-fn are_set(rt: &impl Abort, state: &mut State, values: &[(usize, Value, bool)]) {
-    for &(place, value, is_set) in values {
-        equal(rt, "set", &state.set(place, value), &is_set);
-    }
-}
-
-/// The first state of the rails beside the four names.
-fn state_of_rails(alloc: Global) -> Result<State, Fail> {
-    let ladder = with_names(alloc, RAILS)?;
-    Ok(ladder.initial(alloc)?)
-}
-
-const OFF: Option<Value> = Some(Value::Bool(false));
-
-const ZERO: Option<Value> = Some(Value::Time(0));
-
 #[test]
 fn variables_are_read_and_written_by_place(rt: HostRuntime) -> Result<(), Fail> {
-    let mut state = state_of_rails(rt.alloc())?;
-    has_values(&rt, &state, &[OFF, Some(Value::Int(0)), ZERO, None, None]);
-    are_set(
-        &rt,
-        &mut state,
-        &[
-            (1, Value::Int(-7), true),
-            (1, Value::Bool(true), false),
-            (3, Value::Bool(true), false),
-            (4, Value::Bool(true), false),
-        ],
-    );
-    has_values(&rt, &state, &[OFF, Some(Value::Int(-7)), ZERO, None, None]);
+    let mut state = with_names(rt.alloc(), RAILS)?.initial(rt.alloc())?;
+    let off = Some(Value::Bool(false));
+    let zero = Some(Value::Time(0));
+    has_values(&rt, &state, &[off, Some(Value::Int(0)), zero, None, None]);
+    for &(place, value, is_set) in &[
+        (1, Value::Int(-7), true),
+        (1, Value::Bool(true), false),
+        (3, Value::Bool(true), false),
+        (4, Value::Bool(true), false),
+    ] {
+        equal(&rt, "set", &state.set(place, value), &is_set);
+    }
+    has_values(&rt, &state, &[off, Some(Value::Int(-7)), zero, None, None]);
     Ok(())
-}
-
-/// A copy is the same until a place of it is set to another value.
-fn differs_once_set(
-    rt: &impl Abort,
-    state: &State,
-    mut copy: State,
-    place: Option<usize>,
-    value: Value,
-) {
-    holds(rt, "a copy is the same", copy.same(state));
-    let is_set = match place {
-        Some(place) => copy.set(place, value),
-        None => false,
-    };
-    holds(rt, "the copy is set", is_set);
-    holds(rt, "the copy differs", !copy.same(state));
 }
 
 #[test]
 fn a_copy_is_the_same_until_something_changes(rt: HostRuntime) -> Result<(), Fail> {
-    let mut state = state_of_rails(rt.alloc())?;
+    let mut state = with_names(rt.alloc(), RAILS)?.initial(rt.alloc())?;
     holds(&rt, "a BOOL is set", state.set(0, Value::Bool(true)));
-    let copy = state.try_copy()?;
+    let mut copy = state.try_copy()?;
+    holds(&rt, "a copy is the same", copy.same(&state));
     equal(&rt, "copied", &copy.get(0), &Some(Value::Bool(true)));
-    differs_once_set(&rt, &state, copy, Some(2), Value::Time(1));
+    holds(&rt, "a TIME is set", copy.set(2, Value::Time(1)));
+    holds(&rt, "the copy differs", !copy.same(&state));
     Ok(())
 }
 
@@ -123,36 +91,19 @@ fn scan_with(rt: &impl Abort, ladder: &Ladder, state: &mut State, values: &[(&st
 }
 
 /// The last scan was without power, or with power up to STOP.
-fn stands_as_before(rt: &impl Abort, ladder: &Ladder, state: &mut State, other: &mut State) {
-    scan(rt, ladder, state, 0);
-    scan_with(rt, ladder, other, &[("START", true)]);
-    holds(rt, "it runs", !other.same(state));
-    scan_with(rt, ladder, other, &[("START", false), ("STOP", true)]);
-    set(rt, ladder, other, "STOP", false);
-    holds(rt, "it stands", other.same(state));
-}
-
 #[test]
 fn what_a_scan_left_in_its_places_does_not_count(rt: HostRuntime) -> Result<(), Fail> {
     let ladder = ladder_of(rt.alloc(), START_STOP)?;
     let mut still = ladder.initial(rt.alloc())?;
+    scan(&rt, &ladder, &mut still, 0);
     let mut stopped = ladder.initial(rt.alloc())?;
-    stands_as_before(&rt, &ladder, &mut still, &mut stopped);
+    scan_with(&rt, &ladder, &mut stopped, &[("START", true)]);
+    holds(&rt, "it runs", !stopped.same(&still));
+    let values = [("START", false), ("STOP", true)];
+    scan_with(&rt, &ladder, &mut stopped, &values);
+    set(&rt, &ladder, &mut stopped, "STOP", false);
+    holds(&rt, "it stands", stopped.same(&still));
     Ok(())
-}
-
-fn are_numbers(rt: &impl Abort, ladder: &Ladder, state: &State, shown: &[(&str, i64)]) {
-    for &(name, shown) in shown {
-        equal(rt, name, &number(ladder, state, name), &Some(shown));
-    }
-}
-
-/// A copy of a state that runs has its values, and is the same until STOP is set.
-fn a_copy_runs(rt: &impl Abort, ladder: &Ladder, state: &State, copy: State) {
-    let shown = [("START", 1), ("STOP", 0), ("RUN", 1)];
-    are_numbers(rt, ladder, &copy, &shown);
-    let stop = ladder.place("STOP");
-    differs_once_set(rt, state, copy, stop, Value::Bool(true));
 }
 
 #[test]
@@ -160,8 +111,13 @@ fn a_copy_of_a_state_is_the_same(rt: HostRuntime) -> Result<(), Fail> {
     let ladder = ladder_of(rt.alloc(), START_STOP)?;
     let mut state = ladder.initial(rt.alloc())?;
     scan_with(&rt, &ladder, &mut state, &[("START", true)]);
-    let copy = state.try_copy()?;
-    a_copy_runs(&rt, &ladder, &state, copy);
+    let mut copy = state.try_copy()?;
+    holds(&rt, "a copy is the same", copy.same(&state));
+    for &(name, shown) in &[("START", 1), ("STOP", 0), ("RUN", 1)] {
+        equal(&rt, name, &number(&ladder, &copy, name), &Some(shown));
+    }
+    set(&rt, &ladder, &mut copy, "STOP", true);
+    holds(&rt, "the copy differs", !copy.same(&state));
     Ok(())
 }
 
