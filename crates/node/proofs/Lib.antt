@@ -1,11 +1,1 @@
-pub mod Greatest
-pub mod Standing
-pub mod Stations
-pub mod JournalRuns
-pub mod Remaking
-pub mod Collecting
-pub mod Reporting
 pub mod Alls
-pub mod Faults
-pub mod Stopping
-pub mod Walking

@@ -1,13 +1,10 @@
 ghost use Rattle.std.specs.Prelude.{◌≡◌, IfOk, length, vec_len};
-ghost use Rattle.node.specs.Reports.{IsFittingBook, AreJournalsOf, AreInBook, AreAnswers, RunsAgain, AreNumbered, AreForPlant, AreTold};
+ghost use Rattle.node_journals.specs.Reports.{IsFittingBook, AreJournalsOf, AreInBook, AreAnswers, RunsAgain, AreNumbered, AreForPlant, AreTold};
 
-use crate::collector::collect;
-use crate::command::Command;
 use crate::gate::Gate;
 use crate::keeper::Keeper;
-use crate::report::Report;
-use crate::run_fault::RunFault;
 use crate::threads::{Outcome, run_all};
+use node_journals::{Command, Report, RunFault, collect};
 use plant::Plant;
 use std::alloc::Global;
 use std::sync::{Arc, Wait};

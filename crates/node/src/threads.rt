@@ -17,14 +17,11 @@ mod worker_state;
 
 ghost use Rattle.std.specs.Prelude.{◌≡◌, All, IfOk};
 ghost use Rattle.node.specs.declared.threads.ended.Ended.{Ended};
-ghost use Rattle.node.specs.Journals.{IsLawful};
+ghost use Rattle.node_journals.specs.Journals.{IsLawful};
 ghost use Rattle.node.specs.Steps.Working.{IsWorkerFor};
 
-use crate::command::Command;
 use crate::gate::Gate;
 use crate::keeper::Keeper;
-use crate::node_fault::NodeFault;
-use crate::run_fault::RunFault;
 use crate::threads::desk::Desk;
 use crate::threads::ended::Ended;
 use crate::threads::inbox::Inbox;
@@ -35,6 +32,7 @@ use crate::threads::starting::start_all;
 use crate::threads::worker::Worker;
 use crossbeam_channel::Receiver;
 use exchange::Book;
+use node_journals::{Command, NodeFault, RunFault};
 pub(crate) use outcome::Outcome;
 use plant::Plant;
 use std::alloc::Global;

@@ -4,7 +4,7 @@ use Rattle.std.proofs.lemmas.List.{take_more, length-take}
 use Rattle.due_list.specs.declared.due.Due.{Due}
 use Rattle.plant.specs.PlantValue.{PlantValue}
 use Rattle.evaluation.specs.declared.field_input.FieldInput.{FieldInput}
-use Rattle.node.specs.declared.command.Command.{Command}
+use Rattle.node_journals.specs.declared.command.Command.{Command}
 use Rattle.plc_main.specs.RunCommands.{command_for, commands_from}
 
 commands_from-append : (plant : PlantValue) (inputs : List FieldInput) (k : ℕ) (xs ys : List Due) → commands_from plant inputs k (xs ++ ys) ≡ commands_from plant inputs k xs ++ commands_from plant inputs (k + length xs) ys

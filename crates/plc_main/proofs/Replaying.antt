@@ -9,8 +9,8 @@ use Rattle.exchange.specs.World.{WorldValue}
 use Rattle.exchange.specs.Step.{Follows}
 use Rattle.exchange.specs.Laws.{OneRun}
 use Rattle.exchange.specs.Book.{BookValue}
-use Rattle.node.specs.declared.journal.Journal.{Journal}
-use Rattle.node.specs.Reports.{RunsAgain, firsts_of}
+use Rattle.node_journals.specs.declared.journal.Journal.{Journal}
+use Rattle.node_journals.specs.Reports.{RunsAgain, firsts_of}
 use Rattle.plc_main.specs.Steps.Replaying.{IsReplay}
 
 -- the lawful events of a list have the history of all of them

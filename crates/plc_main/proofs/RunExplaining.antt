@@ -13,11 +13,11 @@ use Rattle.due_list.specs.Plan.{IsDue, timing_at}
 use Rattle.plant.specs.PlantValue.{PlantValue}
 use Rattle.plant.specs.Plan.{timings_of}
 use Rattle.evaluation.specs.declared.field_input.FieldInput.{FieldInput}
-use Rattle.node.specs.declared.command.Command.{Command}
-use Rattle.node.specs.declared.node_fault.NodeFault.{NodeFault}
-use Rattle.node.specs.declared.report.Report.{Report}
-use Rattle.node.specs.declared.run_fault.RunFault.{RunFault}
-use Rattle.node.specs.Reports.{AreNumbered, AreForPlant}
+use Rattle.node_journals.specs.declared.command.Command.{Command}
+use Rattle.node_journals.specs.declared.node_fault.NodeFault.{NodeFault}
+use Rattle.node_journals.specs.declared.report.Report.{Report}
+use Rattle.node_journals.specs.declared.run_fault.RunFault.{RunFault}
+use Rattle.node_journals.specs.Reports.{AreNumbered, AreForPlant}
 use Rattle.plc_main.specs.declared.command_fault.CommandFault.{CommandFault}
 use Rattle.plc_main.specs.declared.command_fault.CommandFault.TheVariants.{Text, Word, Write, Run, Memory}
 use Rattle.text_writer.specs.declared.send_fault.SendFault.{SendFault}

@@ -5,10 +5,10 @@ use Rattle.std.specs.Fmt.{decimal}
 use Rattle.plant.specs.PlantValue.{PlantValue}
 use Rattle.evaluation.specs.Meaning.{Evaluated}
 use Rattle.world.specs.RunLines.{resource_text, evaluation_line}
-use Rattle.node.specs.declared.cause.Cause.{Cause}
-use Rattle.node.specs.declared.cause.Cause.TheVariants.{OutOfTurns, NoSuchTask, NumbersSpent, Memory, Misfit, Keeper, NotSent, Stopped}
-use Rattle.node.specs.declared.node_fault.NodeFault.{NodeFault}
-use Rattle.node.specs.declared.report.Report.{Report}
+use Rattle.node_journals.specs.declared.cause.Cause.{Cause}
+use Rattle.node_journals.specs.declared.cause.Cause.TheVariants.{OutOfTurns, NoSuchTask, NumbersSpent, Memory, Misfit, Keeper, NotSent, Stopped}
+use Rattle.node_journals.specs.declared.node_fault.NodeFault.{NodeFault}
+use Rattle.node_journals.specs.declared.report.Report.{Report}
 
 -- the lines of evaluations; their places are numbered from k on
 abbrev pub entry_lines : PlantValue → ℕ → List Evaluated → List ℕ

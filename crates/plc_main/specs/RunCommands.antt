@@ -6,8 +6,8 @@ use Rattle.due_list.specs.declared.task_ref.TaskRef.{TaskRef}
 use Rattle.plant.specs.PlantValue.{TaskValue, PlantValue}
 use Rattle.plant.specs.Plan.{task_at}
 use Rattle.evaluation.specs.declared.field_input.FieldInput.{FieldInput}
-use Rattle.node.specs.declared.command.Command.{Command}
-use Rattle.node.specs.declared.act.Act.TheVariants.{Evaluate}
+use Rattle.node_journals.specs.declared.command.Command.{Command}
+use Rattle.node_journals.specs.declared.act.Act.TheVariants.{Evaluate}
 
 -- the interval of a task
 abbrev pub interval_at : PlantValue → TaskRef → ℕ

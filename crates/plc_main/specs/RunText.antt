@@ -5,9 +5,9 @@ use Rattle.due_list.specs.declared.due.Due.{Due}
 use Rattle.plant.specs.PlantValue.{PlantValue}
 use Rattle.plant.specs.Plan.{IsPlan}
 use Rattle.evaluation.specs.declared.field_input.FieldInput.{FieldInput}
-use Rattle.node.specs.declared.command.Command.{Command}
-use Rattle.node.specs.declared.report.Report.{Report}
-use Rattle.node.specs.Reports.{IsFittingBook, AreJournalsOf, AreInBook, AreAnswers, RunsAgain, AreTold}
+use Rattle.node_journals.specs.declared.command.Command.{Command}
+use Rattle.node_journals.specs.declared.report.Report.{Report}
+use Rattle.node_journals.specs.Reports.{IsFittingBook, AreJournalsOf, AreInBook, AreAnswers, RunsAgain, AreTold}
 use Rattle.plc_main.specs.declared.command_fault.CommandFault.{CommandFault}
 use Rattle.plc_main.specs.declared.command_fault.CommandFault.TheVariants.{Text, Word, Write, Run, Memory}
 use Rattle.text_writer.specs.Sending.{SendsPart}

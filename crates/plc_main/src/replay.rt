@@ -1,7 +1,7 @@
 //! Whether what the threads made is made again by one thread.
 
 ghost use Rattle.std.specs.Prelude.{◌≡◌, ◌↔◌, true, length, IfOk, IsTrue};
-ghost use Rattle.node.specs.Reports.{RunsAgain, firsts_of};
+ghost use Rattle.node_journals.specs.Reports.{RunsAgain, firsts_of};
 ghost use Rattle.plc_main.specs.Steps.Replaying.{IsReplay};
 
 use evaluation::Frame;

@@ -3,7 +3,7 @@ use Rattle.std.specs.Prelude.{◌≡◌, ℕ}
 use Rattle.plant.specs.PlantValue.{PlantValue}
 use Rattle.node.specs.declared.threads.worker_state.WorkerState.{WorkerState}
 use Rattle.node.specs.declared.threads.worker_state.WorkerState.TheVariants.{Running, Stopped}
-use Rattle.node.specs.Journals.{IsLawful}
+use Rattle.node_journals.specs.Journals.{IsLawful}
 
 -- the plant, and the greatest number of an evaluation
 pub record WorkerValue : Type 0 where

@@ -1,5 +1,4 @@
-use crate::journal::Journal;
-use crate::node_fault::NodeFault;
+use node_journals::{Journal, NodeFault};
 
 /// What a thread leaves: its resource's journal, and the faults of its commands in the order of their tickets.
 #[derive(Drop)]

@@ -1,10 +1,9 @@
 ghost use Rattle.node.specs.Steps.Working.{IsWorking};
 
-use crate::cause::Cause;
-use crate::station::PendingEvaluation;
 use crate::threads::worker_state::WorkerState;
 use evaluation::Frame;
 use exchange::{Book, Misfit};
+use node_journals::{Cause, PendingEvaluation};
 use std::sync::{Mutex, Wait};
 
 /// Enters a copy of an evaluation. The lock is held for that alone.

@@ -1,5 +1,5 @@
-use crate::command::Command;
 use evaluation::Frame;
+use node_journals::Command;
 
 /// What comes to the thread of a resource.
 #[derive(Drop)]

@@ -1,11 +1,9 @@
-use crate::cause::Cause;
-use crate::command::Command;
 use crate::gate::Gate;
-use crate::node_fault::NodeFault;
 use crate::threads::desk::Desk;
 use crate::threads::inbox::Inbox;
 use crate::threads::noting::note;
 use crossbeam_channel::Sender;
+use node_journals::{Cause, Command, NodeFault};
 use std::sync::Wait;
 use std::thread;
 

@@ -1,10 +1,8 @@
 ghost use Rattle.std.specs.Prelude.{◌≡◌, IfOk, map};
 ghost use Rattle.node.specs.declared.threads.ended.Ended.{Ended};
 
-use crate::journal::Journal;
-use crate::node_fault::NodeFault;
-use crate::run_fault::RunFault;
 use crate::threads::ended::Ended;
+use node_journals::{Journal, NodeFault, RunFault};
 use std::alloc::Global;
 
 /// Appends faults.

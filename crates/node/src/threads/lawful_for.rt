@@ -1,4 +1,4 @@
-ghost use Rattle.node.specs.Journals.{IsLawful};
+ghost use Rattle.node_journals.specs.Journals.{IsLawful};
 
 use crate::threads::ended::Ended;
 use plant::Plant;

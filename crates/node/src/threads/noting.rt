@@ -1,5 +1,4 @@
-use crate::cause::Cause;
-use crate::node_fault::NodeFault;
+use node_journals::{Cause, NodeFault};
 
 /// Notes a fault, if it is the first one of its ticket. The faults of one ticket are noted one after the other, and there is room for one of each.
 pub(crate) fn note(faults: &mut Vec<NodeFault>, resource: usize, ticket: u64, cause: Cause) {

@@ -1,6 +1,5 @@
-use crate::journal::Journal;
-use crate::node_fault::NodeFault;
 use exchange::Book;
+use node_journals::{Journal, NodeFault};
 
 /// What the threads of a run left.
 #[derive(Drop)]

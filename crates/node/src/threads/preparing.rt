@@ -2,10 +2,10 @@ ghost use Rattle.std.specs.Prelude.{◌≡◌, All, IfOk};
 ghost use Rattle.node.specs.Steps.Working.{IsWorkerFor};
 
 use crate::keeper::Keeper;
-use crate::run_fault::RunFault;
 use crate::threads::inbox::Inbox;
 use crate::threads::worker::Worker;
 use crossbeam_channel::{Receiver, Sender};
+use node_journals::RunFault;
 use plant::Plant;
 use std::alloc::{AllocError, Global};
 use std::sync::Arc;

@@ -1,10 +1,9 @@
 ghost use Rattle.std.specs.Prelude.{◌≡◌};
 ghost use Rattle.node.specs.Steps.Working.{IsWorking};
 
-use crate::cause::Cause;
 use crate::keeper::Keeper;
-use crate::station::Station;
 use crate::threads::worker_state::WorkerState;
+use node_journals::{Cause, Station};
 use std::alloc::Global;
 
 /// Raises the incarnation, and restarts. Where the core isn't restarted after that, the resource is stopped.

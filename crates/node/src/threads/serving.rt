@@ -1,12 +1,8 @@
 ghost use Rattle.std.specs.Prelude.{◌≡◌};
-ghost use Rattle.node.specs.Journals.{IsLawful};
+ghost use Rattle.node_journals.specs.Journals.{IsLawful};
 
-use crate::act::Act;
-use crate::cause::Cause;
-use crate::command::Command;
 use crate::gate::Gate;
 use crate::keeper::Keeper;
-use crate::node_fault::NodeFault;
 use crate::threads::desk::Desk;
 use crate::threads::ended::Ended;
 use crate::threads::inbox::Inbox;
@@ -14,6 +10,7 @@ use crate::threads::noting::note;
 use crate::threads::posting::post;
 use crate::threads::worker::Worker;
 use crossbeam_channel::Receiver;
+use node_journals::{Act, Cause, Command, NodeFault};
 use std::alloc::Global;
 use std::sync::Wait;
 

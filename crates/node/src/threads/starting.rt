@@ -1,12 +1,9 @@
 ghost use Rattle.std.specs.Prelude.{◌≡◌, All, IfOk};
-ghost use Rattle.node.specs.Journals.{IsLawful};
+ghost use Rattle.node_journals.specs.Journals.{IsLawful};
 ghost use Rattle.node.specs.Steps.Working.{IsWorkerFor};
 
-use crate::command::Command;
 use crate::gate::Gate;
 use crate::keeper::Keeper;
-use crate::node_fault::NodeFault;
-use crate::run_fault::RunFault;
 use crate::threads::desk::Desk;
 use crate::threads::ended::Ended;
 use crate::threads::inbox::Inbox;
@@ -14,6 +11,7 @@ use crate::threads::lawful_for::LawfulFor;
 use crate::threads::serving::serve;
 use crate::threads::worker::Worker;
 use crossbeam_channel::Receiver;
+use node_journals::{Command, NodeFault, RunFault};
 use std::alloc::Global;
 use std::sync::Wait;
 use std::thread::{PromisedHandle, Scope, Threads};

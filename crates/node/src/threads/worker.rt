@@ -1,13 +1,10 @@
-use crate::cause::Cause;
-use crate::journal::Journal;
 use crate::keeper::Keeper;
-use crate::run_fault::RunFault;
-use crate::station::Station;
 use crate::threads::entering::enter_pending;
 use crate::threads::restarting::restart_station;
 use crate::threads::worker_state::WorkerState;
 use evaluation::{Frame, Inputs};
 use exchange::Book;
+use node_journals::{Cause, Journal, RunFault, Station};
 use plant::Plant;
 use std::alloc::Global;
 use std::marker::Model;
@@ -33,7 +30,7 @@ impl<K: Keeper> Model for Worker<K> {
 }
 
 ghost use Rattle.std.specs.Prelude.{◌≡◌, IfOk};
-ghost use Rattle.node.specs.Journals.{IsLawful};
+ghost use Rattle.node_journals.specs.Journals.{IsLawful};
 
 impl<K: Keeper> Worker<K> {
     /// A resource in its first incarnation, which its keeper has just raised.

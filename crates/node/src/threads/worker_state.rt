@@ -1,5 +1,4 @@
-use crate::journal::Journal;
-use crate::station::Station;
+use node_journals::{Journal, Station};
 
 /// Whether a resource obeys commands.
 #[derive(Drop)]

@@ -4,8 +4,8 @@ use Rattle.text_writer.specs.declared.send_fault.SendFault.{SendFault}
 use Rattle.text_writer.specs.declared.send_fault.SendFault.TheVariants as sending
 use Rattle.text_commands.specs.declared.text_command_fault.TextCommandFault.{TextCommandFault}
 use Rattle.text_commands.specs.declared.text_command_fault.TextCommandFault.TheVariants as text
-use Rattle.node.specs.declared.run_fault.RunFault.{RunFault}
-use Rattle.node.specs.declared.run_fault.RunFault.TheVariants as run
+use Rattle.node_journals.specs.declared.run_fault.RunFault.{RunFault}
+use Rattle.node_journals.specs.declared.run_fault.RunFault.TheVariants as run
 use Rattle.plc_main.specs.declared.command_fault.CommandFault.{CommandFault}
 use Rattle.plc_main.specs.declared.command_fault.CommandFault.TheVariants.{Text, Word, Write, Run, Memory}
 

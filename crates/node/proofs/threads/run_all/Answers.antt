@@ -3,7 +3,7 @@ use Rattle.std.proofs.Common.{All, subst, sym}
 use Rattle.std.proofs.lemmas.List.Elements.{All-map}
 use Rattle.plant.specs.PlantValue.{PlantValue}
 use Rattle.node.specs.declared.threads.ended.Ended.{Ended}
-use Rattle.node.specs.Journals.{IsLawful}
+use Rattle.node_journals.specs.Journals.{IsLawful}
 use Rattle.node.proofs.threads.run_all.Goals as goal
 
 pub returns : goal.returns

@@ -1,5 +1,5 @@
 use Rattle.std.proofs.Common.{◌≡◌, take}
-use Rattle.node.specs.Reports.{firsts_of}
+use Rattle.node_journals.specs.Reports.{firsts_of}
 use Rattle.plc_main.proofs.replay.first_incarnations.Given as goal
 
 abbrev pub invariant-loop-journal : goal.invariant-loop-journal

@@ -2,7 +2,7 @@
 use Rattle.std.proofs.Common.{ap, ◌∙◌, sym, subst}
 use Rattle.std.proofs.KnownBytes.{Appends-trans}
 use Rattle.plant.specs.PlantValue.{PlantValue}
-use Rattle.node.specs.Reports.{AreNumbered, AreForPlant}
+use Rattle.node_journals.specs.Reports.{AreNumbered, AreForPlant}
 use Rattle.plc_main.specs.declared.command_fault.CommandFault.TheVariants.{Write, Memory}
 use Rattle.plc_main.specs.ReportText.{report_lines, replay_line}
 use Rattle.plc_main.specs.RunText.{ArePlanned, IsReportOf, ExplainsRun}

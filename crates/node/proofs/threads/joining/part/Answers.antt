@@ -3,7 +3,7 @@ use Rattle.std.proofs.Common.{rules, ◌≡◌, ◌∷◌, ◌++◌, [], List, a
 use Rattle.std.specs.Prelude.{map}
 use Rattle.std.specs.Vec.Iter.{into_iter_items}
 use Rattle.node.specs.declared.threads.ended.Ended.{Ended}
-use Rattle.node.specs.declared.journal.Journal.{Journal}
+use Rattle.node_journals.specs.declared.journal.Journal.{Journal}
 use Rattle.node.proofs.threads.joining.part.Goals as goal
 
 pub loop-one-preserved : goal.loop-one-preserved

@@ -1,0 +1,299 @@
+-- A core goes on standing where its resource's steps leave it.
+use Rattle.std.proofs.Common.{◌≡◌, ◌+◌, ℕ, Bool, true, false, cond, List, [], ◌∷◌, length, Option, Some, None, refl, ap, sym, ◌∙◌, subst, arith, add-one}
+use Rattle.std.specs.Prelude.{slice_get, ◌≢◌}
+use Rattle.std.proofs.lemmas.Bool.{false≢true}
+use Rattle.std.proofs.lemmas.List.Elements.{All-nil}
+use Rattle.std.proofs.lemmas.Option.{same_Some}
+use Rattle.std.specs.Option.{option_map}
+use Rattle.lists.proofs.Tables.{both_same, both_itself, cell_same, cell_other, cell_filled, cell_place, row_lengths_kept, row_lengths_filled}
+use Rattle.std_blocks.specs.declared.value.Value.{Value}
+use Rattle.variable_binding.specs.declared.declarations.Kind.{Kind}
+use Rattle.power_flow.specs.StateValue.{StateValue}
+use Rattle.due_list.specs.declared.task_ref.TaskRef.{TaskRef}
+use Rattle.plant_grammar.specs.Kinds.{items_or_none}
+use Rattle.plant.specs.PlantValue.{CodeValue, ResourceValue, PlantValue, code_at, expected_at, image_kinds, IsSoundPlant}
+use Rattle.evaluation.specs.declared.field_input.FieldInput.{FieldInput}
+use Rattle.evaluation.specs.declared.name.Name.{Name}
+use Rattle.evaluation.specs.declared.take.Take.{Take}
+use Rattle.evaluation.specs.Meaning.{Evaluated, IsAsked, evaluated}
+use Rattle.exchange_core.specs.declared.accepted.Accepted.{Accepted}
+use Rattle.exchange_core.specs.declared.accepted.Accepted.TheVariants.{Taken, Old, Unused}
+use Rattle.exchange_core.specs.Last.{same_task, last_number, takes_of, state_of}
+use Rattle.exchange_core.specs.Held.{known, with_known, empty_for}
+use Rattle.exchange_core.specs.CoreValue.{CoreValue, fresh_core, own_task, is_greater, IsUsable, IsAccepted, IsNext, IsNextOf}
+use Rattle.exchange_core.specs.Steps.Knowing.{has_place}
+use Rattle.node_journals.specs.declared.step.Step.{Step}
+use Rattle.node_journals.specs.declared.step.Step.TheVariants.{Took, Made, Restarted}
+use Rattle.node_journals.specs.Journals.{since_restarted, received, newest, made_of, last_made, ComesFrom, IsGreatest, IsNextMade}
+use Rattle.node_journals.specs.Standing.{Stands}
+use Rattle.node_journals.proofs.Greatest.{greatest-other, greatest-old, greatest-taken}
+
+-- two codes of a plant that take from one task expect the same kinds of it
+same_kinds : (plant : PlantValue) (t u p : TaskRef) (c d : CodeValue) (j k : ℕ) → IsSoundPlant plant → code_at plant t ≡ Some c → code_at plant u ≡ Some d → slice_get c.producers j ≡ Some p → slice_get d.producers k ≡ Some p
+    → expected_at c j ≡ expected_at d k
+same_kinds plant t u p c d j k sound found_c found_d at_c at_d =
+    let one = sound.taken t c found_c j p at_c in
+    let two = sound.taken u d found_d k p at_d in
+    let same : one.0 ≡ two.0 = same_Some one.0 two.0 (sym one.1 ∙ two.1) in
+    ap items_or_none one.2 ∙ ap image_kinds same ∙ sym (ap items_or_none two.2)
+
+-- the task of a resource that two numbers name
+abbrev task_ref : ℕ → ℕ → TaskRef
+task_ref resource task = record { resource = resource; task = task }
+
+-- an evaluation that passes the test is of that task
+named : (x : Evaluated) (p : TaskRef) → same_task x.name.task p ≡ true → x.name.task ≡ p
+named x p e = both_same task_ref x.name.task.resource x.name.task.task p.resource p.task e
+
+-- the codes of a resource; none where there is no resource
+abbrev codes_in : Option ResourceValue → List CodeValue
+codes_in o = items_or_none (option_map (λ (r : ResourceValue). r.codes) o)
+
+same_ref_of : (t : TaskRef) (r : ℕ) → t.resource ≡ r → t ≡ record { resource = r; task = t.task }
+same_ref_of t r e = rw e refl
+
+-- one more evaluation received
+module _ (resource first : ℕ) (before : List Step) (core : CoreValue) (x : Evaluated) (stands : Stands resource first before core) where
+  -- a task of the resource, and one of another resource from which it takes
+  record Taking (t p : TaskRef) (code : CodeValue) (k : ℕ) : Type 0 where
+    pub here : t.resource ≡ resource
+    pub found : code_at core.plant t ≡ Some code
+    pub at : slice_get code.producers k ≡ Some p
+    pub away : p.resource ≢ resource
+
+  before_it : (t p : TaskRef) (code : CodeValue) (k : ℕ) → Taking t p code k → IsGreatest (ComesFrom p (expected_at code k)) (received (since_restarted before)) (known core.table p)
+  before_it t p code k w = stands.others t code k p w.here w.found w.at w.away
+
+  -- what comes from a producer with the kinds expected is of use
+  of_use : (t p : TaskRef) (code : CodeValue) (k : ℕ) → Taking t p code k → ComesFrom p (expected_at code k) x → IsUsable core x
+  of_use t p code k w from =
+      let same : t ≡ record { resource = core.resource; task = t.task } = same_ref_of t core.resource (w.here ∙ sym stands.resource_is) in
+      record {
+        another = λ e. w.away (sym (ap (λ (r : TaskRef). r.resource) from.0) ∙ e ∙ stands.resource_is);
+        expected = record {
+          task = t.task;
+          code = code;
+          place = k;
+          found = subst (λ r. code_at core.plant r ≡ Some code) same w.found;
+          producer_is = w.at ∙ ap (λ r. Some r) (sym from.0);
+          kinds_are = sym from.1;
+        };
+      }
+
+  -- and what is of use comes from its task with the kinds expected
+  comes_from : (t p : TaskRef) (code : CodeValue) (k : ℕ) → Taking t p code k → IsUsable core x → x.name.task ≡ p → ComesFrom p (expected_at code k) x
+  comes_from t p code k w usable e =
+      let here : TaskRef = record { resource = core.resource; task = usable.expected.task } in (
+        e,
+        sym usable.expected.kinds_are
+            ∙ same_kinds core.plant here t p usable.expected.code code usable.expected.place k stands.sound usable.expected.found w.found (usable.expected.producer_is ∙ ap (λ r. Some r) e) w.at,
+      )
+
+  another_task : (p : TaskRef) (kinds : List Kind) → same_task x.name.task p ≡ false → ComesFrom p kinds x → ⊥
+  another_task p kinds other from = false≢true (sym other ∙ subst (λ r. same_task x.name.task r ≡ true) from.0 (both_itself x.name.task.resource x.name.task.task))
+
+  unused : (t p : TaskRef) (code : CodeValue) (k : ℕ) → (IsUsable core x → ⊥) → Taking t p code k
+      → IsGreatest (ComesFrom p (expected_at code k)) (x ∷ received (since_restarted before)) (known core.table p)
+  unused t p code k useless w =
+      greatest-other (ComesFrom p (expected_at code k)) (received (since_restarted before)) (known core.table p) x (λ from. useless (of_use t p code k w from)) (before_it t p code k w)
+
+  old_one : (t p : TaskRef) (code : CodeValue) (k : ℕ) → is_greater (known core.table x.name.task) x.name ≡ false → Taking t p code k
+      → IsGreatest (ComesFrom p (expected_at code k)) (x ∷ received (since_restarted before)) (known core.table p)
+  old_one t p code k old w = by (same_task x.name.task p) refl where
+    P : Evaluated → Type 0
+    P = ComesFrom p (expected_at code k)
+
+    by : (b : Bool) → same_task x.name.task p ≡ b → IsGreatest P (x ∷ received (since_restarted before)) (known core.table p)
+    by true e = greatest-old P (received (since_restarted before)) (known core.table p) x (subst (λ r. is_greater (known core.table r) x.name ≡ false) (named x p e) old) (before_it t p code k w)
+    by false e = greatest-other P (received (since_restarted before)) (known core.table p) x (another_task p (expected_at code k) e) (before_it t p code k w)
+
+  module _ (usable : IsUsable core x) (greater : is_greater (known core.table x.name.task) x.name ≡ true) where
+    place : has_place core.table x.name.task
+    place =
+        let taker = usable.expected in
+        let giver = stands.sound.taken (record { resource = core.resource; task = taker.task }) taker.code taker.found taker.place x.name.task taker.producer_is in
+        cell_place codes_in core.plant.resources core.table x.name.task.resource x.name.task.task giver.0 refl stands.shaped giver.1
+
+    taken_one : (t p : TaskRef) (code : CodeValue) (k : ℕ) → Taking t p code k
+        → IsGreatest (ComesFrom p (expected_at code k)) (x ∷ received (since_restarted before)) (known (with_known core.table x.name.task (Some x)) p)
+    taken_one t p code k w = by (same_task x.name.task p) refl where
+      P : Evaluated → Type 0
+      P = ComesFrom p (expected_at code k)
+
+      by : (b : Bool) → same_task x.name.task p ≡ b → IsGreatest P (x ∷ received (since_restarted before)) (known (with_known core.table x.name.task (Some x)) p)
+      by true e =
+          let same : x.name.task ≡ p = named x p e in
+          let now : known (with_known core.table x.name.task (Some x)) p ≡ Some x = subst (λ r. known (with_known core.table x.name.task (Some x)) r ≡ Some x) same (cell_same core.table x.name.task.resource x.name.task.task (Some x) None place.0 place.1) in
+          subst (IsGreatest P (x ∷ received (since_restarted before))) (sym now)
+          (greatest-taken P (received (since_restarted before)) (known core.table p) x (comes_from t p code k w usable same) (subst (λ r. is_greater (known core.table r) x.name ≡ true) same greater) (before_it t p code k w))
+      by false e =
+          subst (IsGreatest P (x ∷ received (since_restarted before))) (sym (cell_other core.table x.name.task.resource x.name.task.task p.resource p.task (Some x) None place.0 e))
+          (greatest-other P (received (since_restarted before)) (known core.table p) x (another_task p (expected_at code k) e) (before_it t p code k w))
+
+    own_stays : (p : TaskRef) → p.resource ≡ resource → known (with_known core.table x.name.task (Some x)) p ≡ last_made p before
+    own_stays p here = by (same_task x.name.task p) refl where
+      by : (b : Bool) → same_task x.name.task p ≡ b → known (with_known core.table x.name.task (Some x)) p ≡ last_made p before
+      by true e = absurd (usable.another (ap (λ (r : TaskRef). r.resource) (named x p e) ∙ here ∙ sym stands.resource_is))
+      by false e = cell_other core.table x.name.task.resource x.name.task.task p.resource p.task (Some x) None place.0 e ∙ stands.own p here
+
+  -- the core goes on standing where the steps have left it
+  pub stands-took : (new : CoreValue) (answer : Accepted) → IsAccepted core new x answer → Stands resource first (Took x ∷ before) new
+  stands-took new Unused done = subst (Stands resource first (Took x ∷ before)) (sym done.1) (record {
+    sound = stands.sound;
+    shaped = stands.shaped;
+    resource_is = stands.resource_is;
+    incarnation_is = stands.incarnation_is;
+    own = stands.own;
+    counted = stands.counted;
+    others = λ t code k p here found at away. unused t p code k done.0 (record { here = here; found = found; at = at; away = away });
+  })
+  stands-took new Old done = subst (Stands resource first (Took x ∷ before)) (sym done.2) (record {
+    sound = stands.sound;
+    shaped = stands.shaped;
+    resource_is = stands.resource_is;
+    incarnation_is = stands.incarnation_is;
+    own = stands.own;
+    counted = stands.counted;
+    others = λ t code k p here found at away. old_one t p code k done.1 (record { here = here; found = found; at = at; away = away });
+  })
+  stands-took new Taken done = subst (Stands resource first (Took x ∷ before)) (sym done.2) (record {
+    sound = stands.sound;
+    shaped = row_lengths_kept core.table x.name.task.resource x.name.task.task (Some x) ∙ stands.shaped;
+    resource_is = stands.resource_is;
+    incarnation_is = stands.incarnation_is;
+    own = own_stays done.0 done.1;
+    counted = stands.counted;
+    others = λ t code k p here found at away. taken_one done.0 done.1 t p code k (record { here = here; found = found; at = at; away = away });
+  })
+
+-- evaluations of which the same was asked
+same_asked : {a a2 : ℕ} {b b2 : Name} {c c2 : ℕ} {d d2 : List FieldInput} {e e2 : List StateValue} {takes : List Take} {code : CodeValue} {outputs : List Value} {after : List StateValue}
+    → a2 ≡ a → b2 ≡ b → c2 ≡ c → d2 ≡ d → e2 ≡ e → evaluated a b c d takes e code outputs after ≡ evaluated a2 b2 c2 d2 takes e2 code outputs after
+same_asked f g h i j = rw (f, g, h, i, j) refl
+
+-- one more evaluation made
+module _ (resource first : ℕ) (before : List Step) (core new : CoreValue) (ticket task dt : ℕ) (inputs : List FieldInput) (x : Evaluated) (stands : Stands resource first before core) (done : IsNext core new ticket task dt inputs x) where
+  abbrev own_ref : TaskRef
+  own_ref = own_task core task
+
+  abbrev next : IsNextOf core ticket task dt inputs x
+  next = done.next
+
+  task_is : x.name.task ≡ own_ref
+  task_is = ap (λ (y : Evaluated). y.name.task) next.asked.is
+
+  place_of : has_place core.table own_ref
+  place_of = cell_place codes_in core.plant.resources core.table own_ref.resource own_ref.task next.code refl stands.shaped next.found
+
+  number_of : x.name.number ≡ length (made_of x.name.task before) + 1
+  number_of =
+      ap (λ (y : Evaluated). y.name.number) next.asked.is
+      ∙ ap (λ o. last_number o + 1) (stands.own own_ref stands.resource_is)
+      ∙ ap (λ n. n + 1) (stands.counted own_ref stands.resource_is)
+      ∙ ap (λ t. length (made_of t before) + 1) (sym task_is)
+
+  made_now : (p : TaskRef) → same_task x.name.task p ≡ true → made_of p (Made x ∷ before) ≡ x ∷ made_of p before
+  made_now p e = ap (λ b. cond b (x ∷ made_of p before) (made_of p before)) e
+
+  made_other : (p : TaskRef) → same_task x.name.task p ≡ false → made_of p (Made x ∷ before) ≡ made_of p before
+  made_other p e = ap (λ b. cond b (x ∷ made_of p before) (made_of p before)) e
+
+  after_table : (p : TaskRef) → same_task x.name.task p ≡ false → known (with_known core.table own_ref (Some x)) p ≡ known core.table p
+  after_table p e = cell_other core.table own_ref.resource own_ref.task p.resource p.task (Some x) None place_of.0 (subst (λ r. same_task r p ≡ false) task_is e)
+
+  own_after : (p : TaskRef) → p.resource ≡ resource → known (with_known core.table own_ref (Some x)) p ≡ last_made p (Made x ∷ before)
+  own_after p here = by (same_task x.name.task p) refl where
+    by : (b : Bool) → same_task x.name.task p ≡ b → known (with_known core.table own_ref (Some x)) p ≡ last_made p (Made x ∷ before)
+    by true e =
+        subst (λ r. known (with_known core.table own_ref (Some x)) r ≡ Some x) (sym task_is ∙ named x p e) (cell_same core.table own_ref.resource own_ref.task (Some x) None place_of.0 place_of.1)
+        ∙ sym (ap newest (made_now p e))
+    by false e = after_table p e ∙ stands.own p here ∙ sym (ap newest (made_other p e))
+
+  counted_after : (p : TaskRef) → p.resource ≡ resource → last_number (last_made p (Made x ∷ before)) ≡ length (made_of p (Made x ∷ before))
+  counted_after p here = by (same_task x.name.task p) refl where
+    by : (b : Bool) → same_task x.name.task p ≡ b → last_number (last_made p (Made x ∷ before)) ≡ length (made_of p (Made x ∷ before))
+    by true e =
+        ap (λ xs. last_number (newest xs)) (made_now p e)
+        ∙ number_of
+        ∙ ap (λ t. length (made_of t before) + 1) (named x p e)
+        ∙ add-one (length (made_of p before))
+        ∙ sym (ap length (made_now p e))
+    by false e = ap (λ xs. last_number (newest xs)) (made_other p e) ∙ stands.counted p here ∙ sym (ap length (made_other p e))
+
+  others_after : (t : TaskRef) (code : CodeValue) (k : ℕ) (p : TaskRef) → t.resource ≡ resource → code_at core.plant t ≡ Some code → slice_get code.producers k ≡ Some p → p.resource ≢ resource
+      → IsGreatest (ComesFrom p (expected_at code k)) (received (since_restarted before)) (known (with_known core.table own_ref (Some x)) p)
+  others_after t code k p here found at away = by (same_task x.name.task p) refl where
+    by : (b : Bool) → same_task x.name.task p ≡ b → IsGreatest (ComesFrom p (expected_at code k)) (received (since_restarted before)) (known (with_known core.table own_ref (Some x)) p)
+    by true e = absurd (away (sym (ap (λ (r : TaskRef). r.resource) (sym task_is ∙ named x p e)) ∙ stands.resource_is))
+    by false e = subst (IsGreatest (ComesFrom p (expected_at code k)) (received (since_restarted before))) (sym (after_table p e)) (stands.others t code k p here found at away)
+
+  -- the core goes on standing where the steps have left it
+  pub stands-made : Stands resource first (Made x ∷ before) new
+  stands-made = subst (Stands resource first (Made x ∷ before)) (sym done.after) (record {
+    sound = stands.sound;
+    shaped = row_lengths_kept core.table own_ref.resource own_ref.task (Some x) ∙ stands.shaped;
+    resource_is = stands.resource_is;
+    incarnation_is = stands.incarnation_is;
+    own = own_after;
+    counted = counted_after;
+    others = others_after;
+  })
+
+  asked_so : IsAsked x.ticket x.name x.dt x.inputs (takes_of (known core.table) next.code) (state_of next.code (last_made x.name.task before)) next.code x
+  asked_so = record {
+    is = next.asked.is ∙ same_asked (ap (λ (y : Evaluated). y.ticket) next.asked.is) (ap (λ (y : Evaluated). y.name) next.asked.is) (ap (λ (y : Evaluated). y.dt) next.asked.is) (ap (λ (y : Evaluated). y.inputs) next.asked.is) state_is;
+    meant = next.asked.meant;
+    whole = next.asked.whole;
+  } where
+    state_is : state_of next.code (last_made x.name.task before) ≡ state_of next.code (known core.table own_ref)
+    state_is = ap (state_of next.code) (ap (λ t. last_made t before) task_is ∙ sym (stands.own own_ref stands.resource_is))
+
+  -- it is one that the resource could make after these steps
+  pub follows-made : IsNextMade core.plant core.max_number resource first before x
+  follows-made = record {
+    code = next.code;
+    last = known core.table;
+    resource_is = ap (λ (r : TaskRef). r.resource) task_is ∙ stands.resource_is;
+    found = subst (λ r. code_at core.plant r ≡ Some next.code) (sym task_is) next.found;
+    incarnation_is = ap (λ (y : Evaluated). y.name.incarnation) next.asked.is ∙ stands.incarnation_is;
+    number_is = number_of;
+    number_left = let n : x.name.number ≡ last_number (known core.table own_ref) + 1 = ap (λ (y : Evaluated). y.name.number) next.asked.is in let left = next.below in omega (arith, n, left);
+    taken = record {
+      others = λ k p at away. stands.others own_ref next.code k p stands.resource_is next.found at away;
+      own = stands.own;
+    };
+    asked = asked_so;
+  }
+
+abbrev codes_long : ResourceValue → ℕ
+codes_long r = length r.codes
+
+abbrev none_known : Option Evaluated
+none_known = None
+
+nothing_known : (plant : PlantValue) (p : TaskRef) → known (empty_for plant) p ≡ None
+nothing_known plant p = cell_filled codes_long none_known plant.resources p.resource p.task
+
+-- a core that holds nothing stands where nothing was done yet, and where the last step is a restart
+module _ (plant : PlantValue) (resource incarnation max_number : ℕ) (sound : IsSoundPlant plant) where
+  pub stands-fresh : Stands resource incarnation [] (fresh_core plant resource incarnation max_number)
+  stands-fresh = record {
+    sound = sound;
+    shaped = row_lengths_filled codes_long none_known plant.resources;
+    resource_is = refl;
+    incarnation_is = refl;
+    own = λ p here. nothing_known plant p;
+    counted = λ p here. refl;
+    others = λ t code k p here found at away. subst (IsGreatest (ComesFrom p (expected_at code k)) []) (sym (nothing_known plant p)) (All-nil (λ y. ComesFrom p (expected_at code k) y → ⊥));
+  }
+
+  pub stands-restarted : (first ticket : ℕ) (before : List Step) → Stands resource first (Restarted ticket incarnation ∷ before) (fresh_core plant resource incarnation max_number)
+  stands-restarted first ticket before = record {
+    sound = sound;
+    shaped = row_lengths_filled codes_long none_known plant.resources;
+    resource_is = refl;
+    incarnation_is = refl;
+    own = λ p here. nothing_known plant p;
+    counted = λ p here. refl;
+    others = λ t code k p here found at away. subst (IsGreatest (ComesFrom p (expected_at code k)) []) (sym (nothing_known plant p)) (All-nil (λ y. ComesFrom p (expected_at code k) y → ⊥));
+  }

@@ -1,0 +1,109 @@
+-- When the journal of a resource is lawful: each step is one that the resource could do after the steps before it. The steps before stand with the newest first.
+use Rattle.std.specs.Prelude.{◌≡◌, ◌≢◌, ℕ, ◌+◌, ◌<◌, ◌≤◌, true, false, List, [], ◌∷◌, ◌++◌, Option, Some, None, All, length, map, filter, reverse, slice_get}
+use Rattle.variable_binding.specs.declared.declarations.Kind.{Kind}
+use Rattle.variable_binding.specs.Kinds.{kind_of}
+use Rattle.due_list.specs.declared.task_ref.TaskRef.{TaskRef}
+use Rattle.plant.specs.PlantValue.{CodeValue, PlantValue, code_at, expected_at}
+use Rattle.evaluation.specs.Names.{precedes}
+use Rattle.evaluation.specs.Meaning.{Evaluated, IsAsked}
+use Rattle.exchange_core.specs.Last.{same_task, state_of, takes_of}
+use Rattle.node_journals.specs.declared.step.Step.{Step}
+use Rattle.node_journals.specs.declared.step.Step.TheVariants.{Took, Made, Restarted}
+use Rattle.node_journals.specs.declared.journal.Journal.{Journal}
+
+-- the present incarnation: that of the last Restarted, or the first one where there is none
+abbrev pub incarnation_of : ℕ → List Step → ℕ
+incarnation_of first [] = first
+incarnation_of first (Took x ∷ earlier) = incarnation_of first earlier
+incarnation_of first (Made x ∷ earlier) = incarnation_of first earlier
+incarnation_of first (Restarted ticket incarnation ∷ earlier) = incarnation
+
+-- the steps since the last Restarted; all of them where there is none
+abbrev pub since_restarted : List Step → List Step
+since_restarted [] = []
+since_restarted (Took x ∷ earlier) = Took x ∷ since_restarted earlier
+since_restarted (Made x ∷ earlier) = Made x ∷ since_restarted earlier
+since_restarted (Restarted ticket incarnation ∷ earlier) = []
+
+-- the evaluations made, in the order of the steps
+abbrev pub made : List Step → List Evaluated
+made [] = []
+made (Took x ∷ steps) = made steps
+made (Made x ∷ steps) = x ∷ made steps
+made (Restarted ticket incarnation ∷ steps) = made steps
+
+-- the evaluations received, in the order of the steps
+abbrev pub received : List Step → List Evaluated
+received [] = []
+received (Took x ∷ steps) = x ∷ received steps
+received (Made x ∷ steps) = received steps
+received (Restarted ticket incarnation ∷ steps) = received steps
+
+-- the newest one of a list that has the newest first
+abbrev pub newest : List Evaluated → Option Evaluated
+newest [] = None
+newest (x ∷ older) = Some x
+
+-- a task's evaluations that were made since the last Restarted
+abbrev pub made_of : TaskRef → List Step → List Evaluated
+made_of t before = filter (λ x. same_task x.name.task t) (made (since_restarted before))
+
+-- the last of them
+abbrev pub last_made : TaskRef → List Step → Option Evaluated
+last_made t before = newest (made_of t before)
+
+-- an evaluation comes from task p, with an image of these kinds
+abbrev pub ComesFrom : TaskRef → List Kind → Evaluated → Type 0
+ComesFrom p kinds x = (x.name.task ≡ p) × (map kind_of x.outputs ≡ kinds)
+
+-- Of those evaluations that are P, this is the first one among those of greatest pair: those before it are below it, and none after it is above it.
+pub record IsFirstGreatest (P : Evaluated → Type 0) (xs : List Evaluated) (x : Evaluated) : Type 0 where
+  pub later : List Evaluated
+  pub earlier : List Evaluated
+  pub place : xs ≡ later ++ x ∷ earlier
+  pub passes : P x
+  pub above_earlier : All (λ y. P y → precedes y.name x.name ≡ true) earlier
+  pub not_below_later : All (λ y. P y → precedes x.name y.name ≡ false) later
+
+-- that one, or nothing where none of them is P
+abbrev pub IsGreatest : (Evaluated → Type 0) → List Evaluated → Option Evaluated → Type 0
+IsGreatest P xs None = All (λ y. P y → ⊥) xs
+IsGreatest P xs (Some x) = IsFirstGreatest P xs x
+
+-- What a task takes from each of its producers: from one of another resource the first among those of greatest pair of the evaluations that were received since the last Restarted
+-- from that producer with the kinds expected, and from one of its own resource the last one that was made since then.
+pub record IsLast (resource : ℕ) (before : List Step) (code : CodeValue) (last : TaskRef → Option Evaluated) : Type 0 where
+  pub others : (k : ℕ) (p : TaskRef) → slice_get code.producers k ≡ Some p → p.resource ≢ resource → IsGreatest (ComesFrom p (expected_at code k)) (received (since_restarted before)) (last p)
+  pub own : (p : TaskRef) → p.resource ≡ resource → last p ≡ last_made p before
+
+-- An evaluation is one that the resource could make after these steps: of a task of its own, in the present incarnation, with the next number, which is within the limit,
+-- and by the plant's code, asked with the takes just said and the state that the task's last evaluation left.
+pub record IsNextMade (plant : PlantValue) (max_number resource first : ℕ) (before : List Step) (x : Evaluated) : Type 0 where
+  pub code : CodeValue
+  pub last : TaskRef → Option Evaluated
+  pub resource_is : x.name.task.resource ≡ resource
+  pub found : code_at plant x.name.task ≡ Some code
+  pub incarnation_is : x.name.incarnation ≡ incarnation_of first before
+  pub number_is : x.name.number ≡ length (made_of x.name.task before) + 1
+  pub number_left : x.name.number ≤ max_number
+  pub taken : IsLast resource before code last
+  pub asked : IsAsked x.ticket x.name x.dt x.inputs (takes_of last code) (state_of code (last_made x.name.task before)) code x
+
+-- A step is one that the resource could do after these steps: it may receive anything, it makes what it could make, and a restart raises the incarnation.
+abbrev pub Follows : PlantValue → ℕ → ℕ → ℕ → List Step → Step → Type 0
+Follows plant max_number resource first before (Took x) = Unit {0}
+Follows plant max_number resource first before (Made x) = IsNextMade plant max_number resource first before x
+Follows plant max_number resource first before (Restarted ticket incarnation) = incarnation_of first before < incarnation
+
+-- each of a list has R to those before it; the newest stands first
+abbrev pub EachAfter : {X : Type 0} → (List X → X → Type 0) → List X → Type 0
+EachAfter R [] = Unit {0}
+EachAfter R (x ∷ before) = R before x × EachAfter R before
+
+-- a journal is lawful for a plant and a limit of numbers: each step could follow those before it
+pub record IsLawful (plant : PlantValue) (max_number : ℕ) (j : Journal) : Type 0 where
+  pub follows : EachAfter (Follows plant max_number j.resource j.first) (reverse j.steps)
+
+-- the journal with one more step
+abbrev pub with_step : Journal → Step → Journal
+with_step j s = record j { steps = j.steps ++ s ∷ [] }

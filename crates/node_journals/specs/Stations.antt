@@ -1,0 +1,46 @@
+-- What a resource is while it runs: its core, and the journal that has come to where the core stands.
+use Rattle.std.specs.Prelude.{◌≡◌, ℕ, List, []}
+use Rattle.plant.specs.PlantValue.{PlantValue}
+use Rattle.evaluation.specs.declared.field_input.FieldInput.{FieldInput}
+use Rattle.evaluation.specs.Meaning.{Evaluated}
+use Rattle.exchange_core.specs.declared.accepted.Accepted.{Accepted}
+use Rattle.exchange_core.specs.CoreValue.{CoreValue, fresh_core, IsAccepted, IsNext}
+use Rattle.node_journals.specs.declared.step.Step.TheVariants.{Took, Made, Restarted}
+use Rattle.node_journals.specs.declared.journal.Journal.{Journal}
+use Rattle.node_journals.specs.Journals.{with_step}
+
+-- a resource that runs: its core and its journal
+pub record StationValue : Type 0 where
+  pub core : CoreValue
+  pub journal : Journal
+
+-- a resource that has made an evaluation and hasn't noted it yet
+pub record PendingValue : Type 0 where
+  pub core : CoreValue
+  pub journal : Journal
+  pub made : Evaluated
+
+-- a resource in its first incarnation: nothing is held, all tasks are initial, and the journal has no steps
+abbrev pub fresh_station : PlantValue → ℕ → ℕ → ℕ → StationValue
+fresh_station plant resource first max_number =
+    record { core = fresh_core plant resource first max_number; journal = record { resource = resource; first = first; steps = [] } }
+
+-- x was received: the journal has it as its last step, and the core has answered
+pub record IsReceived (old new : StationValue) (x : Evaluated) (answer : Accepted) : Type 0 where
+  pub accepted : IsAccepted old.core new.core x answer
+  pub noted : new.journal ≡ with_step old.journal (Took x)
+
+-- the core has made its next evaluation, and the journal is as it was
+pub record IsPending (old : StationValue) (new : PendingValue) (ticket task dt : ℕ) (inputs : List FieldInput) : Type 0 where
+  pub next : IsNext old.core new.core ticket task dt inputs new.made
+  pub journal : new.journal ≡ old.journal
+
+-- the evaluation made is the journal's last step
+pub record IsNoted (old : PendingValue) (new : StationValue) : Type 0 where
+  pub core : new.core ≡ old.core
+  pub noted : new.journal ≡ with_step old.journal (Made old.made)
+
+-- the core is that of the greater incarnation, which the journal has as its last step
+pub record IsRestarted (old new : StationValue) (ticket incarnation : ℕ) : Type 0 where
+  pub core : new.core ≡ fresh_core old.core.plant old.core.resource incarnation old.core.max_number
+  pub noted : new.journal ≡ with_step old.journal (Restarted ticket incarnation)

@@ -1,0 +1,42 @@
+ghost use Rattle.std.specs.Prelude.{◌≡◌, [], IfOk, OnOk, OnErr};
+ghost use Rattle.exchange_core.specs.CoreValue.{IsAccepted};
+ghost use Rattle.node_journals.specs.declared.step.Step.TheVariants.{Took};
+ghost use Rattle.node_journals.specs.Journals.{with_step};
+
+use crate::step::Step;
+use crate::steps::Steps;
+use evaluation::Frame;
+use exchange_core::{Accepted, Core};
+use std::alloc::{AllocError, Global};
+
+/// What one resource did since its first incarnation, step by step.
+#[derive(Drop)]
+pub struct Journal {
+    pub resource: usize,
+    pub first: u32,
+    pub steps: Steps,
+}
+
+impl Journal {
+    /// A journal without steps.
+    pub fn new(alloc: Global, resource: usize, first: u32) -> Journal
+        ensures { result ≡ record { resource = resource; first = first; steps = [] } }
+    {
+        Journal {
+            resource,
+            first,
+            steps: Steps::new(alloc),
+        }
+    }
+
+    /// Notes an evaluation as received, hands it to the core, and answers what the core answers. Without memory the journal and the core stay, and the evaluation is lost.
+    pub fn take(&mut self, core: &mut Core, frame: Frame) -> Result<Accepted, AllocError>
+        ensures core { IfOk result (λ answer. IsAccepted core.old core.new frame answer) }
+        ensures journal { OnOk result (self.new ≡ with_step self.old (Took frame)) }
+        ensures err { OnErr result ((core.new ≡ core.old) × (self.new ≡ self.old)) }
+    {
+        let copy = frame.try_clone()?;
+        self.steps.push(Step::Took(copy))?;
+        Ok(core.accept(frame))
+    }
+}
