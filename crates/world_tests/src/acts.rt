@@ -1,17 +1,27 @@
-//! Events in short: what is done at which resource. Each resource has one task.
+//! Events in short: what is done of which task, or at which resource.
 
-use crate::lot::next;
 use evaluation::Inputs;
 use plant::TaskRef;
 use std::alloc::Global;
 use std::test::Fail;
 use world::Event;
 
+/// The only task of the first resource, and of the second one.
+pub const FAST: TaskRef = TaskRef {
+    resource: 0,
+    task: 0,
+};
+
+pub const SLOW: TaskRef = TaskRef {
+    resource: 1,
+    task: 0,
+};
+
 /// What an event does.
-#[derive(Clone, Copy, Debug, PartialEq, Eq)]
+#[derive(Clone, Copy)]
 pub enum Act {
-    /// The task of this resource is evaluated, its input on or off.
-    Evaluate(usize, bool),
+    /// This task is evaluated, its input on or off.
+    Evaluate(TaskRef, bool),
     /// This message reaches this resource.
     Deliver(u64, usize),
     /// This resource restarts.
@@ -19,11 +29,11 @@ pub enum Act {
 }
 
 /// The event of an act, under this ticket where it is an evaluation.
-pub fn event_of(alloc: Global, ticket: u64, act: Act) -> Result<Event, Fail> {
+fn event_of(alloc: Global, ticket: u64, act: Act) -> Result<Event, Fail> {
     Ok(match act {
-        Act::Evaluate(resource, is_on) => Event::Evaluate {
+        Act::Evaluate(task, is_on) => Event::Evaluate {
             ticket,
-            task: TaskRef { resource, task: 0 },
+            task,
             dt: 10,
             inputs: Inputs::read(alloc, if is_on { "%IX0=1" } else { "" })?,
         },
@@ -32,41 +42,87 @@ pub fn event_of(alloc: Global, ticket: u64, act: Act) -> Result<Event, Fail> {
     })
 }
 
-/// The events of these acts.
+/// The events of these acts, all evaluations under one ticket.
 pub fn events_of(alloc: Global, acts: &[Act]) -> Result<Vec<Event>, Fail> {
     let mut events = Vec::new(alloc);
-    for (ticket, act) in acts.iter().enumerate() {
-        events.push(event_of(alloc, ticket as u64, *act)?)?;
+    for act in acts {
+        events.push(event_of(alloc, 9, *act)?)?;
     }
     Ok(events)
 }
 
-/// What an event does.
-pub fn act_of(event: &Event) -> Act {
-    match event {
-        Event::Evaluate { task, inputs, .. } => {
-            Act::Evaluate(task.resource, !inputs.listed().is_empty())
-        }
-        Event::Deliver { message, resource } => Act::Deliver(*message, *resource),
-        Event::Restart { resource } => Act::Restart(*resource),
+/// 5,000 rounds of the pair: the counter is evaluated, its message reaches the watcher, and that is evaluated.
+pub fn rounds(alloc: Global) -> Result<Vec<Event>, Fail> {
+    let mut events = Vec::new(alloc);
+    for ticket in 0..15_000_u64 {
+        let round = ticket / 3;
+        let act = match ticket % 3 {
+            0 => Act::Evaluate(FAST, round % 2 == 1),
+            1 => Act::Deliver(1 + 2 * round, 1),
+            _ => Act::Evaluate(SLOW, false),
+        };
+        events.push(event_of(alloc, ticket, act)?)?;
     }
+    Ok(events)
 }
 
-/// An act drawn by lot, for a plant of so many resources: half of them evaluations, one in eight a restart.
-fn drawn_act(seed: &mut u32, resources: usize) -> Act {
-    let resource = (next(seed) as usize).checked_rem(resources).unwrap_or(0);
-    match next(seed) % 8 {
-        0 => Act::Restart(resource),
-        1..=3 => Act::Deliver(1 + u64::from(next(seed) % 9), resource),
-        _ => Act::Evaluate(resource, next(seed) % 2 == 1),
-    }
+/// The next number that looks drawn by lot, below 2^24.
+fn next(seed: &mut u32) -> u32 {
+    *seed = seed.wrapping_mul(1_664_525).wrapping_add(1_013_904_223);
+    *seed >> 8
 }
 
-/// 4 to 19 events drawn by lot. Some are not lawful.
+/// 4 to 19 events drawn by lot for a plant of so many resources: half of them evaluations, one in eight a restart. Some are not lawful.
 pub fn drawn_events(alloc: Global, seed: &mut u32, resources: usize) -> Result<Vec<Event>, Fail> {
     let mut events = Vec::new(alloc);
     for ticket in 0..4 + next(seed) % 16 {
-        events.push(event_of(alloc, u64::from(ticket), drawn_act(seed, resources))?)?;
+        let resource = (next(seed) as usize).checked_rem(resources).unwrap_or(0);
+        let act = match next(seed) % 8 {
+            0 => Act::Restart(resource),
+            1..=3 => Act::Deliver(1 + u64::from(next(seed) % 9), resource),
+            _ => Act::Evaluate(TaskRef { resource, task: 0 }, next(seed) % 2 == 1),
+        };
+        events.push(event_of(alloc, u64::from(ticket), act)?)?;
     }
     Ok(events)
+}
+
+/// Both do the same; evaluations have one ticket, one time and the same inputs.
+fn is_same(event: &Event, other: &Event) -> bool {
+    match (event, other) {
+        (
+            Event::Evaluate {
+                ticket,
+                task,
+                dt,
+                inputs,
+            },
+            Event::Evaluate {
+                ticket: other_ticket,
+                task: other_task,
+                dt: other_dt,
+                inputs: other_inputs,
+            },
+        ) => {
+            (ticket, task, dt) == (other_ticket, other_task, other_dt) && inputs.same(other_inputs)
+        }
+        (
+            Event::Deliver { message, resource },
+            Event::Deliver {
+                message: other_message,
+                resource: other_resource,
+            },
+        ) => (message, resource) == (other_message, other_resource),
+        (Event::Restart { resource }, Event::Restart { resource: other }) => resource == other,
+        _ => false,
+    }
+}
+
+/// The events are the same, one by one.
+pub fn do_the_same(events: &[Event], others: &[Event]) -> bool {
+    events.len() == others.len()
+        && events
+            .iter()
+            .zip(others)
+            .all(|(event, other)| is_same(event, other))
 }

@@ -4,32 +4,29 @@ use std::alloc::{AllocError, Global};
 use std::io;
 use std::io::Write;
 
-/// How a writer ends when it has no room.
-#[derive(Clone, Copy, PartialEq, Eq)]
-pub enum End {
-    Fails,
-    TakesNothing,
-}
-
-/// Room for all that a test writes, so that no writer wants memory.
-pub const ROOM: usize = 1_000;
-
-/// A writer that keeps what it takes, at most `step` bytes a call and `room` bytes in all.
+/// A writer that keeps what it takes, at most `step` bytes a call and `room` bytes in all. Without room it fails, or takes nothing.
 #[derive(Drop)]
 pub struct Halting {
     pub taken: Vec<u8>,
     room: usize,
     step: usize,
-    end: End,
+    fails: bool,
 }
 
 impl Halting {
-    pub fn new(alloc: Global, room: usize, step: usize, end: End) -> Result<Halting, AllocError> {
+    /// It has memory for all that a test writes.
+    pub fn new(
+        alloc: Global,
+        room: usize,
+        step: usize,
+        fails: bool,
+    ) -> Result<Halting, AllocError> {
+        let taken = Vec::with_capacity(alloc, 1_000)?;
         Ok(Halting {
-            taken: Vec::with_capacity(alloc, ROOM)?,
+            taken,
             room,
             step,
-            end,
+            fails,
         })
     }
 }
@@ -37,7 +34,7 @@ impl Halting {
 impl Write for Halting {
     fn write(&mut self, buf: &[u8]) -> io::Result<usize> {
         let len = buf.len().min(self.step).min(self.room);
-        if len == 0 && self.end == End::Fails {
+        if len == 0 && self.fails {
             return Err(io::Error::from(io::ErrorKind::BrokenPipe));
         }
         self.taken.extend_from_slice(&buf[..len])?;

@@ -1,4 +1,4 @@
-//! Tests of `exchange` and `world`, by their public calls alone.
+//! Tests of `exchange` and `world`, by their public calls alone. What the program shows of them, a case of `tests/sim` shows.
 #![tactic(auto)]
 
 #[cfg(test)]
@@ -10,7 +10,7 @@ mod checks;
 #[cfg(test)]
 mod halting;
 #[cfg(test)]
-mod lot;
+mod runs;
 #[cfg(test)]
 mod schedules;
 #[cfg(test)]

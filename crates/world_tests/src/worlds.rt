@@ -1,98 +1,74 @@
 //! What a list of events does to the resources of a plant.
 
+use crate::acts::{Act, FAST, SLOW, do_the_same, events_of};
 use crate::checks::{equal, holds};
-use evaluation::{Image, Inputs, Name};
+use crate::runs::{plant_of, world_after};
+use evaluation::Name;
 use exchange_core::Accepted;
-use plant::{Plant, TaskRef};
+use plant::TaskRef;
 use std::alloc::Global;
 use std::process::Abort;
-use std::sync::Arc;
 use std::test::Fail;
 use std_blocks::Value;
 use worked_texts::PAIR;
 use world::{Done, Event, World, WorldFault};
 
-const FAST: TaskRef = TaskRef {
-    resource: 0,
-    task: 0,
-};
+/// A producer that restarts, and a delivery of an evaluation of before. What isn't lawful stands between.
+const ACTS: [Act; 12] = [
+    Act::Deliver(99, 1),
+    Act::Evaluate(
+        TaskRef {
+            resource: 8,
+            task: 0,
+        },
+        false,
+    ),
+    Act::Evaluate(
+        TaskRef {
+            resource: 0,
+            task: 7,
+        },
+        false,
+    ),
+    Act::Evaluate(FAST, false),
+    Act::Evaluate(FAST, true),
+    Act::Deliver(2, 1),
+    Act::Restart(0),
+    Act::Evaluate(FAST, false),
+    Act::Deliver(3, 1),
+    Act::Evaluate(SLOW, false),
+    Act::Deliver(2, 1),
+    Act::Evaluate(SLOW, false),
+];
 
-const SLOW: TaskRef = TaskRef {
-    resource: 1,
-    task: 0,
-};
-
-fn world(alloc: Global, first: &[u32], max_number: u32) -> Result<World, Fail> {
-    let plant = Plant::read(alloc, PAIR)?;
-    if first.len() != plant.resources() {
-        return Err("not one first incarnation for each resource".into());
-    }
-    let plant = Arc::new(alloc, plant)?;
-    Ok(World::new(alloc, plant, first, max_number)?)
-}
-
-fn evaluate(alloc: Global, task: TaskRef, inputs: &str) -> Result<Event, Fail> {
-    Ok(Event::Evaluate {
-        ticket: 9,
-        task,
-        dt: 10,
-        inputs: Inputs::read(alloc, inputs)?,
-    })
-}
-
-fn deliver(message: u64, resource: usize) -> Event {
-    Event::Deliver { message, resource }
-}
-
-fn restart(resource: usize) -> Event {
-    Event::Restart { resource }
-}
-
-/// A producer that restarts, and a delivery of an evaluation of before.
-fn restarting(alloc: Global) -> Result<Vec<Event>, Fail> {
-    let mut events = Vec::new(alloc);
-    for &inputs in &["%IX0=0", "%IX0=1"] {
-        events.push(evaluate(alloc, FAST, inputs)?)?;
-    }
-    events.push(deliver(2, 1))?;
-    events.push(restart(0))?;
-    events.push(evaluate(alloc, FAST, "")?)?;
-    for &message in &[3, 2] {
-        events.push(deliver(message, 1))?;
-        events.push(evaluate(alloc, SLOW, "")?)?;
-    }
-    Ok(events)
-}
-
-fn shows(rt: &impl Abort, image: &Image, values: &[Value]) {
-    equal(rt, "image", &image.values(), &values);
-}
-
-/// The evaluations of a producer that restarts, and of its watcher.
-fn has_names(rt: &impl Abort, world: &World) {
-    let names = [(1, 1), (1, 2), (2, 1), (1, 1), (1, 2)];
-    equal(rt, "evaluations", &world.log().len(), &names.len());
-    for (frame, name) in world.log().iter().zip(&names) {
-        equal(rt, "name", &pair_of(frame.name()), name);
-    }
-}
+const ANSWERS: [Result<Done, WorldFault>; 12] = [
+    Err(WorldFault::NoSuchMessage),
+    Err(WorldFault::NoSuchResource),
+    Err(WorldFault::NoSuchTask),
+    Ok(Done::Evaluated { message: 1 }),
+    Ok(Done::Evaluated { message: 2 }),
+    Ok(Done::Delivered {
+        accepted: Accepted::Taken,
+    }),
+    Ok(Done::Restarted { incarnation: 2 }),
+    Ok(Done::Evaluated { message: 3 }),
+    Ok(Done::Delivered {
+        accepted: Accepted::Taken,
+    }),
+    Ok(Done::Evaluated { message: 4 }),
+    Ok(Done::Delivered {
+        accepted: Accepted::Old,
+    }),
+    Ok(Done::Evaluated { message: 5 }),
+];
 
 fn pair_of(name: Name) -> (u32, u32) {
     (name.incarnation, name.number)
 }
 
 /// Which evaluation of a task a resource holds.
-fn held_by(world: &World, resource: usize, task: TaskRef) -> Option<(u32, u32)> {
+fn held(world: &World, resource: usize, task: TaskRef) -> Option<(u32, u32)> {
     Some(pair_of(world.held(resource, task)?.name()))
-}
-
-fn held(world: &World) -> Option<(u32, u32)> {
-    held_by(world, 1, FAST)
-}
-
-/// How many evaluations and how many events there are.
-fn counts(world: &World) -> (usize, usize) {
-    (world.log().len(), world.events().len())
 }
 
 /// What the last evaluation took from the counter.
@@ -100,20 +76,40 @@ fn last_take(world: &World) -> Option<(u32, u32)> {
     world.log().last()?.evaluation().takes().first()?.from
 }
 
-/// The nine events have run.
+/// How many evaluations and how many events there are.
+fn has_counts(rt: &impl Abort, world: &World, evaluations: usize, events: usize) {
+    let counts = (world.log().len(), world.events().len());
+    equal(rt, "counts", &counts, &(evaluations, events));
+}
+
+/// All is done that is lawful.
 fn has_restarted(rt: &impl Abort, world: &World) {
-    has_names(rt, world);
-    equal(rt, "counts", &counts(world), &(5, 9));
-    equal(rt, "held", &held(world), &Some((2, 1)));
+    has_counts(rt, world, 5, 9);
+    let names = [(1, 1), (1, 2), (2, 1), (1, 1), (1, 2)];
+    for (frame, name) in world.log().iter().zip(&names) {
+        equal(rt, "name", &pair_of(frame.name()), name);
+    }
+    equal(rt, "held", &held(world, 1, FAST), &Some((2, 1)));
     equal(rt, "last take", &last_take(world), &Some((2, 1)));
 }
 
-#[test]
-fn a_new_world_is_empty(rt: HostRuntime) -> Result<(), Fail> {
-    let world = world(rt.alloc(), &[1, 1], u32::MAX)?;
-    equal(&rt, "counts", &counts(&world), &(0, 0));
-    for &(resource, task) in &[(1, FAST), (0, FAST), (7, FAST)] {
-        equal(&rt, "held", &held_by(&world, resource, task), &None);
+/// No resource holds what it doesn't take, and a resource that isn't there holds nothing.
+fn holds_no_other(rt: &impl Abort, world: &World) {
+    for &(resource, task) in &[(0, FAST), (0, SLOW), (1, SLOW), (7, FAST)] {
+        equal(rt, "held", &held(world, resource, task), &None);
+    }
+}
+
+/// Each of these acts is answered so.
+fn steps(
+    rt: &impl Abort,
+    alloc: Global,
+    world: &mut World,
+    acts: &[Act],
+    answers: &[Result<Done, WorldFault>],
+) -> Result<(), Fail> {
+    for (event, answer) in events_of(alloc, acts)?.iter().zip(answers) {
+        equal(rt, "answer", &world.step(alloc, event), answer);
     }
     Ok(())
 }
@@ -121,91 +117,31 @@ fn a_new_world_is_empty(rt: HostRuntime) -> Result<(), Fail> {
 #[test]
 fn each_step_tells_what_it_did(rt: HostRuntime) -> Result<(), Fail> {
     let alloc = rt.alloc();
-    let mut world = world(alloc, &[1, 1], u32::MAX)?;
-    let events = restarting(alloc)?;
-    let done = [
-        Done::Evaluated { message: 1 },
-        Done::Evaluated { message: 2 },
-        Done::Delivered {
-            accepted: Accepted::Taken,
-        },
-        Done::Restarted { incarnation: 2 },
-        Done::Evaluated { message: 3 },
-        Done::Delivered {
-            accepted: Accepted::Taken,
-        },
-        Done::Evaluated { message: 4 },
-        Done::Delivered {
-            accepted: Accepted::Old,
-        },
-        Done::Evaluated { message: 5 },
-    ];
-    equal(&rt, "events", &events.len(), &done.len());
-    for (event, done) in events.iter().zip(&done) {
-        equal(&rt, "done", &world.step(alloc, event)?, done);
-    }
+    let plant = plant_of(alloc, PAIR)?;
+    let mut world = world_after(alloc, &plant, &[1, 1], &[])?;
+    has_counts(&rt, &world, 0, 0);
+    equal(&rt, "held", &held(&world, 1, FAST), &None);
+    holds_no_other(&rt, &world);
+    steps(&rt, alloc, &mut world, &ACTS, &ANSWERS)?;
     has_restarted(&rt, &world);
-    for &(resource, task) in &[(0, FAST), (0, SLOW), (1, SLOW)] {
-        equal(&rt, "held", &held_by(&world, resource, task), &None);
-    }
+    holds_no_other(&rt, &world);
     let second = world.log().get(1).ok_or("no second evaluation")?;
-    shows(&rt, second.outputs(), &[Value::Int(1), Value::Bool(false)]);
+    let values = [Value::Int(1), Value::Bool(false)];
+    equal(&rt, "image", &second.outputs().values(), &values.as_slice());
     Ok(())
 }
 
 #[test]
 fn the_greatest_incarnation_is_the_last(rt: HostRuntime) -> Result<(), Fail> {
     let alloc = rt.alloc();
-    let mut world = world(alloc, &[u32::MAX, 1], u32::MAX)?;
-    let spent = Err(WorldFault::IncarnationsSpent);
-    let restarted = Ok(Done::Restarted { incarnation: 2 });
-    for &(resource, answer, events) in &[(0, spent, 0), (1, restarted, 1)] {
-        let found = world.step(alloc, &restart(resource));
-        equal(&rt, "answer", &found, &answer);
-        equal(&rt, "counts", &counts(&world), &(0, events));
-    }
-    Ok(())
-}
-
-/// A message, a resource and a task that do not exist, and then a lawful event.
-fn mostly_unlawful(alloc: Global) -> Result<Vec<Event>, Fail> {
-    let mut events = Vec::new(alloc);
-    events.push(deliver(99, 1))?;
-    for &(resource, task) in &[(8, 0), (0, 7)] {
-        events.push(evaluate(alloc, TaskRef { resource, task }, "")?)?;
-    }
-    events.push(evaluate(alloc, FAST, "%IX0=1")?)?;
-    Ok(events)
-}
-
-/// It evaluates the counter under the ticket of these tests, with these inputs.
-fn evaluates_the_counter(event: &Event, wanted: &Inputs) -> bool {
-    match event {
-        Event::Evaluate {
-            ticket,
-            task,
-            dt,
-            inputs,
-        } => (*ticket, *task, *dt) == (9, FAST, 10) && inputs.same(wanted),
-        _ => false,
-    }
-}
-
-#[test]
-fn a_run_skips_unlawful_events(rt: HostRuntime) -> Result<(), Fail> {
-    let alloc = rt.alloc();
-    let mut world = world(alloc, &[1, 1], u32::MAX)?;
-    let events = mostly_unlawful(alloc)?;
-    if world.run(alloc, events.as_slice()).is_err() {
-        return Err("no memory for a run".into());
-    }
-    equal(&rt, "counts", &counts(&world), &(1, 1));
-    let inputs = Inputs::read(alloc, "%IX0=1")?;
-    let is_kept = match world.events() {
-        [event] => evaluates_the_counter(event, &inputs),
-        _ => false,
-    };
-    holds(&rt, "the lawful event is kept", is_kept);
+    let plant = plant_of(alloc, PAIR)?;
+    let mut world = world_after(alloc, &plant, &[u32::MAX, 1], &[])?;
+    let spent = [Err(WorldFault::IncarnationsSpent)];
+    steps(&rt, alloc, &mut world, &[Act::Restart(0)], &spent)?;
+    has_counts(&rt, &world, 0, 0);
+    let restarted = [Ok(Done::Restarted { incarnation: 2 })];
+    steps(&rt, alloc, &mut world, &[Act::Restart(1)], &restarted)?;
+    has_counts(&rt, &world, 0, 1);
     Ok(())
 }
 
@@ -221,12 +157,19 @@ fn run_on(alloc: Global, world: &mut World, events: &[Event]) -> bool {
 }
 
 #[test]
-fn a_run_goes_on_after_a_refusal(rt: HostRuntime) -> Result<(), Fail> {
+fn a_run_does_the_lawful_events(rt: HostRuntime) -> Result<(), Fail> {
     let alloc = rt.alloc();
-    let events = restarting(alloc)?;
-    let mut world = world(alloc, &[1, 1], u32::MAX)?;
+    let plant = plant_of(alloc, PAIR)?;
+    let events = events_of(alloc, &ACTS)?;
+    let mut world = world_after(alloc, &plant, &[1, 1], &[])?;
     let has_run = run_on(alloc, &mut world, events.as_slice());
     holds(&rt, "all events have run", has_run);
     has_restarted(&rt, &world);
+    let lawful = events.get(3..).unwrap_or_default();
+    holds(
+        &rt,
+        "the lawful events are kept",
+        do_the_same(world.events(), lawful),
+    );
     Ok(())
 }
