@@ -3,7 +3,7 @@ use Rattle.std.proofs.Common.{◌≡◌, ◌≢◌, ◌⊎◌, ℕ, zero, suc, i
 use Rattle.std.proofs.lemmas.Bool.{cases_eq}
 use Rattle.std.proofs.lemmas.Option.{slice_get_within, same_Some}
 use Rattle.network.specs.Links.{Diagram}
-use Rattle.variable_binding.specs.declared.declarations.Declaration.{Declaration}
+use Rattle.declared_names.specs.declared.declarations.Declaration.{Declaration}
 use Rattle.power_flow.specs.declared.state.Slot.{Slot}
 use Rattle.power_flow.specs.StateValue.{StateValue, IsSame, variable_at}
 use Rattle.power_flow.specs.Scan.{AllAreWide, ScanMeaning}

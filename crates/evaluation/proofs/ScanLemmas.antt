@@ -5,8 +5,8 @@ use Rattle.std.proofs.lemmas.List.{map_push, take_more}
 use Rattle.std.proofs.lemmas.Option.{slice_get_within, get_or_from_slice_get, same_Some}
 use Rattle.lists.proofs.Places.{element_at}
 use Rattle.std_blocks.specs.declared.value.Value.{Value}
-use Rattle.variable_binding.specs.declared.declarations.Declared.{Declared}
-use Rattle.variable_binding.specs.declared.declarations.Declared.TheVariants.{Input, Output, Local, Instance}
+use Rattle.declared_names.specs.declared.declarations.Declared.{Declared}
+use Rattle.declared_names.specs.declared.declarations.Declared.TheVariants.{Input, Output, Local, Instance}
 use Rattle.power_flow.specs.declared.state.Slot.{Slot}
 use Rattle.power_flow.specs.declared.state.Slot.TheVariants.{Variable, Block}
 use Rattle.power_flow.specs.LadderValue.{LadderValue, Fits}

@@ -1,7 +1,7 @@
 -- What a task takes from its producers.
 use Rattle.std.specs.Prelude.{◌≡◌, ℕ, List, Some, None, length, map, slice_get}
 use Rattle.std_blocks.specs.declared.value.Value.{Value}
-use Rattle.variable_binding.specs.declared.declarations.Kind.{Kind}
+use Rattle.declared_names.specs.declared.declarations.Kind.{Kind}
 use Rattle.variable_binding.specs.Kinds.{value_first}
 use Rattle.variable_binding.specs.Kinds.{kind_of}
 use Rattle.due_list.specs.declared.task_ref.TaskRef.{TaskRef}

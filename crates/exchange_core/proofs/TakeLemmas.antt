@@ -6,8 +6,8 @@ use Rattle.std.proofs.lemmas.Slice.Zip.{length-zip}
 use Rattle.std.proofs.lemmas.List.{take_more, take_all, map-append, length-map}
 use Rattle.std.proofs.lemmas.Option.{none-some, same_Some, slice_get_within, slice_get-map, get_or_from_slice_get}
 use Rattle.lists.proofs.Places.{element_at}
-use Rattle.variable_binding.specs.declared.declarations.Kind.{Kind}
-use Rattle.variable_binding.specs.declared.declarations.Kind.TheVariants as kind
+use Rattle.declared_names.specs.declared.declarations.Kind.{Kind}
+use Rattle.declared_names.specs.declared.declarations.Kind.TheVariants as kind
 use Rattle.variable_binding.specs.Kinds.{value_first}
 use Rattle.variable_binding.specs.Kinds.{kind_of}
 use Rattle.due_list.specs.declared.task_ref.TaskRef.{TaskRef}

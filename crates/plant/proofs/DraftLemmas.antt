@@ -8,8 +8,8 @@ use Rattle.std.proofs.lemmas.Option.{slice_get-map}
 use Rattle.std.proofs.lemmas.List.{take_more, map-append, flat_map_more}
 use Rattle.std.proofs.lemmas.List.Elements.{filter-append}
 use Rattle.lists.proofs.Places.{some_same}
-use Rattle.variable_binding.specs.declared.declarations.Kind.{Kind}
-use Rattle.variable_binding.specs.Names.{place_of}
+use Rattle.declared_names.specs.declared.declarations.Kind.{Kind}
+use Rattle.declared_names.specs.Names.{place_of}
 use Rattle.plant_grammar.specs.declared.grammar.tree.Use.{Use}
 use Rattle.plant_grammar.specs.declared.grammar.tree.Item.{Item}
 use Rattle.plant_grammar.specs.declared.grammar.tree.Item.TheVariants as item

@@ -5,10 +5,10 @@ use Rattle.std.proofs.lemmas.Bool.{cases_lt}
 use Rattle.std.proofs.lemmas.Slice.Eq.{bytes_eq-Decides}
 use Rattle.std.proofs.lemmas.List.Quantifiers.{position-Some}
 use Rattle.std.proofs.lemmas.Option.{slice_get_read, slice_get-get_or, slice_get-map, get_or_from_slice_get}
-use Rattle.variable_binding.specs.declared.declarations.Kind.TheVariants as kind
-use Rattle.variable_binding.specs.declared.declarations.Declared.TheVariants as declared
-use Rattle.variable_binding.specs.declared.declarations.Declaration.{Declaration}
-use Rattle.variable_binding.specs.Names.{place_of}
+use Rattle.declared_names.specs.declared.declarations.Kind.TheVariants as kind
+use Rattle.declared_names.specs.declared.declarations.Declared.TheVariants as declared
+use Rattle.declared_names.specs.declared.declarations.Declaration.{Declaration}
+use Rattle.declared_names.specs.Names.{place_of}
 use Rattle.plant_grammar.specs.Names.{is_named, IsAt}
 
 pub same_letters : (a b : List ℕ) → IsTrue (is_named a b) → str_to_ascii_lowercase a ≡ str_to_ascii_lowercase b

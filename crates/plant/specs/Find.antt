@@ -1,7 +1,7 @@
 -- The task of a name.
 use Rattle.std.specs.Prelude.{◌≡◌, ℕ, List, Option, MatchOption, Contains}
 use Rattle.std.specs.List.{before_first, after_first}
-use Rattle.variable_binding.specs.Names.{is_dot}
+use Rattle.declared_names.specs.Names.{is_dot}
 use Rattle.due_list.specs.declared.task_ref.TaskRef.{TaskRef}
 use Rattle.plant_grammar.specs.Names.{IsAt}
 use Rattle.plant.specs.PlantValue.{TaskValue, ResourceValue, PlantValue}

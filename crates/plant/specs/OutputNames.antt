@@ -1,7 +1,7 @@
 -- The names of a task's outputs.
 use Rattle.std.specs.Prelude.{◌≡◌, ℕ, List, Option, None, Some, MatchOption, slice_get}
 use Rattle.std.specs.Borrow.{Bor}
-use Rattle.variable_binding.specs.declared.declarations.Declaration.{Declaration}
+use Rattle.declared_names.specs.declared.declarations.Declaration.{Declaration}
 use Rattle.plant.specs.declared.task_output.TaskOutput.{TaskOutput}
 use Rattle.plant.specs.PlantValue.{CodeValue, ProgramValue}
 

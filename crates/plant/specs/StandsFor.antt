@@ -1,9 +1,9 @@
 -- The plant that a tree stands for.
 use Rattle.std.specs.Prelude.{◌≡◌, ℕ, ◌==◌, ◌&&◌, not, List, [], ◌∷◌, map, slice_get, length, Option, Some, None}
 use Rattle.std.specs.List.{flat_map, filter, AllZip}
-use Rattle.variable_binding.specs.declared.declarations.Kind.{Kind}
-use Rattle.variable_binding.specs.declared.declarations.Declaration.{Declaration}
-use Rattle.variable_binding.specs.Names.{place_of}
+use Rattle.declared_names.specs.declared.declarations.Kind.{Kind}
+use Rattle.declared_names.specs.declared.declarations.Declaration.{Declaration}
+use Rattle.declared_names.specs.Names.{place_of}
 use Rattle.plant.specs.declared.binding.Source.{Source}
 use Rattle.plant.specs.declared.binding.Source.TheVariants.{Field, Given}
 use Rattle.plant.specs.declared.binding.Binding.{Binding}

@@ -4,9 +4,9 @@ use Rattle.std.specs.Prelude.{Any}
 use Rattle.std.specs.List.{list_any}
 use Rattle.std.proofs.lemmas.List.{length-append, length-map}
 use Rattle.std.proofs.lemmas.List.Folds.{Any-from_list_any, list_any-from_Any, list_any-append}
-use Rattle.variable_binding.specs.declared.declarations.Declaration.{Declaration}
-use Rattle.variable_binding.specs.declared.declarations.Declared.{Declared}
-use Rattle.variable_binding.specs.Names.{IsDeclared}
+use Rattle.declared_names.specs.declared.declarations.Declaration.{Declaration}
+use Rattle.declared_names.specs.declared.declarations.Declared.{Declared}
+use Rattle.declared_names.specs.Names.{IsDeclared}
 use Rattle.plant_grammar.specs.declared.plant_fault.PlantFaultKind.{PlantFaultKind}
 use Rattle.plant_grammar.specs.Names.{is_named}
 use Rattle.plant_grammar.specs.NameFaults.{TellsOfName, IsTaken}

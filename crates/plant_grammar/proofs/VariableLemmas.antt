@@ -1,11 +1,11 @@
 -- A program's variables, one by one.
 use Rattle.std.proofs.Common.{◌≡◌, ◌↔◌, ℕ, ◌<◌, ◌≤◌, ◌++◌, map, List, [], ◌∷◌, length, refl, subst, sym, arith, IsTrue, Option, Some, None, is_some, Result, Ok, Err}
 use Rattle.std.specs.Prelude.{OnOk, OnErr, All}
-use Rattle.variable_binding.specs.declared.declarations.Declaration.{Declaration}
-use Rattle.variable_binding.specs.declared.declarations.Declared.{Declared}
-use Rattle.variable_binding.specs.declared.declarations.DeclareFault.{DeclareFault}
-use Rattle.variable_binding.specs.declared.declarations.DeclareFault.TheVariants.{Twice}
-use Rattle.variable_binding.specs.Names.{IsDeclared, place_of}
+use Rattle.declared_names.specs.declared.declarations.Declaration.{Declaration}
+use Rattle.declared_names.specs.declared.declarations.Declared.{Declared}
+use Rattle.declared_names.specs.declared.declarations.DeclareFault.{DeclareFault}
+use Rattle.declared_names.specs.declared.declarations.DeclareFault.TheVariants.{Twice}
+use Rattle.declared_names.specs.Names.{IsDeclared, place_of}
 use Rattle.variable_binding.proofs.Places.{declared_place, place_declared}
 use Rattle.power_flow.specs.LadderValue.{LadderValue}
 use Rattle.plant_grammar.specs.declared.grammar.tree.Program.{Program}

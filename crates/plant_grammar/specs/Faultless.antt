@@ -7,9 +7,9 @@ use Rattle.ladder_text.specs.Picture.{picture_of}
 use Rattle.ladder_text.specs.Faults.{IsWellDrawn}
 use Rattle.network.specs.GraphValue.{GraphValue}
 use Rattle.network.specs.Networks.{AreNetworks, IsFaultless as HasFaultlessNetworks}
-use Rattle.variable_binding.specs.declared.declarations.Declared.{Declared}
-use Rattle.variable_binding.specs.declared.declarations.Declared.TheVariants.{Input, Output, Local, Instance}
-use Rattle.variable_binding.specs.declared.declarations.Declaration.{Declaration}
+use Rattle.declared_names.specs.declared.declarations.Declared.{Declared}
+use Rattle.declared_names.specs.declared.declarations.Declared.TheVariants.{Input, Output, Local, Instance}
+use Rattle.declared_names.specs.declared.declarations.Declaration.{Declaration}
 use Rattle.variable_binding.specs.Binding.{CanBind}
 use Rattle.power_flow.specs.LadderValue.{LadderValue, diagrams}
 use Rattle.plant_grammar.specs.declared.grammar.tree.Section.{Section}

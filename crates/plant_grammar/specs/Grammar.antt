@@ -2,8 +2,8 @@
 use Rattle.std.specs.Prelude.{ℕ, List, [], ◌∷◌, ◌++◌, Option, Some, None}
 use Rattle.std.specs.Global.{Vec}
 use Rattle.std.specs.List.{flat_map}
-use Rattle.variable_binding.specs.declared.declarations.Kind.{Kind}
-use Rattle.variable_binding.specs.declared.declarations.Kind.TheVariants as kind
+use Rattle.declared_names.specs.declared.declarations.Kind.{Kind}
+use Rattle.declared_names.specs.declared.declarations.Kind.TheVariants as kind
 use Rattle.plant_text.specs.declared.token.Token.{Token}
 use Rattle.plant_text.specs.declared.token.Token.TheVariants as token
 use Rattle.plant_text.specs.declared.token.Keyword.{Keyword}

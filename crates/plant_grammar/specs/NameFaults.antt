@@ -2,7 +2,7 @@
 use Rattle.std.specs.Prelude.{◌≡◌, ◌⊎◌, ℕ, ◌+◌, ◌≤◌, IsTrue, List, [], ◌∷◌, ◌++◌, length, Any}
 use Rattle.std.specs.List.{flat_map}
 use Rattle.words.specs.Lines.{without_last}
-use Rattle.variable_binding.specs.declared.declarations.Declaration.{Declaration}
+use Rattle.declared_names.specs.declared.declarations.Declaration.{Declaration}
 use Rattle.plant_grammar.specs.declared.plant_fault.PlantFault.{PlantFault}
 use Rattle.plant_grammar.specs.declared.plant_fault.PlantFaultKind.{PlantFaultKind}
 use Rattle.plant_grammar.specs.declared.plant_fault.PlantFaultKind.TheVariants as kind

@@ -8,7 +8,7 @@ use Rattle.network.specs.declared.element.Element.{Element}
 use Rattle.network.specs.Links.{Diagram}
 use Rattle.network.specs.GraphValue.{diagram, IsSoundNetwork}
 use Rattle.power_flow.specs.declared.steps.circuit.Circuit.{Circuit}
-use Rattle.variable_binding.specs.declared.declarations.Declaration.{Declaration}
+use Rattle.declared_names.specs.declared.declarations.Declaration.{Declaration}
 use Rattle.variable_binding.specs.Binding.{IsBoundNetwork, CanBind}
 use Rattle.variable_binding.specs.Steps.Named.{AreNamed}
 use Rattle.power_flow.specs.Steps.Circuit.{IsCircuit, AreCircuits, HasShape, HasRoom, circuit_diagram}

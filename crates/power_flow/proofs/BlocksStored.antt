@@ -11,11 +11,11 @@ use Rattle.std_blocks.specs.declared.value.Value.{Value}
 use Rattle.std_blocks.specs.declared.pins.PinsOut.{PinsOut}
 use Rattle.ladder_text.specs.declared.drawn_box.Operand.{Operand}
 use Rattle.network.specs.Links.{Diagram}
-use Rattle.variable_binding.specs.declared.declarations.Declaration.{Declaration}
-use Rattle.variable_binding.specs.declared.declarations.Declared.{Declared}
-use Rattle.variable_binding.specs.declared.declarations.Declared.TheVariants.{Instance as instance_of}
-use Rattle.variable_binding.specs.declared.declarations.Kind.{Kind}
-use Rattle.variable_binding.specs.Names.{place_of}
+use Rattle.declared_names.specs.declared.declarations.Declaration.{Declaration}
+use Rattle.declared_names.specs.declared.declarations.Declared.{Declared}
+use Rattle.declared_names.specs.declared.declarations.Declared.TheVariants.{Instance as instance_of}
+use Rattle.declared_names.specs.declared.declarations.Kind.{Kind}
+use Rattle.declared_names.specs.Names.{place_of}
 use Rattle.variable_binding.specs.PinKinds.{field_kind}
 use Rattle.variable_binding.specs.BindFaults.{IsVariable}
 use Rattle.variable_binding.specs.Steps.Named.{IsVariableAt, AreNamed}

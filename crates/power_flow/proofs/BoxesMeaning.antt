@@ -29,7 +29,7 @@ use Rattle.std_blocks.specs.declared.value.Value.TheVariants.{Bool as BoolValue}
 use Rattle.std_blocks.specs.declared.pin.Field.{Field}
 use Rattle.std_blocks.specs.Pins.{field_value, pin_of, output}
 use Rattle.std_blocks.specs.Blocks.{bit, after, outputs_after}
-use Rattle.variable_binding.specs.declared.declarations.Declaration.{Declaration}
+use Rattle.declared_names.specs.declared.declarations.Declaration.{Declaration}
 use Rattle.power_flow.specs.declared.steps.circuit.Circuit.{Circuit}
 use Rattle.power_flow.specs.declared.state.Instance.{Instance}
 use Rattle.power_flow.specs.declared.state.Slot.{Slot}
@@ -39,7 +39,7 @@ use Rattle.power_flow.specs.declared.binding.bound_box.BoundOutput.{BoundOutput}
 use Rattle.power_flow.specs.declared.steps.step.Step.{Step}
 use Rattle.power_flow.specs.declared.steps.step.BoundCoil.{BoundCoil}
 use Rattle.power_flow.specs.declared.binding.source.Source.TheVariants as source
-use Rattle.variable_binding.specs.Names.{place_of}
+use Rattle.declared_names.specs.Names.{place_of}
 use Rattle.power_flow.specs.Values.{value_at, value_of, slot_value, is_true, int_or_zero, time_or_zero}
 use Rattle.power_flow.specs.Steps.Sources.{source_value, source_bit, name_source}
 use Rattle.power_flow.specs.Meaning.{Moment, moment, bit_at, conducts, element_conducts, contact_conducts, contact_memory, coil_value, coil_memory, IsOutputOn, IsSource, HasPower, IsInputBit, AreInputs, BlocksStep, NetworkMeaning, next_memory, stored, stores, store, side_stores, result_stores, coil_stores}

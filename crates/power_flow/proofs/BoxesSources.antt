@@ -25,16 +25,16 @@ use Rattle.std_blocks.specs.declared.value.Value.{Value}
 use Rattle.ladder_text.specs.declared.drawn_box.Operand.{Operand}
 use Rattle.std_blocks.specs.Pins.{pin_of, output, field_value}
 use Rattle.std_blocks.specs.Blocks.{state_after, after}
-use Rattle.variable_binding.specs.declared.declarations.Declaration.{Declaration}
-use Rattle.variable_binding.specs.declared.declarations.Declared.{Declared}
-use Rattle.variable_binding.specs.declared.declarations.Declared.TheVariants as declared
+use Rattle.declared_names.specs.declared.declarations.Declaration.{Declaration}
+use Rattle.declared_names.specs.declared.declarations.Declared.{Declared}
+use Rattle.declared_names.specs.declared.declarations.Declared.TheVariants as declared
 use Rattle.power_flow.specs.declared.state.Instance.{Instance}
 use Rattle.power_flow.specs.declared.state.Slot.{Slot}
 use Rattle.power_flow.specs.declared.state.Slot.TheVariants.{Variable, Block}
 use Rattle.power_flow.specs.declared.binding.source.Source.{Source}
 use Rattle.power_flow.specs.declared.binding.source.Source.TheVariants as source
 use Rattle.power_flow.specs.declared.binding.bound_box.BoundBox.{BoundBox}
-use Rattle.variable_binding.specs.Names.{place_of, is_dot}
+use Rattle.declared_names.specs.Names.{place_of, is_dot}
 use Rattle.power_flow.specs.Values.{value_of, slot_value, shown_at, is_true}
 use Rattle.variable_binding.specs.Literals.{literal_value}
 use Rattle.power_flow.specs.Values.{text_value, value_or}

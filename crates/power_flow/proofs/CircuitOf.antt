@@ -12,7 +12,7 @@ use Rattle.ladder_text.specs.declared.drawn_box.Side.TheVariants.{Left, Right}
 use Rattle.network.specs.declared.element.Element.{Element}
 use Rattle.network.specs.declared.element.Element.TheVariants.{Wire, Join, Upright, Contact, Coil, Box}
 use Rattle.network.specs.Links.{Diagram, place}
-use Rattle.variable_binding.specs.declared.declarations.Declaration.{Declaration}
+use Rattle.declared_names.specs.declared.declarations.Declaration.{Declaration}
 use Rattle.power_flow.specs.declared.steps.step.Step.{Step}
 use Rattle.power_flow.specs.declared.steps.step.Step.TheVariants as step
 use Rattle.power_flow.specs.declared.steps.step.BoundCoil.{BoundCoil}

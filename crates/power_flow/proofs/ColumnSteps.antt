@@ -22,7 +22,7 @@ use Rattle.network.specs.Apart.{first_place, Has}
 use Rattle.network.specs.GraphValue.{IsSoundNetwork}
 use Rattle.power_flow.specs.Power.{IsOn}
 use Rattle.power_flow.specs.Meaning.{bit_at, contact_conducts, contact_memory}
-use Rattle.variable_binding.specs.declared.declarations.Declaration.{Declaration}
+use Rattle.declared_names.specs.declared.declarations.Declaration.{Declaration}
 use Rattle.power_flow.specs.declared.state.Instance.{Instance}
 use Rattle.power_flow.specs.declared.state.Slot.{Slot}
 use Rattle.power_flow.specs.declared.binding.bound_box.BoundBox.{BoundBox}

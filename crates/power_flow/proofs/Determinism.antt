@@ -17,11 +17,11 @@ use Rattle.std_blocks.specs.declared.block_type.BlockType.{BlockType}
 use Rattle.std_blocks.specs.declared.pins.PinsIn.{PinsIn}
 use Rattle.std_blocks.specs.declared.pin.Field.TheVariants.{Bit}
 use Rattle.std_blocks.specs.Blocks.{bit, after, outputs_after}
-use Rattle.variable_binding.specs.declared.declarations.Declaration.{Declaration}
+use Rattle.declared_names.specs.declared.declarations.Declaration.{Declaration}
 use Rattle.power_flow.specs.declared.state.Instance.{Instance}
 use Rattle.power_flow.specs.declared.state.Slot.{Slot}
 use Rattle.power_flow.specs.declared.state.Slot.TheVariants.{Variable, Block}
-use Rattle.variable_binding.specs.Names.{place_of}
+use Rattle.declared_names.specs.Names.{place_of}
 use Rattle.power_flow.specs.Values.{value_at, value_of, slot_value, is_true}
 use Rattle.power_flow.specs.Meaning.{Moment, moment, HasPower, IsSource, IsOutputOn, AreInputs, IsInputBit, IsDrawn, BlocksStep, conducts, AreLinks, NetworkMeaning, next_memory, stored, stores}
 use Rattle.power_flow.specs.Scan.{AreWide, AllAreWide, ScanMeaning}

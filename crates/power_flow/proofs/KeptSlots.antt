@@ -12,14 +12,14 @@ use Rattle.ladder_text.specs.declared.drawn_box.DrawnBox.{DrawnBox}
 use Rattle.network.specs.declared.element.Element.{Element}
 use Rattle.network.specs.declared.element.Element.TheVariants.{Wire, Join, Upright, Contact, Coil, Box}
 use Rattle.network.specs.Links.{Diagram}
-use Rattle.variable_binding.specs.declared.declarations.Declaration.{Declaration}
-use Rattle.variable_binding.specs.declared.declarations.Declared.{Declared}
-use Rattle.variable_binding.specs.declared.declarations.Declared.TheVariants.{Input, Output, Local, Instance}
-use Rattle.variable_binding.specs.declared.declarations.Kind.TheVariants as kind
+use Rattle.declared_names.specs.declared.declarations.Declaration.{Declaration}
+use Rattle.declared_names.specs.declared.declarations.Declared.{Declared}
+use Rattle.declared_names.specs.declared.declarations.Declared.TheVariants.{Input, Output, Local, Instance}
+use Rattle.declared_names.specs.declared.declarations.Kind.TheVariants as kind
 use Rattle.power_flow.specs.declared.state.Slot.{Slot}
 use Rattle.power_flow.specs.declared.state.Slot.TheVariants.{Variable}
 use Rattle.power_flow.specs.Meaning.{bit_at}
-use Rattle.variable_binding.specs.Names.{place_of}
+use Rattle.declared_names.specs.Names.{place_of}
 use Rattle.power_flow.specs.Values.{value_at, slot_value}
 use Rattle.variable_binding.specs.Kinds.{kind_of}
 use Rattle.power_flow.specs.StateValue.{StateValue, IsSlotOf, AreSlotsOf}
@@ -29,7 +29,7 @@ use Rattle.power_flow.specs.declared.steps.circuit.Circuit.{Circuit}
 use Rattle.power_flow.specs.Steps.Circuit.{circuit_diagram}
 use Rattle.power_flow.specs.LadderValue.{LadderValue, Fits}
 use Rattle.variable_binding.specs.BindFaults.{IsVariable}
-use Rattle.variable_binding.specs.declared.declarations.Kind.{Kind}
+use Rattle.declared_names.specs.declared.declarations.Kind.{Kind}
 use Rattle.power_flow.specs.declared.state.Instance.{Instance as InstanceRecord}
 use Rattle.power_flow.specs.declared.state.Slot.TheVariants.{Block}
 use Rattle.variable_binding.specs.PinKinds.{field_kind}

@@ -21,12 +21,12 @@ use Rattle.std_blocks.specs.declared.pin.Field.{Field}
 use Rattle.std_blocks.specs.declared.pin.Field.TheVariants.{Bit, Int, Time}
 use Rattle.std_blocks.specs.Pins.{pin_of, input}
 use Rattle.std_blocks.specs.Blocks.{bit, after, outputs_after}
-use Rattle.variable_binding.specs.declared.declarations.Declaration.{Declaration}
+use Rattle.declared_names.specs.declared.declarations.Declaration.{Declaration}
 use Rattle.power_flow.specs.declared.state.Instance.{Instance}
 use Rattle.power_flow.specs.declared.state.Slot.{Slot}
 use Rattle.power_flow.specs.declared.state.Slot.TheVariants.{Variable, Block}
 use Rattle.power_flow.specs.Power.{IsOn}
-use Rattle.variable_binding.specs.Names.{place_of}
+use Rattle.declared_names.specs.Names.{place_of}
 use Rattle.power_flow.specs.Values.{value_at, value_of, is_true, int_or_zero, time_or_zero}
 use Rattle.power_flow.specs.Values.{text_value}
 pub use Rattle.network.specs.Apart.{first_place}

@@ -2,9 +2,9 @@ use Rattle.std.specs.Prelude.{◌≡◌, ℕ, List, Bool, Option, Some, None, le
 use Rattle.std.specs.Option.{option_and_then}
 use Rattle.std_blocks.specs.declared.value.Value.{Value}
 use Rattle.variable_binding.specs.Kinds.{kind_of}
-use Rattle.variable_binding.specs.declared.declarations.Declared.{Declared}
-use Rattle.variable_binding.specs.declared.declarations.Declared.TheVariants.{Input, Output, Local, Instance}
-use Rattle.variable_binding.specs.declared.declarations.Declaration.{Declaration}
+use Rattle.declared_names.specs.declared.declarations.Declared.{Declared}
+use Rattle.declared_names.specs.declared.declarations.Declared.TheVariants.{Input, Output, Local, Instance}
+use Rattle.declared_names.specs.declared.declarations.Declaration.{Declaration}
 use Rattle.power_flow.specs.declared.state.Slot.{Slot}
 use Rattle.power_flow.specs.declared.state.Slot.TheVariants.{Variable, Block}
 

@@ -1,6 +1,6 @@
 ghost use Rattle.std.specs.Prelude.{◌≡◌, ℕ, List, Bool};
 ghost use Rattle.network.specs.Links.{Diagram};
-ghost use Rattle.variable_binding.specs.declared.declarations.Declaration.{Declaration};
+ghost use Rattle.declared_names.specs.declared.declarations.Declaration.{Declaration};
 ghost use Rattle.power_flow.specs.declared.state.Slot.{Slot};
 ghost use Rattle.power_flow.specs.LadderValue.{LadderValue, Fits};
 ghost use Rattle.power_flow.specs.Scan.{AllAreWide, ScanMeaning};

@@ -2,7 +2,7 @@
 use Rattle.std.proofs.Common.{◌≡◌, ℕ, List, Option, Result, Ok, Err, IfErr, inl, inr, sym, subst}
 use Rattle.std.proofs.KnownBytes.{Keeps-refl}
 use Rattle.network.specs.Links.{Diagram}
-use Rattle.variable_binding.specs.declared.declarations.Declaration.{Declaration}
+use Rattle.declared_names.specs.declared.declarations.Declaration.{Declaration}
 use Rattle.std.specs.Result.{IsErrAnd}
 use Rattle.variable_binding.specs.declared.bind_fault.BindFault.{BindFault}
 use Rattle.variable_binding.specs.declared.bind_fault.BindKind.TheVariants.{Memory as BindMemory}

@@ -8,7 +8,7 @@ use Rattle.std.specs.Borrow.{Bor}
 use Rattle.std.specs.Prelude.{All, Any, Some, slice_get}
 use Rattle.std.specs.List.{AllZip}
 use Rattle.lists.proofs.Zips.{zip_length, zip_push}
-use Rattle.variable_binding.specs.declared.declarations.Declaration.{Declaration}
+use Rattle.declared_names.specs.declared.declarations.Declaration.{Declaration}
 use Rattle.text_commands.specs.declared.word_fault.WordFaultKind.{WordFaultKind}
 use Rattle.text_commands.specs.declared.word_fault.WordFaultKind.TheVariants.{NoVariable, BadDigits, Twice}
 use Rattle.text_commands.specs.Rows.{RowValue, IsRow, AreRows, AreApart, IsBoolAt, IsRefusedFor, IsFirstRefused, texts}

@@ -12,7 +12,7 @@ use Rattle.network.specs.GraphValue.{GraphValue}
 use Rattle.network.specs.Networks.{AreNetworks, IsFaultless, IsFaultAt, IsFoundAt}
 use Rattle.network.specs.declared.fault.GraphFault.{GraphFault}
 use Rattle.std_blocks.specs.declared.value.Value.TheVariants.{Bool as BoolValue}
-use Rattle.variable_binding.specs.declared.declarations.Declaration.{Declaration}
+use Rattle.declared_names.specs.declared.declarations.Declaration.{Declaration}
 use Rattle.power_flow.specs.declared.state.Slot.{Slot}
 use Rattle.power_flow.specs.declared.state.Slot.TheVariants.{Variable}
 use Rattle.power_flow.specs.First.{slot_first}

@@ -4,7 +4,7 @@ use Rattle.std.specs.List.{join_with_byte}
 use Rattle.std.specs.Fmt.{decimal, signed_decimal}
 use Rattle.std_blocks.specs.declared.value.Value.{Value}
 use Rattle.std_blocks.specs.declared.value.Value.TheVariants.{Bool as BoolValue, Int as IntValue, Time as TimeValue}
-use Rattle.variable_binding.specs.declared.declarations.Declaration.{Declaration}
+use Rattle.declared_names.specs.declared.declarations.Declaration.{Declaration}
 use Rattle.power_flow.specs.declared.state.Slot.{Slot}
 use Rattle.power_flow.specs.declared.state.Slot.TheVariants.{Variable, Block}
 

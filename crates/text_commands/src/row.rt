@@ -1,5 +1,5 @@
 ghost use Rattle.std.specs.Prelude.{◌≡◌, ◌↔◌, IfOk, IfErr, OnErr, IsTrue, MatchOption, ℕ, [], Any, Some, slice_get};
-ghost use Rattle.variable_binding.specs.Names.{place_of};
+ghost use Rattle.declared_names.specs.Names.{place_of};
 ghost use Rattle.text_commands.specs.Rows.{RowValue, IsRow, IsBoolAt, IsRefusedFor, AreDigits, is_bool, is_bit};
 
 use crate::word_fault::WordFaultKind;

@@ -4,7 +4,7 @@ use Rattle.std.specs.Bool.{OnFalse}
 use Rattle.std.specs.List.{before_first, after_first, position_or_len}
 use Rattle.std.proofs.lemmas.Bool.{ltb-false}
 use Rattle.std.proofs.lemmas.List.{length-take, take_all, drop_all}
-use Rattle.variable_binding.specs.Names.{is_dot}
+use Rattle.declared_names.specs.Names.{is_dot}
 use Rattle.variable_binding.specs.Lookup.{is_dotted}
 
 -- a name whose first part is all of it has no dot

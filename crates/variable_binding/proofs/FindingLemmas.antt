@@ -6,7 +6,7 @@ use Rattle.std.proofs.lemmas.Grind.{flat_map-append}
 use Rattle.std.proofs.lemmas.List.Elements.{All-append, All-weaker, All-nil, All-cons, All-head, All-tail, Contains-append_left, Contains-append_right}
 use Rattle.network.specs.declared.element.Element.{Element}
 use Rattle.variable_binding.specs.declared.finding.Finding.{Finding}
-use Rattle.variable_binding.specs.declared.declarations.Declaration.{Declaration}
+use Rattle.declared_names.specs.declared.declarations.Declaration.{Declaration}
 use Rattle.variable_binding.specs.Findings.{kind_rank, IsUpTo}
 use Rattle.variable_binding.specs.Steps.ElementFindings.{HasNoFinding, element_findings, network_findings, findings, IsFirstOf}
 use Rattle.variable_binding.specs.Steps.Earlier.{IsEarlier}

@@ -1,5 +1,5 @@
 -- Uses of names in their order, and the declarations that they give.
-use Rattle.std.proofs.Common.{◌≡◌, ℕ, ◌+◌, ◌<◌, ◌≤◌, Bool, true, false, cond, not, ◌&&◌, ◌||◌, ltb, eqb, List, [], ◌∷◌, ◌++◌, Option, Some, None, is_some, map, filter, take, length, get_or, refl, sym, ap, ◌∙◌, arith, if◌then◌else◌}
+use Rattle.std.proofs.Common.{◌≡◌, ℕ, ◌+◌, ◌<◌, ◌≤◌, Bool, true, false, cond, not, ◌&&◌, ◌||◌, ltb, eqb, List, [], ◌∷◌, ◌++◌, Option, is_some, IsTrue, ◌↔◌, map, filter, take, length, get_or, refl, sym, ap, ◌∙◌, arith, if◌then◌else◌}
 use Rattle.std.specs.Ordering.{is_lt, nat_cmp, ordering_then}
 use Rattle.std.specs.List.{list_any, enumerate_from, flat_map}
 use Rattle.std.specs.List.Sorted.{ties, IsPermutation, IsStableBy}
@@ -12,12 +12,15 @@ use Rattle.std.proofs.lemmas.List.Folds.{list_any_more, list_any-append, Any-fro
 use Rattle.std.proofs.lemmas.Grind.{flat_map-append}
 use Rattle.std.proofs.lemmas.List.FromFn.{length-enumerate_from, get_or-enumerate_from}
 use Rattle.std.proofs.lemmas.Slice.Eq.{bytes_eq-Decides}
-use Rattle.variable_binding.specs.declared.declarations.Declaration.{Declaration}
+use Rattle.declared_names.specs.declared.declarations.Declaration.{Declaration}
 use Rattle.variable_binding.specs.declared.name_use.NameUse.{NameUse}
 use Rattle.network.specs.declared.element.Element.{Element}
 use Rattle.variable_binding.specs.Guess.{is_before, is_first, declaration_of, element_uses, first_uses, uses_of}
-use Rattle.variable_binding.specs.Names.{place_of, IsDeclared}
-use Rattle.variable_binding.proofs.Places.{has_name, place_declared, declared_place}
+use Rattle.declared_names.specs.Names.{place_of, IsDeclared}
+
+-- whether a declaration has the name
+abbrev pub has_name : List ℕ → Declaration → Bool
+has_name name d = str_eq_ignore_ascii_case d.name name
 
 -- the order by the keys of the sort
 abbrev pub key_before : NameUse → NameUse → Bool
@@ -136,18 +139,16 @@ FirstsTo-all uses ds k le h =
     h.list ∙ ap (λ (es : List (ℕ × NameUse)). map entry_of (filter (counts uses) es)) (take_all k (enumerate_from 0 uses) long)
 
 -- a name that has a place is declared already
-pub declared_before : (ds : List Declaration) (u : NameUse) (o : Option ℕ) → o ≡ place_of ds u.name → is_some o ≡ true → ds ≡ declared_with ds u
-declared_before ds u None at some = absurd cc
-declared_before ds u (Some i) at some =
-    let there : list_any (has_name u.name) ds ≡ true = list_any-from_Any (has_name u.name) ds (place_declared ds u.name i (sym at)) in
+pub declared_before : (ds : List Declaration) (u : NameUse) (o : Option ℕ) → IsTrue (is_some (place_of ds u.name)) ↔ IsDeclared ds u.name → o ≡ place_of ds u.name → is_some o ≡ true → ds ≡ declared_with ds u
+declared_before ds u o declared at some =
+    let there : list_any (has_name u.name) ds ≡ true = list_any-from_Any (has_name u.name) ds (declared.0 (ap is_some (sym at) ∙ some)) in
     sym (ap (λ b. if b then ds else ds ++ declaration_of u ∷ []) there)
 
 -- what is declared is the name of the use, which has no place yet
-pub declared_new : (ds new : List Declaration) (u : NameUse) (given : List ℕ) (o : Option ℕ) → given ≡ u.name → o ≡ place_of ds u.name → is_some o ≡ false
+pub declared_new : (ds new : List Declaration) (u : NameUse) (given : List ℕ) (o : Option ℕ) → IsTrue (is_some (place_of ds u.name)) ↔ IsDeclared ds u.name → given ≡ u.name → o ≡ place_of ds u.name → is_some o ≡ false
     → new ≡ ds ++ record { name = given; declared = u.declared } ∷ [] → new ≡ declared_with ds u
-declared_new ds new u given (Some i) same at unplaced pushed = absurd cc
-declared_new ds new u given None same at unplaced pushed =
-    let none : list_any (has_name u.name) ds ≡ false = none_has ds u.name (λ there. declared_place ds u.name there (sym at)) in
+declared_new ds new u given o declared same at unplaced pushed =
+    let none : list_any (has_name u.name) ds ≡ false = none_has ds u.name (λ there. let wrong : false ≡ true = sym unplaced ∙ ap is_some at ∙ declared.1 there in absurd cc) in
     pushed ∙ ap (λ (n : List ℕ). ds ++ record { name = n; declared = u.declared } ∷ []) same
     ∙ sym (ap (λ b. if b then ds else ds ++ declaration_of u ∷ []) none)
 

@@ -1,7 +1,5 @@
 pub mod Lists
 pub mod Dots
-pub mod Places
-pub mod FoldedLemmas
 pub mod FindingLemmas
 pub mod NameFaults
 pub mod BoxesFaults

@@ -6,9 +6,9 @@ use Rattle.ladder_text.specs.declared.coil.Coil.{Coil as DrawnCoil}
 use Rattle.ladder_text.specs.declared.drawn_box.DrawnBox.{DrawnBox}
 use Rattle.network.specs.declared.element.Element.{Element}
 use Rattle.network.specs.declared.element.Element.TheVariants.{Coil, Box}
-use Rattle.variable_binding.specs.declared.declarations.Declaration.{Declaration}
-use Rattle.variable_binding.specs.declared.declarations.Kind.TheVariants as kind
-use Rattle.variable_binding.specs.Names.{is_dot}
+use Rattle.declared_names.specs.declared.declarations.Declaration.{Declaration}
+use Rattle.declared_names.specs.declared.declarations.Kind.TheVariants as kind
+use Rattle.declared_names.specs.Names.{is_dot}
 use Rattle.variable_binding.specs.Lookup.{declared_at, is_dotted}
 use Rattle.variable_binding.specs.Binding.{IsBoundNetwork}
 use Rattle.variable_binding.specs.Steps.Named.{IsNamedBox, IsVariableAt, AreNamed}

@@ -13,10 +13,10 @@ use Rattle.ladder_text.specs.declared.drawn_box.Side.TheVariants.{Left}
 use Rattle.network.specs.declared.element.Element.TheVariants.{Wire, Box}
 use Rattle.network.specs.Links.{place}
 use Rattle.variable_binding.specs.declared.bind_fault.BindKind.TheVariants.{UnknownName, WrongKind, UnknownPin, PinMissing, LiteralOutOfRange}
-use Rattle.variable_binding.specs.declared.declarations.Declaration.{Declaration}
+use Rattle.declared_names.specs.declared.declarations.Declaration.{Declaration}
 use Rattle.variable_binding.specs.Literals.{literal_value}
 use Rattle.variable_binding.specs.Lookup.{declared_at}
-use Rattle.variable_binding.specs.Names.{place_of}
+use Rattle.declared_names.specs.Names.{place_of}
 use Rattle.variable_binding.specs.BindFaults.{IsFaultIn, foreign_pin, second_pin, wrong_line, unknown_box}
 
 abbrev box_of : BlockType → List DrawnPin → DrawnBox

@@ -3,7 +3,7 @@ use Rattle.ladder_text.specs.declared.place.Place.{Place}
 use Rattle.network.specs.declared.element.Element.{Element}
 use Rattle.network.specs.Links.{Diagram}
 use Rattle.variable_binding.specs.declared.bind_fault.BindKind.{BindKind}
-use Rattle.variable_binding.specs.declared.declarations.Declaration.{Declaration}
+use Rattle.declared_names.specs.declared.declarations.Declaration.{Declaration}
 use Rattle.variable_binding.specs.BindFaults.{IsFaultIn}
 
 -- nothing is wrong with a network: it has no fault of any kind at any place

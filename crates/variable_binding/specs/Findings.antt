@@ -5,7 +5,7 @@ use Rattle.variable_binding.specs.declared.bind_fault.BindKind.{BindKind}
 use Rattle.variable_binding.specs.declared.bind_fault.BindKind.TheVariants.{UnknownName, WrongKind, WritesInput, UnknownPin, PinMissing, LiteralOutOfRange, Memory}
 use Rattle.variable_binding.specs.declared.finding.Finding.{Finding}
 use Rattle.variable_binding.specs.declared.bind_fault.BindFault.{BindFault}
-use Rattle.variable_binding.specs.declared.declarations.Declaration.{Declaration}
+use Rattle.declared_names.specs.declared.declarations.Declaration.{Declaration}
 use Rattle.network.specs.Links.{place}
 use Rattle.variable_binding.specs.BindFaults.{IsFaultIn}
 

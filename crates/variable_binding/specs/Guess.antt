@@ -9,10 +9,10 @@ use Rattle.ladder_text.specs.declared.drawn_box.DrawnPin.{DrawnPin}
 use Rattle.network.specs.declared.element.Element.{Element}
 use Rattle.network.specs.declared.element.Element.TheVariants.{Wire, Join, Upright, Contact, Coil, Box}
 use Rattle.network.specs.GraphValue.{GraphValue}
-use Rattle.variable_binding.specs.declared.declarations.Declaration.{Declaration}
-use Rattle.variable_binding.specs.declared.declarations.Declared.{Declared}
-use Rattle.variable_binding.specs.declared.declarations.Declared.TheVariants.{Local, Instance}
-use Rattle.variable_binding.specs.declared.declarations.Kind.TheVariants as kind
+use Rattle.declared_names.specs.declared.declarations.Declaration.{Declaration}
+use Rattle.declared_names.specs.declared.declarations.Declared.{Declared}
+use Rattle.declared_names.specs.declared.declarations.Declared.TheVariants.{Local, Instance}
+use Rattle.declared_names.specs.declared.declarations.Kind.TheVariants as kind
 use Rattle.variable_binding.specs.declared.name_use.NameUse.{NameUse}
 use Rattle.variable_binding.specs.PinKinds.{pin_kind}
 

@@ -1,4 +1,3 @@
-pub mod Names
 pub mod Kinds
 pub mod PinKinds
 pub mod Lookup

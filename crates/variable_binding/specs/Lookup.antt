@@ -1,9 +1,9 @@
 use Rattle.std.specs.Prelude.{ℕ, List, Bool, Option, nat_lt, slice_get, length}
 use Rattle.std.specs.Option.{option_and_then, option_map}
 use Rattle.std.specs.List.{before_first}
-use Rattle.variable_binding.specs.declared.declarations.Declaration.{Declaration}
-use Rattle.variable_binding.specs.declared.declarations.Declared.{Declared}
-use Rattle.variable_binding.specs.Names.{place_of, is_dot}
+use Rattle.declared_names.specs.declared.declarations.Declaration.{Declaration}
+use Rattle.declared_names.specs.declared.declarations.Declared.{Declared}
+use Rattle.declared_names.specs.Names.{place_of, is_dot}
 
 -- what is declared at a name
 unfoldable pub declared_at : List Declaration → List ℕ → Option Declared

@@ -1,4 +1,4 @@
-use crate::declarations::Declarations;
+use declared_names::Declarations;
 use crate::element_faults::first_finding;
 use crate::finding::fault_at;
 use network::Graph;

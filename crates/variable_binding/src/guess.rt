@@ -4,7 +4,7 @@ ghost use Rattle.std.specs.List.Sorted.{IsPermutation, IsSortedBy, IsStableBy};
 ghost use Rattle.std.specs.Str.{str_eq_ignore_ascii_case};
 ghost use Rattle.variable_binding.specs.Guess.{is_plain, name_use, word_uses, pin_uses, element_uses, uses_of, is_before, declaration_of, first_uses, AreGuessed};
 
-use crate::declarations::{Declarations, Declared, Kind};
+use declared_names::{Declarations, Declared, Kind, declared_names_have_places};
 use crate::kinds::kind_of_pin;
 use crate::name_use::NameUse;
 use ladder_text::{DrawnPin, Text};
@@ -160,6 +160,7 @@ fn declare(declarations: &mut Declarations, first: &NameUse) -> Result<(), Alloc
     ensures { OnOk result (declarations.new ≡ (if list_any (λ d. str_eq_ignore_ascii_case d.name first.now.name) declarations.old
         then declarations.old else declarations.old ++ declaration_of first.now ∷ [])) }
 {
+    declared_names_have_places();
     if declarations.position_of(first.name.as_bytes()).is_some() {
         return Ok(());
     }
@@ -178,13 +179,23 @@ fn declare_all(alloc: Global, uses: &[NameUse]) -> Result<Declarations, AllocErr
     Ok(declarations)
 }
 
-impl Declarations {
+/// What a drawing's names are guessed to be.
+pub trait Guess: Sized {
+    ghost use Rattle.network.specs.GraphValue.{GraphValue};
+
+    ghost guessed: { GraphValue → Self → Type 0 };
+
     /// The names of a drawing, declared by their use in the order of their first appearance by row and then column.
     /// A box's name is an instance of its type, a name at a pin is a local of the pin's kind (BOOL if the type has no such pin on that side),
     /// and any other name is a local BOOL. The first use decides. A dotted name, a number or a duration declares nothing.
-    pub fn guess(alloc: Global, graph: &Graph) -> Result<Declarations, AllocError>
-        ensures { IfOk result (AreGuessed graph.now) }
-    {
+    fn guess(alloc: Global, graph: &Graph) -> Result<Self, AllocError>
+        ensures { IfOk result (guessed graph.now) };
+}
+
+impl Guess for Declarations {
+    ghost guessed = { AreGuessed };
+
+    fn guess(alloc: Global, graph: &Graph) -> Result<Declarations, AllocError> {
         let mut uses = all_uses(alloc, graph.networks())?;
         sort_uses(&mut uses)?;
         let declarations = declare_all(alloc, &uses)?;

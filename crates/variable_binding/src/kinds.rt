@@ -3,7 +3,7 @@ ghost use Rattle.variable_binding.specs.Kinds.{value_first};
 ghost use Rattle.variable_binding.specs.PinKinds.{field_kind, stands_on, pin_kind};
 ghost use Rattle.variable_binding.specs.Kinds.{kind_of};
 
-use crate::declarations::Kind;
+use declared_names::Kind;
 use ladder_text::{DrawnPin, Side};
 use std_blocks::{BlockType, Field, Pin, Value};
 

@@ -5,7 +5,7 @@ ghost use Rattle.variable_binding.specs.Literals.{literal_value};
 ghost use Rattle.variable_binding.specs.Steps.BoxFindings.{literal_of};
 ghost use Rattle.variable_binding.specs.Steps.Named.{IsInRange};
 
-use crate::declarations::Kind;
+use declared_names::Kind;
 use ladder_text::{Text, duration_up_to, is_duration, is_number, number_up_to};
 use std_blocks::Value;
 

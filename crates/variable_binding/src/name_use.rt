@@ -1,4 +1,4 @@
-use crate::declarations::Declared;
+use declared_names::Declared;
 use ladder_text::Text;
 
 /// A name as it stands in a drawing: the place of its symbol or box, or its own first character, and what it is by this use.

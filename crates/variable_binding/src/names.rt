@@ -1,10 +1,10 @@
 ghost use Rattle.std.specs.Prelude.{◌≡◌, [], position};
 ghost use Rattle.std.specs.Bool.{OnFalse};
 ghost use Rattle.std.specs.List.{before_first, after_first};
-ghost use Rattle.variable_binding.specs.Names.{is_dot};
+ghost use Rattle.declared_names.specs.Names.{is_dot};
 ghost use Rattle.variable_binding.specs.Lookup.{declared_at};
 
-use crate::declarations::{Declarations, Declared};
+use declared_names::{Declarations, Declared};
 use ladder_text::Text;
 
 /// Where a dot stands in a name.

@@ -3,7 +3,7 @@ use Rattle.std.proofs.Common.{◌≡◌, ℕ, ◌+◌, ◌<◌, ◌≤◌, ◌==
 use Rattle.std.specs.List.{join_with_byte, zip}
 use Rattle.std.proofs.lemmas.Bool.{ne_eqb}
 use Rattle.plant.specs.declared.task_output.TaskOutput.{TaskOutput}
-use Rattle.variable_binding.specs.declared.declarations.Kind.TheVariants as kind
+use Rattle.declared_names.specs.declared.declarations.Kind.TheVariants as kind
 use Rattle.std.proofs.lemmas.List.{take_more, take_all, map-append}
 use Rattle.world.specs.Steps.Telling.{gap_before}
 use Rattle.world.specs.RunLines.{list_text}

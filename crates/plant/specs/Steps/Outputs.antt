@@ -1,7 +1,7 @@
 -- Outputs of a task one by one, and their order.
 use Rattle.std.specs.Prelude.{◌≡◌, ◌<◌, ◌⊎◌, ℕ, List, [], ◌++◌, Option, Some, None, slice_get}
-use Rattle.variable_binding.specs.declared.declarations.Declared.{Declared}
-use Rattle.variable_binding.specs.declared.declarations.Declaration.{Declaration}
+use Rattle.declared_names.specs.declared.declarations.Declared.{Declared}
+use Rattle.declared_names.specs.declared.declarations.Declaration.{Declaration}
 use Rattle.plant.specs.declared.task_output.TaskOutput.{TaskOutput}
 use Rattle.plant.specs.PlantValue.{output_at}
 

@@ -1,6 +1,6 @@
 ghost use Rattle.std.specs.Prelude.{◌≡◌, ◌↔◌, ◌+◌, ◌<◌, ◌≤◌, ◌++◌, [], ◌∷◌, List, IsTrue, OnOk, length, IfErr};
 ghost use Rattle.plant_grammar.specs.Steps.WordFaults.{IsWordFault};
-ghost use Rattle.variable_binding.specs.Names.{IsDeclared};
+ghost use Rattle.declared_names.specs.Names.{IsDeclared};
 ghost use Rattle.plant_grammar.specs.Faultless.{declared_as, list_variables};
 ghost use Rattle.plant_grammar.specs.NameFaults.{IsOfName, IsTaken};
 ghost use Rattle.plant_grammar.specs.Steps.Declaring.{TellsOfChecked, TellsOfAdded, RefusesOneOf};
@@ -25,7 +25,7 @@ pub struct Variables {
 
 impl Model for Variables {
     ghost use Rattle.std.specs.Prelude.{List};
-    ghost use Rattle.variable_binding.specs.declared.declarations.Declaration.{Declaration};
+    ghost use Rattle.declared_names.specs.declared.declarations.Declaration.{Declaration};
     ghost use Rattle.plant_grammar.specs.Steps.ReadParts.{AreVariables};
 
     ghost Value = { List Declaration };
@@ -55,7 +55,7 @@ fn declared_as(section: Section, type_name: TypeName) -> Declared
 }
 
 impl Variables {
-    ghost use Rattle.variable_binding.specs.declared.declarations.Declaration.{Declaration};
+    ghost use Rattle.declared_names.specs.declared.declarations.Declaration.{Declaration};
 
     /// No variables yet.
     pub fn new(alloc: Global) -> Variables

@@ -11,13 +11,13 @@ use Rattle.network.specs.Links.{Diagram}
 use Rattle.std_blocks.specs.declared.block_type.BlockType.{BlockType}
 use Rattle.std_blocks.specs.declared.pin.Field.TheVariants.{Bit, Int, Time}
 use Rattle.std_blocks.specs.Pins.{pin_of, output}
-use Rattle.variable_binding.specs.declared.declarations.Declaration.{Declaration}
-use Rattle.variable_binding.specs.declared.declarations.Declared.TheVariants as declared
+use Rattle.declared_names.specs.declared.declarations.Declaration.{Declaration}
+use Rattle.declared_names.specs.declared.declarations.Declared.TheVariants as declared
 use Rattle.power_flow.specs.declared.binding.source.Source.{Source}
 use Rattle.power_flow.specs.declared.binding.source.Source.TheVariants as source
 use Rattle.power_flow.specs.declared.binding.bound_box.BoundBox.{BoundBox}
 use Rattle.power_flow.specs.declared.binding.bound_box.BoundOutput.{BoundOutput}
-use Rattle.variable_binding.specs.Names.{place_of}
+use Rattle.declared_names.specs.Names.{place_of}
 use Rattle.power_flow.specs.Meaning.{IsDrawn}
 use Rattle.power_flow.specs.Steps.Sources.{name_source, pin_source}
 pub use Rattle.power_flow.specs.Waiting.{box_of, boxes_of}

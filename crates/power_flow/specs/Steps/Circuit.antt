@@ -6,12 +6,12 @@ use Rattle.network.specs.declared.element.Element.TheVariants.{Wire, Join, Uprig
 use Rattle.network.specs.Links.{Diagram}
 use Rattle.network.specs.Apart.{Has}
 use Rattle.network.specs.GraphValue.{diagram, IsSoundNetwork}
-use Rattle.variable_binding.specs.declared.declarations.Declaration.{Declaration}
+use Rattle.declared_names.specs.declared.declarations.Declaration.{Declaration}
 use Rattle.power_flow.specs.declared.steps.circuit.Circuit.{Circuit}
 use Rattle.power_flow.specs.declared.steps.step.Step.{Step}
 use Rattle.power_flow.specs.declared.steps.step.Step.TheVariants as step
 use Rattle.power_flow.specs.declared.steps.step.BoundCoil.{BoundCoil}
-use Rattle.variable_binding.specs.Names.{place_of}
+use Rattle.declared_names.specs.Names.{place_of}
 use Rattle.variable_binding.specs.Steps.Named.{AreNamed}
 use Rattle.power_flow.specs.Steps.Columns.{AreSteps}
 use Rattle.power_flow.specs.Steps.Fused.{singles}

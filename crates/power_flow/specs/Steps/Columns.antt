@@ -10,7 +10,7 @@ use Rattle.network.specs.declared.element.Element.{Element}
 use Rattle.network.specs.declared.element.Element.TheVariants.{Wire, Join, Upright, Contact, Coil, Box}
 use Rattle.network.specs.Links.{Diagram, place, Gives, Takes, Stands}
 use Rattle.network.specs.Apart.{first_place}
-use Rattle.variable_binding.specs.declared.declarations.Declaration.{Declaration}
+use Rattle.declared_names.specs.declared.declarations.Declaration.{Declaration}
 use Rattle.power_flow.specs.declared.steps.step.Step.{Step}
 use Rattle.power_flow.specs.declared.steps.step.Step.TheVariants as step
 use Rattle.power_flow.specs.Steps.Sources.{name_source}

@@ -7,7 +7,7 @@ use Rattle.ladder_text.specs.declared.drawn_box.Side.TheVariants.{Right}
 use Rattle.network.specs.declared.element.Element.{Element}
 use Rattle.network.specs.Links.{Diagram, Gives}
 use Rattle.network.specs.Apart.{Has}
-use Rattle.variable_binding.specs.declared.declarations.Declaration.{Declaration}
+use Rattle.declared_names.specs.declared.declarations.Declaration.{Declaration}
 use Rattle.power_flow.specs.declared.steps.step.Step.{Step}
 use Rattle.power_flow.specs.Steps.Columns.{IsLed, AreStepsOf, joined}
 

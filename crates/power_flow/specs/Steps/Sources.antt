@@ -6,16 +6,16 @@ use Rattle.std_blocks.specs.declared.value.Value.{Value}
 use Rattle.std_blocks.specs.declared.pin.Field.{Field}
 use Rattle.std_blocks.specs.declared.pin.Pin.{Pin}
 use Rattle.std_blocks.specs.Pins.{field_value, pin_of}
-use Rattle.variable_binding.specs.declared.declarations.Declaration.{Declaration}
-use Rattle.variable_binding.specs.declared.declarations.Declared.{Declared}
-use Rattle.variable_binding.specs.declared.declarations.Declared.TheVariants as declared
+use Rattle.declared_names.specs.declared.declarations.Declaration.{Declaration}
+use Rattle.declared_names.specs.declared.declarations.Declared.{Declared}
+use Rattle.declared_names.specs.declared.declarations.Declared.TheVariants as declared
 use Rattle.variable_binding.specs.Literals.{literal_value}
 use Rattle.power_flow.specs.declared.state.Slot.{Slot}
 use Rattle.power_flow.specs.declared.state.Slot.TheVariants.{Variable, Block}
 use Rattle.power_flow.specs.declared.binding.source.Source.{Source}
 use Rattle.power_flow.specs.declared.binding.source.Source.TheVariants as source
 use Rattle.power_flow.specs.Meaning.{bit_at}
-use Rattle.variable_binding.specs.Names.{place_of, is_dot}
+use Rattle.declared_names.specs.Names.{place_of, is_dot}
 use Rattle.power_flow.specs.Values.{is_true}
 use Rattle.power_flow.specs.StateValue.{variable_at}
 

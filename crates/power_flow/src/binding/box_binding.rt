@@ -7,7 +7,7 @@ ghost use Rattle.std_blocks.specs.Pins.{pin_of, input, output};
 ghost use Rattle.ladder_text.specs.declared.drawn_box.DrawnPin.{DrawnPin};
 ghost use Rattle.ladder_text.specs.declared.drawn_box.Side.TheVariants.{Left, Right};
 ghost use Rattle.ladder_text.specs.declared.drawn_box.DrawnBox.{DrawnBox};
-ghost use Rattle.variable_binding.specs.Names.{place_of};
+ghost use Rattle.declared_names.specs.Names.{place_of};
 ghost use Rattle.power_flow.specs.Meaning.{IsDrawn};
 ghost use Rattle.power_flow.specs.Steps.Sources.{operand_source, pin_source};
 ghost use Rattle.variable_binding.specs.Steps.Named.{IsDrawnOnce, AreOutputs, IsInRange, AreInRange, IsNamedBox};

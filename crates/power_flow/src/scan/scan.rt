@@ -4,7 +4,7 @@ ghost use Rattle.std.specs.Option.{option_map};
 ghost use Rattle.std_blocks.specs.declared.value.Value.TheVariants.{Bool as BoolValue};
 ghost use Rattle.power_flow.specs.Meaning.{coil_value, coil_memory, store, stored, bit_at, NetworkMeaning, moment};
 ghost use Rattle.network.specs.Links.{Diagram};
-ghost use Rattle.variable_binding.specs.declared.declarations.Declaration.{Declaration};
+ghost use Rattle.declared_names.specs.declared.declarations.Declaration.{Declaration};
 ghost use Rattle.power_flow.specs.StateValue.{AreSlotsOf};
 ghost use Rattle.power_flow.specs.Scan.{AllAreWide, ScanMeaning};
 ghost use Rattle.ladder_text.specs.declared.place.Place.{Place};

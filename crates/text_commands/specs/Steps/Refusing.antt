@@ -1,6 +1,6 @@
 -- Which faults the parts of a command answer.
 use Rattle.std.specs.Prelude.{ℕ, List}
-use Rattle.variable_binding.specs.declared.declarations.Declaration.{Declaration}
+use Rattle.declared_names.specs.declared.declarations.Declaration.{Declaration}
 use Rattle.text_commands.specs.declared.text_command_fault.TextCommandFault.{TextCommandFault}
 use Rattle.text_commands.specs.declared.text_command_fault.TextCommandFault.TheVariants.{Text, Word, Write, Memory}
 use Rattle.text_commands.specs.Rows.{RowValue, AreRows, IsFirstRefused}

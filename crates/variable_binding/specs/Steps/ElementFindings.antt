@@ -7,12 +7,12 @@ use Rattle.network.specs.Links.{place}
 use Rattle.variable_binding.specs.declared.finding.Finding.{Finding}
 use Rattle.variable_binding.specs.declared.bind_fault.BindKind.{BindKind}
 use Rattle.variable_binding.specs.declared.bind_fault.BindKind.TheVariants.{UnknownName, WrongKind, WritesInput}
-use Rattle.variable_binding.specs.declared.declarations.Declaration.{Declaration}
-use Rattle.variable_binding.specs.declared.declarations.Declared.{Declared}
-use Rattle.variable_binding.specs.declared.declarations.Declared.TheVariants.{Input, Output, Local, Instance}
-use Rattle.variable_binding.specs.declared.declarations.Kind.{Kind}
-use Rattle.variable_binding.specs.declared.declarations.Kind.TheVariants as kind
-use Rattle.variable_binding.specs.Names.{is_dot}
+use Rattle.declared_names.specs.declared.declarations.Declaration.{Declaration}
+use Rattle.declared_names.specs.declared.declarations.Declared.{Declared}
+use Rattle.declared_names.specs.declared.declarations.Declared.TheVariants.{Input, Output, Local, Instance}
+use Rattle.declared_names.specs.declared.declarations.Kind.{Kind}
+use Rattle.declared_names.specs.declared.declarations.Kind.TheVariants as kind
+use Rattle.declared_names.specs.Names.{is_dot}
 use Rattle.variable_binding.specs.Lookup.{declared_at, is_dotted}
 use Rattle.variable_binding.specs.Findings.{IsUpTo}
 use Rattle.variable_binding.specs.Steps.BoxFindings.{fault_here, read_name_fault, name_kind, box_findings}

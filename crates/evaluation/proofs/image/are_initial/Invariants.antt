@@ -1,6 +1,6 @@
 use Rattle.std.proofs.Common.{◌≡◌, ◌<◌, ℕ, Some, slice_get}
 use Rattle.std_blocks.specs.declared.value.Value.{Value}
-use Rattle.variable_binding.specs.declared.declarations.Kind.{Kind}
+use Rattle.declared_names.specs.declared.declarations.Kind.{Kind}
 use Rattle.variable_binding.specs.Kinds.{value_first}
 use Rattle.evaluation.proofs.image.are_initial.Given as goal
 

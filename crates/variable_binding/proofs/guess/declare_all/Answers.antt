@@ -1,5 +1,5 @@
 use Rattle.std.proofs.Common.{◌+◌, List, sym, subst, arith}
-use Rattle.variable_binding.specs.declared.declarations.Declaration.{Declaration}
+use Rattle.declared_names.specs.declared.declarations.Declaration.{Declaration}
 use Rattle.variable_binding.proofs.GuessLemmas.{FirstsTo, FirstsTo-more, FirstsTo-all}
 use Rattle.variable_binding.proofs.guess.declare_all.Goals as goal
 

@@ -1,6 +1,6 @@
 use Rattle.std.proofs.Common.{◌≡◌, ℕ, ◌++◌, take}
 use Rattle.std.specs.List.{flat_map, enumerate_from}
-use Rattle.variable_binding.specs.declared.declarations.Declaration.{Declaration}
+use Rattle.declared_names.specs.declared.declarations.Declaration.{Declaration}
 use Rattle.plant.specs.PlantValue.{output_at}
 use Rattle.plant.proofs.sources.images.push_outputs.Given as goal
 

@@ -2,7 +2,7 @@ use Rattle.std.proofs.Common.{◌≡◌, ◌∙◌, ap, sym, subst, length, map,
 use Rattle.std.specs.Borrow.{Bor}
 use Rattle.std.specs.Global.{Global}
 use Rattle.std.proofs.lemmas.List.{length-map}
-use Rattle.variable_binding.specs.declared.declarations.Kind.{Kind}
+use Rattle.declared_names.specs.declared.declarations.Kind.{Kind}
 use Rattle.plant.specs.declared.binding.Binding.{Binding}
 use Rattle.plant.specs.declared.sources.feed.Feed.{Feed}
 use Rattle.plant_grammar.specs.declared.grammar.tree.Use.{Use}

@@ -1,6 +1,6 @@
 use Rattle.std.proofs.Common.{get_or, Vec}
 use Rattle.std.specs.Global.{Global}
-use Rattle.variable_binding.specs.declared.declarations.Kind.{Kind}
+use Rattle.declared_names.specs.declared.declarations.Kind.{Kind}
 use Rattle.due_list.specs.declared.task_ref.TaskRef.{TaskRef}
 use Rattle.plant.specs.Steps.Drafts.{drafted, AreKindsOf}
 use Rattle.plant.proofs.Zips.{zip_more_right, at_itself}

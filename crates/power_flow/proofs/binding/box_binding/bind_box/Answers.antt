@@ -1,10 +1,10 @@
 use Rattle.std.proofs.Common.{◌≡◌, ℕ, ◌∙◌, ap, sym, Some, unwrap_or, slice_get}
 use Rattle.ladder_text.specs.declared.drawn_box.DrawnPin.{DrawnPin}
 use Rattle.std_blocks.specs.declared.pin.Field.TheVariants.{Bit}
-use Rattle.variable_binding.specs.declared.declarations.Declared.TheVariants as declared
+use Rattle.declared_names.specs.declared.declarations.Declared.TheVariants as declared
 use Rattle.power_flow.specs.declared.binding.source.Source.{Source}
 use Rattle.power_flow.specs.declared.binding.source.Source.TheVariants as source
-use Rattle.variable_binding.specs.Names.{place_of}
+use Rattle.declared_names.specs.Names.{place_of}
 use Rattle.power_flow.specs.Meaning.{IsDrawn}
 use Rattle.power_flow.specs.Steps.BoxTable.{IsBitSource}
 use Rattle.power_flow.proofs.BoxesBinding.{four, declared_place}

@@ -1,5 +1,5 @@
 use Rattle.std.proofs.Common.{◌≡◌, ◌⊎◌, ◌∷◌, ◌++◌, ◌+◌, ◌≤◌, ℕ, List, length, arith}
-use Rattle.variable_binding.specs.declared.declarations.Declaration.{Declaration}
+use Rattle.declared_names.specs.declared.declarations.Declaration.{Declaration}
 use Rattle.plant_grammar.specs.Faultless.{declared_as}
 use Rattle.plant_grammar.specs.NameFaults.{IsOfName, TellsOfName, IsTaken}
 use Rattle.lists.proofs.Results.{kept_fault}

@@ -1,6 +1,6 @@
 use Rattle.std.specs.Prelude.{ℕ, List, Bool, ◌==◌, Option, position, IsTrue, Any}
 use Rattle.std.specs.Str.{str_eq_ignore_ascii_case}
-use Rattle.variable_binding.specs.declared.declarations.Declaration.{Declaration}
+use Rattle.declared_names.specs.declared.declarations.Declaration.{Declaration}
 
 -- the place of a declared name, without regard to case
 unfoldable pub place_of : List Declaration → List ℕ → Option ℕ

@@ -1,5 +1,5 @@
 -- The places of declared names.
-use Rattle.std.proofs.Common.{◌≡◌, ℕ, ◌<◌, Bool, true, false, cond, ltb, List, [], ◌∷◌, length, get_or, slice_get, None, Some, IsTrue, ◌↔◌, refl, sym, ap, ◌∙◌, inl, inr, arith}
+use Rattle.std.proofs.Common.{◌≡◌, ℕ, ◌<◌, Bool, true, false, cond, ltb, List, [], ◌∷◌, length, get_or, slice_get, Option, None, Some, is_some, IsTrue, ◌↔◌, refl, sym, ap, ◌∙◌, inl, inr, arith}
 use Rattle.std.specs.List.{position_or_len}
 use Rattle.std.specs.Str.{str_eq_ignore_ascii_case, str_to_ascii_lowercase}
 use Rattle.std.proofs.lemmas.Bool.{cases_lt}
@@ -7,8 +7,8 @@ use Rattle.std.proofs.lemmas.List.{get_or_default}
 use Rattle.std.proofs.lemmas.Bool.Decides.{nat_tests, same_from_decides}
 use Rattle.std.proofs.lemmas.Slice.Eq.{bytes_eq-Decides}
 use Rattle.std.proofs.lemmas.List.Sums.{position_or_len_is, fails_before_first, passes_at_first}
-use Rattle.variable_binding.specs.declared.declarations.Declaration.{Declaration}
-use Rattle.variable_binding.specs.Names.{place_of, IsDeclared}
+use Rattle.declared_names.specs.declared.declarations.Declaration.{Declaration}
+use Rattle.declared_names.specs.Names.{place_of, IsDeclared}
 use Rattle.std.proofs.lemmas.Option.{get_or_from_slice_get, slice_get-get_or}
 
 -- whether a declaration has the name
@@ -100,3 +100,11 @@ one_name (e ∷ ds) a b k at at' =
     let one = (bytes_eq-Decides (str_to_ascii_lowercase d.name) (str_to_ascii_lowercase a)).0 (place_at (e ∷ ds) a k e at).1 in
     let two = (bytes_eq-Decides (str_to_ascii_lowercase d.name) (str_to_ascii_lowercase b)).0 (place_at (e ∷ ds) b k e at').1 in
     (bytes_eq-Decides (str_to_ascii_lowercase a) (str_to_ascii_lowercase b)).1 (sym one ∙ two)
+
+-- a name has a place exactly if it is declared
+pub found_declared : (ds : List Declaration) (name : List ℕ) → IsTrue (is_some (place_of ds name)) ↔ IsDeclared ds name
+found_declared ds name = by_place (place_of ds name) refl
+  where
+    by_place : (o : Option ℕ) → place_of ds name ≡ o → IsTrue (is_some o) ↔ IsDeclared ds name
+    by_place None e = ((λ no. absurd cc), (λ declared. absurd (declared_place ds name declared e)))
+    by_place (Some k) e = ((λ _. place_declared ds name k e), (λ _. refl))

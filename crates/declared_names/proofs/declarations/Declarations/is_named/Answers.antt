@@ -1,5 +1,5 @@
-use Rattle.variable_binding.proofs.Places.{named_at, slice_get_none}
-use Rattle.variable_binding.proofs.declarations.Declarations.is_named.Goals as goal
+use Rattle.declared_names.proofs.Places.{named_at, slice_get_none}
+use Rattle.declared_names.proofs.declarations.Declarations.is_named.Goals as goal
 
 pub returns-in-Some : goal.returns-in-Some
 returns-in-Some c =

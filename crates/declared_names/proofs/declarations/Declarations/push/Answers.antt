@@ -1,13 +1,13 @@
 use Rattle.std.proofs.Common.{◌≡◌, ◌++◌, [], ◌∷◌, List, ℕ, Vec, Global, None, ap, ◌∙◌, sym, subst}
 use Rattle.std.specs.Map.{values_of}
 use Rattle.std.specs.Str.{str_to_ascii_lowercase}
-use Rattle.variable_binding.specs.declared.declarations.Declaration.{Declaration}
-use Rattle.variable_binding.specs.declared.declarations.Declared.{Declared}
-use Rattle.variable_binding.specs.Steps.Folded.{AreFolded}
-use Rattle.variable_binding.specs.Names.{place_of}
-use Rattle.variable_binding.proofs.FoldedLemmas.{same_key, insert_new, AreFolded-push, values_of-push}
+use Rattle.declared_names.specs.declared.declarations.Declaration.{Declaration}
+use Rattle.declared_names.specs.declared.declarations.Declared.{Declared}
+use Rattle.declared_names.specs.Steps.Folded.{AreFolded}
+use Rattle.declared_names.specs.Names.{place_of}
+use Rattle.declared_names.proofs.FoldedLemmas.{same_key, insert_new, AreFolded-push, values_of-push}
 use Rattle.indexmap.specs.IndexMap.{insert_entry}
-use Rattle.variable_binding.proofs.declarations.Declarations.push.Goals as goal
+use Rattle.declared_names.proofs.declarations.Declarations.push.Goals as goal
 
 -- the entries with one more, and what the list then is
 step : (key : Vec ℕ Global) (name given : List ℕ) (what : Declared) (es new : List (Vec ℕ Global × Declaration)) (ds : List Declaration)

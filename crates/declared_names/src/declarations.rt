@@ -2,7 +2,7 @@ ghost use Rattle.std.specs.Prelude.{◌≡◌, ◌≤◌, IfOk, map, length};
 ghost use Rattle.std.specs.Str.{str_to_ascii_lowercase};
 
 use indexmap::IndexMap;
-use ladder_text::Text;
+use words::Text;
 use std::alloc::{AllocError, Global};
 use std::marker::Model;
 use std_blocks::BlockType;
@@ -58,8 +58,8 @@ pub struct Declarations {
 impl Model for Declarations {
     ghost use Rattle.std.specs.Prelude.{List};
     ghost use Rattle.indexmap.specs.IndexMap.{values};
-    ghost use Rattle.variable_binding.specs.declared.declarations.Declaration.{Declaration};
-    ghost use Rattle.variable_binding.specs.Steps.Folded.{AreFolded};
+    ghost use Rattle.declared_names.specs.declared.declarations.Declaration.{Declaration};
+    ghost use Rattle.declared_names.specs.Steps.Folded.{AreFolded};
 
     ghost Value = { List Declaration };
 
@@ -87,8 +87,8 @@ impl Declarations {
     ghost use Rattle.std.specs.Prelude.{◌≡◌, ◌++◌, [], ◌∷◌, OnOk, OnErr, MatchOption, slice_get, slice_index_or, length, ◌<◌, ◌↔◌, IsTrue, None};
     ghost use Rattle.std.specs.Option.{option_map};
     ghost use Rattle.std.specs.Str.{str_eq_ignore_ascii_case};
-    ghost use Rattle.variable_binding.specs.declared.declarations.Declaration.{Declaration};
-    ghost use Rattle.variable_binding.specs.Names.{place_of, IsDeclared};
+    ghost use Rattle.declared_names.specs.declared.declarations.Declaration.{Declaration};
+    ghost use Rattle.declared_names.specs.Names.{place_of, IsDeclared};
 
     /// No declarations.
     pub fn new(alloc: Global) -> Self
@@ -192,7 +192,7 @@ impl Declarations {
     }
 
     /// Declares a new name at the end.
-    pub(crate) fn push(&mut self, name: &str, declared: Declared) -> Result<(), AllocError>
+    pub fn push(&mut self, name: &str, declared: Declared) -> Result<(), AllocError>
         requires { place_of self.old name.now ≡ None }
         ensures ok { OnOk result (self.new ≡ self.old ++ record { name = name.now; declared = declared } ∷ []) }
         ensures err { OnErr result (self.new ≡ self.old) }

@@ -3,10 +3,10 @@ use Rattle.std.proofs.lemmas.List.{take-append-le, take-map, take_all}
 use Rattle.std.specs.Char.{to_ascii_lowercase}
 use Rattle.std.specs.Map.{keys_of}
 use Rattle.std.specs.Str.{str_to_ascii_lowercase}
-use Rattle.variable_binding.specs.declared.declarations.Declaration.{Declaration}
-use Rattle.variable_binding.specs.Names.{place_of}
-use Rattle.variable_binding.proofs.FoldedLemmas.{is_key, position_folded}
-use Rattle.variable_binding.proofs.declarations.Declarations.look_up.Goals as goal
+use Rattle.declared_names.specs.declared.declarations.Declaration.{Declaration}
+use Rattle.declared_names.specs.Names.{place_of}
+use Rattle.declared_names.proofs.FoldedLemmas.{is_key, position_folded}
+use Rattle.declared_names.proofs.declarations.Declarations.look_up.Goals as goal
 
 pub returns : goal.returns
 returns c =

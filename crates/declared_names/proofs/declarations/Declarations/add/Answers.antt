@@ -1,8 +1,8 @@
 use Rattle.std.proofs.Common.{◌≡◌, ◌∙◌, sym, Option, None, Some, true, false, is_some, ℕ, List}
-use Rattle.variable_binding.specs.Names.{place_of, IsDeclared}
-use Rattle.variable_binding.specs.declared.declarations.Declaration.{Declaration}
-use Rattle.variable_binding.proofs.Places.{declared_place, place_declared}
-use Rattle.variable_binding.proofs.declarations.Declarations.add.Goals as goal
+use Rattle.declared_names.specs.Names.{place_of, IsDeclared}
+use Rattle.declared_names.specs.declared.declarations.Declaration.{Declaration}
+use Rattle.declared_names.proofs.Places.{declared_place, place_declared}
+use Rattle.declared_names.proofs.declarations.Declarations.add.Goals as goal
 
 found : (ds : List Declaration) (name : List ℕ) (o : Option ℕ) → o ≡ place_of ds name → is_some o ≡ true → IsDeclared ds name
 found ds name None at some = absurd cc

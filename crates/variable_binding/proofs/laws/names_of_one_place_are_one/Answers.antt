@@ -1,5 +1,0 @@
-use Rattle.variable_binding.proofs.Places.{one_name}
-use Rattle.variable_binding.proofs.laws.names_of_one_place_are_one.Goals as goal
-
-pub returns : goal.returns
-returns c = one_name
