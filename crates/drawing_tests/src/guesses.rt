@@ -3,7 +3,7 @@
 use crate::checks::equal;
 use ladder_text::Drawing;
 use network::Graph;
-use power_flow::{Declarations, Declared, Kind};
+use power_flow::{Declarations, Declared, Guess, Kind};
 use std::alloc::Global;
 use std::process::Abort;
 use std::test::Fail;

@@ -3,7 +3,7 @@
 use crate::checks::{equal, holds};
 use ladder_text::Drawing;
 use network::Graph;
-use power_flow::{BindFault, BindKind, Declarations, Ladder, State};
+use power_flow::{BindFault, BindKind, Declarations, Guess, Ladder, State};
 use std::alloc::Global;
 use std::process::Abort;
 use std::test::Fail;

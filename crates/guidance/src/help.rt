@@ -2,7 +2,7 @@ ghost use Rattle.std.specs.Prelude.{◌≡◌, ◌++◌, OnOk, IfOk, string_byte
 ghost use Rattle.guidance.specs.Topics.{told_of, of_plant};
 ghost use Rattle.guidance.specs.Helping.{Tells, TellsOf, topic_of};
 
-use crate::declared_names::names_of_a_drawing;
+use crate::drawing_names::names_of_a_drawing;
 use crate::excerpt::{Place, excerpt, line_of, whole_of};
 use crate::mentions::mentions_of;
 use crate::nearest::{beginning, nearest_names};

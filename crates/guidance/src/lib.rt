@@ -2,7 +2,7 @@
 #![tactic(auto)]
 
 mod advice;
-mod declared_names;
+mod drawing_names;
 mod excerpt;
 mod explanation;
 mod help;

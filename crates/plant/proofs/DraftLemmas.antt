@@ -14,8 +14,9 @@ use Rattle.plant_grammar.specs.declared.grammar.tree.Use.{Use}
 use Rattle.plant_grammar.specs.declared.grammar.tree.Item.{Item}
 use Rattle.plant_grammar.specs.declared.grammar.tree.Item.TheVariants as item
 use Rattle.plant_grammar.specs.Names.{is_named}
-use Rattle.plant_grammar.specs.Faultless.{use_of, IsLadderOf}
-use Rattle.plant_grammar.specs.Steps.Reading.{TypeValue}
+use Rattle.plant_grammar.specs.Lawful.{use_of}
+use Rattle.plant.specs.Faultless.{IsLadderOf}
+use Rattle.plant.specs.Steps.Reading.{TypeValue}
 use Rattle.plant.specs.PlantValue.{ProgramValue, CodeValue}
 use Rattle.plant.specs.Steps.Drafts.{programs_in, IsProgramOf, IsPlacedAt, IsOutputAt}
 use Rattle.plant.proofs.NameLemmas.{at_place}

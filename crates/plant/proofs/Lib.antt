@@ -12,4 +12,6 @@ pub mod KnownWords
 pub mod BodyCounts
 pub mod SameCode
 mod PlanLemmas
-pub mod WordFaults
+pub mod FaultLemmas
+pub mod BodyLemmas
+pub mod DrawnLemmas

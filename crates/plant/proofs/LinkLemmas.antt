@@ -24,7 +24,7 @@ use Rattle.plant.specs.declared.sources.feed.Origin.{Origin}
 use Rattle.plant.specs.declared.sources.feed.Origin.TheVariants as origin
 use Rattle.plant.specs.declared.sources.feed.Feed.{Feed}
 use Rattle.plant_grammar.specs.Names.{is_named, AreApart}
-use Rattle.plant_grammar.specs.Faultless.{binds_of}
+use Rattle.plant_grammar.specs.Lawful.{binds_of}
 use Rattle.plant_grammar.specs.Kinds.{input_kind_at, kind_of_space, items_or_none}
 use Rattle.plant.specs.PlantValue.{ProgramValue, CodeValue, PlantValue, image_kinds, outputs_of, source_kind, expected_at, AreOnce, AreDistinct, IsBindingSound, IsSoundCode}
 use Rattle.plant.specs.StandsFor.{IsOrigin, IsSourceOf, firsts, mention}

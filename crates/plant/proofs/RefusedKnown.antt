@@ -4,7 +4,7 @@ use Rattle.std.specs.List.{flat_map}
 use Rattle.std.proofs.lemmas.List.{take-append-drop}
 use Rattle.std.proofs.Math.Seq.{take-append_seam}
 use Rattle.declared_names.specs.declared.declarations.Declaration.{Declaration}
-use Rattle.plant_grammar.specs.declared.plant_fault.PlantFaultKind.{PlantFaultKind}
+use Rattle.plant_grammar.specs.declared.grammar_fault.GrammarFaultKind.{GrammarFaultKind}
 use Rattle.plant_text.specs.declared.token.Token.{Token}
 use Rattle.plant_text.specs.declared.token.Token.TheVariants as token
 use Rattle.plant_text.specs.declared.token.Keyword.TheVariants as key
@@ -22,7 +22,7 @@ use Rattle.plant_text.specs.Lines.{WordValue, body_lines, IsBegunBy}
 use Rattle.plant.proofs.KnownWords.{IsKnown, AreKnown, nothing, key_is, mark_is, name_is, behind, both, all_of, section_is, list_is, block_is, program_is, bind_is, item_is, resource_is}
 use Rattle.plant.proofs.BodyCounts.{map_take}
 
-refused_known : (k : PlantFaultKind) (Taken : List ℕ → Type 0) (full : Type 0) (words : List Token) → IsRefused k Taken full words → AreKnown words
+refused_known : (k : GrammarFaultKind) (Taken : List ℕ → Type 0) (full : Type 0) (words : List Token) → IsRefused k Taken full words → AreKnown words
 refused_known k Taken full words h = subst AreKnown (sym h.alone) (behind (token.Name h.name) [] (name_is h.name) nothing)
 
 after_known : (t : Token) (P : List Token → Type 0) (words : List Token) → IsKnown t → ((w : List Token) → P w → AreKnown w) → IsAfter t P words → AreKnown words
@@ -44,68 +44,68 @@ name_comma_is n = behind (token.Name n) (mark Comma ∷ []) (name_is n) (behind 
 bind_comma_is : (b : Bind) → AreKnown (bind_and_comma b)
 bind_comma_is b = both (bind_words b) (mark Comma ∷ []) (bind_is b) (behind (mark Comma) [] (mark_is Comma) nothing)
 
-variable_known : (k : PlantFaultKind) (before : List Declaration) (words : List Token) → RefusesVariable k before words → AreKnown words
+variable_known : (k : GrammarFaultKind) (before : List Declaration) (words : List Token) → RefusesVariable k before words → AreKnown words
 unfolding RefusesVariable
 variable_known k before words h = behind_known name_and_comma _ words name_comma_is (λ ns w r. refused_known k _ _ w r) h
 
-list_known : (k : PlantFaultKind) (s : Section) (before : List Declaration) (words : List Token) → RefusesList k s before words → AreKnown words
+list_known : (k : GrammarFaultKind) (s : Section) (before : List Declaration) (words : List Token) → RefusesList k s before words → AreKnown words
 unfolding RefusesList
 list_known k s before words h = behind_known list_words _ words list_is (λ ls w r. variable_known k _ w r) h
 
-block_known : (k : PlantFaultKind) (before : List Declaration) (words : List Token) → RefusesBlock k before words → AreKnown words
+block_known : (k : GrammarFaultKind) (before : List Declaration) (words : List Token) → RefusesBlock k before words → AreKnown words
 unfolding RefusesBlock
 block_known k before words (s, h) = after_known (section_word s) (RefusesList k s before) words (section_is s) (λ w r. list_known k s before w r) h
 
-blocks_known : (k : PlantFaultKind) (before : List Declaration) (words : List Token) → RefusesBlocks k before words → AreKnown words
+blocks_known : (k : GrammarFaultKind) (before : List Declaration) (words : List Token) → RefusesBlocks k before words → AreKnown words
 unfolding RefusesBlocks
 blocks_known k before words h = behind_known block_words _ words block_is (λ bs w r. block_known k _ w r) h
 
-program_known : (k : PlantFaultKind) (before : List Program) (words : List Token) → RefusesProgram k before words → AreKnown words
+program_known : (k : GrammarFaultKind) (before : List Program) (words : List Token) → RefusesProgram k before words → AreKnown words
 unfolding RefusesProgram
 program_known k before words h =
     after_known (key_word key.Program) _ words (key_is key.Program) (λ w r. either_known _ _ w (λ n. refused_known k _ _ w n) (λ n. after_name_known (RefusesBlocks k []) w (λ v b. blocks_known k [] v b) n) r) h
 
-task_known : (k : PlantFaultKind) (before : List Item) (words : List Token) → RefusesTask k before words → AreKnown words
+task_known : (k : GrammarFaultKind) (before : List Item) (words : List Token) → RefusesTask k before words → AreKnown words
 unfolding RefusesTask
 task_known k before words h = after_known (key_word key.Task) _ words (key_is key.Task) (λ w r. refused_known k _ _ w r) h
 
-bind_known : (k : PlantFaultKind) (n : ℕ) (words : List Token) → RefusesBind k n words → AreKnown words
+bind_known : (k : GrammarFaultKind) (n : ℕ) (words : List Token) → RefusesBind k n words → AreKnown words
 unfolding RefusesBind
 bind_known k n words h = behind_known bind_and_comma _ words bind_comma_is (λ bs w r. refused_known k _ _ w r) h
 
-binds_known : (k : PlantFaultKind) (n : ℕ) (words : List Token) → RefusesBinds k n words → AreKnown words
+binds_known : (k : GrammarFaultKind) (n : ℕ) (words : List Token) → RefusesBinds k n words → AreKnown words
 unfolding RefusesBinds
 binds_known k n words h =
     after_known (key_word key.With) _ words (key_is key.With) (λ w1 h1. after_name_known _ w1 (λ w2 h2. after_known (mark Colon) _ w2 (mark_is Colon) (λ w3 h3. after_name_known _ w3 (λ w4 h4. after_known (mark Open) _ w4 (mark_is Open) (λ w5 h5. bind_known k n w5 h5) h4) h3) h2) h1) h
 
-instance_known : (k : PlantFaultKind) (i n : ℕ) (before : List Item) (words : List Token) → RefusesInstance k i n before words → AreKnown words
+instance_known : (k : GrammarFaultKind) (i n : ℕ) (before : List Item) (words : List Token) → RefusesInstance k i n before words → AreKnown words
 unfolding RefusesInstance
 instance_known k i n before words h =
     after_known (key_word key.Program) _ words (key_is key.Program) (λ w r. either_known _ _ w (λ m. refused_known k _ _ w m) (λ m. after_name_known (RefusesBinds k n) w (λ v b. binds_known k n v b) m) r) h
 
-items_known : (k : PlantFaultKind) (i n : ℕ) (words : List Token) → RefusesItems k i n words → AreKnown words
+items_known : (k : GrammarFaultKind) (i n : ℕ) (words : List Token) → RefusesItems k i n words → AreKnown words
 unfolding RefusesItems
 items_known k i n words h = behind_known item_words _ words item_is (λ xs w r. either_known _ _ w (λ t. task_known k xs w t) (λ u. instance_known k _ _ xs w u) r) h
 
-resource_known : (k : PlantFaultKind) (i n : ℕ) (before : List Resource) (words : List Token) → RefusesResource k i n before words → AreKnown words
+resource_known : (k : GrammarFaultKind) (i n : ℕ) (before : List Resource) (words : List Token) → RefusesResource k i n before words → AreKnown words
 unfolding RefusesResource
 resource_known k i n before words h =
     after_known (key_word key.Resource) _ words (key_is key.Resource) (λ w r. either_known _ _ w (λ m. refused_known k _ _ w m)
     (λ m. after_name_known _ w (λ w1 h1. after_known (key_word key.On) _ w1 (key_is key.On) (λ w2 h2. after_name_known (RefusesItems k i n) w2 (λ w3 h3. items_known k i n w3 h3) h2) h1) m) r) h
 
-resources_known : (k : PlantFaultKind) (i n : ℕ) (words : List Token) → RefusesResources k i n words → AreKnown words
+resources_known : (k : GrammarFaultKind) (i n : ℕ) (words : List Token) → RefusesResources k i n words → AreKnown words
 unfolding RefusesResources
 resources_known k i n words h = behind_known resource_words _ words resource_is (λ rs w r. resource_known k _ _ rs w r) h
 
 -- none of the words up to a name refused is unknown
-plant_known : (k : PlantFaultKind) (words : List Token) → RefusesPlant k words → AreKnown words
+plant_known : (k : GrammarFaultKind) (words : List Token) → RefusesPlant k words → AreKnown words
 unfolding RefusesPrograms RefusesConfiguration
 plant_known k words (inl h) = behind_known program_words _ words program_is (λ ps w r. program_known k ps w r) h
 plant_known k words (inr h) =
     behind_known program_words _ words program_is (λ ps w r. after_known (key_word key.Configuration) _ w (key_is key.Configuration) (λ w1 h1. after_name_known (RefusesResources k 0 0) w1 (λ w2 h2. resources_known k 0 0 w2 h2) h1) r) h
 
 -- a text that begins with its words, as far as they are words, begins with those up to a name refused
-pub begun_by_refused : (text : List ℕ) (ws : List WordValue) (k : PlantFaultKind) (words : List Token) → IsBegunBy text ws → map (λ (w : WordValue). w.token) ws ≡ words → (b : BeginWith (RefusesPlant k) words)
+pub begun_by_refused : (text : List ℕ) (ws : List WordValue) (k : GrammarFaultKind) (words : List Token) → IsBegunBy text ws → map (λ (w : WordValue). w.token) ws ≡ words → (b : BeginWith (RefusesPlant k) words)
     → (lines : List ℕ) × BeginsWith 1 text b.front lines
 begun_by_refused text ws k words begun is b =
     let front = take (length b.front) ws in

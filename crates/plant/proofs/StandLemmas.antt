@@ -22,7 +22,8 @@ use Rattle.plant_grammar.specs.declared.grammar.tree.Item.TheVariants as item
 use Rattle.plant_grammar.specs.declared.grammar.tree.Resource.{Resource}
 use Rattle.plant_grammar.specs.Grammar.{Tree}
 use Rattle.plant_grammar.specs.Names.{is_named, IsAt}
-use Rattle.plant_grammar.specs.Faultless.{variables, IsLadderOf, tasks_of, use_of, binds_of, IsResourceLawful}
+use Rattle.plant_grammar.specs.Lawful.{variables, tasks_of, use_of, binds_of, IsResourceLawful}
+use Rattle.plant.specs.Faultless.{IsLadderOf}
 use Rattle.plant.specs.PlantValue.{TaskValue, ProgramValue, CodeValue, ResourceValue, PlantValue, code_at, bindings_at, IsSoundPlant, AreProducersOf}
 use Rattle.plant.specs.StandsFor.{runs_in, IsOrigin, IsSourceOf, IsBindingOf, IsCodeOf, IsResourceOf, IsPlantOf, task_value}
 use Rattle.plant.specs.Steps.Drafts.{drafted, IsProgramOf, IsDraftOf, IsResourceDraft, IsReady, IsOnceBound, IsBindingBy, IsLinked, IsResourceLinked, HasPrograms, Triples}

@@ -1,5 +1,8 @@
 pub mod PlantValue
 pub mod StandsFor
+pub mod Faultless
+pub mod Faults
+pub mod BodyFaults
 pub mod PlantText
 pub mod Find
 pub mod OutputNames

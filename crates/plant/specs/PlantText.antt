@@ -1,12 +1,17 @@
 -- The plant that a text is.
-use Rattle.std.specs.Prelude.{ℕ, List, map}
+use Rattle.std.specs.Prelude.{◌≡◌, ◌⊎◌, ℕ, List, map}
 use Rattle.std.specs.List.{flat_map}
 use Rattle.words.specs.Lines.{without_last}
-use Rattle.plant_grammar.specs.declared.plant_fault.PlantFault.{PlantFault}
-use Rattle.plant_grammar.specs.BodyFaults.{TextValue, IsFirstBodyFault}
+use Rattle.plant_text.specs.declared.token.Token.{Token}
+use Rattle.plant_grammar.specs.declared.grammar_fault.GrammarFaultKind.{GrammarFaultKind}
+use Rattle.plant_grammar.specs.NameFaults.{RefusesPrograms, RefusesConfiguration}
+use Rattle.plant.specs.Faults.{kind_of_word}
+use Rattle.plant.specs.declared.plant_fault.PlantFault.{PlantFault}
+use Rattle.plant_grammar.specs.Grammar.{TextValue}
+use Rattle.plant.specs.BodyFaults.{IsFirstBodyFault}
 use Rattle.plant_text.specs.Spelling.{Spells, BeginsWith}
 use Rattle.plant_grammar.specs.Grammar.{Tree, program_words, words_of}
-use Rattle.plant_grammar.specs.Faultless.{IsFaultless}
+use Rattle.plant.specs.Faultless.{IsFaultless}
 use Rattle.plant.specs.PlantValue.{PlantValue}
 use Rattle.plant.specs.StandsFor.{IsPlantOf}
 
@@ -22,3 +27,12 @@ pub record IsBodyFaultIn (text : List ℕ) (fault : PlantFault) : Type 0 where
   pub texts : List TextValue
   pub begun : BeginsWith 1 (without_last 13 text) (flat_map program_words (map (λ (t : TextValue). t.program) texts)) (map (λ (t : TextValue). t.first_line) texts)
   pub first : IsFirstBodyFault texts fault
+
+-- The text begins with these words, the last of which is the name of the fault: what stands before it is as the grammar has it, and its space has the name already or is full.
+pub record IsNameFaultIn (text : List ℕ) (fault : PlantFault) : Type 0 where
+  pub kind : GrammarFaultKind
+  pub kind_is : fault.kind ≡ kind_of_word kind
+  pub words : List Token
+  pub lines : List ℕ
+  pub begun : BeginsWith 1 (without_last 13 text) words lines
+  pub refused : RefusesPrograms kind words ⊎ RefusesConfiguration kind words

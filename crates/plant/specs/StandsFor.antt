@@ -18,7 +18,8 @@ use Rattle.plant_grammar.specs.declared.grammar.tree.Use.{Use}
 use Rattle.plant_grammar.specs.declared.grammar.tree.Resource.{Resource}
 use Rattle.plant_grammar.specs.Grammar.{Tree}
 use Rattle.plant_grammar.specs.Names.{is_named, IsAt}
-use Rattle.plant_grammar.specs.Faultless.{variables, IsLadderOf, tasks_of, uses_of, binds_of}
+use Rattle.plant_grammar.specs.Lawful.{variables, tasks_of, uses_of, binds_of}
+use Rattle.plant.specs.Faultless.{IsLadderOf}
 use Rattle.plant_grammar.specs.Kinds.{input_kind_at}
 use Rattle.plant.specs.PlantValue.{TaskValue, ProgramValue, CodeValue, ResourceValue, PlantValue, bindings_at, source_kind, IsSoundCode, AreProducersOf}
 

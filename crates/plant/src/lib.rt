@@ -2,9 +2,11 @@
 #![tactic(auto)]
 
 mod binding;
+mod bodies;
 mod find;
 mod planning;
 mod plant;
+mod plant_fault;
 mod plant_resource;
 mod program_instance;
 mod read;
@@ -18,7 +20,8 @@ pub use binding::{Binding, Source};
 pub use due_list::{Due, PlanFault, TaskRef, one_plan};
 pub use planning::plan;
 pub use plant::Plant;
-pub use plant_grammar::{BodyFault, PlantFault, PlantFaultKind, kind_of_space};
+pub use plant_fault::{BodyFault, PlantFault, PlantFaultKind};
+pub use plant_grammar::kind_of_space;
 pub use plant_text::{Address, Space};
 pub use task::Task;
 pub use task_code::TaskCode;

@@ -7,7 +7,7 @@ use Rattle.std.proofs.lemmas.List.Folds.{Any-from_list_any, list_any-from_Any, l
 use Rattle.declared_names.specs.declared.declarations.Declaration.{Declaration}
 use Rattle.declared_names.specs.declared.declarations.Declared.{Declared}
 use Rattle.declared_names.specs.Names.{IsDeclared}
-use Rattle.plant_grammar.specs.declared.plant_fault.PlantFaultKind.{PlantFaultKind}
+use Rattle.plant_grammar.specs.declared.grammar_fault.GrammarFaultKind.{GrammarFaultKind}
 use Rattle.plant_grammar.specs.Names.{is_named}
 use Rattle.plant_grammar.specs.NameFaults.{TellsOfName, IsTaken}
 use Rattle.plant_grammar.proofs.Apart.{list_any-map, named_back, any_with}
@@ -36,7 +36,7 @@ declared_apart old d names n some =
     ]
 
 -- what is told of the name at this place of the list
-pub add_refused : (k : PlantFaultKind) (old now : List Declaration) (d : Declared) (names read : List (List ℕ)) (i : ℕ) (n : List ℕ) → read ≡ names → now ≡ old ++ map (λ m. record { name = m; declared = d }) (take i names) → i < length read → n ≡ get_or read i n
+pub add_refused : (k : GrammarFaultKind) (old now : List Declaration) (d : Declared) (names read : List (List ℕ)) (i : ℕ) (n : List ℕ) → read ≡ names → now ≡ old ++ map (λ m. record { name = m; declared = d }) (take i names) → i < length read → n ≡ get_or read i n
     → TellsOfName k (IsDeclared now n) (1000 ≤ length now)
     → (before more : List (List ℕ)) × (name : List ℕ) × (names ≡ before ++ name ∷ more) × TellsOfName k (IsTaken (λ (v : Declaration). v.name) old name ⊎ IsTaken (λ (m : List ℕ). m) before name) (1000 ≤ length old + length before)
 add_refused k old now d names read i n same grown lt is tells =

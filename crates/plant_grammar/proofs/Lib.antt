@@ -2,9 +2,6 @@ pub mod Apart
 pub mod WordLists
 pub mod ItemLemmas
 pub mod TypeLemmas
-pub mod BodyLemmas
-pub mod DrawnLemmas
-pub mod FaultLemmas
 pub mod RefusedNames
 pub mod RefusedPlaces
 pub mod AddedNames

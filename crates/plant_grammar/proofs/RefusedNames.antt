@@ -3,31 +3,30 @@ use Rattle.std.proofs.Common.{◌≡◌, inl, inr, ℕ, ◌<◌, List, [], ◌�
 use Rattle.std.specs.List.{flat_map}
 use Rattle.std.specs.Result.{IsErrAnd}
 use Rattle.std.proofs.lemmas.List.Concat.{flat_map-cons}
-use Rattle.plant_grammar.specs.declared.plant_fault.PlantFault.{PlantFault}
-use Rattle.plant_grammar.specs.declared.plant_fault.PlantFaultKind.{PlantFaultKind}
-use Rattle.plant_grammar.specs.declared.plant_fault.PlantFaultKind.TheVariants as kind
+use Rattle.plant_grammar.specs.declared.grammar_fault.GrammarFault.{GrammarFault}
+use Rattle.plant_grammar.specs.declared.grammar_fault.GrammarFaultKind.{GrammarFaultKind}
+use Rattle.plant_grammar.specs.declared.grammar_fault.GrammarFaultKind.TheVariants as kind
 use Rattle.plant_text.specs.declared.token.Token.{Token}
 use Rattle.plant_text.specs.declared.token.Token.TheVariants as token
 use Rattle.plant_text.specs.declared.token.Punctuation.TheVariants.{Comma}
 use Rattle.plant_grammar.specs.declared.grammar.tree.Bind.{Bind}
 use Rattle.plant_grammar.specs.Grammar.{mark, name_words, bind_words, with_commas}
-use Rattle.plant_grammar.specs.Faults.{IsPlantFault}
-use Rattle.plant_grammar.specs.Steps.WordFaults.{IsWordFault}
+use Rattle.plant_grammar.specs.WordFaults.{IsWordFault}
 use Rattle.plant_grammar.specs.NameFaults.{IsOfName, TellsOfName, IsTaken, IsRefused, IsAfter, IsAfterName, IsBehind, name_and_comma, bind_and_comma}
 use Rattle.plant_grammar.specs.Steps.Declaring.{RepeatsName, IsNameNext, BeginWith}
 
 -- a fault that tells of no name
-pub no_name : (fault : PlantFault) → TellsOfName fault.kind ⊥ ⊥ → IsOfName fault.kind → ⊥
+pub no_name : (fault : GrammarFault) → TellsOfName fault.kind ⊥ ⊥ → IsOfName fault.kind → ⊥
 no_name fault tells (inl e) = subst (λ k. TellsOfName k ⊥ ⊥) e tells
 no_name fault tells (inr e) = subst (λ k. TellsOfName k ⊥ ⊥) e tells
 
 -- want of memory tells of no name
-pub memory_no_name : (fault : PlantFault) → fault.kind ≡ kind.Memory → IsOfName fault.kind → ⊥
+pub memory_no_name : (fault : GrammarFault) → fault.kind ≡ kind.Memory → IsOfName fault.kind → ⊥
 memory_no_name fault m (inl e) = absurd cc
 memory_no_name fault m (inr e) = absurd cc
 
 -- a name that is refused stands next
-pub name_next : (k : PlantFaultKind) (words : List Token) (Taken : List ℕ → Type 0) (full : Type 0) (Twice : Type 0)
+pub name_next : (k : GrammarFaultKind) (words : List Token) (Taken : List ℕ → Type 0) (full : Type 0) (Twice : Type 0)
     → (Twice → (name : List ℕ) × (rest : List Token) × (words ≡ token.Name name ∷ rest) × Taken name)
     → TellsOfName k Twice (IsNameNext words × full) → IsOfName k → BeginWith (IsRefused k Taken full) words
 name_next k words Taken full Twice two tells (inl e) =
@@ -49,7 +48,7 @@ name_next k words Taken full Twice two tells (inr e) =
     }
 
 -- a name that is refused stands next, and one of these has it
-pub name_repeated : {A : Type 0} (k : PlantFaultKind) (words : List Token) (name_of : A → List ℕ) (xs : List A) (full : Type 0)
+pub name_repeated : {A : Type 0} (k : GrammarFaultKind) (words : List Token) (name_of : A → List ℕ) (xs : List A) (full : Type 0)
     → TellsOfName k (RepeatsName name_of xs words) (IsNameNext words × full) → IsOfName k → BeginWith (IsRefused k (IsTaken name_of xs) full) words
 name_repeated k words name_of xs full tells of = name_next k words (IsTaken name_of xs) full (RepeatsName name_of xs words) (λ r. r) tells of
 
@@ -103,16 +102,13 @@ binds_and_commas (b ∷ c ∷ bs) rest some =
     ∙ ap (λ ws. ws ++ rest) (sym (flat_map-cons bind_and_comma b (c ∷ bs)))
 
 -- want of memory tells of no name, whatever a name is refused for
-pub memory_result : {T : Type 0} (P : PlantFault → Type 0) (r : Result T PlantFault) → IsErrAnd r (λ fault. (fault.kind ≡ kind.Memory) × IsPlantFault fault × IsWordFault fault) → IfErr r (λ f. IsOfName f.kind → P f)
+pub memory_result : {T : Type 0} (P : GrammarFault → Type 0) (r : Result T GrammarFault) → IsErrAnd r (λ fault. (fault.kind ≡ kind.Memory) × IsWordFault fault) → IfErr r (λ f. IsOfName f.kind → P f)
 memory_result P (Ok x) h = tt
 memory_result P (Err fault) h = λ of. absurd (memory_no_name fault h.0 of)
 
 -- more that each of the two kinds tells
-pub tells_with : (k : PlantFaultKind) (twice full twice_too full_too : Type 0) → (twice → twice_too) → (full → full_too) → TellsOfName k twice full → TellsOfName k twice_too full_too
+pub tells_with : (k : GrammarFaultKind) (twice full twice_too full_too : Type 0) → (twice → twice_too) → (full → full_too) → TellsOfName k twice full → TellsOfName k twice_too full_too
 tells_with kind.Syntax a b c d f g h = tt
-tells_with kind.Drawing a b c d f g h = tt
-tells_with kind.Graph a b c d f g h = tt
-tells_with kind.Bind a b c d f g h = tt
 tells_with kind.NameTwice a b c d f g h = f h
 tells_with kind.UnknownName a b c d f g h = tt
 tells_with kind.WrongKind a b c d f g h = tt
@@ -121,7 +117,7 @@ tells_with kind.TooMany a b c d f g h = g h
 tells_with kind.Memory a b c d f g h = tt
 
 -- what is told of the name that stands next
-pub tells_next : {A : Type 0} (k : PlantFaultKind) (name_of : A → List ℕ) (xs : List A) (name : List ℕ) (words rest : List Token) (twice full many : Type 0) → words ≡ token.Name name ∷ rest → (twice → IsTaken name_of xs name) → (full → many)
+pub tells_next : {A : Type 0} (k : GrammarFaultKind) (name_of : A → List ℕ) (xs : List A) (name : List ℕ) (words rest : List Token) (twice full many : Type 0) → words ≡ token.Name name ∷ rest → (twice → IsTaken name_of xs name) → (full → many)
     → TellsOfName k twice full → TellsOfName k (RepeatsName name_of xs words) (IsNameNext words × many)
 tells_next k name_of xs name words rest twice full many e is_taken is_full tells =
     tells_with k twice full (RepeatsName name_of xs words) (IsNameNext words × many) (λ t. (name, rest, e, is_taken t)) (λ f. ((name, rest, e), is_full f)) tells

@@ -2,7 +2,7 @@
 use Rattle.std.proofs.Common.{◌≡◌, ◌⊎◌, inl, inr, ℕ, ◌+◌, ◌<◌, ◌≤◌, List, [], ◌∷◌, ◌++◌, length, refl, sym, ap, subst, ◌∙◌, arith}
 use Rattle.std.specs.List.{flat_map}
 use Rattle.declared_names.specs.declared.declarations.Declaration.{Declaration}
-use Rattle.plant_grammar.specs.declared.plant_fault.PlantFaultKind.{PlantFaultKind}
+use Rattle.plant_grammar.specs.declared.grammar_fault.GrammarFaultKind.{GrammarFaultKind}
 use Rattle.plant_text.specs.declared.token.Token.{Token}
 use Rattle.plant_text.specs.declared.token.Token.TheVariants as token
 use Rattle.plant_text.specs.declared.token.Keyword.TheVariants as key
@@ -17,7 +17,7 @@ use Rattle.plant_grammar.specs.declared.grammar.tree.Use.{Use}
 use Rattle.plant_grammar.specs.declared.grammar.tree.Item.{Item}
 use Rattle.plant_grammar.specs.declared.grammar.tree.Resource.{Resource}
 use Rattle.plant_grammar.specs.Grammar.{key_word, mark, section_word, name_words, list_words, block_words, program_words, with_commas, item_words, resource_words}
-use Rattle.plant_grammar.specs.Faultless.{list_variables, block_variables, task_of, use_of, uses_of}
+use Rattle.plant_grammar.specs.Lawful.{list_variables, block_variables, task_of, use_of, uses_of}
 use Rattle.plant_grammar.specs.NameFaults.{IsOfName, TellsOfName, IsTaken, IsRefused, IsAfter, IsAfterName, name_and_comma, bind_and_comma, RefusesVariable, RefusesList, RefusesBlock, RefusesBlocks, RefusesProgramName, RefusesProgram, RefusesPrograms, RefusesTask, RefusesBind, RefusesBinds, RefusesInstanceName, RefusesInstance, RefusesItems, RefusesResourceName, RefusesResource, RefusesResources, RefusesConfiguration}
 use Rattle.plant_grammar.specs.Steps.Declaring.{RepeatsName, IsNameNext, BeginWith, RefusesItem}
 use Rattle.plant_grammar.specs.Steps.ReadParts.{TallyValue, tally_with}
@@ -39,7 +39,7 @@ two_ways before names words (inl r) = (r.0, r.1, r.2, inl r.3)
 two_ways before names words (inr r) = (r.0, r.1, r.2, inr r.3)
 
 -- a variable behind the names of its list
-pub variable_refused : (k : PlantFaultKind) (before : List Declaration) (names : List (List ℕ)) (start now : List Token) → start ≡ flat_map name_and_comma names ++ now
+pub variable_refused : (k : GrammarFaultKind) (before : List Declaration) (names : List (List ℕ)) (start now : List Token) → start ≡ flat_map name_and_comma names ++ now
     → TellsOfName k (RepeatsName (λ (v : Declaration). v.name) before now ⊎ RepeatsName (λ (m : List ℕ). m) names now) (IsNameNext now × (1000 ≤ length before + length names)) → IsOfName k → BeginWith (RefusesVariable k before) start
 unfolding RefusesVariable
 variable_refused k before names start now e tells of =
@@ -47,17 +47,17 @@ variable_refused k before names start now e tells of =
     (name_next k now (taken_of before names) (1000 ≤ length before + length names) (RepeatsName (λ (v : Declaration). v.name) before now ⊎ RepeatsName (λ (m : List ℕ). m) names now) (two_ways before names now) tells of)
 
 -- the first name of a list
-pub first_variable : (k : PlantFaultKind) (before : List Declaration) (names : List (List ℕ)) (start : List Token) → names ≡ []
+pub first_variable : (k : GrammarFaultKind) (before : List Declaration) (names : List (List ℕ)) (start : List Token) → names ≡ []
     → TellsOfName k (RepeatsName (λ (v : Declaration). v.name) before start ⊎ RepeatsName (λ (m : List ℕ). m) names start) (IsNameNext start × (1000 ≤ length before + length names)) → IsOfName k → BeginWith (RefusesVariable k before) start
 first_variable k before names start none tells of = variable_refused k before names start start (ap (λ (ns : List (List ℕ)). flat_map name_and_comma ns ++ start) (sym none)) tells of
 
 -- a further name of a list
-pub next_variable : (k : PlantFaultKind) (before : List Declaration) (names : List (List ℕ)) (start now mid : List Token) → 0 < length names → start ≡ name_words names ++ now → now ≡ mark Comma ∷ mid
+pub next_variable : (k : GrammarFaultKind) (before : List Declaration) (names : List (List ℕ)) (start now mid : List Token) → 0 < length names → start ≡ name_words names ++ now → now ≡ mark Comma ∷ mid
     → TellsOfName k (RepeatsName (λ (v : Declaration). v.name) before mid ⊎ RepeatsName (λ (m : List ℕ). m) names mid) (IsNameNext mid × (1000 ≤ length before + length names)) → IsOfName k → BeginWith (RefusesVariable k before) start
 next_variable k before names start now mid some h1 h2 tells of = variable_refused k before names start mid (h1 ∙ ap (λ r. name_words names ++ r) h2 ∙ names_and_commas names mid some) tells of
 
 -- a name of a list that was read whole
-pub listed_variable : (k : PlantFaultKind) (before : List Declaration) (all names more : List (List ℕ)) (n : List ℕ) (start now : List Token) → all ≡ names ++ n ∷ more → start ≡ name_words all ++ now
+pub listed_variable : (k : GrammarFaultKind) (before : List Declaration) (all names more : List (List ℕ)) (n : List ℕ) (start now : List Token) → all ≡ names ++ n ∷ more → start ≡ name_words all ++ now
     → TellsOfName k (taken_of before names n) (1000 ≤ length before + length names) → BeginWith (RefusesVariable k before) start
 unfolding RefusesVariable
 listed_variable k before all names more n start now is e tells =
@@ -67,27 +67,27 @@ listed_variable k before all names more n start now is e tells =
     (record { front = token.Name n ∷ []; rest = found.0; parts = refl; holds = record { name = n; alone = refl; told = tells } })
 
 -- a list behind others of its block
-pub list_refused : (k : PlantFaultKind) (s : Section) (before now_declared : List Declaration) (lists : List NameList) (start now : List Token) → start ≡ flat_map list_words lists ++ now → now_declared ≡ before ++ flat_map (list_variables s) lists
+pub list_refused : (k : GrammarFaultKind) (s : Section) (before now_declared : List Declaration) (lists : List NameList) (start now : List Token) → start ≡ flat_map list_words lists ++ now → now_declared ≡ before ++ flat_map (list_variables s) lists
     → BeginWith (RefusesVariable k now_declared) now → BeginWith (RefusesList k s before) start
 unfolding RefusesList
 list_refused k s before now_declared lists start now e declared b =
     begin_behind list_words (λ (ls : List NameList) more. RefusesVariable k (before ++ flat_map (list_variables s) ls) more) lists start now e (subst (λ ds. BeginWith (RefusesVariable k ds) now) declared b)
 
 -- a block up to a name refused
-pub in_block : (k : PlantFaultKind) (s : Section) (before : List Declaration) (start now : List Token) → start ≡ section_word s ∷ now → BeginWith (RefusesList k s before) now → BeginWith (RefusesBlock k before) start
+pub in_block : (k : GrammarFaultKind) (s : Section) (before : List Declaration) (start now : List Token) → start ≡ section_word s ∷ now → BeginWith (RefusesList k s before) now → BeginWith (RefusesBlock k before) start
 unfolding RefusesBlock
 in_block k s before start now e b =
     begin_with (IsAfter (section_word s) (RefusesList k s before)) (λ w. (t : Section) × IsAfter (section_word t) (RefusesList k t before) w) start (λ front h. (s, h)) (begin_after (section_word s) (RefusesList k s before) start now e b)
 
 -- a block behind others of its program
-pub block_refused : (k : PlantFaultKind) (before now_declared : List Declaration) (blocks : List VarBlock) (start now : List Token) → start ≡ flat_map block_words blocks ++ now → now_declared ≡ before ++ flat_map block_variables blocks
+pub block_refused : (k : GrammarFaultKind) (before now_declared : List Declaration) (blocks : List VarBlock) (start now : List Token) → start ≡ flat_map block_words blocks ++ now → now_declared ≡ before ++ flat_map block_variables blocks
     → BeginWith (RefusesBlock k now_declared) now → BeginWith (RefusesBlocks k before) start
 unfolding RefusesBlocks
 block_refused k before now_declared blocks start now e declared b =
     begin_behind block_words (λ (bs : List VarBlock) more. RefusesBlock k (before ++ flat_map block_variables bs) more) blocks start now e (subst (λ ds. BeginWith (RefusesBlock k ds) now) declared b)
 
 -- a program up to its name
-pub program_named : (k : PlantFaultKind) (before : List Program) (start now : List Token) → start ≡ key_word key.Program ∷ now
+pub program_named : (k : GrammarFaultKind) (before : List Program) (start now : List Token) → start ≡ key_word key.Program ∷ now
     → TellsOfName k (RepeatsName (λ (p : Program). p.name) before now) (IsNameNext now × (64 ≤ length before)) → IsOfName k → BeginWith (RefusesProgram k before) start
 unfolding RefusesProgram
 program_named k before start now e tells of =
@@ -95,7 +95,7 @@ program_named k before start now e tells of =
     (begin_left (RefusesProgramName k before) (IsAfterName (RefusesBlocks k [])) now (name_repeated k now (λ (p : Program). p.name) before (64 ≤ length before) tells of))
 
 -- a program up to a variable
-pub in_program : (k : PlantFaultKind) (before : List Program) (n : List ℕ) (declared : List Declaration) (start one two : List Token) → start ≡ key_word key.Program ∷ one → one ≡ token.Name n ∷ two → declared ≡ []
+pub in_program : (k : GrammarFaultKind) (before : List Program) (n : List ℕ) (declared : List Declaration) (start one two : List Token) → start ≡ key_word key.Program ∷ one → one ≡ token.Name n ∷ two → declared ≡ []
     → BeginWith (RefusesBlocks k declared) two → BeginWith (RefusesProgram k before) start
 unfolding RefusesProgram
 in_program k before n declared start one two h1 h2 none b =
@@ -103,19 +103,19 @@ in_program k before n declared start one two h1 h2 none b =
     (begin_right (RefusesProgramName k before) (IsAfterName (RefusesBlocks k [])) one (begin_after_name n (RefusesBlocks k []) one two h2 (subst (λ ds. BeginWith (RefusesBlocks k ds) two) none b)))
 
 -- a program behind others
-pub program_refused : (k : PlantFaultKind) (programs : List Program) (start now : List Token) → start ≡ flat_map program_words programs ++ now → BeginWith (RefusesProgram k programs) now → BeginWith (RefusesPrograms k) start
+pub program_refused : (k : GrammarFaultKind) (programs : List Program) (start now : List Token) → start ≡ flat_map program_words programs ++ now → BeginWith (RefusesProgram k programs) now → BeginWith (RefusesPrograms k) start
 unfolding RefusesPrograms
 program_refused k programs start now e b = begin_behind program_words (λ (ps : List Program) more. RefusesProgram k ps more) programs start now e b
 
 -- a task up to its name
-pub task_refused : (k : PlantFaultKind) (before : List Item) (start now : List Token) → start ≡ key_word key.Task ∷ now
+pub task_refused : (k : GrammarFaultKind) (before : List Item) (start now : List Token) → start ≡ key_word key.Task ∷ now
     → TellsOfName k (RepeatsName (λ (t : TaskLine). t.name) (flat_map task_of before) now) (IsNameNext now × (16 ≤ length (flat_map task_of before))) → IsOfName k → BeginWith (RefusesTask k before) start
 unfolding RefusesTask
 task_refused k before start now e tells of = let tasks = flat_map task_of before in
     begin_after (key_word key.Task) (IsRefused k (IsTaken (λ (t : TaskLine). t.name) tasks) (16 ≤ length tasks)) start now e (name_repeated k now (λ (t : TaskLine). t.name) tasks (16 ≤ length tasks) tells of)
 
 -- a bind behind others of its instance
-bind_refused : (k : PlantFaultKind) (n m : ℕ) (binds : List Bind) (start now : List Token) → start ≡ flat_map bind_and_comma binds ++ now → n ≡ m + length binds
+bind_refused : (k : GrammarFaultKind) (n m : ℕ) (binds : List Bind) (start now : List Token) → start ≡ flat_map bind_and_comma binds ++ now → n ≡ m + length binds
     → TellsOfName k ⊥ (IsNameNext now × (4096 ≤ n)) → IsOfName k → BeginWith (RefusesBind k m) start
 unfolding RefusesBind
 bind_refused k n m binds start now e many tells of =
@@ -123,20 +123,20 @@ bind_refused k n m binds start now e many tells of =
     (name_next k now (λ name. ⊥) (4096 ≤ m + length binds) ⊥ (λ no. absurd no) (subst (λ (j : ℕ). TellsOfName k ⊥ (IsNameNext now × (4096 ≤ j))) many tells) of)
 
 -- the first bind of an instance
-pub first_bind : (k : PlantFaultKind) (m : ℕ) (start : List Token) → TellsOfName k ⊥ (IsNameNext start × (4096 ≤ m)) → IsOfName k → BeginWith (RefusesBind k m) start
+pub first_bind : (k : GrammarFaultKind) (m : ℕ) (start : List Token) → TellsOfName k ⊥ (IsNameNext start × (4096 ≤ m)) → IsOfName k → BeginWith (RefusesBind k m) start
 first_bind k m start tells of = bind_refused k m m [] start start refl (omega arith) tells of
 
 -- a further bind of an instance
-pub next_bind : (k : PlantFaultKind) (n m : ℕ) (binds : List Bind) (start now mid : List Token) → 0 < length binds → start ≡ with_commas binds ++ now → now ≡ mark Comma ∷ mid → n ≡ m + length binds
+pub next_bind : (k : GrammarFaultKind) (n m : ℕ) (binds : List Bind) (start now mid : List Token) → 0 < length binds → start ≡ with_commas binds ++ now → now ≡ mark Comma ∷ mid → n ≡ m + length binds
     → TellsOfName k ⊥ (IsNameNext mid × (4096 ≤ n)) → IsOfName k → BeginWith (RefusesBind k m) start
 next_bind k n m binds start now mid some h1 h2 many tells of = bind_refused k n m binds start mid (h1 ∙ ap (λ r. with_commas binds ++ r) h2 ∙ binds_and_commas binds mid some) many tells of
 
 -- the parenthesis before the binds
-pub in_binds : (k : PlantFaultKind) (m : ℕ) (start now : List Token) → start ≡ mark Open ∷ now → BeginWith (RefusesBind k m) now → BeginWith (IsAfter (mark Open) (RefusesBind k m)) start
+pub in_binds : (k : GrammarFaultKind) (m : ℕ) (start now : List Token) → start ≡ mark Open ∷ now → BeginWith (RefusesBind k m) now → BeginWith (IsAfter (mark Open) (RefusesBind k m)) start
 in_binds k m start now e b = begin_after (mark Open) (RefusesBind k m) start now e b
 
 -- an instance up to its name
-pub instance_named : (k : PlantFaultKind) (i m : ℕ) (before : List Item) (start now : List Token) → start ≡ key_word key.Program ∷ now
+pub instance_named : (k : GrammarFaultKind) (i m : ℕ) (before : List Item) (start now : List Token) → start ≡ key_word key.Program ∷ now
     → TellsOfName k (RepeatsName (λ (u : Use). u.instance) (flat_map use_of before) now) (IsNameNext now × (64 ≤ i)) → IsOfName k → BeginWith (RefusesInstance k i m before) start
 unfolding RefusesInstance
 instance_named k i m before start now e tells of =
@@ -144,7 +144,7 @@ instance_named k i m before start now e tells of =
     (begin_left (RefusesInstanceName k i before) (IsAfterName (RefusesBinds k m)) now (name_repeated k now (λ (u : Use). u.instance) (flat_map use_of before) (64 ≤ i) tells of))
 
 -- an instance up to one of its binds
-pub in_instance : (k : PlantFaultKind) (i m n : ℕ) (before : List Item) (name task type : List ℕ) (start one two three four five six : List Token)
+pub in_instance : (k : GrammarFaultKind) (i m n : ℕ) (before : List Item) (name task type : List ℕ) (start one two three four five six : List Token)
     → start ≡ key_word key.Program ∷ one → one ≡ token.Name name ∷ two → two ≡ key_word key.With ∷ three → three ≡ token.Name task ∷ four → four ≡ mark Colon ∷ five → five ≡ token.Name type ∷ six → n ≡ m
     → BeginWith (IsAfter (mark Open) (RefusesBind k n)) six → BeginWith (RefusesInstance k i m before) start
 unfolding RefusesInstance RefusesBinds
@@ -159,14 +159,14 @@ in_instance k i m n before name task type start one two three four five six h1 h
     (begin_after_name type binds five six h6 (subst (λ (j : ℕ). BeginWith (IsAfter (mark Open) (RefusesBind k j)) six) same b)))))))
 
 -- a line of a resource behind others
-pub item_refused : (k : PlantFaultKind) (old tally : TallyValue) (items : List Item) (start now : List Token) → start ≡ flat_map item_words items ++ now → tally ≡ tally_with old (flat_map use_of items)
+pub item_refused : (k : GrammarFaultKind) (old tally : TallyValue) (items : List Item) (start now : List Token) → start ≡ flat_map item_words items ++ now → tally ≡ tally_with old (flat_map use_of items)
     → BeginWith (RefusesItem tally items k) now → BeginWith (RefusesItems k old.instances old.binds) start
 unfolding RefusesItems
 item_refused k old tally items start now e counted b =
     begin_behind item_words (λ (xs : List Item) more. RefusesItem (tally_with old (flat_map use_of xs)) xs k more) items start now e (subst (λ t. BeginWith (RefusesItem t items k) now) counted b)
 
 -- a resource up to its name
-pub resource_named : (k : PlantFaultKind) (i m : ℕ) (before : List Resource) (start now : List Token) → start ≡ key_word key.Resource ∷ now
+pub resource_named : (k : GrammarFaultKind) (i m : ℕ) (before : List Resource) (start now : List Token) → start ≡ key_word key.Resource ∷ now
     → TellsOfName k (RepeatsName (λ (r : Resource). r.name) before now) (IsNameNext now × (16 ≤ length before)) → IsOfName k → BeginWith (RefusesResource k i m before) start
 unfolding RefusesResource
 resource_named k i m before start now e tells of =
@@ -175,7 +175,7 @@ resource_named k i m before start now e tells of =
     (begin_left (RefusesResourceName k before) inside now (name_repeated k now (λ (r : Resource). r.name) before (16 ≤ length before) tells of))
 
 -- a resource up to a name in one of its lines
-pub in_resource : (k : PlantFaultKind) (i m : ℕ) (before : List Resource) (name node : List ℕ) (start one two three four : List Token)
+pub in_resource : (k : GrammarFaultKind) (i m : ℕ) (before : List Resource) (name node : List ℕ) (start one two three four : List Token)
     → start ≡ key_word key.Resource ∷ one → one ≡ token.Name name ∷ two → two ≡ key_word key.On ∷ three → three ≡ token.Name node ∷ four
     → BeginWith (RefusesItems k i m) four → BeginWith (RefusesResource k i m before) start
 unfolding RefusesResource
@@ -187,7 +187,7 @@ in_resource k i m before name node start one two three four h1 h2 h3 h4 b =
     (begin_after_name name (IsAfter (key_word key.On) (IsAfterName items)) one two h2 (begin_after (key_word key.On) (IsAfterName items) two three h3 (begin_after_name node items three four h4 b))))
 
 -- a resource behind others
-pub resource_refused : (k : PlantFaultKind) (old tally : TallyValue) (rs : List Resource) (start now : List Token) → start ≡ flat_map resource_words rs ++ now → tally ≡ tally_with old (flat_map uses_of rs)
+pub resource_refused : (k : GrammarFaultKind) (old tally : TallyValue) (rs : List Resource) (start now : List Token) → start ≡ flat_map resource_words rs ++ now → tally ≡ tally_with old (flat_map uses_of rs)
     → BeginWith (RefusesResource k tally.instances tally.binds rs) now → BeginWith (RefusesResources k old.instances old.binds) start
 unfolding RefusesResources
 resource_refused k old tally rs start now e counted b =
@@ -195,7 +195,7 @@ resource_refused k old tally rs start now e counted b =
     (subst (λ (t : TallyValue). BeginWith (RefusesResource k t.instances t.binds rs) now) counted b)
 
 -- a configuration up to a name in one of its resources
-pub in_configuration : (k : PlantFaultKind) (programs : List Program) (name : List ℕ) (tally : TallyValue) (start one two three : List Token) → start ≡ flat_map program_words programs ++ one → one ≡ key_word key.Configuration ∷ two → two ≡ token.Name name ∷ three
+pub in_configuration : (k : GrammarFaultKind) (programs : List Program) (name : List ℕ) (tally : TallyValue) (start one two three : List Token) → start ≡ flat_map program_words programs ++ one → one ≡ key_word key.Configuration ∷ two → two ≡ token.Name name ∷ three
     → tally ≡ record { instances = 0; binds = 0 } → BeginWith (RefusesResources k tally.instances tally.binds) three → BeginWith (RefusesConfiguration k) start
 unfolding RefusesConfiguration
 in_configuration k programs name tally start one two three h1 h2 h3 none b =

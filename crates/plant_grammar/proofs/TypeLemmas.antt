@@ -2,16 +2,16 @@
 use Rattle.std.proofs.Common.{◌≡◌, ℕ, ◌<◌, ◌++◌, length, arith, ◌||◌, ◌↔◌, Bool, true, false, IsTrue, List, [], ◌∷◌, map, cond, Option, Some, is_some, refl, sym, ap, ◌∙◌}
 use Rattle.std.proofs.lemmas.List.{map-append}
 use Rattle.std.proofs.lemmas.List.Folds.{Any-from_list_any, list_any-from_Any}
-use Rattle.std.specs.Prelude.{All, Any}
-use Rattle.std.proofs.lemmas.List.Elements.{All-nil, All-cons, All-head, All-tail}
+use Rattle.std.specs.Prelude.{Any}
+use Rattle.std.proofs.lemmas.List.Elements.{All-nil}
 use Rattle.std.specs.List.{list_any, find}
 use Rattle.plant_grammar.specs.declared.grammar.tree.Program.{Program}
-use Rattle.plant_grammar.specs.Faultless.{IsProgramLawful, IsLadderOf}
+use Rattle.plant_grammar.specs.Lawful.{IsProgramLawful}
 use Rattle.plant_grammar.specs.Names.{is_named}
-use Rattle.plant_grammar.specs.Steps.ReadParts.{IsNew, IsProgramDeclared, AreProgramsDeclared}
+use Rattle.plant_grammar.specs.Steps.ReadParts.{IsNew, AreProgramsDeclared}
 use Rattle.plant_grammar.proofs.Apart.{list_any-map, apart_more, apart_none}
 use Rattle.plant_grammar.proofs.WordLists.{all_more, grown}
-use Rattle.plant_grammar.specs.Steps.Reading.{TypeValue}
+use Rattle.plant_grammar.specs.Grammar.{TextValue}
 
 either : {A : Type 0} (b : Bool) (x : A) (r : Option A) (s : Bool) → is_some r ≡ s → is_some (cond b (Some x) r) ≡ (b || s)
 either true x r s e = refl
@@ -32,41 +32,26 @@ found_any_of f p xs =
     ((λ some. Any-from_list_any p (map f xs) (list_any-map f p xs ∙ sym is ∙ some)), (λ any. is ∙ sym (list_any-map f p xs) ∙ list_any-from_Any p (map f xs) any))
 
 -- a type that was found is one of the programs
-pub known_type : (types : List TypeValue) (name : List ℕ) (t : TypeValue) → find (λ (t : TypeValue). is_named name t.program.name) types ≡ Some t → Any (λ p. IsTrue (is_named name p.name)) (map (λ (t : TypeValue). t.program) types)
+pub known_type : (types : List TextValue) (name : List ℕ) (t : TextValue) → find (λ (t : TextValue). is_named name t.program.name) types ≡ Some t → Any (λ p. IsTrue (is_named name p.name)) (map (λ (t : TextValue). t.program) types)
 known_type types name t at =
-    let is : TypeValue → Bool = λ t. is_named name t.program.name in
-    Any-from_list_any (λ p. is_named name p.name) (map (λ (t : TypeValue). t.program) types)
-    (list_any-map (λ (t : TypeValue). t.program) (λ p. is_named name p.name) types ∙ sym (found_is is types) ∙ ap is_some at)
+    let is : TextValue → Bool = λ t. is_named name t.program.name in
+    Any-from_list_any (λ p. is_named name p.name) (map (λ (t : TextValue). t.program) types)
+    (list_any-map (λ (t : TextValue). t.program) (λ p. is_named name p.name) types ∙ sym (found_is is types) ∙ ap is_some at)
 
 pub map-grown : {A B : Type 0} (f : A → B) (xs ys : List A) (y : A) → ys ≡ xs ++ y ∷ [] → map f ys ≡ map f xs ++ f y ∷ []
 map-grown f xs ys y e = ap (λ zs. map f zs) e ∙ map-append f xs (y ∷ [])
 
 -- a program was read
-pub programs_more : (ps qs : List Program) (p : Program) → qs ≡ ps ++ p ∷ [] → AreProgramsDeclared ps → IsNew (λ (p : Program). p.name) ps p.name → length ps < 64 → IsProgramDeclared p → AreProgramsDeclared qs
+pub programs_more : (ps qs : List Program) (p : Program) → qs ≡ ps ++ p ∷ [] → AreProgramsDeclared ps → IsNew (λ (p : Program). p.name) ps p.name → length ps < 64 → IsProgramLawful p → AreProgramsDeclared qs
 programs_more ps qs p longer before new few last = record {
   few = omega (arith, few, grown ps qs p longer);
   apart = apart_more (λ (p : Program). p.name) ps qs p longer before.apart new;
-  declared = all_more IsProgramDeclared ps qs p longer before.declared last;
+  declared = all_more IsProgramLawful ps qs p longer before.declared last;
 }
 
 pub no_programs : AreProgramsDeclared []
 no_programs = record {
   few = omega arith;
   apart = apart_none;
-  declared = All-nil IsProgramDeclared;
+  declared = All-nil IsProgramLawful;
 }
-
--- programs whose bodies are drawn are lawful
-pub lawful_drawn : (types : List TypeValue) → All IsProgramDeclared (map (λ (t : TypeValue). t.program) types) → All (λ (t : TypeValue). IsLadderOf t.program t.ladder) types → All IsProgramLawful (map (λ (t : TypeValue). t.program) types)
-lawful_drawn [] declared drawn = All-nil IsProgramLawful
-lawful_drawn (t ∷ ts) declared drawn =
-    let rest = map (λ (t : TypeValue). t.program) ts in
-    let first = All-head IsProgramDeclared t.program rest declared in
-    let lawful : IsProgramLawful t.program = record {
-      apart = first.are_variables.apart;
-      few = first.are_variables.few;
-      blocks_are = first.blocks_are;
-      ladder = t.ladder;
-      drawn = All-head (λ (t : TypeValue). IsLadderOf t.program t.ladder) t ts drawn;
-    } in
-    All-cons IsProgramLawful t.program rest lawful (lawful_drawn ts (All-tail IsProgramDeclared t.program rest declared) (All-tail (λ (t : TypeValue). IsLadderOf t.program t.ladder) t ts drawn))

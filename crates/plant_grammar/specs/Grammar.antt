@@ -34,6 +34,11 @@ pub record Tree : Type 0 where
   pub name : List ℕ
   pub resources : List Resource
 
+-- a program as it is written, and the line that its body begins on
+pub record TextValue : Type 0 where
+  pub program : Program
+  pub first_line : ℕ
+
 abbrev pub key_word : Keyword → Token
 key_word k = token.Keyword k
 

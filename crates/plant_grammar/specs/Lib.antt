@@ -1,8 +1,7 @@
 pub mod Names
 pub mod Kinds
 pub mod Grammar
-pub mod Faultless
-pub mod Faults
-pub mod BodyFaults
+pub mod Lawful
+pub mod WordFaults
 pub mod NameFaults
 pub mod Steps

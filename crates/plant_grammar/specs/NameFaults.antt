@@ -1,11 +1,9 @@
 -- The name at which a plant's text is refused, because its space has it already or is full.
 use Rattle.std.specs.Prelude.{◌≡◌, ◌⊎◌, ℕ, ◌+◌, ◌≤◌, IsTrue, List, [], ◌∷◌, ◌++◌, length, Any}
 use Rattle.std.specs.List.{flat_map}
-use Rattle.words.specs.Lines.{without_last}
 use Rattle.declared_names.specs.declared.declarations.Declaration.{Declaration}
-use Rattle.plant_grammar.specs.declared.plant_fault.PlantFault.{PlantFault}
-use Rattle.plant_grammar.specs.declared.plant_fault.PlantFaultKind.{PlantFaultKind}
-use Rattle.plant_grammar.specs.declared.plant_fault.PlantFaultKind.TheVariants as kind
+use Rattle.plant_grammar.specs.declared.grammar_fault.GrammarFaultKind.{GrammarFaultKind}
+use Rattle.plant_grammar.specs.declared.grammar_fault.GrammarFaultKind.TheVariants as kind
 use Rattle.plant_text.specs.declared.token.Token.{Token}
 use Rattle.plant_text.specs.declared.token.Token.TheVariants as token
 use Rattle.plant_text.specs.declared.token.Keyword.TheVariants as key
@@ -19,21 +17,17 @@ use Rattle.plant_grammar.specs.declared.grammar.tree.Bind.{Bind}
 use Rattle.plant_grammar.specs.declared.grammar.tree.Use.{Use}
 use Rattle.plant_grammar.specs.declared.grammar.tree.Item.{Item}
 use Rattle.plant_grammar.specs.declared.grammar.tree.Resource.{Resource}
-use Rattle.plant_text.specs.Spelling.{BeginsWith}
 use Rattle.plant_grammar.specs.Grammar.{key_word, mark, section_word, list_words, block_words, program_words, bind_words, item_words, resource_words}
 use Rattle.plant_grammar.specs.Names.{is_named}
-use Rattle.plant_grammar.specs.Faultless.{list_variables, block_variables, task_of, use_of, uses_of, binds_of}
+use Rattle.plant_grammar.specs.Lawful.{list_variables, block_variables, task_of, use_of, uses_of, binds_of}
 
 -- one of the kinds of faults of a name that is declared, or of one too many
-abbrev pub IsOfName : PlantFaultKind → Type 0
+abbrev pub IsOfName : GrammarFaultKind → Type 0
 IsOfName k = (k ≡ kind.NameTwice) ⊎ (k ≡ kind.TooMany)
 
 -- the kind is NameTwice only where the first of these holds, and TooMany only where the second does
-abbrev pub TellsOfName : PlantFaultKind → Type 0 → Type 0 → Type 0
+abbrev pub TellsOfName : GrammarFaultKind → Type 0 → Type 0 → Type 0
 TellsOfName kind.Syntax twice full = Unit {0}
-TellsOfName kind.Drawing twice full = Unit {0}
-TellsOfName kind.Graph twice full = Unit {0}
-TellsOfName kind.Bind twice full = Unit {0}
 TellsOfName kind.NameTwice twice full = twice
 TellsOfName kind.UnknownName twice full = Unit {0}
 TellsOfName kind.WrongKind twice full = Unit {0}
@@ -46,7 +40,7 @@ abbrev pub IsTaken : {A : Type 0} → (A → List ℕ) → List A → List ℕ �
 IsTaken name_of xs name = Any (λ x. IsTrue (is_named name (name_of x))) xs
 
 -- The words are a name alone. The kind is NameTwice only where the name is taken, and TooMany only where there are as many as there may be.
-pub record IsRefused (k : PlantFaultKind) (Taken : List ℕ → Type 0) (full : Type 0) (words : List Token) : Type 0 where
+pub record IsRefused (k : GrammarFaultKind) (Taken : List ℕ → Type 0) (full : Type 0) (words : List Token) : Type 0 where
   pub name : List ℕ
   pub alone : words ≡ token.Name name ∷ []
   pub told : TellsOfName k (Taken name) full
@@ -78,80 +72,73 @@ abbrev pub bind_and_comma : Bind → List Token
 bind_and_comma b = bind_words b ++ mark Comma ∷ []
 
 -- names of a list up to the one refused, which these variables of its program have or an earlier name of the list; 1,000 variables are the most
-unfoldable pub RefusesVariable : PlantFaultKind → List Declaration → List Token → Type 0
+unfoldable pub RefusesVariable : GrammarFaultKind → List Declaration → List Token → Type 0
 RefusesVariable k before words = IsBehind name_and_comma (λ names more. IsRefused k (λ n. IsTaken (λ (v : Declaration). v.name) before n ⊎ IsTaken (λ (m : List ℕ). m) names n) (1000 ≤ length before + length names) more) words
 
 -- lists of a section up to a name refused, behind these variables of the program
-unfoldable pub RefusesList : PlantFaultKind → Section → List Declaration → List Token → Type 0
+unfoldable pub RefusesList : GrammarFaultKind → Section → List Declaration → List Token → Type 0
 RefusesList k s before words = IsBehind list_words (λ (lists : List NameList) more. RefusesVariable k (before ++ flat_map (list_variables s) lists) more) words
 
 -- the word of a section, and its lists up to a name refused
-unfoldable pub RefusesBlock : PlantFaultKind → List Declaration → List Token → Type 0
+unfoldable pub RefusesBlock : GrammarFaultKind → List Declaration → List Token → Type 0
 RefusesBlock k before words = (s : Section) × IsAfter (section_word s) (RefusesList k s before) words
 
 -- the blocks of a program up to a name refused, behind these variables of the program
-unfoldable pub RefusesBlocks : PlantFaultKind → List Declaration → List Token → Type 0
+unfoldable pub RefusesBlocks : GrammarFaultKind → List Declaration → List Token → Type 0
 RefusesBlocks k before words = IsBehind block_words (λ (blocks : List VarBlock) more. RefusesBlock k (before ++ flat_map block_variables blocks) more) words
 
 -- the name of a program, if one of these programs has it or they are 64
-abbrev pub RefusesProgramName : PlantFaultKind → List Program → List Token → Type 0
+abbrev pub RefusesProgramName : GrammarFaultKind → List Program → List Token → Type 0
 RefusesProgramName k before words = IsRefused k (IsTaken (λ (p : Program). p.name) before) (64 ≤ length before) words
 
 -- a program up to its own name, if these programs have it or are 64, or up to a variable refused
-unfoldable pub RefusesProgram : PlantFaultKind → List Program → List Token → Type 0
+unfoldable pub RefusesProgram : GrammarFaultKind → List Program → List Token → Type 0
 RefusesProgram k before words = IsAfter (key_word key.Program) (λ more. RefusesProgramName k before more ⊎ IsAfterName (RefusesBlocks k []) more) words
 
 -- programs up to a name refused
-unfoldable pub RefusesPrograms : PlantFaultKind → List Token → Type 0
+unfoldable pub RefusesPrograms : GrammarFaultKind → List Token → Type 0
 RefusesPrograms k words = IsBehind program_words (λ (programs : List Program) more. RefusesProgram k programs more) words
 
 -- a task up to its name, if a task of these lines of its resource has it or 16 of them are tasks
-unfoldable pub RefusesTask : PlantFaultKind → List Item → List Token → Type 0
+unfoldable pub RefusesTask : GrammarFaultKind → List Item → List Token → Type 0
 RefusesTask k before words = IsAfter (key_word key.Task) (IsRefused k (IsTaken (λ (t : TaskLine). t.name) (flat_map task_of before)) (16 ≤ length (flat_map task_of before))) words
 
 -- binds up to the one too many, behind so many binds of the plant; 4,096 are the most
-unfoldable pub RefusesBind : PlantFaultKind → ℕ → List Token → Type 0
+unfoldable pub RefusesBind : GrammarFaultKind → ℕ → List Token → Type 0
 RefusesBind k binds words = IsBehind bind_and_comma (λ (before : List Bind) more. IsRefused k (λ n. ⊥) (4096 ≤ binds + length before) more) words
 
 -- Behind the name of a program instance: WITH, its task, a colon, its program type, and its binds up to the one too many.
-unfoldable pub RefusesBinds : PlantFaultKind → ℕ → List Token → Type 0
+unfoldable pub RefusesBinds : GrammarFaultKind → ℕ → List Token → Type 0
 RefusesBinds k binds words = IsAfter (key_word key.With) (IsAfterName (IsAfter (mark Colon) (IsAfterName (IsAfter (mark Open) (RefusesBind k binds))))) words
 
 -- the name of a program instance, if an instance of these lines of its resource has it or the plant has 64
-abbrev pub RefusesInstanceName : PlantFaultKind → ℕ → List Item → List Token → Type 0
+abbrev pub RefusesInstanceName : GrammarFaultKind → ℕ → List Item → List Token → Type 0
 RefusesInstanceName k instances before words = IsRefused k (IsTaken (λ (u : Use). u.instance) (flat_map use_of before)) (64 ≤ instances) words
 
 -- A program instance behind so many instances and binds of the plant: up to its name, if an instance of these lines of its resource has it or the plant has 64, or up to the bind that is too many.
-unfoldable pub RefusesInstance : PlantFaultKind → ℕ → ℕ → List Item → List Token → Type 0
+unfoldable pub RefusesInstance : GrammarFaultKind → ℕ → ℕ → List Item → List Token → Type 0
 RefusesInstance k instances binds before words =
     IsAfter (key_word key.Program) (λ more. RefusesInstanceName k instances before more ⊎ IsAfterName (RefusesBinds k binds) more) words
 
 -- the lines of a resource up to a name refused, behind so many instances and binds of the plant
-unfoldable pub RefusesItems : PlantFaultKind → ℕ → ℕ → List Token → Type 0
+unfoldable pub RefusesItems : GrammarFaultKind → ℕ → ℕ → List Token → Type 0
 RefusesItems k instances binds words =
     IsBehind item_words (λ (items : List Item) more. RefusesTask k items more ⊎ RefusesInstance k (instances + length (flat_map use_of items)) (binds + length (flat_map binds_of (flat_map use_of items))) items more) words
 
 -- the name of a resource, if one of these resources has it or they are 16
-abbrev pub RefusesResourceName : PlantFaultKind → List Resource → List Token → Type 0
+abbrev pub RefusesResourceName : GrammarFaultKind → List Resource → List Token → Type 0
 RefusesResourceName k before words = IsRefused k (IsTaken (λ (r : Resource). r.name) before) (16 ≤ length before) words
 
 -- A resource behind so many instances and binds of the plant: up to its own name, if these resources have it or are 16, or up to a name refused in one of its lines.
-unfoldable pub RefusesResource : PlantFaultKind → ℕ → ℕ → List Resource → List Token → Type 0
+unfoldable pub RefusesResource : GrammarFaultKind → ℕ → ℕ → List Resource → List Token → Type 0
 RefusesResource k instances binds before words =
     IsAfter (key_word key.Resource) (λ more. RefusesResourceName k before more ⊎ IsAfterName (IsAfter (key_word key.On) (IsAfterName (RefusesItems k instances binds))) more) words
 
 -- resources up to a name refused, behind so many instances and binds of the plant
-unfoldable pub RefusesResources : PlantFaultKind → ℕ → ℕ → List Token → Type 0
+unfoldable pub RefusesResources : GrammarFaultKind → ℕ → ℕ → List Token → Type 0
 RefusesResources k instances binds words =
     IsBehind resource_words (λ (rs : List Resource) more. RefusesResource k (instances + length (flat_map uses_of rs)) (binds + length (flat_map binds_of (flat_map uses_of rs))) rs more) words
 
 -- programs, CONFIGURATION, its name, and the resources up to a name refused
-unfoldable pub RefusesConfiguration : PlantFaultKind → List Token → Type 0
+unfoldable pub RefusesConfiguration : GrammarFaultKind → List Token → Type 0
 RefusesConfiguration k words = IsBehind program_words (λ (programs : List Program) more. IsAfter (key_word key.Configuration) (IsAfterName (RefusesResources k 0 0)) more) words
-
--- The text begins with these words, the last of which is the name of the fault: what stands before it is as the grammar has it, and its space has the name already or is full.
-pub record IsNameFaultIn (text : List ℕ) (fault : PlantFault) : Type 0 where
-  pub words : List Token
-  pub lines : List ℕ
-  pub begun : BeginsWith 1 (without_last 13 text) words lines
-  pub refused : RefusesPrograms fault.kind words ⊎ RefusesConfiguration fault.kind words

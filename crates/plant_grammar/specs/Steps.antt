@@ -1,7 +1,5 @@
 -- Steps of the proofs: what is known of a plant's text halfway. No public contract of `plant` cites them.
 pub mod Declaring
-pub mod Drawn
 pub mod Lines
 pub mod ReadParts
 pub mod Reading
-pub mod WordFaults

@@ -2,7 +2,7 @@ ghost use Rattle.std.specs.Prelude.{◌≡◌};
 ghost use Rattle.plant_grammar.specs.Kinds.{kind_of_space};
 
 use plant_text::Space;
-use power_flow::Kind;
+use declared_names::Kind;
 
 /// The kind of the values that a space of addresses holds: bits are BOOL, words INT.
 pub fn kind_of_space(space: Space) -> Kind

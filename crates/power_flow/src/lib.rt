@@ -13,6 +13,6 @@ pub use ladder::Ladder;
 pub use laws::{fitting_states_are_equal, one_ladder, one_scan};
 pub use state::{Instance, Slot, State};
 pub use variable_binding::{
-    BindFault, BindKind, Declaration, Declarations, DeclareFault, Declared, Kind, first_value,
-    kind_of,
+    BindFault, BindKind, Declaration, Declarations, DeclareFault, Declared, Guess, Kind,
+    first_value, kind_of,
 };

@@ -14,7 +14,7 @@ use Rattle.plant.specs.declared.binding.Binding.{Binding}
 use Rattle.plant_grammar.specs.declared.grammar.tree.Resource.{Resource}
 use Rattle.plant_grammar.specs.declared.grammar.tree.TaskLine.{TaskLine}
 use Rattle.plant_grammar.specs.Grammar.{Tree}
-use Rattle.plant_grammar.specs.Faultless.{tasks_of, uses_of, binds_of, all_uses, IsFaultless, IsResourceLawful}
+use Rattle.plant_grammar.specs.Lawful.{tasks_of, uses_of, binds_of, all_uses, IsTreeLawful, IsResourceLawful}
 use Rattle.plant_grammar.specs.Kinds.{items_or_none}
 use Rattle.plant.specs.PlantValue.{CodeValue, ResourceValue, PlantValue, bindings_at}
 use Rattle.plant.specs.StandsFor.{runs_in, task_value, IsBindingOf, IsCodeOf, IsResourceOf}
@@ -54,8 +54,8 @@ record IsSmallCode (c : CodeValue) : Type 0 where
   connections : sum_by length c.bindings ≤ 262144
 
 -- each instance binds few inputs
-few_bound : (tree : Tree) → IsFaultless tree → All (λ u. length (binds_of u) ≤ 4096) (all_uses tree)
-few_bound tree faultless = all_from_places (λ u. length (binds_of u) ≤ 4096) (all_uses tree) (λ k u is. let short = part_short binds_of (all_uses tree) k u is in let few = faultless.few_binds in omega (arith, short, few))
+few_bound : (tree : Tree) → IsTreeLawful tree → All (λ u. length (binds_of u) ≤ 4096) (all_uses tree)
+few_bound tree lawful = all_from_places (λ u. length (binds_of u) ≤ 4096) (all_uses tree) (λ k u is. let short = part_short binds_of (all_uses tree) k u is in let few = lawful.few_binds in omega (arith, short, few))
 
 small_code : (tree : Tree) (plant : PlantValue) (r : Resource) (t : TaskLine) (c : CodeValue) → length (uses_of r) ≤ 64 → All (λ u. length (binds_of u) ≤ 4096) (uses_of r) → IsCodeOf tree plant r t c → IsSmallCode c
 small_code tree plant r t c few bound of =
@@ -82,11 +82,11 @@ record IsSmallResource (v : ResourceValue) : Type 0 where
   programs : programs_of v.codes ≤ 1024
   connections : connections_of v.codes ≤ 4194304
 
-small_resource : (tree : Tree) (plant : PlantValue) (k : ℕ) (r : Resource) (v : ResourceValue) → IsFaultless tree → slice_get tree.resources k ≡ Some r → IsResourceOf tree plant r v → IsSmallResource v
-small_resource tree plant k r v faultless is of =
-    let lawful = all_get (IsResourceLawful tree) tree.resources k r faultless.resources_lawful is in
-    let few : length (uses_of r) ≤ 64 = let short = part_short uses_of tree.resources k r is in let all = faultless.few_instances in omega (arith, short, all) in
-    let bound = all_part (λ u. length (binds_of u) ≤ 4096) uses_of tree.resources k r (few_bound tree faultless) is in
+small_resource : (tree : Tree) (plant : PlantValue) (k : ℕ) (r : Resource) (v : ResourceValue) → IsTreeLawful tree → slice_get tree.resources k ≡ Some r → IsResourceOf tree plant r v → IsSmallResource v
+small_resource tree plant k r v tree_lawful is of =
+    let lawful = all_get (IsResourceLawful tree) tree.resources k r tree_lawful.resources_lawful is in
+    let few : length (uses_of r) ≤ 64 = let short = part_short uses_of tree.resources k r is in let all = tree_lawful.few_instances in omega (arith, short, all) in
+    let bound = all_part (λ u. length (binds_of u) ≤ 4096) uses_of tree.resources k r (few_bound tree tree_lawful) is in
     let tasks : length v.tasks ≡ length (tasks_of r) = ap length of.tasks_are ∙ length-map (tasks_of r) task_value in
     let codes = zip_length (IsCodeOf tree plant r) (tasks_of r) v.codes of.codes_are in
     let limit = lawful.few_tasks in
@@ -100,8 +100,8 @@ pub counts_are : (text : List ℕ) (plant : PlantValue) → IsPlantText text pla
 counts_are text plant read =
     let tree = read.tree in
     let many = zip_length (IsResourceOf tree plant) tree.resources plant.resources read.stands in
-    let few = read.faultless.few_resources in
-    let small : All IsSmallResource plant.resources = all_from_places IsSmallResource plant.resources (λ k v at. let r = zip_get (IsResourceOf tree plant) tree.resources plant.resources k v read.stands at in small_resource tree plant k r.0 v read.faultless r.1 r.2) in
+    let few = read.faultless.lawful.few_resources in
+    let small : All IsSmallResource plant.resources = all_from_places IsSmallResource plant.resources (λ k v at. let r = zip_get (IsResourceOf tree plant) tree.resources plant.resources k v read.stands at in small_resource tree plant k r.0 v read.faultless.lawful r.1 r.2) in
     let tasks = sum_by-le (λ (r : ResourceValue). length r.tasks) 16 plant.resources (λ k d lt. (small k d lt).tasks) in
     let programs = sum_by-le (λ (r : ResourceValue). programs_of r.codes) 1024 plant.resources (λ k d lt. (small k d lt).programs) in
     let connections = sum_by-le (λ (r : ResourceValue). connections_of r.codes) 4194304 plant.resources (λ k d lt. (small k d lt).connections) in

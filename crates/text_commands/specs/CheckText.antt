@@ -3,10 +3,10 @@ use Rattle.std.specs.Prelude.{◌≢◌, ℕ, ◌++◌, List, Option, length, co
 use Rattle.std.specs.Fmt.{decimal}
 use Rattle.std.specs.Io.KnownBytes.{Appends, Keeps}
 use Rattle.plant.specs.PlantValue.{CodeValue, ResourceValue, PlantValue}
-use Rattle.plant_grammar.specs.Faults.{IsPlantFault, IsOfBody}
+use Rattle.plant.specs.Faults.{IsPlantFault, IsOfBody}
 use Rattle.plant.specs.PlantText.{IsPlantText, IsBodyFaultIn}
-use Rattle.plant_grammar.specs.declared.plant_fault.PlantFault.{PlantFault}
-use Rattle.plant_grammar.specs.declared.plant_fault.PlantFaultKind.TheVariants as plant
+use Rattle.plant.specs.declared.plant_fault.PlantFault.{PlantFault}
+use Rattle.plant.specs.declared.plant_fault.PlantFaultKind.TheVariants as plant
 use Rattle.text_commands.specs.declared.text_command_fault.TextCommandFault.{TextCommandFault}
 use Rattle.text_commands.specs.declared.text_command_fault.TextCommandFault.TheVariants.{Text, Word, Write, Memory}
 use Rattle.text_commands.specs.declared.text_fault.TextFault.{TextFault}

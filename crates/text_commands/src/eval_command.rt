@@ -11,7 +11,7 @@ use crate::rows::{read_rows, scan_count};
 use crate::text_command_fault::TextCommandFault;
 use ladder_text::Drawing;
 use network::Graph;
-use power_flow::{Declarations, Ladder, State};
+use power_flow::{Declarations, Guess, Ladder, State};
 use std::alloc::Global;
 use std::io::Write;
 use std_blocks::Value;

@@ -23,8 +23,9 @@ use Rattle.plant.specs.declared.sources.feed.Origin.{Origin}
 use Rattle.plant.specs.declared.sources.feed.Origin.TheVariants as origin
 use Rattle.plant.specs.declared.sources.feed.Feed.{Feed}
 use Rattle.plant_grammar.specs.Names.{is_named, IsAt, AreApart}
-use Rattle.plant_grammar.specs.Faultless.{IsLadderOf, use_of, tasks_of, uses_of, binds_of}
-use Rattle.plant_grammar.specs.Steps.Reading.{TypeValue}
+use Rattle.plant.specs.Faultless.{IsLadderOf}
+use Rattle.plant_grammar.specs.Lawful.{use_of, tasks_of, uses_of, binds_of}
+use Rattle.plant.specs.Steps.Reading.{TypeValue}
 use Rattle.plant_grammar.specs.Kinds.{input_kind_at, kind_of_space}
 use Rattle.plant.specs.PlantValue.{ProgramValue, CodeValue, ResourceValue, PlantValue, lists_of, code_at, image_kinds, outputs_of, source_kind, bindings_at, IsSoundCode, AreProducersOf}
 use Rattle.plant.specs.StandsFor.{runs_in, IsOrigin, IsSourceOf, firsts, mention, task_value}

@@ -2,18 +2,17 @@
 
 ghost use Rattle.std.specs.Prelude.{◌≡◌, ◌++◌, IfOk, OnOk, IfErr};
 ghost use Rattle.plant_grammar.specs.NameFaults.{TellsOfName};
-ghost use Rattle.plant_grammar.specs.Steps.WordFaults.{IsWordFault};
+ghost use Rattle.plant_grammar.specs.WordFaults.{IsWordFault};
 ghost use Rattle.std.specs.List.{AllZip};
-ghost use Rattle.plant_grammar.specs.Faultless.{tasks_of, task_of};
+ghost use Rattle.plant_grammar.specs.Lawful.{tasks_of, task_of};
 ghost use Rattle.plant.specs.StandsFor.{runs_in};
 ghost use Rattle.plant.specs.Steps.Drafts.{seen, runs_at, programs_in, IsProgramOf, IsDraftOf, IsResourceDraft};
 
+use crate::bodies::program_type::{ProgramType, type_named};
 use crate::program_instance::ProgramInstance;
 use crate::sources::resource_draft::ResourceDraft;
 use crate::sources::task_draft::TaskDraft;
-use plant_grammar::{
-    Item, Name, PlantFault, PlantFaultKind, ProgramType, Resource, TaskLine, Use, type_named,
-};
+use plant_grammar::{Item, Name, GrammarFault, GrammarFaultKind, Resource, TaskLine, Use};
 use std::alloc::{AllocError, Global};
 use std::sync::Arc;
 
@@ -74,13 +73,13 @@ fn draft_program(
     alloc: Global,
     types: &[ProgramType],
     run: &Use,
-) -> Result<ProgramInstance, PlantFault>
+) -> Result<ProgramInstance, GrammarFault>
     ensures ok { IfOk result (λ p. IsProgramOf (programs_in types.now) run.now p) }
     ensures tells { IfErr result (λ e. TellsOfName e.kind ⊥ ⊥) }
     ensures value { IfErr result IsWordFault }
 {
     let Some(found) = type_named(types, &run.program) else {
-        return Err(PlantFault::at(PlantFaultKind::UnknownName, run.program.line()));
+        return Err(GrammarFault::at(GrammarFaultKind::UnknownName, run.program.line()));
     };
     let name = run.instance.try_text(alloc)?;
     let ladder = Arc::try_clone(found.ladder())?;
@@ -92,7 +91,7 @@ fn draft_programs(
     alloc: Global,
     types: &[ProgramType],
     runs: &[&Use],
-) -> Result<Vec<ProgramInstance>, PlantFault>
+) -> Result<Vec<ProgramInstance>, GrammarFault>
     ensures ok { IfOk result (λ ps. AllZip (IsProgramOf (programs_in types.now)) (seen runs.now) ps.items) }
     ensures tells { IfErr result (λ e. TellsOfName e.kind ⊥ ⊥) }
     ensures value { IfErr result IsWordFault }
@@ -111,7 +110,7 @@ fn draft_task(
     types: &[ProgramType],
     resource: &Resource,
     task: &TaskLine,
-) -> Result<TaskDraft, PlantFault>
+) -> Result<TaskDraft, GrammarFault>
     ensures ok { IfOk result (λ d. IsDraftOf (programs_in types.now) resource.now task.now d) }
     ensures tells { IfErr result (λ e. TellsOfName e.kind ⊥ ⊥) }
     ensures value { IfErr result IsWordFault }
@@ -128,7 +127,7 @@ fn draft_tasks(
     types: &[ProgramType],
     resource: &Resource,
     tasks: &[&TaskLine],
-) -> Result<Vec<TaskDraft>, PlantFault>
+) -> Result<Vec<TaskDraft>, GrammarFault>
     ensures ok { IfOk result (λ ds. AllZip (IsDraftOf (programs_in types.now) resource.now) (seen tasks.now) ds.items) }
     ensures tells { IfErr result (λ e. TellsOfName e.kind ⊥ ⊥) }
     ensures value { IfErr result IsWordFault }
@@ -146,7 +145,7 @@ fn draft_resource(
     alloc: Global,
     types: &[ProgramType],
     resource: &Resource,
-) -> Result<ResourceDraft, PlantFault>
+) -> Result<ResourceDraft, GrammarFault>
     ensures ok { IfOk result (λ d. IsResourceDraft (programs_in types.now) resource.now d) }
     ensures tells { IfErr result (λ e. TellsOfName e.kind ⊥ ⊥) }
     ensures value { IfErr result IsWordFault }
@@ -162,7 +161,7 @@ pub fn draft_resources(
     alloc: Global,
     types: &[ProgramType],
     resources: &[Resource],
-) -> Result<Vec<ResourceDraft>, PlantFault>
+) -> Result<Vec<ResourceDraft>, GrammarFault>
     ensures ok { IfOk result (λ ds. AllZip (IsResourceDraft (programs_in types.now)) resources.now ds.items) }
     ensures tells { IfErr result (λ e. TellsOfName e.kind ⊥ ⊥) }
     ensures value { IfErr result IsWordFault }

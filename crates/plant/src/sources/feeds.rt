@@ -2,30 +2,28 @@
 
 ghost use Rattle.std.specs.Prelude.{◌≡◌, All, IfOk, OnOk, length, IfErr};
 ghost use Rattle.plant_grammar.specs.NameFaults.{TellsOfName};
-ghost use Rattle.plant_grammar.specs.Steps.WordFaults.{IsWordFault};
+ghost use Rattle.plant_grammar.specs.WordFaults.{IsWordFault};
 ghost use Rattle.std.specs.List.{AllZip, flat_map};
-ghost use Rattle.plant_grammar.specs.Faultless.{binds_of, use_of, uses_of};
+ghost use Rattle.plant_grammar.specs.Lawful.{binds_of, use_of, uses_of};
 ghost use Rattle.plant_grammar.specs.Steps.ReadParts.{FindsInput};
 ghost use Rattle.plant.specs.Steps.Drafts.{drafted, IsValue, IsOriginOf, IsFeedOf, HasFeed, AreAllFeeds, IsUseResolved};
 
+use crate::bodies::program_type::{ProgramType, type_named};
 use crate::program_instance::ProgramInstance;
 use crate::sources::feed::{Feed, Origin};
 use crate::sources::lookup::{find_instance, find_output, find_resource};
 use crate::sources::resource_draft::ResourceDraft;
 use due_list::TaskRef;
-use plant_grammar::{
-    Bind, Item, Name, PlantFault, PlantFaultKind, ProgramType, Resource, SourceName, Use,
-    kind_of_space, type_named,
-};
+use plant_grammar::{Bind, Item, Name, GrammarFault, GrammarFaultKind, Resource, SourceName, Use, kind_of_space};
 use power_flow::{Declarations, Declared, Kind};
 use std::alloc::Global;
 
 /// The fault of a name that isn't declared where it is sought.
-fn unknown(name: &Name) -> PlantFault
+fn unknown(name: &Name) -> GrammarFault
     ensures tells { TellsOfName result.kind ⊥ ⊥ }
     ensures value { IsWordFault result }
 {
-    PlantFault::at(PlantFaultKind::UnknownName, name.line())
+    GrammarFault::at(GrammarFaultKind::UnknownName, name.line())
 }
 
 /// The value of a task's image that names mean, and its kind.
@@ -34,7 +32,7 @@ fn find_value(
     resource: &Name,
     instance: &Name,
     output: &Name,
-) -> Result<(TaskRef, usize, Kind), PlantFault>
+) -> Result<(TaskRef, usize, Kind), GrammarFault>
     ensures ok { IfOk result (IsValue (drafted drafts.now) resource.now instance.now output.now) }
     ensures tells { IfErr result (λ e. TellsOfName e.kind ⊥ ⊥) }
     ensures value { IfErr result IsWordFault }
@@ -57,7 +55,7 @@ fn find_value(
 }
 
 /// What a source means, and the kind of its values.
-fn find_origin(drafts: &[ResourceDraft], source: &SourceName) -> Result<(Origin, Kind), PlantFault>
+fn find_origin(drafts: &[ResourceDraft], source: &SourceName) -> Result<(Origin, Kind), GrammarFault>
     ensures ok { IfOk result (λ x. IsOriginOf (drafted drafts.now) source.now x.0 x.1) }
     ensures tells { IfErr result (λ e. TellsOfName e.kind ⊥ ⊥) }
     ensures value { IfErr result IsWordFault }
@@ -99,7 +97,7 @@ fn feed(
     drafts: &[ResourceDraft],
     declarations: &Declarations,
     bind: &Bind,
-) -> Result<Feed, PlantFault>
+) -> Result<Feed, GrammarFault>
     ensures ok { IfOk result (λ f. IsFeedOf (drafted drafts.now) declarations.now bind.now f) }
     ensures tells { IfErr result (λ e. TellsOfName e.kind ⊥ ⊥) }
     ensures value { IfErr result IsWordFault }
@@ -109,7 +107,7 @@ fn feed(
     };
     let (origin, given) = find_origin(drafts, &bind.source)?;
     if given != kind {
-        return Err(PlantFault::at(PlantFaultKind::WrongKind, source_line(bind)));
+        return Err(GrammarFault::at(GrammarFaultKind::WrongKind, source_line(bind)));
     }
     Ok(Feed {
         place,
@@ -134,7 +132,7 @@ fn feeds(
     drafts: &[ResourceDraft],
     declarations: &Declarations,
     binds: &[Bind],
-) -> Result<Vec<Feed>, PlantFault>
+) -> Result<Vec<Feed>, GrammarFault>
     ensures ok { IfOk result (λ fs. AllZip (IsFeedOf (drafted drafts.now) declarations.now) binds.now fs.items) }
     ensures tells { IfErr result (λ e. TellsOfName e.kind ⊥ ⊥) }
     ensures value { IfErr result IsWordFault }
@@ -153,7 +151,7 @@ pub fn feeds_of(
     drafts: &[ResourceDraft],
     programs: &[ProgramInstance],
     runs: &[&Use],
-) -> Result<Vec<Vec<Feed>>, PlantFault>
+) -> Result<Vec<Vec<Feed>>, GrammarFault>
     requires { length runs.now ≡ length programs.now }
     ensures many { IfOk result (λ fs. length fs.items ≡ length programs.now) }
     ensures each { IfOk result (λ fs. AreAllFeeds (drafted drafts.now) runs.now programs.now fs.items) }
@@ -174,7 +172,7 @@ fn check_binds(
     drafts: &[ResourceDraft],
     declarations: &Declarations,
     binds: &[Bind],
-) -> Result<(), PlantFault>
+) -> Result<(), GrammarFault>
     ensures ok { OnOk result (All (HasFeed (drafted drafts.now) declarations.now) binds.now) }
     ensures tells { IfErr result (λ e. TellsOfName e.kind ⊥ ⊥) }
     ensures value { IfErr result IsWordFault }
@@ -186,7 +184,7 @@ fn check_binds(
 }
 
 /// Answers the first fault among the binds of an instance.
-fn check_use(drafts: &[ResourceDraft], types: &[ProgramType], run: &Use) -> Result<(), PlantFault>
+fn check_use(drafts: &[ResourceDraft], types: &[ProgramType], run: &Use) -> Result<(), GrammarFault>
     ensures ok { OnOk result (IsUseResolved (drafted drafts.now) types.now run.now) }
     ensures tells { IfErr result (λ e. TellsOfName e.kind ⊥ ⊥) }
     ensures value { IfErr result IsWordFault }
@@ -202,7 +200,7 @@ fn check_item(
     drafts: &[ResourceDraft],
     types: &[ProgramType],
     item: &Item,
-) -> Result<(), PlantFault>
+) -> Result<(), GrammarFault>
     ensures ok { OnOk result (All (IsUseResolved (drafted drafts.now) types.now) (use_of item.now)) }
     ensures tells { IfErr result (λ e. TellsOfName e.kind ⊥ ⊥) }
     ensures value { IfErr result IsWordFault }
@@ -218,7 +216,7 @@ fn check_resource(
     drafts: &[ResourceDraft],
     types: &[ProgramType],
     resource: &Resource,
-) -> Result<(), PlantFault>
+) -> Result<(), GrammarFault>
     ensures ok { OnOk result (All (IsUseResolved (drafted drafts.now) types.now) (uses_of resource.now)) }
     ensures tells { IfErr result (λ e. TellsOfName e.kind ⊥ ⊥) }
     ensures value { IfErr result IsWordFault }
@@ -234,7 +232,7 @@ pub fn check_sources(
     drafts: &[ResourceDraft],
     types: &[ProgramType],
     resources: &[Resource],
-) -> Result<(), PlantFault>
+) -> Result<(), GrammarFault>
     ensures ok { OnOk result (All (IsUseResolved (drafted drafts.now) types.now) (flat_map uses_of resources.now)) }
     ensures tells { IfErr result (λ e. TellsOfName e.kind ⊥ ⊥) }
     ensures value { IfErr result IsWordFault }

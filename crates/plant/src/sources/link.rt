@@ -2,10 +2,10 @@
 
 ghost use Rattle.std.specs.Prelude.{◌≡◌, ◌<◌, List, IfOk, All, length, map, IfErr};
 ghost use Rattle.plant_grammar.specs.NameFaults.{TellsOfName};
-ghost use Rattle.plant_grammar.specs.Steps.WordFaults.{IsWordFault};
+ghost use Rattle.plant_grammar.specs.WordFaults.{IsWordFault};
 ghost use Rattle.std.specs.List.{AllZip};
 ghost use Rattle.plant_grammar.specs.declared.grammar.tree.Program.{Program};
-ghost use Rattle.plant_grammar.specs.Faultless.{tasks_of, uses_of};
+ghost use Rattle.plant_grammar.specs.Lawful.{tasks_of, uses_of};
 ghost use Rattle.plant.specs.StandsFor.{runs_in, task_value};
 ghost use Rattle.plant.specs.Steps.Drafts.{seen, drafted, AreDrafts, IsResourceDraft, IsReady, IsOnceBound, IsLinked, AreLinked, IsResourceLinked, Triples};
 
@@ -18,7 +18,7 @@ use crate::sources::resource_draft::ResourceDraft;
 use crate::sources::task_draft::TaskDraft;
 use crate::task::Task;
 use crate::task_code::TaskCode;
-use plant_grammar::{PlantFault, Resource, TaskLine, Use};
+use plant_grammar::{GrammarFault, Resource, TaskLine, Use};
 use std::alloc::{AllocError, Global};
 use std::sync::Arc;
 
@@ -40,7 +40,7 @@ fn link_runs(
     drafts: &[ResourceDraft],
     draft: &TaskDraft,
     runs: &[&Use],
-) -> Result<TaskCode, PlantFault>
+) -> Result<TaskCode, GrammarFault>
     requires many { length runs.now ≡ length draft.now.programs }
     requires once { All IsOnceBound (seen runs.now) }
     ensures ok { IfOk result (IsLinked (drafted drafts.now) (seen runs.now) draft.now) }
@@ -63,7 +63,7 @@ fn link_task(
     resource: &Resource,
     task: &TaskLine,
     draft: &TaskDraft,
-) -> Result<Arc<TaskCode>, PlantFault>
+) -> Result<Arc<TaskCode>, GrammarFault>
     requires many { length (runs_in resource.now task.now) ≡ length draft.now.programs }
     requires once { All IsOnceBound (runs_in resource.now task.now) }
     ensures ok { IfOk result (λ c. IsLinked (drafted drafts.now) (runs_in resource.now task.now) draft.now c.value) }
@@ -83,7 +83,7 @@ fn link_tasks(
     resource: &Resource,
     tasks: &[&TaskLine],
     task_drafts: &[TaskDraft],
-) -> Result<Vec<Arc<TaskCode>>, PlantFault>
+) -> Result<Vec<Arc<TaskCode>>, GrammarFault>
     requires known { AreDrafts resource.now (seen tasks.now) task_drafts.now }
     requires once { All IsOnceBound (uses_of resource.now) }
     ensures many { IfOk result (λ cs. length cs.items ≡ length tasks.now) }
@@ -118,7 +118,7 @@ fn link_resource(
     drafts: &[ResourceDraft],
     resource: &Resource,
     draft: &ResourceDraft,
-) -> Result<PlantResource, PlantFault>
+) -> Result<PlantResource, GrammarFault>
     requires known { (programs : List Program) × IsResourceDraft programs resource.now draft.now }
     requires ready { IsReady resource.now }
     ensures ok { IfOk result (λ v. IsResourceLinked (drafted drafts.now) resource.now draft.now v) }
@@ -137,7 +137,7 @@ pub fn link_resources(
     alloc: Global,
     drafts: &[ResourceDraft],
     resources: &[Resource],
-) -> Result<Vec<PlantResource>, PlantFault>
+) -> Result<Vec<PlantResource>, GrammarFault>
     requires known { (programs : List Program) × AllZip (IsResourceDraft programs) resources.now drafts.now }
     requires ready { All IsReady resources.now }
     ensures many { IfOk result (λ vs. length vs.items ≡ length resources.now) }

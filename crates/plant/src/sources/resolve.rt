@@ -1,20 +1,21 @@
 ghost use Rattle.std.specs.Prelude.{ℕ, List, IfOk, IfErr};
 ghost use Rattle.plant_grammar.specs.NameFaults.{TellsOfName};
-ghost use Rattle.plant_grammar.specs.Steps.WordFaults.{IsWordFault};
-ghost use Rattle.plant_grammar.specs.Faultless.{IsFaultless};
-ghost use Rattle.plant_grammar.specs.Steps.Reading.{tree_of};
+ghost use Rattle.plant_grammar.specs.WordFaults.{IsWordFault};
+ghost use Rattle.plant_grammar.specs.Lawful.{IsTreeLawful};
+ghost use Rattle.plant.specs.Steps.Reading.{tree_of};
 ghost use Rattle.plant.specs.StandsFor.{IsPlantOf};
 
+use crate::bodies::reading::Reading;
 use crate::plant::Plant;
 use crate::sources::draft::draft_resources;
 use crate::sources::feeds::check_sources;
 use crate::sources::link::link_resources;
-use plant_grammar::{PlantFault, Reading};
+use plant_grammar::GrammarFault;
 use std::alloc::Global;
 
 /// The plant that is read, with each source resolved. The first source with a fault is answered, in order of the text.
-pub fn resolve(alloc: Global, reading: &Reading) -> Result<Plant, PlantFault>
-    requires { (name : List ℕ) × IsFaultless (tree_of name reading.now) }
+pub fn resolve(alloc: Global, reading: &Reading) -> Result<Plant, GrammarFault>
+    requires { (name : List ℕ) × IsTreeLawful (tree_of name reading.now) }
     ensures ok { IfOk result (λ p. (name : List ℕ) → IsPlantOf (tree_of name reading.now) p) }
     ensures tells { IfErr result (λ e. TellsOfName e.kind ⊥ ⊥) }
     ensures value { IfErr result IsWordFault }

@@ -1,10 +1,10 @@
 -- What is left to be read of a plant's words, and the fault of the next one.
-use Rattle.std.specs.Prelude.{◌≡◌, ◌++◌, ℕ, List, [], ◌∷◌, map, Option, None, MatchOption}
+use Rattle.std.specs.Prelude.{◌≡◌, ◌++◌, ℕ, List, [], ◌∷◌, map, Option, MatchOption}
 use Rattle.std.specs.Borrow.{Bor}
 use Rattle.plant_text.specs.declared.token.Token.{Token}
 use Rattle.plant_text.specs.Lines.{WordValue, body_line, body_lines}
-use Rattle.plant_grammar.specs.declared.plant_fault.PlantFault.{PlantFault}
-use Rattle.plant_grammar.specs.declared.plant_fault.PlantFaultKind.TheVariants.{Syntax}
+use Rattle.plant_grammar.specs.declared.grammar_fault.GrammarFault.{GrammarFault}
+use Rattle.plant_grammar.specs.declared.grammar_fault.GrammarFaultKind.TheVariants.{Syntax}
 
 -- what is left to be read: the words, the line of each, the lines of the bodies among them, and the line on which the text ends
 pub record ReaderValue : Type 0 where
@@ -25,8 +25,8 @@ next_line r = of_lines r.lines where
   of_lines (line ∷ more) = line
 
 -- the fault of a next word that the grammar doesn't have there
-abbrev pub syntax_at : ReaderValue → PlantFault
-syntax_at r = record { kind = Syntax; line = next_line r; inner = None }
+abbrev pub syntax_at : ReaderValue → GrammarFault
+syntax_at r = record { kind = Syntax; line = next_line r }
 
 -- the words behind the next one
 abbrev pub behind : List Token → List Token

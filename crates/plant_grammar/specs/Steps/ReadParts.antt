@@ -16,11 +16,11 @@ use Rattle.plant_grammar.specs.Kinds.{items_or_none, kind_of_space, input_kind_a
 use Rattle.plant_grammar.specs.declared.grammar.tree.Bind.{Bind}
 use Rattle.plant_text.specs.declared.token.Token.{Token}
 use Rattle.plant_text.specs.declared.token.Punctuation.TheVariants.{Close}
-use Rattle.plant_grammar.specs.Grammar.{Tree, mark, with_commas, listed}
+use Rattle.plant_grammar.specs.Grammar.{Tree, TextValue, mark, with_commas, listed}
 use Rattle.plant_grammar.specs.Names.{AreApart}
 use Rattle.plant_grammar.specs.NameFaults.{IsTaken}
-use Rattle.plant_grammar.specs.Faultless.{variables, task_of, use_of, binds_of, IsBlockLawful, IsUseLawful, IsResourceLawful}
-use Rattle.plant_grammar.specs.Steps.Reading.{TypeValue}
+use Rattle.plant_grammar.specs.Lawful.{task_of, use_of, binds_of, IsProgramLawful, IsUseLawful, IsResourceLawful}
+use Rattle.plant_grammar.specs.Steps.Reading.{programs_of}
 
 -- how many instances and binds were read
 pub record TallyValue : Type 0 where
@@ -48,24 +48,19 @@ abbrev pub EndWithBinds : List Bind → List Token → List Token → Type 0
 EndWithBinds binds words rest = words ≡ with_commas binds ++ mark Close ∷ rest
 
 -- the program types alone
-abbrev pub types_alone : List TypeValue → Tree
-types_alone types = record { programs = map (λ (t : TypeValue). t.program) types; name = []; resources = [] }
+abbrev pub types_alone : List TextValue → Tree
+types_alone types = record { programs = programs_of types; name = []; resources = [] }
 
 -- each name once, and at most 1,000
 pub record AreVariables (variables : List Declaration) : Type 0 where
   pub apart : AreApart (map (λ v. v.name) variables)
   pub few : length variables ≤ 1000
 
--- a program type whose body isn't drawn: each name once, at most 1,000 of them, and blocks in VAR alone
-pub record IsProgramDeclared (p : Program) : Type 0 where
-  pub are_variables : AreVariables (variables p)
-  pub blocks_are : All IsBlockLawful p.blocks.items
-
--- program types whose bodies aren't drawn: at most 64, their names apart, and each lawful so far
+-- program types: at most 64, their names apart, and each lawful
 pub record AreProgramsDeclared (programs : List Program) : Type 0 where
   pub few : length programs ≤ 64
   pub apart : AreApart (map (λ p. p.name) programs)
-  pub declared : All IsProgramDeclared programs
+  pub declared : All IsProgramLawful programs
 
 -- nothing in the list has this name
 abbrev pub IsNew : {A : Type 0} → (A → List ℕ) → List A → List ℕ → Type 0

@@ -1,13 +1,13 @@
--- What is known of a plant's text once it is read, its sources not yet resolved.
-use Rattle.std.specs.Prelude.{◌≡◌, ℕ, List, ◌++◌, map, All}
+-- What is known of a plant's text once its words are read, its bodies not yet drawn and its sources not yet resolved.
+use Rattle.std.specs.Prelude.{◌≡◌, ℕ, List, ◌++◌, map}
 use Rattle.std.specs.List.{flat_map}
-use Rattle.power_flow.specs.LadderValue.{LadderValue}
 use Rattle.plant_grammar.specs.declared.grammar.tree.Program.{Program}
 use Rattle.plant_grammar.specs.declared.grammar.tree.Resource.{Resource}
 use Rattle.plant_text.specs.declared.token.Token.{Token}
-use Rattle.plant_grammar.specs.Grammar.{Tree, program_words, words_of}
-use Rattle.plant_grammar.specs.BodyFaults.{TextValue}
-use Rattle.plant_grammar.specs.Faultless.{IsLadderOf, IsFaultless}
+use Rattle.plant_grammar.specs.Grammar.{Tree, TextValue, program_words, words_of}
+use Rattle.plant_grammar.specs.Grammar.{TextValue}
+use Rattle.plant_grammar.specs.Lawful.{IsTreeLawful}
+use Rattle.plant_grammar.specs.Steps.Lines.{ReaderValue}
 
 -- the program types as they are written
 abbrev pub programs_of : List TextValue → List Program
@@ -33,22 +33,19 @@ AreSameWords some words others rest = all_words some words ≡ all_words others 
 abbrev pub AreSameLines : List TextValue → List ℕ → List TextValue → List ℕ → Type 0
 AreSameLines some lines others more = all_lines some lines ≡ all_lines others more
 
--- a program type, and its ladder
-pub record TypeValue : Type 0 where
-  pub program : Program
-  pub ladder : LadderValue
-
-pub record ReadingValue : Type 0 where
-  pub types : List TypeValue
-  pub resources : List Resource
-
 -- what is written, under the configuration's name
-abbrev pub tree_of : List ℕ → ReadingValue → Tree
-tree_of name r = record { programs = map (λ (t : TypeValue). t.program) r.types; name = name; resources = r.resources }
+abbrev pub tree_written : List ℕ → List TextValue → List Resource → Tree
+tree_written name texts resources = record { programs = programs_of texts; name = name; resources = resources }
 
--- The words begin with those of a tree without a fault, its sources aside, and the rest is left. Each type has its ladder.
-pub record IsReadingOf (words : List Token) (reading : ReadingValue) (rest : List Token) : Type 0 where
+-- The words begin with those of a lawful tree of these programs and resources, and the rest is left.
+pub record IsTreeOf (words : List Token) (texts : List TextValue) (resources : List Resource) (rest : List Token) : Type 0 where
   pub name : List ℕ
-  pub written : words ≡ words_of (tree_of name reading) ++ rest
-  pub faultless : IsFaultless (tree_of name reading)
-  pub ladders : All (λ t. IsLadderOf t.program t.ladder) reading.types
+  pub written : words ≡ words_of (tree_written name texts resources) ++ rest
+  pub lawful : IsTreeLawful (tree_written name texts resources)
+
+-- The words begin with those of these programs, and the lines of bodies with theirs.
+pub record BeginWithTexts (r : ReaderValue) (texts : List TextValue) : Type 0 where
+  pub rest : List Token
+  pub more : List ℕ
+  pub written : r.words ≡ all_words texts rest
+  pub lines : r.bodies ≡ all_lines texts more

@@ -2,7 +2,7 @@ ghost use Rattle.std.specs.Prelude.{◌≡◌, IfOk};
 ghost use Rattle.plant_grammar.specs.Names.{is_named};
 
 use crate::names::is_named;
-use ladder_text::Text;
+use words::Text;
 use std::alloc::{AllocError, Global};
 use std::marker::Model;
 

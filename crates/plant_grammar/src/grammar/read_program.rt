@@ -1,26 +1,26 @@
 //! The rules of the grammar from names to programs.
 
 ghost use Rattle.std.specs.Prelude.{◌≡◌, ◌∷◌, ◌++◌, ◌+◌, ◌<◌, ◌≤◌, ◌⊎◌, ℕ, List, IfOk, OnOk, OnErr, IsTrue, IsFalse, All, length, IfErr};
-ghost use Rattle.plant_grammar.specs.Steps.WordFaults.{IsWordFault};
+ghost use Rattle.plant_grammar.specs.WordFaults.{IsWordFault};
 ghost use Rattle.std.specs.List.{flat_map};
 ghost use Rattle.plant_text.specs.declared.token.Token.TheVariants as token;
 ghost use Rattle.plant_grammar.specs.Grammar.{section_word, kind_word, type_word, name_words, list_words, lists_words, block_words, program_words};
-ghost use Rattle.plant_grammar.specs.Faultless.{list_variables, lists_variables, block_variables, IsTypeLawful, IsListLawful, IsBlockLawful};
+ghost use Rattle.plant_grammar.specs.Lawful.{list_variables, lists_variables, block_variables, IsTypeLawful, IsListLawful, IsBlockLawful, IsProgramLawful};
 ghost use Rattle.plant_grammar.specs.NameFaults.{TellsOfName, RefusesVariable, RefusesList, RefusesBlock, RefusesBlocks, RefusesProgram, RefusesPrograms};
 ghost use Rattle.plant_grammar.specs.Steps.Declaring.{TellsOfType, TellsOfVariable, BeginRefused};
 ghost use Rattle.plant_grammar.specs.Steps.Lines.{IsOneNext, IsNoneNext};
-ghost use Rattle.plant_grammar.specs.Steps.ReadParts.{IsNew, IsProgramDeclared, AreProgramsDeclared};
+ghost use Rattle.plant_grammar.specs.Steps.ReadParts.{IsNew, AreProgramsDeclared};
 ghost use Rattle.plant_grammar.specs.Steps.Reading.{programs_of, all_words, AreSameWords, AreSameLines};
 
-use crate::bodies::program_text::ProgramText;
-use crate::grammar::declared_names::{check_new, is_program};
+use crate::grammar::program_text::ProgramText;
+use crate::grammar::known_names::{check_new, is_program};
 use crate::grammar::name::Name;
 use crate::grammar::reader::Reader;
 use crate::grammar::tree::{NameList, Program, Section, TypeName, VarBlock};
 use crate::grammar::variables::Variables;
-use crate::plant_fault::{PlantFault, PlantFaultKind};
+use crate::grammar_fault::{GrammarFault, GrammarFaultKind};
 use plant_text::{Keyword, Punctuation};
-use power_flow::Kind;
+use declared_names::Kind;
 use std::alloc::Global;
 
 /// How many program types a plant may have.
@@ -35,7 +35,7 @@ impl<'a> Reader<'a> {
         alloc: Global,
         variables: &Variables,
         before: &[Name],
-    ) -> Result<Name, PlantFault>
+    ) -> Result<Name, GrammarFault>
         ensures ok { IfOk result (λ name. self.old.words ≡ token.Name name ∷ self.new.words) }
         ensures bodies { OnOk result (self.new.bodies ≡ self.old.bodies) }
         ensures tells { IfErr result (TellsOfVariable variables.now before.now self.old.words) }
@@ -48,7 +48,7 @@ impl<'a> Reader<'a> {
 
     /// Names with commas between them.
     #[tactic(auto, using(crate::proofs::RefusedNames::no_name, crate::proofs::RefusedNames::memory_no_name))]
-    fn names(&mut self, alloc: Global, variables: &Variables) -> Result<Vec<Name>, PlantFault>
+    fn names(&mut self, alloc: Global, variables: &Variables) -> Result<Vec<Name>, GrammarFault>
         ensures ok { IfOk result (λ names. self.old.words ≡ name_words names.items ++ self.new.words) }
         ensures bodies { OnOk result (self.new.bodies ≡ self.old.bodies) }
         ensures some { IfOk result (λ names. 0 < length names.items) }
@@ -65,7 +65,7 @@ impl<'a> Reader<'a> {
     }
 
     /// BOOL, INT or TIME.
-    fn kind(&mut self) -> Result<Kind, PlantFault>
+    fn kind(&mut self) -> Result<Kind, GrammarFault>
         ensures ok { IfOk result (λ kind. self.old.words ≡ kind_word kind ∷ self.new.words) }
         ensures bodies { OnOk result (self.new.bodies ≡ self.old.bodies) }
         ensures tells { IfErr result (λ e. TellsOfName e.kind ⊥ ⊥) }
@@ -84,7 +84,7 @@ impl<'a> Reader<'a> {
     }
 
     /// The type of names of a section.
-    fn type_name(&mut self, section: Section) -> Result<TypeName, PlantFault>
+    fn type_name(&mut self, section: Section) -> Result<TypeName, GrammarFault>
         ensures ok { IfOk result (λ t. self.old.words ≡ type_word t ∷ self.new.words) }
         ensures bodies { OnOk result (self.new.bodies ≡ self.old.bodies) }
         ensures lawful { IfOk result (λ t. IsTypeLawful section t) }
@@ -96,7 +96,7 @@ impl<'a> Reader<'a> {
         }
         match section {
             Section::Local => Ok(TypeName::Block(self.block_type()?)),
-            _ => Err(PlantFault::at(PlantFaultKind::WrongKind, self.line())),
+            _ => Err(GrammarFault::at(GrammarFaultKind::WrongKind, self.line())),
         }
     }
 
@@ -107,7 +107,7 @@ impl<'a> Reader<'a> {
         alloc: Global,
         section: Section,
         variables: &mut Variables,
-    ) -> Result<NameList, PlantFault>
+    ) -> Result<NameList, GrammarFault>
         ensures ok { IfOk result (λ l. self.old.words ≡ list_words l ++ self.new.words) }
         ensures bodies { OnOk result (self.new.bodies ≡ self.old.bodies) }
         ensures declared { IfOk result (λ l. variables.new ≡ variables.old ++ list_variables section l) }
@@ -131,7 +131,7 @@ impl<'a> Reader<'a> {
         alloc: Global,
         section: Section,
         variables: &mut Variables,
-    ) -> Result<Vec<NameList>, PlantFault>
+    ) -> Result<Vec<NameList>, GrammarFault>
         ensures ok { IfOk result (λ ls. self.old.words ≡ lists_words ls.items ++ self.new.words) }
         ensures bodies { OnOk result (self.new.bodies ≡ self.old.bodies) }
         ensures declared { IfOk result (λ ls. variables.new ≡ variables.old ++ lists_variables section ls.items) }
@@ -159,7 +159,7 @@ impl<'a> Reader<'a> {
     }
 
     /// VAR_INPUT, VAR_OUTPUT or VAR.
-    fn section(&mut self) -> Result<Section, PlantFault>
+    fn section(&mut self) -> Result<Section, GrammarFault>
         ensures ok { IfOk result (λ s. self.old.words ≡ section_word s ∷ self.new.words) }
         ensures bodies { OnOk result (self.new.bodies ≡ self.old.bodies) }
         ensures tells { IfErr result (λ e. TellsOfName e.kind ⊥ ⊥) }
@@ -179,7 +179,7 @@ impl<'a> Reader<'a> {
 
     /// A block. Its names are declared.
     #[tactic(auto, using(crate::proofs::RefusedNames::no_name, crate::proofs::RefusedNames::memory_no_name), unfolding(crate::specs::Grammar::block_words))]
-    fn block(&mut self, alloc: Global, variables: &mut Variables) -> Result<VarBlock, PlantFault>
+    fn block(&mut self, alloc: Global, variables: &mut Variables) -> Result<VarBlock, GrammarFault>
         ensures ok { IfOk result (λ b. self.old.words ≡ block_words b ++ self.new.words) }
         ensures bodies { OnOk result (self.new.bodies ≡ self.old.bodies) }
         ensures declared { IfOk result (λ b. variables.new ≡ variables.old ++ block_variables b) }
@@ -198,7 +198,7 @@ impl<'a> Reader<'a> {
         &mut self,
         alloc: Global,
         variables: &mut Variables,
-    ) -> Result<Vec<VarBlock>, PlantFault>
+    ) -> Result<Vec<VarBlock>, GrammarFault>
         ensures ok { IfOk result (λ bs. self.old.words ≡ flat_map block_words bs.items ++ self.new.words) }
         ensures bodies { OnOk result (self.new.bodies ≡ self.old.bodies) }
         ensures declared { IfOk result (λ bs. variables.new ≡ variables.old ++ flat_map block_variables bs.items) }
@@ -215,7 +215,7 @@ impl<'a> Reader<'a> {
     }
 
     /// A new name of a program type, behind these.
-    fn new_type(&mut self, alloc: Global, before: &[ProgramText]) -> Result<Name, PlantFault>
+    fn new_type(&mut self, alloc: Global, before: &[ProgramText]) -> Result<Name, GrammarFault>
         ensures ok { IfOk result (λ name. self.old.words ≡ token.Name name ∷ self.new.words) }
         ensures bodies { OnOk result (self.new.bodies ≡ self.old.bodies) }
         ensures new { IfOk result (λ name. IsNew (λ p. p.name) (programs_of before.now) name) }
@@ -230,12 +230,12 @@ impl<'a> Reader<'a> {
 
     /// A program type, behind these. Its body isn't drawn.
     #[tactic(auto, using(crate::proofs::RefusedNames::no_name, crate::proofs::RefusedNames::memory_no_name), unfolding(crate::specs::Grammar::program_words))]
-    fn program(&mut self, alloc: Global, before: &[ProgramText]) -> Result<ProgramText, PlantFault>
+    fn program(&mut self, alloc: Global, before: &[ProgramText]) -> Result<ProgramText, GrammarFault>
         ensures ok { IfOk result (λ p. self.old.words ≡ program_words p.program ++ self.new.words) }
         ensures bodies { IfOk result (λ p. self.old.bodies ≡ p.first_line ∷ self.new.bodies) }
         ensures new { IfOk result (λ p. IsNew (λ p. p.name) (programs_of before.now) p.program.name) }
         ensures few { OnOk result (length before.now < 64) }
-        ensures declared { IfOk result (λ p. IsProgramDeclared p.program) }
+        ensures declared { IfOk result (λ p. IsProgramLawful p.program) }
         ensures names { IfErr result (BeginRefused (λ k. RefusesProgram k (programs_of before.now)) self.old.words) }
         ensures value { IfErr result IsWordFault }
     {
@@ -256,7 +256,7 @@ impl<'a> Reader<'a> {
         &mut self,
         alloc: Global,
         texts: &mut Vec<ProgramText>,
-    ) -> Result<(), PlantFault>
+    ) -> Result<(), GrammarFault>
         requires { AreProgramsDeclared (programs_of texts.old.items) }
         ensures ok { OnOk result (AreSameWords texts.old.items self.old.words texts.new.items self.new.words) }
         ensures err { OnErr result ((rest : List Token) × AreSameWords texts.old.items self.old.words texts.new.items rest) }

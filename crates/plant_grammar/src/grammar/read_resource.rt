@@ -1,31 +1,31 @@
 //! The rules of the grammar from tasks to resources.
 
 ghost use Rattle.std.specs.Prelude.{◌≡◌, ◌⊎◌, [], ◌∷◌, ◌++◌, ◌+◌, ◌<◌, ◌≤◌, IfOk, OnOk, All, Any, Some, map, length, IsTrue, IfErr};
-ghost use Rattle.plant_grammar.specs.Steps.WordFaults.{IsWordFault};
+ghost use Rattle.plant_grammar.specs.WordFaults.{IsWordFault};
 ghost use Rattle.std.specs.List.{flat_map};
 ghost use Rattle.plant_text.specs.declared.token.Token.TheVariants as token;
 ghost use Rattle.plant_text.specs.declared.token.Keyword.TheVariants as key;
 ghost use Rattle.plant_grammar.specs.Grammar.{interval_words, priority_words, settings, task_words, source_words, bind_words, with_commas, binds_words, listed, use_words, item_words, items_words, resource_words, resources_words};
 ghost use Rattle.plant_grammar.specs.Names.{is_named, AreApart};
-ghost use Rattle.plant_grammar.specs.Faultless.{task_of, use_of, uses_of, binds_of, IsUseLawful, IsResourceLawful};
+ghost use Rattle.plant_grammar.specs.Lawful.{variables, task_of, use_of, uses_of, binds_of, IsUseLawful, IsResourceLawful};
 ghost use Rattle.plant_grammar.specs.NameFaults.{TellsOfName, RefusesTask, RefusesBind};
 ghost use Rattle.plant_grammar.specs.Steps.Declaring.{TellsOfTask, TellsOfInstance, TellsOfBind, TellsOfResource, BeginRefused, RefusesFurtherInstance, RefusesItem, RefusesFurtherItems, RefusesFurtherResource, RefusesFurtherResources, RefusesInParentheses};
 ghost use Rattle.plant_grammar.specs.Steps.ReadParts.{types_alone, with_instance, with_binds, tally_with, EndWithBinds, bound_in, HasFieldKind, IsOfInputKind, IsNew, MayFollow, AreItemsLawful, AreResourcesLawful};
 ghost use Rattle.plant_grammar.specs.declared.grammar.tree.Item.TheVariants as item;
 ghost use Rattle.plant_grammar.specs.Kinds.{items_or_none, kind_of_space};
 
-use crate::bodies::program_type::ProgramType;
-use crate::grammar::declared_names::{
-    check_new, count_tasks, input_kind, is_bound, is_instance, is_resource, is_task, type_named,
+use crate::grammar::known_names::{
+    check_new, count_tasks, input_kind, is_bound, is_instance, is_resource, is_task, program_named,
 };
 use crate::grammar::name::Name;
+use crate::grammar::program_text::ProgramText;
 use crate::grammar::reader::Reader;
 use crate::grammar::tally::Tally;
 use crate::grammar::tree::{Bind, Item, Order, Resource, SourceName, TaskLine, Use};
-use crate::plant_fault::{PlantFault, PlantFaultKind};
+use crate::grammar_fault::{GrammarFault, GrammarFaultKind};
 use crate::spaces::kind_of_space;
 use plant_text::{Address, Keyword, Punctuation};
-use power_flow::Kind;
+use declared_names::Kind;
 use std::alloc::Global;
 
 /// How many tasks a resource may have.
@@ -36,7 +36,7 @@ const MOST_RESOURCES: usize = 16;
 
 impl<'a> Reader<'a> {
     /// A task's interval, in ms. It isn't 0.
-    fn interval(&mut self) -> Result<u32, PlantFault>
+    fn interval(&mut self) -> Result<u32, GrammarFault>
         ensures ok { IfOk result (λ n. self.old.words ≡ interval_words n ++ self.new.words) }
         ensures positive { IfOk result (λ n. 0 < n) }
         ensures tells { IfErr result (λ e. TellsOfName e.kind ⊥ ⊥) }
@@ -54,7 +54,7 @@ impl<'a> Reader<'a> {
     }
 
     /// A task's priority.
-    fn priority(&mut self) -> Result<u16, PlantFault>
+    fn priority(&mut self) -> Result<u16, GrammarFault>
         ensures ok { IfOk result (λ n. self.old.words ≡ priority_words n ++ self.new.words) }
         ensures tells { IfErr result (λ e. TellsOfName e.kind ⊥ ⊥) }
         ensures value { IfErr result IsWordFault }
@@ -65,7 +65,7 @@ impl<'a> Reader<'a> {
     }
 
     /// The two settings of a task, in either order.
-    fn settings(&mut self) -> Result<(Order, u32, u16), PlantFault>
+    fn settings(&mut self) -> Result<(Order, u32, u16), GrammarFault>
         ensures ok { IfOk result (λ s. self.old.words ≡ settings s.0 s.1 s.2 ++ self.new.words) }
         ensures positive { IfOk result (λ s. 0 < s.1) }
         ensures tells { IfErr result (λ e. TellsOfName e.kind ⊥ ⊥) }
@@ -85,7 +85,7 @@ impl<'a> Reader<'a> {
     }
 
     /// A new name of a task, behind these lines of its resource.
-    fn task_name(&mut self, alloc: Global, before: &[Item]) -> Result<Name, PlantFault>
+    fn task_name(&mut self, alloc: Global, before: &[Item]) -> Result<Name, GrammarFault>
         ensures ok { IfOk result (λ name. self.old.words ≡ token.Name name ∷ self.new.words) }
         ensures new { IfOk result (λ name. IsNew (λ t. t.name) (flat_map task_of before.now) name) }
         ensures few { OnOk result (length (flat_map task_of before.now) < 16) }
@@ -103,7 +103,7 @@ impl<'a> Reader<'a> {
 
     /// A task, behind these lines of its resource.
     #[tactic(auto, using(crate::proofs::RefusedNames::no_name, crate::proofs::RefusedNames::memory_no_name), unfolding(crate::specs::Grammar::task_words))]
-    fn task(&mut self, alloc: Global, before: &[Item]) -> Result<TaskLine, PlantFault>
+    fn task(&mut self, alloc: Global, before: &[Item]) -> Result<TaskLine, GrammarFault>
         ensures ok { IfOk result (λ t. self.old.words ≡ task_words t ++ self.new.words) }
         ensures new { IfOk result (λ t. IsNew (λ t. t.name) (flat_map task_of before.now) t.name) }
         ensures few { OnOk result (length (flat_map task_of before.now) < 16) }
@@ -126,13 +126,13 @@ impl<'a> Reader<'a> {
     }
 
     /// A field address of a kind.
-    fn address_of(&mut self, kind: Kind) -> Result<Address, PlantFault>
+    fn address_of(&mut self, kind: Kind) -> Result<Address, GrammarFault>
         ensures ok { IfOk result (λ a. self.old.words ≡ token.Address a ∷ self.new.words) }
         ensures kind { IfOk result (λ a. kind_of_space a.space ≡ kind) }
         ensures tells { IfErr result (λ e. TellsOfName e.kind ⊥ ⊥) }
         ensures value { IfErr result IsWordFault }
     {
-        let other = PlantFault::at(PlantFaultKind::WrongKind, self.line());
+        let other = GrammarFault::at(GrammarFaultKind::WrongKind, self.line());
         let address = self.address()?;
         if kind_of_space(address.space) == kind {
             Ok(address)
@@ -142,7 +142,7 @@ impl<'a> Reader<'a> {
     }
 
     /// The source of an input of a kind.
-    fn source(&mut self, alloc: Global, kind: Kind) -> Result<SourceName, PlantFault>
+    fn source(&mut self, alloc: Global, kind: Kind) -> Result<SourceName, GrammarFault>
         ensures ok { IfOk result (λ s. self.old.words ≡ source_words s ++ self.new.words) }
         ensures kind { IfOk result (HasFieldKind kind) }
         ensures tells { IfErr result (λ e. TellsOfName e.kind ⊥ ⊥) }
@@ -169,23 +169,23 @@ impl<'a> Reader<'a> {
     fn bind(
         &mut self,
         alloc: Global,
-        program: &ProgramType,
+        program: &ProgramText,
         before: &[Bind],
         tally: &mut Tally,
-    ) -> Result<Bind, PlantFault>
+    ) -> Result<Bind, GrammarFault>
         ensures ok { IfOk result (λ b. self.old.words ≡ bind_words b ++ self.new.words) }
         ensures new { IfOk result (λ b. IsNew (λ b. b.input) before.now b.input) }
-        ensures kind { IfOk result (IsOfInputKind program.now.ladder.declarations) }
+        ensures kind { IfOk result (IsOfInputKind (variables program.now.program)) }
         ensures tally { OnOk result (tally.new ≡ with_binds tally.old 1) }
         ensures tells { IfErr result (TellsOfBind tally.old.binds self.old.words) }
         ensures value { IfErr result IsWordFault }
     {
         let input = self.name(alloc)?;
         let Some(kind) = input_kind(program, &input) else {
-            return Err(PlantFault::at(PlantFaultKind::UnknownName, input.line()));
+            return Err(GrammarFault::at(GrammarFaultKind::UnknownName, input.line()));
         };
         if is_bound(before, &input) {
-            return Err(PlantFault::at(PlantFaultKind::InputBoundTwice, input.line()));
+            return Err(GrammarFault::at(GrammarFaultKind::InputBoundTwice, input.line()));
         }
         tally.add_bind(&input)?;
         self.punctuation(Punctuation::Assign)?;
@@ -198,9 +198,9 @@ impl<'a> Reader<'a> {
     fn binds(
         &mut self,
         alloc: Global,
-        program: &ProgramType,
+        program: &ProgramText,
         tally: &mut Tally,
-    ) -> Result<Vec<Bind>, PlantFault>
+    ) -> Result<Vec<Bind>, GrammarFault>
         ensures ok { IfOk result (λ binds. EndWithBinds binds.items self.old.words self.new.words) }
         ensures apart { IfOk result (λ binds. AreApart (map (λ b. b.input) binds.items)) }
         ensures tally { IfOk result (λ binds. tally.new ≡ with_binds tally.old (length binds.items)) }
@@ -224,9 +224,9 @@ impl<'a> Reader<'a> {
     fn some_binds(
         &mut self,
         alloc: Global,
-        program: &ProgramType,
+        program: &ProgramText,
         tally: &mut Tally,
-    ) -> Result<Option<Vec<Bind>>, PlantFault>
+    ) -> Result<Option<Vec<Bind>>, GrammarFault>
         ensures ok { IfOk result (λ binds. self.old.words ≡ binds_words (listed binds) ++ self.new.words) }
         ensures apart { IfOk result (λ binds. AreApart (map (λ b. b.input) (bound_in binds))) }
         ensures tally { IfOk result (λ binds. tally.new ≡ with_binds tally.old (length (bound_in binds))) }
@@ -247,7 +247,7 @@ impl<'a> Reader<'a> {
         alloc: Global,
         before: &[Item],
         tally: &mut Tally,
-    ) -> Result<Name, PlantFault>
+    ) -> Result<Name, GrammarFault>
         ensures ok { IfOk result (λ name. self.old.words ≡ token.Name name ∷ self.new.words) }
         ensures new { IfOk result (λ name. IsNew (λ u. u.instance) (flat_map use_of before.now) name) }
         ensures tally { OnOk result (tally.new ≡ with_instance tally.old) }
@@ -261,7 +261,7 @@ impl<'a> Reader<'a> {
     }
 
     /// The name of a task of these lines.
-    fn known_task(&mut self, alloc: Global, before: &[Item]) -> Result<Name, PlantFault>
+    fn known_task(&mut self, alloc: Global, before: &[Item]) -> Result<Name, GrammarFault>
         ensures ok { IfOk result (λ name. self.old.words ≡ token.Name name ∷ self.new.words) }
         ensures known { IfOk result (λ name. Any (λ t. IsTrue (is_named name t.name)) (flat_map task_of before.now)) }
         ensures tells { IfErr result (λ e. TellsOfName e.kind ⊥ ⊥) }
@@ -271,7 +271,7 @@ impl<'a> Reader<'a> {
         if is_task(before, &name) {
             Ok(name)
         } else {
-            Err(PlantFault::at(PlantFaultKind::UnknownName, name.line()))
+            Err(GrammarFault::at(GrammarFaultKind::UnknownName, name.line()))
         }
     }
 
@@ -280,10 +280,10 @@ impl<'a> Reader<'a> {
     fn instance(
         &mut self,
         alloc: Global,
-        types: &[ProgramType],
+        types: &[ProgramText],
         before: &[Item],
         tally: &mut Tally,
-    ) -> Result<Use, PlantFault>
+    ) -> Result<Use, GrammarFault>
         ensures ok { IfOk result (λ u. self.old.words ≡ use_words u ++ self.new.words) }
         ensures new { IfOk result (λ u. IsNew (λ u. u.instance) (flat_map use_of before.now) u.instance) }
         ensures lawful { IfOk result (λ u. IsUseLawful (types_alone types.now) before.now u) }
@@ -297,8 +297,8 @@ impl<'a> Reader<'a> {
         let task = self.known_task(alloc, before)?;
         self.punctuation(Punctuation::Colon)?;
         let program = self.name(alloc)?;
-        let Some(found) = type_named(types, &program) else {
-            return Err(PlantFault::at(PlantFaultKind::UnknownName, program.line()));
+        let Some(found) = program_named(types, &program) else {
+            return Err(GrammarFault::at(GrammarFaultKind::UnknownName, program.line()));
         };
         let binds = self.some_binds(alloc, found, tally)?;
         self.punctuation(Punctuation::Semicolon)?;
@@ -315,10 +315,10 @@ impl<'a> Reader<'a> {
     fn item(
         &mut self,
         alloc: Global,
-        types: &[ProgramType],
+        types: &[ProgramText],
         before: &[Item],
         tally: &mut Tally,
-    ) -> Result<Item, PlantFault>
+    ) -> Result<Item, GrammarFault>
         ensures ok { IfOk result (λ x. self.old.words ≡ item_words x ++ self.new.words) }
         ensures lawful { IfOk result (λ x. MayFollow (types_alone types.now) before.now x) }
         ensures tally { IfOk result (λ x. tally.new ≡ tally_with tally.old (use_of x)) }
@@ -337,9 +337,9 @@ impl<'a> Reader<'a> {
     fn items(
         &mut self,
         alloc: Global,
-        types: &[ProgramType],
+        types: &[ProgramText],
         tally: &mut Tally,
-    ) -> Result<Vec<Item>, PlantFault>
+    ) -> Result<Vec<Item>, GrammarFault>
         ensures ok { IfOk result (λ xs. self.old.words ≡ items_words xs.items ++ self.new.words) }
         ensures lawful { IfOk result (λ xs. AreItemsLawful (types_alone types.now) xs.items) }
         ensures tally { IfOk result (λ xs. tally.new ≡ tally_with tally.old (flat_map use_of xs.items)) }
@@ -356,7 +356,7 @@ impl<'a> Reader<'a> {
     }
 
     /// A new name of a resource, behind these.
-    fn resource_name(&mut self, alloc: Global, before: &[Resource]) -> Result<Name, PlantFault>
+    fn resource_name(&mut self, alloc: Global, before: &[Resource]) -> Result<Name, GrammarFault>
         ensures ok { IfOk result (λ name. self.old.words ≡ token.Name name ∷ self.new.words) }
         ensures new { IfOk result (λ name. IsNew (λ r. r.name) before.now name) }
         ensures few { OnOk result (length before.now < 16) }
@@ -377,10 +377,10 @@ impl<'a> Reader<'a> {
     fn resource(
         &mut self,
         alloc: Global,
-        types: &[ProgramType],
+        types: &[ProgramText],
         before: &[Resource],
         tally: &mut Tally,
-    ) -> Result<Resource, PlantFault>
+    ) -> Result<Resource, GrammarFault>
         ensures ok { IfOk result (λ r. self.old.words ≡ resource_words r ++ self.new.words) }
         ensures new { IfOk result (λ r. IsNew (λ r. r.name) before.now r.name) }
         ensures few { OnOk result (length before.now < 16) }
@@ -402,9 +402,9 @@ impl<'a> Reader<'a> {
     pub fn resources(
         &mut self,
         alloc: Global,
-        types: &[ProgramType],
+        types: &[ProgramText],
         tally: &mut Tally,
-    ) -> Result<Vec<Resource>, PlantFault>
+    ) -> Result<Vec<Resource>, GrammarFault>
         ensures ok { IfOk result (λ rs. self.old.words ≡ resources_words rs.items ++ self.new.words) }
         ensures some { IfOk result (λ rs. 0 < length rs.items) }
         ensures lawful { IfOk result (λ rs. AreResourcesLawful (types_alone types.now) rs.items) }

@@ -1,13 +1,13 @@
 ghost use Rattle.std.specs.Prelude.{◌≡◌, ◌≢◌, ◌∷◌, List, OnOk, IfOk, OnErr, IfErr, IsTrue, IsFalse};
-ghost use Rattle.plant_grammar.specs.Steps.WordFaults.{IsWordFault};
+ghost use Rattle.plant_grammar.specs.WordFaults.{IsWordFault};
 ghost use Rattle.plant_text.specs.declared.token.Token.TheVariants as token;
-ghost use Rattle.plant_grammar.specs.declared.plant_fault.PlantFaultKind.TheVariants.{Memory};
+ghost use Rattle.plant_grammar.specs.declared.grammar_fault.GrammarFaultKind.TheVariants.{Memory};
 ghost use Rattle.plant_grammar.specs.NameFaults.{TellsOfName};
 ghost use Rattle.plant_grammar.specs.Steps.Lines.{all_left, next_line, syntax_at, behind, IsLeft, IsNext, IsNotNext, IsOneNext, IsNoneNext, TellsNext};
 
 use crate::grammar::name::Name;
-use crate::plant_fault::{PlantFault, PlantFaultKind};
-use ladder_text::Text;
+use crate::grammar_fault::{GrammarFault, GrammarFaultKind};
+use words::Text;
 use plant_text::{Address, Keyword, Punctuation, Token, Word};
 use std::alloc::Global;
 use std::marker::Model;
@@ -54,10 +54,10 @@ impl<'a> Reader<'a> {
     }
 
     /// The fault of a word that the grammar doesn't have there.
-    pub fn syntax(&self) -> PlantFault
+    pub fn syntax(&self) -> GrammarFault
         ensures { result ≡ syntax_at self.now }
     {
-        PlantFault::at(PlantFaultKind::Syntax, self.line())
+        GrammarFault::at(GrammarFaultKind::Syntax, self.line())
     }
 
     /// The next word, if there is one.
@@ -82,7 +82,7 @@ impl<'a> Reader<'a> {
     }
 
     /// No further word.
-    pub fn end(&self) -> Result<(), PlantFault>
+    pub fn end(&self) -> Result<(), GrammarFault>
         ensures ok { OnOk result (self.now.words ≡ []) }
         ensures err { IfErr result (λ e. (e ≡ syntax_at self.now) × (self.now.words ≢ [])) }
         ensures tells { IfErr result (λ e. TellsOfName e.kind ⊥ ⊥) }
@@ -95,7 +95,7 @@ impl<'a> Reader<'a> {
     }
 
     /// A keyword.
-    pub fn keyword(&mut self, keyword: Keyword) -> Result<(), PlantFault>
+    pub fn keyword(&mut self, keyword: Keyword) -> Result<(), GrammarFault>
         ensures ok { OnOk result (self.old.words ≡ token.Keyword keyword ∷ self.new.words) }
         ensures bodies { OnOk result (self.new.bodies ≡ self.old.bodies) }
         ensures err { IfErr result (λ e. (e ≡ syntax_at self.old) × (self.new ≡ self.old)) }
@@ -111,7 +111,7 @@ impl<'a> Reader<'a> {
     }
 
     /// A mark.
-    pub fn punctuation(&mut self, punctuation: Punctuation) -> Result<(), PlantFault>
+    pub fn punctuation(&mut self, punctuation: Punctuation) -> Result<(), GrammarFault>
         ensures ok { OnOk result (self.old.words ≡ token.Punctuation punctuation ∷ self.new.words) }
         ensures bodies { OnOk result (self.new.bodies ≡ self.old.bodies) }
         ensures err { IfErr result (λ e. (e ≡ syntax_at self.old) × (self.new ≡ self.old)) }
@@ -127,7 +127,7 @@ impl<'a> Reader<'a> {
     }
 
     /// A name.
-    pub fn name(&mut self, alloc: Global) -> Result<Name, PlantFault>
+    pub fn name(&mut self, alloc: Global) -> Result<Name, GrammarFault>
         ensures ok { IfOk result (λ name. self.old.words ≡ token.Name name ∷ self.new.words) }
         ensures bodies { OnOk result (self.new.bodies ≡ self.old.bodies) }
         ensures err { IfErr result (λ e. e.kind ≢ Memory → e ≡ syntax_at self.old) }
@@ -146,7 +146,7 @@ impl<'a> Reader<'a> {
     }
 
     /// The lines of a body.
-    pub fn body(&mut self, alloc: Global) -> Result<Text, PlantFault>
+    pub fn body(&mut self, alloc: Global) -> Result<Text, GrammarFault>
         ensures ok { IfOk result (λ body. self.old.words ≡ token.Body body ∷ self.new.words) }
         ensures bodies { OnOk result (self.old.bodies ≡ next_line self.old ∷ self.new.bodies) }
         ensures err { IfErr result (λ e. e.kind ≢ Memory → e ≡ syntax_at self.old) }
@@ -165,7 +165,7 @@ impl<'a> Reader<'a> {
     }
 
     /// A duration, in ms.
-    pub fn duration(&mut self) -> Result<u32, PlantFault>
+    pub fn duration(&mut self) -> Result<u32, GrammarFault>
         ensures ok { IfOk result (λ n. self.old.words ≡ token.Duration n ∷ self.new.words) }
         ensures err { IfErr result (λ e. (e ≡ syntax_at self.old) × (self.new ≡ self.old)) }
         ensures other { OnErr result (IsNoneNext token.Duration self.old.words) }
@@ -182,7 +182,7 @@ impl<'a> Reader<'a> {
     }
 
     /// A number.
-    pub fn number(&mut self) -> Result<u16, PlantFault>
+    pub fn number(&mut self) -> Result<u16, GrammarFault>
         ensures ok { IfOk result (λ n. self.old.words ≡ token.Number n ∷ self.new.words) }
         ensures err { IfErr result (λ e. (e ≡ syntax_at self.old) × (self.new ≡ self.old)) }
         ensures other { OnErr result (IsNoneNext token.Number self.old.words) }
@@ -199,7 +199,7 @@ impl<'a> Reader<'a> {
     }
 
     /// A field address.
-    pub fn address(&mut self) -> Result<Address, PlantFault>
+    pub fn address(&mut self) -> Result<Address, GrammarFault>
         ensures ok { IfOk result (λ a. self.old.words ≡ token.Address a ∷ self.new.words) }
         ensures err { IfErr result (λ e. (e ≡ syntax_at self.old) × (self.new ≡ self.old)) }
         ensures other { OnErr result (IsNoneNext token.Address self.old.words) }
@@ -216,7 +216,7 @@ impl<'a> Reader<'a> {
     }
 
     /// The type of a standard block.
-    pub fn block_type(&mut self) -> Result<BlockType, PlantFault>
+    pub fn block_type(&mut self) -> Result<BlockType, GrammarFault>
         ensures ok { IfOk result (λ b. self.old.words ≡ token.Block b ∷ self.new.words) }
         ensures bodies { OnOk result (self.new.bodies ≡ self.old.bodies) }
         ensures err { IfErr result (λ e. (e ≡ syntax_at self.old) × (self.new ≡ self.old)) }

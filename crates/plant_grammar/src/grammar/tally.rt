@@ -1,9 +1,9 @@
 ghost use Rattle.std.specs.Prelude.{◌≡◌, ◌≤◌, ◌+◌, OnOk, IfErr};
-ghost use Rattle.plant_grammar.specs.Steps.WordFaults.{IsWordFault};
-ghost use Rattle.plant_grammar.specs.declared.plant_fault.PlantFaultKind.TheVariants.{TooMany};
+ghost use Rattle.plant_grammar.specs.WordFaults.{IsWordFault};
+ghost use Rattle.plant_grammar.specs.declared.grammar_fault.GrammarFaultKind.TheVariants.{TooMany};
 
 use crate::grammar::name::Name;
-use crate::plant_fault::{PlantFault, PlantFaultKind};
+use crate::grammar_fault::{GrammarFault, GrammarFaultKind};
 use std::marker::Model;
 
 /// How many program instances a plant may have.
@@ -60,26 +60,26 @@ impl Tally {
     }
 
     /// Counts a program instance of a name, if there may be one more.
-    pub fn add_instance(&mut self, name: &Name) -> Result<(), PlantFault>
+    pub fn add_instance(&mut self, name: &Name) -> Result<(), GrammarFault>
         ensures ok { OnOk result (self.new ≡ with_instance self.old) }
         ensures err { IfErr result (λ e. (e.kind ≡ TooMany) × (self.new ≡ self.old) × (self.old.instances ≡ 64)) }
         ensures value { IfErr result IsWordFault }
     {
         if self.instances >= MOST_INSTANCES {
-            return Err(PlantFault::at(PlantFaultKind::TooMany, name.line()));
+            return Err(GrammarFault::at(GrammarFaultKind::TooMany, name.line()));
         }
         self.instances += 1;
         Ok(())
     }
 
     /// Counts a bind of an input, if there may be one more.
-    pub fn add_bind(&mut self, input: &Name) -> Result<(), PlantFault>
+    pub fn add_bind(&mut self, input: &Name) -> Result<(), GrammarFault>
         ensures ok { OnOk result (self.new ≡ with_binds self.old 1) }
         ensures err { IfErr result (λ e. (e.kind ≡ TooMany) × (self.new ≡ self.old) × (self.old.binds ≡ 4096)) }
         ensures value { IfErr result IsWordFault }
     {
         if self.binds >= MOST_BINDS {
-            return Err(PlantFault::at(PlantFaultKind::TooMany, input.line()));
+            return Err(GrammarFault::at(GrammarFaultKind::TooMany, input.line()));
         }
         self.binds += 1;
         Ok(())

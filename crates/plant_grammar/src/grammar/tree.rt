@@ -1,9 +1,9 @@
 //! The parts of a plant's text, as they are written.
 
 use crate::grammar::name::Name;
-use ladder_text::Text;
+use words::Text;
 use plant_text::Address;
-use power_flow::Kind;
+use declared_names::Kind;
 use std_blocks::BlockType;
 
 /// Which variables a block declares.

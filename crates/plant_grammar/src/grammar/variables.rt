@@ -1,16 +1,16 @@
 ghost use Rattle.std.specs.Prelude.{◌≡◌, ◌↔◌, ◌+◌, ◌<◌, ◌≤◌, ◌++◌, [], ◌∷◌, List, IsTrue, OnOk, length, IfErr};
-ghost use Rattle.plant_grammar.specs.Steps.WordFaults.{IsWordFault};
+ghost use Rattle.plant_grammar.specs.WordFaults.{IsWordFault};
 ghost use Rattle.declared_names.specs.Names.{IsDeclared};
-ghost use Rattle.plant_grammar.specs.Faultless.{declared_as, list_variables};
+ghost use Rattle.plant_grammar.specs.Lawful.{declared_as, list_variables};
 ghost use Rattle.plant_grammar.specs.NameFaults.{IsOfName, IsTaken};
 ghost use Rattle.plant_grammar.specs.Steps.Declaring.{TellsOfChecked, TellsOfAdded, RefusesOneOf};
 ghost use Rattle.plant_grammar.specs.Steps.ReadParts.{AreVariables, IsNew};
 
-use crate::grammar::declared_names::check_new;
+use crate::grammar::known_names::check_new;
 use crate::grammar::name::Name;
 use crate::grammar::tree::{NameList, Section, TypeName};
-use crate::plant_fault::{PlantFault, PlantFaultKind};
-use power_flow::{Declarations, DeclareFault, Declared};
+use crate::grammar_fault::{GrammarFault, GrammarFaultKind};
+use declared_names::{Declarations, DeclareFault, Declared, declared_names_have_places};
 use std::alloc::Global;
 use std::marker::Model;
 
@@ -78,11 +78,12 @@ impl Variables {
     fn has(&self, name: &Name) -> bool
         ensures { IsTrue result ↔ IsDeclared self.now name.now }
     {
+        declared_names_have_places();
         self.declarations.position(name.as_str()).is_some()
     }
 
     /// Refuses a name that is declared, or that stands among `more`, which are to be declared next; and one too many.
-    pub fn check(&self, more: &[Name], name: &Name) -> Result<(), PlantFault>
+    pub fn check(&self, more: &[Name], name: &Name) -> Result<(), GrammarFault>
         ensures undeclared { OnOk result (IsDeclared self.now name.now → ⊥) }
         ensures new { OnOk result (IsNew (λ n. n) more.now name.now) }
         ensures few { OnOk result (length self.now + length more.now < 1000) }
@@ -94,24 +95,24 @@ impl Variables {
     }
 
     /// Declares a name at the end. After an error the variables are as before.
-    fn add(&mut self, name: &Name, declared: Declared) -> Result<(), PlantFault>
+    fn add(&mut self, name: &Name, declared: Declared) -> Result<(), GrammarFault>
         ensures ok { OnOk result (self.new ≡ self.old ++ record { name = name.now; declared = declared } ∷ []) }
         ensures tells { IfErr result (TellsOfAdded self.old name.now) }
         ensures value { IfErr result IsWordFault }
     {
         if self.declarations.len() >= MOST_NAMES {
-            return Err(PlantFault::at(PlantFaultKind::TooMany, name.line()));
+            return Err(GrammarFault::at(GrammarFaultKind::TooMany, name.line()));
         }
         match self.declarations.add(name.as_str(), declared) {
             Ok(()) => Ok(()),
-            Err(DeclareFault::Twice) => Err(PlantFault::at(PlantFaultKind::NameTwice, name.line())),
-            Err(DeclareFault::Memory) => Err(PlantFault::at(PlantFaultKind::Memory, 0)),
+            Err(DeclareFault::Twice) => Err(GrammarFault::at(GrammarFaultKind::NameTwice, name.line())),
+            Err(DeclareFault::Memory) => Err(GrammarFault::at(GrammarFaultKind::Memory, 0)),
         }
     }
 
     /// Declares the names of a list of a section.
     #[tactic(auto, using(crate::proofs::RefusedNames::no_name, crate::proofs::RefusedNames::memory_no_name))]
-    pub fn add_list(&mut self, section: Section, list: &NameList) -> Result<(), PlantFault>
+    pub fn add_list(&mut self, section: Section, list: &NameList) -> Result<(), GrammarFault>
         ensures ok { OnOk result (self.new ≡ self.old ++ list_variables section list.now) }
         ensures names { IfErr result (λ e. IsOfName e.kind → RefusesOneOf list.now.names.items self.old e.kind) }
         ensures value { IfErr result IsWordFault }

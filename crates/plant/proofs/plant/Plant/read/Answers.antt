@@ -5,10 +5,10 @@ use Rattle.plant_text.specs.declared.token.Token.{Token}
 use Rattle.plant_text.specs.declared.token.Token.TheVariants as token
 use Rattle.plant_text.specs.Spelling.{Spells}
 use Rattle.plant_grammar.specs.Grammar.{words_of}
-use Rattle.plant_grammar.specs.Steps.Reading.{tree_of}
+use Rattle.plant.specs.Steps.Reading.{tree_of}
 use Rattle.plant_grammar.specs.Steps.Lines.{ReaderValue}
 use Rattle.plant_text.specs.Lines.{WordValue, body_lines}
-use Rattle.plant_grammar.specs.Faults.{IsOfBody}
+use Rattle.plant.specs.Faults.{IsOfBody}
 use Rattle.plant.specs.PlantText.{IsBodyFaultIn}
 use Rattle.lists.proofs.Results.{kept_fault}
 use Rattle.plant.proofs.KnownWords.{words_known}

@@ -3,7 +3,7 @@ use Rattle.std.specs.Borrow.{Bor}
 use Rattle.std.specs.List.{flat_map, filter}
 use Rattle.plant_grammar.specs.declared.grammar.tree.Use.{Use}
 use Rattle.plant_grammar.specs.Names.{is_named}
-use Rattle.plant_grammar.specs.Faultless.{use_of}
+use Rattle.plant_grammar.specs.Lawful.{use_of}
 use Rattle.plant.proofs.sources.draft.runs_in.Given as goal
 
 abbrev pub invariant-loop-item : goal.invariant-loop-item

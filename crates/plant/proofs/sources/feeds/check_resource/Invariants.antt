@@ -1,7 +1,7 @@
 use Rattle.std.proofs.Common.{take}
 use Rattle.std.specs.Prelude.{All}
 use Rattle.std.specs.List.{flat_map}
-use Rattle.plant_grammar.specs.Faultless.{use_of}
+use Rattle.plant_grammar.specs.Lawful.{use_of}
 use Rattle.plant.specs.Steps.Drafts.{drafted, IsUseResolved}
 use Rattle.plant.proofs.sources.feeds.check_resource.Given as goal
 

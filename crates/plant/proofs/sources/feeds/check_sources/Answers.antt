@@ -2,7 +2,7 @@ use Rattle.std.proofs.Common.{subst}
 use Rattle.std.specs.Prelude.{All}
 use Rattle.std.specs.List.{flat_map}
 use Rattle.std.proofs.lemmas.List.{take_all}
-use Rattle.plant_grammar.specs.Faultless.{uses_of}
+use Rattle.plant_grammar.specs.Lawful.{uses_of}
 use Rattle.plant.specs.Steps.Drafts.{drafted, IsUseResolved}
 use Rattle.plant.proofs.Zips.{all_flat_more}
 use Rattle.plant.proofs.sources.feeds.check_sources.Goals as goal

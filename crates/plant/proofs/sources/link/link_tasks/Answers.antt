@@ -9,7 +9,7 @@ use Rattle.plant.specs.declared.task_code.TaskCode.{TaskCode}
 use Rattle.plant_grammar.specs.declared.grammar.tree.TaskLine.{TaskLine}
 use Rattle.plant_grammar.specs.declared.grammar.tree.Use.{Use}
 use Rattle.plant_grammar.specs.Names.{is_named}
-use Rattle.plant_grammar.specs.Faultless.{uses_of}
+use Rattle.plant_grammar.specs.Lawful.{uses_of}
 use Rattle.plant.specs.StandsFor.{runs_in}
 use Rattle.plant.specs.Steps.Drafts.{drafted, IsDraftOf, IsLinked, IsOnceBound}
 use Rattle.plant.proofs.StandLemmas.{runs_many}

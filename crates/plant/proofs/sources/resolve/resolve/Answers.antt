@@ -1,7 +1,7 @@
 use Rattle.std.proofs.Common.{◌∙◌, ap, sym, subst, length}
 use Rattle.lists.proofs.Members.{all_from_places}
-use Rattle.plant_grammar.specs.Faultless.{IsResourceLawful}
-use Rattle.plant_grammar.specs.Steps.Reading.{tree_of}
+use Rattle.plant_grammar.specs.Lawful.{IsResourceLawful}
+use Rattle.plant.specs.Steps.Reading.{tree_of}
 use Rattle.plant.specs.StandsFor.{IsPlantOf}
 use Rattle.plant.specs.Steps.Drafts.{programs_in, IsReady}
 use Rattle.plant.proofs.Zips.{all_at}

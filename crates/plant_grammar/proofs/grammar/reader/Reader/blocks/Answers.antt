@@ -1,5 +1,5 @@
 use Rattle.std.proofs.Common.{◌∙◌}
-use Rattle.plant_grammar.specs.Faultless.{block_variables, IsBlockLawful}
+use Rattle.plant_grammar.specs.Lawful.{block_variables, IsBlockLawful}
 use Rattle.plant_grammar.specs.Grammar.{block_words}
 use Rattle.plant_grammar.proofs.WordLists.{words_more, declared_more, all_more}
 use Rattle.plant_grammar.specs.NameFaults.{IsOfName, RefusesBlocks}

@@ -1,7 +1,7 @@
 use Rattle.std.proofs.Common.{◌≡◌, ◌++◌, length}
 use Rattle.std.specs.Prelude.{All}
 use Rattle.std.specs.List.{flat_map}
-use Rattle.plant_grammar.specs.Faultless.{block_variables, IsBlockLawful}
+use Rattle.plant_grammar.specs.Lawful.{block_variables, IsBlockLawful}
 use Rattle.plant_grammar.specs.Grammar.{block_words}
 use Rattle.plant_grammar.proofs.grammar.reader.Reader.blocks.Given as goal
 

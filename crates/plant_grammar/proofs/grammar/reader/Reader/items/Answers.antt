@@ -1,5 +1,5 @@
 use Rattle.std.proofs.Common.{List, subst}
-use Rattle.plant_grammar.specs.Faultless.{use_of}
+use Rattle.plant_grammar.specs.Lawful.{use_of}
 use Rattle.plant_grammar.specs.Grammar.{item_words}
 use Rattle.plant_grammar.specs.Steps.ReadParts.{types_alone, MayFollow}
 use Rattle.plant_grammar.proofs.WordLists.{words_more, items_done}

@@ -1,6 +1,6 @@
 use Rattle.std.proofs.Common.{◌≡◌, ◌++◌, length}
 use Rattle.std.specs.List.{flat_map}
-use Rattle.plant_grammar.specs.Faultless.{use_of}
+use Rattle.plant_grammar.specs.Lawful.{use_of}
 use Rattle.plant_grammar.specs.Grammar.{item_words}
 use Rattle.plant_grammar.specs.Steps.ReadParts.{types_alone, tally_with, AreItemsLawful}
 use Rattle.plant_grammar.proofs.grammar.reader.Reader.items.Given as goal

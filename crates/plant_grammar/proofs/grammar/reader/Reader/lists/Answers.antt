@@ -1,5 +1,5 @@
 use Rattle.std.proofs.Common.{◌∙◌}
-use Rattle.plant_grammar.specs.Faultless.{list_variables, IsListLawful}
+use Rattle.plant_grammar.specs.Lawful.{list_variables, IsListLawful}
 use Rattle.plant_grammar.specs.Grammar.{list_words}
 use Rattle.plant_grammar.proofs.WordLists.{words_more, declared_more, all_more, lists_done}
 use Rattle.plant_grammar.specs.NameFaults.{IsOfName, RefusesList}

@@ -1,7 +1,7 @@
 use Rattle.std.proofs.Common.{◌≡◌, ◌++◌, length}
 use Rattle.std.specs.Prelude.{All}
 use Rattle.std.specs.List.{flat_map}
-use Rattle.plant_grammar.specs.Faultless.{list_variables, IsListLawful}
+use Rattle.plant_grammar.specs.Lawful.{list_variables, IsListLawful}
 use Rattle.plant_grammar.specs.Grammar.{list_words}
 use Rattle.plant_grammar.proofs.grammar.reader.Reader.lists.Given as goal
 

@@ -1,6 +1,6 @@
 use Rattle.std.proofs.Common.{◌<◌, length, subst}
 use Rattle.plant_grammar.specs.declared.grammar.tree.Resource.{Resource}
-use Rattle.plant_grammar.specs.Faultless.{uses_of}
+use Rattle.plant_grammar.specs.Lawful.{uses_of}
 use Rattle.plant_grammar.specs.Grammar.{resource_words}
 use Rattle.plant_grammar.specs.Steps.ReadParts.{types_alone, IsNew}
 use Rattle.plant_grammar.proofs.WordLists.{words_more, resources_done}

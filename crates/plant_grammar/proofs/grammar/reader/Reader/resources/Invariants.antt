@@ -1,6 +1,6 @@
 use Rattle.std.proofs.Common.{◌≡◌, ◌++◌, length}
 use Rattle.std.specs.List.{flat_map}
-use Rattle.plant_grammar.specs.Faultless.{uses_of}
+use Rattle.plant_grammar.specs.Lawful.{uses_of}
 use Rattle.plant_grammar.specs.Grammar.{resource_words}
 use Rattle.plant_grammar.specs.Steps.ReadParts.{types_alone, tally_with, AreResourcesLawful}
 use Rattle.plant_grammar.proofs.grammar.reader.Reader.resources.Given as goal

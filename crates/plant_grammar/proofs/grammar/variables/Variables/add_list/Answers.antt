@@ -1,6 +1,6 @@
 use Rattle.std.proofs.Common.{◌≡◌, ◌⊎◌, ◌∷◌, ◌++◌, ◌+◌, ◌≤◌, ℕ, List, length, arith}
 use Rattle.declared_names.specs.declared.declarations.Declaration.{Declaration}
-use Rattle.plant_grammar.specs.Faultless.{declared_as}
+use Rattle.plant_grammar.specs.Lawful.{declared_as}
 use Rattle.plant_grammar.specs.NameFaults.{IsOfName, TellsOfName, IsTaken}
 use Rattle.lists.proofs.Results.{kept_fault}
 use Rattle.plant_grammar.proofs.AddedNames.{add_refused}

@@ -1,5 +1,5 @@
 use Rattle.std.proofs.Common.{◌≡◌, ◌++◌, map, take}
-use Rattle.plant_grammar.specs.Faultless.{declared_as}
+use Rattle.plant_grammar.specs.Lawful.{declared_as}
 use Rattle.plant_grammar.proofs.grammar.variables.Variables.add_list.Given as goal
 
 abbrev pub invariant-loop-name : goal.invariant-loop-name

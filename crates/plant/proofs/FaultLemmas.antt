@@ -1,0 +1,62 @@
+-- The fault of a word is one of a plant's text, and no body's; and one that tells of no name is no name's.
+use Rattle.std.proofs.Common.{◌≡◌, inl, inr, ℕ, None, refl, subst}
+use Rattle.plant_grammar.specs.declared.grammar_fault.GrammarFault.{GrammarFault}
+use Rattle.plant_grammar.specs.declared.grammar_fault.GrammarFaultKind.{GrammarFaultKind}
+use Rattle.plant_grammar.specs.declared.grammar_fault.GrammarFaultKind.TheVariants as word
+use Rattle.plant_grammar.specs.NameFaults.{TellsOfName}
+use Rattle.plant_grammar.specs.NameFaults as names
+use Rattle.plant_grammar.specs.WordFaults.{IsOfWord, IsWordFault}
+use Rattle.plant.specs.declared.plant_fault.PlantFault.{PlantFault}
+use Rattle.plant.specs.declared.plant_fault.PlantFaultKind.{PlantFaultKind}
+use Rattle.plant.specs.declared.plant_fault.PlantFaultKind.TheVariants as kind
+use Rattle.plant.specs.Faults.{IsOfKind, IsPlantFault, IsOfBody, IsOfName, kind_of_word, fault_of_word}
+
+of_word : (k : GrammarFaultKind) (line : ℕ) → IsOfWord k line → IsOfKind (kind_of_word k) line None
+of_word word.Syntax line w = refl
+of_word word.NameTwice line w = refl
+of_word word.UnknownName line w = refl
+of_word word.WrongKind line w = refl
+of_word word.InputBoundTwice line w = refl
+of_word word.TooMany line w = refl
+of_word word.Memory line w = (refl, w)
+
+pub plant_of_word : (w : GrammarFault) → IsWordFault w → IsPlantFault (fault_of_word w)
+plant_of_word w is = of_word w.kind w.line is
+
+pub no_body : (w : GrammarFault) → IsWordFault w → IsOfBody (kind_of_word w.kind) → ⊥
+no_body w is (inl e) = subst (λ k. IsOfKind k w.line None) e (plant_of_word w is)
+no_body w is (inr (inl e)) = subst (λ k. IsOfKind k w.line None) e (plant_of_word w is)
+no_body w is (inr (inr e)) = subst (λ k. IsOfKind k w.line None) e (plant_of_word w is)
+
+-- a fault of a name, among those of words
+pub of_name : (k : GrammarFaultKind) → IsOfName (kind_of_word k) → names.IsOfName k
+of_name word.Syntax (inl e) = absurd cc
+of_name word.Syntax (inr e) = absurd cc
+of_name word.NameTwice of = inl refl
+of_name word.UnknownName (inl e) = absurd cc
+of_name word.UnknownName (inr e) = absurd cc
+of_name word.WrongKind (inl e) = absurd cc
+of_name word.WrongKind (inr e) = absurd cc
+of_name word.InputBoundTwice (inl e) = absurd cc
+of_name word.InputBoundTwice (inr e) = absurd cc
+of_name word.TooMany of = inr refl
+of_name word.Memory (inl e) = absurd cc
+of_name word.Memory (inr e) = absurd cc
+
+tells_no_name : (k : GrammarFaultKind) → TellsOfName k ⊥ ⊥ → names.IsOfName k → ⊥
+tells_no_name k tells (inl e) = subst (λ k. TellsOfName k ⊥ ⊥) e tells
+tells_no_name k tells (inr e) = subst (λ k. TellsOfName k ⊥ ⊥) e tells
+
+-- a fault that tells of no name
+pub no_name : (k : GrammarFaultKind) → TellsOfName k ⊥ ⊥ → IsOfName (kind_of_word k) → ⊥
+no_name k tells of = tells_no_name k tells (of_name k of)
+
+-- want of memory tells of no name, and of no body
+pub memory_no_name : (fault : PlantFault) → fault.kind ≡ kind.Memory → IsOfName fault.kind → ⊥
+memory_no_name fault m (inl e) = cc
+memory_no_name fault m (inr e) = cc
+
+pub memory_no_body : (fault : PlantFault) → fault.kind ≡ kind.Memory → IsOfBody fault.kind → ⊥
+memory_no_body fault m (inl e) = cc
+memory_no_body fault m (inr (inl e)) = cc
+memory_no_body fault m (inr (inr e)) = cc

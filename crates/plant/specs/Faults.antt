@@ -1,0 +1,73 @@
+-- What a fault of a plant's text is, as a value.
+use Rattle.std.specs.Prelude.{◌≡◌, ◌≢◌, ◌⊎◌, ℕ, Option, None, Some}
+use Rattle.plant_grammar.specs.declared.grammar_fault.GrammarFault.{GrammarFault}
+use Rattle.plant_grammar.specs.declared.grammar_fault.GrammarFaultKind.{GrammarFaultKind}
+use Rattle.plant_grammar.specs.declared.grammar_fault.GrammarFaultKind.TheVariants as word
+use Rattle.ladder_text.specs.declared.draw_fault.DrawFaultKind.TheVariants as draw
+use Rattle.network.specs.declared.fault.GraphFaultKind.TheVariants as graph
+use Rattle.variable_binding.specs.declared.bind_fault.BindKind.TheVariants as bind
+use Rattle.plant.specs.declared.plant_fault.BodyFault.{BodyFault}
+use Rattle.plant.specs.declared.plant_fault.BodyFault.TheVariants as body
+use Rattle.plant.specs.declared.plant_fault.PlantFault.{PlantFault}
+use Rattle.plant.specs.declared.plant_fault.PlantFaultKind.{PlantFaultKind}
+use Rattle.plant.specs.declared.plant_fault.PlantFaultKind.TheVariants as kind
+
+-- the inner kind is one of drawings, and not want of memory
+abbrev pub IsOfDrawing : Option BodyFault → Type 0
+IsOfDrawing None = ⊥
+IsOfDrawing (Some (body.Drawing k)) = k ≢ draw.Memory
+IsOfDrawing (Some (body.Graph k)) = ⊥
+IsOfDrawing (Some (body.Bind k)) = ⊥
+
+-- the inner kind is one of networks, and not want of memory
+abbrev pub IsOfNetworks : Option BodyFault → Type 0
+IsOfNetworks None = ⊥
+IsOfNetworks (Some (body.Drawing k)) = ⊥
+IsOfNetworks (Some (body.Graph k)) = k ≢ graph.Memory
+IsOfNetworks (Some (body.Bind k)) = ⊥
+
+-- the inner kind is one of names, and not want of memory
+abbrev pub IsOfNames : Option BodyFault → Type 0
+IsOfNames None = ⊥
+IsOfNames (Some (body.Drawing k)) = ⊥
+IsOfNames (Some (body.Graph k)) = ⊥
+IsOfNames (Some (body.Bind k)) = k ≢ bind.Memory
+
+-- a drawing's fault, one of its networks and one of its names have a kind of that layer inside, all others none; want of memory has line 0
+abbrev pub IsOfKind : PlantFaultKind → ℕ → Option BodyFault → Type 0
+IsOfKind kind.Syntax line inner = inner ≡ None
+IsOfKind kind.Drawing line inner = IsOfDrawing inner
+IsOfKind kind.Graph line inner = IsOfNetworks inner
+IsOfKind kind.Bind line inner = IsOfNames inner
+IsOfKind kind.NameTwice line inner = inner ≡ None
+IsOfKind kind.UnknownName line inner = inner ≡ None
+IsOfKind kind.WrongKind line inner = inner ≡ None
+IsOfKind kind.InputBoundTwice line inner = inner ≡ None
+IsOfKind kind.TooMany line inner = inner ≡ None
+IsOfKind kind.Memory line inner = (inner ≡ None) × (line ≡ 0)
+
+-- a fault with what belongs to its kind
+abbrev pub IsPlantFault : PlantFault → Type 0
+IsPlantFault fault = IsOfKind fault.kind fault.line fault.inner
+
+-- one of the kinds of faults that the body of a program has
+abbrev pub IsOfBody : PlantFaultKind → Type 0
+IsOfBody k = (k ≡ kind.Drawing) ⊎ ((k ≡ kind.Graph) ⊎ (k ≡ kind.Bind))
+
+-- one of the kinds of faults of a name that is declared, or of one too many
+abbrev pub IsOfName : PlantFaultKind → Type 0
+IsOfName k = (k ≡ kind.NameTwice) ⊎ (k ≡ kind.TooMany)
+
+-- the kind of a word's fault, as one of a plant's text
+abbrev pub kind_of_word : GrammarFaultKind → PlantFaultKind
+kind_of_word word.Syntax = kind.Syntax
+kind_of_word word.NameTwice = kind.NameTwice
+kind_of_word word.UnknownName = kind.UnknownName
+kind_of_word word.WrongKind = kind.WrongKind
+kind_of_word word.InputBoundTwice = kind.InputBoundTwice
+kind_of_word word.TooMany = kind.TooMany
+kind_of_word word.Memory = kind.Memory
+
+-- the fault of a word, as one of a plant's text
+abbrev pub fault_of_word : GrammarFault → PlantFault
+fault_of_word fault = record { kind = kind_of_word fault.kind; line = fault.line; inner = None }
