@@ -1,10 +1,10 @@
 ghost use Rattle.std.specs.Prelude.{◌≡◌, IfOk, length, vec_len};
-ghost use Rattle.node_journals.specs.Reports.{IsFittingBook, AreJournalsOf, AreInBook, AreAnswers, RunsAgain, AreNumbered, AreForPlant, AreTold};
+ghost use Rattle.node_journals.specs.Commands.{AreNumbered, AreForPlant};
+ghost use Rattle.node_reports.specs.Reports.{IsFittingBook, AreJournalsOf, AreInBook, AreAnswers, RunsAgain, AreTold};
 
-use crate::gate::Gate;
-use crate::keeper::Keeper;
-use crate::threads::{Outcome, run_all};
-use node_journals::{Command, Report, RunFault, collect};
+use node_journals::{Command, RunFault};
+use node_reports::{Report, collect};
+use node_threads::{Gate, Keeper, Outcome, run_all};
 use plant::Plant;
 use std::alloc::Global;
 use std::sync::{Arc, Wait};

@@ -1,5 +1,4 @@
+pub mod Commands
 pub mod Journals
 pub mod Standing
 pub mod Stations
-pub mod Reports
-pub mod Steps

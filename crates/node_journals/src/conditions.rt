@@ -1,5 +1,5 @@
 ghost use Rattle.std.specs.Prelude.{◌↔◌, IsTrue};
-ghost use Rattle.node_journals.specs.Reports.{AreNumbered, AreForPlant};
+ghost use Rattle.node_journals.specs.Commands.{AreNumbered, AreForPlant};
 
 use crate::command::Command;
 use plant::Plant;

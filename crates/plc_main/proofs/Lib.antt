@@ -1,4 +1,1 @@
-pub mod Commanding
-pub mod Reporting
-pub mod Replaying
 pub mod RunExplaining

@@ -1,27 +1,18 @@
 -- What `plc run` writes.
-use Rattle.std.specs.Prelude.{◌≡◌, ◌≢◌, ◌↔◌, ℕ, ◌≤◌, ◌++◌, ◌⊎◌, Bool, IsTrue, true, List, [], Option, length}
+use Rattle.std.specs.Prelude.{◌≢◌, ◌↔◌, ℕ, ◌++◌, ◌⊎◌, Bool, IsTrue, true, List, [], Option}
 use Rattle.std.specs.Io.KnownBytes.{Appends, Keeps}
-use Rattle.due_list.specs.declared.due.Due.{Due}
 use Rattle.plant.specs.PlantValue.{PlantValue}
-use Rattle.plant.specs.Plan.{IsPlan}
 use Rattle.evaluation.specs.declared.field_input.FieldInput.{FieldInput}
 use Rattle.node_journals.specs.declared.command.Command.{Command}
-use Rattle.node_journals.specs.declared.report.Report.{Report}
-use Rattle.node_journals.specs.Reports.{IsFittingBook, AreJournalsOf, AreInBook, AreAnswers, RunsAgain, AreTold}
+use Rattle.node_reports.specs.declared.report.Report.{Report}
+use Rattle.node_reports.specs.Reports.{IsFittingBook, AreJournalsOf, AreInBook, AreAnswers, RunsAgain, AreTold}
 use Rattle.plc_main.specs.declared.command_fault.CommandFault.{CommandFault}
 use Rattle.plc_main.specs.declared.command_fault.CommandFault.TheVariants.{Text, Word, Write, Run, Memory}
 use Rattle.text_writer.specs.Sending.{SendsPart}
 use Rattle.text_commands.specs.declared.text_command_fault.TextCommandFault.TheVariants as text
 use Rattle.text_commands.specs.PlanText.{RefusesPlanOf}
-use Rattle.plc_main.specs.RunCommands.{commands_from}
-use Rattle.plc_main.specs.ReportText.{report_lines, replay_line}
-
--- the commands are those for the entries of the plan, of which there are at most 100,000
-pub record ArePlanned (plant : PlantValue) (until : ℕ) (inputs : List FieldInput) (commands : List Command) : Type 0 where
-  pub dues : List Due
-  pub planned : IsPlan plant until dues
-  pub few : length dues ≤ 100000
-  pub commands_are : commands ≡ commands_from plant inputs 1 dues
+use Rattle.run_texts.specs.RunCommands.{ArePlanned}
+use Rattle.run_texts.specs.ReportText.{report_lines, replay_line}
 
 -- What a report of threads is: its book fits, its journals are lawful and made the book's entries, the commands are accounted for, the book's entries are a run, and the faults are told of commands that may have met them.
 pub record IsReport (plant : PlantValue) (commands : List Command) (max_number : ℕ) (r : Report) : Type 0 where

@@ -2,12 +2,8 @@
 #![tactic(auto)]
 
 mod command_fault;
-mod field_words;
 mod refusal;
-mod replay;
-mod report_text;
 mod run_command;
-mod run_commands;
 
 ghost use Rattle.std.specs.Prelude.{◌≡◌, length, vec_len, OnOk, IfOk, IfErr};
 ghost use Rattle.plant.specs.PlantText.{IsPlantText};
@@ -19,12 +15,12 @@ ghost use Rattle.plc_main.specs.RunText.{WritesReport, ExplainsRun};
 use command_fault::CommandFault;
 use command_line::{FIRST_STEPS, Request, RunRequest, SimRequest, TextRequest, read_words};
 use evaluation::{InputFault, Inputs};
-use field_words::read_field_words;
 use guidance::{Refusal, explain, help_with};
 use node::{FreeGate, Gate, Keeper, MemoryKeeper, PacedGate};
 use plant::Plant;
 use refusal::refusal_of;
 use run_command::run_text;
+use run_texts::read_field_words;
 use std::alloc::{AllocError, Global};
 use std::io::{ErrorKind, Write};
 use std::process::ExitCode;

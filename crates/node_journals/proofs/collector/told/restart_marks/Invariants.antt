@@ -1,7 +1,0 @@
--- The marks tell of the journals before the present one.
-use Rattle.std.proofs.Common.{take}
-use Rattle.node_journals.specs.Steps.Collecting.{AreRestartMarks}
-use Rattle.node_journals.proofs.collector.told.restart_marks.Given as goal
-
-abbrev pub invariant-loop-i : goal.invariant-loop-i
-invariant-loop-i l = AreRestartMarks (take l.i l.journals) l.marks.items

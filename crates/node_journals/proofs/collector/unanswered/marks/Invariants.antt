@@ -1,7 +1,0 @@
--- The marks tell of the entries before the present one.
-use Rattle.std.proofs.Common.{take}
-use Rattle.node_journals.specs.Steps.Collecting.{AreMarks}
-use Rattle.node_journals.proofs.collector.unanswered.marks.Given as goal
-
-abbrev pub invariant-loop-k : goal.invariant-loop-k
-invariant-loop-k l = AreMarks l.count (take l.k l.entries) l.marks.items

@@ -1,0 +1,100 @@
+-- The entries of a book that agrees with lawful journals could have been made, so events that make them again have them as their run.
+use Rattle.std.proofs.Common.{◌≡◌, ℕ, ◌<◌, ◌≤◌, ◌++◌, List, [], ◌∷◌, length, reverse, All, Some, slice_get, refl, ap, sym, ◌∙◌, subst, arith}
+use Rattle.std.proofs.lemmas.List.{append_assoc, reverse-append, length-map}
+use Rattle.std.proofs.lemmas.List.Elements.{All-head, All-tail}
+use Rattle.std.proofs.lemmas.Option.{get_or_from_slice_get}
+use Rattle.lists.proofs.Places.{element_at}
+use Rattle.plant.specs.PlantValue.{PlantValue, IsSoundPlant}
+use Rattle.evaluation.specs.Meaning.{Evaluated}
+use Rattle.exchange_core.specs.Last.{state_of}
+use Rattle.exchange.specs.Run.{IsRun}
+use Rattle.exchange.specs.Fits.{Each, Fits, AllFit, last_in}
+use Rattle.exchange.specs.Book.{BookValue, CouldBeMade, AllCouldBeMade}
+use Rattle.node_journals.specs.declared.journal.Journal.{Journal}
+use Rattle.node_journals.specs.Journals.{made, last_made, IsLawful}
+use Rattle.node_reports.specs.Reports.{entries_of, IsFittingBook, AreJournalsOf, AreInBook, RunsAgain}
+use Rattle.node_reports.proofs.JournalRuns.{IsMadeAfter, made_after, last_made_is, made-reverse, entries-reverse, entries-part, last_in-entries}
+
+-- an incarnation is a number of 32 bits
+abbrev pub HasIncarnation : Evaluated → Type 0
+HasIncarnation x = x.name.incarnation ≤ 4294967295
+
+each-append : {X : Type 0} (P : X → Type 0) (xs ys : List X) → Each P xs → Each P ys → Each P (xs ++ ys)
+each-append P [] ys a b = b
+each-append P (x ∷ xs) ys a b = (a.0, each-append P xs ys a.1 b)
+
+each-reverse : {X : Type 0} (P : X → Type 0) (xs : List X) → All P xs → Each P (reverse xs)
+each-reverse P [] all = tt
+each-reverse P (x ∷ xs) all =
+    subst (Each P) (sym (reverse-append (x ∷ []) xs)) (each-append P (reverse xs) (x ∷ []) (each-reverse P xs (All-tail P x xs all)) (All-head P x xs all, tt))
+
+-- what holds of each holds of the one at a place
+holds_at : {X : Type 0} (P : X → Type 0) (xs : List X) (k : ℕ) (x : X) → k < length xs → slice_get xs k ≡ Some x → All P xs → P x
+holds_at P xs k x lt at all = subst P (get_or_from_slice_get xs k x x at) (all k x lt)
+
+-- an entry could have been made after those before it
+entry_made : (plant : PlantValue) (max_number : ℕ) (first : List ℕ) (journals : List Journal) (entries : List Evaluated) (newer older : List Evaluated) (x : Evaluated)
+    → length first ≡ length journals → AreJournalsOf plant max_number journals → AreInBook entries journals → reverse entries ≡ newer ++ x ∷ older → Fits first older x → HasIncarnation x
+    → CouldBeMade (record { plant = plant; first = first; max_number = max_number }) older x
+entry_made plant max_number first journals entries newer older x long js in_book is fit bound = record {
+  code = after.next.code;
+  found = after.next.found;
+  number_left = after.next.number_left;
+  incarnation_left = bound;
+  same_code = ap (λ (e : Evaluated). e.code) after.next.asked.is;
+  before = ap (λ (e : Evaluated). e.before) after.next.asked.is ∙ ap (state_of after.next.code) last;
+  meant = after.next.asked.meant;
+  whole = after.next.asked.whole;
+}
+  where
+    lt : x.name.task.resource < length journals
+    lt = let exists = fit.numbered.exists in omega arith
+
+    journal : (j : Journal) × (slice_get journals x.name.task.resource ≡ Some j)
+    journal = element_at journals x.name.task.resource lt
+
+    made_is : made (reverse journal.0.steps) ≡ entries_of x.name.task.resource newer ++ x ∷ entries_of x.name.task.resource older
+    made_is =
+        made-reverse journal.0.steps
+        ∙ ap reverse (holds_at (λ (j : Journal). made j.steps ≡ entries_of j.resource entries) journals x.name.task.resource journal.0 lt journal.1 in_book)
+        ∙ ap (λ n. reverse (entries_of n entries)) (js.in_order x.name.task.resource journal.0 journal.1)
+        ∙ sym (entries-reverse x.name.task.resource entries)
+        ∙ ap (entries_of x.name.task.resource) is
+        ∙ entries-part newer older x
+
+    after : IsMadeAfter plant max_number journal.0.resource journal.0.first x (entries_of x.name.task.resource older)
+    after = made_after plant max_number journal.0.resource journal.0.first x (entries_of x.name.task.resource older) (reverse journal.0.steps) (entries_of x.name.task.resource newer)
+        (holds_at (IsLawful plant max_number) journals x.name.task.resource journal.0 lt journal.1 js.lawful).follows made_is
+
+    last : last_made x.name.task after.before ≡ last_in older x.name.task x.name.incarnation
+    last =
+        last_made_is plant max_number journal.0.resource journal.0.first x.name.task after.before after.lawful
+        ∙ ap (last_in (made after.before) x.name.task) (sym after.next.incarnation_is)
+        ∙ ap (λ l. last_in l x.name.task x.name.incarnation) after.made_is
+        ∙ last_in-entries x.name.task x.name.incarnation older
+
+all_made : (plant : PlantValue) (max_number : ℕ) (first : List ℕ) (journals : List Journal) (entries : List Evaluated) (newer older : List Evaluated)
+    → length first ≡ length journals → AreJournalsOf plant max_number journals → AreInBook entries journals → reverse entries ≡ newer ++ older → AllFit first older → Each HasIncarnation older
+    → AllCouldBeMade (record { plant = plant; first = first; max_number = max_number }) older
+all_made plant max_number first journals entries newer [] long js in_book is fit bounds = tt
+all_made plant max_number first journals entries newer (x ∷ older) long js in_book is fit bounds = (
+  entry_made plant max_number first journals entries newer older x long js in_book is fit.0 bounds.0,
+  all_made plant max_number first journals entries (newer ++ x ∷ []) older long js in_book (is ∙ sym (append_assoc newer (x ∷ []) older)) fit.1 bounds.1,
+)
+
+-- each entry of a fitting book that has what lawful journals made could have been made after those before it
+pub could_be_made : (plant : PlantValue) (max_number : ℕ) (book : BookValue) (journals : List Journal)
+    → IsFittingBook book journals → AreJournalsOf plant max_number journals → AreInBook book.entries journals → All HasIncarnation book.entries
+    → AllCouldBeMade (record { plant = plant; first = book.first; max_number = max_number }) (reverse book.entries)
+could_be_made plant max_number book journals fitting js in_book bounds =
+    all_made plant max_number book.first journals book.entries [] (reverse book.entries) (ap length fitting.first_is ∙ length-map journals (λ (j : Journal). j.first)) js in_book refl fitting.fit
+    (each-reverse HasIncarnation book.entries bounds)
+
+-- so events that make its entries again have them as their run
+pub runs_again : (plant : PlantValue) (max_number : ℕ) (book : BookValue) (journals : List Journal)
+    → IsSoundPlant plant → IsFittingBook book journals → AreJournalsOf plant max_number journals → AreInBook book.entries journals → All HasIncarnation book.entries
+    → RunsAgain plant max_number book journals
+runs_again plant max_number book journals sound fitting js in_book bounds = λ events replays.
+    let long : length book.first ≡ length plant.resources = ap length fitting.first_is ∙ length-map journals (λ (j : Journal). j.first) ∙ js.many in
+    subst (λ (first : List ℕ). IsRun (record { plant = plant; first = first; max_number = max_number }) events book.entries) fitting.first_is
+    (replays plant max_number sound long (could_be_made plant max_number book journals fitting js in_book bounds))

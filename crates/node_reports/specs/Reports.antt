@@ -1,0 +1,177 @@
+-- What a report of the threads has to be: the book fits, the journals are lawful, they made the book's entries, the commands are accounted for, and the book's entries are a run.
+use Rattle.std.specs.Prelude.{◌≡◌, ℕ, ◌+◌, ◌<◌, ◌≤◌, ◌==◌, ◌&&◌, Bool, true, false, not, List, Option, Some, None, All, Contains, length, map, filter, reverse, take, slice_get}
+use Rattle.std.specs.List.{filter_map, list_any}
+use Rattle.std.specs.List.Sorted.{IsStrictlyIncreasing}
+use Rattle.plant.specs.PlantValue.{PlantValue, tasks_at}
+use Rattle.evaluation.specs.Meaning.{Evaluated}
+use Rattle.exchange.specs.declared.event.Event.{Event}
+use Rattle.exchange.specs.History.{Setting}
+use Rattle.exchange.specs.Run.{IsRun}
+use Rattle.exchange.specs.Fits.{AllFit}
+use Rattle.exchange.specs.Book.{BookValue, Replays}
+use Rattle.node_journals.specs.declared.command.Command.{Command}
+use Rattle.node_journals.specs.declared.act.Act.{Act}
+use Rattle.node_journals.specs.declared.act.Act.TheVariants.{Evaluate, Restart}
+use Rattle.node_journals.specs.declared.step.Step.{Step}
+use Rattle.node_journals.specs.declared.step.Step.TheVariants.{Took, Made, Restarted}
+use Rattle.node_journals.specs.declared.journal.Journal.{Journal}
+use Rattle.node_journals.specs.declared.cause.Cause.{Cause}
+use Rattle.node_journals.specs.declared.cause.Cause.TheVariants.{OutOfTurns, NoSuchTask, NumbersSpent, Memory, Misfit, Keeper, NotSent, Stopped}
+use Rattle.node_journals.specs.declared.node_fault.NodeFault.{NodeFault}
+use Rattle.node_journals.specs.Journals.{made, IsLawful}
+
+-- the first incarnations of the journals, in order
+abbrev pub firsts_of : List Journal → List ℕ
+firsts_of journals = map (λ (j : Journal). j.first) journals
+
+-- the entries of one resource, in order
+abbrev pub entries_of : ℕ → List Evaluated → List Evaluated
+entries_of resource entries = filter (λ (x : Evaluated). x.name.task.resource == resource) entries
+
+-- First. Each entry of the book fits the entries before it, and the book begins with the journals' first incarnations.
+pub record IsFittingBook (book : BookValue) (journals : List Journal) : Type 0 where
+  pub fit : AllFit book.first (reverse book.entries)
+  pub first_is : book.first ≡ firsts_of journals
+
+-- Second. There is one journal for each resource of the plant, in the plant's order, and each is lawful.
+pub record AreJournalsOf (plant : PlantValue) (max_number : ℕ) (journals : List Journal) : Type 0 where
+  pub many : length journals ≡ length plant.resources
+  pub in_order : (k : ℕ) (j : Journal) → slice_get journals k ≡ Some j → j.resource ≡ k
+  pub lawful : All (IsLawful plant max_number) journals
+
+-- Third. What each journal made are, in order, the book's entries of its resource.
+abbrev pub AreInBook : List Evaluated → List Journal → Type 0
+AreInBook entries journals = All (λ (j : Journal). made j.steps ≡ entries_of j.resource entries) journals
+
+-- the command that an evaluation answers: of its ticket, resource, task, elapsed time and field inputs
+abbrev pub command_of : Evaluated → Command
+command_of x = record { ticket = x.ticket; resource = x.name.task.resource; act = Evaluate x.name.task.task x.dt x.inputs }
+
+-- a step of a resource, where it is a restart, answers a Restart command of that resource
+abbrev pub IsCommanded : List Command → ℕ → Step → Type 0
+IsCommanded commands resource (Took x) = Unit {0}
+IsCommanded commands resource (Made x) = Unit {0}
+IsCommanded commands resource (Restarted ticket incarnation) = Contains commands (record { ticket = ticket; resource = resource; act = Restart })
+
+-- the ticket of an evaluation made or of a restart
+abbrev pub ticket_of : Step → Option ℕ
+ticket_of (Took x) = None
+ticket_of (Made x) = Some x.ticket
+ticket_of (Restarted ticket incarnation) = Some ticket
+
+-- the tickets of the evaluations made and of the restarts, in order
+abbrev pub tickets_of : List Step → List ℕ
+tickets_of steps = filter_map ticket_of steps
+
+-- all restarts of a journal are commanded, and its tickets rise
+pub record IsObedient (commands : List Command) (j : Journal) : Type 0 where
+  pub restarts : All (IsCommanded commands j.resource) j.steps
+  pub rising : IsStrictlyIncreasing (tickets_of j.steps)
+
+abbrev pub is_evaluate : Act → Bool
+is_evaluate (Evaluate task dt inputs) = true
+is_evaluate Restart = false
+
+-- an Evaluate command that no entry answers
+abbrev pub is_unanswered : List Evaluated → Command → Bool
+is_unanswered entries c = is_evaluate c.act && not (list_any (λ (x : Evaluated). x.ticket == c.ticket) entries)
+
+-- their tickets, in the order of the commands
+abbrev pub unanswered_of : List Command → List Evaluated → List ℕ
+unanswered_of commands entries = map (λ (c : Command). c.ticket) (filter (is_unanswered entries) commands)
+
+-- Fourth. Each entry answers an Evaluate command of its ticket with its contents, each restart answers a Restart command of its resource, the tickets rise in each journal,
+-- and the Evaluate commands that no entry answers are listed.
+pub record AreAnswers (commands : List Command) (entries : List Evaluated) (journals : List Journal) (unanswered : List ℕ) : Type 0 where
+  pub commanded : All (λ (x : Evaluated). Contains commands (command_of x)) entries
+  pub obedient : All (IsObedient commands) journals
+  pub unanswered_are : unanswered ≡ unanswered_of commands entries
+
+-- a step is the restart of a ticket
+abbrev pub is_restart_of : ℕ → Step → Bool
+is_restart_of ticket (Took x) = false
+is_restart_of ticket (Made x) = false
+is_restart_of ticket (Restarted own incarnation) = own == ticket
+
+-- a command wasn't obeyed: one to evaluate is among the unanswered, and of one to restart no journal has the restart
+abbrev pub IsUnobeyed : List ℕ → List Journal → Command → Type 0
+IsUnobeyed unanswered journals c = by c.act
+  where
+    by : Act → Type 0
+    by (Evaluate task dt inputs) = Contains unanswered c.ticket
+    by Restart = All (λ (j : Journal). list_any (is_restart_of c.ticket) j.steps ≡ false) journals
+
+-- a command asks to evaluate a task that its resource has
+abbrev pub HasTask : PlantValue → Command → Type 0
+HasTask plant c = by c.act
+  where
+    by : Act → Type 0
+    by (Evaluate task dt inputs) = task < length (tasks_at plant c.resource)
+    by Restart = ⊥
+
+-- a command asks to evaluate a task that its resource hasn't
+abbrev pub LacksTask : PlantValue → Command → Type 0
+LacksTask plant c = by c.act
+  where
+    by : Act → Type 0
+    by (Evaluate task dt inputs) = length (tasks_at plant c.resource) ≤ task
+    by Restart = ⊥
+
+-- A command may have met a cause, where this says that it wasn't obeyed. One may be out of turns also when it is done with, and an evaluation made may not be sent; after any other cause the command isn't obeyed.
+-- Only a task that isn't there is no such task, only one that is there spends its numbers or is a misfit, and only for a restart a keeper is asked.
+abbrev pub MayMeet : PlantValue → Command → Type 0 → Cause → Type 0
+MayMeet plant c Unobeyed OutOfTurns = Unit {0}
+MayMeet plant c Unobeyed NoSuchTask = LacksTask plant c × Unobeyed
+MayMeet plant c Unobeyed NumbersSpent = HasTask plant c × Unobeyed
+MayMeet plant c Unobeyed Memory = Unobeyed
+MayMeet plant c Unobeyed Misfit = HasTask plant c × Unobeyed
+MayMeet plant c Unobeyed Keeper = (c.act ≡ Restart) × Unobeyed
+MayMeet plant c Unobeyed NotSent = c.act ≡ Restart → Unobeyed
+MayMeet plant c Unobeyed Stopped = Unobeyed
+
+-- a fault is told of a command, by its ticket and resource, and of a cause that the command may have met
+pub record IsToldOf (plant : PlantValue) (commands : List Command) (journals : List Journal) (unanswered : List ℕ) (f : NodeFault) : Type 0 where
+  pub command : Command
+  pub listed : Contains commands command
+  pub ticket_is : command.ticket ≡ f.ticket
+  pub resource_is : command.resource ≡ f.resource
+  pub may_meet : MayMeet plant command (IsUnobeyed unanswered journals command) f.cause
+
+-- a resource obeys no further command after a fault of it that may stop it: want of memory, or a misfit
+abbrev pub may_stop : Cause → Bool
+may_stop OutOfTurns = false
+may_stop NoSuchTask = false
+may_stop NumbersSpent = false
+may_stop Memory = true
+may_stop Misfit = true
+may_stop Keeper = false
+may_stop NotSent = false
+may_stop Stopped = false
+
+-- one of these faults may have stopped a resource
+abbrev pub may_have_stopped : ℕ → List NodeFault → Bool
+may_have_stopped resource faults = list_any (λ (f : NodeFault). f.resource == resource && may_stop f.cause) faults
+
+-- The faults are told by ticket, at most one of each; each is told of a command; and a resource has stopped only where an earlier fault may have stopped it.
+pub record AreTold (plant : PlantValue) (commands : List Command) (journals : List Journal) (unanswered : List ℕ) (faults : List NodeFault) : Type 0 where
+  pub rising : IsStrictlyIncreasing (map (λ (f : NodeFault). f.ticket) faults)
+  pub told : All (IsToldOf plant commands journals unanswered) faults
+  pub stopped : (k : ℕ) (f : NodeFault) → slice_get faults k ≡ Some f → f.cause ≡ Stopped → may_have_stopped f.resource (take k faults) ≡ true
+
+-- the tickets of faults
+abbrev pub fault_tickets : List NodeFault → List ℕ
+fault_tickets faults = map (λ (f : NodeFault). f.ticket) faults
+
+-- These are among the faults noted, their tickets rise, and each ticket of a fault noted is among theirs.
+pub record AreByTicket (noted listed : List NodeFault) : Type 0 where
+  pub rising : IsStrictlyIncreasing (fault_tickets listed)
+  pub among : All (λ (f : NodeFault). Contains noted f) listed
+  pub told : All (λ (f : NodeFault). Contains (fault_tickets listed) f.ticket) noted
+
+-- the setting in which the threads ran: the plant, the journals' first incarnations, and the limit
+abbrev pub setting_of : PlantValue → ℕ → List Journal → Setting
+setting_of plant max_number journals = record { plant = plant; first = firsts_of journals; max_number = max_number }
+
+-- Fifth. Events that make the book's entries again, such as the book's schedule, have just these entries as their run, over the plant, the journals' first incarnations and the limit.
+abbrev pub RunsAgain : PlantValue → ℕ → BookValue → List Journal → Type 0
+RunsAgain plant max_number book journals = (events : List Event) → Replays book.first book.entries events → IsRun (setting_of plant max_number journals) events book.entries

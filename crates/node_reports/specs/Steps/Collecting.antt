@@ -1,0 +1,84 @@
+-- What the checks of a report decide, step by step.
+use Rattle.std.specs.Prelude.{◌≡◌, ℕ, ◌+◌, ◌-◌, ◌<◌, ◌≤◌, ◌==◌, ◌||◌, ◌++◌, Bool, true, false, List, [], Option, Some, IfSome, All, Contains, length, map, drop, reverse, take, slice_get, slice_index_or}
+use Rattle.std.specs.List.{list_any}
+use Rattle.std.specs.List.Sorted.{IsStrictlyIncreasing}
+use Rattle.plant.specs.PlantValue.{PlantValue, IsSoundPlant}
+use Rattle.evaluation.specs.Meaning.{Evaluated}
+use Rattle.exchange.specs.Fits.{AllFit}
+use Rattle.exchange.specs.Book.{BookValue}
+use Rattle.node_journals.specs.declared.journal.Journal.{Journal}
+use Rattle.node_journals.specs.declared.cause.Cause.TheVariants.{Stopped}
+use Rattle.node_journals.specs.declared.node_fault.NodeFault.{NodeFault}
+use Rattle.node_journals.specs.Journals.{made}
+use Rattle.node_reports.specs.Reports.{entries_of, is_restart_of, may_have_stopped, fault_tickets}
+
+-- a journal is that of the resource at a place, and begins in this place's incarnation
+pub record BeginsAt (first : List ℕ) (place : ℕ) (j : Journal) : Type 0 where
+  pub resource_is : j.resource ≡ place
+  pub first_is : slice_get first place ≡ Some j.first
+
+-- each of the journals is that of the resource at its place, and begins in this place's incarnation
+abbrev pub AllBegin : List ℕ → List Journal → Type 0
+AllBegin first journals = (k : ℕ) (j : Journal) → slice_get journals k ≡ Some j → BeginsAt first k j
+
+-- Each journal has come to a place: what it made are these entries of the resource at its place, and then what it made from that place on.
+pub record HaveCome (entries : List Evaluated) (journals : List Journal) (at : List ℕ) : Type 0 where
+  pub many : length at ≡ length journals
+  pub each : (k : ℕ) (j : Journal) → slice_get journals k ≡ Some j → made j.steps ≡ entries_of k entries ++ made (drop (slice_index_or at k 0) j.steps)
+
+-- no journal made anything from its place on
+abbrev pub AreAtEnd : List Journal → List ℕ → Type 0
+AreAtEnd journals at = (k : ℕ) (j : Journal) → slice_get journals k ≡ Some j → made (drop (slice_index_or at k 0) j.steps) ≡ []
+
+-- what each journal made are, in order, the entries of the resource at its place
+abbrev pub AllMade : List Evaluated → List Journal → Type 0
+AllMade entries journals = (k : ℕ) (j : Journal) → slice_get journals k ≡ Some j → made j.steps ≡ entries_of k entries
+
+-- each place is marked where it was, or where the test passes for its ticket, which is one more than the place
+abbrev pub AreMarkedAlso : (ℕ → Bool) → List Bool → List Bool → Type 0
+AreMarkedAlso test old new = (k : ℕ) → k < length old → slice_index_or new k false ≡ (slice_index_or old k false || test (k + 1))
+
+-- for each place, whether an entry has its ticket, which is one more than the place
+pub record AreMarks (count : ℕ) (entries : List Evaluated) (marks : List Bool) : Type 0 where
+  pub many : length marks ≡ count
+  pub each : (k : ℕ) → k < count → slice_index_or marks k false ≡ list_any (λ (x : Evaluated). x.ticket == k + 1) entries
+
+-- The book fits, and each resource of the plant has its journal, which begins in the book's first incarnation and made the book's entries.
+pub record Agrees (plant : PlantValue) (book : BookValue) (journals : List Journal) : Type 0 where
+  pub sound : IsSoundPlant plant
+  pub fit : AllFit book.first (reverse book.entries)
+  pub many : length journals ≡ length plant.resources
+  pub as_many : length journals ≡ length book.first
+  pub begin : AllBegin book.first journals
+  pub all_made : AllMade book.entries journals
+
+-- these numbers rise, and the last one is this
+pub record RiseTo (xs : List ℕ) (last : Option ℕ) : Type 0 where
+  pub rising : IsStrictlyIncreasing xs
+  pub last_is : slice_get xs (length xs - 1) ≡ last
+
+-- the same of the first k of the faults noted, which stand by ticket; the last ticket listed is this, and isn't above those that follow
+pub record AreListedUpTo (k : ℕ) (noted listed : List NodeFault) (last : Option ℕ) : Type 0 where
+  pub rise : RiseTo (fault_tickets listed) last
+  pub among : All (λ (f : NodeFault). Contains noted f) listed
+  pub told : (i : ℕ) (f : NodeFault) → i < k → slice_get noted i ≡ Some f → Contains (fault_tickets listed) f.ticket
+  pub low : IfSome last (λ before. (i : ℕ) (f : NodeFault) → k ≤ i → slice_get noted i ≡ Some f → before ≤ f.ticket)
+
+-- for each place, whether a journal has a restart of its ticket, which is one more than the place
+abbrev pub AreRestartMarks : List Journal → List Bool → Type 0
+AreRestartMarks journals marks = (k : ℕ) → k < length marks → slice_index_or marks k false ≡ list_any (λ (j : Journal). list_any (is_restart_of (k + 1)) j.steps) journals
+
+-- no mark stands at the place of a ticket
+pub record IsUnmarked (marks : List Bool) (ticket : ℕ) : Type 0 where
+  pub place : ℕ
+  pub ticket_is : ticket ≡ place + 1
+  pub within : place < length marks
+  pub unmarked : slice_index_or marks place false ≡ false
+
+-- a mark at the place of a resource says that one of these faults may have stopped it
+abbrev pub AreStopMarks : List NodeFault → List Bool → Type 0
+AreStopMarks faults marks = (r : ℕ) → slice_index_or marks r false ≡ true → may_have_stopped r faults ≡ true
+
+-- a resource has stopped only where an earlier one of the faults may have stopped it; this of the first k of them
+abbrev pub AreStopsTold : ℕ → List NodeFault → Type 0
+AreStopsTold k faults = (i : ℕ) (f : NodeFault) → i < k → slice_get faults i ≡ Some f → f.cause ≡ Stopped → may_have_stopped f.resource (take i faults) ≡ true

@@ -1,0 +1,95 @@
+mod agreement;
+mod obedience;
+mod stops;
+mod told;
+mod unanswered;
+
+ghost use Rattle.std.specs.Prelude.{◌≡◌, ◌≤◌, IsTrue, IfOk, All, Contains};
+ghost use Rattle.std.specs.List.Sorted.{IsStrictlyIncreasing};
+ghost use Rattle.node_journals.specs.Commands.{AreNumbered};
+ghost use Rattle.node_journals.specs.Journals.{IsLawful};
+ghost use Rattle.node_reports.specs.Reports.{IsFittingBook, AreJournalsOf, AreInBook, AreAnswers, RunsAgain, IsObedient, AreTold, command_of, AreByTicket};
+ghost use Rattle.node_reports.specs.Steps.Collecting.{Agrees};
+
+use crate::collector::agreement::{all_begin, all_made};
+use crate::collector::obedience::{all_commanded, all_rising, are_answers};
+use crate::collector::told::told_faults;
+use crate::collector::unanswered::unanswered_tickets;
+use crate::journals::Journals;
+use crate::report::Report;
+use exchange::Book;
+use node_journals::{Command, Journal, NodeFault, RunFault};
+use plant::Plant;
+use std::alloc::{AllocError, Global};
+
+/// Whether the journals are those of the plant's resources in order, begin in the book's first incarnations, and made the book's entries.
+fn agrees(
+    alloc: Global,
+    book: &Book,
+    plant: &Plant,
+    journals: &[Journal],
+) -> Result<bool, AllocError>
+    ensures { IfOk result (λ agree. IsTrue agree → Agrees plant.now book.now journals.now) }
+{
+    if journals.len() != plant.resources() {
+        return Ok(false);
+    }
+    if journals.len() != book.first().len() {
+        return Ok(false);
+    }
+    if !all_begin(book.first(), journals) {
+        return Ok(false);
+    }
+    // The getter hands out that each entry fits those before it.
+    all_made(alloc, book.entries(), journals)
+}
+
+/// The report of what the threads did, if the book and the journals agree, and answer the commands.
+pub fn collect(
+    alloc: Global,
+    plant: &Plant,
+    max_number: u32,
+    commands: &[Command],
+    book: Book,
+    journals: Vec<Journal>,
+    faults: Vec<NodeFault>,
+) -> Result<Report, RunFault>
+    requires numbered { AreNumbered commands.now }
+    requires lawful { All (IsLawful plant.now max_number) journals.items }
+    ensures fitting { IfOk result (λ r. IsFittingBook r.book r.journals) }
+    ensures journals { IfOk result (λ r. AreJournalsOf plant.now max_number r.journals) }
+    ensures made { IfOk result (λ r. AreInBook r.book.entries r.journals) }
+    ensures answers { IfOk result (λ r. AreAnswers commands.now r.book.entries r.journals r.unanswered) }
+    ensures faults { IfOk result (λ r. AreTold plant.now commands.now r.journals r.unanswered r.node_faults) }
+    ensures noted { IfOk result (λ r. AreByTicket faults.items r.node_faults) }
+    ensures again { IfOk result (λ r. RunsAgain plant.now max_number r.book r.journals) }
+{
+    let agree = agrees(alloc, &book, plant, journals.as_slice())?;
+    if !agree {
+        return Err(RunFault::BookDisagrees);
+    }
+    if !are_answers(commands, book.entries()) {
+        return Err(RunFault::Stranger);
+    }
+    if !all_commanded(commands, journals.as_slice()) {
+        return Err(RunFault::Stranger);
+    }
+    if !all_rising(journals.as_slice()) {
+        return Err(RunFault::Doubled);
+    }
+    let unanswered = unanswered_tickets(alloc, commands, book.entries())?;
+    let node_faults = told_faults(
+        alloc,
+        plant,
+        commands,
+        journals.as_slice(),
+        unanswered.as_slice(),
+        faults,
+    )?;
+    Ok(Report {
+        book,
+        journals: Journals::of(journals),
+        unanswered,
+        node_faults,
+    })
+}

@@ -1,0 +1,155 @@
+ghost use Rattle.std.specs.Prelude.{◌≡◌, ◌↔◌, ◌≤◌, IsTrue, IfSome, All, Contains};
+ghost use Rattle.std.specs.List.Sorted.{IsStrictlyIncreasing};
+ghost use Rattle.node_journals.specs.declared.act.Act.TheVariants.{Restart};
+ghost use Rattle.node_reports.specs.Reports.{command_of, IsCommanded, IsObedient, ticket_of, tickets_of};
+
+use crate::tickets::is_above;
+use evaluation::{Evaluation, Frame};
+use node_journals::{Act, Command, Journal, Step};
+
+/// The command at the place of a ticket.
+pub(crate) fn find_command(commands: &[Command], ticket: u64) -> Option<&Command>
+    ensures { IfSome result (λ c. Contains commands.now c.now) }
+{
+    if ticket == 0 {
+        return None;
+    }
+    match usize::try_from(ticket - 1) {
+        Ok(place) => commands.get(place),
+        Err(_) => None,
+    }
+}
+
+/// Whether an evaluation is what the command asks for.
+fn asks_for(command: &Command, evaluation: &Evaluation) -> bool
+    ensures { IsTrue result ↔ (command.now ≡ command_of evaluation.now) }
+{
+    let asked = evaluation.name().task;
+    match &command.act {
+        Act::Evaluate { task, dt, inputs } => {
+            command.ticket == evaluation.ticket()
+                && command.resource == asked.resource
+                && *task == asked.task
+                && *dt == evaluation.dt()
+                && inputs.same(evaluation.inputs())
+        }
+        Act::Restart => false,
+    }
+}
+
+/// Whether an entry answers a command.
+fn is_answer(commands: &[Command], frame: &Frame) -> bool
+    ensures commanded { IsTrue result → Contains commands.now (command_of frame.now) }
+    ensures fits { frame.now.name.incarnation ≤ 4294967295 }
+{
+    let evaluation = frame.evaluation();
+    let _incarnation = evaluation.name().incarnation;
+    match find_command(commands, evaluation.ticket()) {
+        Some(command) => asks_for(command, evaluation),
+        None => false,
+    }
+}
+
+/// Whether each entry answers a command.
+pub(crate) fn are_answers(commands: &[Command], entries: &[Frame]) -> bool
+    ensures commanded { IsTrue result → All (λ x. Contains commands.now (command_of x)) entries.now }
+    ensures fit { IsTrue result → All (λ x. x.name.incarnation ≤ 4294967295) entries.now }
+{
+    for k in 0..entries.len() {
+        if !is_answer(commands, &entries[k]) {
+            return false;
+        }
+    }
+    true
+}
+
+/// Whether a command asks a resource to restart.
+fn asks_to_restart(command: &Command, ticket: u64, resource: usize) -> bool
+    ensures { IsTrue result ↔ (command.now ≡ record { ticket = ticket; resource = resource; act = Restart }) }
+{
+    match &command.act {
+        Act::Evaluate { .. } => false,
+        Act::Restart => command.ticket == ticket && command.resource == resource,
+    }
+}
+
+/// Whether a step, where it is a restart, answers a command.
+fn is_commanded(commands: &[Command], resource: usize, step: &Step) -> bool
+    ensures { IsTrue result → IsCommanded commands.now resource step.now }
+{
+    match step {
+        Step::Took(_) => true,
+        Step::Made(_) => true,
+        Step::Restarted { ticket, .. } => match find_command(commands, *ticket) {
+            Some(command) => asks_to_restart(command, *ticket, resource),
+            None => false,
+        },
+    }
+}
+
+/// Whether each restart answers a command.
+fn are_commanded(commands: &[Command], resource: usize, steps: &[Step]) -> bool
+    ensures { IsTrue result → All (IsCommanded commands.now resource) steps.now }
+{
+    for k in 0..steps.len() {
+        if !is_commanded(commands, resource, &steps[k]) {
+            return false;
+        }
+    }
+    true
+}
+
+/// Whether each restart of each journal answers a command of its resource.
+pub(crate) fn all_commanded(commands: &[Command], journals: &[Journal]) -> bool
+    ensures { IsTrue result → All (λ j. All (IsCommanded commands.now j.resource) j.steps) journals.now }
+{
+    for k in 0..journals.len() {
+        let journal = &journals[k];
+        if !are_commanded(commands, journal.resource, journal.steps.as_slice()) {
+            return false;
+        }
+    }
+    true
+}
+
+/// The ticket of an evaluation made or of a restart.
+fn ticket(step: &Step) -> Option<u64>
+    ensures { result ≡ ticket_of step.now }
+{
+    match step {
+        Step::Took(_) => None,
+        Step::Made(frame) => Some(frame.evaluation().ticket()),
+        Step::Restarted { ticket, .. } => Some(*ticket),
+    }
+}
+
+/// Whether the tickets rise.
+fn is_rising(steps: &[Step]) -> bool
+    ensures { IsTrue result → IsStrictlyIncreasing (tickets_of steps.now) }
+{
+    let mut last = None;
+    for k in 0..steps.len() {
+        match ticket(&steps[k]) {
+            None => {}
+            Some(next) => {
+                if !is_above(next, last) {
+                    return false;
+                }
+                last = Some(next);
+            }
+        }
+    }
+    true
+}
+
+/// Whether the tickets of each journal rise.
+pub(crate) fn all_rising(journals: &[Journal]) -> bool
+    ensures { IsTrue result → All (λ j. IsStrictlyIncreasing (tickets_of j.steps)) journals.now }
+{
+    for k in 0..journals.len() {
+        if !is_rising(journals[k].steps.as_slice()) {
+            return false;
+        }
+    }
+    true
+}

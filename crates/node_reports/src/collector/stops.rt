@@ -1,0 +1,56 @@
+ghost use Rattle.std.specs.Prelude.{◌≡◌, ◌⊎◌, ◌&&◌, ◌==◌, ◌||◌, ℕ, List, [], false, true, IsTrue, IfOk, length, slice_index_or};
+ghost use Rattle.node_journals.specs.declared.cause.Cause.TheVariants.{Stopped};
+ghost use Rattle.node_reports.specs.Reports.{may_stop};
+ghost use Rattle.node_reports.specs.Steps.Collecting.{AreStopMarks, AreStopsTold};
+
+use node_journals::{Cause, NodeFault};
+use std::alloc::{AllocError, Global};
+
+/// Whether a resource may obey no further command after this.
+fn may_stop(cause: Cause) -> bool
+    ensures { result ≡ may_stop cause }
+{
+    match cause {
+        Cause::Memory | Cause::Misfit => true,
+        _ => false,
+    }
+}
+
+/// Whether a resource that has stopped is marked. One that a fault may have stopped is marked from then on.
+fn follows(marks: &mut [bool], fault: &NodeFault) -> bool
+    ensures marked { (r : ℕ) → IsTrue (slice_index_or marks.new r false) → IsTrue (slice_index_or marks.old r false || (fault.now.resource == r && may_stop fault.now.cause)) }
+    ensures stopped { IsTrue result → fault.now.cause ≡ Stopped → IsTrue (slice_index_or marks.old fault.now.resource false) }
+{
+    if fault.resource >= marks.len() {
+        return false;
+    }
+    if may_stop(fault.cause) {
+        marks[fault.resource] = true;
+        return true;
+    }
+    fault.cause != Cause::Stopped || marks[fault.resource]
+}
+
+/// Whether each resource that has stopped is marked, or an earlier fault may have stopped it.
+fn all_follow(marks: &mut [bool], faults: &[NodeFault]) -> bool
+    ensures { IsTrue result → AreStopMarks [] marks.old → AreStopsTold (length faults.now) faults.now }
+{
+    for k in 0..faults.len() {
+        if !follows(marks, &faults[k]) {
+            return false;
+        }
+    }
+    true
+}
+
+/// Whether a resource has stopped only where an earlier fault may have stopped it.
+pub(crate) fn are_stops_told(
+    alloc: Global,
+    count: usize,
+    faults: &[NodeFault],
+) -> Result<bool, AllocError>
+    ensures { IfOk result (λ told. IsTrue told → AreStopsTold (length faults.now) faults.now) }
+{
+    let mut marks = vec![in alloc; false; count]?;
+    Ok(all_follow(marks.as_mut_slice(), faults))
+}

@@ -1,0 +1,192 @@
+ghost use Rattle.std.specs.Prelude.{◌≡◌, ◌↔◌, ◌<◌, ◌+◌, ◌||◌, ℕ, List, false, true, IsTrue, IfOk, IfSome, All, Contains, length, slice_get, slice_index_or};
+ghost use Rattle.std.specs.List.{list_any};
+ghost use Rattle.node_journals.specs.declared.act.Act.TheVariants.{Restart};
+ghost use Rattle.node_journals.specs.declared.journal.Journal.{Journal as JournalValue};
+ghost use Rattle.node_reports.specs.Reports.{is_restart_of, HasTask, LacksTask, IsUnobeyed, MayMeet, IsToldOf, AreTold, AreByTicket};
+ghost use Rattle.node_reports.specs.Steps.Collecting.{AreMarkedAlso, AreRestartMarks, IsUnmarked};
+
+use crate::collector::obedience::find_command;
+use crate::collector::stops::are_stops_told;
+use crate::collector::unanswered::mark;
+use crate::node_faults::NodeFaults;
+use node_journals::{Act, Cause, Command, Journal, NodeFault, RunFault, Step};
+use plant::Plant;
+use std::alloc::{AllocError, Global};
+
+/// Marks the place of the ticket of a restart.
+fn mark_restart(marks: &mut [bool], step: &Step)
+    ensures { AreMarkedAlso (λ n. is_restart_of n step.now) marks.old marks.new }
+{
+    match step {
+        Step::Took(_) => {}
+        Step::Made(_) => {}
+        Step::Restarted { ticket, .. } => mark(marks, *ticket),
+    }
+}
+
+/// Marks the places of the tickets of restarts.
+fn mark_restarts(marks: &mut [bool], steps: &[Step])
+    ensures { AreMarkedAlso (λ n. list_any (is_restart_of n) steps.now) marks.old marks.new }
+{
+    for i in 0..steps.len() {
+        mark_restart(marks, &steps[i]);
+    }
+}
+
+/// For each place, whether a journal has a restart of its ticket. The ticket of a place is one more than the place.
+fn restart_marks(alloc: Global, count: usize, journals: &[Journal]) -> Result<Vec<bool>, AllocError>
+    ensures { IfOk result (λ v. AreRestartMarks journals.now v.items) }
+{
+    let mut marks = vec![in alloc; false; count]?;
+    for i in 0..journals.len() {
+        mark_restarts(marks.as_mut_slice(), journals[i].steps.as_slice());
+    }
+    Ok(marks)
+}
+
+/// Whether no mark stands at the place of a ticket.
+fn is_unmarked(marks: &[bool], ticket: u64) -> bool
+    ensures { IsTrue result → IsUnmarked marks.now ticket }
+{
+    if ticket == 0 {
+        return false;
+    }
+    match usize::try_from(ticket - 1) {
+        Ok(place) => place < marks.len() && !marks[place],
+        Err(_) => false,
+    }
+}
+
+/// Whether a ticket is among these, which rise.
+fn is_among(tickets: &[u64], ticket: u64) -> bool
+    ensures { IsTrue result → Contains tickets.now ticket }
+{
+    tickets.binary_search(&ticket).is_ok()
+}
+
+/// Whether a command wasn't obeyed.
+fn is_unobeyed(command: &Command, unanswered: &[u64], restarts: &[bool]) -> bool
+    ensures { (journals : List JournalValue) → AreRestartMarks journals restarts.now → IsTrue result → IsUnobeyed unanswered.now journals command.now }
+{
+    match &command.act {
+        Act::Evaluate { .. } => is_among(unanswered, command.ticket),
+        Act::Restart => is_unmarked(restarts, command.ticket),
+    }
+}
+
+/// Whether a command asks to evaluate a task that its resource has.
+fn has_task(plant: &Plant, command: &Command) -> bool
+    ensures { IsTrue result → HasTask plant.now command.now }
+{
+    match &command.act {
+        Act::Evaluate { task, .. } => *task < plant.tasks(command.resource).len(),
+        Act::Restart => false,
+    }
+}
+
+/// Whether a command asks to evaluate a task that its resource hasn't.
+fn lacks_task(plant: &Plant, command: &Command) -> bool
+    ensures { IsTrue result → LacksTask plant.now command.now }
+{
+    match &command.act {
+        Act::Evaluate { task, .. } => *task >= plant.tasks(command.resource).len(),
+        Act::Restart => false,
+    }
+}
+
+/// Whether a command asks to restart.
+fn is_restart(command: &Command) -> bool
+    ensures { IsTrue result ↔ (command.now.act ≡ Restart) }
+{
+    match &command.act {
+        Act::Evaluate { .. } => false,
+        Act::Restart => true,
+    }
+}
+
+/// Whether a command may have met a cause, if this tells that it wasn't obeyed.
+fn may_meet(plant: &Plant, command: &Command, is_unobeyed: bool, cause: Cause) -> bool
+    ensures { IsTrue result → MayMeet plant.now command.now (IsTrue is_unobeyed) cause }
+{
+    match cause {
+        Cause::OutOfTurns => true,
+        Cause::NoSuchTask => is_unobeyed && lacks_task(plant, command),
+        Cause::NumbersSpent | Cause::Misfit => is_unobeyed && has_task(plant, command),
+        Cause::Memory | Cause::Stopped => is_unobeyed,
+        Cause::Keeper => is_unobeyed && is_restart(command),
+        Cause::NotSent => is_unobeyed || !is_restart(command),
+    }
+}
+
+/// Whether a fault is told of a command.
+fn is_told(
+    plant: &Plant,
+    commands: &[Command],
+    unanswered: &[u64],
+    restarts: &[bool],
+    fault: &NodeFault,
+) -> bool
+    ensures { (journals : List JournalValue) → AreRestartMarks journals restarts.now → IsTrue result → IsToldOf plant.now commands.now journals unanswered.now fault.now }
+{
+    match find_command(commands, fault.ticket) {
+        Some(command) => {
+            let is_unobeyed = is_unobeyed(command, unanswered, restarts);
+            command.ticket == fault.ticket
+                && command.resource == fault.resource
+                && may_meet(plant, command, is_unobeyed, fault.cause)
+        }
+        None => false,
+    }
+}
+
+/// Whether each fault is told of a command.
+fn are_told(
+    alloc: Global,
+    plant: &Plant,
+    commands: &[Command],
+    journals: &[Journal],
+    unanswered: &[u64],
+    faults: &[NodeFault],
+) -> Result<bool, AllocError>
+    ensures { IfOk result (λ told. IsTrue told → All (IsToldOf plant.now commands.now journals.now unanswered.now) faults.now) }
+{
+    if faults.is_empty() {
+        return Ok(true);
+    }
+    let restarts = restart_marks(alloc, commands.len(), journals)?;
+    for k in 0..faults.len() {
+        if !is_told(plant, commands, unanswered, restarts.as_slice(), &faults[k]) {
+            return Ok(false);
+        }
+    }
+    Ok(true)
+}
+
+/// The faults noted by ticket, if each is told of a command.
+pub(crate) fn told_faults(
+    alloc: Global,
+    plant: &Plant,
+    commands: &[Command],
+    journals: &[Journal],
+    unanswered: &[u64],
+    noted: Vec<NodeFault>,
+) -> Result<NodeFaults, RunFault>
+    ensures told { IfOk result (λ faults. AreTold plant.now commands.now journals.now unanswered.now faults) }
+    ensures noted { IfOk result (λ faults. AreByTicket noted.items faults) }
+{
+    let faults = NodeFaults::of(alloc, noted)?;
+    if !are_told(
+        alloc,
+        plant,
+        commands,
+        journals,
+        unanswered,
+        faults.as_slice(),
+    )? {
+        return Err(RunFault::Stranger);
+    }
+    if !are_stops_told(alloc, plant.resources(), faults.as_slice())? {
+        return Err(RunFault::Stranger);
+    }
+    Ok(faults)
+}

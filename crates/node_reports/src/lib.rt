@@ -1,0 +1,14 @@
+//! The report on a run, made of the journals, the book and the commands, if they agree.
+#![tactic(auto)]
+
+mod collector;
+mod journals;
+mod node_faults;
+mod report;
+mod tickets;
+
+pub use collector::collect;
+pub use journals::Journals;
+pub use node_faults::NodeFaults;
+pub use report::Report;
+pub use tickets::Tickets;

@@ -1,0 +1,145 @@
+mod desk;
+mod ended;
+mod entering;
+mod inbox;
+mod issuing;
+mod joining;
+mod lawful_for;
+mod noting;
+mod outcome;
+mod posting;
+mod preparing;
+mod restarting;
+mod serving;
+mod starting;
+mod worker;
+mod worker_state;
+
+ghost use Rattle.std.specs.Prelude.{◌≡◌, All, IfOk};
+ghost use Rattle.node_threads.specs.declared.threads.ended.Ended.{Ended};
+ghost use Rattle.node_journals.specs.Journals.{IsLawful};
+ghost use Rattle.node_threads.specs.Steps.Working.{IsWorkerFor};
+
+use crate::gate::Gate;
+use crate::keeper::Keeper;
+use crate::threads::desk::Desk;
+use crate::threads::ended::Ended;
+use crate::threads::inbox::Inbox;
+use crate::threads::issuing::{issue_all, stop_all};
+use crate::threads::joining::part;
+use crate::threads::preparing::{make_inboxes, make_workers};
+use crate::threads::starting::start_all;
+use crate::threads::worker::Worker;
+use crossbeam_channel::Receiver;
+use exchange::Book;
+use node_journals::{Command, NodeFault, RunFault};
+pub use outcome::Outcome;
+use plant::Plant;
+use std::alloc::Global;
+use std::sync::{Arc, Mutex, Wait};
+use std::thread;
+use std::thread::{Scope, Threads};
+
+/// Runs the commands in threads that all end before the scope does.
+fn run_in<'s, E, R: Threads + Wait + Sync, K: Keeper, G: Gate>(
+    scope: &Scope<'s, E>,
+    rt: &'s R,
+    alloc: Global,
+    desk: Desk<'s, G>,
+    inboxes: &'s [Receiver<Inbox>],
+    workers: Vec<Worker<K>>,
+    max_number: u32,
+    commands: &[Command],
+    faults: &mut Vec<NodeFault>,
+) -> Result<Vec<Ended>, RunFault>
+where
+    K: 's,
+    requires { All (IsWorkerFor desk.plant.now max_number) workers.items }
+    ensures { IfOk result (λ es. All (λ e. IsLawful desk.entry.plant.now max_number e.journal) es.items) }
+{
+    let started = start_all(
+        scope, rt, alloc, desk, inboxes, workers, max_number, commands,
+    );
+    match started {
+        Ok(handles) => {
+            issue_all(rt, &desk, commands, faults);
+            stop_all(rt, desk.doors);
+            match thread::join_promised(rt, handles) {
+                Ok(ended) => Ok(ended),
+                Err(_) => Err(RunFault::Memory),
+            }
+        }
+        Err(fault) => {
+            stop_all(rt, desk.doors);
+            Err(fault)
+        }
+    }
+}
+
+/// Opens the scope of the threads.
+fn run_scoped<R: Threads + Wait + Sync, K: Keeper, G: Gate>(
+    rt: &R,
+    alloc: Global,
+    desk: Desk<'_, G>,
+    inboxes: &[Receiver<Inbox>],
+    workers: Vec<Worker<K>>,
+    max_number: u32,
+    commands: &[Command],
+    faults: &mut Vec<NodeFault>,
+) -> Result<Vec<Ended>, RunFault>
+    requires { All (IsWorkerFor desk.plant.now max_number) workers.items }
+    ensures { IfOk result (λ es. All (λ e. IsLawful desk.entry.plant.now max_number e.journal) es.items) }
+{
+    thread::scope(
+        thread::scope_env(),
+        rt,
+        |scope| -> Result<Vec<Ended>, RunFault>
+            requires { All (IsWorkerFor desk.plant.now max_number) workers.items }
+            ensures { IfOk result (λ es. All (λ e. IsLawful desk.entry.plant.now max_number e.journal) es.items) }
+        {
+            run_in(
+                scope, rt, alloc, desk, inboxes, workers, max_number, commands, faults,
+            )
+        },
+    )
+}
+
+/// Runs the commands in one thread for each resource, and joins the threads. Each journal is lawful for the plant and the limit.
+pub fn run_all<R: Threads + Wait + Sync, K: Keeper, G: Gate>(
+    rt: &R,
+    alloc: Global,
+    plant: &Arc<Plant>,
+    commands: &[Command],
+    keepers: Vec<K>,
+    gate: &G,
+    max_number: u32,
+) -> Result<Outcome, RunFault>
+    ensures { IfOk result (λ o. All (IsLawful plant.now.value max_number) o.journals.items) }
+{
+    let (workers, first) = make_workers(alloc, plant, keepers, max_number)?;
+    let (doors, inboxes) = make_inboxes(alloc, plant.resources())?;
+    let book = Mutex::new(Book::new(alloc, first.as_slice())?);
+    let mut faults = Vec::with_capacity(alloc, commands.len())?;
+    let desk = Desk {
+        plant: &**plant,
+        book: &book,
+        gate,
+        doors: doors.as_slice(),
+    };
+    let ended = run_scoped(
+        rt,
+        alloc,
+        desk,
+        inboxes.as_slice(),
+        workers,
+        max_number,
+        commands,
+        &mut faults,
+    )?;
+    let journals = part(alloc, ended, &mut faults)?;
+    Ok(Outcome {
+        book: book.into_inner(),
+        journals,
+        faults,
+    })
+}

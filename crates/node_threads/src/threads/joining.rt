@@ -1,0 +1,36 @@
+ghost use Rattle.std.specs.Prelude.{◌≡◌, IfOk, map};
+ghost use Rattle.node_threads.specs.declared.threads.ended.Ended.{Ended};
+
+use crate::threads::ended::Ended;
+use node_journals::{Journal, NodeFault, RunFault};
+use std::alloc::Global;
+
+/// Appends faults.
+fn append(faults: &mut Vec<NodeFault>, more: &[NodeFault]) -> Result<(), RunFault> {
+    for fault in more {
+        faults.push(*fault)?;
+    }
+    Ok(())
+}
+
+/// Parts what the threads left into the journals, in order, and the faults, which are appended to those before.
+pub(crate) fn part(
+    alloc: Global,
+    ended: Vec<Ended>,
+    faults: &mut Vec<NodeFault>,
+) -> Result<Vec<Journal>, RunFault>
+    ensures { IfOk result (λ journals. journals.items ≡ map (λ (e : Ended). e.journal) ended.items) }
+{
+    let mut journals = Vec::new(alloc);
+    for one in ended {
+        let Ended {
+            journal,
+            faults: more,
+        } = one;
+        append(faults, more.as_slice())?;
+        let Ok(()) = journals.push(journal) else {
+            return Err(RunFault::Memory);
+        };
+    }
+    Ok(journals)
+}

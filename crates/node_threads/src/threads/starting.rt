@@ -1,0 +1,85 @@
+ghost use Rattle.std.specs.Prelude.{◌≡◌, All, IfOk};
+ghost use Rattle.node_journals.specs.Journals.{IsLawful};
+ghost use Rattle.node_threads.specs.Steps.Working.{IsWorkerFor};
+
+use crate::gate::Gate;
+use crate::keeper::Keeper;
+use crate::threads::desk::Desk;
+use crate::threads::ended::Ended;
+use crate::threads::inbox::Inbox;
+use crate::threads::lawful_for::LawfulFor;
+use crate::threads::serving::serve;
+use crate::threads::worker::Worker;
+use crossbeam_channel::Receiver;
+use node_journals::{Command, NodeFault, RunFault};
+use std::alloc::Global;
+use std::sync::Wait;
+use std::thread::{PromisedHandle, Scope, Threads};
+
+/// How many of the commands are a resource's.
+fn count_of(commands: &[Command], resource: usize) -> usize {
+    commands
+        .iter()
+        .filter(|command| command.resource == resource)
+        .count()
+}
+
+/// Starts the thread of one resource.
+fn start_one<'s, E, R: Threads + Wait + Sync, K: Keeper, G: Gate>(
+    scope: &Scope<'s, E>,
+    rt: &'s R,
+    alloc: Global,
+    desk: Desk<'s, G>,
+    inbox: &'s Receiver<Inbox>,
+    worker: Worker<K>,
+    faults: Vec<NodeFault>,
+    max_number: u32,
+) -> Result<PromisedHandle<Ended, LawfulFor<'s>>, RunFault>
+where
+    K: 's,
+    requires { (worker.plant ≡ desk.plant.now) × (worker.max_number ≡ max_number) }
+    ensures { IfOk result (λ h. (h.promise.plant.now ≡ desk.entry.plant.now) × (h.promise.max_number ≡ max_number)) }
+{
+    let promise = LawfulFor {
+        plant: desk.plant,
+        max_number,
+    };
+    let served = move || -> Ended
+        ensures { IsLawful worker.plant worker.max_number result.journal }
+    { serve(rt, alloc, desk, inbox, worker, faults) };
+    match scope.spawn_with(promise, served) {
+        Ok(handle) => Ok(handle),
+        Err(_) => Err(RunFault::Spawn),
+    }
+}
+
+/// Starts one thread for each resource.
+pub(crate) fn start_all<'s, E, R: Threads + Wait + Sync, K: Keeper, G: Gate>(
+    scope: &Scope<'s, E>,
+    rt: &'s R,
+    alloc: Global,
+    desk: Desk<'s, G>,
+    inboxes: &'s [Receiver<Inbox>],
+    workers: Vec<Worker<K>>,
+    max_number: u32,
+    commands: &[Command],
+) -> Result<Vec<PromisedHandle<Ended, LawfulFor<'s>>>, RunFault>
+where
+    K: 's,
+    requires { All (IsWorkerFor desk.plant.now max_number) workers.items }
+    ensures { IfOk result (λ hs. All (λ h. (h.promise.plant.now ≡ desk.entry.plant.now) × (h.promise.max_number ≡ max_number)) hs.items) }
+{
+    let mut handles = Vec::new(alloc);
+    for worker in workers {
+        let resource = handles.len();
+        let Some(inbox) = inboxes.get(resource) else {
+            return Err(RunFault::Spawn);
+        };
+        let faults = Vec::with_capacity(alloc, count_of(commands, resource))?;
+        let handle = start_one(scope, rt, alloc, desk, inbox, worker, faults, max_number)?;
+        let Ok(()) = handles.push(handle) else {
+            return Err(RunFault::Memory);
+        };
+    }
+    Ok(handles)
+}

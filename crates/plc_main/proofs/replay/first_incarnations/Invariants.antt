@@ -1,6 +1,0 @@
-use Rattle.std.proofs.Common.{◌≡◌, take}
-use Rattle.node_journals.specs.Reports.{firsts_of}
-use Rattle.plc_main.proofs.replay.first_incarnations.Given as goal
-
-abbrev pub invariant-loop-journal : goal.invariant-loop-journal
-invariant-loop-journal l = l.first.items ≡ firsts_of (take l.journal-index l.journals)

@@ -1,7 +1,0 @@
-use Rattle.std.proofs.Common.{take, string_bytes}
-use Rattle.text_writer.specs.Sending.{Sends}
-use Rattle.plc_main.specs.ReportText.{entry_lines}
-use Rattle.plc_main.proofs.report_text.write_entries.Given as goal
-
-abbrev pub invariant-loop-i : goal.invariant-loop-i
-invariant-loop-i g l = Sends (entry_lines l.plant 1 (take l.i l.entries)) (string_bytes l.lines) (g.W.Write.contents l.initial.writer) (g.W.Write.contents l.writer)

@@ -1,6 +1,0 @@
-use Rattle.std.proofs.Common.{◌≡◌, take}
-use Rattle.plc_main.specs.RunCommands.{commands_from}
-use Rattle.plc_main.proofs.run_commands.commands_of.Given as goal
-
-abbrev pub invariant-loop-i : goal.invariant-loop-i
-invariant-loop-i l = l.commands.items ≡ commands_from l.plant l.inputs 1 (take l.i l.dues)

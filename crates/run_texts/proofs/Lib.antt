@@ -1,0 +1,5 @@
+pub mod Commanding
+pub mod Planning
+pub mod Reporting
+pub mod Replaying
+pub mod Telling

@@ -1,0 +1,38 @@
+-- The report is written whole or in part.
+use Rattle.std.proofs.Common.{ap, ◌∙◌}
+use Rattle.std.proofs.KnownBytes.{Appends-trans}
+use Rattle.text_writer.specs.declared.send_fault.SendFault.TheVariants.{Write, Memory}
+use Rattle.run_texts.specs.ReportText.{report_lines, replay_line, TellsPart}
+use Rattle.run_texts.proofs.Telling.{kept_fault, lines_partly, lines_alone, last_partly, faulty}
+use Rattle.run_texts.proofs.telling.tell_report.Goals as goal
+
+pub returns-in_err-write_report-clause-fault : goal.returns-in_err-write_report-clause-fault
+returns-in_err-write_report-clause-fault g c =
+    let plant = c.args.plant.value in
+    let report = c.args.report.now in
+    kept_fault _ (TellsPart plant report _ _) _ c.from_residual.ensures.1 (lines_partly plant _ _ report _ (rw c.deref.ensures at c.in_err-write_report.ensures.part))
+
+pub returns-in_err-equal-clause-fault : goal.returns-in_err-equal-clause-fault
+returns-in_err-equal-clause-fault g c =
+    let plant = c.args.plant.value in
+    let report = c.args.report.now in
+    kept_fault Memory (TellsPart plant report _ _) _ c.from_residual-in_err-equal.ensures.1 (lines_alone plant _ _ report (rw c.deref.ensures at c.in_ok-write_report.ensures.ok))
+
+pub returns-in_err-write_text-clause-fault : goal.returns-in_err-write_text-clause-fault
+returns-in_err-write_text-clause-fault g c =
+    let plant = c.args.plant.value in
+    let report = c.args.report.now in
+    let line = c.replay_line.ensures ∙ ap replay_line (c.in_ok-equal.ensures.equal c.requires.again) in
+    let part = rw line at c.in_err-write_text.ensures.prefix in
+    kept_fault Write (TellsPart plant report _ _) _ c.from_residual-in_err-write_text.ensures.1
+    (last_partly plant _ _ _ report (rw c.deref.ensures at c.in_ok-write_report.ensures.ok) part.0 part.2)
+
+pub returns-clause-ok : goal.returns-clause-ok
+returns-clause-ok g c =
+    let plant = c.args.plant.value in
+    let report = c.args.report.now in
+    let line = c.replay_line.ensures ∙ ap replay_line (c.in_ok-equal.ensures.equal c.requires.again) in
+    record {
+      appended = Appends-trans _ _ _ (report_lines plant report) _ (rw c.deref.ensures at c.in_ok-write_report.ensures.ok) (rw line at c.in_ok-write_text.ensures.whole);
+      faulty_is = faulty report.node_faults c.is_empty.result (rw c.as_slice.ensures at c.is_empty.ensures);
+    }

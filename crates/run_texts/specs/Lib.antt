@@ -1,0 +1,4 @@
+pub mod FieldWords
+pub mod RunCommands
+pub mod ReportText
+pub mod Steps

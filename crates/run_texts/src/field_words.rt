@@ -1,0 +1,15 @@
+ghost use Rattle.std.specs.Prelude.{IfOk, IfErr};
+ghost use Rattle.evaluation.specs.InputTexts.{IsRead, IsFaultOf};
+ghost use Rattle.run_texts.specs.FieldWords.{joined};
+
+use evaluation::{InputFault, Inputs};
+use std::alloc::Global;
+
+/// The field inputs that the words ADDRESS=VALUE give, taken as one text. Two may stand in one word of the shell.
+pub fn read_field_words(alloc: Global, words: &[&str]) -> Result<Inputs, InputFault>
+    ensures ok { IfOk result (IsRead (joined words.now)) }
+    ensures fault { IfErr result (IsFaultOf (joined words.now)) }
+{
+    let text = words.join(alloc, " ")?;
+    Inputs::read(alloc, text.as_str())
+}

@@ -1,0 +1,67 @@
+//! Whether what the threads made is made again by one thread.
+
+ghost use Rattle.std.specs.Prelude.{◌≡◌, ◌↔◌, true, length, IfOk, IsTrue};
+ghost use Rattle.node_reports.specs.Reports.{RunsAgain, firsts_of};
+ghost use Rattle.run_texts.specs.Steps.Replaying.{IsReplay};
+
+use evaluation::Frame;
+use exchange::{Book, World, one_run};
+use node_journals::Journal;
+use node_reports::Report;
+use plant::Plant;
+use std::alloc::{AllocError, Global};
+use std::sync::Arc;
+
+fn are_same(frames: &[Frame], others: &[Frame]) -> bool
+    ensures { IsTrue result ↔ (frames.now ≡ others.now) }
+{
+    if frames.len() != others.len() {
+        return false;
+    }
+    for i in 0..frames.len() {
+        if !frames[i].same(&others[i]) {
+            return false;
+        }
+    }
+    true
+}
+
+fn first_incarnations(alloc: Global, journals: &[Journal]) -> Result<Vec<u32>, AllocError>
+    ensures { IfOk result (λ first. first.items ≡ firsts_of journals.now) }
+{
+    let mut first = Vec::with_capacity(alloc, journals.len())?;
+    for journal in journals {
+        first.push(journal.first)?;
+    }
+    Ok(first)
+}
+
+/// Runs the schedule of a book in one thread, from these first incarnations, and tells whether that makes the book's entries.
+fn is_replayed(
+    alloc: Global,
+    plant: Arc<Plant>,
+    first: &[u32],
+    book: &Book,
+) -> Result<bool, AllocError>
+    requires { length first.now ≡ length plant.value.resources }
+    ensures { IfOk result (IsReplay plant.value first.now book.now) }
+{
+    let schedule = book.schedule(alloc)?;
+    let mut world = World::new(alloc, plant, first, u32::MAX)?;
+    match world.run(alloc, &schedule) {
+        Ok(()) => Ok(are_same(world.log(), book.entries())),
+        Err(_) => Err(AllocError),
+    }
+}
+
+/// Runs the schedule of a report's book in one thread, from the journals' first incarnations, and tells whether that makes the book's entries.
+/// It does if the report is one of threads.
+pub(crate) fn replay(alloc: Global, plant: Arc<Plant>, report: &Report) -> Result<bool, AllocError>
+    requires { length report.now.journals ≡ length plant.value.resources }
+    ensures answer { IfOk result (IsReplay plant.value (firsts_of report.now.journals) report.now.book) }
+    ensures equal { RunsAgain plant.value 4294967295 report.now.book report.now.journals → IfOk result (λ equal. equal ≡ true) }
+{
+    one_run();
+    let first = first_incarnations(alloc, report.journals.as_slice())?;
+    is_replayed(alloc, plant, &first, &report.book)
+}

@@ -1,0 +1,33 @@
+ghost use Rattle.std.specs.Prelude.{◌≡◌, length, IfOk, IfErr};
+ghost use Rattle.node_reports.specs.Reports.{RunsAgain};
+ghost use Rattle.run_texts.specs.ReportText.{TellsReport, TellsPart};
+
+use crate::replay::replay;
+use crate::report_text::{replay_line, write_report};
+use node_reports::Report;
+use plant::Plant;
+use std::alloc::Global;
+use std::io::Write;
+use std::sync::Arc;
+use text_writer::{SendFault, write_text};
+
+/// Writes what the threads of a run did: a line for each evaluation, then for each command that wasn't answered and for each fault, and last whether one thread makes the same evaluations.
+/// It tells whether there was a fault.
+///
+/// After `Write` what went out is a prefix, and after `Memory` there is no last line.
+pub fn tell_report<W: Write>(
+    alloc: Global,
+    plant: Arc<Plant>,
+    report: &Report,
+    writer: &mut W,
+) -> Result<bool, SendFault>
+    requires journals { length report.now.journals ≡ length plant.value.resources }
+    requires again { RunsAgain plant.value 4294967295 report.now.book report.now.journals }
+    ensures ok { IfOk result (TellsReport plant.value report.now (W.contents writer.old) (W.contents writer.new)) }
+    ensures fault { IfErr result (TellsPart plant.value report.now (W.contents writer.old) (W.contents writer.new)) }
+{
+    write_report(alloc, &plant, report, writer)?;
+    let equal = replay(alloc, plant, report)?;
+    write_text(writer, replay_line(equal))?;
+    Ok(!report.node_faults.as_slice().is_empty())
+}
