@@ -1,7 +1,9 @@
 //! What a drawing gives, and where its first fault is.
 
 use crate::checks::equal;
-use ladder_text::{CoilKind, ContactKind, DrawFault, DrawFaultKind, Drawing, DrawnBox, Mark, Side};
+use ladder_text::{
+    CoilKind, ContactKind, DrawFault, DrawFaultKind, Drawing, DrawnBox, Mark, ReadText, Side,
+};
 use std::alloc::{AllocError, Global};
 use std::process::Abort;
 use std::test::Fail;

@@ -1,7 +1,7 @@
 //! What the names of a drawing are declared as by their use.
 
 use crate::checks::equal;
-use ladder_text::Drawing;
+use ladder_text::{Drawing, ReadText};
 use network::Graph;
 use power_flow::{Declarations, Declared, Guess, Kind};
 use std::alloc::Global;

@@ -1,7 +1,7 @@
 //! Drawings with their names bound, and what the tests of scans and states do with them.
 
 use crate::checks::{equal, holds};
-use ladder_text::Drawing;
+use ladder_text::{Drawing, ReadText};
 use network::Graph;
 use power_flow::{BindFault, BindKind, Declarations, Guess, Ladder, State};
 use std::alloc::Global;

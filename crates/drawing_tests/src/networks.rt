@@ -1,7 +1,7 @@
 //! Which networks a drawing has, and where its first fault is.
 
 use crate::checks::{equal, holds};
-use ladder_text::Drawing;
+use ladder_text::{Drawing, ReadText};
 use network::{Element, Graph, GraphFault, GraphFaultKind, Network};
 use std::alloc::{AllocError, Global};
 use std::test::Fail;

@@ -1,7 +1,7 @@
 -- Evaluations with the same contents are equal, since the waiting places of a state are those of its code.
 use Rattle.std.proofs.Common.{◌≡◌, List, refl, ap, sym, subst}
 use Rattle.power_flow.specs.StateValue.{StateValue}
-use Rattle.plant.specs.PlantValue.{CodeValue}
+use Rattle.task_codes.specs.CodeValue.{CodeValue}
 use Rattle.evaluation.specs.States.{AreStatesOf}
 use Rattle.evaluation.specs.Meaning.{Evaluated, IsWhole}
 use Rattle.evaluation.specs.Steps.Contents.{HaveSameContents}

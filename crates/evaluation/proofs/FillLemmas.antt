@@ -18,11 +18,11 @@ use Rattle.power_flow.specs.StateValue.{StateValue, variable_of, variable_at, Is
 use Rattle.plant_text.specs.declared.address.Space.{Space}
 use Rattle.plant_text.specs.declared.address.Space.TheVariants.{Bit as BitSpace, Word as WordSpace}
 use Rattle.plant_text.specs.declared.address.Address.{Address}
-use Rattle.plant.specs.declared.binding.Source.{Source}
-use Rattle.plant.specs.declared.binding.Source.TheVariants.{Field, Given}
-use Rattle.plant.specs.declared.binding.Binding.{Binding}
+use Rattle.task_codes.specs.declared.binding.Source.{Source}
+use Rattle.task_codes.specs.declared.binding.Source.TheVariants.{Field, Given}
+use Rattle.task_codes.specs.declared.binding.Binding.{Binding}
 use Rattle.plant_grammar.specs.Kinds.{items_or_none, input_kind, input_kind_at, kind_of_space}
-use Rattle.plant.specs.PlantValue.{ProgramValue, CodeValue, source_kind, bindings_at, AreOnce, IsBindingSound, IsSoundCode}
+use Rattle.task_codes.specs.CodeValue.{ProgramValue, CodeValue, source_kind, bindings_at, AreOnce, IsBindingSound, IsSoundCode}
 use Rattle.evaluation.specs.declared.field_input.FieldInput.{FieldInput}
 use Rattle.evaluation.specs.declared.field_input.FieldInput.TheVariants.{Bit, Word}
 use Rattle.evaluation.specs.declared.take.Take.{Take}

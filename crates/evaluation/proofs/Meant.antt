@@ -10,9 +10,9 @@ use Rattle.power_flow.specs.Scan.{AllAreWide, ScanMeaning}
 use Rattle.std.specs.Option.{option_and_then}
 use Rattle.lists.proofs.Places.{element_at, same_by_slice_get, somes_same}
 use Rattle.power_flow.specs.LadderValue.{LadderValue}
-use Rattle.plant.specs.declared.binding.Binding.{Binding}
-use Rattle.plant.specs.declared.task_output.TaskOutput.{TaskOutput}
-use Rattle.plant.specs.PlantValue.{CodeValue, bindings_at}
+use Rattle.task_codes.specs.declared.binding.Binding.{Binding}
+use Rattle.task_codes.specs.declared.task_output.TaskOutput.{TaskOutput}
+use Rattle.task_codes.specs.CodeValue.{CodeValue, bindings_at}
 use Rattle.evaluation.specs.declared.field_input.FieldInput.{FieldInput}
 use Rattle.evaluation.specs.declared.take.Take.{Take}
 use Rattle.evaluation.specs.Meaning.{Evaluated, IsUnbound, AreFilled, IsFilled, IsScanned, AllFilled, AllScanned, Means, IsMeant, IsAsked, evaluated, output_value}

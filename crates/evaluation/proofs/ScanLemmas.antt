@@ -12,8 +12,8 @@ use Rattle.power_flow.specs.declared.state.Slot.TheVariants.{Variable, Block}
 use Rattle.power_flow.specs.LadderValue.{LadderValue, Fits}
 use Rattle.variable_binding.specs.Kinds.{kind_of}
 use Rattle.power_flow.specs.StateValue.{StateValue, variable_of, variable_at, IsSlotOf}
-use Rattle.plant.specs.declared.task_output.TaskOutput.{TaskOutput}
-use Rattle.plant.specs.PlantValue.{ProgramValue, CodeValue, output_kind, IsOutputOf, IsSoundCode}
+use Rattle.task_codes.specs.declared.task_output.TaskOutput.{TaskOutput}
+use Rattle.task_codes.specs.CodeValue.{ProgramValue, CodeValue, output_kind, IsOutputOf, IsSoundCode}
 use Rattle.evaluation.specs.Meaning.{IsScanned, AllScanned, output_value}
 use Rattle.evaluation.specs.States.{AreStatesOf}
 use Rattle.evaluation.proofs.Lists.{option_map_some, option_map_none, found_not_none, InPlace, in_place_more, in_place_all}

@@ -8,7 +8,7 @@ use Rattle.declared_names.specs.declared.declarations.Declaration.{Declaration}
 use Rattle.power_flow.specs.First.{slot_first}
 use Rattle.power_flow.specs.LadderValue.{LadderValue, Fits}
 use Rattle.power_flow.specs.StateValue.{StateValue}
-use Rattle.plant.specs.PlantValue.{ProgramValue, CodeValue}
+use Rattle.task_codes.specs.CodeValue.{ProgramValue, CodeValue}
 use Rattle.evaluation.specs.States.{initial_state_of, initial_state, AreStatesOf, AreSame}
 
 all_off : (ms : List Bool) → All (λ m. m ≡ false) ms → ms ≡ replicate (length ms) false

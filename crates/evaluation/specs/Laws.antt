@@ -2,7 +2,7 @@
 use Rattle.std.specs.Prelude.{◌≡◌, ℕ, List}
 use Rattle.std_blocks.specs.declared.value.Value.{Value}
 use Rattle.power_flow.specs.StateValue.{StateValue}
-use Rattle.plant.specs.PlantValue.{CodeValue}
+use Rattle.task_codes.specs.CodeValue.{CodeValue}
 use Rattle.evaluation.specs.declared.field_input.FieldInput.{FieldInput}
 use Rattle.evaluation.specs.declared.name.Name.{Name}
 use Rattle.evaluation.specs.declared.take.Take.{Take}

@@ -8,11 +8,11 @@ use Rattle.power_flow.specs.LadderValue.{LadderValue}
 use Rattle.variable_binding.specs.Kinds.{kind_of}
 use Rattle.power_flow.specs.StateValue.{StateValue, variable_at}
 use Rattle.power_flow.specs.Scan.{ScanMeaning, AllAreWide}
-use Rattle.plant.specs.declared.binding.Source.{Source}
-use Rattle.plant.specs.declared.binding.Source.TheVariants.{Field, Given}
-use Rattle.plant.specs.declared.binding.Binding.{Binding}
-use Rattle.plant.specs.declared.task_output.TaskOutput.{TaskOutput}
-use Rattle.plant.specs.PlantValue.{ProgramValue, CodeValue, bindings_at, image_kinds}
+use Rattle.task_codes.specs.declared.binding.Source.{Source}
+use Rattle.task_codes.specs.declared.binding.Source.TheVariants.{Field, Given}
+use Rattle.task_codes.specs.declared.binding.Binding.{Binding}
+use Rattle.task_codes.specs.declared.task_output.TaskOutput.{TaskOutput}
+use Rattle.task_codes.specs.CodeValue.{ProgramValue, CodeValue, bindings_at, image_kinds}
 use Rattle.evaluation.specs.declared.field_input.FieldInput.{FieldInput}
 use Rattle.evaluation.specs.declared.name.Name.{Name}
 use Rattle.evaluation.specs.declared.take.Take.{Take}

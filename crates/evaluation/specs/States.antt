@@ -4,7 +4,7 @@ use Rattle.declared_names.specs.declared.declarations.Declaration.{Declaration}
 use Rattle.power_flow.specs.First.{slot_first}
 use Rattle.power_flow.specs.LadderValue.{LadderValue, Fits, holding}
 use Rattle.power_flow.specs.StateValue.{StateValue, IsSame}
-use Rattle.plant.specs.PlantValue.{ProgramValue, CodeValue}
+use Rattle.task_codes.specs.CodeValue.{ProgramValue, CodeValue}
 
 -- the states are of the code's programs, one for each
 pub record AreStatesOf (c : CodeValue) (states : List StateValue) : Type 0 where

@@ -5,7 +5,7 @@ use Rattle.declared_names.specs.declared.declarations.Kind.{Kind}
 use Rattle.variable_binding.specs.Kinds.{value_first}
 use Rattle.variable_binding.specs.Kinds.{kind_of}
 use Rattle.due_list.specs.declared.task_ref.TaskRef.{TaskRef}
-use Rattle.plant.specs.PlantValue.{CodeValue, expected_at}
+use Rattle.task_codes.specs.CodeValue.{CodeValue, expected_at}
 use Rattle.evaluation.specs.declared.take.Take.{Take}
 
 -- an image before the first evaluation: FALSE, 0 and T#0ms

@@ -6,10 +6,10 @@ use crate::outputs::read_outputs;
 use crate::scan::scan_programs;
 use crate::take::{Take, are_same_takes};
 use crate::task_state::{TaskState, copied};
-use plant::TaskCode;
 use std::alloc::{AllocError, Global};
 use std::marker::Model;
 use std::sync::Arc;
+use task_codes::TaskCode;
 
 /// One evaluation of a task: what it was asked, what it took, the state before, what it gave, and the state after. It does not change.
 #[derive(Drop)]
@@ -37,7 +37,7 @@ impl Model for Evaluation {
 
 ghost use Rattle.std.specs.Prelude.{◌≡◌, ◌↔◌, IsTrue, IfOk, map};
 ghost use Rattle.variable_binding.specs.Kinds.{kind_of};
-ghost use Rattle.plant.specs.PlantValue.{image_kinds};
+ghost use Rattle.task_codes.specs.CodeValue.{image_kinds};
 ghost use Rattle.evaluation.specs.Takes.{AreTakesOf};
 ghost use Rattle.evaluation.specs.States.{AreStatesOf};
 ghost use Rattle.evaluation.specs.Meaning.{Means, IsMeant, IsWhole, IsAsked};

@@ -1,7 +1,7 @@
 ghost use Rattle.std.specs.Prelude.{◌≡◌};
 ghost use Rattle.power_flow.specs.LadderValue.{LadderValue, Fits};
-ghost use Rattle.plant.specs.PlantValue.{AreOnce, IsSoundCode};
-ghost use Rattle.plant.specs.declared.binding.Binding.{Binding};
+ghost use Rattle.task_codes.specs.CodeValue.{AreOnce, IsSoundCode};
+ghost use Rattle.task_codes.specs.declared.binding.Binding.{Binding};
 ghost use Rattle.evaluation.specs.Takes.{AreTakesOf};
 ghost use Rattle.evaluation.specs.States.{AreStatesOf};
 ghost use Rattle.evaluation.specs.Meaning.{given, IsFilled, AllFilled};
@@ -9,9 +9,9 @@ ghost use Rattle.evaluation.specs.Steps.Filling.{AreReady};
 
 use crate::inputs::Inputs;
 use crate::take::Take;
-use plant::{Binding, Source, TaskCode};
 use power_flow::State;
 use std_blocks::Value;
+use task_codes::{Binding, Source, TaskCode};
 
 /// What a source gives: the value of a field address, or of an output in the take from its producer.
 fn given(inputs: &Inputs, takes: &[Take], source: Source) -> Option<Value>

@@ -5,8 +5,9 @@ ghost use Rattle.evaluation.specs.States.{AreStatesOf};
 
 use crate::take::Take;
 use crate::task_state::TaskState;
-use plant::{TaskCode, TaskRef};
+use due_list::TaskRef;
 use power_flow::{Kind, State};
+use task_codes::TaskCode;
 
 /// Whether a state is one of a task's code: one state for each program, with its variables and their kinds, its blocks, its memories, and the places that a scan works in.
 pub fn fits_state(code: &TaskCode, state: &TaskState) -> bool

@@ -1,5 +1,6 @@
 use crate::field_input::FieldInput;
-use plant::{Address, kind_of_space};
+use plant_grammar::kind_of_space;
+use plant_text::Address;
 use power_flow::first_value;
 use std::alloc::{AllocError, Global};
 use std::marker::Model;

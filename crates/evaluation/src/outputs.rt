@@ -1,14 +1,14 @@
 ghost use Rattle.std.specs.Prelude.{◌≡◌, IfOk, map};
 ghost use Rattle.variable_binding.specs.Kinds.{kind_of};
-ghost use Rattle.plant.specs.PlantValue.{image_kinds, IsSoundCode};
+ghost use Rattle.task_codes.specs.CodeValue.{image_kinds, IsSoundCode};
 ghost use Rattle.evaluation.specs.States.{AreStatesOf};
 ghost use Rattle.evaluation.specs.Meaning.{output_value, AreOutputs};
 
 use crate::image::Image;
-use plant::{TaskCode, TaskOutput};
 use power_flow::State;
 use std::alloc::{AllocError, Global};
 use std_blocks::Value;
+use task_codes::{TaskCode, TaskOutput};
 
 /// The value of an output.
 fn output_value(states: &[State], output: TaskOutput) -> Option<Value>

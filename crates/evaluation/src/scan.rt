@@ -2,8 +2,8 @@ ghost use Rattle.power_flow.specs.LadderValue.{Fits};
 ghost use Rattle.evaluation.specs.States.{AreStatesOf};
 ghost use Rattle.evaluation.specs.Meaning.{IsScanned, AllScanned};
 
-use plant::TaskCode;
 use power_flow::{Ladder, State};
+use task_codes::TaskCode;
 
 /// Scans one program, dt milliseconds after the scan before.
 fn scan_program(ladder: &Ladder, state: &mut State, dt: u32)

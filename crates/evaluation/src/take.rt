@@ -1,7 +1,7 @@
 ghost use Rattle.std.specs.Prelude.{◌≡◌, ◌↔◌, IsTrue, IfOk};
 
 use crate::image::Image;
-use plant::TaskRef;
+use due_list::TaskRef;
 use std::alloc::AllocError;
 
 /// What an evaluation took from one producer: the incarnation and number of the producer's evaluation, and its image.

@@ -1,6 +1,7 @@
 -- What a book is, what it answers, and when its entries can be made again. Entries stand with the newest first, but in the book itself.
 use Rattle.std.specs.Prelude.{◌≡◌, ℕ, ◌≤◌, List, [], ◌∷◌, Some, length, reverse}
-use Rattle.plant.specs.PlantValue.{CodeValue, PlantValue, code_at, IsSoundPlant}
+use Rattle.plant.specs.PlantValue.{PlantValue, code_at, IsSoundPlant}
+use Rattle.task_codes.specs.CodeValue.{CodeValue}
 use Rattle.evaluation.specs.Meaning.{Evaluated, IsMeant, IsWhole}
 use Rattle.exchange_core.specs.Last.{state_of}
 use Rattle.exchange.specs.declared.event.Event.{Event}

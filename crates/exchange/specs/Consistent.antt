@@ -3,10 +3,11 @@ use Rattle.std.specs.Prelude.{◌≡◌, ◌⊎◌, ℕ, ◌<◌, ◌≤◌, Lis
 use Rattle.std.specs.Option.{option_map}
 use Rattle.std_blocks.specs.declared.value.Value.{Value}
 use Rattle.variable_binding.specs.Kinds.{value_first}
-use Rattle.plant.specs.declared.binding.Source.TheVariants.{Given}
-use Rattle.plant.specs.declared.binding.Binding.{Binding}
+use Rattle.task_codes.specs.declared.binding.Source.TheVariants.{Given}
+use Rattle.task_codes.specs.declared.binding.Binding.{Binding}
 use Rattle.due_list.specs.declared.task_ref.TaskRef.{TaskRef}
-use Rattle.plant.specs.PlantValue.{PlantValue, bindings_at, source_kind, code_at}
+use Rattle.plant.specs.PlantValue.{PlantValue, code_at}
+use Rattle.task_codes.specs.CodeValue.{bindings_at, source_kind}
 use Rattle.evaluation.specs.declared.take.Take.{Take}
 use Rattle.evaluation.specs.Meaning.{Evaluated, IsMeant, IsWhole, given}
 use Rattle.exchange_core.specs.Last.{from_of}

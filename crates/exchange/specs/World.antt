@@ -2,7 +2,8 @@
 use Rattle.std.specs.Prelude.{ℕ, ◌==◌, Bool, List, Option, None, reverse, if◌then◌else◌}
 use Rattle.std.specs.List.{list_any}
 use Rattle.due_list.specs.declared.task_ref.TaskRef.{TaskRef}
-use Rattle.plant.specs.PlantValue.{CodeValue, PlantValue, codes_at}
+use Rattle.plant.specs.PlantValue.{PlantValue, codes_at}
+use Rattle.task_codes.specs.CodeValue.{CodeValue}
 use Rattle.evaluation.specs.Meaning.{Evaluated}
 use Rattle.exchange_core.specs.Last.{same_task}
 use Rattle.exchange.specs.declared.event.Event.{Event}

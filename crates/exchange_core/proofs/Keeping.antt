@@ -4,7 +4,8 @@ use Rattle.std.proofs.lemmas.Option.{none-some, same_Some}
 use Rattle.lists.proofs.Tables.{both_same, cell_same, cell_other, cell_filled, row_lengths_kept, row_lengths_filled}
 use Rattle.due_list.specs.declared.task_ref.TaskRef.{TaskRef}
 use Rattle.plant_grammar.specs.Kinds.{items_or_none}
-use Rattle.plant.specs.PlantValue.{CodeValue, ResourceValue, PlantValue, code_at, image_kinds, IsSoundPlant}
+use Rattle.plant.specs.PlantValue.{ResourceValue, PlantValue, code_at, IsSoundPlant}
+use Rattle.task_codes.specs.CodeValue.{CodeValue, image_kinds}
 use Rattle.evaluation.specs.declared.field_input.FieldInput.{FieldInput}
 use Rattle.evaluation.specs.Meaning.{Evaluated}
 use Rattle.exchange_core.specs.Last.{same_task}

@@ -8,7 +8,8 @@ use Rattle.std.proofs.lemmas.Option.{slice_get_within, get_or_from_slice_get}
 use Rattle.lists.proofs.Tables.{cell_place}
 use Rattle.due_list.specs.declared.task_ref.TaskRef.{TaskRef}
 use Rattle.plant_grammar.specs.Kinds.{items_or_none}
-use Rattle.plant.specs.PlantValue.{CodeValue, ResourceValue, PlantValue, code_at}
+use Rattle.plant.specs.PlantValue.{ResourceValue, PlantValue, code_at}
+use Rattle.task_codes.specs.CodeValue.{CodeValue}
 use Rattle.evaluation.specs.Meaning.{Evaluated}
 use Rattle.exchange_core.specs.Held.{Table, IsShaped}
 use Rattle.exchange_core.specs.Steps.Knowing.{has_place}

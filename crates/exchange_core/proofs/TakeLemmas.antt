@@ -12,7 +12,8 @@ use Rattle.variable_binding.specs.Kinds.{value_first}
 use Rattle.variable_binding.specs.Kinds.{kind_of}
 use Rattle.due_list.specs.declared.task_ref.TaskRef.{TaskRef}
 use Rattle.plant_grammar.specs.Kinds.{items_or_none}
-use Rattle.plant.specs.PlantValue.{CodeValue, code_at, expected_at, image_kinds, IsSoundCode}
+use Rattle.plant.specs.PlantValue.{code_at}
+use Rattle.task_codes.specs.CodeValue.{CodeValue, expected_at, image_kinds, IsSoundCode}
 use Rattle.evaluation.specs.declared.take.Take.{Take}
 use Rattle.evaluation.specs.Takes.{initial_image, IsTakeOf, AreTakesOf}
 use Rattle.evaluation.specs.Meaning.{Evaluated}

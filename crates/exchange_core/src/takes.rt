@@ -1,5 +1,5 @@
 ghost use Rattle.std.specs.Prelude.{◌≡◌, IfOk};
-ghost use Rattle.plant.specs.PlantValue.{IsSoundCode};
+ghost use Rattle.task_codes.specs.CodeValue.{IsSoundCode};
 ghost use Rattle.exchange_core.specs.Last.{take_of, takes_of};
 ghost use Rattle.exchange_core.specs.Held.{known};
 

@@ -1,4 +1,4 @@
-use ladder_text::Drawing;
+use ladder_text::{Drawing, ReadText};
 use network::Graph;
 use power_flow::{Declarations, Guess};
 use std::alloc::Global;

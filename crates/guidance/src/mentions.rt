@@ -1,7 +1,7 @@
 use crate::mention::{Mention, Thing};
 use crate::plant_word::{PlantWord, plant_words};
-use ladder_text::is_plain_name;
 use std::alloc::{AllocError, Global};
+use words::is_plain_name;
 
 /// What the next name of a plant's text is.
 #[derive(Clone, Copy)]

@@ -1,6 +1,6 @@
 use crate::mention::{Mention, Thing};
-use ladder_text::is_plain_name;
 use std::alloc::{AllocError, Global};
+use words::is_plain_name;
 
 /// Words inside boxes and symbols that are no names of variables.
 const PINS: [&str; 17] = [

@@ -2,10 +2,10 @@
 use Rattle.std.specs.Prelude.{ℕ, zero, suc, ◌+◌, ◌-◌, List, [], ◌∷◌, ◌++◌, ◌==◌, if◌then◌else◌, length, slice_index_or, take, drop, Bool, true, false, ◌&&◌, ◌||◌, not, nat_lt, nat_le, Option, Some, None, is_some}
 use Rattle.std.specs.List.{slice_split, list_all, filter}
 use Rattle.std_blocks.specs.declared.block_type.BlockType.{BlockType}
-use Rattle.ladder_text.specs.declared.drawn_box.DrawnPin.{DrawnPin}
+use Rattle.drawings.specs.declared.drawn_box.DrawnPin.{DrawnPin}
 use Rattle.ladder_text.specs.declared.boxes.outline.Outline.{Outline}
-use Rattle.ladder_text.specs.declared.drawn_box.Operand.{Operand}
-use Rattle.ladder_text.specs.declared.drawn_box.Side.TheVariants as side
+use Rattle.drawings.specs.declared.drawn_box.Operand.{Operand}
+use Rattle.drawings.specs.declared.drawn_box.Side.TheVariants as side
 use Rattle.ladder_text.specs.Rows.{Rows, char_at, height, width, run, run_back, upto, trimmed}
 use Rattle.words.specs.Chars.{block_type, is_identifier, is_word_char}
 

@@ -2,10 +2,10 @@
 use Rattle.std.specs.Prelude.{ℕ, false, ◌+◌, ◌-◌, ◌≤◌, ◌<◌, IsTrue, IsFalse, List, ◌==◌, if◌then◌else◌, length, Bool, ◌&&◌, ◌||◌, not, nat_lt, nat_le, Option, Some, None, is_some, is_none}
 use Rattle.std.specs.List.{list_all, list_any, range_with_len, count_by}
 use Rattle.ladder_text.specs.declared.names.span.Span.{Span}
-use Rattle.ladder_text.specs.declared.drawn_box.Operand.{Operand}
-use Rattle.ladder_text.specs.declared.drawn_box.Side.{Side}
-use Rattle.ladder_text.specs.declared.drawn_box.Side.TheVariants as side
-use Rattle.ladder_text.specs.declared.drawn_box.DrawnPin.{DrawnPin}
+use Rattle.drawings.specs.declared.drawn_box.Operand.{Operand}
+use Rattle.drawings.specs.declared.drawn_box.Side.{Side}
+use Rattle.drawings.specs.declared.drawn_box.Side.TheVariants as side
+use Rattle.drawings.specs.declared.drawn_box.DrawnPin.{DrawnPin}
 use Rattle.ladder_text.specs.declared.places.place_fault.PlaceFault.{PlaceFault}
 use Rattle.ladder_text.specs.declared.places.place_fault.PlaceFault.TheVariants.{BadMark, Crossing, NoSource}
 use Rattle.ladder_text.specs.declared.boxes.outline.Outline.{Outline}

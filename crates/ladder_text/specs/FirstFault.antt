@@ -4,8 +4,8 @@ use Rattle.std.specs.List.{Any, list_any}
 use Rattle.ladder_text.specs.declared.draw_fault.DrawFault.{DrawFault}
 use Rattle.ladder_text.specs.declared.draw_fault.DrawFaultKind.{DrawFaultKind}
 use Rattle.ladder_text.specs.declared.draw_fault.DrawFaultKind.TheVariants as kind
-use Rattle.ladder_text.specs.declared.drawn_box.DrawnPin.{DrawnPin}
-use Rattle.ladder_text.specs.declared.drawn_box.Operand.{Operand}
+use Rattle.drawings.specs.declared.drawn_box.DrawnPin.{DrawnPin}
+use Rattle.drawings.specs.declared.drawn_box.Operand.{Operand}
 use Rattle.ladder_text.specs.declared.boxes.outline.Outline.{Outline}
 use Rattle.ladder_text.specs.declared.names.span.Span.{Span}
 use Rattle.ladder_text.specs.Rows.{Rows, rows_of, width}

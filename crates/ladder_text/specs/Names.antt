@@ -2,12 +2,12 @@
 use Rattle.std.specs.Prelude.{ℕ, ◌+◌, ◌-◌, List, [], ◌++◌, ◌==◌, if◌then◌else◌, map, Bool, ◌&&◌, ◌||◌, not, nat_lt, Option, Some, None, is_some}
 use Rattle.std.specs.List.{filter, find}
 use Rattle.ladder_text.specs.declared.names.span.Span.{Span}
-use Rattle.ladder_text.specs.declared.contact.Contact.{Contact}
-use Rattle.ladder_text.specs.declared.coil.Coil.{Coil}
-use Rattle.ladder_text.specs.declared.drawn_box.DrawnBox.{DrawnBox}
+use Rattle.drawings.specs.declared.contact.Contact.{Contact}
+use Rattle.drawings.specs.declared.coil.Coil.{Coil}
+use Rattle.drawings.specs.declared.drawn_box.DrawnBox.{DrawnBox}
 use Rattle.ladder_text.specs.declared.boxes.outline.Outline.{Outline}
-use Rattle.ladder_text.specs.declared.contact.ContactKind.{ContactKind}
-use Rattle.ladder_text.specs.declared.coil.CoilKind.{CoilKind}
+use Rattle.drawings.specs.declared.contact.ContactKind.{ContactKind}
+use Rattle.drawings.specs.declared.coil.CoilKind.{CoilKind}
 use Rattle.ladder_text.specs.Rows.{char_at, height, width, run, upto}
 use Rattle.words.specs.Chars.{is_word_char}
 use Rattle.ladder_text.specs.Boxes.{cut, option_list}

@@ -1,15 +1,15 @@
 -- What stands at each place.
 use Rattle.std.specs.Prelude.{ℕ, ◌+◌, ◌-◌, List, ◌==◌, if◌then◌else◌, length, Bool, true, false, ◌&&◌, ◌||◌, not, nat_lt, nat_le, Option, Some, None, is_some}
 use Rattle.std.specs.List.{list_all, list_any, range_with_len}
-use Rattle.ladder_text.specs.declared.mark.Mark.{Mark}
-use Rattle.ladder_text.specs.declared.mark.Mark.TheVariants.{Blank, Rail, Wire, Join, Upright, ContactPart, CoilPart, BoxPart}
-use Rattle.ladder_text.specs.declared.contact.ContactKind.{ContactKind}
-use Rattle.ladder_text.specs.declared.coil.CoilKind.{CoilKind}
-use Rattle.ladder_text.specs.declared.drawn_box.Operand.{Operand}
-use Rattle.ladder_text.specs.declared.drawn_box.DrawnPin.{DrawnPin}
-use Rattle.ladder_text.specs.declared.drawn_box.Side.{Side}
-use Rattle.ladder_text.specs.declared.drawn_box.Side.TheVariants as side
-use Rattle.ladder_text.specs.declared.place.Place.{Place}
+use Rattle.drawings.specs.declared.mark.Mark.{Mark}
+use Rattle.drawings.specs.declared.mark.Mark.TheVariants.{Blank, Rail, Wire, Join, Upright, ContactPart, CoilPart, BoxPart}
+use Rattle.drawings.specs.declared.contact.ContactKind.{ContactKind}
+use Rattle.drawings.specs.declared.coil.CoilKind.{CoilKind}
+use Rattle.drawings.specs.declared.drawn_box.Operand.{Operand}
+use Rattle.drawings.specs.declared.drawn_box.DrawnPin.{DrawnPin}
+use Rattle.drawings.specs.declared.drawn_box.Side.{Side}
+use Rattle.drawings.specs.declared.drawn_box.Side.TheVariants as side
+use Rattle.drawings.specs.declared.place.Place.{Place}
 use Rattle.ladder_text.specs.declared.boxes.outline.Outline.{Outline}
 use Rattle.ladder_text.specs.Rows.{Rows, char_at, height, width}
 use Rattle.ladder_text.specs.SymbolKinds.{contact_kind, coil_kind}

@@ -1,10 +1,10 @@
 -- What the character in the middle of a contact or coil says.
 use Rattle.std.specs.Prelude.{ℕ, [], ◌∷◌, ◌==◌, ◌||◌, Option}
 use Rattle.words.specs.Chars.{first_that}
-use Rattle.ladder_text.specs.declared.contact.ContactKind.{ContactKind}
-use Rattle.ladder_text.specs.declared.contact.ContactKind.TheVariants as contact
-use Rattle.ladder_text.specs.declared.coil.CoilKind.{CoilKind}
-use Rattle.ladder_text.specs.declared.coil.CoilKind.TheVariants as coil
+use Rattle.drawings.specs.declared.contact.ContactKind.{ContactKind}
+use Rattle.drawings.specs.declared.contact.ContactKind.TheVariants as contact
+use Rattle.drawings.specs.declared.coil.CoilKind.{CoilKind}
+use Rattle.drawings.specs.declared.coil.CoilKind.TheVariants as coil
 
 -- what the middle character of a contact says
 unfoldable pub contact_kind : ℕ → Option ContactKind

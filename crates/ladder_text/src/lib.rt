@@ -7,32 +7,27 @@
 //! +--| |----+
 //! ```
 //!
-//! [`Drawing::read`] reads a text, or answers its first fault. A drawing gives its size, the mark at each place, and
-//! its contacts, coils and boxes with their names. Rows and columns count from 1.
+//! [`ReadText`] reads a [`Drawing`] by `Drawing::read`, or answers the first fault of its text. A drawing gives its size,
+//! the mark at each place, and its contacts, coils and boxes with their names. Rows and columns count from 1.
 #![tactic(auto)]
 
 mod boxes;
 mod characters;
-mod coil;
-mod contact;
 mod draw_fault;
-mod drawing;
-mod drawn_box;
-mod mark;
+mod earlier;
 mod names;
-mod place;
 mod places;
+mod read_drawing;
 mod reading;
 mod refusal;
 mod symbols;
 
-pub use coil::{Coil, CoilKind};
-pub use contact::{Contact, ContactKind};
 pub use draw_fault::{DrawFault, DrawFaultKind};
-pub use drawing::Drawing;
-pub use drawn_box::{DrawnBox, DrawnPin, Operand, Pins, Side};
-pub use mark::Mark;
-pub use place::Place;
+pub use drawings::{
+    Coil, CoilKind, Contact, ContactKind, Drawing, DrawnBox, DrawnPin, Mark, Operand, Pins, Place,
+    Side,
+};
+pub use read_drawing::ReadText;
 pub use std_blocks::BlockType;
 pub use words::{
     Text, block_type, duration_up_to, is_duration, is_identifier, is_number, is_plain_name,

@@ -14,13 +14,14 @@ ghost use Rattle.ladder_text.specs.declared.draw_fault.DrawFaultKind.TheVariants
 use crate::characters::grid::Grid;
 use crate::characters::rows::{first_not_ascii, rows_of};
 use crate::draw_fault::DrawFaultKind;
+use crate::earlier::or_earlier;
 use crate::names::names_above::{stray_in_row, unnamed_in_row};
 use crate::names::worded_grid::WordedGrid;
-use crate::place::{Place, or_earlier};
 use crate::places::boxed_grid::BoxedGrid;
 use crate::places::marked_grid::MarkedGrid;
 use crate::places::place_fault::PlaceFault;
 use crate::refusal::Refusal;
+use drawings::Place;
 use std::alloc::{AllocError, Global};
 
 fn fault(kind: DrawFaultKind, place: Place) -> Refusal

@@ -4,7 +4,7 @@ ghost use Rattle.std.specs.Prelude.{◌≡◌, ◌≢◌, ◌≤◌, ◌+◌, �
 ghost use Rattle.ladder_text.specs.declared.draw_fault.DrawFaultKind.TheVariants.{Memory};
 
 use crate::draw_fault::{DrawFault, DrawFaultKind};
-use crate::place::Place;
+use drawings::Place;
 use std::alloc::AllocError;
 
 /// The fault that is found first, and its place.

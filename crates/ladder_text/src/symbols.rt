@@ -5,12 +5,10 @@ ghost use Rattle.ladder_text.specs.Places.{layout_of, contact_at, coil_at};
 ghost use Rattle.ladder_text.specs.Names.{name_above, contact_with, coil_with, row_contacts, row_coils, contacts, coils, drawn_box, drawn_boxes};
 
 use crate::boxes::outline::Outline;
-use crate::coil::Coil;
-use crate::contact::Contact;
-use crate::drawn_box::DrawnBox;
 use crate::names::names_above::name_above;
 use crate::names::span::Span;
 use crate::names::worded_grid::WordedGrid;
+use drawings::{Coil, Contact, DrawnBox};
 use std::alloc::{AllocError, Global};
 use words::Text;
 

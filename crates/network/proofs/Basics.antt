@@ -4,7 +4,7 @@ use Rattle.std.proofs.lemmas.Bool.{cases_eq}
 use Rattle.std.proofs.lemmas.List.{get_or-set_same, get_or-set_other}
 use Rattle.std.proofs.lemmas.Option.{slice_get_within, slice_get-get_or, get_or_from_slice_get, slice_get-map}
 use Rattle.std.specs.Option.{option_map}
-use Rattle.ladder_text.specs.declared.place.Place.{Place}
+use Rattle.drawings.specs.declared.place.Place.{Place}
 
 pub some_is : {A : Type 0} (a b : A) → Some a ≡ Some b → a ≡ b
 some_is a b e = cc

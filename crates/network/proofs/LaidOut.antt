@@ -2,9 +2,9 @@
 use Rattle.std.proofs.Common.{◌≡◌, ℕ, ◌+◌, ◌<◌, ◌≤◌, inl, inr, List, Some, slice_get, sym, ap, ◌∙◌, arith}
 use Rattle.std.proofs.lemmas.Bool.{cases_lt}
 use Rattle.lists.proofs.Members.{at_contains}
-use Rattle.ladder_text.specs.Picture.{Picture, IsSound, IsBoxPlace, mark_at}
-use Rattle.ladder_text.specs.Picture.{IsSymbolPlace as IsPlaceOf}
-use Rattle.ladder_text.specs.declared.place.Place.{Place}
+use Rattle.drawings.specs.Picture.{Picture, IsSound, IsBoxPlace, mark_at}
+use Rattle.drawings.specs.Picture.{IsSymbolPlace as IsPlaceOf}
+use Rattle.drawings.specs.declared.place.Place.{Place}
 use Rattle.network.specs.declared.element.Element.{Element}
 use Rattle.network.specs.declared.element.Element.TheVariants.{Wire, Join, Upright, Contact, Coil, Box}
 use Rattle.network.specs.Links.{place}

@@ -4,11 +4,11 @@ use Rattle.std.proofs.lemmas.Bool.{cases_eq, cases_lt}
 use Rattle.std.proofs.lemmas.List.{append-nil, drop_all, take_all}
 use Rattle.std.proofs.lemmas.List.Elements.{Contains-append_left, Contains-push, Contains-push_cases, Contains-get_or}
 use Rattle.std.proofs.lemmas.Option.{slice_get_within, slice_get-get_or}
-use Rattle.ladder_text.specs.Picture.{Picture, IsSound}
-use Rattle.ladder_text.specs.declared.place.Place.{Place}
-use Rattle.ladder_text.specs.declared.drawn_box.DrawnBox.{DrawnBox}
-use Rattle.ladder_text.specs.declared.drawn_box.DrawnPin.{DrawnPin}
-use Rattle.ladder_text.specs.declared.drawn_box.Side.TheVariants.{Left}
+use Rattle.drawings.specs.Picture.{Picture, IsSound}
+use Rattle.drawings.specs.declared.place.Place.{Place}
+use Rattle.drawings.specs.declared.drawn_box.DrawnBox.{DrawnBox}
+use Rattle.drawings.specs.declared.drawn_box.DrawnPin.{DrawnPin}
+use Rattle.drawings.specs.declared.drawn_box.Side.TheVariants.{Left}
 use Rattle.network.specs.declared.element.Element.{Element}
 use Rattle.network.specs.declared.element.Element.TheVariants.{Wire, Join, Upright, Contact, Coil, Box}
 use Rattle.network.specs.declared.labels.Pair.{Pair}

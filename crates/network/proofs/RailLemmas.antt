@@ -5,9 +5,9 @@ use Rattle.std.proofs.lemmas.Option.{slice_get_within}
 use Rattle.std.proofs.lemmas.List.Elements.{Contains-append_left}
 use Rattle.lists.proofs.Places.{push_cases, push_here}
 use Rattle.lists.proofs.Members.{contains_at}
-use Rattle.ladder_text.specs.Picture.{Picture, IsSound, mark_at}
-use Rattle.ladder_text.specs.declared.mark.Mark.TheVariants.{Rail}
-use Rattle.ladder_text.specs.declared.place.Place.{Place}
+use Rattle.drawings.specs.Picture.{Picture, IsSound, mark_at}
+use Rattle.drawings.specs.declared.mark.Mark.TheVariants.{Rail}
+use Rattle.drawings.specs.declared.place.Place.{Place}
 use Rattle.network.specs.Links.{place}
 use Rattle.network.specs.Networks.{IsLeftRail, AreLeftRails}
 use Rattle.network.proofs.Basics.{place_same}

@@ -2,7 +2,7 @@
 use Rattle.std.proofs.Common.{◌≡◌, ◌≢◌, ℕ, Bool, true, false, ◌&&◌, nat_eq, None, inl, inr, List, [], ◌∷◌, ◌++◌, Option, Some, slice_get, suc, zero, length, refl, sym, ap, ◌∙◌}
 use Rattle.std.proofs.lemmas.Bool.{eqb-true, eq-eqb}
 use Rattle.lists.proofs.Places.{push_cases}
-use Rattle.ladder_text.specs.declared.place.Place.{Place}
+use Rattle.drawings.specs.declared.place.Place.{Place}
 use Rattle.network.specs.declared.numbering.Spot.{Spot}
 use Rattle.network.specs.Steps.Numbers.{AreNumbers, IsSpot, number_at}
 

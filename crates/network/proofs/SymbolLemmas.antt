@@ -5,13 +5,13 @@ use Rattle.std.proofs.lemmas.Option.{slice_get_within}
 use Rattle.std.specs.List.{position, position_from}
 use Rattle.std.proofs.lemmas.Iterator.Adapters.{position_from-zero}
 use Rattle.lists.proofs.Members.{contains_at, at_contains}
-use Rattle.ladder_text.specs.Picture.{Picture, IsSound, mark_at}
-use Rattle.ladder_text.specs.declared.mark.Mark.{Mark}
-use Rattle.ladder_text.specs.declared.mark.Mark.TheVariants.{ContactPart, CoilPart, BoxPart}
-use Rattle.ladder_text.specs.declared.place.Place.{Place}
-use Rattle.ladder_text.specs.declared.contact.Contact.{Contact as ContactRecord}
-use Rattle.ladder_text.specs.declared.coil.Coil.{Coil as CoilRecord}
-use Rattle.ladder_text.specs.declared.drawn_box.DrawnBox.{DrawnBox}
+use Rattle.drawings.specs.Picture.{Picture, IsSound, mark_at}
+use Rattle.drawings.specs.declared.mark.Mark.{Mark}
+use Rattle.drawings.specs.declared.mark.Mark.TheVariants.{ContactPart, CoilPart, BoxPart}
+use Rattle.drawings.specs.declared.place.Place.{Place}
+use Rattle.drawings.specs.declared.contact.Contact.{Contact as ContactRecord}
+use Rattle.drawings.specs.declared.coil.Coil.{Coil as CoilRecord}
+use Rattle.drawings.specs.declared.drawn_box.DrawnBox.{DrawnBox}
 use Rattle.network.specs.declared.element.Element.{Element}
 use Rattle.network.specs.declared.element.Element.TheVariants.{Contact, Coil, Box}
 use Rattle.network.specs.declared.numbering.Spot.{Spot}

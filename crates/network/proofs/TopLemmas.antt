@@ -4,8 +4,8 @@ use Rattle.std.proofs.lemmas.Bool.{cases_eq, cases_lt}
 use Rattle.std.proofs.lemmas.Option.{slice_get_within, slice_get-get_or, get_or_from_slice_get}
 use Rattle.lists.proofs.Places.{push_cases, push_here}
 use Rattle.lists.proofs.Members.{at_contains}
-use Rattle.ladder_text.specs.Picture.{Picture, IsSound, mark_at}
-use Rattle.ladder_text.specs.declared.place.Place.{Place}
+use Rattle.drawings.specs.Picture.{Picture, IsSound, mark_at}
+use Rattle.drawings.specs.declared.place.Place.{Place}
 use Rattle.network.specs.declared.element.Element.{Element}
 use Rattle.network.specs.declared.ranks.Top.{Top}
 use Rattle.network.specs.Links.{place, Takes}

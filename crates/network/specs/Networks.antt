@@ -1,10 +1,10 @@
 -- The networks of a drawing.
 use Rattle.std.specs.Prelude.{◌≡◌, ◌≢◌, ℕ, ◌+◌, ◌-◌, min, ◌<◌, ◌≤◌, ◌⊎◌, ◌↔◌, List, Some, IsTrue, Contains, slice_get, length}
 use Rattle.std.specs.Str.{str_eq_ignore_ascii_case}
-use Rattle.ladder_text.specs.Picture.{Picture, mark_at}
-use Rattle.ladder_text.specs.declared.mark.Mark.TheVariants.{Rail as RailMark, Wire as WireMark, Join as JoinMark, Upright as UprightMark}
-use Rattle.ladder_text.specs.declared.place.Place.{Place}
-use Rattle.ladder_text.specs.declared.drawn_box.DrawnBox.{DrawnBox}
+use Rattle.drawings.specs.Picture.{Picture, mark_at}
+use Rattle.drawings.specs.declared.mark.Mark.TheVariants.{Rail as RailMark, Wire as WireMark, Join as JoinMark, Upright as UprightMark}
+use Rattle.drawings.specs.declared.place.Place.{Place}
+use Rattle.drawings.specs.declared.drawn_box.DrawnBox.{DrawnBox}
 use Rattle.network.specs.declared.element.Element.{Element}
 use Rattle.network.specs.declared.element.Element.TheVariants.{Wire, Join, Upright, Contact, Coil, Box}
 use Rattle.network.specs.declared.fault.GraphFault.{GraphFault}

@@ -1,6 +1,6 @@
 ghost use Rattle.std.specs.Prelude.{◌≡◌, IfOk};
 
-use ladder_text::{Coil, Contact, DrawnBox, DrawnPin, Operand, Pins};
+use drawings::{Coil, Contact, DrawnBox, DrawnPin, Operand, Pins};
 use std::alloc::{AllocError, Global};
 
 pub fn copy_contact(alloc: Global, contact: &Contact) -> Result<Contact, AllocError>

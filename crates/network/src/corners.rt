@@ -6,7 +6,7 @@ ghost use Rattle.network.specs.Networks.{IsBefore};
 ghost use Rattle.network.specs.Steps.Corners.{AreFirstCorners, IsEarlier, TakesBox, HasEarlier};
 
 use crate::places::is_before;
-use ladder_text::{DrawnBox, Place};
+use drawings::{DrawnBox, Place};
 use std::alloc::{AllocError, Global};
 use std::collections::BTreeMap;
 

@@ -1,5 +1,5 @@
 use crate::element_box::ElementBox;
-use ladder_text::{Coil, Contact, Place};
+use drawings::{Coil, Contact, Place};
 
 /// A graphic element outside the rails. Each takes 48 bytes, since a box lies apart.
 #[derive(Drop)]

@@ -1,4 +1,4 @@
-use ladder_text::DrawnBox;
+use drawings::DrawnBox;
 use std::alloc::{AllocError, Global};
 use std::marker::Model;
 
@@ -9,7 +9,7 @@ pub struct ElementBox {
 }
 
 impl Model for ElementBox {
-    ghost use Rattle.ladder_text.specs.declared.drawn_box.DrawnBox.{DrawnBox};
+    ghost use Rattle.drawings.specs.declared.drawn_box.DrawnBox.{DrawnBox};
 
     ghost Value = { DrawnBox };
 

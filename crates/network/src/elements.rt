@@ -1,12 +1,12 @@
 ghost use Rattle.std.specs.Prelude.{◌≡◌, ◌+◌, ◌++◌, ◌∷◌, [], MatchOption, IfOk, OnOk};
-ghost use Rattle.ladder_text.specs.Picture.{IsSound};
+ghost use Rattle.drawings.specs.Picture.{IsSound};
 ghost use Rattle.network.specs.Links.{place};
 ghost use Rattle.network.specs.Steps.Listing.{AreElementsBefore, AreElementsOf, AddsFound};
 ghost use Rattle.network.specs.Steps.Symbols.{AreSymbols};
 
 use crate::element::Element;
 use crate::symbols::{Symbols, box_at, coil_at, contact_at, symbols_of};
-use ladder_text::{Drawing, Mark, Place};
+use drawings::{Drawing, Mark, Place};
 use std::alloc::{AllocError, Global};
 
 /// Adds an element at the end.

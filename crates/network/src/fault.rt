@@ -1,4 +1,4 @@
-use ladder_text::Place;
+use drawings::Place;
 use std::alloc::AllocError;
 use thiserror::Error;
 

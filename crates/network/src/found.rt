@@ -1,5 +1,5 @@
 ghost use Rattle.std.specs.Prelude.{◌≡◌, ◌+◌, max, ◌≤◌, ◌↔◌, ◌⊎◌, ℕ, IfOk, OnOk, IsTrue, Any, Contains, Option, Some, slice_get, length};
-ghost use Rattle.ladder_text.specs.declared.place.Place.{Place};
+ghost use Rattle.drawings.specs.declared.place.Place.{Place};
 ghost use Rattle.network.specs.Apart.{first_place};
 ghost use Rattle.network.specs.Networks.{lowest_row};
 ghost use Rattle.network.specs.Steps.Ranks.{ArePlaces, BeginsAt, IsUnmetAt, IsTall, IsTallAt};
@@ -9,7 +9,7 @@ ghost use Rattle.network.specs.Steps.Tables.{AreSuch};
 use crate::corners::{corner_of, corners_of, is_twice};
 use crate::element::Element;
 use crate::networks::Network;
-use ladder_text::{DrawnBox, Place};
+use drawings::{DrawnBox, Place};
 use std::alloc::{AllocError, Global};
 
 /// Where the elements without a rank begin.

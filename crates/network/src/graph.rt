@@ -11,7 +11,7 @@ use crate::networks::Network;
 use crate::places::first_of;
 use crate::rails::rails_of;
 use crate::ranks::ranks_of;
-use ladder_text::{Drawing, Place};
+use drawings::{Drawing, Place};
 use std::alloc::{AllocError, Global};
 use std::marker::Model;
 
@@ -96,7 +96,7 @@ impl Model for Graph {
 impl Graph {
     ghost use Rattle.std.specs.Prelude.{◌≡◌, ◌≢◌, ◌↔◌, ◌+◌, IsTrue, Any, IfOk, IfErr};
     ghost use Rattle.network.specs.GraphValue.{IsSoundGraph};
-    ghost use Rattle.ladder_text.specs.declared.place.Place.{Place};
+    ghost use Rattle.drawings.specs.declared.place.Place.{Place};
     ghost use Rattle.network.specs.Networks.{AreNetworks, IsFaultless, IsFirstFault, HasPlaceUnlessMemory};
 
     /// The networks of a drawing.

@@ -2,7 +2,7 @@ ghost use Rattle.std.specs.Prelude.{◌≡◌, ◌↔◌, IsTrue, Any};
 ghost use Rattle.network.specs.Links.{Takes, Stands, IsSymbolPlace};
 
 use crate::element::Element;
-use ladder_text::{DrawnBox, Place, Side};
+use drawings::{DrawnBox, Place, Side};
 
 fn is_symbol_place(first: Place, place: Place) -> bool
     ensures { IsTrue result ↔ IsSymbolPlace first place }

@@ -1,10 +1,10 @@
 ghost use Rattle.std.specs.Prelude.{◌≡◌, ◌≢◌, ◌≤◌, ℕ, List, OnOk, Some, length, slice_get};
-ghost use Rattle.ladder_text.specs.declared.place.Place.{Place};
+ghost use Rattle.drawings.specs.declared.place.Place.{Place};
 ghost use Rattle.network.specs.Steps.Numbers.{number_at, KeepsNumbers};
 ghost use Rattle.network.specs.Steps.Tables.{Keeps, HasNoOther};
 
 use crate::number_row::NumberRow;
-use ladder_text::Place;
+use drawings::Place;
 use std::alloc::{AllocError, Global};
 use std::marker::Model;
 

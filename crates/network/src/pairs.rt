@@ -1,7 +1,7 @@
 ghost use Rattle.std.specs.Prelude.{◌≡◌, ◌+◌, ◌<◌, ◌≤◌, ◌↔◌, ℕ, Some, IfOk, OnOk, IsTrue, slice_get, slice_index, length};
-ghost use Rattle.ladder_text.specs.Picture.{Picture, IsSound};
-ghost use Rattle.ladder_text.specs.declared.place.Place.{Place};
-ghost use Rattle.ladder_text.specs.declared.drawn_box.Side.TheVariants.{Left};
+ghost use Rattle.drawings.specs.Picture.{Picture, IsSound};
+ghost use Rattle.drawings.specs.declared.place.Place.{Place};
+ghost use Rattle.drawings.specs.declared.drawn_box.Side.TheVariants.{Left};
 ghost use Rattle.network.specs.declared.element.Element.{Element};
 ghost use Rattle.network.specs.declared.labels.Pair.{Pair};
 ghost use Rattle.network.specs.Links.{IsPinPlace};
@@ -14,7 +14,7 @@ ghost use Rattle.network.specs.Steps.Tables.{AreBelow};
 use crate::element::Element;
 use crate::labels::{Pair, settle_labels};
 use crate::row_table::RowTable;
-use ladder_text::{DrawnBox, Place, Side};
+use drawings::{DrawnBox, Place, Side};
 use std::alloc::{AllocError, Global};
 
 /// Adds the pair of an element that state enters at a place with the one on the left of the place, if state leaves that one there.

@@ -2,7 +2,7 @@ ghost use Rattle.std.specs.Prelude.{◌≡◌, ◌↔◌, IsTrue, MatchOption, [
 ghost use Rattle.network.specs.Networks.{IsBefore};
 ghost use Rattle.network.specs.Steps.Ranks.{IsFirstOf};
 
-use ladder_text::Place;
+use drawings::Place;
 
 /// Whether one place comes before another, by row and then column.
 pub fn is_before(place: Place, other: Place) -> bool

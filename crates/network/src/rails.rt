@@ -1,8 +1,8 @@
 ghost use Rattle.std.specs.Prelude.{IfOk};
-ghost use Rattle.ladder_text.specs.Picture.{IsSound};
+ghost use Rattle.drawings.specs.Picture.{IsSound};
 ghost use Rattle.network.specs.Networks.{AreLeftRails};
 
-use ladder_text::{Drawing, Mark, Place};
+use drawings::{Drawing, Mark, Place};
 use std::alloc::{AllocError, Global};
 
 /// The places of the left rail, by row.

@@ -1,6 +1,6 @@
 ghost use Rattle.std.specs.Prelude.{◌≡◌, ◌+◌, ◌<◌, ◌⊎◌, ◌++◌, ◌∷◌, [], ℕ, List, IfOk, OnOk, Any, Option, Some, None, slice_get, slice_index, length};
-ghost use Rattle.ladder_text.specs.Picture.{Picture, IsSound};
-ghost use Rattle.ladder_text.specs.declared.place.Place.{Place};
+ghost use Rattle.drawings.specs.Picture.{Picture, IsSound};
+ghost use Rattle.drawings.specs.declared.place.Place.{Place};
 ghost use Rattle.network.specs.declared.element.Element.{Element};
 ghost use Rattle.network.specs.declared.row_table.InRow.{InRow};
 ghost use Rattle.network.specs.Networks.{AreLeftRails};
@@ -13,7 +13,7 @@ use crate::element::Element;
 use crate::pairs::labels_of;
 use crate::row_table::RowTable;
 use crate::takers::takers_of;
-use ladder_text::{Drawing, Place};
+use drawings::{Drawing, Place};
 use std::alloc::{AllocError, Global};
 
 /// A network's label, with the topmost row at which the network meets the left rail.

@@ -1,7 +1,7 @@
 ghost use Rattle.std.specs.Prelude.{◌≡◌};
 ghost use Rattle.network.specs.Steps.Tables.{AreNone};
 
-use ladder_text::{DrawnBox, Place, Side};
+use drawings::{DrawnBox, Place, Side};
 use std::alloc::{AllocError, Global};
 use std::marker::Model;
 
@@ -29,7 +29,7 @@ impl Model for RowTable {
 
 impl RowTable {
     ghost use Rattle.std.specs.Prelude.{◌≡◌, ◌<◌, ℕ, Option, Some, None, IfOk, length, slice_get, slice_set};
-    ghost use Rattle.ladder_text.specs.declared.place.Place.{Place};
+    ghost use Rattle.drawings.specs.declared.place.Place.{Place};
     ghost use Rattle.network.specs.declared.row_table.InRow.{InRow};
     ghost use Rattle.network.specs.Links.{IsPinPlace};
     ghost use Rattle.network.specs.Steps.Rows.{in_row, Puts};

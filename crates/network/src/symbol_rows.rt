@@ -1,6 +1,6 @@
 ghost use Rattle.std.specs.Prelude.{◌≡◌};
 
-use ladder_text::Place;
+use drawings::Place;
 use std::alloc::{AllocError, Global};
 use std::marker::Model;
 
@@ -30,7 +30,7 @@ impl Model for SymbolRows {
 
 impl SymbolRows {
     ghost use Rattle.std.specs.Prelude.{◌≡◌, ◌⊎◌, ◌↔◌, IfOk, IsTrue};
-    ghost use Rattle.ladder_text.specs.declared.place.Place.{Place};
+    ghost use Rattle.drawings.specs.declared.place.Place.{Place};
     ghost use Rattle.network.specs.Steps.Symbols.{IsInside, IsBehind};
 
     /// So many rows in which no symbol was found.

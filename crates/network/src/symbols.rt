@@ -1,7 +1,7 @@
 ghost use Rattle.std.specs.Prelude.{◌≡◌, IfOk, MatchOption, position};
-ghost use Rattle.ladder_text.specs.declared.place.Place.{Place};
-ghost use Rattle.ladder_text.specs.Picture.{IsSound, mark_at};
-ghost use Rattle.ladder_text.specs.declared.mark.Mark.TheVariants.{ContactPart, CoilPart, BoxPart};
+ghost use Rattle.drawings.specs.declared.place.Place.{Place};
+ghost use Rattle.drawings.specs.Picture.{IsSound, mark_at};
+ghost use Rattle.drawings.specs.declared.mark.Mark.TheVariants.{ContactPart, CoilPart, BoxPart};
 ghost use Rattle.network.specs.Links.{place};
 ghost use Rattle.network.specs.Networks.{IsElementOf};
 ghost use Rattle.network.specs.Steps.Listing.{IsIndex, IsTheElementAt, IsNoElementAt};
@@ -12,7 +12,7 @@ use crate::element::Element;
 use crate::element_box::ElementBox;
 use crate::numbering::Numbering;
 use crate::symbol_rows::SymbolRows;
-use ladder_text::{Coil, Contact, Drawing, DrawnBox, Mark, Place};
+use drawings::{Coil, Contact, Drawing, DrawnBox, Mark, Place};
 use std::alloc::{AllocError, Global};
 
 /// How far contacts and coils are read, and where boxes begin, to find each by its place.

@@ -1,5 +1,5 @@
 ghost use Rattle.std.specs.Prelude.{◌≡◌, ◌<◌, IfOk, length};
-ghost use Rattle.ladder_text.specs.declared.place.Place.{Place};
+ghost use Rattle.drawings.specs.declared.place.Place.{Place};
 ghost use Rattle.network.specs.Links.{Takes};
 ghost use Rattle.network.specs.Apart.{Has};
 ghost use Rattle.network.specs.Steps.Pairs.{AreLaidOut, AreTakers};
@@ -8,7 +8,7 @@ ghost use Rattle.network.specs.Steps.Rows.{Puts};
 use crate::element::Element;
 use crate::links::takes;
 use crate::row_table::RowTable;
-use ladder_text::{Place, Side};
+use drawings::{Place, Side};
 use std::alloc::{AllocError, Global};
 
 /// Puts an element into the rows in which it takes state in a column.

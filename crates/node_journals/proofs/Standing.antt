@@ -11,7 +11,8 @@ use Rattle.declared_names.specs.declared.declarations.Kind.{Kind}
 use Rattle.power_flow.specs.StateValue.{StateValue}
 use Rattle.due_list.specs.declared.task_ref.TaskRef.{TaskRef}
 use Rattle.plant_grammar.specs.Kinds.{items_or_none}
-use Rattle.plant.specs.PlantValue.{CodeValue, ResourceValue, PlantValue, code_at, expected_at, image_kinds, IsSoundPlant}
+use Rattle.plant.specs.PlantValue.{ResourceValue, PlantValue, code_at, IsSoundPlant}
+use Rattle.task_codes.specs.CodeValue.{CodeValue, expected_at, image_kinds}
 use Rattle.evaluation.specs.declared.field_input.FieldInput.{FieldInput}
 use Rattle.evaluation.specs.declared.name.Name.{Name}
 use Rattle.evaluation.specs.declared.take.Take.{Take}

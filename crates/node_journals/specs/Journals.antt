@@ -3,7 +3,8 @@ use Rattle.std.specs.Prelude.{◌≡◌, ◌≢◌, ℕ, ◌+◌, ◌<◌, ◌�
 use Rattle.declared_names.specs.declared.declarations.Kind.{Kind}
 use Rattle.variable_binding.specs.Kinds.{kind_of}
 use Rattle.due_list.specs.declared.task_ref.TaskRef.{TaskRef}
-use Rattle.plant.specs.PlantValue.{CodeValue, PlantValue, code_at, expected_at}
+use Rattle.plant.specs.PlantValue.{PlantValue, code_at}
+use Rattle.task_codes.specs.CodeValue.{CodeValue, expected_at}
 use Rattle.evaluation.specs.Names.{precedes}
 use Rattle.evaluation.specs.Meaning.{Evaluated, IsAsked}
 use Rattle.exchange_core.specs.Last.{same_task, state_of, takes_of}

@@ -1,7 +1,8 @@
 -- A core that stands where the steps of its resource have left it. The steps stand with the newest first.
 use Rattle.std.specs.Prelude.{◌≡◌, ◌≢◌, ℕ, List, Some, length, reverse, slice_get}
 use Rattle.due_list.specs.declared.task_ref.TaskRef.{TaskRef}
-use Rattle.plant.specs.PlantValue.{CodeValue, code_at, expected_at, IsSoundPlant}
+use Rattle.plant.specs.PlantValue.{code_at, IsSoundPlant}
+use Rattle.task_codes.specs.CodeValue.{CodeValue, expected_at}
 use Rattle.evaluation.specs.Meaning.{Evaluated}
 use Rattle.exchange_core.specs.Last.{last_number}
 use Rattle.exchange_core.specs.Held.{known, IsShaped}

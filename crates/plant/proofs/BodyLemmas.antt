@@ -1,7 +1,7 @@
 -- Why the body of a program is refused, from why a layer below refused it.
 use Rattle.std.proofs.Common.{◌≡◌, ◌≢◌, ℕ, Result, Ok, Err, IfErr, Some, refl, ap, sym, subst}
 use Rattle.std.specs.Result.{IsErrAnd}
-use Rattle.ladder_text.specs.declared.place.Place.{Place}
+use Rattle.drawings.specs.declared.place.Place.{Place}
 use Rattle.ladder_text.specs.Rows.{rows_of}
 use Rattle.ladder_text.specs.Picture as pictures
 use Rattle.ladder_text.specs.FirstFault.{TellsFirstFault}

@@ -17,7 +17,7 @@ use Rattle.plant_grammar.specs.Names.{is_named}
 use Rattle.plant_grammar.specs.Lawful.{use_of}
 use Rattle.plant.specs.Faultless.{IsLadderOf}
 use Rattle.plant.specs.Steps.Reading.{TypeValue}
-use Rattle.plant.specs.PlantValue.{ProgramValue, CodeValue}
+use Rattle.task_codes.specs.CodeValue.{ProgramValue, CodeValue}
 use Rattle.plant.specs.Steps.Drafts.{programs_in, IsProgramOf, IsPlacedAt, IsOutputAt}
 use Rattle.plant.proofs.NameLemmas.{at_place}
 

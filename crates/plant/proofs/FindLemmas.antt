@@ -9,7 +9,8 @@ use Rattle.declared_names.specs.Names.{is_dot}
 use Rattle.due_list.specs.declared.task_ref.TaskRef.{TaskRef}
 use Rattle.std.proofs.lemmas.Option.{get_or_from_slice_get}
 use Rattle.plant_grammar.specs.Names.{IsAt}
-use Rattle.plant.specs.PlantValue.{PlantValue, CodeValue, ProgramValue}
+use Rattle.plant.specs.PlantValue.{PlantValue}
+use Rattle.task_codes.specs.CodeValue.{CodeValue, ProgramValue}
 use Rattle.plant.specs.Steps.Drafts.{IsInstanceAt}
 use Rattle.plant.specs.Find.{ArePartsOf, IsTaskAt, IsTaskNamed}
 

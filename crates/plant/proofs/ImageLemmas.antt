@@ -11,9 +11,9 @@ use Rattle.std.proofs.lemmas.List.Elements.{All-append, All-nil, All-cons}
 use Rattle.lists.proofs.Places.{element_at}
 use Rattle.declared_names.specs.declared.declarations.Kind.{Kind}
 use Rattle.declared_names.specs.declared.declarations.Declaration.{Declaration}
-use Rattle.plant.specs.declared.task_output.TaskOutput.{TaskOutput}
+use Rattle.task_codes.specs.declared.task_output.TaskOutput.{TaskOutput}
 use Rattle.plant_grammar.specs.Kinds.{items_or_none}
-use Rattle.plant.specs.PlantValue.{ProgramValue, CodeValue, IsOutputOf, output_kind, outputs_of, outputs_in, output_at}
+use Rattle.task_codes.specs.CodeValue.{ProgramValue, CodeValue, IsOutputOf, output_kind, outputs_of, outputs_in, output_at}
 use Rattle.plant.specs.Steps.Outputs.{output_if}
 
 -- one more number of a list that is counted

@@ -10,7 +10,6 @@ pub mod FindLemmas
 pub mod RefusedKnown
 pub mod KnownWords
 pub mod BodyCounts
-pub mod SameCode
 mod PlanLemmas
 pub mod FaultLemmas
 pub mod BodyLemmas

@@ -11,11 +11,11 @@ use Rattle.lists.proofs.Members.{all_from_places}
 use Rattle.lists.proofs.Zips.{zip_length, zip_at, zip_back}
 use Rattle.declared_names.specs.declared.declarations.Kind.{Kind}
 use Rattle.declared_names.specs.declared.declarations.Declaration.{Declaration}
-use Rattle.plant.specs.declared.binding.Source.{Source}
-use Rattle.plant.specs.declared.binding.Source.TheVariants as source
-use Rattle.plant.specs.declared.binding.Binding.{Binding}
+use Rattle.task_codes.specs.declared.binding.Source.{Source}
+use Rattle.task_codes.specs.declared.binding.Source.TheVariants as source
+use Rattle.task_codes.specs.declared.binding.Binding.{Binding}
 use Rattle.due_list.specs.declared.task_ref.TaskRef.{TaskRef}
-use Rattle.plant.specs.declared.task_output.TaskOutput.{TaskOutput}
+use Rattle.task_codes.specs.declared.task_output.TaskOutput.{TaskOutput}
 use Rattle.plant_grammar.specs.declared.grammar.tree.SourceName.{SourceName}
 use Rattle.plant_grammar.specs.declared.grammar.tree.SourceName.TheVariants as named
 use Rattle.plant_grammar.specs.declared.grammar.tree.Bind.{Bind}
@@ -26,7 +26,8 @@ use Rattle.plant.specs.declared.sources.feed.Feed.{Feed}
 use Rattle.plant_grammar.specs.Names.{is_named, AreApart}
 use Rattle.plant_grammar.specs.Lawful.{binds_of}
 use Rattle.plant_grammar.specs.Kinds.{input_kind_at, kind_of_space, items_or_none}
-use Rattle.plant.specs.PlantValue.{ProgramValue, CodeValue, PlantValue, image_kinds, outputs_of, source_kind, expected_at, AreOnce, AreDistinct, IsBindingSound, IsSoundCode}
+use Rattle.plant.specs.PlantValue.{PlantValue}
+use Rattle.task_codes.specs.CodeValue.{ProgramValue, CodeValue, image_kinds, outputs_of, source_kind, expected_at, AreOnce, AreDistinct, IsBindingSound, IsSoundCode}
 use Rattle.plant.specs.StandsFor.{IsOrigin, IsSourceOf, firsts, mention}
 use Rattle.plant.specs.Steps.Drafts.{IsOriginOf, AreKindsOf, IsFeedOf, AreFeedsOf, IsPlaced, IsPlacedSource, IsBindingBy, IsLinked, IsOnceBound, Triples, tasks_taken, all_taken, IsTakenFrom, IsTaskOf}
 use Rattle.plant.proofs.NameLemmas.{one_name}

@@ -8,9 +8,9 @@ use Rattle.std.proofs.lemmas.Option.{slice_get_within, get_or_from_slice_get}
 use Rattle.std.proofs.lemmas.List.Elements.{All-append, All-nil, All-cons}
 use Rattle.declared_names.specs.declared.declarations.Kind.{Kind}
 use Rattle.declared_names.specs.declared.declarations.Declaration.{Declaration}
-use Rattle.plant.specs.declared.task_output.TaskOutput.{TaskOutput}
+use Rattle.task_codes.specs.declared.task_output.TaskOutput.{TaskOutput}
 use Rattle.plant_grammar.specs.Kinds.{items_or_none}
-use Rattle.plant.specs.PlantValue.{ProgramValue, output_kind, outputs_of, outputs_in, output_at}
+use Rattle.task_codes.specs.CodeValue.{ProgramValue, output_kind, outputs_of, outputs_in, output_at}
 use Rattle.plant.specs.Steps.Outputs.{StandsBefore, IsBefore}
 use Rattle.plant.specs.Steps.Drafts.{IsPlacedAt}
 use Rattle.lists.proofs.Pairs.{pairs_append}

@@ -9,7 +9,7 @@ use Rattle.std.proofs.lemmas.List.Elements.{filter-append, All-append, All-nil, 
 use Rattle.lists.proofs.Places.{some_same}
 use Rattle.due_list.specs.declared.task_ref.TaskRef.{TaskRef}
 use Rattle.plant.specs.StandsFor.{firsts}
-use Rattle.plant.specs.PlantValue.{AreDistinct}
+use Rattle.task_codes.specs.CodeValue.{AreDistinct}
 use Rattle.plant.proofs.Zips.{all_filter}
 
 -- one task

@@ -7,9 +7,9 @@ use Rattle.std.proofs.lemmas.List.Elements.{All-nil, All-cons}
 use Rattle.lists.proofs.Places.{some_same}
 use Rattle.lists.proofs.Zips.{zip_length, zip_at, zip_back}
 use Rattle.declared_names.specs.declared.declarations.Declaration.{Declaration}
-use Rattle.plant.specs.declared.binding.Source.{Source}
-use Rattle.plant.specs.declared.binding.Source.TheVariants as source
-use Rattle.plant.specs.declared.binding.Binding.{Binding}
+use Rattle.task_codes.specs.declared.binding.Source.{Source}
+use Rattle.task_codes.specs.declared.binding.Source.TheVariants as source
+use Rattle.task_codes.specs.declared.binding.Binding.{Binding}
 use Rattle.due_list.specs.declared.task_ref.TaskRef.{TaskRef}
 use Rattle.plant_grammar.specs.declared.grammar.tree.Program.{Program}
 use Rattle.plant_grammar.specs.declared.grammar.tree.TaskLine.{TaskLine}
@@ -24,7 +24,8 @@ use Rattle.plant_grammar.specs.Grammar.{Tree}
 use Rattle.plant_grammar.specs.Names.{is_named, IsAt}
 use Rattle.plant_grammar.specs.Lawful.{variables, tasks_of, use_of, binds_of, IsResourceLawful}
 use Rattle.plant.specs.Faultless.{IsLadderOf}
-use Rattle.plant.specs.PlantValue.{TaskValue, ProgramValue, CodeValue, ResourceValue, PlantValue, code_at, bindings_at, IsSoundPlant, AreProducersOf}
+use Rattle.plant.specs.PlantValue.{TaskValue, ResourceValue, PlantValue, code_at, IsSoundPlant, AreProducersOf}
+use Rattle.task_codes.specs.CodeValue.{ProgramValue, CodeValue, bindings_at}
 use Rattle.plant.specs.StandsFor.{runs_in, IsOrigin, IsSourceOf, IsBindingOf, IsCodeOf, IsResourceOf, IsPlantOf, task_value}
 use Rattle.plant.specs.Steps.Drafts.{drafted, IsProgramOf, IsDraftOf, IsResourceDraft, IsReady, IsOnceBound, IsBindingBy, IsLinked, IsResourceLinked, HasPrograms, Triples}
 use Rattle.plant.proofs.Zips.{zip_imply, item_at}

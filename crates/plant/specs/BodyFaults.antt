@@ -1,9 +1,10 @@
 -- The fault of a program's body.
 use Rattle.std.specs.Prelude.{◌≡◌, ℕ, List, ◌∷◌, ◌++◌, All, min, max, Some}
-use Rattle.ladder_text.specs.declared.place.Place.{Place}
+use Rattle.drawings.specs.declared.place.Place.{Place}
 use Rattle.ladder_text.specs.Rows.{rows_of}
 use Rattle.ladder_text.specs.Places.{layout_of}
-use Rattle.ladder_text.specs.Picture.{Picture, picture_of}
+use Rattle.drawings.specs.Picture.{Picture}
+use Rattle.ladder_text.specs.Picture.{picture_of}
 use Rattle.ladder_text.specs.Faults.{IsWellDrawn, IsIllDrawn}
 use Rattle.ladder_text.specs.FirstFault.{TellsFirstFault}
 use Rattle.network.specs.GraphValue.{GraphValue}

@@ -5,6 +5,5 @@ pub mod Faults
 pub mod BodyFaults
 pub mod PlantText
 pub mod Find
-pub mod OutputNames
 pub mod Plan
 pub mod Steps

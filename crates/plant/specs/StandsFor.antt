@@ -4,11 +4,11 @@ use Rattle.std.specs.List.{flat_map, filter, AllZip}
 use Rattle.declared_names.specs.declared.declarations.Kind.{Kind}
 use Rattle.declared_names.specs.declared.declarations.Declaration.{Declaration}
 use Rattle.declared_names.specs.Names.{place_of}
-use Rattle.plant.specs.declared.binding.Source.{Source}
-use Rattle.plant.specs.declared.binding.Source.TheVariants.{Field, Given}
-use Rattle.plant.specs.declared.binding.Binding.{Binding}
+use Rattle.task_codes.specs.declared.binding.Source.{Source}
+use Rattle.task_codes.specs.declared.binding.Source.TheVariants.{Field, Given}
+use Rattle.task_codes.specs.declared.binding.Binding.{Binding}
 use Rattle.due_list.specs.declared.task_ref.TaskRef.{TaskRef}
-use Rattle.plant.specs.declared.task_output.TaskOutput.{TaskOutput}
+use Rattle.task_codes.specs.declared.task_output.TaskOutput.{TaskOutput}
 use Rattle.plant_grammar.specs.declared.grammar.tree.Program.{Program}
 use Rattle.plant_grammar.specs.declared.grammar.tree.TaskLine.{TaskLine}
 use Rattle.plant_grammar.specs.declared.grammar.tree.SourceName.{SourceName}
@@ -21,7 +21,8 @@ use Rattle.plant_grammar.specs.Names.{is_named, IsAt}
 use Rattle.plant_grammar.specs.Lawful.{variables, tasks_of, uses_of, binds_of}
 use Rattle.plant.specs.Faultless.{IsLadderOf}
 use Rattle.plant_grammar.specs.Kinds.{input_kind_at}
-use Rattle.plant.specs.PlantValue.{TaskValue, ProgramValue, CodeValue, ResourceValue, PlantValue, bindings_at, source_kind, IsSoundCode, AreProducersOf}
+use Rattle.plant.specs.PlantValue.{TaskValue, ResourceValue, PlantValue, AreProducersOf}
+use Rattle.task_codes.specs.CodeValue.{ProgramValue, CodeValue, bindings_at, source_kind, IsSoundCode}
 
 -- the instances that a task runs, in order of declaration
 abbrev pub runs_in : Resource → TaskLine → List Use

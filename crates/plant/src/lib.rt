@@ -1,22 +1,16 @@
 //! Plants: programs with drawn ladders, resources with their tasks, and what feeds what.
 #![tactic(auto)]
 
-mod binding;
 mod bodies;
 mod find;
 mod planning;
 mod plant;
 mod plant_fault;
 mod plant_resource;
-mod program_instance;
 mod read;
-mod same_code;
 mod sources;
 mod task;
-mod task_code;
-mod task_output;
 
-pub use binding::{Binding, Source};
 pub use due_list::{Due, PlanFault, TaskRef, one_plan};
 pub use planning::plan;
 pub use plant::Plant;
@@ -24,5 +18,4 @@ pub use plant_fault::{BodyFault, PlantFault, PlantFaultKind};
 pub use plant_grammar::kind_of_space;
 pub use plant_text::{Address, Space};
 pub use task::Task;
-pub use task_code::TaskCode;
-pub use task_output::TaskOutput;
+pub use task_codes::{Binding, Source, TaskCode, TaskOutput};

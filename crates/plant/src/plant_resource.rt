@@ -2,10 +2,10 @@ ghost use Rattle.std.specs.Prelude.{◌≡◌, length, map, slice_get};
 ghost use Rattle.std.specs.Option.{option_map};
 
 use crate::task::Task;
-use crate::task_code::TaskCode;
-use ladder_text::Text;
 use std::marker::Model;
 use std::sync::Arc;
+use task_codes::TaskCode;
+use words::Text;
 
 /// A resource of a plant: its name, its tasks, and the code of each.
 #[derive(Drop)]

@@ -1,6 +1,6 @@
 ghost use Rattle.std.specs.Prelude.{◌≡◌};
 
-use ladder_text::Text;
+use words::Text;
 
 /// A task: its name, how often it is due, and its priority.
 #[derive(Debug, Drop)]

@@ -9,7 +9,7 @@ use Rattle.lists.proofs.Members.{all_from_places}
 use Rattle.lists.proofs.Zips.{zip_back}
 use Rattle.std_blocks.specs.declared.value.Value.{Value}
 use Rattle.std_blocks.specs.declared.pins.PinsOut.{PinsOut}
-use Rattle.ladder_text.specs.declared.drawn_box.Operand.{Operand}
+use Rattle.drawings.specs.declared.drawn_box.Operand.{Operand}
 use Rattle.network.specs.Links.{Diagram}
 use Rattle.declared_names.specs.declared.declarations.Declaration.{Declaration}
 use Rattle.declared_names.specs.declared.declarations.Declared.{Declared}

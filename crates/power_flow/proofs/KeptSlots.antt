@@ -7,8 +7,8 @@ use Rattle.std.proofs.lemmas.List.{get_or-set_same, get_or-set_other}
 use Rattle.std.proofs.lemmas.Option.{slice_get-get_or, get_or_from_slice_get, slice_get_within}
 use Rattle.std_blocks.specs.declared.value.Value.{Value}
 use Rattle.std_blocks.specs.declared.value.Value.TheVariants.{Bool as BoolValue}
-use Rattle.ladder_text.specs.declared.coil.Coil.{Coil as DrawnCoil}
-use Rattle.ladder_text.specs.declared.drawn_box.DrawnBox.{DrawnBox}
+use Rattle.drawings.specs.declared.coil.Coil.{Coil as DrawnCoil}
+use Rattle.drawings.specs.declared.drawn_box.DrawnBox.{DrawnBox}
 use Rattle.network.specs.declared.element.Element.{Element}
 use Rattle.network.specs.declared.element.Element.TheVariants.{Wire, Join, Upright, Contact, Coil, Box}
 use Rattle.network.specs.Links.{Diagram}
@@ -23,7 +23,7 @@ use Rattle.declared_names.specs.Names.{place_of}
 use Rattle.power_flow.specs.Values.{value_at, slot_value}
 use Rattle.variable_binding.specs.Kinds.{kind_of}
 use Rattle.power_flow.specs.StateValue.{StateValue, IsSlotOf, AreSlotsOf}
-use Rattle.ladder_text.specs.declared.place.Place.{Place}
+use Rattle.drawings.specs.declared.place.Place.{Place}
 use Rattle.std.proofs.lemmas.List.Sums.{sum_by-cons}
 use Rattle.power_flow.specs.declared.steps.circuit.Circuit.{Circuit}
 use Rattle.power_flow.specs.Steps.Circuit.{circuit_diagram}
@@ -39,10 +39,10 @@ use Rattle.std_blocks.specs.declared.pin.Field.TheVariants.{Bit, Int, Time}
 use Rattle.std_blocks.specs.declared.pins.PinsOut.{PinsOut}
 use Rattle.std_blocks.specs.Pins.{pin_of, output, field_value}
 use Rattle.std_blocks.specs.Blocks.{after, outputs_after}
-use Rattle.ladder_text.specs.declared.drawn_box.DrawnPin.{DrawnPin}
-use Rattle.ladder_text.specs.declared.drawn_box.Operand.{Operand}
-use Rattle.ladder_text.specs.declared.drawn_box.Side.{Side}
-use Rattle.ladder_text.specs.declared.drawn_box.Side.TheVariants.{Left, Right}
+use Rattle.drawings.specs.declared.drawn_box.DrawnPin.{DrawnPin}
+use Rattle.drawings.specs.declared.drawn_box.Operand.{Operand}
+use Rattle.drawings.specs.declared.drawn_box.Side.{Side}
+use Rattle.drawings.specs.declared.drawn_box.Side.TheVariants.{Left, Right}
 use Rattle.std.specs.Option.{option_and_then, option_map_or}
 use Rattle.lists.proofs.Members.{cons_first, cons_later}
 use Rattle.power_flow.proofs.BoxesBinding.{declared_place}

@@ -5,11 +5,11 @@ use Rattle.std.proofs.lemmas.List.{get_or-set_same, get_or-set_other}
 use Rattle.std.proofs.lemmas.Option.{slice_get_within, slice_get-get_or}
 use Rattle.lists.proofs.Places.{some_same}
 use Rattle.lists.proofs.Members.{contains_at}
-use Rattle.ladder_text.specs.declared.place.Place.{Place}
-use Rattle.ladder_text.specs.declared.drawn_box.DrawnBox.{DrawnBox}
-use Rattle.ladder_text.specs.declared.drawn_box.DrawnPin.{DrawnPin}
-use Rattle.ladder_text.specs.declared.drawn_box.Side.{Side}
-use Rattle.ladder_text.specs.declared.drawn_box.Side.TheVariants.{Left, Right}
+use Rattle.drawings.specs.declared.place.Place.{Place}
+use Rattle.drawings.specs.declared.drawn_box.DrawnBox.{DrawnBox}
+use Rattle.drawings.specs.declared.drawn_box.DrawnPin.{DrawnPin}
+use Rattle.drawings.specs.declared.drawn_box.Side.{Side}
+use Rattle.drawings.specs.declared.drawn_box.Side.TheVariants.{Left, Right}
 use Rattle.network.specs.declared.element.Element.{Element}
 use Rattle.network.specs.declared.element.Element.TheVariants.{Wire, Join, Upright, Contact, Coil, Box}
 use Rattle.network.specs.Links.{Diagram, Gives, place}

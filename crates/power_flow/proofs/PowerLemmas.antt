@@ -1,6 +1,6 @@
 -- Walks of power, and the places that they make ON.
 use Rattle.std.proofs.Common.{ℕ, ◌≤◌, inl, inr, List, [], ◌∷◌, Bool, IsTrue, arith}
-use Rattle.ladder_text.specs.declared.place.Place.{Place}
+use Rattle.drawings.specs.declared.place.Place.{Place}
 use Rattle.network.specs.Links.{Diagram, Passes}
 use Rattle.power_flow.specs.Power.{IsWalk, SymbolEndsAt, IsOn}
 

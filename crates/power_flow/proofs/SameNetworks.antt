@@ -1,7 +1,7 @@
 -- Lists of networks that are equal element by element.
 use Rattle.std.proofs.Common.{◌≡◌, ℕ, suc, ◌<◌, inl, inr, ◌⊎◌, List, [], ◌∷◌, map, length, get_or, sym, ap, ◌∙◌, refl, arith}
 use Rattle.std.proofs.lemmas.List.{get_or-map, length-map}
-use Rattle.ladder_text.specs.declared.place.Place.{Place}
+use Rattle.drawings.specs.declared.place.Place.{Place}
 use Rattle.network.specs.Links.{Diagram}
 use Rattle.network.specs.GraphValue.{diagram}
 use Rattle.power_flow.specs.declared.steps.circuit.Circuit.{Circuit}

@@ -1,7 +1,7 @@
 -- Whether a place stands on the left rail, by the index of its places.
 use Rattle.std.proofs.Common.{◌≡◌, ℕ, ◌↔◌, List, Bool, Option, Some, None, Contains, IsTrue, is_some, refl, ap, ◌∙◌}
 use Rattle.lists.proofs.Members.{contains_at, at_contains}
-use Rattle.ladder_text.specs.declared.place.Place.{Place}
+use Rattle.drawings.specs.declared.place.Place.{Place}
 use Rattle.network.specs.declared.numbering.Spot.{Spot}
 use Rattle.network.specs.Steps.Numbers.{IsSpot}
 use Rattle.network.specs.Steps.Listing.{IsIndex}

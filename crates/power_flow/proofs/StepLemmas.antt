@@ -6,13 +6,13 @@ use Rattle.std.proofs.lemmas.List.Elements.{filter_map-append}
 use Rattle.std.proofs.lemmas.Option.{slice_get_read}
 use Rattle.lists.proofs.Places.{some_same, slice_get-append}
 use Rattle.lists.proofs.Zips.{zip_push}
-use Rattle.ladder_text.specs.declared.place.Place.{Place}
-use Rattle.ladder_text.specs.declared.drawn_box.DrawnBox.{DrawnBox}
-use Rattle.ladder_text.specs.declared.drawn_box.DrawnPin.{DrawnPin}
-use Rattle.ladder_text.specs.declared.drawn_box.Side.{Side}
-use Rattle.ladder_text.specs.declared.drawn_box.Side.TheVariants.{Left, Right}
-use Rattle.ladder_text.specs.declared.contact.Contact.{Contact as DrawnContact}
-use Rattle.ladder_text.specs.declared.coil.Coil.{Coil as DrawnCoil}
+use Rattle.drawings.specs.declared.place.Place.{Place}
+use Rattle.drawings.specs.declared.drawn_box.DrawnBox.{DrawnBox}
+use Rattle.drawings.specs.declared.drawn_box.DrawnPin.{DrawnPin}
+use Rattle.drawings.specs.declared.drawn_box.Side.{Side}
+use Rattle.drawings.specs.declared.drawn_box.Side.TheVariants.{Left, Right}
+use Rattle.drawings.specs.declared.contact.Contact.{Contact as DrawnContact}
+use Rattle.drawings.specs.declared.coil.Coil.{Coil as DrawnCoil}
 use Rattle.network.specs.declared.element.Element.{Element}
 use Rattle.network.specs.declared.element.Element.TheVariants.{Wire, Join, Upright, Contact, Coil, Box}
 use Rattle.network.specs.Links.{Diagram, Gives, place}

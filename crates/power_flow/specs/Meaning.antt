@@ -1,15 +1,15 @@
 use Rattle.std.specs.Prelude.{◌≡◌, ℕ, ◌<◌, ◌⊎◌, ◌↔◌, List, [], ◌∷◌, ◌++◌, map, Bool, true, false, not, ◌&&◌, if◌then◌else◌, Option, Some, None, IsTrue, Contains, Any, slice_get, slice_index_or, slice_set, length, MatchOption}
 use Rattle.std.specs.List.{flat_map, enumerate_from}
 use Rattle.std.specs.Option.{option_map_or, option_map, option_and_then}
-use Rattle.ladder_text.specs.declared.place.Place.{Place}
-use Rattle.ladder_text.specs.declared.drawn_box.DrawnBox.{DrawnBox}
-use Rattle.ladder_text.specs.declared.drawn_box.DrawnPin.{DrawnPin}
-use Rattle.ladder_text.specs.declared.drawn_box.Side.{Side}
-use Rattle.ladder_text.specs.declared.drawn_box.Side.TheVariants.{Left, Right}
-use Rattle.ladder_text.specs.declared.contact.ContactKind.{ContactKind}
-use Rattle.ladder_text.specs.declared.contact.ContactKind.TheVariants as contact
-use Rattle.ladder_text.specs.declared.coil.CoilKind.{CoilKind}
-use Rattle.ladder_text.specs.declared.coil.CoilKind.TheVariants as coil
+use Rattle.drawings.specs.declared.place.Place.{Place}
+use Rattle.drawings.specs.declared.drawn_box.DrawnBox.{DrawnBox}
+use Rattle.drawings.specs.declared.drawn_box.DrawnPin.{DrawnPin}
+use Rattle.drawings.specs.declared.drawn_box.Side.{Side}
+use Rattle.drawings.specs.declared.drawn_box.Side.TheVariants.{Left, Right}
+use Rattle.drawings.specs.declared.contact.ContactKind.{ContactKind}
+use Rattle.drawings.specs.declared.contact.ContactKind.TheVariants as contact
+use Rattle.drawings.specs.declared.coil.CoilKind.{CoilKind}
+use Rattle.drawings.specs.declared.coil.CoilKind.TheVariants as coil
 use Rattle.network.specs.declared.element.Element.{Element}
 use Rattle.network.specs.declared.element.Element.TheVariants.{Wire, Join, Upright, Contact, Coil, Box}
 use Rattle.network.specs.Links.{Diagram}

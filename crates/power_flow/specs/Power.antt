@@ -1,6 +1,6 @@
 use Rattle.std.specs.Prelude.{ℕ, List, [], ◌∷◌, Bool, IsTrue}
 use Rattle.std.specs.List.{AllByRecursion}
-use Rattle.ladder_text.specs.declared.place.Place.{Place}
+use Rattle.drawings.specs.declared.place.Place.{Place}
 use Rattle.network.specs.Links.{Diagram, Passes}
 pub use Rattle.network.specs.Table.{EndsAt, SymbolEndsAt}
 

@@ -10,13 +10,14 @@ use Rattle.std.proofs.lemmas.Option.{slice_get_within, get_or_from_slice_get}
 use Rattle.lists.proofs.Zips.{zip_length}
 use Rattle.lists.proofs.Members.{all_from_places, all_first, all_last}
 use Rattle.lists.proofs.Places.{element_at}
-use Rattle.plant.specs.declared.binding.Binding.{Binding}
+use Rattle.task_codes.specs.declared.binding.Binding.{Binding}
 use Rattle.plant_grammar.specs.declared.grammar.tree.Resource.{Resource}
 use Rattle.plant_grammar.specs.declared.grammar.tree.TaskLine.{TaskLine}
 use Rattle.plant_grammar.specs.Grammar.{Tree}
 use Rattle.plant_grammar.specs.Lawful.{tasks_of, uses_of, binds_of, all_uses, IsTreeLawful, IsResourceLawful}
 use Rattle.plant_grammar.specs.Kinds.{items_or_none}
-use Rattle.plant.specs.PlantValue.{CodeValue, ResourceValue, PlantValue, bindings_at}
+use Rattle.plant.specs.PlantValue.{ResourceValue, PlantValue}
+use Rattle.task_codes.specs.CodeValue.{CodeValue, bindings_at}
 use Rattle.plant.specs.StandsFor.{runs_in, task_value, IsBindingOf, IsCodeOf, IsResourceOf}
 use Rattle.plant.specs.PlantText.{IsPlantText}
 use Rattle.text_commands.specs.CheckText.{programs_of, connections_of}

@@ -2,7 +2,8 @@
 use Rattle.std.specs.Prelude.{◌≢◌, ℕ, ◌++◌, List, Option, length, codes, take, sum_by}
 use Rattle.std.specs.Fmt.{decimal}
 use Rattle.std.specs.Io.KnownBytes.{Appends, Keeps}
-use Rattle.plant.specs.PlantValue.{CodeValue, ResourceValue, PlantValue}
+use Rattle.plant.specs.PlantValue.{ResourceValue, PlantValue}
+use Rattle.task_codes.specs.CodeValue.{CodeValue}
 use Rattle.plant.specs.Faults.{IsPlantFault, IsOfBody}
 use Rattle.plant.specs.PlantText.{IsPlantText, IsBodyFaultIn}
 use Rattle.plant.specs.declared.plant_fault.PlantFault.{PlantFault}

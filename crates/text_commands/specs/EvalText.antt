@@ -3,9 +3,10 @@ use Rattle.std.specs.Prelude.{◌≡◌, ◌≢◌, ℕ, ◌+◌, ◌++◌, ◌=
 use Rattle.std.specs.Io.KnownBytes.{Appends, Keeps}
 use Rattle.ladder_text.specs.Rows.{rows_of}
 use Rattle.ladder_text.specs.Places.{layout_of}
-use Rattle.ladder_text.specs.Picture.{Picture, picture_of}
+use Rattle.drawings.specs.Picture.{Picture}
+use Rattle.ladder_text.specs.Picture.{picture_of}
 use Rattle.ladder_text.specs.Faults.{IsWellDrawn, IsIllDrawn}
-use Rattle.ladder_text.specs.declared.place.Place.{Place}
+use Rattle.drawings.specs.declared.place.Place.{Place}
 use Rattle.ladder_text.specs.declared.draw_fault.DrawFaultKind.TheVariants as draw
 use Rattle.network.specs.Links.{Diagram}
 use Rattle.network.specs.GraphValue.{GraphValue}

@@ -9,7 +9,7 @@ use crate::line::state_line;
 use crate::row::Row;
 use crate::rows::{read_rows, scan_count};
 use crate::text_command_fault::TextCommandFault;
-use ladder_text::Drawing;
+use ladder_text::{Drawing, ReadText};
 use network::Graph;
 use power_flow::{Declarations, Guess, Ladder, State};
 use std::alloc::Global;

@@ -14,12 +14,12 @@ use Rattle.std_blocks.specs.declared.pin.Field.{Field}
 use Rattle.std_blocks.specs.declared.pin.Field.TheVariants.{Bit, Int, Time}
 use Rattle.std_blocks.specs.declared.pin.Pin.{Pin}
 use Rattle.std_blocks.specs.Pins.{pin_of}
-use Rattle.ladder_text.specs.declared.place.Place.{Place}
-use Rattle.ladder_text.specs.declared.drawn_box.DrawnBox.{DrawnBox}
-use Rattle.ladder_text.specs.declared.drawn_box.DrawnPin.{DrawnPin}
-use Rattle.ladder_text.specs.declared.drawn_box.Operand.{Operand}
-use Rattle.ladder_text.specs.declared.drawn_box.Side.{Side}
-use Rattle.ladder_text.specs.declared.drawn_box.Side.TheVariants.{Left, Right}
+use Rattle.drawings.specs.declared.place.Place.{Place}
+use Rattle.drawings.specs.declared.drawn_box.DrawnBox.{DrawnBox}
+use Rattle.drawings.specs.declared.drawn_box.DrawnPin.{DrawnPin}
+use Rattle.drawings.specs.declared.drawn_box.Operand.{Operand}
+use Rattle.drawings.specs.declared.drawn_box.Side.{Side}
+use Rattle.drawings.specs.declared.drawn_box.Side.TheVariants.{Left, Right}
 use Rattle.network.specs.declared.element.Element.{Element}
 use Rattle.network.specs.declared.element.Element.TheVariants.{Wire, Join, Upright, Contact, Coil, Box}
 use Rattle.network.specs.Links.{place}

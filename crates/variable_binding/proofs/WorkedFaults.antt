@@ -5,11 +5,11 @@ use Rattle.std_blocks.specs.declared.block_type.BlockType.TheVariants.{CTU, TON}
 use Rattle.std_blocks.specs.declared.value.Value.TheVariants.{Int as IntValue}
 use Rattle.std_blocks.specs.declared.pin.Field.TheVariants.{Bit, Int}
 use Rattle.std_blocks.specs.Pins.{pin_of, input}
-use Rattle.ladder_text.specs.declared.drawn_box.DrawnBox.{DrawnBox}
-use Rattle.ladder_text.specs.declared.drawn_box.DrawnPin.{DrawnPin}
-use Rattle.ladder_text.specs.declared.drawn_box.Operand.{Operand}
-use Rattle.ladder_text.specs.declared.drawn_box.Side.{Side}
-use Rattle.ladder_text.specs.declared.drawn_box.Side.TheVariants.{Left}
+use Rattle.drawings.specs.declared.drawn_box.DrawnBox.{DrawnBox}
+use Rattle.drawings.specs.declared.drawn_box.DrawnPin.{DrawnPin}
+use Rattle.drawings.specs.declared.drawn_box.Operand.{Operand}
+use Rattle.drawings.specs.declared.drawn_box.Side.{Side}
+use Rattle.drawings.specs.declared.drawn_box.Side.TheVariants.{Left}
 use Rattle.network.specs.declared.element.Element.TheVariants.{Wire, Box}
 use Rattle.network.specs.Links.{place}
 use Rattle.variable_binding.specs.declared.bind_fault.BindKind.TheVariants.{UnknownName, WrongKind, UnknownPin, PinMissing, LiteralOutOfRange}

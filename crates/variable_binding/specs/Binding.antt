@@ -1,5 +1,5 @@
 use Rattle.std.specs.Prelude.{List, All}
-use Rattle.ladder_text.specs.declared.place.Place.{Place}
+use Rattle.drawings.specs.declared.place.Place.{Place}
 use Rattle.network.specs.declared.element.Element.{Element}
 use Rattle.network.specs.Links.{Diagram}
 use Rattle.variable_binding.specs.declared.bind_fault.BindKind.{BindKind}

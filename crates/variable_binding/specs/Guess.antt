@@ -5,7 +5,7 @@ use Rattle.std.specs.List.Sorted.{IsPermutation, IsSortedBy, IsStableBy}
 use Rattle.std.specs.Option.{option_map_or}
 use Rattle.std.specs.Str.{str_eq_ignore_ascii_case}
 use Rattle.std_blocks.specs.declared.block_type.BlockType.{BlockType}
-use Rattle.ladder_text.specs.declared.drawn_box.DrawnPin.{DrawnPin}
+use Rattle.drawings.specs.declared.drawn_box.DrawnPin.{DrawnPin}
 use Rattle.network.specs.declared.element.Element.{Element}
 use Rattle.network.specs.declared.element.Element.TheVariants.{Wire, Join, Upright, Contact, Coil, Box}
 use Rattle.network.specs.GraphValue.{GraphValue}

@@ -6,11 +6,12 @@ ghost use Rattle.variable_binding.specs.Steps.BoxFindings.{read_name_fault, name
 
 use crate::bind_fault::BindKind;
 use crate::box_faults::{box_finding, fault_here, name_kind, read_name_fault};
-use declared_names::{Declarations, Declared, Kind};
 use crate::finding::{Finding, earlier};
 use crate::names::{declared_at, parts};
-use ladder_text::{Place, Text};
+use declared_names::{Declarations, Declared, Kind};
+use drawings::Place;
 use network::{Element, Network};
+use words::Text;
 
 fn kind_fault(kind: Kind) -> Option<BindKind>
     ensures { result ≡ kind_fault kind }

@@ -4,13 +4,14 @@ ghost use Rattle.std.specs.List.Sorted.{IsPermutation, IsSortedBy, IsStableBy};
 ghost use Rattle.std.specs.Str.{str_eq_ignore_ascii_case};
 ghost use Rattle.variable_binding.specs.Guess.{is_plain, name_use, word_uses, pin_uses, element_uses, uses_of, is_before, declaration_of, first_uses, AreGuessed};
 
-use declared_names::{Declarations, Declared, Kind, declared_names_have_places};
 use crate::kinds::kind_of_pin;
 use crate::name_use::NameUse;
-use ladder_text::{DrawnPin, Text};
+use declared_names::{Declarations, Declared, Kind, declared_names_have_places};
+use drawings::DrawnPin;
 use network::{Element, Graph, Network};
 use std::alloc::{AllocError, Global};
 use std_blocks::BlockType;
+use words::Text;
 
 /// Whether a word is a name by itself: no number, no duration, and without a dot.
 fn is_plain_name(letters: &[u8]) -> bool

@@ -4,7 +4,7 @@ ghost use Rattle.variable_binding.specs.PinKinds.{field_kind, stands_on, pin_kin
 ghost use Rattle.variable_binding.specs.Kinds.{kind_of};
 
 use declared_names::Kind;
-use ladder_text::{DrawnPin, Side};
+use drawings::{DrawnPin, Side};
 use std_blocks::{BlockType, Field, Pin, Value};
 
 /// The kind of a value.

@@ -6,8 +6,8 @@ ghost use Rattle.variable_binding.specs.Steps.BoxFindings.{literal_of};
 ghost use Rattle.variable_binding.specs.Steps.Named.{IsInRange};
 
 use declared_names::Kind;
-use ladder_text::{Text, duration_up_to, is_duration, is_number, number_up_to};
 use std_blocks::Value;
+use words::{Text, duration_up_to, is_duration, is_number, number_up_to};
 
 /// What an operand is by itself.
 #[derive(Clone, Copy)]

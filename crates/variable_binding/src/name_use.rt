@@ -1,5 +1,5 @@
 use declared_names::Declared;
-use ladder_text::Text;
+use words::Text;
 
 /// A name as it stands in a drawing: the place of its symbol or box, or its own first character, and what it is by this use.
 #[derive(Drop)]

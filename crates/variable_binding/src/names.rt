@@ -5,7 +5,7 @@ ghost use Rattle.declared_names.specs.Names.{is_dot};
 ghost use Rattle.variable_binding.specs.Lookup.{declared_at};
 
 use declared_names::{Declarations, Declared};
-use ladder_text::Text;
+use words::Text;
 
 /// Where a dot stands in a name.
 fn dot_in(name: &[u8]) -> Option<usize>

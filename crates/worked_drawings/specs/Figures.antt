@@ -1,10 +1,10 @@
 -- Worked drawings.
 use Rattle.std.specs.Prelude.{ℕ, ◌≡◌, List, [], ◌∷◌, ◌++◌, map, drop, codes}
-use Rattle.ladder_text.specs.declared.mark.Mark.{Mark}
-use Rattle.ladder_text.specs.declared.mark.Mark.TheVariants.{Blank, Rail, Wire, Join, Upright, ContactPart, CoilPart, BoxPart}
-use Rattle.ladder_text.specs.declared.contact.Contact.{Contact}
-use Rattle.ladder_text.specs.declared.coil.Coil.{Coil}
-use Rattle.ladder_text.specs.declared.drawn_box.DrawnBox.{DrawnBox}
+use Rattle.drawings.specs.declared.mark.Mark.{Mark}
+use Rattle.drawings.specs.declared.mark.Mark.TheVariants.{Blank, Rail, Wire, Join, Upright, ContactPart, CoilPart, BoxPart}
+use Rattle.drawings.specs.declared.contact.Contact.{Contact}
+use Rattle.drawings.specs.declared.coil.Coil.{Coil}
+use Rattle.drawings.specs.declared.drawn_box.DrawnBox.{DrawnBox}
 use Rattle.ladder_text.specs.Rows.{rows_of, trimmed}
 use Rattle.ladder_text.specs.Places.{layout_of}
 use Rattle.ladder_text.specs.Faults.{IsWellDrawn}

@@ -2,7 +2,7 @@
 use Rattle.std.proofs.Common.{◌≡◌, ℕ, ◌+◌, ◌<◌, ◌≤◌, ◌==◌, false, List, [], ◌∷◌, ◌++◌, map, take, length, get_or, refl, sym, ap, ◌∙◌, append_assoc, arith, zero, suc, drop, ◌-◌, length-drop}
 use Rattle.std.specs.List.{join_with_byte, zip}
 use Rattle.std.proofs.lemmas.Bool.{ne_eqb}
-use Rattle.plant.specs.declared.task_output.TaskOutput.{TaskOutput}
+use Rattle.task_codes.specs.declared.task_output.TaskOutput.{TaskOutput}
 use Rattle.declared_names.specs.declared.declarations.Kind.TheVariants as kind
 use Rattle.std.proofs.lemmas.List.{take_more, take_all, map-append}
 use Rattle.world.specs.Steps.Telling.{gap_before}

@@ -7,9 +7,10 @@ use Rattle.std_blocks.specs.declared.value.Value.{Value}
 use Rattle.std_blocks.specs.declared.value.Value.TheVariants.{Bool as BoolValue, Int as IntValue, Time as TimeValue}
 use Rattle.declared_names.specs.declared.declarations.Declaration.{Declaration}
 use Rattle.due_list.specs.declared.task_ref.TaskRef.{TaskRef}
-use Rattle.plant.specs.declared.task_output.TaskOutput.{TaskOutput}
+use Rattle.task_codes.specs.declared.task_output.TaskOutput.{TaskOutput}
 use Rattle.plant_grammar.specs.Kinds.{items_or_none}
-use Rattle.plant.specs.PlantValue.{TaskValue, ResourceValue, ProgramValue, CodeValue, PlantValue}
+use Rattle.plant.specs.PlantValue.{TaskValue, ResourceValue, PlantValue}
+use Rattle.task_codes.specs.CodeValue.{ProgramValue, CodeValue}
 use Rattle.plant.specs.Plan.{task_at}
 use Rattle.evaluation.specs.declared.name.Name.{Name}
 use Rattle.evaluation.specs.declared.take.Take.{Take}

@@ -1,7 +1,7 @@
 //! The line that tells an evaluation.
 
 ghost use Rattle.std.specs.Prelude.{◌≡◌, ◌++◌, OnOk, Some, length, map, slice_get, string_bytes, zip};
-ghost use Rattle.plant.specs.declared.task_output.TaskOutput.{TaskOutput};
+ghost use Rattle.task_codes.specs.declared.task_output.TaskOutput.{TaskOutput};
 ghost use Rattle.world.specs.Steps.Telling.{gap_before};
 ghost use Rattle.world.specs.RunLines.{value_text, resource_text, task_name, task_text, pair_text, take_text, give_text, list_text, name_text, evaluation_line};
 

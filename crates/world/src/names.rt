@@ -6,8 +6,8 @@ ghost use Rattle.due_list.specs.declared.task_ref.TaskRef.{TaskRef};
 ghost use Rattle.plant.specs.PlantValue.{ResourceValue, TaskValue};
 ghost use Rattle.world.specs.ScheduleText.{resource_named, task_in, IsTaskWord, IsResourceWord};
 
-use ladder_text::is_plain_name;
 use plant::{Plant, Task, TaskRef};
+use words::is_plain_name;
 
 /// Whether the resource at a place has this name, whatever the case of the letters.
 fn is_named(plant: &Plant, resource: usize, name: &[u8]) -> bool

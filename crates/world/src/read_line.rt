@@ -12,9 +12,9 @@ use crate::line_fault::LineFault;
 use crate::names::{resource_of, task_of};
 use evaluation::Inputs;
 use exchange::Event;
-use ladder_text::number_up_to;
 use plant::{Plant, TaskRef};
 use std::alloc::Global;
+use words::number_up_to;
 
 /// The word that a line of an event begins with.
 #[derive(Clone, Copy)]

@@ -7,9 +7,10 @@ use Rattle.std.proofs.lemmas.Option.{none-some, same_Some, slice_get-map, slice_
 use Rattle.lists.proofs.Places.{element_at}
 use Rattle.std_blocks.specs.declared.value.Value.{Value}
 use Rattle.variable_binding.specs.Kinds.{value_first}
-use Rattle.plant.specs.declared.binding.Binding.{Binding}
+use Rattle.task_codes.specs.declared.binding.Binding.{Binding}
 use Rattle.due_list.specs.declared.task_ref.TaskRef.{TaskRef}
-use Rattle.plant.specs.PlantValue.{PlantValue, CodeValue, code_at, expected_at, source_kind}
+use Rattle.plant.specs.PlantValue.{PlantValue, code_at}
+use Rattle.task_codes.specs.CodeValue.{CodeValue, expected_at, source_kind}
 use Rattle.evaluation.specs.declared.field_input.FieldInput.{FieldInput}
 use Rattle.evaluation.specs.declared.name.Name.{Name}
 use Rattle.evaluation.specs.declared.take.Take.{Take}

@@ -6,7 +6,8 @@ use Rattle.std.proofs.lemmas.Option.{slice_get_within}
 use Rattle.lists.proofs.Tables.{both_same, both_itself, row_of_cell}
 use Rattle.due_list.specs.declared.task_ref.TaskRef.{TaskRef}
 use Rattle.plant_grammar.specs.Kinds.{items_or_none}
-use Rattle.plant.specs.PlantValue.{CodeValue, ResourceValue, PlantValue, code_at}
+use Rattle.plant.specs.PlantValue.{ResourceValue, PlantValue, code_at}
+use Rattle.task_codes.specs.CodeValue.{CodeValue}
 use Rattle.exchange_core.specs.Last.{same_task}
 
 -- the task of a resource that two numbers name

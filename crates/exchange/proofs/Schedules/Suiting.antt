@@ -5,7 +5,8 @@ use Rattle.std.proofs.lemmas.Option.{none-some, same_Some}
 use Rattle.declared_names.specs.declared.declarations.Kind.{Kind}
 use Rattle.due_list.specs.declared.task_ref.TaskRef.{TaskRef}
 use Rattle.plant_grammar.specs.Kinds.{items_or_none}
-use Rattle.plant.specs.PlantValue.{CodeValue, PlantValue, AreDistinct, AreProducersOf, image_kinds}
+use Rattle.plant.specs.PlantValue.{PlantValue, AreProducersOf}
+use Rattle.task_codes.specs.CodeValue.{CodeValue, AreDistinct, image_kinds}
 use Rattle.evaluation.specs.declared.take.Take.{Take}
 use Rattle.evaluation.specs.Takes.{initial_image, IsTakeOf, AreTakesOf}
 use Rattle.exchange.specs.Fits.{Among}

@@ -5,7 +5,8 @@ use Rattle.std.proofs.lemmas.Bool.{eqb-true, lt-ltb, le-ltb}
 use Rattle.std.proofs.lemmas.Bool.Decides.{nat_tests}
 use Rattle.std.proofs.lemmas.List.{append_assoc, append-nil, take_more}
 use Rattle.std.proofs.lemmas.Option.{none-some, same_Some, slice_get_read}
-use Rattle.plant.specs.PlantValue.{CodeValue, PlantValue, code_at, IsSoundPlant}
+use Rattle.plant.specs.PlantValue.{PlantValue, code_at, IsSoundPlant}
+use Rattle.task_codes.specs.CodeValue.{CodeValue}
 use Rattle.evaluation.specs.Meaning.{Evaluated}
 use Rattle.exchange_core.specs.CoreValue.{CoreValue, fresh_core}
 use Rattle.exchange.specs.declared.event.Event.{Event}

@@ -8,7 +8,8 @@ use Rattle.std.proofs.lemmas.Option.{same_Some, slice_get_within, slice_get_read
 use Rattle.variable_binding.specs.Kinds.{kind_of}
 use Rattle.due_list.specs.declared.task_ref.TaskRef.{TaskRef}
 use Rattle.plant_grammar.specs.Kinds.{items_or_none}
-use Rattle.plant.specs.PlantValue.{CodeValue, PlantValue, code_at, codes_at, image_kinds, IsSoundPlant}
+use Rattle.plant.specs.PlantValue.{PlantValue, code_at, codes_at, IsSoundPlant}
+use Rattle.task_codes.specs.CodeValue.{CodeValue, image_kinds}
 use Rattle.evaluation.specs.Meaning.{Evaluated}
 use Rattle.exchange_core.specs.Last.{same_task, take_of, takes_of}
 use Rattle.exchange_core.specs.Held.{known}

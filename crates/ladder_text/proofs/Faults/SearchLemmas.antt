@@ -5,7 +5,7 @@ use Rattle.std.specs.List.{Any, list_any}
 use Rattle.std.proofs.lemmas.Bool.{cases_lt, both_ways}
 use Rattle.std.proofs.lemmas.List.{get_or-take, get_or_default, take_all}
 use Rattle.std.proofs.lemmas.List.Folds.{list_any_at, list_any_more}
-use Rattle.ladder_text.specs.declared.place.Place.{Place}
+use Rattle.drawings.specs.declared.place.Place.{Place}
 use Rattle.ladder_text.specs.declared.names.span.Span.{Span}
 use Rattle.ladder_text.specs.Rows.{Rows, width}
 use Rattle.ladder_text.specs.Places.{is_before}

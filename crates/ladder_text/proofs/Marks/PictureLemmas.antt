@@ -4,10 +4,11 @@ use Rattle.std.proofs.lemmas.Bool.{cases_lt}
 use Rattle.std.proofs.Math.ListN.{get_or-append, get_or-eq_default}
 use Rattle.std.proofs.Math.Seq.{get_or-append_seam}
 use Rattle.ladder_text.specs.Rows.{width, height, upto}
-use Rattle.ladder_text.specs.declared.mark.Mark.{Mark}
-use Rattle.ladder_text.specs.declared.mark.Mark.TheVariants.{Blank}
+use Rattle.drawings.specs.declared.mark.Mark.{Mark}
+use Rattle.drawings.specs.declared.mark.Mark.TheVariants.{Blank}
 use Rattle.ladder_text.specs.Places.{Layout, mark}
-use Rattle.ladder_text.specs.Picture.{mark_at, marks_of, picture_of}
+use Rattle.drawings.specs.Picture.{mark_at}
+use Rattle.ladder_text.specs.Picture.{marks_of, picture_of}
 
 pub length-upto : {A : Type 0} (n : ℕ) (f : ℕ → A) → length (upto n (λ k. f k ∷ [])) ≡ n
 length-upto zero f = refl

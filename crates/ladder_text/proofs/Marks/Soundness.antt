@@ -3,7 +3,8 @@ use Rattle.std.proofs.Common.{ℕ, List, ◌≡◌}
 use Rattle.ladder_text.specs.Rows.{Rows, rows_of}
 use Rattle.ladder_text.specs.Places.{layout_of}
 use Rattle.ladder_text.specs.Faults.{IsWellDrawn}
-use Rattle.ladder_text.specs.Picture.{Picture, picture_of, IsSound}
+use Rattle.drawings.specs.Picture.{Picture, IsSound}
+use Rattle.ladder_text.specs.Picture.{picture_of}
 use Rattle.ladder_text.proofs.Rows.LeftLemmas.{left_above, left_within}
 use Rattle.ladder_text.proofs.Marks.SymbolItems.{mark_at-contact, mark_at-coil, contacts_sharing, coils_sharing}
 use Rattle.ladder_text.proofs.Marks.PictureLemmas.{mark_at-drawn}

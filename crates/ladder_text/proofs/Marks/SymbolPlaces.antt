@@ -4,9 +4,9 @@ use Rattle.std.specs.Option.{is_some}
 use Rattle.std.proofs.lemmas.Bool.{and_parts, or_parts, or_cases, or_from, or_left, or_right, not-true, eqb-true, cases_lt, both_ways}
 use Rattle.std.proofs.lemmas.Option.{none-some}
 use Rattle.std.proofs.lemmas.List.{get_or_past}
-use Rattle.ladder_text.specs.declared.mark.Mark.TheVariants.{ContactPart, CoilPart}
-use Rattle.ladder_text.specs.declared.contact.ContactKind.{ContactKind}
-use Rattle.ladder_text.specs.declared.coil.CoilKind.{CoilKind}
+use Rattle.drawings.specs.declared.mark.Mark.TheVariants.{ContactPart, CoilPart}
+use Rattle.drawings.specs.declared.contact.ContactKind.{ContactKind}
+use Rattle.drawings.specs.declared.coil.CoilKind.{CoilKind}
 use Rattle.ladder_text.specs.Rows.{Rows, char_at, width}
 use Rattle.ladder_text.specs.SymbolKinds.{contact_kind, coil_kind}
 use Rattle.ladder_text.specs.Places.{Layout, contact_at, coil_at, in_box, in_contact, in_coil, within_three, mark, is_symbol}

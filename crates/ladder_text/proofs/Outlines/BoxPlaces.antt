@@ -4,17 +4,18 @@ use Rattle.std.specs.List.{slice_get, list_all}
 use Rattle.std.proofs.lemmas.Bool.{and_parts, and_from, or_cases, not-true, both_ways, true_from_ne_false, eqb-true, le-leb}
 use Rattle.std.proofs.lemmas.Option.{none-some, same_Some, slice_get_within, get_or_from_slice_get}
 use Rattle.std.proofs.lemmas.List.Folds.{list_any_at, list_all_at}
-use Rattle.ladder_text.specs.declared.mark.Mark.TheVariants.{BoxPart}
+use Rattle.drawings.specs.declared.mark.Mark.TheVariants.{BoxPart}
 use Rattle.std_blocks.specs.declared.block_type.BlockType.{BlockType}
-use Rattle.ladder_text.specs.declared.drawn_box.DrawnPin.{DrawnPin}
-use Rattle.ladder_text.specs.declared.drawn_box.DrawnBox.{DrawnBox}
+use Rattle.drawings.specs.declared.drawn_box.DrawnPin.{DrawnPin}
+use Rattle.drawings.specs.declared.drawn_box.DrawnBox.{DrawnBox}
 use Rattle.ladder_text.specs.declared.boxes.outline.Outline.{Outline}
 use Rattle.ladder_text.specs.Rows.{Rows, char_at, height, width}
 use Rattle.ladder_text.specs.Boxes.{begins_box, outline_at, outline_with, block_in, pins_of_rows, bottom_row, top_end, is_edge, box_at, row_outlines, outlines, covers}
 use Rattle.ladder_text.specs.Places.{Layout, in_box, mark, layout_of}
 use Rattle.ladder_text.specs.Names.{drawn_boxes}
 use Rattle.ladder_text.specs.Faults.{boxes_apart, is_apart, same_corner, share_place}
-use Rattle.ladder_text.specs.Picture.{mark_at, picture_of, IsBoxPlace, IsWhole}
+use Rattle.drawings.specs.Picture.{mark_at, IsBoxPlace, IsWhole}
+use Rattle.ladder_text.specs.Picture.{picture_of}
 use Rattle.ladder_text.proofs.Rows.ItemLemmas.{IsPlaced, IsAlikeOnce, found_item, found_once, map_item}
 use Rattle.ladder_text.proofs.Marks.SymbolPlaces.{cond_some_of, drawn_inside, drawn_in_row}
 use Rattle.ladder_text.proofs.Marks.PictureLemmas.{mark_at-inside}

@@ -3,7 +3,7 @@ use Rattle.std.proofs.Common.{ℕ, zero, suc, ◌+◌, ◌<◌, ◌≤◌, ◌�
 use Rattle.std.specs.List.{All}
 use Rattle.std.proofs.lemmas.List.Elements.{All-nil, All-cons, All-append, All-weaker}
 use Rattle.std.proofs.lemmas.Option.{none-some, same_Some}
-use Rattle.ladder_text.specs.declared.drawn_box.DrawnPin.{DrawnPin}
+use Rattle.drawings.specs.declared.drawn_box.DrawnPin.{DrawnPin}
 use Rattle.ladder_text.specs.Rows.{Rows}
 use Rattle.words.specs.Chars.{is_identifier}
 use Rattle.ladder_text.specs.Boxes.{nearer_pin, left_pin, right_pin, pins_from, row_pins, both, pins_of_rows, blank_words, cut, blanks_before, blanks_behind}

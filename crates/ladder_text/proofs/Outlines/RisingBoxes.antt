@@ -1,6 +1,6 @@
 -- Boxes stand by row and then column of their corners.
 use Rattle.std.proofs.Common.{ℕ, ◌<◌, ◌≡◌, arith, ◌⊎◌, inl, inr}
-use Rattle.ladder_text.specs.declared.drawn_box.DrawnBox.{DrawnBox}
+use Rattle.drawings.specs.declared.drawn_box.DrawnBox.{DrawnBox}
 use Rattle.ladder_text.specs.declared.boxes.outline.Outline.{Outline}
 use Rattle.ladder_text.specs.Rows.{Rows, height, width}
 use Rattle.ladder_text.specs.Boxes.{box_at, row_outlines, outlines}

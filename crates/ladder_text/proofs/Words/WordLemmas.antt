@@ -7,8 +7,8 @@ use Rattle.ladder_text.specs.declared.names.span.Span.{Span}
 use Rattle.ladder_text.specs.Rows.{run, upto, width, char_at}
 use Rattle.words.specs.Chars.{is_word_char}
 use Rattle.ladder_text.specs.Boxes.{option_list}
-use Rattle.ladder_text.specs.declared.mark.Mark.{Mark}
-use Rattle.ladder_text.specs.declared.mark.Mark.TheVariants.{ContactPart, CoilPart}
+use Rattle.drawings.specs.declared.mark.Mark.{Mark}
+use Rattle.drawings.specs.declared.mark.Mark.TheVariants.{ContactPart, CoilPart}
 use Rattle.ladder_text.specs.Places.{Layout, contact_at, coil_at}
 use Rattle.ladder_text.specs.Names.{in_word, word_at, symbol_at}
 use Rattle.ladder_text.proofs.Rows.RunLemmas.{upto-more, run_passes}

@@ -3,11 +3,11 @@ use Rattle.std.specs.Prelude.{ℕ, zero, suc, ◌+◌, ◌≡◌, ◌<◌, ◌�
 use Rattle.std.specs.List.{All, list_any}
 use Rattle.std.specs.List.Sorted.{IsNonDecreasingBy}
 use Rattle.ladder_text.specs.declared.boxes.outline.Outline.{Outline}
-use Rattle.ladder_text.specs.declared.drawn_box.DrawnPin.{DrawnPin}
-use Rattle.ladder_text.specs.declared.drawn_box.Side.{Side}
+use Rattle.drawings.specs.declared.drawn_box.DrawnPin.{DrawnPin}
+use Rattle.drawings.specs.declared.drawn_box.Side.{Side}
 use Rattle.ladder_text.specs.declared.boxes.box_test.BoxTest.{BoxTest}
 use Rattle.ladder_text.specs.declared.boxes.box_test.BoxTest.TheVariants.{Covers, Reaches, RightPin, BlindLeft, BlindRight}
-use Rattle.ladder_text.specs.declared.place.Place.{Place}
+use Rattle.drawings.specs.declared.place.Place.{Place}
 use Rattle.ladder_text.specs.declared.names.span.Span.{Span}
 use Rattle.ladder_text.specs.Boxes.{covers, meets_row}
 use Rattle.ladder_text.specs.Names.{top_span}

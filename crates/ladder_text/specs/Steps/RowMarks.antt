@@ -1,7 +1,7 @@
 -- The marks of a row that are at hand.
 use Rattle.std.specs.Prelude.{ℕ, ◌<◌, ◌≤◌, ◌≡◌, List, slice_index_or}
-use Rattle.ladder_text.specs.declared.mark.Mark.{Mark}
-use Rattle.ladder_text.specs.declared.mark.Mark.TheVariants.{Blank}
+use Rattle.drawings.specs.declared.mark.Mark.{Mark}
+use Rattle.drawings.specs.declared.mark.Mark.TheVariants.{Blank}
 use Rattle.ladder_text.specs.Rows.{width}
 use Rattle.ladder_text.specs.Places.{Layout, mark}
 

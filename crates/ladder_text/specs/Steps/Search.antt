@@ -1,7 +1,7 @@
 -- What the search for faults knows halfway.
 use Rattle.std.specs.Prelude.{◌≡◌, ℕ, ◌+◌, ◌<◌, ◌≤◌, nat_lt, if◌then◌else◌, List, length, take, position, Option, Some, None}
 use Rattle.ladder_text.specs.declared.draw_fault.DrawFaultKind.{DrawFaultKind}
-use Rattle.ladder_text.specs.declared.place.Place.{Place}
+use Rattle.drawings.specs.declared.place.Place.{Place}
 use Rattle.ladder_text.specs.declared.names.span.Span.{Span}
 use Rattle.ladder_text.specs.Rows.{Rows}
 use Rattle.ladder_text.specs.Places.{Layout, is_before}

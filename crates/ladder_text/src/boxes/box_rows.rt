@@ -2,7 +2,7 @@
 
 ghost use Rattle.std.specs.Prelude.{◌≡◌, ◌==◌, ◌++◌, ◌∷◌, ◌+◌, ◌<◌, ◌≤◌, ◌^◌, ℕ, [], ◌&&◌, nat_lt, map, length, slice_get, slice_index_or, is_some, is_none, Some, OnOk, IfOk, IfSome, IsTrue};
 ghost use Rattle.std.specs.List.{list_any, list_all, filter, filter_map};
-ghost use Rattle.ladder_text.specs.declared.drawn_box.Side.TheVariants as side;
+ghost use Rattle.drawings.specs.declared.drawn_box.Side.TheVariants as side;
 ghost use Rattle.ladder_text.specs.Boxes.{outlines};
 ghost use Rattle.ladder_text.specs.Names.{top_span};
 ghost use Rattle.ladder_text.specs.Faults.{share_place, is_apart, some_takes_word, is_stray_operand, has_stray_pin};
@@ -15,9 +15,9 @@ use crate::boxes::outline::Outline;
 use crate::boxes::outlines::outlines;
 use crate::boxes::row_numbers::RowNumbers;
 use crate::characters::grid::Grid;
-use crate::drawn_box::{DrawnPin, Side};
+use crate::earlier::or_earlier;
 use crate::names::span::Span;
-use crate::place::{Place, or_earlier};
+use drawings::{DrawnPin, Place, Side};
 use std::alloc::{AllocError, Global};
 use std::marker::Model;
 use words::is_operand;

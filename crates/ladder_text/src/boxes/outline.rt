@@ -1,10 +1,10 @@
 //! A box as it is drawn, and what is asked of it.
 
 ghost use Rattle.std.specs.Prelude.{◌≡◌, ◌==◌, ◌<◌, ◌≤◌, ◌^◌, ℕ, length, slice_index_or};
-ghost use Rattle.ladder_text.specs.declared.drawn_box.DrawnPin.{DrawnPin};
+ghost use Rattle.drawings.specs.declared.drawn_box.DrawnPin.{DrawnPin};
 ghost use Rattle.std.specs.List.{list_any, filter};
 ghost use Rattle.std.specs.List.Sorted.{IsNonDecreasingBy};
-ghost use Rattle.ladder_text.specs.declared.drawn_box.Side.TheVariants as side;
+ghost use Rattle.drawings.specs.declared.drawn_box.Side.TheVariants as side;
 ghost use Rattle.ladder_text.specs.Boxes.{covers, meets_row};
 ghost use Rattle.ladder_text.specs.Places.{pin_reaches, box_reaches, right_pin_at, pin_on};
 ghost use Rattle.ladder_text.specs.Names.{top_span};
@@ -12,8 +12,8 @@ ghost use Rattle.ladder_text.specs.Faults.{share_place, takes_word, blind_right_
 ghost use Rattle.ladder_text.specs.Steps.RowBoxes.{box_test, row_of_pin};
 
 use crate::boxes::box_test::BoxTest;
-use crate::drawn_box::{DrawnPin, Pins, Side};
 use crate::names::span::Span;
+use drawings::{DrawnPin, Pins, Side};
 use std_blocks::BlockType;
 
 /// A box as it is drawn, its name aside.

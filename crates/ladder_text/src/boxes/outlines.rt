@@ -5,15 +5,14 @@ ghost use Rattle.ladder_text.specs.Rows.{char_at, width, run_back};
 ghost use Rattle.std.specs.Prelude.{map};
 ghost use Rattle.ladder_text.specs.Faults.{bad_box, Nowhere, IsFoundAt};
 ghost use Rattle.ladder_text.specs.FirstFault.{IsFirstAt};
-ghost use Rattle.ladder_text.specs.declared.drawn_box.Side.TheVariants as side;
+ghost use Rattle.drawings.specs.declared.drawn_box.Side.TheVariants as side;
 ghost use Rattle.ladder_text.specs.Boxes.{blank_words, bottom_row, word_start, word_end, left_operand, right_operand, left_pin, right_pin, nearer_pin, blanks_before, blanks_behind, pins_from, row_pins, pins_of_rows, is_edge, outline_at, box_at, row_outlines, outlines};
 ghost use Rattle.std.specs.Str.{IsAscii};
 
 use crate::boxes::outline::Outline;
 use crate::characters::grid::{Grid, without_leading};
 use crate::characters::rows::trimmed;
-use crate::drawn_box::{DrawnPin, Operand, Pins, Side};
-use crate::place::Place;
+use drawings::{DrawnPin, Operand, Pins, Place, Side};
 use std::alloc::{AllocError, Global};
 use words::{Text, is_identifier, is_word_char};
 

@@ -9,7 +9,7 @@ ghost use Rattle.ladder_text.specs.FirstFault.{IsFirstAt, IsTooLargeAt};
 ghost use Rattle.std.specs.Str.{IsAscii};
 
 use crate::characters::rows::{Row, cells_of, char_at, cut, left_column, trimmed, width};
-use crate::place::Place;
+use drawings::Place;
 use std::marker::Model;
 use std_blocks::BlockType;
 use words::block_type;

@@ -8,7 +8,7 @@ ghost use Rattle.words.specs.Chars.{between};
 ghost use Rattle.ladder_text.specs.Faults.{not_ascii, IsFoundAt};
 ghost use Rattle.ladder_text.specs.FirstFault.{IsFirstAt};
 
-use crate::place::Place;
+use drawings::Place;
 use std::alloc::{AllocError, Global};
 use std::marker::Model;
 

@@ -8,10 +8,9 @@ ghost use Rattle.ladder_text.specs.Steps.RowBoxes.{IsBare};
 ghost use Rattle.ladder_text.specs.Steps.RowMarks.{AreMarksOf};
 ghost use Rattle.ladder_text.specs.Names.{in_word, words, symbol_at, symbols};
 
-use crate::mark::Mark;
 use crate::names::span::Span;
-use crate::places::mark_row::MarkRow;
 use crate::places::marked_grid::MarkedGrid;
+use drawings::{Mark, MarkRow};
 use std::alloc::{AllocError, Global};
 use words::is_word_char;
 

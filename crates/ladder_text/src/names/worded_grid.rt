@@ -10,8 +10,8 @@ use crate::names::span::Span;
 use crate::names::span_row::SpanRow;
 use crate::names::spans::{symbols, words};
 use crate::places::boxed_grid::BoxedGrid;
-use crate::places::mark_row::MarkRow;
 use crate::places::marked_grid::MarkedGrid;
+use drawings::MarkRow;
 use std::alloc::{AllocError, Global};
 use std::marker::Model;
 

@@ -19,10 +19,8 @@ use crate::boxes::box_test::BoxTest;
 use crate::boxes::outline::Outline;
 use crate::boxes::outlines::first_bad_box;
 use crate::characters::grid::Grid;
-use crate::coil::CoilKind;
-use crate::contact::ContactKind;
 use crate::names::span::Span;
-use crate::place::Place;
+use drawings::{CoilKind, ContactKind, Place};
 use std::alloc::{AllocError, Global};
 use std::marker::Model;
 

@@ -10,12 +10,10 @@ ghost use Rattle.ladder_text.specs.Picture.{marks_of};
 ghost use Rattle.ladder_text.specs.Faults.{has_meaning, has_fed_join, is_first_of_symbol, is_blind, touches, is_fed, upright_len, bad_mark, crossing, no_source, has_fault, Nowhere, IsFoundAt};
 ghost use Rattle.ladder_text.specs.FirstFault.{IsFirstAt};
 
-use crate::mark::Mark;
-use crate::place::Place;
 use crate::places::boxed_grid::BoxedGrid;
-use crate::places::mark_row::MarkRow;
 use crate::places::place_fault::PlaceFault;
 use crate::places::railed_grid::RailedGrid;
+use drawings::{Mark, MarkRow, Place};
 use std::alloc::{AllocError, Global};
 use std::marker::Model;
 

@@ -8,9 +8,8 @@ ghost use Rattle.ladder_text.specs.Places.{layout_of, is_rail_column, in_box, in
 ghost use Rattle.ladder_text.specs.Steps.RowBoxes.{IsBare};
 ghost use Rattle.ladder_text.specs.Picture.{row_marks, marks_of};
 
-use crate::mark::Mark;
 use crate::places::boxed_grid::BoxedGrid;
-use crate::places::mark_row::MarkRow;
+use drawings::{Mark, MarkRow};
 use std::alloc::{AllocError, Global};
 use std::marker::Model;
 

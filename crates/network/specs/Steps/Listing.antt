@@ -1,7 +1,7 @@
 -- Elements of a drawing in a list.
 use Rattle.std.specs.Prelude.{◌≡◌, ℕ, ◌<◌, List, Some, slice_get, Option, [], ◌∷◌, ◌++◌, MatchOption}
-use Rattle.ladder_text.specs.Picture.{Picture}
-use Rattle.ladder_text.specs.declared.place.Place.{Place}
+use Rattle.drawings.specs.Picture.{Picture}
+use Rattle.drawings.specs.declared.place.Place.{Place}
 use Rattle.network.specs.declared.element.Element.{Element}
 use Rattle.network.specs.declared.numbering.Spot.{Spot}
 use Rattle.network.specs.Steps.Numbers.{IsSpot}

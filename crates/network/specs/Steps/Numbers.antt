@@ -1,6 +1,6 @@
 -- The numbers of places.
 use Rattle.std.specs.Prelude.{◌≡◌, ◌≢◌, ℕ, List, Option, Some, None, slice_get}
-use Rattle.ladder_text.specs.declared.place.Place.{Place}
+use Rattle.drawings.specs.declared.place.Place.{Place}
 use Rattle.network.specs.declared.numbering.Spot.{Spot}
 
 -- the place p has the number k

@@ -1,7 +1,7 @@
 -- The networks of a drawing by their order.
 use Rattle.std.specs.Prelude.{◌≡◌, ◌+◌, ◌<◌, ◌≤◌, ℕ, List, Option, Some, None, ◌∷◌, ◌++◌, [], slice_set, Any, Contains, slice_get, slice_index, length}
-use Rattle.ladder_text.specs.Picture.{Picture, IsSound}
-use Rattle.ladder_text.specs.declared.place.Place.{Place}
+use Rattle.drawings.specs.Picture.{Picture, IsSound}
+use Rattle.drawings.specs.declared.place.Place.{Place}
 use Rattle.network.specs.declared.element.Element.{Element}
 use Rattle.network.specs.declared.ranks.Top.{Top}
 use Rattle.network.specs.declared.row_table.InRow.{InRow}

@@ -1,6 +1,6 @@
 -- Places of elements by their rows.
 use Rattle.std.specs.Prelude.{◌≡◌, ℕ, ◌⊎◌, List, Option, Some, slice_get}
-use Rattle.ladder_text.specs.declared.place.Place.{Place}
+use Rattle.drawings.specs.declared.place.Place.{Place}
 use Rattle.network.specs.declared.row_table.InRow.{InRow}
 use Rattle.network.specs.Links.{place}
 

@@ -1,10 +1,10 @@
 -- Symbols and boxes by the place where they begin.
 use Rattle.std.specs.Prelude.{◌≡◌, ◌&&◌, Bool, nat_eq, ℕ, ◌+◌, ◌<◌, ◌≤◌, List, Some, slice_get, map}
-use Rattle.ladder_text.specs.Picture.{Picture}
-use Rattle.ladder_text.specs.declared.place.Place.{Place}
-use Rattle.ladder_text.specs.declared.contact.Contact.{Contact}
-use Rattle.ladder_text.specs.declared.coil.Coil.{Coil}
-use Rattle.ladder_text.specs.declared.drawn_box.DrawnBox.{DrawnBox}
+use Rattle.drawings.specs.Picture.{Picture}
+use Rattle.drawings.specs.declared.place.Place.{Place}
+use Rattle.drawings.specs.declared.contact.Contact.{Contact}
+use Rattle.drawings.specs.declared.coil.Coil.{Coil}
+use Rattle.drawings.specs.declared.drawn_box.DrawnBox.{DrawnBox}
 use Rattle.network.specs.declared.symbol_rows.SymbolRow.{SymbolRow}
 use Rattle.network.specs.declared.symbols.Symbols.{Symbols}
 use Rattle.network.specs.Links.{place}

@@ -1,8 +1,8 @@
 -- Boxes with one name.
 use Rattle.std.specs.Prelude.{◌≡◌, ◌<◌, ℕ, List, Some, IsTrue, Any, slice_get}
 use Rattle.std.specs.Str.{str_eq_ignore_ascii_case}
-use Rattle.ladder_text.specs.declared.place.Place.{Place}
-use Rattle.ladder_text.specs.declared.drawn_box.DrawnBox.{DrawnBox}
+use Rattle.drawings.specs.declared.place.Place.{Place}
+use Rattle.drawings.specs.declared.drawn_box.DrawnBox.{DrawnBox}
 use Rattle.network.specs.Links.{place}
 use Rattle.network.specs.Networks.{IsBefore}
 

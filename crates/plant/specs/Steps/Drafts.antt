@@ -6,11 +6,11 @@ use Rattle.std.specs.List.{flat_map, filter, find, AllZip}
 use Rattle.declared_names.specs.declared.declarations.Kind.{Kind}
 use Rattle.declared_names.specs.declared.declarations.Declaration.{Declaration}
 use Rattle.declared_names.specs.Names.{place_of}
-use Rattle.plant.specs.declared.binding.Source.{Source}
-use Rattle.plant.specs.declared.binding.Source.TheVariants as source
-use Rattle.plant.specs.declared.binding.Binding.{Binding}
+use Rattle.task_codes.specs.declared.binding.Source.{Source}
+use Rattle.task_codes.specs.declared.binding.Source.TheVariants as source
+use Rattle.task_codes.specs.declared.binding.Binding.{Binding}
 use Rattle.due_list.specs.declared.task_ref.TaskRef.{TaskRef}
-use Rattle.plant.specs.declared.task_output.TaskOutput.{TaskOutput}
+use Rattle.task_codes.specs.declared.task_output.TaskOutput.{TaskOutput}
 use Rattle.plant_grammar.specs.declared.grammar.tree.Program.{Program}
 use Rattle.plant_grammar.specs.declared.grammar.tree.TaskLine.{TaskLine}
 use Rattle.plant_grammar.specs.declared.grammar.tree.SourceName.{SourceName}
@@ -27,7 +27,8 @@ use Rattle.plant.specs.Faultless.{IsLadderOf}
 use Rattle.plant_grammar.specs.Lawful.{use_of, tasks_of, uses_of, binds_of}
 use Rattle.plant.specs.Steps.Reading.{TypeValue}
 use Rattle.plant_grammar.specs.Kinds.{input_kind_at, kind_of_space}
-use Rattle.plant.specs.PlantValue.{ProgramValue, CodeValue, ResourceValue, PlantValue, lists_of, code_at, image_kinds, outputs_of, source_kind, bindings_at, IsSoundCode, AreProducersOf}
+use Rattle.plant.specs.PlantValue.{ResourceValue, PlantValue, code_at, AreProducersOf}
+use Rattle.task_codes.specs.CodeValue.{ProgramValue, CodeValue, lists_of, image_kinds, outputs_of, source_kind, bindings_at, IsSoundCode}
 use Rattle.plant.specs.StandsFor.{runs_in, IsOrigin, IsSourceOf, firsts, mention, task_value}
 
 -- what references point to

@@ -7,7 +7,7 @@ ghost use Rattle.plant.specs.Steps.Drawn.{AreDrawn};
 
 use crate::bodies::program_type::ProgramType;
 use crate::plant_fault::PlantFault;
-use ladder_text::Drawing;
+use ladder_text::{Drawing, ReadText};
 use network::Graph;
 use plant_grammar::ProgramText;
 use power_flow::Ladder;

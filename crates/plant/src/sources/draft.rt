@@ -9,12 +9,12 @@ ghost use Rattle.plant.specs.StandsFor.{runs_in};
 ghost use Rattle.plant.specs.Steps.Drafts.{seen, runs_at, programs_in, IsProgramOf, IsDraftOf, IsResourceDraft};
 
 use crate::bodies::program_type::{ProgramType, type_named};
-use crate::program_instance::ProgramInstance;
 use crate::sources::resource_draft::ResourceDraft;
 use crate::sources::task_draft::TaskDraft;
-use plant_grammar::{Item, Name, GrammarFault, GrammarFaultKind, Resource, TaskLine, Use};
+use plant_grammar::{GrammarFault, GrammarFaultKind, Item, Name, Resource, TaskLine, Use};
 use std::alloc::{AllocError, Global};
 use std::sync::Arc;
+use task_codes::ProgramInstance;
 
 /// Adds an item if it is a task.
 fn push_task<'a>(tasks: &mut Vec<&'a TaskLine>, item: &'a Item) -> Result<(), AllocError>

@@ -1,13 +1,12 @@
 //! The outputs of programs, in the order of a task's image.
 
 ghost use Rattle.std.specs.Prelude.{◌≡◌, ◌++◌, IfOk, OnOk};
-ghost use Rattle.plant.specs.PlantValue.{outputs_of, outputs_in};
+ghost use Rattle.task_codes.specs.CodeValue.{outputs_of, outputs_in};
 ghost use Rattle.plant.specs.Steps.Outputs.{output_placed, AddsOutput};
 
-use crate::program_instance::ProgramInstance;
-use crate::task_output::TaskOutput;
 use power_flow::{Declarations, Declared};
 use std::alloc::{AllocError, Global};
+use task_codes::{ProgramInstance, TaskOutput};
 
 /// Adds a variable if it is an output.
 fn push_output(

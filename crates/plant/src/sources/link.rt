@@ -10,17 +10,16 @@ ghost use Rattle.plant.specs.StandsFor.{runs_in, task_value};
 ghost use Rattle.plant.specs.Steps.Drafts.{seen, drafted, AreDrafts, IsResourceDraft, IsReady, IsOnceBound, IsLinked, AreLinked, IsResourceLinked, Triples};
 
 use crate::plant_resource::PlantResource;
-use crate::program_instance::ProgramInstance;
 use crate::sources::draft::{runs_in, tasks_of};
 use crate::sources::feeds::feeds_of;
 use crate::sources::producers::{bindings_of, expected_of, producers_of};
 use crate::sources::resource_draft::ResourceDraft;
 use crate::sources::task_draft::TaskDraft;
 use crate::task::Task;
-use crate::task_code::TaskCode;
 use plant_grammar::{GrammarFault, Resource, TaskLine, Use};
 use std::alloc::{AllocError, Global};
 use std::sync::Arc;
+use task_codes::{ProgramInstance, TaskCode};
 
 /// Copies of programs, which share their ladders.
 fn copies(alloc: Global, programs: &[ProgramInstance]) -> Result<Vec<ProgramInstance>, AllocError>

@@ -1,17 +1,17 @@
 //! What stands under a name: resources, instances and their outputs.
 
 ghost use Rattle.std.specs.Prelude.{◌≡◌, ◌↔◌, IsTrue, AllPairs};
-ghost use Rattle.plant.specs.PlantValue.{ResourceValue, ProgramValue};
+ghost use Rattle.plant.specs.PlantValue.{ResourceValue};
+ghost use Rattle.task_codes.specs.CodeValue.{ProgramValue};
 ghost use Rattle.plant.specs.Steps.Drafts.{IsInstanceAt, IsPlacedAt, IsOutputAt};
 ghost use Rattle.plant.specs.Steps.Found.{FindsBoth, FindsAt};
 ghost use Rattle.plant.specs.Steps.Outputs.{StandsBefore, IsBefore};
 
-use crate::program_instance::ProgramInstance;
 use crate::sources::resource_draft::ResourceDraft;
 use crate::sources::task_draft::TaskDraft;
-use crate::task_output::TaskOutput;
 use plant_grammar::is_named;
 use power_flow::Kind;
+use task_codes::{ProgramInstance, TaskOutput};
 
 /// The position of the resource of a name.
 pub fn find_resource(resources: &[ResourceDraft], name: &str) -> Option<usize>

@@ -2,17 +2,18 @@
 
 ghost use Rattle.std.specs.Prelude.{◌≡◌, ◌∷◌, [], Some, All, Contains, IfOk, OnOk, map, slice_get};
 ghost use Rattle.std.specs.List.{AllZip, flat_map};
-ghost use Rattle.plant.specs.PlantValue.{lists_of, code_at};
+ghost use Rattle.plant.specs.PlantValue.{code_at};
+ghost use Rattle.task_codes.specs.CodeValue.{lists_of};
 ghost use Rattle.plant.specs.StandsFor.{firsts};
 ghost use Rattle.plant.specs.Steps.Drafts.{drafted, AddsFirsts, tasks_taken, all_taken, AreKindsOf, IsPlaced, IsTakenFrom, IsTaskOf};
 
-use crate::binding::{Binding, Source};
 use crate::sources::feed::{Feed, Origin};
 use crate::sources::resource_draft::ResourceDraft;
 use crate::sources::task_draft::TaskDraft;
 use due_list::TaskRef;
 use power_flow::Kind;
 use std::alloc::{AllocError, Global};
+use task_codes::{Binding, Source};
 
 /// Adds a task if it isn't there yet.
 fn push_first(producers: &mut Vec<TaskRef>, task: TaskRef) -> Result<(), AllocError>

@@ -1,8 +1,8 @@
 ghost use Rattle.std.specs.Prelude.{◌≡◌};
 
 use crate::sources::task_draft::TaskDraft;
-use ladder_text::Text;
 use std::marker::Model;
+use words::Text;
 
 /// A resource before its sources are resolved: its name, and the draft of each task. Contracts see a resource with codes alone.
 #[derive(Drop)]

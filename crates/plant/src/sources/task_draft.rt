@@ -1,11 +1,10 @@
 ghost use Rattle.std.specs.Prelude.{◌≡◌, IfOk, length};
-ghost use Rattle.plant.specs.PlantValue.{outputs_of};
+ghost use Rattle.task_codes.specs.CodeValue.{outputs_of};
 
-use crate::program_instance::ProgramInstance;
 use crate::sources::images::outputs_of;
-use crate::task_output::TaskOutput;
 use std::alloc::{AllocError, Global};
 use std::marker::Model;
+use task_codes::{ProgramInstance, TaskOutput};
 
 /// The programs of a task and their outputs, before the task's sources are resolved. Contracts see a code without bindings.
 #[derive(Drop)]
@@ -16,7 +15,7 @@ pub struct TaskDraft {
 
 impl Model for TaskDraft {
     ghost use Rattle.std.specs.Prelude.{◌≡◌, []};
-    ghost use Rattle.plant.specs.PlantValue.{CodeValue, outputs_of};
+    ghost use Rattle.task_codes.specs.CodeValue.{CodeValue, outputs_of};
 
     ghost Value = { CodeValue };
 

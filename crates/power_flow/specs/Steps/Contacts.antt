@@ -1,7 +1,7 @@
 -- A contact as a scan reads it.
 use Rattle.std.specs.Prelude.{ℕ, ◌+◌, Bool, true, false}
-use Rattle.ladder_text.specs.declared.contact.ContactKind.{ContactKind}
-use Rattle.ladder_text.specs.declared.contact.ContactKind.TheVariants.{Plain, Negated as NegatedKind}
+use Rattle.drawings.specs.declared.contact.ContactKind.{ContactKind}
+use Rattle.drawings.specs.declared.contact.ContactKind.TheVariants.{Plain, Negated as NegatedKind}
 use Rattle.std_blocks.specs.declared.pin.Field.TheVariants as field
 use Rattle.power_flow.specs.declared.binding.bound_contact.Reads.{Reads}
 use Rattle.power_flow.specs.declared.binding.bound_contact.Reads.TheVariants as reads

@@ -8,7 +8,7 @@ ghost use Rattle.power_flow.specs.Steps.Contacts.{contact_source, variable_conta
 
 use crate::binding::source::Source;
 use crate::state::Slot;
-use ladder_text::ContactKind;
+use drawings::ContactKind;
 use std::marker::Model;
 use std_blocks::{Field, Value};
 

@@ -4,9 +4,9 @@ ghost use Rattle.std.specs.Option.{option_and_then};
 ghost use Rattle.std_blocks.specs.declared.pin.Pin.{Pin};
 ghost use Rattle.std_blocks.specs.declared.pin.Field.{Field};
 ghost use Rattle.std_blocks.specs.Pins.{pin_of, input, output};
-ghost use Rattle.ladder_text.specs.declared.drawn_box.DrawnPin.{DrawnPin};
-ghost use Rattle.ladder_text.specs.declared.drawn_box.Side.TheVariants.{Left, Right};
-ghost use Rattle.ladder_text.specs.declared.drawn_box.DrawnBox.{DrawnBox};
+ghost use Rattle.drawings.specs.declared.drawn_box.DrawnPin.{DrawnPin};
+ghost use Rattle.drawings.specs.declared.drawn_box.Side.TheVariants.{Left, Right};
+ghost use Rattle.drawings.specs.declared.drawn_box.DrawnBox.{DrawnBox};
 ghost use Rattle.declared_names.specs.Names.{place_of};
 ghost use Rattle.power_flow.specs.Meaning.{IsDrawn};
 ghost use Rattle.power_flow.specs.Steps.Sources.{operand_source, pin_source};
@@ -16,11 +16,12 @@ ghost use Rattle.power_flow.specs.Steps.BoxTable.{right_pins, boxes_of, output_i
 
 use crate::binding::bound_box::{BoundBox, BoundOutput};
 use crate::binding::source::{Source, name_source};
-use ladder_text::{DrawnBox, DrawnPin, Side, Text};
+use drawings::{DrawnBox, DrawnPin, Side};
 use network::Element;
 use std::alloc::{AllocError, Global};
 use std_blocks::{BlockType, Field, Pin};
 use variable_binding::{Declarations, literal_value};
+use words::Text;
 
 /// Whether a name is that of this input of a block.
 fn is_input(block: BlockType, name: &str, field: Field) -> bool

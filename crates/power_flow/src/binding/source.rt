@@ -4,9 +4,9 @@ ghost use Rattle.power_flow.specs.Values.{is_true, int_or_zero, time_or_zero};
 ghost use Rattle.power_flow.specs.Steps.Sources.{source_value, source_bit, declared_source, name_source};
 
 use crate::state::Slot;
-use ladder_text::Text;
 use std_blocks::{Field, PinsOut, Value};
 use variable_binding::{Declarations, Declared, parts};
+use words::Text;
 
 /// Where a scan finds the value of a pin, an operand or a contact.
 #[derive(Clone, Copy)]

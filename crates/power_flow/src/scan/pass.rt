@@ -13,7 +13,7 @@ use crate::binding::source::is_output_on;
 use crate::state::{Instance, Slot};
 use crate::steps::step::Step;
 use crate::steps::variable_pair::{read_pair, read_variable};
-use ladder_text::ContactKind;
+use drawings::ContactKind;
 use std_blocks::PinsOut;
 
 fn conducts(kind: ContactKind, on: bool, memory: bool) -> bool

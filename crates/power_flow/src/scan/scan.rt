@@ -7,7 +7,7 @@ ghost use Rattle.network.specs.Links.{Diagram};
 ghost use Rattle.declared_names.specs.declared.declarations.Declaration.{Declaration};
 ghost use Rattle.power_flow.specs.StateValue.{AreSlotsOf};
 ghost use Rattle.power_flow.specs.Scan.{AllAreWide, ScanMeaning};
-ghost use Rattle.ladder_text.specs.declared.place.Place.{Place};
+ghost use Rattle.drawings.specs.declared.place.Place.{Place};
 ghost use Rattle.power_flow.specs.Steps.Circuit.{HasShape, IsCircuit, HasRoom, AreCircuits, circuit_diagram};
 ghost use Rattle.power_flow.specs.Steps.Passing.{bound_stores, bound_memories};
 
@@ -17,7 +17,7 @@ use crate::state::{Instance, Slot, State};
 use crate::steps::circuit::Circuit;
 use crate::steps::step::BoundCoil;
 use arrayvec::ArrayVec;
-use ladder_text::CoilKind;
+use drawings::CoilKind;
 use std_blocks::Value;
 
 fn value_of_coil(kind: CoilKind, link: bool, memory: bool) -> Option<bool>

@@ -15,7 +15,7 @@ use crate::steps::rows::Rows;
 use crate::steps::same_elements::{are_same_elements, are_same_places};
 use crate::steps::step::BoundCoil;
 use crate::steps::steps::steps_of;
-use ladder_text::Place;
+use drawings::Place;
 use network::{Element, Network};
 use std::alloc::{AllocError, Global};
 use variable_binding::{Declarations, names_of_one_place_are_one};

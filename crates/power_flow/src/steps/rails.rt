@@ -1,6 +1,6 @@
 ghost use Rattle.std.specs.Prelude.{◌≡◌, ◌↔◌, IfOk, IsTrue, Contains};
 
-use ladder_text::Place;
+use drawings::Place;
 use network::{Numbering, index_of};
 use std::alloc::{AllocError, Global};
 use std::marker::Model;
@@ -14,7 +14,7 @@ pub struct Rails<'a> {
 
 impl<'a> Model for Rails<'a> {
     ghost use Rattle.std.specs.Prelude.{List};
-    ghost use Rattle.ladder_text.specs.declared.place.Place.{Place};
+    ghost use Rattle.drawings.specs.declared.place.Place.{Place};
     ghost use Rattle.network.specs.Steps.Listing.{IsIndex};
 
     ghost Value = { List Place };

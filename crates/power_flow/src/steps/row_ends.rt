@@ -1,13 +1,13 @@
 ghost use Rattle.std.specs.Prelude.{◌≡◌, ◌≤◌, ◌<◌, ◌+◌, ◌-◌, ℕ, List, Some, Contains, slice_get, slice_index, slice_set, length, max};
-ghost use Rattle.ladder_text.specs.declared.place.Place.{Place};
-ghost use Rattle.ladder_text.specs.declared.drawn_box.DrawnPin.{DrawnPin};
-ghost use Rattle.ladder_text.specs.declared.drawn_box.Side.TheVariants.{Right};
+ghost use Rattle.drawings.specs.declared.place.Place.{Place};
+ghost use Rattle.drawings.specs.declared.drawn_box.DrawnPin.{DrawnPin};
+ghost use Rattle.drawings.specs.declared.drawn_box.Side.TheVariants.{Right};
 ghost use Rattle.network.specs.Links.{Diagram};
 ghost use Rattle.network.specs.Apart.{AreOnPage};
 ghost use Rattle.network.specs.GraphValue.{diagram};
 ghost use Rattle.power_flow.specs.Steps.RowEnds.{AreRows, AreEndsTo, AreEndsWithin};
 
-use ladder_text::{DrawnBox, DrawnPin, Place, Side};
+use drawings::{DrawnBox, DrawnPin, Place, Side};
 use network::Element;
 
 /// Notes that state goes on behind this place.

@@ -1,11 +1,11 @@
 ghost use Rattle.std.specs.Prelude.{◌≡◌, ◌≤◌, ℕ, List, Contains};
-ghost use Rattle.ladder_text.specs.declared.place.Place.{Place};
+ghost use Rattle.drawings.specs.declared.place.Place.{Place};
 ghost use Rattle.network.specs.Apart.{Has, AreOnPage};
 ghost use Rattle.network.specs.GraphValue.{diagram};
 ghost use Rattle.network.specs.GraphValue.{IsSoundNetwork};
 ghost use Rattle.power_flow.specs.Steps.RowEnds.{AreRows};
 
-use ladder_text::DrawnBox;
+use drawings::DrawnBox;
 use network::Element;
 
 /// The rows of a network: its topmost row, and how many there are from there to its lowest.

@@ -1,7 +1,8 @@
 ghost use Rattle.std.specs.Prelude.{◌≡◌, ◌↔◌, IsTrue};
 
-use ladder_text::{Coil, Contact, DrawnBox, DrawnPin, Operand, Place, Text};
+use drawings::{Coil, Contact, DrawnBox, DrawnPin, Operand, Place};
 use network::Element;
+use words::Text;
 
 fn are_same_texts(text: &Text, other: &Text) -> bool
     ensures { IsTrue result ↔ (text.now ≡ other.now) }

@@ -2,7 +2,7 @@ ghost use Rattle.std.specs.Prelude.{◌≡◌};
 
 use crate::binding::bound_contact::{BoundContact, VariableContact};
 use crate::steps::variable_pair::{PairPlaces, PairRows};
-use ladder_text::CoilKind;
+use drawings::CoilKind;
 
 /// A coil with its name bound.
 #[derive(Clone, Copy)]

@@ -2,8 +2,8 @@ use Rattle.std.proofs.Common.{◌≡◌, ◌+◌, Some, slice_get, get_or, sym, 
 use Rattle.std.proofs.lemmas.Option.{slice_get-get_or, same_Some}
 use Rattle.power_flow.specs.StateValue.{StateValue, IsKindAt}
 use Rattle.plant_text.specs.declared.address.Space.TheVariants.{Bit}
-use Rattle.plant.specs.declared.binding.Source.TheVariants.{Field}
-use Rattle.plant.specs.declared.binding.Binding.{Binding}
+use Rattle.task_codes.specs.declared.binding.Source.TheVariants.{Field}
+use Rattle.task_codes.specs.declared.binding.Binding.{Binding}
 use Rattle.std_blocks.specs.declared.value.Value.{Value}
 use Rattle.evaluation.specs.Meaning.{given}
 use Rattle.evaluation.proofs.Lists.{on_true}

@@ -1,7 +1,7 @@
 use Rattle.std.proofs.Common.{◌≡◌, ◌<◌, List, Some, length, slice_get, get_or, sym, arith, subst}
 use Rattle.std.proofs.lemmas.Option.{slice_get-get_or}
 use Rattle.lists.proofs.Places.{element_at}
-use Rattle.plant.specs.declared.binding.Binding.{Binding}
+use Rattle.task_codes.specs.declared.binding.Binding.{Binding}
 use Rattle.evaluation.specs.Steps.Filling.{AreReady}
 use Rattle.evaluation.specs.Meaning.{IsFilled}
 use Rattle.evaluation.proofs.FillLemmas.{ready, next_fits, fill_more, fill_all, fill_fits}

@@ -1,7 +1,7 @@
 use Rattle.std.proofs.Common.{◌≡◌, ◌<◌, ℕ, Some, slice_get}
 use Rattle.power_flow.specs.LadderValue.{Fits}
 use Rattle.power_flow.specs.StateValue.{StateValue}
-use Rattle.plant.specs.PlantValue.{ProgramValue}
+use Rattle.task_codes.specs.CodeValue.{ProgramValue}
 use Rattle.evaluation.proofs.fits.are_states_of.Given as goal
 
 abbrev pub invariant-loop-i : goal.invariant-loop-i

@@ -1,6 +1,6 @@
 use Rattle.std.proofs.Common.{◌≡◌, ◌<◌, ℕ, Some, slice_get}
 use Rattle.due_list.specs.declared.task_ref.TaskRef.{TaskRef}
-use Rattle.plant.specs.PlantValue.{expected_at}
+use Rattle.task_codes.specs.CodeValue.{expected_at}
 use Rattle.evaluation.specs.declared.take.Take.{Take}
 use Rattle.evaluation.specs.Takes.{IsTakeOf}
 use Rattle.evaluation.proofs.fits.suits_takes.Given as goal

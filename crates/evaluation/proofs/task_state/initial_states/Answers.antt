@@ -4,7 +4,7 @@ use Rattle.std.proofs.lemmas.List.{take_all, length-map}
 use Rattle.std.proofs.lemmas.Option.{slice_get_within, same_Some}
 use Rattle.power_flow.specs.LadderValue.{LadderValue, Fits}
 use Rattle.power_flow.specs.StateValue.{StateValue}
-use Rattle.plant.specs.PlantValue.{ProgramValue}
+use Rattle.task_codes.specs.CodeValue.{ProgramValue}
 use Rattle.evaluation.specs.States.{initial_state_of, initial_state}
 use Rattle.evaluation.proofs.ScanLemmas.{program_of, has_program, mapped_more}
 use Rattle.evaluation.proofs.StateLemmas.{initial_fits}

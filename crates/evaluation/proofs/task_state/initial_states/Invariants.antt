@@ -1,6 +1,6 @@
 use Rattle.std.proofs.Common.{◌≡◌, ◌<◌, ℕ, Some, take, map, slice_get}
 use Rattle.power_flow.specs.LadderValue.{Fits}
-use Rattle.plant.specs.PlantValue.{ProgramValue}
+use Rattle.task_codes.specs.CodeValue.{ProgramValue}
 use Rattle.evaluation.specs.States.{initial_state_of}
 use Rattle.evaluation.proofs.task_state.initial_states.Given as goal
 

@@ -1,6 +1,6 @@
 use Rattle.std.proofs.Common.{◌≡◌, ◌<◌, ℕ, Some, map, slice_get}
 use Rattle.variable_binding.specs.Kinds.{kind_of}
-use Rattle.plant.specs.PlantValue.{expected_at}
+use Rattle.task_codes.specs.CodeValue.{expected_at}
 use Rattle.exchange_core.proofs.usable.expects_of.Given as goal
 
 abbrev pub invariant-loop-k : goal.invariant-loop-k

@@ -1,7 +1,7 @@
 use Rattle.std.proofs.Common.{◌≡◌, ◌+◌, ◌++◌, ◌∷◌, [], List, OnOk, Result, Some, refl, sym}
 use Rattle.std.specs.declared.alloc.AllocError.{AllocError}
-use Rattle.ladder_text.specs.Picture.{Picture, IsSound}
-use Rattle.ladder_text.specs.declared.place.Place.{Place}
+use Rattle.drawings.specs.Picture.{Picture, IsSound}
+use Rattle.drawings.specs.declared.place.Place.{Place}
 use Rattle.network.specs.declared.element.Element.{Element}
 use Rattle.network.specs.declared.element.Element.TheVariants.{Wire, Join, Upright}
 use Rattle.network.specs.Apart.{first_place}

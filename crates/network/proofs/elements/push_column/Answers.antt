@@ -1,6 +1,6 @@
 use Rattle.std.proofs.Common.{rules, ◌≡◌, ◌∙◌, Bool, true, false, not, refl, sym, arith}
 use denote.Enum.Bare.{same_true}
-use Rattle.ladder_text.specs.contracts.mark.Mark.{the_type}
+use Rattle.drawings.specs.contracts.mark.Mark.{the_type}
 use Rattle.network.specs.Links.{place}
 use Rattle.network.proofs.ListLemmas.{elements_top, elements_skip, elements_next}
 use Rattle.network.proofs.Sharing.{no_element_blank}

@@ -1,6 +1,6 @@
 use Rattle.std.proofs.Common.{◌≡◌, ◌∙◌, ◌≤◌, ◌-◌, ℕ, IsTrue, leb, Some, length, slice_get, min, max, refl, ap, rules, tests, arith}
 use Rattle.std.proofs.lemmas.Option.{slice_get_read}
-use Rattle.ladder_text.specs.declared.place.Place.{Place}
+use Rattle.drawings.specs.declared.place.Place.{Place}
 use Rattle.network.proofs.FoundLemmas.{rows_more, tall_from, far_from}
 use Rattle.network.proofs.found.is_tall.Goals as goal
 

@@ -1,8 +1,8 @@
 use Rattle.std.proofs.Common.{rules, ◌≡◌, ◌∙◌, Some, slice_get, length, refl, sym}
 use denote.Enum.Bare.{same_true, same_false}
 use Rattle.std.proofs.lemmas.Option.{slice_get_read}
-use Rattle.ladder_text.specs.contracts.drawn_box.Side.{the_type}
-use Rattle.ladder_text.specs.declared.drawn_box.Side.TheVariants.{Left}
+use Rattle.drawings.specs.contracts.drawn_box.Side.{the_type}
+use Rattle.drawings.specs.declared.drawn_box.Side.TheVariants.{Left}
 use Rattle.network.specs.Links.{place}
 use Rattle.network.proofs.RowLemmas.{pin_here, pin_to_place, pin_to_all}
 use Rattle.network.proofs.PairLemmas.{adds_as, pins_pair, pins_skip}

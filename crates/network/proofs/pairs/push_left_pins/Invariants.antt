@@ -1,6 +1,6 @@
 use Rattle.std.proofs.Common.{◌≡◌}
-use Rattle.ladder_text.specs.declared.place.Place.{Place}
-use Rattle.ladder_text.specs.declared.drawn_box.Side.TheVariants.{Left}
+use Rattle.drawings.specs.declared.place.Place.{Place}
+use Rattle.drawings.specs.declared.drawn_box.Side.TheVariants.{Left}
 use Rattle.network.specs.Steps.Pairs.{IsLeftPair, Adds}
 use Rattle.network.proofs.RowLemmas.{IsPinTo}
 use Rattle.network.proofs.pairs.push_left_pins.Given as goal

@@ -1,5 +1,5 @@
 use Rattle.std.proofs.Common.{◌+◌, List, length}
-use Rattle.ladder_text.specs.Picture.{Picture, IsSound}
+use Rattle.drawings.specs.Picture.{Picture, IsSound}
 use Rattle.network.specs.declared.element.Element.{Element}
 use Rattle.network.specs.Networks.{AreLeftRails}
 use Rattle.network.specs.Steps.Listing.{AreElementsOf}

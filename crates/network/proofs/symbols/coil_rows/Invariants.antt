@@ -1,4 +1,4 @@
-use Rattle.ladder_text.specs.declared.place.Place.{Place}
+use Rattle.drawings.specs.declared.place.Place.{Place}
 use Rattle.network.specs.Steps.Symbols.{IsInside}
 use Rattle.network.proofs.symbols.coil_rows.Given as goal
 

@@ -1,6 +1,6 @@
 use Rattle.std.proofs.Common.{get_or, ◌<◌, length, ◌-◌, arith}
 use Rattle.std.proofs.lemmas.Option.{slice_get-get_or}
-use Rattle.ladder_text.specs.declared.place.Place.{Place}
+use Rattle.drawings.specs.declared.place.Place.{Place}
 use Rattle.network.proofs.SymbolLemmas.{index_none, index_before, index_all}
 use Rattle.network.proofs.symbols.index_of.Goals as goal
 

@@ -1,6 +1,6 @@
 use Rattle.std.proofs.Common.{length-set, inl, inr, refl, ap}
 use Rattle.network.specs.Apart.{first_place}
-use Rattle.ladder_text.specs.declared.place.Place.{Place}
+use Rattle.drawings.specs.declared.place.Place.{Place}
 use Rattle.network.proofs.PairLemmas.{taker_put}
 use Rattle.network.proofs.takers.put_taker.Goals as goal
 

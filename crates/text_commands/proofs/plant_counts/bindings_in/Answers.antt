@@ -1,5 +1,5 @@
 use Rattle.std.proofs.Common.{◌≡◌, length, ap, arith}
-use Rattle.plant.specs.PlantValue.{bindings_at}
+use Rattle.task_codes.specs.CodeValue.{bindings_at}
 use Rattle.text_commands.proofs.Counting.{more_or, room_or, at_or_none}
 use Rattle.text_commands.proofs.plant_counts.bindings_in.Goals as goal
 

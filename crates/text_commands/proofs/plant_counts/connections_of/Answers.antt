@@ -1,6 +1,7 @@
 use Rattle.std.proofs.Common.{◌≡◌, length, sum_by, ap, ◌∙◌, arith}
 use Rattle.std.proofs.lemmas.List.{take_all}
-use Rattle.plant.specs.PlantValue.{CodeValue, tasks_at, codes_at}
+use Rattle.plant.specs.PlantValue.{tasks_at, codes_at}
+use Rattle.task_codes.specs.CodeValue.{CodeValue}
 use Rattle.text_commands.proofs.Counting.{more_or, room_or, as_many}
 use Rattle.text_commands.proofs.plant_counts.connections_of.Goals as goal
 

@@ -1,5 +1,6 @@
 use Rattle.std.proofs.Common.{◌≡◌, length, take, sum_by}
-use Rattle.plant.specs.PlantValue.{CodeValue, codes_at}
+use Rattle.plant.specs.PlantValue.{codes_at}
+use Rattle.task_codes.specs.CodeValue.{CodeValue}
 use Rattle.text_commands.proofs.plant_counts.connections_of.Given as goal
 
 abbrev pub invariant-loop-task : goal.invariant-loop-task

@@ -1,5 +1,6 @@
 use Rattle.std.proofs.Common.{sym, ◌∙◌, ap, subst, Some}
-use Rattle.plant.specs.PlantValue.{CodeValue, code_at}
+use Rattle.plant.specs.PlantValue.{code_at}
+use Rattle.task_codes.specs.CodeValue.{CodeValue}
 use Rattle.evaluation.specs.Takes.{AreTakesOf}
 use Rattle.exchange_core.specs.CoreValue.{CoreValue}
 use Rattle.exchange_core.proofs.Keeping.{fits-last}

@@ -1,7 +1,7 @@
 use Rattle.std.proofs.Common.{arith, rules, tests, ltb}
 use Rattle.std.proofs.lemmas.Bool.{ltb-true, ltb-false}
 use Rattle.std.proofs.lemmas.List.Sorted.{IsPartitionPoint-from_clause, IsPartitionedBy-ltb}
-use Rattle.ladder_text.specs.declared.drawn_box.DrawnPin.{DrawnPin}
+use Rattle.drawings.specs.declared.drawn_box.DrawnPin.{DrawnPin}
 use Rattle.ladder_text.specs.Steps.RowBoxes.{row_of_pin}
 use Rattle.ladder_text.proofs.boxes.outline.count_above.Goals as goal
 

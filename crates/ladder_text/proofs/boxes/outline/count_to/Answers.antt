@@ -1,7 +1,7 @@
 use Rattle.std.proofs.Common.{arith, rules, tests, leb}
 use Rattle.std.proofs.lemmas.Bool.{leb-true, leb-false}
 use Rattle.std.proofs.lemmas.List.Sorted.{IsPartitionPoint-from_clause, IsPartitionedBy-leb}
-use Rattle.ladder_text.specs.declared.drawn_box.DrawnPin.{DrawnPin}
+use Rattle.drawings.specs.declared.drawn_box.DrawnPin.{DrawnPin}
 use Rattle.ladder_text.specs.Steps.RowBoxes.{row_of_pin}
 use Rattle.ladder_text.proofs.boxes.outline.count_to.Goals as goal
 

@@ -1,5 +1,5 @@
 use Rattle.std.proofs.Common.{◌∙◌, Vec, Global, length, sym}
-use Rattle.ladder_text.specs.declared.place.Place.{Place}
+use Rattle.drawings.specs.declared.place.Place.{Place}
 use Rattle.network.specs.declared.element.Element.{Element}
 use Rattle.network.specs.declared.networks.Network.{Network}
 use Rattle.network.specs.declared.ranks.Ranks.{Ranks}

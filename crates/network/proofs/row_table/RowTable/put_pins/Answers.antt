@@ -1,7 +1,7 @@
 use Rattle.std.proofs.Common.{rules, ◌≡◌, ◌∙◌, Some, slice_get, length, length-set, refl, sym, arith}
 use denote.Enum.Bare.{same_true, same_false}
 use Rattle.std.proofs.lemmas.Option.{slice_get_read}
-use Rattle.ladder_text.specs.contracts.drawn_box.Side.{the_type}
+use Rattle.drawings.specs.contracts.drawn_box.Side.{the_type}
 use Rattle.network.specs.Links.{place}
 use Rattle.network.proofs.RowLemmas.{side_column}
 use Rattle.network.proofs.RowLemmas.{pin_here, puts_pin, puts_skip, puts_all}

@@ -1,6 +1,6 @@
 use Rattle.std.proofs.Common.{◌≡◌, ℕ, take}
 use Rattle.std.specs.List.{flat_map, enumerate_from}
-use Rattle.plant.specs.PlantValue.{ProgramValue, outputs_in}
+use Rattle.task_codes.specs.CodeValue.{ProgramValue, outputs_in}
 use Rattle.plant.proofs.sources.images.outputs_of.Given as goal
 
 abbrev pub invariant-loop-i : goal.invariant-loop-i

@@ -1,7 +1,7 @@
 use Rattle.std.proofs.Common.{◌≡◌, ℕ, ◌++◌, take}
 use Rattle.std.specs.List.{flat_map, enumerate_from}
 use Rattle.declared_names.specs.declared.declarations.Declaration.{Declaration}
-use Rattle.plant.specs.PlantValue.{output_at}
+use Rattle.task_codes.specs.CodeValue.{output_at}
 use Rattle.plant.proofs.sources.images.push_outputs.Given as goal
 
 abbrev pub invariant-loop-place : goal.invariant-loop-place

@@ -3,7 +3,7 @@ use Rattle.std.specs.Borrow.{Bor}
 use Rattle.std.specs.Global.{Global}
 use Rattle.std.specs.declared.sync.Arc.{Arc}
 use Rattle.std.proofs.lemmas.List.{length-map}
-use Rattle.plant.specs.declared.task_code.TaskCode.{TaskCode}
+use Rattle.task_codes.specs.declared.task_code.TaskCode.{TaskCode}
 use Rattle.plant_grammar.specs.declared.grammar.tree.TaskLine.{TaskLine}
 use Rattle.plant.specs.Steps.Drafts.{drafted}
 use Rattle.plant.proofs.StandLemmas.{resource_made}

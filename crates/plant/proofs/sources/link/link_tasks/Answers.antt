@@ -5,7 +5,7 @@ use Rattle.std.specs.declared.sync.Arc.{Arc}
 use Rattle.std.proofs.lemmas.List.{length_push, length-map}
 use Rattle.std.proofs.lemmas.Option.{slice_get_read}
 use Rattle.lists.proofs.Zips.{zip_length}
-use Rattle.plant.specs.declared.task_code.TaskCode.{TaskCode}
+use Rattle.task_codes.specs.declared.task_code.TaskCode.{TaskCode}
 use Rattle.plant_grammar.specs.declared.grammar.tree.TaskLine.{TaskLine}
 use Rattle.plant_grammar.specs.declared.grammar.tree.Use.{Use}
 use Rattle.plant_grammar.specs.Names.{is_named}

@@ -1,7 +1,7 @@
 use Rattle.std.proofs.Common.{◌<◌, IsTrue, arith}
 use Rattle.std.proofs.lemmas.Option.{slice_get_within}
 use Rattle.plant_grammar.specs.Names.{is_named}
-use Rattle.plant.specs.PlantValue.{ProgramValue}
+use Rattle.task_codes.specs.CodeValue.{ProgramValue}
 use Rattle.plant.proofs.NameLemmas.{at_index, none_more}
 use Rattle.plant.proofs.sources.lookup.find_program.Goals as goal
 

@@ -1,6 +1,6 @@
 use Rattle.std.proofs.Common.{ℕ, ◌<◌}
 use Rattle.plant_grammar.specs.Names.{IsAt}
-use Rattle.plant.specs.PlantValue.{ProgramValue}
+use Rattle.task_codes.specs.CodeValue.{ProgramValue}
 use Rattle.plant.proofs.sources.lookup.find_program.Given as goal
 
 abbrev pub invariant-loop-k : goal.invariant-loop-k

@@ -4,7 +4,7 @@ use Rattle.std.specs.Option.{option_map}
 use Rattle.std.proofs.lemmas.Option.{slice_get_read, slice_get-map}
 use Rattle.std.specs.Global.{Global}
 use Rattle.std.specs.List.{AllZip}
-use Rattle.plant.specs.declared.binding.Binding.{Binding}
+use Rattle.task_codes.specs.declared.binding.Binding.{Binding}
 use Rattle.plant.specs.declared.sources.feed.Feed.{Feed}
 use Rattle.plant.specs.Steps.Drafts.{IsPlaced, IsTakenFrom}
 use Rattle.plant.proofs.Zips.{zip_more_map, all_at}

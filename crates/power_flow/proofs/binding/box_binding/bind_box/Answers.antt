@@ -1,5 +1,5 @@
 use Rattle.std.proofs.Common.{◌≡◌, ℕ, ◌∙◌, ap, sym, Some, unwrap_or, slice_get}
-use Rattle.ladder_text.specs.declared.drawn_box.DrawnPin.{DrawnPin}
+use Rattle.drawings.specs.declared.drawn_box.DrawnPin.{DrawnPin}
 use Rattle.std_blocks.specs.declared.pin.Field.TheVariants.{Bit}
 use Rattle.declared_names.specs.declared.declarations.Declared.TheVariants as declared
 use Rattle.power_flow.specs.declared.binding.source.Source.{Source}

@@ -1,5 +1,5 @@
 use Rattle.std.proofs.Common.{subst}
-use Rattle.ladder_text.specs.declared.drawn_box.DrawnPin.{DrawnPin}
+use Rattle.drawings.specs.declared.drawn_box.DrawnPin.{DrawnPin}
 use Rattle.std_blocks.specs.declared.pin.Field.TheVariants.{Bit}
 use Rattle.power_flow.specs.Steps.BoxTable.{IsBitSource}
 use Rattle.power_flow.proofs.BoxesBinding.{same_drawn}

@@ -1,6 +1,6 @@
 use Rattle.std.proofs.Common.{◌≡◌, ℕ, ◌<◌, Some, slice_get}
-use Rattle.ladder_text.specs.declared.drawn_box.DrawnPin.{DrawnPin}
-use Rattle.ladder_text.specs.declared.drawn_box.Side.TheVariants.{Left}
+use Rattle.drawings.specs.declared.drawn_box.DrawnPin.{DrawnPin}
+use Rattle.drawings.specs.declared.drawn_box.Side.TheVariants.{Left}
 use Rattle.std_blocks.specs.Pins.{pin_of, input}
 use Rattle.power_flow.proofs.binding.box_binding.drawn_input.Given as goal
 

@@ -1,5 +1,5 @@
 use Rattle.std.proofs.Common.{◌≡◌, ℕ, ◌<◌, get_or}
-use Rattle.ladder_text.specs.declared.place.Place.{Place}
+use Rattle.drawings.specs.declared.place.Place.{Place}
 use Rattle.power_flow.proofs.steps.same_elements.are_same_places.Given as goal
 
 abbrev pub invariant-loop-i : goal.invariant-loop-i

@@ -1,7 +1,7 @@
 use Rattle.std.proofs.Common.{sym, ap, subst, List}
 use Rattle.std.proofs.lemmas.List.{take_all}
 use Rattle.std.specs.List.{AllZip}
-use Rattle.ladder_text.specs.declared.drawn_box.DrawnPin.{DrawnPin}
+use Rattle.drawings.specs.declared.drawn_box.DrawnPin.{DrawnPin}
 use Rattle.network.specs.GraphValue.{diagram}
 use Rattle.power_flow.specs.Steps.Columns.{IsLeftPinBegun, left_pins}
 use Rattle.power_flow.specs.Steps.RowEnds.{listed}

@@ -1,7 +1,7 @@
 use Rattle.std.proofs.Common.{◌≡◌, ◌<◌, ◌≤◌, List, length, get_or, true, false, sym, ◌∙◌, ap, subst, refl, Option}
 use Rattle.std.specs.Option.{is_some}
 use Rattle.ladder_text.specs.declared.boxes.outline.Outline.{Outline}
-use Rattle.ladder_text.specs.declared.place.Place.{Place}
+use Rattle.drawings.specs.declared.place.Place.{Place}
 use Rattle.ladder_text.specs.Faults.{has_stray_pin}
 use Rattle.ladder_text.specs.FirstFault.{IsStrayBoxAt}
 use Rattle.ladder_text.proofs.Faults.SearchLemmas.{item_found, item_passed, any_found, any_passed, all_items}

@@ -1,7 +1,7 @@
 use Rattle.std.proofs.Common.{◌≡◌, true, false, sym, ◌∙◌, ap, subst, Option}
 use Rattle.std.specs.Option.{is_some}
-use Rattle.ladder_text.specs.declared.drawn_box.DrawnPin.{DrawnPin}
-use Rattle.ladder_text.specs.declared.place.Place.{Place}
+use Rattle.drawings.specs.declared.drawn_box.DrawnPin.{DrawnPin}
+use Rattle.drawings.specs.declared.place.Place.{Place}
 use Rattle.ladder_text.specs.Faults.{is_stray_operand}
 use Rattle.ladder_text.specs.FirstFault.{IsStrayPinAt}
 use Rattle.ladder_text.proofs.Faults.SearchLemmas.{item_found, item_passed, any_found, any_passed, all_items}

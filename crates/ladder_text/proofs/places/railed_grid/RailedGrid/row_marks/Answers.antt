@@ -1,6 +1,6 @@
 use Rattle.std.proofs.Common.{◌∙◌, ◌∷◌, ◌++◌, [], List, ap, sym, arith}
-use Rattle.ladder_text.specs.declared.mark.Mark.{Mark}
-use Rattle.ladder_text.specs.declared.mark.Mark.TheVariants.{Blank, ContactPart, CoilPart}
+use Rattle.drawings.specs.declared.mark.Mark.{Mark}
+use Rattle.drawings.specs.declared.mark.Mark.TheVariants.{Blank, ContactPart, CoilPart}
 use Rattle.ladder_text.specs.Places.{layout_of}
 use Rattle.ladder_text.proofs.Marks.RowMarkLemmas.{contact_passed, coil_passed}
 use Rattle.ladder_text.proofs.places.railed_grid.RailedGrid.row_marks.Goals as goal

@@ -1,7 +1,7 @@
 use Rattle.std.proofs.Common.{◌≡◌, ◌≤◌, ◌-◌, ◌∷◌, []}
 use Rattle.ladder_text.specs.Rows.{upto}
 use Rattle.ladder_text.specs.Places.{layout_of, mark}
-use Rattle.ladder_text.specs.declared.mark.Mark.TheVariants.{Blank}
+use Rattle.drawings.specs.declared.mark.Mark.TheVariants.{Blank}
 use Rattle.ladder_text.proofs.Marks.RowMarkLemmas.{IsQuiet}
 use Rattle.ladder_text.proofs.places.railed_grid.RailedGrid.row_marks.Given as goal
 

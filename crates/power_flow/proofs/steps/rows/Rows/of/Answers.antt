@@ -1,7 +1,7 @@
 use Rattle.std.proofs.Common.{◌≡◌, max, min, inl, refl, ap, arith}
 use Rattle.std.proofs.lemmas.Option.{slice_get_within}
 use Rattle.lists.proofs.Members.{at_contains}
-use Rattle.ladder_text.specs.declared.place.Place.{Place}
+use Rattle.drawings.specs.declared.place.Place.{Place}
 use Rattle.network.specs.Apart.{first_place}
 use Rattle.power_flow.proofs.StepLemmas.{at_number}
 use Rattle.power_flow.proofs.RowLemmas.{topmost_more, above_more, lowest_more, below_more}

@@ -1,6 +1,0 @@
-use Rattle.std.proofs.Common.{◌≡◌, ℕ, ◌<◌}
-use Rattle.plant.specs.PlantValue.{bindings_at}
-use Rattle.plant.proofs.same_code.have_same_bindings.Given as goal
-
-abbrev pub invariant-loop-i : goal.invariant-loop-i
-invariant-loop-i l = (k : ℕ) → k < l.i → bindings_at l.code k ≡ bindings_at l.other k

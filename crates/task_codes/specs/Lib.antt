@@ -1,0 +1,2 @@
+pub mod CodeValue
+pub mod OutputNames
