@@ -53,6 +53,7 @@ pub trait ReadText: Sized {
 
 impl ReadText for Drawing {
     fn read(alloc: Global, text: &str, first_line: u64) -> Result<Drawing, DrawFault>
+        requires { (1 ≤ first_line) × (first_line < 2 ^ 63) }
         ensures well_drawn { IfOk result (λ _. IsWellDrawn (rows_of text.now)) }
         ensures drawing { IfOk result (λ g. g ≡ picture_of first_line (layout_of (rows_of text.now))) }
         ensures refused { IfErr result (λ e. e.kind ≢ Memory → IsIllDrawn (rows_of text.now)) }

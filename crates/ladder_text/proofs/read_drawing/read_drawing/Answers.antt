@@ -4,10 +4,10 @@ use Rattle.ladder_text.specs.Places.{layout_of}
 use Rattle.ladder_text.specs.Faults.{IsWellDrawn}
 use Rattle.ladder_text.specs.Picture.{picture_of}
 use Rattle.ladder_text.proofs.Marks.Soundness.{sound_picture}
-use Rattle.ladder_text.proofs.drawing.read_drawing.Goals as goal
+use Rattle.ladder_text.proofs.read_drawing.read_drawing.Goals as goal
 
-pub invariant_of-result : goal.invariant_of-result
+pub of-requires : goal.of-requires
 unfolding picture_of layout_of
-invariant_of-result c =
+of-requires c =
     let well : IsWellDrawn (rows_of c.args.text.now) = rw c.in_ok-worded.ensures.same at c.in_ok-worded.ensures.well_drawn in
     sound_picture _ c.args.first_line c.args.text.now (search rules) well
