@@ -29,7 +29,7 @@ returns-in_err-tell_report-clause-fault g c =
     let ended = c.in_ok-report.ensures in
     let for_plant = rw c.in_ok-shared.ensures at ended.faults in
     let is_report = report_of plant until inputs c.in_ok-commands.commands.items report (rw c.deref.ensures at c.in_ok-commands.ensures.ok) ended.fitting (rw c.in_ok-shared.ensures at ended.journals) ended.made
-        (rw c.deref-2.ensures.value at ended.answers) (rw c.in_ok-shared.ensures at ended.again) (rw c.deref-2.ensures.value at for_plant) in
+    (rw c.deref-2.ensures.value at ended.answers) (rw c.in_ok-shared.ensures at ended.again) (rw c.deref-2.ensures.value at for_plant) in
     told_partly plant until inputs _ _ report _ _ c.from_residual-in_err-tell_report.ensures.1 is_report c.in_err-tell_report.ensures.fault
 
 pub returns-clause-ok : goal.returns-clause-ok
@@ -41,5 +41,5 @@ returns-clause-ok g c =
     let ended = c.in_ok-report.ensures in
     let for_plant = rw c.in_ok-shared.ensures at ended.faults in
     let is_report = report_of plant until inputs c.in_ok-commands.commands.items report (rw c.deref.ensures at c.in_ok-commands.ensures.ok) ended.fitting (rw c.in_ok-shared.ensures at ended.journals) ended.made
-        (rw c.deref-2.ensures.value at ended.answers) (rw c.in_ok-shared.ensures at ended.again) (rw c.deref-2.ensures.value at for_plant) in
+    (rw c.deref-2.ensures.value at ended.answers) (rw c.in_ok-shared.ensures at ended.again) (rw c.deref-2.ensures.value at for_plant) in
     record { report = report; is_report = is_report; appended = c.in_ok-tell_report.ensures.ok.appended; faulty_is = c.in_ok-tell_report.ensures.ok.faulty_is }
