@@ -8,8 +8,8 @@ use Rattle.node_journals.specs.declared.command.Command.{Command}
 use Rattle.node_journals.specs.declared.run_fault.RunFault.{RunFault}
 use Rattle.node_reports.specs.declared.report.Report.{Report}
 use Rattle.node_reports.specs.Reports.{IsFittingBook, AreJournalsOf, AreInBook, AreAnswers, RunsAgain, AreTold}
-use Rattle.plc_main.specs.declared.command_fault.CommandFault.{CommandFault}
-use Rattle.plc_main.specs.declared.command_fault.CommandFault.TheVariants.{Text, Word, Write, Run, Memory}
+use Rattle.console.specs.declared.command_fault.CommandFault.{CommandFault}
+use Rattle.console.specs.declared.command_fault.CommandFault.TheVariants.{Text, Word, Write, Run, Memory}
 use Rattle.text_writer.specs.declared.send_fault.SendFault.{SendFault}
 use Rattle.text_writer.specs.declared.send_fault.SendFault.TheVariants as sending
 use Rattle.text_writer.proofs.Sending.{part_of_first}
@@ -18,7 +18,7 @@ use Rattle.text_commands.specs.declared.text_command_fault.TextCommandFault.TheV
 use Rattle.text_commands.specs.PlanText.{RefusesPlanOf}
 use Rattle.run_texts.specs.RunCommands.{ArePlanned}
 use Rattle.run_texts.specs.ReportText.{report_lines, TellsPart}
-use Rattle.plc_main.specs.Steps.Giving.{GivenForRun, command_fault, sending_fault}
+use Rattle.console.specs.Giving.{GivenForRun, command_fault, sending_fault}
 use Rattle.plc_main.specs.RunText.{IsReportOf, ExplainsRun}
 
 -- the fault is the one that was met

@@ -1,7 +1,7 @@
 ghost use Rattle.std.specs.Prelude.{◌≡◌, length, vec_len, IfOk, IfErr};
 ghost use Rattle.plc_main.specs.RunText.{WritesReport, ExplainsRun};
 
-use crate::command_fault::CommandFault;
+use console::CommandFault;
 use evaluation::Inputs;
 use node::{Gate, Keeper, run_threads};
 use plant::Plant;

@@ -2,4 +2,4 @@ pub mod Commanding
 pub mod Planning
 pub mod Reporting
 pub mod Replaying
-pub mod Telling
+pub mod ReportTelling

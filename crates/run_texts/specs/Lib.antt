@@ -1,4 +1,3 @@
-pub mod FieldWords
 pub mod RunCommands
 pub mod ReportText
 pub mod Steps

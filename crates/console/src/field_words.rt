@@ -1,6 +1,6 @@
 ghost use Rattle.std.specs.Prelude.{IfOk, IfErr};
 ghost use Rattle.evaluation.specs.InputTexts.{IsRead, IsFaultOf};
-ghost use Rattle.run_texts.specs.FieldWords.{joined};
+ghost use Rattle.console.specs.FieldWords.{joined};
 
 use evaluation::{InputFault, Inputs};
 use std::alloc::Global;

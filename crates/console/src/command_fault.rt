@@ -1,6 +1,6 @@
 ghost use Rattle.std.specs.Prelude.{◌≡◌};
 
-use node::RunFault;
+use node_journals::RunFault;
 use std::alloc::{AllocError, AllocFailed};
 use text_commands::{TextCommandFault, TextFault, WordFault};
 use text_writer::{SendFault, WriteFault};
@@ -27,7 +27,7 @@ pub enum CommandFault {
 }
 
 impl From<AllocError> for CommandFault {
-    ghost use Rattle.plc_main.specs.declared.command_fault.CommandFault.TheVariants.{Memory};
+    ghost use Rattle.console.specs.declared.command_fault.CommandFault.TheVariants.{Memory};
 
     ghost from_gives = { λ _ fault. fault ≡ Memory };
 
@@ -37,7 +37,7 @@ impl From<AllocError> for CommandFault {
 }
 
 impl<T: Drop> From<AllocFailed<T>> for CommandFault {
-    ghost use Rattle.plc_main.specs.declared.command_fault.CommandFault.TheVariants.{Memory};
+    ghost use Rattle.console.specs.declared.command_fault.CommandFault.TheVariants.{Memory};
 
     ghost from_gives = { λ _ fault. fault ≡ Memory };
 
@@ -47,7 +47,7 @@ impl<T: Drop> From<AllocFailed<T>> for CommandFault {
 }
 
 impl From<WriteFault> for CommandFault {
-    ghost use Rattle.plc_main.specs.declared.command_fault.CommandFault.TheVariants.{Write};
+    ghost use Rattle.console.specs.declared.command_fault.CommandFault.TheVariants.{Write};
 
     ghost from_gives = { λ _ fault. fault ≡ Write };
 
@@ -57,7 +57,7 @@ impl From<WriteFault> for CommandFault {
 }
 
 impl From<SendFault> for CommandFault {
-    ghost use Rattle.plc_main.specs.Steps.Giving.{sending_fault};
+    ghost use Rattle.console.specs.Giving.{sending_fault};
 
     ghost from_gives = { λ found fault. fault ≡ sending_fault found };
 
@@ -70,7 +70,7 @@ impl From<SendFault> for CommandFault {
 }
 
 impl From<TextCommandFault> for CommandFault {
-    ghost use Rattle.plc_main.specs.Steps.Giving.{command_fault};
+    ghost use Rattle.console.specs.Giving.{command_fault};
 
     ghost from_gives = { λ found fault. fault ≡ command_fault found };
 
@@ -85,7 +85,7 @@ impl From<TextCommandFault> for CommandFault {
 }
 
 impl From<RunFault> for CommandFault {
-    ghost use Rattle.plc_main.specs.Steps.Giving.{GivenForRun};
+    ghost use Rattle.console.specs.Giving.{GivenForRun};
 
     ghost from_gives = { GivenForRun };
 

@@ -6,8 +6,8 @@ use Rattle.text_commands.specs.declared.text_command_fault.TextCommandFault.{Tex
 use Rattle.text_commands.specs.declared.text_command_fault.TextCommandFault.TheVariants as text
 use Rattle.node_journals.specs.declared.run_fault.RunFault.{RunFault}
 use Rattle.node_journals.specs.declared.run_fault.RunFault.TheVariants as run
-use Rattle.plc_main.specs.declared.command_fault.CommandFault.{CommandFault}
-use Rattle.plc_main.specs.declared.command_fault.CommandFault.TheVariants.{Text, Word, Write, Run, Memory}
+use Rattle.console.specs.declared.command_fault.CommandFault.{CommandFault}
+use Rattle.console.specs.declared.command_fault.CommandFault.TheVariants.{Text, Word, Write, Run, Memory}
 
 -- why lines didn't go out whole
 abbrev pub sending_fault : SendFault → CommandFault

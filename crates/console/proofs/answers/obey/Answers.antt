@@ -1,6 +1,6 @@
 use Rattle.std.proofs.Common.{OnOk, IfErr, sym, subst}
-use Rattle.plc_main.specs.Answers.{WritesAnswer, ExplainsAnswer}
-use Rattle.plc_main.proofs.obey.Goals as goal
+use Rattle.console.specs.Answers.{WritesAnswer, ExplainsAnswer}
+use Rattle.console.proofs.answers.obey.Goals as goal
 
 pub returns-in-Eval-clause-ok : goal.returns-in-Eval-clause-ok
 returns-in-Eval-clause-ok g c =

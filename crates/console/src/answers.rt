@@ -1,0 +1,65 @@
+ghost use Rattle.std.specs.Prelude.{OnOk, IfErr};
+ghost use Rattle.console.specs.Answers.{WritesAnswer, ExplainsAnswer};
+
+use crate::command_fault::CommandFault;
+use crate::faults::{print_failure, print_fault};
+use crate::files::file_text;
+use crate::status::WORD_REFUSED;
+use command_line::TextRequest;
+use guidance::explain;
+use std::alloc::Global;
+use std::io;
+use std::io::Write;
+use std::rt::Files;
+use text_commands::{TextCommandFault, check, eval, plan_text};
+use text_writer::write_text;
+
+/// Writes what the words ask for of the text of the file.
+pub fn obey<W: Write>(
+    alloc: Global,
+    request: &TextRequest<'_>,
+    text: &str,
+    writer: &mut W,
+) -> Result<(), TextCommandFault>
+    ensures ok { OnOk result (WritesAnswer request.now text.now (W.contents writer.old) (W.contents writer.new)) }
+    ensures fault { IfErr result (ExplainsAnswer request.now text.now (W.contents writer.old) (W.contents writer.new)) }
+{
+    match request {
+        TextRequest::Eval { dt, words, .. } => eval(alloc, text, words, *dt, writer),
+        TextRequest::Check { .. } => check(alloc, text, writer),
+        TextRequest::Plan { until, .. } => plan_text(alloc, text, *until, writer),
+    }
+}
+
+/// Reads a file, and writes what is asked for of its text; the status.
+pub fn answer_text<R: Files + Print + Eprint + AllocGlobal>(
+    rt: &R,
+    request: &TextRequest<'_>,
+) -> io::Result<u8> {
+    let file = request.file();
+    let text = match file_text(rt, file)? {
+        Ok(text) => text,
+        Err(status) => return Ok(status),
+    };
+    let mut writer = io::writer(rt);
+    match obey(rt.alloc(), request, text.as_str(), &mut writer) {
+        Ok(()) => Ok(0),
+        Err(fault) => print_fault(rt, file, text.as_str(), request.words(), fault.into()),
+    }
+}
+
+/// Writes what is told of the kinds of faults of this name; the status.
+pub fn answer_kind<R: Print + Eprint + AllocGlobal>(rt: &R, kind: &str) -> io::Result<u8> {
+    let Ok(text) = explain(rt.alloc(), kind) else {
+        return print_failure(rt, CommandFault::Memory);
+    };
+    if text.is_empty() {
+        eprintln!(rt; "plc: {kind}: there is no kind of fault of this name")?;
+        return Ok(WORD_REFUSED);
+    }
+    let mut writer = io::writer(rt);
+    match write_text(&mut writer, text.as_str()) {
+        Ok(()) => Ok(0),
+        Err(_) => print_failure(rt, CommandFault::Write),
+    }
+}

@@ -1,0 +1,93 @@
+use crate::command_fault::CommandFault;
+use crate::refusal::refusal_of;
+use crate::status::{FAILED, TEXT_REFUSED, WORD_REFUSED};
+use evaluation::InputFault;
+use guidance::{Refusal, help_with};
+use std::io;
+use text_commands::{TextFault, WordFault};
+use world::SimFault;
+
+/// Tells what helps to mend a text. The fault was told before: what can't be told here is left out.
+fn print_help<R: Eprint + AllocGlobal>(rt: &R, text: &str, refusal: Refusal) {
+    if let Ok(help) = help_with(rt.alloc(), text, refusal) {
+        let _told = rt.eprint(help.as_str());
+    }
+}
+
+/// Tells why a text is refused; the status.
+fn print_text_fault<R: Eprint + AllocGlobal>(
+    rt: &R,
+    file: &str,
+    text: &str,
+    fault: TextFault,
+) -> io::Result<u8> {
+    match fault {
+        TextFault::TooLong => eprintln!(rt; "{fault}")?,
+        _ => eprintln!(rt; "{file}:{fault}")?,
+    }
+    print_help(rt, text, refusal_of(fault));
+    Ok(TEXT_REFUSED)
+}
+
+/// Tells why a word is refused; the status.
+fn print_word_fault<R: Eprint>(rt: &R, words: &[&str], fault: WordFault) -> io::Result<u8> {
+    let word = words.get(fault.number).copied().unwrap_or("");
+    eprintln!(rt; "plc: {word}: {fault}")?;
+    Ok(WORD_REFUSED)
+}
+
+/// Tells that the output failed, or the threads, or memory; the status.
+pub fn print_failure<R: Eprint>(rt: &R, fault: CommandFault) -> io::Result<u8> {
+    eprintln!(rt; "plc: {fault}")?;
+    Ok(FAILED)
+}
+
+/// Tells a fault of a command; the text is that of the file. The status.
+pub fn print_fault<R: Eprint + AllocGlobal>(
+    rt: &R,
+    file: &str,
+    text: &str,
+    words: &[&str],
+    fault: CommandFault,
+) -> io::Result<u8> {
+    match fault {
+        CommandFault::Text(fault) => print_text_fault(rt, file, text, fault),
+        CommandFault::Word(fault) => print_word_fault(rt, words, fault),
+        CommandFault::Write | CommandFault::Run(_) | CommandFault::Memory => {
+            print_failure(rt, fault)
+        }
+    }
+}
+
+/// Tells why words of field inputs are refused; the status.
+pub(crate) fn print_input_fault<R: Eprint>(rt: &R, fault: InputFault) -> io::Result<u8> {
+    match fault {
+        InputFault::Syntax => {
+            eprintln!(rt; "plc: a word is no ADDRESS=VALUE such as %IX0=1 or %IW2=-7")?;
+            Ok(WORD_REFUSED)
+        }
+        InputFault::Twice => {
+            eprintln!(rt; "plc: two words give one address its value")?;
+            Ok(WORD_REFUSED)
+        }
+        InputFault::Memory => print_failure(rt, CommandFault::Memory),
+    }
+}
+
+/// Tells why a schedule isn't done to its end; the status.
+pub(crate) fn print_sim_fault<R: Eprint + AllocGlobal>(
+    rt: &R,
+    file: &str,
+    schedule: &str,
+    fault: SimFault,
+) -> io::Result<u8> {
+    match fault {
+        SimFault::Syntax { line } => {
+            eprintln!(rt; "{file}:{fault}")?;
+            print_help(rt, schedule, Refusal::Schedule { line });
+            Ok(TEXT_REFUSED)
+        }
+        SimFault::Write => print_failure(rt, CommandFault::Write),
+        SimFault::Memory => print_failure(rt, CommandFault::Memory),
+    }
+}

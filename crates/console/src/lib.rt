@@ -1,0 +1,22 @@
+//! What the program tells for what it is asked but a run in threads: answers, refusals, and statuses.
+#![tactic(auto)]
+
+mod answers;
+mod command_fault;
+mod faults;
+mod field_words;
+mod files;
+mod given;
+mod prepared;
+mod refusal;
+mod schedules;
+mod status;
+
+pub use answers::{answer_kind, answer_text, obey};
+pub use command_fault::CommandFault;
+pub use faults::{print_failure, print_fault};
+pub use field_words::read_field_words;
+pub use given::{given_words, print_given_fault, print_usage};
+pub use prepared::{Prepared, prepare};
+pub use schedules::{answer_schedule, obey_schedule};
+pub use status::FAILED;

@@ -1,0 +1,31 @@
+use crate::faults::print_input_fault;
+use crate::field_words::read_field_words;
+use crate::files::file_plant;
+use command_line::RunRequest;
+use evaluation::Inputs;
+use plant::Plant;
+use std::io;
+use std::rt::Files;
+use std::sync::Arc;
+
+/// What a run of threads needs.
+#[derive(Drop)]
+pub struct Prepared {
+    pub plant: Arc<Plant>,
+    pub inputs: Inputs,
+}
+
+/// Reads the words of a run and then the file of its plant, or tells what is wrong; the status.
+pub fn prepare<R: Files + Eprint + AllocGlobal>(
+    rt: &R,
+    request: &RunRequest<'_>,
+) -> io::Result<Result<Prepared, u8>> {
+    let inputs = match read_field_words(rt.alloc(), &request.words) {
+        Ok(inputs) => inputs,
+        Err(fault) => return Ok(Err(print_input_fault(rt, fault)?)),
+    };
+    Ok(match file_plant(rt, request.plant)? {
+        Ok(plant) => Ok(Prepared { plant, inputs }),
+        Err(status) => Err(status),
+    })
+}
