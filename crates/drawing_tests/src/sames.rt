@@ -5,7 +5,7 @@ use std::process::Abort;
 use std_blocks::{BlockState, BlockType, PinsIn, PinsOut, Value};
 
 #[test]
-fn all_fields_count(rt: HostRuntime) {
+fn values_are_same_by_kind_and_contents(rt: HostRuntime) {
     for &(value, other, is_same) in &[
         (Value::Bool(true), Value::Bool(true), true),
         (Value::Bool(true), Value::Bool(false), false),
@@ -18,6 +18,10 @@ fn all_fields_count(rt: HostRuntime) {
         let found = (value, other, value.same(&other));
         equal(&rt, "values", &found, &(value, other, is_same));
     }
+}
+
+#[test]
+fn blocks_are_same_in_all_fields(rt: HostRuntime) {
     let state = BlockState {
         block: BlockType::CTUD,
         on: false,
@@ -69,6 +73,10 @@ fn all_fields_count(rt: HostRuntime) {
             &(other, is_same),
         );
     }
+}
+
+#[test]
+fn outputs_are_same_in_all_fields(rt: HostRuntime) {
     let shown = PinsOut {
         bits: [true, false],
         int: 3,

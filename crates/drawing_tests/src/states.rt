@@ -22,6 +22,13 @@ fn ladder_of(alloc: Global, drawing: &str, names: &[(&str, Declared)]) -> Result
     Ok(ladder)
 }
 
+/// The ladder of a drawing, and its state before the first scan.
+fn begun(alloc: Global, drawing: &str) -> Result<(Ladder, State), Fail> {
+    let ladder = ladder_of(alloc, drawing, &[])?;
+    let state = ladder.initial(alloc)?;
+    Ok((ladder, state))
+}
+
 /// A scan of 10 ms, with these BOOLs set before it.
 fn scan_with(rt: &impl Abort, ladder: &Ladder, state: &mut State, values: &[(&str, bool)]) {
     for &(name, on) in values {
@@ -56,46 +63,49 @@ fn variables_are_read_and_written_by_place(rt: HostRuntime) -> Result<(), Fail> 
         (1, Value::Bool(true), false),
         (3, Value::Bool(true), false),
         (4, Value::Bool(true), false),
-        (0, Value::Bool(true), true),
+        (2, Value::Time(1), true),
     ] {
         equal(&rt, "set", &state.set(place, value), &is_set);
     }
-    let mut copy = state.try_copy()?;
-    holds(&rt, "a copy is the same", copy.same(&state));
-    holds(&rt, "a TIME is set", copy.set(2, Value::Time(1)));
-    holds(&rt, "the copy differs", !copy.same(&state));
-    let (on, seven) = (Some(Value::Bool(true)), Some(Value::Int(-7)));
-    has_values(&rt, &state, &[on, seven, zero, None, None]);
-    has_values(&rt, &copy, &[on, seven, Some(Value::Time(1)), None, None]);
+    let (seven, one) = (Some(Value::Int(-7)), Some(Value::Time(1)));
+    has_values(&rt, &state, &[off, seven, one, None, None]);
     Ok(())
 }
 
-/// The last scan was without power, or with power up to STOP. How many places a scan needs, and what it left in them, does not count.
+/// START, STOP and RUN are the first places.
 #[test]
-fn what_is_waiting_does_not_count(rt: HostRuntime) -> Result<(), Fail> {
-    let alloc = rt.alloc();
-    let ladder = ladder_of(alloc, START_STOP, &[])?;
-    let mut still = ladder.initial(alloc)?;
-    scan_with(&rt, &ladder, &mut still, &[]);
-    let mut state = ladder.initial(alloc)?;
+fn a_copy_is_the_same_until_something_changes(rt: HostRuntime) -> Result<(), Fail> {
+    let (ladder, mut state) = begun(rt.alloc(), START_STOP)?;
     scan_with(&rt, &ladder, &mut state, &[("START", true)]);
-    holds(&rt, "it runs", !state.same(&still));
-    let copy = state.try_copy()?;
+    let mut copy = state.try_copy()?;
     holds(&rt, "a copy is the same", copy.same(&state));
-    // START, STOP and RUN.
     let (on, off) = (Some(Value::Bool(true)), Some(Value::Bool(false)));
     has_values(&rt, &copy, &[on, off, on, None]);
-    scan_with(
-        &rt,
-        &ladder,
-        &mut state,
-        &[("START", false), ("STOP", true)],
-    );
+    holds(&rt, "STOP is set", copy.set(1, Value::Bool(true)));
+    holds(&rt, "the copy differs", !copy.same(&state));
+    Ok(())
+}
+
+/// The last scan was without power, or with power up to STOP.
+#[test]
+fn what_a_scan_left_in_its_places_does_not_count(rt: HostRuntime) -> Result<(), Fail> {
+    let (ladder, mut state) = begun(rt.alloc(), START_STOP)?;
+    let mut still = state.try_copy()?;
+    scan_with(&rt, &ladder, &mut still, &[]);
+    scan_with(&rt, &ladder, &mut state, &[("START", true)]);
+    holds(&rt, "it runs", !state.same(&still));
+    let values = [("START", false), ("STOP", true)];
+    scan_with(&rt, &ladder, &mut state, &values);
     holds(&rt, "STOP is set", state.set(1, Value::Bool(false)));
     holds(&rt, "it stands", state.same(&still));
-    let one_network = ladder_of(alloc, "|  X   X\n+--( )-( )\n", &[])?;
-    let two_networks = ladder_of(alloc, "|  X\n+-( )\n|  X\n+--( )\n", &[])?;
-    let (state, other) = (one_network.initial(alloc)?, two_networks.initial(alloc)?);
+    Ok(())
+}
+
+/// Two coils in one network, and each in a network of its own: a scan needs fewer places there.
+#[test]
+fn how_many_places_a_scan_needs_does_not_count(rt: HostRuntime) -> Result<(), Fail> {
+    let (one_network, state) = begun(rt.alloc(), "|  X   X\n+--( )-( )\n")?;
+    let (_, other) = begun(rt.alloc(), "|  X\n+-( )\n|  X\n+--( )\n")?;
     holds(&rt, "the other has fewer", !one_network.fits(&other));
     holds(&rt, "they are the same", state.same(&other));
     Ok(())
@@ -104,10 +114,8 @@ fn what_is_waiting_does_not_count(rt: HostRuntime) -> Result<(), Fail> {
 /// A scan with the BOOL on leaves a memory, or a block, that no variable shows once the BOOL is off again.
 #[test]
 fn what_no_variable_shows_counts(rt: HostRuntime) -> Result<(), Fail> {
-    let alloc = rt.alloc();
     for &(drawing, name) in &[(RISING_CONTACT, "B"), (ON_DELAY, "GO")] {
-        let ladder = ladder_of(alloc, drawing, &[])?;
-        let first = ladder.initial(alloc)?;
+        let (ladder, first) = begun(rt.alloc(), drawing)?;
         let mut state = first.try_copy()?;
         scan_with(&rt, &ladder, &mut state, &[(name, true)]);
         let place = ladder.place(name).unwrap_or(usize::MAX);

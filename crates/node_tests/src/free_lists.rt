@@ -46,7 +46,8 @@ fn received_entries(rt: &impl Abort, report: &Report) {
 #[test]
 fn drawn_lists_are_done_and_made_again(rt: HostRuntime) -> Result<(), Fail> {
     let alloc = rt.alloc();
-    for &text in &[PAIR, ring(alloc, 3)?.as_str()] {
+    let ring = ring(alloc, 3)?;
+    for &text in &[PAIR, ring.as_str()] {
         let plant = Arc::new(alloc, Plant::read(alloc, text)?)?;
         let resources = plant.resources();
         let mut seed = 16;

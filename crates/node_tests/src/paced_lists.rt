@@ -58,7 +58,8 @@ fn world_after(alloc: Global, plant: &Arc<Plant>, commands: &[Command]) -> Resul
 #[test]
 fn paced_lists_make_what_one_thread_makes(rt: HostRuntime) -> Result<(), Fail> {
     let alloc = rt.alloc();
-    for &text in &[PAIR, ring(alloc, 3)?.as_str()] {
+    let ring = ring(alloc, 3)?;
+    for &text in &[PAIR, ring.as_str()] {
         let plant = Arc::new(alloc, Plant::read(alloc, text)?)?;
         let mut seed = 20_261_123;
         for _list in 0..100 {

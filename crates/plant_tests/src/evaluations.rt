@@ -120,34 +120,43 @@ fn frame_after(
 
 #[test]
 fn frames_are_the_same_by_ticket_and_inputs(rt: HostRuntime) -> Result<(), Fail> {
-    let alloc = rt.alloc();
-    let frame = frame_after(alloc, PAIR, FAST, &[], 1, "%IX0=1")?;
+    let frame = frame_after(rt.alloc(), PAIR, FAST, &[], 1, "%IX0=1")?;
     for &(ticket, inputs, is_same) in &[
         (1, "%IX0=1", true),
         (2, "%IX0=1", false),
         (1, "%IX0=0", false),
     ] {
-        let other = frame_after(alloc, PAIR, FAST, &[], ticket, inputs)?;
+        let other = frame_after(rt.alloc(), PAIR, FAST, &[], ticket, inputs)?;
         equal(&rt, inputs, &other.same(&frame), &is_same);
     }
+    Ok(())
+}
+
+#[test]
+fn shares_and_copies_are_the_same(rt: HostRuntime) -> Result<(), Fail> {
+    let frame = frame_after(rt.alloc(), PAIR, FAST, &[], 1, "%IX0=1")?;
     let share = frame.try_clone()?;
-    holds(&rt, "a share is the same", share.same(&frame));
-    let values = [Value::Int(1), Value::Bool(false)];
-    equal(&rt, "image", &share.outputs().values(), &values.as_slice());
-    let evaluation = frame.evaluation();
+    let evaluation = share.evaluation();
     let copy = evaluation.after().try_copy()?;
     let found = (
+        share.same(&frame),
         copy.same(evaluation.after()),
         fits_state(evaluation.code(), &copy),
         copy.same(evaluation.before()),
     );
-    equal(&rt, "copy", &found, &(true, true, false));
+    equal(&rt, "share, copy", &found, &(true, true, true, false));
+    let values = [Value::Int(1), Value::Bool(false)];
+    equal(&rt, "image", &share.outputs().values(), &values.as_slice());
+    Ok(())
+}
+
+#[test]
+fn names_go_by_incarnation_first(rt: HostRuntime) {
     let name = |incarnation: u32, number: u32| Name {
         task: FAST,
         incarnation,
         number,
     };
-    equal(&rt, "name", &share.name(), &name(1, 1));
     for &(one, other, precedes) in &[
         (name(1, 9), name(2, 1), true),
         (name(2, 1), name(2, 2), true),
@@ -156,7 +165,6 @@ fn frames_are_the_same_by_ticket_and_inputs(rt: HostRuntime) -> Result<(), Fail>
     ] {
         equal(&rt, "precedes", &one.precedes(&other), &precedes);
     }
-    Ok(())
 }
 
 /// Whether all variables of the only programs have the same values.
@@ -208,8 +216,6 @@ fn takes_are_one_for_each_producer(rt: HostRuntime) -> Result<(), Fail> {
     holds(&rt, "none is too few", !suits_takes(&code, &[]));
     let (one, off) = (Value::Int(1), Value::Bool(false));
     let (initial, given) = ([Value::Int(0), off], [one, off]);
-    let first = Image::initial(alloc, code.expected(0))?;
-    equal(&rt, "first image", &first.values(), &initial.as_slice());
     let here = Some((1, 1));
     for &(producer, from, values, suits) in &[
         (FAST, None, initial.as_slice(), true),
@@ -232,26 +238,24 @@ fn takes_are_one_for_each_producer(rt: HostRuntime) -> Result<(), Fail> {
 
 #[test]
 fn inputs_are_the_same_in_one_order(rt: HostRuntime) -> Result<(), Fail> {
-    let alloc = rt.alloc();
-    let inputs = Inputs::read(alloc, "%IX0=1 %IX1=0 %IW2=-7")?;
+    let inputs = Inputs::read(rt.alloc(), "%IX0=1 %IX1=0 %IW2=-7")?;
     for &(text, is_same) in &[
-        ("%ix0=1\t%ix1=0 %Iw2=-0_7 ", true),
-        ("%IX1=0 %IX0=1 %IW2=-7", false),
-        ("%IX0=1 %IX1=0", false),
-        (" \t", false),
+        ("%ix0=1\t%ix1=0 %Iw2=-0_7 ", Ok(true)),
+        ("%IX1=0 %IX0=1 %IW2=-7", Ok(false)),
+        ("%IX0=1 %IX1=0", Ok(false)),
+        (" \t", Ok(false)),
+        ("%IX0=1 %IX0=0 %IX1=x", Err(InputFault::Syntax)),
+        ("%IW7=1\t%IX7=1 %iw0_7=1", Err(InputFault::Twice)),
     ] {
-        let other = Inputs::read(alloc, text)?;
-        equal(&rt, text, &inputs.same(&other), &is_same);
+        let found = Inputs::read(rt.alloc(), text).map(|other| inputs.same(&other));
+        equal(&rt, text, &found, &is_same);
     }
-    for &(text, fault) in &[
-        ("%IX0=1 %IX0=0 %IX1=x", InputFault::Syntax),
-        ("%IW7=1\t%IX7=1 %iw0_7=1", InputFault::Twice),
-    ] {
-        let found = Inputs::read(alloc, text).err();
-        equal(&rt, text, &found, &Some(fault));
-    }
-    let copy = inputs.try_copy()?;
-    holds(&rt, "a copy is the same", copy.same(&inputs));
+    Ok(())
+}
+
+#[test]
+fn a_copy_holds_the_same_inputs(rt: HostRuntime) -> Result<(), Fail> {
+    let copy = Inputs::read(rt.alloc(), "%IX0=1 %IW2=-7")?.try_copy()?;
     for &(space, number, value) in &[
         (Space::Bit, 0, Value::Bool(true)),
         (Space::Bit, 2, Value::Bool(false)),
@@ -261,16 +265,11 @@ fn inputs_are_the_same_in_one_order(rt: HostRuntime) -> Result<(), Fail> {
         let found = (number, copy.get(Address { space, number }));
         equal(&rt, "input", &found, &(number, value));
     }
-    let third = FieldInput::Word {
+    let second = FieldInput::Word {
         number: 2,
         value: -7,
     };
-    let listed = copy.listed();
-    equal(
-        &rt,
-        "third",
-        &(listed.len(), listed.get(2)),
-        &(3, Some(&third)),
-    );
+    let listed = (copy.listed().len(), copy.listed().get(1));
+    equal(&rt, "second", &listed, &(2, Some(&second)));
     Ok(())
 }
