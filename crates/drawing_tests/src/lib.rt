@@ -1,29 +1,13 @@
-//! Tests of the libraries from a drawing to its scan, by their public calls alone.
+//! Tests of the libraries from a drawing to its scan, by their public calls alone: what the program doesn't show. What it shows, a case of `tests/eval` shows.
 #![tactic(auto)]
 
 #[cfg(test)]
 mod checks;
 #[cfg(test)]
-mod counters;
-#[cfg(test)]
 mod declarations;
 #[cfg(test)]
-mod drawing_words;
+mod graphs;
 #[cfg(test)]
-mod drawings;
-#[cfg(test)]
-mod guesses;
-#[cfg(test)]
-mod ladders;
-#[cfg(test)]
-mod networks;
-#[cfg(test)]
-mod pins;
-#[cfg(test)]
-mod scans;
+mod sames;
 #[cfg(test)]
 mod states;
-#[cfg(test)]
-mod tall;
-#[cfg(test)]
-mod timers;

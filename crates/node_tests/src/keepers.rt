@@ -1,22 +1,29 @@
-//! What a keeper in memory answers.
+//! What a keeper in memory answers, and what commands wait for at the gates.
 
 use crate::checks::equal;
-use node::{Keeper, KeeperFault, MemoryKeeper};
+use node::{FreeGate, Gate, Keeper, KeeperFault, MemoryKeeper, OutOfTurns, PacedGate};
 use std::test::Fail;
 
 #[test]
-fn a_keeper_answers_the_next_number(rt: HostRuntime) -> Result<(), Fail> {
+fn keepers_and_gates_answer_by_themselves(rt: HostRuntime) -> Result<(), Fail> {
     let mut keeper = MemoryKeeper::new(0);
-    equal(&rt, "the first", &keeper.raise(), &Ok(1));
-    equal(&rt, "the second", &keeper.raise(), &Ok(2));
-    Ok(())
-}
-
-#[test]
-fn a_spent_keeper_stays_spent(rt: HostRuntime) -> Result<(), Fail> {
+    for &answer in &[Ok(1), Ok(2)] {
+        equal(&rt, "the next", &keeper.raise(), &answer);
+    }
     let mut keeper = MemoryKeeper::new(4_294_967_294);
-    equal(&rt, "the last", &keeper.raise(), &Ok(4_294_967_295));
-    equal(&rt, "spent", &keeper.raise(), &Err(KeeperFault::Spent));
-    equal(&rt, "again", &keeper.raise(), &Err(KeeperFault::Spent));
+    let spent = Err(KeeperFault::Spent);
+    for &answer in &[Ok(4_294_967_295), spent, spent] {
+        equal(&rt, "the last", &keeper.raise(), &answer);
+    }
+    let gate = FreeGate;
+    let free = (gate.issue(7), gate.pass(0, 7), gate.sent(0, 7));
+    equal(&rt, "no command waits", &free, &(Ok(()), Ok(()), Ok(())));
+    let gate = PacedGate::new(3);
+    let early = (gate.issue(1), gate.issue(2));
+    equal(&rt, "the second, early", &early, &(Ok(()), Err(OutOfTurns)));
+    let done = (gate.pass(0, 1), gate.sent(0, 1));
+    equal(&rt, "the first is done", &done, &(Ok(()), Ok(())));
+    let next = (gate.issue(2), gate.issue(3));
+    equal(&rt, "the third, early", &next, &(Ok(()), Err(OutOfTurns)));
     Ok(())
 }

@@ -21,5 +21,3 @@ mod paced_lists;
 mod runs;
 #[cfg(test)]
 mod threads;
-#[cfg(test)]
-mod waits;

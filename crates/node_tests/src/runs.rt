@@ -24,13 +24,16 @@ pub enum Ask {
     Restart(usize),
 }
 
-/// An entry of a report's book: its resource, its pair of incarnation and number, what it took, and its values.
-#[derive(Clone, Copy, Debug, PartialEq, Eq)]
-pub struct Entry {
-    pub resource: usize,
-    pub pair: (u32, u32),
-    pub from: Option<(u32, u32)>,
-    pub count: i16,
+/// An entry of a report's book: its resource, its pair of incarnation and number, what it took, and its first value.
+pub type Entry = (usize, (u32, u32), Option<(u32, u32)>, Option<Value>);
+
+/// What is told of a run: its entries, the tickets without one, the faults by resource, ticket and cause, and the kinds of the schedule's events.
+#[derive(Clone, Copy)]
+pub struct Told {
+    pub entries: &'static [Entry],
+    pub unanswered: &'static [u64],
+    pub faults: &'static [(usize, u64, Cause)],
+    pub kinds: &'static str,
 }
 
 pub fn pair(alloc: Global) -> Result<Arc<Plant>, Fail> {
@@ -44,11 +47,6 @@ pub fn keepers_of(alloc: Global, count: usize, last: u32) -> Result<Vec<MemoryKe
         keepers.push(MemoryKeeper::new(last))?;
     }
     Ok(keepers)
-}
-
-/// A keeper for each resource of the pair.
-pub fn keepers(alloc: Global, last: u32) -> Result<Vec<MemoryKeeper>, Fail> {
-    keepers_of(alloc, 2, last)
 }
 
 fn command_of(alloc: Global, ticket: u64, ask: Ask) -> Result<Command, Fail> {
@@ -133,40 +131,9 @@ fn entry_of(frame: &Frame) -> Entry {
         Some(take) => take.from,
         None => None,
     };
-    let count = match evaluation.outputs().values().first() {
-        Some(Value::Int(count)) => *count,
-        _ => -1,
-    };
-    Entry {
-        resource: name.task.resource,
-        pair: (name.incarnation, name.number),
-        from,
-        count,
-    }
-}
-
-/// The book has just these entries.
-pub fn has_entries(rt: &impl Abort, report: &Report, wanted: &[Entry]) {
-    let entries = report.book.entries();
-    equal(rt, "how many entries", &entries.len(), &wanted.len());
-    for (frame, entry) in entries.iter().zip(wanted) {
-        equal(rt, "entry", &entry_of(frame), entry);
-    }
-}
-
-/// These tickets, and no others, have no entry.
-pub fn has_unanswered(rt: &impl Abort, report: &Report, wanted: &[u64]) {
-    equal(rt, "unanswered", &report.unanswered.as_slice(), &wanted);
-}
-
-/// These are the faults: resource, ticket, cause.
-pub fn has_faults(rt: &impl Abort, report: &Report, wanted: &[(usize, u64, Cause)]) {
-    let faults = report.node_faults.as_slice();
-    equal(rt, "how many faults", &faults.len(), &wanted.len());
-    for (fault, (resource, ticket, cause)) in faults.iter().zip(wanted) {
-        let is_it = fault.resource == *resource && fault.ticket == *ticket && fault.cause == *cause;
-        holds(rt, "the fault", is_it);
-    }
+    let pair = (name.incarnation, name.number);
+    let value = evaluation.outputs().values().first().copied();
+    (name.task.resource, pair, from, value)
 }
 
 fn letter_of(event: &Event) -> char {
@@ -177,71 +144,62 @@ fn letter_of(event: &Event) -> char {
     }
 }
 
-/// The first incarnations that the journals begin in.
-fn firsts_of(alloc: Global, report: &Report) -> Result<Vec<u32>, Fail> {
-    let mut first = Vec::new(alloc);
-    for journal in report.journals.as_slice() {
-        first.push(journal.first)?;
-    }
-    Ok(first)
-}
-
-/// One thread that does these events makes the book's entries.
-fn makes_entries(
-    rt: &impl Abort,
-    alloc: Global,
-    plant: &Arc<Plant>,
-    report: &Report,
-    max_number: u32,
-    events: &[Event],
-) -> Result<(), Fail> {
-    let first = firsts_of(alloc, report)?;
-    if first.len() != plant.resources() {
-        return Err("not one journal for each resource".into());
-    }
-    let shared = Arc::try_clone(plant)?;
-    let mut world = World::new(alloc, shared, first.as_slice(), max_number)?;
-    if world.run(alloc, events).is_err() {
-        return Err("no memory for the run".into());
-    }
-    let entries = report.book.entries();
-    equal(
-        rt,
-        "how many evaluations",
-        &world.log().len(),
-        &entries.len(),
-    );
-    for (made, entry) in world.log().iter().zip(entries) {
-        holds(rt, "the evaluation is the entry", made.same(entry));
-    }
-    Ok(())
-}
-
-/// The run of the book's schedule makes the book's entries.
+/// One thread that does the events of the book's schedule makes the book's entries. These are the events.
 pub fn is_made_again(
     rt: &impl Abort,
     alloc: Global,
     plant: &Arc<Plant>,
     report: &Report,
-) -> Result<(), Fail> {
+    max_number: u32,
+) -> Result<Vec<Event>, Fail> {
+    let mut first = Vec::new(alloc);
+    for journal in report.journals.as_slice() {
+        first.push(journal.first)?;
+    }
+    if first.len() != plant.resources() {
+        return Err("not one journal for each resource".into());
+    }
     let events = report.book.schedule(alloc)?;
-    makes_entries(rt, alloc, plant, report, u32::MAX, events.as_slice())
+    let shared = Arc::try_clone(plant)?;
+    let mut world = World::new(alloc, shared, first.as_slice(), max_number)?;
+    if world.run(alloc, events.as_slice()).is_err() {
+        return Err("no memory for the run".into());
+    }
+    let entries = report.book.entries();
+    let how_many = world.log().len();
+    equal(rt, "how many evaluations", &how_many, &entries.len());
+    for (made, entry) in world.log().iter().zip(entries) {
+        holds(rt, "the evaluation is the entry", made.same(entry));
+    }
+    Ok(events)
 }
 
-/// The book's schedule has events of these kinds, and its run makes the book's entries.
-pub fn runs_again(
+/// Just this is told of a run on the pair, and the run of the book's schedule makes the book's entries.
+pub fn has_told(
     rt: &impl Abort,
     alloc: Global,
     report: &Report,
     max_number: u32,
-    kinds: &str,
+    told: &Told,
 ) -> Result<(), Fail> {
-    let events = report.book.schedule(alloc)?;
-    let mut found = String::new(alloc);
-    for event in &events {
-        found.push(letter_of(event))?;
+    let entries = report.book.entries();
+    equal(rt, "how many entries", &entries.len(), &told.entries.len());
+    for (frame, entry) in entries.iter().zip(told.entries) {
+        equal(rt, "entry", &entry_of(frame), entry);
     }
-    equal(rt, "kinds of events", &found.as_str(), &kinds);
+    let unanswered = report.unanswered.as_slice();
+    equal(rt, "unanswered", &unanswered, &told.unanswered);
+    let faults = report.node_faults.as_slice();
+    equal(rt, "how many faults", &faults.len(), &told.faults.len());
+    for (fault, wanted) in faults.iter().zip(told.faults) {
+        let found = (fault.resource, fault.ticket, fault.cause);
+        equal(rt, "fault", &found, wanted);
+    }
     let plant = pair(alloc)?;
-    makes_entries(rt, alloc, &plant, report, max_number, events.as_slice())
+    let mut kinds = String::new(alloc);
+    for event in &is_made_again(rt, alloc, &plant, report, max_number)? {
+        kinds.push(letter_of(event))?;
+    }
+    equal(rt, "kinds of events", &kinds.as_str(), &told.kinds);
+    Ok(())
 }

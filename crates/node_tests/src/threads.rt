@@ -1,127 +1,126 @@
 //! What a run of threads reports.
 
 use crate::checks::equal;
-use crate::gates::{ClosedToFirst, OnceKeeper, PairGate, SlowFirst};
-use crate::runs::{
-    Ask, Entry, has_entries, has_faults, has_unanswered, keepers, pair, run, runs_again,
-};
+use crate::gates::{ClosedToFirst, OnceKeeper, PairGate};
+use crate::runs::{Ask, Told, has_told, keepers_of, pair, run};
 use node::{Cause, FreeGate, PacedGate, RunFault, run_threads};
 use std::test::Fail;
+use std_blocks::Value;
 
 const TURNS: u64 = 10_000_000;
 
 /// The counter is evaluated, and then its watcher.
-const COUNT_AND_WATCH: [Ask; 2] = [Ask::Evaluate(0, 0, true), Ask::Evaluate(1, 0, false)];
+const COUNT_AND_WATCH: &[Ask] = &[Ask::Evaluate(0, 0, true), Ask::Evaluate(1, 0, false)];
 
-/// The counter's first evaluation in an incarnation.
-fn counted(incarnation: u32, number: u32) -> Entry {
-    Entry {
-        resource: 0,
-        pair: (incarnation, number),
-        from: None,
-        count: 1,
-    }
-}
+const ONE: Option<Value> = Some(Value::Int(1));
 
-/// The watcher's first evaluation, which took this.
-fn watched(from: Option<(u32, u32)>, count: i16) -> Entry {
-    Entry {
-        resource: 1,
-        pair: (1, 1),
-        from,
-        count,
-    }
-}
+/// Both evaluations are made, the second from the first.
+const BOTH: Told = Told {
+    entries: &[(0, (1, 1), None, ONE), (1, (1, 1), Some((1, 1)), ONE)],
+    unanswered: &[],
+    faults: &[],
+    kinds: "EDE",
+};
+
+/// No evaluation has a number above the limit.
+const SPENT: Told = Told {
+    entries: &[(0, (1, 1), None, ONE)],
+    unanswered: &[2],
+    faults: &[(0, 2, Cause::NumbersSpent)],
+    kinds: "E",
+};
+
+/// Numbers begin again after a restart.
+const RESTARTED: Told = Told {
+    entries: &[(0, (1, 1), None, ONE), (0, (2, 1), None, ONE)],
+    unanswered: &[],
+    faults: &[],
+    kinds: "ERE",
+};
+
+/// A task that isn't there is not evaluated.
+const NO_TASK: Told = Told {
+    entries: &[],
+    unanswered: &[1],
+    faults: &[(0, 1, Cause::NoSuchTask)],
+    kinds: "",
+};
+
+/// A command that isn't issued is not obeyed.
+const NOT_ISSUED: Told = Told {
+    entries: &[(0, (1, 1), None, ONE)],
+    unanswered: &[2],
+    faults: &[(1, 2, Cause::OutOfTurns)],
+    kinds: "E",
+};
+
+/// A command that doesn't pass is not obeyed.
+const NOT_PASSED: Told = Told {
+    entries: &[(1, (1, 1), None, Some(Value::Int(0)))],
+    unanswered: &[1],
+    faults: &[(0, 1, Cause::OutOfTurns)],
+    kinds: "E",
+};
+
+/// A resource whose keeper fails goes on in its incarnation.
+const NOT_RESTARTED: Told = Told {
+    entries: &[
+        (0, (1, 1), None, ONE),
+        (0, (1, 2), None, ONE),
+        (1, (1, 1), Some((1, 2)), ONE),
+    ],
+    unanswered: &[],
+    faults: &[(0, 2, Cause::Keeper)],
+    kinds: "EEDE",
+};
+
+/// Turns, greatest number, commands, and what is told.
+const PACED: &[(u64, u32, &[Ask], Told)] = &[
+    (TURNS, u32::MAX, COUNT_AND_WATCH, BOTH),
+    (
+        TURNS,
+        1,
+        &[Ask::Evaluate(0, 0, true), Ask::Evaluate(0, 0, true)],
+        SPENT,
+    ),
+    (
+        TURNS,
+        u32::MAX,
+        &[
+            Ask::Evaluate(0, 0, true),
+            Ask::Restart(0),
+            Ask::Evaluate(0, 0, true),
+        ],
+        RESTARTED,
+    ),
+    (TURNS, u32::MAX, &[Ask::Evaluate(0, 7, false)], NO_TASK),
+    (0, u32::MAX, COUNT_AND_WATCH, NOT_ISSUED),
+];
 
 #[test]
-fn a_paced_run_makes_both_evaluations(rt: HostRuntime) -> Result<(), Fail> {
+fn paced_runs_are_told(rt: HostRuntime) -> Result<(), Fail> {
     let alloc = rt.alloc();
-    let gate = PacedGate::new(TURNS);
-    let report = run(
-        &rt,
-        alloc,
-        &COUNT_AND_WATCH,
-        keepers(alloc, 0)?,
-        &gate,
-        u32::MAX,
-    )?;
-    has_entries(&rt, &report, &[counted(1, 1), watched(Some((1, 1)), 1)]);
-    has_unanswered(&rt, &report, &[]);
-    has_faults(&rt, &report, &[]);
-    runs_again(&rt, alloc, &report, u32::MAX, "EDE")
+    for &(turns, max_number, asks, told) in PACED {
+        let keepers = keepers_of(alloc, 2, 0)?;
+        let gate = PacedGate::new(turns);
+        let report = run(&rt, alloc, asks, keepers, &gate, max_number)?;
+        has_told(&rt, alloc, &report, max_number, &told)?;
+    }
+    Ok(())
 }
 
 #[test]
 fn both_resources_are_served_at_once(rt: HostRuntime) -> Result<(), Fail> {
     let alloc = rt.alloc();
+    let keepers = keepers_of(alloc, 2, 0)?;
     let gate = PairGate::new();
-    let report = run(
-        &rt,
-        alloc,
-        &COUNT_AND_WATCH,
-        keepers(alloc, 0)?,
-        &gate,
-        u32::MAX,
-    )?;
-    equal(&rt, "how many entries", &report.book.entries().len(), &2);
-    has_unanswered(&rt, &report, &[]);
-    has_faults(&rt, &report, &[]);
-    Ok(())
-}
-
-#[test]
-fn a_frame_that_comes_late_is_no_fault(rt: HostRuntime) -> Result<(), Fail> {
-    let alloc = rt.alloc();
-    let report = run(
-        &rt,
-        alloc,
-        &COUNT_AND_WATCH,
-        keepers(alloc, 0)?,
-        &SlowFirst,
-        u32::MAX,
-    )?;
-    equal(&rt, "how many entries", &report.book.entries().len(), &2);
-    has_unanswered(&rt, &report, &[]);
-    has_faults(&rt, &report, &[]);
-    Ok(())
-}
-
-#[test]
-fn no_evaluation_has_a_number_above_the_limit(rt: HostRuntime) -> Result<(), Fail> {
-    let alloc = rt.alloc();
-    let asks = [Ask::Evaluate(0, 0, true), Ask::Evaluate(0, 0, true)];
-    let gate = PacedGate::new(TURNS);
-    let report = run(&rt, alloc, &asks, keepers(alloc, 0)?, &gate, 1)?;
-    has_entries(&rt, &report, &[counted(1, 1)]);
-    has_unanswered(&rt, &report, &[2]);
-    has_faults(&rt, &report, &[(0, 2, Cause::NumbersSpent)]);
-    runs_again(&rt, alloc, &report, 1, "E")
-}
-
-#[test]
-fn numbers_begin_again_after_a_restart(rt: HostRuntime) -> Result<(), Fail> {
-    let alloc = rt.alloc();
-    let asks = [
-        Ask::Evaluate(0, 0, true),
-        Ask::Restart(0),
-        Ask::Evaluate(0, 0, true),
-    ];
-    let gate = PacedGate::new(TURNS);
-    let report = run(&rt, alloc, &asks, keepers(alloc, 0)?, &gate, u32::MAX)?;
-    has_entries(&rt, &report, &[counted(1, 1), counted(2, 1)]);
-    has_unanswered(&rt, &report, &[]);
-    has_faults(&rt, &report, &[]);
-    runs_again(&rt, alloc, &report, u32::MAX, "ERE")
-}
-
-#[test]
-fn a_task_that_is_not_there_is_not_evaluated(rt: HostRuntime) -> Result<(), Fail> {
-    let alloc = rt.alloc();
-    let asks = [Ask::Evaluate(0, 7, false)];
-    let report = run(&rt, alloc, &asks, keepers(alloc, 0)?, &FreeGate, u32::MAX)?;
-    has_entries(&rt, &report, &[]);
-    has_unanswered(&rt, &report, &[1]);
-    has_faults(&rt, &report, &[(0, 1, Cause::NoSuchTask)]);
+    let report = run(&rt, alloc, COUNT_AND_WATCH, keepers, &gate, u32::MAX)?;
+    let counts = (
+        report.book.entries().len(),
+        report.unanswered.as_slice().len(),
+        report.node_faults.as_slice().len(),
+    );
+    equal(&rt, "entries, unanswered, faults", &counts, &(2, 0, 0));
     Ok(())
 }
 
@@ -129,7 +128,7 @@ fn a_task_that_is_not_there_is_not_evaluated(rt: HostRuntime) -> Result<(), Fail
 fn a_keeper_that_is_spent_ends_the_run(rt: HostRuntime) -> Result<(), Fail> {
     let alloc = rt.alloc();
     let plant = pair(alloc)?;
-    let keepers = keepers(alloc, u32::MAX)?;
+    let keepers = keepers_of(alloc, 2, u32::MAX)?;
     if keepers.len() != plant.resources() {
         return Err("not one keeper for each resource".into());
     }
@@ -148,49 +147,19 @@ fn a_resource_whose_keeper_fails_goes_on(rt: HostRuntime) -> Result<(), Fail> {
         Ask::Evaluate(1, 0, false),
     ];
     let mut keepers = Vec::new(alloc);
-    keepers.push(OnceKeeper::new())?;
-    keepers.push(OnceKeeper::new())?;
+    for _resource in 0..2 {
+        keepers.push(OnceKeeper::new())?;
+    }
     let gate = PacedGate::new(TURNS);
     let report = run(&rt, alloc, &asks, keepers, &gate, u32::MAX)?;
-    let wanted = [counted(1, 1), counted(1, 2), watched(Some((1, 2)), 1)];
-    has_entries(&rt, &report, &wanted);
-    has_unanswered(&rt, &report, &[]);
-    has_faults(&rt, &report, &[(0, 2, Cause::Keeper)]);
-    runs_again(&rt, alloc, &report, u32::MAX, "EEDE")
+    has_told(&rt, alloc, &report, u32::MAX, &NOT_RESTARTED)
 }
 
 #[test]
 fn a_command_that_does_not_pass_is_not_obeyed(rt: HostRuntime) -> Result<(), Fail> {
     let alloc = rt.alloc();
+    let keepers = keepers_of(alloc, 2, 0)?;
     let gate = ClosedToFirst::new(TURNS);
-    let report = run(
-        &rt,
-        alloc,
-        &COUNT_AND_WATCH,
-        keepers(alloc, 0)?,
-        &gate,
-        u32::MAX,
-    )?;
-    has_entries(&rt, &report, &[watched(None, 0)]);
-    has_unanswered(&rt, &report, &[1]);
-    has_faults(&rt, &report, &[(0, 1, Cause::OutOfTurns)]);
-    runs_again(&rt, alloc, &report, u32::MAX, "E")
-}
-
-#[test]
-fn a_command_that_is_not_issued_is_not_obeyed(rt: HostRuntime) -> Result<(), Fail> {
-    let alloc = rt.alloc();
-    let gate = PacedGate::new(0);
-    let report = run(
-        &rt,
-        alloc,
-        &COUNT_AND_WATCH,
-        keepers(alloc, 0)?,
-        &gate,
-        u32::MAX,
-    )?;
-    has_entries(&rt, &report, &[counted(1, 1)]);
-    has_unanswered(&rt, &report, &[2]);
-    has_faults(&rt, &report, &[(1, 2, Cause::OutOfTurns)]);
-    runs_again(&rt, alloc, &report, u32::MAX, "E")
+    let report = run(&rt, alloc, COUNT_AND_WATCH, keepers, &gate, u32::MAX)?;
+    has_told(&rt, alloc, &report, u32::MAX, &NOT_PASSED)
 }

@@ -1,10 +1,11 @@
-//! A counter and a watcher, evaluated.
+//! Which inputs, takes, states, evaluations and frames are the same or fit.
 
 use crate::checks::{equal, holds};
 use evaluation::{
-    Evaluation, Frame, Image, Inputs, Name, Take, TaskState, fits_state, suits_takes,
+    Evaluation, FieldInput, Frame, Image, InputFault, Inputs, Name, Take, TaskState, fits_state,
+    suits_takes,
 };
-use plant::{Plant, TaskCode, TaskRef};
+use plant::{Address, Plant, Space, TaskCode, TaskRef};
 use std::alloc::Global;
 use std::process::Abort;
 use std::sync::Arc;
@@ -12,20 +13,44 @@ use std::test::Fail;
 use std_blocks::Value;
 use worked_texts::PAIR;
 
-/// Two programs of one type, of which the second leaves an input unbound.
-const TWO_PROGRAMS: &str = "PROGRAM SHOW
-VAR_INPUT I : BOOL; FREE : BOOL; END_VAR
-VAR_OUTPUT O : BOOL; END_VAR
-|  I            O
-+--| |----+-----( )
-|  FREE   |
-+--|/|----+
+/// Three tasks whose output is always FALSE: one has an input that nothing shows, one an edge memory, and one a block that hasn't run its time.
+/// The edge and the block see their input one scan late, so that they alone still know it once the input is FALSE again.
+const MARKS: &str = "PROGRAM HELD
+VAR_INPUT NO : BOOL; I : BOOL; END_VAR
+VAR_OUTPUT Y : BOOL; END_VAR
+|  NO   I     Y
++--| |--| |---( )
 END_PROGRAM
-CONFIGURATION C
+PROGRAM EDGE
+VAR_INPUT NO : BOOL; I : BOOL; END_VAR
+VAR_OUTPUT Y : BOOL; END_VAR
+VAR WAS : BOOL; END_VAR
+|  NO   WAS   Y
++--| |--|P|---( )
+|  I          WAS
++--| |--------( )
+END_PROGRAM
+PROGRAM DELAY
+VAR_INPUT I : BOOL; END_VAR
+VAR_OUTPUT Y : BOOL; END_VAR
+VAR WAS : BOOL; T1 : TON; END_VAR
+|            T1
+|         +-------+
+|  WAS    |  TON  |   Y
++--| |----|IN    Q|---( )
+| T#30ms--|PT     |
+|         +-------+
+|  I                  WAS
++--| |----------------( )
+END_PROGRAM
+CONFIGURATION MARKS
   RESOURCE R ON NODE
-    TASK K(INTERVAL := T#10ms, PRIORITY := 1);
-    PROGRAM P WITH K : SHOW(I := %IX1, FREE := %IX2);
-    PROGRAM Q WITH K : SHOW(FREE := %IX1);
+    TASK A(INTERVAL := T#10ms, PRIORITY := 1);
+    TASK B(INTERVAL := T#10ms, PRIORITY := 1);
+    TASK C(INTERVAL := T#10ms, PRIORITY := 1);
+    PROGRAM P WITH A : HELD(I := %IX0);
+    PROGRAM Q WITH B : EDGE(I := %IX0);
+    PROGRAM S WITH C : DELAY(I := %IX0);
   END_RESOURCE
 END_CONFIGURATION
 ";
@@ -41,211 +66,87 @@ const SLOW: TaskRef = TaskRef {
 };
 
 /// The code of a task of a plant.
-pub fn code_of(alloc: Global, plant: &str, task: TaskRef) -> Result<Arc<TaskCode>, Fail> {
+fn code_of(alloc: Global, plant: &str, task: TaskRef) -> Result<Arc<TaskCode>, Fail> {
     let plant = Plant::read(alloc, plant)?;
     let code = plant.code(task).ok_or("no task")?;
     Ok(Arc::try_clone(code)?)
 }
 
-/// An evaluation of a task from a state, under a ticket.
-pub fn evaluation_from(
+/// An evaluation of a task that takes nothing, from a state, under a ticket.
+fn evaluated(
     alloc: Global,
     ticket: u64,
     task: TaskRef,
+    code: &Arc<TaskCode>,
     inputs: &str,
-    takes: Vec<Take>,
     before: TaskState,
-    code: Arc<TaskCode>,
 ) -> Result<Evaluation, Fail> {
     let name = Name {
         task,
         incarnation: 1,
         number: 1,
     };
-    let inputs = Inputs::read(alloc, inputs)?;
-    if !fits_state(&code, &before) {
+    let (inputs, takes) = (Inputs::read(alloc, inputs)?, Vec::new(alloc));
+    if !fits_state(code, &before) {
         return Err("the state does not fit".into());
     }
-    if !suits_takes(&code, takes.as_slice()) {
+    if !suits_takes(code, takes.as_slice()) {
         return Err("the takes do not suit".into());
     }
+    let code = Arc::try_clone(code)?;
     let evaluation = Evaluation::make(alloc, ticket, name, 10, inputs, takes, before, code)?;
     Ok(evaluation)
 }
 
-/// The first evaluation of a task, under a ticket.
-fn first_evaluation(
+/// The frame of a task, evaluated under a ticket, from the state that evaluations with the inputs before leave.
+fn frame_after(
     alloc: Global,
-    ticket: u64,
+    plant: &str,
     task: TaskRef,
+    before: &[&str],
+    ticket: u64,
     inputs: &str,
-    takes: Vec<Take>,
-    code: Arc<TaskCode>,
-) -> Result<Evaluation, Fail> {
-    let before = TaskState::initial(alloc, &code)?;
-    evaluation_from(alloc, ticket, task, inputs, takes, before, code)
-}
-
-/// The counter, evaluated once.
-fn counted(alloc: Global, ticket: u64, inputs: &str) -> Result<Evaluation, Fail> {
-    let code = code_of(alloc, PAIR, FAST)?;
-    first_evaluation(alloc, ticket, FAST, inputs, Vec::new(alloc), code)
-}
-
-fn shows(rt: &impl Abort, image: &Image, values: &[Value]) {
-    equal(rt, "image", &image.values(), &values);
-}
-
-#[test]
-fn the_counter_counts(rt: HostRuntime) -> Result<(), Fail> {
-    let evaluation = counted(rt.alloc(), 1, "%IX0=1")?;
-    shows(
-        &rt,
-        evaluation.outputs(),
-        &[Value::Int(1), Value::Bool(false)],
-    );
-    let fits = fits_state(evaluation.code(), evaluation.after());
-    holds(&rt, "the state after fits", fits);
-    let is_same = evaluation.after().same(evaluation.before());
-    holds(&rt, "the state changed", !is_same);
-    Ok(())
-}
-
-#[test]
-fn the_counter_stands_still(rt: HostRuntime) -> Result<(), Fail> {
-    let evaluation = counted(rt.alloc(), 1, "")?;
-    shows(
-        &rt,
-        evaluation.outputs(),
-        &[Value::Int(0), Value::Bool(false)],
-    );
-    Ok(())
-}
-
-#[test]
-fn the_watcher_sees_one_image(rt: HostRuntime) -> Result<(), Fail> {
-    let alloc = rt.alloc();
-    let seen = Take {
-        producer: FAST,
-        from: Some((1, 1)),
-        image: Image::of(vec![in alloc; Value::Int(3), Value::Bool(true)]?),
-    };
-    let code = code_of(alloc, PAIR, SLOW)?;
-    let evaluation = first_evaluation(alloc, 1, SLOW, "", vec![in alloc; seen]?, code)?;
-    shows(
-        &rt,
-        evaluation.outputs(),
-        &[Value::Int(3), Value::Bool(true)],
-    );
-    Ok(())
-}
-
-/// Whether a take suits that is the only one.
-fn one_suits(
-    alloc: Global,
-    code: &TaskCode,
-    producer: TaskRef,
-    from: Option<(u32, u32)>,
-    values: &[Value],
-) -> Result<bool, Fail> {
-    let image = Image::of(Vec::from_slice(alloc, values)?);
-    let take = Take {
-        producer,
-        from,
-        image,
-    };
-    let takes = vec![in alloc; take]?;
-    Ok(suits_takes(code, takes.as_slice()))
-}
-
-#[test]
-fn takes_are_one_for_each_producer(rt: HostRuntime) -> Result<(), Fail> {
-    let alloc = rt.alloc();
-    let code = code_of(alloc, PAIR, SLOW)?;
-    holds(&rt, "none is too few", !suits_takes(&code, &[]));
-    let (one, off) = (Value::Int(1), Value::Bool(false));
-    let (initial, given) = ([Value::Int(0), off], [one, off]);
-    let here = Some((1, 1));
-    for &(producer, from, values, suits) in &[
-        (FAST, None, initial.as_slice(), true),
-        (SLOW, None, initial.as_slice(), false),
-        (FAST, None, given.as_slice(), false),
-        (FAST, here, given.as_slice(), true),
-        (FAST, here, [off, one].as_slice(), false),
-        (FAST, here, [one].as_slice(), false),
-    ] {
-        let found = one_suits(alloc, &code, producer, from, values)?;
-        equal(&rt, "suits", &found, &suits);
+) -> Result<Frame, Fail> {
+    let code = code_of(alloc, plant, task)?;
+    let mut state = TaskState::initial(alloc, &code)?;
+    for inputs in before {
+        let evaluation = evaluated(alloc, 1, task, &code, inputs, state)?;
+        state = evaluation.after().try_copy()?;
     }
-    Ok(())
-}
-
-#[test]
-fn a_take_of_nothing_has_the_first_image(rt: HostRuntime) -> Result<(), Fail> {
-    let code = code_of(rt.alloc(), PAIR, SLOW)?;
-    let first = Take {
-        producer: FAST,
-        from: None,
-        image: Image::initial(rt.alloc(), code.expected(0))?,
-    };
-    let takes = vec![in rt.alloc(); first]?;
-    holds(&rt, "it suits", suits_takes(&code, takes.as_slice()));
-    Ok(())
-}
-
-#[test]
-fn all_programs_are_filled_and_run(rt: HostRuntime) -> Result<(), Fail> {
-    let alloc = rt.alloc();
-    for &(inputs, first, second) in &[
-        ("%IX1=0 %IX2=1", false, true),
-        ("%IX1=1 %IX2=1", true, false),
-    ] {
-        let code = code_of(alloc, TWO_PROGRAMS, FAST)?;
-        let evaluation = first_evaluation(alloc, 1, FAST, inputs, Vec::new(alloc), code)?;
-        shows(
-            &rt,
-            evaluation.outputs(),
-            &[Value::Bool(first), Value::Bool(second)],
-        );
-    }
-    Ok(())
-}
-
-/// The frame of the counter, evaluated once.
-fn counted_frame(alloc: Global, ticket: u64, inputs: &str) -> Result<Frame, Fail> {
-    Ok(Frame::new(alloc, counted(alloc, ticket, inputs)?)?)
-}
-
-#[test]
-fn a_copy_of_a_state_is_the_same(rt: HostRuntime) -> Result<(), Fail> {
-    let evaluation = counted(rt.alloc(), 1, "%IX0=1")?;
-    let copy = evaluation.after().try_copy()?;
-    holds(&rt, "a copy is the same", copy.same(evaluation.after()));
-    holds(&rt, "a copy fits", fits_state(evaluation.code(), &copy));
-    Ok(())
-}
-
-#[test]
-fn a_share_of_a_frame_is_the_same(rt: HostRuntime) -> Result<(), Fail> {
-    let frame = counted_frame(rt.alloc(), 1, "%IX0=1")?;
-    let share = frame.try_clone()?;
-    holds(&rt, "a share is the same", share.same(&frame));
-    equal(&rt, "number", &share.name().number, &1);
-    shows(&rt, share.outputs(), &[Value::Int(1), Value::Bool(false)]);
-    Ok(())
+    let evaluation = evaluated(alloc, ticket, task, &code, inputs, state)?;
+    let frame = Frame::new(alloc, evaluation)?;
+    Ok(frame)
 }
 
 #[test]
 fn frames_are_the_same_by_ticket_and_inputs(rt: HostRuntime) -> Result<(), Fail> {
-    let frame = counted_frame(rt.alloc(), 1, "%IX0=1")?;
+    let frame = frame_after(rt.alloc(), PAIR, FAST, &[], 1, "%IX0=1")?;
     for &(ticket, inputs, is_same) in &[
         (1, "%IX0=1", true),
         (2, "%IX0=1", false),
         (1, "%IX0=0", false),
     ] {
-        let other = counted_frame(rt.alloc(), ticket, inputs)?;
+        let other = frame_after(rt.alloc(), PAIR, FAST, &[], ticket, inputs)?;
         equal(&rt, inputs, &other.same(&frame), &is_same);
     }
+    Ok(())
+}
+
+#[test]
+fn shares_and_copies_are_the_same(rt: HostRuntime) -> Result<(), Fail> {
+    let frame = frame_after(rt.alloc(), PAIR, FAST, &[], 1, "%IX0=1")?;
+    let share = frame.try_clone()?;
+    let evaluation = share.evaluation();
+    let copy = evaluation.after().try_copy()?;
+    let found = (
+        share.same(&frame),
+        copy.same(evaluation.after()),
+        fits_state(evaluation.code(), &copy),
+        copy.same(evaluation.before()),
+    );
+    equal(&rt, "share, copy", &found, &(true, true, true, false));
+    let values = [Value::Int(1), Value::Bool(false)];
+    equal(&rt, "image", &share.outputs().values(), &values.as_slice());
     Ok(())
 }
 
@@ -264,4 +165,111 @@ fn names_go_by_incarnation_first(rt: HostRuntime) {
     ] {
         equal(&rt, "precedes", &one.precedes(&other), &precedes);
     }
+}
+
+/// Whether all variables of the only programs have the same values.
+fn show_the_same(state: &TaskState, other: &TaskState) -> bool {
+    match (state.states(), other.states()) {
+        ([state], [other]) => (0..5).all(|place| state.get(place) == other.get(place)),
+        _ => false,
+    }
+}
+
+/// Whether what two frames give, the states after and before, the evaluations and the frames are the same.
+fn are_same(frame: &Frame, other: &Frame) -> [bool; 5] {
+    let (evaluation, other_evaluation) = (frame.evaluation(), other.evaluation());
+    [
+        evaluation.outputs().same(other_evaluation.outputs()),
+        evaluation.after().same(other_evaluation.after()),
+        evaluation.before().same(other_evaluation.before()),
+        evaluation.same(other_evaluation),
+        frame.same(other),
+    ]
+}
+
+/// The states before differ in one value, in one memory, or in one block, and nothing else does.
+#[test]
+fn what_no_output_shows_counts(rt: HostRuntime) -> Result<(), Fail> {
+    let alloc = rt.alloc();
+    for &(task, first, second, is_hidden) in &[
+        (0, "%IX0=0", "%IX0=1", false),
+        (1, "%IX0=1", "%IX0=0", true),
+        (2, "%IX0=1", "%IX0=0", true),
+    ] {
+        let task = TaskRef { resource: 0, task };
+        let marked = frame_after(alloc, MARKS, task, &[first, second], 1, "%IX0=0")?;
+        let again = frame_after(alloc, MARKS, task, &[first, second], 1, "%IX0=0")?;
+        let plain = frame_after(alloc, MARKS, task, &["%IX0=0", "%IX0=0"], 1, "%IX0=0")?;
+        equal(&rt, "again", &are_same(&marked, &again), &[true; 5]);
+        let told_apart = [true, true, false, false, false];
+        equal(&rt, "plain", &are_same(&marked, &plain), &told_apart);
+        let found = show_the_same(marked.evaluation().before(), plain.evaluation().before());
+        equal(&rt, "no variable shows it", &found, &is_hidden);
+    }
+    Ok(())
+}
+
+#[test]
+fn takes_are_one_for_each_producer(rt: HostRuntime) -> Result<(), Fail> {
+    let alloc = rt.alloc();
+    let code = code_of(alloc, PAIR, SLOW)?;
+    holds(&rt, "none is too few", !suits_takes(&code, &[]));
+    let (one, off) = (Value::Int(1), Value::Bool(false));
+    let (initial, given) = ([Value::Int(0), off], [one, off]);
+    let here = Some((1, 1));
+    for &(producer, from, values, suits) in &[
+        (FAST, None, initial.as_slice(), true),
+        (SLOW, None, initial.as_slice(), false),
+        (FAST, None, given.as_slice(), false),
+        (FAST, here, given.as_slice(), true),
+        (FAST, here, [off, one].as_slice(), false),
+        (FAST, here, [one].as_slice(), false),
+    ] {
+        let take = Take {
+            producer,
+            from,
+            image: Image::of(Vec::from_slice(alloc, values)?),
+        };
+        let takes = vec![in alloc; take]?;
+        equal(&rt, "suits", &suits_takes(&code, takes.as_slice()), &suits);
+    }
+    Ok(())
+}
+
+#[test]
+fn inputs_are_the_same_in_one_order(rt: HostRuntime) -> Result<(), Fail> {
+    let inputs = Inputs::read(rt.alloc(), "%IX0=1 %IX1=0 %IW2=-7")?;
+    for &(text, is_same) in &[
+        ("%ix0=1\t%ix1=0 %Iw2=-0_7 ", Ok(true)),
+        ("%IX1=0 %IX0=1 %IW2=-7", Ok(false)),
+        ("%IX0=1 %IX1=0", Ok(false)),
+        (" \t", Ok(false)),
+        ("%IX0=1 %IX0=0 %IX1=x", Err(InputFault::Syntax)),
+        ("%IW7=1\t%IX7=1 %iw0_7=1", Err(InputFault::Twice)),
+    ] {
+        let found = Inputs::read(rt.alloc(), text).map(|other| inputs.same(&other));
+        equal(&rt, text, &found, &is_same);
+    }
+    Ok(())
+}
+
+#[test]
+fn a_copy_holds_the_same_inputs(rt: HostRuntime) -> Result<(), Fail> {
+    let copy = Inputs::read(rt.alloc(), "%IX0=1 %IW2=-7")?.try_copy()?;
+    for &(space, number, value) in &[
+        (Space::Bit, 0, Value::Bool(true)),
+        (Space::Bit, 2, Value::Bool(false)),
+        (Space::Word, 2, Value::Int(-7)),
+        (Space::Word, 3, Value::Int(0)),
+    ] {
+        let found = (number, copy.get(Address { space, number }));
+        equal(&rt, "input", &found, &(number, value));
+    }
+    let second = FieldInput::Word {
+        number: 2,
+        value: -7,
+    };
+    let listed = (copy.listed().len(), copy.listed().get(1));
+    equal(&rt, "second", &listed, &(2, Some(&second)));
+    Ok(())
 }

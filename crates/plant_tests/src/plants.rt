@@ -1,262 +1,102 @@
-//! Which fault the text of a plant has first, and on which line.
+//! What a plant tells of its tasks.
 
 use crate::checks::equal;
-use ladder_text::DrawFaultKind;
-use network::GraphFaultKind;
-use plant::{BodyFault, Plant, PlantFaultKind};
-use power_flow::BindKind;
-use std::alloc::{AllocError, Global};
+use plant::{Binding, Plant, Source, TaskRef};
 use std::test::Fail;
-use worked_texts::PAIR;
 
-/// The kind of the fault, its line, and what was wrong with the body.
-pub type Found = Option<(PlantFaultKind, u64, Option<BodyFault>)>;
+/// Two resources, of which the second takes from itself and from two tasks of the first, in another order than these stand in.
+const TAKERS: &str = "\
+PROGRAM FLIP
+VAR_INPUT P : BOOL; END_VAR
+VAR_OUTPUT Q : BOOL; END_VAR
+|  P     Q
++--|/|---( )
+END_PROGRAM
+PROGRAM PICK
+VAR_INPUT A, B : BOOL; N : INT; END_VAR VAR_OUTPUT Y, Z : BOOL; M : INT; END_VAR VAR L : BOOL; END_VAR
+|  A     B     Y
++--| |---| |---( )
+END_PROGRAM
+CONFIGURATION C
+RESOURCE R1 ON N1
+TASK K1(INTERVAL := T#10ms, PRIORITY := 1);
+TASK K2(INTERVAL := T#10ms, PRIORITY := 1);
+PROGRAM F WITH K1 : FLIP;
+PROGRAM G WITH K2 : FLIP;
+END_RESOURCE
+RESOURCE R2 ON N2
+TASK K(INTERVAL := T#10ms, PRIORITY := 1);
+PROGRAM H WITH K : FLIP(P := R2.I.Z);
+PROGRAM I WITH K : PICK(B := r1.g.q, A := R1.F.Q);
+END_RESOURCE
+END_CONFIGURATION
+";
 
-pub fn fault_of(alloc: Global, text: &str) -> Found {
-    let fault = Plant::read(alloc, text).err()?;
-    Some((fault.kind, fault.line, fault.inner))
-}
+const FIRST: TaskRef = TaskRef {
+    resource: 0,
+    task: 0,
+};
 
-pub fn fault(kind: PlantFaultKind, line: u64) -> Found {
-    Some((kind, line, None))
-}
+const SECOND: TaskRef = TaskRef {
+    resource: 0,
+    task: 1,
+};
 
-/// The pair with the first `old` in it replaced.
-fn edited(alloc: Global, old: &str, new: &str) -> Result<String, AllocError> {
-    let mut text = String::new(alloc);
-    match PAIR.split_once(old) {
-        Some((before, behind)) => {
-            text.push_str(before)?;
-            text.push_str(new)?;
-            text.push_str(behind)?;
-        }
-        None => text.push_str("no such text")?,
-    }
-    Ok(text)
+const TAKER: TaskRef = TaskRef {
+    resource: 1,
+    task: 0,
+};
+
+/// The output of a producer, to which the input of a place is bound.
+fn bound(place: usize, producer: usize, output: usize) -> Binding {
+    let source = Source::Given { producer, output };
+    Binding { place, source }
 }
 
 #[test]
-fn the_pair_is_read(rt: HostRuntime) -> Result<(), Fail> {
-    equal(&rt, PAIR, &fault_of(rt.alloc(), PAIR), &None);
-    Ok(())
-}
-
-#[test]
-fn faults_of_programs(rt: HostRuntime) -> Result<(), Fail> {
-    for &(old, new, kind, line) in &[
-        ("PROGRAM COUNT", "PROGRAM 9COUNT", PlantFaultKind::Syntax, 1),
-        ("PROGRAM COUNT", "PROGRAM TON", PlantFaultKind::Syntax, 1),
-        ("UP : BOOL", "UP : BOOLS", PlantFaultKind::Syntax, 2),
-        ("UP : BOOL", "UP BOOL", PlantFaultKind::Syntax, 2),
-        ("UP : BOOL", "UP, : BOOL", PlantFaultKind::Syntax, 2),
-        (
-            "VAR C1 : CTU",
-            "VAR_INPUT C1 : CTU",
-            PlantFaultKind::WrongKind,
-            4,
-        ),
-        (
-            "VAR C1 : CTU",
-            "VAR_OUTPUT C1 : ctu",
-            PlantFaultKind::WrongKind,
-            4,
-        ),
-        (
-            "N : INT; FULL",
-            "N, n : INT; FULL",
-            PlantFaultKind::NameTwice,
-            3,
-        ),
-        (
-            "N : INT; FULL",
-            "N, up : BOOLS; FULL",
-            PlantFaultKind::NameTwice,
-            3,
-        ),
-        (
-            "VAR C1 : CTU",
-            "VAR full : CTU",
-            PlantFaultKind::NameTwice,
-            4,
-        ),
-        (
-            "PROGRAM WATCH",
-            "PROGRAM count",
-            PlantFaultKind::NameTwice,
-            12,
-        ),
-        (
-            "PROGRAM WATCH",
-            "PROGRAM count : ",
-            PlantFaultKind::NameTwice,
-            12,
-        ),
+fn a_plant_tells_what_its_tasks_take(rt: HostRuntime) -> Result<(), Fail> {
+    let plant = Plant::read(rt.alloc(), TAKERS)?;
+    for &(name, task) in &[
+        ("R1.K1", Some(FIRST)),
+        ("r1.k2", Some(SECOND)),
+        ("R2.k", Some(TAKER)),
+        ("R3.K", None),
+        ("R1.L", None),
+        ("R1", None),
+        ("R1.", None),
+        (".K", None),
+        ("R2.K.K", None),
+        ("", None),
     ] {
-        let text = edited(rt.alloc(), old, new)?;
-        let found = fault_of(rt.alloc(), text.as_str());
-        equal(&rt, new, &found, &fault(kind, line));
+        equal(&rt, name, &plant.find(name), &task);
     }
-    Ok(())
-}
-
-#[test]
-fn faults_of_resources(rt: HostRuntime) -> Result<(), Fail> {
-    for &(old, new, kind, line) in &[
-        ("R2 ON", "r1 ON", PlantFaultKind::NameTwice, 30),
-        ("R2 ON", "R2", PlantFaultKind::Syntax, 30),
-        ("T#10ms", "T#0ms", PlantFaultKind::Syntax, 27),
-        ("T#10ms", "10", PlantFaultKind::Syntax, 27),
-        ("T#10ms", "T#2147483648ms", PlantFaultKind::Syntax, 27),
-        (
-            "PRIORITY := 1",
-            "PRIORITY := 65536",
-            PlantFaultKind::Syntax,
-            27,
-        ),
-        (
-            "PRIORITY := 1",
-            "INTERVAL := T#1ms",
-            PlantFaultKind::Syntax,
-            27,
-        ),
-        (
-            "TASK SLOW",
-            "TASK SLOW(INTERVAL := T#1s, PRIORITY := 0);\nTASK slow",
-            PlantFaultKind::NameTwice,
-            32,
-        ),
-        (
-            "PROGRAM B",
-            "PROGRAM B WITH SLOW : WATCH;\nPROGRAM b",
-            PlantFaultKind::NameTwice,
-            33,
-        ),
-        ("WITH SLOW", "WITH FAST", PlantFaultKind::UnknownName, 32),
-        ("WITH FAST", "WITH\nFASTER", PlantFaultKind::UnknownName, 29),
-        (": COUNT", ": COUNTER", PlantFaultKind::UnknownName, 28),
+    let producers = [TAKER, SECOND, FIRST];
+    equal(
+        &rt,
+        "producers",
+        &plant.producers(TAKER),
+        &producers.as_slice(),
+    );
+    let code = plant.code(TAKER).ok_or("no code")?;
+    for &(program, bindings) in &[
+        (0, [bound(0, 0, 2)].as_slice()),
+        (1, [bound(1, 1, 0), bound(0, 2, 0)].as_slice()),
     ] {
-        let text = edited(rt.alloc(), old, new)?;
-        let found = fault_of(rt.alloc(), text.as_str());
-        equal(&rt, new, &found, &fault(kind, line));
+        equal(&rt, "bindings", &code.bindings(program), &bindings);
     }
-    Ok(())
-}
-
-#[test]
-fn faults_of_binds(rt: HostRuntime) -> Result<(), Fail> {
-    for &(old, new, kind, line) in &[
-        ("UP := %IX0", "UP := %IW0", PlantFaultKind::WrongKind, 28),
-        ("UP := %IX0", "UP := %IX65536", PlantFaultKind::Syntax, 28),
-        (
-            "UP := %IX0",
-            "FULL := %IX0",
-            PlantFaultKind::UnknownName,
-            28,
-        ),
-        ("UP := %IX0", "C1 := %IX0", PlantFaultKind::UnknownName, 28),
-        ("UP := %IX0", "UP := %IX0,", PlantFaultKind::Syntax, 28),
-        ("N := R1.A.N", "N := %IX1", PlantFaultKind::WrongKind, 32),
-        (
-            "FULL := R1.A.FULL",
-            "N := R1.A.N",
-            PlantFaultKind::InputBoundTwice,
-            32,
-        ),
-        (
-            "FULL := R1.A.FULL",
-            "n := %IX0",
-            PlantFaultKind::InputBoundTwice,
-            32,
-        ),
-        ("N := R1.A.N", "N := R1.A", PlantFaultKind::Syntax, 32),
+    equal(
+        &rt,
+        "outputs",
+        &(code.outputs(), code.expected(0).len()),
+        &(4, 4),
+    );
+    for &(output, name) in &[
+        (0, Some(("H", "Q"))),
+        (2, Some(("I", "Z"))),
+        (3, Some(("I", "M"))),
+        (4, None),
     ] {
-        let text = edited(rt.alloc(), old, new)?;
-        let found = fault_of(rt.alloc(), text.as_str());
-        equal(&rt, new, &found, &fault(kind, line));
+        equal(&rt, "output", &code.output_name(output), &name);
     }
     Ok(())
-}
-
-#[test]
-fn what_may_be_left_out(rt: HostRuntime) -> Result<(), Fail> {
-    for &(old, new) in &[
-        ("(UP := %IX0)", ""),
-        ("(UP := %IX0)", "()"),
-        ("    PROGRAM A", "PROGRAM C WITH FAST : COUNT; PROGRAM A"),
-        (
-            "RESOURCE R2",
-            "RESOURCE R3 ON NODE END_RESOURCE RESOURCE R2",
-        ),
-        (
-            "TASK SLOW",
-            "TASK IDLE(PRIORITY := 0, INTERVAL := TIME#1s500ms); TASK SLOW",
-        ),
-        ("VAR_INPUT UP", "VAR END_VAR VAR_INPUT UP"),
-        ("CONFIGURATION PAIR", "configuration (* a\ncomment *) pair"),
-        ("R1.A.N", "r1 . A (* of *)\n. n"),
-    ] {
-        let text = edited(rt.alloc(), old, new)?;
-        equal(&rt, new, &fault_of(rt.alloc(), text.as_str()), &None);
-    }
-    Ok(())
-}
-
-#[test]
-fn faults_of_bodies(rt: HostRuntime) -> Result<(), Fail> {
-    for &(old, new, found) in &[
-        (
-            "+--| |------( )",
-            "+--| |--?---( )",
-            (
-                PlantFaultKind::Drawing,
-                23,
-                BodyFault::Drawing(DrawFaultKind::BadMark),
-            ),
-        ),
-        (
-            "|  FULL     HIT\n+--| |------( )",
-            "|   C3\n|  +-----+\n|  | TON |\n|  +-----+",
-            (
-                PlantFaultKind::Graph,
-                23,
-                BodyFault::Graph(GraphFaultKind::Unattached),
-            ),
-        ),
-        (
-            "|  FULL     HIT",
-            "|  FULL     FULL",
-            (
-                PlantFaultKind::Bind,
-                23,
-                BodyFault::Bind(BindKind::WritesInput),
-            ),
-        ),
-        (
-            "|  FULL     HIT",
-            "|  NONE     HIT",
-            (
-                PlantFaultKind::Bind,
-                23,
-                BodyFault::Bind(BindKind::UnknownName),
-            ),
-        ),
-    ] {
-        let text = edited(rt.alloc(), old, new)?;
-        let (kind, line, inner) = found;
-        let found = fault_of(rt.alloc(), text.as_str());
-        equal(&rt, new, &found, &Some((kind, line, Some(inner))));
-    }
-    Ok(())
-}
-
-#[test]
-fn ends_too_early(rt: HostRuntime) {
-    let programs = PAIR
-        .split_once("CONFIGURATION")
-        .map_or("", |(programs, _)| programs);
-    let no_resource = "CONFIGURATION C\nEND_CONFIGURATION\n";
-    for &(text, line) in &[(programs, 24), ("", 1), (no_resource, 2)] {
-        let wanted = fault(PlantFaultKind::Syntax, line);
-        equal(&rt, text, &fault_of(rt.alloc(), text), &wanted);
-    }
 }

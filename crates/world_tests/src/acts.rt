@@ -51,21 +51,6 @@ pub fn events_of(alloc: Global, acts: &[Act]) -> Result<Vec<Event>, Fail> {
     Ok(events)
 }
 
-/// 5,000 rounds of the pair: the counter is evaluated, its message reaches the watcher, and that is evaluated.
-pub fn rounds(alloc: Global) -> Result<Vec<Event>, Fail> {
-    let mut events = Vec::new(alloc);
-    for ticket in 0..15_000_u64 {
-        let round = ticket / 3;
-        let act = match ticket % 3 {
-            0 => Act::Evaluate(FAST, round % 2 == 1),
-            1 => Act::Deliver(1 + 2 * round, 1),
-            _ => Act::Evaluate(SLOW, false),
-        };
-        events.push(event_of(alloc, ticket, act)?)?;
-    }
-    Ok(events)
-}
-
 /// The next number that looks drawn by lot, below 2^24.
 fn next(seed: &mut u32) -> u32 {
     *seed = seed.wrapping_mul(1_664_525).wrapping_add(1_013_904_223);

@@ -1,6 +1,6 @@
 //! What a book refuses, and the schedules that it hands out.
 
-use crate::acts::{Act, FAST, SLOW, do_the_same, drawn_events, events_of, rounds};
+use crate::acts::{Act, FAST, SLOW, do_the_same, drawn_events, events_of};
 use crate::checks::{equal, holds};
 use crate::runs::{are_same, book_of, plant_of, world_after};
 use evaluation::{
@@ -258,63 +258,37 @@ fn a_schedule_has_what_the_entries_need(rt: HostRuntime) -> Result<(), Fail> {
     has_schedule(&rt, alloc, LOOP, OWN_MESSAGE, OWN_AGAIN)
 }
 
-/// The book of what these events make, where the run of its schedule makes its entries again.
+/// How many entries the book of what these events make has. The run of its schedule makes them again.
 fn made_again(
+    rt: &impl Abort,
     alloc: Global,
     plant: &Arc<Plant>,
     first: &[u32],
     events: &[Event],
-) -> Result<Option<Book>, Fail> {
+) -> Result<usize, Fail> {
     let world = world_after(alloc, plant, first, events)?;
     let book = book_of(alloc, first, world.log())?;
     let schedule = book.schedule(alloc)?;
     let again = world_after(alloc, plant, first, schedule.as_slice())?;
     let is_same = are_same(again.log(), book.entries()) && are_same(book.entries(), world.log());
-    Ok(is_same.then_some(book))
+    holds(rt, "the entries are made again", is_same);
+    Ok(book.entries().len())
 }
 
-/// 500 lists of events drawn by lot are made again by the schedules of their books. They have 1,000 evaluations at least.
-fn are_made_again(rt: &impl Abort, alloc: Global, text: &str, first: &[u32]) -> Result<(), Fail> {
-    let plant = plant_of(alloc, text)?;
-    let mut seed = 1;
-    let mut entries: usize = 0;
-    for _ in 0..500 {
-        let drawn_from = seed;
-        let events = drawn_events(alloc, &mut seed, first.len())?;
-        let made = made_again(alloc, &plant, first, events.as_slice())?;
-        let found = (drawn_from, made.is_some());
-        equal(rt, "drawn from, made again", &found, &(drawn_from, true));
-        entries = entries.saturating_add(made.map_or(0, |book| book.entries().len()));
-    }
-    holds(rt, "there are 1,000 evaluations", 1_000 <= entries);
-    Ok(())
-}
-
+/// 500 lists of events drawn by lot for each of two plants are made again by the schedules of their books. They have 1,000 evaluations at least.
 #[test]
 fn drawn_logs_are_made_again(rt: HostRuntime) -> Result<(), Fail> {
-    are_made_again(&rt, rt.alloc(), PAIR, &[2, 5])?;
-    are_made_again(&rt, rt.alloc(), LOOP, &[3])
-}
-
-/// The counter saw its input rise in each second round, and the watcher sees its last count.
-#[test]
-fn ten_thousand_entries_are_made_again(rt: HostRuntime) -> Result<(), Fail> {
     let alloc = rt.alloc();
-    let events = rounds(alloc)?;
-    let made = made_again(alloc, &plant_of(alloc, PAIR)?, &[1, 1], events.as_slice())?;
-    let book = made.ok_or("other entries are made again")?;
-    equal(&rt, "entries", &book.entries().len(), &10_000);
-    let last = book.entries().last().ok_or("no entry")?;
-    let name = Name {
-        task: SLOW,
-        incarnation: 1,
-        number: 5_000,
-    };
-    equal(&rt, "name", &last.name(), &name);
-    let seen = [Value::Int(2_500), Value::Bool(true)];
-    equal(&rt, "image", &last.outputs().values(), &seen.as_slice());
-    let schedule = book.schedule(alloc)?;
-    let is_same = do_the_same(schedule.as_slice(), events.as_slice());
-    holds(&rt, "the schedule is these events", is_same);
+    for &(text, first) in &[(PAIR, [2, 5].as_slice()), (LOOP, [3].as_slice())] {
+        let plant = plant_of(alloc, text)?;
+        let mut seed = 1;
+        let mut entries: usize = 0;
+        for _list in 0..500 {
+            let events = drawn_events(alloc, &mut seed, first.len())?;
+            let made = made_again(&rt, alloc, &plant, first, events.as_slice())?;
+            entries = entries.saturating_add(made);
+        }
+        holds(&rt, "there are 1,000 evaluations", 1_000 <= entries);
+    }
     Ok(())
 }

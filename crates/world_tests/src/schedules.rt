@@ -48,33 +48,29 @@ fn writes(
     Ok(())
 }
 
+/// A writer without room has the first bytes.
 #[test]
 fn a_schedule_is_written_as_far_as_it_goes(rt: HostRuntime) -> Result<(), Fail> {
     let alloc = rt.alloc();
     let plant = plant_of(alloc, PAIR)?;
     let written = WRITTEN.as_bytes();
-    for &step in &[usize::MAX, 1] {
-        let out = Halting::new(alloc, usize::MAX, step, true)?;
-        writes(&rt, alloc, &plant, RESTARTED, out, Ok(()), written)?;
+    let all = written.len();
+    let cut = Err(SimFault::Write);
+    for &(room, step, fails, answer) in &[
+        (all, all, true, Ok(())),
+        (all, 1, false, Ok(())),
+        (all - 1, all, true, cut),
+        (all - 1, 1, false, cut),
+        (80, all, false, cut),
+        (0, all, true, cut),
+    ] {
+        let out = Halting::new(alloc, room, step, fails)?;
+        let first = written.get(..room).unwrap_or_default();
+        writes(&rt, alloc, &plant, RESTARTED, out, answer, first)?;
     }
     let bad = "DELIVER 99 R2\n# a comment\nEVAL R9.FAST 10\nEVAL R1.FAST\nEVAL R1.FAST 10\n";
     let refusals = b"REFUSED 1 NoSuchMessage\nREFUSED 2 NoSuchResource\n";
     let out = Halting::new(alloc, usize::MAX, usize::MAX, true)?;
     let answer = Err(SimFault::Syntax { line: 4 });
     writes(&rt, alloc, &plant, bad, out, answer, refusals.as_slice())
-}
-
-#[test]
-fn a_writer_without_room_has_the_first_bytes(rt: HostRuntime) -> Result<(), Fail> {
-    let alloc = rt.alloc();
-    let plant = plant_of(alloc, PAIR)?;
-    for room in 0..WRITTEN.len() {
-        for &fails in &[true, false] {
-            let out = Halting::new(alloc, room, usize::MAX, fails)?;
-            let first = WRITTEN.as_bytes().get(..room).unwrap_or_default();
-            let answer = Err(SimFault::Write);
-            writes(&rt, alloc, &plant, RESTARTED, out, answer, first)?;
-        }
-    }
-    Ok(())
 }

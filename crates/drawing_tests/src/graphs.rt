@@ -1,0 +1,37 @@
+//! What a graph tells that no scan asks for.
+
+use crate::checks::equal;
+use ladder_text::{Drawing, ReadText};
+use network::Graph;
+use std::test::Fail;
+
+#[test]
+fn tells_its_first_line_and_rails(rt: HostRuntime) -> Result<(), Fail> {
+    let drawing = Drawing::read(rt.alloc(), "  +--+\n  |  |\n\n  +--+\n", 7)?;
+    let graph = Graph::build(rt.alloc(), &drawing)?;
+    for &(row, column, is_right_of_it) in &[
+        (1, 4, true),
+        (2, 4, true),
+        (3, 4, false),
+        (4, 4, true),
+        (5, 4, false),
+        (0, 4, false),
+        (1, 3, false),
+        (1, 5, false),
+        (1, 7, false),
+        (1, 0, false),
+    ] {
+        let found = (row, column, graph.rail_left(row, column));
+        equal(&rt, "rail", &found, &(row, column, is_right_of_it));
+    }
+    let told = (
+        graph.first_line(),
+        graph.rails().len(),
+        graph.networks().len(),
+    );
+    equal(&rt, "graph", &told, &(7, 3, 2));
+    let (first_line, rails, networks) = graph.into_parts();
+    let parts = (first_line, rails.len(), networks.len());
+    equal(&rt, "parts", &parts, &(7, 3, 2));
+    Ok(())
+}
