@@ -3,7 +3,7 @@
 use crate::checks::{equal, holds};
 use ladder_text::{Drawing, ReadText};
 use network::Graph;
-use power_flow::{Declarations, Declared, Kind, Ladder, State};
+use power_flow::{Declarations, Declared, Guess, Kind, Ladder, State};
 use std::alloc::Global;
 use std::process::Abort;
 use std::test::Fail;
