@@ -2,11 +2,11 @@ ghost use Rattle.std.specs.Prelude.{◌≡◌, ◌≤◌, IfOk, map, length};
 ghost use Rattle.std.specs.Str.{str_to_ascii_lowercase};
 
 use indexmap::IndexMap;
-use words::Text;
 use std::alloc::{AllocError, Global};
 use std::marker::Model;
 use std_blocks::BlockType;
 use thiserror::Error;
+use words::Text;
 
 /// The kinds of a variable.
 #[derive(Clone, Copy, Debug, PartialEq, Eq)]

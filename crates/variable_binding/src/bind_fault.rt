@@ -1,6 +1,6 @@
-use declared_names::Declarations;
 use crate::element_faults::first_finding;
 use crate::finding::fault_at;
+use declared_names::Declarations;
 use network::Graph;
 use thiserror::Error;
 

@@ -8,11 +8,11 @@ ghost use Rattle.variable_binding.specs.Steps.ElementFindings.{IsFirstOf};
 ghost use Rattle.variable_binding.specs.Steps.BoxFindings.{same_kind, wants, output_kind, declared_kind, name_kind, read_name_fault, literal_of, literal_fault, literal_kind_fault, store_name_fault, read_fault_at, store_declared_fault, store_fault_at, operand_fault, field_on, own_field, kind_at, fault_here, fault_if, type_number, instance_fault, same_side, is_bit, has_bit, same_field, same_pin, is_among, pin_fault, operand_finding, is_beside, has_line, line_fault, pin_findings, corner_findings, pins_findings, box_findings, side_place, corner};
 
 use crate::bind_fault::BindKind;
-use declared_names::{Declarations, Declared, Kind};
 use crate::finding::{Finding, earlier};
 use crate::kinds::{is_on_side, kind_of, kind_of_field};
 use crate::literal::{Literal, read_literal};
 use crate::names::{declared_at, parts};
+use declared_names::{Declarations, Declared, Kind};
 use ladder_text::{DrawnBox, DrawnPin, Place, Side, Text};
 use network::Element;
 use std_blocks::{BlockType, Field, Pin};

@@ -6,9 +6,9 @@ ghost use Rattle.variable_binding.specs.Steps.BoxFindings.{read_name_fault, name
 
 use crate::bind_fault::BindKind;
 use crate::box_faults::{box_finding, fault_here, name_kind, read_name_fault};
-use declared_names::{Declarations, Declared, Kind};
 use crate::finding::{Finding, earlier};
 use crate::names::{declared_at, parts};
+use declared_names::{Declarations, Declared, Kind};
 use ladder_text::{Place, Text};
 use network::{Element, Network};
 

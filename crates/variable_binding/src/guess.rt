@@ -4,9 +4,9 @@ ghost use Rattle.std.specs.List.Sorted.{IsPermutation, IsSortedBy, IsStableBy};
 ghost use Rattle.std.specs.Str.{str_eq_ignore_ascii_case};
 ghost use Rattle.variable_binding.specs.Guess.{is_plain, name_use, word_uses, pin_uses, element_uses, uses_of, is_before, declaration_of, first_uses, AreGuessed};
 
-use declared_names::{Declarations, Declared, Kind, declared_names_have_places};
 use crate::kinds::kind_of_pin;
 use crate::name_use::NameUse;
+use declared_names::{Declarations, Declared, Kind, declared_names_have_places};
 use ladder_text::{DrawnPin, Text};
 use network::{Element, Graph, Network};
 use std::alloc::{AllocError, Global};

@@ -12,7 +12,7 @@ use crate::bodies::program_type::{ProgramType, type_named};
 use crate::program_instance::ProgramInstance;
 use crate::sources::resource_draft::ResourceDraft;
 use crate::sources::task_draft::TaskDraft;
-use plant_grammar::{Item, Name, GrammarFault, GrammarFaultKind, Resource, TaskLine, Use};
+use plant_grammar::{GrammarFault, GrammarFaultKind, Item, Name, Resource, TaskLine, Use};
 use std::alloc::{AllocError, Global};
 use std::sync::Arc;
 

@@ -14,7 +14,9 @@ use crate::sources::feed::{Feed, Origin};
 use crate::sources::lookup::{find_instance, find_output, find_resource};
 use crate::sources::resource_draft::ResourceDraft;
 use due_list::TaskRef;
-use plant_grammar::{Bind, Item, Name, GrammarFault, GrammarFaultKind, Resource, SourceName, Use, kind_of_space};
+use plant_grammar::{
+    Bind, GrammarFault, GrammarFaultKind, Item, Name, Resource, SourceName, Use, kind_of_space,
+};
 use power_flow::{Declarations, Declared, Kind};
 use std::alloc::Global;
 
@@ -55,7 +57,10 @@ fn find_value(
 }
 
 /// What a source means, and the kind of its values.
-fn find_origin(drafts: &[ResourceDraft], source: &SourceName) -> Result<(Origin, Kind), GrammarFault>
+fn find_origin(
+    drafts: &[ResourceDraft],
+    source: &SourceName,
+) -> Result<(Origin, Kind), GrammarFault>
     ensures ok { IfOk result (λ x. IsOriginOf (drafted drafts.now) source.now x.0 x.1) }
     ensures tells { IfErr result (λ e. TellsOfName e.kind ⊥ ⊥) }
     ensures value { IfErr result IsWordFault }
