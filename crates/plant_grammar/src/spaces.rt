@@ -1,8 +1,8 @@
 ghost use Rattle.std.specs.Prelude.{◌≡◌};
 ghost use Rattle.plant_grammar.specs.Kinds.{kind_of_space};
 
-use plant_text::Space;
 use declared_names::Kind;
+use plant_text::Space;
 
 /// The kind of the values that a space of addresses holds: bits are BOOL, words INT.
 pub fn kind_of_space(space: Space) -> Kind

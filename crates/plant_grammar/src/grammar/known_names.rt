@@ -11,8 +11,8 @@ ghost use Rattle.plant_grammar.specs.Steps.Reading.{programs_of};
 ghost use Rattle.plant_grammar.specs.Names.{is_named};
 ghost use Rattle.plant_grammar.specs.Lawful.{variables, task_of, use_of};
 
-use crate::grammar::program_text::ProgramText;
 use crate::grammar::name::Name;
+use crate::grammar::program_text::ProgramText;
 use crate::grammar::tree::{Bind, Item, Resource};
 use crate::grammar_fault::{GrammarFault, GrammarFaultKind};
 use declared_names::{Declared, Kind};

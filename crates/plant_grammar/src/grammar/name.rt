@@ -2,9 +2,9 @@ ghost use Rattle.std.specs.Prelude.{◌≡◌, IfOk};
 ghost use Rattle.plant_grammar.specs.Names.{is_named};
 
 use crate::names::is_named;
-use words::Text;
 use std::alloc::{AllocError, Global};
 use std::marker::Model;
+use words::Text;
 
 /// A name as it is written, and the line that it stands on. Contracts see its characters.
 #[derive(Drop)]

@@ -12,15 +12,15 @@ ghost use Rattle.plant_grammar.specs.Steps.Lines.{IsOneNext, IsNoneNext};
 ghost use Rattle.plant_grammar.specs.Steps.ReadParts.{IsNew, AreProgramsDeclared};
 ghost use Rattle.plant_grammar.specs.Steps.Reading.{programs_of, all_words, AreSameWords, AreSameLines};
 
-use crate::grammar::program_text::ProgramText;
 use crate::grammar::known_names::{check_new, is_program};
 use crate::grammar::name::Name;
+use crate::grammar::program_text::ProgramText;
 use crate::grammar::reader::Reader;
 use crate::grammar::tree::{NameList, Program, Section, TypeName, VarBlock};
 use crate::grammar::variables::Variables;
 use crate::grammar_fault::{GrammarFault, GrammarFaultKind};
-use plant_text::{Keyword, Punctuation};
 use declared_names::Kind;
+use plant_text::{Keyword, Punctuation};
 use std::alloc::Global;
 
 /// How many program types a plant may have.
@@ -230,7 +230,11 @@ impl<'a> Reader<'a> {
 
     /// A program type, behind these. Its body isn't drawn.
     #[tactic(auto, using(crate::proofs::RefusedNames::no_name, crate::proofs::RefusedNames::memory_no_name), unfolding(crate::specs::Grammar::program_words))]
-    fn program(&mut self, alloc: Global, before: &[ProgramText]) -> Result<ProgramText, GrammarFault>
+    fn program(
+        &mut self,
+        alloc: Global,
+        before: &[ProgramText],
+    ) -> Result<ProgramText, GrammarFault>
         ensures ok { IfOk result (λ p. self.old.words ≡ program_words p.program ++ self.new.words) }
         ensures bodies { IfOk result (λ p. self.old.bodies ≡ p.first_line ∷ self.new.bodies) }
         ensures new { IfOk result (λ p. IsNew (λ p. p.name) (programs_of before.now) p.program.name) }

@@ -24,8 +24,8 @@ use crate::grammar::tally::Tally;
 use crate::grammar::tree::{Bind, Item, Order, Resource, SourceName, TaskLine, Use};
 use crate::grammar_fault::{GrammarFault, GrammarFaultKind};
 use crate::spaces::kind_of_space;
-use plant_text::{Address, Keyword, Punctuation};
 use declared_names::Kind;
+use plant_text::{Address, Keyword, Punctuation};
 use std::alloc::Global;
 
 /// How many tasks a resource may have.

@@ -1,10 +1,10 @@
 //! The parts of a plant's text, as they are written.
 
 use crate::grammar::name::Name;
-use words::Text;
-use plant_text::Address;
 use declared_names::Kind;
+use plant_text::Address;
 use std_blocks::BlockType;
+use words::Text;
 
 /// Which variables a block declares.
 #[derive(Clone, Copy)]

@@ -105,7 +105,10 @@ impl Variables {
         }
         match self.declarations.add(name.as_str(), declared) {
             Ok(()) => Ok(()),
-            Err(DeclareFault::Twice) => Err(GrammarFault::at(GrammarFaultKind::NameTwice, name.line())),
+            Err(DeclareFault::Twice) => Err(GrammarFault::at(
+                GrammarFaultKind::NameTwice,
+                name.line(),
+            )),
             Err(DeclareFault::Memory) => Err(GrammarFault::at(GrammarFaultKind::Memory, 0)),
         }
     }
