@@ -22,8 +22,8 @@ returns-clause-ok c =
     written c.in_ok-keyword.ensures.ok c.in_ok-_name.ensures.ok c.in_ok-resources.ensures.ok
     c.programs.ensures.declared c.in_ok-resources.ensures.some
     (subst (λ ts. AreResourcesLawful (types_alone ts) resources) c.as_slice.ensures.value c.in_ok-resources.ensures.lawful)
-    (c.in_ok-resources.ensures.tally ∙ ap (λ t. tally_with t (flat_map uses_of resources)) c.new.ensures)
-    c.instances.ensures.few c.binds.ensures.few
+    (c.in_ok-resources.ensures.tally ∙ ap (λ t. tally_with t (flat_map uses_of resources)) c.new-tally.ensures)
+    c.instances-instances.ensures.few c.binds-binds.ensures.few
 
 pub returns-clause-texts : goal.returns-clause-texts
 returns-clause-texts c = begin_with_texts c.args.reader.now c.args.texts.now.items c.programs.new.texts.items c.programs.new.self.words c.programs.new.self.bodies c.requires c.in_ok-programs.ensures.ok c.in_ok-programs.ensures.lines
@@ -51,4 +51,4 @@ returns-in_err-resources-clause-name c =
     let written = begun_words c.args.texts.now.items texts start one c.requires c.in_ok-programs.ensures.ok in
     kept_fault fault (λ f. IsOfName f.kind → BeginWith (RefusesPlant f.kind) start) c.from_residual-in_err-resources.result c.from_residual-in_err-resources.ensures.1
     (λ of. begin_right (RefusesPrograms fault.kind) (RefusesConfiguration fault.kind) start
-    (in_configuration fault.kind (programs_of texts) c.in_ok-_name._name c.new.result start one c.keyword.new.self.words c.name.new.self.words written c.in_ok-keyword.ensures.ok c.in_ok-_name.ensures.ok c.new.ensures (c.in_err-resources.ensures.names of)))
+    (in_configuration fault.kind (programs_of texts) c.in_ok-_name._name c.new-tally.result start one c.keyword.new.self.words c.name.new.self.words written c.in_ok-keyword.ensures.ok c.in_ok-_name.ensures.ok c.new-tally.ensures (c.in_err-resources.ensures.names of)))
