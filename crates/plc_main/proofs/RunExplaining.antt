@@ -9,7 +9,6 @@ use Rattle.node_journals.specs.declared.run_fault.RunFault.{RunFault}
 use Rattle.node_reports.specs.declared.report.Report.{Report}
 use Rattle.node_reports.specs.Reports.{IsFittingBook, AreJournalsOf, AreInBook, AreAnswers, RunsAgain, AreTold}
 use Rattle.console.specs.declared.command_fault.CommandFault.{CommandFault}
-use Rattle.console.specs.declared.command_fault.CommandFault.TheVariants.{Text, Word, Write, Run, Memory}
 use Rattle.text_writer.specs.declared.send_fault.SendFault.{SendFault}
 use Rattle.text_writer.specs.declared.send_fault.SendFault.TheVariants as sending
 use Rattle.text_writer.proofs.Sending.{part_of_first}
