@@ -6,6 +6,9 @@ use Rattle.plant_grammar.specs.declared.grammar_fault.GrammarFaultKind.TheVarian
 use Rattle.plant_grammar.specs.NameFaults.{TellsOfName}
 use Rattle.plant_grammar.specs.NameFaults as names
 use Rattle.plant_grammar.specs.WordFaults.{IsOfWord, IsWordFault}
+use Rattle.plant.specs.declared.plant_fault.BodyFault.{BodyFault}
+use Rattle.plant.specs.declared.plant_fault.BodyFault.TheVariants as body
+use Rattle.plant.specs.BodyFaults.{kind_of_body}
 use Rattle.plant.specs.declared.plant_fault.PlantFault.{PlantFault}
 use Rattle.plant.specs.declared.plant_fault.PlantFaultKind.{PlantFaultKind}
 use Rattle.plant.specs.declared.plant_fault.PlantFaultKind.TheVariants as kind
@@ -60,3 +63,12 @@ pub memory_no_body : (fault : PlantFault) → fault.kind ≡ kind.Memory → IsO
 memory_no_body fault m (inl e) = cc
 memory_no_body fault m (inr (inl e)) = cc
 memory_no_body fault m (inr (inr e)) = cc
+
+-- the fault of a body is no name's
+pub body_no_name : (k : PlantFaultKind) (why : BodyFault) → k ≡ kind_of_body why → IsOfName k → ⊥
+body_no_name k (body.Drawing d) e (inl is) = cc
+body_no_name k (body.Drawing d) e (inr is) = cc
+body_no_name k (body.Graph g) e (inl is) = cc
+body_no_name k (body.Graph g) e (inr is) = cc
+body_no_name k (body.Bind b) e (inl is) = cc
+body_no_name k (body.Bind b) e (inr is) = cc

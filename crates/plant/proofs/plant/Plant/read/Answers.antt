@@ -1,4 +1,4 @@
-use Rattle.std.proofs.Common.{◌≡◌, ◌≢◌, List, ◌++◌, All, map, ap, sym, subst, ◌∙◌}
+use Rattle.std.proofs.Common.{◌≡◌, ◌≢◌, List, ◌++◌, All, map, ap, refl, sym, subst, ◌∙◌}
 use Rattle.std.proofs.lemmas.List.{append-nil}
 use Rattle.words.specs.Lines.{without_last}
 use Rattle.plant_text.specs.declared.token.Token.{Token}
@@ -16,7 +16,117 @@ use Rattle.plant.specs.StandsFor.{IsPlantOf}
 use Rattle.plant.specs.Steps.Reading.{ReadingValue, tree_of}
 use Rattle.plant.proofs.BodyCounts.{begun_by_programs}
 use Rattle.plant.proofs.DrawnLemmas.{drawn_tree, drawn_have_ladders}
-use Rattle.plant.proofs.FaultLemmas.{plant_of_word, no_body, of_name, no_name}
+use Rattle.plant.proofs.FaultLemmas.{plant_of_word, no_body, of_name, no_name, memory_no_body, memory_no_name, body_no_name}
 use Rattle.plant.proofs.KnownWords.{words_known}
 use Rattle.plant.proofs.RefusedKnown.{begun_by_refused}
 use Rattle.plant.proofs.plant.Plant.read.Goals as goal
+
+pub resolve-requires : goal.resolve-requires
+resolve-requires c =
+    let read = c.in_ok-resources.ensures.ok in
+    let same = ap (tree_of read.name) c.new-reading.ensures ∙ drawn_tree read.name c.read_tree.new.texts.items c.in_ok-types.types.items c.in_ok-resources.resources.items c.in_ok-types.ensures.ok in
+    (read.name, subst IsTreeLawful (sym same) read.lawful)
+
+pub returns-clause-ok : goal.returns-clause-ok
+returns-clause-ok c =
+    let read = c.in_ok-resources.ensures.ok in
+    let texts = c.read_tree.new.texts.items in
+    let types = c.in_ok-types.types.items in
+    let rs = c.in_ok-resources.resources.items in
+    let drawn = c.in_ok-types.ensures.ok in
+    let tree = tree_written read.name texts rs in
+    let same = ap (tree_of read.name) c.new-reading.ensures ∙ drawn_tree read.name texts types rs drawn in
+    let spelled = map (λ (w : WordValue). w.token) c.in_ok-words.words in
+    let words : spelled ≡ words_of tree =
+    ap (λ (ws : List WordValue). map (λ (w : WordValue). w.token) ws) (sym c.words-2.ensures) ∙ ap (λ (r : ReaderValue). r.words) (sym c.new-reader.ensures) ∙ read.written ∙ ap (λ (rest : List Token). words_of tree ++ rest) c.in_ok-end.ensures.ok ∙ append-nil (words_of tree) in
+    let known : All (λ w. w ≢ token.Unknown) spelled = subst (λ (ws : List Token). All (λ w. w ≢ token.Unknown) ws) (sym words) (words_known tree) in
+    record {
+      tree = tree;
+      spelled = subst (λ (ws : List Token). Spells (without_last 13 c.args.text.now) ws) words (c.in_ok-words.ensures.spelled known);
+      faultless = record { lawful = read.lawful; drawn = drawn_have_ladders texts types drawn };
+      stands = subst (λ (t : Tree). IsPlantOf t c.in_ok-plant.plant) same (c.in_ok-plant.ensures.ok read.name);
+    }
+
+pub returns-in_err-types-clause-body : goal.returns-in_err-types-clause-body
+returns-in_err-types-clause-body c =
+    let fault = c.in_err-types.field-0.0 in
+    let ws = c.in_ok-words.words in
+    let words : map (λ (w : WordValue). w.token) ws ≡ c.new-reader.result.words = ap (λ (ws : List WordValue). map (λ (w : WordValue). w.token) ws) (sym c.words-2.ensures) ∙ ap (λ (r : ReaderValue). r.words) (sym c.new-reader.ensures) in
+    let bodies : body_lines ws ≡ c.new-reader.result.bodies = ap (λ (ws : List WordValue). body_lines ws) (sym c.words-2.ensures) ∙ ap (λ (r : ReaderValue). r.bodies) (sym c.new-reader.ensures) in
+    let texts = c.read_tree.new.texts.items in
+    let met = c.read_tree.ensures.texts in
+    kept_fault fault (λ f. IsOfBody f.kind → IsBodyFaultIn c.args.text.now f) c.from_residual-in_err-types.result c.from_residual-in_err-types.ensures.1
+    (λ of. record {
+      texts = texts;
+      begun = begun_by_programs (without_last 13 c.args.text.now) ws texts met.rest met.more c.in_ok-words.ensures.begun (words ∙ met.written) (bodies ∙ met.lines);
+      first = c.in_err-types.ensures.fault (λ m. memory_no_body fault m of);
+    })
+
+pub returns-in_err-types-clause-name : goal.returns-in_err-types-clause-name
+returns-in_err-types-clause-name c =
+    let fault = c.in_err-types.field-0.0 in
+    kept_fault fault (λ f. IsOfName f.kind → IsNameFaultIn c.args.text.now f) c.from_residual-in_err-types.result c.from_residual-in_err-types.ensures.1
+    (λ of. let is = (c.in_err-types.ensures.fault (λ m. memory_no_name fault m of)).fault_is in absurd (body_no_name fault.kind is.why is.kind_is of))
+
+pub returns-in_err-resources-clause-value : goal.returns-in_err-resources-clause-value
+returns-in_err-resources-clause-value c =
+    let word = c.in_err-resources.field-0.0 in
+    kept_fault (fault_of_word word) IsPlantFault c.from_residual-in_err-resources.result c.from_residual-in_err-resources.ensures.1 (plant_of_word word c.in_err-resources.ensures.value)
+
+pub returns-in_err-resources-clause-body : goal.returns-in_err-resources-clause-body
+returns-in_err-resources-clause-body c =
+    let word = c.in_err-resources.field-0.0 in
+    kept_fault (fault_of_word word) (λ f. IsOfBody f.kind → IsBodyFaultIn c.args.text.now f) c.from_residual-in_err-resources.result c.from_residual-in_err-resources.ensures.1
+    (λ of. absurd (no_body word c.in_err-resources.ensures.value of))
+
+pub returns-in_err-resources-clause-name : goal.returns-in_err-resources-clause-name
+returns-in_err-resources-clause-name c =
+    let word = c.in_err-resources.field-0.0 in
+    let ws = c.in_ok-words.words in
+    let words : map (λ (w : WordValue). w.token) ws ≡ c.new-reader.result.words = ap (λ (ws : List WordValue). map (λ (w : WordValue). w.token) ws) (sym c.words-2.ensures) ∙ ap (λ (r : ReaderValue). r.words) (sym c.new-reader.ensures) in
+    kept_fault (fault_of_word word) (λ f. IsOfName f.kind → IsNameFaultIn c.args.text.now f) c.from_residual-in_err-resources.result c.from_residual-in_err-resources.ensures.1
+    (λ of.
+    let met = c.in_err-resources.ensures.name (of_name word.kind of) in
+    let begun = begun_by_refused (without_last 13 c.args.text.now) ws word.kind c.new-reader.result.words c.in_ok-words.ensures.begun words met in
+    record {
+      kind = word.kind;
+      kind_is = refl;
+      words = met.front;
+      lines = begun.0;
+      begun = begun.1;
+      refused = met.holds;
+    })
+
+pub returns-in_err-plant-clause-value : goal.returns-in_err-plant-clause-value
+returns-in_err-plant-clause-value c =
+    let word = c.in_err-plant.field-0.0 in
+    kept_fault (fault_of_word word) IsPlantFault c.from_residual-in_err-plant.result c.from_residual-in_err-plant.ensures.1 (plant_of_word word c.in_err-plant.ensures.value)
+
+pub returns-in_err-plant-clause-body : goal.returns-in_err-plant-clause-body
+returns-in_err-plant-clause-body c =
+    let word = c.in_err-plant.field-0.0 in
+    kept_fault (fault_of_word word) (λ f. IsOfBody f.kind → IsBodyFaultIn c.args.text.now f) c.from_residual-in_err-plant.result c.from_residual-in_err-plant.ensures.1
+    (λ of. absurd (no_body word c.in_err-plant.ensures.value of))
+
+pub returns-in_err-plant-clause-name : goal.returns-in_err-plant-clause-name
+returns-in_err-plant-clause-name c =
+    let word = c.in_err-plant.field-0.0 in
+    kept_fault (fault_of_word word) (λ f. IsOfName f.kind → IsNameFaultIn c.args.text.now f) c.from_residual-in_err-plant.result c.from_residual-in_err-plant.ensures.1
+    (λ of. absurd (no_name word.kind c.in_err-plant.ensures.tells of))
+
+pub returns-in_err-end-clause-value : goal.returns-in_err-end-clause-value
+returns-in_err-end-clause-value c =
+    let word = c.in_err-end.field-0.0 in
+    kept_fault (fault_of_word word) IsPlantFault c.from_residual-in_err-end.result c.from_residual-in_err-end.ensures.1 (plant_of_word word c.in_err-end.ensures.value)
+
+pub returns-in_err-end-clause-body : goal.returns-in_err-end-clause-body
+returns-in_err-end-clause-body c =
+    let word = c.in_err-end.field-0.0 in
+    kept_fault (fault_of_word word) (λ f. IsOfBody f.kind → IsBodyFaultIn c.args.text.now f) c.from_residual-in_err-end.result c.from_residual-in_err-end.ensures.1
+    (λ of. absurd (no_body word c.in_err-end.ensures.value of))
+
+pub returns-in_err-end-clause-name : goal.returns-in_err-end-clause-name
+returns-in_err-end-clause-name c =
+    let word = c.in_err-end.field-0.0 in
+    kept_fault (fault_of_word word) (λ f. IsOfName f.kind → IsNameFaultIn c.args.text.now f) c.from_residual-in_err-end.result c.from_residual-in_err-end.ensures.1
+    (λ of. absurd (no_name word.kind c.in_err-end.ensures.tells of))

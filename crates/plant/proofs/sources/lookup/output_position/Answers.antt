@@ -1,6 +1,6 @@
 use Rattle.std.proofs.Common.{◌≡◌, ◌+◌, ◌-◌, ◌/◌, ◌<◌, length, get_or, true, arith}
 use Rattle.std.proofs.lemmas.Option.{slice_get-get_or}
-use Rattle.variable_binding.specs.declared.declarations.Kind.TheVariants as kind
+use Rattle.declared_names.specs.declared.declarations.Kind.TheVariants as kind
 use Rattle.task_codes.specs.declared.task_output.TaskOutput.{TaskOutput}
 use Rattle.plant.proofs.OutputOrder.{sought_behind, sought_in_front}
 use Rattle.plant.proofs.sources.lookup.output_position.Goals as goal

@@ -1,5 +1,5 @@
 use Rattle.std.proofs.Common.{ℕ, ◌-◌, ◌≤◌, ◌<◌, length}
-use Rattle.variable_binding.specs.declared.declarations.Kind.{Kind}
+use Rattle.declared_names.specs.declared.declarations.Kind.{Kind}
 use Rattle.plant.specs.Steps.Drafts.{IsPlacedAt}
 use Rattle.plant.proofs.sources.lookup.output_position.Given as goal
 
