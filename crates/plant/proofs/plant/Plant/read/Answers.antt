@@ -24,13 +24,13 @@ use Rattle.plant.proofs.plant.Plant.read.Goals as goal
 pub resolve-requires : goal.resolve-requires
 resolve-requires c =
     let read = c.in_ok-resources.ensures.ok in
-    let same = ap (tree_of read.name) c.new-reading.ensures ∙ drawn_tree read.name c.read_tree.new.texts.items c.in_ok-types.types.items c.in_ok-resources.resources.items c.in_ok-types.ensures.ok in
+    let same = ap (tree_of read.name) c.new-reading.ensures ∙ drawn_tree read.name c.read_tree-tree.new.texts.items c.in_ok-types.types.items c.in_ok-resources.resources.items c.in_ok-types.ensures.ok in
     (read.name, subst IsTreeLawful (sym same) read.lawful)
 
 pub returns-clause-ok : goal.returns-clause-ok
 returns-clause-ok c =
     let read = c.in_ok-resources.ensures.ok in
-    let texts = c.read_tree.new.texts.items in
+    let texts = c.read_tree-tree.new.texts.items in
     let types = c.in_ok-types.types.items in
     let rs = c.in_ok-resources.resources.items in
     let drawn = c.in_ok-types.ensures.ok in
@@ -53,8 +53,8 @@ returns-in_err-types-clause-body c =
     let ws = c.in_ok-words.words in
     let words : map (λ (w : WordValue). w.token) ws ≡ c.new-reader.result.words = ap (λ (ws : List WordValue). map (λ (w : WordValue). w.token) ws) (sym c.words-2.ensures) ∙ ap (λ (r : ReaderValue). r.words) (sym c.new-reader.ensures) in
     let bodies : body_lines ws ≡ c.new-reader.result.bodies = ap (λ (ws : List WordValue). body_lines ws) (sym c.words-2.ensures) ∙ ap (λ (r : ReaderValue). r.bodies) (sym c.new-reader.ensures) in
-    let texts = c.read_tree.new.texts.items in
-    let met = c.read_tree.ensures.texts in
+    let texts = c.read_tree-tree.new.texts.items in
+    let met = c.read_tree-tree.ensures.texts in
     kept_fault fault (λ f. IsOfBody f.kind → IsBodyFaultIn c.args.text.now f) c.from_residual-in_err-types.result c.from_residual-in_err-types.ensures.1
     (λ of. record {
       texts = texts;
