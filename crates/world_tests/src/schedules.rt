@@ -59,8 +59,8 @@ fn a_schedule_is_written_as_far_as_it_goes(rt: HostRuntime) -> Result<(), Fail> 
     for &(room, step, fails, answer) in &[
         (all, all, true, Ok(())),
         (all, 1, false, Ok(())),
-        (all - 1, all, true, cut),
-        (all - 1, 1, false, cut),
+        (all.saturating_sub(1), all, true, cut),
+        (all.saturating_sub(1), 1, false, cut),
         (80, all, false, cut),
         (0, all, true, cut),
     ] {
