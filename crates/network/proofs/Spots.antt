@@ -1,10 +1,10 @@
 -- Places that are numbered, and the table that finds their numbers.
-use Rattle.std.proofs.Common.{◌≡◌, ◌≢◌, ℕ, Bool, true, false, ◌&&◌, nat_eq, None, inl, inr, List, [], ◌∷◌, ◌++◌, Option, Some, slice_get, suc, zero, length, refl, sym, ap, ◌∙◌}
+use Rattle.std.proofs.Common.{◌≡◌, ℕ, Bool, true, false, ◌&&◌, nat_eq, None, inl, inr, List, [], ◌∷◌, ◌++◌, Option, Some, slice_get, suc, zero, length, refl, sym, ap, ◌∙◌}
 use Rattle.std.proofs.lemmas.Bool.{eqb-true, eq-eqb}
 use Rattle.lists.proofs.Places.{push_cases}
 use Rattle.drawings.specs.declared.place.Place.{Place}
 use Rattle.network.specs.declared.numbering.Spot.{Spot}
-use Rattle.network.specs.Steps.Numbers.{AreNumbers, IsSpot, number_at}
+use Rattle.network.specs.Steps.Numbers.{AreNumbers, IsSpot, KeepsNumbers, number_at}
 
 -- one more at the end of a list
 pub push_old : {A : Type 0} (xs : List A) (x : A) (k : ℕ) (s : A) → slice_get xs k ≡ Some s → slice_get (xs ++ x ∷ []) k ≡ Some s
@@ -12,19 +12,15 @@ push_old [] x k s h = absurd (cc)
 push_old (y ∷ xs) x zero s h = h
 push_old (y ∷ xs) x (suc k) s h = push_old xs x k s h
 
--- what is written at other places than p stays
-abbrev pub StaysBeside : Place → List (List ℕ) → List (List ℕ) → Type 0
-StaysBeside p old new = (q : Place) (n : ℕ) → q ≢ p → number_at old q ≡ Some n → number_at new q ≡ Some n
-
 -- what is written at a place that has no number doesn't matter
-pub AreNumbers-beside : (spots : List Spot) (old new : List (List ℕ)) (p : Place) → AreNumbers spots old → ((k : ℕ) → IsSpot spots k p → ⊥) → StaysBeside p old new → AreNumbers spots new
+pub AreNumbers-beside : (spots : List Spot) (old new : List (List ℕ)) (p : Place) → AreNumbers spots old → ((k : ℕ) → IsSpot spots k p → ⊥) → KeepsNumbers p old new → AreNumbers spots new
 AreNumbers-beside spots old new p are never stays = record {
   whole = λ q k f. stays q k (λ e. never k (f.0, f.1, f.2 ∙ e)) (are.whole q k f);
 }
 
 -- a list that grows by a new place, whose number is written there
 pub AreNumbers-push : (spots : List Spot) (old new : List (List ℕ)) (p : Place) (s : Spot) → AreNumbers spots old → s.place ≡ p → ((k : ℕ) → IsSpot spots k p → ⊥)
-    → StaysBeside p old new → number_at new p ≡ Some (length spots) → AreNumbers (spots ++ s ∷ []) new
+    → KeepsNumbers p old new → number_at new p ≡ Some (length spots) → AreNumbers (spots ++ s ∷ []) new
 AreNumbers-push spots old new p s are is_p never stays here = record {
   whole = λ q k f. elim (push_cases spots s k f.0 f.1) [
     | inl was ↦ stays q k (λ e. never k (f.0, was, f.2 ∙ e)) (are.whole q k (f.0, was, f.2))
