@@ -5,6 +5,7 @@ use Rattle.std.proofs.lemmas.Option.{slice_get_within}
 use Rattle.std.specs.List.{position, position_from}
 use Rattle.std.proofs.lemmas.Iterator.Adapters.{position_from-zero}
 use Rattle.lists.proofs.Members.{contains_at, at_contains}
+use Rattle.network.specs.Steps.Numbers.{IsIndex, IsNoSpot}
 use Rattle.drawings.specs.Picture.{Picture, IsSound, mark_at}
 use Rattle.drawings.specs.declared.mark.Mark.{Mark}
 use Rattle.drawings.specs.declared.mark.Mark.TheVariants.{ContactPart, CoilPart, BoxPart}
@@ -16,41 +17,14 @@ use Rattle.network.specs.declared.element.Element.{Element}
 use Rattle.network.specs.declared.element.Element.TheVariants.{Contact, Coil, Box}
 use Rattle.network.specs.declared.numbering.Spot.{Spot}
 use Rattle.network.specs.declared.symbol_rows.SymbolRow.{SymbolRow}
-use Rattle.network.specs.Steps.Numbers.{IsSpot}
 use Rattle.network.specs.Links.{place}
 use Rattle.network.specs.Apart.{first_place, Has}
 use Rattle.network.specs.Networks.{IsElementOf}
-use Rattle.network.specs.Steps.Listing.{IsIndex, IsTheElementAt, IsNoElementAt}
-use Rattle.network.specs.Steps.Symbols.{contact_places, coil_places, box_places, IsInside, IsBehind, BeginNowhereInside, AllElsewhere, IsNumberOf, is_contact_at, is_coil_at}
+use Rattle.network.specs.Steps.Listing.{IsTheElementAt, IsNoElementAt}
+use Rattle.network.specs.Steps.Symbols.{contact_places, coil_places, box_places, IsInside, IsBehind, BeginNowhereInside, AllElsewhere, IsNumberOf, is_contact_at, is_coil_at, TellsNumber}
 use Rattle.network.proofs.Basics.{some_is, one_at, get_map, map_get}
 use Rattle.network.proofs.Spots.{same_place, other_place}
 use Rattle.network.proofs.Sharing.{mark_of, has_mark, begins, shared, the_element}
-
--- the places from n on have their positions
-pub record IndexFrom (places : List Place) (spots : List Spot) (n : ℕ) : Type 0 where
-  pub owned : (k : ℕ) (s : Spot) → slice_get spots k ≡ Some s → slice_get places s.element ≡ Some s.place
-  pub whole : (k : ℕ) (p : Place) → n ≤ k → slice_get places k ≡ Some p → (m : ℕ) × IsSpot spots m p
-
-pub index_none : (places : List Place) (spots : List Spot) → spots ≡ [] → IndexFrom places spots (length places)
-index_none places spots e = record {
-  owned = λ k s at. absurd (let h = sym (ap (λ (x : List Spot). slice_get x k) e) ∙ at in cc);
-  whole = λ k p le at. absurd (let lt = slice_get_within places k p at in omega arith);
-}
-
-pub index_before : (places : List Place) (old new : List Spot) (n m : ℕ) (p : Place) → 0 < n → slice_get places (n - 1) ≡ Some p
-    → IsSpot new m p → ((k : ℕ) (s : Spot) → slice_get old k ≡ Some s → slice_get new k ≡ Some s)
-    → ((k : ℕ) (s : Spot) → slice_get new k ≡ Some s → (slice_get old k ≡ Some s) ⊎ (s ≡ record { place = p; element = n - 1 }))
-    → IndexFrom places old n → IndexFrom places new (n - 1)
-index_before places old new n m p above at found kept each done = record {
-  owned = λ k s at'. elim (each k s at') [ inl was ↦ done.owned k s was | inr e ↦ rw e at ];
-  whole = λ k q le at'. elim (cases_eq k (n - 1)) [
-    | inl e ↦ (m, rw (one_at places k (n - 1) q p e at' at) found)
-    | inr ne ↦ (let w = done.whole k q (omega arith) at' in (w.0, (w.1.0, kept w.0 w.1.0 w.1.1, w.1.2)))
-  ];
-}
-
-pub index_all : (places : List Place) (spots : List Spot) (n : ℕ) → n ≤ 0 → IndexFrom places spots n → IsIndex places spots
-index_all places spots n le done = record { owned = done.owned; whole = λ k p at. done.whole k p (omega arith) at }
 
 -- what is known of the position that is found for a test, counted from n
 abbrev Sought : {X : Type 0} → (X → Bool) → List X → ℕ → Option ℕ → Type 0
@@ -73,7 +47,7 @@ sought {X = X} p (y ∷ ys) n = by (p y) refl (sought p ys (n + 1)) where
   by false f rest = sought_later p y ys n (position_from p (n + 1) ys) f rest
 
 sought_contact : (contacts : List ContactRecord) (at : Place) (r : Option ℕ) → Sought (is_contact_at at) contacts 0 r
-    → MatchOption r (AllElsewhere (contact_places contacts) at) (IsNumberOf (contact_places contacts) at)
+    → TellsNumber (contact_places contacts) at r
 sought_contact contacts at None none = λ k h.
     let w = map_get (λ (c : ContactRecord). place c.row c.column) contacts k at h in
     other_place (place w.0.row w.0.column) at (sym (none k w.0 w.1)) w.2
@@ -82,7 +56,7 @@ sought_contact contacts at (Some m) w =
     rw same (get_map (λ (c : ContactRecord). place c.row c.column) contacts w.0 w.1 w.3 ∙ ap Some (same_place (place w.1.row w.1.column) at (sym w.4)))
 
 sought_coil : (coils : List CoilRecord) (at : Place) (r : Option ℕ) → Sought (is_coil_at at) coils 0 r
-    → MatchOption r (AllElsewhere (coil_places coils) at) (IsNumberOf (coil_places coils) at)
+    → TellsNumber (coil_places coils) at r
 sought_coil coils at None none = λ k h.
     let w = map_get (λ (c : CoilRecord). place c.row c.column) coils k at h in
     other_place (place w.0.row w.0.column) at (sym (none k w.0 w.1)) w.2
@@ -92,12 +66,12 @@ sought_coil coils at (Some m) w =
 
 -- the position that is found is the number of a symbol
 pub contact_position : (contacts : List ContactRecord) (at : Place) (r : Option ℕ) → r ≡ position (is_contact_at at) contacts
-    → MatchOption r (AllElsewhere (contact_places contacts) at) (IsNumberOf (contact_places contacts) at)
+    → TellsNumber (contact_places contacts) at r
 contact_position contacts at r e =
     sought_contact contacts at r (subst (Sought (is_contact_at at) contacts 0) (sym (position_from-zero (is_contact_at at) contacts) ∙ sym e) (sought (is_contact_at at) contacts 0))
 
 pub coil_position : (coils : List CoilRecord) (at : Place) (r : Option ℕ) → r ≡ position (is_coil_at at) coils
-    → MatchOption r (AllElsewhere (coil_places coils) at) (IsNumberOf (coil_places coils) at)
+    → TellsNumber (coil_places coils) at r
 coil_position coils at r e =
     sought_coil coils at r (subst (Sought (is_coil_at at) coils 0) (sym (position_from-zero (is_coil_at at) coils) ∙ sym e) (sought (is_coil_at at) coils 0))
 
@@ -107,10 +81,6 @@ contact_there contacts at k h = map_get (λ (c : ContactRecord). place c.row c.c
 
 pub coil_there : (coils : List CoilRecord) (at : Place) (k : ℕ) → IsNumberOf (coil_places coils) at k → (c : CoilRecord) × (slice_get coils k ≡ Some c) × (place c.row c.column ≡ at)
 coil_there coils at k h = map_get (λ (c : CoilRecord). place c.row c.column) coils k at h
-
--- a list without a number at a place
-abbrev pub HasNone : List Spot → Place → Type 0
-HasNone spots at = (k : ℕ) → IsSpot spots k at → ⊥
 
 module _ (g : Picture) (sound : IsSound g) (at : Place) where
   -- what begins at a place of the index
@@ -133,7 +103,7 @@ module _ (g : Picture) (sound : IsSound g) (at : Place) where
       never k.0 (get_map (λ (c : CoilRecord). place c.row c.column) g.coils k.0 c k.1 ∙ ap Some begins')
   no_coil mark never f is begins' = let m = other_mark f CoilPart is begins' mark in cc
 
-  pub no_box : mark_at g at.row at.column ≡ BoxPart → (boxes : List Spot) → IsIndex (box_places g.boxes) boxes → HasNone boxes at → IsNoElementAt g at
+  pub no_box : mark_at g at.row at.column ≡ BoxPart → (boxes : List Spot) → IsIndex (box_places g.boxes) boxes → IsNoSpot boxes at → IsNoElementAt g at
   no_box mark boxes are never (Box b) is begins' =
       let k = at_contains g.boxes b is in
       let w = are.whole k.0 (place b.top b.left) (get_map (λ (b : DrawnBox). place b.top b.left) g.boxes k.0 b k.1) in

@@ -27,7 +27,5 @@ pub use element::Element;
 pub use element_box::ElementBox;
 pub use fault::{GraphFault, GraphFaultKind};
 pub use graph::Graph;
-pub use links::stands;
 pub use networks::Network;
-pub use numbering::{Numbering, Spot};
-pub use symbols::index_of;
+pub use rails::Rails;

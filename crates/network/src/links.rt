@@ -1,5 +1,5 @@
 ghost use Rattle.std.specs.Prelude.{◌≡◌, ◌↔◌, IsTrue, Any};
-ghost use Rattle.network.specs.Links.{Takes, Stands, IsSymbolPlace};
+ghost use Rattle.network.specs.Links.{Takes, IsSymbolPlace};
 
 use crate::element::Element;
 use drawings::{DrawnBox, Place, Side};
@@ -33,15 +33,5 @@ pub fn takes(element: &Element, place: Place) -> bool
             let drawn = boxed.drawn();
             place.column == drawn.left && has_pin(drawn, Side::Left, place.row)
         }
-    }
-}
-
-/// Whether this is a place of an upright.
-pub fn stands(element: &Element, place: Place) -> bool
-    ensures { IsTrue result ↔ Stands element.now place }
-{
-    match element {
-        Element::Join(at) | Element::Upright(at) => *at == place,
-        _ => false,
     }
 }

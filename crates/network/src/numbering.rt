@@ -1,6 +1,6 @@
-ghost use Rattle.std.specs.Prelude.{◌≡◌, ◌≢◌, ◌≤◌, ℕ, List, OnOk, Some, length, slice_get};
+ghost use Rattle.std.specs.Prelude.{◌≡◌, ◌≢◌, ◌≤◌, ℕ, List, IfOk, OnOk, Some, length, slice_get};
 ghost use Rattle.drawings.specs.declared.place.Place.{Place};
-ghost use Rattle.network.specs.Steps.Numbers.{number_at, KeepsNumbers};
+ghost use Rattle.network.specs.Steps.Numbers.{number_at, IsIndex, KeepsNumbers};
 ghost use Rattle.network.specs.Steps.Tables.{Keeps, HasNoOther};
 
 use crate::number_row::NumberRow;
@@ -128,4 +128,17 @@ impl Numbering {
         self.spots.push(Spot { place, element })?;
         Ok(number)
     }
+}
+
+/// The places with their positions, from the last one on: so that each row gets its room at once.
+pub fn index_of(alloc: Global, places: &[Place]) -> Result<Numbering, AllocError>
+    ensures { IfOk result (λ index. IsIndex places.now index) }
+{
+    let mut index = Numbering::with_capacity(alloc, places.len())?;
+    let mut k = places.len();
+    while k > 0 {
+        k -= 1;
+        index.number(places[k], k)?;
+    }
+    Ok(index)
 }

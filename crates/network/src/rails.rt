@@ -1,9 +1,11 @@
-ghost use Rattle.std.specs.Prelude.{IfOk};
+ghost use Rattle.std.specs.Prelude.{◌≡◌, ◌↔◌, IfOk, IsTrue, Contains};
 ghost use Rattle.drawings.specs.Picture.{IsSound};
 ghost use Rattle.network.specs.Networks.{AreLeftRails};
 
+use crate::numbering::{Numbering, index_of};
 use drawings::{Drawing, Mark, Place};
 use std::alloc::{AllocError, Global};
+use std::marker::Model;
 
 /// The places of the left rail, by row.
 pub fn rails_of(alloc: Global, drawing: &Drawing) -> Result<Vec<Place>, AllocError>
@@ -18,4 +20,39 @@ pub fn rails_of(alloc: Global, drawing: &Drawing) -> Result<Vec<Place>, AllocErr
         }
     }
     Ok(rails)
+}
+
+/// The places of the left rail, found by row and column.
+#[derive(Drop)]
+pub struct Rails<'a> {
+    places: &'a [Place],
+    index: Numbering,
+}
+
+impl<'a> Model for Rails<'a> {
+    ghost use Rattle.std.specs.Prelude.{List};
+    ghost use Rattle.drawings.specs.declared.place.Place.{Place};
+    ghost use Rattle.network.specs.Steps.Numbers.{IsIndex};
+
+    ghost Value = { List Place };
+
+    ghost view = { λ r. r.places.now };
+
+    ghost invariant = { λ r. IsIndex r.places.now r.index };
+}
+
+impl<'a> Rails<'a> {
+    pub fn new(alloc: Global, places: &'a [Place]) -> Result<Self, AllocError>
+        ensures { IfOk result (λ r. r ≡ places.now) }
+    {
+        let index = index_of(alloc, places)?;
+        Ok(Rails { places, index })
+    }
+
+    /// Whether the left rail stands at a place.
+    pub fn has(&self, place: Place) -> bool
+        ensures { IsTrue result ↔ Contains self.now place }
+    {
+        self.index.find(place).is_some()
+    }
 }

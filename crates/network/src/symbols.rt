@@ -4,13 +4,14 @@ ghost use Rattle.drawings.specs.Picture.{IsSound, mark_at};
 ghost use Rattle.drawings.specs.declared.mark.Mark.TheVariants.{ContactPart, CoilPart, BoxPart};
 ghost use Rattle.network.specs.Links.{place};
 ghost use Rattle.network.specs.Networks.{IsElementOf};
-ghost use Rattle.network.specs.Steps.Listing.{IsIndex, IsTheElementAt, IsNoElementAt};
-ghost use Rattle.network.specs.Steps.Symbols.{contact_places, coil_places, box_places, AreSymbols, IsInside, AllElsewhere, IsNumberOf, is_contact_at, is_coil_at, BeginNowhereInside};
+ghost use Rattle.network.specs.Steps.Listing.{IsTheElementAt, IsNoElementAt};
+ghost use Rattle.network.specs.Steps.Numbers.{IsIndex};
+ghost use Rattle.network.specs.Steps.Symbols.{contact_places, coil_places, box_places, AreSymbols, IsInside, TellsNumber, is_contact_at, is_coil_at, BeginNowhereInside};
 
 use crate::copies::{copy_box, copy_coil, copy_contact};
 use crate::element::Element;
 use crate::element_box::ElementBox;
-use crate::numbering::Numbering;
+use crate::numbering::{Numbering, index_of};
 use crate::symbol_rows::SymbolRows;
 use drawings::{Coil, Contact, Drawing, DrawnBox, Mark, Place};
 use std::alloc::{AllocError, Global};
@@ -21,19 +22,6 @@ pub struct Symbols {
     pub contacts: SymbolRows,
     pub coils: SymbolRows,
     pub boxes: Numbering,
-}
-
-/// The places with their positions, from the last one on: so that each row gets its room at once.
-pub fn index_of(alloc: Global, places: &[Place]) -> Result<Numbering, AllocError>
-    ensures { IfOk result (λ index. IsIndex places.now index) }
-{
-    let mut index = Numbering::with_capacity(alloc, places.len())?;
-    let mut k = places.len();
-    while k > 0 {
-        k -= 1;
-        index.number(places[k], k)?;
-    }
-    Ok(index)
 }
 
 fn box_places_of(alloc: Global, boxes: &[DrawnBox]) -> Result<Vec<Place>, AllocError>
@@ -112,7 +100,7 @@ fn contact_position(contacts: &[Contact], at: Place) -> Option<usize>
 
 /// The number of the contact that begins at a place. Contacts come by row and column, so the next one of the row is looked at first.
 fn contact_number(contacts: &[Contact], next: usize, at: Place) -> Option<usize>
-    ensures { MatchOption result (AllElsewhere (contact_places contacts.now) at) (IsNumberOf (contact_places contacts.now) at) }
+    ensures { TellsNumber (contact_places contacts.now) at result }
 {
     if next < contacts.len() && is_contact_at(&contacts[next], at) {
         return Some(next);
@@ -128,7 +116,7 @@ fn coil_position(coils: &[Coil], at: Place) -> Option<usize>
 
 /// The number of the coil that begins at a place. Coils come by row and column, so the next one of the row is looked at first.
 fn coil_number(coils: &[Coil], next: usize, at: Place) -> Option<usize>
-    ensures { MatchOption result (AllElsewhere (coil_places coils.now) at) (IsNumberOf (coil_places coils.now) at) }
+    ensures { TellsNumber (coil_places coils.now) at result }
 {
     if next < coils.len() && is_coil_at(&coils[next], at) {
         return Some(next);

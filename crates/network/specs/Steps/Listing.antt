@@ -3,15 +3,8 @@ use Rattle.std.specs.Prelude.{◌≡◌, ℕ, ◌<◌, List, Some, slice_get, Op
 use Rattle.drawings.specs.Picture.{Picture}
 use Rattle.drawings.specs.declared.place.Place.{Place}
 use Rattle.network.specs.declared.element.Element.{Element}
-use Rattle.network.specs.declared.numbering.Spot.{Spot}
-use Rattle.network.specs.Steps.Numbers.{IsSpot}
 use Rattle.network.specs.Apart.{first_place}
 use Rattle.network.specs.Networks.{IsElementOf, Precedes}
-
--- each of these places has its position as owner
-pub record IsIndex (places : List Place) (spots : List Spot) : Type 0 where
-  pub owned : (n : ℕ) (s : Spot) → slice_get spots n ≡ Some s → slice_get places s.element ≡ Some s.place
-  pub whole : (k : ℕ) (p : Place) → slice_get places k ≡ Some p → (n : ℕ) × IsSpot spots n p
 
 -- the elements of the drawing that begin before a place, by column and then row
 pub record AreElementsBefore (g : Picture) (at : Place) (elements : List Element) : Type 0 where

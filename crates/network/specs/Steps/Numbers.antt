@@ -34,3 +34,8 @@ IsNoSpot spots place = (k : ℕ) → IsSpot spots k place → ⊥
 -- the place belongs to the element
 abbrev pub IsOwner : List Spot → Place → ℕ → Type 0
 IsOwner spots place element = (k : ℕ) × (slice_get spots k ≡ Some (spot place element))
+
+-- each of these places has its position as owner
+pub record IsIndex (places : List Place) (spots : List Spot) : Type 0 where
+  pub owned : (n : ℕ) (s : Spot) → slice_get spots n ≡ Some s → slice_get places s.element ≡ Some s.place
+  pub whole : (k : ℕ) (p : Place) → slice_get places k ≡ Some p → (n : ℕ) × IsSpot spots n p

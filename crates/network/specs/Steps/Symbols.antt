@@ -1,5 +1,5 @@
 -- Symbols and boxes by the place where they begin.
-use Rattle.std.specs.Prelude.{◌≡◌, ◌&&◌, Bool, nat_eq, ℕ, ◌+◌, ◌<◌, ◌≤◌, List, Some, slice_get, map}
+use Rattle.std.specs.Prelude.{◌≡◌, ◌&&◌, Bool, nat_eq, ℕ, ◌+◌, ◌<◌, ◌≤◌, List, Option, Some, MatchOption, slice_get, map}
 use Rattle.drawings.specs.Picture.{Picture}
 use Rattle.drawings.specs.declared.place.Place.{Place}
 use Rattle.drawings.specs.declared.contact.Contact.{Contact}
@@ -8,7 +8,8 @@ use Rattle.drawings.specs.declared.drawn_box.DrawnBox.{DrawnBox}
 use Rattle.network.specs.declared.symbol_rows.SymbolRow.{SymbolRow}
 use Rattle.network.specs.declared.symbols.Symbols.{Symbols}
 use Rattle.network.specs.Links.{place}
-use Rattle.network.specs.Steps.Listing.{IsIndex, IsNoElementAt}
+use Rattle.network.specs.Steps.Numbers.{IsIndex}
+use Rattle.network.specs.Steps.Listing.{IsNoElementAt}
 
 abbrev pub contact_places : List Contact → List Place
 contact_places contacts = map (λ (c : Contact). place c.row c.column) contacts
@@ -45,6 +46,10 @@ AllElsewhere places p = (k : ℕ) → slice_get places k ≡ Some p → ⊥
 -- k is the number of a place
 abbrev pub IsNumberOf : List Place → Place → ℕ → Type 0
 IsNumberOf places p k = slice_get places k ≡ Some p
+
+-- the answer is a number of p among the places, and None only where p is none of them
+abbrev pub TellsNumber : List Place → Place → Option ℕ → Type 0
+TellsNumber places p answer = MatchOption answer (AllElsewhere places p) (IsNumberOf places p)
 
 -- no element begins inside a contact or coil that was found, and boxes are found by their corners
 pub record AreSymbols (g : Picture) (symbols : Symbols) : Type 0 where

@@ -1,8 +1,8 @@
 use Rattle.std.proofs.Common.{get_or, ◌<◌, length, ◌-◌, arith}
 use Rattle.std.proofs.lemmas.Option.{slice_get-get_or}
 use Rattle.drawings.specs.declared.place.Place.{Place}
-use Rattle.network.proofs.SymbolLemmas.{index_none, index_before, index_all}
-use Rattle.network.proofs.symbols.index_of.Goals as goal
+use Rattle.network.proofs.Spots.{index_none, index_before, index_all}
+use Rattle.network.proofs.numbering.index_of.Goals as goal
 
 pub loop-k-init : goal.loop-k-init
 loop-k-init c = (omega arith, index_none c.args.places.now c.in_ok-index.index c.in_ok-index.ensures)

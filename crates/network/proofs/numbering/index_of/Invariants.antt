@@ -1,6 +1,6 @@
 use Rattle.std.proofs.Common.{◌≤◌, length}
-use Rattle.network.proofs.SymbolLemmas.{IndexFrom}
-use Rattle.network.proofs.symbols.index_of.Given as goal
+use Rattle.network.proofs.Spots.{IndexFrom}
+use Rattle.network.proofs.numbering.index_of.Given as goal
 
 abbrev pub invariant-loop-k : goal.invariant-loop-k
 invariant-loop-k l = (l.k ≤ length l.places) × IndexFrom l.places l.index l.k
