@@ -5,7 +5,7 @@ use Rattle.std.proofs.lemmas.Option.{slice_get_within}
 use Rattle.lists.proofs.Places.{push_cases}
 use Rattle.lists.proofs.Members.{contains_at, at_contains}
 use Rattle.drawings.specs.declared.place.Place.{Place}
-use Rattle.network.specs.declared.numbering.Spot.{Spot}
+use Rattle.network.specs.declared.places.numbering.Spot.{Spot}
 use Rattle.network.specs.Steps.Numbers.{AreNumbers, IsIndex, IsSpot, KeepsNumbers, number_at}
 use Rattle.network.proofs.Basics.{one_at}
 

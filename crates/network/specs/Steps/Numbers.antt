@@ -1,7 +1,7 @@
 -- The numbers of places.
 use Rattle.std.specs.Prelude.{◌≡◌, ◌≢◌, ℕ, List, Option, Some, None, slice_get}
 use Rattle.drawings.specs.declared.place.Place.{Place}
-use Rattle.network.specs.declared.numbering.Spot.{Spot}
+use Rattle.network.specs.declared.places.numbering.Spot.{Spot}
 
 -- the place p has the number k
 abbrev pub IsSpot : List Spot → ℕ → Place → Type 0

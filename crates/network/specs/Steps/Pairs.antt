@@ -6,8 +6,8 @@ use Rattle.drawings.specs.declared.drawn_box.DrawnBox.{DrawnBox}
 use Rattle.drawings.specs.declared.drawn_box.Side.TheVariants.{Left, Right}
 use Rattle.network.specs.declared.element.Element.{Element}
 use Rattle.network.specs.declared.element.Element.TheVariants.{Wire, Join, Upright, Contact, Coil, Box}
-use Rattle.network.specs.declared.labels.Pair.{Pair}
-use Rattle.network.specs.declared.row_table.InRow.{InRow}
+use Rattle.network.specs.declared.joining.labels.Pair.{Pair}
+use Rattle.network.specs.declared.joining.row_table.InRow.{InRow}
 use Rattle.network.specs.Links.{place, Gives, Takes, Stands, IsPinPlace}
 use Rattle.network.specs.Apart.{first_place, Has, Precedes}
 use Rattle.network.specs.Networks.{AreLinked, Chained}

@@ -3,8 +3,8 @@ use Rattle.std.specs.Prelude.{◌≡◌, ◌+◌, ◌<◌, ◌≤◌, ℕ, List,
 use Rattle.drawings.specs.Picture.{Picture, IsSound}
 use Rattle.drawings.specs.declared.place.Place.{Place}
 use Rattle.network.specs.declared.element.Element.{Element}
-use Rattle.network.specs.declared.ranks.Top.{Top}
-use Rattle.network.specs.declared.row_table.InRow.{InRow}
+use Rattle.network.specs.declared.order.ranks.Top.{Top}
+use Rattle.network.specs.declared.joining.row_table.InRow.{InRow}
 use Rattle.network.specs.Apart.{first_place}
 use Rattle.network.specs.Steps.Listing.{AreElementsOf}
 use Rattle.network.specs.Steps.Pairs.{AreTakers, AreLabels}

@@ -1,7 +1,7 @@
 -- Places of elements by their rows.
 use Rattle.std.specs.Prelude.{◌≡◌, ℕ, ◌⊎◌, List, Option, Some, slice_get}
 use Rattle.drawings.specs.declared.place.Place.{Place}
-use Rattle.network.specs.declared.row_table.InRow.{InRow}
+use Rattle.network.specs.declared.joining.row_table.InRow.{InRow}
 use Rattle.network.specs.Links.{place}
 
 abbrev pub in_row : ℕ → ℕ → InRow

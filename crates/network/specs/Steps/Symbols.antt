@@ -5,8 +5,8 @@ use Rattle.drawings.specs.declared.place.Place.{Place}
 use Rattle.drawings.specs.declared.contact.Contact.{Contact}
 use Rattle.drawings.specs.declared.coil.Coil.{Coil}
 use Rattle.drawings.specs.declared.drawn_box.DrawnBox.{DrawnBox}
-use Rattle.network.specs.declared.symbol_rows.SymbolRow.{SymbolRow}
-use Rattle.network.specs.declared.symbols.Symbols.{Symbols}
+use Rattle.network.specs.declared.listing.symbol_rows.SymbolRow.{SymbolRow}
+use Rattle.network.specs.declared.listing.symbols.Symbols.{Symbols}
 use Rattle.network.specs.Links.{place}
 use Rattle.network.specs.Steps.Numbers.{IsIndex}
 use Rattle.network.specs.Steps.Listing.{IsNoElementAt}
