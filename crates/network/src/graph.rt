@@ -33,14 +33,14 @@ impl Graph {
     ghost use Rattle.std.specs.Prelude.{◌≡◌, ◌≢◌, ◌↔◌, ◌+◌, IsTrue, Any, IfOk, IfErr};
     ghost use Rattle.network.specs.GraphValue.{IsSoundGraph};
     ghost use Rattle.drawings.specs.declared.place.Place.{Place};
-    ghost use Rattle.network.specs.Networks.{AreNetworks, IsFaultless, IsFirstFault, HasPlaceUnlessMemory};
+    ghost use Rattle.network.specs.Networks.{AreNetworks, HasFaultlessNetworks, IsFirstGraphFault, HasPlaceUnlessMemory};
 
     /// The networks of a drawing.
     ///
     /// Refuses a drawing with a network that doesn't meet the left rail or has more than 200 rows, or with two boxes of one name.
     pub fn build(alloc: Global, drawing: &Drawing) -> Result<Graph, GraphFault>
-        ensures ok { IfOk result (λ graph. AreNetworks drawing.now graph × IsFaultless drawing.now) }
-        ensures fault { IfErr result (IsFirstFault drawing.now) }
+        ensures ok { IfOk result (λ graph. AreNetworks drawing.now graph × HasFaultlessNetworks drawing.now) }
+        ensures fault { IfErr result (IsFirstGraphFault drawing.now) }
         ensures memory { IfErr result HasPlaceUnlessMemory }
     {
         let _rows = drawing.rows();

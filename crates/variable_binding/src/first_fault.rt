@@ -7,7 +7,7 @@ use network::Graph;
 impl BindFault {
     ghost use Rattle.std.specs.Prelude.{◌≡◌, ◌≢◌, All, IfSome, None};
     ghost use Rattle.variable_binding.specs.Binding.{IsBoundNetwork};
-    ghost use Rattle.variable_binding.specs.Findings.{IsFirstFault};
+    ghost use Rattle.variable_binding.specs.Findings.{IsFirstBindFault};
     ghost use Rattle.variable_binding.specs.Steps.Named.{AreNamed};
 
     /// The first fault of the names of a graph, by its kind and then by its place; None where nothing is wrong.
@@ -15,7 +15,7 @@ impl BindFault {
         ensures bound { result ≡ None → All (IsBoundNetwork declarations.now) graph.now.networks }
         ensures named { result ≡ None → All (AreNamed declarations.now) graph.now.networks }
         ensures only { IfSome result (λ fault. All (IsBoundNetwork declarations.now) graph.now.networks → ⊥) }
-        ensures first { IfSome result (IsFirstFault declarations.now graph.now) }
+        ensures first { IfSome result (IsFirstBindFault declarations.now graph.now) }
         ensures kind { IfSome result (λ fault. fault.kind ≢ BindKind.Memory) }
     {
         match first_finding(declarations, graph.networks()) {

@@ -10,13 +10,13 @@ use Rattle.std.proofs.lemmas.Option.{slice_get_within, slice_get-get_or, get_or_
 use Rattle.drawings.specs.declared.place.Place.{Place}
 use Rattle.drawings.specs.declared.drawn_box.DrawnBox.{DrawnBox}
 use Rattle.network.specs.Links.{place}
-use Rattle.network.specs.Networks.{IsBefore}
-use Rattle.network.specs.Steps.Corners.{IsCornerOf, AreFirstCorners, IsEarlier, TakesCorner}
+use Rattle.network.specs.Networks.{PrecedesByRow}
+use Rattle.network.specs.Steps.Corners.{IsCornerOf, AreFirstCorners, IsEarlierCorner, TakesCorner}
 use Rattle.network.proofs.Basics.{some_is, one_at}
 use Rattle.network.proofs.Sought.FoundLemmas.{before_self, before_then}
 
 -- what a place is not before comes no later
-no_later : (q p r : Place) → IsBefore q r → (IsBefore q p → ⊥) → IsBefore p r
+no_later : (q p r : Place) → PrecedesByRow q r → (PrecedesByRow q p → ⊥) → PrecedesByRow p r
 no_later q p r before not = elim (cases_lt p.row r.row) [
   | inl lt ↦ inl lt
   | inr far ↦ elim before [
@@ -32,12 +32,12 @@ no_later q p r before not = elim (cases_lt p.row r.row) [
 ]
 
 -- the earlier of two places is after neither
-not_after_other : (known : Option Place) (corner p : Place) → IsEarlier known corner p → IsBefore corner p → ⊥
+not_after_other : (known : Option Place) (corner p : Place) → IsEarlierCorner known corner p → PrecedesByRow corner p → ⊥
 not_after_other None corner p e b = before_self corner (rw e at b)
 not_after_other (Some k) corner p (inl h) b = before_self corner (before_then corner k corner (rw h.1 at b) h.0)
 not_after_other (Some k) corner p (inr h) b = before_self corner (rw h.1 at b)
 
-not_after_known : (known : Option Place) (corner k p q : Place) → known ≡ Some k → IsEarlier known corner p → (IsBefore q k → ⊥) → IsBefore q p → ⊥
+not_after_known : (known : Option Place) (corner k p q : Place) → known ≡ Some k → IsEarlierCorner known corner p → (PrecedesByRow q k → ⊥) → PrecedesByRow q p → ⊥
 not_after_known None corner k p q e is not b = absurd (cc)
 not_after_known (Some j) corner k p q e (inl h) not b = not (rw (h.1, some_is j k e) at b)
 not_after_known (Some j) corner k p q e (inr h) not b = h.0 (rw (← some_is j k e) at (no_later q k corner (rw h.1 at b) not))
@@ -52,7 +52,7 @@ name_cases x y = go (bytes_eq x y) refl
 
 -- a map in which one name was set takes its corner
 pub takes_from : (old new : BTreeMap (String Global) Place) (name : List ℕ) (corner p : Place) (known : Option Place)
-    → ((other : List ℕ) → get_by_text new other ≡ update bytes_eq (get_by_text old) name (Some p) other) → known ≡ get_by_text old name → IsEarlier known corner p → TakesCorner old name corner new
+    → ((other : List ℕ) → get_by_text new other ≡ update bytes_eq (get_by_text old) name (Some p) other) → known ≡ get_by_text old name → IsEarlierCorner known corner p → TakesCorner old name corner new
 takes_from old new name corner p known sets is earlier = record {
   here = (p, sets name ∙ ap (λ b. cond b (Some p) (get_by_text old name)) ((bytes_eq-Decides name name).1 refl), rw is at earlier);
   others = λ other differs. sets other
@@ -68,7 +68,7 @@ module _ (boxes : List DrawnBox) (old new : BTreeMap (String Global) Place) (n :
   abbrev own : List ℕ
   own = str_to_ascii_lowercase b.instance
 
-  there_own : (p : Place) (known : Option Place) → get_by_text old own ≡ known → IsEarlier known (place b.top b.left) p → IsCornerOf boxes (n + 1) own p
+  there_own : (p : Place) (known : Option Place) → get_by_text old own ≡ known → IsEarlierCorner known (place b.top b.left) p → IsCornerOf boxes (n + 1) own p
   there_own p None was e = (n, b, omega arith, at, refl, sym e)
   there_own p (Some k) was (inl h) = more own p (rw h.1 (are.there own k was))
   there_own p (Some k) was (inr h) = (n, b, omega arith, at, refl, sym h.1)
@@ -82,22 +82,22 @@ module _ (boxes : List DrawnBox) (old new : BTreeMap (String Global) Place) (n :
   ]
 
   -- a corner that was there, under this box's name and under another one
-  first_own : (q : Place) → IsCornerOf boxes n own q → (p : Place) × (get_by_text new own ≡ Some p) × (IsBefore q p → ⊥)
+  first_own : (q : Place) → IsCornerOf boxes n own q → (p : Place) × (get_by_text new own ≡ Some p) × (PrecedesByRow q p → ⊥)
   first_own q was =
       let known = are.first own q was in
       (takes.here.0, takes.here.1, not_after_known (get_by_text old own) (place b.top b.left) known.0 takes.here.0 q known.1 takes.here.2 known.2)
 
-  first_old : (name : List ℕ) (q : Place) → IsCornerOf boxes n name q → (p : Place) × (get_by_text new name ≡ Some p) × (IsBefore q p → ⊥)
+  first_old : (name : List ℕ) (q : Place) → IsCornerOf boxes n name q → (p : Place) × (get_by_text new name ≡ Some p) × (PrecedesByRow q p → ⊥)
   first_old name q was = elim (name_cases name own) [
     | inl same ↦ rw same (first_own q (rw same at was))
     | inr other ↦ (let known = are.first name q was in (known.0, takes.others name other ∙ known.1, known.2))
   ]
 
-  first_here : (name : List ℕ) (q : Place) → own ≡ name → place b.top b.left ≡ q → (p : Place) × (get_by_text new name ≡ Some p) × (IsBefore q p → ⊥)
+  first_here : (name : List ℕ) (q : Place) → own ≡ name → place b.top b.left ≡ q → (p : Place) × (get_by_text new name ≡ Some p) × (PrecedesByRow q p → ⊥)
   first_here name q same corner = rw (← same, ← corner)
       (takes.here.0, takes.here.1, not_after_other (get_by_text old own) (place b.top b.left) takes.here.0 takes.here.2)
 
-  first_new : (name : List ℕ) (q : Place) → IsCornerOf boxes (n + 1) name q → (p : Place) × (get_by_text new name ≡ Some p) × (IsBefore q p → ⊥)
+  first_new : (name : List ℕ) (q : Place) → IsCornerOf boxes (n + 1) name q → (p : Place) × (get_by_text new name ≡ Some p) × (PrecedesByRow q p → ⊥)
   first_new name q h = elim (cases_eq h.0 n) [
     | inl e ↦
         (let one : h.1 ≡ b = one_at boxes h.0 n h.1 b e h.3 at in
@@ -121,9 +121,9 @@ corners_none boxes corners empty = record {
 -- an earlier box has the name exactly where the first corner of the name is earlier
 module _ (boxes : List DrawnBox) (corners : BTreeMap (String Global) Place) (are : AreFirstCorners boxes corners (length boxes)) (c : DrawnBox) where
   abbrev IsEarlierBox : DrawnBox → Type 0
-  IsEarlierBox b = IsBefore (place b.top b.left) (place c.top c.left) × IsTrue (str_eq_ignore_ascii_case b.instance c.instance)
+  IsEarlierBox b = PrecedesByRow (place b.top b.left) (place c.top c.left) × IsTrue (str_eq_ignore_ascii_case b.instance c.instance)
 
-  pub twice_from : (known : Option Place) → get_by_text corners (str_to_ascii_lowercase c.instance) ≡ known → IsSomeAnd known (λ p. IsBefore p (place c.top c.left)) → Any IsEarlierBox boxes
+  pub twice_from : (known : Option Place) → get_by_text corners (str_to_ascii_lowercase c.instance) ≡ known → IsSomeAnd known (λ p. PrecedesByRow p (place c.top c.left)) → Any IsEarlierBox boxes
   twice_from None was h = absurd h
   twice_from (Some p) was h =
       let w = are.there (str_to_ascii_lowercase c.instance) p was in (
@@ -131,10 +131,10 @@ module _ (boxes : List DrawnBox) (corners : BTreeMap (String Global) Place) (are
         w.1,
         slice_get_within boxes w.0 w.1 w.3,
         get_or_from_slice_get boxes w.0 w.1 w.1 w.3,
-        (subst (λ (x : Place). IsBefore x (place c.top c.left)) (sym w.5) h, (bytes_eq-Decides (str_to_ascii_lowercase w.1.instance) (str_to_ascii_lowercase c.instance)).1 w.4),
+        (subst (λ (x : Place). PrecedesByRow x (place c.top c.left)) (sym w.5) h, (bytes_eq-Decides (str_to_ascii_lowercase w.1.instance) (str_to_ascii_lowercase c.instance)).1 w.4),
       )
 
-  pub twice_known : Any IsEarlierBox boxes → IsSomeAnd (get_by_text corners (str_to_ascii_lowercase c.instance)) (λ p. IsBefore p (place c.top c.left))
+  pub twice_known : Any IsEarlierBox boxes → IsSomeAnd (get_by_text corners (str_to_ascii_lowercase c.instance)) (λ p. PrecedesByRow p (place c.top c.left))
   twice_known any =
       let b = any.1 in
       let at : slice_get boxes any.0 ≡ Some b = slice_get-get_or boxes any.0 b any.2 ∙ ap Some any.3 in

@@ -11,39 +11,39 @@ use Rattle.drawings.specs.declared.drawn_box.DrawnBox.{DrawnBox}
 use Rattle.network.specs.declared.element.Element.{Element}
 use Rattle.network.specs.Links.{place}
 use Rattle.network.specs.Apart.{first_place}
-use Rattle.network.specs.Networks.{IsBefore, lowest_row}
-use Rattle.network.specs.Steps.Ranks.{ArePlaces, IsUnmetAt, IsTall, IsTallAt, IsFirstOf}
+use Rattle.network.specs.Networks.{PrecedesByRow, lowest_row}
+use Rattle.network.specs.Steps.Ranks.{ArePlaces, IsUnmetAt, IsTall, IsTallAt, IsFirstPlaceOf}
 use Rattle.network.specs.Steps.Twice.{IsTwiceIn}
 use Rattle.network.proofs.Basics.{one_at}
 
 -- the first of the first n places
 pub record FirstTo (places : List Place) (least : Place) (n : ℕ) : Type 0 where
   pub there : Contains places least
-  pub first : (k : ℕ) (q : Place) → k < n → slice_get places k ≡ Some q → IsBefore q least → ⊥
+  pub first : (k : ℕ) (q : Place) → k < n → slice_get places k ≡ Some q → PrecedesByRow q least → ⊥
 
-pub before_self : (p : Place) → IsBefore p p → ⊥
+pub before_self : (p : Place) → PrecedesByRow p p → ⊥
 before_self p (inl h) = omega arith
 before_self p (inr h) = let c = h.1 in omega arith
 
-pub before_then : (p q r : Place) → IsBefore p q → IsBefore q r → IsBefore p r
+pub before_then : (p q r : Place) → PrecedesByRow p q → PrecedesByRow q r → PrecedesByRow p r
 before_then p q r (inl a) (inl b) = inl (omega arith)
 before_then p q r (inl a) (inr b) = inl (let e = b.0 in omega arith)
 before_then p q r (inr a) (inl b) = inl (let e = a.0 in omega arith)
 before_then p q r (inr a) (inr b) = inr (a.0 ∙ b.0, (let c = a.1 in let d = b.1 in omega arith))
 
-pub first_kept : (places : List Place) (first : Place) (n : ℕ) (p : Place) → slice_get places n ≡ Some p → (IsBefore p first → ⊥) → FirstTo places first n → FirstTo places first (n + 1)
+pub first_kept : (places : List Place) (first : Place) (n : ℕ) (p : Place) → slice_get places n ≡ Some p → (PrecedesByRow p first → ⊥) → FirstTo places first n → FirstTo places first (n + 1)
 first_kept places first n p at later done = record {
   there = done.there;
   first = λ k q lt at' b. elim (cases_eq k n) [ inl e ↦ later (rw (one_at places k n q p e at' at) at b) | inr ne ↦ done.first k q (omega arith) at' b ];
 }
 
-pub first_new : (places : List Place) (first : Place) (n : ℕ) (p : Place) → slice_get places n ≡ Some p → IsBefore p first → FirstTo places first n → FirstTo places p (n + 1)
+pub first_new : (places : List Place) (first : Place) (n : ℕ) (p : Place) → slice_get places n ≡ Some p → PrecedesByRow p first → FirstTo places first n → FirstTo places p (n + 1)
 first_new places first n p at earlier done = record {
   there = contains_at places n p at;
   first = λ k q lt at' b. elim (cases_eq k n) [ inl e ↦ before_self p (rw (one_at places k n q p e at' at) at b) | inr ne ↦ done.first k q (omega arith) at' (before_then q p first b earlier) ];
 }
 
-pub first_all : (places : List Place) (first : Place) (n : ℕ) → length places ≤ n → FirstTo places first n → IsFirstOf places first
+pub first_all : (places : List Place) (first : Place) (n : ℕ) → length places ≤ n → FirstTo places first n → IsFirstPlaceOf places first
 first_all places first n all done = record {
   there = done.there;
   first = λ q in' b. (let w = at_contains places q in' in done.first w.0 q (let lt = slice_get_within places w.0 q w.1 in omega arith) w.1 b);
@@ -84,18 +84,18 @@ module _ (boxes : List DrawnBox) (n : ℕ) (c : DrawnBox) (at : slice_get boxes 
   twice_up : (q : Place) → IsTwiceIn boxes n q → IsTwiceIn boxes (n + 1) q
   twice_up q h = (h.0, h.1, (let lt = h.2 in omega arith), h.3, h.4, h.5)
 
-  pub twice_skip : (places : List Place) → (Any (λ b. IsBefore (place b.top b.left) (place c.top c.left) × IsTrue (str_eq_ignore_ascii_case b.instance c.instance)) boxes → ⊥)
+  pub twice_skip : (places : List Place) → (Any (λ b. PrecedesByRow (place b.top b.left) (place c.top c.left) × IsTrue (str_eq_ignore_ascii_case b.instance c.instance)) boxes → ⊥)
       → ArePlaces (IsTwiceIn boxes n) places → ArePlaces (IsTwiceIn boxes (n + 1)) places
   twice_skip places other are = places_same (IsTwiceIn boxes n) (IsTwiceIn boxes (n + 1)) places twice_up (λ q h. elim (cases_eq h.0 n) [
     | inl e ↦ absurd (other (moved h.1 (one_at boxes h.0 n h.1 c e h.3 at) h.4))
     | inr ne ↦ (h.0, h.1, (let lt = h.2 in omega arith), h.3, h.4, h.5)
   ]) are
     where
-      moved : (x : DrawnBox) → x ≡ c → Any (λ b. IsBefore (place b.top b.left) (place x.top x.left) × IsTrue (str_eq_ignore_ascii_case b.instance x.instance)) boxes
-          → Any (λ b. IsBefore (place b.top b.left) (place c.top c.left) × IsTrue (str_eq_ignore_ascii_case b.instance c.instance)) boxes
+      moved : (x : DrawnBox) → x ≡ c → Any (λ b. PrecedesByRow (place b.top b.left) (place x.top x.left) × IsTrue (str_eq_ignore_ascii_case b.instance x.instance)) boxes
+          → Any (λ b. PrecedesByRow (place b.top b.left) (place c.top c.left) × IsTrue (str_eq_ignore_ascii_case b.instance c.instance)) boxes
       moved x e h = rw (← e) h
 
-  pub twice_more : (places : List Place) → Any (λ b. IsBefore (place b.top b.left) (place c.top c.left) × IsTrue (str_eq_ignore_ascii_case b.instance c.instance)) boxes
+  pub twice_more : (places : List Place) → Any (λ b. PrecedesByRow (place b.top b.left) (place c.top c.left) × IsTrue (str_eq_ignore_ascii_case b.instance c.instance)) boxes
       → ArePlaces (IsTwiceIn boxes n) places → ArePlaces (IsTwiceIn boxes (n + 1)) (places ++ place c.top c.left ∷ [])
   twice_more places earlier are = places_push (IsTwiceIn boxes n) (IsTwiceIn boxes (n + 1)) places (place c.top c.left) (n, c, omega arith, at, earlier, refl) twice_up (λ q h. elim (cases_eq h.0 n) [
     | inl same ↦ inr (sym h.5 ∙ ap (λ (b : DrawnBox). place b.top b.left) (one_at boxes h.0 n h.1 c same h.3 at))

@@ -8,7 +8,7 @@ use Rattle.network.specs.declared.joining.row_table.InRow.{InRow}
 use Rattle.network.specs.Apart.{first_place}
 use Rattle.network.specs.Steps.Listing.{AreElementsOf}
 use Rattle.network.specs.Steps.Pairs.{AreTakers, AreLabels}
-use Rattle.network.specs.Networks.{IsTop, MeetsAt, IsBefore, AreLeftRails, lowest_row}
+use Rattle.network.specs.Networks.{IsTop, MeetsAt, PrecedesByRow, AreLeftRails, lowest_row}
 
 -- the labels of the networks that meet the rail, by the topmost row at which each does
 pub record AreTops (g : Picture) (elements : List Element) (labels : List ℕ) (tops : List Top) : Type 0 where
@@ -85,9 +85,9 @@ abbrev pub IsTallAt : List (List Element) → ℕ → Place → Type 0
 IsTallAt networks n p = (m : ℕ) × (es : List Element) × (i : ℕ) × (e : Element) × (m < n) × (slice_get networks m ≡ Some es) × IsTall es × (slice_get es i ≡ Some e) × (first_place e ≡ p)
 
 -- the first of places, by row and then column
-pub record IsFirstOf (places : List Place) (p : Place) : Type 0 where
+pub record IsFirstPlaceOf (places : List Place) (p : Place) : Type 0 where
   pub there : Contains places p
-  pub first : (q : Place) → Contains places q → IsBefore q p → ⊥
+  pub first : (q : Place) → Contains places q → PrecedesByRow q p → ⊥
 
 -- the element stands at the end of the network of its rank, if it has one
 abbrev pub IsPut : List (List Element) → Option ℕ → Element → List (List Element) → Type 0

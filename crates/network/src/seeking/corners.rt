@@ -2,8 +2,8 @@ ghost use Rattle.std.specs.Prelude.{◌≡◌, ℕ, Some, IfOk, OnOk, IsTrue, Is
 ghost use Rattle.std.specs.BTreeMap.{get_by_text};
 ghost use Rattle.std.specs.Str.{str_to_ascii_lowercase};
 ghost use Rattle.network.specs.Links.{place};
-ghost use Rattle.network.specs.Networks.{IsBefore};
-ghost use Rattle.network.specs.Steps.Corners.{AreFirstCorners, IsEarlier, TakesBox, HasEarlier};
+ghost use Rattle.network.specs.Networks.{PrecedesByRow};
+ghost use Rattle.network.specs.Steps.Corners.{AreFirstCorners, IsEarlierCorner, TakesBox, HasEarlier};
 
 use crate::seeking::first_place::is_before;
 use drawings::{DrawnBox, Place};
@@ -34,7 +34,7 @@ fn key_of(alloc: Global, drawn: &DrawnBox) -> Result<String, AllocError>
 
 /// The earlier of a corner that may be known and another one.
 fn earlier(known: Option<Place>, corner: Place) -> Place
-    ensures { IsEarlier known corner result }
+    ensures { IsEarlierCorner known corner result }
 {
     match known {
         Some(first) if is_before(first, corner) => first,

@@ -239,5 +239,5 @@ unfoldable pub box_findings : List Declaration → List Element → DrawnBox →
 box_findings ds elements b = corner_findings ds b ++ pins_findings ds elements b 0 b.pins
 
 -- nothing was found wrong with a box
-abbrev pub IsFaultless : List Declaration → List Element → DrawnBox → Type 0
-IsFaultless ds elements b = All (λ o. o ≡ None) (box_findings ds elements b)
+abbrev pub IsFaultlessBox : List Declaration → List Element → DrawnBox → Type 0
+IsFaultlessBox ds elements b = All (λ o. o ≡ None) (box_findings ds elements b)

@@ -39,13 +39,13 @@ abbrev pub AreInRange : DrawnBox → Type 0
 AreInRange b = (pin : DrawnPin) (o : Operand) → Contains b.pins pin → pin.operand ≡ Some o → IsInRange o.text
 
 -- a variable of this kind is declared by the name
-abbrev pub IsVariableAt : List Declaration → List ℕ → Kind → Type 0
-IsVariableAt ds name k = (w : Declared) × (declared_at ds name ≡ Some w) × IsVariable w k
+abbrev pub IsDeclaredVariable : List Declaration → List ℕ → Kind → Type 0
+IsDeclaredVariable ds name k = (w : Declared) × (declared_at ds name ≡ Some w) × IsVariable w k
 
 -- what is stored at an operand goes to a variable of the pin's kind
 abbrev pub AreStored : List Declaration → DrawnBox → Type 0
 AreStored ds b = (pin : DrawnPin) (o : Operand) (field : Field) → Contains b.pins pin → pin.side ≡ Right → pin.operand ≡ Some o
-    → pin_of b.block pin.name ≡ Some (output field) → IsVariableAt ds o.text (field_kind field)
+    → pin_of b.block pin.name ≡ Some (output field) → IsDeclaredVariable ds o.text (field_kind field)
 
 -- the facts that the table of a box needs
 pub record IsNamedBox (ds : List Declaration) (b : DrawnBox) : Type 0 where
@@ -58,4 +58,4 @@ pub record IsNamedBox (ds : List Declaration) (b : DrawnBox) : Type 0 where
 -- the facts that a scan of a network needs
 pub record AreNamed (ds : List Declaration) (elements : List Element) : Type 0 where
   pub boxes : (b : DrawnBox) → Contains elements (Box b) → IsNamedBox ds b
-  pub coils : (c : DrawnCoil) → Contains elements (Coil c) → IsVariableAt ds c.name kind.Bool
+  pub coils : (c : DrawnCoil) → Contains elements (Coil c) → IsDeclaredVariable ds c.name kind.Bool
