@@ -2,4 +2,5 @@
 pub mod BoxFindings
 pub mod Earlier
 pub mod ElementFindings
+pub mod Guessing
 pub mod Named

@@ -111,9 +111,13 @@ abbrev pub store_fault_by : Option Kind → Option Value → Option BindKind →
 store_fault_by want (Some v) name = Some WrongKind
 store_fault_by want None name = name
 
+-- what is wrong with storing at a name
+abbrev pub stored_name_fault : List Declaration → Option Kind → List ℕ → Option BindKind
+stored_name_fault ds want text = store_name_fault want (is_dotted text) (declared_at ds (before_first is_dot text))
+
 -- what is wrong with storing at an operand
 unfoldable pub store_fault_at : List Declaration → Option Kind → List ℕ → Option BindKind
-store_fault_at ds want text = store_fault_by want (literal_value text) (store_name_fault want (is_dotted text) (declared_at ds (before_first is_dot text)))
+store_fault_at ds want text = store_fault_by want (literal_value text) (stored_name_fault ds want text)
 
 -- an operand on the left is read, on the right it stores
 abbrev pub operand_fault : List Declaration → Side → Option Kind → List ℕ → Option BindKind
