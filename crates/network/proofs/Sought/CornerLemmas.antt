@@ -1,8 +1,8 @@
 -- The first corner of each box's name, and the earlier of two places.
-use Rattle.std.proofs.Common.{◌≡◌, ℕ, ◌+◌, ◌⊎◌, inl, inr, List, [], ◌∷◌, Option, Some, None, Bool, true, false, cond, IsTrue, IsSomeAnd, Any, String, Global, slice_get, length, refl, sym, subst, ap, ◌∙◌, arith}
+use Rattle.std.proofs.Common.{◌≡◌, ℕ, ◌+◌, ◌⊎◌, inl, inr, List, [], ◌∷◌, Option, Some, None, Bool, true, false, cond, IsSomeAnd, Any, String, Global, slice_get, length, refl, sym, subst, ap, ◌∙◌, arith}
 use Rattle.std.specs.BTreeMap.{BTreeMap, get_by_text, is_at}
 use Rattle.std.specs.Map.{lookup, update}
-use Rattle.std.specs.Str.{bytes_eq, str_to_ascii_lowercase, str_eq_ignore_ascii_case}
+use Rattle.std.specs.Str.{bytes_eq, str_to_ascii_lowercase}
 use Rattle.std.proofs.lemmas.Bool.{cases_eq, cases_lt, false_from_ne_true}
 use Rattle.std.proofs.lemmas.Slice.Eq.{bytes_eq-Decides}
 use Rattle.std.proofs.lemmas.Map.Text.{text_cmp}
@@ -11,6 +11,7 @@ use Rattle.drawings.specs.declared.place.Place.{Place}
 use Rattle.drawings.specs.declared.drawn_box.DrawnBox.{DrawnBox}
 use Rattle.network.specs.Links.{place}
 use Rattle.network.specs.Networks.{PrecedesByRow}
+use Rattle.network.specs.Steps.Twice.{IsEarlierBox}
 use Rattle.network.specs.Steps.Corners.{IsCornerOf, AreFirstCorners, IsEarlierCorner, TakesCorner}
 use Rattle.network.proofs.Basics.{some_is, one_at}
 use Rattle.network.proofs.Sought.FoundLemmas.{before_self, before_then}
@@ -120,10 +121,7 @@ corners_none boxes corners empty = record {
 
 -- an earlier box has the name exactly where the first corner of the name is earlier
 module _ (boxes : List DrawnBox) (corners : BTreeMap (String Global) Place) (are : AreFirstCorners boxes corners (length boxes)) (c : DrawnBox) where
-  abbrev IsEarlierBox : DrawnBox → Type 0
-  IsEarlierBox b = PrecedesByRow (place b.top b.left) (place c.top c.left) × IsTrue (str_eq_ignore_ascii_case b.instance c.instance)
-
-  pub twice_from : (known : Option Place) → get_by_text corners (str_to_ascii_lowercase c.instance) ≡ known → IsSomeAnd known (λ p. PrecedesByRow p (place c.top c.left)) → Any IsEarlierBox boxes
+  pub twice_from : (known : Option Place) → get_by_text corners (str_to_ascii_lowercase c.instance) ≡ known → IsSomeAnd known (λ p. PrecedesByRow p (place c.top c.left)) → Any (IsEarlierBox c) boxes
   twice_from None was h = absurd h
   twice_from (Some p) was h =
       let w = are.there (str_to_ascii_lowercase c.instance) p was in (
@@ -134,7 +132,7 @@ module _ (boxes : List DrawnBox) (corners : BTreeMap (String Global) Place) (are
         (subst (λ (x : Place). PrecedesByRow x (place c.top c.left)) (sym w.5) h, (bytes_eq-Decides (str_to_ascii_lowercase w.1.instance) (str_to_ascii_lowercase c.instance)).1 w.4),
       )
 
-  pub twice_known : Any IsEarlierBox boxes → IsSomeAnd (get_by_text corners (str_to_ascii_lowercase c.instance)) (λ p. PrecedesByRow p (place c.top c.left))
+  pub twice_known : Any (IsEarlierBox c) boxes → IsSomeAnd (get_by_text corners (str_to_ascii_lowercase c.instance)) (λ p. PrecedesByRow p (place c.top c.left))
   twice_known any =
       let b = any.1 in
       let at : slice_get boxes any.0 ≡ Some b = slice_get-get_or boxes any.0 b any.2 ∙ ap Some any.3 in

@@ -11,7 +11,8 @@ pub record AreElementsBefore (g : Picture) (at : Place) (elements : List Element
   pub drawn : (k : ℕ) (e : Element) → slice_get elements k ≡ Some e → IsElementOf g e
   pub before : (k : ℕ) (e : Element) → slice_get elements k ≡ Some e → Precedes (first_place e) at
   pub whole : (e : Element) → IsElementOf g e → Precedes (first_place e) at → (k : ℕ) × (slice_get elements k ≡ Some e)
-  pub rising : (j k : ℕ) (e f : Element) → j < k → slice_get elements j ≡ Some e → slice_get elements k ≡ Some f → Precedes (first_place e) (first_place f)
+  pub rising : (j k : ℕ) (e f : Element) → j < k → slice_get elements j ≡ Some e → slice_get elements k ≡ Some f
+      → Precedes (first_place e) (first_place f)
 
 -- what was found, if anything, is added at the end
 abbrev pub AddsFound : Option Element → List Element → List Element → Type 0
@@ -30,4 +31,5 @@ IsNoElementAt g p = (f : Element) → IsElementOf g f → first_place f ≡ p �
 pub record AreElementsOf (g : Picture) (elements : List Element) : Type 0 where
   pub drawn : (k : ℕ) (e : Element) → slice_get elements k ≡ Some e → IsElementOf g e
   pub whole : (e : Element) → IsElementOf g e → (k : ℕ) × (slice_get elements k ≡ Some e)
-  pub rising : (j k : ℕ) (e f : Element) → j < k → slice_get elements j ≡ Some e → slice_get elements k ≡ Some f → Precedes (first_place e) (first_place f)
+  pub rising : (j k : ℕ) (e f : Element) → j < k → slice_get elements j ≡ Some e → slice_get elements k ≡ Some f
+      → Precedes (first_place e) (first_place f)

@@ -33,7 +33,8 @@ IsBehind first p = (p.row ≡ first.row) × (first.column < p.column) × (p.colu
 
 -- p is the second or third place of the symbol that was found last in its row
 abbrev pub IsInside : List SymbolRow → Place → Type 0
-IsInside rows p = (s : SymbolRow) × (slice_get rows p.row ≡ Some s) × (0 < s.column) × (s.column < p.column) × (p.column ≤ s.column + 2)
+IsInside rows p = (s : SymbolRow) × (slice_get rows p.row ≡ Some s) × (0 < s.column) × (s.column < p.column)
+    × (p.column ≤ s.column + 2)
 
 -- no element begins inside a symbol that was found
 abbrev pub BeginNowhereInside : Picture → List SymbolRow → Type 0

@@ -55,7 +55,8 @@ abbrev pub output_kind : Option Pin → Result (Option Kind) BindKind
 output_kind None = Err UnknownPin
 output_kind (Some pin) = if pin.left then Err UnknownPin else Ok (Some (field_kind pin.field))
 
--- the kind of the value at a name: that of a variable, or of an output after a dot. A block itself has none, and after a variable's name no dot may stand
+-- the kind of the value at a name: that of a variable, or of an output after a dot. A block itself has none,
+-- and after a variable's name no dot may stand
 abbrev pub declared_kind : Declared → List ℕ → Result (Option Kind) BindKind
 declared_kind (declared.Input k) [] = Ok (Some k)
 declared_kind (declared.Input k) (c ∷ pin) = Err WrongKind
@@ -83,7 +84,8 @@ read_name_fault (Some w) (Ok (Some k)) = if same_kind w k then None else Some Wr
 -- what is wrong with a literal where a kind is wanted: its kind, and only then its range
 abbrev pub literal_kind_fault : Option Kind → Kind → Bool → Option BindKind
 literal_kind_fault None k fits = None
-literal_kind_fault (Some w) k fits = if same_kind w k then (if fits then None else Some LiteralOutOfRange) else Some WrongKind
+literal_kind_fault (Some w) k fits =
+    if same_kind w k then (if fits then None else Some LiteralOutOfRange) else Some WrongKind
 
 abbrev pub literal_fault : Option Kind → Value → Option BindKind
 literal_fault want v = literal_kind_fault want (kind_of v) (in_range v)
@@ -190,7 +192,8 @@ pin_fault (Some field) twice = fault_if twice UnknownPin
 -- an operand that can't be read or stored at
 abbrev pub operand_finding : List Declaration → DrawnBox → DrawnPin → Option Operand → Option Finding
 operand_finding ds b pin None = None
-operand_finding ds b pin (Some o) = fault_here (operand_fault ds pin.side (kind_at (own_field b pin)) o.text) (place pin.row o.column)
+operand_finding ds b pin (Some o) =
+    fault_here (operand_fault ds pin.side (kind_at (own_field b pin)) o.text) (place pin.row o.column)
 
 -- a wire, a join or a symbol directly beside a side of the box on this row
 abbrev pub is_beside : DrawnBox → ℕ → Side → Element → Bool
@@ -236,7 +239,8 @@ corner_findings ds b =
 -- the faults of the first n pins
 abbrev pub pins_findings : List Declaration → List Element → DrawnBox → ℕ → List DrawnPin → List (Option Finding)
 pins_findings ds elements b k [] = []
-pins_findings ds elements b k (pin ∷ pins) = pin_findings ds elements b k pin ++ pins_findings ds elements b (k + 1) pins
+pins_findings ds elements b k (pin ∷ pins) =
+    pin_findings ds elements b k pin ++ pins_findings ds elements b (k + 1) pins
 
 -- the faults of a box, each with its kind and place
 unfoldable pub box_findings : List Declaration → List Element → DrawnBox → List (Option Finding)

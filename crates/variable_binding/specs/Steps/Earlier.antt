@@ -7,4 +7,5 @@ use Rattle.variable_binding.specs.Findings.{ComesNoLater}
 abbrev pub IsEarlierFinding : Option Finding → Option Finding → Option Finding → Type 0
 IsEarlierFinding None other answer = answer ≡ other
 IsEarlierFinding (Some f) None answer = answer ≡ Some f
-IsEarlierFinding (Some f) (Some g) answer = (ComesNoLater f g × (answer ≡ Some f)) ⊎ (ComesNoLater g f × (answer ≡ Some g))
+IsEarlierFinding (Some f) (Some g) answer = (ComesNoLater f g × (answer ≡ Some f))
+    ⊎ (ComesNoLater g f × (answer ≡ Some g))

@@ -51,8 +51,10 @@ abbrev pub element_findings : List Declaration → List Element → Element → 
 element_findings ds elements (Wire at) = []
 element_findings ds elements (Join at) = []
 element_findings ds elements (Upright at) = []
-element_findings ds elements (Contact c) = fault_here (read_name_fault (Some kind.Bool) (name_kind ds c.name)) (place c.row c.column) ∷ []
-element_findings ds elements (Coil c) = fault_here (fault_with write_fault (variable_declared ds c.name)) (place c.row c.column) ∷ []
+element_findings ds elements (Contact c) =
+    fault_here (read_name_fault (Some kind.Bool) (name_kind ds c.name)) (place c.row c.column) ∷ []
+element_findings ds elements (Coil c) =
+    fault_here (fault_with write_fault (variable_declared ds c.name)) (place c.row c.column) ∷ []
 element_findings ds elements (Box b) = box_findings ds elements b
 
 -- nothing was found wrong with an element of a network

@@ -29,7 +29,8 @@ IsDrawnOnce b block = (i j : ℕ) (p q : DrawnPin) (pin : Pin) → slice_get b.p
 
 -- what is drawn on the right are outputs
 abbrev pub AreOutputs : DrawnBox → BlockType → Type 0
-AreOutputs b block = (pin : DrawnPin) → Contains b.pins pin → pin.side ≡ Right → (field : Field) × (pin_of block pin.name ≡ Some (output field))
+AreOutputs b block = (pin : DrawnPin) → Contains b.pins pin → pin.side ≡ Right
+    → (field : Field) × (pin_of block pin.name ≡ Some (output field))
 
 -- a literal is in its range
 abbrev pub IsInRange : List ℕ → Type 0
@@ -44,7 +45,8 @@ IsDeclaredVariable ds name k = (w : Declared) × (declared_at ds name ≡ Some w
 
 -- what is stored at an operand goes to a variable of the pin's kind
 abbrev pub AreStored : List Declaration → DrawnBox → Type 0
-AreStored ds b = (pin : DrawnPin) (o : Operand) (field : Field) → Contains b.pins pin → pin.side ≡ Right → pin.operand ≡ Some o
+AreStored ds b = (pin : DrawnPin) (o : Operand) (field : Field) → Contains b.pins pin → pin.side ≡ Right
+    → pin.operand ≡ Some o
     → pin_of b.block pin.name ≡ Some (output field) → IsDeclaredVariable ds o.text (field_kind field)
 
 -- the facts that the table of a box needs
