@@ -20,5 +20,6 @@ abbrev pub HasOneNameAPlace : List Declaration → Type 0
 HasOneNameAPlace ds = (a b : List ℕ) (k : ℕ) → place_of ds a ≡ Some k → place_of ds b ≡ Some k
     → IsTrue (str_eq_ignore_ascii_case a b)
 
+-- the character is a dot
 abbrev pub is_dot : ℕ → Bool
 is_dot c = c == 46

@@ -39,11 +39,13 @@ pub record StepsRight (e : Element) (p : Place) (f : Element) (q : Place) : Type
   pub gives : Gives e p
   pub takes : Takes f q
 
+-- state passes from the place p of one element to the place q of another above or below it, in one upright
 pub record StepsUpright (e : Element) (p : Place) (f : Element) (q : Place) : Type 0 where
   pub row : (q.row ≡ p.row + 1) ⊎ (p.row ≡ q.row + 1)
   pub column : q.column ≡ p.column
   pub from : Stands e p
   pub to : Stands f q
 
+-- state passes from the place p of one element to the place q of another, to the right or within one upright
 abbrev pub Steps : Element → Place → Element → Place → Type 0
 Steps e p f q = StepsRight e p f q ⊎ StepsUpright e p f q

@@ -9,14 +9,17 @@ use Rattle.network.specs.declared.element.Element.TheVariants.{Box}
 use Rattle.network.specs.Links.{Diagram}
 use Rattle.network.specs.Apart.{AreApart, AreOnPage, Has, Precedes, first_place}
 
+-- a drawing as networks: the number of its first line, the places of its left rail, and each network's elements
 pub record GraphValue : Type 0 where
   pub first_line : ℕ
   pub rails : List Place
   pub networks : List (List Element)
 
+-- a graph of its parts
 abbrev pub graph_value : ℕ → List Place → List (List Element) → GraphValue
 graph_value first_line rails networks = record { first_line = first_line; rails = rails; networks = networks }
 
+-- a diagram of its parts
 abbrev pub diagram : List Place → List Element → Diagram
 diagram rails elements = record { rails = rails; elements = elements }
 

@@ -22,6 +22,7 @@ is_plain [] = false
 is_plain (c ∷ word) =
     not (is_ascii_digit c) && not (list_any (λ b. b == 46) (c ∷ word)) && not (list_any (λ b. b == 35) (c ∷ word))
 
+-- a use of its parts
 abbrev pub name_use : ℕ → ℕ → List ℕ → Declared → NameUse
 name_use row column name declared = record { row = row; column = column; name = name; declared = declared }
 
@@ -55,6 +56,7 @@ is_before u v = nat_lt u.row v.row || (u.row == v.row && nat_lt u.column v.colum
 abbrev pub is_first : List NameUse → ℕ → NameUse → Bool
 is_first uses k u = not (list_any (λ v. str_eq_ignore_ascii_case v.name u.name) (take k uses))
 
+-- what a use declares
 abbrev pub declaration_of : NameUse → Declaration
 declaration_of u = record { name = u.name; declared = u.declared }
 

@@ -24,6 +24,7 @@ pub record IsTheElementAt (g : Picture) (p : Place) (e : Element) : Type 0 where
   pub begins : first_place e ≡ p
   pub only : (f : Element) → IsElementOf g f → first_place f ≡ p → f ≡ e
 
+-- no element begins at a place
 abbrev pub IsNoElementAt : Picture → Place → Type 0
 IsNoElementAt g p = (f : Element) → IsElementOf g f → first_place f ≡ p → ⊥
 

@@ -28,6 +28,7 @@ KeepsNumbers place old new = (p : Place) (n : ℕ) → p ≢ place → number_at
 abbrev pub spot : Place → ℕ → Spot
 spot place element = record { place = place; element = element }
 
+-- the place has no number
 abbrev pub IsNoSpot : List Spot → Place → Type 0
 IsNoSpot spots place = (k : ℕ) → IsSpot spots k place → ⊥
 

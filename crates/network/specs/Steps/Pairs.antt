@@ -28,6 +28,7 @@ abbrev pub IsPairOf : List Element → Pair → Type 0
 IsPairOf elements pair = (e f : Element) × (slice_get elements pair.one ≡ Some e)
     × (slice_get elements pair.other ≡ Some f) × AreLinked e f
 
+-- the pair of two numbers
 abbrev pub pair_of : ℕ → ℕ → Pair
 pair_of one other = record { one = one; other = other }
 

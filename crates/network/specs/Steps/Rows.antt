@@ -4,6 +4,7 @@ use Rattle.drawings.specs.declared.place.Place.{Place}
 use Rattle.network.specs.declared.joining.row_table.InRow.{InRow}
 use Rattle.network.specs.Links.{place}
 
+-- an element's place in a row
 abbrev pub in_row : ℕ → ℕ → InRow
 in_row element column = record { element = element; column = column }
 

@@ -11,19 +11,23 @@ use Rattle.network.specs.Links.{place}
 use Rattle.network.specs.Steps.Numbers.{IsIndex}
 use Rattle.network.specs.Steps.Listing.{IsNoElementAt}
 
+-- where contacts begin
 abbrev pub contact_places : List Contact → List Place
 contact_places contacts = map (λ (c : Contact). place c.row c.column) contacts
 
+-- where coils begin
 abbrev pub coil_places : List Coil → List Place
 coil_places coils = map (λ (c : Coil). place c.row c.column) coils
 
+-- the top left corners of boxes
 abbrev pub box_places : List DrawnBox → List Place
 box_places boxes = map (λ (b : DrawnBox). place b.top b.left) boxes
 
--- the symbol begins at p
+-- the contact begins at p
 abbrev pub is_contact_at : Place → Contact → Bool
 is_contact_at p c = nat_eq c.row p.row && nat_eq c.column p.column
 
+-- the coil begins at p
 abbrev pub is_coil_at : Place → Coil → Bool
 is_coil_at p c = nat_eq c.row p.row && nat_eq c.column p.column
 

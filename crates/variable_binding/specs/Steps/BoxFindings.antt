@@ -34,6 +34,7 @@ use Rattle.variable_binding.specs.Literals.{literal_value}
 use Rattle.variable_binding.specs.Lookup.{declared_at, is_dotted}
 pub use Rattle.variable_binding.specs.BindFaults.{in_range, field_on, own_field, kind_at, corner, side_place}
 
+-- two kinds are one
 abbrev pub same_kind : Kind → Kind → Bool
 same_kind kind.Bool kind.Bool = true
 same_kind kind.Int kind.Int = true
@@ -67,10 +68,12 @@ declared_kind (declared.Local k) (c ∷ pin) = Err WrongKind
 declared_kind (declared.Instance b) [] = Ok None
 declared_kind (declared.Instance b) (c ∷ pin) = output_kind (pin_of b (c ∷ pin))
 
+-- the kind of the value at a name, of which this is declared at its first part
 abbrev pub kind_if_declared : Option Declared → List ℕ → Result (Option Kind) BindKind
 kind_if_declared None pin = Err UnknownName
 kind_if_declared (Some w) pin = declared_kind w pin
 
+-- the kind of the value at a name, or what is wrong with the name by itself
 unfoldable pub name_kind : List Declaration → List ℕ → Result (Option Kind) BindKind
 name_kind ds name = kind_if_declared (declared_at ds (before_first is_dot name)) (after_first is_dot name)
 
@@ -87,9 +90,11 @@ literal_kind_fault None k fits = None
 literal_kind_fault (Some w) k fits =
     if same_kind w k then (if fits then None else Some LiteralOutOfRange) else Some WrongKind
 
+-- what is wrong with this literal where a kind is wanted
 abbrev pub literal_fault : Option Kind → Value → Option BindKind
 literal_fault want v = literal_kind_fault want (kind_of v) (in_range v)
 
+-- what is wrong with reading a literal, or else a name
 abbrev pub read_fault_by : Option Kind → Option Value → Result (Option Kind) BindKind → Option BindKind
 read_fault_by want (Some v) name = literal_fault want v
 read_fault_by want None name = read_name_fault want name
@@ -105,10 +110,12 @@ store_declared_fault want (declared.Output k) = if wants want k then None else S
 store_declared_fault want (declared.Local k) = if wants want k then None else Some WrongKind
 store_declared_fault want (declared.Instance b) = Some WrongKind
 
+-- what is wrong with storing at a name, dotted or not, of which this is declared at its first part
 abbrev pub store_name_fault : Option Kind → Bool → Option Declared → Option BindKind
 store_name_fault want dotted None = Some UnknownName
 store_name_fault want dotted (Some w) = if dotted then Some WrongKind else store_declared_fault want w
 
+-- what is wrong with storing at a literal, or else at a name
 abbrev pub store_fault_by : Option Kind → Option Value → Option BindKind → Option BindKind
 store_fault_by want (Some v) name = Some WrongKind
 store_fault_by want None name = name
@@ -131,6 +138,7 @@ abbrev pub fault_here : Option BindKind → Place → Option Finding
 fault_here None p = None
 fault_here (Some kind) p = Some (record { kind = kind; row = p.row; column = p.column })
 
+-- a fault where something is wrong
 abbrev pub fault_if : Bool → BindKind → Option BindKind
 fault_if b kind = if b then Some kind else None
 
@@ -153,12 +161,14 @@ instance_fault block (Some (declared.Output k)) = Some WrongKind
 instance_fault block (Some (declared.Local k)) = Some WrongKind
 instance_fault block (Some (declared.Instance b)) = if type_number b == type_number block then None else Some WrongKind
 
+-- two sides are one
 abbrev pub same_side : Side → Side → Bool
 same_side Left Left = true
 same_side Left Right = false
 same_side Right Left = false
 same_side Right Right = true
 
+-- the field of a pin is Boolean
 abbrev pub is_bit : Option Field → Bool
 is_bit None = false
 is_bit (Some (Bit k)) = true
@@ -169,12 +179,14 @@ is_bit (Some Time) = false
 unfoldable pub has_bit : DrawnBox → Side → Bool
 has_bit b side = list_any (λ pin. same_side side pin.side && is_bit (own_field b pin)) b.pins
 
+-- two fields are one
 abbrev pub same_field : Field → Field → Bool
 same_field (Bit j) (Bit k) = j == k
 same_field Int Int = true
 same_field Time Time = true
 same_field f g = false
 
+-- two pins are one pin of the type
 abbrev pub same_pin : Option Pin → Option Pin → Bool
 same_pin None found = false
 same_pin (Some pin) None = false
@@ -210,6 +222,7 @@ is_beside b row Right (Contact c) = c.row == row && nat_lt b.right c.column && (
 is_beside b row Right (Coil c) = c.row == row && nat_lt b.right c.column && (c.column - b.right == 1)
 is_beside b row Right (Box a) = false
 
+-- a line lies directly beside the pin's side of the box, on its row
 unfoldable pub has_line : List Element → DrawnBox → DrawnPin → Bool
 has_line elements b pin = list_any (is_beside b pin.row pin.side) elements
 

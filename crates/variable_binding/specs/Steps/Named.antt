@@ -36,6 +36,7 @@ AreOutputs b block = (pin : DrawnPin) → Contains b.pins pin → pin.side ≡ R
 abbrev pub IsInRange : List ℕ → Type 0
 IsInRange text = (v : Value) → literal_value text ≡ Some v → in_range v ≡ true
 
+-- each literal at a pin of the box is in its range
 abbrev pub AreInRange : DrawnBox → Type 0
 AreInRange b = (pin : DrawnPin) (o : Operand) → Contains b.pins pin → pin.operand ≡ Some o → IsInRange o.text
 
