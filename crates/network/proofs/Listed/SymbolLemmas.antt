@@ -1,7 +1,5 @@
 -- Symbols that are found by their places.
-use Rattle.std.proofs.Common.{◌≡◌, ℕ, zero, suc, ◌+◌, ◌-◌, Bool, true, false, cond, Option, None, MatchOption, ◌∷◌, refl, ◌<◌, ◌≤◌, ◌⊎◌, inl, inr, List, [], Some, slice_get, length, sym, subst, ap, ◌∙◌, arith}
-use Rattle.std.proofs.lemmas.Bool.{cases_eq}
-use Rattle.std.proofs.lemmas.Option.{slice_get_within}
+use Rattle.std.proofs.Common.{◌≡◌, ℕ, zero, suc, ◌+◌, Bool, true, false, cond, Option, None, MatchOption, ◌∷◌, refl, ◌⊎◌, inl, inr, List, [], Some, slice_get, sym, subst, ap, ◌∙◌, arith}
 use Rattle.std.specs.List.{position, position_from}
 use Rattle.std.proofs.lemmas.Iterator.Adapters.{position_from-zero}
 use Rattle.lists.proofs.Members.{contains_at, at_contains}
@@ -22,7 +20,7 @@ use Rattle.network.specs.Apart.{first_place, Has}
 use Rattle.network.specs.Networks.{IsElementOf}
 use Rattle.network.specs.Steps.Listing.{IsTheElementAt, IsNoElementAt}
 use Rattle.network.specs.Steps.Symbols.{contact_places, coil_places, box_places, IsInside, IsBehind, BeginNowhereInside, AllElsewhere, IsNumberOf, is_contact_at, is_coil_at, TellsNumber}
-use Rattle.network.proofs.Basics.{some_is, one_at, get_map, map_get}
+use Rattle.network.proofs.Basics.{some_is, get_map, map_get}
 use Rattle.network.proofs.Spots.{same_place, other_place}
 use Rattle.network.proofs.Listed.Sharing.{mark_of, has_mark, begins, shared, the_element}
 
