@@ -88,7 +88,7 @@ impl Declarations {
     ghost use Rattle.std.specs.Option.{option_map};
     ghost use Rattle.std.specs.Str.{str_eq_ignore_ascii_case};
     ghost use Rattle.declared_names.specs.declared.declarations.Declaration.{Declaration};
-    ghost use Rattle.declared_names.specs.Names.{place_of, IsDeclared};
+    ghost use Rattle.declared_names.specs.Names.{place_of, IsDeclared, IsDeclaredAt};
 
     /// No declarations.
     pub fn new(alloc: Global) -> Self
@@ -175,7 +175,7 @@ impl Declarations {
 
     /// The name as it was declared and what it is, by its position from 0.
     pub fn entry(&self, i: usize) -> Option<(&str, Declared)>
-        ensures { MatchOption result (slice_get self.now i ≡ None) (λ e. slice_get self.now i ≡ Some record { name = e.0.now; declared = e.1 }) }
+        ensures { MatchOption result (slice_get self.now i ≡ None) (λ e. IsDeclaredAt self.now i e.0.now e.1) }
     {
         match self.entries.get_index(i) {
             Some((_, entry)) => Some((entry.name.as_str(), entry.declared)),

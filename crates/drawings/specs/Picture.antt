@@ -54,13 +54,16 @@ pub record IsSound (g : Picture) : Type 0 where
   pub few_columns : g.columns ≤ 240
   pub left_rail : (0 < g.left) × (g.left ≤ g.columns)
   pub on_page : (r c : ℕ) → (mark_at g r c ≡ Blank → ⊥) → (r ≤ g.rows) × (0 < c) × (c ≤ g.columns)
-  pub contacts : (k : ℕ) (x : Contact) → slice_get g.contacts k ≡ Some x → (r c : ℕ) → IsSymbolPlace x.row x.column r c → mark_at g r c ≡ ContactPart
+  pub contacts : (k : ℕ) (x : Contact) → slice_get g.contacts k ≡ Some x
+      → (r c : ℕ) → IsSymbolPlace x.row x.column r c → mark_at g r c ≡ ContactPart
   pub contacts_apart : (j k : ℕ) (x y : Contact) → slice_get g.contacts j ≡ Some x → slice_get g.contacts k ≡ Some y
       → (r c : ℕ) → IsSymbolPlace x.row x.column r c → IsSymbolPlace y.row y.column r c → j ≡ k
-  pub coils : (k : ℕ) (x : Coil) → slice_get g.coils k ≡ Some x → (r c : ℕ) → IsSymbolPlace x.row x.column r c → mark_at g r c ≡ CoilPart
+  pub coils : (k : ℕ) (x : Coil) → slice_get g.coils k ≡ Some x → (r c : ℕ) → IsSymbolPlace x.row x.column r c
+      → mark_at g r c ≡ CoilPart
   pub coils_apart : (j k : ℕ) (x y : Coil) → slice_get g.coils j ≡ Some x → slice_get g.coils k ≡ Some y
       → (r c : ℕ) → IsSymbolPlace x.row x.column r c → IsSymbolPlace y.row y.column r c → j ≡ k
-  pub boxes : (k : ℕ) (x : DrawnBox) → slice_get g.boxes k ≡ Some x → (r c : ℕ) → IsBoxPlace x r c → mark_at g r c ≡ BoxPart
+  pub boxes : (k : ℕ) (x : DrawnBox) → slice_get g.boxes k ≡ Some x → (r c : ℕ) → IsBoxPlace x r c
+      → mark_at g r c ≡ BoxPart
   pub boxes_apart : (j k : ℕ) (x y : DrawnBox) → slice_get g.boxes j ≡ Some x → slice_get g.boxes k ≡ Some y
       → (r c : ℕ) → IsBoxPlace x r c → IsBoxPlace y r c → j ≡ k
   pub boxes_rising : (j k : ℕ) (x y : DrawnBox) → j < k → slice_get g.boxes j ≡ Some x → slice_get g.boxes k ≡ Some y

@@ -28,9 +28,11 @@ impl Model for Drawing {
 
     ghost Value = { Picture };
 
-    ghost view = { λ d. picture d.first_line d.rows d.columns d.left d.marks.items d.contacts.items d.coils.items d.boxes.items };
+    ghost view = { λ d. picture d.first_line d.rows d.columns d.left
+        d.marks.items d.contacts.items d.coils.items d.boxes.items };
 
-    ghost invariant = { λ d. IsSound (picture d.first_line d.rows d.columns d.left d.marks.items d.contacts.items d.coils.items d.boxes.items) };
+    ghost invariant = { λ d. IsSound (picture d.first_line d.rows d.columns d.left
+        d.marks.items d.contacts.items d.coils.items d.boxes.items) };
 }
 
 impl Drawing {

@@ -1,5 +1,5 @@
 -- What is in a list, and what holds of all that is in it.
-use Rattle.std.proofs.Common.{◌≡◌, ℕ, zero, suc, ◌<◌, ◌⊎◌, inl, inr, List, [], ◌∷◌, ◌++◌, Some, All, Contains, length, get_or, slice_get, refl, ap, ◌∙◌, arith}
+use Rattle.std.proofs.Common.{◌≡◌, ℕ, zero, suc, ◌<◌, ◌⊎◌, inl, inr, List, [], ◌∷◌, ◌++◌, Some, All, Any, Contains, length, get_or, slice_get, refl, ap, ◌∙◌, arith}
 use Rattle.std.proofs.lemmas.Option.{slice_get_within, get_or_from_slice_get, slice_get-get_or}
 use Rattle.std.proofs.lemmas.List.Elements.{All-nil, All-cons, All-head, All-tail}
 
@@ -9,6 +9,13 @@ contains_at xs k x at = (k, slice_get_within xs k x at, get_or_from_slice_get xs
 
 pub at_contains : {X : Type 0} (xs : List X) (x : X) → Contains xs x → (k : ℕ) × (slice_get xs k ≡ Some x)
 at_contains xs x (k, lt, at) = (k, slice_get-get_or xs k x lt ∙ ap Some at)
+
+-- so it is with what holds of one of them
+pub any_at : {X : Type 0} (P : X → Type 0) (xs : List X) (k : ℕ) (x : X) → slice_get xs k ≡ Some x → P x → Any P xs
+any_at P xs k x at p = (k, x, slice_get_within xs k x at, get_or_from_slice_get xs k x x at, p)
+
+pub any_found : {X : Type 0} (P : X → Type 0) (xs : List X) → Any P xs → (k : ℕ) × (x : X) × (slice_get xs k ≡ Some x) × P x
+any_found P xs (k, x, lt, at, p) = (k, x, slice_get-get_or xs k x lt ∙ ap Some at, p)
 
 -- what is in a list with one more before it
 pub cons_first : {X : Type 0} (y : X) (xs : List X) → Contains (y ∷ xs) y

@@ -14,27 +14,27 @@ use Rattle.network.specs.declared.element.Element.TheVariants.{Box}
 use Rattle.network.specs.Links.{place}
 use Rattle.network.specs.Apart.{first_place, Has}
 use Rattle.network.specs.GraphValue.{graph_value, IsSoundGraph}
-use Rattle.network.specs.Networks.{IsElementOf, AreLinked, Chained, MeetsAt, IsTop, AreLeftRails, AreNetworks, IsUnattachedAt, IsTooTallAt, IsTwiceAt, IsFirst, Nowhere}
+use Rattle.network.specs.Networks.{IsElementOf, AreLinked, Chained, MeetsAt, IsTop, AreLeftRails, AreNetworks, IsUnattachedAt, IsTooTallAt, IsTwiceAt, IsFirst, HoldsNowhere}
 use Rattle.network.specs.Networks.Chained.{here, along}
 use Rattle.network.specs.Steps.Listing.{AreElementsOf}
-use Rattle.network.specs.Steps.Ranks.{AreRanks, AreSplit, IsIn, ArePlaces, IsUnmetAt, IsTallAt, IsFirstOf}
+use Rattle.network.specs.Steps.Ranks.{AreRanks, AreSplit, IsIn, ArePlaces, IsUnmetAt, IsTallAt, IsFirstPlaceOf}
 use Rattle.network.specs.Steps.Twice.{IsTwiceIn}
 use Rattle.network.proofs.Basics.{one_at}
-use Rattle.network.proofs.Sharing.{shared, has_mark, has_on_page, within_rows, within_box, pin_within, precedes_not, marks_no_rail}
-use Rattle.network.proofs.TopLemmas.{chained_is, chained_then}
+use Rattle.network.proofs.Listed.Sharing.{shared, has_mark, has_on_page, within_rows, within_box, pin_within, precedes_not, marks_no_rail}
+use Rattle.network.proofs.Ordered.TopLemmas.{chained_is, chained_then}
 
 -- what is known of an answer, once its error has become another
 pub ok_of : {T E F : Type 0} (P : T → Type 0) (Q : E → Type 0) (r : Result T E) (out : Result T F) (x : T) → MatchResult r (λ y. out ≡ Ok y) Q → is_ok out ≡ is_ok r → out ≡ Ok x → IfOk r P → P x
 ok_of {T} {E} {F} P Q (Ok y) out x cases same is h = let e : ◌≡◌ {A = Result T F} (Ok y) (Ok x) = sym cases ∙ is in let one : y ≡ x = cc in rw (← one) h
 ok_of P Q (Err e) out x cases same is h = let b : true ≡ false = sym (ap is_ok is) ∙ same in absurd (cc)
 
-pub first_such : (P Q : Place → Type 0) (places : List Place) → ((q : Place) → P q → Q q) → ((q : Place) → Q q → P q) → ArePlaces Q places → (p : Place) → IsFirstOf places p → IsFirst P p
+pub first_such : (P Q : Place → Type 0) (places : List Place) → ((q : Place) → P q → Q q) → ((q : Place) → Q q → P q) → ArePlaces Q places → (p : Place) → IsFirstPlaceOf places p → IsFirst P p
 first_such P Q places there back are p first = record {
   such = (let w = at_contains places p first.there in back p (are.each w.0 p w.1));
   first = λ q such before. first.first q (are.whole q (there q such)) before;
 }
 
-pub none_such : (P Q : Place → Type 0) (places : List Place) → ((q : Place) → P q → Q q) → ArePlaces Q places → places ≡ [] → Nowhere P
+pub none_such : (P Q : Place → Type 0) (places : List Place) → ((q : Place) → P q → Q q) → ArePlaces Q places → places ≡ [] → HoldsNowhere P
 none_such P Q places there are none p such =
     let w = at_contains places p (are.whole p (there p such)) in
     let h : slice_get [] w.0 ≡ Some p = ap (λ (x : List Place). slice_get x w.0) (sym none) ∙ w.1 in cc
@@ -70,7 +70,7 @@ module _ (g : Picture) (sound : IsSound g) (es : List Element) (are : AreElement
       go k at None rank = (k, h.0, slice_get_within es k h.0 at, at, rank, h.3)
       go k at (Some m) rank = let t = rk.met k m h.0 at rank in absurd (h.2 t.0 t.1.meets)
 
-  module _ (attached : Nowhere (IsUnattachedAt g)) (networks : List (List Element)) (sp : AreSplit es ranks count networks (length es)) where
+  module _ (attached : HoldsNowhere (IsUnattachedAt g)) (networks : List (List Element)) (sp : AreSplit es ranks count networks (length es)) where
     ranked : (k : ℕ) (e : Element) → slice_get es k ≡ Some e → (m : ℕ) × (slice_get ranks k ≡ Some (Some m))
     ranked k e at = let r = rank_at k e at in go r.0 r.1
       where
@@ -235,7 +235,7 @@ module _ (g : Picture) (sound : IsSound g) (es : List Element) (are : AreElement
             let one : a.left ≡ b.left = ap (λ (x : Element). (first_place x).column) (one_at is'.0 i j (Box a) (Box b) e (sym at ∙ is.2) is'.2) in omega arith)
 
     -- two boxes of one name are one box
-    one_box : Nowhere (IsTwiceAt g) → (a b : DrawnBox) → Contains g.boxes a → Contains g.boxes b → IsTrue (str_eq_ignore_ascii_case a.instance b.instance) → a ≡ b
+    one_box : HoldsNowhere (IsTwiceAt g) → (a b : DrawnBox) → Contains g.boxes a → Contains g.boxes b → IsTrue (str_eq_ignore_ascii_case a.instance b.instance) → a ≡ b
     one_box once a b is is' named =
         let v = at_contains g.boxes a is in
         let w = at_contains g.boxes b is' in
@@ -248,7 +248,7 @@ module _ (g : Picture) (sound : IsSound g) (es : List Element) (are : AreElement
         ]
 
     -- the elements of one network lie within 200 rows
-    low_of : Nowhere (IsTooTallAt g) → (m i j : ℕ) (e f : Element) (p q : Place) → IsIn networks m i e → IsIn networks m j f → Has e p → Has f q → q.row < p.row + 200
+    low_of : HoldsNowhere (IsTooTallAt g) → (m i j : ℕ) (e f : Element) (p q : Place) → IsIn networks m i e → IsIn networks m j f → Has e p → Has f q → q.row < p.row + 200
     low_of low m i j e f p q is is' h h' =
         let a = sp.each m i e is in
         let b = sp.each m j f is' in
@@ -259,7 +259,7 @@ module _ (g : Picture) (sound : IsSound g) (es : List Element) (are : AreElement
           | inr ge ↦ absurd (low (first_place e) (e, e, f, are.drawn a.0 e a.2, here, in_chained m i j e f is is', (omega arith), refl))
         ]
 
-    pub sound_graph : (first : ℕ) (rails : List Place) → AreLeftRails g rails → Nowhere (IsTooTallAt g) → Nowhere (IsTwiceAt g) → IsSoundGraph (graph_value first rails networks)
+    pub sound_graph : (first : ℕ) (rails : List Place) → AreLeftRails g rails → HoldsNowhere (IsTooTallAt g) → HoldsNowhere (IsTwiceAt g) → IsSoundGraph (graph_value first rails networks)
     sound_graph first rails ra none_tall named_once = record {
       networks = λ m ns at. record {
         apart = record {

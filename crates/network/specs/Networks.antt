@@ -57,7 +57,8 @@ pub record AreLeftRails (g : Picture) (rails : List Place) : Type 0 where
 abbrev pub StandsAt : GraphValue → ℕ → ℕ → Element → Type 0
 StandsAt graph k j e = (es : List Element) × (slice_get graph.networks k ≡ Some es) × (slice_get es j ≡ Some e)
 
--- The networks of a drawing: each element stands once in exactly one network, and two stand in one network exactly where a chain joins them.
+-- The networks of a drawing: each element stands once in exactly one network,
+-- and two stand in one network exactly where a chain joins them.
 -- Networks come by the topmost row at which they meet the left rail, and elements of a network by column and then row.
 pub record AreNetworks (g : Picture) (graph : GraphValue) : Type 0 where
   pub first_line : graph.first_line ≡ g.first_line
@@ -67,8 +68,10 @@ pub record AreNetworks (g : Picture) (graph : GraphValue) : Type 0 where
   pub filled : (k : ℕ) → k < length graph.networks → (e : Element) × StandsAt graph k 0 e
   pub once : (k l i j : ℕ) (e : Element) → StandsAt graph k i e → StandsAt graph l j e → (k ≡ l) × (i ≡ j)
   pub joined : (k l i j : ℕ) (e f : Element) → StandsAt graph k i e → StandsAt graph l j f → (k ≡ l) ↔ Chained g e f
-  pub elements : (k i j : ℕ) (e f : Element) → i < j → StandsAt graph k i e → StandsAt graph k j f → Precedes (first_place e) (first_place f)
-  pub order : (k l i j : ℕ) (e f : Element) (r s : ℕ) → k < l → StandsAt graph k i e → StandsAt graph l j f → IsTop g e r → IsTop g f s → r < s
+  pub elements : (k i j : ℕ) (e f : Element) → i < j → StandsAt graph k i e → StandsAt graph k j f
+      → Precedes (first_place e) (first_place f)
+  pub order : (k l i j : ℕ) (e f : Element) (r s : ℕ) → k < l → StandsAt graph k i e → StandsAt graph l j f
+      → IsTop g e r → IsTop g f s → r < s
 
 -- p is the first place of an element whose network doesn't meet the left rail
 abbrev pub IsUnattachedAt : Picture → Place → Type 0
@@ -85,46 +88,52 @@ lowest_row (Box b) = b.bottom
 
 -- p is the first place of an element whose network has more than 200 rows from its topmost to its lowest
 abbrev pub IsTooTallAt : Picture → Place → Type 0
-IsTooTallAt g p = (e f h : Element) × IsElementOf g e × Chained g e f × Chained g e h × ((first_place f).row + 200 ≤ lowest_row h) × (first_place e ≡ p)
+IsTooTallAt g p = (e f h : Element) × IsElementOf g e × Chained g e f × Chained g e h
+    × ((first_place f).row + 200 ≤ lowest_row h) × (first_place e ≡ p)
 
 -- by row, and in one row by column
-abbrev pub IsBefore : Place → Place → Type 0
-IsBefore p q = (p.row < q.row) ⊎ ((p.row ≡ q.row) × (p.column < q.column))
+abbrev pub PrecedesByRow : Place → Place → Type 0
+PrecedesByRow p q = (p.row < q.row) ⊎ ((p.row ≡ q.row) × (p.column < q.column))
 
 -- p is the corner of a box that has the name of an earlier box, case aside
 abbrev pub IsTwiceAt : Picture → Place → Type 0
-IsTwiceAt g p = (b c : DrawnBox) × Contains g.boxes b × Contains g.boxes c × IsBefore (place b.top b.left) (place c.top c.left)
+IsTwiceAt g p = (b c : DrawnBox) × Contains g.boxes b × Contains g.boxes c
+    × PrecedesByRow (place b.top b.left) (place c.top c.left)
     × IsTrue (str_eq_ignore_ascii_case b.instance c.instance) × (place c.top c.left ≡ p)
 
 -- p is the first of such places, by row and then column
 pub record IsFirst (IsSuch : Place → Type 0) (p : Place) : Type 0 where
   pub such : IsSuch p
-  pub first : (q : Place) → IsSuch q → IsBefore q p → ⊥
+  pub first : (q : Place) → IsSuch q → PrecedesByRow q p → ⊥
 
-abbrev pub Nowhere : (Place → Type 0) → Type 0
-Nowhere IsSuch = (p : Place) → IsSuch p → ⊥
+-- no place is such
+abbrev pub HoldsNowhere : (Place → Type 0) → Type 0
+HoldsNowhere IsSuch = (p : Place) → IsSuch p → ⊥
 
 -- nothing forbids the networks of the drawing
-pub record IsFaultless (g : Picture) : Type 0 where
-  pub attached : Nowhere (IsUnattachedAt g)
-  pub low : Nowhere (IsTooTallAt g)
-  pub named_once : Nowhere (IsTwiceAt g)
+pub record HasFaultlessNetworks (g : Picture) : Type 0 where
+  pub attached : HoldsNowhere (IsUnattachedAt g)
+  pub low : HoldsNowhere (IsTooTallAt g)
+  pub named_once : HoldsNowhere (IsTwiceAt g)
 
 -- the first fault of a drawing's networks, by kind and then by place
-abbrev pub IsFaultAt : Picture → GraphFaultKind → Place → Type 0
-IsFaultAt g Unattached p = IsFirst (IsUnattachedAt g) p
-IsFaultAt g TooTall p = Nowhere (IsUnattachedAt g) × IsFirst (IsTooTallAt g) p
-IsFaultAt g InstanceTwice p = Nowhere (IsUnattachedAt g) × Nowhere (IsTooTallAt g) × IsFirst (IsTwiceAt g) p
-IsFaultAt g Memory p = Unit {0}
+abbrev pub IsFirstGraphFaultAt : Picture → GraphFaultKind → Place → Type 0
+IsFirstGraphFaultAt g Unattached p = IsFirst (IsUnattachedAt g) p
+IsFirstGraphFaultAt g TooTall p = HoldsNowhere (IsUnattachedAt g) × IsFirst (IsTooTallAt g) p
+IsFirstGraphFaultAt g InstanceTwice p = HoldsNowhere (IsUnattachedAt g) × HoldsNowhere (IsTooTallAt g)
+    × IsFirst (IsTwiceAt g) p
+IsFirstGraphFaultAt g Memory p = Unit {0}
 
--- the fault is at the line and column of p, in a drawing that begins with this line; where no number is as great as that line, at the greatest
-pub record IsFoundAt (first_line : ℕ) (p : Place) (fault : GraphFault) : Type 0 where
+-- the fault is at the line and column of p, in a drawing that begins with this line;
+-- where no number is as great as that line, at the greatest
+pub record GraphFaultLiesAt (first_line : ℕ) (p : Place) (fault : GraphFault) : Type 0 where
   pub line : fault.line ≡ min (first_line + (p.row - 1)) 18446744073709551615
   pub column : fault.column ≡ p.column
 
 -- a fault other than want of memory is the first one of the drawing's networks, and is told with its place
-abbrev pub IsFirstFault : Picture → GraphFault → Type 0
-IsFirstFault g fault = fault.kind ≢ Memory → (p : Place) × IsFaultAt g fault.kind p × IsFoundAt g.first_line p fault
+abbrev pub IsFirstGraphFault : Picture → GraphFault → Type 0
+IsFirstGraphFault g fault = fault.kind ≢ Memory → (p : Place) × IsFirstGraphFaultAt g fault.kind p
+    × GraphFaultLiesAt g.first_line p fault
 
 -- want of memory has no place: line 0 and column 0
 abbrev pub HasPlaceUnlessMemory : GraphFault → Type 0

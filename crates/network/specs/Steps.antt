@@ -1,4 +1,5 @@
--- Steps of the proofs: how the elements of a drawing are listed, joined and ranked. The contracts of functions inside this crate cite them, and those of the index of places, which `power_flow` uses too; what is handed up, a graph and its faults, is said without them.
+-- Steps of the proofs: how the elements of a drawing are listed, joined and ranked.
+-- Only what stands inside this crate cites them; what is handed up is said without them.
 pub mod Corners
 pub mod Joined
 pub mod Listing

@@ -13,7 +13,8 @@ pub enum Element {
 }
 
 impl Element {
-    ghost use Rattle.std.specs.Prelude.{◌≡◌};
+    ghost use Rattle.std.specs.Prelude.{◌≡◌, ◌↔◌, IsTrue};
+    ghost use Rattle.network.specs.Links.{Stands};
     ghost use Rattle.network.specs.Apart.{first_place};
 
     /// The place itself, the first place of a symbol, or the top left corner of a box.
@@ -37,6 +38,16 @@ impl Element {
                     column: drawn.left,
                 }
             }
+        }
+    }
+
+    /// Whether this is a place of an upright.
+    pub fn stands_at(&self, place: Place) -> bool
+        ensures { IsTrue result ↔ Stands self.now place }
+    {
+        match self {
+            Element::Join(at) | Element::Upright(at) => *at == place,
+            _ => false,
         }
     }
 }

@@ -29,12 +29,12 @@ pub struct GraphFault {
 }
 
 ghost use Rattle.std.specs.Prelude.{◌≡◌};
-ghost use Rattle.network.specs.Networks.{IsFoundAt};
+ghost use Rattle.network.specs.Networks.{GraphFaultLiesAt};
 
 /// The fault at a place of a drawing that begins with this line.
 pub fn fault_at(kind: GraphFaultKind, first_line: u64, place: Place) -> GraphFault
     ensures kind { result.kind ≡ kind }
-    ensures found { IsFoundAt first_line place result }
+    ensures found { GraphFaultLiesAt first_line place result }
 {
     GraphFault {
         kind,

@@ -1,78 +1,14 @@
-ghost use Rattle.std.specs.Prelude.{◌≡◌, ◌<◌, ℕ, List, [], Some, IfOk, IfSome, OnOk, slice_get, length};
-ghost use Rattle.network.specs.declared.element.Element.{Element};
-ghost use Rattle.network.specs.Steps.Ranks.{AreAllSplit, IsPut};
-ghost use Rattle.network.specs.Steps.Tables.{AreSuch};
-
-use crate::element::Element;
-use crate::elements::elements_of;
 use crate::fault::{GraphFault, GraphFaultKind, fault_at, no_memory};
-use crate::found::{tall_places, twice_places, unmet_places};
+use crate::listing::elements::elements_of;
 use crate::networks::Network;
-use crate::places::first_of;
-use crate::rails::rails_of;
-use crate::ranks::ranks_of;
+use crate::order::ranks::ranks_of;
+use crate::order::split::split;
+use crate::places::rails::rails_of;
+use crate::seeking::first_place::first_of;
+use crate::seeking::found::{tall_places, twice_places, unmet_places};
 use drawings::{Drawing, Place};
-use std::alloc::{AllocError, Global};
+use std::alloc::Global;
 use std::marker::Model;
-
-/// How many elements have each rank.
-fn sizes_of(alloc: Global, ranks: &[Option<usize>], count: usize) -> Result<Vec<usize>, AllocError>
-    requires { (i m : ℕ) → slice_get ranks.now i ≡ Some (Some m) → m < count }
-    ensures { IfOk result (λ sizes. length sizes.items ≡ count) }
-{
-    let mut sizes: Vec<usize> = Vec::new(alloc);
-    sizes.resize(count, 0)?;
-    for k in 0..ranks.len() {
-        if let Some(rank) = ranks[k] {
-            sizes[rank] = sizes[rank].saturating_add(1);
-        }
-    }
-    Ok(sizes)
-}
-
-/// Networks without elements, with room for so many in each.
-fn empty_networks(alloc: Global, sizes: &[usize]) -> Result<Vec<Network>, AllocError>
-    ensures long { IfOk result (λ networks. length networks.items ≡ length sizes.now) }
-    ensures empty { IfOk result (λ networks. AreSuch (λ (es : List Element). es ≡ []) networks.items) }
-{
-    let mut networks = Vec::with_capacity(alloc, sizes.len())?;
-    for size in sizes {
-        networks.push(Network::with_capacity(alloc, *size)?)?;
-    }
-    Ok(networks)
-}
-
-/// Puts an element at the end of the network of its rank.
-fn put(networks: &mut Vec<Network>, rank: Option<usize>, element: Element) -> Result<(), AllocError>
-    requires { IfSome rank (λ m. m < length networks.old.items) }
-    ensures { OnOk result (IsPut networks.old.items rank element networks.new.items) }
-{
-    if let Some(rank) = rank {
-        networks[rank].push(element)?;
-    }
-    Ok(())
-}
-
-/// Puts each element into the network of its rank.
-fn split(
-    alloc: Global,
-    elements: Vec<Element>,
-    ranks: &[Option<usize>],
-    count: usize,
-) -> Result<Vec<Network>, AllocError>
-    requires long { length ranks.now ≡ length elements.items }
-    requires within { (i m : ℕ) → slice_get ranks.now i ≡ Some (Some m) → m < count }
-    ensures { IfOk result (λ networks. AreAllSplit elements.items ranks.now count networks.items) }
-{
-    let sizes = sizes_of(alloc, ranks, count)?;
-    let mut networks = empty_networks(alloc, &sizes)?;
-    let mut k = 0;
-    for element in elements {
-        put(&mut networks, ranks[k], element)?;
-        k += 1;
-    }
-    Ok(networks)
-}
 
 /// The networks of a drawing in the order of their evaluation, with the places of its left rail.
 #[derive(Drop)]
@@ -97,14 +33,14 @@ impl Graph {
     ghost use Rattle.std.specs.Prelude.{◌≡◌, ◌≢◌, ◌↔◌, ◌+◌, IsTrue, Any, IfOk, IfErr};
     ghost use Rattle.network.specs.GraphValue.{IsSoundGraph};
     ghost use Rattle.drawings.specs.declared.place.Place.{Place};
-    ghost use Rattle.network.specs.Networks.{AreNetworks, IsFaultless, IsFirstFault, HasPlaceUnlessMemory};
+    ghost use Rattle.network.specs.Networks.{AreNetworks, HasFaultlessNetworks, IsFirstGraphFault, HasPlaceUnlessMemory};
 
     /// The networks of a drawing.
     ///
     /// Refuses a drawing with a network that doesn't meet the left rail or has more than 200 rows, or with two boxes of one name.
     pub fn build(alloc: Global, drawing: &Drawing) -> Result<Graph, GraphFault>
-        ensures ok { IfOk result (λ graph. AreNetworks drawing.now graph × IsFaultless drawing.now) }
-        ensures fault { IfErr result (IsFirstFault drawing.now) }
+        ensures ok { IfOk result (λ graph. AreNetworks drawing.now graph × HasFaultlessNetworks drawing.now) }
+        ensures fault { IfErr result (IsFirstGraphFault drawing.now) }
         ensures memory { IfErr result HasPlaceUnlessMemory }
     {
         let _rows = drawing.rows();

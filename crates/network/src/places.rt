@@ -1,25 +1,5 @@
-ghost use Rattle.std.specs.Prelude.{◌≡◌, ◌↔◌, IsTrue, MatchOption, []};
-ghost use Rattle.network.specs.Networks.{IsBefore};
-ghost use Rattle.network.specs.Steps.Ranks.{IsFirstOf};
+//! Places by row and column, and those of the left rail.
 
-use drawings::Place;
-
-/// Whether one place comes before another, by row and then column.
-pub fn is_before(place: Place, other: Place) -> bool
-    ensures { IsTrue result ↔ IsBefore place other }
-{
-    place.row < other.row || (place.row == other.row && place.column < other.column)
-}
-
-/// The first of some places, by row and then column.
-pub fn first_of(places: &[Place]) -> Option<Place>
-    ensures { MatchOption result (places.now ≡ []) (IsFirstOf places.now) }
-{
-    let mut first = *places.first()?;
-    for place in places {
-        if is_before(*place, first) {
-            first = *place;
-        }
-    }
-    Some(first)
-}
+pub mod number_row;
+pub mod numbering;
+pub mod rails;

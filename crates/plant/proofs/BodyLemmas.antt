@@ -10,7 +10,7 @@ use Rattle.ladder_text.specs.declared.draw_fault.DrawFault.{DrawFault}
 use Rattle.ladder_text.specs.declared.draw_fault.DrawFaultKind.TheVariants as draw
 use Rattle.network.specs.declared.fault.GraphFault.{GraphFault}
 use Rattle.network.specs.declared.fault.GraphFaultKind.TheVariants as graph
-use Rattle.network.specs.Networks.{IsFaultAt, IsFoundAt}
+use Rattle.network.specs.Networks.{IsFirstGraphFaultAt, GraphFaultLiesAt}
 use Rattle.variable_binding.specs.declared.bind_fault.BindFault.{BindFault}
 use Rattle.variable_binding.specs.declared.bind_fault.BindKind.TheVariants as bind
 use Rattle.plant.specs.declared.plant_fault.BodyFault.{BodyFault}
@@ -49,7 +49,7 @@ drawing_refused t found r given ill first = body_refused t found.line (body.Draw
 -- networks that are refused
 pub networks_refused : {T : Type 0} (t : TextValue) (found : GraphFault) (r : Result T PlantFault) → IsWellDrawn (rows_of t.program.body)
     → IsErrAnd r (IsHandedOn (found.kind ≡ graph.Memory) kind.Graph found.line (body.Graph found.kind))
-    → (found.kind ≢ graph.Memory → (place : Place) × IsFaultAt (picture_in t) found.kind place × IsFoundAt (picture_in t).first_line place found)
+    → (found.kind ≢ graph.Memory → (place : Place) × IsFirstGraphFaultAt (picture_in t) found.kind place × GraphFaultLiesAt (picture_in t).first_line place found)
     → IfErr r (λ fault. fault.kind ≢ kind.Memory → IsBodyFault t fault)
 unfolding pictures.picture_of
 networks_refused t found r drawn given at = body_refused t found.line (body.Graph found.kind) r given (λ other. let is = at other in (drawn, (is.0, is.1, record { line = is.2.line; column = refl })))

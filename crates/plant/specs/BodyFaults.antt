@@ -8,10 +8,10 @@ use Rattle.ladder_text.specs.Picture.{picture_of}
 use Rattle.ladder_text.specs.Faults.{IsWellDrawn, IsIllDrawn}
 use Rattle.ladder_text.specs.FirstFault.{TellsFirstFault}
 use Rattle.network.specs.GraphValue.{GraphValue}
-use Rattle.network.specs.Networks.{AreNetworks, IsFaultAt, IsFoundAt, IsFaultless as HasFaultlessNetworks}
+use Rattle.network.specs.Networks.{AreNetworks, IsFirstGraphFaultAt, GraphFaultLiesAt, HasFaultlessNetworks}
 use Rattle.power_flow.specs.LadderValue.{diagrams}
 use Rattle.variable_binding.specs.Binding.{CanBind}
-use Rattle.variable_binding.specs.Findings.{IsFirstFault}
+use Rattle.variable_binding.specs.Findings.{IsFirstBindFault}
 use Rattle.variable_binding.specs.declared.bind_fault.BindFault.{BindFault}
 use Rattle.plant.specs.declared.plant_fault.BodyFault.{BodyFault}
 use Rattle.plant.specs.declared.plant_fault.BodyFault.TheVariants as body
@@ -36,12 +36,12 @@ pub record RefusesNames (t : TextValue) (fault : BindFault) : Type 0 where
   pub built : AreNetworks (picture_in t) graph
   pub networks_faultless : HasFaultlessNetworks (picture_in t)
   pub refused : CanBind (variables t.program) (diagrams graph) → ⊥
-  pub first : IsFirstFault (variables t.program) graph fault
+  pub first : IsFirstBindFault (variables t.program) graph fault
 
 -- The body isn't well drawn, its networks have a fault, or its names do; the first of these faults is this one, and on this line. Lines are counted on from the body's first.
 abbrev pub RefusesBody : TextValue → BodyFault → ℕ → Type 0
 RefusesBody t (body.Drawing k) line = IsIllDrawn (rows_of t.program.body) × ((column : ℕ) × TellsFirstFault t.program.body (body_line t) (record { kind = k; line = line; column = column }))
-RefusesBody t (body.Graph k) line = IsWellDrawn (rows_of t.program.body) × ((place : Place) × IsFaultAt (picture_in t) k place × IsFoundAt (body_line t) place (record { kind = k; line = line; column = place.column }))
+RefusesBody t (body.Graph k) line = IsWellDrawn (rows_of t.program.body) × ((place : Place) × IsFirstGraphFaultAt (picture_in t) k place × GraphFaultLiesAt (body_line t) place (record { kind = k; line = line; column = place.column }))
 RefusesBody t (body.Bind k) line = IsWellDrawn (rows_of t.program.body) × ((column : ℕ) × RefusesNames t (record { kind = k; line = line; column = column }))
 
 -- the kind of a plant's fault that a body's fault is

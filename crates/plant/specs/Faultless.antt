@@ -5,7 +5,7 @@ use Rattle.ladder_text.specs.Places.{layout_of}
 use Rattle.ladder_text.specs.Picture.{picture_of}
 use Rattle.ladder_text.specs.Faults.{IsWellDrawn}
 use Rattle.network.specs.GraphValue.{GraphValue}
-use Rattle.network.specs.Networks.{AreNetworks, IsFaultless as HasFaultlessNetworks}
+use Rattle.network.specs.Networks.{AreNetworks, HasFaultlessNetworks}
 use Rattle.variable_binding.specs.Binding.{CanBind}
 use Rattle.power_flow.specs.LadderValue.{LadderValue, diagrams}
 use Rattle.plant_grammar.specs.declared.grammar.tree.Program.{Program}

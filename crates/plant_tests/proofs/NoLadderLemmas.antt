@@ -18,7 +18,7 @@ use Rattle.drawings.specs.declared.mark.Mark.TheVariants as mark
 use Rattle.drawings.specs.Picture.{Picture, mark_at}
 use Rattle.network.specs.declared.element.Element.{Element}
 use Rattle.network.specs.declared.element.Element.TheVariants.{Wire, Join, Upright, Contact, Coil, Box}
-use Rattle.network.specs.Networks.{IsFaultless, IsElementOf, Chained, MeetsAt}
+use Rattle.network.specs.Networks.{HasFaultlessNetworks, IsElementOf, Chained, MeetsAt}
 use Rattle.network.specs.Networks.Chained.{here, along}
 use Rattle.network.specs.Links.{place, Takes}
 use Rattle.power_flow.specs.LadderValue.{LadderValue}
@@ -33,8 +33,8 @@ unfolding rows_of char_at block_type is_value_word is_program_word is_resource_w
 drawing_words = tt
 
 -- the networks of a body that has a ladder have no fault
-faultless_of : (text : List ℕ) (p : Program) (l : LadderValue) → p.body ≡ text → (is : IsLadderOf p l) → IsFaultless (picture_of is.first_line (layout_of (rows_of text)))
-faultless_of text p l body is = subst (λ t. IsFaultless (picture_of is.first_line (layout_of (rows_of t)))) body is.networks_faultless
+faultless_of : (text : List ℕ) (p : Program) (l : LadderValue) → p.body ≡ text → (is : IsLadderOf p l) → HasFaultlessNetworks (picture_of is.first_line (layout_of (rows_of text)))
+faultless_of text p l body is = subst (λ t. HasFaultlessNetworks (picture_of is.first_line (layout_of (rows_of t)))) body is.networks_faultless
 
 any_box : DrawnBox
 any_box = record { top = 0; left = 0; bottom = 0; right = 0; block = block.TON; instance = []; pins = [] }

@@ -18,7 +18,7 @@ use Rattle.declared_names.specs.declared.declarations.Kind.{Kind}
 use Rattle.declared_names.specs.Names.{place_of}
 use Rattle.variable_binding.specs.PinKinds.{field_kind}
 use Rattle.variable_binding.specs.BindFaults.{IsVariable}
-use Rattle.variable_binding.specs.Steps.Named.{IsVariableAt, AreNamed}
+use Rattle.variable_binding.specs.Steps.Named.{IsDeclaredVariable, AreNamed}
 use Rattle.power_flow.specs.declared.state.Instance.{Instance}
 use Rattle.power_flow.specs.declared.state.Slot.{Slot}
 use Rattle.power_flow.specs.declared.state.Slot.TheVariants.{Variable, Block}
@@ -171,7 +171,7 @@ pub stored_apart : (ds : List Declaration) (d : Diagram) (top : ℕ) (boxes : Li
 stored_apart ds d top boxes bound named = all_from_places
     (λ (e : BoundBox). All (IsBeside boxes) e.outputs.items) boxes each
   where
-    at_variable : (k : ℕ) (kind : Kind) (text : List ℕ) → IsVariableAt ds text kind → place_of ds text ≡ Some k
+    at_variable : (k : ℕ) (kind : Kind) (text : List ℕ) → IsDeclaredVariable ds text kind → place_of ds text ≡ Some k
         → HasNoBox boxes k
     at_variable k kind text (w, declared, variable) place = all_from_places (IsElsewhere k) boxes (λ m f there same.
         let block = (zip_back (IsBoundBox ds top) (boxes_of d.elements) boxes bound m f there).2.declared in
@@ -182,7 +182,7 @@ stored_apart ds d top boxes bound named = all_from_places
         let P : Declared → Type 0 = λ x. IsVariable x kind in
         subst P is variable)
 
-    at_operand : (k : ℕ) (kind : Kind) (o : Option Operand) → ((w : Operand) → o ≡ Some w → IsVariableAt ds w.text kind)
+    at_operand : (k : ℕ) (kind : Kind) (o : Option Operand) → ((w : Operand) → o ≡ Some w → IsDeclaredVariable ds w.text kind)
         → option_and_then (λ (w : Operand). place_of ds w.text) o ≡ Some k → HasNoBox boxes k
     at_operand k kind None stores place = absurd cc
     at_operand k kind (Some w) stores place = at_variable k kind w.text (stores w refl) place

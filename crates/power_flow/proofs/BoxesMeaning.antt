@@ -6,7 +6,7 @@ use Rattle.std.proofs.lemmas.List.{get_or-set_same, get_or-set_other}
 use Rattle.std.proofs.lemmas.Option.{slice_get-get_or, slice_get_within}
 use Rattle.lists.proofs.Places.{some_same}
 use Rattle.lists.proofs.Zips.{zip_length, zip_at, zip_back}
-use Rattle.lists.proofs.Members.{at_contains, contains_at}
+use Rattle.lists.proofs.Members.{at_contains, contains_at, any_at, any_found}
 use Rattle.drawings.specs.declared.place.Place.{Place}
 use Rattle.drawings.specs.declared.contact.Contact.{Contact as DrawnContact}
 use Rattle.drawings.specs.declared.coil.Coil.{Coil as DrawnCoil}
@@ -49,7 +49,7 @@ use Rattle.power_flow.specs.Steps.BoxTable.{IsBitSource, IsBoundOutput, IsBoundB
 use Rattle.power_flow.specs.Steps.Circuit.{IsCircuit, bound_coil, bound_coils}
 use Rattle.power_flow.specs.Steps.Passing.{Pass, ArePassed, bound_stores, bound_memories}
 use Rattle.power_flow.specs.Waiting.{box_of, coils_of}
-use Rattle.power_flow.proofs.Lists.{any_at, any_found, same_bit}
+use Rattle.power_flow.proofs.Lists.{same_bit}
 use Rattle.power_flow.proofs.Stepping.{stored-append}
 use Rattle.power_flow.proofs.Fusing.{fewer_passed}
 use Rattle.power_flow.proofs.BoxesSources.{box_in, right_pin_in, right_pin_at, pin_value, block_at, name_bit, name_value, pin_source_value, block_kept}

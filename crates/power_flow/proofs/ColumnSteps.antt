@@ -6,7 +6,7 @@ use Rattle.std.proofs.lemmas.List.{get_or-set_same, get_or-set_other}
 use Rattle.std.proofs.lemmas.Option.{slice_get_within}
 use Rattle.lists.proofs.Zips.{zip_at, zip_back}
 use Rattle.lists.proofs.Places.{element_at, slice_get-set_same, slice_get-set_other, some_same}
-use Rattle.lists.proofs.Members.{at_contains, contains_at}
+use Rattle.lists.proofs.Members.{at_contains, contains_at, any_at, any_found}
 use Rattle.drawings.specs.declared.place.Place.{Place}
 use Rattle.drawings.specs.declared.contact.Contact.{Contact as DrawnContact}
 use Rattle.drawings.specs.declared.coil.Coil.{Coil as DrawnCoil}
@@ -38,7 +38,6 @@ use Rattle.power_flow.specs.Steps.BoxSteps.{box_result, IsMarked, HasOutput}
 use Rattle.power_flow.specs.Steps.BoxTable.{IsBoundBox, IsBoundOutput, AreBoundBoxes, right_pins}
 use Rattle.power_flow.specs.Waiting.{box_of, boxes_of, coil_of, coils_of}
 use Rattle.power_flow.proofs.PowerLemmas.{on_source}
-use Rattle.power_flow.proofs.Lists.{any_at, any_found}
 use Rattle.power_flow.proofs.BoxesSources.{right_pin_in, right_pin_at}
 use Rattle.power_flow.proofs.Walking.{ends_has, Lets, Comes}
 use Rattle.power_flow.proofs.PlaceLemmas.{same_place}

@@ -33,7 +33,7 @@ use Rattle.declared_names.specs.declared.declarations.Kind.{Kind}
 use Rattle.power_flow.specs.declared.state.Instance.{Instance as InstanceRecord}
 use Rattle.power_flow.specs.declared.state.Slot.TheVariants.{Block}
 use Rattle.variable_binding.specs.PinKinds.{field_kind}
-use Rattle.variable_binding.specs.Steps.Named.{IsNamedBox, IsVariableAt, AreNamed}
+use Rattle.variable_binding.specs.Steps.Named.{IsNamedBox, IsDeclaredVariable, AreNamed}
 use Rattle.std_blocks.specs.declared.pin.Field.{Field}
 use Rattle.std_blocks.specs.declared.pin.Field.TheVariants.{Bit, Int, Time}
 use Rattle.std_blocks.specs.declared.pins.PinsOut.{PinsOut}
@@ -88,7 +88,7 @@ kept_kind (Local j) k v is same = same ∙ sym is
 kept_kind (Instance block) k v is same = absurd is
 
 -- a store at a variable of the kind is of the declared kind
-store_right : (ds : List Declaration) (name : List ℕ) (k : Kind) (v : Value) → IsVariableAt ds name k → kind_of v ≡ k → AllByRecursion (IsRight ds) (store (place_of ds name) (Some v))
+store_right : (ds : List Declaration) (name : List ℕ) (k : Kind) (v : Value) → IsDeclaredVariable ds name k → kind_of v ≡ k → AllByRecursion (IsRight ds) (store (place_of ds name) (Some v))
 store_right ds name k v (w, at, is) same = by (place_of ds name) place.2
   where
     place : (k : ℕ) × (e : Declaration) × (place_of ds name ≡ Some k) × (slice_get ds k ≡ Some e) × (e.declared ≡ w)
@@ -106,7 +106,7 @@ store_right ds name k v (w, at, is) same = by (place_of ds name) place.2
       tt,
     )
 
-coil_right : (ds : List Declaration) (name : List ℕ) (value : Option Bool) → IsVariableAt ds name kind.Bool → AllByRecursion (IsRight ds) (store (place_of ds name) (option_map BoolValue value))
+coil_right : (ds : List Declaration) (name : List ℕ) (value : Option Bool) → IsDeclaredVariable ds name kind.Bool → AllByRecursion (IsRight ds) (store (place_of ds name) (option_map BoolValue value))
 coil_right ds name (Some b) at = store_right ds name kind.Bool (BoolValue b) at refl
 coil_right ds name None at = by (place_of ds name)
   where
@@ -114,7 +114,7 @@ coil_right ds name None at = by (place_of ds name)
     by None = tt
     by (Some n) = tt
 
-coils_right : (ds : List Declaration) (old : Moment) (links : List Bool) (n : ℕ) (es : List Element) → ((c : DrawnCoil) → Contains es (Coil c) → IsVariableAt ds c.name kind.Bool)
+coils_right : (ds : List Declaration) (old : Moment) (links : List Bool) (n : ℕ) (es : List Element) → ((c : DrawnCoil) → Contains es (Coil c) → IsDeclaredVariable ds c.name kind.Bool)
     → AllByRecursion (IsRight ds) (flat_map (λ e. coil_stores ds old links e.0 e.1) (enumerate_from n es))
 coils_right ds old links n [] named = tt
 coils_right ds old links n (e ∷ es) named =

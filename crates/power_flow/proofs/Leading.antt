@@ -4,7 +4,7 @@ use Rattle.std.proofs.lemmas.Bool.{cases_eq, cases_lt}
 use Rattle.std.proofs.lemmas.List.{get_or-set_same, get_or-set_other}
 use Rattle.std.proofs.lemmas.Option.{slice_get_within, slice_get-get_or}
 use Rattle.lists.proofs.Places.{some_same}
-use Rattle.lists.proofs.Members.{contains_at}
+use Rattle.lists.proofs.Members.{contains_at, any_at, any_found}
 use Rattle.drawings.specs.declared.place.Place.{Place}
 use Rattle.drawings.specs.declared.drawn_box.DrawnBox.{DrawnBox}
 use Rattle.drawings.specs.declared.drawn_box.DrawnPin.{DrawnPin}
@@ -16,7 +16,6 @@ use Rattle.network.specs.Links.{Diagram, Gives, place}
 use Rattle.network.specs.Apart.{Has, first_place}
 use Rattle.network.specs.GraphValue.{IsSoundNetwork}
 use Rattle.power_flow.specs.Steps.RowEnds.{AreRows, IsGiven, IsGivenByPin, AreEnds, AreEndsTo, AreEndsWithin, TellsLed}
-use Rattle.power_flow.proofs.Lists.{any_at, any_found}
 use Rattle.power_flow.proofs.PlaceLemmas.{same_place}
 
 -- a place that gives state isn't left of where its element begins

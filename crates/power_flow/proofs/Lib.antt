@@ -11,7 +11,6 @@ pub mod Uprights
 pub mod Scanning
 pub mod Stepping
 pub mod Determinism
-pub mod Starting
 pub mod PairSteps
 pub mod Slots
 pub mod Binds

@@ -2,7 +2,7 @@
 use Rattle.std.proofs.Common.{◌≡◌, ◌⊎◌, inl, inr, ℕ, ◌+◌, ◌<◌, ◌≤◌, max, min, List, Some, Contains, slice_get, refl, sym, ap, ◌∙◌, subst, arith}
 use Rattle.std.proofs.lemmas.Bool.{cases_eq, cases_lt}
 use Rattle.lists.proofs.Places.{some_same}
-use Rattle.lists.proofs.Members.{contains_at}
+use Rattle.lists.proofs.Members.{contains_at, any_found}
 use Rattle.drawings.specs.declared.place.Place.{Place}
 use Rattle.drawings.specs.declared.drawn_box.DrawnBox.{DrawnBox}
 use Rattle.drawings.specs.declared.drawn_box.DrawnPin.{DrawnPin}
@@ -11,7 +11,6 @@ use Rattle.network.specs.declared.element.Element.{Element}
 use Rattle.network.specs.declared.element.Element.TheVariants.{Wire, Join, Upright, Contact, Coil, Box}
 use Rattle.network.specs.Links.{place}
 use Rattle.network.specs.Apart.{Has, first_place}
-use Rattle.power_flow.proofs.Lists.{any_found}
 use Rattle.power_flow.proofs.Leading.{pin_has}
 
 -- no pin of the first n + 1 lies lower

@@ -2,7 +2,7 @@
 use Rattle.std.proofs.Common.{◌≡◌, ℕ, ◌+◌, ◌-◌, ◌<◌, ◌≤◌, ◌⊎◌, ◌↔◌, inl, inr, List, [], ◌∷◌, Bool, true, false, Some, IsTrue, Any, Contains, slice_get, length, arith, refl, sym, ap, ◌∙◌, subst}
 use Rattle.std.proofs.lemmas.Bool.{cases_eq, cases_lt}
 use Rattle.lists.proofs.Places.{some_same}
-use Rattle.lists.proofs.Members.{contains_at}
+use Rattle.lists.proofs.Members.{contains_at, any_at, any_found}
 use Rattle.drawings.specs.declared.place.Place.{Place}
 use Rattle.drawings.specs.declared.drawn_box.DrawnBox.{DrawnBox}
 use Rattle.drawings.specs.declared.drawn_box.Side.TheVariants.{Left, Right}
@@ -15,7 +15,6 @@ use Rattle.power_flow.specs.Power.{IsWalk, IsOn, SymbolEndsAt, EndsAt}
 use Rattle.power_flow.specs.Meaning.{bit_at}
 use Rattle.power_flow.specs.Steps.Columns.{IsStop, IsLed, StandsIn, IsUpright}
 use Rattle.power_flow.proofs.PowerLemmas.{on_source, on_step}
-use Rattle.power_flow.proofs.Lists.{any_at, any_found}
 use Rattle.power_flow.proofs.Walking as walking
 use Rattle.power_flow.proofs.Walking.{ends_has, Lets, Out, Comes}
 use Rattle.power_flow.proofs.PlaceLemmas.{same_place, stands_first}

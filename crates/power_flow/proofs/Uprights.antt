@@ -3,13 +3,13 @@ use Rattle.std.proofs.Common.{◌≡◌, ◌⊎◌, inl, inr, ℕ, ◌+◌, ◌-
 use Rattle.std.proofs.lemmas.Bool.{cases_eq, cases_lt}
 use Rattle.std.proofs.lemmas.Option.{slice_get_within}
 use Rattle.lists.proofs.Places.{element_at, some_same}
+use Rattle.lists.proofs.Members.{any_found}
 use Rattle.drawings.specs.declared.place.Place.{Place}
 use Rattle.network.specs.declared.element.Element.{Element}
 use Rattle.network.specs.Links.{Diagram, Stands, place}
 use Rattle.network.specs.Apart.{first_place, Precedes}
 use Rattle.network.specs.GraphValue.{IsSoundNetwork}
 use Rattle.power_flow.specs.Steps.Columns.{StandsIn, IsUpright}
-use Rattle.power_flow.proofs.Lists.{any_found}
 use Rattle.power_flow.proofs.PlaceLemmas.{stands_first}
 
 -- nothing comes between two places of which one is right below the other

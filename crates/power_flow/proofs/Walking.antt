@@ -2,6 +2,7 @@
 use Rattle.std.proofs.Common.{◌≡◌, ℕ, zero, suc, ◌+◌, ◌-◌, ◌≤◌, ◌⊎◌, inl, inr, List, [], ◌∷◌, Bool, Some, IsTrue, Any, slice_get, arith, refl, sym, ap, ◌∙◌, subst}
 use Rattle.std.proofs.lemmas.Bool.{cases_lt}
 use Rattle.lists.proofs.Places.{some_same}
+use Rattle.lists.proofs.Members.{any_found}
 use Rattle.drawings.specs.declared.place.Place.{Place}
 use Rattle.network.specs.declared.element.Element.{Element}
 use Rattle.network.specs.declared.element.Element.TheVariants.{Wire, Join, Upright, Contact, Coil, Box}
@@ -10,7 +11,6 @@ use Rattle.network.specs.Apart.{Has}
 use Rattle.power_flow.specs.Power.{IsWalk, AllConduct, IsOn, SymbolEndsAt, EndsAt}
 use Rattle.power_flow.specs.Steps.Columns.{IsStop, StandsIn, IsUpright}
 use Rattle.power_flow.proofs.PowerLemmas.{on_step}
-use Rattle.power_flow.proofs.Lists.{any_found}
 
 -- the last place of a symbol is one of its places
 pub ends_has : (e : Element) (p : Place) → EndsAt e p → Has e p

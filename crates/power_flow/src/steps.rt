@@ -3,7 +3,6 @@
 pub mod circuit;
 pub mod circuits;
 pub mod fused;
-pub mod rails;
 pub mod room;
 pub mod row_ends;
 pub mod rows;

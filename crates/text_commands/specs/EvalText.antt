@@ -10,7 +10,7 @@ use Rattle.drawings.specs.declared.place.Place.{Place}
 use Rattle.ladder_text.specs.declared.draw_fault.DrawFaultKind.TheVariants as draw
 use Rattle.network.specs.Links.{Diagram}
 use Rattle.network.specs.GraphValue.{GraphValue}
-use Rattle.network.specs.Networks.{AreNetworks, IsFaultless, IsFaultAt, IsFoundAt}
+use Rattle.network.specs.Networks.{AreNetworks, HasFaultlessNetworks, IsFirstGraphFaultAt, GraphFaultLiesAt}
 use Rattle.network.specs.declared.fault.GraphFault.{GraphFault}
 use Rattle.std_blocks.specs.declared.value.Value.TheVariants.{Bool as BoolValue}
 use Rattle.declared_names.specs.declared.declarations.Declaration.{Declaration}
@@ -21,7 +21,7 @@ use Rattle.variable_binding.specs.Guess.{AreGuessed}
 use Rattle.variable_binding.specs.Binding.{CanBind}
 use Rattle.power_flow.specs.Scan.{ScanMeaning}
 use Rattle.power_flow.specs.LadderValue.{diagrams as diagrams_of}
-use Rattle.variable_binding.specs.Findings.{IsFirstFault}
+use Rattle.variable_binding.specs.Findings.{IsFirstBindFault}
 use Rattle.variable_binding.specs.declared.bind_fault.BindFault.{BindFault}
 use Rattle.text_commands.specs.declared.word_fault.WordFault.{WordFault}
 use Rattle.text_commands.specs.declared.text_command_fault.TextCommandFault.{TextCommandFault}
@@ -43,7 +43,7 @@ pub record IsLadderOfDrawing (text : List ℕ) (ds : List Declaration) (networks
   pub graph : GraphValue
   pub drawn : IsDrawn text picture
   pub built : AreNetworks picture graph
-  pub faultless : IsFaultless picture
+  pub faultless : HasFaultlessNetworks picture
   pub guessed : AreGuessed graph ds
   pub diagrams : networks ≡ diagrams_of graph
   pub bound : CanBind ds networks
@@ -118,18 +118,18 @@ pub record RefusesNames (drawing : List ℕ) (fault : BindFault) : Type 0 where
   pub declarations : List Declaration
   pub drawn : IsDrawn drawing picture
   pub built : AreNetworks picture graph
-  pub faultless : IsFaultless picture
+  pub faultless : HasFaultlessNetworks picture
   pub guessed : AreGuessed graph declarations
   pub refused : CanBind declarations (diagrams_of graph) → ⊥
-  pub first : IsFirstFault declarations graph fault
+  pub first : IsFirstBindFault declarations graph fault
 
 -- the networks of the drawing have this fault at some place, the first by its kind, row and column
 pub record RefusesNetworks (drawing : List ℕ) (fault : GraphFault) : Type 0 where
   pub picture : Picture
   pub drawn : IsDrawn drawing picture
   pub place : Place
-  pub first : IsFaultAt picture fault.kind place
-  pub found : IsFoundAt picture.first_line place fault
+  pub first : IsFirstGraphFaultAt picture fault.kind place
+  pub found : GraphFaultLiesAt picture.first_line place fault
 
 -- what holds after a refusal by the text
 abbrev pub RefusesText : List ℕ → TextFault → Type 0

@@ -11,8 +11,8 @@ use Rattle.std.proofs.lemmas.Bool.{false≢true}
 use Rattle.std.proofs.lemmas.Bool.Decides.{Decides-eqb}
 use Rattle.network.specs.declared.element.Element.{Element}
 use Rattle.variable_binding.proofs.FindingLemmas.{parts, first_more}
-use Rattle.variable_binding.specs.Steps.ElementFindings.{IsFirstOf}
-use Rattle.variable_binding.specs.Steps.Earlier.{IsEarlier}
+use Rattle.variable_binding.specs.Steps.ElementFindings.{IsFirstFinding}
+use Rattle.variable_binding.specs.Steps.Earlier.{IsEarlierFinding}
 use Rattle.variable_binding.specs.declared.finding.Finding.{Finding}
 use Rattle.std.proofs.lemmas.List.{append-nil}
 use Rattle.std_blocks.specs.declared.pin.Pin.{Pin}
@@ -33,8 +33,8 @@ use Rattle.variable_binding.specs.PinKinds.{field_kind}
 use Rattle.variable_binding.specs.Kinds.{kind_of}
 use Rattle.variable_binding.specs.Literals.{literal_value}
 use Rattle.variable_binding.specs.Lookup.{declared_at, is_dotted}
-use Rattle.variable_binding.specs.Steps.BoxFindings.{IsFaultless, fault_here, instance_fault, type_number, pin_fault, same_field, same_pin, is_among, operand_finding, pin_findings, pins_findings, corner_findings, box_findings, own_field, field_on, kind_at, operand_fault, read_fault_at, read_fault_by, store_fault_at, store_fault_by, literal_fault, in_range, same_kind, name_kind, store_name_fault}
-use Rattle.variable_binding.specs.Steps.Named.{IsNamedBox, IsVariableAt, AreStored}
+use Rattle.variable_binding.specs.Steps.BoxFindings.{IsFaultlessBox, fault_here, instance_fault, type_number, pin_fault, same_field, same_pin, is_among, operand_finding, pin_findings, pins_findings, corner_findings, box_findings, own_field, field_on, kind_at, operand_fault, read_fault_at, read_fault_by, store_fault_at, store_fault_by, literal_fault, in_range, same_kind, name_kind, store_name_fault}
+use Rattle.variable_binding.specs.Steps.Named.{IsNamedBox, IsDeclaredVariable, AreStored}
 use Rattle.variable_binding.proofs.NameFaults.{stored_variable}
 use Rattle.declared_names.specs.Names.{is_dot}
 use Rattle.std.specs.List.{before_first}
@@ -137,7 +137,7 @@ pin_right ds es b k pin h =
     record { known = f.0; once = f.1; operand = h 1 None (omega arith) }
 
 -- a box without faults has the names that its table needs
-pub named_box : (ds : List Declaration) (es : List Element) (b : DrawnBox) → IsFaultless ds es b → IsNamedBox ds b
+pub named_box : (ds : List Declaration) (es : List Element) (b : DrawnBox) → IsFaultlessBox ds es b → IsNamedBox ds b
 unfolding box_findings corner_findings is_among read_fault_at store_fault_at
 named_box ds es b fine = record {
   instance = instance_is b.block (declared_at ds b.instance) (here_none _ _ (corners.0 0 None (omega arith)));
@@ -219,7 +219,7 @@ named_box ds es b fine = record {
             let stored : store_fault_by (Some (field_kind f)) (Some v) (store_name_fault (Some (field_kind f)) (is_dotted o.text) (declared_at ds (before_first is_dot o.text))) ≡ None = rw lit at e in
             cc
 
-    store_at : (text : List ℕ) (k : Kind) → store_fault_at ds (Some k) text ≡ None → IsVariableAt ds text k
+    store_at : (text : List ℕ) (k : Kind) → store_fault_at ds (Some k) text ≡ None → IsDeclaredVariable ds text k
     store_at text k e = stored_variable ds text k (name (literal_value text) e)
       where
         name : (l : Option Value) → store_fault_by (Some k) l (store_name_fault (Some k) (is_dotted text) (declared_at ds (before_first is_dot text))) ≡ None
@@ -250,8 +250,8 @@ pins_more ds es b (p ∷ pins) n (suc i) pin lt is =
     ∙ sym (append_assoc (pin_findings ds es b n p) (pins_findings ds es b (n + 1) (take i pins)) (pin_findings ds es b (n + 1 + i) pin)))
 
 pub pins_first : (ds : List Declaration) (es : List Element) (b : DrawnBox) (i : ℕ) (pin : DrawnPin) (r s t : Option Finding) → i < length b.pins → pin ≡ get_or b.pins i pin
-    → IsFirstOf (corner_findings ds b ++ pins_findings ds es b 0 (take i b.pins)) r → IsFirstOf (pin_findings ds es b i pin) s → IsEarlier r s t
-    → IsFirstOf (corner_findings ds b ++ pins_findings ds es b 0 (take (i + 1) b.pins)) t
+    → IsFirstFinding (corner_findings ds b ++ pins_findings ds es b 0 (take i b.pins)) r → IsFirstFinding (pin_findings ds es b i pin) s → IsEarlierFinding r s t
+    → IsFirstFinding (corner_findings ds b ++ pins_findings ds es b 0 (take (i + 1) b.pins)) t
 pins_first ds es b i pin r s t lt is was here earlier =
     let along : 0 + i ≡ i = omega arith in
     let one : i + 1 ≡ suc i = add-one i in

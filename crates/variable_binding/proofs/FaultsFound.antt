@@ -8,7 +8,7 @@ use Rattle.std.proofs.lemmas.Option.{slice_get-get_or, slice_get_within, get_or_
 use Rattle.std.proofs.lemmas.List.Elements.{All-append, All-weaker, All-nil, All-cons, All-contains, Contains-append_left, Contains-append_right}
 use Rattle.std.proofs.lemmas.List.Folds.{Any-from_list_any, list_any-from_Any}
 use Rattle.lists.proofs.Places.{some_same}
-use Rattle.lists.proofs.Members.{contains_at, at_contains, cons_first}
+use Rattle.lists.proofs.Members.{contains_at, at_contains, cons_first, any_at, any_found}
 use Rattle.std_blocks.specs.declared.value.Value.{Value}
 use Rattle.std_blocks.specs.declared.pin.Field.{Field}
 use Rattle.std_blocks.specs.declared.pin.Field.TheVariants.{Bit, Int, Time}
@@ -38,11 +38,10 @@ use Rattle.variable_binding.specs.Literals.{literal_value}
 use Rattle.variable_binding.specs.Lookup.{declared_at, is_dotted}
 use Rattle.variable_binding.specs.BindFaults.{IsBox, IsOperand, Reads, Stores, IsPinAt, EndsBefore, BeginsBehind, HasLine, HasLinedPin, HasForeignPin, HasSecondPin, LacksBit, IsNamedByNone, IsNamedOtherwise, unknown_read, unknown_stored, unknown_box, wrong_read, wrong_stored, wrong_literal, literal_stored, wrong_line, wrong_box, unknown_output, foreign_pin, second_pin, IsFaultOf, IsFaultIn}
 use Rattle.variable_binding.specs.Binding.{IsBoundNetwork}
-use Rattle.variable_binding.specs.Findings.{IsUpTo, IsFault}
+use Rattle.variable_binding.specs.Findings.{ComesNoLater, IsFault}
 use Rattle.variable_binding.specs.Steps.BoxFindings.{name_kind, read_name_fault, read_fault_at, read_fault_by, store_name_fault, store_fault_at, store_fault_by, operand_fault, own_field, kind_at, corner, side_place, fault_here, fault_if, type_number, instance_fault, same_side, is_bit, has_bit, same_field, same_pin, is_among, pin_fault, operand_finding, is_beside, has_line, line_fault, pin_findings, corner_findings, pins_findings, box_findings}
-use Rattle.variable_binding.specs.Steps.ElementFindings.{write_fault, fault_with, variable_declared, element_findings, network_findings, findings, IsFirstOf, IsBound, HasNoFinding}
+use Rattle.variable_binding.specs.Steps.ElementFindings.{write_fault, fault_with, variable_declared, element_findings, network_findings, findings, IsFirstFinding, IsBound, HasNoFinding}
 use Rattle.variable_binding.proofs.NameFaults.{ReadFault, StoreFault, LiteralFault, nothing_found, read_found, read_meant, store_found, store_meant, coil_stores, literal_found, literal_meant}
-use Rattle.variable_binding.proofs.Lists.{any_at, any_found}
 use Rattle.variable_binding.proofs.FindingLemmas.{none_in_networks}
 use Rattle.variable_binding.proofs.BoxesFaults.{same_pin_refl, any_false, slice_get-take, same_number, eqb_same}
 
@@ -585,7 +584,7 @@ module _ (ds : List Declaration) (es : List Element) where
       let each : IsBound ds es at.1 = All-contains (IsBound ds es) es at.1 none (at.0, slice_get_within es at.0 at.1 at.2, get_or_from_slice_get es at.0 at.1 at.1 at.2) in
       nothing_found (sym (All-contains (λ o. o ≡ None) (element_findings ds es at.1) (Some (finding k p)) each (element_found k at.1 p at.3)))
 
-pub bound_from_none : (ds : List Declaration) (networks : List (List Element)) → IsFirstOf (findings ds networks) None → All (IsBoundNetwork ds) networks
+pub bound_from_none : (ds : List Declaration) (networks : List (List Element)) → IsFirstFinding (findings ds networks) None → All (IsBoundNetwork ds) networks
 bound_from_none ds networks h = All-weaker (HasNoFinding ds) (IsBoundNetwork ds) (λ es none. is_bound ds es none) networks (none_in_networks ds networks h)
 
 abbrev InSome : List Declaration → List (List Element) → BindKind → Place → Type 0
@@ -608,14 +607,14 @@ is_found ds networks f h =
     in_flat (network_findings ds) networks at.0 at.1 (Some f) at.2 (network_found ds at.1 f.kind (place f.row f.column) at.3)
 
 -- the first of what is found is the first of the faults
-pub first_fault : (ds : List Declaration) (networks : List (List Element)) (f : Finding) → IsFirstOf (findings ds networks) (Some f)
-    → IsFault ds networks f × ((g : Finding) → IsFault ds networks g → IsUpTo f g)
+pub first_fault : (ds : List Declaration) (networks : List (List Element)) (f : Finding) → IsFirstFinding (findings ds networks) (Some f)
+    → IsFault ds networks f × ((g : Finding) → IsFault ds networks g → ComesNoLater f g)
 first_fault ds networks f (in', first) =
-    (found_is ds networks f in', λ g h. All-contains (λ o. (x : Finding) → o ≡ Some x → IsUpTo f x) (findings ds networks) (Some g) first (is_found ds networks g h) g refl)
+    (found_is ds networks f in', λ g h. All-contains (λ o. (x : Finding) → o ≡ Some x → ComesNoLater f x) (findings ds networks) (Some g) first (is_found ds networks g h) g refl)
 
 -- the first of the faults is the first of what is found
-pub first_found : (ds : List Declaration) (networks : List (List Element)) (f : Finding) → IsFault ds networks f → ((g : Finding) → IsFault ds networks g → IsUpTo f g)
-    → IsFirstOf (findings ds networks) (Some f)
+pub first_found : (ds : List Declaration) (networks : List (List Element)) (f : Finding) → IsFault ds networks f → ((g : Finding) → IsFault ds networks g → ComesNoLater f g)
+    → IsFirstFinding (findings ds networks) (Some f)
 first_found ds networks f h first =
     (is_found ds networks f h, λ i o lt g is. first g (found_is ds networks g (i, lt, get_or_from_slice_get (findings ds networks) i (get_or (findings ds networks) i o) (Some g) (slice_get-get_or (findings ds networks) i o lt) ∙ is)))
 

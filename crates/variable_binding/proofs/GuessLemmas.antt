@@ -16,11 +16,8 @@ use Rattle.declared_names.specs.declared.declarations.Declaration.{Declaration}
 use Rattle.variable_binding.specs.declared.name_use.NameUse.{NameUse}
 use Rattle.network.specs.declared.element.Element.{Element}
 use Rattle.variable_binding.specs.Guess.{is_before, is_first, declaration_of, element_uses, first_uses, uses_of}
+use Rattle.variable_binding.specs.Steps.Guessing.{has_name, declared_with}
 use Rattle.declared_names.specs.Names.{place_of, IsDeclared}
-
--- whether a declaration has the name
-abbrev pub has_name : List ℕ → Declaration → Bool
-has_name name d = str_eq_ignore_ascii_case d.name name
 
 -- the order by the keys of the sort
 abbrev pub key_before : NameUse → NameUse → Bool
@@ -44,10 +41,6 @@ none_has ds name absent = by (list_any (has_name name) ds) refl
 -- whether a use has the name
 abbrev pub uses_name : List ℕ → NameUse → Bool
 uses_name name u = str_eq_ignore_ascii_case u.name name
-
--- the declarations with one more, unless its name is there
-abbrev pub declared_with : List Declaration → NameUse → List Declaration
-declared_with ds u = if list_any (has_name u.name) ds then ds else ds ++ declaration_of u ∷ []
 
 abbrev pub entry_of : ℕ × NameUse → Declaration
 entry_of e = declaration_of e.1

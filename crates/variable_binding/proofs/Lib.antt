@@ -1,4 +1,3 @@
-pub mod Lists
 pub mod Dots
 pub mod FindingLemmas
 pub mod NameFaults

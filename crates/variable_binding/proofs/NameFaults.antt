@@ -23,7 +23,7 @@ use Rattle.variable_binding.specs.Lookup.{declared_at, is_dotted}
 use Rattle.variable_binding.specs.BindFaults.{IsVariable, IsNameOf, IsUndeclared, IsVariableName, IsOutputName, CannotRead, reads_part, reads_instance, reads_other, CannotStore, stores_dotted, stores_instance, stores_other, IsInputName, LacksOutput, in_range}
 use Rattle.variable_binding.specs.Steps.BoxFindings.{same_kind, wants, output_kind, declared_kind, kind_if_declared, name_kind, read_name_fault, literal_fault, store_declared_fault, store_name_fault}
 use Rattle.variable_binding.specs.Steps.ElementFindings.{write_fault, as_variable, fault_with}
-use Rattle.variable_binding.specs.Steps.Named.{IsVariableAt}
+use Rattle.variable_binding.specs.Steps.Named.{IsDeclaredVariable}
 use Rattle.variable_binding.proofs.Dots.{no_dot}
 
 -- what is wrong with reading a name, kind by kind
@@ -316,10 +316,10 @@ stored_kind (Local j) k e = go (same_kind k j) refl e
 stored_kind (Instance block) k e = absurd (cc)
 
 -- a name at which nothing is wrong with storing a value of a kind is that of a variable of this kind
-pub stored_variable : (ds : List Declaration) (text : List ℕ) (k : Kind) → store_name_fault (Some k) (is_dotted text) (declared_at ds (before_first is_dot text)) ≡ None → IsVariableAt ds text k
+pub stored_variable : (ds : List Declaration) (text : List ℕ) (k : Kind) → store_name_fault (Some k) (is_dotted text) (declared_at ds (before_first is_dot text)) ≡ None → IsDeclaredVariable ds text k
 stored_variable ds text k e = by (is_dotted text) refl (declared_at ds (before_first is_dot text)) refl e
   where
-    by : (dotted : Bool) → is_dotted text ≡ dotted → (o : Option Declared) → declared_at ds (before_first is_dot text) ≡ o → store_name_fault (Some k) dotted o ≡ None → IsVariableAt ds text k
+    by : (dotted : Bool) → is_dotted text ≡ dotted → (o : Option Declared) → declared_at ds (before_first is_dot text) ≡ o → store_name_fault (Some k) dotted o ≡ None → IsDeclaredVariable ds text k
     by dotted dot None at e' = absurd (cc)
     by true dot (Some w) at e' = absurd (cc)
     by false dot (Some w) at e' = (w, ap (declared_at ds) (sym (no_dot text dot).0) ∙ at, stored_kind w k e')

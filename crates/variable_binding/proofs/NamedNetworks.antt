@@ -11,7 +11,7 @@ use Rattle.declared_names.specs.declared.declarations.Kind.TheVariants as kind
 use Rattle.declared_names.specs.Names.{is_dot}
 use Rattle.variable_binding.specs.Lookup.{declared_at, is_dotted}
 use Rattle.variable_binding.specs.Binding.{IsBoundNetwork}
-use Rattle.variable_binding.specs.Steps.Named.{IsNamedBox, IsVariableAt, AreNamed}
+use Rattle.variable_binding.specs.Steps.Named.{IsNamedBox, IsDeclaredVariable, AreNamed}
 use Rattle.variable_binding.specs.Steps.ElementFindings.{IsBound, HasNoFinding, variable_declared}
 use Rattle.variable_binding.proofs.FaultsFound.{no_finding}
 use Rattle.variable_binding.proofs.BoxesFaults.{here_none, named_box}
@@ -27,7 +27,7 @@ are_named ds es bound = record { boxes = boxes; coils = coils }
     boxes : (b : DrawnBox) → Contains es (Box b) → IsNamedBox ds b
     boxes b in' = named_box ds es b (All-contains (IsBound ds es) es (Box b) each in')
 
-    coils : (c : DrawnCoil) → Contains es (Coil c) → IsVariableAt ds c.name kind.Bool
+    coils : (c : DrawnCoil) → Contains es (Coil c) → IsDeclaredVariable ds c.name kind.Bool
     coils c in' =
         let right = All-contains (IsBound ds es) es (Coil c) each in' in
         stored_variable ds c.name kind.Bool

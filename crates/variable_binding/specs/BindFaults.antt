@@ -85,16 +85,20 @@ IsVariableName ds text k = (w : Declared) × IsNameOf ds text w × IsVariable w 
 
 -- the name is that of an output pin of an instance, with values of this kind
 abbrev pub IsOutputName : List Declaration → List ℕ → Kind → Type 0
-IsOutputName ds text k = (block : BlockType) × (field : Field) × IsNameOf ds text (Instance block) × (pin_of block (after_first is_dot text) ≡ Some (output field)) × (field_kind field ≡ k)
+IsOutputName ds text k = (block : BlockType) × (field : Field) × IsNameOf ds text (Instance block)
+    × (pin_of block (after_first is_dot text) ≡ Some (output field)) × (field_kind field ≡ k)
 
 -- A name that is declared can't be read where a value of a kind is wanted.
 pub data CannotRead (ds : List Declaration) (text : List ℕ) (want : Option Kind) : Type 0 where
   -- behind the name of a variable a dot stands with a part
-  reads_part : (w : Declared) (k : Kind) → IsNameOf ds text w → IsVariable w k → (IsWhole text → ⊥) → CannotRead ds text want
+  reads_part : (w : Declared) (k : Kind) → IsNameOf ds text w → IsVariable w k → (IsWhole text → ⊥)
+      → CannotRead ds text want
   -- it is the name of an instance
-  reads_instance : (block : BlockType) (k : Kind) → IsNameOf ds text (Instance block) → IsWhole text → want ≡ Some k → CannotRead ds text want
+  reads_instance : (block : BlockType) (k : Kind) → IsNameOf ds text (Instance block) → IsWhole text
+      → want ≡ Some k → CannotRead ds text want
   -- its value is of another kind
-  reads_other : (j k : Kind) → IsVariableName ds text j ⊎ IsOutputName ds text j → want ≡ Some k → (j ≡ k → ⊥) → CannotRead ds text want
+  reads_other : (j k : Kind) → IsVariableName ds text j ⊎ IsOutputName ds text j → want ≡ Some k → (j ≡ k → ⊥)
+      → CannotRead ds text want
 
 -- A name that is declared can't be stored at with a value of a kind.
 pub data CannotStore (ds : List Declaration) (text : List ℕ) (want : Option Kind) : Type 0 where
@@ -103,15 +107,18 @@ pub data CannotStore (ds : List Declaration) (text : List ℕ) (want : Option Ki
   -- it is the name of an instance
   stores_instance : (block : BlockType) → IsNameOf ds text (Instance block) → CannotStore ds text want
   -- it is the name of a variable of another kind
-  stores_other : (w : Declared) (j k : Kind) → IsNameOf ds text w → IsVariable w j → want ≡ Some k → (j ≡ k → ⊥) → CannotStore ds text want
+  stores_other : (w : Declared) (j k : Kind) → IsNameOf ds text w → IsVariable w j → want ≡ Some k → (j ≡ k → ⊥)
+      → CannotStore ds text want
 
 -- the name is that of an input, of the kind that is stored
 abbrev pub IsInputName : List Declaration → List ℕ → Option Kind → Type 0
-IsInputName ds text want = (k : Kind) × IsNameOf ds text (Input k) × IsFalse (is_dotted text) × ((w : Kind) → want ≡ Some w → w ≡ k)
+IsInputName ds text want = (k : Kind) × IsNameOf ds text (Input k) × IsFalse (is_dotted text)
+    × ((w : Kind) → want ≡ Some w → w ≡ k)
 
 -- what stands behind the dot, after the name of an instance, isn't the name of an output pin of its type
 abbrev pub LacksOutput : List Declaration → List ℕ → Type 0
-LacksOutput ds text = (block : BlockType) × IsNameOf ds text (Instance block) × (IsWhole text → ⊥) × ((field : Field) → pin_of block (after_first is_dot text) ≡ Some (output field) → ⊥)
+LacksOutput ds text = (block : BlockType) × IsNameOf ds text (Instance block) × (IsWhole text → ⊥)
+    × ((field : Field) → pin_of block (after_first is_dot text) ≡ Some (output field) → ⊥)
 
 -- this text is the operand of a pin on this side of the box, at this place, where a value of this kind is wanted
 pub record IsOperand (b : DrawnBox) (side : Side) (text : List ℕ) (want : Option Kind) (p : Place) : Type 0 where
@@ -124,7 +131,8 @@ pub record IsOperand (b : DrawnBox) (side : Side) (text : List ℕ) (want : Opti
   pub want_is : kind_at (own_field b pin) ≡ want
   pub place_is : place pin.row operand.column ≡ p
 
--- the element reads at this place the name of a value that is to be of this kind: a contact, and an operand on the left of a box
+-- the element reads at this place the name of a value that is to be of this kind: a contact,
+-- and an operand on the left of a box
 abbrev pub Reads : Element → Place → List ℕ → Option Kind → Type 0
 Reads (Wire at) p text want = ⊥
 Reads (Join at) p text want = ⊥
@@ -153,7 +161,8 @@ IsBox P (Box b) = P b
 
 -- a number or a duration with this value is the operand of a pin on this side, where a value of this kind is wanted
 abbrev pub HasLiteral : Side → Place → Value → Option Kind → Element → Type 0
-HasLiteral side p v want e = IsBox (λ b. (text : List ℕ) × IsOperand b side text want p × (literal_value text ≡ Some v)) e
+HasLiteral side p v want e =
+    IsBox (λ b. (text : List ℕ) × IsOperand b side text want p × (literal_value text ≡ Some v)) e
 
 -- the pin k of a box is this one, and stands at p
 abbrev pub IsPinAt : DrawnBox → ℕ → DrawnPin → Place → Type 0
@@ -188,11 +197,13 @@ IsNamedByNone ds p b = (corner b ≡ p) × (declared_at ds b.instance ≡ None)
 
 -- a box's name is declared, and not as an instance of its type
 abbrev pub IsNamedOtherwise : List Declaration → Place → DrawnBox → Type 0
-IsNamedOtherwise ds p b = (w : Declared) × (corner b ≡ p) × (declared_at ds b.instance ≡ Some w) × (w ≡ Instance b.block → ⊥)
+IsNamedOtherwise ds p b = (w : Declared) × (corner b ≡ p) × (declared_at ds b.instance ≡ Some w)
+    × (w ≡ Instance b.block → ⊥)
 
 -- a line lies at an INT or TIME pin of a box
 abbrev pub HasLinedPin : List Element → Place → DrawnBox → Type 0
-HasLinedPin elements p b = (k : ℕ) × (pin : DrawnPin) × (field : Field) × IsPinAt b k pin p × (own_field b pin ≡ Some field) × (field_kind field ≡ kind.Bool → ⊥) × HasLine elements pin.side p
+HasLinedPin elements p b = (k : ℕ) × (pin : DrawnPin) × (field : Field) × IsPinAt b k pin p
+    × (own_field b pin ≡ Some field) × (field_kind field ≡ kind.Bool → ⊥) × HasLine elements pin.side p
 
 -- a pin is drawn that the box's type doesn't have on that side
 abbrev pub HasForeignPin : Place → DrawnBox → Type 0
@@ -200,24 +211,32 @@ HasForeignPin p b = (k : ℕ) × (pin : DrawnPin) × IsPinAt b k pin p × (own_f
 
 -- a pin is drawn that is the same pin of the type as one drawn before it
 abbrev pub HasSecondPin : Place → DrawnBox → Type 0
-HasSecondPin p b = (j k : ℕ) × (earlier pin : DrawnPin) × (found : Pin) × (j < k) × (slice_get b.pins j ≡ Some earlier) × IsPinAt b k pin p
+HasSecondPin p b = (j k : ℕ) × (earlier pin : DrawnPin) × (found : Pin) × (j < k)
+    × (slice_get b.pins j ≡ Some earlier) × IsPinAt b k pin p
     × (pin_of b.block earlier.name ≡ Some found) × (pin_of b.block pin.name ≡ Some found)
 
 -- on this side of a box no Boolean pin of its type is drawn
 abbrev pub LacksBit : Place → Side → DrawnBox → Type 0
-LacksBit p side b = (corner b ≡ p) × ((pin : DrawnPin) (n : ℕ) → Contains b.pins pin → pin.side ≡ side → own_field b pin ≡ Some (Bit n) → ⊥)
+LacksBit p side b = (corner b ≡ p)
+    × ((pin : DrawnPin) (n : ℕ) → Contains b.pins pin → pin.side ≡ side → own_field b pin ≡ Some (Bit n) → ⊥)
 
 -- UnknownName: a name is read or stored at that isn't declared, or a box is named by it.
 pub data IsUnknownName (ds : List Declaration) (e : Element) (p : Place) : Type 0 where
-  unknown_read : (text : List ℕ) (want : Option Kind) → Reads e p text want → IsUndeclared ds text → IsUnknownName ds e p
-  unknown_stored : (text : List ℕ) (want : Option Kind) → Stores e p text want → IsUndeclared ds text → IsUnknownName ds e p
+  unknown_read : (text : List ℕ) (want : Option Kind) → Reads e p text want → IsUndeclared ds text
+      → IsUnknownName ds e p
+  unknown_stored : (text : List ℕ) (want : Option Kind) → Stores e p text want → IsUndeclared ds text
+      → IsUnknownName ds e p
   unknown_box : IsBox (IsNamedByNone ds p) e → IsUnknownName ds e p
 
--- WrongKind: what is declared, or a literal, is of another kind than is wanted; a line lies at an INT or TIME pin; a box's name is declared otherwise.
+-- WrongKind: what is declared, or a literal, is of another kind than is wanted; a line lies at an INT or TIME pin;
+-- a box's name is declared otherwise.
 pub data IsWrongKind (ds : List Declaration) (elements : List Element) (e : Element) (p : Place) : Type 0 where
-  wrong_read : (text : List ℕ) (want : Option Kind) → Reads e p text want → CannotRead ds text want → IsWrongKind ds elements e p
-  wrong_stored : (text : List ℕ) (want : Option Kind) → Stores e p text want → CannotStore ds text want → IsWrongKind ds elements e p
-  wrong_literal : (v : Value) (k : Kind) → HasLiteral Left p v (Some k) e → (kind_of v ≡ k → ⊥) → IsWrongKind ds elements e p
+  wrong_read : (text : List ℕ) (want : Option Kind) → Reads e p text want → CannotRead ds text want
+      → IsWrongKind ds elements e p
+  wrong_stored : (text : List ℕ) (want : Option Kind) → Stores e p text want → CannotStore ds text want
+      → IsWrongKind ds elements e p
+  wrong_literal : (v : Value) (k : Kind) → HasLiteral Left p v (Some k) e → (kind_of v ≡ k → ⊥)
+      → IsWrongKind ds elements e p
   literal_stored : (v : Value) (want : Option Kind) → HasLiteral Right p v want e → IsWrongKind ds elements e p
   wrong_line : IsBox (HasLinedPin elements p) e → IsWrongKind ds elements e p
   wrong_box : IsBox (IsNamedOtherwise ds p) e → IsWrongKind ds elements e p
@@ -226,9 +245,11 @@ pub data IsWrongKind (ds : List Declaration) (elements : List Element) (e : Elem
 abbrev pub IsWritesInput : List Declaration → Element → Place → Type 0
 IsWritesInput ds e p = (text : List ℕ) × (want : Option Kind) × Stores e p text want × IsInputName ds text want
 
--- UnknownPin: a pin of a box that its type doesn't have there, or that is drawn twice, or a name that is read as an output pin of an instance that its type doesn't have.
+-- UnknownPin: a pin of a box that its type doesn't have there, or that is drawn twice,
+-- or a name that is read as an output pin of an instance that its type doesn't have.
 pub data IsUnknownPin (ds : List Declaration) (e : Element) (p : Place) : Type 0 where
-  unknown_output : (text : List ℕ) (want : Option Kind) → Reads e p text want → LacksOutput ds text → IsUnknownPin ds e p
+  unknown_output : (text : List ℕ) (want : Option Kind) → Reads e p text want → LacksOutput ds text
+      → IsUnknownPin ds e p
   foreign_pin : IsBox (HasForeignPin p) e → IsUnknownPin ds e p
   second_pin : IsBox (HasSecondPin p) e → IsUnknownPin ds e p
 

@@ -20,18 +20,23 @@ kind_rank LiteralOutOfRange = 6
 kind_rank Memory = 7
 
 -- f comes no later than g: by kind, then by row, then by column
-abbrev pub IsUpTo : Finding → Finding → Type 0
-IsUpTo f g = (kind_rank f.kind < kind_rank g.kind)
+abbrev pub ComesNoLater : Finding → Finding → Type 0
+ComesNoLater f g = (kind_rank f.kind < kind_rank g.kind)
     ⊎ ((kind_rank f.kind ≡ kind_rank g.kind) × ((f.row < g.row) ⊎ ((f.row ≡ g.row) × (f.column ≤ g.column))))
 
 -- a fault as it is answered, in a drawing whose first line has this number
 abbrev pub bind_fault : ℕ → Finding → BindFault
-bind_fault first_line f = record { kind = f.kind; line = min (first_line + f.row) 18446744073709551615 - 1; column = f.column }
+bind_fault first_line f = record {
+  kind = f.kind;
+  line = min (first_line + f.row) 18446744073709551615 - 1;
+  column = f.column;
+}
 
 -- one of the networks has this fault
 abbrev pub IsFault : List Declaration → List (List Element) → Finding → Type 0
 IsFault ds networks f = Any (λ elements. IsFaultIn ds elements f.kind (place f.row f.column)) networks
 
 -- the fault is the first one of the graph's networks, by kind and place
-abbrev pub IsFirstFault : List Declaration → GraphValue → BindFault → Type 0
-IsFirstFault ds graph fault = (f : Finding) × (fault ≡ bind_fault graph.first_line f) × IsFault ds graph.networks f × ((g : Finding) → IsFault ds graph.networks g → IsUpTo f g)
+abbrev pub IsFirstBindFault : List Declaration → GraphValue → BindFault → Type 0
+IsFirstBindFault ds graph fault = (f : Finding) × (fault ≡ bind_fault graph.first_line f)
+    × IsFault ds graph.networks f × ((g : Finding) → IsFault ds graph.networks g → ComesNoLater f g)

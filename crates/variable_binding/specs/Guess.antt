@@ -19,8 +19,10 @@ use Rattle.variable_binding.specs.PinKinds.{pin_kind}
 -- a word is a name by itself: it begins with no digit, as numbers do, and has neither a dot nor the # of a duration
 abbrev pub is_plain : List ℕ → Bool
 is_plain [] = false
-is_plain (c ∷ word) = not (is_ascii_digit c) && not (list_any (λ b. b == 46) (c ∷ word)) && not (list_any (λ b. b == 35) (c ∷ word))
+is_plain (c ∷ word) =
+    not (is_ascii_digit c) && not (list_any (λ b. b == 46) (c ∷ word)) && not (list_any (λ b. b == 35) (c ∷ word))
 
+-- a use of its parts
 abbrev pub name_use : ℕ → ℕ → List ℕ → Declared → NameUse
 name_use row column name declared = record { row = row; column = column; name = name; declared = declared }
 
@@ -30,7 +32,8 @@ word_uses row column word declared = if is_plain word then name_use row column w
 
 -- the name at a pin is a local of the pin's kind
 abbrev pub pin_uses : BlockType → DrawnPin → List NameUse
-pin_uses block pin = option_map_or (λ operand. word_uses pin.row operand.column operand.text (Local (pin_kind block pin))) pin.operand []
+pin_uses block pin =
+    option_map_or (λ operand. word_uses pin.row operand.column operand.text (Local (pin_kind block pin))) pin.operand []
 
 -- the name of a symbol is a local BOOL, that of a box an instance of its type
 abbrev pub element_uses : Element → List NameUse
@@ -53,14 +56,18 @@ is_before u v = nat_lt u.row v.row || (u.row == v.row && nat_lt u.column v.colum
 abbrev pub is_first : List NameUse → ℕ → NameUse → Bool
 is_first uses k u = not (list_any (λ v. str_eq_ignore_ascii_case v.name u.name) (take k uses))
 
+-- what a use declares
 abbrev pub declaration_of : NameUse → Declaration
 declaration_of u = record { name = u.name; declared = u.declared }
 
 -- the first use of each name, in order
 unfoldable pub first_uses : List NameUse → List Declaration
-first_uses uses = map (λ (e : ℕ × NameUse). declaration_of e.1) (filter (λ (e : ℕ × NameUse). is_first uses e.0 e.1) (enumerate_from 0 uses))
+first_uses uses =
+    map (λ (e : ℕ × NameUse). declaration_of e.1)
+    (filter (λ (e : ℕ × NameUse). is_first uses e.0 e.1) (enumerate_from 0 uses))
 
--- The declarations of a drawing by the uses of its names: all uses are put in order by row and then column, and the first of each name declares it.
+-- The declarations of a drawing by the uses of its names: all uses are put in order by row and then column,
+-- and the first of each name declares it.
 -- Uses at one place keep their order; no drawing has two.
 pub record AreGuessed (graph : GraphValue) (declarations : List Declaration) : Type 0 where
   pub uses : List NameUse

@@ -5,6 +5,7 @@ use Rattle.std_blocks.specs.declared.value.Value.TheVariants.{Bool as BoolValue,
 use Rattle.declared_names.specs.declared.declarations.Kind.{Kind}
 use Rattle.declared_names.specs.declared.declarations.Kind.TheVariants as kind
 
+-- the kind of a value
 abbrev pub kind_of : Value → Kind
 kind_of (BoolValue b) = kind.Bool
 kind_of (IntValue n) = kind.Int

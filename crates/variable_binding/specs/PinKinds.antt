@@ -22,6 +22,10 @@ abbrev pub stands_on : Side → Pin → Bool
 stands_on Left pin = pin.left
 stands_on Right pin = if pin.left then false else true
 
+-- the kind of a pin of the type on this side: BOOL if it stands on the other
+abbrev pub kind_on : Side → Pin → Kind
+kind_on side found = if stands_on side found then field_kind found.field else kind.Bool
+
 -- the kind of a drawn pin: BOOL if its type has no such pin on that side
 abbrev pub pin_kind : BlockType → DrawnPin → Kind
-pin_kind block pin = option_map_or (λ found. if stands_on pin.side found then field_kind found.field else kind.Bool) (pin_of block pin.name) kind.Bool
+pin_kind block pin = option_map_or (kind_on pin.side) (pin_of block pin.name) kind.Bool

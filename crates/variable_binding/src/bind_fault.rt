@@ -1,7 +1,3 @@
-use crate::element_faults::first_finding;
-use crate::finding::fault_at;
-use declared_names::Declarations;
-use network::Graph;
 use thiserror::Error;
 
 /// The kinds of faults of names, in the order in which they are sought.
@@ -32,25 +28,4 @@ pub struct BindFault {
     pub line: u64,
     /// The column, from 1 on.
     pub column: usize,
-}
-
-impl BindFault {
-    ghost use Rattle.std.specs.Prelude.{◌≡◌, ◌≢◌, All, IfSome, None};
-    ghost use Rattle.variable_binding.specs.Binding.{IsBoundNetwork};
-    ghost use Rattle.variable_binding.specs.Findings.{IsFirstFault};
-    ghost use Rattle.variable_binding.specs.Steps.Named.{AreNamed};
-
-    /// The first fault of the names of a graph, by its kind and then by its place; None where nothing is wrong.
-    pub fn first(declarations: &Declarations, graph: &Graph) -> Option<BindFault>
-        ensures bound { result ≡ None → All (IsBoundNetwork declarations.now) graph.now.networks }
-        ensures named { result ≡ None → All (AreNamed declarations.now) graph.now.networks }
-        ensures only { IfSome result (λ fault. All (IsBoundNetwork declarations.now) graph.now.networks → ⊥) }
-        ensures first { IfSome result (IsFirstFault declarations.now graph.now) }
-        ensures kind { IfSome result (λ fault. fault.kind ≢ BindKind.Memory) }
-    {
-        match first_finding(declarations, graph.networks()) {
-            Some(finding) => Some(fault_at(graph.first_line(), finding)),
-            None => None,
-        }
-    }
 }

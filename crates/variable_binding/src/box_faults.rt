@@ -1,11 +1,9 @@
 ghost use Rattle.std.specs.Prelude.{◌≡◌, [], ◌∷◌, ◌==◌, ◌&&◌, ◌<◌, ◌≤◌, ◌-◌, ◌+◌, ◌++◌, ℕ, List, Some, nat_lt, not, length, slice_index_or, slice_get, take, drop};
-ghost use Rattle.std.specs.List.{list_any, before_first};
+ghost use Rattle.std.specs.List.{list_any};
 ghost use Rattle.std_blocks.specs.Pins.{pin_of};
 ghost use Rattle.drawings.specs.declared.drawn_box.DrawnPin.{DrawnPin};
-ghost use Rattle.declared_names.specs.Names.{is_dot};
-ghost use Rattle.variable_binding.specs.Lookup.{declared_at, is_dotted};
-ghost use Rattle.variable_binding.specs.Steps.ElementFindings.{IsFirstOf};
-ghost use Rattle.variable_binding.specs.Steps.BoxFindings.{same_kind, wants, output_kind, declared_kind, name_kind, read_name_fault, literal_of, literal_fault, literal_kind_fault, store_name_fault, read_fault_at, store_declared_fault, store_fault_at, operand_fault, field_on, own_field, kind_at, fault_here, fault_if, type_number, instance_fault, same_side, is_bit, has_bit, same_field, same_pin, is_among, pin_fault, operand_finding, is_beside, has_line, line_fault, pin_findings, corner_findings, pins_findings, box_findings, side_place, corner};
+ghost use Rattle.variable_binding.specs.Steps.ElementFindings.{IsFirstFinding};
+ghost use Rattle.variable_binding.specs.Steps.BoxFindings.{same_kind, wants, output_kind, declared_kind, name_kind, read_name_fault, literal_of, literal_fault, literal_kind_fault, stored_name_fault, read_fault_at, store_declared_fault, store_fault_at, operand_fault, field_on, own_field, kind_at, fault_here, fault_if, type_number, instance_fault, same_side, is_bit, has_bit, same_field, same_pin, is_among, pin_fault, operand_finding, is_beside, has_line, line_fault, pin_findings, corner_findings, pins_findings, box_findings, side_place, corner};
 
 use crate::bind_fault::BindKind;
 use crate::finding::{Finding, earlier};
@@ -166,7 +164,7 @@ fn store_name_fault(
     want: Option<Kind>,
     text: &Text,
 ) -> Option<BindKind>
-    ensures { result ≡ store_name_fault want (is_dotted text.now) (declared_at declarations.now (before_first is_dot text.now)) }
+    ensures { result ≡ stored_name_fault declarations.now want text.now }
 {
     let (first, _) = parts(text);
     match declared_at(declarations, first) {
@@ -428,7 +426,7 @@ fn first_of_three(
     two: Option<Finding>,
     three: Option<Finding>,
 ) -> Option<Finding>
-    ensures { IsFirstOf (one ∷ two ∷ three ∷ []) result }
+    ensures { IsFirstFinding (one ∷ two ∷ three ∷ []) result }
 {
     let first = earlier(one, two);
     earlier(first, three)
@@ -444,7 +442,7 @@ fn pin_finding(
     pin: &DrawnPin,
 ) -> Option<Finding>
     requires { k ≤ length drawn.now.pins }
-    ensures { IsFirstOf (pin_findings declarations.now elements.now drawn.now k pin.now) result }
+    ensures { IsFirstFinding (pin_findings declarations.now elements.now drawn.now k pin.now) result }
 {
     let field = own_field(drawn, pin);
     let twice = is_among(drawn.block, &drawn.pins.as_slice()[..k], pin.name.as_str());
@@ -459,7 +457,7 @@ fn pin_finding(
 /// The first fault of a box at its corner.
 #[tactic(auto, unfolding(crate::specs::Steps::BoxFindings::corner_findings))]
 fn corner_finding(declarations: &Declarations, drawn: &DrawnBox) -> Option<Finding>
-    ensures { IsFirstOf (corner_findings declarations.now drawn.now) result }
+    ensures { IsFirstFinding (corner_findings declarations.now drawn.now) result }
 {
     let place = Place {
         row: drawn.top,
@@ -485,7 +483,7 @@ pub fn box_finding(
     elements: &[Element],
     drawn: &DrawnBox,
 ) -> Option<Finding>
-    ensures { IsFirstOf (box_findings declarations.now elements.now drawn.now) result }
+    ensures { IsFirstFinding (box_findings declarations.now elements.now drawn.now) result }
 {
     let mut first = corner_finding(declarations, drawn);
     let pins = drawn.pins.as_slice();

@@ -1,7 +1,7 @@
 //! The first fault of the names at elements.
 
 ghost use Rattle.std.specs.Prelude.{◌≡◌, Some};
-ghost use Rattle.variable_binding.specs.Steps.ElementFindings.{kind_fault, write_fault, fault_with, variable_declared, element_findings, IsFirstOf, network_findings, findings};
+ghost use Rattle.variable_binding.specs.Steps.ElementFindings.{kind_fault, write_fault, fault_with, variable_declared, element_findings, IsFirstFinding, network_findings, findings};
 ghost use Rattle.variable_binding.specs.Steps.BoxFindings.{read_name_fault, name_kind};
 
 use crate::bind_fault::BindKind;
@@ -71,7 +71,7 @@ fn element_finding(
     elements: &[Element],
     element: &Element,
 ) -> Option<Finding>
-    ensures { IsFirstOf (element_findings declarations.now elements.now element.now) result }
+    ensures { IsFirstFinding (element_findings declarations.now elements.now element.now) result }
 {
     match element {
         Element::Wire(_) | Element::Join(_) | Element::Upright(_) => None,
@@ -95,7 +95,7 @@ fn element_finding(
 
 /// The first fault of a network.
 fn network_finding(declarations: &Declarations, elements: &[Element]) -> Option<Finding>
-    ensures { IsFirstOf (network_findings declarations.now elements.now) result }
+    ensures { IsFirstFinding (network_findings declarations.now elements.now) result }
 {
     let mut first = None;
     for element in elements {
@@ -106,7 +106,7 @@ fn network_finding(declarations: &Declarations, elements: &[Element]) -> Option<
 
 /// The first fault of all networks.
 pub fn first_finding(declarations: &Declarations, networks: &[Network]) -> Option<Finding>
-    ensures { IsFirstOf (findings declarations.now networks.now) result }
+    ensures { IsFirstFinding (findings declarations.now networks.now) result }
 {
     let mut first = None;
     for network in networks {

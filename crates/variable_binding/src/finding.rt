@@ -1,7 +1,7 @@
 ghost use Rattle.std.specs.Prelude.{◌≡◌};
 ghost use Rattle.std.specs.Bool.{OnTrue, OnFalse};
-ghost use Rattle.variable_binding.specs.Findings.{kind_rank, IsUpTo, bind_fault};
-ghost use Rattle.variable_binding.specs.Steps.Earlier.{IsEarlier};
+ghost use Rattle.variable_binding.specs.Findings.{kind_rank, ComesNoLater, bind_fault};
+ghost use Rattle.variable_binding.specs.Steps.Earlier.{IsEarlierFinding};
 
 use crate::bind_fault::{BindFault, BindKind};
 
@@ -30,8 +30,8 @@ fn kind_rank(kind: BindKind) -> u8
 
 /// Whether a fault comes no later than another: by kind, then by row, then by column.
 fn is_up_to(one: Finding, other: Finding) -> bool
-    ensures yes { OnTrue result (IsUpTo one other) }
-    ensures no { OnFalse result (IsUpTo other one) }
+    ensures yes { OnTrue result (ComesNoLater one other) }
+    ensures no { OnFalse result (ComesNoLater other one) }
 {
     let first = kind_rank(one.kind);
     let second = kind_rank(other.kind);
@@ -46,7 +46,7 @@ fn is_up_to(one: Finding, other: Finding) -> bool
 
 /// The one that comes first.
 pub fn earlier(one: Option<Finding>, other: Option<Finding>) -> Option<Finding>
-    ensures { IsEarlier one other result }
+    ensures { IsEarlierFinding one other result }
 {
     match (one, other) {
         (found, None) => found,

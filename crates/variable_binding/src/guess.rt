@@ -1,8 +1,8 @@
-ghost use Rattle.std.specs.Prelude.{◌≡◌, ◌++◌, ◌∷◌, [], map, take, filter, OnOk, IfOk, if◌then◌else◌};
-ghost use Rattle.std.specs.List.{list_any, flat_map};
+ghost use Rattle.std.specs.Prelude.{◌≡◌, ◌++◌, ◌∷◌, [], map, take, filter, OnOk, IfOk};
+ghost use Rattle.std.specs.List.{flat_map};
 ghost use Rattle.std.specs.List.Sorted.{IsPermutation, IsSortedBy, IsStableBy};
-ghost use Rattle.std.specs.Str.{str_eq_ignore_ascii_case};
-ghost use Rattle.variable_binding.specs.Guess.{is_plain, name_use, word_uses, pin_uses, element_uses, uses_of, is_before, declaration_of, first_uses, AreGuessed};
+ghost use Rattle.variable_binding.specs.Guess.{is_plain, name_use, word_uses, pin_uses, element_uses, uses_of, is_before, first_uses, AreGuessed};
+ghost use Rattle.variable_binding.specs.Steps.Guessing.{declared_with};
 
 use crate::kinds::kind_of_pin;
 use crate::name_use::NameUse;
@@ -158,8 +158,7 @@ fn all_uses(alloc: Global, networks: &[Network]) -> Result<Vec<NameUse>, AllocEr
 
 /// Declares the name of a use, unless it is declared already.
 fn declare(declarations: &mut Declarations, first: &NameUse) -> Result<(), AllocError>
-    ensures { OnOk result (declarations.new ≡ (if list_any (λ d. str_eq_ignore_ascii_case d.name first.now.name) declarations.old
-        then declarations.old else declarations.old ++ declaration_of first.now ∷ [])) }
+    ensures { OnOk result (declarations.new ≡ declared_with declarations.old first.now) }
 {
     declared_names_have_places();
     if declarations.position_of(first.name.as_bytes()).is_some() {

@@ -5,6 +5,7 @@ mod bind_fault;
 mod box_faults;
 mod element_faults;
 mod finding;
+mod first_fault;
 mod guess;
 mod kinds;
 mod literal;

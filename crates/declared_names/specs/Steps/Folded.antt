@@ -6,4 +6,5 @@ use Rattle.declared_names.specs.declared.declarations.Declaration.{Declaration}
 
 -- each entry stands at its name in small letters
 abbrev pub AreFolded : {A : Type 0} → List (Vec ℕ A × Declaration) → Type 0
-AreFolded {A} entries = AllByRecursion (λ (e : Vec ℕ A × Declaration). e.0.items ≡ str_to_ascii_lowercase e.1.name) entries
+AreFolded {A} entries =
+    AllByRecursion (λ (e : Vec ℕ A × Declaration). e.0.items ≡ str_to_ascii_lowercase e.1.name) entries

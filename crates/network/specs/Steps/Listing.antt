@@ -3,22 +3,16 @@ use Rattle.std.specs.Prelude.{◌≡◌, ℕ, ◌<◌, List, Some, slice_get, Op
 use Rattle.drawings.specs.Picture.{Picture}
 use Rattle.drawings.specs.declared.place.Place.{Place}
 use Rattle.network.specs.declared.element.Element.{Element}
-use Rattle.network.specs.declared.numbering.Spot.{Spot}
-use Rattle.network.specs.Steps.Numbers.{IsSpot}
 use Rattle.network.specs.Apart.{first_place}
 use Rattle.network.specs.Networks.{IsElementOf, Precedes}
-
--- each of these places has its position as owner
-pub record IsIndex (places : List Place) (spots : List Spot) : Type 0 where
-  pub owned : (n : ℕ) (s : Spot) → slice_get spots n ≡ Some s → slice_get places s.element ≡ Some s.place
-  pub whole : (k : ℕ) (p : Place) → slice_get places k ≡ Some p → (n : ℕ) × IsSpot spots n p
 
 -- the elements of the drawing that begin before a place, by column and then row
 pub record AreElementsBefore (g : Picture) (at : Place) (elements : List Element) : Type 0 where
   pub drawn : (k : ℕ) (e : Element) → slice_get elements k ≡ Some e → IsElementOf g e
   pub before : (k : ℕ) (e : Element) → slice_get elements k ≡ Some e → Precedes (first_place e) at
   pub whole : (e : Element) → IsElementOf g e → Precedes (first_place e) at → (k : ℕ) × (slice_get elements k ≡ Some e)
-  pub rising : (j k : ℕ) (e f : Element) → j < k → slice_get elements j ≡ Some e → slice_get elements k ≡ Some f → Precedes (first_place e) (first_place f)
+  pub rising : (j k : ℕ) (e f : Element) → j < k → slice_get elements j ≡ Some e → slice_get elements k ≡ Some f
+      → Precedes (first_place e) (first_place f)
 
 -- what was found, if anything, is added at the end
 abbrev pub AddsFound : Option Element → List Element → List Element → Type 0
@@ -30,6 +24,7 @@ pub record IsTheElementAt (g : Picture) (p : Place) (e : Element) : Type 0 where
   pub begins : first_place e ≡ p
   pub only : (f : Element) → IsElementOf g f → first_place f ≡ p → f ≡ e
 
+-- no element begins at a place
 abbrev pub IsNoElementAt : Picture → Place → Type 0
 IsNoElementAt g p = (f : Element) → IsElementOf g f → first_place f ≡ p → ⊥
 
@@ -37,4 +32,5 @@ IsNoElementAt g p = (f : Element) → IsElementOf g f → first_place f ≡ p �
 pub record AreElementsOf (g : Picture) (elements : List Element) : Type 0 where
   pub drawn : (k : ℕ) (e : Element) → slice_get elements k ≡ Some e → IsElementOf g e
   pub whole : (e : Element) → IsElementOf g e → (k : ℕ) × (slice_get elements k ≡ Some e)
-  pub rising : (j k : ℕ) (e f : Element) → j < k → slice_get elements j ≡ Some e → slice_get elements k ≡ Some f → Precedes (first_place e) (first_place f)
+  pub rising : (j k : ℕ) (e f : Element) → j < k → slice_get elements j ≡ Some e → slice_get elements k ≡ Some f
+      → Precedes (first_place e) (first_place f)

@@ -1,7 +1,7 @@
 -- The numbers of places.
 use Rattle.std.specs.Prelude.{◌≡◌, ◌≢◌, ℕ, List, Option, Some, None, slice_get}
 use Rattle.drawings.specs.declared.place.Place.{Place}
-use Rattle.network.specs.declared.numbering.Spot.{Spot}
+use Rattle.network.specs.declared.places.numbering.Spot.{Spot}
 
 -- the place p has the number k
 abbrev pub IsSpot : List Spot → ℕ → Place → Type 0
@@ -28,9 +28,15 @@ KeepsNumbers place old new = (p : Place) (n : ℕ) → p ≢ place → number_at
 abbrev pub spot : Place → ℕ → Spot
 spot place element = record { place = place; element = element }
 
+-- the place has no number
 abbrev pub IsNoSpot : List Spot → Place → Type 0
 IsNoSpot spots place = (k : ℕ) → IsSpot spots k place → ⊥
 
 -- the place belongs to the element
 abbrev pub IsOwner : List Spot → Place → ℕ → Type 0
 IsOwner spots place element = (k : ℕ) × (slice_get spots k ≡ Some (spot place element))
+
+-- each of these places has its position as owner
+pub record IsIndex (places : List Place) (spots : List Spot) : Type 0 where
+  pub owned : (n : ℕ) (s : Spot) → slice_get spots n ≡ Some s → slice_get places s.element ≡ Some s.place
+  pub whole : (k : ℕ) (p : Place) → slice_get places k ≡ Some p → (n : ℕ) × IsSpot spots n p

@@ -10,13 +10,12 @@ ghost use Rattle.power_flow.specs.declared.steps.circuit.Circuit.{Circuit};
 use crate::binding::box_binding::bind_boxes;
 use crate::steps::circuit::Circuit;
 use crate::steps::fused::fused;
-use crate::steps::rails::Rails;
 use crate::steps::rows::Rows;
 use crate::steps::same_elements::{are_same_elements, are_same_places};
 use crate::steps::step::BoundCoil;
 use crate::steps::steps::steps_of;
 use drawings::Place;
-use network::{Element, Network};
+use network::{Element, Network, Rails};
 use std::alloc::{AllocError, Global};
 use variable_binding::{Declarations, names_of_one_place_are_one};
 

@@ -16,12 +16,11 @@ ghost use Rattle.power_flow.specs.Waiting.{coils_of, boxes_of};
 
 use crate::binding::bound_contact::BoundContact;
 use crate::binding::source::name_source;
-use crate::steps::rails::Rails;
 use crate::steps::row_ends::note_element;
 use crate::steps::rows::Rows;
 use crate::steps::step::Step;
 use drawings::{Contact, DrawnBox, DrawnPin, Place, Side};
-use network::{Element, stands};
+use network::{Element, Rails};
 use std::alloc::{AllocError, Global};
 use variable_binding::Declarations;
 
@@ -66,7 +65,7 @@ fn stands_at(elements: &[Element], k: usize, at: Place) -> bool
     ensures { IsTrue result ↔ (e : Element) × (slice_get elements.now k ≡ Some e) × Stands e at }
 {
     match elements.get(k) {
-        Some(element) => stands(element, at),
+        Some(element) => element.stands_at(at),
         None => false,
     }
 }

@@ -34,6 +34,7 @@ use Rattle.variable_binding.specs.Literals.{literal_value}
 use Rattle.variable_binding.specs.Lookup.{declared_at, is_dotted}
 pub use Rattle.variable_binding.specs.BindFaults.{in_range, field_on, own_field, kind_at, corner, side_place}
 
+-- two kinds are one
 abbrev pub same_kind : Kind → Kind → Bool
 same_kind kind.Bool kind.Bool = true
 same_kind kind.Int kind.Int = true
@@ -55,7 +56,8 @@ abbrev pub output_kind : Option Pin → Result (Option Kind) BindKind
 output_kind None = Err UnknownPin
 output_kind (Some pin) = if pin.left then Err UnknownPin else Ok (Some (field_kind pin.field))
 
--- the kind of the value at a name: that of a variable, or of an output after a dot. A block itself has none, and after a variable's name no dot may stand
+-- the kind of the value at a name: that of a variable, or of an output after a dot. A block itself has none,
+-- and after a variable's name no dot may stand
 abbrev pub declared_kind : Declared → List ℕ → Result (Option Kind) BindKind
 declared_kind (declared.Input k) [] = Ok (Some k)
 declared_kind (declared.Input k) (c ∷ pin) = Err WrongKind
@@ -66,10 +68,12 @@ declared_kind (declared.Local k) (c ∷ pin) = Err WrongKind
 declared_kind (declared.Instance b) [] = Ok None
 declared_kind (declared.Instance b) (c ∷ pin) = output_kind (pin_of b (c ∷ pin))
 
+-- the kind of the value at a name, of which this is declared at its first part
 abbrev pub kind_if_declared : Option Declared → List ℕ → Result (Option Kind) BindKind
 kind_if_declared None pin = Err UnknownName
 kind_if_declared (Some w) pin = declared_kind w pin
 
+-- the kind of the value at a name, or what is wrong with the name by itself
 unfoldable pub name_kind : List Declaration → List ℕ → Result (Option Kind) BindKind
 name_kind ds name = kind_if_declared (declared_at ds (before_first is_dot name)) (after_first is_dot name)
 
@@ -83,11 +87,14 @@ read_name_fault (Some w) (Ok (Some k)) = if same_kind w k then None else Some Wr
 -- what is wrong with a literal where a kind is wanted: its kind, and only then its range
 abbrev pub literal_kind_fault : Option Kind → Kind → Bool → Option BindKind
 literal_kind_fault None k fits = None
-literal_kind_fault (Some w) k fits = if same_kind w k then (if fits then None else Some LiteralOutOfRange) else Some WrongKind
+literal_kind_fault (Some w) k fits =
+    if same_kind w k then (if fits then None else Some LiteralOutOfRange) else Some WrongKind
 
+-- what is wrong with this literal where a kind is wanted
 abbrev pub literal_fault : Option Kind → Value → Option BindKind
 literal_fault want v = literal_kind_fault want (kind_of v) (in_range v)
 
+-- what is wrong with reading a literal, or else a name
 abbrev pub read_fault_by : Option Kind → Option Value → Result (Option Kind) BindKind → Option BindKind
 read_fault_by want (Some v) name = literal_fault want v
 read_fault_by want None name = read_name_fault want name
@@ -103,17 +110,23 @@ store_declared_fault want (declared.Output k) = if wants want k then None else S
 store_declared_fault want (declared.Local k) = if wants want k then None else Some WrongKind
 store_declared_fault want (declared.Instance b) = Some WrongKind
 
+-- what is wrong with storing at a name, dotted or not, of which this is declared at its first part
 abbrev pub store_name_fault : Option Kind → Bool → Option Declared → Option BindKind
 store_name_fault want dotted None = Some UnknownName
 store_name_fault want dotted (Some w) = if dotted then Some WrongKind else store_declared_fault want w
 
+-- what is wrong with storing at a literal, or else at a name
 abbrev pub store_fault_by : Option Kind → Option Value → Option BindKind → Option BindKind
 store_fault_by want (Some v) name = Some WrongKind
 store_fault_by want None name = name
 
+-- what is wrong with storing at a name
+abbrev pub stored_name_fault : List Declaration → Option Kind → List ℕ → Option BindKind
+stored_name_fault ds want text = store_name_fault want (is_dotted text) (declared_at ds (before_first is_dot text))
+
 -- what is wrong with storing at an operand
 unfoldable pub store_fault_at : List Declaration → Option Kind → List ℕ → Option BindKind
-store_fault_at ds want text = store_fault_by want (literal_value text) (store_name_fault want (is_dotted text) (declared_at ds (before_first is_dot text)))
+store_fault_at ds want text = store_fault_by want (literal_value text) (stored_name_fault ds want text)
 
 -- an operand on the left is read, on the right it stores
 abbrev pub operand_fault : List Declaration → Side → Option Kind → List ℕ → Option BindKind
@@ -125,6 +138,7 @@ abbrev pub fault_here : Option BindKind → Place → Option Finding
 fault_here None p = None
 fault_here (Some kind) p = Some (record { kind = kind; row = p.row; column = p.column })
 
+-- a fault where something is wrong
 abbrev pub fault_if : Bool → BindKind → Option BindKind
 fault_if b kind = if b then Some kind else None
 
@@ -147,12 +161,14 @@ instance_fault block (Some (declared.Output k)) = Some WrongKind
 instance_fault block (Some (declared.Local k)) = Some WrongKind
 instance_fault block (Some (declared.Instance b)) = if type_number b == type_number block then None else Some WrongKind
 
+-- two sides are one
 abbrev pub same_side : Side → Side → Bool
 same_side Left Left = true
 same_side Left Right = false
 same_side Right Left = false
 same_side Right Right = true
 
+-- the field of a pin is Boolean
 abbrev pub is_bit : Option Field → Bool
 is_bit None = false
 is_bit (Some (Bit k)) = true
@@ -163,12 +179,14 @@ is_bit (Some Time) = false
 unfoldable pub has_bit : DrawnBox → Side → Bool
 has_bit b side = list_any (λ pin. same_side side pin.side && is_bit (own_field b pin)) b.pins
 
+-- two fields are one
 abbrev pub same_field : Field → Field → Bool
 same_field (Bit j) (Bit k) = j == k
 same_field Int Int = true
 same_field Time Time = true
 same_field f g = false
 
+-- two pins are one pin of the type
 abbrev pub same_pin : Option Pin → Option Pin → Bool
 same_pin None found = false
 same_pin (Some pin) None = false
@@ -186,7 +204,8 @@ pin_fault (Some field) twice = fault_if twice UnknownPin
 -- an operand that can't be read or stored at
 abbrev pub operand_finding : List Declaration → DrawnBox → DrawnPin → Option Operand → Option Finding
 operand_finding ds b pin None = None
-operand_finding ds b pin (Some o) = fault_here (operand_fault ds pin.side (kind_at (own_field b pin)) o.text) (place pin.row o.column)
+operand_finding ds b pin (Some o) =
+    fault_here (operand_fault ds pin.side (kind_at (own_field b pin)) o.text) (place pin.row o.column)
 
 -- a wire, a join or a symbol directly beside a side of the box on this row
 abbrev pub is_beside : DrawnBox → ℕ → Side → Element → Bool
@@ -203,6 +222,7 @@ is_beside b row Right (Contact c) = c.row == row && nat_lt b.right c.column && (
 is_beside b row Right (Coil c) = c.row == row && nat_lt b.right c.column && (c.column - b.right == 1)
 is_beside b row Right (Box a) = false
 
+-- a line lies directly beside the pin's side of the box, on its row
 unfoldable pub has_line : List Element → DrawnBox → DrawnPin → Bool
 has_line elements b pin = list_any (is_beside b pin.row pin.side) elements
 
@@ -232,12 +252,13 @@ corner_findings ds b =
 -- the faults of the first n pins
 abbrev pub pins_findings : List Declaration → List Element → DrawnBox → ℕ → List DrawnPin → List (Option Finding)
 pins_findings ds elements b k [] = []
-pins_findings ds elements b k (pin ∷ pins) = pin_findings ds elements b k pin ++ pins_findings ds elements b (k + 1) pins
+pins_findings ds elements b k (pin ∷ pins) =
+    pin_findings ds elements b k pin ++ pins_findings ds elements b (k + 1) pins
 
 -- the faults of a box, each with its kind and place
 unfoldable pub box_findings : List Declaration → List Element → DrawnBox → List (Option Finding)
 box_findings ds elements b = corner_findings ds b ++ pins_findings ds elements b 0 b.pins
 
 -- nothing was found wrong with a box
-abbrev pub IsFaultless : List Declaration → List Element → DrawnBox → Type 0
-IsFaultless ds elements b = All (λ o. o ≡ None) (box_findings ds elements b)
+abbrev pub IsFaultlessBox : List Declaration → List Element → DrawnBox → Type 0
+IsFaultlessBox ds elements b = All (λ o. o ≡ None) (box_findings ds elements b)

@@ -1,10 +1,11 @@
 -- The first fault is sought two by two.
 use Rattle.std.specs.Prelude.{◌≡◌, ◌⊎◌, Option, Some, None}
 use Rattle.variable_binding.specs.declared.finding.Finding.{Finding}
-use Rattle.variable_binding.specs.Findings.{IsUpTo}
+use Rattle.variable_binding.specs.Findings.{ComesNoLater}
 
 -- the earlier one of two faults
-abbrev pub IsEarlier : Option Finding → Option Finding → Option Finding → Type 0
-IsEarlier None other answer = answer ≡ other
-IsEarlier (Some f) None answer = answer ≡ Some f
-IsEarlier (Some f) (Some g) answer = (IsUpTo f g × (answer ≡ Some f)) ⊎ (IsUpTo g f × (answer ≡ Some g))
+abbrev pub IsEarlierFinding : Option Finding → Option Finding → Option Finding → Type 0
+IsEarlierFinding None other answer = answer ≡ other
+IsEarlierFinding (Some f) None answer = answer ≡ Some f
+IsEarlierFinding (Some f) (Some g) answer = (ComesNoLater f g × (answer ≡ Some f))
+    ⊎ (ComesNoLater g f × (answer ≡ Some g))

@@ -14,7 +14,7 @@ use Rattle.declared_names.specs.declared.declarations.Kind.{Kind}
 use Rattle.declared_names.specs.declared.declarations.Kind.TheVariants as kind
 use Rattle.declared_names.specs.Names.{is_dot}
 use Rattle.variable_binding.specs.Lookup.{declared_at, is_dotted}
-use Rattle.variable_binding.specs.Findings.{IsUpTo}
+use Rattle.variable_binding.specs.Findings.{ComesNoLater}
 use Rattle.variable_binding.specs.Steps.BoxFindings.{fault_here, read_name_fault, name_kind, box_findings}
 
 -- a coil writes a BOOL
@@ -51,8 +51,10 @@ abbrev pub element_findings : List Declaration → List Element → Element → 
 element_findings ds elements (Wire at) = []
 element_findings ds elements (Join at) = []
 element_findings ds elements (Upright at) = []
-element_findings ds elements (Contact c) = fault_here (read_name_fault (Some kind.Bool) (name_kind ds c.name)) (place c.row c.column) ∷ []
-element_findings ds elements (Coil c) = fault_here (fault_with write_fault (variable_declared ds c.name)) (place c.row c.column) ∷ []
+element_findings ds elements (Contact c) =
+    fault_here (read_name_fault (Some kind.Bool) (name_kind ds c.name)) (place c.row c.column) ∷ []
+element_findings ds elements (Coil c) =
+    fault_here (fault_with write_fault (variable_declared ds c.name)) (place c.row c.column) ∷ []
 element_findings ds elements (Box b) = box_findings ds elements b
 
 -- nothing was found wrong with an element of a network
@@ -72,6 +74,6 @@ unfoldable pub findings : List Declaration → List (List Element) → List (Opt
 findings ds networks = flat_map (network_findings ds) networks
 
 -- there is no fault in the list, or this is the first one by kind and place
-abbrev pub IsFirstOf : List (Option Finding) → Option Finding → Type 0
-IsFirstOf found None = All (λ o. o ≡ None) found
-IsFirstOf found (Some f) = Contains found (Some f) × All (λ o. (g : Finding) → o ≡ Some g → IsUpTo f g) found
+abbrev pub IsFirstFinding : List (Option Finding) → Option Finding → Type 0
+IsFirstFinding found None = All (λ o. o ≡ None) found
+IsFirstFinding found (Some f) = Contains found (Some f) × All (λ o. (g : Finding) → o ≡ Some g → ComesNoLater f g) found

@@ -29,23 +29,26 @@ IsDrawnOnce b block = (i j : ℕ) (p q : DrawnPin) (pin : Pin) → slice_get b.p
 
 -- what is drawn on the right are outputs
 abbrev pub AreOutputs : DrawnBox → BlockType → Type 0
-AreOutputs b block = (pin : DrawnPin) → Contains b.pins pin → pin.side ≡ Right → (field : Field) × (pin_of block pin.name ≡ Some (output field))
+AreOutputs b block = (pin : DrawnPin) → Contains b.pins pin → pin.side ≡ Right
+    → (field : Field) × (pin_of block pin.name ≡ Some (output field))
 
 -- a literal is in its range
 abbrev pub IsInRange : List ℕ → Type 0
 IsInRange text = (v : Value) → literal_value text ≡ Some v → in_range v ≡ true
 
+-- each literal at a pin of the box is in its range
 abbrev pub AreInRange : DrawnBox → Type 0
 AreInRange b = (pin : DrawnPin) (o : Operand) → Contains b.pins pin → pin.operand ≡ Some o → IsInRange o.text
 
 -- a variable of this kind is declared by the name
-abbrev pub IsVariableAt : List Declaration → List ℕ → Kind → Type 0
-IsVariableAt ds name k = (w : Declared) × (declared_at ds name ≡ Some w) × IsVariable w k
+abbrev pub IsDeclaredVariable : List Declaration → List ℕ → Kind → Type 0
+IsDeclaredVariable ds name k = (w : Declared) × (declared_at ds name ≡ Some w) × IsVariable w k
 
 -- what is stored at an operand goes to a variable of the pin's kind
 abbrev pub AreStored : List Declaration → DrawnBox → Type 0
-AreStored ds b = (pin : DrawnPin) (o : Operand) (field : Field) → Contains b.pins pin → pin.side ≡ Right → pin.operand ≡ Some o
-    → pin_of b.block pin.name ≡ Some (output field) → IsVariableAt ds o.text (field_kind field)
+AreStored ds b = (pin : DrawnPin) (o : Operand) (field : Field) → Contains b.pins pin → pin.side ≡ Right
+    → pin.operand ≡ Some o
+    → pin_of b.block pin.name ≡ Some (output field) → IsDeclaredVariable ds o.text (field_kind field)
 
 -- the facts that the table of a box needs
 pub record IsNamedBox (ds : List Declaration) (b : DrawnBox) : Type 0 where
@@ -58,4 +61,4 @@ pub record IsNamedBox (ds : List Declaration) (b : DrawnBox) : Type 0 where
 -- the facts that a scan of a network needs
 pub record AreNamed (ds : List Declaration) (elements : List Element) : Type 0 where
   pub boxes : (b : DrawnBox) → Contains elements (Box b) → IsNamedBox ds b
-  pub coils : (c : DrawnCoil) → Contains elements (Coil c) → IsVariableAt ds c.name kind.Bool
+  pub coils : (c : DrawnCoil) → Contains elements (Coil c) → IsDeclaredVariable ds c.name kind.Bool

@@ -2,8 +2,8 @@ use Rattle.std.proofs.Common.{◌∙◌, Vec, Global, length, sym}
 use Rattle.drawings.specs.declared.place.Place.{Place}
 use Rattle.network.specs.declared.element.Element.{Element}
 use Rattle.network.specs.declared.networks.Network.{Network}
-use Rattle.network.specs.declared.ranks.Ranks.{Ranks}
-use Rattle.network.specs.Networks.{AreLeftRails, IsUnattachedAt, IsTooTallAt, IsTwiceAt, Nowhere}
+use Rattle.network.specs.declared.order.ranks.Ranks.{Ranks}
+use Rattle.network.specs.Networks.{AreLeftRails, IsUnattachedAt, IsTooTallAt, IsTwiceAt, HoldsNowhere}
 use Rattle.network.specs.Steps.Listing.{AreElementsOf}
 use Rattle.network.specs.Steps.Ranks.{AreRanks, AreSplit, ArePlaces, IsUnmetAt, IsTallAt}
 use Rattle.network.specs.Steps.Twice.{IsTwiceIn}
@@ -55,7 +55,7 @@ returns-in-Some-first_of-clause-fault c = λ other.
     let unmet = c.in_ok-unmet.unmet.items in
     let pl : ArePlaces (IsUnmetAt es ranks (length es)) unmet = ok_of (λ (v : Vec Place Global). ArePlaces (IsUnmetAt es ranks (length es)) v.items) _ c.unmet_places.result c.map_err-4.result c.in_ok-unmet.unmet
     c.map_err-4.ensures.cases c.map_err-4.ensures.variant c.in_ok-unmet.was unmet_clause in
-    let attached : Nowhere (IsUnattachedAt g) = none_such (IsUnattachedAt g) (IsUnmetAt es ranks (length es)) unmet (is_unmet g sound es are count ranks rk) pl (sym c.deref-5.ensures.value ∙ c.in_default.ensures) in
+    let attached : HoldsNowhere (IsUnattachedAt g) = none_such (IsUnattachedAt g) (IsUnmetAt es ranks (length es)) unmet (is_unmet g sound es are count ranks rk) pl (sym c.deref-5.ensures.value ∙ c.in_default.ensures) in
     let split_clause = rw c.deref-6.ensures.value at c.split.ensures in
     let networks = c.in_ok-networks.networks.items in
     let sp : AreSplit es ranks count networks (length es) = ok_of (λ (v : Vec Network Global). AreSplit es ranks count v.items (length es)) _ c.split.result c.map_err-5.result c.in_ok-networks.networks
@@ -92,7 +92,7 @@ returns-in-Some-first_of-2-clause-fault c = λ other.
     let unmet = c.in_ok-unmet.unmet.items in
     let pl : ArePlaces (IsUnmetAt es ranks (length es)) unmet = ok_of (λ (v : Vec Place Global). ArePlaces (IsUnmetAt es ranks (length es)) v.items) _ c.unmet_places.result c.map_err-4.result c.in_ok-unmet.unmet
     c.map_err-4.ensures.cases c.map_err-4.ensures.variant c.in_ok-unmet.was unmet_clause in
-    let attached : Nowhere (IsUnattachedAt g) = none_such (IsUnattachedAt g) (IsUnmetAt es ranks (length es)) unmet (is_unmet g sound es are count ranks rk) pl (sym c.deref-5.ensures.value ∙ c.in_default.ensures) in
+    let attached : HoldsNowhere (IsUnattachedAt g) = none_such (IsUnattachedAt g) (IsUnmetAt es ranks (length es)) unmet (is_unmet g sound es are count ranks rk) pl (sym c.deref-5.ensures.value ∙ c.in_default.ensures) in
     let split_clause = rw c.deref-6.ensures.value at c.split.ensures in
     let networks = c.in_ok-networks.networks.items in
     let sp : AreSplit es ranks count networks (length es) = ok_of (λ (v : Vec Network Global). AreSplit es ranks count v.items (length es)) _ c.split.result c.map_err-5.result c.in_ok-networks.networks
@@ -101,7 +101,7 @@ returns-in-Some-first_of-2-clause-fault c = λ other.
     let tall = c.in_ok-tall.tall.items in
     let tp : ArePlaces (IsTallAt networks (length networks)) tall = ok_of (λ (v : Vec Place Global). ArePlaces (IsTallAt networks (length networks)) v.items) _ c.tall_places.result c.map_err-6.result c.in_ok-tall.tall
     c.map_err-6.ensures.cases c.map_err-6.ensures.variant c.in_ok-tall.was tall_clause in
-    let low : Nowhere (IsTooTallAt g) = none_such (IsTooTallAt g) (IsTallAt networks (length networks)) tall (is_tall_at g sound es are count ranks rk attached networks sp) tp (sym c.deref-8.ensures.value ∙ c.in_default-first_of.ensures) in
+    let low : HoldsNowhere (IsTooTallAt g) = none_such (IsTooTallAt g) (IsTallAt networks (length networks)) tall (is_tall_at g sound es are count ranks rk attached networks sp) tp (sym c.deref-8.ensures.value ∙ c.in_default-first_of.ensures) in
     let twice_clause = rw c.boxes.ensures at c.twice_places.ensures in
     let twice = c.in_ok-twice.twice.items in
     let wp : ArePlaces (IsTwiceIn g.boxes (length g.boxes)) twice = ok_of (λ (v : Vec Place Global). ArePlaces (IsTwiceIn g.boxes (length g.boxes)) v.items) _ c.twice_places.result c.map_err-7.result c.in_ok-twice.twice
@@ -127,7 +127,7 @@ invariant_of-result c =
     let unmet = c.in_ok-unmet.unmet.items in
     let pl : ArePlaces (IsUnmetAt es ranks (length es)) unmet = ok_of (λ (v : Vec Place Global). ArePlaces (IsUnmetAt es ranks (length es)) v.items) _ c.unmet_places.result c.map_err-4.result c.in_ok-unmet.unmet
     c.map_err-4.ensures.cases c.map_err-4.ensures.variant c.in_ok-unmet.was unmet_clause in
-    let attached : Nowhere (IsUnattachedAt g) = none_such (IsUnattachedAt g) (IsUnmetAt es ranks (length es)) unmet (is_unmet g sound es are count ranks rk) pl (sym c.deref-5.ensures.value ∙ c.in_default.ensures) in
+    let attached : HoldsNowhere (IsUnattachedAt g) = none_such (IsUnattachedAt g) (IsUnmetAt es ranks (length es)) unmet (is_unmet g sound es are count ranks rk) pl (sym c.deref-5.ensures.value ∙ c.in_default.ensures) in
     let split_clause = rw c.deref-6.ensures.value at c.split.ensures in
     let networks = c.in_ok-networks.networks.items in
     let sp : AreSplit es ranks count networks (length es) = ok_of (λ (v : Vec Network Global). AreSplit es ranks count v.items (length es)) _ c.split.result c.map_err-5.result c.in_ok-networks.networks
@@ -136,12 +136,12 @@ invariant_of-result c =
     let tall = c.in_ok-tall.tall.items in
     let tp : ArePlaces (IsTallAt networks (length networks)) tall = ok_of (λ (v : Vec Place Global). ArePlaces (IsTallAt networks (length networks)) v.items) _ c.tall_places.result c.map_err-6.result c.in_ok-tall.tall
     c.map_err-6.ensures.cases c.map_err-6.ensures.variant c.in_ok-tall.was tall_clause in
-    let low : Nowhere (IsTooTallAt g) = none_such (IsTooTallAt g) (IsTallAt networks (length networks)) tall (is_tall_at g sound es are count ranks rk attached networks sp) tp (sym c.deref-8.ensures.value ∙ c.in_default-first_of.ensures) in
+    let low : HoldsNowhere (IsTooTallAt g) = none_such (IsTooTallAt g) (IsTallAt networks (length networks)) tall (is_tall_at g sound es are count ranks rk attached networks sp) tp (sym c.deref-8.ensures.value ∙ c.in_default-first_of.ensures) in
     let twice_clause = rw c.boxes.ensures at c.twice_places.ensures in
     let twice = c.in_ok-twice.twice.items in
     let wp : ArePlaces (IsTwiceIn g.boxes (length g.boxes)) twice = ok_of (λ (v : Vec Place Global). ArePlaces (IsTwiceIn g.boxes (length g.boxes)) v.items) _ c.twice_places.result c.map_err-7.result c.in_ok-twice.twice
     c.map_err-7.ensures.cases c.map_err-7.ensures.variant c.in_ok-twice.was twice_clause in
-    let once : Nowhere (IsTwiceAt g) = none_such (IsTwiceAt g) (IsTwiceIn g.boxes (length g.boxes)) twice (is_twice_in g) wp (sym c.deref-9.ensures.value ∙ c.in_default-first_of-2.ensures) in
+    let once : HoldsNowhere (IsTwiceAt g) = none_such (IsTwiceAt g) (IsTwiceIn g.boxes (length g.boxes)) twice (is_twice_in g) wp (sym c.deref-9.ensures.value ∙ c.in_default-first_of-2.ensures) in
     sound_graph g sound es are count ranks rk attached networks sp c.first_line-first_line.result rails ra low once
 
 pub returns-clause-ok : goal.returns-clause-ok
@@ -161,7 +161,7 @@ returns-clause-ok c =
     let unmet = c.in_ok-unmet.unmet.items in
     let pl : ArePlaces (IsUnmetAt es ranks (length es)) unmet = ok_of (λ (v : Vec Place Global). ArePlaces (IsUnmetAt es ranks (length es)) v.items) _ c.unmet_places.result c.map_err-4.result c.in_ok-unmet.unmet
     c.map_err-4.ensures.cases c.map_err-4.ensures.variant c.in_ok-unmet.was unmet_clause in
-    let attached : Nowhere (IsUnattachedAt g) = none_such (IsUnattachedAt g) (IsUnmetAt es ranks (length es)) unmet (is_unmet g sound es are count ranks rk) pl (sym c.deref-5.ensures.value ∙ c.in_default.ensures) in
+    let attached : HoldsNowhere (IsUnattachedAt g) = none_such (IsUnattachedAt g) (IsUnmetAt es ranks (length es)) unmet (is_unmet g sound es are count ranks rk) pl (sym c.deref-5.ensures.value ∙ c.in_default.ensures) in
     let split_clause = rw c.deref-6.ensures.value at c.split.ensures in
     let networks = c.in_ok-networks.networks.items in
     let sp : AreSplit es ranks count networks (length es) = ok_of (λ (v : Vec Network Global). AreSplit es ranks count v.items (length es)) _ c.split.result c.map_err-5.result c.in_ok-networks.networks
@@ -170,10 +170,10 @@ returns-clause-ok c =
     let tall = c.in_ok-tall.tall.items in
     let tp : ArePlaces (IsTallAt networks (length networks)) tall = ok_of (λ (v : Vec Place Global). ArePlaces (IsTallAt networks (length networks)) v.items) _ c.tall_places.result c.map_err-6.result c.in_ok-tall.tall
     c.map_err-6.ensures.cases c.map_err-6.ensures.variant c.in_ok-tall.was tall_clause in
-    let low : Nowhere (IsTooTallAt g) = none_such (IsTooTallAt g) (IsTallAt networks (length networks)) tall (is_tall_at g sound es are count ranks rk attached networks sp) tp (sym c.deref-8.ensures.value ∙ c.in_default-first_of.ensures) in
+    let low : HoldsNowhere (IsTooTallAt g) = none_such (IsTooTallAt g) (IsTallAt networks (length networks)) tall (is_tall_at g sound es are count ranks rk attached networks sp) tp (sym c.deref-8.ensures.value ∙ c.in_default-first_of.ensures) in
     let twice_clause = rw c.boxes.ensures at c.twice_places.ensures in
     let twice = c.in_ok-twice.twice.items in
     let wp : ArePlaces (IsTwiceIn g.boxes (length g.boxes)) twice = ok_of (λ (v : Vec Place Global). ArePlaces (IsTwiceIn g.boxes (length g.boxes)) v.items) _ c.twice_places.result c.map_err-7.result c.in_ok-twice.twice
     c.map_err-7.ensures.cases c.map_err-7.ensures.variant c.in_ok-twice.was twice_clause in
-    let once : Nowhere (IsTwiceAt g) = none_such (IsTwiceAt g) (IsTwiceIn g.boxes (length g.boxes)) twice (is_twice_in g) wp (sym c.deref-9.ensures.value ∙ c.in_default-first_of-2.ensures) in
+    let once : HoldsNowhere (IsTwiceAt g) = none_such (IsTwiceAt g) (IsTwiceIn g.boxes (length g.boxes)) twice (is_twice_in g) wp (sym c.deref-9.ensures.value ∙ c.in_default-first_of-2.ensures) in
     (networks_are g sound es are count ranks rk attached networks sp c.first_line-first_line.result rails c.first_line-first_line.ensures ra, record { attached = attached; low = low; named_once = once })

@@ -1,9 +1,9 @@
 use Rattle.std.proofs.Common.{◌-◌, ℕ, Any, inl, inr, sym, subst, arith}
 use Rattle.std.proofs.lemmas.Bool.{cases_eq}
+use Rattle.lists.proofs.Members.{any_at}
 use Rattle.network.specs.declared.element.Element.{Element}
 use Rattle.network.specs.Links.{Stands, place}
 use Rattle.network.specs.GraphValue.{diagram}
-use Rattle.power_flow.proofs.Lists.{any_at}
 use Rattle.power_flow.proofs.Uprights.{upright_is}
 use Rattle.power_flow.proofs.steps.steps.first_row.Goals as goal
 

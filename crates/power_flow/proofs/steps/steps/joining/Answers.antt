@@ -1,9 +1,9 @@
 use Rattle.std.proofs.Common.{◌+◌, inr, arith}
+use Rattle.lists.proofs.Members.{any_at}
 use Rattle.network.specs.Links.{place}
 use Rattle.network.specs.GraphValue.{diagram}
 use Rattle.power_flow.specs.Steps.Columns.{StandsIn}
 use Rattle.power_flow.specs.Steps.Columns.Joins.{within, lowest}
-use Rattle.power_flow.proofs.Lists.{any_at}
 use Rattle.network.specs.declared.element.Element.{Element}
 use Rattle.network.specs.Links.{Stands}
 use Rattle.power_flow.proofs.Uprights.{below_stands}

@@ -1,0 +1,4 @@
+-- Elements of a drawing in a list.
+pub mod Sharing
+pub mod SymbolLemmas
+pub mod ListLemmas

@@ -1,0 +1,4 @@
+-- Networks in order.
+pub mod RailLemmas
+pub mod TopLemmas
+pub mod SplitLemmas

@@ -1,0 +1,3 @@
+-- The faults of networks.
+pub mod FoundLemmas
+pub mod CornerLemmas

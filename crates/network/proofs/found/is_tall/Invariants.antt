@@ -1,9 +1,0 @@
-use Rattle.std.proofs.Common.{◌<◌}
-use Rattle.network.proofs.FoundLemmas.{RowsTo}
-use Rattle.network.proofs.found.is_tall.Given as goal
-
-abbrev pub invariant-loop-element : goal.invariant-loop-element
-invariant-loop-element l = record {
-  rows : RowsTo l.elements l.top l.bottom l.element-index;
-  fits : l.bottom < 18446744073709551616;
-}

@@ -1,0 +1,5 @@
+use Rattle.network.proofs.Ordered.TopLemmas.{EntriesTo}
+use Rattle.network.proofs.order.ranks.entries_of.Given as goal
+
+abbrev pub invariant-loop-k : goal.invariant-loop-k
+invariant-loop-k l = EntriesTo l.table l.labels l.ranks.items l.k

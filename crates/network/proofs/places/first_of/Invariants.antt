@@ -1,5 +1,0 @@
-use Rattle.network.proofs.FoundLemmas.{FirstTo}
-use Rattle.network.proofs.places.first_of.Given as goal
-
-abbrev pub invariant-loop-place : goal.invariant-loop-place
-invariant-loop-place l = FirstTo l.places l.first l.place-index

@@ -1,5 +1,0 @@
-use Rattle.network.proofs.TopLemmas.{EntriesTo}
-use Rattle.network.proofs.ranks.entries_of.Given as goal
-
-abbrev pub invariant-loop-k : goal.invariant-loop-k
-invariant-loop-k l = EntriesTo l.table l.labels l.ranks.items l.k

@@ -1,9 +1,0 @@
-use Rattle.std.proofs.Common.{◌≡◌, length}
-use Rattle.network.specs.Steps.Pairs.{AreTakers}
-use Rattle.network.proofs.takers.takers_of.Given as goal
-
-abbrev pub invariant-loop-k : goal.invariant-loop-k
-invariant-loop-k l = record {
-  long : length l.takers ≡ l.rows;
-  takers : AreTakers l.elements l.column l.takers l.k;
-}

@@ -1,0 +1,6 @@
+//! Elements of a drawing in a list.
+
+pub mod copies;
+pub mod elements;
+pub mod symbol_rows;
+pub mod symbols;

@@ -1,0 +1,4 @@
+//! Networks in order, by where they meet the left rail.
+
+pub mod ranks;
+pub mod split;
