@@ -159,11 +159,11 @@ has_fault Crossing p = crossing p
 has_fault NoSource p = no_source p
 
 -- no place of the rows, nor of their margin, passes the test
-abbrev pub Nowhere : Rows → (ℕ → ℕ → Bool) → Type 0
-Nowhere d test = (r c : ℕ) → r < length d → c ≤ width d → IsFalse (test r c)
+abbrev pub NowhereInRows : Rows → (ℕ → ℕ → Bool) → Type 0
+NowhereInRows d test = (r c : ℕ) → r < length d → c ≤ width d → IsFalse (test r c)
 
 -- the test passes at a place of the rows or of their margin
-pub record IsFoundAt (d : Rows) (test : ℕ → ℕ → Bool) (r c : ℕ) : Type 0 where
+pub record PassesInRows (d : Rows) (test : ℕ → ℕ → Bool) (r c : ℕ) : Type 0 where
   pub in_rows : r < length d
   pub in_columns : c ≤ width d
   pub passes : IsTrue (test r c)
@@ -175,14 +175,14 @@ pub record IsNamed (d : Rows) : Type 0 where
 
 -- none of the faults holds anywhere
 pub record IsWellDrawn (d : Rows) : Type 0 where
-  pub ascii : Nowhere d (not_ascii d)
+  pub ascii : NowhereInRows d (not_ascii d)
   pub low_enough : height d ≤ 2000
   pub narrow_enough : width d ≤ 240
   pub drawn : 0 < width d
   pub left_rail : (r : ℕ) → r < length d → IsFalse (no_left_rail d r)
-  pub boxes_whole : Nowhere d (bad_box d)
+  pub boxes_whole : NowhereInRows d (bad_box d)
   pub boxes_apart : IsTrue (boxes_apart (layout_of d))
-  pub places : (fault : PlaceFault) → Nowhere d (has_fault fault (layout_of d))
+  pub places : (fault : PlaceFault) → NowhereInRows d (has_fault fault (layout_of d))
   pub named : IsNamed d
   pub operands_good : IsFalse (has_stray_operand (layout_of d))
 

@@ -4,7 +4,7 @@ ghost use Rattle.std.specs.Prelude.{◌≡◌, ◌≢◌, ◌↔◌, ◌<◌, �
 ghost use Rattle.ladder_text.specs.Rows.{rows_of};
 ghost use Rattle.ladder_text.specs.Places.{layout_of};
 ghost use Rattle.ladder_text.specs.Faults.{IsWellDrawn, IsIllDrawn};
-ghost use Rattle.ladder_text.specs.FirstFault.{IsFaultless, IsFirstFault, TellsFirstFault};
+ghost use Rattle.ladder_text.specs.FirstFault.{HasNoDrawFault, IsFirstDrawFault, TellsFirstFault};
 ghost use Rattle.ladder_text.specs.Picture.{picture_of};
 ghost use Rattle.ladder_text.specs.declared.draw_fault.DrawFaultKind.TheVariants.{Memory};
 
@@ -20,7 +20,7 @@ fn read_drawing(alloc: Global, text: &str, first_line: u64) -> Result<Drawing, R
     ensures well_drawn { IfOk result (λ _. IsWellDrawn (rows_of text.now)) }
     ensures drawing { IfOk result (λ g. g ≡ picture_of first_line (layout_of (rows_of text.now))) }
     ensures refused { IfErr result (λ e. e.kind ≢ Memory → IsIllDrawn (rows_of text.now)) }
-    ensures first { IfErr result (λ e. e.kind ≢ Memory → IsFirstFault (rows_of text.now) e.kind e.place.row e.place.column) }
+    ensures first { IfErr result (λ e. e.kind ≢ Memory → IsFirstDrawFault (rows_of text.now) e.kind e.place.row e.place.column) }
 {
     let worded = read_well_drawn(alloc, text)?;
     let contacts = contacts(alloc, &worded)?;
@@ -59,7 +59,7 @@ impl ReadText for Drawing {
         ensures refused { IfErr result (λ e. e.kind ≢ Memory → IsIllDrawn (rows_of text.now)) }
         ensures memory { IfErr result (λ e. e.kind ≡ Memory → (e.line ≡ 0) × (e.column ≡ 0)) }
         ensures first { IfErr result (λ fault. TellsFirstFault text.now first_line fault) }
-        ensures same { IsWellDrawn (rows_of text.now) ↔ IsFaultless (rows_of text.now) }
+        ensures same { IsWellDrawn (rows_of text.now) ↔ HasNoDrawFault (rows_of text.now) }
     {
         match read_drawing(alloc, text, first_line) {
             Ok(drawing) => Ok(drawing),

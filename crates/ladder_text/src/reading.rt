@@ -6,8 +6,8 @@ ghost use Rattle.ladder_text.specs.Rows.{rows_of, width};
 ghost use Rattle.ladder_text.specs.Boxes.{begins_box};
 ghost use Rattle.ladder_text.specs.Places.{layout_of};
 ghost use Rattle.ladder_text.specs.Names.{words, things};
-ghost use Rattle.ladder_text.specs.Faults.{IsWellDrawn, IsIllDrawn, Nowhere, has_fault, not_ascii, no_left_rail, bad_box, boxes_apart, name_missing, stray_name, has_stray_operand};
-ghost use Rattle.ladder_text.specs.FirstFault.{IsFirstFault, IsStrayWordAt};
+ghost use Rattle.ladder_text.specs.Faults.{IsWellDrawn, IsIllDrawn, NowhereInRows, has_fault, not_ascii, no_left_rail, bad_box, boxes_apart, name_missing, stray_name, has_stray_operand};
+ghost use Rattle.ladder_text.specs.FirstFault.{IsFirstDrawFault, IsStrayWordAt};
 ghost use Rattle.ladder_text.specs.Steps.Search.{IsFirstFrom, IsFirstOf};
 ghost use Rattle.ladder_text.specs.declared.draw_fault.DrawFaultKind.TheVariants.{Memory};
 
@@ -32,7 +32,7 @@ fn fault(kind: DrawFaultKind, place: Place) -> Refusal
 
 #[tactic(auto, using(crate::proofs::Faults::FirstFaults::mark_first, crate::proofs::Faults::FirstFaults::crossing_first, crate::proofs::Faults::FirstFaults::source_first))]
 fn check_places(marked: &MarkedGrid) -> Result<(), Refusal>
-    ensures none { IfOk result (λ _. (f : PlaceFault) → Nowhere marked.now (has_fault f (layout_of marked.now))) }
+    ensures none { IfOk result (λ _. (f : PlaceFault) → NowhereInRows marked.now (has_fault f (layout_of marked.now))) }
     ensures refused { IfErr result (λ _. IsIllDrawn marked.now) }
     ensures first { IfErr result (λ e. IsFirstFrom marked.now 5 e.kind e.place.row e.place.column) }
 {
@@ -105,13 +105,13 @@ fn check_strays(alloc: Global, worded: &WordedGrid) -> Result<(), Refusal>
 #[tactic(auto, using(crate::proofs::Faults::IllDrawn::ill_ascii, crate::proofs::Faults::IllDrawn::ill_large, crate::proofs::Faults::IllDrawn::ill_empty, crate::proofs::Faults::IllDrawn::ill_rail, crate::proofs::Faults::FirstFaults::ascii_first, crate::proofs::Faults::FirstFaults::large_first, crate::proofs::Faults::FirstFaults::empty_first, crate::proofs::Faults::FirstFaults::rail_first))]
 fn read_grid(alloc: Global, text: &str) -> Result<Grid, Refusal>
     ensures same { IfOk result (λ g. g ≡ rows_of text.now) }
-    ensures ascii { IfOk result (λ g. Nowhere g (not_ascii g)) }
+    ensures ascii { IfOk result (λ g. NowhereInRows g (not_ascii g)) }
     ensures low { IfOk result (λ g. length g ≤ 2001) }
     ensures narrow { IfOk result (λ g. width g ≤ 240) }
     ensures drawn { IfOk result (λ g. 0 < width g) }
     ensures left_rail { IfOk result (λ g. (r : ℕ) → r < length g → IsFalse (no_left_rail g r)) }
     ensures refused { IfErr result (λ e. e.kind ≢ Memory → IsIllDrawn (rows_of text.now)) }
-    ensures first { IfErr result (λ e. e.kind ≢ Memory → IsFirstFault (rows_of text.now) e.kind e.place.row e.place.column) }
+    ensures first { IfErr result (λ e. e.kind ≢ Memory → IsFirstDrawFault (rows_of text.now) e.kind e.place.row e.place.column) }
 {
     let rows = rows_of(alloc, text)?;
     if let Some(place) = first_not_ascii(&rows) {
@@ -134,7 +134,7 @@ fn read_grid(alloc: Global, text: &str) -> Result<Grid, Refusal>
 #[tactic(auto, using(crate::proofs::Faults::IllDrawn::ill_box, crate::proofs::Faults::IllDrawn::ill_apart, crate::proofs::Faults::FirstFaults::box_first, crate::proofs::Faults::FirstFaults::shared_first))]
 fn read_boxes(alloc: Global, grid: Grid) -> Result<BoxedGrid, Refusal>
     ensures same { IfOk result (λ s. s ≡ grid) }
-    ensures whole { IfOk result (λ s. Nowhere s (bad_box s)) }
+    ensures whole { IfOk result (λ s. NowhereInRows s (bad_box s)) }
     ensures apart { IfOk result (λ s. IsTrue (boxes_apart (layout_of s))) }
     ensures refused { IfErr result (λ e. e.kind ≢ Memory → IsIllDrawn grid) }
     ensures first { IfErr result (λ e. e.kind ≢ Memory → IsFirstFrom grid 4 e.kind e.place.row e.place.column) }
@@ -155,7 +155,7 @@ pub fn read_well_drawn(alloc: Global, text: &str) -> Result<WordedGrid, Refusal>
     ensures same { IfOk result (λ p. p ≡ rows_of text.now) }
     ensures well_drawn { IfOk result (λ p. IsWellDrawn p) }
     ensures refused { IfErr result (λ e. e.kind ≢ Memory → IsIllDrawn (rows_of text.now)) }
-    ensures first { IfErr result (λ e. e.kind ≢ Memory → IsFirstFault (rows_of text.now) e.kind e.place.row e.place.column) }
+    ensures first { IfErr result (λ e. e.kind ≢ Memory → IsFirstDrawFault (rows_of text.now) e.kind e.place.row e.place.column) }
 {
     let grid = read_grid(alloc, text)?;
     let boxed = read_boxes(alloc, grid)?;

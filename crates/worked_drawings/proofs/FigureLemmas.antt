@@ -10,7 +10,7 @@ use Rattle.ladder_text.specs.SymbolKinds.{contact_kind, coil_kind}
 use Rattle.ladder_text.specs.Boxes.{left_column, begins_box, nearer_pin, outline_at, box_at, row_outlines, outlines}
 use Rattle.ladder_text.specs.Places.{contact_at, coil_at, may_be_rail, has_right_rail, mark, gives, layout_of}
 use Rattle.ladder_text.specs.Names.{in_word, word_at, words, symbol_at, symbols, tops, things, name_above, row_contacts, contacts, row_coils, coils, drawn_boxes}
-use Rattle.ladder_text.specs.Faults.{IsWellDrawn, IsIllDrawn, IsFoundAt, Nowhere, has_fault, not_ascii, no_left_rail, bad_box, boxes_apart, name_missing, stray_name, some_takes_word, has_stray_operand}
+use Rattle.ladder_text.specs.Faults.{IsWellDrawn, IsIllDrawn, PassesInRows, NowhereInRows, has_fault, not_ascii, no_left_rail, bad_box, boxes_apart, name_missing, stray_name, some_takes_word, has_stray_operand}
 use Rattle.ladder_text.specs.Picture.{marks_of, picture_of}
 use Rattle.worked_drawings.specs.Figures.{IsDrawnAs, IsBranchesListed, IsOnDelayListed, branches, branches_marks, start_stop, start_stop_marks, rising_contact, rising_contact_marks, on_delay, on_delay_marks, parallel_wire, parallel_wire_marks, unattached_box, unattached_box_marks, wire_beside_box, box_without_type, box_without_bottom, cut_drawing, two_words, word_of_two, loose_upright, loose_contact}
 
@@ -18,10 +18,10 @@ use Rattle.worked_drawings.specs.Figures.{IsDrawnAs, IsBranchesListed, IsOnDelay
 clash : (b : Bool) → b ≡ true → b ≡ false → ⊥
 clash b t f = true≢false (sym t ∙ f)
 
-ill_place : (d : Rows) (f : PlaceFault) (r c : ℕ) → IsFoundAt d (has_fault f (layout_of d)) r c → IsIllDrawn d
+ill_place : (d : Rows) (f : PlaceFault) (r c : ℕ) → PassesInRows d (has_fault f (layout_of d)) r c → IsIllDrawn d
 ill_place d f r c w well = clash (has_fault f (layout_of d) r c) w.passes (well.places f r c w.in_rows w.in_columns)
 
-ill_box : (d : Rows) (r c : ℕ) → IsFoundAt d (bad_box d) r c → IsIllDrawn d
+ill_box : (d : Rows) (r c : ℕ) → PassesInRows d (bad_box d) r c → IsIllDrawn d
 ill_box d r c w well = clash (bad_box d r c) w.passes (well.boxes_whole r c w.in_rows w.in_columns)
 
 ill_stray : (d : Rows) (r : ℕ) → r < length d → IsTrue (list_any (stray_name (layout_of d) r) (words (layout_of d) r)) → IsIllDrawn d
@@ -41,7 +41,7 @@ below_at f (suc n) k e h =
 abbrev nowhere : Rows → (ℕ → ℕ → Bool) → Bool
 nowhere d test = below (λ r. below (λ c. not (test r c)) (width d + 1)) (length d)
 
-nowhere_at : (d : Rows) (test : ℕ → ℕ → Bool) → nowhere d test ≡ true → Nowhere d test
+nowhere_at : (d : Rows) (test : ℕ → ℕ → Bool) → nowhere d test ≡ true → NowhereInRows d test
 nowhere_at d test e r c h k =
     not-true (test r c) (below_at (λ c. not (test r c)) (width d + 1) c (below_at (λ r. below (λ c. not (test r c)) (width d + 1)) (length d) r e h) (omega arith))
 
@@ -67,7 +67,7 @@ record IsClear (d : Rows) : Type 0 where
   words : in_no_row d (λ r. list_any (stray_name (layout_of d) r) (words (layout_of d) r)) ≡ true
   operands : has_stray_operand (layout_of d) ≡ false
 
-places_clear : (d : Rows) → IsClear d → (fault : PlaceFault) → Nowhere d (has_fault fault (layout_of d))
+places_clear : (d : Rows) → IsClear d → (fault : PlaceFault) → NowhereInRows d (has_fault fault (layout_of d))
 places_clear d clear BadMark = nowhere_at d (has_fault BadMark (layout_of d)) clear.marks
 places_clear d clear Crossing = nowhere_at d (has_fault Crossing (layout_of d)) clear.crossings
 places_clear d clear NoSource = nowhere_at d (has_fault NoSource (layout_of d)) clear.sources

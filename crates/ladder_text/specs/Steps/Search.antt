@@ -6,7 +6,7 @@ use Rattle.ladder_text.specs.declared.names.span.Span.{Span}
 use Rattle.ladder_text.specs.Rows.{Rows}
 use Rattle.ladder_text.specs.Places.{Layout, is_before}
 use Rattle.ladder_text.specs.Names.{tops, things}
-use Rattle.ladder_text.specs.FirstFault.{IsFaultAt, IsFirstAt, rank}
+use Rattle.ladder_text.specs.FirstFault.{IsDrawFaultAt, IsFirstAt, rank}
 
 -- no place is such
 abbrev pub IsNone : (ℕ → ℕ → Type 0) → Type 0
@@ -29,8 +29,8 @@ IsFirstColumnOf IsSuch (Some c) = IsFirstColumn IsSuch c
 
 -- (r, c) is the first place with a fault of the kind, and none of the kinds from the n-th on before it is anywhere
 pub record IsFirstFrom (d : Rows) (n : ℕ) (k : DrawFaultKind) (r c : ℕ) : Type 0 where
-  pub place : IsFirstAt (IsFaultAt d k) r c
-  pub before : (earlier : DrawFaultKind) → n ≤ rank earlier → rank earlier < rank k → IsNone (IsFaultAt d earlier)
+  pub place : IsFirstAt (IsDrawFaultAt d k) r c
+  pub before : (earlier : DrawFaultKind) → n ≤ rank earlier → rank earlier < rank k → IsNone (IsDrawFaultAt d earlier)
 
 -- p, or a place before it
 abbrev pub or_earlier : Place → Option Place → Place

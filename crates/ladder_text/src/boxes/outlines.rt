@@ -3,7 +3,7 @@
 ghost use Rattle.std.specs.Prelude.{◌≡◌, ◌==◌, ◌+◌, ◌-◌, ◌<◌, ◌≤◌, ◌^◌, ℕ, IsFalse, IsTrue, IfNone, IfSome, IfOk};
 ghost use Rattle.ladder_text.specs.Rows.{char_at, width, run_back};
 ghost use Rattle.std.specs.Prelude.{map};
-ghost use Rattle.ladder_text.specs.Faults.{bad_box, Nowhere, IsFoundAt};
+ghost use Rattle.ladder_text.specs.Faults.{bad_box, NowhereInRows, PassesInRows};
 ghost use Rattle.ladder_text.specs.FirstFault.{IsFirstAt};
 ghost use Rattle.drawings.specs.declared.drawn_box.Side.TheVariants as side;
 ghost use Rattle.ladder_text.specs.Boxes.{blank_words, bottom_row, word_start, word_end, left_operand, right_operand, left_pin, right_pin, nearer_pin, blanks_before, blanks_behind, pins_from, row_pins, pins_of_rows, is_edge, outline_at, box_at, row_outlines, outlines};
@@ -434,9 +434,9 @@ fn bad_box_in_row(alloc: Global, grid: &Grid, row: usize) -> Result<Option<usize
 /// The first place at which a box begins that isn't as it should be.
 #[tactic(auto, using(crate::proofs::Faults::SearchLemmas::found_first))]
 pub fn first_bad_box(alloc: Global, grid: &Grid) -> Result<Option<Place>, AllocError>
-    ensures none { IfOk result (λ found. IfNone found (Nowhere grid.now (bad_box grid.now))) }
-    ensures some { IfOk result (λ found. IfSome found (λ p. IsFoundAt grid.now (bad_box grid.now) p.row p.column)) }
-    ensures first { IfOk result (λ found. IfSome found (λ p. IsFirstAt (IsFoundAt grid.now (bad_box grid.now)) p.row p.column)) }
+    ensures none { IfOk result (λ found. IfNone found (NowhereInRows grid.now (bad_box grid.now))) }
+    ensures some { IfOk result (λ found. IfSome found (λ p. PassesInRows grid.now (bad_box grid.now) p.row p.column)) }
+    ensures first { IfOk result (λ found. IfSome found (λ p. IsFirstAt (PassesInRows grid.now (bad_box grid.now)) p.row p.column)) }
 {
     for row in 0..grid.row_end() {
         if let Some(column) = bad_box_in_row(alloc, grid, row)? {

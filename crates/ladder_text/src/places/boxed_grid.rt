@@ -9,7 +9,7 @@ ghost use Rattle.ladder_text.specs.Places.{layout_of, contact_at, coil_at, in_bo
 ghost use Rattle.ladder_text.specs.Names.{tops};
 ghost use Rattle.ladder_text.specs.Steps.RowBoxes.{box_test, IsFirstShared, IsBare};
 ghost use Rattle.std.specs.List.{list_any};
-ghost use Rattle.ladder_text.specs.Faults.{blind_left, blind_right, bad_box, boxes_apart, has_stray_operand, Nowhere, IsFoundAt};
+ghost use Rattle.ladder_text.specs.Faults.{blind_left, blind_right, bad_box, boxes_apart, has_stray_operand, NowhereInRows, PassesInRows};
 ghost use Rattle.ladder_text.specs.FirstFault.{IsFirstAt, IsSharedAt, IsStrayOperandAt};
 ghost use Rattle.ladder_text.specs.Steps.Search.{IsFirstOf};
 ghost use Rattle.std.specs.Str.{IsAscii};
@@ -81,9 +81,9 @@ impl BoxedGrid {
 
     /// The first place at which a box begins that isn't as it should be.
     pub fn first_bad_box(&self, alloc: Global) -> Result<Option<Place>, AllocError>
-        ensures none { IfOk result (λ found. IfNone found (Nowhere self.now (bad_box self.now))) }
-        ensures some { IfOk result (λ found. IfSome found (λ p. IsFoundAt self.now (bad_box self.now) p.row p.column)) }
-        ensures first { IfOk result (λ found. IfSome found (λ p. IsFirstAt (IsFoundAt self.now (bad_box self.now)) p.row p.column)) }
+        ensures none { IfOk result (λ found. IfNone found (NowhereInRows self.now (bad_box self.now))) }
+        ensures some { IfOk result (λ found. IfSome found (λ p. PassesInRows self.now (bad_box self.now) p.row p.column)) }
+        ensures first { IfOk result (λ found. IfSome found (λ p. IsFirstAt (PassesInRows self.now (bad_box self.now)) p.row p.column)) }
     {
         first_bad_box(alloc, &self.grid)
     }

@@ -7,7 +7,7 @@ ghost use Rattle.ladder_text.specs.Boxes.{outlines};
 ghost use Rattle.ladder_text.specs.Steps.RowBoxes.{IsBare};
 ghost use Rattle.ladder_text.specs.Steps.RowMarks.{AreMarksOf};
 ghost use Rattle.ladder_text.specs.Picture.{marks_of};
-ghost use Rattle.ladder_text.specs.Faults.{has_meaning, has_fed_join, is_first_of_symbol, is_blind, touches, is_fed, upright_len, bad_mark, crossing, no_source, has_fault, Nowhere, IsFoundAt};
+ghost use Rattle.ladder_text.specs.Faults.{has_meaning, has_fed_join, is_first_of_symbol, is_blind, touches, is_fed, upright_len, bad_mark, crossing, no_source, has_fault, NowhereInRows, PassesInRows};
 ghost use Rattle.ladder_text.specs.FirstFault.{IsFirstAt};
 
 use crate::places::boxed_grid::BoxedGrid;
@@ -363,7 +363,7 @@ impl MarkedGrid {
 
     /// Whether no place has a fault; `false` where that isn't quickly seen.
     pub fn is_fine_everywhere(&self) -> bool
-        ensures { IsTrue result → (fault : PlaceFault) → Nowhere self.now (has_fault fault (layout_of self.now)) }
+        ensures { IsTrue result → (fault : PlaceFault) → NowhereInRows self.now (has_fault fault (layout_of self.now)) }
     {
         for row in 0..self.row_end() {
             if !self.is_row_fine(row) {
@@ -392,9 +392,9 @@ impl MarkedGrid {
     /// The first place with a fault.
     #[tactic(auto, using(crate::proofs::Faults::SearchLemmas::found_first))]
     pub fn first_fault(&self, fault: PlaceFault) -> Option<Place>
-        ensures none { IfNone result (Nowhere self.now (has_fault fault (layout_of self.now))) }
-        ensures some { IfSome result (λ p. IsFoundAt self.now (has_fault fault (layout_of self.now)) p.row p.column) }
-        ensures first { IfSome result (λ p. IsFirstAt (IsFoundAt self.now (has_fault fault (layout_of self.now))) p.row p.column) }
+        ensures none { IfNone result (NowhereInRows self.now (has_fault fault (layout_of self.now))) }
+        ensures some { IfSome result (λ p. PassesInRows self.now (has_fault fault (layout_of self.now)) p.row p.column) }
+        ensures first { IfSome result (λ p. IsFirstAt (PassesInRows self.now (has_fault fault (layout_of self.now))) p.row p.column) }
     {
         for row in 0..self.row_end() {
             if let Some(column) = self.fault_in_row(fault, row) {
