@@ -20,7 +20,9 @@ IsTooLargeAt d r c = ((2001 < length d) × (r ≡ 2001) × (c ≡ 1)) ⊎ ((241 
 
 -- row 1, column 1, if nothing is drawn; or a character of the left rail's column that is no rail's
 abbrev pub IsOffRailAt : Rows → ℕ → ℕ → Type 0
-IsOffRailAt d r c = ((width d ≡ 0) × (r ≡ 1) × (c ≡ 1)) ⊎ ((0 < width d) × (r < length d) × (c ≡ left_column d) × IsTrue (no_left_rail d r))
+IsOffRailAt d r c =
+    ((width d ≡ 0) × (r ≡ 1) × (c ≡ 1))
+    ⊎ ((0 < width d) × (r < length d) × (c ≡ left_column d) × IsTrue (no_left_rail d r))
 
 -- the box b shares a place with one of those before the number k
 abbrev pub shares_before : List Outline → ℕ → Outline → Bool
@@ -107,8 +109,11 @@ pub record IsFirstDrawFault (d : Rows) (k : DrawFaultKind) (r c : ℕ) : Type 0 
   pub place : IsFirstAt (IsDrawFaultAt d k) r c
   pub before : (earlier : DrawFaultKind) → rank earlier < rank k → (i j : ℕ) → IsDrawFaultAt d earlier i j → ⊥
 
--- The fault of a text is its first one, with the lines counted on from that of its first (the greatest number, where that is greater).
+-- The fault of a text is its first one, with the lines counted on from that of its first row
+-- (the greatest number, where that is greater).
 -- Where there was no memory left, line and column are 0.
 pub record TellsFirstFault (text : List ℕ) (first_line : ℕ) (fault : DrawFault) : Type 0 where
   pub memory : fault.kind ≡ kind.Memory → (fault.line ≡ 0) × (fault.column ≡ 0)
-  pub first : fault.kind ≢ kind.Memory → (row : ℕ) × IsFirstDrawFault (rows_of text) fault.kind row fault.column × (fault.line ≡ min (first_line + row - 1) 18446744073709551615)
+  pub first : fault.kind ≢ kind.Memory
+      → (row : ℕ) × IsFirstDrawFault (rows_of text) fault.kind row fault.column
+      × (fault.line ≡ min (first_line + row - 1) 18446744073709551615)

@@ -4,7 +4,8 @@ ghost use Rattle.std.specs.Prelude.{◌≡◌, ◌≢◌, ◌↔◌, ◌<◌, �
 ghost use Rattle.ladder_text.specs.Rows.{rows_of};
 ghost use Rattle.ladder_text.specs.Places.{layout_of};
 ghost use Rattle.ladder_text.specs.Faults.{IsWellDrawn, IsIllDrawn};
-ghost use Rattle.ladder_text.specs.FirstFault.{HasNoDrawFault, IsFirstDrawFault, TellsFirstFault};
+ghost use Rattle.ladder_text.specs.FirstFault.{HasNoDrawFault, TellsFirstFault};
+ghost use Rattle.ladder_text.specs.Steps.Search.{IsFirstUnlessMemory};
 ghost use Rattle.ladder_text.specs.Picture.{picture_of};
 ghost use Rattle.ladder_text.specs.declared.draw_fault.DrawFaultKind.TheVariants.{Memory};
 
@@ -20,7 +21,7 @@ fn read_drawing(alloc: Global, text: &str, first_line: u64) -> Result<Drawing, R
     ensures well_drawn { IfOk result (λ _. IsWellDrawn (rows_of text.now)) }
     ensures drawing { IfOk result (λ g. g ≡ picture_of first_line (layout_of (rows_of text.now))) }
     ensures refused { IfErr result (λ e. e.kind ≢ Memory → IsIllDrawn (rows_of text.now)) }
-    ensures first { IfErr result (λ e. e.kind ≢ Memory → IsFirstDrawFault (rows_of text.now) e.kind e.place.row e.place.column) }
+    ensures first { IfErr result (λ e. IsFirstUnlessMemory (rows_of text.now) e.kind e.place) }
 {
     let worded = read_well_drawn(alloc, text)?;
     let contacts = contacts(alloc, &worded)?;

@@ -1,14 +1,12 @@
 //! Reading a text: its faults are sought kind by kind, each over the whole text.
 
 ghost use Rattle.std.specs.Prelude.{◌≡◌, ◌≢◌, ◌<◌, ◌≤◌, ◌+◌, ◌-◌, ℕ, IfOk, IfErr, IfNone, IfSome, OnOk, IsFalse, IsTrue, length};
-ghost use Rattle.std.specs.List.{list_any};
 ghost use Rattle.ladder_text.specs.Rows.{rows_of, width};
 ghost use Rattle.ladder_text.specs.Boxes.{begins_box};
 ghost use Rattle.ladder_text.specs.Places.{layout_of};
-ghost use Rattle.ladder_text.specs.Names.{words, things};
-ghost use Rattle.ladder_text.specs.Faults.{IsWellDrawn, IsIllDrawn, NowhereInRows, has_fault, not_ascii, no_left_rail, bad_box, boxes_apart, name_missing, stray_name, has_stray_operand};
-ghost use Rattle.ladder_text.specs.FirstFault.{IsFirstDrawFault, IsStrayWordAt};
-ghost use Rattle.ladder_text.specs.Steps.Search.{IsFirstFrom, IsFirstOf};
+ghost use Rattle.ladder_text.specs.Faults.{IsWellDrawn, IsIllDrawn, NowhereInRows, InNoRow, has_fault, not_ascii, no_left_rail, bad_box, boxes_apart, has_unnamed, has_stray_word, has_stray_operand};
+ghost use Rattle.ladder_text.specs.FirstFault.{IsStrayWordAt};
+ghost use Rattle.ladder_text.specs.Steps.Search.{IsFirstFrom, IsFirstOf, IsFirstUnlessMemory};
 ghost use Rattle.ladder_text.specs.declared.draw_fault.DrawFaultKind.TheVariants.{Memory};
 
 use crate::characters::grid::Grid;
@@ -53,8 +51,7 @@ fn check_places(marked: &MarkedGrid) -> Result<(), Refusal>
 
 #[tactic(auto, using(crate::proofs::Faults::IllDrawn::ill_missing, crate::proofs::Faults::FirstFaults::unnamed_first))]
 fn check_names(alloc: Global, worded: &WordedGrid) -> Result<(), Refusal>
-    ensures named { IfOk result (λ _. (r : ℕ) → r < length worded.now
-        → IsFalse (list_any (name_missing (layout_of worded.now) r) (things (layout_of worded.now) r))) }
+    ensures named { IfOk result (λ _. InNoRow worded.now (has_unnamed (layout_of worded.now))) }
     ensures refused { IfErr result (λ e. e.kind ≢ Memory → IsIllDrawn worded.now) }
     ensures first { IfErr result (λ e. e.kind ≢ Memory → IsFirstFrom worded.now 8 e.kind e.place.row e.place.column) }
 {
@@ -69,11 +66,9 @@ fn check_names(alloc: Global, worded: &WordedGrid) -> Result<(), Refusal>
 /// The first stray word that is no operand.
 #[tactic(auto, using(crate::proofs::Faults::FirstFaults::word_first, crate::proofs::Faults::FirstFaults::none_word))]
 fn first_stray_word(alloc: Global, worded: &WordedGrid) -> Result<Option<Place>, AllocError>
-    ensures none { IfOk result (λ found. IfNone found ((r : ℕ) → r < length worded.now
-        → IsFalse (list_any (stray_name (layout_of worded.now) r) (words (layout_of worded.now) r)))) }
+    ensures none { IfOk result (λ found. IfNone found (InNoRow worded.now (has_stray_word (layout_of worded.now)))) }
     ensures inside { IfOk result (λ found. IfSome found (λ p. p.row < length worded.now)) }
-    ensures some { IfOk result (λ found. IfSome found
-        (λ p. IsTrue (list_any (stray_name (layout_of worded.now) p.row) (words (layout_of worded.now) p.row)))) }
+    ensures some { IfOk result (λ found. IfSome found (λ p. IsTrue (has_stray_word (layout_of worded.now) p.row))) }
     ensures first { IfOk result (λ found. IsFirstOf (IsStrayWordAt worded.now) found) }
 {
     for row in 0..worded.boxed().row_end() {
@@ -86,8 +81,7 @@ fn first_stray_word(alloc: Global, worded: &WordedGrid) -> Result<Option<Place>,
 
 #[tactic(auto, using(crate::proofs::Faults::IllDrawn::ill_stray, crate::proofs::Faults::IllDrawn::ill_operand, crate::proofs::Faults::FirstFaults::stray_first, crate::proofs::Faults::FirstFaults::operand_first))]
 fn check_strays(alloc: Global, worded: &WordedGrid) -> Result<(), Refusal>
-    ensures words { IfOk result (λ _. (r : ℕ) → r < length worded.now
-        → IsFalse (list_any (stray_name (layout_of worded.now) r) (words (layout_of worded.now) r))) }
+    ensures words { IfOk result (λ _. InNoRow worded.now (has_stray_word (layout_of worded.now))) }
     ensures operands { IfOk result (λ _. IsFalse (has_stray_operand (layout_of worded.now))) }
     ensures refused { IfErr result (λ e. e.kind ≢ Memory → IsIllDrawn worded.now) }
     ensures first { IfErr result (λ e. e.kind ≢ Memory → IsFirstFrom worded.now 9 e.kind e.place.row e.place.column) }
@@ -109,9 +103,9 @@ fn read_grid(alloc: Global, text: &str) -> Result<Grid, Refusal>
     ensures low { IfOk result (λ g. length g ≤ 2001) }
     ensures narrow { IfOk result (λ g. width g ≤ 240) }
     ensures drawn { IfOk result (λ g. 0 < width g) }
-    ensures left_rail { IfOk result (λ g. (r : ℕ) → r < length g → IsFalse (no_left_rail g r)) }
+    ensures left_rail { IfOk result (λ g. InNoRow g (no_left_rail g)) }
     ensures refused { IfErr result (λ e. e.kind ≢ Memory → IsIllDrawn (rows_of text.now)) }
-    ensures first { IfErr result (λ e. e.kind ≢ Memory → IsFirstDrawFault (rows_of text.now) e.kind e.place.row e.place.column) }
+    ensures first { IfErr result (λ e. IsFirstUnlessMemory (rows_of text.now) e.kind e.place) }
 {
     let rows = rows_of(alloc, text)?;
     if let Some(place) = first_not_ascii(&rows) {
@@ -155,7 +149,7 @@ pub fn read_well_drawn(alloc: Global, text: &str) -> Result<WordedGrid, Refusal>
     ensures same { IfOk result (λ p. p ≡ rows_of text.now) }
     ensures well_drawn { IfOk result (λ p. IsWellDrawn p) }
     ensures refused { IfErr result (λ e. e.kind ≢ Memory → IsIllDrawn (rows_of text.now)) }
-    ensures first { IfErr result (λ e. e.kind ≢ Memory → IsFirstDrawFault (rows_of text.now) e.kind e.place.row e.place.column) }
+    ensures first { IfErr result (λ e. IsFirstUnlessMemory (rows_of text.now) e.kind e.place) }
 {
     let grid = read_grid(alloc, text)?;
     let boxed = read_boxes(alloc, grid)?;

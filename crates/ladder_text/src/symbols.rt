@@ -1,33 +1,16 @@
 //! The symbols and boxes of a text, with their names.
 
 ghost use Rattle.std.specs.Prelude.{◌≡◌, ◌+◌, ◌-◌, ◌++◌, ◌<◌, ◌^◌, IfOk, OnOk, length, map, take};
-ghost use Rattle.ladder_text.specs.Places.{layout_of, contact_at, coil_at};
-ghost use Rattle.ladder_text.specs.Names.{name_above, contact_with, coil_with, row_contacts, row_coils, contacts, coils, drawn_box, drawn_boxes};
+ghost use Rattle.ladder_text.specs.Places.{layout_of};
+ghost use Rattle.ladder_text.specs.Names.{contact_here, coil_here, row_contacts, row_coils, contacts, coils, drawn_box, drawn_boxes};
 
 use crate::boxes::outline::Outline;
 use crate::names::names_above::name_above;
-use crate::names::span::Span;
+use crate::names::span::{Span, symbol_span};
 use crate::names::worded_grid::WordedGrid;
 use drawings::{Coil, Contact, DrawnBox};
 use std::alloc::{AllocError, Global};
 use words::Text;
-
-/// The name of the symbol whose first place is in a column.
-fn symbol_name(
-    alloc: Global,
-    worded: &WordedGrid,
-    row: usize,
-    column: usize,
-) -> Result<Text, AllocError>
-    requires { column < 2 ^ 62 }
-    ensures { IfOk result (λ t. t ≡ name_above (layout_of worded.now) row (record { first = column; end = column + 3 })) }
-{
-    let span = Span {
-        first: column,
-        end: column + 3,
-    };
-    name_above(alloc, worded, row, &span)
-}
 
 /// The contact whose first place is in a column, with its name.
 #[tactic(auto, unfolding(crate::specs::Places::layout_of), using(crate::proofs::Words::SpanRows::contact_beside))]
@@ -37,7 +20,7 @@ fn contact_here(
     row: usize,
     column: usize,
 ) -> Result<Option<Contact>, AllocError>
-    ensures { IfOk result (λ o. o ≡ contact_with (layout_of worded.now) row column (contact_at (layout_of worded.now) row column)) }
+    ensures { IfOk result (λ o. o ≡ contact_here (layout_of worded.now) row column) }
 {
     if worded.boxed().last() < column {
         return Ok(None);
@@ -45,7 +28,7 @@ fn contact_here(
     match worded.boxed().contact_at(row, column) {
         None => Ok(None),
         Some(kind) => {
-            let name = symbol_name(alloc, worded, row, column)?;
+            let name = name_above(alloc, worded, row, &symbol_span(column))?;
             Ok(Some(Contact {
                 row,
                 column,
@@ -64,7 +47,7 @@ fn coil_here(
     row: usize,
     column: usize,
 ) -> Result<Option<Coil>, AllocError>
-    ensures { IfOk result (λ o. o ≡ coil_with (layout_of worded.now) row column (coil_at (layout_of worded.now) row column)) }
+    ensures { IfOk result (λ o. o ≡ coil_here (layout_of worded.now) row column) }
 {
     if worded.boxed().last() < column {
         return Ok(None);
@@ -72,7 +55,7 @@ fn coil_here(
     match worded.boxed().coil_at(row, column) {
         None => Ok(None),
         Some(kind) => {
-            let name = symbol_name(alloc, worded, row, column)?;
+            let name = name_above(alloc, worded, row, &symbol_span(column))?;
             Ok(Some(Coil {
                 row,
                 column,

@@ -3,8 +3,8 @@
 ghost use Rattle.std.specs.Prelude.{◌≡◌, ◌==◌, ◌+◌, ◌-◌, ◌<◌, ◌≤◌, ◌^◌, ℕ, IsFalse, IsTrue, IfNone, IfSome, IfOk};
 ghost use Rattle.ladder_text.specs.Rows.{char_at, width, run_back};
 ghost use Rattle.std.specs.Prelude.{map};
-ghost use Rattle.ladder_text.specs.Faults.{bad_box, NowhereInRows, PassesInRows};
-ghost use Rattle.ladder_text.specs.FirstFault.{IsFirstAt};
+ghost use Rattle.ladder_text.specs.Faults.{bad_box, NowhereInRows};
+ghost use Rattle.ladder_text.specs.Steps.Search.{NowhereInRow, PassesAt, IsFirstToPass};
 ghost use Rattle.drawings.specs.declared.drawn_box.Side.TheVariants as side;
 ghost use Rattle.ladder_text.specs.Boxes.{blank_words, bottom_row, word_start, word_end, left_operand, right_operand, operand_beside, side_pin, nearer_pin, blanks_before, blanks_behind, pins_from, row_pins, pins_of_rows, is_edge, outline_at, box_at, row_outlines, outlines};
 ghost use Rattle.std.specs.Str.{IsAscii};
@@ -416,7 +416,7 @@ fn is_bad_box_with(
 
 fn bad_box_in_row(alloc: Global, grid: &Grid, row: usize) -> Result<Option<usize>, AllocError>
     requires { row < 2 ^ 60 }
-    ensures none { IfOk result (λ found. IfNone found ((c : ℕ) → c ≤ width grid.now → IsFalse (bad_box grid.now row c))) }
+    ensures none { IfOk result (λ found. IfNone found (NowhereInRow grid.now (bad_box grid.now row))) }
     ensures inside { IfOk result (λ found. IfSome found (λ c. c ≤ width grid.now)) }
     ensures some { IfOk result (λ found. IfSome found (λ c. IsTrue (bad_box grid.now row c))) }
     ensures before { IfOk result (λ found. IfSome found (λ c. (k : ℕ) → k < c → IsFalse (bad_box grid.now row k))) }
@@ -435,8 +435,8 @@ fn bad_box_in_row(alloc: Global, grid: &Grid, row: usize) -> Result<Option<usize
 #[tactic(auto, using(crate::proofs::Faults::SearchLemmas::found_first))]
 pub fn first_bad_box(alloc: Global, grid: &Grid) -> Result<Option<Place>, AllocError>
     ensures none { IfOk result (λ found. IfNone found (NowhereInRows grid.now (bad_box grid.now))) }
-    ensures some { IfOk result (λ found. IfSome found (λ p. PassesInRows grid.now (bad_box grid.now) p.row p.column)) }
-    ensures first { IfOk result (λ found. IfSome found (λ p. IsFirstAt (PassesInRows grid.now (bad_box grid.now)) p.row p.column)) }
+    ensures some { IfOk result (λ found. IfSome found (λ p. PassesAt grid.now (bad_box grid.now) p)) }
+    ensures first { IfOk result (λ found. IfSome found (λ p. IsFirstToPass grid.now (bad_box grid.now) p)) }
 {
     for row in 0..grid.row_end() {
         if let Some(column) = bad_box_in_row(alloc, grid, row)? {

@@ -1,14 +1,12 @@
 //! What stands above symbols and boxes: the words that name them, and those that name nothing.
 
 ghost use Rattle.std.specs.Prelude.{MatchOption, IfNone, IfSome, IsFalse, option_copied, find, min, ◌≡◌, ◌<◌, ◌≤◌, ◌^◌, IfOk, IsTrue, count_by, length};
-ghost use Rattle.std.specs.List.{list_any, list_all};
-ghost use Rattle.words.specs.Chars.{is_name};
+ghost use Rattle.std.specs.List.{list_any};
 ghost use Rattle.ladder_text.specs.Places.{layout_of};
-ghost use Rattle.ladder_text.specs.Names.{words, things, overlap, word_text, found_text, name_above};
-ghost use Rattle.ladder_text.specs.Faults.{has_earlier, is_second, stray_name, name_missing};
-ghost use Rattle.ladder_text.specs.Steps.Search.{AreNamed, IsFirstColumnOf};
-ghost use Rattle.ladder_text.specs.FirstFault.{IsSpanAt};
-ghost use Rattle.ladder_text.specs.Steps.Pairs.{StandAbove};
+ghost use Rattle.ladder_text.specs.Names.{things, overlap, word_text, found_text, name_above};
+ghost use Rattle.ladder_text.specs.Faults.{has_earlier, is_second, stray_name, name_missing, has_unnamed, has_stray_word};
+ghost use Rattle.ladder_text.specs.Steps.Search.{AreNamed, IsFirstStrayWord, IsFirstUnnamed};
+ghost use Rattle.ladder_text.specs.Steps.Pairs.{StandAbove, are_names};
 ghost use Rattle.std.specs.Str.{IsAscii};
 
 use crate::names::pairs::are_paired;
@@ -109,7 +107,7 @@ fn stand_above(alloc: Global, worded: &WordedGrid, row: usize) -> Result<bool, A
 /// Whether the words of a row are all names.
 #[tactic(auto, unfolding(crate::specs::Places::layout_of))]
 fn are_names(worded: &WordedGrid, row: usize) -> bool
-    ensures { result ≡ list_all (λ w. is_name (word_text (layout_of worded.now) row w)) (words (layout_of worded.now) row) }
+    ensures { result ≡ are_names (layout_of worded.now) row }
 {
     worded
         .words(row)
@@ -124,11 +122,9 @@ pub fn stray_in_row(
     row: usize,
 ) -> Result<Option<usize>, AllocError>
     requires { row < 2 ^ 62 }
-    ensures none { IfOk result (λ found. IfNone found
-        (IsFalse (list_any (stray_name (layout_of worded.now) row) (words (layout_of worded.now) row)))) }
-    ensures some { IfOk result (λ found. IfSome found
-        (λ _. IsTrue (list_any (stray_name (layout_of worded.now) row) (words (layout_of worded.now) row)))) }
-    ensures first { IfOk result (λ found. IsFirstColumnOf (IsSpanAt (words (layout_of worded.now) row) (stray_name (layout_of worded.now) row)) found) }
+    ensures none { IfOk result (λ found. IfNone found (IsFalse (has_stray_word (layout_of worded.now) row))) }
+    ensures some { IfOk result (λ found. IfSome found (λ _. IsTrue (has_stray_word (layout_of worded.now) row))) }
+    ensures first { IfOk result (λ found. IsFirstStrayWord (layout_of worded.now) row found) }
 {
     let above = stand_above(alloc, worded, row)?;
     if above && are_names(worded, row) {
@@ -157,11 +153,9 @@ pub fn unnamed_in_row(
     row: usize,
 ) -> Result<Option<usize>, AllocError>
     requires { row < 2 ^ 62 }
-    ensures none { IfOk result (λ found. IfNone found
-        (IsFalse (list_any (name_missing (layout_of worded.now) row) (things (layout_of worded.now) row)))) }
-    ensures some { IfOk result (λ found. IfSome found
-        (λ _. IsTrue (list_any (name_missing (layout_of worded.now) row) (things (layout_of worded.now) row)))) }
-    ensures first { IfOk result (λ found. IsFirstColumnOf (IsSpanAt (things (layout_of worded.now) row) (name_missing (layout_of worded.now) row)) found) }
+    ensures none { IfOk result (λ found. IfNone found (IsFalse (has_unnamed (layout_of worded.now) row))) }
+    ensures some { IfOk result (λ found. IfSome found (λ _. IsTrue (has_unnamed (layout_of worded.now) row))) }
+    ensures first { IfOk result (λ found. IsFirstUnnamed (layout_of worded.now) row found) }
 {
     if row > 0 {
         let above = stand_above(alloc, worded, row - 1)?;

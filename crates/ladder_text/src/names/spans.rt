@@ -8,7 +8,7 @@ ghost use Rattle.ladder_text.specs.Steps.RowBoxes.{IsBare};
 ghost use Rattle.ladder_text.specs.Steps.RowMarks.{AreMarksOf};
 ghost use Rattle.ladder_text.specs.Names.{in_word, words, symbol_at, symbols};
 
-use crate::names::span::Span;
+use crate::names::span::{Span, symbol_span};
 use crate::places::marked_grid::MarkedGrid;
 use drawings::{Mark, MarkRow};
 use std::alloc::{AllocError, Global};
@@ -89,10 +89,7 @@ fn symbol_with(marked: &MarkedGrid, mark: Mark, row: usize, column: usize) -> Op
     ensures { result ≡ symbol_at (layout_of marked.now) row column }
 {
     if marked.begins_symbol(mark, row, column) {
-        Some(Span {
-            first: column,
-            end: column + 3,
-        })
+        Some(symbol_span(column))
     } else {
         None
     }

@@ -24,17 +24,14 @@ pub struct WordedGrid {
 }
 
 impl Model for WordedGrid {
-    ghost use Rattle.std.specs.Prelude.{length};
     ghost use Rattle.ladder_text.specs.Rows.{Rows};
-    ghost use Rattle.ladder_text.specs.Places.{layout_of};
-    ghost use Rattle.ladder_text.specs.Names.{words as row_words, symbols as row_symbols};
-    ghost use Rattle.ladder_text.specs.Steps.RowSpans.{AreOfRows};
+    ghost use Rattle.ladder_text.specs.Steps.RowSpans.{AreWordsAndSymbols};
 
     ghost Value = { Rows };
 
     ghost view = { λ p. p.marked };
 
-    ghost invariant = { λ p. AreOfRows (row_words (layout_of p.marked)) (length p.marked) p.words.items × AreOfRows (row_symbols (layout_of p.marked)) (length p.marked) p.symbols.items };
+    ghost invariant = { λ p. AreWordsAndSymbols p.marked p.words.items p.symbols.items };
 }
 
 /// The words row by row.

@@ -5,13 +5,13 @@ ghost use Rattle.ladder_text.specs.Rows.{char_at, width, height};
 ghost use Rattle.words.specs.Chars.{is_word_char};
 ghost use Rattle.ladder_text.specs.SymbolKinds.{contact_kind, coil_kind};
 ghost use Rattle.ladder_text.specs.Boxes.{begins_box, cut, left_column, outlines};
-ghost use Rattle.ladder_text.specs.Places.{layout_of, contact_at, coil_at, in_box, in_contact, in_coil, is_taken, may_be_rail, has_right_rail, in_operand, is_right_pin};
+ghost use Rattle.ladder_text.specs.Places.{layout_of, are_three_free, contact_at, coil_at, in_box, in_contact, in_coil, is_taken, may_be_rail, has_right_rail, in_operand, is_right_pin};
 ghost use Rattle.ladder_text.specs.Names.{tops};
 ghost use Rattle.ladder_text.specs.Steps.RowBoxes.{box_test, IsFirstShared, IsBare};
 ghost use Rattle.std.specs.List.{list_any};
-ghost use Rattle.ladder_text.specs.Faults.{blind_left, blind_right, bad_box, boxes_apart, has_stray_operand, NowhereInRows, PassesInRows};
-ghost use Rattle.ladder_text.specs.FirstFault.{IsFirstAt, IsSharedAt, IsStrayOperandAt};
-ghost use Rattle.ladder_text.specs.Steps.Search.{IsFirstOf};
+ghost use Rattle.ladder_text.specs.Faults.{blind_left, blind_right, bad_box, boxes_apart, has_stray_operand, NowhereInRows};
+ghost use Rattle.ladder_text.specs.FirstFault.{IsSharedAt, IsStrayOperandAt};
+ghost use Rattle.ladder_text.specs.Steps.Search.{IsFirstOf, PassesAt, IsFirstToPass};
 ghost use Rattle.std.specs.Str.{IsAscii};
 
 use crate::boxes::box_rows::Boxes;
@@ -82,8 +82,8 @@ impl BoxedGrid {
     /// The first place at which a box begins that isn't as it should be.
     pub fn first_bad_box(&self, alloc: Global) -> Result<Option<Place>, AllocError>
         ensures none { IfOk result (λ found. IfNone found (NowhereInRows self.now (bad_box self.now))) }
-        ensures some { IfOk result (λ found. IfSome found (λ p. PassesInRows self.now (bad_box self.now) p.row p.column)) }
-        ensures first { IfOk result (λ found. IfSome found (λ p. IsFirstAt (PassesInRows self.now (bad_box self.now)) p.row p.column)) }
+        ensures some { IfOk result (λ found. IfSome found (λ p. PassesAt self.now (bad_box self.now) p)) }
+        ensures first { IfOk result (λ found. IfSome found (λ p. IsFirstToPass self.now (bad_box self.now) p)) }
     {
         first_bad_box(alloc, &self.grid)
     }
@@ -234,7 +234,7 @@ impl BoxedGrid {
     #[tactic(auto, unfolding(crate::specs::Places::layout_of))]
     fn is_free(&self, row: usize, column: usize) -> bool
         requires { column < 2 ^ 62 }
-        ensures { result ≡ not (in_box (layout_of self.now) row column || in_box (layout_of self.now) row (column + 1) || in_box (layout_of self.now) row (column + 2)) }
+        ensures { result ≡ are_three_free (layout_of self.now) row column }
     {
         if self.is_bare(row) {
             return true;

@@ -7,8 +7,8 @@ ghost use Rattle.ladder_text.specs.Boxes.{outlines};
 ghost use Rattle.ladder_text.specs.Steps.RowBoxes.{IsBare};
 ghost use Rattle.ladder_text.specs.Steps.RowMarks.{AreMarksOf};
 ghost use Rattle.ladder_text.specs.Picture.{marks_of};
-ghost use Rattle.ladder_text.specs.Faults.{has_meaning, has_fed_join, is_first_of_symbol, is_blind, touches, is_fed, upright_len, bad_mark, crossing, no_source, has_fault, NowhereInRows, PassesInRows};
-ghost use Rattle.ladder_text.specs.FirstFault.{IsFirstAt};
+ghost use Rattle.ladder_text.specs.Faults.{has_meaning, has_fed_join, is_first_of_symbol, is_blind, touches, is_fed, upright_len, bad_mark, crossing, no_source, has_fault, NowhereInRows};
+ghost use Rattle.ladder_text.specs.Steps.Search.{NowhereInRow, IsFineAt, IsFineRow, PassesAt, IsFirstToPass};
 
 use crate::places::boxed_grid::BoxedGrid;
 use crate::places::place_fault::PlaceFault;
@@ -276,7 +276,7 @@ impl MarkedGrid {
         requires row { row < 2 ^ 62 }
         requires column { column < 2 ^ 61 }
         requires mark { mark ≡ place_mark (layout_of self.now) row column }
-        ensures { IsTrue result → (fault : PlaceFault) → IsFalse (has_fault fault (layout_of self.now) row column) }
+        ensures { IsTrue result → IsFineAt (layout_of self.now) row column }
     {
         !self.bad_mark(mark, row, column)
             && !self.crossing(mark, row, column)
@@ -305,7 +305,7 @@ impl MarkedGrid {
         requires bare { IsBare (outlines self.now) row }
         requires before { before ≡ place_mark (layout_of self.now) row (column - 1) }
         requires mark { mark ≡ place_mark (layout_of self.now) row column }
-        ensures { IsTrue result → (fault : PlaceFault) → IsFalse (has_fault fault (layout_of self.now) row column) }
+        ensures { IsTrue result → IsFineAt (layout_of self.now) row column }
     {
         match mark {
             Mark::Wire | Mark::ContactPart | Mark::CoilPart => {
@@ -322,7 +322,7 @@ impl MarkedGrid {
         requires marks { AreMarksOf (layout_of self.now) row marks.now }
         requires row { row < 2 ^ 62 }
         requires bare { IsBare (outlines self.now) row }
-        ensures { IsTrue result → (fault : PlaceFault) (c : ℕ) → c ≤ width self.now → IsFalse (has_fault fault (layout_of self.now) row c) }
+        ensures { IsTrue result → IsFineRow self.now row }
     {
         let cells = self.boxed().cells(row);
         let mut before = self.mark(row, 0);
@@ -340,7 +340,7 @@ impl MarkedGrid {
     /// Whether a row has no fault of a kind.
     fn is_free(&self, fault: PlaceFault, row: usize) -> bool
         requires { row < 2 ^ 62 }
-        ensures { IsTrue result → (c : ℕ) → c ≤ width self.now → IsFalse (has_fault fault (layout_of self.now) row c) }
+        ensures { IsTrue result → NowhereInRow self.now (has_fault fault (layout_of self.now) row) }
     {
         self.fault_in_row(fault, row).is_none()
     }
@@ -349,7 +349,7 @@ impl MarkedGrid {
     #[tactic(auto, using(crate::proofs::Marks::FinePlaces::every_fault))]
     fn is_row_fine(&self, row: usize) -> bool
         requires { row < 2 ^ 62 }
-        ensures { IsTrue result → (fault : PlaceFault) (c : ℕ) → c ≤ width self.now → IsFalse (has_fault fault (layout_of self.now) row c) }
+        ensures { IsTrue result → IsFineRow self.now row }
     {
         if self.boxed().is_bare(row) {
             if let Some(marks) = self.marks_on(row) {
@@ -375,8 +375,7 @@ impl MarkedGrid {
 
     fn fault_in_row(&self, fault: PlaceFault, row: usize) -> Option<usize>
         requires { row < 2 ^ 62 }
-        ensures none { IfNone result
-            ((c : ℕ) → c ≤ width self.now → IsFalse (has_fault fault (layout_of self.now) row c)) }
+        ensures none { IfNone result (NowhereInRow self.now (has_fault fault (layout_of self.now) row)) }
         ensures inside { IfSome result (λ c. c ≤ width self.now) }
         ensures some { IfSome result (λ c. IsTrue (has_fault fault (layout_of self.now) row c)) }
         ensures before { IfSome result (λ c. (k : ℕ) → k < c → IsFalse (has_fault fault (layout_of self.now) row k)) }
@@ -393,8 +392,8 @@ impl MarkedGrid {
     #[tactic(auto, using(crate::proofs::Faults::SearchLemmas::found_first))]
     pub fn first_fault(&self, fault: PlaceFault) -> Option<Place>
         ensures none { IfNone result (NowhereInRows self.now (has_fault fault (layout_of self.now))) }
-        ensures some { IfSome result (λ p. PassesInRows self.now (has_fault fault (layout_of self.now)) p.row p.column) }
-        ensures first { IfSome result (λ p. IsFirstAt (PassesInRows self.now (has_fault fault (layout_of self.now))) p.row p.column) }
+        ensures some { IfSome result (λ p. PassesAt self.now (has_fault fault (layout_of self.now)) p) }
+        ensures first { IfSome result (λ p. IsFirstToPass self.now (has_fault fault (layout_of self.now)) p) }
     {
         for row in 0..self.row_end() {
             if let Some(column) = self.fault_in_row(fault, row) {
