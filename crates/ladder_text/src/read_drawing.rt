@@ -27,19 +27,13 @@ fn read_drawing(alloc: Global, text: &str, first_line: u64) -> Result<Drawing, R
     let contacts = contacts(alloc, &worded)?;
     let coils = coils(alloc, &worded)?;
     let boxes = drawn_boxes(alloc, &worded)?;
-    let boxed = worded.boxed();
-    let rows = boxed.row_end().saturating_sub(1);
-    let columns = boxed.last();
-    let left = boxed.left();
+    let grid = worded.marked().grid();
+    let rows = grid.row_end().saturating_sub(1);
+    let columns = grid.last();
+    let left = grid.left();
+    let marks = worded.into_marked().into_marks(alloc)?;
     Ok(Drawing::of(
-        first_line,
-        rows,
-        columns,
-        left,
-        worded.into_marks(),
-        contacts,
-        coils,
-        boxes,
+        first_line, rows, columns, left, marks, contacts, coils, boxes,
     ))
 }
 

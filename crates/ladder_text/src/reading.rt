@@ -1,21 +1,20 @@
 //! Reading a text: its faults are sought kind by kind, each over the whole text.
 
-ghost use Rattle.std.specs.Prelude.{◌≡◌, ◌≢◌, ◌<◌, ◌≤◌, ◌+◌, ◌-◌, ℕ, IfOk, IfErr, IfNone, IfSome, OnOk, IsFalse, IsTrue, length};
+ghost use Rattle.std.specs.Prelude.{◌≡◌, ◌≢◌, ◌<◌, ◌≤◌, ◌-◌, ℕ, IfOk, IfErr, IfNone, IfSome, IsFalse, IsTrue, length};
 ghost use Rattle.ladder_text.specs.Rows.{rows_of, width};
-ghost use Rattle.ladder_text.specs.Boxes.{begins_box};
 ghost use Rattle.ladder_text.specs.Places.{layout_of};
 ghost use Rattle.ladder_text.specs.Faults.{IsWellDrawn, IsIllDrawn, NowhereInRows, InNoRow, has_fault, not_ascii, no_left_rail, bad_box, boxes_apart, has_unnamed, has_stray_word, has_stray_operand};
 ghost use Rattle.ladder_text.specs.FirstFault.{IsStrayWordAt};
 ghost use Rattle.ladder_text.specs.Steps.Search.{IsFirstFrom, IsFirstOf, IsFirstUnlessMemory};
 ghost use Rattle.ladder_text.specs.declared.draw_fault.DrawFaultKind.TheVariants.{Memory};
 
+use crate::boxes::outlines::first_bad_box;
 use crate::characters::grid::Grid;
 use crate::characters::rows::{first_not_ascii, rows_of};
 use crate::draw_fault::DrawFaultKind;
 use crate::earlier::or_earlier;
 use crate::names::names_above::{stray_in_row, unnamed_in_row};
 use crate::names::worded_grid::WordedGrid;
-use crate::places::boxed_grid::BoxedGrid;
 use crate::places::marked_grid::MarkedGrid;
 use crate::places::place_fault::PlaceFault;
 use crate::refusal::Refusal;
@@ -55,7 +54,7 @@ fn check_names(alloc: Global, worded: &WordedGrid) -> Result<(), Refusal>
     ensures refused { IfErr result (λ e. e.kind ≢ Memory → IsIllDrawn worded.now) }
     ensures first { IfErr result (λ e. e.kind ≢ Memory → IsFirstFrom worded.now 8 e.kind e.place.row e.place.column) }
 {
-    for row in 0..worded.boxed().row_end() {
+    for row in 0..worded.marked().row_end() {
         if let Some(column) = unnamed_in_row(alloc, worded, row)? {
             return Err(fault(DrawFaultKind::NameMissing, Place { row, column }));
         }
@@ -71,7 +70,7 @@ fn first_stray_word(alloc: Global, worded: &WordedGrid) -> Result<Option<Place>,
     ensures some { IfOk result (λ found. IfSome found (λ p. IsTrue (has_stray_word (layout_of worded.now) p.row))) }
     ensures first { IfOk result (λ found. IsFirstOf (IsStrayWordAt worded.now) found) }
 {
-    for row in 0..worded.boxed().row_end() {
+    for row in 0..worded.marked().row_end() {
         if let Some(column) = stray_in_row(alloc, worded, row)? {
             return Ok(Some(Place { row, column }));
         }
@@ -86,7 +85,7 @@ fn check_strays(alloc: Global, worded: &WordedGrid) -> Result<(), Refusal>
     ensures refused { IfErr result (λ e. e.kind ≢ Memory → IsIllDrawn worded.now) }
     ensures first { IfErr result (λ e. e.kind ≢ Memory → IsFirstFrom worded.now 9 e.kind e.place.row e.place.column) }
 {
-    let operand = worded.boxed().first_stray_operand();
+    let operand = worded.marked().first_stray_operand();
     match first_stray_word(alloc, worded)? {
         Some(word) => Err(fault(DrawFaultKind::StrayName, or_earlier(word, operand))),
         None => match operand {
@@ -126,16 +125,17 @@ fn read_grid(alloc: Global, text: &str) -> Result<Grid, Refusal>
 }
 
 #[tactic(auto, using(crate::proofs::Faults::IllDrawn::ill_box, crate::proofs::Faults::IllDrawn::ill_apart, crate::proofs::Faults::FirstFaults::box_first, crate::proofs::Faults::FirstFaults::shared_first))]
-fn read_boxes(alloc: Global, grid: Grid) -> Result<BoxedGrid, Refusal>
+fn read_boxes(alloc: Global, grid: Grid) -> Result<MarkedGrid, Refusal>
     ensures same { IfOk result (λ s. s ≡ grid) }
     ensures whole { IfOk result (λ s. NowhereInRows s (bad_box s)) }
     ensures apart { IfOk result (λ s. IsTrue (boxes_apart (layout_of s))) }
     ensures refused { IfErr result (λ e. e.kind ≢ Memory → IsIllDrawn grid) }
     ensures first { IfErr result (λ e. e.kind ≢ Memory → IsFirstFrom grid 4 e.kind e.place.row e.place.column) }
 {
-    let boxed = BoxedGrid::new(alloc, grid)?;
+    let bad = first_bad_box(alloc, &grid)?;
+    let boxed = MarkedGrid::with_boxes(alloc, grid)?;
     let shared = boxed.first_shared_box();
-    if let Some(place) = boxed.first_bad_box(alloc)? {
+    if let Some(place) = bad {
         return Err(fault(DrawFaultKind::BadBox, or_earlier(place, shared)));
     }
     match shared {
@@ -153,7 +153,7 @@ pub fn read_well_drawn(alloc: Global, text: &str) -> Result<WordedGrid, Refusal>
 {
     let grid = read_grid(alloc, text)?;
     let boxed = read_boxes(alloc, grid)?;
-    let marked = MarkedGrid::new(alloc, boxed)?;
+    let marked = boxed.with_marks(alloc)?;
     check_places(&marked)?;
     let worded = WordedGrid::new(alloc, marked)?;
     check_names(alloc, &worded)?;

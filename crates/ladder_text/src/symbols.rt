@@ -1,6 +1,6 @@
 //! The symbols and boxes of a text, with their names.
 
-ghost use Rattle.std.specs.Prelude.{◌≡◌, ◌+◌, ◌-◌, ◌++◌, ◌<◌, ◌^◌, IfOk, OnOk, length, map, take};
+ghost use Rattle.std.specs.Prelude.{◌≡◌, ◌+◌, ◌-◌, ◌++◌, ◌<◌, IfOk, OnOk};
 ghost use Rattle.ladder_text.specs.Places.{layout_of};
 ghost use Rattle.ladder_text.specs.Names.{contact_here, coil_here, row_contacts, row_coils, contacts, coils, drawn_box, drawn_boxes};
 
@@ -22,10 +22,10 @@ fn contact_here(
 ) -> Result<Option<Contact>, AllocError>
     ensures { IfOk result (λ o. o ≡ contact_here (layout_of worded.now) row column) }
 {
-    if worded.boxed().last() < column {
+    if worded.marked().last() < column {
         return Ok(None);
     }
-    match worded.boxed().contact_at(row, column) {
+    match worded.marked().contact_at(row, column) {
         None => Ok(None),
         Some(kind) => {
             let name = name_above(alloc, worded, row, &symbol_span(column))?;
@@ -49,10 +49,10 @@ fn coil_here(
 ) -> Result<Option<Coil>, AllocError>
     ensures { IfOk result (λ o. o ≡ coil_here (layout_of worded.now) row column) }
 {
-    if worded.boxed().last() < column {
+    if worded.marked().last() < column {
         return Ok(None);
     }
-    match worded.boxed().coil_at(row, column) {
+    match worded.marked().coil_at(row, column) {
         None => Ok(None),
         Some(kind) => {
             let name = name_above(alloc, worded, row, &symbol_span(column))?;
@@ -106,7 +106,7 @@ pub fn contacts(alloc: Global, worded: &WordedGrid) -> Result<Vec<Contact>, Allo
     ensures { IfOk result (λ v. v.items ≡ contacts (layout_of worded.now)) }
 {
     let mut all = Vec::new(alloc);
-    for row in 0..worded.boxed().row_end().saturating_sub(1) {
+    for row in 0..worded.marked().row_end().saturating_sub(1) {
         push_contacts(alloc, worded, row + 1, &mut all)?;
     }
     Ok(all)
@@ -118,7 +118,7 @@ pub fn coils(alloc: Global, worded: &WordedGrid) -> Result<Vec<Coil>, AllocError
     ensures { IfOk result (λ v. v.items ≡ coils (layout_of worded.now)) }
 {
     let mut all = Vec::new(alloc);
-    for row in 0..worded.boxed().row_end().saturating_sub(1) {
+    for row in 0..worded.marked().row_end().saturating_sub(1) {
         push_coils(alloc, worded, row + 1, &mut all)?;
     }
     Ok(all)
@@ -150,7 +150,7 @@ pub fn drawn_boxes(alloc: Global, worded: &WordedGrid) -> Result<Vec<DrawnBox>, 
     ensures { IfOk result (λ v. v.items ≡ drawn_boxes (layout_of worded.now)) }
 {
     let mut all = Vec::new(alloc);
-    for outline in worded.boxed().boxes() {
+    for outline in worded.marked().boxes() {
         all.push(drawn_box(alloc, worded, outline)?)?;
     }
     Ok(all)

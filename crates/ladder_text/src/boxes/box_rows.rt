@@ -1,6 +1,6 @@
 //! The boxes of a text, and which of them have a row.
 
-ghost use Rattle.std.specs.Prelude.{◌≡◌, ◌==◌, ◌++◌, ◌∷◌, ◌+◌, ◌<◌, ◌≤◌, ◌^◌, ℕ, [], ◌&&◌, nat_lt, map, length, slice_get, slice_index_or, is_some, is_none, Some, OnOk, IfOk, IfSome, IsTrue};
+ghost use Rattle.std.specs.Prelude.{◌≡◌, ◌==◌, ◌<◌, ◌^◌, ℕ, [], ◌&&◌, nat_lt, map, length, slice_get, slice_index_or, is_some, is_none, Some, OnOk, IfOk, IfSome, IsTrue};
 ghost use Rattle.std.specs.List.{list_any, list_all, filter, filter_map};
 ghost use Rattle.drawings.specs.declared.drawn_box.Side.TheVariants as side;
 ghost use Rattle.ladder_text.specs.Boxes.{outlines};

@@ -1,8 +1,8 @@
 //! The text as rows of characters.
 
-ghost use Rattle.std.specs.Prelude.{ℕ, [], IsTrue, IsFalse, IfNone, IfSome, ◌-◌, ◌≤◌, take, drop, ◌≡◌, ◌∷◌, ◌<◌, IfOk, length, vec_len, slice_index_or};
+ghost use Rattle.std.specs.Prelude.{ℕ, [], IsTrue, IsFalse, IfNone, IfSome, ◌-◌, ◌≤◌, take, drop, ◌≡◌, ◌∷◌, ◌<◌, IfOk, length, slice_index_or};
 ghost use Rattle.words.specs.Lines.{without_last};
-ghost use Rattle.ladder_text.specs.Rows.{trimmed, rows_of, char_at, width, longest};
+ghost use Rattle.ladder_text.specs.Rows.{trimmed, rows_of, char_at, width};
 ghost use Rattle.ladder_text.specs.Boxes.{cut, is_blank_column, left_column};
 ghost use Rattle.words.specs.Chars.{between};
 ghost use Rattle.ladder_text.specs.Faults.{not_ascii, PassesInRows};

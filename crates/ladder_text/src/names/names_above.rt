@@ -50,7 +50,7 @@ fn things(alloc: Global, worded: &WordedGrid, row: usize) -> Result<Vec<Span>, A
 {
     let mut things = Vec::new(alloc);
     things.extend_from_slice(worded.symbols(row))?;
-    let tops = worded.boxed().tops(alloc, row)?;
+    let tops = worded.marked().tops(alloc, row)?;
     things.extend_from_slice(&tops)?;
     Ok(things)
 }
@@ -61,7 +61,7 @@ fn word_text<'a>(worded: &'a WordedGrid, row: usize, word: &Span) -> &'a [u8]
     ensures value { result.now ≡ word_text (layout_of worded.now) row word.now }
     ensures ascii { IsAscii result.now }
 {
-    worded.boxed().cut(row, word.first, word.end)
+    worded.marked().grid().cut(row, word.first, word.end)
 }
 
 /// What the words of a row may name in the row below it.
@@ -76,7 +76,7 @@ fn named_below(alloc: Global, worded: &WordedGrid, row: usize) -> Result<Named, 
     ensures { IfOk result (λ n. AreNamed (layout_of worded.now) row n.tops.items n.things.items) }
 {
     Ok(Named {
-        tops: worded.boxed().tops(alloc, row + 1)?,
+        tops: worded.marked().tops(alloc, row + 1)?,
         things: things(alloc, worded, row + 1)?,
     })
 }
@@ -100,7 +100,7 @@ fn stand_above(alloc: Global, worded: &WordedGrid, row: usize) -> Result<bool, A
     requires { row < 2 ^ 62 }
     ensures { IfOk result (λ above. IsTrue above → StandAbove (layout_of worded.now) row) }
 {
-    let tops = worded.boxed().tops(alloc, row + 1)?;
+    let tops = worded.marked().tops(alloc, row + 1)?;
     Ok(tops.is_empty() && are_paired(worded.words(row), worded.symbols(row + 1)))
 }
 

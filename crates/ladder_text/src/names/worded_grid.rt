@@ -3,19 +3,16 @@
 ghost use Rattle.std.specs.Prelude.{◌≡◌, IfOk, length};
 ghost use Rattle.ladder_text.specs.Places.{layout_of};
 ghost use Rattle.ladder_text.specs.Names.{words, symbols};
-ghost use Rattle.ladder_text.specs.Picture.{marks_of};
 ghost use Rattle.ladder_text.specs.Steps.RowSpans.{AreOfRows};
 
 use crate::names::span::Span;
 use crate::names::span_row::SpanRow;
 use crate::names::spans::{symbols, words};
-use crate::places::boxed_grid::BoxedGrid;
 use crate::places::marked_grid::MarkedGrid;
-use drawings::MarkRow;
 use std::alloc::{AllocError, Global};
 use std::marker::Model;
 
-/// A grid with all its marks, and the words and the symbols of its rows.
+/// A grid with its boxes and marks, and the words and the symbols of its rows.
 #[derive(Drop)]
 pub struct WordedGrid {
     marked: MarkedGrid,
@@ -69,21 +66,22 @@ impl WordedGrid {
         })
     }
 
-    pub fn into_marks(self) -> Vec<MarkRow>
-        ensures { result.items ≡ marks_of (layout_of self) }
+    /// The grid without its words and symbols.
+    pub fn into_marked(self) -> MarkedGrid
+        ensures { result ≡ self }
     {
         let WordedGrid {
             marked,
             words: _,
             symbols: _,
         } = self;
-        marked.into_marks()
+        marked
     }
 
-    pub fn boxed(&self) -> &BoxedGrid
+    pub fn marked(&self) -> &MarkedGrid
         ensures { result.now ≡ self.now }
     {
-        self.marked.boxed()
+        &self.marked
     }
 
     /// The words of a row.
