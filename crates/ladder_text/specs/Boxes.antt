@@ -5,6 +5,7 @@ use Rattle.std_blocks.specs.declared.block_type.BlockType.{BlockType}
 use Rattle.drawings.specs.declared.drawn_box.DrawnPin.{DrawnPin}
 use Rattle.ladder_text.specs.declared.boxes.outline.Outline.{Outline}
 use Rattle.drawings.specs.declared.drawn_box.Operand.{Operand}
+use Rattle.drawings.specs.declared.drawn_box.Side.{Side}
 use Rattle.drawings.specs.declared.drawn_box.Side.TheVariants as side
 use Rattle.ladder_text.specs.Rows.{Rows, char_at, height, width, run, run_back, upto, trimmed}
 use Rattle.words.specs.Chars.{block_type, is_identifier, is_word_char}
@@ -49,7 +50,8 @@ block_in d r c = block_type (trimmed (without_leading (cut d (r + 1) (c + 1) (to
 -- a box begins at (r, c)
 unfoldable pub begins_box : Rows → ℕ → ℕ → Bool
 begins_box d r c =
-    nat_lt (left_column d) c && char_at d r c == 43 && nat_lt 0 (dashes_after d r c) && char_at d r (top_end d r c) == 43
+    nat_lt (left_column d) c && char_at d r c == 43
+    && nat_lt 0 (dashes_after d r c) && char_at d r (top_end d r c) == 43
     && has_sides d c (top_end d r c) (r + 1) && is_some (block_in d r c)
 
 -- the row of the bottom side: the first below the top that has no sides
@@ -76,23 +78,28 @@ word_end d r s = s + run (λ k. is_word_char (char_at d r k)) s (width d)
 abbrev pub left_operand : Rows → ℕ → ℕ → Option Operand
 left_operand d r c =
     let e = c - 1 - run_back (λ k. char_at d r k == 45) (c - 1) c in
-    if is_word_char (char_at d r e) then Some (record { text = cut d r (word_start d r e) (e + 1); column = word_start d r e }) else None
+    if is_word_char (char_at d r e)
+    then Some (record { text = cut d r (word_start d r e) (e + 1); column = word_start d r e })
+    else None
 
 -- the operand of a right pin, behind a run of dashes to the right of column c
 abbrev pub right_operand : Rows → ℕ → ℕ → Option Operand
 right_operand d r c =
     let s = c + 1 + dashes_after d r c in
-    if is_word_char (char_at d r s) then Some (record { text = cut d r s (word_end d r s); column = s }) else None
+    if is_word_char (char_at d r s)
+    then Some (record { text = cut d r s (word_end d r s); column = s })
+    else None
 
--- a left pin of the side at column c, by its name
-abbrev pub left_pin : Rows → ℕ → ℕ → List ℕ → DrawnPin
-left_pin d r c name = record { row = r; side = side.Left; name = name; operand = left_operand d r c }
+-- the operand of a pin of the side at column c
+abbrev pub operand_beside : Rows → Side → ℕ → ℕ → Option Operand
+operand_beside d side.Left r c = left_operand d r c
+operand_beside d side.Right r c = right_operand d r c
 
--- a right pin of the side at column c, by its name
-abbrev pub right_pin : Rows → ℕ → ℕ → List ℕ → DrawnPin
-right_pin d r c name = record { row = r; side = side.Right; name = name; operand = right_operand d r c }
+-- a pin of the side at column c, by its name
+abbrev pub side_pin : Rows → Side → ℕ → ℕ → List ℕ → DrawnPin
+side_pin d s r c name = record { row = r; side = s; name = name; operand = operand_beside d s r c }
 
--- the blanks before the first, and behind the last character that is none
+-- the blanks before the first character that is none
 abbrev pub blanks_before : List ℕ → ℕ
 blanks_before text = length text - length (without_leading text)
 
@@ -104,13 +111,16 @@ blanks_behind text = length text - length (trimmed text)
 unfoldable pub nearer_pin : Rows → ℕ → ℕ → ℕ → List ℕ → DrawnPin
 nearer_pin d r a e w =
     let text = cut d r (a + 1) e in
-    if nat_le (blanks_before text) (blanks_behind text) then left_pin d r a w else right_pin d r e w
+    if nat_le (blanks_before text) (blanks_behind text) then side_pin d side.Left r a w else side_pin d side.Right r e w
 
 -- the pins of an inner row between the sides a and e, with the words ws there; none where it isn't as it should be
 abbrev pub pins_from : Rows → ℕ → ℕ → ℕ → List (List ℕ) → Option (List DrawnPin)
 pins_from d r a e [] = Some []
 pins_from d r a e (w ∷ []) = if is_identifier w then Some (nearer_pin d r a e w ∷ []) else None
-pins_from d r a e (w ∷ v ∷ []) = if is_identifier w && is_identifier v then Some (left_pin d r a w ∷ right_pin d r e v ∷ []) else None
+pins_from d r a e (w ∷ v ∷ []) =
+    if is_identifier w && is_identifier v
+    then Some (side_pin d side.Left r a w ∷ side_pin d side.Right r e v ∷ [])
+    else None
 pins_from d r a e (w ∷ v ∷ u ∷ more) = None
 
 -- the pins of the inner row r between the sides a and e
@@ -135,7 +145,9 @@ is_edge d a e r = char_at d r a == 43 && a + 1 + dashes_after d r a == e && char
 -- the box that begins at (r, c), if its sides, bottom and inner rows are as they should be
 abbrev pub outline_with : Rows → ℕ → ℕ → ℕ → ℕ → Option BlockType → Option (List DrawnPin) → Option Outline
 outline_with d r c bottom e (Some block) (Some pins) =
-    if is_edge d c e bottom then Some (record { top = r; left = c; bottom = bottom; right = e; block = block; pins = pins }) else None
+    if is_edge d c e bottom
+    then Some (record { top = r; left = c; bottom = bottom; right = e; block = block; pins = pins })
+    else None
 outline_with d r c bottom e None pins = None
 outline_with d r c bottom e (Some block) None = None
 

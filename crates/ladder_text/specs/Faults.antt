@@ -53,7 +53,8 @@ blind_right_of r c b = covers r (c + 1) b && c + 1 == b.left && not (list_any (p
 
 -- the place on the left of (r, c) is the right side of a box, on a row without a right pin
 abbrev pub blind_left_of : ℕ → ℕ → Outline → Bool
-blind_left_of r c b = covers r (c - 1) b && nat_lt 0 c && c - 1 == b.right && not (list_any (pin_on side.Right r) b.pins)
+blind_left_of r c b =
+    covers r (c - 1) b && nat_lt 0 c && c - 1 == b.right && not (list_any (pin_on side.Right r) b.pins)
 
 -- the same for some box on the right
 abbrev pub blind_right : Layout → ℕ → ℕ → Bool
@@ -74,7 +75,8 @@ line_end p r c = if is_first_of_symbol p r c then c + 2 else c
 -- a Wire or a Join, or the first place of a symbol, beside a box where there is no pin
 abbrev pub is_blind : Layout → ℕ → ℕ → Bool
 is_blind p r c =
-    (is_wire (mark p r c) || is_join (mark p r c) || is_first_of_symbol p r c) && (blind_left p r c || blind_right p r (line_end p r c))
+    (is_wire (mark p r c) || is_join (mark p r c) || is_first_of_symbol p r c)
+    && (blind_left p r c || blind_right p r (line_end p r c))
 
 -- a character without a meaning, or a line that meets a box where there is no pin
 abbrev pub bad_mark : Layout → ℕ → ℕ → Bool
@@ -88,7 +90,8 @@ touches p r c = let m = mark p r c in is_line m || is_box_part m
 abbrev pub crossing : Layout → ℕ → ℕ → Bool
 crossing p r c =
     is_upright (mark p r c)
-    && (touches p r (c - 1) || touches p r (c + 1) || not (is_vertical (mark p (r - 1) c)) || not (is_vertical (mark p (r + 1) c)))
+    && (touches p r (c - 1) || touches p r (c + 1)
+    || not (is_vertical (mark p (r - 1) c)) || not (is_vertical (mark p (r + 1) c)))
 
 -- how far the upright at (r, c) goes down
 abbrev pub upright_len : Layout → ℕ → ℕ → ℕ
@@ -128,6 +131,14 @@ stray_name p r w =
     || (list_any (overlap w) (symbols p (r + 1)) && not (is_name (word_text p r w)))
     || (list_any (overlap w) (tops p (r + 1)) && not (is_plain_name (word_text p r w)))
 
+-- a symbol or box of the row r has no word above it
+abbrev pub has_unnamed : Layout → ℕ → Bool
+has_unnamed p r = list_any (name_missing p r) (things p r)
+
+-- a word of the row r is stray
+abbrev pub has_stray_word : Layout → ℕ → Bool
+has_stray_word p r = list_any (stray_name p r) (words p r)
+
 -- whether the operand of a pin on side s begins at (r, c)
 abbrev pub takes_word : Side → ℕ → ℕ → DrawnPin → Bool
 takes_word s r c q = pin_on s r q && begins_at c q.operand where
@@ -142,7 +153,9 @@ some_takes_word bs s r c = list_any (λ b. list_any (takes_word s r c) b.pins) b
 -- an operand that isn't of the form wanted, or belongs to two pins: a left one and a right one
 abbrev pub is_stray_operand : List Outline → ℕ → Option Operand → Bool
 is_stray_operand bs r None = false
-is_stray_operand bs r (Some o) = not (is_operand o.text) || (some_takes_word bs side.Left r o.column && some_takes_word bs side.Right r o.column)
+is_stray_operand bs r (Some o) =
+    not (is_operand o.text)
+    || (some_takes_word bs side.Left r o.column && some_takes_word bs side.Right r o.column)
 
 -- a box has a pin with a stray operand
 abbrev pub has_stray_pin : List Outline → Outline → Bool
@@ -159,30 +172,34 @@ has_fault Crossing p = crossing p
 has_fault NoSource p = no_source p
 
 -- no place of the rows, nor of their margin, passes the test
-abbrev pub Nowhere : Rows → (ℕ → ℕ → Bool) → Type 0
-Nowhere d test = (r c : ℕ) → r < length d → c ≤ width d → IsFalse (test r c)
+abbrev pub NowhereInRows : Rows → (ℕ → ℕ → Bool) → Type 0
+NowhereInRows d test = (r c : ℕ) → r < length d → c ≤ width d → IsFalse (test r c)
+
+-- no row passes the test
+abbrev pub InNoRow : Rows → (ℕ → Bool) → Type 0
+InNoRow d test = (r : ℕ) → r < length d → IsFalse (test r)
 
 -- the test passes at a place of the rows or of their margin
-pub record IsFoundAt (d : Rows) (test : ℕ → ℕ → Bool) (r c : ℕ) : Type 0 where
+pub record PassesInRows (d : Rows) (test : ℕ → ℕ → Bool) (r c : ℕ) : Type 0 where
   pub in_rows : r < length d
   pub in_columns : c ≤ width d
   pub passes : IsTrue (test r c)
 
 -- every symbol and box has a word above it, and no word is stray
 pub record IsNamed (d : Rows) : Type 0 where
-  pub things_named : (r : ℕ) → r < length d → IsFalse (list_any (name_missing (layout_of d) r) (things (layout_of d) r))
-  pub no_stray_name : (r : ℕ) → r < length d → IsFalse (list_any (stray_name (layout_of d) r) (words (layout_of d) r))
+  pub things_named : InNoRow d (has_unnamed (layout_of d))
+  pub no_stray_name : InNoRow d (has_stray_word (layout_of d))
 
 -- none of the faults holds anywhere
 pub record IsWellDrawn (d : Rows) : Type 0 where
-  pub ascii : Nowhere d (not_ascii d)
+  pub ascii : NowhereInRows d (not_ascii d)
   pub low_enough : height d ≤ 2000
   pub narrow_enough : width d ≤ 240
   pub drawn : 0 < width d
-  pub left_rail : (r : ℕ) → r < length d → IsFalse (no_left_rail d r)
-  pub boxes_whole : Nowhere d (bad_box d)
+  pub left_rail : InNoRow d (no_left_rail d)
+  pub boxes_whole : NowhereInRows d (bad_box d)
   pub boxes_apart : IsTrue (boxes_apart (layout_of d))
-  pub places : (fault : PlaceFault) → Nowhere d (has_fault fault (layout_of d))
+  pub places : (fault : PlaceFault) → NowhereInRows d (has_fault fault (layout_of d))
   pub named : IsNamed d
   pub operands_good : IsFalse (has_stray_operand (layout_of d))
 

@@ -12,7 +12,7 @@ use Rattle.ladder_text.specs.Rows.{Rows, rows_of, width}
 use Rattle.ladder_text.specs.Boxes.{left_column, outlines}
 use Rattle.ladder_text.specs.Places.{layout_of}
 use Rattle.ladder_text.specs.Names.{words, things}
-use Rattle.ladder_text.specs.Faults.{IsFoundAt, not_ascii, no_left_rail, bad_box, share_place, bad_mark, crossing, no_source, name_missing, stray_name, is_stray_operand}
+use Rattle.ladder_text.specs.Faults.{PassesInRows, not_ascii, no_left_rail, bad_box, share_place, bad_mark, crossing, no_source, name_missing, stray_name, is_stray_operand}
 
 -- row 2001, column 1, if there is such a row; or column 241 of a row that reaches it
 abbrev pub IsTooLargeAt : Rows → ℕ → ℕ → Type 0
@@ -20,7 +20,9 @@ IsTooLargeAt d r c = ((2001 < length d) × (r ≡ 2001) × (c ≡ 1)) ⊎ ((241 
 
 -- row 1, column 1, if nothing is drawn; or a character of the left rail's column that is no rail's
 abbrev pub IsOffRailAt : Rows → ℕ → ℕ → Type 0
-IsOffRailAt d r c = ((width d ≡ 0) × (r ≡ 1) × (c ≡ 1)) ⊎ ((0 < width d) × (r < length d) × (c ≡ left_column d) × IsTrue (no_left_rail d r))
+IsOffRailAt d r c =
+    ((width d ≡ 0) × (r ≡ 1) × (c ≡ 1))
+    ⊎ ((0 < width d) × (r < length d) × (c ≡ left_column d) × IsTrue (no_left_rail d r))
 
 -- the box b shares a place with one of those before the number k
 abbrev pub shares_before : List Outline → ℕ → Outline → Bool
@@ -64,21 +66,21 @@ abbrev pub IsStrayWordAt : Rows → ℕ → ℕ → Type 0
 IsStrayWordAt d r c = (r < length d) × IsSpanAt (words (layout_of d) r) (stray_name (layout_of d) r) c
 
 -- a fault of the kind is at (r, c)
-abbrev pub IsFaultAt : Rows → DrawFaultKind → ℕ → ℕ → Type 0
-IsFaultAt d kind.NotAscii r c = IsFoundAt d (not_ascii d) r c
-IsFaultAt d kind.TooLarge r c = IsTooLargeAt d r c
-IsFaultAt d kind.NoLeftRail r c = IsOffRailAt d r c
-IsFaultAt d kind.BadBox r c = IsFoundAt d (bad_box d) r c ⊎ IsSharedAt (outlines d) r c
-IsFaultAt d kind.BadMark r c = IsFoundAt d (bad_mark (layout_of d)) r c
-IsFaultAt d kind.Crossing r c = IsFoundAt d (crossing (layout_of d)) r c
-IsFaultAt d kind.NoSource r c = IsFoundAt d (no_source (layout_of d)) r c
-IsFaultAt d kind.NameMissing r c = IsUnnamedAt d r c
-IsFaultAt d kind.StrayName r c = IsStrayWordAt d r c ⊎ IsStrayOperandAt (outlines d) r c
-IsFaultAt d kind.Memory r c = ⊥
+abbrev pub IsDrawFaultAt : Rows → DrawFaultKind → ℕ → ℕ → Type 0
+IsDrawFaultAt d kind.NotAscii r c = PassesInRows d (not_ascii d) r c
+IsDrawFaultAt d kind.TooLarge r c = IsTooLargeAt d r c
+IsDrawFaultAt d kind.NoLeftRail r c = IsOffRailAt d r c
+IsDrawFaultAt d kind.BadBox r c = PassesInRows d (bad_box d) r c ⊎ IsSharedAt (outlines d) r c
+IsDrawFaultAt d kind.BadMark r c = PassesInRows d (bad_mark (layout_of d)) r c
+IsDrawFaultAt d kind.Crossing r c = PassesInRows d (crossing (layout_of d)) r c
+IsDrawFaultAt d kind.NoSource r c = PassesInRows d (no_source (layout_of d)) r c
+IsDrawFaultAt d kind.NameMissing r c = IsUnnamedAt d r c
+IsDrawFaultAt d kind.StrayName r c = IsStrayWordAt d r c ⊎ IsStrayOperandAt (outlines d) r c
+IsDrawFaultAt d kind.Memory r c = ⊥
 
 -- no fault of any kind is anywhere
-abbrev pub IsFaultless : Rows → Type 0
-IsFaultless d = (k : DrawFaultKind) (r c : ℕ) → IsFaultAt d k r c → ⊥
+abbrev pub HasNoDrawFault : Rows → Type 0
+HasNoDrawFault d = (k : DrawFaultKind) (r c : ℕ) → IsDrawFaultAt d k r c → ⊥
 
 -- the kinds by the order in which they are sought
 abbrev pub rank : DrawFaultKind → ℕ
@@ -94,21 +96,24 @@ rank kind.StrayName = 9
 rank kind.Memory = 10
 
 -- (r, c) comes before (i, j), by row and then column, or is the same place
-abbrev pub IsUpTo : ℕ → ℕ → ℕ → ℕ → Type 0
-IsUpTo r c i j = (r < i) ⊎ ((r ≡ i) × (c ≤ j))
+abbrev pub IsPlaceUpTo : ℕ → ℕ → ℕ → ℕ → Type 0
+IsPlaceUpTo r c i j = (r < i) ⊎ ((r ≡ i) × (c ≤ j))
 
 -- (r, c) is the first of the places that are such
 pub record IsFirstAt (IsSuch : ℕ → ℕ → Type 0) (r c : ℕ) : Type 0 where
   pub such : IsSuch r c
-  pub first : (i j : ℕ) → IsSuch i j → IsUpTo r c i j
+  pub first : (i j : ℕ) → IsSuch i j → IsPlaceUpTo r c i j
 
 -- (r, c) is the first place with a fault of the kind, and no fault of a kind before it is anywhere
-pub record IsFirstFault (d : Rows) (k : DrawFaultKind) (r c : ℕ) : Type 0 where
-  pub place : IsFirstAt (IsFaultAt d k) r c
-  pub before : (earlier : DrawFaultKind) → rank earlier < rank k → (i j : ℕ) → IsFaultAt d earlier i j → ⊥
+pub record IsFirstDrawFault (d : Rows) (k : DrawFaultKind) (r c : ℕ) : Type 0 where
+  pub place : IsFirstAt (IsDrawFaultAt d k) r c
+  pub before : (earlier : DrawFaultKind) → rank earlier < rank k → (i j : ℕ) → IsDrawFaultAt d earlier i j → ⊥
 
--- The fault of a text is its first one, with the lines counted on from that of its first (the greatest number, where that is greater).
+-- The fault of a text is its first one, with the lines counted on from that of its first row
+-- (the greatest number, where that is greater).
 -- Where there was no memory left, line and column are 0.
 pub record TellsFirstFault (text : List ℕ) (first_line : ℕ) (fault : DrawFault) : Type 0 where
   pub memory : fault.kind ≡ kind.Memory → (fault.line ≡ 0) × (fault.column ≡ 0)
-  pub first : fault.kind ≢ kind.Memory → (row : ℕ) × IsFirstFault (rows_of text) fault.kind row fault.column × (fault.line ≡ min (first_line + row - 1) 18446744073709551615)
+  pub first : fault.kind ≢ kind.Memory
+      → (row : ℕ) × IsFirstDrawFault (rows_of text) fault.kind row fault.column
+      × (fault.line ≡ min (first_line + row - 1) 18446744073709551615)

@@ -24,15 +24,21 @@ in_word p r c = is_word_char (char_at p.rows r c) && not (is_taken p r c) && not
 -- the word that begins at (r, c), if one does
 unfoldable pub word_at : Layout → ℕ → ℕ → Option Span
 word_at p r c =
-    if in_word p r c && not (in_word p r (c - 1)) then Some (record { first = c; end = c + 1 + run (in_word p r) (c + 1) (width p.rows) }) else None
+    if in_word p r c && not (in_word p r (c - 1))
+    then Some (record { first = c; end = c + 1 + run (in_word p r) (c + 1) (width p.rows) })
+    else None
 
 -- the words of a row, operands aside
 unfoldable pub words : Layout → ℕ → List Span
 words p r = upto (width p.rows) (λ c. option_list (word_at p r c))
 
+-- the three columns of a symbol, from its first on
+abbrev pub symbol_span : ℕ → Span
+symbol_span c = record { first = c; end = c + 3 }
+
 -- the three columns of the symbol whose first place is (r, c), if there is one
 unfoldable pub symbol_at : Layout → ℕ → ℕ → Option Span
-symbol_at p r c = if is_some (contact_at p r c) || is_some (coil_at p r c) then Some (record { first = c; end = c + 3 }) else None
+symbol_at p r c = if is_some (contact_at p r c) || is_some (coil_at p r c) then Some (symbol_span c) else None
 
 -- the three columns of each symbol, and the top side of each box, in a row
 unfoldable pub symbols : Layout → ℕ → List Span
@@ -66,11 +72,15 @@ name_above p r s = found_text p (r - 1) (find (overlap s) (words p (r - 1)))
 -- the contact at a place, by its kind
 abbrev pub contact_with : Layout → ℕ → ℕ → Option ContactKind → Option Contact
 contact_with p r c None = None
-contact_with p r c (Some k) = Some (record { row = r; column = c; kind = k; name = name_above p r (record { first = c; end = c + 3 }) })
+contact_with p r c (Some k) = Some (record { row = r; column = c; kind = k; name = name_above p r (symbol_span c) })
 
--- the contacts, by row and then column
+-- the contact whose first place is (r, c), if there is one
+abbrev pub contact_here : Layout → ℕ → ℕ → Option Contact
+contact_here p r c = contact_with p r c (contact_at p r c)
+
+-- the contacts of a row, by column
 unfoldable pub row_contacts : Layout → ℕ → List Contact
-row_contacts p r = upto (width p.rows) (λ c. option_list (contact_with p r c (contact_at p r c)))
+row_contacts p r = upto (width p.rows) (λ c. option_list (contact_here p r c))
 
 -- the contacts, by row and then column
 unfoldable pub contacts : Layout → List Contact
@@ -79,11 +89,15 @@ contacts p = upto (height p.rows) (row_contacts p)
 -- the coil at a place, by its kind
 abbrev pub coil_with : Layout → ℕ → ℕ → Option CoilKind → Option Coil
 coil_with p r c None = None
-coil_with p r c (Some k) = Some (record { row = r; column = c; kind = k; name = name_above p r (record { first = c; end = c + 3 }) })
+coil_with p r c (Some k) = Some (record { row = r; column = c; kind = k; name = name_above p r (symbol_span c) })
+
+-- the coil whose first place is (r, c), if there is one
+abbrev pub coil_here : Layout → ℕ → ℕ → Option Coil
+coil_here p r c = coil_with p r c (coil_at p r c)
 
 -- the coils of a row, by column
 unfoldable pub row_coils : Layout → ℕ → List Coil
-row_coils p r = upto (width p.rows) (λ c. option_list (coil_with p r c (coil_at p r c)))
+row_coils p r = upto (width p.rows) (λ c. option_list (coil_here p r c))
 
 -- the coils, by row and then column
 unfoldable pub coils : Layout → List Coil

@@ -17,4 +17,5 @@ marks_of p = upto (height p.rows) (λ r. row_marks p r ∷ [])
 
 -- the drawing of a layout whose first line has a number
 unfoldable pub picture_of : ℕ → Layout → Picture
-picture_of line p = picture line (height p.rows) (width p.rows) p.left (marks_of p) (contacts p) (coils p) (drawn_boxes p)
+picture_of line p =
+    picture line (height p.rows) (width p.rows) p.left (marks_of p) (contacts p) (coils p) (drawn_boxes p)

@@ -29,17 +29,21 @@ is_before p q = nat_lt p.row q.row || (p.row == q.row && nat_lt p.column q.colum
 abbrev pub in_box : Layout → ℕ → ℕ → Bool
 in_box p r c = list_any (covers r c) p.boxes
 
+-- none of the three places from (r, c) on is in a box
+abbrev pub are_three_free : Layout → ℕ → ℕ → Bool
+are_three_free p r c = not (in_box p r c || in_box p r (c + 1) || in_box p r (c + 2))
+
 -- the kind of the contact whose first place is (r, c), if there is one; none of its places is in a box
 unfoldable pub contact_at : Layout → ℕ → ℕ → Option ContactKind
 contact_at p r c =
-    if (char_at p.rows r (c - 1) == 45 || char_at p.rows r (c - 1) == 43) && char_at p.rows r c == 124 && char_at p.rows r (c + 2) == 124
-    && not (in_box p r c || in_box p r (c + 1) || in_box p r (c + 2))
+    if (char_at p.rows r (c - 1) == 45 || char_at p.rows r (c - 1) == 43)
+    && char_at p.rows r c == 124 && char_at p.rows r (c + 2) == 124 && are_three_free p r c
     then contact_kind (char_at p.rows r (c + 1)) else None
 
 -- the same for a coil
 unfoldable pub coil_at : Layout → ℕ → ℕ → Option CoilKind
 coil_at p r c =
-    if char_at p.rows r c == 40 && char_at p.rows r (c + 2) == 41 && not (in_box p r c || in_box p r (c + 1) || in_box p r (c + 2))
+    if char_at p.rows r c == 40 && char_at p.rows r (c + 2) == 41 && are_three_free p r c
     then coil_kind (char_at p.rows r (c + 1)) else None
 
 -- whether f finds a symbol whose three places contain (r, c)
@@ -95,7 +99,11 @@ in_operand p r c = list_any (box_reaches r c) p.boxes
 
 -- what `-`, `+` and `|` mean outside boxes, symbols and rails
 abbrev pub line_mark : ℕ → Bool → Mark
-line_mark c operand = if c == 43 then Join else (if c == 124 then Upright else (if c == 45 && not operand then Wire else Blank))
+line_mark c operand =
+    if c == 43 then Join
+    else (if c == 124 then Upright
+    else (if c == 45 && not operand then Wire
+    else Blank))
 
 -- what stands at (r, c)
 unfoldable pub mark : Layout → ℕ → ℕ → Mark

@@ -1,4 +1,5 @@
--- Steps of the proofs: what the reading knows halfway. Only contracts inside this crate cite them, so no reader has to believe them.
+-- Steps of the proofs: what the reading knows halfway. Only contracts inside this crate cite them, so no reader has to
+-- believe them.
 pub mod Pairs
 pub mod RowBoxes
 pub mod RowMarks

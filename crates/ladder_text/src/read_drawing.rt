@@ -4,7 +4,8 @@ ghost use Rattle.std.specs.Prelude.{◌≡◌, ◌≢◌, ◌↔◌, ◌<◌, �
 ghost use Rattle.ladder_text.specs.Rows.{rows_of};
 ghost use Rattle.ladder_text.specs.Places.{layout_of};
 ghost use Rattle.ladder_text.specs.Faults.{IsWellDrawn, IsIllDrawn};
-ghost use Rattle.ladder_text.specs.FirstFault.{IsFaultless, IsFirstFault, TellsFirstFault};
+ghost use Rattle.ladder_text.specs.FirstFault.{HasNoDrawFault, TellsFirstFault};
+ghost use Rattle.ladder_text.specs.Steps.Search.{IsFirstUnlessMemory};
 ghost use Rattle.ladder_text.specs.Picture.{picture_of};
 ghost use Rattle.ladder_text.specs.declared.draw_fault.DrawFaultKind.TheVariants.{Memory};
 
@@ -20,25 +21,19 @@ fn read_drawing(alloc: Global, text: &str, first_line: u64) -> Result<Drawing, R
     ensures well_drawn { IfOk result (λ _. IsWellDrawn (rows_of text.now)) }
     ensures drawing { IfOk result (λ g. g ≡ picture_of first_line (layout_of (rows_of text.now))) }
     ensures refused { IfErr result (λ e. e.kind ≢ Memory → IsIllDrawn (rows_of text.now)) }
-    ensures first { IfErr result (λ e. e.kind ≢ Memory → IsFirstFault (rows_of text.now) e.kind e.place.row e.place.column) }
+    ensures first { IfErr result (λ e. IsFirstUnlessMemory (rows_of text.now) e.kind e.place) }
 {
     let worded = read_well_drawn(alloc, text)?;
     let contacts = contacts(alloc, &worded)?;
     let coils = coils(alloc, &worded)?;
     let boxes = drawn_boxes(alloc, &worded)?;
-    let boxed = worded.boxed();
-    let rows = boxed.row_end().saturating_sub(1);
-    let columns = boxed.last();
-    let left = boxed.left();
+    let grid = worded.marked().grid();
+    let rows = grid.row_end().saturating_sub(1);
+    let columns = grid.last();
+    let left = grid.left();
+    let marks = worded.into_marked().into_marks(alloc)?;
     Ok(Drawing::of(
-        first_line,
-        rows,
-        columns,
-        left,
-        worded.into_marks(),
-        contacts,
-        coils,
-        boxes,
+        first_line, rows, columns, left, marks, contacts, coils, boxes,
     ))
 }
 
@@ -59,7 +54,7 @@ impl ReadText for Drawing {
         ensures refused { IfErr result (λ e. e.kind ≢ Memory → IsIllDrawn (rows_of text.now)) }
         ensures memory { IfErr result (λ e. e.kind ≡ Memory → (e.line ≡ 0) × (e.column ≡ 0)) }
         ensures first { IfErr result (λ fault. TellsFirstFault text.now first_line fault) }
-        ensures same { IsWellDrawn (rows_of text.now) ↔ IsFaultless (rows_of text.now) }
+        ensures same { IsWellDrawn (rows_of text.now) ↔ HasNoDrawFault (rows_of text.now) }
     {
         match read_drawing(alloc, text, first_line) {
             Ok(drawing) => Ok(drawing),

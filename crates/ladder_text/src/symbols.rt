@@ -1,33 +1,16 @@
 //! The symbols and boxes of a text, with their names.
 
-ghost use Rattle.std.specs.Prelude.{◌≡◌, ◌+◌, ◌-◌, ◌++◌, ◌<◌, ◌^◌, IfOk, OnOk, length, map, take};
-ghost use Rattle.ladder_text.specs.Places.{layout_of, contact_at, coil_at};
-ghost use Rattle.ladder_text.specs.Names.{name_above, contact_with, coil_with, row_contacts, row_coils, contacts, coils, drawn_box, drawn_boxes};
+ghost use Rattle.std.specs.Prelude.{◌≡◌, ◌+◌, ◌-◌, ◌++◌, ◌<◌, IfOk, OnOk};
+ghost use Rattle.ladder_text.specs.Places.{layout_of};
+ghost use Rattle.ladder_text.specs.Names.{contact_here, coil_here, row_contacts, row_coils, contacts, coils, drawn_box, drawn_boxes};
 
 use crate::boxes::outline::Outline;
 use crate::names::names_above::name_above;
-use crate::names::span::Span;
+use crate::names::span::{Span, symbol_span};
 use crate::names::worded_grid::WordedGrid;
 use drawings::{Coil, Contact, DrawnBox};
 use std::alloc::{AllocError, Global};
 use words::Text;
-
-/// The name of the symbol whose first place is in a column.
-fn symbol_name(
-    alloc: Global,
-    worded: &WordedGrid,
-    row: usize,
-    column: usize,
-) -> Result<Text, AllocError>
-    requires { column < 2 ^ 62 }
-    ensures { IfOk result (λ t. t ≡ name_above (layout_of worded.now) row (record { first = column; end = column + 3 })) }
-{
-    let span = Span {
-        first: column,
-        end: column + 3,
-    };
-    name_above(alloc, worded, row, &span)
-}
 
 /// The contact whose first place is in a column, with its name.
 #[tactic(auto, unfolding(crate::specs::Places::layout_of), using(crate::proofs::Words::SpanRows::contact_beside))]
@@ -37,15 +20,15 @@ fn contact_here(
     row: usize,
     column: usize,
 ) -> Result<Option<Contact>, AllocError>
-    ensures { IfOk result (λ o. o ≡ contact_with (layout_of worded.now) row column (contact_at (layout_of worded.now) row column)) }
+    ensures { IfOk result (λ o. o ≡ contact_here (layout_of worded.now) row column) }
 {
-    if worded.boxed().last() < column {
+    if worded.marked().last() < column {
         return Ok(None);
     }
-    match worded.boxed().contact_at(row, column) {
+    match worded.marked().contact_at(row, column) {
         None => Ok(None),
         Some(kind) => {
-            let name = symbol_name(alloc, worded, row, column)?;
+            let name = name_above(alloc, worded, row, &symbol_span(column))?;
             Ok(Some(Contact {
                 row,
                 column,
@@ -64,15 +47,15 @@ fn coil_here(
     row: usize,
     column: usize,
 ) -> Result<Option<Coil>, AllocError>
-    ensures { IfOk result (λ o. o ≡ coil_with (layout_of worded.now) row column (coil_at (layout_of worded.now) row column)) }
+    ensures { IfOk result (λ o. o ≡ coil_here (layout_of worded.now) row column) }
 {
-    if worded.boxed().last() < column {
+    if worded.marked().last() < column {
         return Ok(None);
     }
-    match worded.boxed().coil_at(row, column) {
+    match worded.marked().coil_at(row, column) {
         None => Ok(None),
         Some(kind) => {
-            let name = symbol_name(alloc, worded, row, column)?;
+            let name = name_above(alloc, worded, row, &symbol_span(column))?;
             Ok(Some(Coil {
                 row,
                 column,
@@ -123,7 +106,7 @@ pub fn contacts(alloc: Global, worded: &WordedGrid) -> Result<Vec<Contact>, Allo
     ensures { IfOk result (λ v. v.items ≡ contacts (layout_of worded.now)) }
 {
     let mut all = Vec::new(alloc);
-    for row in 0..worded.boxed().row_end().saturating_sub(1) {
+    for row in 0..worded.marked().row_end().saturating_sub(1) {
         push_contacts(alloc, worded, row + 1, &mut all)?;
     }
     Ok(all)
@@ -135,7 +118,7 @@ pub fn coils(alloc: Global, worded: &WordedGrid) -> Result<Vec<Coil>, AllocError
     ensures { IfOk result (λ v. v.items ≡ coils (layout_of worded.now)) }
 {
     let mut all = Vec::new(alloc);
-    for row in 0..worded.boxed().row_end().saturating_sub(1) {
+    for row in 0..worded.marked().row_end().saturating_sub(1) {
         push_coils(alloc, worded, row + 1, &mut all)?;
     }
     Ok(all)
@@ -167,7 +150,7 @@ pub fn drawn_boxes(alloc: Global, worded: &WordedGrid) -> Result<Vec<DrawnBox>, 
     ensures { IfOk result (λ v. v.items ≡ drawn_boxes (layout_of worded.now)) }
 {
     let mut all = Vec::new(alloc);
-    for outline in worded.boxed().boxes() {
+    for outline in worded.marked().boxes() {
         all.push(drawn_box(alloc, worded, outline)?)?;
     }
     Ok(all)

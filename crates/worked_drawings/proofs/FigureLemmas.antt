@@ -1,5 +1,5 @@
 -- The worked drawings, by computation.
-use Rattle.std.proofs.Common.{ℕ, zero, suc, ◌+◌, ◌<◌, ◌≡◌, length, Bool, true, false, ◌&&◌, not, leb, ltb, refl, arith, below_more, sym, ◌∙◌, IsTrue, IsFalse}
+use Rattle.std.proofs.Common.{ℕ, zero, suc, ◌+◌, ◌<◌, ◌≡◌, length, Bool, true, false, ◌&&◌, not, leb, ltb, refl, arith, below_more, IsFalse}
 use Rattle.std.specs.List.{list_any}
 use Rattle.std.proofs.lemmas.Bool.{and_parts, not-true, leb-true, ltb-true, true≢false}
 use Rattle.ladder_text.specs.declared.places.place_fault.PlaceFault.{PlaceFault}
@@ -10,22 +10,9 @@ use Rattle.ladder_text.specs.SymbolKinds.{contact_kind, coil_kind}
 use Rattle.ladder_text.specs.Boxes.{left_column, begins_box, nearer_pin, outline_at, box_at, row_outlines, outlines}
 use Rattle.ladder_text.specs.Places.{contact_at, coil_at, may_be_rail, has_right_rail, mark, gives, layout_of}
 use Rattle.ladder_text.specs.Names.{in_word, word_at, words, symbol_at, symbols, tops, things, name_above, row_contacts, contacts, row_coils, coils, drawn_boxes}
-use Rattle.ladder_text.specs.Faults.{IsWellDrawn, IsIllDrawn, IsFoundAt, Nowhere, has_fault, not_ascii, no_left_rail, bad_box, boxes_apart, name_missing, stray_name, some_takes_word, has_stray_operand}
+use Rattle.ladder_text.specs.Faults.{IsWellDrawn, IsIllDrawn, NowhereInRows, has_fault, not_ascii, no_left_rail, bad_box, boxes_apart, name_missing, stray_name, some_takes_word, has_stray_operand}
 use Rattle.ladder_text.specs.Picture.{marks_of, picture_of}
 use Rattle.worked_drawings.specs.Figures.{IsDrawnAs, IsBranchesListed, IsOnDelayListed, branches, branches_marks, start_stop, start_stop_marks, rising_contact, rising_contact_marks, on_delay, on_delay_marks, parallel_wire, parallel_wire_marks, unattached_box, unattached_box_marks, wire_beside_box, box_without_type, box_without_bottom, cut_drawing, two_words, word_of_two, loose_upright, loose_contact}
-
--- nothing is true and false
-clash : (b : Bool) → b ≡ true → b ≡ false → ⊥
-clash b t f = true≢false (sym t ∙ f)
-
-ill_place : (d : Rows) (f : PlaceFault) (r c : ℕ) → IsFoundAt d (has_fault f (layout_of d)) r c → IsIllDrawn d
-ill_place d f r c w well = clash (has_fault f (layout_of d) r c) w.passes (well.places f r c w.in_rows w.in_columns)
-
-ill_box : (d : Rows) (r c : ℕ) → IsFoundAt d (bad_box d) r c → IsIllDrawn d
-ill_box d r c w well = clash (bad_box d r c) w.passes (well.boxes_whole r c w.in_rows w.in_columns)
-
-ill_stray : (d : Rows) (r : ℕ) → r < length d → IsTrue (list_any (stray_name (layout_of d) r) (words (layout_of d) r)) → IsIllDrawn d
-ill_stray d r h t well = clash (list_any (stray_name (layout_of d) r) (words (layout_of d) r)) t (well.named.no_stray_name r h)
 
 -- the test passes at each number below n
 abbrev below : (ℕ → Bool) → ℕ → Bool
@@ -41,7 +28,7 @@ below_at f (suc n) k e h =
 abbrev nowhere : Rows → (ℕ → ℕ → Bool) → Bool
 nowhere d test = below (λ r. below (λ c. not (test r c)) (width d + 1)) (length d)
 
-nowhere_at : (d : Rows) (test : ℕ → ℕ → Bool) → nowhere d test ≡ true → Nowhere d test
+nowhere_at : (d : Rows) (test : ℕ → ℕ → Bool) → nowhere d test ≡ true → NowhereInRows d test
 nowhere_at d test e r c h k =
     not-true (test r c) (below_at (λ c. not (test r c)) (width d + 1) c (below_at (λ r. below (λ c. not (test r c)) (width d + 1)) (length d) r e h) (omega arith))
 
@@ -67,7 +54,7 @@ record IsClear (d : Rows) : Type 0 where
   words : in_no_row d (λ r. list_any (stray_name (layout_of d) r) (words (layout_of d) r)) ≡ true
   operands : has_stray_operand (layout_of d) ≡ false
 
-places_clear : (d : Rows) → IsClear d → (fault : PlaceFault) → Nowhere d (has_fault fault (layout_of d))
+places_clear : (d : Rows) → IsClear d → (fault : PlaceFault) → NowhereInRows d (has_fault fault (layout_of d))
 places_clear d clear BadMark = nowhere_at d (has_fault BadMark (layout_of d)) clear.marks
 places_clear d clear Crossing = nowhere_at d (has_fault Crossing (layout_of d)) clear.crossings
 places_clear d clear NoSource = nowhere_at d (has_fault NoSource (layout_of d)) clear.sources
@@ -152,32 +139,32 @@ on_delay_listed = record { contacts = refl; coils = refl; boxes = refl }
 
 pub wire_beside_box_refused : IsIllDrawn (rows_of wire_beside_box)
 unfolding drawing_words wire_beside_box
-wire_beside_box_refused = ill_place (rows_of wire_beside_box) BadMark 2 3 (record { in_rows = omega arith; in_columns = omega arith; passes = refl })
+wire_beside_box_refused well = true≢false (well.places BadMark 2 3 (omega arith) (omega arith))
 
 pub box_without_type_refused : IsIllDrawn (rows_of box_without_type)
 unfolding drawing_words box_without_type
-box_without_type_refused = ill_place (rows_of box_without_type) NoSource 2 4 (record { in_rows = omega arith; in_columns = omega arith; passes = refl })
+box_without_type_refused well = true≢false (well.places NoSource 2 4 (omega arith) (omega arith))
 
 pub box_without_bottom_refused : IsIllDrawn (rows_of box_without_bottom)
 unfolding drawing_words box_without_bottom
-box_without_bottom_refused = ill_box (rows_of box_without_bottom) 2 4 (record { in_rows = omega arith; in_columns = omega arith; passes = refl })
+box_without_bottom_refused well = true≢false (well.boxes_whole 2 4 (omega arith) (omega arith))
 
 pub loose_upright_refused : IsIllDrawn (rows_of loose_upright)
 unfolding drawing_words loose_upright
-loose_upright_refused = ill_place (rows_of loose_upright) Crossing 3 4 (record { in_rows = omega arith; in_columns = omega arith; passes = refl })
+loose_upright_refused well = true≢false (well.places Crossing 3 4 (omega arith) (omega arith))
 
 pub loose_contact_refused : IsIllDrawn (rows_of loose_contact)
 unfolding drawing_words loose_contact
-loose_contact_refused = ill_place (rows_of loose_contact) Crossing 2 4 (record { in_rows = omega arith; in_columns = omega arith; passes = refl })
+loose_contact_refused well = true≢false (well.places Crossing 2 4 (omega arith) (omega arith))
 
 pub cut_drawing_refused : IsIllDrawn (rows_of cut_drawing)
 unfolding drawing_words cut_drawing
-cut_drawing_refused = ill_stray (rows_of cut_drawing) 1 (omega arith) refl
+cut_drawing_refused well = true≢false (well.named.no_stray_name 1 (omega arith))
 
 pub two_words_refused : IsIllDrawn (rows_of two_words)
 unfolding drawing_words two_words
-two_words_refused = ill_stray (rows_of two_words) 1 (omega arith) refl
+two_words_refused well = true≢false (well.named.no_stray_name 1 (omega arith))
 
 pub word_of_two_refused : IsIllDrawn (rows_of word_of_two)
 unfolding drawing_words word_of_two
-word_of_two_refused = ill_stray (rows_of word_of_two) 1 (omega arith) refl
+word_of_two_refused well = true≢false (well.named.no_stray_name 1 (omega arith))

@@ -138,7 +138,9 @@ coils_of text = map (λ (x : Coil). (x.row, x.column, x.name)) (picture_of 1 (la
 
 -- the corners and name of each box
 abbrev pub boxes_of : List ℕ → List (ℕ × ℕ × ℕ × ℕ × List ℕ)
-boxes_of text = map (λ (b : DrawnBox). (b.top, b.left, b.bottom, b.right, b.instance)) (picture_of 1 (layout_of (rows_of text))).boxes
+boxes_of text =
+    map (λ (b : DrawnBox). (b.top, b.left, b.bottom, b.right, b.instance))
+    (picture_of 1 (layout_of (rows_of text))).boxes
 
 -- what the drawing of two branches lists
 pub record IsBranchesListed : Type 0 where

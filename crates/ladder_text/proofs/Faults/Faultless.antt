@@ -14,8 +14,8 @@ use Rattle.ladder_text.specs.Rows.{Rows, width}
 use Rattle.ladder_text.specs.Boxes.{left_column, outlines}
 use Rattle.ladder_text.specs.Places.{layout_of}
 use Rattle.ladder_text.specs.Names.{words, things}
-use Rattle.ladder_text.specs.Faults.{IsFoundAt, IsWellDrawn, Nowhere, has_fault, not_ascii, no_left_rail, bad_box, boxes_apart, name_missing, stray_name, is_stray_operand, has_stray_pin, has_stray_operand}
-use Rattle.ladder_text.specs.FirstFault.{IsFaultless, IsSpanAt, IsStrayPinAt, IsStrayOperandAt, shares_before}
+use Rattle.ladder_text.specs.Faults.{PassesInRows, IsWellDrawn, NowhereInRows, has_fault, not_ascii, no_left_rail, bad_box, boxes_apart, name_missing, stray_name, is_stray_operand, has_stray_pin, has_stray_operand}
+use Rattle.ladder_text.specs.FirstFault.{HasNoDrawFault, IsSpanAt, IsStrayPinAt, IsStrayOperandAt, shares_before}
 use Rattle.ladder_text.specs.Steps.Search.{IsNone}
 use Rattle.ladder_text.proofs.Outlines.BoxOrder.{all_apart}
 use Rattle.ladder_text.proofs.Rows.SizeLemmas.{long_row}
@@ -25,7 +25,7 @@ not_true : (b : Bool) → (b ≡ true → ⊥) → b ≡ false
 not_true true h = absurd (h refl)
 not_true false h = refl
 
-nowhere_of : (d : Rows) (test : ℕ → ℕ → Bool) → IsNone (IsFoundAt d test) → Nowhere d test
+nowhere_of : (d : Rows) (test : ℕ → ℕ → Bool) → IsNone (PassesInRows d test) → NowhereInRows d test
 nowhere_of d test none r c h k = not_true (test r c) (λ t. none r c (record { in_rows = h; in_columns = k; passes = t }))
 
 no_item : (test : Span → Bool) (xs : List Span) → ((c : ℕ) → IsSpanAt xs test c → ⊥) → IsFalse (list_any test xs)
@@ -47,35 +47,35 @@ no_operand d none = not_true (list_any (has_stray_pin (outlines d)) (outlines d)
     let p = stray_pin_at bs v.1 v.4 in
     none p.0 p.1 (w.0, w.1, w.2, w.3, (v.0, v.1, v.2, v.3, p.2)))
 
-apart_of : (d : Rows) → IsFaultless d → IsTrue (boxes_apart (layout_of d))
+apart_of : (d : Rows) → HasNoDrawFault d → IsTrue (boxes_apart (layout_of d))
 unfolding layout_of
 apart_of d none = all_apart (outlines d) (λ k b h e. not_true (shares_before (outlines d) k b) (λ t.
     none kind.BadBox b.top b.left (inr (record { number = k; box = b; listed = e; row = refl; column = refl; shares = t }))))
 
-low_of : (d : Rows) → IsFaultless d → length d ≤ 2001
+low_of : (d : Rows) → HasNoDrawFault d → length d ≤ 2001
 low_of d none = elim (cases_lt 2001 (length d)) [
   | inl h ↦ absurd (none kind.TooLarge 2001 1 (inl (h, refl, refl)))
   | inr h ↦ h
 ]
 
-narrow_of : (d : Rows) → IsFaultless d → width d ≤ 240
+narrow_of : (d : Rows) → HasNoDrawFault d → width d ≤ 240
 narrow_of d none = elim (cases_lt 240 (width d)) [
   | inl h ↦ let w = long_row 241 0 d (omega arith) (omega arith) in absurd (none kind.TooLarge w.0 241 (inr (w.1, refl)))
   | inr h ↦ h
 ]
 
-drawn_of : (d : Rows) → IsFaultless d → 0 < width d
+drawn_of : (d : Rows) → HasNoDrawFault d → 0 < width d
 drawn_of d none = elim (cases_lt 0 (width d)) [
   | inl h ↦ h
   | inr h ↦ absurd (none kind.NoLeftRail 1 1 (inl (omega arith, refl, refl)))
 ]
 
-places_of : (d : Rows) → IsFaultless d → (f : PlaceFault) → Nowhere d (has_fault f (layout_of d))
+places_of : (d : Rows) → HasNoDrawFault d → (f : PlaceFault) → NowhereInRows d (has_fault f (layout_of d))
 places_of d none BadMark = nowhere_of d (has_fault BadMark (layout_of d)) (none kind.BadMark)
 places_of d none Crossing = nowhere_of d (has_fault Crossing (layout_of d)) (none kind.Crossing)
 places_of d none NoSource = nowhere_of d (has_fault NoSource (layout_of d)) (none kind.NoSource)
 
-pub well_drawn_of : (d : Rows) → IsFaultless d → IsWellDrawn d
+pub well_drawn_of : (d : Rows) → HasNoDrawFault d → IsWellDrawn d
 well_drawn_of d none =
     well_drawn_checked d (nowhere_of d (not_ascii d) (none kind.NotAscii)) (low_of d none) (narrow_of d none) (drawn_of d none)
     (λ r h. not_true (no_left_rail d r) (λ t. none kind.NoLeftRail r (left_column d) (inr (drawn_of d none, h, refl, t))))

@@ -14,8 +14,8 @@ use Rattle.ladder_text.specs.Rows.{Rows, width, height}
 use Rattle.ladder_text.specs.Boxes.{left_column, outlines}
 use Rattle.ladder_text.specs.Places.{layout_of}
 use Rattle.ladder_text.specs.Names.{words, things}
-use Rattle.ladder_text.specs.Faults.{IsFoundAt, IsWellDrawn, Nowhere, has_fault, not_ascii, no_left_rail, bad_box, boxes_apart, name_missing, stray_name, is_stray_operand, has_stray_pin, has_stray_operand}
-use Rattle.ladder_text.specs.FirstFault.{IsFaultAt, IsFaultless, IsFirstAt, IsFirstFault, IsTooLargeAt, IsOffRailAt, IsSharedAt, IsUnnamedAt, IsStrayWordAt, IsStrayOperandAt, IsSpanAt, rank}
+use Rattle.ladder_text.specs.Faults.{PassesInRows, IsWellDrawn, NowhereInRows, has_fault, not_ascii, no_left_rail, bad_box, boxes_apart, name_missing, stray_name, is_stray_operand, has_stray_pin, has_stray_operand}
+use Rattle.ladder_text.specs.FirstFault.{IsDrawFaultAt, HasNoDrawFault, IsFirstAt, IsFirstDrawFault, IsTooLargeAt, IsOffRailAt, IsSharedAt, IsUnnamedAt, IsStrayWordAt, IsStrayOperandAt, IsSpanAt, rank}
 use Rattle.ladder_text.specs.Steps.Search.{IsNone, IsFirstOf, IsFirstFrom, IsFirstColumn, or_earlier}
 use Rattle.ladder_text.proofs.Outlines.BoxOrder.{boxes_in_order, not_apart}
 use Rattle.ladder_text.proofs.Faults.SearchLemmas.{no_span, row_first, either_first, second_first}
@@ -56,24 +56,24 @@ same_kind : (a b : DrawFaultKind) → rank a ≡ rank b → a ≡ b
 same_kind a b e = sym (kind_of-rank a) ∙ ap kind_of e ∙ kind_of-rank b
 
 -- the kind that is sought first
-pub from_here : (d : Rows) (k : DrawFaultKind) (r c : ℕ) → IsFirstAt (IsFaultAt d k) r c → IsFirstFrom d (rank k) k r c
+pub from_here : (d : Rows) (k : DrawFaultKind) (r c : ℕ) → IsFirstAt (IsDrawFaultAt d k) r c → IsFirstFrom d (rank k) k r c
 from_here d k r c first = record { place = first; before = λ e h l. absurd (omega (arith, h, l)) }
 
 -- one more kind before, of which no fault is anywhere
-pub from_before : (d : Rows) (b k : DrawFaultKind) (r c : ℕ) → IsNone (IsFaultAt d b) → IsFirstFrom d (rank b + 1) k r c → IsFirstFrom d (rank b) k r c
+pub from_before : (d : Rows) (b k : DrawFaultKind) (r c : ℕ) → IsNone (IsDrawFaultAt d b) → IsFirstFrom d (rank b + 1) k r c → IsFirstFrom d (rank b) k r c
 from_before d b k r c none first = record {
   place = first.place;
   before = λ e h l. elim (cases_lt (rank b) (rank e)) [
     | inl m ↦ first.before e (omega arith) l
-    | inr m ↦ subst (λ (f : DrawFaultKind). IsNone (IsFaultAt d f)) (same_kind b e (omega arith)) none
+    | inr m ↦ subst (λ (f : DrawFaultKind). IsNone (IsDrawFaultAt d f)) (same_kind b e (omega arith)) none
   ];
 }
 
 -- all kinds
-pub from_first : (d : Rows) (k : DrawFaultKind) (r c : ℕ) → IsFirstFrom d 1 k r c → IsFirstFault d k r c
+pub from_first : (d : Rows) (k : DrawFaultKind) (r c : ℕ) → IsFirstFrom d 1 k r c → IsFirstDrawFault d k r c
 from_first d k r c first = record { place = first.place; before = λ e l. first.before e (omega (arith, rank_above e)) l }
 
-none_found : (d : Rows) (test : ℕ → ℕ → Bool) → Nowhere d test → IsNone (IsFoundAt d test)
+none_found : (d : Rows) (test : ℕ → ℕ → Bool) → NowhereInRows d test → IsNone (PassesInRows d test)
 none_found d test none r c w = both_ways (test r c) (none r c w.in_rows w.in_columns) w.passes
 
 none_large : (d : Rows) → length d ≤ 2001 → width d ≤ 240 → IsNone (IsTooLargeAt d)
@@ -88,7 +88,7 @@ none_shared : (d : Rows) → IsTrue (boxes_apart (layout_of d)) → IsNone (IsSh
 unfolding layout_of
 none_shared d apart r c w = both_ways (boxes_apart (layout_of d)) (not_apart (height d) (outlines d) (boxes_in_order d) w.number w.box w.listed w.shares) apart
 
-none_box : (d : Rows) → Nowhere d (bad_box d) → IsTrue (boxes_apart (layout_of d)) → IsNone (IsFaultAt d kind.BadBox)
+none_box : (d : Rows) → NowhereInRows d (bad_box d) → IsTrue (boxes_apart (layout_of d)) → IsNone (IsDrawFaultAt d kind.BadBox)
 none_box d whole apart r c (inl w) = none_found d (bad_box d) whole r c w
 none_box d whole apart r c (inr w) = none_shared d apart r c w
 
@@ -109,23 +109,23 @@ none_operand d fine r c w =
     = list_any_at (λ (q : DrawnPin). is_stray_operand bs q.row q.operand) b.pins v.0 q v.2 (subst (λ (q : DrawnPin). is_stray_operand bs q.row q.operand ≡ true) (sym v.3) v.4.stray) in
     both_ways (list_any (has_stray_pin bs) bs) fine (list_any_at (has_stray_pin bs) bs w.0 b w.2 (subst (λ (b : Outline). has_stray_pin bs b ≡ true) (sym w.3) pin))
 
-none_stray : (d : Rows) → ((r : ℕ) → r < length d → IsFalse (list_any (stray_name (layout_of d) r) (words (layout_of d) r))) → IsFalse (has_stray_operand (layout_of d)) → IsNone (IsFaultAt d kind.StrayName)
+none_stray : (d : Rows) → ((r : ℕ) → r < length d → IsFalse (list_any (stray_name (layout_of d) r) (words (layout_of d) r))) → IsFalse (has_stray_operand (layout_of d)) → IsNone (IsDrawFaultAt d kind.StrayName)
 none_stray d fine operands r c (inl w) = none_word d fine r c w
 none_stray d fine operands r c (inr w) = none_operand d operands r c w
 
 -- the fault that is found first in a text whose characters, size and rail were looked at
-pub behind_grid : (d : Rows) (k : DrawFaultKind) (r c : ℕ) → Nowhere d (not_ascii d) → length d ≤ 2001 → width d ≤ 240 → 0 < width d
-    → ((r : ℕ) → r < length d → IsFalse (no_left_rail d r)) → IsFirstFrom d 4 k r c → IsFirstFault d k r c
+pub behind_grid : (d : Rows) (k : DrawFaultKind) (r c : ℕ) → NowhereInRows d (not_ascii d) → length d ≤ 2001 → width d ≤ 240 → 0 < width d
+    → ((r : ℕ) → r < length d → IsFalse (no_left_rail d r)) → IsFirstFrom d 4 k r c → IsFirstDrawFault d k r c
 behind_grid d k r c ascii low narrow drawn rail first =
     from_first d k r c (from_before d kind.NotAscii k r c (none_found d (not_ascii d) ascii)
     (from_before d kind.TooLarge k r c (none_large d low narrow) (from_before d kind.NoLeftRail k r c (none_off_rail d drawn rail) first)))
 
 -- and whose boxes were
-pub behind_boxes : (d : Rows) (k : DrawFaultKind) (r c : ℕ) → Nowhere d (bad_box d) → IsTrue (boxes_apart (layout_of d)) → IsFirstFrom d 5 k r c → IsFirstFrom d 4 k r c
+pub behind_boxes : (d : Rows) (k : DrawFaultKind) (r c : ℕ) → NowhereInRows d (bad_box d) → IsTrue (boxes_apart (layout_of d)) → IsFirstFrom d 5 k r c → IsFirstFrom d 4 k r c
 behind_boxes d k r c whole apart first = from_before d kind.BadBox k r c (none_box d whole apart) first
 
 -- and whose places were
-pub behind_places : (d : Rows) (k : DrawFaultKind) (r c : ℕ) → ((f : PlaceFault) → Nowhere d (has_fault f (layout_of d))) → IsFirstFrom d 8 k r c → IsFirstFrom d 5 k r c
+pub behind_places : (d : Rows) (k : DrawFaultKind) (r c : ℕ) → ((f : PlaceFault) → NowhereInRows d (has_fault f (layout_of d))) → IsFirstFrom d 8 k r c → IsFirstFrom d 5 k r c
 behind_places d k r c places first =
     from_before d kind.BadMark k r c (none_found d (has_fault BadMark (layout_of d)) (places BadMark))
     (from_before d kind.Crossing k r c (none_found d (has_fault Crossing (layout_of d)) (places Crossing))
@@ -136,19 +136,19 @@ pub behind_names : (d : Rows) (k : DrawFaultKind) (r c : ℕ) → ((r : ℕ) →
     → IsFirstFrom d 9 k r c → IsFirstFrom d 8 k r c
 behind_names d k r c named first = from_before d kind.NameMissing k r c (none_unnamed d named) first
 
-pub ascii_first : (d : Rows) (r c : ℕ) → IsFirstAt (IsFoundAt d (not_ascii d)) r c → IsFirstFault d kind.NotAscii r c
+pub ascii_first : (d : Rows) (r c : ℕ) → IsFirstAt (PassesInRows d (not_ascii d)) r c → IsFirstDrawFault d kind.NotAscii r c
 ascii_first d r c first = from_first d kind.NotAscii r c (from_here d kind.NotAscii r c first)
 
-pub large_first : (d : Rows) (r c : ℕ) → Nowhere d (not_ascii d) → IsFirstAt (IsTooLargeAt d) r c → IsFirstFault d kind.TooLarge r c
+pub large_first : (d : Rows) (r c : ℕ) → NowhereInRows d (not_ascii d) → IsFirstAt (IsTooLargeAt d) r c → IsFirstDrawFault d kind.TooLarge r c
 large_first d r c ascii first =
     from_first d kind.TooLarge r c (from_before d kind.NotAscii kind.TooLarge r c (none_found d (not_ascii d) ascii) (from_here d kind.TooLarge r c first))
 
-off_rail : (d : Rows) (r c : ℕ) → Nowhere d (not_ascii d) → length d ≤ 2001 → width d ≤ 240 → IsFirstAt (IsOffRailAt d) r c → IsFirstFault d kind.NoLeftRail r c
+off_rail : (d : Rows) (r c : ℕ) → NowhereInRows d (not_ascii d) → length d ≤ 2001 → width d ≤ 240 → IsFirstAt (IsOffRailAt d) r c → IsFirstDrawFault d kind.NoLeftRail r c
 off_rail d r c ascii low narrow first =
     from_first d kind.NoLeftRail r c (from_before d kind.NotAscii kind.NoLeftRail r c (none_found d (not_ascii d) ascii)
     (from_before d kind.TooLarge kind.NoLeftRail r c (none_large d low narrow) (from_here d kind.NoLeftRail r c first)))
 
-pub empty_first : (d : Rows) → Nowhere d (not_ascii d) → length d ≤ 2001 → width d ≤ 240 → width d ≡ 0 → IsFirstFault d kind.NoLeftRail 1 1
+pub empty_first : (d : Rows) → NowhereInRows d (not_ascii d) → length d ≤ 2001 → width d ≤ 240 → width d ≡ 0 → IsFirstDrawFault d kind.NoLeftRail 1 1
 empty_first d ascii low narrow empty = off_rail d 1 1 ascii low narrow (record {
   such = inl (empty, refl, refl);
   first = λ i j w. elim w [
@@ -157,8 +157,8 @@ empty_first d ascii low narrow empty = off_rail d 1 1 ascii low narrow (record {
   ];
 })
 
-pub rail_first : (d : Rows) (r : ℕ) → Nowhere d (not_ascii d) → length d ≤ 2001 → width d ≤ 240 → 0 < width d → r < length d → IsTrue (no_left_rail d r)
-    → ((k : ℕ) → k < r → IsFalse (no_left_rail d k)) → IsFirstFault d kind.NoLeftRail r (left_column d)
+pub rail_first : (d : Rows) (r : ℕ) → NowhereInRows d (not_ascii d) → length d ≤ 2001 → width d ≤ 240 → 0 < width d → r < length d → IsTrue (no_left_rail d r)
+    → ((k : ℕ) → k < r → IsFalse (no_left_rail d k)) → IsFirstDrawFault d kind.NoLeftRail r (left_column d)
 rail_first d r ascii low narrow drawn inside here above = off_rail d r (left_column d) ascii low narrow (record {
   such = inr (drawn, inside, refl, here);
   first = λ i j w. elim w [
@@ -174,25 +174,25 @@ rail_first d r ascii low narrow drawn inside here above = off_rail d r (left_col
 })
 
 -- a bad box, or an earlier one that shares a place
-pub box_first : (d : Rows) (p : Place) (o : Option Place) → IsFirstAt (IsFoundAt d (bad_box d)) p.row p.column → IsFirstOf (IsSharedAt (outlines d)) o
+pub box_first : (d : Rows) (p : Place) (o : Option Place) → IsFirstAt (PassesInRows d (bad_box d)) p.row p.column → IsFirstOf (IsSharedAt (outlines d)) o
     → IsFirstFrom d 4 kind.BadBox (or_earlier p o).row (or_earlier p o).column
 box_first d p o bad shared =
-    from_here d kind.BadBox (or_earlier p o).row (or_earlier p o).column (either_first (IsFoundAt d (bad_box d)) (IsSharedAt (outlines d)) p o bad shared)
+    from_here d kind.BadBox (or_earlier p o).row (or_earlier p o).column (either_first (PassesInRows d (bad_box d)) (IsSharedAt (outlines d)) p o bad shared)
 
 -- a box that shares a place, where none is bad
-pub shared_first : (d : Rows) (r c : ℕ) → Nowhere d (bad_box d) → IsFirstAt (IsSharedAt (outlines d)) r c → IsFirstFrom d 4 kind.BadBox r c
+pub shared_first : (d : Rows) (r c : ℕ) → NowhereInRows d (bad_box d) → IsFirstAt (IsSharedAt (outlines d)) r c → IsFirstFrom d 4 kind.BadBox r c
 shared_first d r c whole shared =
-    from_here d kind.BadBox r c (second_first (IsFoundAt d (bad_box d)) (IsSharedAt (outlines d)) r c (none_found d (bad_box d) whole) shared)
+    from_here d kind.BadBox r c (second_first (PassesInRows d (bad_box d)) (IsSharedAt (outlines d)) r c (none_found d (bad_box d) whole) shared)
 
-pub mark_first : (d : Rows) (r c : ℕ) → IsFirstAt (IsFoundAt d (has_fault BadMark (layout_of d))) r c → IsFirstFrom d 5 kind.BadMark r c
+pub mark_first : (d : Rows) (r c : ℕ) → IsFirstAt (PassesInRows d (has_fault BadMark (layout_of d))) r c → IsFirstFrom d 5 kind.BadMark r c
 mark_first d r c first = from_here d kind.BadMark r c first
 
-pub crossing_first : (d : Rows) (r c : ℕ) → Nowhere d (has_fault BadMark (layout_of d)) → IsFirstAt (IsFoundAt d (has_fault Crossing (layout_of d))) r c → IsFirstFrom d 5 kind.Crossing r c
+pub crossing_first : (d : Rows) (r c : ℕ) → NowhereInRows d (has_fault BadMark (layout_of d)) → IsFirstAt (PassesInRows d (has_fault Crossing (layout_of d))) r c → IsFirstFrom d 5 kind.Crossing r c
 crossing_first d r c marks first =
     from_before d kind.BadMark kind.Crossing r c (none_found d (has_fault BadMark (layout_of d)) marks) (from_here d kind.Crossing r c first)
 
-pub source_first : (d : Rows) (r c : ℕ) → Nowhere d (has_fault BadMark (layout_of d)) → Nowhere d (has_fault Crossing (layout_of d))
-    → IsFirstAt (IsFoundAt d (has_fault NoSource (layout_of d))) r c → IsFirstFrom d 5 kind.NoSource r c
+pub source_first : (d : Rows) (r c : ℕ) → NowhereInRows d (has_fault BadMark (layout_of d)) → NowhereInRows d (has_fault Crossing (layout_of d))
+    → IsFirstAt (PassesInRows d (has_fault NoSource (layout_of d))) r c → IsFirstFrom d 5 kind.NoSource r c
 source_first d r c marks crossings first =
     from_before d kind.BadMark kind.NoSource r c (none_found d (has_fault BadMark (layout_of d)) marks)
     (from_before d kind.Crossing kind.NoSource r c (none_found d (has_fault Crossing (layout_of d)) crossings) (from_here d kind.NoSource r c first))
@@ -221,7 +221,7 @@ operand_first d r c words operand =
     from_here d kind.StrayName r c (second_first (IsStrayWordAt d) (IsStrayOperandAt (outlines d)) r c words operand)
 
 -- a text that is well drawn has no fault
-pub faultless_of : (d : Rows) → IsWellDrawn d → IsFaultless d
+pub faultless_of : (d : Rows) → IsWellDrawn d → HasNoDrawFault d
 faultless_of d well kind.NotAscii r c w = none_found d (not_ascii d) well.ascii r c w
 faultless_of d well kind.TooLarge r c w = let low = well.low_enough in none_large d (omega arith) well.narrow_enough r c w
 faultless_of d well kind.NoLeftRail r c w = none_off_rail d well.drawn well.left_rail r c w
@@ -234,8 +234,8 @@ faultless_of d well kind.StrayName r c w = none_stray d well.named.no_stray_name
 faultless_of d well kind.Memory r c w = w
 
 -- the same of rows that are the same: with their boxes, with their marks, and with their words
-pub of_boxed : (d s : Rows) (k : DrawFaultKind) (r c : ℕ) → s ≡ d → Nowhere s (bad_box s) → IsTrue (boxes_apart (layout_of s)) → IsFirstFrom s 5 k r c → IsFirstFrom d 4 k r c
+pub of_boxed : (d s : Rows) (k : DrawFaultKind) (r c : ℕ) → s ≡ d → NowhereInRows s (bad_box s) → IsTrue (boxes_apart (layout_of s)) → IsFirstFrom s 5 k r c → IsFirstFrom d 4 k r c
 of_boxed d s k r c e whole apart first = subst (λ (x : Rows). IsFirstFrom x 4 k r c) e (behind_boxes s k r c whole apart first)
 
-pub of_words : (p w : Rows) (k : DrawFaultKind) (r c : ℕ) → w ≡ p → ((f : PlaceFault) → Nowhere p (has_fault f (layout_of p))) → IsFirstFrom w 8 k r c → IsFirstFrom p 5 k r c
+pub of_words : (p w : Rows) (k : DrawFaultKind) (r c : ℕ) → w ≡ p → ((f : PlaceFault) → NowhereInRows p (has_fault f (layout_of p))) → IsFirstFrom w 8 k r c → IsFirstFrom p 5 k r c
 of_words p w k r c e places first = behind_places p k r c places (subst (λ (x : Rows). IsFirstFrom x 8 k r c) e first)

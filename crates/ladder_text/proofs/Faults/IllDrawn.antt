@@ -6,15 +6,15 @@ use Rattle.ladder_text.specs.declared.places.place_fault.PlaceFault.{PlaceFault}
 use Rattle.ladder_text.specs.Rows.{Rows, width}
 use Rattle.ladder_text.specs.Places.{layout_of}
 use Rattle.ladder_text.specs.Names.{words, things}
-use Rattle.ladder_text.specs.Faults.{IsIllDrawn, IsFoundAt, bad_box, boxes_apart, has_stray_operand, has_fault, not_ascii, no_left_rail, name_missing, stray_name}
+use Rattle.ladder_text.specs.Faults.{IsIllDrawn, PassesInRows, bad_box, boxes_apart, has_stray_operand, has_fault, not_ascii, no_left_rail, name_missing, stray_name}
 
 pub clash : (b : Bool) → b ≡ true → b ≡ false → ⊥
 clash b t f = true≢false (sym t ∙ f)
 
-pub ill_place : (d : Rows) (f : PlaceFault) (r c : ℕ) → IsFoundAt d (has_fault f (layout_of d)) r c → IsIllDrawn d
+pub ill_place : (d : Rows) (f : PlaceFault) (r c : ℕ) → PassesInRows d (has_fault f (layout_of d)) r c → IsIllDrawn d
 ill_place d f r c w well = clash (has_fault f (layout_of d) r c) w.passes (well.places f r c w.in_rows w.in_columns)
 
-pub ill_ascii : (d : Rows) (r c : ℕ) → IsFoundAt d (not_ascii d) r c → IsIllDrawn d
+pub ill_ascii : (d : Rows) (r c : ℕ) → PassesInRows d (not_ascii d) r c → IsIllDrawn d
 ill_ascii d r c w well = clash (not_ascii d r c) w.passes (well.ascii r c w.in_rows w.in_columns)
 
 pub ill_large : (d : Rows) → (length d ≤ 2001 → width d ≤ 240 → ⊥) → IsIllDrawn d
@@ -30,7 +30,7 @@ ill_empty d e well =
 pub ill_rail : (d : Rows) (r : ℕ) → r < length d → IsTrue (no_left_rail d r) → IsIllDrawn d
 ill_rail d r h t well = clash (no_left_rail d r) t (well.left_rail r h)
 
-pub ill_box : (d : Rows) (r c : ℕ) → IsFoundAt d (bad_box d) r c → IsIllDrawn d
+pub ill_box : (d : Rows) (r c : ℕ) → PassesInRows d (bad_box d) r c → IsIllDrawn d
 ill_box d r c w well = clash (bad_box d r c) w.passes (well.boxes_whole r c w.in_rows w.in_columns)
 
 pub ill_apart : (d : Rows) → boxes_apart (layout_of d) ≡ false → IsIllDrawn d

@@ -9,13 +9,13 @@ use Rattle.drawings.specs.declared.place.Place.{Place}
 use Rattle.ladder_text.specs.declared.names.span.Span.{Span}
 use Rattle.ladder_text.specs.Rows.{Rows, width}
 use Rattle.ladder_text.specs.Places.{is_before}
-use Rattle.ladder_text.specs.Faults.{IsFoundAt}
-use Rattle.ladder_text.specs.FirstFault.{IsUpTo, IsFirstAt, IsSpanAt}
+use Rattle.ladder_text.specs.Faults.{PassesInRows}
+use Rattle.ladder_text.specs.FirstFault.{IsPlaceUpTo, IsFirstAt, IsSpanAt}
 use Rattle.ladder_text.specs.Steps.Search.{IsNone, IsFirstOf, IsFirstColumn, IsFirstColumnOf, or_earlier}
 
 -- a test that passes in no row above, and before the column in no place of its row
 pub found_first : (d : Rows) (test : ℕ → ℕ → Bool) (r c : ℕ) → ((i j : ℕ) → i < r → j ≤ width d → IsFalse (test i j)) → ((k : ℕ) → k < c → IsFalse (test r k))
-    → IsFoundAt d test r c → IsFirstAt (IsFoundAt d test) r c
+    → PassesInRows d test r c → IsFirstAt (PassesInRows d test) r c
 found_first d test r c above before here = record {
   such = here;
   first = λ i j w. elim (cases_lt i r) [
@@ -47,13 +47,13 @@ row_first IsSuch r c above here = record {
   ];
 }
 
-up_to-next : (r c i j k l : ℕ) → IsUpTo r c i j → IsUpTo i j k l → IsUpTo r c k l
+up_to-next : (r c i j k l : ℕ) → IsPlaceUpTo r c i j → IsPlaceUpTo i j k l → IsPlaceUpTo r c k l
 up_to-next r c i j k l (inl a) (inl b) = inl (omega arith)
 up_to-next r c i j k l (inl a) (inr b) = inl (omega (arith, b.0))
 up_to-next r c i j k l (inr a) (inl b) = inl (omega (arith, a.0))
 up_to-next r c i j k l (inr a) (inr b) = inr (omega (arith, a.0, b.0), omega (arith, a.1, b.1))
 
-before-up_to : (q p : Place) → is_before q p ≡ true → IsUpTo q.row q.column p.row p.column
+before-up_to : (q p : Place) → is_before q p ≡ true → IsPlaceUpTo q.row q.column p.row p.column
 before-up_to q p e = elim (cases_lt q.row p.row) [
   | inl h ↦ inl h
   | inr h ↦ elim (cases_lt p.row q.row) [
@@ -62,7 +62,7 @@ before-up_to q p e = elim (cases_lt q.row p.row) [
   ]
 ]
 
-not_before-up_to : (q p : Place) → is_before q p ≡ false → IsUpTo p.row p.column q.row q.column
+not_before-up_to : (q p : Place) → is_before q p ≡ false → IsPlaceUpTo p.row p.column q.row q.column
 not_before-up_to q p e = elim (cases_lt p.row q.row) [
   | inl h ↦ inl h
   | inr h ↦ elim (cases_lt q.row p.row) [

@@ -1,11 +1,12 @@
 -- On the marks of a layout.
-use Rattle.std.proofs.Common.{ℕ, zero, suc, ◌+◌, ◌-◌, ◌<◌, ◌≤◌, ◌≡◌, List, [], length, get_or, refl, ap, ◌∙◌, arith, Bool, true, false, ◌||◌, if◌then◌else◌}
-use Rattle.ladder_text.specs.Rows.{width, height}
+use Rattle.std.proofs.Common.{ℕ, zero, suc, ◌+◌, ◌-◌, ◌<◌, ◌≤◌, ◌≡◌, List, [], length, get_or, refl, ap, ◌∙◌, arith, Bool, true, false, ◌||◌, if◌then◌else◌, inl, inr}
+use Rattle.ladder_text.specs.Rows.{Rows, width, height}
 use Rattle.drawings.specs.declared.mark.Mark.{Mark}
 use Rattle.drawings.specs.declared.mark.Mark.TheVariants.{Blank, Rail, Wire, Join, Upright, ContactPart, CoilPart, BoxPart}
-use Rattle.ladder_text.specs.Places.{Layout, mark, in_box, in_contact, in_coil, in_operand, is_taken, line_mark, is_box_part, is_symbol}
+use Rattle.ladder_text.specs.Places.{Layout, layout_of, mark, in_box, in_contact, in_coil, in_operand, is_taken, line_mark, is_box_part, is_symbol}
 use Rattle.ladder_text.specs.Rows.{char_at}
 use Rattle.ladder_text.specs.Picture.{marks_of, row_marks}
+use Rattle.ladder_text.specs.Steps.RowMarks.{AreMarksIfFound, AreMarksOf}
 use Rattle.ladder_text.proofs.Marks.PictureLemmas.{length-upto, get_or-upto}
 
 pub length-marks : (p : Layout) → length (marks_of p) ≡ height p.rows
@@ -24,6 +25,17 @@ marks-inside p (suc r) (suc c) a b e f =
     rw t (ap (λ (ms : List Mark). get_or ms (suc c) Blank) (get_or-upto (height p.rows) (row_marks p) r [] (omega arith))
     ∙ get_or-upto (width p.rows) (mark p (r + 1)) c Blank (omega arith)
     ∙ rw (q, s) refl)
+
+-- a row of the marks that were found has the marks of its places
+pub marks-found : (d : Rows) (found : List (List Mark)) (r : ℕ) → AreMarksIfFound d found → 0 < r → r - 1 < length found → AreMarksOf (layout_of d) r (get_or found (r - 1) [])
+marks-found d found r (inl e) a h =
+    let none : length found ≡ 0 = ap length e in
+    absurd (omega arith)
+marks-found d found r (inr e) a h =
+    let p = layout_of d in
+    let all = length-marks p in
+    let size : length found ≡ length (marks_of p) = ap length e in
+    record { each = λ k b f. ap (λ (ms : List (List Mark)). get_or (get_or ms (r - 1) []) k Blank) e ∙ marks-inside p r k a (omega arith) b f }
 
 pub line_mark-free : (p q o : Bool) → (is_box_part (if p then Join else (if q then Upright else (if o then Wire else Blank))) || is_symbol (if p then Join else (if q then Upright else (if o then Wire else Blank)))) ≡ false
 line_mark-free true q o = refl

@@ -4,9 +4,10 @@ use Rattle.std.specs.List.{All}
 use Rattle.std.proofs.lemmas.List.Elements.{All-nil, All-cons, All-append, All-weaker}
 use Rattle.std.proofs.lemmas.Option.{none-some, same_Some}
 use Rattle.drawings.specs.declared.drawn_box.DrawnPin.{DrawnPin}
+use Rattle.drawings.specs.declared.drawn_box.Side.TheVariants as side
 use Rattle.ladder_text.specs.Rows.{Rows}
 use Rattle.words.specs.Chars.{is_identifier}
-use Rattle.ladder_text.specs.Boxes.{nearer_pin, left_pin, right_pin, pins_from, row_pins, both, pins_of_rows, blank_words, cut, blanks_before, blanks_behind}
+use Rattle.ladder_text.specs.Boxes.{nearer_pin, side_pin, pins_from, row_pins, both, pins_of_rows, blank_words, cut, blanks_before, blanks_behind}
 use Rattle.std.proofs.Common.{nat_le}
 use Rattle.std.specs.List.Sorted.{IsNonDecreasingBy}
 use Rattle.std.proofs.lemmas.List.Sorted.{IsNonDecreasingBy-short}
@@ -30,7 +31,7 @@ nearer_on : (d : Rows) (r a e : ℕ) (w : List ℕ) → IsOn r (nearer_pin d r a
 unfolding nearer_pin
 nearer_on d r a e w =
     let text = cut d r (a + 1) e in
-    either_on r (nat_le (blanks_before text) (blanks_behind text)) (left_pin d r a w) (right_pin d r e w) refl refl
+    either_on r (nat_le (blanks_before text) (blanks_behind text)) (side_pin d side.Left r a w) (side_pin d side.Right r e w) refl refl
 
 pins_from_on : (d : Rows) (r a e : ℕ) (ws : List (List ℕ)) (pins : List DrawnPin) → pins_from d r a e ws ≡ Some pins → All (IsOn r) pins
 pins_from_on d r a e [] pins q = subst (All (IsOn r)) (same_Some [] pins q) (All-nil (IsOn r))
@@ -38,8 +39,8 @@ pins_from_on d r a e (w ∷ []) pins q =
     let t = same_Some _ pins (cond_some_of (is_identifier w) _ pins q).1 in
     subst (All (IsOn r)) t (All-cons (IsOn r) _ [] (nearer_on d r a e w) (All-nil (IsOn r)))
 pins_from_on d r a e (w ∷ v ∷ []) pins q =
-    let l = left_pin d r a w in
-    let h = right_pin d r e v in
+    let l = side_pin d side.Left r a w in
+    let h = side_pin d side.Right r e v in
     let t = same_Some _ pins (cond_some_of (is_identifier w && is_identifier v) _ pins q).1 in
     subst (All (IsOn r)) t (All-cons (IsOn r) l (h ∷ []) refl (All-cons (IsOn r) h [] refl (All-nil (IsOn r))))
 pins_from_on d r a e (w ∷ v ∷ u ∷ more) pins q = absurd (none-some pins q)

@@ -1,8 +1,10 @@
 -- Words above symbols, one above each.
-use Rattle.std.specs.Prelude.{ℕ, ◌<◌, ◌≤◌, ◌+◌, ◌≡◌, List, [], length, slice_index_or, true}
+use Rattle.std.specs.Prelude.{ℕ, ◌<◌, ◌≤◌, ◌+◌, ◌≡◌, List, [], length, slice_index_or, Bool, true}
+use Rattle.std.specs.List.{list_all}
+use Rattle.words.specs.Chars.{is_name}
 use Rattle.ladder_text.specs.declared.names.span.Span.{Span}
 use Rattle.ladder_text.specs.Places.{Layout}
-use Rattle.ladder_text.specs.Names.{overlap, words, symbols, tops}
+use Rattle.ladder_text.specs.Names.{overlap, words, symbols, tops, word_text}
 
 -- the span with a number, an empty one where there is none
 abbrev pub span_at : List Span → ℕ → Span
@@ -18,6 +20,10 @@ pub record ArePairs (xs ys : List Span) (n : ℕ) : Type 0 where
 pub record ArePaired (xs ys : List Span) : Type 0 where
   pub as_many : length xs ≡ length ys
   pub pairs : ArePairs xs ys (length xs)
+
+-- the words of the row r are all names
+abbrev pub are_names : Layout → ℕ → Bool
+are_names p r = list_all (λ w. is_name (word_text p r w)) (words p r)
 
 -- the words of the row r stand above the symbols of the next row, one above each, and no box begins there
 pub record StandAbove (p : Layout) (r : ℕ) : Type 0 where

@@ -31,6 +31,14 @@ pub record IsBare (bs : List Outline) (r : ℕ) : Type 0 where
 abbrev pub row_of_pin : DrawnPin → ℕ
 row_of_pin q = q.row
 
+-- the pins from the n-th on stand on the row r or below it
+abbrev pub AreOnOrBelow : List DrawnPin → ℕ → ℕ → Type 0
+AreOnOrBelow pins n r = (k : ℕ) (d : DrawnPin) → n ≤ k → k < length pins → r ≤ (slice_index_or pins k d).row
+
+-- the pins from the n-th on stand below the row r
+abbrev pub AreBelow : List DrawnPin → ℕ → ℕ → Type 0
+AreBelow pins n r = (k : ℕ) (d : DrawnPin) → n ≤ k → k < length pins → r < (slice_index_or pins k d).row
+
 -- whether the operand of a pin on side s of a box begins at (r, c)
 abbrev pub word_test : Side → ℕ → ℕ → Outline → Bool
 word_test s r c b = list_any (takes_word s r c) b.pins
@@ -73,7 +81,26 @@ numbers_on bs r = numbers_below (holds_at bs (meets_row r)) (length bs)
 
 -- for each row from the first on, the numbers of its boxes below n
 abbrev pub AreNumbered : List Outline → ℕ → List (List ℕ) → Type 0
-AreNumbered bs n numbers = (k : ℕ) → k < length numbers → slice_index_or numbers k [] ≡ numbers_below (holds_at bs (meets_row (k + 1))) n
+AreNumbered bs n numbers =
+    (k : ℕ) → k < length numbers → slice_index_or numbers k [] ≡ numbers_below (holds_at bs (meets_row (k + 1))) n
+
+-- boxes in order, with the numbers of those of each row
+abbrev pub AreKeptByRow : List Outline → List (List ℕ) → Type 0
+AreKeptByRow bs numbers = AreInOrder (length numbers) bs × AreNumbered bs (length bs) numbers
+
+-- each row of the box has the number n behind those that it had
+abbrev pub IsAddedToItsRows : Outline → ℕ → List (List ℕ) → List (List ℕ) → Type 0
+IsAddedToItsRows b n old new =
+    (k : ℕ) → k < length old → b.top ≤ k + 1 → k + 1 ≤ b.bottom
+    → slice_index_or new k [] ≡ slice_index_or old k [] ++ n ∷ []
+
+-- each row above the box has the numbers that it had
+abbrev pub IsSameAbove : Outline → List (List ℕ) → List (List ℕ) → Type 0
+IsSameAbove b old new = (k : ℕ) → k + 1 < b.top → slice_index_or new k [] ≡ slice_index_or old k []
+
+-- and so has each row below it
+abbrev pub IsSameBelow : Outline → List (List ℕ) → List (List ℕ) → Type 0
+IsSameBelow b old new = (k : ℕ) → b.bottom < k + 1 → slice_index_or new k [] ≡ slice_index_or old k []
 
 -- the top side of a box that begins in row r
 abbrev pub top_in : ℕ → Option Outline → Option Span

@@ -1,12 +1,33 @@
 -- What the search for faults knows halfway.
-use Rattle.std.specs.Prelude.{◌≡◌, ℕ, ◌+◌, ◌<◌, ◌≤◌, nat_lt, if◌then◌else◌, List, length, take, position, Option, Some, None}
+use Rattle.std.specs.Prelude.{◌≡◌, ◌≢◌, ℕ, ◌+◌, ◌<◌, ◌≤◌, IsFalse, Bool, nat_lt, if◌then◌else◌, List, length, take, position, Option, Some, None}
 use Rattle.ladder_text.specs.declared.draw_fault.DrawFaultKind.{DrawFaultKind}
+use Rattle.ladder_text.specs.declared.draw_fault.DrawFaultKind.TheVariants.{Memory}
 use Rattle.drawings.specs.declared.place.Place.{Place}
 use Rattle.ladder_text.specs.declared.names.span.Span.{Span}
-use Rattle.ladder_text.specs.Rows.{Rows}
-use Rattle.ladder_text.specs.Places.{Layout, is_before}
-use Rattle.ladder_text.specs.Names.{tops, things}
-use Rattle.ladder_text.specs.FirstFault.{IsFaultAt, IsFirstAt, rank}
+use Rattle.ladder_text.specs.declared.places.place_fault.PlaceFault.{PlaceFault}
+use Rattle.ladder_text.specs.Rows.{Rows, width}
+use Rattle.ladder_text.specs.Boxes.{left_column}
+use Rattle.ladder_text.specs.Places.{Layout, layout_of, is_before}
+use Rattle.ladder_text.specs.Names.{words, tops, things}
+use Rattle.ladder_text.specs.Faults.{NowhereInRows, PassesInRows, not_ascii, name_missing, stray_name, has_fault}
+use Rattle.ladder_text.specs.FirstFault.{IsDrawFaultAt, IsFirstDrawFault, IsFirstAt, IsSpanAt, rank}
+
+-- rows of printable characters within the limits, with the left rail's column and the last column
+abbrev pub AreMeasured : Rows → ℕ → ℕ → Type 0
+AreMeasured d left last =
+    (left ≡ left_column d) × (last ≡ width d) × (last ≤ 240) × (length d ≤ 2001) × NowhereInRows d (not_ascii d)
+
+-- no place of a row, nor its margin, passes the test
+abbrev pub NowhereInRow : Rows → (ℕ → Bool) → Type 0
+NowhereInRow d test = (c : ℕ) → c ≤ width d → IsFalse (test c)
+
+-- the place p passes the test
+abbrev pub PassesAt : Rows → (ℕ → ℕ → Bool) → Place → Type 0
+PassesAt d test p = PassesInRows d test p.row p.column
+
+-- p is the first place that passes the test
+abbrev pub IsFirstToPass : Rows → (ℕ → ℕ → Bool) → Place → Type 0
+IsFirstToPass d test p = IsFirstAt (PassesInRows d test) p.row p.column
 
 -- no place is such
 abbrev pub IsNone : (ℕ → ℕ → Type 0) → Type 0
@@ -16,6 +37,14 @@ IsNone IsSuch = (r c : ℕ) → IsSuch r c → ⊥
 abbrev pub IsFirstOf : (ℕ → ℕ → Type 0) → Option Place → Type 0
 IsFirstOf IsSuch None = IsNone IsSuch
 IsFirstOf IsSuch (Some p) = IsFirstAt IsSuch p.row p.column
+
+-- the place (r, c) has no fault
+abbrev pub IsFineAt : Layout → ℕ → ℕ → Type 0
+IsFineAt p r c = (fault : PlaceFault) → IsFalse (has_fault fault p r c)
+
+-- no place of the row r has a fault
+abbrev pub IsFineRow : Rows → ℕ → Type 0
+IsFineRow d r = (fault : PlaceFault) → NowhereInRow d (has_fault fault (layout_of d) r)
 
 -- c is the first of the columns that are such
 pub record IsFirstColumn (IsSuch : ℕ → Type 0) (c : ℕ) : Type 0 where
@@ -27,10 +56,22 @@ abbrev pub IsFirstColumnOf : (ℕ → Type 0) → Option ℕ → Type 0
 IsFirstColumnOf IsSuch None = (c : ℕ) → IsSuch c → ⊥
 IsFirstColumnOf IsSuch (Some c) = IsFirstColumn IsSuch c
 
+-- the first column at which a symbol or box of the row r begins that has no word above it, if there is one
+abbrev pub IsFirstUnnamed : Layout → ℕ → Option ℕ → Type 0
+IsFirstUnnamed p r found = IsFirstColumnOf (IsSpanAt (things p r) (name_missing p r)) found
+
+-- the first column at which a stray word of the row r begins, if there is one
+abbrev pub IsFirstStrayWord : Layout → ℕ → Option ℕ → Type 0
+IsFirstStrayWord p r found = IsFirstColumnOf (IsSpanAt (words p r) (stray_name p r)) found
+
+-- a fault other than want of memory is the text's first one, at the place p
+abbrev pub IsFirstUnlessMemory : Rows → DrawFaultKind → Place → Type 0
+IsFirstUnlessMemory d k p = k ≢ Memory → IsFirstDrawFault d k p.row p.column
+
 -- (r, c) is the first place with a fault of the kind, and none of the kinds from the n-th on before it is anywhere
 pub record IsFirstFrom (d : Rows) (n : ℕ) (k : DrawFaultKind) (r c : ℕ) : Type 0 where
-  pub place : IsFirstAt (IsFaultAt d k) r c
-  pub before : (earlier : DrawFaultKind) → n ≤ rank earlier → rank earlier < rank k → IsNone (IsFaultAt d earlier)
+  pub place : IsFirstAt (IsDrawFaultAt d k) r c
+  pub before : (earlier : DrawFaultKind) → n ≤ rank earlier → rank earlier < rank k → IsNone (IsDrawFaultAt d earlier)
 
 -- p, or a place before it
 abbrev pub or_earlier : Place → Option Place → Place

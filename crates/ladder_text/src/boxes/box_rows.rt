@@ -1,12 +1,12 @@
 //! The boxes of a text, and which of them have a row.
 
-ghost use Rattle.std.specs.Prelude.{◌≡◌, ◌==◌, ◌++◌, ◌∷◌, ◌+◌, ◌<◌, ◌≤◌, ◌^◌, ℕ, [], ◌&&◌, nat_lt, map, length, slice_get, slice_index_or, is_some, is_none, Some, OnOk, IfOk, IfSome, IsTrue};
+ghost use Rattle.std.specs.Prelude.{◌≡◌, ◌==◌, ◌<◌, ◌^◌, ℕ, [], ◌&&◌, nat_lt, map, length, slice_get, slice_index_or, is_some, is_none, Some, OnOk, IfOk, IfSome, IsTrue};
 ghost use Rattle.std.specs.List.{list_any, list_all, filter, filter_map};
 ghost use Rattle.drawings.specs.declared.drawn_box.Side.TheVariants as side;
 ghost use Rattle.ladder_text.specs.Boxes.{outlines};
 ghost use Rattle.ladder_text.specs.Names.{top_span};
 ghost use Rattle.ladder_text.specs.Faults.{share_place, is_apart, some_takes_word, is_stray_operand, has_stray_pin};
-ghost use Rattle.ladder_text.specs.Steps.RowBoxes.{box_test, word_test, HavePinsByRow, holds_at, numbers_on, AreNumbered, top_at, IsFirstShared, IsBare};
+ghost use Rattle.ladder_text.specs.Steps.RowBoxes.{box_test, word_test, HavePinsByRow, holds_at, numbers_on, AreNumbered, IsAddedToItsRows, IsSameAbove, IsSameBelow, top_at, IsFirstShared, IsBare};
 ghost use Rattle.ladder_text.specs.FirstFault.{shares_before, IsSharedAt, IsStrayPinAt, IsStrayBoxAt, IsStrayOperandAt};
 ghost use Rattle.ladder_text.specs.Steps.Search.{IsFirstOf};
 
@@ -30,15 +30,15 @@ pub struct Boxes {
 }
 
 impl Model for Boxes {
-    ghost use Rattle.std.specs.Prelude.{List, length};
+    ghost use Rattle.std.specs.Prelude.{List};
     ghost use Rattle.ladder_text.specs.declared.boxes.outline.Outline.{Outline};
-    ghost use Rattle.ladder_text.specs.Steps.RowBoxes.{AreInOrder, AreNumbered};
+    ghost use Rattle.ladder_text.specs.Steps.RowBoxes.{AreKeptByRow};
 
     ghost Value = { List Outline };
 
     ghost view = { λ b. b.outlines.items };
 
-    ghost invariant = { λ b. AreInOrder (length b.by_row.items) b.outlines.items × AreNumbered b.outlines.items (length b.outlines.items) b.by_row.items };
+    ghost invariant = { λ b. AreKeptByRow b.outlines.items b.by_row.items };
 }
 
 /// So many rows without boxes.
@@ -56,10 +56,9 @@ fn bare_rows(alloc: Global, rows: usize) -> Result<Vec<RowNumbers>, AllocError>
 /// Adds a box to each of its rows.
 fn add_box(by_row: &mut Vec<RowNumbers>, number: usize, outline: &Outline) -> Result<(), AllocError>
     ensures rows { OnOk result (length by_row.new.items ≡ length by_row.old.items) }
-    ensures here { OnOk result ((k : ℕ) → k < length by_row.old.items → outline.now.top ≤ k + 1 → k + 1 ≤ outline.now.bottom
-        → slice_index_or by_row.new.items k [] ≡ slice_index_or by_row.old.items k [] ++ number ∷ []) }
-    ensures above { OnOk result ((k : ℕ) → k + 1 < outline.now.top → slice_index_or by_row.new.items k [] ≡ slice_index_or by_row.old.items k []) }
-    ensures below { OnOk result ((k : ℕ) → outline.now.bottom < k + 1 → slice_index_or by_row.new.items k [] ≡ slice_index_or by_row.old.items k []) }
+    ensures here { OnOk result (IsAddedToItsRows outline.now number by_row.old.items by_row.new.items) }
+    ensures above { OnOk result (IsSameAbove outline.now by_row.old.items by_row.new.items) }
+    ensures below { OnOk result (IsSameBelow outline.now by_row.old.items by_row.new.items) }
 {
     let end = outline.bottom.min(by_row.len());
     for index in outline.top.saturating_sub(1)..end {

@@ -9,7 +9,7 @@ ghost use Rattle.ladder_text.specs.Boxes.{covers, meets_row};
 ghost use Rattle.ladder_text.specs.Places.{pin_reaches, box_reaches, right_pin_at, pin_on};
 ghost use Rattle.ladder_text.specs.Names.{top_span};
 ghost use Rattle.ladder_text.specs.Faults.{share_place, takes_word, blind_right_of, blind_left_of};
-ghost use Rattle.ladder_text.specs.Steps.RowBoxes.{box_test, row_of_pin};
+ghost use Rattle.ladder_text.specs.Steps.RowBoxes.{box_test, row_of_pin, AreOnOrBelow, AreBelow};
 
 use crate::boxes::box_test::BoxTest;
 use crate::names::span::Span;
@@ -32,7 +32,7 @@ fn count_above(pins: &[DrawnPin], row: usize) -> usize
     requires { IsNonDecreasingBy row_of_pin pins.now }
     ensures within { result ≤ length pins.now }
     ensures above { (k : ℕ) (d : DrawnPin) → k < result → (slice_index_or pins.now k d).row < row }
-    ensures behind { (k : ℕ) (d : DrawnPin) → result ≤ k → k < length pins.now → row ≤ (slice_index_or pins.now k d).row }
+    ensures behind { AreOnOrBelow pins.now result row }
 {
     pins.partition_point(|pin| pin.row < row)
 }
@@ -42,7 +42,7 @@ fn count_to(pins: &[DrawnPin], row: usize) -> usize
     requires { IsNonDecreasingBy row_of_pin pins.now }
     ensures within { result ≤ length pins.now }
     ensures above { (k : ℕ) (d : DrawnPin) → k < result → (slice_index_or pins.now k d).row ≤ row }
-    ensures behind { (k : ℕ) (d : DrawnPin) → result ≤ k → k < length pins.now → row < (slice_index_or pins.now k d).row }
+    ensures behind { AreBelow pins.now result row }
 {
     pins.partition_point(|pin| pin.row <= row)
 }

@@ -3,10 +3,10 @@
 ghost use Rattle.std.specs.Prelude.{◌≡◌, ◌==◌, ◌+◌, ◌-◌, ◌<◌, ◌≤◌, ◌^◌, ℕ, IsFalse, IsTrue, IfNone, IfSome, IfOk};
 ghost use Rattle.ladder_text.specs.Rows.{char_at, width, run_back};
 ghost use Rattle.std.specs.Prelude.{map};
-ghost use Rattle.ladder_text.specs.Faults.{bad_box, Nowhere, IsFoundAt};
-ghost use Rattle.ladder_text.specs.FirstFault.{IsFirstAt};
+ghost use Rattle.ladder_text.specs.Faults.{bad_box, NowhereInRows};
+ghost use Rattle.ladder_text.specs.Steps.Search.{NowhereInRow, PassesAt, IsFirstToPass};
 ghost use Rattle.drawings.specs.declared.drawn_box.Side.TheVariants as side;
-ghost use Rattle.ladder_text.specs.Boxes.{blank_words, bottom_row, word_start, word_end, left_operand, right_operand, left_pin, right_pin, nearer_pin, blanks_before, blanks_behind, pins_from, row_pins, pins_of_rows, is_edge, outline_at, box_at, row_outlines, outlines};
+ghost use Rattle.ladder_text.specs.Boxes.{blank_words, bottom_row, word_start, word_end, left_operand, right_operand, operand_beside, side_pin, nearer_pin, blanks_before, blanks_behind, pins_from, row_pins, pins_of_rows, is_edge, outline_at, box_at, row_outlines, outlines};
 ghost use Rattle.std.specs.Str.{IsAscii};
 
 use crate::boxes::outline::Outline;
@@ -108,41 +108,41 @@ fn right_operand(
     }))
 }
 
-fn left_pin(
+/// The operand of a pin of the side in a column.
+fn operand_beside(
     alloc: Global,
     grid: &Grid,
+    side: Side,
     row: usize,
     column: usize,
-    name: &[u8],
-) -> Result<DrawnPin, AllocError>
-    requires column { column < 2 ^ 61 }
-    requires name { IsAscii name.now }
-    ensures { IfOk result (λ p. p ≡ left_pin grid.now row column name.now) }
+) -> Result<Option<Operand>, AllocError>
+    requires { column < 2 ^ 61 }
+    ensures { IfOk result (λ o. o ≡ operand_beside grid.now side row column) }
 {
-    Ok(DrawnPin {
-        row,
-        side: Side::Left,
-        name: Text::from_ascii(alloc, name)?,
-        operand: left_operand(alloc, grid, row, column)?,
-    })
+    match side {
+        Side::Left => left_operand(alloc, grid, row, column),
+        Side::Right => right_operand(alloc, grid, row, column),
+    }
 }
 
-fn right_pin(
+/// A pin of the side in a column, by its name.
+fn side_pin(
     alloc: Global,
     grid: &Grid,
+    side: Side,
     row: usize,
     column: usize,
     name: &[u8],
 ) -> Result<DrawnPin, AllocError>
     requires column { column < 2 ^ 61 }
     requires name { IsAscii name.now }
-    ensures { IfOk result (λ p. p ≡ right_pin grid.now row column name.now) }
+    ensures { IfOk result (λ p. p ≡ side_pin grid.now side row column name.now) }
 {
     Ok(DrawnPin {
         row,
-        side: Side::Right,
+        side,
         name: Text::from_ascii(alloc, name)?,
-        operand: right_operand(alloc, grid, row, column)?,
+        operand: operand_beside(alloc, grid, side, row, column)?,
     })
 }
 
@@ -175,9 +175,9 @@ fn nearer_pin(
 {
     let text = grid.cut(row, left + 1, right);
     if blanks_before(text) <= blanks_behind(text) {
-        left_pin(alloc, grid, row, left, name)
+        side_pin(alloc, grid, Side::Left, row, left, name)
     } else {
-        right_pin(alloc, grid, row, right, name)
+        side_pin(alloc, grid, Side::Right, row, right, name)
     }
 }
 
@@ -208,8 +208,8 @@ fn pins_from(
             if !(is_identifier(first) && is_identifier(second)) {
                 return Ok(None);
             }
-            pins.push(left_pin(alloc, grid, row, left, first)?)?;
-            pins.push(right_pin(alloc, grid, row, right, second)?)?;
+            pins.push(side_pin(alloc, grid, Side::Left, row, left, first)?)?;
+            pins.push(side_pin(alloc, grid, Side::Right, row, right, second)?)?;
             Ok(Some(pins))
         }
         _ => Ok(None),
@@ -416,7 +416,7 @@ fn is_bad_box_with(
 
 fn bad_box_in_row(alloc: Global, grid: &Grid, row: usize) -> Result<Option<usize>, AllocError>
     requires { row < 2 ^ 60 }
-    ensures none { IfOk result (λ found. IfNone found ((c : ℕ) → c ≤ width grid.now → IsFalse (bad_box grid.now row c))) }
+    ensures none { IfOk result (λ found. IfNone found (NowhereInRow grid.now (bad_box grid.now row))) }
     ensures inside { IfOk result (λ found. IfSome found (λ c. c ≤ width grid.now)) }
     ensures some { IfOk result (λ found. IfSome found (λ c. IsTrue (bad_box grid.now row c))) }
     ensures before { IfOk result (λ found. IfSome found (λ c. (k : ℕ) → k < c → IsFalse (bad_box grid.now row k))) }
@@ -434,9 +434,9 @@ fn bad_box_in_row(alloc: Global, grid: &Grid, row: usize) -> Result<Option<usize
 /// The first place at which a box begins that isn't as it should be.
 #[tactic(auto, using(crate::proofs::Faults::SearchLemmas::found_first))]
 pub fn first_bad_box(alloc: Global, grid: &Grid) -> Result<Option<Place>, AllocError>
-    ensures none { IfOk result (λ found. IfNone found (Nowhere grid.now (bad_box grid.now))) }
-    ensures some { IfOk result (λ found. IfSome found (λ p. IsFoundAt grid.now (bad_box grid.now) p.row p.column)) }
-    ensures first { IfOk result (λ found. IfSome found (λ p. IsFirstAt (IsFoundAt grid.now (bad_box grid.now)) p.row p.column)) }
+    ensures none { IfOk result (λ found. IfNone found (NowhereInRows grid.now (bad_box grid.now))) }
+    ensures some { IfOk result (λ found. IfSome found (λ p. PassesAt grid.now (bad_box grid.now) p)) }
+    ensures first { IfOk result (λ found. IfSome found (λ p. IsFirstToPass grid.now (bad_box grid.now) p)) }
 {
     for row in 0..grid.row_end() {
         if let Some(column) = bad_box_in_row(alloc, grid, row)? {

@@ -3,7 +3,7 @@
 ghost use Rattle.std.specs.Prelude.{◌≡◌, ◌<◌, ◌≤◌, ◌^◌, ℕ, [], IsFalse, IsTrue, IfNone, IfSome, IfOk, IfErr, length, slice_index_or};
 ghost use Rattle.ladder_text.specs.Rows.{char_at, width};
 ghost use Rattle.ladder_text.specs.Boxes.{left_column, begins_box, dashes_after, without_leading, cut, has_sides, block_in};
-ghost use Rattle.ladder_text.specs.Faults.{Nowhere, not_ascii, no_left_rail};
+ghost use Rattle.ladder_text.specs.Faults.{NowhereInRows, InNoRow, not_ascii, no_left_rail};
 ghost use Rattle.ladder_text.specs.Steps.Search.{first_long, first_beyond};
 ghost use Rattle.ladder_text.specs.FirstFault.{IsFirstAt, IsTooLargeAt};
 ghost use Rattle.std.specs.Str.{IsAscii};
@@ -23,16 +23,14 @@ pub struct Grid {
 }
 
 impl Model for Grid {
-    ghost use Rattle.std.specs.Prelude.{◌≡◌, ◌≤◌, length};
-    ghost use Rattle.ladder_text.specs.Rows.{Rows, width};
-    ghost use Rattle.ladder_text.specs.Boxes.{left_column};
-    ghost use Rattle.ladder_text.specs.Faults.{Nowhere, not_ascii};
+    ghost use Rattle.ladder_text.specs.Rows.{Rows};
+    ghost use Rattle.ladder_text.specs.Steps.Search.{AreMeasured};
 
     ghost Value = { Rows };
 
     ghost view = { λ s. s.rows.items };
 
-    ghost invariant = { λ s. (s.left ≡ left_column s.rows.items) × (s.last ≡ width s.rows.items) × (s.last ≤ 240) × (length s.rows.items ≤ 2001) × Nowhere s.rows.items (not_ascii s.rows.items) };
+    ghost invariant = { λ s. AreMeasured s.rows.items s.left s.last };
 }
 
 pub fn without_leading(text: &[u8]) -> &[u8]
@@ -171,7 +169,7 @@ impl Grid {
 
     /// The grid of some rows, or the first place beyond the limits.
     pub fn new(rows: Vec<Row>) -> Result<Grid, Place>
-        requires { Nowhere rows.items (not_ascii rows.items) }
+        requires { NowhereInRows rows.items (not_ascii rows.items) }
         ensures same { IfOk result (λ g. g ≡ rows.items) }
         ensures low { IfOk result (λ g. length g ≤ 2001) }
         ensures narrow { IfOk result (λ g. width g ≤ 240) }
@@ -197,7 +195,7 @@ impl Grid {
 
     /// The first row in which the left rail's column has another character than a rail's.
     pub fn first_off_rail(&self) -> Option<usize>
-        ensures none { IfNone result ((r : ℕ) → r < length self.now → IsFalse (no_left_rail self.now r)) }
+        ensures none { IfNone result (InNoRow self.now (no_left_rail self.now)) }
         ensures inside { IfSome result (λ r. r < length self.now) }
         ensures some { IfSome result (λ r. IsTrue (no_left_rail self.now r)) }
         ensures first { IfSome result (λ r. (k : ℕ) → k < r → IsFalse (no_left_rail self.now k)) }

@@ -1,11 +1,11 @@
 //! The text as rows of characters.
 
-ghost use Rattle.std.specs.Prelude.{ℕ, [], IsTrue, IsFalse, IfNone, IfSome, ◌-◌, ◌≤◌, take, drop, ◌≡◌, ◌∷◌, ◌<◌, IfOk, length, vec_len, slice_index_or};
+ghost use Rattle.std.specs.Prelude.{ℕ, [], IsTrue, IsFalse, IfNone, IfSome, ◌-◌, ◌≤◌, take, drop, ◌≡◌, ◌∷◌, ◌<◌, IfOk, length, slice_index_or};
 ghost use Rattle.words.specs.Lines.{without_last};
-ghost use Rattle.ladder_text.specs.Rows.{trimmed, rows_of, char_at, width, longest};
+ghost use Rattle.ladder_text.specs.Rows.{trimmed, rows_of, char_at, width};
 ghost use Rattle.ladder_text.specs.Boxes.{cut, is_blank_column, left_column};
 ghost use Rattle.words.specs.Chars.{between};
-ghost use Rattle.ladder_text.specs.Faults.{not_ascii, IsFoundAt};
+ghost use Rattle.ladder_text.specs.Faults.{not_ascii, PassesInRows};
 ghost use Rattle.ladder_text.specs.FirstFault.{IsFirstAt};
 
 use drawings::Place;
@@ -173,8 +173,8 @@ pub fn left_column(rows: &[Row], last: usize) -> usize
 /// The first place with a character outside 32 to 126.
 pub fn first_not_ascii(rows: &[Row]) -> Option<Place>
     ensures none { IfNone result ((r c : ℕ) → r < length rows.now → IsFalse (not_ascii rows.now r c)) }
-    ensures some { IfSome result (λ p. IsFoundAt rows.now (not_ascii rows.now) p.row p.column) }
-    ensures first { IfSome result (λ p. IsFirstAt (IsFoundAt rows.now (not_ascii rows.now)) p.row p.column) }
+    ensures some { IfSome result (λ p. PassesInRows rows.now (not_ascii rows.now) p.row p.column) }
+    ensures first { IfSome result (λ p. IsFirstAt (PassesInRows rows.now (not_ascii rows.now)) p.row p.column) }
 {
     for (row, cells) in rows.iter().enumerate() {
         if let Some(column) = cells.first_unprintable() {

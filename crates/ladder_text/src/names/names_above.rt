@@ -1,14 +1,12 @@
 //! What stands above symbols and boxes: the words that name them, and those that name nothing.
 
 ghost use Rattle.std.specs.Prelude.{MatchOption, IfNone, IfSome, IsFalse, option_copied, find, min, ◌≡◌, ◌<◌, ◌≤◌, ◌^◌, IfOk, IsTrue, count_by, length};
-ghost use Rattle.std.specs.List.{list_any, list_all};
-ghost use Rattle.words.specs.Chars.{is_name};
+ghost use Rattle.std.specs.List.{list_any};
 ghost use Rattle.ladder_text.specs.Places.{layout_of};
-ghost use Rattle.ladder_text.specs.Names.{words, things, overlap, word_text, found_text, name_above};
-ghost use Rattle.ladder_text.specs.Faults.{has_earlier, is_second, stray_name, name_missing};
-ghost use Rattle.ladder_text.specs.Steps.Search.{AreNamed, IsFirstColumnOf};
-ghost use Rattle.ladder_text.specs.FirstFault.{IsSpanAt};
-ghost use Rattle.ladder_text.specs.Steps.Pairs.{StandAbove};
+ghost use Rattle.ladder_text.specs.Names.{things, overlap, word_text, found_text, name_above};
+ghost use Rattle.ladder_text.specs.Faults.{has_earlier, is_second, stray_name, name_missing, has_unnamed, has_stray_word};
+ghost use Rattle.ladder_text.specs.Steps.Search.{AreNamed, IsFirstStrayWord, IsFirstUnnamed};
+ghost use Rattle.ladder_text.specs.Steps.Pairs.{StandAbove, are_names};
 ghost use Rattle.std.specs.Str.{IsAscii};
 
 use crate::names::pairs::are_paired;
@@ -52,7 +50,7 @@ fn things(alloc: Global, worded: &WordedGrid, row: usize) -> Result<Vec<Span>, A
 {
     let mut things = Vec::new(alloc);
     things.extend_from_slice(worded.symbols(row))?;
-    let tops = worded.boxed().tops(alloc, row)?;
+    let tops = worded.marked().tops(alloc, row)?;
     things.extend_from_slice(&tops)?;
     Ok(things)
 }
@@ -63,7 +61,7 @@ fn word_text<'a>(worded: &'a WordedGrid, row: usize, word: &Span) -> &'a [u8]
     ensures value { result.now ≡ word_text (layout_of worded.now) row word.now }
     ensures ascii { IsAscii result.now }
 {
-    worded.boxed().cut(row, word.first, word.end)
+    worded.marked().grid().cut(row, word.first, word.end)
 }
 
 /// What the words of a row may name in the row below it.
@@ -78,7 +76,7 @@ fn named_below(alloc: Global, worded: &WordedGrid, row: usize) -> Result<Named, 
     ensures { IfOk result (λ n. AreNamed (layout_of worded.now) row n.tops.items n.things.items) }
 {
     Ok(Named {
-        tops: worded.boxed().tops(alloc, row + 1)?,
+        tops: worded.marked().tops(alloc, row + 1)?,
         things: things(alloc, worded, row + 1)?,
     })
 }
@@ -102,14 +100,14 @@ fn stand_above(alloc: Global, worded: &WordedGrid, row: usize) -> Result<bool, A
     requires { row < 2 ^ 62 }
     ensures { IfOk result (λ above. IsTrue above → StandAbove (layout_of worded.now) row) }
 {
-    let tops = worded.boxed().tops(alloc, row + 1)?;
+    let tops = worded.marked().tops(alloc, row + 1)?;
     Ok(tops.is_empty() && are_paired(worded.words(row), worded.symbols(row + 1)))
 }
 
 /// Whether the words of a row are all names.
 #[tactic(auto, unfolding(crate::specs::Places::layout_of))]
 fn are_names(worded: &WordedGrid, row: usize) -> bool
-    ensures { result ≡ list_all (λ w. is_name (word_text (layout_of worded.now) row w)) (words (layout_of worded.now) row) }
+    ensures { result ≡ are_names (layout_of worded.now) row }
 {
     worded
         .words(row)
@@ -124,11 +122,9 @@ pub fn stray_in_row(
     row: usize,
 ) -> Result<Option<usize>, AllocError>
     requires { row < 2 ^ 62 }
-    ensures none { IfOk result (λ found. IfNone found
-        (IsFalse (list_any (stray_name (layout_of worded.now) row) (words (layout_of worded.now) row)))) }
-    ensures some { IfOk result (λ found. IfSome found
-        (λ _. IsTrue (list_any (stray_name (layout_of worded.now) row) (words (layout_of worded.now) row)))) }
-    ensures first { IfOk result (λ found. IsFirstColumnOf (IsSpanAt (words (layout_of worded.now) row) (stray_name (layout_of worded.now) row)) found) }
+    ensures none { IfOk result (λ found. IfNone found (IsFalse (has_stray_word (layout_of worded.now) row))) }
+    ensures some { IfOk result (λ found. IfSome found (λ _. IsTrue (has_stray_word (layout_of worded.now) row))) }
+    ensures first { IfOk result (λ found. IsFirstStrayWord (layout_of worded.now) row found) }
 {
     let above = stand_above(alloc, worded, row)?;
     if above && are_names(worded, row) {
@@ -157,11 +153,9 @@ pub fn unnamed_in_row(
     row: usize,
 ) -> Result<Option<usize>, AllocError>
     requires { row < 2 ^ 62 }
-    ensures none { IfOk result (λ found. IfNone found
-        (IsFalse (list_any (name_missing (layout_of worded.now) row) (things (layout_of worded.now) row)))) }
-    ensures some { IfOk result (λ found. IfSome found
-        (λ _. IsTrue (list_any (name_missing (layout_of worded.now) row) (things (layout_of worded.now) row)))) }
-    ensures first { IfOk result (λ found. IsFirstColumnOf (IsSpanAt (things (layout_of worded.now) row) (name_missing (layout_of worded.now) row)) found) }
+    ensures none { IfOk result (λ found. IfNone found (IsFalse (has_unnamed (layout_of worded.now) row))) }
+    ensures some { IfOk result (λ found. IfSome found (λ _. IsTrue (has_unnamed (layout_of worded.now) row))) }
+    ensures first { IfOk result (λ found. IsFirstUnnamed (layout_of worded.now) row found) }
 {
     if row > 0 {
         let above = stand_above(alloc, worded, row - 1)?;

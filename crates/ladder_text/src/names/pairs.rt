@@ -1,6 +1,6 @@
 //! Words that stand above symbols, one above each.
 
-ghost use Rattle.std.specs.Prelude.{◌≡◌, ◌≤◌, ◌&&◌, nat_le, IsTrue};
+ghost use Rattle.std.specs.Prelude.{◌≡◌, ◌&&◌, nat_le, IsTrue};
 ghost use Rattle.ladder_text.specs.Names.{overlap};
 ghost use Rattle.ladder_text.specs.Steps.Pairs.{ArePaired};
 

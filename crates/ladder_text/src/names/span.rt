@@ -1,11 +1,22 @@
-ghost use Rattle.std.specs.Prelude.{◌≡◌};
-ghost use Rattle.ladder_text.specs.Names.{overlap};
+ghost use Rattle.std.specs.Prelude.{◌≡◌, ◌<◌, ◌^◌};
+ghost use Rattle.ladder_text.specs.Names.{overlap, symbol_span};
 
 /// A part of a row, from its first column up to, and without, its end.
 #[derive(Clone, Copy)]
 pub struct Span {
     pub first: usize,
     pub end: usize,
+}
+
+/// The three columns of a symbol, from its first on.
+pub fn symbol_span(first: usize) -> Span
+    requires { first < 2 ^ 62 }
+    ensures { result ≡ symbol_span first }
+{
+    Span {
+        first,
+        end: first + 3,
+    }
 }
 
 /// Whether two parts of rows have a column in common.

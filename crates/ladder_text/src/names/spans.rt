@@ -1,6 +1,6 @@
 //! The words and the symbols of a row.
 
-ghost use Rattle.std.specs.Prelude.{[], ◌≡◌, ◌+◌, ◌-◌, ◌<◌, ◌≤◌, ◌^◌, IfOk, IsTrue, length, slice_index_or};
+ghost use Rattle.std.specs.Prelude.{[], ◌≡◌, ◌+◌, ◌-◌, ◌<◌, ◌≤◌, ◌^◌, IfOk, IsTrue, slice_index_or};
 ghost use Rattle.ladder_text.specs.Rows.{char_at, width, run};
 ghost use Rattle.ladder_text.specs.Boxes.{outlines};
 ghost use Rattle.ladder_text.specs.Places.{layout_of, mark as place_mark};
@@ -8,7 +8,7 @@ ghost use Rattle.ladder_text.specs.Steps.RowBoxes.{IsBare};
 ghost use Rattle.ladder_text.specs.Steps.RowMarks.{AreMarksOf};
 ghost use Rattle.ladder_text.specs.Names.{in_word, words, symbol_at, symbols};
 
-use crate::names::span::Span;
+use crate::names::span::{Span, symbol_span};
 use crate::places::marked_grid::MarkedGrid;
 use drawings::{Mark, MarkRow};
 use std::alloc::{AllocError, Global};
@@ -26,7 +26,7 @@ fn in_word_with(marked: &MarkedGrid, bare: bool, c: u8, row: usize, column: usiz
     !matches!(c, b' ' | b'-' | b'|')
         && is_word_char(c)
         && !marked.is_taken(row, column)
-        && !marked.boxed().in_operand_of(bare, row, column)
+        && !marked.in_operand_of(bare, row, column)
 }
 
 /// How many places of a word follow a column of a row whose characters are at hand.
@@ -43,7 +43,7 @@ fn word_rest(marked: &MarkedGrid, bare: bool, cells: &[u8], row: usize, column: 
         && in_word_with(
             marked,
             bare,
-            marked.boxed().cell(cells, row, column + 1 + n),
+            marked.grid().cell(cells, row, column + 1 + n),
             row,
             column + 1 + n,
         )
@@ -59,15 +59,15 @@ pub fn words(alloc: Global, marked: &MarkedGrid, row: usize) -> Result<Vec<Span>
     ensures { IfOk result (λ v. v.items ≡ words (layout_of marked.now) row) }
 {
     let mut words = Vec::new(alloc);
-    let cells = marked.boxed().cells(row);
+    let cells = marked.grid().cells(row);
     let last = marked.last();
-    let bare = marked.boxed().is_bare(row);
-    let mut inside = in_word_with(marked, bare, marked.boxed().cell(cells, row, 0), row, 0);
+    let bare = marked.is_bare(row);
+    let mut inside = in_word_with(marked, bare, marked.grid().cell(cells, row, 0), row, 0);
     let mut column = 0;
     while column < last {
         let before = inside;
         column += 1;
-        let c = marked.boxed().cell(cells, row, column);
+        let c = marked.grid().cell(cells, row, column);
         inside = in_word_with(marked, bare, c, row, column);
         if inside && !before {
             let rest = word_rest(marked, bare, cells, row, column);
@@ -89,10 +89,7 @@ fn symbol_with(marked: &MarkedGrid, mark: Mark, row: usize, column: usize) -> Op
     ensures { result ≡ symbol_at (layout_of marked.now) row column }
 {
     if marked.begins_symbol(mark, row, column) {
-        Some(Span {
-            first: column,
-            end: column + 3,
-        })
+        Some(symbol_span(column))
     } else {
         None
     }

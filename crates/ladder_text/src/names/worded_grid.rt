@@ -3,19 +3,16 @@
 ghost use Rattle.std.specs.Prelude.{◌≡◌, IfOk, length};
 ghost use Rattle.ladder_text.specs.Places.{layout_of};
 ghost use Rattle.ladder_text.specs.Names.{words, symbols};
-ghost use Rattle.ladder_text.specs.Picture.{marks_of};
 ghost use Rattle.ladder_text.specs.Steps.RowSpans.{AreOfRows};
 
 use crate::names::span::Span;
 use crate::names::span_row::SpanRow;
 use crate::names::spans::{symbols, words};
-use crate::places::boxed_grid::BoxedGrid;
 use crate::places::marked_grid::MarkedGrid;
-use drawings::MarkRow;
 use std::alloc::{AllocError, Global};
 use std::marker::Model;
 
-/// A grid with all its marks, and the words and the symbols of its rows.
+/// A grid with its boxes and marks, and the words and the symbols of its rows.
 #[derive(Drop)]
 pub struct WordedGrid {
     marked: MarkedGrid,
@@ -24,17 +21,14 @@ pub struct WordedGrid {
 }
 
 impl Model for WordedGrid {
-    ghost use Rattle.std.specs.Prelude.{length};
     ghost use Rattle.ladder_text.specs.Rows.{Rows};
-    ghost use Rattle.ladder_text.specs.Places.{layout_of};
-    ghost use Rattle.ladder_text.specs.Names.{words as row_words, symbols as row_symbols};
-    ghost use Rattle.ladder_text.specs.Steps.RowSpans.{AreOfRows};
+    ghost use Rattle.ladder_text.specs.Steps.RowSpans.{AreWordsAndSymbols};
 
     ghost Value = { Rows };
 
     ghost view = { λ p. p.marked };
 
-    ghost invariant = { λ p. AreOfRows (row_words (layout_of p.marked)) (length p.marked) p.words.items × AreOfRows (row_symbols (layout_of p.marked)) (length p.marked) p.symbols.items };
+    ghost invariant = { λ p. AreWordsAndSymbols p.marked p.words.items p.symbols.items };
 }
 
 /// The words row by row.
@@ -72,21 +66,22 @@ impl WordedGrid {
         })
     }
 
-    pub fn into_marks(self) -> Vec<MarkRow>
-        ensures { result.items ≡ marks_of (layout_of self) }
+    /// The grid without its words and symbols.
+    pub fn into_marked(self) -> MarkedGrid
+        ensures { result ≡ self }
     {
         let WordedGrid {
             marked,
             words: _,
             symbols: _,
         } = self;
-        marked.into_marks()
+        marked
     }
 
-    pub fn boxed(&self) -> &BoxedGrid
+    pub fn marked(&self) -> &MarkedGrid
         ensures { result.now ≡ self.now }
     {
-        self.marked.boxed()
+        &self.marked
     }
 
     /// The words of a row.

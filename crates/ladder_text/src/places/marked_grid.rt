@@ -1,96 +1,140 @@
-//! The marks of a text, and the faults of single places.
+//! The boxes, the rails and the marks of a text.
 
-ghost use Rattle.std.specs.Prelude.{◌≡◌, ◌||◌, ◌∷◌, ◌+◌, ◌-◌, ◌<◌, ◌≤◌, ◌^◌, ℕ, IsTrue, IsFalse, IfNone, IfSome, IfOk, length};
-ghost use Rattle.ladder_text.specs.Rows.{char_at, width, height};
-ghost use Rattle.ladder_text.specs.Places.{layout_of, is_line, is_vertical, is_box_part, is_symbol, is_taken, gives, mark as place_mark};
+mod box_places;
+mod finding;
+mod place_faults;
+mod rails;
+mod symbol_places;
+
+ghost use Rattle.std.specs.Prelude.{◌≡◌, ◌<◌, ◌≤◌, ◌^◌, IfSome, IfOk, length};
+ghost use Rattle.ladder_text.specs.Rows.{width};
 ghost use Rattle.ladder_text.specs.Boxes.{outlines};
-ghost use Rattle.ladder_text.specs.Steps.RowBoxes.{IsBare};
+ghost use Rattle.ladder_text.specs.Places.{layout_of, is_taken, mark as place_mark};
 ghost use Rattle.ladder_text.specs.Steps.RowMarks.{AreMarksOf};
 ghost use Rattle.ladder_text.specs.Picture.{marks_of};
-ghost use Rattle.ladder_text.specs.Faults.{has_meaning, has_fed_join, is_first_of_symbol, is_blind, touches, is_fed, upright_len, bad_mark, crossing, no_source, has_fault, Nowhere, IsFoundAt};
-ghost use Rattle.ladder_text.specs.FirstFault.{IsFirstAt};
 
-use crate::places::boxed_grid::BoxedGrid;
-use crate::places::place_fault::PlaceFault;
-use crate::places::railed_grid::RailedGrid;
-use drawings::{Mark, MarkRow, Place};
+use crate::boxes::box_rows::Boxes;
+use crate::boxes::outline::Outline;
+use crate::characters::grid::Grid;
+use crate::places::mark_tests::is_taken;
+use drawings::{Mark, MarkRow};
 use std::alloc::{AllocError, Global};
 use std::marker::Model;
 
-/// A grid with its boxes, its rails and the mark of each place.
+/// A grid with its boxes, and what was found so far: whether there is a right rail, and the marks row by row.
+/// What wasn't found yet is looked up at each place.
 #[derive(Drop)]
 pub struct MarkedGrid {
-    railed: RailedGrid,
+    grid: Grid,
+    boxes: Boxes,
+    right_rail: Option<bool>,
     marks: Vec<MarkRow>,
 }
 
 impl Model for MarkedGrid {
-    ghost use Rattle.std.specs.Prelude.{◌≡◌};
     ghost use Rattle.ladder_text.specs.Rows.{Rows};
-    ghost use Rattle.ladder_text.specs.Places.{layout_of};
-    ghost use Rattle.ladder_text.specs.Picture.{marks_of};
+    ghost use Rattle.ladder_text.specs.Steps.RowMarks.{AreFoundIn};
 
     ghost Value = { Rows };
 
-    ghost view = { λ p. p.railed };
+    ghost view = { λ s. s.grid };
 
-    ghost invariant = { λ p. p.marks.items ≡ marks_of (layout_of p.railed) };
-}
-
-fn is_line(mark: Mark) -> bool
-    ensures { result ≡ is_line mark }
-{
-    matches!(
-        mark,
-        Mark::Wire | Mark::Join | Mark::ContactPart | Mark::CoilPart
-    )
-}
-
-fn has_meaning(c: u8) -> bool
-    ensures { result ≡ has_meaning c }
-{
-    c.is_ascii_alphanumeric() || matches!(c, b' ' | b'-' | b'|' | b'+' | b'_' | b'.' | b'#')
-}
-
-fn is_vertical(mark: Mark) -> bool
-    ensures { result ≡ is_vertical mark }
-{
-    matches!(mark, Mark::Join | Mark::Upright)
-}
-
-fn is_taken(mark: Mark) -> bool
-    ensures { result ≡ (is_box_part mark || is_symbol mark) }
-{
-    matches!(mark, Mark::BoxPart | Mark::ContactPart | Mark::CoilPart)
+    ghost invariant = { λ s. AreFoundIn s.grid s.boxes s.right_rail s.marks.items };
 }
 
 impl MarkedGrid {
-    pub fn new(alloc: Global, boxed: BoxedGrid) -> Result<MarkedGrid, AllocError>
-        ensures { IfOk result (λ p. p ≡ boxed) }
+    /// A grid with its boxes.
+    pub fn with_boxes(alloc: Global, grid: Grid) -> Result<MarkedGrid, AllocError>
+        ensures { IfOk result (λ s. s ≡ grid) }
     {
-        let railed = RailedGrid::new(boxed);
-        let marks = railed.marks(alloc)?;
-        Ok(MarkedGrid { railed, marks })
+        let boxes = Boxes::new(alloc, &grid)?;
+        Ok(MarkedGrid {
+            grid,
+            boxes,
+            right_rail: None,
+            marks: Vec::new(alloc),
+        })
     }
 
-    pub fn into_marks(self) -> Vec<MarkRow>
-        ensures { result.items ≡ marks_of (layout_of self) }
+    /// The same with its right rail found.
+    fn with_rail(self) -> MarkedGrid
+        ensures { result ≡ self }
     {
-        let MarkedGrid { railed: _, marks } = self;
-        marks
+        let found = self.has_right_rail();
+        let MarkedGrid {
+            grid,
+            boxes,
+            right_rail: _,
+            marks,
+        } = self;
+        MarkedGrid {
+            grid,
+            boxes,
+            right_rail: Some(found),
+            marks,
+        }
     }
 
-    pub fn boxed(&self) -> &BoxedGrid
+    /// The same with the marks of its rows found.
+    fn with_row_marks(self, alloc: Global) -> Result<MarkedGrid, AllocError>
+        ensures { IfOk result (λ s. s ≡ self) }
+    {
+        let found = self.find_marks(alloc)?;
+        let MarkedGrid {
+            grid,
+            boxes,
+            right_rail,
+            marks: _,
+        } = self;
+        Ok(MarkedGrid {
+            grid,
+            boxes,
+            right_rail,
+            marks: found,
+        })
+    }
+
+    /// The same with its right rail and all marks found.
+    pub fn with_marks(self, alloc: Global) -> Result<MarkedGrid, AllocError>
+        ensures { IfOk result (λ s. s ≡ self) }
+    {
+        self.with_rail().with_row_marks(alloc)
+    }
+
+    /// The marks row by row, found now if they weren't before.
+    pub fn into_marks(self, alloc: Global) -> Result<Vec<MarkRow>, AllocError>
+        ensures { IfOk result (λ v. v.items ≡ marks_of (layout_of self)) }
+    {
+        if self.marks.is_empty() {
+            return self.find_marks(alloc);
+        }
+        let MarkedGrid {
+            grid: _,
+            boxes: _,
+            right_rail: _,
+            marks,
+        } = self;
+        Ok(marks)
+    }
+
+    pub fn grid(&self) -> &Grid
         ensures { result.now ≡ self.now }
     {
-        self.railed.boxed()
+        &self.grid
+    }
+
+    #[tactic(auto, unfolding(crate::specs::Places::layout_of))]
+    pub fn boxes(&self) -> &[Outline]
+        ensures { result.now ≡ outlines self.now }
+    {
+        self.boxes.as_slice()
     }
 
     pub fn last(&self) -> usize
         ensures last { result ≡ width self.now }
         ensures narrow { result ≤ 240 }
     {
-        self.boxed().last()
+        self.grid.last()
     }
 
     /// One more than the number of rows.
@@ -98,24 +142,25 @@ impl MarkedGrid {
         ensures rows { result ≡ length self.now }
         ensures few { result ≤ 2001 }
     {
-        self.boxed().row_end()
+        self.grid.row_end()
     }
 
     /// What stands at a place.
+    #[tactic(auto, unfolding(crate::specs::Places::layout_of))]
     pub fn mark(&self, row: usize, column: usize) -> Mark
         requires { column < 2 ^ 62 }
         ensures { result ≡ place_mark (layout_of self.now) row column }
     {
-        if row == 0 || column == 0 || self.last() < column {
-            return self.railed.mark(row, column);
+        if column == 0 || self.last() < column {
+            return self.find_mark(row, column);
         }
-        match self.marks.get(row - 1) {
+        match self.marks_on(row) {
             Some(marks) => marks.at(column),
-            None => self.railed.mark(row, column),
+            None => self.find_mark(row, column),
         }
     }
 
-    /// The marks of a row, if it is one of the drawing's.
+    /// The marks of a row, if it is one of the drawing's and they were found.
     pub fn marks_on(&self, row: usize) -> Option<&MarkRow>
         ensures { IfSome result (λ marks. AreMarksOf (layout_of self.now) row marks.now) }
     {
@@ -147,260 +192,5 @@ impl MarkedGrid {
         ensures { result ≡ is_taken (layout_of self.now) row column }
     {
         is_taken(self.mark(row, column))
-    }
-
-    #[tactic(auto, unfolding(crate::specs::Places::layout_of, crate::specs::Places::gives))]
-    pub fn gives(&self, row: usize, column: usize) -> bool
-        requires { column < 2 ^ 62 }
-        ensures { result ≡ gives (layout_of self.now) row column }
-    {
-        let mark = self.mark(row, column);
-        (mark == Mark::Rail && column == self.boxed().left())
-            || is_line(mark)
-            || self.boxed().is_right_pin(row, column)
-    }
-
-    /// Whether a place with a mark is seen to give state to its right, boxes aside.
-    #[tactic(auto, unfolding(crate::specs::Places::layout_of, crate::specs::Places::gives))]
-    fn mark_gives(&self, mark: Mark, row: usize, column: usize) -> bool
-        requires { mark ≡ place_mark (layout_of self.now) row column }
-        ensures { IsTrue result → IsTrue (gives (layout_of self.now) row column) }
-    {
-        is_line(mark) || (mark == Mark::Rail && column == self.boxed().left())
-    }
-
-    fn touches(&self, row: usize, column: usize) -> bool
-        requires { column < 2 ^ 62 }
-        ensures { result ≡ touches (layout_of self.now) row column }
-    {
-        let mark = self.mark(row, column);
-        is_line(mark) || mark == Mark::BoxPart
-    }
-
-    fn crossing(&self, mark: Mark, row: usize, column: usize) -> bool
-        requires row { row < 2 ^ 62 }
-        requires column { column < 2 ^ 61 }
-        requires mark { mark ≡ place_mark (layout_of self.now) row column }
-        ensures { result ≡ crossing (layout_of self.now) row column }
-    {
-        mark == Mark::Upright
-            && (self.touches(row, column.saturating_sub(1))
-                || self.touches(row, column + 1)
-                || !is_vertical(self.mark(row.saturating_sub(1), column))
-                || !is_vertical(self.mark(row + 1, column)))
-    }
-
-    /// Whether a contact or a coil begins at a place with a mark.
-    #[tactic(auto, using(crate::proofs::Marks::SymbolPlaces::first_by_mark, crate::proofs::Marks::RowMarkLemmas::contact_by_mark, crate::proofs::Marks::RowMarkLemmas::coil_by_mark))]
-    pub fn begins_symbol(&self, mark: Mark, row: usize, column: usize) -> bool
-        requires column { column < 2 ^ 62 }
-        requires mark { mark ≡ place_mark (layout_of self.now) row column }
-        ensures { result ≡ is_first_of_symbol (layout_of self.now) row column }
-    {
-        if matches!(mark, Mark::ContactPart) {
-            return self.boxed().contact_at(row, column).is_some();
-        }
-        matches!(mark, Mark::CoilPart) && self.boxed().coil_at(row, column).is_some()
-    }
-
-    /// Whether a line begins at a place with a mark, and meets a box where there is no pin.
-    fn is_blind(&self, mark: Mark, row: usize, column: usize) -> bool
-        requires column { column < 2 ^ 61 }
-        requires mark { mark ≡ place_mark (layout_of self.now) row column }
-        ensures { result ≡ is_blind (layout_of self.now) row column }
-    {
-        let begins_symbol = self.begins_symbol(mark, row, column);
-        if !(mark == Mark::Wire || mark == Mark::Join || begins_symbol) {
-            return false;
-        }
-        let end = if begins_symbol { column + 2 } else { column };
-        self.boxed().blind_left(row, column) || self.boxed().blind_right(row, end)
-    }
-
-    #[tactic(auto, unfolding(crate::specs::Places::layout_of), using(crate::proofs::Marks::MarkLemmas::taken_by_mark))]
-    fn bad_mark(&self, mark: Mark, row: usize, column: usize) -> bool
-        requires column { column < 2 ^ 61 }
-        requires mark { mark ≡ place_mark (layout_of self.now) row column }
-        ensures { result ≡ bad_mark (layout_of self.now) row column }
-    {
-        (!is_taken(mark) && !has_meaning(self.boxed().at(row, column)))
-            || self.is_blind(mark, row, column)
-    }
-
-    /// How far the upright at a place goes down.
-    fn upright_len(&self, row: usize, column: usize) -> usize
-        requires row { row < 2 ^ 62 }
-        requires column { column < 2 ^ 62 }
-        ensures len { result ≡ upright_len (layout_of self.now) row column }
-        ensures few { result ≤ 2001 }
-    {
-        let limit = self.row_end().saturating_sub(1);
-        let mut n = 0;
-        while n < limit && is_vertical(self.mark(row + n, column)) {
-            n += 1;
-        }
-        n
-    }
-
-    fn is_fed(&self, column: usize, row: usize) -> bool
-        requires { column < 2 ^ 62 }
-        ensures { result ≡ is_fed (layout_of self.now) column row }
-    {
-        self.mark(row, column) == Mark::Join && self.gives(row, column.saturating_sub(1))
-    }
-
-    fn has_fed_join(&self, row: usize, column: usize) -> bool
-        requires row { row < 2 ^ 62 }
-        requires column { column < 2 ^ 62 }
-        ensures { result ≡ has_fed_join (layout_of self.now) row column }
-    {
-        let end = row + self.upright_len(row, column);
-        (row..end).any(|k| self.is_fed(column, k))
-    }
-
-    fn no_source(&self, mark: Mark, row: usize, column: usize) -> bool
-        requires row { row < 2 ^ 62 }
-        requires column { column < 2 ^ 62 }
-        requires mark { mark ≡ place_mark (layout_of self.now) row column }
-        ensures { result ≡ no_source (layout_of self.now) row column }
-    {
-        ((mark == Mark::Wire || self.begins_symbol(mark, row, column))
-            && !self.gives(row, column.saturating_sub(1)))
-            || (is_vertical(mark)
-                && !is_vertical(self.mark(row.saturating_sub(1), column))
-                && !self.has_fed_join(row, column))
-    }
-
-    /// Whether a place with a mark has no fault.
-    fn is_faultless_at(&self, mark: Mark, row: usize, column: usize) -> bool
-        requires row { row < 2 ^ 62 }
-        requires column { column < 2 ^ 61 }
-        requires mark { mark ≡ place_mark (layout_of self.now) row column }
-        ensures { IsTrue result → (fault : PlaceFault) → IsFalse (has_fault fault (layout_of self.now) row column) }
-    {
-        !self.bad_mark(mark, row, column)
-            && !self.crossing(mark, row, column)
-            && !self.no_source(mark, row, column)
-    }
-
-    fn has_fault(&self, fault: PlaceFault, row: usize, column: usize) -> bool
-        requires row { row < 2 ^ 62 }
-        requires column { column < 2 ^ 61 }
-        ensures { result ≡ has_fault fault (layout_of self.now) row column }
-    {
-        let mark = self.mark(row, column);
-        match fault {
-            PlaceFault::BadMark => self.bad_mark(mark, row, column),
-            PlaceFault::Crossing => self.crossing(mark, row, column),
-            PlaceFault::NoSource => self.no_source(mark, row, column),
-        }
-    }
-
-    /// Whether a place in a row without boxes surely has no fault, by its character, the mark before it and its own.
-    #[tactic(auto, unfolding(crate::specs::Places::layout_of))]
-    fn is_fine(&self, c: u8, before: Mark, mark: Mark, row: usize, column: usize) -> bool
-        requires char { c ≡ char_at self.now row column }
-        requires row { row < 2 ^ 62 }
-        requires column { column < 2 ^ 61 }
-        requires bare { IsBare (outlines self.now) row }
-        requires before { before ≡ place_mark (layout_of self.now) row (column - 1) }
-        requires mark { mark ≡ place_mark (layout_of self.now) row column }
-        ensures { IsTrue result → (fault : PlaceFault) → IsFalse (has_fault fault (layout_of self.now) row column) }
-    {
-        match mark {
-            Mark::Wire | Mark::ContactPart | Mark::CoilPart => {
-                self.mark_gives(before, row, column.saturating_sub(1))
-            }
-            Mark::Blank | Mark::Rail => has_meaning(c),
-            Mark::Join | Mark::Upright | Mark::BoxPart => self.is_faultless_at(mark, row, column),
-        }
-    }
-
-    /// Whether a row without boxes surely has no fault.
-    #[inline(never)]
-    fn is_bare_row_fine(&self, marks: &MarkRow, row: usize) -> bool
-        requires marks { AreMarksOf (layout_of self.now) row marks.now }
-        requires row { row < 2 ^ 62 }
-        requires bare { IsBare (outlines self.now) row }
-        ensures { IsTrue result → (fault : PlaceFault) (c : ℕ) → c ≤ width self.now → IsFalse (has_fault fault (layout_of self.now) row c) }
-    {
-        let cells = self.boxed().cells(row);
-        let mut before = self.mark(row, 0);
-        for column in 0..self.last() + 1 {
-            let c = self.boxed().cell(cells, row, column);
-            let mark = self.mark_in(marks, row, column);
-            if !self.is_fine(c, before, mark, row, column) {
-                return false;
-            }
-            before = mark;
-        }
-        true
-    }
-
-    /// Whether a row has no fault of a kind.
-    fn is_free(&self, fault: PlaceFault, row: usize) -> bool
-        requires { row < 2 ^ 62 }
-        ensures { IsTrue result → (c : ℕ) → c ≤ width self.now → IsFalse (has_fault fault (layout_of self.now) row c) }
-    {
-        self.fault_in_row(fault, row).is_none()
-    }
-
-    /// Whether a row surely has no fault.
-    #[tactic(auto, using(crate::proofs::Marks::FinePlaces::every_fault))]
-    fn is_row_fine(&self, row: usize) -> bool
-        requires { row < 2 ^ 62 }
-        ensures { IsTrue result → (fault : PlaceFault) (c : ℕ) → c ≤ width self.now → IsFalse (has_fault fault (layout_of self.now) row c) }
-    {
-        if self.boxed().is_bare(row) {
-            if let Some(marks) = self.marks_on(row) {
-                return self.is_bare_row_fine(marks, row);
-            }
-        }
-        self.is_free(PlaceFault::BadMark, row)
-            && self.is_free(PlaceFault::Crossing, row)
-            && self.is_free(PlaceFault::NoSource, row)
-    }
-
-    /// Whether no place has a fault; `false` where that isn't quickly seen.
-    pub fn is_fine_everywhere(&self) -> bool
-        ensures { IsTrue result → (fault : PlaceFault) → Nowhere self.now (has_fault fault (layout_of self.now)) }
-    {
-        for row in 0..self.row_end() {
-            if !self.is_row_fine(row) {
-                return false;
-            }
-        }
-        true
-    }
-
-    fn fault_in_row(&self, fault: PlaceFault, row: usize) -> Option<usize>
-        requires { row < 2 ^ 62 }
-        ensures none { IfNone result
-            ((c : ℕ) → c ≤ width self.now → IsFalse (has_fault fault (layout_of self.now) row c)) }
-        ensures inside { IfSome result (λ c. c ≤ width self.now) }
-        ensures some { IfSome result (λ c. IsTrue (has_fault fault (layout_of self.now) row c)) }
-        ensures before { IfSome result (λ c. (k : ℕ) → k < c → IsFalse (has_fault fault (layout_of self.now) row k)) }
-    {
-        for column in 0..self.last() + 1 {
-            if self.has_fault(fault, row, column) {
-                return Some(column);
-            }
-        }
-        None
-    }
-
-    /// The first place with a fault.
-    #[tactic(auto, using(crate::proofs::Faults::SearchLemmas::found_first))]
-    pub fn first_fault(&self, fault: PlaceFault) -> Option<Place>
-        ensures none { IfNone result (Nowhere self.now (has_fault fault (layout_of self.now))) }
-        ensures some { IfSome result (λ p. IsFoundAt self.now (has_fault fault (layout_of self.now)) p.row p.column) }
-        ensures first { IfSome result (λ p. IsFirstAt (IsFoundAt self.now (has_fault fault (layout_of self.now))) p.row p.column) }
-    {
-        for row in 0..self.row_end() {
-            if let Some(column) = self.fault_in_row(fault, row) {
-                return Some(Place { row, column });
-            }
-        }
-        None
     }
 }

@@ -10,5 +10,5 @@ returns-in-Some-operand-clause-first c =
     let d = c.args.worded.now in
     let p = c.in-Some-operand.place in
     let words = subst (IsFirstOf (IsStrayWordAt d)) c.in-None.is c.in_ok-word.ensures.first in
-    let operand : IsFirstAt (IsStrayOperandAt (outlines d)) p.row p.column = rw c.boxed.ensures at c.in-Some-operand.ensures.first in
+    let operand : IsFirstAt (IsStrayOperandAt (outlines d)) p.row p.column = rw c.marked.ensures at c.in-Some-operand.ensures.first in
     λ _. rw c.fault-in-Some-operand.ensures (operand_first d p.row p.column words operand)

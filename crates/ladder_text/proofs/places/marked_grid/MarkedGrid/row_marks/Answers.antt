@@ -3,12 +3,12 @@ use Rattle.drawings.specs.declared.mark.Mark.{Mark}
 use Rattle.drawings.specs.declared.mark.Mark.TheVariants.{Blank, ContactPart, CoilPart}
 use Rattle.ladder_text.specs.Places.{layout_of}
 use Rattle.ladder_text.proofs.Marks.RowMarkLemmas.{contact_passed, coil_passed}
-use Rattle.ladder_text.proofs.places.railed_grid.RailedGrid.row_marks.Goals as goal
+use Rattle.ladder_text.proofs.places.marked_grid.MarkedGrid.row_marks.Goals as goal
 
 pub loop-column-preserved-then-begins_contact : goal.loop-column-preserved-then-begins_contact
 unfolding layout_of
 loop-column-preserved-then-begins_contact c =
-    let done = contact_passed (layout_of c.args.self.now) c.args.row c.loop-column.column (rw c.self.view_is at (sym c.begins_contact.ensures ∙ c.if-begins_contact.true)) in
+    let done = contact_passed (layout_of c.args.self.now) c.args.row c.loop-column.column (sym c.begins_contact.ensures ∙ c.if-begins_contact.true) in
     record {
       within = omega (arith, done.inside, c.last-last.ensures.last);
       marks = c.in_ok-push_symbol.ensures ∙ ap (λ (l : List Mark). l ++ ContactPart ∷ ContactPart ∷ ContactPart ∷ []) c.loop-column.invariant.marks ∙ ap (λ (l : List Mark). Blank ∷ l) (sym done.marks);
@@ -18,7 +18,7 @@ loop-column-preserved-then-begins_contact c =
 pub loop-column-preserved-then-begins_coil : goal.loop-column-preserved-then-begins_coil
 unfolding layout_of
 loop-column-preserved-then-begins_coil c =
-    let done = coil_passed (layout_of c.args.self.now) c.args.row c.loop-column.column (rw c.self.view_is at (sym c.begins_coil.ensures ∙ c.if-begins_coil.true)) in
+    let done = coil_passed (layout_of c.args.self.now) c.args.row c.loop-column.column (sym c.begins_coil.ensures ∙ c.if-begins_coil.true) in
     record {
       within = omega (arith, done.inside, c.last-last.ensures.last);
       marks = c.in_ok-push_symbol-2.ensures ∙ ap (λ (l : List Mark). l ++ CoilPart ∷ CoilPart ∷ CoilPart ∷ []) c.loop-column.invariant.marks ∙ ap (λ (l : List Mark). Blank ∷ l) (sym done.marks);

@@ -3,7 +3,7 @@ use Rattle.ladder_text.specs.Rows.{upto}
 use Rattle.ladder_text.specs.Places.{layout_of, mark}
 use Rattle.drawings.specs.declared.mark.Mark.TheVariants.{Blank}
 use Rattle.ladder_text.proofs.Marks.RowMarkLemmas.{IsQuiet}
-use Rattle.ladder_text.proofs.places.railed_grid.RailedGrid.row_marks.Given as goal
+use Rattle.ladder_text.proofs.places.marked_grid.MarkedGrid.row_marks.Given as goal
 
 abbrev pub invariant-loop-column : goal.invariant-loop-column
 invariant-loop-column l = record {

@@ -1,7 +1,7 @@
 use Rattle.std.proofs.Common.{not, ap, sym, ◌∙◌}
 use Rattle.ladder_text.specs.Places.{layout_of}
 use Rattle.ladder_text.proofs.Outlines.RowBoxLemmas.{off_boxes}
-use Rattle.ladder_text.proofs.places.railed_grid.RailedGrid.in_box.Goals as goal
+use Rattle.ladder_text.proofs.places.marked_grid.MarkedGrid.in_box_of.Goals as goal
 
 pub returns-else-not-bare : goal.returns-else-not-bare
 unfolding layout_of

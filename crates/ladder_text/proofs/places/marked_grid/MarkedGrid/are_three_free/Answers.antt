@@ -1,7 +1,7 @@
 use Rattle.std.proofs.Common.{◌+◌, refl}
 use Rattle.ladder_text.specs.Places.{layout_of}
 use Rattle.ladder_text.proofs.Outlines.RowBoxLemmas.{off_boxes}
-use Rattle.ladder_text.proofs.places.boxed_grid.BoxedGrid.is_free.Goals as goal
+use Rattle.ladder_text.proofs.places.marked_grid.MarkedGrid.are_three_free.Goals as goal
 
 pub returns-then-is_bare : goal.returns-then-is_bare
 unfolding layout_of
