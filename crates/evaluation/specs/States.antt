@@ -1,7 +1,7 @@
 -- The state of a task: one state for each of its programs, in order.
 use Rattle.std.specs.Prelude.{◌≡◌, ℕ, List, Some, length, map, slice_get, replicate, false, sum_by}
 use Rattle.declared_names.specs.declared.declarations.Declaration.{Declaration}
-use Rattle.power_flow.specs.First.{slot_first}
+use Rattle.scan_steps.specs.First.{slot_first}
 use Rattle.power_flow.specs.LadderValue.{LadderValue, Fits, holding}
 use Rattle.power_flow.specs.StateValue.{StateValue, IsSame}
 use Rattle.task_codes.specs.CodeValue.{ProgramValue, CodeValue}

@@ -36,7 +36,7 @@ impl Model for Evaluation {
 }
 
 ghost use Rattle.std.specs.Prelude.{◌≡◌, ◌↔◌, IsTrue, IfOk, map};
-ghost use Rattle.variable_binding.specs.Kinds.{kind_of};
+ghost use Rattle.declared_names.specs.Kinds.{kind_of};
 ghost use Rattle.task_codes.specs.CodeValue.{image_kinds};
 ghost use Rattle.evaluation.specs.Takes.{AreTakesOf};
 ghost use Rattle.evaluation.specs.States.{AreStatesOf};

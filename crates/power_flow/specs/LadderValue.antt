@@ -5,8 +5,9 @@ use Rattle.network.specs.GraphValue.{GraphValue, diagram}
 use Rattle.declared_names.specs.declared.declarations.Declaration.{Declaration}
 use Rattle.declared_names.specs.declared.declarations.Declared.{Declared}
 use Rattle.declared_names.specs.declared.declarations.Declared.TheVariants.{Input, Output, Local, Instance}
-use Rattle.power_flow.specs.declared.state.Slot.{Slot}
-use Rattle.power_flow.specs.StateValue.{StateValue, AreSlotsOf}
+use Rattle.scan_steps.specs.declared.slot.Slot.{Slot}
+use Rattle.power_flow.specs.StateValue.{StateValue}
+use Rattle.scan_steps.specs.Slots.{AreSlotsOf}
 use Rattle.declared_names.specs.Names.{place_of}
 
 -- a ladder: its declarations, its networks in order, and how many waiting places a scan needs

@@ -1,4 +1,4 @@
-use Rattle.std.specs.Prelude.{◌≡◌, ℕ, ◌<◌, ◌⊎◌, ◌↔◌, List, [], ◌∷◌, ◌++◌, map, Bool, true, false, not, ◌&&◌, if◌then◌else◌, Option, Some, None, IsTrue, Contains, Any, slice_get, slice_index_or, slice_set, length, MatchOption}
+use Rattle.std.specs.Prelude.{◌≡◌, ℕ, ◌<◌, ◌⊎◌, ◌↔◌, List, [], ◌∷◌, ◌++◌, map, Bool, true, false, not, ◌&&◌, if◌then◌else◌, Option, Some, None, IsTrue, Contains, Any, slice_get, slice_set, length, MatchOption}
 use Rattle.std.specs.List.{flat_map, enumerate_from}
 use Rattle.std.specs.Option.{option_map_or, option_map, option_and_then}
 use Rattle.drawings.specs.declared.place.Place.{Place}
@@ -6,8 +6,6 @@ use Rattle.drawings.specs.declared.drawn_box.DrawnBox.{DrawnBox}
 use Rattle.drawings.specs.declared.drawn_box.DrawnPin.{DrawnPin}
 use Rattle.drawings.specs.declared.drawn_box.Side.{Side}
 use Rattle.drawings.specs.declared.drawn_box.Side.TheVariants.{Left, Right}
-use Rattle.drawings.specs.declared.contact.ContactKind.{ContactKind}
-use Rattle.drawings.specs.declared.contact.ContactKind.TheVariants as contact
 use Rattle.drawings.specs.declared.coil.CoilKind.{CoilKind}
 use Rattle.drawings.specs.declared.coil.CoilKind.TheVariants as coil
 use Rattle.network.specs.declared.element.Element.{Element}
@@ -22,13 +20,14 @@ use Rattle.std_blocks.specs.declared.pin.Field.TheVariants.{Bit, Int, Time}
 use Rattle.std_blocks.specs.Pins.{pin_of, input}
 use Rattle.std_blocks.specs.Blocks.{bit, after, outputs_after}
 use Rattle.declared_names.specs.declared.declarations.Declaration.{Declaration}
-use Rattle.power_flow.specs.declared.state.Instance.{Instance}
-use Rattle.power_flow.specs.declared.state.Slot.{Slot}
-use Rattle.power_flow.specs.declared.state.Slot.TheVariants.{Variable, Block}
+use Rattle.scan_steps.specs.declared.slot.Instance.{Instance}
+use Rattle.scan_steps.specs.declared.slot.Slot.{Slot}
+use Rattle.scan_steps.specs.declared.slot.Slot.TheVariants.{Variable, Block}
 use Rattle.power_flow.specs.Power.{IsOn}
 use Rattle.declared_names.specs.Names.{place_of}
-use Rattle.power_flow.specs.Values.{value_at, value_of, is_true, int_or_zero, time_or_zero}
-use Rattle.power_flow.specs.Values.{text_value}
+use Rattle.scan_steps.specs.Values.{is_true, int_or_zero, time_or_zero}
+use Rattle.scan_steps.specs.Conducting.{bit_at, contact_conducts, contact_memory}
+use Rattle.power_flow.specs.Values.{value_at, value_of, text_value}
 pub use Rattle.network.specs.Apart.{first_place}
 
 -- what a network reads and leaves: the slots of all declared names, and a memory for each of its elements
@@ -38,17 +37,6 @@ pub record Moment : Type 0 where
 
 abbrev pub moment : List Slot → List Bool → Moment
 moment slots memories = record { slots = slots; memories = memories }
-
--- the bit at k, OFF beyond the last one
-abbrev pub bit_at : List Bool → ℕ → Bool
-bit_at bits k = slice_index_or bits k false
-
--- whether a contact conducts, by its variable and its memory
-abbrev pub contact_conducts : ContactKind → Bool → Bool → Bool
-contact_conducts contact.Plain on memory = on
-contact_conducts contact.Negated on memory = not on
-contact_conducts contact.Rise on memory = on && not memory
-contact_conducts contact.Fall on memory = not on && memory
 
 -- the element with the number k conducts: a coil always does
 abbrev pub element_conducts : List Declaration → Moment → ℕ → Element → Bool
@@ -162,13 +150,7 @@ abbrev pub stored : List Slot → List (ℕ × Value) → List Slot
 stored slots [] = slots
 stored slots (s ∷ rest) = stored (slice_set slots s.0 (Variable s.1)) rest
 
--- the memory of an edge contact becomes its variable's value, that of an edge coil its left link
-abbrev pub contact_memory : ContactKind → Bool → Bool → Bool
-contact_memory contact.Plain on memory = memory
-contact_memory contact.Negated on memory = memory
-contact_memory contact.Rise on memory = on
-contact_memory contact.Fall on memory = on
-
+-- the memory of an edge coil becomes its left link
 abbrev pub coil_memory : CoilKind → Bool → Bool → Bool
 coil_memory coil.Plain link memory = memory
 coil_memory coil.Negated link memory = memory

@@ -1,7 +1,7 @@
 use Rattle.std.specs.Prelude.{◌≡◌, ℕ, List, [], ◌∷◌, Bool, length, take, drop}
 use Rattle.network.specs.Links.{Diagram}
 use Rattle.declared_names.specs.declared.declarations.Declaration.{Declaration}
-use Rattle.power_flow.specs.declared.state.Slot.{Slot}
+use Rattle.scan_steps.specs.declared.slot.Slot.{Slot}
 use Rattle.power_flow.specs.Meaning.{NetworkMeaning, moment}
 pub use Rattle.network.specs.GraphValue.{AreWide}
 

@@ -1,7 +1,7 @@
 ghost use Rattle.std.specs.Prelude.{◌≡◌, ℕ, List, Bool};
 ghost use Rattle.network.specs.Links.{Diagram};
 ghost use Rattle.declared_names.specs.declared.declarations.Declaration.{Declaration};
-ghost use Rattle.power_flow.specs.declared.state.Slot.{Slot};
+ghost use Rattle.scan_steps.specs.declared.slot.Slot.{Slot};
 ghost use Rattle.power_flow.specs.LadderValue.{LadderValue, Fits};
 ghost use Rattle.power_flow.specs.Scan.{AllAreWide, ScanMeaning};
 ghost use Rattle.power_flow.specs.StateValue.{StateValue, IsSame};

@@ -1,8 +1,8 @@
 -- When the bound inputs of a program can be filled.
 use Rattle.std.specs.Prelude.{◌≡◌, ℕ, List, Some, slice_get}
 use Rattle.std_blocks.specs.declared.value.Value.{Value}
-use Rattle.power_flow.specs.declared.state.Slot.{Slot}
-use Rattle.power_flow.specs.StateValue.{IsKindAt}
+use Rattle.scan_steps.specs.declared.slot.Slot.{Slot}
+use Rattle.scan_steps.specs.Slots.{IsKindAt}
 use Rattle.task_codes.specs.declared.binding.Binding.{Binding}
 use Rattle.evaluation.specs.declared.field_input.FieldInput.{FieldInput}
 use Rattle.evaluation.specs.declared.take.Take.{Take}

@@ -13,15 +13,16 @@ use Rattle.std_blocks.specs.declared.pin.Field.TheVariants.{Bit, Int, Time}
 use Rattle.std_blocks.specs.Pins.{pin_of, output}
 use Rattle.declared_names.specs.declared.declarations.Declaration.{Declaration}
 use Rattle.declared_names.specs.declared.declarations.Declared.TheVariants as declared
-use Rattle.power_flow.specs.declared.binding.source.Source.{Source}
-use Rattle.power_flow.specs.declared.binding.source.Source.TheVariants as source
-use Rattle.power_flow.specs.declared.binding.bound_box.BoundBox.{BoundBox}
-use Rattle.power_flow.specs.declared.binding.bound_box.BoundOutput.{BoundOutput}
+use Rattle.scan_steps.specs.declared.source.Source.{Source}
+use Rattle.scan_steps.specs.declared.source.Source.TheVariants as source
+use Rattle.scan_steps.specs.declared.bound_box.BoundBox.{BoundBox}
+use Rattle.scan_steps.specs.declared.bound_box.BoundOutput.{BoundOutput}
 use Rattle.declared_names.specs.Names.{place_of}
 use Rattle.power_flow.specs.Meaning.{IsDrawn}
-use Rattle.power_flow.specs.Steps.Sources.{name_source, pin_source}
+use Rattle.power_flow.specs.Steps.NameSources.{name_source, pin_source}
 pub use Rattle.power_flow.specs.Waiting.{box_of, boxes_of}
-use Rattle.power_flow.specs.Steps.BoxSteps.{bit_source, AreApartBoxes}
+use Rattle.scan_steps.specs.Steps.BoxSteps.{bit_source}
+use Rattle.power_flow.specs.Steps.BoxStores.{AreApartBoxes}
 
 -- a block of this type is declared at the place
 pub record IsBlockAt (ds : List Declaration) (place : ℕ) (block : BlockType) : Type 0 where

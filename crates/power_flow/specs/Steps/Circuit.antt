@@ -8,32 +8,14 @@ use Rattle.network.specs.Apart.{Has}
 use Rattle.network.specs.GraphValue.{diagram, IsSoundNetwork}
 use Rattle.declared_names.specs.declared.declarations.Declaration.{Declaration}
 use Rattle.power_flow.specs.declared.steps.circuit.Circuit.{Circuit}
-use Rattle.power_flow.specs.declared.steps.step.Step.{Step}
-use Rattle.power_flow.specs.declared.steps.step.Step.TheVariants as step
-use Rattle.power_flow.specs.declared.steps.step.BoundCoil.{BoundCoil}
+use Rattle.scan_steps.specs.declared.step.Step.{Step}
+use Rattle.scan_steps.specs.declared.step.BoundCoil.{BoundCoil}
+use Rattle.scan_steps.specs.Steps.Passing.{IsStepIn}
 use Rattle.declared_names.specs.Names.{place_of}
 use Rattle.variable_binding.specs.Steps.Named.{AreNamed}
 use Rattle.power_flow.specs.Steps.Columns.{AreSteps}
 use Rattle.power_flow.specs.Steps.Fused.{singles}
 use Rattle.power_flow.specs.Steps.BoxTable.{AreBoundBoxes}
-
--- the numbers of a step stand for rows, memories, coils and boxes
-abbrev pub IsStepIn : ℕ → ℕ → ℕ → ℕ → Step → Type 0
-IsStepIn rows memories coils boxes (step.Rail row) = row < rows
-IsStepIn rows memories coils boxes (step.Off row) = row < rows
-IsStepIn rows memories coils boxes (step.Upright first last) = last < rows
-IsStepIn rows memories coils boxes (step.OffUpright row first last) = (row < rows) × (last < rows)
-IsStepIn rows memories coils boxes (step.Down row) = row + 1 < rows
-IsStepIn rows memories coils boxes (step.Up row) = row + 1 < rows
-IsStepIn rows memories coils boxes (step.Contact c) = (c.row < rows) × (c.memory < memories)
-IsStepIn rows memories coils boxes (step.RailContact v) = (v.row < rows) × (v.memory < memories)
-IsStepIn rows memories coils boxes (step.Pair pair places) =
-    (pair.first < rows) × (places.memory < memories) × (pair.second < rows) × (places.memory + 1 < memories)
-IsStepIn rows memories coils boxes (step.JoinedPair pair places) =
-    (pair.first < rows) × (places.memory < memories) × (pair.second < rows) × (places.memory + 1 < memories)
-IsStepIn rows memories coils boxes (step.Coil row k) = (row < rows) × (k < coils)
-IsStepIn rows memories coils boxes (step.Box k) = k < boxes
-IsStepIn rows memories coils boxes (step.BoxCoil k row coil) = (k < boxes) × (row < rows) × (coil < coils)
 
 -- the lists of a circuit fit each other
 pub record HasShape (c : Circuit) : Type 0 where

@@ -1,8 +1,8 @@
 -- Steps that stand for two.
 use Rattle.std.specs.Prelude.{◌+◌, List, [], ◌∷◌, ◌++◌}
-use Rattle.power_flow.specs.declared.steps.step.Step.{Step}
-use Rattle.power_flow.specs.declared.steps.step.Step.TheVariants as step
-use Rattle.power_flow.specs.Steps.Contacts.{contact_of, first_of, second_of}
+use Rattle.scan_steps.specs.declared.step.Step.{Step}
+use Rattle.scan_steps.specs.declared.step.Step.TheVariants as step
+use Rattle.scan_steps.specs.Steps.Contacts.{contact_of, first_of, second_of}
 
 -- the steps that a step stands for
 abbrev pub single : Step → List Step

@@ -8,7 +8,7 @@ use Rattle.network.specs.declared.element.Element.{Element}
 use Rattle.network.specs.Links.{Diagram, Gives}
 use Rattle.network.specs.Apart.{Has}
 use Rattle.declared_names.specs.declared.declarations.Declaration.{Declaration}
-use Rattle.power_flow.specs.declared.steps.step.Step.{Step}
+use Rattle.scan_steps.specs.declared.step.Step.{Step}
 use Rattle.power_flow.specs.Steps.Columns.{IsLed, AreStepsOf, joined}
 
 -- the elements lie in this many rows, from the topmost on

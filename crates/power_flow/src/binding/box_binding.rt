@@ -9,15 +9,15 @@ ghost use Rattle.drawings.specs.declared.drawn_box.Side.TheVariants.{Left, Right
 ghost use Rattle.drawings.specs.declared.drawn_box.DrawnBox.{DrawnBox};
 ghost use Rattle.declared_names.specs.Names.{place_of};
 ghost use Rattle.power_flow.specs.Meaning.{IsDrawn};
-ghost use Rattle.power_flow.specs.Steps.Sources.{operand_source, pin_source};
+ghost use Rattle.power_flow.specs.Steps.NameSources.{operand_source, pin_source};
 ghost use Rattle.variable_binding.specs.Steps.Named.{IsDrawnOnce, AreOutputs, IsInRange, AreInRange, IsNamedBox};
 ghost use Rattle.power_flow.specs.Steps.BoxTable.{ArePinsIn, AreOutputsIn};
 ghost use Rattle.power_flow.specs.Steps.BoxTable.{right_pins, boxes_of, output_if, IsBitSource, IsBoundOutput, IsBoundBox};
 
-use crate::binding::bound_box::{BoundBox, BoundOutput};
-use crate::binding::source::{Source, name_source};
+use crate::binding::source::name_source;
 use drawings::{DrawnBox, DrawnPin, Side};
 use network::Element;
+use scan_steps::{BoundBox, BoundOutput, Source};
 use std::alloc::{AllocError, Global};
 use std_blocks::{BlockType, Field, Pin};
 use variable_binding::{Declarations, literal_value};
@@ -88,7 +88,7 @@ fn bit_source(
 }
 
 /// The source of an operand that is in range: a literal, or what its name stands for.
-#[tactic(auto, unfolding(crate::specs::Steps::Sources::operand_source))]
+#[tactic(auto, unfolding(crate::specs::Steps::NameSources::operand_source))]
 fn operand_source(declarations: &Declarations, text: &Text) -> Source
     ensures { IsInRange text.now → result ≡ operand_source declarations.now text.now }
 {

@@ -2,22 +2,22 @@ ghost use Rattle.std.specs.Prelude.{◌≡◌, ◌<◌, ℕ, List, All, length, 
 ghost use Rattle.std.specs.List.{AllByRecursion};
 ghost use Rattle.std.specs.Option.{option_map};
 ghost use Rattle.std_blocks.specs.declared.value.Value.TheVariants.{Bool as BoolValue};
-ghost use Rattle.power_flow.specs.Meaning.{coil_value, coil_memory, store, stored, bit_at, NetworkMeaning, moment};
+ghost use Rattle.power_flow.specs.Meaning.{coil_value, coil_memory, store, stored, NetworkMeaning, moment};
+ghost use Rattle.scan_steps.specs.Conducting.{bit_at};
 ghost use Rattle.network.specs.Links.{Diagram};
 ghost use Rattle.declared_names.specs.declared.declarations.Declaration.{Declaration};
-ghost use Rattle.power_flow.specs.StateValue.{AreSlotsOf};
+ghost use Rattle.scan_steps.specs.Slots.{AreSlotsOf};
 ghost use Rattle.power_flow.specs.Scan.{AllAreWide, ScanMeaning};
 ghost use Rattle.drawings.specs.declared.place.Place.{Place};
 ghost use Rattle.power_flow.specs.Steps.Circuit.{HasShape, IsCircuit, HasRoom, AreCircuits, circuit_diagram};
-ghost use Rattle.power_flow.specs.Steps.Passing.{bound_stores, bound_memories};
+ghost use Rattle.power_flow.specs.Steps.CoilStores.{bound_stores, bound_memories};
 
 use crate::scan::boxes::{store_boxes, store_value};
-use crate::scan::pass::pass;
-use crate::state::{Instance, Slot, State};
+use crate::state::State;
 use crate::steps::circuit::Circuit;
-use crate::steps::step::BoundCoil;
 use arrayvec::ArrayVec;
 use drawings::CoilKind;
+use scan_steps::{BoundCoil, Instance, Slot, pass};
 use std_blocks::Value;
 
 fn value_of_coil(kind: CoilKind, link: bool, memory: bool) -> Option<bool>

@@ -13,10 +13,10 @@ use crate::steps::fused::fused;
 use crate::steps::rails::Rails;
 use crate::steps::rows::Rows;
 use crate::steps::same_elements::{are_same_elements, are_same_places};
-use crate::steps::step::BoundCoil;
 use crate::steps::steps::steps_of;
 use drawings::Place;
 use network::{Element, Network};
+use scan_steps::BoundCoil;
 use std::alloc::{AllocError, Global};
 use variable_binding::{Declarations, names_of_one_place_are_one};
 

@@ -7,21 +7,20 @@ ghost use Rattle.drawings.specs.declared.drawn_box.Side.TheVariants.{Left, Right
 ghost use Rattle.network.specs.Links.{Stands, place};
 ghost use Rattle.network.specs.Apart.{Has, AreOnPage};
 ghost use Rattle.network.specs.GraphValue.{diagram};
-ghost use Rattle.power_flow.specs.declared.steps.step.Step.{Step};
+ghost use Rattle.scan_steps.specs.declared.step.Step.{Step};
 ghost use Rattle.network.specs.GraphValue.{IsSoundNetwork};
 ghost use Rattle.power_flow.specs.Steps.Columns.{IsAtRail, IsUpright, StandsIn, Begins, Joins, IsLeftPinBegun, left_pins, joined, AreSteps};
-ghost use Rattle.power_flow.specs.Steps.Sources.{name_source};
+ghost use Rattle.power_flow.specs.Steps.NameSources.{name_source};
 ghost use Rattle.power_flow.specs.Steps.RowEnds.{AreRows, AreEndsTo, TellsLed, ArePushed, AreStepsTo, listed};
 ghost use Rattle.power_flow.specs.Waiting.{coils_of, boxes_of};
 
-use crate::binding::bound_contact::BoundContact;
 use crate::binding::source::name_source;
 use crate::steps::rails::Rails;
 use crate::steps::row_ends::note_element;
 use crate::steps::rows::Rows;
-use crate::steps::step::Step;
 use drawings::{Contact, DrawnBox, DrawnPin, Place, Side};
 use network::{Element, stands};
+use scan_steps::{BoundContact, Step};
 use std::alloc::{AllocError, Global};
 use variable_binding::Declarations;
 

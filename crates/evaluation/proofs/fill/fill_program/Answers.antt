@@ -1,6 +1,7 @@
 use Rattle.std.proofs.Common.{◌≡◌, ◌+◌, Some, slice_get, get_or, sym, arith, subst, ◌∙◌}
 use Rattle.std.proofs.lemmas.Option.{slice_get-get_or, same_Some}
-use Rattle.power_flow.specs.StateValue.{StateValue, IsKindAt}
+use Rattle.power_flow.specs.StateValue.{StateValue}
+use Rattle.scan_steps.specs.Slots.{IsKindAt}
 use Rattle.plant_text.specs.declared.address.Space.TheVariants.{Bit}
 use Rattle.task_codes.specs.declared.binding.Source.TheVariants.{Field}
 use Rattle.task_codes.specs.declared.binding.Binding.{Binding}
