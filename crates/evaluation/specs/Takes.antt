@@ -21,4 +21,5 @@ pub record IsTakeOf (p : TaskRef) (kinds : List Kind) (t : Take) : Type 0 where
 -- one take for each producer, in order
 pub record AreTakesOf (c : CodeValue) (takes : List Take) : Type 0 where
   pub many : length takes ≡ length c.producers
-  pub each : (k : ℕ) (t : Take) (p : TaskRef) → slice_get takes k ≡ Some t → slice_get c.producers k ≡ Some p → IsTakeOf p (expected_at c k) t
+  pub each : (k : ℕ) (t : Take) (p : TaskRef) → slice_get takes k ≡ Some t → slice_get c.producers k ≡ Some p
+      → IsTakeOf p (expected_at c k) t

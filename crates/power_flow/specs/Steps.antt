@@ -1,4 +1,6 @@
--- Steps of the proofs: the steps that a network is made into, what its names are bound to, and what is stored. Contracts of functions inside this crate cite them, and the invariant of a ladder; what is handed up, a ladder, its states and a scan, is said without them.
+-- Steps of the proofs: the steps that a network is made into, what its names are bound to, and what is stored.
+-- Contracts of functions inside this crate cite them, and the invariant of a ladder; what is handed up, a ladder, its
+-- states and a scan, is said without them.
 pub mod BoxStores
 pub mod BoxTable
 pub mod Circuit

@@ -36,4 +36,5 @@ IsSlotOf (Instance b) (Block i) = i.state.block ≡ b
 -- at each declared name stands what is declared
 pub record AreSlotsOf (ds : List Declaration) (slots : List Slot) : Type 0 where
   pub long : length slots ≡ length ds
-  pub each : (k : ℕ) (e : Declaration) (s : Slot) → slice_get ds k ≡ Some e → slice_get slots k ≡ Some s → IsSlotOf e.declared s
+  pub each : (k : ℕ) (e : Declaration) (s : Slot) → slice_get ds k ≡ Some e → slice_get slots k ≡ Some s
+      → IsSlotOf e.declared s

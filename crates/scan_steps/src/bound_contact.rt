@@ -42,7 +42,12 @@ impl Model for BoundContact {
 
     ghost Value = { ContactValue };
 
-    ghost view = { λ c. record { kind = c.kind; row = c.row; source = contact_source c.reads c.place; memory = c.memory } };
+    ghost view = { λ c. record {
+      kind = c.kind;
+      row = c.row;
+      source = contact_source c.reads c.place;
+      memory = c.memory;
+    } };
 }
 
 /// What is read at a source that a name stands for, and at which place; none for another source, or where a number is too large.

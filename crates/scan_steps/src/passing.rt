@@ -1,10 +1,9 @@
-ghost use Rattle.std.specs.Prelude.{◌≡◌, ◌<◌, ◌≤◌, ◌+◌, ◌⊎◌, ◌↔◌, ◌&&◌, ℕ, List, Bool, All, Some, true, false, length, slice_get, slice_set};
+ghost use Rattle.std.specs.Prelude.{◌≡◌, ◌<◌, ◌≤◌, ◌+◌, ◌⊎◌, ◌↔◌, ◌&&◌, ℕ, List, Bool, All, Some, true, false, length, slice_set};
 ghost use Rattle.scan_steps.specs.Conducting.{bit_at, contact_conducts, contact_memory};
 ghost use Rattle.std_blocks.specs.Pins.{field_value};
 ghost use Rattle.scan_steps.specs.Values.{is_true};
-ghost use Rattle.scan_steps.specs.Steps.BoxSteps.{IsMarked, HasOutput, box_result};
-ghost use Rattle.scan_steps.specs.Steps.Contacts.{contact_of};
-ghost use Rattle.scan_steps.specs.Steps.Passing.{IsStepIn, AreJoined, ArePinsShown, AreShown, IsBoxObeyed, IsObeyed, ArePassed, pass_of, read_rows, read_memories};
+ghost use Rattle.scan_steps.specs.Steps.BoxSteps.{HasOutput, box_result};
+ghost use Rattle.scan_steps.specs.Steps.Passing.{IsStepIn, AreJoined, AreMarked, ArePinsShown, AreShown, IsBoxObeyed, IsObeyed, ArePassed, IsReadAtRail, pass_of, rows_behind, memories_behind, read_rows, read_memories};
 
 use crate::bound_box::{BoundBox, BoundOutput};
 use crate::bound_contact::{BoundContact, VariableContact};
@@ -170,7 +169,7 @@ fn mark_output(pin: &BoundOutput, outputs: &PinsOut, rows: &mut [bool])
 fn mark_many(pins: &[BoundOutput], outputs: &PinsOut, rows: &mut [bool])
     requires { All (λ o. o.row < length rows.old) pins.now }
     ensures long { length rows.new ≡ length rows.old }
-    ensures marked { (r : ℕ) → (bit_at rows.new r ≡ true) ↔ ((bit_at rows.old r ≡ true) ⊎ IsMarked pins.now outputs.now r) }
+    ensures marked { AreMarked pins.now outputs.now rows.old rows.new }
 {
     for pin in pins {
         mark_output(pin, outputs, rows);
@@ -182,7 +181,7 @@ fn mark_two(pins: &[BoundOutput], outputs: &PinsOut, rows: &mut [bool])
     requires two { length pins.now ≡ 2 }
     requires within { All (λ o. o.row < length rows.old) pins.now }
     ensures long { length rows.new ≡ length rows.old }
-    ensures marked { (r : ℕ) → (bit_at rows.new r ≡ true) ↔ ((bit_at rows.old r ≡ true) ⊎ IsMarked pins.now outputs.now r) }
+    ensures marked { AreMarked pins.now outputs.now rows.old rows.new }
 {
     mark_output(&pins[0], outputs, rows);
     mark_output(&pins[1], outputs, rows);
@@ -242,8 +241,8 @@ fn step_box(bound: &BoundBox, made: &mut Instance, slots: &[Slot], rows: &mut [b
 fn read_edge(contact: &BoundContact, on: bool, rows: &mut [bool], memories: &mut [bool])
     requires row { contact.now.row < length rows.old }
     requires memory { contact.now.memory < length memories.old }
-    ensures rows { rows.new ≡ slice_set rows.old contact.now.row (bit_at rows.old contact.now.row && contact_conducts contact.now.kind on (bit_at memories.old contact.now.memory)) }
-    ensures memories { memories.new ≡ slice_set memories.old contact.now.memory (contact_memory contact.now.kind on (bit_at memories.old contact.now.memory)) }
+    ensures rows { rows.new ≡ rows_behind contact.now on rows.old memories.old }
+    ensures memories { memories.new ≡ memories_behind contact.now on memories.old }
 {
     let memory = memories[contact.memory()];
     rows[contact.row()] = rows[contact.row()] && conducts(contact.kind(), on, memory);
@@ -272,7 +271,7 @@ fn read_contact(contact: &BoundContact, slots: &[Slot], rows: &mut [bool], memor
 /// Reads a contact of a variable that follows the left rail: the state of its row is ON if it conducts.
 fn read_at_rail(contact: VariableContact, slots: &[Slot], rows: &mut [bool])
     requires { contact.row < length rows.old }
-    ensures { (memories : List Bool) → rows.new ≡ read_rows (contact_of contact) slots.now (slice_set rows.old contact.row true) memories }
+    ensures { IsReadAtRail contact slots.now rows.old rows.new }
 {
     rows[contact.row as usize] = true;
     read_variable(contact.negated, contact.row, contact.place, slots, rows);
@@ -290,7 +289,8 @@ fn obey_box(
     requires number { number < length boxes.now }
     requires outputs { All (λ e. All (λ o. o.row < length rows.old) e.outputs.items) boxes.now }
     requires results { length results.old ≡ length boxes.now }
-    ensures { (memories links : List Bool) → IsBoxObeyed boxes.now slots.now dt number (pass_of rows.old memories links results.old) (pass_of rows.new memories links results.new) }
+    ensures { (memories links : List Bool) → IsBoxObeyed boxes.now slots.now dt number
+        (pass_of rows.old memories links results.old) (pass_of rows.new memories links results.new) }
 {
     step_box(&boxes[number], &mut results[number], slots, rows, dt);
 }
@@ -309,7 +309,8 @@ fn obey(
     requires step { IsStepIn (length rows.old) (length memories.old) (length links.old) (length boxes.now) step.now }
     requires outputs { All (λ e. All (λ o. o.row < length rows.old) e.outputs.items) boxes.now }
     requires results { length results.old ≡ length boxes.now }
-    ensures { IsObeyed boxes.now slots.now dt step.now (pass_of rows.old memories.old links.old results.old) (pass_of rows.new memories.new links.new results.new) }
+    ensures { IsObeyed boxes.now slots.now dt step.now
+        (pass_of rows.old memories.old links.old results.old) (pass_of rows.new memories.new links.new results.new) }
 {
     match step {
         Step::Rail(row) => rows[*row as usize] = true,
@@ -349,10 +350,12 @@ pub fn pass(
     results: &mut [Instance],
     dt: u32,
 )
-    requires steps { All (λ s. IsStepIn (length rows.old) (length memories.old) (length links.old) (length boxes.now) s) steps.now }
+    requires steps { All
+        (λ s. IsStepIn (length rows.old) (length memories.old) (length links.old) (length boxes.now) s) steps.now }
     requires outputs { All (λ e. All (λ o. o.row < length rows.old) e.outputs.items) boxes.now }
     requires results { length results.old ≡ length boxes.now }
-    ensures { ArePassed boxes.now slots.now dt steps.now (pass_of rows.old memories.old links.old results.old) (pass_of rows.new memories.new links.new results.new) }
+    ensures { ArePassed boxes.now slots.now dt steps.now
+        (pass_of rows.old memories.old links.old results.old) (pass_of rows.new memories.new links.new results.new) }
 {
     for step in steps {
         obey(step, boxes, slots, rows, memories, links, results, dt);

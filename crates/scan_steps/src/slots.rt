@@ -1,4 +1,4 @@
-ghost use Rattle.std.specs.Prelude.{◌≡◌, ◌↔◌, List, IsTrue, IfOk, map, slice_set};
+ghost use Rattle.std.specs.Prelude.{◌≡◌, ◌↔◌, List, Some, IsTrue, IfOk, map, slice_get, slice_set};
 ghost use Rattle.std.specs.Bool.{OnTrue, OnFalse};
 ghost use Rattle.declared_names.specs.declared.declarations.Declaration.{Declaration};
 ghost use Rattle.scan_steps.specs.declared.slot.Slot.{Slot};
@@ -53,6 +53,7 @@ pub fn variable(slots: &[Slot], place: usize) -> Option<Value>
 pub fn set_variable(slots: &mut [Slot], place: usize, value: Value) -> bool
     ensures answer { IsTrue result ↔ IsKindAt slots.old place value }
     ensures changed { OnTrue result (slots.new ≡ slice_set slots.old place (Slot.Variable value)) }
+    ensures stored { OnTrue result (slice_get slots.new place ≡ Some (Slot.Variable value)) }
     ensures kept { OnFalse result (slots.new ≡ slots.old) }
     ensures declared { (ds : List Declaration) → AreSlotsOf ds slots.old → AreSlotsOf ds slots.new }
 {

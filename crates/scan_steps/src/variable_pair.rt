@@ -1,9 +1,6 @@
-ghost use Rattle.std.specs.Prelude.{◌≡◌, ◌<◌, ◌&&◌, List, Bool, IfSome, length, slice_set};
-ghost use Rattle.scan_steps.specs.Conducting.{bit_at, contact_conducts};
-ghost use Rattle.scan_steps.specs.Values.{is_true};
-ghost use Rattle.scan_steps.specs.Slots.{variable_at};
-ghost use Rattle.scan_steps.specs.Steps.Contacts.{is_first_negated, is_second_negated, plain_kind, first_of, second_of};
-ghost use Rattle.scan_steps.specs.Steps.Passing.{read_rows};
+ghost use Rattle.std.specs.Prelude.{◌≡◌, ◌<◌, ◌&&◌, IfSome, length};
+ghost use Rattle.scan_steps.specs.Steps.Contacts.{is_first_negated, is_second_negated, first_of, second_of};
+ghost use Rattle.scan_steps.specs.Steps.Passing.{IsVariableRead, IsPairRead};
 
 use crate::bound_contact::{BoundContact, is_variable_on};
 use crate::slot::Slot;
@@ -62,7 +59,7 @@ impl Negated {
 /// State goes on in a row behind a contact of the variable at a place, if it conducts.
 pub fn read_variable(negated: bool, row: u8, place: u32, slots: &[Slot], rows: &mut [bool])
     requires { row < length rows.old }
-    ensures { (memory : Bool) → rows.new ≡ slice_set rows.old row (bit_at rows.old row && contact_conducts (plain_kind negated) (is_true (variable_at slots.now place)) memory) }
+    ensures { IsVariableRead negated row place slots.now rows.old rows.new }
 {
     let row = row as usize;
     let before = rows[row];
@@ -101,7 +98,7 @@ pub fn pair_of(first: &BoundContact, second: &BoundContact) -> Option<(PairRows,
 pub fn read_pair(pair: PairRows, places: PairPlaces, slots: &[Slot], rows: &mut [bool])
     requires first { pair.first < length rows.old }
     requires second { pair.second < length rows.old }
-    ensures { (memories later : List Bool) → rows.new ≡ read_rows (second_of pair places) slots.now (read_rows (first_of pair places) slots.now rows.old memories) later }
+    ensures { IsPairRead pair places slots.now rows.old rows.new }
 {
     read_variable(pair.negated.first(), pair.first, places.first, slots, rows);
     read_variable(

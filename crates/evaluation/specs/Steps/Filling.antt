@@ -11,4 +11,5 @@ use Rattle.evaluation.specs.Meaning.{given}
 -- each source gives a value of the kind that stands at the place of its input
 abbrev pub AreReady : List FieldInput → List Take → List Binding → List Slot → Type 0
 AreReady inputs takes bindings slots =
-    (j : ℕ) (b : Binding) → slice_get bindings j ≡ Some b → (v : Value) × (given inputs takes b.source ≡ Some v) × IsKindAt slots b.place v
+    (j : ℕ) (b : Binding) → slice_get bindings j ≡ Some b
+    → (v : Value) × (given inputs takes b.source ≡ Some v) × IsKindAt slots b.place v

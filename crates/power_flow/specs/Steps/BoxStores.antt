@@ -13,7 +13,8 @@ use Rattle.scan_steps.specs.declared.bound_box.BoundOutput.{BoundOutput}
 
 -- no two boxes have one instance
 abbrev pub AreApartBoxes : List BoundBox → Type 0
-AreApartBoxes boxes = (i j : ℕ) (e f : BoundBox) → slice_get boxes i ≡ Some e → slice_get boxes j ≡ Some f → e.instance ≡ f.instance → i ≡ j
+AreApartBoxes boxes = (i j : ℕ) (e f : BoundBox) → slice_get boxes i ≡ Some e → slice_get boxes j ≡ Some f
+    → e.instance ≡ f.instance → i ≡ j
 
 -- an output pin stores its value, if it has an operand
 abbrev pub pin_store : PinsOut → BoundOutput → Option ℕ → List (ℕ × Value)

@@ -31,7 +31,9 @@ declared_source (declared.Instance b) k (c ∷ pin) = option_map_or (output_sour
 -- the source of what a name stands for, as `A` or `T1.Q`
 unfoldable pub name_source : List Declaration → List ℕ → Source
 name_source ds name =
-    option_map_or (λ k. option_map_or (λ (e : Declaration). declared_source e.declared k (after_first is_dot name)) (slice_get ds k) source.Nothing)
+    option_map_or
+    (λ k. option_map_or
+    (λ (e : Declaration). declared_source e.declared k (after_first is_dot name)) (slice_get ds k) source.Nothing)
     (place_of ds (before_first is_dot name)) source.Nothing
 
 -- the source of an operand: a literal, or what its name stands for

@@ -23,7 +23,8 @@ bit_source e k = slice_index_or e.bits k source.Nothing
 -- the inputs of a box, by the slots and the states of the rows
 unfoldable pub box_inputs : BoundBox → List Slot → List Bool → PinsIn
 box_inputs e slots bits = record {
-  bits = source_bit slots bits (bit_source e 0) ∷ source_bit slots bits (bit_source e 1) ∷ source_bit slots bits (bit_source e 2) ∷ source_bit slots bits (bit_source e 3) ∷ [];
+  bits = source_bit slots bits (bit_source e 0) ∷ source_bit slots bits (bit_source e 1)
+      ∷ source_bit slots bits (bit_source e 2) ∷ source_bit slots bits (bit_source e 3) ∷ [];
   int = int_or_zero (source_value slots e.int);
   time = time_or_zero (source_value slots e.time);
 }

@@ -13,7 +13,8 @@ use Rattle.scan_steps.specs.declared.variable_pair.Negated.TheVariants.{Neither,
 use Rattle.scan_steps.specs.declared.source.Source.{Source}
 use Rattle.scan_steps.specs.declared.source.Source.TheVariants as source
 
--- a contact with its name bound: its row from the network's topmost row on, the source of its state, and the number of its memory
+-- a contact with its name bound: its row from the network's topmost row on, the source of its state, and the number of
+-- its memory
 pub record ContactValue : Type 0 where
   pub kind : ContactKind
   pub row : ℕ
@@ -47,7 +48,8 @@ plain_kind true = NegatedKind
 
 -- a contact of the variable at a place
 abbrev pub variable_contact : Bool → ℕ → ℕ → ℕ → ContactValue
-variable_contact negated row place memory = record { kind = plain_kind negated; row = row; source = source.Variable place; memory = memory }
+variable_contact negated row place memory =
+    record { kind = plain_kind negated; row = row; source = source.Variable place; memory = memory }
 
 -- the same contact as any other
 abbrev pub contact_of : VariableContact → ContactValue
