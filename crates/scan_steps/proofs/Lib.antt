@@ -1,3 +1,3 @@
-pub mod Slots
+pub mod SlotLemmas
 pub mod PairSteps
 pub mod BoxesStepping
