@@ -3,7 +3,6 @@ use Rattle.std.specs.Prelude.{◌≡◌, ℕ, List, [], ◌∷◌, ◌++◌, Opt
 use Rattle.std.specs.List.{flat_map}
 use Rattle.std_blocks.specs.declared.value.Value.{Value}
 use Rattle.std_blocks.specs.declared.pins.PinsOut.{PinsOut}
-use Rattle.std_blocks.specs.Blocks.{after}
 use Rattle.std_blocks.specs.Pins.{field_value}
 use Rattle.scan_steps.specs.declared.slot.Instance.{Instance}
 use Rattle.scan_steps.specs.declared.slot.Slot.{Slot}
