@@ -4,17 +4,18 @@ use Rattle.std.specs.List.{find}
 use Rattle.std.specs.Option.{option_map, option_and_then}
 use Rattle.std.proofs.lemmas.Bool.{cases_eq}
 use Rattle.std.proofs.lemmas.Option.{slice_get_within, slice_get-map, get_or_from_slice_get, same_Some}
-use Rattle.lists.proofs.Places.{element_at, slice_get-set_same, slice_get-set_other}
+use Rattle.lists.proofs.Places.{element_at, slice_get-set_other}
 use Rattle.std_blocks.specs.declared.value.Value.{Value}
 use Rattle.declared_names.specs.declared.declarations.Kind.{Kind}
 use Rattle.declared_names.specs.declared.declarations.Declared.{Declared}
 use Rattle.declared_names.specs.declared.declarations.Declared.TheVariants.{Input, Output, Local, Instance}
 use Rattle.declared_names.specs.declared.declarations.Declaration.{Declaration}
-use Rattle.power_flow.specs.declared.state.Slot.{Slot}
-use Rattle.power_flow.specs.declared.state.Slot.TheVariants.{Variable, Block}
-use Rattle.variable_binding.specs.Kinds.{value_first}
-use Rattle.variable_binding.specs.Kinds.{kind_of}
-use Rattle.power_flow.specs.StateValue.{StateValue, variable_of, variable_at, IsKindAt, IsSlotOf, AreSlotsOf}
+use Rattle.scan_steps.specs.declared.slot.Slot.{Slot}
+use Rattle.scan_steps.specs.declared.slot.Slot.TheVariants.{Variable, Block}
+use Rattle.declared_names.specs.Kinds.{value_first}
+use Rattle.declared_names.specs.Kinds.{kind_of}
+use Rattle.power_flow.specs.StateValue.{StateValue}
+use Rattle.scan_steps.specs.Slots.{variable_of, variable_at, IsKindAt, IsSlotOf, AreSlotsOf}
 use Rattle.plant_text.specs.declared.address.Space.{Space}
 use Rattle.plant_text.specs.declared.address.Space.TheVariants.{Bit as BitSpace, Word as WordSpace}
 use Rattle.plant_text.specs.declared.address.Address.{Address}
@@ -33,18 +34,6 @@ use Rattle.evaluation.specs.Steps.Filling.{AreReady}
 use Rattle.evaluation.specs.States.{AreStatesOf}
 use Rattle.power_flow.specs.LadderValue.{LadderValue, Fits}
 use Rattle.evaluation.proofs.Lists.{option_map_some, InPlace, in_place_more, in_place_all}
-
--- a variable at a place is the slot there
-pub slot_of_variable : (slots : List Slot) (place : ℕ) (v : Value) → variable_at slots place ≡ Some v → slice_get slots place ≡ Some (Variable v)
-slot_of_variable slots place v at = by (slice_get slots place) refl
-  where
-    of : (s : Slot) → variable_of s ≡ Some v → s ≡ Variable v
-    of (Variable w) e = cc
-    of (Block b) e = absurd cc
-
-    by : (o : Option Slot) → slice_get slots place ≡ o → slice_get slots place ≡ Some (Variable v)
-    by None e = let none : None ≡ Some v = ap (option_and_then variable_of) (sym e) ∙ at in absurd cc
-    by (Some s) e = let some : variable_of s ≡ Some v = ap (option_and_then variable_of) (sym e) ∙ at in e ∙ ap Some (of s some)
 
 -- what an address holds is of the kind of its space
 pub kind_of_field : (inputs : List FieldInput) (a : Address) → kind_of (field_value inputs a) ≡ kind_of_space a.space
@@ -157,10 +146,10 @@ next_kind inputs takes bindings n s t b v once h found is =
 
 -- one more input is filled
 pub filled_more : (inputs : List FieldInput) (takes : List Take) (bindings : List Binding) (n : ℕ) (s t u : StateValue) (b : Binding) (v : Value) → AreOnce bindings
-    → FilledTo inputs takes bindings n s t → slice_get bindings n ≡ Some b → given inputs takes b.source ≡ Some v → IsKindAt t.slots b.place v
+    → FilledTo inputs takes bindings n s t → slice_get bindings n ≡ Some b → given inputs takes b.source ≡ Some v → slice_get u.slots b.place ≡ Some (Variable v)
     → u ≡ record t { slots = set t.slots b.place (Variable v) } → ((ds : List Declaration) → AreSlotsOf ds t.slots → AreSlotsOf ds u.slots)
     → FilledTo inputs takes bindings (n + 1) s u
-filled_more inputs takes bindings n s t u b v once h found gives kind is keeps = record {
+filled_more inputs takes bindings n s t u b v once h found gives stored is keeps = record {
   bound = λ j a lt at. bound j a lt at (cases_eq j n);
   unbound = λ place free.
       ap (λ (x : List Slot). slice_get x place) slots
@@ -177,11 +166,6 @@ filled_more inputs takes bindings n s t u b v once h found gives kind is keeps =
     same_rest =
         is ∙ ap (λ (x : StateValue). record x { slots = set t.slots b.place (Variable v) }) h.rest
         ∙ ap (λ (x : List Slot). record s { slots = x }) (sym slots)
-
-    stored : slice_get u.slots b.place ≡ Some (Variable v)
-    stored =
-        ap (λ (x : List Slot). slice_get x b.place) slots
-        ∙ slice_get-set_same t.slots b.place (Variable v) (slice_get_within t.slots b.place (Variable kind.0) (slot_of_variable t.slots b.place kind.0 kind.1))
 
     bound : (j : ℕ) (a : Binding) → j < n + 1 → slice_get bindings j ≡ Some a → (j ≡ n) ⊎ (j ≢ n) → slice_get u.slots a.place ≡ option_map (λ v. Variable v) (given inputs takes a.source)
     bound j a lt at (inl same) =

@@ -4,8 +4,9 @@ use Rattle.std.proofs.lemmas.Bool.{cases_eq}
 use Rattle.std.proofs.lemmas.Option.{slice_get_within, same_Some}
 use Rattle.network.specs.Links.{Diagram}
 use Rattle.declared_names.specs.declared.declarations.Declaration.{Declaration}
-use Rattle.power_flow.specs.declared.state.Slot.{Slot}
-use Rattle.power_flow.specs.StateValue.{StateValue, IsSame, variable_at}
+use Rattle.scan_steps.specs.declared.slot.Slot.{Slot}
+use Rattle.power_flow.specs.StateValue.{StateValue, IsSame}
+use Rattle.scan_steps.specs.Slots.{variable_at}
 use Rattle.power_flow.specs.Scan.{AllAreWide, ScanMeaning}
 use Rattle.std.specs.Option.{option_and_then}
 use Rattle.lists.proofs.Places.{element_at, same_by_slice_get, somes_same}

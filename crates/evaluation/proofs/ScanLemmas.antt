@@ -7,11 +7,12 @@ use Rattle.lists.proofs.Places.{element_at}
 use Rattle.std_blocks.specs.declared.value.Value.{Value}
 use Rattle.declared_names.specs.declared.declarations.Declared.{Declared}
 use Rattle.declared_names.specs.declared.declarations.Declared.TheVariants.{Input, Output, Local, Instance}
-use Rattle.power_flow.specs.declared.state.Slot.{Slot}
-use Rattle.power_flow.specs.declared.state.Slot.TheVariants.{Variable, Block}
+use Rattle.scan_steps.specs.declared.slot.Slot.{Slot}
+use Rattle.scan_steps.specs.declared.slot.Slot.TheVariants.{Variable, Block}
 use Rattle.power_flow.specs.LadderValue.{LadderValue, Fits}
-use Rattle.variable_binding.specs.Kinds.{kind_of}
-use Rattle.power_flow.specs.StateValue.{StateValue, variable_of, variable_at, IsSlotOf}
+use Rattle.declared_names.specs.Kinds.{kind_of}
+use Rattle.power_flow.specs.StateValue.{StateValue}
+use Rattle.scan_steps.specs.Slots.{variable_of, variable_at, IsSlotOf}
 use Rattle.task_codes.specs.declared.task_output.TaskOutput.{TaskOutput}
 use Rattle.task_codes.specs.CodeValue.{ProgramValue, CodeValue, output_kind, IsOutputOf, IsSoundCode}
 use Rattle.evaluation.specs.Meaning.{IsScanned, AllScanned, output_value}

@@ -55,7 +55,8 @@ input_of w = option_and_then (λ k. option_and_then (λ a. input_at a (drop (k +
 
 -- no address comes twice
 abbrev pub AreApart : List FieldInput → Type 0
-AreApart inputs = (j k : ℕ) (a b : FieldInput) → slice_get inputs j ≡ Some a → slice_get inputs k ≡ Some b → address_of a ≡ address_of b → j ≡ k
+AreApart inputs = (j k : ℕ) (a b : FieldInput) → slice_get inputs j ≡ Some a → slice_get inputs k ≡ Some b
+    → address_of a ≡ address_of b → j ≡ k
 
 -- each word is the input in its place, and no address comes twice
 pub record AreInputs (words : List (List ℕ)) (inputs : List FieldInput) : Type 0 where

@@ -3,7 +3,7 @@ use Rattle.std.specs.Prelude.{ℕ, ◌==◌, ◌&&◌, Bool, true, false, List, 
 use Rattle.std.specs.List.{find}
 use Rattle.std_blocks.specs.declared.value.Value.{Value}
 use Rattle.std_blocks.specs.declared.value.Value.TheVariants.{Bool as BoolValue, Int as IntValue}
-use Rattle.variable_binding.specs.Kinds.{value_first}
+use Rattle.declared_names.specs.Kinds.{value_first}
 use Rattle.plant_text.specs.declared.address.Space.{Space}
 use Rattle.plant_text.specs.declared.address.Space.TheVariants.{Bit as BitSpace, Word as WordSpace}
 use Rattle.plant_text.specs.declared.address.Address.{Address}

@@ -2,11 +2,12 @@
 use Rattle.std.specs.Prelude.{◌≡◌, ℕ, List, Option, Some, length, map, slice_get}
 use Rattle.std.specs.Option.{option_map, option_and_then}
 use Rattle.std_blocks.specs.declared.value.Value.{Value}
-use Rattle.power_flow.specs.declared.state.Slot.{Slot}
-use Rattle.power_flow.specs.declared.state.Slot.TheVariants.{Variable}
+use Rattle.scan_steps.specs.declared.slot.Slot.{Slot}
+use Rattle.scan_steps.specs.declared.slot.Slot.TheVariants.{Variable}
 use Rattle.power_flow.specs.LadderValue.{LadderValue}
-use Rattle.variable_binding.specs.Kinds.{kind_of}
-use Rattle.power_flow.specs.StateValue.{StateValue, variable_at}
+use Rattle.declared_names.specs.Kinds.{kind_of}
+use Rattle.power_flow.specs.StateValue.{StateValue}
+use Rattle.scan_steps.specs.Slots.{variable_at}
 use Rattle.power_flow.specs.Scan.{ScanMeaning, AllAreWide}
 use Rattle.task_codes.specs.declared.binding.Source.{Source}
 use Rattle.task_codes.specs.declared.binding.Source.TheVariants.{Field, Given}
@@ -35,19 +36,23 @@ pub record Evaluated : Type 0 where
 -- what a source gives: the value of a field address, or of an output in the one take from its producer
 abbrev pub given : List FieldInput → List Take → Source → Option Value
 given inputs takes (Field a) = Some (field_value inputs a)
-given inputs takes (Given producer output) = option_and_then (λ (t : Take). slice_get t.image output) (slice_get takes producer)
+given inputs takes (Given producer output) =
+    option_and_then (λ (t : Take). slice_get t.image output) (slice_get takes producer)
 
 -- no input is bound at the place
 abbrev pub IsUnbound : List Binding → ℕ → Type 0
 IsUnbound bindings place = (j : ℕ) (b : Binding) → slice_get bindings j ≡ Some b → b.place ≡ place → ⊥
 
 -- Bound inputs are filled: at the place of each stands what its source gives, and at all other places what stood there.
-pub record AreFilled (inputs : List FieldInput) (takes : List Take) (bindings : List Binding) (slots filled : List Slot) : Type 0 where
-  pub bound : (j : ℕ) (b : Binding) → slice_get bindings j ≡ Some b → slice_get filled b.place ≡ option_map (λ v. Variable v) (given inputs takes b.source)
+pub record AreFilled (inputs : List FieldInput) (takes : List Take) (bindings : List Binding)
+    (slots filled : List Slot) : Type 0 where
+  pub bound : (j : ℕ) (b : Binding) → slice_get bindings j ≡ Some b
+      → slice_get filled b.place ≡ option_map (λ v. Variable v) (given inputs takes b.source)
   pub unbound : (place : ℕ) → IsUnbound bindings place → slice_get filled place ≡ slice_get slots place
 
 -- a program's state with its bound inputs filled, and all memories as they were
-pub record IsFilled (inputs : List FieldInput) (takes : List Take) (bindings : List Binding) (s t : StateValue) : Type 0 where
+pub record IsFilled (inputs : List FieldInput) (takes : List Take) (bindings : List Binding)
+    (s t : StateValue) : Type 0 where
   pub slots : AreFilled inputs takes bindings s.slots t.slots
   pub memories : t.memories ≡ s.memories
 
@@ -57,15 +62,18 @@ pub record IsScanned (l : LadderValue) (dt : ℕ) (s t : StateValue) : Type 0 wh
   pub scan : ScanMeaning l.declarations dt l.networks s.slots s.memories t.slots t.memories
 
 -- all bound inputs of all programs are filled
-pub record AllFilled (c : CodeValue) (inputs : List FieldInput) (takes : List Take) (before filled : List StateValue) : Type 0 where
+pub record AllFilled (c : CodeValue) (inputs : List FieldInput) (takes : List Take)
+    (before filled : List StateValue) : Type 0 where
   pub many : length filled ≡ length before
-  pub each : (i : ℕ) (s t : StateValue) → slice_get before i ≡ Some s → slice_get filled i ≡ Some t → IsFilled inputs takes (bindings_at c i) s t
+  pub each : (i : ℕ) (s t : StateValue) → slice_get before i ≡ Some s → slice_get filled i ≡ Some t
+      → IsFilled inputs takes (bindings_at c i) s t
 
 -- each program is scanned, with the same elapsed time
 pub record AllScanned (c : CodeValue) (dt : ℕ) (filled after : List StateValue) : Type 0 where
   pub many : length filled ≡ length c.programs
   pub as_many : length after ≡ length filled
-  pub each : (i : ℕ) (p : ProgramValue) (s t : StateValue) → slice_get c.programs i ≡ Some p → slice_get filled i ≡ Some s → slice_get after i ≡ Some t → IsScanned p.ladder dt s t
+  pub each : (i : ℕ) (p : ProgramValue) (s t : StateValue) → slice_get c.programs i ≡ Some p
+      → slice_get filled i ≡ Some s → slice_get after i ≡ Some t → IsScanned p.ladder dt s t
 
 -- the value of an output
 abbrev pub output_value : List StateValue → TaskOutput → Option Value
@@ -75,23 +83,27 @@ output_value states o = option_and_then (λ (s : StateValue). variable_at s.slot
 abbrev pub AreOutputs : CodeValue → List StateValue → List Value → Type 0
 AreOutputs c states outputs = map (λ v. Some v) outputs ≡ map (output_value states) c.outputs
 
--- The task meaning. First all bound inputs of all programs are filled, each from its address or from the take of its producer.
--- Then the programs' ladders are scanned. The outputs are the values of all VAR_OUTPUTs at the end, and the state after is the whole state.
-pub record IsMeaning (c : CodeValue) (inputs : List FieldInput) (takes : List Take) (dt : ℕ) (before : List StateValue) (outputs : List Value) (after : List StateValue) : Type 0 where
+-- The task meaning. First all bound inputs of all programs are filled, each from its address or from the take of its
+-- producer. Then the programs' ladders are scanned. The outputs are the values of all VAR_OUTPUTs at the end, and the
+-- state after is the whole state.
+pub record IsMeaning (c : CodeValue) (inputs : List FieldInput) (takes : List Take) (dt : ℕ)
+    (before : List StateValue) (outputs : List Value) (after : List StateValue) : Type 0 where
   pub filled : List StateValue
   pub inputs_filled : AllFilled c inputs takes before filled
   pub programs_scanned : AllScanned c dt filled after
   pub outputs_read : AreOutputs c after outputs
 
 -- a code, run on these inputs, takes, elapsed time and state before, gives these outputs and leaves this state
-unfoldable pub Means : CodeValue → List FieldInput → List Take → ℕ → List StateValue → List Value → List StateValue → Type 0
+unfoldable pub Means : CodeValue → List FieldInput → List Take → ℕ → List StateValue → List Value → List StateValue
+    → Type 0
 Means c inputs takes dt before outputs after = IsMeaning c inputs takes dt before outputs after
 
 -- the evaluation is what its own code means
 abbrev pub IsMeant : Evaluated → Type 0
 IsMeant x = Means x.code x.inputs x.takes x.dt x.before x.outputs x.after
 
--- the evaluation's states are those of its code, its takes are from the code's producers, and its outputs are of the kinds of the code's image
+-- the evaluation's states are those of its code, its takes are from the code's producers, and its outputs are of the
+-- kinds of the code's image
 pub record IsWhole (x : Evaluated) : Type 0 where
   pub before_fits : AreStatesOf x.code x.before
   pub after_fits : AreStatesOf x.code x.after
@@ -99,12 +111,24 @@ pub record IsWhole (x : Evaluated) : Type 0 where
   pub kinds_are : map kind_of x.outputs ≡ image_kinds x.code
 
 -- an evaluation with these contents
-abbrev pub evaluated : ℕ → Name → ℕ → List FieldInput → List Take → List StateValue → CodeValue → List Value → List StateValue → Evaluated
+abbrev pub evaluated : ℕ → Name → ℕ → List FieldInput → List Take → List StateValue → CodeValue → List Value
+    → List StateValue → Evaluated
 evaluated ticket name dt inputs takes before code outputs after =
-    record { ticket = ticket; name = name; dt = dt; inputs = inputs; takes = takes; before = before; outputs = outputs; after = after; code = code }
+    record {
+      ticket = ticket;
+      name = name;
+      dt = dt;
+      inputs = inputs;
+      takes = takes;
+      before = before;
+      outputs = outputs;
+      after = after;
+      code = code;
+    }
 
 -- x has what was asked, and what that means
-pub record IsAsked (ticket : ℕ) (name : Name) (dt : ℕ) (inputs : List FieldInput) (takes : List Take) (before : List StateValue) (code : CodeValue) (x : Evaluated) : Type 0 where
+pub record IsAsked (ticket : ℕ) (name : Name) (dt : ℕ) (inputs : List FieldInput) (takes : List Take)
+    (before : List StateValue) (code : CodeValue) (x : Evaluated) : Type 0 where
   pub is : x ≡ evaluated ticket name dt inputs takes before code x.outputs x.after
   pub meant : IsMeant x
   pub whole : IsWhole x

@@ -2,8 +2,8 @@
 use Rattle.std.specs.Prelude.{◌≡◌, ℕ, List, Some, None, length, map, slice_get}
 use Rattle.std_blocks.specs.declared.value.Value.{Value}
 use Rattle.declared_names.specs.declared.declarations.Kind.{Kind}
-use Rattle.variable_binding.specs.Kinds.{value_first}
-use Rattle.variable_binding.specs.Kinds.{kind_of}
+use Rattle.declared_names.specs.Kinds.{value_first}
+use Rattle.declared_names.specs.Kinds.{kind_of}
 use Rattle.due_list.specs.declared.task_ref.TaskRef.{TaskRef}
 use Rattle.task_codes.specs.CodeValue.{CodeValue, expected_at}
 use Rattle.evaluation.specs.declared.take.Take.{Take}
@@ -21,4 +21,5 @@ pub record IsTakeOf (p : TaskRef) (kinds : List Kind) (t : Take) : Type 0 where
 -- one take for each producer, in order
 pub record AreTakesOf (c : CodeValue) (takes : List Take) : Type 0 where
   pub many : length takes ≡ length c.producers
-  pub each : (k : ℕ) (t : Take) (p : TaskRef) → slice_get takes k ≡ Some t → slice_get c.producers k ≡ Some p → IsTakeOf p (expected_at c k) t
+  pub each : (k : ℕ) (t : Take) (p : TaskRef) → slice_get takes k ≡ Some t → slice_get c.producers k ≡ Some p
+      → IsTakeOf p (expected_at c k) t

@@ -26,17 +26,19 @@ pub struct Evaluation {
 }
 
 impl Model for Evaluation {
-    ghost use Rattle.evaluation.specs.Meaning.{Evaluated, IsMeant, IsWhole};
+    ghost use Rattle.evaluation.specs.Meaning.{Evaluated, IsMeant, IsWhole, evaluated};
 
     ghost Value = { Evaluated };
 
-    ghost view = { λ e. record { ticket = e.ticket; name = e.name; dt = e.dt; inputs = e.inputs; takes = e.takes.items; before = e.before; outputs = e.outputs; after = e.after; code = e.code.value } };
+    ghost view = { λ e. evaluated e.ticket e.name e.dt e.inputs e.takes.items e.before e.code.value e.outputs e.after };
 
-    ghost invariant = { λ e. IsMeant (record { ticket = e.ticket; name = e.name; dt = e.dt; inputs = e.inputs; takes = e.takes.items; before = e.before; outputs = e.outputs; after = e.after; code = e.code.value }) × IsWhole (record { ticket = e.ticket; name = e.name; dt = e.dt; inputs = e.inputs; takes = e.takes.items; before = e.before; outputs = e.outputs; after = e.after; code = e.code.value }) };
+    ghost invariant = { λ e.
+        IsMeant (evaluated e.ticket e.name e.dt e.inputs e.takes.items e.before e.code.value e.outputs e.after)
+        × IsWhole (evaluated e.ticket e.name e.dt e.inputs e.takes.items e.before e.code.value e.outputs e.after) };
 }
 
 ghost use Rattle.std.specs.Prelude.{◌≡◌, ◌↔◌, IsTrue, IfOk, map};
-ghost use Rattle.variable_binding.specs.Kinds.{kind_of};
+ghost use Rattle.declared_names.specs.Kinds.{kind_of};
 ghost use Rattle.task_codes.specs.CodeValue.{image_kinds};
 ghost use Rattle.evaluation.specs.Takes.{AreTakesOf};
 ghost use Rattle.evaluation.specs.States.{AreStatesOf};

@@ -19,7 +19,7 @@ impl Model for Image {
 }
 
 ghost use Rattle.std.specs.Prelude.{◌≡◌, ◌↔◌, IsTrue, IfOk, map};
-ghost use Rattle.variable_binding.specs.Kinds.{kind_of};
+ghost use Rattle.declared_names.specs.Kinds.{kind_of};
 ghost use Rattle.evaluation.specs.Takes.{initial_image};
 
 impl Image {

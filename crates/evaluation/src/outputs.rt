@@ -1,5 +1,5 @@
 ghost use Rattle.std.specs.Prelude.{◌≡◌, IfOk, map};
-ghost use Rattle.variable_binding.specs.Kinds.{kind_of};
+ghost use Rattle.declared_names.specs.Kinds.{kind_of};
 ghost use Rattle.task_codes.specs.CodeValue.{image_kinds, IsSoundCode};
 ghost use Rattle.evaluation.specs.States.{AreStatesOf};
 ghost use Rattle.evaluation.specs.Meaning.{output_value, AreOutputs};

@@ -2,7 +2,7 @@
 use Rattle.std.specs.Prelude.{◌≡◌, ◌⊎◌, ℕ, ◌<◌, ◌≤◌, List, Option, Some, None, MatchOption, slice_get}
 use Rattle.std.specs.Option.{option_map}
 use Rattle.std_blocks.specs.declared.value.Value.{Value}
-use Rattle.variable_binding.specs.Kinds.{value_first}
+use Rattle.declared_names.specs.Kinds.{value_first}
 use Rattle.task_codes.specs.declared.binding.Source.TheVariants.{Given}
 use Rattle.task_codes.specs.declared.binding.Binding.{Binding}
 use Rattle.due_list.specs.declared.task_ref.TaskRef.{TaskRef}

@@ -1,5 +1,5 @@
 ghost use Rattle.std.specs.Prelude.{◌↔◌, IsTrue, Some, map};
-ghost use Rattle.variable_binding.specs.Kinds.{kind_of};
+ghost use Rattle.declared_names.specs.Kinds.{kind_of};
 ghost use Rattle.exchange_core.specs.CoreValue.{Expects};
 ghost use Rattle.exchange_core.specs.Steps.Knowing.{ExpectsOf};
 

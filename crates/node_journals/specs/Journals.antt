@@ -1,7 +1,7 @@
 -- When the journal of a resource is lawful: each step is one that the resource could do after the steps before it. The steps before stand with the newest first.
 use Rattle.std.specs.Prelude.{◌≡◌, ◌≢◌, ℕ, ◌+◌, ◌<◌, ◌≤◌, true, false, List, [], ◌∷◌, ◌++◌, Option, Some, None, All, length, map, filter, reverse, slice_get}
 use Rattle.declared_names.specs.declared.declarations.Kind.{Kind}
-use Rattle.variable_binding.specs.Kinds.{kind_of}
+use Rattle.declared_names.specs.Kinds.{kind_of}
 use Rattle.due_list.specs.declared.task_ref.TaskRef.{TaskRef}
 use Rattle.plant.specs.PlantValue.{PlantValue, code_at}
 use Rattle.task_codes.specs.CodeValue.{CodeValue, expected_at}

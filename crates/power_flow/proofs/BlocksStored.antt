@@ -19,13 +19,13 @@ use Rattle.declared_names.specs.Names.{place_of}
 use Rattle.variable_binding.specs.PinKinds.{field_kind}
 use Rattle.variable_binding.specs.BindFaults.{IsVariable}
 use Rattle.variable_binding.specs.Steps.Named.{IsDeclaredVariable, AreNamed}
-use Rattle.power_flow.specs.declared.state.Instance.{Instance}
-use Rattle.power_flow.specs.declared.state.Slot.{Slot}
-use Rattle.power_flow.specs.declared.state.Slot.TheVariants.{Variable, Block}
-use Rattle.power_flow.specs.declared.binding.bound_box.BoundBox.{BoundBox}
-use Rattle.power_flow.specs.declared.binding.bound_box.BoundOutput.{BoundOutput}
+use Rattle.scan_steps.specs.declared.slot.Instance.{Instance}
+use Rattle.scan_steps.specs.declared.slot.Slot.{Slot}
+use Rattle.scan_steps.specs.declared.slot.Slot.TheVariants.{Variable, Block}
+use Rattle.scan_steps.specs.declared.bound_box.BoundBox.{BoundBox}
+use Rattle.scan_steps.specs.declared.bound_box.BoundOutput.{BoundOutput}
 use Rattle.power_flow.specs.Meaning.{stored}
-use Rattle.power_flow.specs.Steps.BoxSteps.{AreApartBoxes, pin_store, pin_stores, output_stores, with_blocks, HasNoBox, AreBlocksKept}
+use Rattle.power_flow.specs.Steps.BoxStores.{AreApartBoxes, pin_store, pin_stores, output_stores, with_blocks, HasNoBox, AreBlocksKept}
 use Rattle.power_flow.specs.Steps.BoxTable.{IsBoundOutput, IsBoundBox, right_pins, boxes_of}
 use Rattle.power_flow.proofs.Stepping.{stored-append}
 use Rattle.power_flow.proofs.BoxesBinding.{declared_place}

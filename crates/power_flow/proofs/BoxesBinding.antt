@@ -4,8 +4,8 @@ use Rattle.std.specs.List.{AllZip, cons_option}
 use Rattle.std.specs.Option.{option_and_then, option_map}
 use Rattle.variable_binding.specs.Lookup.{declared_at}
 use Rattle.declared_names.specs.declared.declarations.Declared.{Declared}
-use Rattle.power_flow.specs.declared.binding.source.Source.{Source}
-use Rattle.power_flow.specs.declared.binding.source.Source.TheVariants as source
+use Rattle.scan_steps.specs.declared.source.Source.{Source}
+use Rattle.scan_steps.specs.declared.source.Source.TheVariants as source
 use Rattle.std.proofs.lemmas.List.{take_more, append-nil}
 use Rattle.std.proofs.lemmas.List.Elements.{filter_map-append, All-nil, All-cons}
 use Rattle.lists.proofs.Places.{some_same}
@@ -22,7 +22,7 @@ use Rattle.drawings.specs.declared.drawn_box.Side.TheVariants.{Left, Right}
 use Rattle.network.specs.declared.element.Element.{Element}
 use Rattle.network.specs.declared.element.Element.TheVariants.{Wire, Join, Upright, Contact, Coil, Box}
 use Rattle.declared_names.specs.declared.declarations.Declaration.{Declaration}
-use Rattle.power_flow.specs.declared.binding.bound_box.BoundOutput.{BoundOutput}
+use Rattle.scan_steps.specs.declared.bound_box.BoundOutput.{BoundOutput}
 use Rattle.declared_names.specs.Names.{place_of}
 use Rattle.power_flow.specs.Meaning.{IsDrawn}
 use Rattle.variable_binding.specs.Steps.Named.{IsDrawnOnce, AreInRange, IsInRange}

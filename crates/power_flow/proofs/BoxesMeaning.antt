@@ -31,23 +31,28 @@ use Rattle.std_blocks.specs.Pins.{field_value, pin_of, output}
 use Rattle.std_blocks.specs.Blocks.{bit, after, outputs_after}
 use Rattle.declared_names.specs.declared.declarations.Declaration.{Declaration}
 use Rattle.power_flow.specs.declared.steps.circuit.Circuit.{Circuit}
-use Rattle.power_flow.specs.declared.state.Instance.{Instance}
-use Rattle.power_flow.specs.declared.state.Slot.{Slot}
-use Rattle.power_flow.specs.declared.state.Slot.TheVariants.{Block}
-use Rattle.power_flow.specs.declared.binding.bound_box.BoundBox.{BoundBox}
-use Rattle.power_flow.specs.declared.binding.bound_box.BoundOutput.{BoundOutput}
-use Rattle.power_flow.specs.declared.steps.step.Step.{Step}
-use Rattle.power_flow.specs.declared.steps.step.BoundCoil.{BoundCoil}
-use Rattle.power_flow.specs.declared.binding.source.Source.TheVariants as source
+use Rattle.scan_steps.specs.declared.slot.Instance.{Instance}
+use Rattle.scan_steps.specs.declared.slot.Slot.{Slot}
+use Rattle.scan_steps.specs.declared.slot.Slot.TheVariants.{Block}
+use Rattle.scan_steps.specs.declared.bound_box.BoundBox.{BoundBox}
+use Rattle.scan_steps.specs.declared.bound_box.BoundOutput.{BoundOutput}
+use Rattle.scan_steps.specs.declared.step.Step.{Step}
+use Rattle.scan_steps.specs.declared.step.BoundCoil.{BoundCoil}
+use Rattle.scan_steps.specs.declared.source.Source.TheVariants as source
 use Rattle.declared_names.specs.Names.{place_of}
-use Rattle.power_flow.specs.Values.{value_at, value_of, slot_value, is_true, int_or_zero, time_or_zero}
-use Rattle.power_flow.specs.Steps.Sources.{source_value, source_bit, name_source}
-use Rattle.power_flow.specs.Meaning.{Moment, moment, bit_at, conducts, element_conducts, contact_conducts, contact_memory, coil_value, coil_memory, IsOutputOn, IsSource, HasPower, IsInputBit, AreInputs, BlocksStep, NetworkMeaning, next_memory, stored, stores, store, side_stores, result_stores, coil_stores}
-use Rattle.power_flow.specs.Steps.BoxSteps.{bit_source, box_inputs, box_result, state_in, IsMarked, pin_store, pin_stores, output_stores}
-use Rattle.power_flow.specs.StateValue.{AreSlotsOf}
+use Rattle.power_flow.specs.Values.{value_at, value_of, slot_value}
+use Rattle.scan_steps.specs.Values.{is_true, int_or_zero, time_or_zero}
+use Rattle.scan_steps.specs.Steps.Sources.{source_value, source_bit}
+use Rattle.power_flow.specs.Steps.NameSources.{name_source}
+use Rattle.power_flow.specs.Meaning.{Moment, moment, conducts, element_conducts, coil_value, coil_memory, IsOutputOn, IsSource, HasPower, IsInputBit, AreInputs, BlocksStep, NetworkMeaning, next_memory, stored, stores, store, side_stores, result_stores, coil_stores}
+use Rattle.scan_steps.specs.Conducting.{bit_at, contact_conducts, contact_memory}
+use Rattle.scan_steps.specs.Steps.BoxSteps.{bit_source, box_inputs, box_result, state_in, IsMarked}
+use Rattle.power_flow.specs.Steps.BoxStores.{pin_store, pin_stores, output_stores}
+use Rattle.scan_steps.specs.Slots.{AreSlotsOf}
 use Rattle.power_flow.specs.Steps.BoxTable.{IsBitSource, IsBoundOutput, IsBoundBox, AreBoundBoxes, right_pin, right_pins, boxes_of}
 use Rattle.power_flow.specs.Steps.Circuit.{IsCircuit, bound_coil, bound_coils}
-use Rattle.power_flow.specs.Steps.Passing.{Pass, ArePassed, bound_stores, bound_memories}
+use Rattle.scan_steps.specs.Steps.Passing.{Pass, ArePassed}
+use Rattle.power_flow.specs.Steps.CoilStores.{bound_stores, bound_memories}
 use Rattle.power_flow.specs.Waiting.{box_of, coils_of}
 use Rattle.power_flow.proofs.Lists.{same_bit}
 use Rattle.power_flow.proofs.Stepping.{stored-append}

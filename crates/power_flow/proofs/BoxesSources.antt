@@ -28,19 +28,21 @@ use Rattle.std_blocks.specs.Blocks.{state_after, after}
 use Rattle.declared_names.specs.declared.declarations.Declaration.{Declaration}
 use Rattle.declared_names.specs.declared.declarations.Declared.{Declared}
 use Rattle.declared_names.specs.declared.declarations.Declared.TheVariants as declared
-use Rattle.power_flow.specs.declared.state.Instance.{Instance}
-use Rattle.power_flow.specs.declared.state.Slot.{Slot}
-use Rattle.power_flow.specs.declared.state.Slot.TheVariants.{Variable, Block}
-use Rattle.power_flow.specs.declared.binding.source.Source.{Source}
-use Rattle.power_flow.specs.declared.binding.source.Source.TheVariants as source
-use Rattle.power_flow.specs.declared.binding.bound_box.BoundBox.{BoundBox}
+use Rattle.scan_steps.specs.declared.slot.Instance.{Instance}
+use Rattle.scan_steps.specs.declared.slot.Slot.{Slot}
+use Rattle.scan_steps.specs.declared.slot.Slot.TheVariants.{Variable, Block}
+use Rattle.scan_steps.specs.declared.source.Source.{Source}
+use Rattle.scan_steps.specs.declared.source.Source.TheVariants as source
+use Rattle.scan_steps.specs.declared.bound_box.BoundBox.{BoundBox}
 use Rattle.declared_names.specs.Names.{place_of, is_dot}
-use Rattle.power_flow.specs.Values.{value_of, slot_value, shown_at, is_true}
+use Rattle.power_flow.specs.Values.{value_of, slot_value, shown_at}
+use Rattle.scan_steps.specs.Values.{is_true}
 use Rattle.variable_binding.specs.Literals.{literal_value}
 use Rattle.power_flow.specs.Values.{text_value, value_or}
-use Rattle.power_flow.specs.Steps.Sources.{source_value, source_bit, slot_output, output_source, declared_source, name_source, operand_source, pin_source}
-use Rattle.power_flow.specs.StateValue.{variable_of}
-use Rattle.power_flow.specs.StateValue.{IsSlotOf, AreSlotsOf}
+use Rattle.scan_steps.specs.Steps.Sources.{source_value, source_bit, slot_output}
+use Rattle.power_flow.specs.Steps.NameSources.{output_source, declared_source, name_source, operand_source, pin_source}
+use Rattle.scan_steps.specs.Slots.{variable_of}
+use Rattle.scan_steps.specs.Slots.{IsSlotOf, AreSlotsOf}
 use Rattle.power_flow.specs.Steps.BoxTable.{IsBlockAt, IsBoundBox, right_pin, right_pins, boxes_of}
 
 -- the boxes are the elements that are boxes

@@ -12,9 +12,9 @@ use Rattle.network.specs.declared.element.Element.{Element}
 use Rattle.network.specs.declared.element.Element.TheVariants.{Wire, Join, Upright, Contact, Coil, Box}
 use Rattle.network.specs.GraphValue.{diagram, IsSoundNetwork}
 use Rattle.declared_names.specs.declared.declarations.Declaration.{Declaration}
-use Rattle.power_flow.specs.declared.binding.bound_box.BoundBox.{BoundBox}
+use Rattle.scan_steps.specs.declared.bound_box.BoundBox.{BoundBox}
 use Rattle.declared_names.specs.Names.{place_of}
-use Rattle.power_flow.specs.Steps.BoxSteps.{AreApartBoxes}
+use Rattle.power_flow.specs.Steps.BoxStores.{AreApartBoxes}
 use Rattle.power_flow.specs.Steps.BoxTable.{IsBoundBox, AreBoundBoxes, AreByColumn, boxes_of}
 use Rattle.power_flow.proofs.BoxesSources.{box_in}
 

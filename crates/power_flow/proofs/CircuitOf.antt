@@ -13,13 +13,14 @@ use Rattle.network.specs.declared.element.Element.{Element}
 use Rattle.network.specs.declared.element.Element.TheVariants.{Wire, Join, Upright, Contact, Coil, Box}
 use Rattle.network.specs.Links.{Diagram, place}
 use Rattle.declared_names.specs.declared.declarations.Declaration.{Declaration}
-use Rattle.power_flow.specs.declared.steps.step.Step.{Step}
-use Rattle.power_flow.specs.declared.steps.step.Step.TheVariants as step
-use Rattle.power_flow.specs.declared.steps.step.BoundCoil.{BoundCoil}
+use Rattle.scan_steps.specs.declared.step.Step.{Step}
+use Rattle.scan_steps.specs.declared.step.Step.TheVariants as step
+use Rattle.scan_steps.specs.declared.step.BoundCoil.{BoundCoil}
 use Rattle.power_flow.specs.Steps.Columns.{Begins, Joins, IsLeftPinBegun, left_pin, left_pins, joined, AreStepsOf, AreSteps}
 use Rattle.power_flow.specs.Steps.Columns.Begins.{goes_on, at_rail, is_off}
 use Rattle.power_flow.specs.Steps.Columns.Joins.{within, lowest}
-use Rattle.power_flow.specs.Steps.Circuit.{IsStepIn, bound_coil, bound_coils}
+use Rattle.scan_steps.specs.Steps.Passing.{IsStepIn}
+use Rattle.power_flow.specs.Steps.Circuit.{bound_coil, bound_coils}
 use Rattle.power_flow.specs.Steps.RowEnds.{AreRows}
 use Rattle.power_flow.specs.Waiting.{coil_of, coils_of, box_of, boxes_of}
 use Rattle.power_flow.proofs.BoxesTable.{all_boxes}

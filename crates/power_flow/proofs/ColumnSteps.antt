@@ -21,20 +21,21 @@ use Rattle.network.specs.Links.{Diagram, place, Gives, Takes, Stands}
 use Rattle.network.specs.Apart.{first_place, Has}
 use Rattle.network.specs.GraphValue.{IsSoundNetwork}
 use Rattle.power_flow.specs.Power.{IsOn}
-use Rattle.power_flow.specs.Meaning.{bit_at, contact_conducts, contact_memory}
+use Rattle.scan_steps.specs.Conducting.{bit_at, contact_conducts, contact_memory}
 use Rattle.declared_names.specs.declared.declarations.Declaration.{Declaration}
-use Rattle.power_flow.specs.declared.state.Instance.{Instance}
-use Rattle.power_flow.specs.declared.state.Slot.{Slot}
-use Rattle.power_flow.specs.declared.binding.bound_box.BoundBox.{BoundBox}
-use Rattle.power_flow.specs.declared.steps.step.Step.{Step}
-use Rattle.power_flow.specs.declared.steps.step.Step.TheVariants as step
-use Rattle.power_flow.specs.Values.{is_true}
-use Rattle.power_flow.specs.Steps.Sources.{source_value, name_source}
+use Rattle.scan_steps.specs.declared.slot.Instance.{Instance}
+use Rattle.scan_steps.specs.declared.slot.Slot.{Slot}
+use Rattle.scan_steps.specs.declared.bound_box.BoundBox.{BoundBox}
+use Rattle.scan_steps.specs.declared.step.Step.{Step}
+use Rattle.scan_steps.specs.declared.step.Step.TheVariants as step
+use Rattle.scan_steps.specs.Values.{is_true}
+use Rattle.scan_steps.specs.Steps.Sources.{source_value}
+use Rattle.power_flow.specs.Steps.NameSources.{name_source}
 use Rattle.power_flow.specs.Steps.Columns.{IsStop, IsLed, Begins, Joins, left_pin, left_pins, IsLeftPinBegun, joined, AreStepsOf}
 use Rattle.power_flow.specs.Steps.Columns.Begins.{goes_on, at_rail, is_off}
 use Rattle.power_flow.specs.Steps.Columns.Joins.{within, lowest}
-use Rattle.power_flow.specs.Steps.Passing.{Pass, AreJoined, IsBoxObeyed, ArePassed}
-use Rattle.power_flow.specs.Steps.BoxSteps.{box_result, IsMarked, HasOutput}
+use Rattle.scan_steps.specs.Steps.Passing.{Pass, AreJoined, IsBoxObeyed, ArePassed}
+use Rattle.scan_steps.specs.Steps.BoxSteps.{box_result, IsMarked, HasOutput}
 use Rattle.power_flow.specs.Steps.BoxTable.{IsBoundBox, IsBoundOutput, AreBoundBoxes, right_pins}
 use Rattle.power_flow.specs.Waiting.{box_of, boxes_of, coil_of, coils_of}
 use Rattle.power_flow.proofs.PowerLemmas.{on_source}

@@ -2,7 +2,7 @@
 use Rattle.std.proofs.Common.{◌≡◌, ℕ, zero, suc, ◌<◌, ◌≤◌, ◌⊎◌, ◌↔◌, inl, inr, List, [], ◌∷◌, ◌++◌, take, drop, take-append-drop, Bool, Option, Some, None, IsTrue, Contains, MatchOption, ℤ, length, slice_get, arith, refl, sym, ap, ◌∙◌, subst, map}
 use Rattle.std.specs.Option.{option_and_then}
 use Rattle.std.specs.List.{enumerate_from}
-use Rattle.power_flow.specs.Meaning.{bit_at}
+use Rattle.scan_steps.specs.Conducting.{bit_at}
 use Rattle.std.proofs.lemmas.Bool.{cases_eq}
 use Rattle.lists.proofs.Places.{same_by_slice_get}
 use Rattle.lists.proofs.Members.{cons_later, cons_cases, cons_first}
@@ -18,11 +18,12 @@ use Rattle.std_blocks.specs.declared.pins.PinsIn.{PinsIn}
 use Rattle.std_blocks.specs.declared.pin.Field.TheVariants.{Bit}
 use Rattle.std_blocks.specs.Blocks.{bit, after, outputs_after}
 use Rattle.declared_names.specs.declared.declarations.Declaration.{Declaration}
-use Rattle.power_flow.specs.declared.state.Instance.{Instance}
-use Rattle.power_flow.specs.declared.state.Slot.{Slot}
-use Rattle.power_flow.specs.declared.state.Slot.TheVariants.{Variable, Block}
+use Rattle.scan_steps.specs.declared.slot.Instance.{Instance}
+use Rattle.scan_steps.specs.declared.slot.Slot.{Slot}
+use Rattle.scan_steps.specs.declared.slot.Slot.TheVariants.{Variable, Block}
 use Rattle.declared_names.specs.Names.{place_of}
-use Rattle.power_flow.specs.Values.{value_at, value_of, slot_value, is_true}
+use Rattle.power_flow.specs.Values.{value_at, value_of, slot_value}
+use Rattle.scan_steps.specs.Values.{is_true}
 use Rattle.power_flow.specs.Meaning.{Moment, moment, HasPower, IsSource, IsOutputOn, AreInputs, IsInputBit, IsDrawn, BlocksStep, conducts, AreLinks, NetworkMeaning, next_memory, stored, stores}
 use Rattle.power_flow.specs.Scan.{AreWide, AllAreWide, ScanMeaning}
 use Rattle.power_flow.proofs.PowerLemmas.{on_sources}

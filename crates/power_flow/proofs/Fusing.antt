@@ -2,14 +2,14 @@
 use Rattle.std.proofs.Common.{◌≡◌, ℕ, ◌+◌, List, [], ◌∷◌, ◌++◌, All, append_assoc, false, true, slice_set, arith, refl, sym, ap, ◌∙◌, subst}
 use Rattle.std.proofs.lemmas.List.{append-nil}
 use Rattle.std.proofs.lemmas.List.Elements.{All-cons, All-head, All-tail}
-use Rattle.power_flow.specs.declared.binding.bound_box.BoundBox.{BoundBox}
-use Rattle.power_flow.specs.declared.state.Slot.{Slot}
-use Rattle.power_flow.specs.declared.steps.step.Step.{Step}
-use Rattle.power_flow.specs.declared.steps.step.Step.TheVariants as step
-use Rattle.power_flow.specs.Steps.Circuit.{IsStepIn}
-use Rattle.power_flow.specs.Steps.Contacts.{contact_of, first_of, second_of}
+use Rattle.scan_steps.specs.declared.bound_box.BoundBox.{BoundBox}
+use Rattle.scan_steps.specs.declared.slot.Slot.{Slot}
+use Rattle.scan_steps.specs.declared.step.Step.{Step}
+use Rattle.scan_steps.specs.declared.step.Step.TheVariants as step
+use Rattle.scan_steps.specs.Steps.Passing.{IsStepIn}
+use Rattle.scan_steps.specs.Steps.Contacts.{contact_of, first_of, second_of}
 use Rattle.power_flow.specs.Steps.Fused.{single, singles}
-use Rattle.power_flow.specs.Steps.Passing.{Pass, IsObeyed, ArePassed, read_rows, read_memories}
+use Rattle.scan_steps.specs.Steps.Passing.{Pass, IsObeyed, ArePassed, read_rows, read_memories}
 
 -- one more step
 pub singles_push : (xs : List Step) (s : Step) → singles (xs ++ s ∷ []) ≡ singles xs ++ single s

@@ -16,13 +16,14 @@ use Rattle.declared_names.specs.declared.declarations.Declaration.{Declaration}
 use Rattle.declared_names.specs.declared.declarations.Declared.{Declared}
 use Rattle.declared_names.specs.declared.declarations.Declared.TheVariants.{Input, Output, Local, Instance}
 use Rattle.declared_names.specs.declared.declarations.Kind.TheVariants as kind
-use Rattle.power_flow.specs.declared.state.Slot.{Slot}
-use Rattle.power_flow.specs.declared.state.Slot.TheVariants.{Variable}
-use Rattle.power_flow.specs.Meaning.{bit_at}
+use Rattle.scan_steps.specs.declared.slot.Slot.{Slot}
+use Rattle.scan_steps.specs.declared.slot.Slot.TheVariants.{Variable}
+use Rattle.scan_steps.specs.Conducting.{bit_at}
 use Rattle.declared_names.specs.Names.{place_of}
 use Rattle.power_flow.specs.Values.{value_at, slot_value}
-use Rattle.variable_binding.specs.Kinds.{kind_of}
-use Rattle.power_flow.specs.StateValue.{StateValue, IsSlotOf, AreSlotsOf}
+use Rattle.declared_names.specs.Kinds.{kind_of}
+use Rattle.power_flow.specs.StateValue.{StateValue}
+use Rattle.scan_steps.specs.Slots.{IsSlotOf, AreSlotsOf}
 use Rattle.drawings.specs.declared.place.Place.{Place}
 use Rattle.std.proofs.lemmas.List.Sums.{sum_by-cons}
 use Rattle.power_flow.specs.declared.steps.circuit.Circuit.{Circuit}
@@ -30,8 +31,8 @@ use Rattle.power_flow.specs.Steps.Circuit.{circuit_diagram}
 use Rattle.power_flow.specs.LadderValue.{LadderValue, Fits}
 use Rattle.variable_binding.specs.BindFaults.{IsVariable}
 use Rattle.declared_names.specs.declared.declarations.Kind.{Kind}
-use Rattle.power_flow.specs.declared.state.Instance.{Instance as InstanceRecord}
-use Rattle.power_flow.specs.declared.state.Slot.TheVariants.{Block}
+use Rattle.scan_steps.specs.declared.slot.Instance.{Instance as InstanceRecord}
+use Rattle.scan_steps.specs.declared.slot.Slot.TheVariants.{Block}
 use Rattle.variable_binding.specs.PinKinds.{field_kind}
 use Rattle.variable_binding.specs.Steps.Named.{IsNamedBox, IsDeclaredVariable, AreNamed}
 use Rattle.std_blocks.specs.declared.pin.Field.{Field}

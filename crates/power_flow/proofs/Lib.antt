@@ -11,15 +11,12 @@ pub mod Uprights
 pub mod Scanning
 pub mod Stepping
 pub mod Determinism
-pub mod PairSteps
-pub mod Slots
 pub mod Binds
 pub mod LeastRoom
 pub mod OneLadder
 pub mod FittingStates
 pub mod SameNetworks
 pub mod KeptSlots
-pub mod BoxesStepping
 pub mod BlocksStored
 pub mod BoxesSources
 pub mod BoxesMeaning

@@ -3,12 +3,12 @@ use Rattle.std.proofs.Common.{◌≡◌, ℕ, List, ◌∷◌, ◌++◌, Bool, l
 use Rattle.std.proofs.Math.Seq.{take-append_seam, drop-append_seam}
 use Rattle.drawings.specs.declared.place.Place.{Place}
 use Rattle.declared_names.specs.declared.declarations.Declaration.{Declaration}
-use Rattle.power_flow.specs.declared.state.Slot.{Slot}
+use Rattle.scan_steps.specs.declared.slot.Slot.{Slot}
 use Rattle.power_flow.specs.declared.steps.circuit.Circuit.{Circuit}
 use Rattle.power_flow.specs.Meaning.{NetworkMeaning, moment}
 use Rattle.power_flow.specs.Steps.Circuit.{IsCircuit, AreCircuits, circuit_diagram}
 use Rattle.power_flow.specs.Scan.{ScanMeaning, AreWide, AllAreWide}
-use Rattle.power_flow.specs.StateValue.{AreSlotsOf}
+use Rattle.scan_steps.specs.Slots.{AreSlotsOf}
 use Rattle.power_flow.proofs.KeptSlots.{meaning_keeps}
 
 -- the first network, and then the others

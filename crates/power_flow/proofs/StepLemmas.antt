@@ -18,10 +18,10 @@ use Rattle.network.specs.declared.element.Element.TheVariants.{Wire, Join, Uprig
 use Rattle.network.specs.Links.{Diagram, Gives, place}
 use Rattle.network.specs.Apart.{first_place}
 use Rattle.declared_names.specs.declared.declarations.Declaration.{Declaration}
-use Rattle.power_flow.specs.declared.binding.source.Source.{Source}
-use Rattle.power_flow.specs.declared.steps.step.Step.{Step}
-use Rattle.power_flow.specs.declared.steps.step.Step.TheVariants as step
-use Rattle.power_flow.specs.Steps.Sources.{name_source}
+use Rattle.scan_steps.specs.declared.source.Source.{Source}
+use Rattle.scan_steps.specs.declared.step.Step.{Step}
+use Rattle.scan_steps.specs.declared.step.Step.TheVariants as step
+use Rattle.power_flow.specs.Steps.NameSources.{name_source}
 use Rattle.power_flow.specs.Steps.Columns.{Begins, Joins, IsLeftPinBegun, left_pin, left_pins, joined, AreStepsOf, AreSteps}
 use Rattle.power_flow.specs.Steps.RowEnds.{AreRows, AreEndsTo, TellsLed, ArePushed, AreStepsTo}
 use Rattle.power_flow.specs.Waiting.{coil_of, coils_of, boxes_of}

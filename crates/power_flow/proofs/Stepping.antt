@@ -1,8 +1,8 @@
 -- Stores one after the other.
 use Rattle.std.proofs.Common.{◌≡◌, ℕ, List, [], ◌∷◌, ◌++◌, set, refl}
 use Rattle.std_blocks.specs.declared.value.Value.{Value}
-use Rattle.power_flow.specs.declared.state.Slot.{Slot}
-use Rattle.power_flow.specs.declared.state.Slot.TheVariants.{Variable}
+use Rattle.scan_steps.specs.declared.slot.Slot.{Slot}
+use Rattle.scan_steps.specs.declared.slot.Slot.TheVariants.{Variable}
 use Rattle.power_flow.specs.Meaning.{stored}
 
 -- stores in two parts

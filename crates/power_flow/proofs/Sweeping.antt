@@ -12,7 +12,7 @@ use Rattle.network.specs.Links.{Diagram, place, IsSymbolPlace, Gives, Takes, Sta
 use Rattle.network.specs.Apart.{first_place, Has}
 use Rattle.network.specs.GraphValue.{IsSoundNetwork}
 use Rattle.power_flow.specs.Power.{IsWalk, IsOn, SymbolEndsAt, EndsAt}
-use Rattle.power_flow.specs.Meaning.{bit_at}
+use Rattle.scan_steps.specs.Conducting.{bit_at}
 use Rattle.power_flow.specs.Steps.Columns.{IsStop, IsLed, StandsIn, IsUpright}
 use Rattle.power_flow.proofs.PowerLemmas.{on_source, on_step}
 use Rattle.power_flow.proofs.Walking as walking

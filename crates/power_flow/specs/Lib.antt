@@ -5,5 +5,4 @@ pub mod LadderValue
 pub mod Waiting
 pub mod Values
 pub mod Scan
-pub mod First
 pub mod Steps

@@ -1,17 +1,16 @@
 -- The values that names and operands stand for.
-use Rattle.std.specs.Prelude.{ℤ, pos, ℕ, List, [], ◌∷◌, Bool, false, Option, Some, None, if◌then◌else◌, slice_get}
+use Rattle.std.specs.Prelude.{ℕ, List, [], ◌∷◌, Option, Some, None, if◌then◌else◌, slice_get}
 use Rattle.std.specs.List.{before_first, after_first}
 use Rattle.std.specs.Option.{option_and_then}
 use Rattle.std_blocks.specs.declared.value.Value.{Value}
-use Rattle.std_blocks.specs.declared.value.Value.TheVariants.{Bool as BoolValue, Int, Time}
 use Rattle.std_blocks.specs.declared.pin.Pin.{Pin}
 use Rattle.std_blocks.specs.declared.pins.PinsOut.{PinsOut}
 use Rattle.std_blocks.specs.Pins.{pin_of, field_value}
 use Rattle.declared_names.specs.declared.declarations.Declaration.{Declaration}
 use Rattle.declared_names.specs.Names.{place_of, is_dot}
 use Rattle.variable_binding.specs.Literals.{literal_value}
-use Rattle.power_flow.specs.declared.state.Slot.{Slot}
-use Rattle.power_flow.specs.declared.state.Slot.TheVariants.{Variable, Block}
+use Rattle.scan_steps.specs.declared.slot.Slot.{Slot}
+use Rattle.scan_steps.specs.declared.slot.Slot.TheVariants.{Variable, Block}
 
 -- what an output pin shows; an input pin shows nothing
 abbrev pub shown_at : PinsOut → Pin → Option Value
@@ -32,25 +31,6 @@ value_at declarations slots name pin =
 -- the value that a name stands for, as `A` or `T1.Q`
 unfoldable pub value_of : List Declaration → List Slot → List ℕ → Option Value
 value_of declarations slots name = value_at declarations slots (before_first is_dot name) (after_first is_dot name)
-
--- whether a value is TRUE
-abbrev pub is_true : Option Value → Bool
-is_true None = false
-is_true (Some (BoolValue b)) = b
-is_true (Some (Int n)) = false
-is_true (Some (Time t)) = false
-
-abbrev pub int_or_zero : Option Value → ℤ
-int_or_zero None = pos 0
-int_or_zero (Some (BoolValue b)) = pos 0
-int_or_zero (Some (Int n)) = n
-int_or_zero (Some (Time t)) = pos 0
-
-abbrev pub time_or_zero : Option Value → ℕ
-time_or_zero None = 0
-time_or_zero (Some (BoolValue b)) = 0
-time_or_zero (Some (Int n)) = 0
-time_or_zero (Some (Time t)) = t
 
 -- the first value, or else the second
 abbrev pub value_or : Option Value → Option Value → Option Value

@@ -36,7 +36,8 @@ coil_of (Box b) = None
 abbrev pub coils_of : List Element → List DrawnCoil
 coils_of elements = filter_map coil_of elements
 
--- a ladder has as many waiting places as the largest of its networks takes: a link state for each coil, and a result for each box
+-- a ladder has as many waiting places as the largest of its networks takes: a link state for each coil, and a result
+-- for each box
 pub record HasJustRoom (l : LadderValue) : Type 0 where
   pub links : l.waiting_links ≡ most (map (λ d. length (coils_of d.elements)) l.networks)
   pub results : l.waiting_results ≡ most (map (λ d. length (boxes_of d.elements)) l.networks)

@@ -1,6 +1,4 @@
 //! What the names of a network are bound to: the sources that are read, and the places at which it stores.
 
-pub mod bound_box;
-pub mod bound_contact;
 pub mod box_binding;
 pub mod source;

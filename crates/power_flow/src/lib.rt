@@ -2,7 +2,6 @@
 #![tactic(auto)]
 
 mod binding;
-mod fits;
 mod ladder;
 mod laws;
 mod scan;
@@ -11,7 +10,8 @@ mod steps;
 
 pub use ladder::Ladder;
 pub use laws::{fitting_states_are_equal, one_ladder, one_scan};
-pub use state::{Instance, Slot, State};
+pub use scan_steps::{Instance, Slot};
+pub use state::State;
 pub use variable_binding::{
     BindFault, BindKind, Declaration, Declarations, DeclareFault, Declared, Guess, Kind,
     first_value, kind_of,

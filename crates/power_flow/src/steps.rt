@@ -7,6 +7,4 @@ pub mod room;
 pub mod row_ends;
 pub mod rows;
 pub mod same_elements;
-pub mod step;
 pub mod steps;
-pub mod variable_pair;

@@ -20,7 +20,8 @@ pub record ProgramValue : Type 0 where
   pub name : List ℕ
   pub ladder : LadderValue
 
--- The code of a task: its programs in order, the bound inputs of each, the tasks from which it takes, the kinds expected of the image of each, and its own outputs.
+-- The code of a task: its programs in order, the bound inputs of each, the tasks from which it takes, the kinds
+-- expected of the image of each, and its own outputs.
 pub record CodeValue : Type 0 where
   pub programs : List ProgramValue
   pub bindings : List (List Binding)
@@ -35,7 +36,13 @@ lists_of xs = map (λ x. x.items) xs
 -- the code of these parts
 abbrev pub code_with : Vec ProgramValue → Vec (Vec Binding) → Vec TaskRef → Vec (Vec Kind) → Vec TaskOutput → CodeValue
 code_with programs bindings producers expected outputs =
-    record { programs = programs.items; bindings = lists_of bindings.items; producers = producers.items; expected = lists_of expected.items; outputs = outputs.items }
+    record {
+      programs = programs.items;
+      bindings = lists_of bindings.items;
+      producers = producers.items;
+      expected = lists_of expected.items;
+      outputs = outputs.items;
+    }
 
 -- the kind of a variable that is an output
 abbrev pub output_kind : Declared → Option Kind
@@ -46,7 +53,8 @@ output_kind (Instance b) = None
 
 -- the output that variable k of program i is, if it is one
 abbrev pub output_at : ℕ → ℕ → Declaration → List TaskOutput
-output_at i k d = items_or_none (option_map (λ kind. (record { program = i; place = k; kind = kind }) ∷ []) (output_kind d.declared))
+output_at i k d =
+    items_or_none (option_map (λ kind. (record { program = i; place = k; kind = kind }) ∷ []) (output_kind d.declared))
 
 -- the outputs among the variables of program i, in order of declaration
 abbrev pub outputs_in : ℕ → List Declaration → List TaskOutput
@@ -75,11 +83,13 @@ source_kind c (Given p o) = slice_get (expected_at c p) o
 
 -- an input stands at the binding's place, and its source gives values of its kind
 abbrev pub IsBindingSound : CodeValue → ProgramValue → Binding → Type 0
-IsBindingSound c p b = (k : Kind) × (input_kind_at p.ladder.declarations b.place ≡ Some k) × (source_kind c b.source ≡ Some k)
+IsBindingSound c p b = (k : Kind) × (input_kind_at p.ladder.declarations b.place ≡ Some k)
+    × (source_kind c b.source ≡ Some k)
 
 -- no place is bound twice
 abbrev pub AreOnce : List Binding → Type 0
-AreOnce bs = (j k : ℕ) (d : Binding) → j < length bs → k < length bs → (slice_index_or bs j d).place ≡ (slice_index_or bs k d).place → j ≡ k
+AreOnce bs = (j k : ℕ) (d : Binding) → j < length bs → k < length bs
+    → (slice_index_or bs j d).place ≡ (slice_index_or bs k d).place → j ≡ k
 
 -- the output is a VAR_OUTPUT of one of the programs
 pub record IsOutputOf (c : CodeValue) (o : TaskOutput) : Type 0 where
@@ -93,7 +103,8 @@ pub record IsOutputOf (c : CodeValue) (o : TaskOutput) : Type 0 where
 abbrev pub AreDistinct : List TaskRef → Type 0
 AreDistinct ts = (j k : ℕ) (t : TaskRef) → slice_get ts j ≡ Some t → slice_get ts k ≡ Some t → j ≡ k
 
--- A code by itself: each program has its bindings, each producer its kinds, no task is a producer twice, and the outputs are those of the programs.
+-- A code by itself: each program has its bindings, each producer its kinds, no task is a producer twice, and the
+-- outputs are those of the programs.
 pub record IsSoundCode (c : CodeValue) : Type 0 where
   pub each_bound : length c.bindings ≡ length c.programs
   pub each_expected : length c.expected ≡ length c.producers

@@ -7,8 +7,8 @@ use Rattle.std.proofs.KnownBytes.{Appends-nil, Appends-trans}
 use Rattle.std.specs.Io.KnownBytes.{Appends}
 use Rattle.network.specs.Links.{Diagram}
 use Rattle.declared_names.specs.declared.declarations.Declaration.{Declaration}
-use Rattle.power_flow.specs.declared.state.Slot.{Slot}
-use Rattle.power_flow.specs.First.{slot_first}
+use Rattle.scan_steps.specs.declared.slot.Slot.{Slot}
+use Rattle.scan_steps.specs.First.{slot_first}
 use Rattle.power_flow.specs.StateValue.{StateValue}
 use Rattle.power_flow.specs.Scan.{ScanMeaning}
 use Rattle.text_commands.specs.Rows.{RowValue, scans_of}

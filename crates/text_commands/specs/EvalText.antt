@@ -14,9 +14,9 @@ use Rattle.network.specs.Networks.{AreNetworks, HasFaultlessNetworks, IsFirstGra
 use Rattle.network.specs.declared.fault.GraphFault.{GraphFault}
 use Rattle.std_blocks.specs.declared.value.Value.TheVariants.{Bool as BoolValue}
 use Rattle.declared_names.specs.declared.declarations.Declaration.{Declaration}
-use Rattle.power_flow.specs.declared.state.Slot.{Slot}
-use Rattle.power_flow.specs.declared.state.Slot.TheVariants.{Variable}
-use Rattle.power_flow.specs.First.{slot_first}
+use Rattle.scan_steps.specs.declared.slot.Slot.{Slot}
+use Rattle.scan_steps.specs.declared.slot.Slot.TheVariants.{Variable}
+use Rattle.scan_steps.specs.First.{slot_first}
 use Rattle.variable_binding.specs.Guess.{AreGuessed}
 use Rattle.variable_binding.specs.Binding.{CanBind}
 use Rattle.power_flow.specs.Scan.{ScanMeaning}

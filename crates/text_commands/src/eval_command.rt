@@ -1,6 +1,6 @@
 ghost use Rattle.std.specs.Prelude.{◌≡◌, List, OnOk, IfOk, IfErr, OnErr, All, slice_get};
 ghost use Rattle.declared_names.specs.declared.declarations.Declaration.{Declaration};
-ghost use Rattle.power_flow.specs.StateValue.{AreSlotsOf};
+ghost use Rattle.scan_steps.specs.Slots.{AreSlotsOf};
 ghost use Rattle.text_commands.specs.Rows.{IsBoolAt, texts};
 ghost use Rattle.text_commands.specs.EvalText.{IsLadderOfDrawing, WritesScans, WritesSomeScans, WritesAll, Explains, set_digit, set_before};
 ghost use Rattle.text_commands.specs.Steps.Refusing.{RefusesLadder};

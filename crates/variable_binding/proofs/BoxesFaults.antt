@@ -30,7 +30,7 @@ use Rattle.declared_names.specs.declared.declarations.Declared.{Declared}
 use Rattle.declared_names.specs.declared.declarations.Declared.TheVariants as declared
 use Rattle.declared_names.specs.declared.declarations.Kind.{Kind}
 use Rattle.variable_binding.specs.PinKinds.{field_kind}
-use Rattle.variable_binding.specs.Kinds.{kind_of}
+use Rattle.declared_names.specs.Kinds.{kind_of}
 use Rattle.variable_binding.specs.Literals.{literal_value}
 use Rattle.variable_binding.specs.Lookup.{declared_at, is_dotted}
 use Rattle.variable_binding.specs.Steps.BoxFindings.{IsFaultlessBox, fault_here, instance_fault, type_number, pin_fault, same_field, same_pin, is_among, operand_finding, pin_findings, pins_findings, corner_findings, box_findings, own_field, field_on, kind_at, operand_fault, read_fault_at, read_fault_by, store_fault_at, store_fault_by, literal_fault, in_range, same_kind, name_kind, store_name_fault}

@@ -33,7 +33,7 @@ use Rattle.declared_names.specs.declared.declarations.Kind.{Kind}
 use Rattle.declared_names.specs.declared.declarations.Kind.TheVariants as kind
 use Rattle.declared_names.specs.Names.{is_dot}
 use Rattle.variable_binding.specs.PinKinds.{field_kind}
-use Rattle.variable_binding.specs.Kinds.{kind_of}
+use Rattle.declared_names.specs.Kinds.{kind_of}
 use Rattle.variable_binding.specs.Literals.{literal_value}
 use Rattle.variable_binding.specs.Lookup.{declared_at, is_dotted}
 use Rattle.variable_binding.specs.BindFaults.{IsBox, IsOperand, Reads, Stores, IsPinAt, EndsBefore, BeginsBehind, HasLine, HasLinedPin, HasForeignPin, HasSecondPin, LacksBit, IsNamedByNone, IsNamedOtherwise, unknown_read, unknown_stored, unknown_box, wrong_read, wrong_stored, wrong_literal, literal_stored, wrong_line, wrong_box, unknown_output, foreign_pin, second_pin, IsFaultOf, IsFaultIn}

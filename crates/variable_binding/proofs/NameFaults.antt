@@ -17,7 +17,7 @@ use Rattle.declared_names.specs.declared.declarations.Declared.TheVariants.{Inpu
 use Rattle.declared_names.specs.declared.declarations.Kind.{Kind}
 use Rattle.declared_names.specs.declared.declarations.Kind.TheVariants as kind
 use Rattle.declared_names.specs.Names.{is_dot}
-use Rattle.variable_binding.specs.Kinds.{kind_of}
+use Rattle.declared_names.specs.Kinds.{kind_of}
 use Rattle.variable_binding.specs.PinKinds.{field_kind}
 use Rattle.variable_binding.specs.Lookup.{declared_at, is_dotted}
 use Rattle.variable_binding.specs.BindFaults.{IsVariable, IsNameOf, IsUndeclared, IsVariableName, IsOutputName, CannotRead, reads_part, reads_instance, reads_other, CannotStore, stores_dotted, stores_instance, stores_other, IsInputName, LacksOutput, in_range}

@@ -1,4 +1,3 @@
-pub mod Kinds
 pub mod PinKinds
 pub mod Lookup
 pub mod Literals

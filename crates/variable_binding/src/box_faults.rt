@@ -7,10 +7,10 @@ ghost use Rattle.variable_binding.specs.Steps.BoxFindings.{same_kind, wants, out
 
 use crate::bind_fault::BindKind;
 use crate::finding::{Finding, earlier};
-use crate::kinds::{is_on_side, kind_of, kind_of_field};
+use crate::kinds::{is_on_side, kind_of_field};
 use crate::literal::{Literal, read_literal};
 use crate::names::{declared_at, parts};
-use declared_names::{Declarations, Declared, Kind};
+use declared_names::{Declarations, Declared, Kind, kind_of};
 use drawings::{DrawnBox, DrawnPin, Place, Side};
 use network::Element;
 use std_blocks::{BlockType, Field, Pin};

@@ -1,40 +1,9 @@
-ghost use Rattle.std.specs.Prelude.{◌≡◌, ◌↔◌, IsTrue};
-ghost use Rattle.variable_binding.specs.Kinds.{value_first};
+ghost use Rattle.std.specs.Prelude.{◌≡◌};
 ghost use Rattle.variable_binding.specs.PinKinds.{field_kind, stands_on, pin_kind};
-ghost use Rattle.variable_binding.specs.Kinds.{kind_of};
 
 use declared_names::Kind;
 use drawings::{DrawnPin, Side};
-use std_blocks::{BlockType, Field, Pin, Value};
-
-/// The kind of a value.
-pub fn kind_of(value: Value) -> Kind
-    ensures { result ≡ kind_of value }
-{
-    match value {
-        Value::Bool(_) => Kind::Bool,
-        Value::Int(_) => Kind::Int,
-        Value::Time(_) => Kind::Time,
-    }
-}
-
-/// Whether two values are of one kind.
-pub fn is_of_kind(value: Value, other: Value) -> bool
-    ensures { IsTrue result ↔ (kind_of value ≡ kind_of other) }
-{
-    kind_of(value) == kind_of(other)
-}
-
-/// FALSE, 0 or T#0ms.
-pub fn first_value(kind: Kind) -> Value
-    ensures { result ≡ value_first kind }
-{
-    match kind {
-        Kind::Bool => Value::Bool(false),
-        Kind::Int => Value::Int(0),
-        Kind::Time => Value::Time(0),
-    }
-}
+use std_blocks::{BlockType, Field, Pin};
 
 /// The kind of the values of a field.
 pub fn kind_of_field(field: Field) -> Kind

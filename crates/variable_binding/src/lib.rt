@@ -14,9 +14,9 @@ mod names;
 
 pub use bind_fault::{BindFault, BindKind};
 pub use declared_names::{
-    Declaration, Declarations, DeclareFault, Declared, Kind, names_of_one_place_are_one,
+    Declaration, Declarations, DeclareFault, Declared, Kind, first_value, is_of_kind, kind_of,
+    names_of_one_place_are_one,
 };
 pub use guess::Guess;
-pub use kinds::{first_value, is_of_kind, kind_of};
 pub use literal::literal_value;
 pub use names::parts;

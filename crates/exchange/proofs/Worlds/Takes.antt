@@ -5,7 +5,7 @@ use Rattle.std.specs.Prelude.{slice_get}
 use Rattle.std.proofs.lemmas.Bool.{or_right}
 use Rattle.std.proofs.lemmas.List.Folds.{list_any_at, Any-from_list_any}
 use Rattle.std.proofs.lemmas.Option.{same_Some, slice_get_within, slice_get_read, get_or_from_slice_get}
-use Rattle.variable_binding.specs.Kinds.{kind_of}
+use Rattle.declared_names.specs.Kinds.{kind_of}
 use Rattle.due_list.specs.declared.task_ref.TaskRef.{TaskRef}
 use Rattle.plant_grammar.specs.Kinds.{items_or_none}
 use Rattle.plant.specs.PlantValue.{PlantValue, code_at, codes_at, IsSoundPlant}

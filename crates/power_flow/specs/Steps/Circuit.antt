@@ -1,4 +1,4 @@
-use Rattle.std.specs.Prelude.{◌≡◌, ℕ, ◌+◌, ◌<◌, ◌≤◌, List, Option, Some, None, All, Contains, length}
+use Rattle.std.specs.Prelude.{◌≡◌, ℕ, ◌+◌, ◌<◌, ◌≤◌, List, Option, Some, None, All, Contains, length, map, slice_get}
 use Rattle.std.specs.List.{filter_map, enumerate_from, AllByRecursion}
 use Rattle.drawings.specs.declared.place.Place.{Place}
 use Rattle.network.specs.declared.element.Element.{Element}
@@ -8,37 +8,20 @@ use Rattle.network.specs.Apart.{Has}
 use Rattle.network.specs.GraphValue.{diagram, IsSoundNetwork}
 use Rattle.declared_names.specs.declared.declarations.Declaration.{Declaration}
 use Rattle.power_flow.specs.declared.steps.circuit.Circuit.{Circuit}
-use Rattle.power_flow.specs.declared.steps.step.Step.{Step}
-use Rattle.power_flow.specs.declared.steps.step.Step.TheVariants as step
-use Rattle.power_flow.specs.declared.steps.step.BoundCoil.{BoundCoil}
+use Rattle.scan_steps.specs.declared.step.Step.{Step}
+use Rattle.scan_steps.specs.declared.step.BoundCoil.{BoundCoil}
+use Rattle.scan_steps.specs.Steps.Passing.{IsStepIn}
 use Rattle.declared_names.specs.Names.{place_of}
 use Rattle.variable_binding.specs.Steps.Named.{AreNamed}
 use Rattle.power_flow.specs.Steps.Columns.{AreSteps}
 use Rattle.power_flow.specs.Steps.Fused.{singles}
 use Rattle.power_flow.specs.Steps.BoxTable.{AreBoundBoxes}
 
--- the numbers of a step stand for rows, memories, coils and boxes
-abbrev pub IsStepIn : ℕ → ℕ → ℕ → ℕ → Step → Type 0
-IsStepIn rows memories coils boxes (step.Rail row) = row < rows
-IsStepIn rows memories coils boxes (step.Off row) = row < rows
-IsStepIn rows memories coils boxes (step.Upright first last) = last < rows
-IsStepIn rows memories coils boxes (step.OffUpright row first last) = (row < rows) × (last < rows)
-IsStepIn rows memories coils boxes (step.Down row) = row + 1 < rows
-IsStepIn rows memories coils boxes (step.Up row) = row + 1 < rows
-IsStepIn rows memories coils boxes (step.Contact c) = (c.row < rows) × (c.memory < memories)
-IsStepIn rows memories coils boxes (step.RailContact v) = (v.row < rows) × (v.memory < memories)
-IsStepIn rows memories coils boxes (step.Pair pair places) =
-    (pair.first < rows) × (places.memory < memories) × (pair.second < rows) × (places.memory + 1 < memories)
-IsStepIn rows memories coils boxes (step.JoinedPair pair places) =
-    (pair.first < rows) × (places.memory < memories) × (pair.second < rows) × (places.memory + 1 < memories)
-IsStepIn rows memories coils boxes (step.Coil row k) = (row < rows) × (k < coils)
-IsStepIn rows memories coils boxes (step.Box k) = k < boxes
-IsStepIn rows memories coils boxes (step.BoxCoil k row coil) = (k < boxes) × (row < rows) × (coil < coils)
-
 -- the lists of a circuit fit each other
 pub record HasShape (c : Circuit) : Type 0 where
   pub low : c.rows ≤ 200
-  pub steps_in : All (λ s. IsStepIn c.rows (length c.elements.items) (length c.coils.items) (length c.boxes.items) s) c.steps.items
+  pub steps_in : All
+      (λ s. IsStepIn c.rows (length c.elements.items) (length c.coils.items) (length c.boxes.items) s) c.steps.items
   pub coils_in : All (λ x. x.memory < length c.elements.items) c.coils.items
   pub outputs_in : All (λ e. All (λ o. o.row < c.rows) e.outputs.items) c.boxes.items
 
@@ -77,6 +60,19 @@ pub record HasRoom (links results : ℕ) (c : Circuit) : Type 0 where
 -- what a circuit is made of, with the places of the left rail
 abbrev pub circuit_diagram : List Place → Circuit → Diagram
 circuit_diagram rails c = diagram rails c.elements.items
+
+-- the elements of each circuit
+abbrev pub all_elements : List Circuit → List (List Element)
+all_elements circuits = map (λ (c : Circuit). c.elements.items) circuits
+
+-- what the circuits are made of, with the places of the left rail
+abbrev pub circuit_diagrams : List Place → List Circuit → List Diagram
+circuit_diagrams rails circuits = map (circuit_diagram rails) circuits
+
+-- each network is sound, with the places of the left rail
+abbrev pub AreSoundNetworks : List Place → List (List Element) → Type 0
+AreSoundNetworks rails networks = (k : ℕ) (elements : List Element) → slice_get networks k ≡ Some elements
+    → IsSoundNetwork (diagram rails elements)
 
 -- each circuit is that of its diagram
 abbrev pub AreCircuits : List Declaration → List Place → List Circuit → Type 0

@@ -2,6 +2,7 @@
 use Rattle.std.specs.Prelude.{◌≡◌, ℕ, ◌+◌, ◌-◌, ◌≤◌, ◌⊎◌, List, [], ◌∷◌, ◌++◌, Option, Some, None, MatchOption, Contains, Any, slice_get, length, take}
 use Rattle.std.specs.List.{AllZip, filter_map}
 use Rattle.drawings.specs.declared.place.Place.{Place}
+use Rattle.drawings.specs.declared.contact.Contact.{Contact as DrawnContact}
 use Rattle.drawings.specs.declared.drawn_box.DrawnBox.{DrawnBox}
 use Rattle.drawings.specs.declared.drawn_box.DrawnPin.{DrawnPin}
 use Rattle.drawings.specs.declared.drawn_box.Side.{Side}
@@ -11,9 +12,9 @@ use Rattle.network.specs.declared.element.Element.TheVariants.{Wire, Join, Uprig
 use Rattle.network.specs.Links.{Diagram, place, Gives, Takes, Stands}
 use Rattle.network.specs.Apart.{first_place}
 use Rattle.declared_names.specs.declared.declarations.Declaration.{Declaration}
-use Rattle.power_flow.specs.declared.steps.step.Step.{Step}
-use Rattle.power_flow.specs.declared.steps.step.Step.TheVariants as step
-use Rattle.power_flow.specs.Steps.Sources.{name_source}
+use Rattle.scan_steps.specs.declared.step.Step.{Step}
+use Rattle.scan_steps.specs.declared.step.Step.TheVariants as step
+use Rattle.power_flow.specs.Steps.NameSources.{name_source}
 use Rattle.power_flow.specs.Waiting.{boxes_of, coils_of}
 
 -- state can come to the place p of this element, or the element begins there
@@ -54,7 +55,8 @@ pub record IsUpright (d : Diagram) (column first last : ℕ) : Type 0 where
 -- at the lowest place of an upright its rows are joined
 pub data Joins (d : Diagram) (top : ℕ) (p : Place) : List Step → Type 0 where
   within : StandsIn d (p.row + 1) p.column → Joins d top p []
-  lowest : (first : ℕ) → IsUpright d p.column first p.row → Joins d top p (step.Upright (first - top) (p.row - top) ∷ [])
+  lowest : (first : ℕ) → IsUpright d p.column first p.row
+      → Joins d top p (step.Upright (first - top) (p.row - top) ∷ [])
 
 -- the pins of the left side, in their order
 abbrev pub left_pin : DrawnPin → Side → Option DrawnPin
@@ -73,21 +75,29 @@ abbrev pub joined : List (List Step) → List Step
 joined [] = []
 joined (part ∷ parts) = part ++ joined parts
 
+-- the step at the contact with the number k, in this row
+abbrev pub contact_step : List Declaration → DrawnContact → ℕ → ℕ → Step
+contact_step ds c row k = step.Contact (record { kind = c.kind; row = row; source = name_source ds c.name; memory = k })
+
 -- the steps at the element with the number k
 abbrev pub AreStepsOf : List Declaration → Diagram → ℕ → ℕ → Element → List Step → Type 0
 AreStepsOf ds d top k (Wire at) steps = Begins d top at steps
-AreStepsOf ds d top k (Join at) steps = (begin end : List Step) × Begins d top at begin × Joins d top at end × (steps ≡ begin ++ end)
-AreStepsOf ds d top k (Upright at) steps = (end : List Step) × Joins d top at end × (steps ≡ step.Off (at.row - top) ∷ end)
+AreStepsOf ds d top k (Join at) steps = (begin end : List Step) × Begins d top at begin × Joins d top at end
+    × (steps ≡ begin ++ end)
+AreStepsOf ds d top k (Upright at) steps = (end : List Step) × Joins d top at end
+    × (steps ≡ step.Off (at.row - top) ∷ end)
 AreStepsOf ds d top k (Contact c) steps = (begin : List Step) × Begins d top (place c.row c.column) begin
-    × (steps ≡ begin ++ step.Contact (record { kind = c.kind; row = c.row - top; source = name_source ds c.name; memory = k }) ∷ [])
+    × (steps ≡ begin ++ contact_step ds c (c.row - top) k ∷ [])
 AreStepsOf ds d top k (Coil c) steps = (begin : List Step) × Begins d top (place c.row c.column) begin
     × (steps ≡ begin ++ step.Coil (c.row - top) (length (coils_of (take k d.elements))) ∷ [])
-AreStepsOf ds d top k (Box b) steps = (begins : List (List Step)) × AllZip (IsLeftPinBegun d top b) (left_pins b.pins) begins
+AreStepsOf ds d top k (Box b) steps = (begins : List (List Step))
+    × AllZip (IsLeftPinBegun d top b) (left_pins b.pins) begins
     × (steps ≡ joined begins ++ step.Box (length (boxes_of (take k d.elements))) ∷ [])
 
 -- the steps are those of the elements, in their order
 pub record AreSteps (ds : List Declaration) (d : Diagram) (top : ℕ) (steps : List Step) : Type 0 where
   pub parts : List (List Step)
   pub long : length parts ≡ length d.elements
-  pub each : (k : ℕ) (e : Element) (part : List Step) → slice_get d.elements k ≡ Some e → slice_get parts k ≡ Some part → AreStepsOf ds d top k e part
+  pub each : (k : ℕ) (e : Element) (part : List Step) → slice_get d.elements k ≡ Some e → slice_get parts k ≡ Some part
+      → AreStepsOf ds d top k e part
   pub whole : steps ≡ joined parts

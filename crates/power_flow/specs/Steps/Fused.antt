@@ -1,8 +1,8 @@
 -- Steps that stand for two.
 use Rattle.std.specs.Prelude.{◌+◌, List, [], ◌∷◌, ◌++◌}
-use Rattle.power_flow.specs.declared.steps.step.Step.{Step}
-use Rattle.power_flow.specs.declared.steps.step.Step.TheVariants as step
-use Rattle.power_flow.specs.Steps.Contacts.{contact_of, first_of, second_of}
+use Rattle.scan_steps.specs.declared.step.Step.{Step}
+use Rattle.scan_steps.specs.declared.step.Step.TheVariants as step
+use Rattle.scan_steps.specs.Steps.Contacts.{contact_of, first_of, second_of}
 
 -- the steps that a step stands for
 abbrev pub single : Step → List Step
@@ -15,7 +15,8 @@ single (step.Up row) = step.Off row ∷ step.Upright row (row + 1) ∷ []
 single (step.Contact c) = step.Contact c ∷ []
 single (step.RailContact v) = step.Rail v.row ∷ step.Contact (contact_of v) ∷ []
 single (step.Pair rows places) = step.Contact (first_of rows places) ∷ step.Contact (second_of rows places) ∷ []
-single (step.JoinedPair rows places) = step.Upright rows.first rows.second ∷ step.Contact (first_of rows places) ∷ step.Contact (second_of rows places) ∷ []
+single (step.JoinedPair rows places) = step.Upright rows.first rows.second ∷ step.Contact (first_of rows places)
+    ∷ step.Contact (second_of rows places) ∷ []
 single (step.Coil row k) = step.Coil row k ∷ []
 single (step.Box k) = step.Box k ∷ []
 single (step.BoxCoil k row coil) = step.Box k ∷ step.Coil row coil ∷ []

@@ -8,12 +8,17 @@ use Rattle.network.specs.declared.element.Element.{Element}
 use Rattle.network.specs.Links.{Diagram, Gives}
 use Rattle.network.specs.Apart.{Has}
 use Rattle.declared_names.specs.declared.declarations.Declaration.{Declaration}
-use Rattle.power_flow.specs.declared.steps.step.Step.{Step}
+use Rattle.scan_steps.specs.declared.step.Step.{Step}
 use Rattle.power_flow.specs.Steps.Columns.{IsLed, AreStepsOf, joined}
 
 -- the elements lie in this many rows, from the topmost on
 abbrev pub AreRows : List Element → ℕ → ℕ → Type 0
-AreRows elements top rows = (e : Element) (p : Place) → Contains elements e → Has e p → (top ≤ p.row) × (p.row < top + rows)
+AreRows elements top rows = (e : Element) (p : Place) → Contains elements e → Has e p
+    → (top ≤ p.row) × (p.row < top + rows)
+
+-- the pins lie in this many rows, from the topmost on
+abbrev pub ArePinRows : List DrawnPin → ℕ → ℕ → Type 0
+ArePinRows pins top rows = (pin : DrawnPin) → Contains pins pin → (top ≤ pin.row) × (pin.row < top + rows)
 
 -- one of the first n elements gives state at p
 pub record IsGiven (d : Diagram) (n : ℕ) (p : Place) : Type 0 where
@@ -36,7 +41,8 @@ pub record IsGivenByPin (b : DrawnBox) (n : ℕ) (p : Place) : Type 0 where
 -- for each row from the topmost on, the column behind the last of these places in it, and 0 where there is none
 pub record AreEnds (IsEnd : Place → Type 0) (top : ℕ) (ends : List ℕ) : Type 0 where
   pub above : (p : Place) → IsEnd p → p.column < slice_index ends (p.row - top)
-  pub from : (r : ℕ) → 0 < slice_index ends r → (p : Place) × IsEnd p × (p.row ≡ top + r) × (slice_index ends r ≡ p.column + 1)
+  pub from : (r : ℕ) → 0 < slice_index ends r
+      → (p : Place) × IsEnd p × (p.row ≡ top + r) × (slice_index ends r ≡ p.column + 1)
 
 -- the ends of rows after the first n elements
 abbrev pub AreEndsTo : Diagram → ℕ → ℕ → List ℕ → Type 0
@@ -65,5 +71,6 @@ pub record ArePushed (ds : List Declaration) (d : Diagram) (top k : ℕ) (old ne
 pub record AreStepsTo (ds : List Declaration) (d : Diagram) (top n : ℕ) (steps : List Step) : Type 0 where
   pub parts : List (List Step)
   pub long : length parts ≡ n
-  pub each : (k : ℕ) (e : Element) (part : List Step) → slice_get d.elements k ≡ Some e → slice_get parts k ≡ Some part → AreStepsOf ds d top k e part
+  pub each : (k : ℕ) (e : Element) (part : List Step) → slice_get d.elements k ≡ Some e → slice_get parts k ≡ Some part
+      → AreStepsOf ds d top k e part
   pub whole : steps ≡ joined parts

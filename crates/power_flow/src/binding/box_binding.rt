@@ -1,5 +1,4 @@
-ghost use Rattle.std.specs.Prelude.{◌≡◌, ◌⊎◌, ◌↔◌, ◌++◌, [], ◌∷◌, ℕ, ◌+◌, ◌-◌, ◌<◌, List, All, Contains, IsTrue, IfOk, OnOk, IfSome, MatchOption, Some, slice_get, length, map, true};
-ghost use Rattle.std.specs.List.{AllZip};
+ghost use Rattle.std.specs.Prelude.{◌≡◌, ◌↔◌, ◌++◌, ◌+◌, ◌-◌, ◌<◌, IsTrue, IfOk, OnOk, MatchOption, Some, length, true};
 ghost use Rattle.std.specs.Option.{option_and_then};
 ghost use Rattle.std_blocks.specs.declared.pin.Pin.{Pin};
 ghost use Rattle.std_blocks.specs.declared.pin.Field.{Field};
@@ -8,16 +7,15 @@ ghost use Rattle.drawings.specs.declared.drawn_box.DrawnPin.{DrawnPin};
 ghost use Rattle.drawings.specs.declared.drawn_box.Side.TheVariants.{Left, Right};
 ghost use Rattle.drawings.specs.declared.drawn_box.DrawnBox.{DrawnBox};
 ghost use Rattle.declared_names.specs.Names.{place_of};
-ghost use Rattle.power_flow.specs.Meaning.{IsDrawn};
-ghost use Rattle.power_flow.specs.Steps.Sources.{operand_source, pin_source};
+ghost use Rattle.power_flow.specs.Meaning.{IsDrawn, IsUndrawn};
+ghost use Rattle.power_flow.specs.Steps.NameSources.{operand_source, pin_source};
 ghost use Rattle.variable_binding.specs.Steps.Named.{IsDrawnOnce, AreOutputs, IsInRange, AreInRange, IsNamedBox};
-ghost use Rattle.power_flow.specs.Steps.BoxTable.{ArePinsIn, AreOutputsIn};
-ghost use Rattle.power_flow.specs.Steps.BoxTable.{right_pins, boxes_of, output_if, IsBitSource, IsBoundOutput, IsBoundBox};
+ghost use Rattle.power_flow.specs.Steps.BoxTable.{boxes_of, own_box, output_if, IsSourceOfBit, IsSourceOfValue, IsOperandInRange, IsBitSource, IsBoundIfNamed, IsBoundBox, AreBoundOutputs, AreBoundIfNamed, AreBoundWith, ArePinRowsKept, AreRowsKept, AreRowsKeptWith};
 
-use crate::binding::bound_box::{BoundBox, BoundOutput};
-use crate::binding::source::{Source, name_source};
+use crate::binding::source::name_source;
 use drawings::{DrawnBox, DrawnPin, Side};
 use network::Element;
+use scan_steps::{BoundBox, BoundOutput, Source};
 use std::alloc::{AllocError, Global};
 use std_blocks::{BlockType, Field, Pin};
 use variable_binding::{Declarations, literal_value};
@@ -50,7 +48,7 @@ fn is_drawn_input(pin: &DrawnPin, block: BlockType, field: Field) -> bool
 
 /// The first drawn pin that is this input of the block.
 fn drawn_input(drawn: &DrawnBox, block: BlockType, field: Field) -> Option<&DrawnPin>
-    ensures { MatchOption result ((pin : DrawnPin) → IsDrawn drawn.now block field pin → ⊥) (λ p. IsDrawn drawn.now block field p.now) }
+    ensures { MatchOption result (IsUndrawn drawn.now block field) (λ p. IsDrawn drawn.now block field p.now) }
 {
     for pin in drawn.pins.as_slice() {
         if is_drawn_input(pin, block, field) {
@@ -78,8 +76,8 @@ fn bit_source(
     block: BlockType,
     k: usize,
 ) -> Source
-    ensures none { ((pin : DrawnPin) → IsDrawn drawn.now block (Field.Bit k) pin → ⊥) → result ≡ Source.Nothing }
-    ensures some { IsDrawnOnce drawn.now block → (pin : DrawnPin) → IsDrawn drawn.now block (Field.Bit k) pin → IsBitSource declarations.now top pin result }
+    ensures none { IsUndrawn drawn.now block (Field.Bit k) → result ≡ Source.Nothing }
+    ensures some { IsDrawnOnce drawn.now block → IsSourceOfBit declarations.now top drawn.now block k result }
 {
     match drawn_input(drawn, block, Field::Bit(k)) {
         Some(pin) => pin_bit_source(declarations, top, pin),
@@ -88,7 +86,7 @@ fn bit_source(
 }
 
 /// The source of an operand that is in range: a literal, or what its name stands for.
-#[tactic(auto, unfolding(crate::specs::Steps::Sources::operand_source))]
+#[tactic(auto, unfolding(crate::specs::Steps::NameSources::operand_source))]
 fn operand_source(declarations: &Declarations, text: &Text) -> Source
     ensures { IsInRange text.now → result ≡ operand_source declarations.now text.now }
 {
@@ -100,7 +98,7 @@ fn operand_source(declarations: &Declarations, text: &Text) -> Source
 
 /// The source of an INT or TIME pin: its operand, if it has one.
 fn pin_value_source(declarations: &Declarations, pin: &DrawnPin) -> Source
-    ensures { MatchOption pin.now.operand (Unit {0}) (λ o. IsInRange o.text) → result ≡ pin_source declarations.now pin.now }
+    ensures { IsOperandInRange pin.now → result ≡ pin_source declarations.now pin.now }
 {
     match &pin.operand {
         Some(operand) => operand_source(declarations, &operand.text),
@@ -115,8 +113,9 @@ fn value_source(
     block: BlockType,
     field: Field,
 ) -> Source
-    ensures none { ((pin : DrawnPin) → IsDrawn drawn.now block field pin → ⊥) → result ≡ Source.Nothing }
-    ensures some { IsDrawnOnce drawn.now block → AreInRange drawn.now → (pin : DrawnPin) → IsDrawn drawn.now block field pin → result ≡ pin_source declarations.now pin }
+    ensures none { IsUndrawn drawn.now block field → result ≡ Source.Nothing }
+    ensures some { IsDrawnOnce drawn.now block → AreInRange drawn.now
+        → IsSourceOfValue declarations.now drawn.now block field result }
 {
     match drawn_input(drawn, block, field) {
         Some(pin) => pin_value_source(declarations, pin),
@@ -152,7 +151,7 @@ fn bound_output(
     pin: &DrawnPin,
 ) -> BoundOutput
     ensures row { result.row ≡ pin.now.row - top }
-    ensures bound { (field : Field) → pin_of block pin.now.name ≡ Some (output field) → IsBoundOutput declarations.now top block pin.now result }
+    ensures bound { IsBoundIfNamed declarations.now top block pin.now result }
 {
     BoundOutput {
         field: field_of(block, pin.name.as_str()),
@@ -186,8 +185,9 @@ fn outputs_of(
     drawn: &DrawnBox,
     block: BlockType,
 ) -> Result<Vec<BoundOutput>, AllocError>
-    ensures within { IfOk result (λ outputs. (rows : ℕ) → ArePinsIn top rows drawn.now → All (λ o. o.row < rows) outputs.items) }
-    ensures bound { IfOk result (λ outputs. AreOutputs drawn.now block → AllZip (IsBoundOutput declarations.now top block) (right_pins drawn.now.pins) outputs.items) }
+    ensures within { IfOk result (λ outputs. ArePinRowsKept top drawn.now outputs.items) }
+    ensures bound { IfOk result (λ outputs. AreOutputs drawn.now block
+        → AreBoundOutputs declarations.now top block drawn.now outputs.items) }
 {
     let mut outputs = Vec::new(alloc);
     for pin in drawn.pins.as_slice() {
@@ -204,8 +204,9 @@ fn bind_box(
     top: usize,
     drawn: &DrawnBox,
 ) -> Result<BoundBox, AllocError>
-    ensures within { IfOk result (λ e. (rows : ℕ) → ArePinsIn top rows drawn.now → All (λ o. o.row < rows) e.outputs.items) }
-    ensures bound { IfOk result (λ e. IsNamedBox declarations.now drawn.now → IsBoundBox declarations.now top drawn.now e) }
+    ensures within { IfOk result (λ e. ArePinRowsKept top drawn.now e.outputs.items) }
+    ensures bound { IfOk result (λ e. IsNamedBox declarations.now drawn.now
+        → IsBoundBox declarations.now top drawn.now e) }
 {
     let block = drawn.block;
     let outputs = outputs_of(alloc, declarations, top, drawn, block)?;
@@ -234,11 +235,10 @@ fn push_box(
     top: usize,
     element: &Element,
 ) -> Result<(), AllocError>
-    ensures count { OnOk result (length boxes.new.items ≡ length boxes.old.items + length (boxes_of (element.now ∷ []))) }
-    ensures within { OnOk result ((rows : ℕ) → All (ArePinsIn top rows) (boxes_of (element.now ∷ [])) → AreOutputsIn rows boxes.old.items → AreOutputsIn rows boxes.new.items) }
-    ensures bound { OnOk result ((before : List DrawnBox) → All (IsNamedBox declarations.now) (boxes_of (element.now ∷ []))
-        → AllZip (IsBoundBox declarations.now top) before boxes.old.items
-        → AllZip (IsBoundBox declarations.now top) (before ++ boxes_of (element.now ∷ [])) boxes.new.items) }
+    ensures count { OnOk result (length boxes.new.items ≡ length boxes.old.items + length (own_box element.now)) }
+    ensures within { OnOk result (AreRowsKeptWith top (own_box element.now) boxes.old.items boxes.new.items) }
+    ensures bound { OnOk result (AreBoundWith declarations.now top
+        (own_box element.now) boxes.old.items boxes.new.items) }
 {
     match element {
         Element::Box(boxed) => {
@@ -258,8 +258,8 @@ pub fn bind_boxes(
     elements: &[Element],
 ) -> Result<Vec<BoundBox>, AllocError>
     ensures count { IfOk result (λ boxes. length boxes.items ≡ length (boxes_of elements.now)) }
-    ensures within { IfOk result (λ boxes. (rows : ℕ) → All (ArePinsIn top rows) (boxes_of elements.now) → AreOutputsIn rows boxes.items) }
-    ensures bound { IfOk result (λ boxes. All (IsNamedBox declarations.now) (boxes_of elements.now) → AllZip (IsBoundBox declarations.now top) (boxes_of elements.now) boxes.items) }
+    ensures within { IfOk result (λ boxes. AreRowsKept top (boxes_of elements.now) boxes.items) }
+    ensures bound { IfOk result (λ boxes. AreBoundIfNamed declarations.now top (boxes_of elements.now) boxes.items) }
 {
     let mut boxes = Vec::new(alloc);
     for element in elements {

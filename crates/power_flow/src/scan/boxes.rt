@@ -1,13 +1,11 @@
 ghost use Rattle.std.specs.Prelude.{◌≡◌, Some, length, slice_set};
-ghost use Rattle.power_flow.specs.declared.binding.bound_box.BoundBox.{BoundBox};
-ghost use Rattle.power_flow.specs.declared.state.Instance.{Instance};
-ghost use Rattle.power_flow.specs.declared.state.Slot.TheVariants.{Block};
+ghost use Rattle.scan_steps.specs.declared.bound_box.BoundBox.{BoundBox};
+ghost use Rattle.scan_steps.specs.declared.slot.Instance.{Instance};
+ghost use Rattle.scan_steps.specs.declared.slot.Slot.TheVariants.{Block};
 ghost use Rattle.power_flow.specs.Meaning.{store, stored};
-ghost use Rattle.power_flow.specs.Steps.BoxSteps.{pin_store, pin_stores, output_stores, with_blocks, AreBlocksKept};
+ghost use Rattle.power_flow.specs.Steps.BoxStores.{pin_store, pin_stores, output_stores, with_blocks, AreBlocksKept};
 
-use crate::binding::bound_box::{BoundBox, BoundOutput};
-use crate::binding::source::output_value;
-use crate::state::{Instance, Slot};
+use scan_steps::{BoundBox, BoundOutput, Instance, Slot, output_value};
 use std_blocks::{PinsOut, Value};
 
 /// Changes the slot at a place, if there is one.

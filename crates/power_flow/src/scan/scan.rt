@@ -1,23 +1,20 @@
-ghost use Rattle.std.specs.Prelude.{◌≡◌, ◌<◌, ℕ, List, All, length, map, sum_by, slice_set};
+ghost use Rattle.std.specs.Prelude.{◌≡◌, ◌<◌, List, All, length, map, sum_by};
 ghost use Rattle.std.specs.List.{AllByRecursion};
-ghost use Rattle.std.specs.Option.{option_map};
-ghost use Rattle.std_blocks.specs.declared.value.Value.TheVariants.{Bool as BoolValue};
-ghost use Rattle.power_flow.specs.Meaning.{coil_value, coil_memory, store, stored, bit_at, NetworkMeaning, moment};
+ghost use Rattle.power_flow.specs.Meaning.{coil_value, coil_memory, stored, NetworkMeaning, moment};
 ghost use Rattle.network.specs.Links.{Diagram};
 ghost use Rattle.declared_names.specs.declared.declarations.Declaration.{Declaration};
-ghost use Rattle.power_flow.specs.StateValue.{AreSlotsOf};
+ghost use Rattle.scan_steps.specs.Slots.{AreSlotsOf};
 ghost use Rattle.power_flow.specs.Scan.{AllAreWide, ScanMeaning};
 ghost use Rattle.drawings.specs.declared.place.Place.{Place};
 ghost use Rattle.power_flow.specs.Steps.Circuit.{HasShape, IsCircuit, HasRoom, AreCircuits, circuit_diagram};
-ghost use Rattle.power_flow.specs.Steps.Passing.{bound_stores, bound_memories};
+ghost use Rattle.power_flow.specs.Steps.CoilStores.{bound_store, bound_memory, bound_stores, bound_memories};
 
 use crate::scan::boxes::{store_boxes, store_value};
-use crate::scan::pass::pass;
-use crate::state::{Instance, Slot, State};
+use crate::state::State;
 use crate::steps::circuit::Circuit;
-use crate::steps::step::BoundCoil;
 use arrayvec::ArrayVec;
 use drawings::CoilKind;
+use scan_steps::{BoundCoil, Instance, Slot, pass};
 use std_blocks::Value;
 
 fn value_of_coil(kind: CoilKind, link: bool, memory: bool) -> Option<bool>
@@ -45,8 +42,8 @@ fn memory_of_coil(kind: CoilKind, link: bool, memory: bool) -> bool
 /// Stores what a coil stores, by its left link and its memory, and then its memory.
 fn store_any_coil(coil: &BoundCoil, link: bool, memories: &mut [bool], slots: &mut [Slot])
     requires { coil.now.memory < length memories.old }
-    ensures slots { slots.new ≡ stored slots.old (store coil.now.place (option_map BoolValue (coil_value coil.now.kind link (bit_at memories.old coil.now.memory)))) }
-    ensures memories { memories.new ≡ slice_set memories.old coil.now.memory (coil_memory coil.now.kind link (bit_at memories.old coil.now.memory)) }
+    ensures slots { slots.new ≡ stored slots.old (bound_store coil.now link memories.old) }
+    ensures memories { memories.new ≡ bound_memory coil.now link memories.old }
 {
     let memory = memories[coil.memory];
     if let Some(on) = value_of_coil(coil.kind, link, memory) {
@@ -58,8 +55,8 @@ fn store_any_coil(coil: &BoundCoil, link: bool, memories: &mut [bool], slots: &m
 /// Stores what a coil stores. A plain coil keeps no memory.
 fn store_coil(coil: &BoundCoil, link: bool, memories: &mut [bool], slots: &mut [Slot])
     requires { coil.now.memory < length memories.old }
-    ensures slots { slots.new ≡ stored slots.old (store coil.now.place (option_map BoolValue (coil_value coil.now.kind link (bit_at memories.old coil.now.memory)))) }
-    ensures memories { memories.new ≡ slice_set memories.old coil.now.memory (coil_memory coil.now.kind link (bit_at memories.old coil.now.memory)) }
+    ensures slots { slots.new ≡ stored slots.old (bound_store coil.now link memories.old) }
+    ensures memories { memories.new ≡ bound_memory coil.now link memories.old }
 {
     if let CoilKind::Plain = coil.kind {
         store_value(slots, coil.place, Value::Bool(link));

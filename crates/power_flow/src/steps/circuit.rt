@@ -1,6 +1,5 @@
-use crate::binding::bound_box::BoundBox;
-use crate::steps::step::{BoundCoil, Step};
 use network::Element;
+use scan_steps::{BoundBox, BoundCoil, Step};
 
 /// A network made ready for scans: its elements, and the steps of a scan through its columns.
 #[derive(Drop)]

@@ -1,10 +1,9 @@
-ghost use Rattle.std.specs.Prelude.{◌≡◌, ◌⊎◌, ◌↔◌, ℕ, List, [], All, IfOk, IsTrue, Some, slice_get, map};
-ghost use Rattle.std.specs.List.{AllByRecursion};
+ghost use Rattle.std.specs.Prelude.{◌≡◌, ◌⊎◌, ◌↔◌, [], All, IfOk, IsTrue, Some};
 ghost use Rattle.network.specs.declared.element.Element.{Element};
 ghost use Rattle.network.specs.GraphValue.{diagram};
 ghost use Rattle.network.specs.GraphValue.{IsSoundNetwork};
 ghost use Rattle.variable_binding.specs.Steps.Named.{AreNamed};
-ghost use Rattle.power_flow.specs.Steps.Circuit.{HasShape, IsCircuit, AreCircuits, circuit_diagram, bound_coil, bound_coils};
+ghost use Rattle.power_flow.specs.Steps.Circuit.{HasShape, IsCircuit, AreCircuits, AreSoundNetworks, all_elements, circuit_diagrams, bound_coil, bound_coils};
 ghost use Rattle.power_flow.specs.declared.steps.circuit.Circuit.{Circuit};
 
 use crate::binding::box_binding::bind_boxes;
@@ -12,10 +11,10 @@ use crate::steps::circuit::Circuit;
 use crate::steps::fused::fused;
 use crate::steps::rows::Rows;
 use crate::steps::same_elements::{are_same_elements, are_same_places};
-use crate::steps::step::BoundCoil;
 use crate::steps::steps::steps_of;
 use drawings::Place;
 use network::{Element, Network, Rails};
+use scan_steps::BoundCoil;
 use std::alloc::{AllocError, Global};
 use variable_binding::{Declarations, names_of_one_place_are_one};
 
@@ -58,7 +57,8 @@ fn circuit_of(
 ) -> Result<Circuit, AllocError>
     requires { IsSoundNetwork (diagram rails.now network) }
     ensures elements { IfOk result (λ c. c.elements.items ≡ network) }
-    ensures circuit { IfOk result (λ c. AreNamed declarations.now network → IsCircuit declarations.now (diagram rails.now network) c) }
+    ensures circuit { IfOk result (λ c. AreNamed declarations.now network
+        → IsCircuit declarations.now (diagram rails.now network) c) }
     ensures shape { IfOk result (λ c. HasShape c) }
 {
     let elements = network.into_elements();
@@ -84,9 +84,10 @@ pub fn circuits_of(
     declarations: &Declarations,
     networks: Vec<Network>,
 ) -> Result<Vec<Circuit>, AllocError>
-    requires { (k : ℕ) (elements : List Element) → slice_get networks.items k ≡ Some elements → IsSoundNetwork (diagram rails.now elements) }
-    ensures elements { IfOk result (λ circuits. map (λ (c : Circuit). c.elements.items) circuits.items ≡ networks.items) }
-    ensures circuits { IfOk result (λ circuits. All (AreNamed declarations.now) networks.items → AreCircuits declarations.now rails.now circuits.items) }
+    requires { AreSoundNetworks rails.now networks.items }
+    ensures elements { IfOk result (λ circuits. all_elements circuits.items ≡ networks.items) }
+    ensures circuits { IfOk result (λ circuits. All (AreNamed declarations.now) networks.items
+        → AreCircuits declarations.now rails.now circuits.items) }
     ensures shape { IfOk result (λ circuits. All HasShape circuits.items) }
 {
     let rails = Rails::new(alloc, rails)?;
@@ -100,7 +101,7 @@ pub fn circuits_of(
 
 /// Whether the circuits of two lists are made of the same elements.
 fn have_same_elements(circuits: &[Circuit], others: &[Circuit]) -> bool
-    ensures { IsTrue result ↔ (map (λ (c : Circuit). c.elements.items) circuits.now ≡ map (λ (c : Circuit). c.elements.items) others.now) }
+    ensures { IsTrue result ↔ (all_elements circuits.now ≡ all_elements others.now) }
 {
     if circuits.len() != others.len() {
         return false;
@@ -127,7 +128,7 @@ pub fn are_same_networks(
     other_rails: &[Place],
     others: &[Circuit],
 ) -> bool
-    ensures { IsTrue result ↔ (map (circuit_diagram rails.now) circuits.now ≡ map (circuit_diagram other_rails.now) others.now) }
+    ensures { IsTrue result ↔ (circuit_diagrams rails.now circuits.now ≡ circuit_diagrams other_rails.now others.now) }
 {
     have_same_rails(circuits, rails, other_rails) && have_same_elements(circuits, others)
 }

@@ -1,9 +1,7 @@
 ghost use Rattle.std.specs.Prelude.{◌≡◌, ◌++◌, IfOk, IfSome, OnOk};
 ghost use Rattle.power_flow.specs.Steps.Fused.{single, singles};
 
-use crate::binding::bound_contact::BoundContact;
-use crate::steps::step::Step;
-use crate::steps::variable_pair::{PairPlaces, PairRows, pair_of};
+use scan_steps::{BoundContact, PairPlaces, PairRows, Step, pair_of};
 use std::alloc::{AllocError, Global};
 
 /// A row that is turned off, and then rows that are joined.

@@ -1,11 +1,11 @@
-ghost use Rattle.std.specs.Prelude.{◌≡◌, ◌≤◌, ◌<◌, ◌+◌, ◌-◌, ℕ, List, Some, Contains, slice_get, slice_index, slice_set, length, max};
+ghost use Rattle.std.specs.Prelude.{◌≡◌, ◌≤◌, ◌<◌, ◌+◌, ◌-◌, ℕ, List, Contains, slice_index, slice_set, length, max};
 ghost use Rattle.drawings.specs.declared.place.Place.{Place};
 ghost use Rattle.drawings.specs.declared.drawn_box.DrawnPin.{DrawnPin};
 ghost use Rattle.drawings.specs.declared.drawn_box.Side.TheVariants.{Right};
 ghost use Rattle.network.specs.Links.{Diagram};
 ghost use Rattle.network.specs.Apart.{AreOnPage};
 ghost use Rattle.network.specs.GraphValue.{diagram};
-ghost use Rattle.power_flow.specs.Steps.RowEnds.{AreRows, AreEndsTo, AreEndsWithin};
+ghost use Rattle.power_flow.specs.Steps.RowEnds.{AreRows, ArePinRows, AreEndsTo, AreEndsWithin};
 
 use drawings::{DrawnBox, DrawnPin, Place, Side};
 use network::Element;
@@ -22,9 +22,10 @@ fn note(ends: &mut [usize], top: usize, at: Place)
 
 /// Notes where the right side of a box gives state.
 fn note_pins(ends: &mut [usize], top: usize, drawn: &DrawnBox)
-    requires rows { (pin : DrawnPin) → Contains drawn.now.pins pin → (top ≤ pin.row) × (pin.row < top + length ends.old) }
+    requires rows { ArePinRows drawn.now.pins top (length ends.old) }
     requires column { (pin : DrawnPin) → Contains drawn.now.pins pin → pin.side ≡ Right → drawn.now.right ≤ 1000 }
-    ensures ends { (d : Diagram) (k : ℕ) → AreEndsTo d top k ends.old → AreEndsWithin d top k drawn.now (length drawn.now.pins) ends.new }
+    ensures ends { (d : Diagram) (k : ℕ) → AreEndsTo d top k ends.old
+        → AreEndsWithin d top k drawn.now (length drawn.now.pins) ends.new }
     ensures long { length ends.new ≡ length ends.old }
 {
     for pin in drawn.pins.as_slice() {
@@ -47,7 +48,8 @@ pub fn note_element(ends: &mut [usize], top: usize, elements: &[Element], k: usi
     requires within { k < length elements.now }
     requires page { AreOnPage elements.now }
     requires rows { AreRows elements.now top (length ends.old) }
-    ensures ends { (rails : List Place) → AreEndsTo (diagram rails elements.now) top k ends.old → AreEndsTo (diagram rails elements.now) top (k + 1) ends.new }
+    ensures ends { (rails : List Place) → AreEndsTo (diagram rails elements.now) top k ends.old
+        → AreEndsTo (diagram rails elements.now) top (k + 1) ends.new }
     ensures long { length ends.new ≡ length ends.old }
 {
     match &elements[k] {

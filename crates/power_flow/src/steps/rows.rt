@@ -1,4 +1,4 @@
-ghost use Rattle.std.specs.Prelude.{◌≡◌, ◌≤◌, ℕ, List, Contains};
+ghost use Rattle.std.specs.Prelude.{◌≡◌, ◌≤◌, List};
 ghost use Rattle.drawings.specs.declared.place.Place.{Place};
 ghost use Rattle.network.specs.Apart.{Has, AreOnPage};
 ghost use Rattle.network.specs.GraphValue.{diagram};
@@ -42,7 +42,8 @@ impl Rows {
     /// The rows in which these elements have places.
     pub fn of(elements: &[Element]) -> Rows
         requires { AreOnPage elements.now }
-        ensures rows { (rails : List Place) → IsSoundNetwork (diagram rails elements.now) → AreRows elements.now result.top result.count }
+        ensures rows { (rails : List Place) → IsSoundNetwork (diagram rails elements.now)
+            → AreRows elements.now result.top result.count }
         ensures low { (rails : List Place) → IsSoundNetwork (diagram rails elements.now) → result.count ≤ 200 }
     {
         let Some(first) = elements.first() else {

@@ -1,26 +1,24 @@
-ghost use Rattle.std.specs.Prelude.{◌≡◌, ◌↔◌, ◌≤◌, ◌<◌, ◌+◌, ◌-◌, ◌^◌, ◌++◌, [], ◌∷◌, ℕ, List, Some, IsTrue, IfOk, OnOk, Contains, slice_get, length, take, None};
+ghost use Rattle.std.specs.Prelude.{◌≡◌, ◌↔◌, ◌≤◌, ◌<◌, ◌+◌, ◌-◌, ◌^◌, ◌++◌, [], ◌∷◌, List, Some, IsTrue, IfOk, OnOk, Contains, slice_get, length, take, None};
 ghost use Rattle.std.specs.List.{AllZip};
 ghost use Rattle.drawings.specs.declared.place.Place.{Place};
 ghost use Rattle.drawings.specs.declared.drawn_box.DrawnPin.{DrawnPin};
 ghost use Rattle.network.specs.declared.element.Element.{Element};
 ghost use Rattle.drawings.specs.declared.drawn_box.Side.TheVariants.{Left, Right};
 ghost use Rattle.network.specs.Links.{Stands, place};
-ghost use Rattle.network.specs.Apart.{Has, AreOnPage};
+ghost use Rattle.network.specs.Apart.{AreOnPage};
 ghost use Rattle.network.specs.GraphValue.{diagram};
-ghost use Rattle.power_flow.specs.declared.steps.step.Step.{Step};
+ghost use Rattle.scan_steps.specs.declared.step.Step.{Step};
 ghost use Rattle.network.specs.GraphValue.{IsSoundNetwork};
-ghost use Rattle.power_flow.specs.Steps.Columns.{IsAtRail, IsUpright, StandsIn, Begins, Joins, IsLeftPinBegun, left_pins, joined, AreSteps};
-ghost use Rattle.power_flow.specs.Steps.Sources.{name_source};
-ghost use Rattle.power_flow.specs.Steps.RowEnds.{AreRows, AreEndsTo, TellsLed, ArePushed, AreStepsTo, listed};
+ghost use Rattle.power_flow.specs.Steps.Columns.{IsAtRail, IsUpright, StandsIn, Begins, Joins, IsLeftPinBegun, left_pins, joined, contact_step, AreSteps};
+ghost use Rattle.power_flow.specs.Steps.RowEnds.{AreRows, AreEndsTo, TellsLed, ArePushed, listed};
 ghost use Rattle.power_flow.specs.Waiting.{coils_of, boxes_of};
 
-use crate::binding::bound_contact::BoundContact;
 use crate::binding::source::name_source;
 use crate::steps::row_ends::note_element;
 use crate::steps::rows::Rows;
-use crate::steps::step::Step;
 use drawings::{Contact, DrawnBox, DrawnPin, Place, Side};
 use network::{Element, Rails};
+use scan_steps::{BoundContact, Step};
 use std::alloc::{AllocError, Global};
 use variable_binding::Declarations;
 
@@ -47,7 +45,8 @@ fn row_below(top: usize, row: usize) -> u8
 fn beginning(rails: &Rails, ends: &[usize], top: usize, at: Place) -> Option<Step>
     requires row { at.row - top < length ends.now }
     requires low { length ends.now ≤ 200 }
-    ensures { (elements : List Element) → TellsLed (diagram rails.now elements) top ends.now at → Begins (diagram rails.now elements) top at (listed result) }
+    ensures { (elements : List Element) → TellsLed (diagram rails.now elements) top ends.now at
+        → Begins (diagram rails.now elements) top at (listed result) }
 {
     let row = row_below(top, at.row);
     if at.column > 0 && ends[row as usize] == at.column {
@@ -74,7 +73,8 @@ fn stands_at(elements: &[Element], k: usize, at: Place) -> bool
 fn first_row(elements: &[Element], k: usize, at: Place) -> usize
     requires { (e : Element) × (slice_get elements.now k ≡ Some e) × Stands e at }
     ensures above { result ≤ at.row }
-    ensures upright { (rails : List Place) → IsSoundNetwork (diagram rails elements.now) → (StandsIn (diagram rails elements.now) (at.row + 1) at.column → ⊥)
+    ensures upright { (rails : List Place) → IsSoundNetwork (diagram rails elements.now)
+        → (StandsIn (diagram rails elements.now) (at.row + 1) at.column → ⊥)
         → IsUpright (diagram rails elements.now) at.column result at.row }
 {
     let mut number = k;
@@ -92,7 +92,8 @@ fn joining(elements: &[Element], k: usize, top: usize, at: Place) -> Option<Step
     requires page { AreOnPage elements.now }
     requires fits { k + 1 < 2 ^ 64 }
     requires low { at.row - top < 256 }
-    ensures { (rails : List Place) → IsSoundNetwork (diagram rails elements.now) → Joins (diagram rails elements.now) top at (listed result) }
+    ensures { (rails : List Place) → IsSoundNetwork (diagram rails elements.now)
+        → Joins (diagram rails elements.now) top at (listed result) }
 {
     let below = Place {
         row: at.row + 1,
@@ -203,7 +204,7 @@ fn contact_step(
     k: usize,
 ) -> Result<Step, AllocError>
     requires { k < 2 ^ 32 }
-    ensures { IfOk result (λ s. s ≡ Step.Contact record { kind = contact.now.kind; row = row; source = name_source declarations.now contact.now.name; memory = k }) }
+    ensures { IfOk result (λ s. s ≡ contact_step declarations.now contact.now row k) }
 {
     let source = name_source(declarations, &contact.name);
     match BoundContact::new(contact.kind, row, source, k as u32) {
@@ -231,7 +232,8 @@ fn push_element(
     requires ends { AreEndsTo (diagram rails.now elements.now) top k ends.now }
     requires coils { numbers.coils ≡ length (coils_of (take k elements.now)) }
     requires boxes { numbers.boxes ≡ length (boxes_of (take k elements.now)) }
-    ensures { OnOk result (ArePushed declarations.now (diagram rails.now elements.now) top k steps.old.items steps.new.items) }
+    ensures { OnOk result (ArePushed declarations.now (diagram rails.now elements.now) top k
+        steps.old.items steps.new.items) }
 {
     let element = &elements[k];
     let at = element.first_place();

@@ -28,7 +28,7 @@ use Rattle.declared_names.specs.declared.declarations.Kind.TheVariants as kind
 use Rattle.variable_binding.specs.declared.literal.Literal.{Literal}
 use Rattle.variable_binding.specs.declared.literal.Literal.TheVariants as literal
 use Rattle.declared_names.specs.Names.{is_dot}
-use Rattle.variable_binding.specs.Kinds.{kind_of}
+use Rattle.declared_names.specs.Kinds.{kind_of}
 use Rattle.variable_binding.specs.PinKinds.{field_kind}
 use Rattle.variable_binding.specs.Literals.{literal_value}
 use Rattle.variable_binding.specs.Lookup.{declared_at, is_dotted}

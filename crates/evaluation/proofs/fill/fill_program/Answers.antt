@@ -1,6 +1,7 @@
 use Rattle.std.proofs.Common.{◌≡◌, ◌+◌, Some, slice_get, get_or, sym, arith, subst, ◌∙◌}
 use Rattle.std.proofs.lemmas.Option.{slice_get-get_or, same_Some}
-use Rattle.power_flow.specs.StateValue.{StateValue, IsKindAt}
+use Rattle.power_flow.specs.StateValue.{StateValue}
+use Rattle.scan_steps.specs.Slots.{IsKindAt}
 use Rattle.plant_text.specs.declared.address.Space.TheVariants.{Bit}
 use Rattle.task_codes.specs.declared.binding.Source.TheVariants.{Field}
 use Rattle.task_codes.specs.declared.binding.Binding.{Binding}
@@ -31,8 +32,8 @@ loop-binding-preserved c =
           let kind : IsKindAt t.slots b.place w.in-Some.value = subst (λ (x : Value). IsKindAt t.slots b.place x) same
           (next_kind inputs takes bindings i c.args.state.now t b value.0 c.requires.once c.loop-binding.invariant found value.2) in
           subst (λ (x : StateValue). FilledTo inputs takes bindings (i + 1) c.args.state.now x) (sym w.state-is)
-          (filled_more inputs takes bindings i c.args.state.now t w.set.new.self b w.in-Some.value c.requires.once c.loop-binding.invariant found gives kind
-          (on_true w.set.result _ (w.set.ensures.answer.1 kind) w.set.ensures.changed) w.set.ensures.declared))
+          (filled_more inputs takes bindings i c.args.state.now t w.set.new.self b w.in-Some.value c.requires.once c.loop-binding.invariant found gives
+          (on_true w.set.result _ (w.set.ensures.answer.1 kind) w.set.ensures.stored) (on_true w.set.result _ (w.set.ensures.answer.1 kind) w.set.ensures.changed) w.set.ensures.declared))
       | in_default w ↦ absurd (w.in_default.not-Some value.0 (c.given.ensures ∙ value.1))
     ]
 

@@ -1,7 +1,7 @@
 use Rattle.std.proofs.Common.{◌≡◌, ◌<◌, ℕ, Some, slice_get}
 use Rattle.std_blocks.specs.declared.value.Value.{Value}
 use Rattle.declared_names.specs.declared.declarations.Kind.{Kind}
-use Rattle.variable_binding.specs.Kinds.{value_first}
+use Rattle.declared_names.specs.Kinds.{value_first}
 use Rattle.evaluation.proofs.image.are_initial.Given as goal
 
 abbrev pub invariant-loop-i : goal.invariant-loop-i

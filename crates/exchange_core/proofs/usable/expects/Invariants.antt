@@ -1,5 +1,5 @@
 use Rattle.std.proofs.Common.{◌≡◌, ◌<◌, ℕ, Some, map}
-use Rattle.variable_binding.specs.Kinds.{kind_of}
+use Rattle.declared_names.specs.Kinds.{kind_of}
 use Rattle.plant.specs.PlantValue.{code_at}
 use Rattle.task_codes.specs.CodeValue.{CodeValue}
 use Rattle.exchange_core.specs.Steps.Knowing.{ExpectsOf}

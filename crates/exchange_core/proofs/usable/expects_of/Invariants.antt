@@ -1,5 +1,5 @@
 use Rattle.std.proofs.Common.{◌≡◌, ◌<◌, ℕ, Some, map, slice_get}
-use Rattle.variable_binding.specs.Kinds.{kind_of}
+use Rattle.declared_names.specs.Kinds.{kind_of}
 use Rattle.task_codes.specs.CodeValue.{expected_at}
 use Rattle.exchange_core.proofs.usable.expects_of.Given as goal
 

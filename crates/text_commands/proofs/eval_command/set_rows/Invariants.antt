@@ -1,6 +1,6 @@
 use Rattle.std.proofs.Common.{◌≡◌, List, take}
 use Rattle.declared_names.specs.declared.declarations.Declaration.{Declaration}
-use Rattle.power_flow.specs.StateValue.{AreSlotsOf}
+use Rattle.scan_steps.specs.Slots.{AreSlotsOf}
 use Rattle.text_commands.specs.EvalText.{set_before}
 use Rattle.text_commands.proofs.eval_command.set_rows.Given as goal
 

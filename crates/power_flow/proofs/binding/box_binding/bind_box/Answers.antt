@@ -2,8 +2,8 @@ use Rattle.std.proofs.Common.{◌≡◌, ℕ, ◌∙◌, ap, sym, Some, unwrap_o
 use Rattle.drawings.specs.declared.drawn_box.DrawnPin.{DrawnPin}
 use Rattle.std_blocks.specs.declared.pin.Field.TheVariants.{Bit}
 use Rattle.declared_names.specs.declared.declarations.Declared.TheVariants as declared
-use Rattle.power_flow.specs.declared.binding.source.Source.{Source}
-use Rattle.power_flow.specs.declared.binding.source.Source.TheVariants as source
+use Rattle.scan_steps.specs.declared.source.Source.{Source}
+use Rattle.scan_steps.specs.declared.source.Source.TheVariants as source
 use Rattle.declared_names.specs.Names.{place_of}
 use Rattle.power_flow.specs.Meaning.{IsDrawn}
 use Rattle.power_flow.specs.Steps.BoxTable.{IsBitSource}

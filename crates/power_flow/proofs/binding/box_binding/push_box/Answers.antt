@@ -2,8 +2,8 @@ use Rattle.std.proofs.Common.{[], ◌∷◌, ◌<◌, All, length, ap, arith}
 use Rattle.std.proofs.lemmas.List.{append-nil, length-append}
 use Rattle.std.proofs.lemmas.List.Elements.{All-head, All-push}
 use Rattle.lists.proofs.Zips.{zip_push}
-use Rattle.power_flow.specs.declared.binding.bound_box.BoundBox.{BoundBox}
-use Rattle.power_flow.specs.declared.binding.bound_box.BoundOutput.{BoundOutput}
+use Rattle.scan_steps.specs.declared.bound_box.BoundBox.{BoundBox}
+use Rattle.scan_steps.specs.declared.bound_box.BoundOutput.{BoundOutput}
 use Rattle.variable_binding.specs.Steps.Named.{IsNamedBox}
 use Rattle.power_flow.specs.Steps.BoxTable.{ArePinsIn}
 use Rattle.power_flow.specs.Steps.BoxTable.{IsBoundBox}

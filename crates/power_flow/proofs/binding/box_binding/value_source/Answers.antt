@@ -1,5 +1,5 @@
 use Rattle.std.proofs.Common.{◌∙◌, ap}
-use Rattle.power_flow.specs.Steps.Sources.{pin_source}
+use Rattle.power_flow.specs.Steps.NameSources.{pin_source}
 use Rattle.power_flow.proofs.BoxesBinding.{same_drawn, in_range_of}
 use Rattle.power_flow.proofs.binding.box_binding.value_source.Goals as goal
 

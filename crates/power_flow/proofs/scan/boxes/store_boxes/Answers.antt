@@ -1,7 +1,7 @@
 use Rattle.std.proofs.Common.{◌+◌, ◌<◌, drop, length, get_or, Some, arith, sym, ap, ◌∙◌}
 use Rattle.std.proofs.lemmas.Option.{slice_get-get_or}
 use Rattle.power_flow.specs.Meaning.{stored}
-use Rattle.power_flow.specs.Steps.BoxSteps.{pin_stores, output_stores, with_blocks}
+use Rattle.power_flow.specs.Steps.BoxStores.{pin_stores, output_stores, with_blocks}
 use Rattle.power_flow.proofs.BlocksStored.{box_stored}
 use Rattle.power_flow.proofs.scan.boxes.store_boxes.Goals as goal
 

@@ -1,6 +1,6 @@
 use Rattle.std.proofs.Common.{◌≡◌, drop}
 use Rattle.power_flow.specs.Meaning.{stored}
-use Rattle.power_flow.specs.Steps.BoxSteps.{output_stores, with_blocks, AreBlocksKept}
+use Rattle.power_flow.specs.Steps.BoxStores.{output_stores, with_blocks, AreBlocksKept}
 use Rattle.power_flow.proofs.scan.boxes.store_boxes.Given as goal
 
 abbrev pub invariant-loop-k : goal.invariant-loop-k

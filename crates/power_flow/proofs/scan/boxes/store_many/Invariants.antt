@@ -1,6 +1,6 @@
 use Rattle.std.proofs.Common.{◌≡◌, drop}
 use Rattle.power_flow.specs.Meaning.{stored}
-use Rattle.power_flow.specs.Steps.BoxSteps.{pin_stores}
+use Rattle.power_flow.specs.Steps.BoxStores.{pin_stores}
 use Rattle.power_flow.proofs.scan.boxes.store_many.Given as goal
 
 abbrev pub invariant-loop-pin : goal.invariant-loop-pin

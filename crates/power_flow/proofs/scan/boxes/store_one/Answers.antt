@@ -1,9 +1,9 @@
 use Rattle.std.proofs.Common.{◌≡◌, List, [], ◌∷◌, length, get_or, sym, ap, ◌∙◌}
 use Rattle.std.proofs.lemmas.List.{append-nil}
 use Rattle.std_blocks.specs.declared.pins.PinsOut.{PinsOut}
-use Rattle.power_flow.specs.declared.binding.bound_box.BoundOutput.{BoundOutput}
+use Rattle.scan_steps.specs.declared.bound_box.BoundOutput.{BoundOutput}
 use Rattle.power_flow.specs.Meaning.{stored}
-use Rattle.power_flow.specs.Steps.BoxSteps.{pin_store, pin_stores}
+use Rattle.power_flow.specs.Steps.BoxStores.{pin_store, pin_stores}
 use Rattle.power_flow.proofs.scan.boxes.store_one.Goals as goal
 
 one_store : (values : PinsOut) (pins : List BoundOutput) (d : BoundOutput) → length pins ≡ 1

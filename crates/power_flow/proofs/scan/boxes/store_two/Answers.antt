@@ -1,10 +1,10 @@
 use Rattle.std.proofs.Common.{◌≡◌, List, [], ◌∷◌, ◌++◌, length, get_or, sym, ap, ◌∙◌}
 use Rattle.std.proofs.lemmas.List.{append-nil}
 use Rattle.std_blocks.specs.declared.pins.PinsOut.{PinsOut}
-use Rattle.power_flow.specs.declared.binding.bound_box.BoundOutput.{BoundOutput}
-use Rattle.power_flow.specs.declared.state.Slot.{Slot}
+use Rattle.scan_steps.specs.declared.bound_box.BoundOutput.{BoundOutput}
+use Rattle.scan_steps.specs.declared.slot.Slot.{Slot}
 use Rattle.power_flow.specs.Meaning.{stored}
-use Rattle.power_flow.specs.Steps.BoxSteps.{pin_store, pin_stores}
+use Rattle.power_flow.specs.Steps.BoxStores.{pin_store, pin_stores}
 use Rattle.power_flow.proofs.Stepping.{stored-append}
 use Rattle.power_flow.proofs.scan.boxes.store_two.Goals as goal
 

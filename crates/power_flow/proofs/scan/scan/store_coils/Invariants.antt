@@ -1,6 +1,6 @@
 use Rattle.std.proofs.Common.{◌≡◌, drop, length}
 use Rattle.power_flow.specs.Meaning.{stored}
-use Rattle.power_flow.specs.Steps.Passing.{bound_stores, bound_memories}
+use Rattle.power_flow.specs.Steps.CoilStores.{bound_stores, bound_memories}
 use Rattle.power_flow.proofs.scan.scan.store_coils.Given as goal
 
 abbrev pub invariant-loop-k : goal.invariant-loop-k

@@ -1,6 +1,6 @@
 use Rattle.std.proofs.Common.{◌≡◌, ◌<◌, ℕ, All, length, sym, ap, ◌∙◌}
 use Rattle.network.specs.GraphValue.{diagram}
-use Rattle.power_flow.specs.declared.steps.step.BoundCoil.{BoundCoil}
+use Rattle.scan_steps.specs.declared.step.BoundCoil.{BoundCoil}
 use Rattle.variable_binding.specs.Steps.Named.{IsNamedBox}
 use Rattle.power_flow.specs.Waiting.{coils_of, boxes_of}
 use Rattle.power_flow.proofs.Fusing.{fewer_in}

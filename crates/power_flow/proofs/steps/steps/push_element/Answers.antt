@@ -3,7 +3,7 @@ use Rattle.std.proofs.lemmas.List.{length-take}
 use Rattle.network.specs.declared.element.Element.TheVariants.{Wire, Join, Upright, Contact, Coil, Box}
 use Rattle.network.specs.Apart.{first_place}
 use Rattle.network.specs.GraphValue.{diagram}
-use Rattle.power_flow.specs.Steps.Sources.{name_source}
+use Rattle.power_flow.specs.Steps.NameSources.{name_source}
 use Rattle.power_flow.specs.Steps.RowEnds.{listed}
 use Rattle.power_flow.proofs.Leading.{pins_in}
 use Rattle.power_flow.specs.Waiting.{coil_of, box_of}

@@ -5,7 +5,7 @@ use Rattle.drawings.specs.declared.drawn_box.Side.TheVariants.{Left}
 use Rattle.network.specs.declared.element.Element.{Element}
 use Rattle.network.specs.Links.{place}
 use Rattle.network.specs.GraphValue.{diagram}
-use Rattle.power_flow.specs.declared.steps.step.Step.{Step}
+use Rattle.scan_steps.specs.declared.step.Step.{Step}
 use Rattle.power_flow.specs.Steps.Columns.{IsLeftPinBegun, left_pins, joined}
 use Rattle.power_flow.specs.Steps.RowEnds.{TellsLed}
 use Rattle.power_flow.proofs.steps.steps.push_pins.Given as goal

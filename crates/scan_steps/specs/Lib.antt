@@ -1,0 +1,5 @@
+pub mod Slots
+pub mod First
+pub mod Values
+pub mod Conducting
+pub mod Steps
