@@ -16,9 +16,8 @@ use Rattle.plant_grammar.specs.declared.grammar.tree.TypeName.TheVariants.{Eleme
 use Rattle.plant_grammar.specs.declared.grammar.tree.NameList.{NameList}
 use Rattle.plant_grammar.specs.declared.grammar.tree.VarBlock.{VarBlock}
 use Rattle.plant_grammar.specs.declared.grammar.tree.Program.{Program}
-use Rattle.plant_grammar.specs.Grammar.{key_word, mark, section_word, type_word, name_words, list_words, lists_words, block_words, program_words}
+use Rattle.plant_grammar.specs.Grammar.{key_word, mark, section_word, type_word, name_words, list_words, lists_words, block_words, program_words, TextValue}
 use Rattle.plant_text.specs.Spelling.{BeginsWith}
-use Rattle.plant_grammar.specs.Grammar.{TextValue}
 use Rattle.plant_text.specs.Lines.{WordValue, body_line, body_lines, IsBegunBy}
 use Rattle.plant_grammar.specs.Steps.Reading.{programs_of, lines_of}
 use Rattle.plant.proofs.KnownWords.{programs_known}

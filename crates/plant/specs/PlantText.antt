@@ -5,12 +5,11 @@ use Rattle.words.specs.Lines.{without_last}
 use Rattle.plant_text.specs.declared.token.Token.{Token}
 use Rattle.plant_grammar.specs.declared.grammar_fault.GrammarFaultKind.{GrammarFaultKind}
 use Rattle.plant_grammar.specs.NameFaults.{RefusesPrograms, RefusesConfiguration}
-use Rattle.plant.specs.Faults.{kind_of_word}
-use Rattle.plant.specs.declared.plant_fault.PlantFault.{PlantFault}
-use Rattle.plant_grammar.specs.Grammar.{TextValue}
-use Rattle.plant.specs.BodyFaults.{IsFirstBodyFault}
+use Rattle.program_bodies.specs.Faults.{kind_of_word}
+use Rattle.program_bodies.specs.declared.plant_fault.PlantFault.{PlantFault}
+use Rattle.plant_grammar.specs.Grammar.{TextValue, Tree, program_words, words_of}
+use Rattle.program_bodies.specs.BodyFaults.{IsFirstBodyFault}
 use Rattle.plant_text.specs.Spelling.{Spells, BeginsWith}
-use Rattle.plant_grammar.specs.Grammar.{Tree, program_words, words_of}
 use Rattle.plant.specs.Faultless.{IsFaultless}
 use Rattle.plant.specs.PlantValue.{PlantValue}
 use Rattle.plant.specs.StandsFor.{IsPlantOf}

@@ -19,7 +19,7 @@ use Rattle.plant_grammar.specs.declared.grammar.tree.Resource.{Resource}
 use Rattle.plant_grammar.specs.Grammar.{Tree}
 use Rattle.plant_grammar.specs.Names.{is_named, IsAt}
 use Rattle.plant_grammar.specs.Lawful.{variables, tasks_of, uses_of, binds_of}
-use Rattle.plant.specs.Faultless.{IsLadderOf}
+use Rattle.program_bodies.specs.Ladders.{IsLadderOf}
 use Rattle.plant_grammar.specs.Kinds.{input_kind_at}
 use Rattle.plant.specs.PlantValue.{TaskValue, ResourceValue, PlantValue, AreProducersOf}
 use Rattle.task_codes.specs.CodeValue.{ProgramValue, CodeValue, bindings_at, source_kind, IsSoundCode}

@@ -23,9 +23,9 @@ use Rattle.plant.specs.declared.sources.feed.Origin.{Origin}
 use Rattle.plant.specs.declared.sources.feed.Origin.TheVariants as origin
 use Rattle.plant.specs.declared.sources.feed.Feed.{Feed}
 use Rattle.plant_grammar.specs.Names.{is_named, IsAt, AreApart}
-use Rattle.plant.specs.Faultless.{IsLadderOf}
+use Rattle.program_bodies.specs.Ladders.{IsLadderOf}
 use Rattle.plant_grammar.specs.Lawful.{use_of, tasks_of, uses_of, binds_of}
-use Rattle.plant.specs.Steps.Reading.{TypeValue}
+use Rattle.program_bodies.specs.ProgramTypes.{TypeValue}
 use Rattle.plant_grammar.specs.Kinds.{input_kind_at, kind_of_space}
 use Rattle.plant.specs.PlantValue.{ResourceValue, PlantValue, code_at, AreProducersOf}
 use Rattle.task_codes.specs.CodeValue.{ProgramValue, CodeValue, lists_of, image_kinds, outputs_of, source_kind, bindings_at, IsSoundCode}

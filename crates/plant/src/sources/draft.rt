@@ -8,10 +8,10 @@ ghost use Rattle.plant_grammar.specs.Lawful.{tasks_of, task_of};
 ghost use Rattle.plant.specs.StandsFor.{runs_in};
 ghost use Rattle.plant.specs.Steps.Drafts.{seen, runs_at, programs_in, IsProgramOf, IsDraftOf, IsResourceDraft};
 
-use crate::bodies::program_type::{ProgramType, type_named};
 use crate::sources::resource_draft::ResourceDraft;
 use crate::sources::task_draft::TaskDraft;
 use plant_grammar::{GrammarFault, GrammarFaultKind, Item, Name, Resource, TaskLine, Use};
+use program_bodies::{ProgramType, type_named};
 use std::alloc::{AllocError, Global};
 use std::sync::Arc;
 use task_codes::ProgramInstance;

@@ -8,7 +8,6 @@ ghost use Rattle.plant_grammar.specs.Lawful.{binds_of, use_of, uses_of};
 ghost use Rattle.plant_grammar.specs.Steps.ReadParts.{FindsInput};
 ghost use Rattle.plant.specs.Steps.Drafts.{drafted, IsValue, IsOriginOf, IsFeedOf, HasFeed, AreAllFeeds, IsUseResolved};
 
-use crate::bodies::program_type::{ProgramType, type_named};
 use crate::sources::feed::{Feed, Origin};
 use crate::sources::lookup::{find_instance, find_output, find_resource};
 use crate::sources::resource_draft::ResourceDraft;
@@ -17,6 +16,7 @@ use plant_grammar::{
     Bind, GrammarFault, GrammarFaultKind, Item, Name, Resource, SourceName, Use, kind_of_space,
 };
 use power_flow::{Declarations, Declared, Kind};
+use program_bodies::{ProgramType, type_named};
 use std::alloc::Global;
 use task_codes::ProgramInstance;
 

@@ -5,7 +5,7 @@ ghost use Rattle.plant_grammar.specs.NameFaults.{TellsOfName};
 ghost use Rattle.plant_grammar.specs.WordFaults.{IsWordFault};
 ghost use Rattle.std.specs.List.{AllZip};
 ghost use Rattle.plant_grammar.specs.declared.grammar.tree.Program.{Program};
-ghost use Rattle.plant_grammar.specs.Lawful.{tasks_of, uses_of};
+ghost use Rattle.plant_grammar.specs.Lawful.{uses_of};
 ghost use Rattle.plant.specs.StandsFor.{runs_in, task_value};
 ghost use Rattle.plant.specs.Steps.Drafts.{seen, drafted, AreDrafts, IsResourceDraft, IsReady, IsOnceBound, IsLinked, AreLinked, IsResourceLinked, Triples};
 

@@ -5,11 +5,11 @@ ghost use Rattle.plant_grammar.specs.Lawful.{IsTreeLawful};
 ghost use Rattle.plant.specs.Steps.Reading.{tree_of};
 ghost use Rattle.plant.specs.StandsFor.{IsPlantOf};
 
-use crate::bodies::reading::Reading;
 use crate::plant::Plant;
 use crate::sources::draft::draft_resources;
 use crate::sources::feeds::check_sources;
 use crate::sources::link::link_resources;
+use crate::sources::reading::Reading;
 use plant_grammar::GrammarFault;
 use std::alloc::Global;
 

@@ -2,9 +2,9 @@ use Rattle.std.proofs.Common.{◌≡◌, ◌∙◌, ap, ℕ}
 use Rattle.std.specs.Prelude.{min, max}
 use Rattle.plant_grammar.specs.declared.grammar.tree.Program.{Program}
 use Rattle.plant_grammar.specs.Lawful.{variables}
-use Rattle.plant.specs.BodyFaults.{body_line, picture_in}
-use Rattle.plant.proofs.BodyLemmas.{drawing_refused, networks_refused, names_refused}
-use Rattle.plant.proofs.bodies.drawn.draw.Goals as goal
+use Rattle.program_bodies.specs.BodyFaults.{body_line, picture_in}
+use Rattle.program_bodies.proofs.BodyLemmas.{drawing_refused, networks_refused, names_refused}
+use Rattle.program_bodies.proofs.drawn.draw.Goals as goal
 
 pub returns-in_err-drawing-clause-fault : goal.returns-in_err-drawing-clause-fault
 returns-in_err-drawing-clause-fault c =

@@ -13,14 +13,14 @@ use Rattle.power_flow.specs.LadderValue.{diagrams}
 use Rattle.variable_binding.specs.Binding.{CanBind}
 use Rattle.variable_binding.specs.Findings.{IsFirstFault}
 use Rattle.variable_binding.specs.declared.bind_fault.BindFault.{BindFault}
-use Rattle.plant.specs.declared.plant_fault.BodyFault.{BodyFault}
-use Rattle.plant.specs.declared.plant_fault.BodyFault.TheVariants as body
-use Rattle.plant.specs.declared.plant_fault.PlantFault.{PlantFault}
-use Rattle.plant.specs.declared.plant_fault.PlantFaultKind.{PlantFaultKind}
-use Rattle.plant.specs.declared.plant_fault.PlantFaultKind.TheVariants as kind
+use Rattle.program_bodies.specs.declared.plant_fault.BodyFault.{BodyFault}
+use Rattle.program_bodies.specs.declared.plant_fault.BodyFault.TheVariants as body
+use Rattle.program_bodies.specs.declared.plant_fault.PlantFault.{PlantFault}
+use Rattle.program_bodies.specs.declared.plant_fault.PlantFaultKind.{PlantFaultKind}
+use Rattle.program_bodies.specs.declared.plant_fault.PlantFaultKind.TheVariants as kind
 use Rattle.plant_grammar.specs.Grammar.{TextValue}
 use Rattle.plant_grammar.specs.Lawful.{variables}
-use Rattle.plant.specs.Faultless.{HasLadder}
+use Rattle.program_bodies.specs.Ladders.{HasLadder}
 
 -- the number of a body's first line, from 1 to the greatest on which a drawing may begin
 abbrev pub body_line : TextValue → ℕ
@@ -38,11 +38,19 @@ pub record RefusesNames (t : TextValue) (fault : BindFault) : Type 0 where
   pub refused : CanBind (variables t.program) (diagrams graph) → ⊥
   pub first : IsFirstFault (variables t.program) graph fault
 
--- The body isn't well drawn, its networks have a fault, or its names do; the first of these faults is this one, and on this line. Lines are counted on from the body's first.
+-- The body isn't well drawn, its networks have a fault, or its names do; the first of these faults is this one,
+-- and on this line. Lines are counted on from the body's first.
 abbrev pub RefusesBody : TextValue → BodyFault → ℕ → Type 0
-RefusesBody t (body.Drawing k) line = IsIllDrawn (rows_of t.program.body) × ((column : ℕ) × TellsFirstFault t.program.body (body_line t) (record { kind = k; line = line; column = column }))
-RefusesBody t (body.Graph k) line = IsWellDrawn (rows_of t.program.body) × ((place : Place) × IsFaultAt (picture_in t) k place × IsFoundAt (body_line t) place (record { kind = k; line = line; column = place.column }))
-RefusesBody t (body.Bind k) line = IsWellDrawn (rows_of t.program.body) × ((column : ℕ) × RefusesNames t (record { kind = k; line = line; column = column }))
+RefusesBody t (body.Drawing k) line =
+    IsIllDrawn (rows_of t.program.body)
+    × ((column : ℕ) × TellsFirstFault t.program.body (body_line t) (record { kind = k; line = line; column = column }))
+RefusesBody t (body.Graph k) line =
+    IsWellDrawn (rows_of t.program.body)
+    × ((place : Place) × IsFaultAt (picture_in t) k place
+    × IsFoundAt (body_line t) place (record { kind = k; line = line; column = place.column }))
+RefusesBody t (body.Bind k) line =
+    IsWellDrawn (rows_of t.program.body)
+    × ((column : ℕ) × RefusesNames t (record { kind = k; line = line; column = column }))
 
 -- the kind of a plant's fault that a body's fault is
 abbrev pub kind_of_body : BodyFault → PlantFaultKind
