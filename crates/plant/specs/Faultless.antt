@@ -5,6 +5,6 @@ use Rattle.plant_grammar.specs.Lawful.{IsTreeLawful}
 use Rattle.program_bodies.specs.Ladders.{HasLadder}
 
 -- A tree without a fault, its sources aside: its words are lawful, and the body of each program has a ladder.
-pub record IsFaultless (tree : Tree) : Type 0 where
+pub record IsTreeFaultless (tree : Tree) : Type 0 where
   pub lawful : IsTreeLawful tree
   pub drawn : All HasLadder tree.programs

@@ -1,5 +1,5 @@
 ghost use Rattle.std.specs.Prelude.{IfOk, IfErr};
-ghost use Rattle.program_bodies.specs.Faults.{IsPlantFault, IsOfBody, IsOfName};
+ghost use Rattle.program_bodies.specs.Faults.{IsPlantFault, IsOfBody, IsOfDeclaredName};
 ghost use Rattle.plant.specs.PlantText.{IsPlantText, IsBodyFaultIn, IsNameFaultIn};
 
 use crate::plant::Plant;
@@ -18,7 +18,7 @@ impl Plant {
         ensures ok { IfOk result (λ p. IsPlantText text.now p) }
         ensures value { IfErr result IsPlantFault }
         ensures body { IfErr result (λ fault. IsOfBody fault.kind → IsBodyFaultIn text.now fault) }
-        ensures name { IfErr result (λ fault. IsOfName fault.kind → IsNameFaultIn text.now fault) }
+        ensures name { IfErr result (λ fault. IsOfDeclaredName fault.kind → IsNameFaultIn text.now fault) }
     {
         let words = read_words(alloc, text)?;
         let mut reader = Reader::new(words.words(), words.last());

@@ -19,7 +19,7 @@ use Rattle.program_bodies.specs.declared.plant_fault.PlantFault.{PlantFault}
 use Rattle.program_bodies.specs.declared.plant_fault.PlantFaultKind.TheVariants as kind
 use Rattle.program_bodies.specs.Faults.{IsHandedOn, HandsOnDrawing, HandsOnNetworks, HandsOnNames}
 use Rattle.plant_grammar.specs.Grammar.{TextValue}
-use Rattle.program_bodies.specs.BodyFaults.{body_line, picture_in, RefusesBody, RefusesNames, IsBodyFault, kind_of_body}
+use Rattle.program_bodies.specs.BodyFaults.{drawing_line, picture_in, RefusesBody, RefusesNames, IsBodyFault, kind_of_body}
 
 -- a refusal that is handed on is the body's
 pub body_refused : {T IsMemory : Type 0} (t : TextValue) (line : ℕ) (why : BodyFault) (r : Result T PlantFault)
@@ -37,7 +37,7 @@ body_refused t line why (Err fault) given refused = λ other.
 -- a drawing that is refused
 pub drawing_refused : {T : Type 0} (t : TextValue) (found : DrawFault) (r : Result T PlantFault)
     → IsErrAnd r (HandsOnDrawing found)
-    → (found.kind ≢ draw.Memory → IsIllDrawn (rows_of t.program.body)) → TellsFirstFault t.program.body (body_line t) found
+    → (found.kind ≢ draw.Memory → IsIllDrawn (rows_of t.program.body)) → TellsFirstFault t.program.body (drawing_line t) found
     → IfErr r (λ fault. fault.kind ≢ kind.Memory → IsBodyFault t fault)
 drawing_refused t found r given ill first = body_refused t found.line (body.Drawing found.kind) r given (λ other. (ill other, (found.column, first)))
 

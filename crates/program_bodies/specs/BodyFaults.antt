@@ -23,12 +23,12 @@ use Rattle.plant_grammar.specs.Lawful.{variables}
 use Rattle.program_bodies.specs.Ladders.{HasLadder}
 
 -- the number of a body's first line, from 1 to the greatest on which a drawing may begin
-abbrev pub body_line : TextValue → ℕ
-body_line t = max 1 (min t.first_line 9223372036854775807)
+abbrev pub drawing_line : TextValue → ℕ
+drawing_line t = max 1 (min t.first_line 9223372036854775807)
 
 -- what is drawn in a body
 abbrev pub picture_in : TextValue → Picture
-picture_in t = picture_of (body_line t) (layout_of (rows_of t.program.body))
+picture_in t = picture_of (drawing_line t) (layout_of (rows_of t.program.body))
 
 -- a program's networks have no fault, and their names can't be bound to its variables; this is the first fault
 pub record RefusesNames (t : TextValue) (fault : BindFault) : Type 0 where
@@ -43,11 +43,12 @@ pub record RefusesNames (t : TextValue) (fault : BindFault) : Type 0 where
 abbrev pub RefusesBody : TextValue → BodyFault → ℕ → Type 0
 RefusesBody t (body.Drawing k) line =
     IsIllDrawn (rows_of t.program.body)
-    × ((column : ℕ) × TellsFirstFault t.program.body (body_line t) (record { kind = k; line = line; column = column }))
+    × ((column : ℕ)
+    × TellsFirstFault t.program.body (drawing_line t) (record { kind = k; line = line; column = column }))
 RefusesBody t (body.Graph k) line =
     IsWellDrawn (rows_of t.program.body)
     × ((place : Place) × IsFaultAt (picture_in t) k place
-    × IsFoundAt (body_line t) place (record { kind = k; line = line; column = place.column }))
+    × IsFoundAt (drawing_line t) place (record { kind = k; line = line; column = place.column }))
 RefusesBody t (body.Bind k) line =
     IsWellDrawn (rows_of t.program.body)
     × ((column : ℕ) × RefusesNames t (record { kind = k; line = line; column = column }))

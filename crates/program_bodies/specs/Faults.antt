@@ -82,8 +82,8 @@ abbrev pub IsOfBody : PlantFaultKind → Type 0
 IsOfBody k = (k ≡ kind.Drawing) ⊎ ((k ≡ kind.Graph) ⊎ (k ≡ kind.Bind))
 
 -- one of the kinds of faults of a name that is declared, or of one too many
-abbrev pub IsOfName : PlantFaultKind → Type 0
-IsOfName k = (k ≡ kind.NameTwice) ⊎ (k ≡ kind.TooMany)
+abbrev pub IsOfDeclaredName : PlantFaultKind → Type 0
+IsOfDeclaredName k = (k ≡ kind.NameTwice) ⊎ (k ≡ kind.TooMany)
 
 -- the kind of a word's fault, as one of a plant's text
 abbrev pub kind_of_word : GrammarFaultKind → PlantFaultKind

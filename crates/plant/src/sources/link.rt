@@ -7,7 +7,7 @@ ghost use Rattle.std.specs.List.{AllZip};
 ghost use Rattle.plant_grammar.specs.declared.grammar.tree.Program.{Program};
 ghost use Rattle.plant_grammar.specs.Lawful.{uses_of};
 ghost use Rattle.plant.specs.StandsFor.{runs_in, task_value};
-ghost use Rattle.plant.specs.Steps.Drafts.{seen, drafted, AreDrafts, IsResourceDraft, IsReady, IsOnceBound, IsLinked, AreLinked, IsResourceLinked, Triples};
+ghost use Rattle.plant.specs.Steps.Drafts.{seen, drafted, AreDrafts, IsResourceDraft, IsReady, IsOnceBound, IsCodeLinked, IsTaskLinked, AreTasksLinked, IsResourceLinked, AreResourcesLinked};
 
 use crate::plant_resource::PlantResource;
 use crate::sources::draft::{runs_in, tasks_of};
@@ -42,7 +42,7 @@ fn link_runs(
 ) -> Result<TaskCode, GrammarFault>
     requires many { length runs.now ≡ length draft.now.programs }
     requires once { All IsOnceBound (seen runs.now) }
-    ensures ok { IfOk result (IsLinked (drafted drafts.now) (seen runs.now) draft.now) }
+    ensures ok { IfOk result (IsCodeLinked (drafted drafts.now) (seen runs.now) draft.now) }
     ensures tells { IfErr result (λ e. TellsOfName e.kind ⊥ ⊥) }
     ensures value { IfErr result IsWordFault }
 {
@@ -65,7 +65,7 @@ fn link_task(
 ) -> Result<Arc<TaskCode>, GrammarFault>
     requires many { length (runs_in resource.now task.now) ≡ length draft.now.programs }
     requires once { All IsOnceBound (runs_in resource.now task.now) }
-    ensures ok { IfOk result (λ c. IsLinked (drafted drafts.now) (runs_in resource.now task.now) draft.now c.value) }
+    ensures ok { IfOk result (λ c. IsTaskLinked drafts.now resource.now task.now draft.now c.value) }
     ensures tells { IfErr result (λ e. TellsOfName e.kind ⊥ ⊥) }
     ensures value { IfErr result IsWordFault }
 {
@@ -86,7 +86,7 @@ fn link_tasks(
     requires known { AreDrafts resource.now (seen tasks.now) task_drafts.now }
     requires once { All IsOnceBound (uses_of resource.now) }
     ensures many { IfOk result (λ cs. length cs.items ≡ length tasks.now) }
-    ensures each { IfOk result (λ cs. AreLinked (drafted drafts.now) resource.now (seen tasks.now) task_drafts.now (map (λ c. c.value) cs.items)) }
+    ensures each { IfOk result (λ cs. AreTasksLinked drafts.now resource.now tasks.now task_drafts.now cs.items) }
     ensures tells { IfErr result (λ e. TellsOfName e.kind ⊥ ⊥) }
     ensures value { IfErr result IsWordFault }
 {
@@ -140,7 +140,7 @@ pub fn link_resources(
     requires known { (programs : List Program) × AllZip (IsResourceDraft programs) resources.now drafts.now }
     requires ready { All IsReady resources.now }
     ensures many { IfOk result (λ vs. length vs.items ≡ length resources.now) }
-    ensures each { IfOk result (λ vs. Triples (IsResourceLinked (drafted drafts.now)) resources.now drafts.now vs.items) }
+    ensures each { IfOk result (λ vs. AreResourcesLinked drafts.now resources.now vs.items) }
     ensures tells { IfErr result (λ e. TellsOfName e.kind ⊥ ⊥) }
     ensures value { IfErr result IsWordFault }
 {

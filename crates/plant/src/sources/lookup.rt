@@ -5,7 +5,7 @@ ghost use Rattle.plant.specs.PlantValue.{ResourceValue};
 ghost use Rattle.task_codes.specs.CodeValue.{ProgramValue};
 ghost use Rattle.plant.specs.Steps.Drafts.{IsInstanceAt, IsPlacedAt, IsOutputAt};
 ghost use Rattle.plant.specs.Steps.Found.{FindsBoth, FindsAt};
-ghost use Rattle.plant.specs.Steps.Outputs.{StandsBefore, IsBefore};
+ghost use Rattle.plant.specs.Steps.Outputs.{StandsBefore, IsEarlierOutput};
 
 use crate::sources::resource_draft::ResourceDraft;
 use crate::sources::task_draft::TaskDraft;
@@ -65,7 +65,7 @@ fn stands_at(output: TaskOutput, program: usize, place: usize) -> bool
 
 /// The position of the output of a program at a place, and its kind. Outputs stand in order of program and place, so that halving finds it.
 fn output_position(outputs: &[TaskOutput], program: usize, place: usize) -> Option<(usize, Kind)>
-    requires { AllPairs IsBefore outputs.now }
+    requires { AllPairs IsEarlierOutput outputs.now }
     ensures { FindsBoth (IsPlacedAt outputs.now program place) result }
 {
     let mut low = 0;

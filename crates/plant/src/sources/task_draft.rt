@@ -14,12 +14,13 @@ pub struct TaskDraft {
 }
 
 impl Model for TaskDraft {
-    ghost use Rattle.std.specs.Prelude.{◌≡◌, []};
+    ghost use Rattle.std.specs.Prelude.{◌≡◌};
     ghost use Rattle.task_codes.specs.CodeValue.{CodeValue, outputs_of};
+    ghost use Rattle.plant.specs.Steps.Drafts.{unbound_code};
 
     ghost Value = { CodeValue };
 
-    ghost view = { λ d. record { programs = d.programs.items; bindings = []; producers = []; expected = []; outputs = d.outputs.items } };
+    ghost view = { λ d. unbound_code d.programs.items d.outputs.items };
 
     ghost invariant = { λ d. d.outputs.items ≡ outputs_of d.programs.items };
 }
