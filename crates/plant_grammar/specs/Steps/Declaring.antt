@@ -13,10 +13,9 @@ use Rattle.plant_grammar.specs.declared.grammar.tree.Use.{Use}
 use Rattle.plant_grammar.specs.declared.grammar.tree.Item.{Item}
 use Rattle.plant_grammar.specs.declared.grammar.tree.Resource.{Resource}
 use Rattle.plant_text.specs.declared.token.Punctuation.TheVariants.{Open}
-use Rattle.plant_grammar.specs.Grammar.{mark}
+use Rattle.plant_grammar.specs.Grammar.{mark, TextValue}
 use Rattle.plant_grammar.specs.Lawful.{task_of, use_of}
 use Rattle.plant_grammar.specs.NameFaults.{IsOfName, TellsOfName, IsTaken, IsAfter, RefusesPrograms, RefusesTask, RefusesBind, RefusesInstance, RefusesItems, RefusesResource, RefusesResources, RefusesConfiguration}
-use Rattle.plant_grammar.specs.Grammar.{TextValue}
 use Rattle.plant_grammar.specs.Steps.ReadParts.{TallyValue}
 use Rattle.plant_grammar.specs.Steps.Reading.{programs_of}
 

@@ -5,7 +5,6 @@ use Rattle.plant_grammar.specs.declared.grammar.tree.Program.{Program}
 use Rattle.plant_grammar.specs.declared.grammar.tree.Resource.{Resource}
 use Rattle.plant_text.specs.declared.token.Token.{Token}
 use Rattle.plant_grammar.specs.Grammar.{Tree, TextValue, program_words, words_of}
-use Rattle.plant_grammar.specs.Grammar.{TextValue}
 use Rattle.plant_grammar.specs.Lawful.{IsTreeLawful}
 use Rattle.plant_grammar.specs.Steps.Lines.{ReaderValue}
 

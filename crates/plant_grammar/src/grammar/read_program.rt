@@ -1,6 +1,6 @@
 //! The rules of the grammar from names to programs.
 
-ghost use Rattle.std.specs.Prelude.{◌≡◌, ◌∷◌, ◌++◌, ◌+◌, ◌<◌, ◌≤◌, ◌⊎◌, ℕ, List, IfOk, OnOk, OnErr, IsTrue, IsFalse, All, length, IfErr};
+ghost use Rattle.std.specs.Prelude.{◌≡◌, ◌∷◌, ◌++◌, ◌+◌, ◌<◌, ℕ, List, IfOk, OnOk, OnErr, IsTrue, IsFalse, All, length, IfErr};
 ghost use Rattle.plant_grammar.specs.WordFaults.{IsWordFault};
 ghost use Rattle.std.specs.List.{flat_map};
 ghost use Rattle.plant_text.specs.declared.token.Token.TheVariants as token;

@@ -1,18 +1,16 @@
 //! The rules of the grammar from tasks to resources.
 
-ghost use Rattle.std.specs.Prelude.{◌≡◌, ◌⊎◌, [], ◌∷◌, ◌++◌, ◌+◌, ◌<◌, ◌≤◌, IfOk, OnOk, All, Any, Some, map, length, IsTrue, IfErr};
+ghost use Rattle.std.specs.Prelude.{◌≡◌, [], ◌∷◌, ◌++◌, ◌+◌, ◌<◌, IfOk, OnOk, Any, map, length, IsTrue, IfErr};
 ghost use Rattle.plant_grammar.specs.WordFaults.{IsWordFault};
 ghost use Rattle.std.specs.List.{flat_map};
 ghost use Rattle.plant_text.specs.declared.token.Token.TheVariants as token;
-ghost use Rattle.plant_text.specs.declared.token.Keyword.TheVariants as key;
-ghost use Rattle.plant_grammar.specs.Grammar.{interval_words, priority_words, settings, task_words, source_words, bind_words, with_commas, binds_words, listed, use_words, item_words, items_words, resource_words, resources_words};
+ghost use Rattle.plant_grammar.specs.Grammar.{interval_words, priority_words, settings, task_words, source_words, bind_words, binds_words, listed, use_words, item_words, items_words, resource_words, resources_words};
 ghost use Rattle.plant_grammar.specs.Names.{is_named, AreApart};
-ghost use Rattle.plant_grammar.specs.Lawful.{variables, task_of, use_of, uses_of, binds_of, IsUseLawful, IsResourceLawful};
+ghost use Rattle.plant_grammar.specs.Lawful.{variables, task_of, use_of, uses_of, IsUseLawful, IsResourceLawful};
 ghost use Rattle.plant_grammar.specs.NameFaults.{TellsOfName, RefusesTask, RefusesBind};
 ghost use Rattle.plant_grammar.specs.Steps.Declaring.{TellsOfTask, TellsOfInstance, TellsOfBind, TellsOfResource, BeginRefused, RefusesFurtherInstance, RefusesItem, RefusesFurtherItems, RefusesFurtherResource, RefusesFurtherResources, RefusesInParentheses};
 ghost use Rattle.plant_grammar.specs.Steps.ReadParts.{types_alone, with_instance, with_binds, tally_with, EndWithBinds, bound_in, HasFieldKind, IsOfInputKind, IsNew, MayFollow, AreItemsLawful, AreResourcesLawful};
-ghost use Rattle.plant_grammar.specs.declared.grammar.tree.Item.TheVariants as item;
-ghost use Rattle.plant_grammar.specs.Kinds.{items_or_none, kind_of_space};
+ghost use Rattle.plant_grammar.specs.Kinds.{kind_of_space};
 
 use crate::grammar::known_names::{
     check_new, count_tasks, input_kind, is_bound, is_instance, is_resource, is_task, program_named,

@@ -31,9 +31,8 @@ impl<'a> Model for Reader<'a> {
 }
 
 impl<'a> Reader<'a> {
-    ghost use Rattle.std.specs.Prelude.{[], ℕ};
+    ghost use Rattle.std.specs.Prelude.{[]};
     ghost use Rattle.plant_text.specs.declared.token.Token.{Token};
-    ghost use Rattle.plant_text.specs.declared.address.Address.{Address};
     ghost use Rattle.std_blocks.specs.declared.block_type.BlockType.{BlockType};
 
     /// A reader of all the words of a text that ends on a line.

@@ -1,4 +1,4 @@
-use Rattle.std.proofs.Common.{◌≡◌, List, ◌∙◌, ap, sym, subst}
+use Rattle.std.proofs.Common.{List, ◌∙◌, ap, subst}
 use Rattle.std.specs.List.{flat_map}
 use Rattle.lists.proofs.Results.{kept_fault}
 use Rattle.plant_grammar.specs.Grammar.{TextValue}
