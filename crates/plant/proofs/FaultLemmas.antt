@@ -5,7 +5,7 @@ use Rattle.plant_grammar.specs.declared.grammar_fault.GrammarFaultKind.{GrammarF
 use Rattle.plant_grammar.specs.declared.grammar_fault.GrammarFaultKind.TheVariants as word
 use Rattle.plant_grammar.specs.NameFaults.{TellsOfName}
 use Rattle.plant_grammar.specs.NameFaults as names
-use Rattle.plant_grammar.specs.WordFaults.{IsOfWord, IsWordFault}
+use Rattle.plant_grammar.specs.WordFaults.{IsOfWord, IsGrammarFault}
 use Rattle.program_bodies.specs.declared.plant_fault.BodyFault.{BodyFault}
 use Rattle.program_bodies.specs.declared.plant_fault.BodyFault.TheVariants as body
 use Rattle.program_bodies.specs.BodyFaults.{kind_of_body}
@@ -23,10 +23,10 @@ of_word word.InputBoundTwice line w = refl
 of_word word.TooMany line w = refl
 of_word word.Memory line w = (refl, w)
 
-pub plant_of_word : (w : GrammarFault) → IsWordFault w → IsPlantFault (fault_of_word w)
+pub plant_of_word : (w : GrammarFault) → IsGrammarFault w → IsPlantFault (fault_of_word w)
 plant_of_word w is = of_word w.kind w.line is
 
-pub no_body : (w : GrammarFault) → IsWordFault w → IsOfBody (kind_of_word w.kind) → ⊥
+pub no_body : (w : GrammarFault) → IsGrammarFault w → IsOfBody (kind_of_word w.kind) → ⊥
 no_body w is (inl e) = subst (λ k. IsOfKind k w.line None) e (plant_of_word w is)
 no_body w is (inr (inl e)) = subst (λ k. IsOfKind k w.line None) e (plant_of_word w is)
 no_body w is (inr (inr e)) = subst (λ k. IsOfKind k w.line None) e (plant_of_word w is)

@@ -23,7 +23,7 @@ use Rattle.plant_grammar.specs.declared.grammar.tree.Use.{Use}
 use Rattle.plant.specs.declared.sources.feed.Origin.{Origin}
 use Rattle.plant.specs.declared.sources.feed.Origin.TheVariants as origin
 use Rattle.plant.specs.declared.sources.feed.Feed.{Feed}
-use Rattle.plant_grammar.specs.Names.{is_named, AreApart}
+use Rattle.plant_grammar.specs.Names.{is_named, AreNamesApart}
 use Rattle.plant_grammar.specs.Lawful.{binds_of}
 use Rattle.plant_grammar.specs.Kinds.{input_kind_at, kind_of_space, items_or_none}
 use Rattle.plant.specs.PlantValue.{PlantValue}
@@ -74,7 +74,7 @@ bindings_linked plant c ds es (b ∷ bs) (f ∷ fs) [] fed placed = absurd place
 bindings_linked plant c ds es (b ∷ bs) (f ∷ fs) (x ∷ xs) fed placed = (binding_linked plant c ds b f x es fed.0 placed.0, bindings_linked plant c ds es bs fs xs fed.1 placed.1)
 
 -- bindings of inputs that are apart have places of their own
-pub once_bound : (plant : PlantValue) (c : CodeValue) (ds : List Declaration) (bs : List Bind) (xs : List Binding) → AreApart (map (λ b. b.input) bs) → AllZip (IsBindingBy plant c ds) bs xs → AreOnce xs
+pub once_bound : (plant : PlantValue) (c : CodeValue) (ds : List Declaration) (bs : List Bind) (xs : List Binding) → AreNamesApart (map (λ b. b.input) bs) → AllZip (IsBindingBy plant c ds) bs xs → AreOnce xs
 once_bound plant c ds bs xs apart each j k d within inside same =
     let one = zip_back (IsBindingBy plant c ds) bs xs each j (get_or xs j d) (slice_get-get_or xs j d within) in
     let two = zip_back (IsBindingBy plant c ds) bs xs each k (get_or xs k d) (slice_get-get_or xs k d inside) in

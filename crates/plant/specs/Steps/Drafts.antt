@@ -24,7 +24,7 @@ use Rattle.plant_grammar.specs.declared.grammar.tree.Resource.{Resource}
 use Rattle.plant.specs.declared.sources.feed.Origin.{Origin}
 use Rattle.plant.specs.declared.sources.feed.Origin.TheVariants as origin
 use Rattle.plant.specs.declared.sources.feed.Feed.{Feed}
-use Rattle.plant_grammar.specs.Names.{is_named, IsAt, AreApart}
+use Rattle.plant_grammar.specs.Names.{is_named, IsAt, AreNamesApart}
 use Rattle.program_bodies.specs.Ladders.{IsLadderOf}
 use Rattle.plant_grammar.specs.Lawful.{use_of, tasks_of, uses_of, binds_of}
 use Rattle.program_bodies.specs.ProgramTypes.{TypeValue}
@@ -78,7 +78,7 @@ AreDrafts r tasks drafts = (programs : List Program) × AllZip (IsDraftOf progra
 
 -- the instance binds no input twice
 abbrev pub IsOnceBound : Use → Type 0
-IsOnceBound u = AreApart (map (λ b. b.input) (binds_of u))
+IsOnceBound u = AreNamesApart (map (λ b. b.input) (binds_of u))
 
 -- what resolution takes of a lawful resource: no interval is 0, and no instance binds an input twice
 pub record IsReady (r : Resource) : Type 0 where

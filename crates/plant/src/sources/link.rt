@@ -2,7 +2,7 @@
 
 ghost use Rattle.std.specs.Prelude.{◌≡◌, ◌<◌, List, IfOk, All, length, map, IfErr};
 ghost use Rattle.plant_grammar.specs.NameFaults.{TellsOfName};
-ghost use Rattle.plant_grammar.specs.WordFaults.{IsWordFault};
+ghost use Rattle.plant_grammar.specs.WordFaults.{IsGrammarFault};
 ghost use Rattle.std.specs.List.{AllZip};
 ghost use Rattle.plant_grammar.specs.declared.grammar.tree.Program.{Program};
 ghost use Rattle.plant_grammar.specs.Lawful.{uses_of};
@@ -44,7 +44,7 @@ fn link_runs(
     requires once { All IsOnceBound (seen runs.now) }
     ensures ok { IfOk result (IsCodeLinked (drafted drafts.now) (seen runs.now) draft.now) }
     ensures tells { IfErr result (λ e. TellsOfName e.kind ⊥ ⊥) }
-    ensures value { IfErr result IsWordFault }
+    ensures value { IfErr result IsGrammarFault }
 {
     let feeds = feeds_of(alloc, drafts, draft.programs(), runs)?;
     let producers = producers_of(alloc, feeds.as_slice())?;
@@ -67,7 +67,7 @@ fn link_task(
     requires once { All IsOnceBound (runs_in resource.now task.now) }
     ensures ok { IfOk result (λ c. IsTaskLinked drafts.now resource.now task.now draft.now c.value) }
     ensures tells { IfErr result (λ e. TellsOfName e.kind ⊥ ⊥) }
-    ensures value { IfErr result IsWordFault }
+    ensures value { IfErr result IsGrammarFault }
 {
     let runs = runs_in(alloc, resource, task)?;
     let code = link_runs(alloc, drafts, draft, runs.as_slice())?;
@@ -88,7 +88,7 @@ fn link_tasks(
     ensures many { IfOk result (λ cs. length cs.items ≡ length tasks.now) }
     ensures each { IfOk result (λ cs. AreTasksLinked drafts.now resource.now tasks.now task_drafts.now cs.items) }
     ensures tells { IfErr result (λ e. TellsOfName e.kind ⊥ ⊥) }
-    ensures value { IfErr result IsWordFault }
+    ensures value { IfErr result IsGrammarFault }
 {
     let mut codes = Vec::new(alloc);
     for (i, draft) in task_drafts.iter().enumerate() {
@@ -122,7 +122,7 @@ fn link_resource(
     requires ready { IsReady resource.now }
     ensures ok { IfOk result (λ v. IsResourceLinked (drafted drafts.now) resource.now draft.now v) }
     ensures tells { IfErr result (λ e. TellsOfName e.kind ⊥ ⊥) }
-    ensures value { IfErr result IsWordFault }
+    ensures value { IfErr result IsGrammarFault }
 {
     let lines = tasks_of(alloc, resource)?;
     let codes = link_tasks(alloc, drafts, resource, lines.as_slice(), draft.tasks())?;
@@ -142,7 +142,7 @@ pub fn link_resources(
     ensures many { IfOk result (λ vs. length vs.items ≡ length resources.now) }
     ensures each { IfOk result (λ vs. AreResourcesLinked drafts.now resources.now vs.items) }
     ensures tells { IfErr result (λ e. TellsOfName e.kind ⊥ ⊥) }
-    ensures value { IfErr result IsWordFault }
+    ensures value { IfErr result IsGrammarFault }
 {
     let mut linked = Vec::new(alloc);
     for (i, draft) in drafts.iter().enumerate() {

@@ -1,6 +1,6 @@
 ghost use Rattle.std.specs.Prelude.{ℕ, List, IfOk, IfErr};
 ghost use Rattle.plant_grammar.specs.NameFaults.{TellsOfName};
-ghost use Rattle.plant_grammar.specs.WordFaults.{IsWordFault};
+ghost use Rattle.plant_grammar.specs.WordFaults.{IsGrammarFault};
 ghost use Rattle.plant_grammar.specs.Lawful.{IsTreeLawful};
 ghost use Rattle.plant.specs.Steps.Reading.{tree_of};
 ghost use Rattle.plant.specs.StandsFor.{IsPlantOf};
@@ -18,7 +18,7 @@ pub fn resolve(alloc: Global, reading: &Reading) -> Result<Plant, GrammarFault>
     requires { (name : List ℕ) × IsTreeLawful (tree_of name reading.now) }
     ensures ok { IfOk result (λ p. (name : List ℕ) → IsPlantOf (tree_of name reading.now) p) }
     ensures tells { IfErr result (λ e. TellsOfName e.kind ⊥ ⊥) }
-    ensures value { IfErr result IsWordFault }
+    ensures value { IfErr result IsGrammarFault }
 {
     let types = reading.types();
     let resources = reading.resources();
