@@ -2,6 +2,7 @@
 #![tactic(auto)]
 
 mod find;
+mod named;
 mod planning;
 mod plant;
 mod plant_resource;

@@ -8,8 +8,9 @@ ghost use Rattle.plant_grammar.specs.Lawful.{binds_of, use_of, uses_of};
 ghost use Rattle.plant_grammar.specs.Steps.ReadParts.{FindsInput};
 ghost use Rattle.plant.specs.Steps.Drafts.{drafted, IsValue, IsOriginOf, IsFeedOf, HasFeed, AreAllFeeds, IsUseResolved};
 
+use crate::named::find_named;
 use crate::sources::feed::{Feed, Origin};
-use crate::sources::lookup::{find_instance, find_output, find_resource};
+use crate::sources::lookup::{find_instance, find_output};
 use crate::sources::resource_draft::ResourceDraft;
 use due_list::TaskRef;
 use plant_grammar::{
@@ -39,7 +40,7 @@ fn find_value(
     ensures tells { IfErr result (λ e. TellsOfName e.kind ⊥ ⊥) }
     ensures value { IfErr result IsGrammarFault }
 {
-    let Some(position) = find_resource(drafts, resource.as_str()) else {
+    let Some(position) = find_named(drafts, resource.as_str()) else {
         return Err(unknown(resource));
     };
     let tasks = drafts[position].tasks();
