@@ -40,7 +40,10 @@ priority_at resources t = unwrap_or (option_map (λ (found : Timing). found.prio
 
 -- by moment, priority, resource and task
 abbrev pub due_cmp : List (List Timing) → Due → Due → Ordering
-due_cmp resources a b = ordering_then (nat_cmp a.moment b.moment) (ordering_then (nat_cmp (priority_at resources a.task) (priority_at resources b.task)) (ordering_then (nat_cmp a.task.resource b.task.resource) (nat_cmp a.task.task b.task.task)))
+due_cmp resources a b =
+    ordering_then (nat_cmp a.moment b.moment)
+    (ordering_then (nat_cmp (priority_at resources a.task) (priority_at resources b.task))
+    (ordering_then (nat_cmp a.task.resource b.task.resource) (nat_cmp a.task.task b.task.task)))
 
 -- the plan: what is due up to and with until, all of it, each entry before all that follow it, so none of them twice
 pub record IsPlanOf (resources : List (List Timing)) (until : ℕ) (dues : List Due) : Type 0 where
@@ -58,4 +61,6 @@ HasLongPlan resources until = (dues : List Due) × IsPlanOf resources until dues
 
 -- there is one plan
 abbrev pub OnePlan : Type 0
-OnePlan = (resources : List (List Timing)) (until : ℕ) (a b : List Due) → IsPlanOf resources until a → IsPlanOf resources until b → a ≡ b
+OnePlan =
+    (resources : List (List Timing)) (until : ℕ) (a b : List Due) → IsPlanOf resources until a → IsPlanOf resources until b
+    → a ≡ b

@@ -1,7 +1,6 @@
-ghost use Rattle.std.specs.Prelude.{◌≡◌, ℕ, List, ◌<◌, ◌≤◌, ◌++◌, length, IfOk, IfErr, OnOk, All};
-ghost use Rattle.due_list.specs.Steps.Slots.{slots_in, slots_of, HaveIntervals, is_due, dues_at, dues_until, NoneDue};
+ghost use Rattle.std.specs.Prelude.{◌≡◌, ◌<◌, ◌≤◌, ◌++◌, length, IfOk, IfErr, OnOk, All};
+ghost use Rattle.due_list.specs.Steps.Slots.{slots_in, slots_of, HaveIntervals, is_due, dues_at, AreTooMany, dues_until, NoneDue};
 ghost use Rattle.due_list.specs.Plan.{AllTimed, timings_in, IsShortPlanOf, HasLongPlan};
-ghost use Rattle.due_list.specs.declared.due.Due.{Due};
 ghost use Rattle.due_list.specs.declared.plan_fault.PlanFault.TheVariants.{Memory, TooLong};
 
 use crate::due::Due;
@@ -86,7 +85,7 @@ fn push_dues(dues: &mut Vec<Due>, order: &[Slot], moment: u32) -> Result<(), Pla
     requires few { length dues.old.items ≤ 100000 }
     ensures ok { OnOk result (dues.new.items ≡ dues.old.items ++ dues_at order.now moment) }
     ensures few { OnOk result (length dues.new.items ≤ 100000) }
-    ensures too_long { IfErr result (λ fault. fault ≡ TooLong → 100000 < length (dues.old.items ++ dues_at order.now moment)) }
+    ensures too_long { IfErr result (λ fault. fault ≡ TooLong → AreTooMany dues.old.items (dues_at order.now moment)) }
 {
     for slot in order {
         if is_due(moment, slot) {

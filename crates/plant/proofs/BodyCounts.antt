@@ -16,9 +16,8 @@ use Rattle.plant_grammar.specs.declared.grammar.tree.TypeName.TheVariants.{Eleme
 use Rattle.plant_grammar.specs.declared.grammar.tree.NameList.{NameList}
 use Rattle.plant_grammar.specs.declared.grammar.tree.VarBlock.{VarBlock}
 use Rattle.plant_grammar.specs.declared.grammar.tree.Program.{Program}
-use Rattle.plant_grammar.specs.Grammar.{key_word, mark, section_word, type_word, name_words, list_words, lists_words, block_words, program_words}
+use Rattle.plant_grammar.specs.Grammar.{key_word, mark_word, section_word, type_word, name_words, list_words, lists_words, block_words, program_words, TextValue}
 use Rattle.plant_text.specs.Spelling.{BeginsWith}
-use Rattle.plant_grammar.specs.Grammar.{TextValue}
 use Rattle.plant_text.specs.Lines.{WordValue, body_line, body_lines, IsBegunBy}
 use Rattle.plant_grammar.specs.Steps.Reading.{programs_of, lines_of}
 use Rattle.plant.proofs.KnownWords.{programs_known}
@@ -56,7 +55,7 @@ unfolding list_words
 list_none l =
     let names = names_none l.names.items in
     let type = type_none l.type_name in
-    omega (arith, names, type, count_both (name_words l.names.items) (mark Colon ∷ type_word l.type_name ∷ mark Semicolon ∷ []))
+    omega (arith, names, type, count_both (name_words l.names.items) (mark_word Colon ∷ type_word l.type_name ∷ mark_word Semicolon ∷ []))
 
 lists_none : (ls : List NameList) → count_bodies (lists_words ls) ≡ 0
 lists_none [] = refl

@@ -15,8 +15,8 @@ use Rattle.plant_grammar.specs.declared.grammar.tree.Item.{Item}
 use Rattle.plant_grammar.specs.declared.grammar.tree.Item.TheVariants as item
 use Rattle.plant_grammar.specs.Names.{is_named}
 use Rattle.plant_grammar.specs.Lawful.{use_of}
-use Rattle.plant.specs.Faultless.{IsLadderOf}
-use Rattle.plant.specs.Steps.Reading.{TypeValue}
+use Rattle.program_bodies.specs.Ladders.{IsLadderOf}
+use Rattle.program_bodies.specs.ProgramTypes.{TypeValue}
 use Rattle.task_codes.specs.CodeValue.{ProgramValue, CodeValue}
 use Rattle.plant.specs.Steps.Drafts.{programs_in, IsProgramOf, IsPlacedAt, IsOutputAt}
 use Rattle.plant.proofs.NameLemmas.{at_place}

@@ -5,14 +5,14 @@ use Rattle.plant_grammar.specs.declared.grammar_fault.GrammarFaultKind.{GrammarF
 use Rattle.plant_grammar.specs.declared.grammar_fault.GrammarFaultKind.TheVariants as word
 use Rattle.plant_grammar.specs.NameFaults.{TellsOfName}
 use Rattle.plant_grammar.specs.NameFaults as names
-use Rattle.plant_grammar.specs.WordFaults.{IsOfWord, IsWordFault}
-use Rattle.plant.specs.declared.plant_fault.BodyFault.{BodyFault}
-use Rattle.plant.specs.declared.plant_fault.BodyFault.TheVariants as body
-use Rattle.plant.specs.BodyFaults.{kind_of_body}
-use Rattle.plant.specs.declared.plant_fault.PlantFault.{PlantFault}
-use Rattle.plant.specs.declared.plant_fault.PlantFaultKind.{PlantFaultKind}
-use Rattle.plant.specs.declared.plant_fault.PlantFaultKind.TheVariants as kind
-use Rattle.plant.specs.Faults.{IsOfKind, IsPlantFault, IsOfBody, IsOfName, kind_of_word, fault_of_word}
+use Rattle.plant_grammar.specs.WordFaults.{IsOfWord, IsGrammarFault}
+use Rattle.program_bodies.specs.declared.plant_fault.BodyFault.{BodyFault}
+use Rattle.program_bodies.specs.declared.plant_fault.BodyFault.TheVariants as body
+use Rattle.program_bodies.specs.BodyFaults.{kind_of_body}
+use Rattle.program_bodies.specs.declared.plant_fault.PlantFault.{PlantFault}
+use Rattle.program_bodies.specs.declared.plant_fault.PlantFaultKind.{PlantFaultKind}
+use Rattle.program_bodies.specs.declared.plant_fault.PlantFaultKind.TheVariants as kind
+use Rattle.program_bodies.specs.Faults.{IsOfKind, IsPlantFault, IsOfBody, IsOfDeclaredName, kind_of_word, fault_of_word}
 
 of_word : (k : GrammarFaultKind) (line : ℕ) → IsOfWord k line → IsOfKind (kind_of_word k) line None
 of_word word.Syntax line w = refl
@@ -23,16 +23,16 @@ of_word word.InputBoundTwice line w = refl
 of_word word.TooMany line w = refl
 of_word word.Memory line w = (refl, w)
 
-pub plant_of_word : (w : GrammarFault) → IsWordFault w → IsPlantFault (fault_of_word w)
+pub plant_of_word : (w : GrammarFault) → IsGrammarFault w → IsPlantFault (fault_of_word w)
 plant_of_word w is = of_word w.kind w.line is
 
-pub no_body : (w : GrammarFault) → IsWordFault w → IsOfBody (kind_of_word w.kind) → ⊥
+pub no_body : (w : GrammarFault) → IsGrammarFault w → IsOfBody (kind_of_word w.kind) → ⊥
 no_body w is (inl e) = subst (λ k. IsOfKind k w.line None) e (plant_of_word w is)
 no_body w is (inr (inl e)) = subst (λ k. IsOfKind k w.line None) e (plant_of_word w is)
 no_body w is (inr (inr e)) = subst (λ k. IsOfKind k w.line None) e (plant_of_word w is)
 
 -- a fault of a name, among those of words
-pub of_name : (k : GrammarFaultKind) → IsOfName (kind_of_word k) → names.IsOfName k
+pub of_name : (k : GrammarFaultKind) → IsOfDeclaredName (kind_of_word k) → names.IsOfName k
 of_name word.Syntax (inl e) = absurd cc
 of_name word.Syntax (inr e) = absurd cc
 of_name word.NameTwice of = inl refl
@@ -51,11 +51,11 @@ tells_no_name k tells (inl e) = subst (λ k. TellsOfName k ⊥ ⊥) e tells
 tells_no_name k tells (inr e) = subst (λ k. TellsOfName k ⊥ ⊥) e tells
 
 -- a fault that tells of no name
-pub no_name : (k : GrammarFaultKind) → TellsOfName k ⊥ ⊥ → IsOfName (kind_of_word k) → ⊥
+pub no_name : (k : GrammarFaultKind) → TellsOfName k ⊥ ⊥ → IsOfDeclaredName (kind_of_word k) → ⊥
 no_name k tells of = tells_no_name k tells (of_name k of)
 
 -- want of memory tells of no name, and of no body
-pub memory_no_name : (fault : PlantFault) → fault.kind ≡ kind.Memory → IsOfName fault.kind → ⊥
+pub memory_no_name : (fault : PlantFault) → fault.kind ≡ kind.Memory → IsOfDeclaredName fault.kind → ⊥
 memory_no_name fault m (inl e) = cc
 memory_no_name fault m (inr e) = cc
 
@@ -65,7 +65,7 @@ memory_no_body fault m (inr (inl e)) = cc
 memory_no_body fault m (inr (inr e)) = cc
 
 -- the fault of a body is no name's
-pub body_no_name : (k : PlantFaultKind) (why : BodyFault) → k ≡ kind_of_body why → IsOfName k → ⊥
+pub body_no_name : (k : PlantFaultKind) (why : BodyFault) → k ≡ kind_of_body why → IsOfDeclaredName k → ⊥
 body_no_name k (body.Drawing d) e (inl is) = cc
 body_no_name k (body.Drawing d) e (inr is) = cc
 body_no_name k (body.Graph g) e (inl is) = cc

@@ -27,7 +27,7 @@ use Rattle.plant_grammar.specs.declared.grammar.tree.Use.{Use}
 use Rattle.plant_grammar.specs.declared.grammar.tree.Item.{Item}
 use Rattle.plant_grammar.specs.declared.grammar.tree.Item.TheVariants as item
 use Rattle.plant_grammar.specs.declared.grammar.tree.Resource.{Resource}
-use Rattle.plant_grammar.specs.Grammar.{Tree, key_word, mark, section_word, type_word, name_words, list_words, lists_words, block_words, program_words, interval_words, priority_words, settings, task_words, source_words, bind_words, with_commas, binds_words, listed, use_words, item_words, items_words, resource_words, resources_words, words_of}
+use Rattle.plant_grammar.specs.Grammar.{Tree, key_word, mark_word, section_word, type_word, name_words, list_words, lists_words, block_words, program_words, interval_words, priority_words, settings, task_words, source_words, bind_words, with_commas, binds_words, binds_listed, use_words, item_words, items_words, resource_words, resources_words, words_of}
 
 abbrev pub IsKnown : Token → Type 0
 IsKnown t = t ≢ token.Unknown
@@ -41,7 +41,7 @@ nothing = All-nil IsKnown
 pub key_is : (k : Keyword) → IsKnown (key_word k)
 key_is k e = absurd cc
 
-pub mark_is : (p : Punctuation) → IsKnown (mark p)
+pub mark_is : (p : Punctuation) → IsKnown (mark_word p)
 mark_is p e = absurd cc
 
 pub name_is : (n : List ℕ) → IsKnown (token.Name n)
@@ -71,12 +71,12 @@ type_is (Block b) e = absurd cc
 names_are : (ns : List (List ℕ)) → AreKnown (name_words ns)
 names_are [] = nothing
 names_are (n ∷ []) = behind (token.Name n) [] (name_is n) nothing
-names_are (n ∷ m ∷ more) = behind (token.Name n) (mark Comma ∷ name_words (m ∷ more)) (name_is n) (behind (mark Comma) (name_words (m ∷ more)) (mark_is Comma) (names_are (m ∷ more)))
+names_are (n ∷ m ∷ more) = behind (token.Name n) (mark_word Comma ∷ name_words (m ∷ more)) (name_is n) (behind (mark_word Comma) (name_words (m ∷ more)) (mark_is Comma) (names_are (m ∷ more)))
 
 pub list_is : (l : NameList) → AreKnown (list_words l)
 unfolding list_words
-list_is l = both (name_words l.names.items) (mark Colon ∷ type_word l.type_name ∷ mark Semicolon ∷ []) (names_are l.names.items)
-    (behind (mark Colon) (type_word l.type_name ∷ mark Semicolon ∷ []) (mark_is Colon) (behind (type_word l.type_name) (mark Semicolon ∷ []) (type_is l.type_name) (behind (mark Semicolon) [] (mark_is Semicolon) nothing)))
+list_is l = both (name_words l.names.items) (mark_word Colon ∷ type_word l.type_name ∷ mark_word Semicolon ∷ []) (names_are l.names.items)
+    (behind (mark_word Colon) (type_word l.type_name ∷ mark_word Semicolon ∷ []) (mark_is Colon) (behind (type_word l.type_name) (mark_word Semicolon ∷ []) (type_is l.type_name) (behind (mark_word Semicolon) [] (mark_is Semicolon) nothing)))
 
 lists_are : (ls : List NameList) → AreKnown (lists_words ls)
 lists_are [] = behind (key_word key.EndVar) [] (key_is key.EndVar) nothing
@@ -104,56 +104,56 @@ number_is : (n : ℕ) → IsKnown (token.Number n)
 number_is n e = absurd cc
 
 interval_is : (n : ℕ) → AreKnown (interval_words n)
-interval_is n = behind (key_word key.Interval) (mark Assign ∷ token.Duration n ∷ []) (key_is key.Interval) (behind (mark Assign) (token.Duration n ∷ []) (mark_is Assign) (behind (token.Duration n) [] (duration_is n) nothing))
+interval_is n = behind (key_word key.Interval) (mark_word Assign ∷ token.Duration n ∷ []) (key_is key.Interval) (behind (mark_word Assign) (token.Duration n ∷ []) (mark_is Assign) (behind (token.Duration n) [] (duration_is n) nothing))
 
 priority_is : (n : ℕ) → AreKnown (priority_words n)
-priority_is n = behind (key_word key.Priority) (mark Assign ∷ token.Number n ∷ []) (key_is key.Priority) (behind (mark Assign) (token.Number n ∷ []) (mark_is Assign) (behind (token.Number n) [] (number_is n) nothing))
+priority_is n = behind (key_word key.Priority) (mark_word Assign ∷ token.Number n ∷ []) (key_is key.Priority) (behind (mark_word Assign) (token.Number n ∷ []) (mark_is Assign) (behind (token.Number n) [] (number_is n) nothing))
 
 settings_are : (o : Order) (m n : ℕ) → AreKnown (settings o m n)
-settings_are IntervalFirst m n = both (interval_words m) (mark Comma ∷ priority_words n) (interval_is m) (behind (mark Comma) (priority_words n) (mark_is Comma) (priority_is n))
-settings_are PriorityFirst m n = both (priority_words n) (mark Comma ∷ interval_words m) (priority_is n) (behind (mark Comma) (interval_words m) (mark_is Comma) (interval_is m))
+settings_are IntervalFirst m n = both (interval_words m) (mark_word Comma ∷ priority_words n) (interval_is m) (behind (mark_word Comma) (priority_words n) (mark_is Comma) (priority_is n))
+settings_are PriorityFirst m n = both (priority_words n) (mark_word Comma ∷ interval_words m) (priority_is n) (behind (mark_word Comma) (interval_words m) (mark_is Comma) (interval_is m))
 
 task_is : (t : TaskLine) → AreKnown (task_words t)
 unfolding task_words
-task_is t = let s = settings t.order t.interval t.priority in let end = mark Close ∷ mark Semicolon ∷ [] in
-    behind (key_word key.Task) (token.Name t.name ∷ mark Open ∷ s ++ end) (key_is key.Task)
-    (behind (token.Name t.name) (mark Open ∷ s ++ end) (name_is t.name)
-    (behind (mark Open) (s ++ end) (mark_is Open)
-    (both s end (settings_are t.order t.interval t.priority) (behind (mark Close) (mark Semicolon ∷ []) (mark_is Close) (behind (mark Semicolon) [] (mark_is Semicolon) nothing)))))
+task_is t = let s = settings t.order t.interval t.priority in let end = mark_word Close ∷ mark_word Semicolon ∷ [] in
+    behind (key_word key.Task) (token.Name t.name ∷ mark_word Open ∷ s ++ end) (key_is key.Task)
+    (behind (token.Name t.name) (mark_word Open ∷ s ++ end) (name_is t.name)
+    (behind (mark_word Open) (s ++ end) (mark_is Open)
+    (both s end (settings_are t.order t.interval t.priority) (behind (mark_word Close) (mark_word Semicolon ∷ []) (mark_is Close) (behind (mark_word Semicolon) [] (mark_is Semicolon) nothing)))))
 
 source_is : (s : SourceName) → AreKnown (source_words s)
 source_is (source.Field a) = behind (token.Address a) [] (λ e. address_is e) nothing where
   address_is : token.Address a ≡ token.Unknown → ⊥
   address_is e = absurd cc
 source_is (source.Output r i o) =
-    behind (token.Name r) (mark Dot ∷ token.Name i ∷ mark Dot ∷ token.Name o ∷ []) (name_is r)
-    (behind (mark Dot) (token.Name i ∷ mark Dot ∷ token.Name o ∷ []) (mark_is Dot)
-    (behind (token.Name i) (mark Dot ∷ token.Name o ∷ []) (name_is i)
-    (behind (mark Dot) (token.Name o ∷ []) (mark_is Dot) (behind (token.Name o) [] (name_is o) nothing))))
+    behind (token.Name r) (mark_word Dot ∷ token.Name i ∷ mark_word Dot ∷ token.Name o ∷ []) (name_is r)
+    (behind (mark_word Dot) (token.Name i ∷ mark_word Dot ∷ token.Name o ∷ []) (mark_is Dot)
+    (behind (token.Name i) (mark_word Dot ∷ token.Name o ∷ []) (name_is i)
+    (behind (mark_word Dot) (token.Name o ∷ []) (mark_is Dot) (behind (token.Name o) [] (name_is o) nothing))))
 
 pub bind_is : (b : Bind) → AreKnown (bind_words b)
 unfolding bind_words
-bind_is b = behind (token.Name b.input) (mark Assign ∷ source_words b.source) (name_is b.input) (behind (mark Assign) (source_words b.source) (mark_is Assign) (source_is b.source))
+bind_is b = behind (token.Name b.input) (mark_word Assign ∷ source_words b.source) (name_is b.input) (behind (mark_word Assign) (source_words b.source) (mark_is Assign) (source_is b.source))
 
 commas_are : (bs : List Bind) → AreKnown (with_commas bs)
 commas_are [] = nothing
 commas_are (b ∷ []) = bind_is b
-commas_are (b ∷ c ∷ bs) = both (bind_words b) (mark Comma ∷ with_commas (c ∷ bs)) (bind_is b) (behind (mark Comma) (with_commas (c ∷ bs)) (mark_is Comma) (commas_are (c ∷ bs)))
+commas_are (b ∷ c ∷ bs) = both (bind_words b) (mark_word Comma ∷ with_commas (c ∷ bs)) (bind_is b) (behind (mark_word Comma) (with_commas (c ∷ bs)) (mark_is Comma) (commas_are (c ∷ bs)))
 
 binds_are : (bs : Option (List Bind)) → AreKnown (binds_words bs)
 binds_are None = nothing
-binds_are (Some bs) = behind (mark Open) (with_commas bs ++ mark Close ∷ []) (mark_is Open) (both (with_commas bs) (mark Close ∷ []) (commas_are bs) (behind (mark Close) [] (mark_is Close) nothing))
+binds_are (Some bs) = behind (mark_word Open) (with_commas bs ++ mark_word Close ∷ []) (mark_is Open) (both (with_commas bs) (mark_word Close ∷ []) (commas_are bs) (behind (mark_word Close) [] (mark_is Close) nothing))
 
 use_is : (u : Use) → AreKnown (use_words u)
 unfolding use_words
-use_is u = let end = binds_words (listed u.binds) ++ mark Semicolon ∷ [] in
-    behind (key_word key.Program) (token.Name u.instance ∷ key_word key.With ∷ token.Name u.task ∷ mark Colon ∷ token.Name u.program ∷ end) (key_is key.Program)
-    (behind (token.Name u.instance) (key_word key.With ∷ token.Name u.task ∷ mark Colon ∷ token.Name u.program ∷ end) (name_is u.instance)
-    (behind (key_word key.With) (token.Name u.task ∷ mark Colon ∷ token.Name u.program ∷ end) (key_is key.With)
-    (behind (token.Name u.task) (mark Colon ∷ token.Name u.program ∷ end) (name_is u.task)
-    (behind (mark Colon) (token.Name u.program ∷ end) (mark_is Colon)
+use_is u = let end = binds_words (binds_listed u.binds) ++ mark_word Semicolon ∷ [] in
+    behind (key_word key.Program) (token.Name u.instance ∷ key_word key.With ∷ token.Name u.task ∷ mark_word Colon ∷ token.Name u.program ∷ end) (key_is key.Program)
+    (behind (token.Name u.instance) (key_word key.With ∷ token.Name u.task ∷ mark_word Colon ∷ token.Name u.program ∷ end) (name_is u.instance)
+    (behind (key_word key.With) (token.Name u.task ∷ mark_word Colon ∷ token.Name u.program ∷ end) (key_is key.With)
+    (behind (token.Name u.task) (mark_word Colon ∷ token.Name u.program ∷ end) (name_is u.task)
+    (behind (mark_word Colon) (token.Name u.program ∷ end) (mark_is Colon)
     (behind (token.Name u.program) end (name_is u.program)
-    (both (binds_words (listed u.binds)) (mark Semicolon ∷ []) (binds_are (listed u.binds)) (behind (mark Semicolon) [] (mark_is Semicolon) nothing)))))))
+    (both (binds_words (binds_listed u.binds)) (mark_word Semicolon ∷ []) (binds_are (binds_listed u.binds)) (behind (mark_word Semicolon) [] (mark_is Semicolon) nothing)))))))
 
 pub item_is : (x : Item) → AreKnown (item_words x)
 item_is (item.Task t) = task_is t

@@ -12,5 +12,4 @@ pub mod KnownWords
 pub mod BodyCounts
 mod PlanLemmas
 pub mod FaultLemmas
-pub mod BodyLemmas
-pub mod DrawnLemmas
+pub mod DrawnTrees

@@ -23,13 +23,13 @@ use Rattle.plant_grammar.specs.declared.grammar.tree.Use.{Use}
 use Rattle.plant.specs.declared.sources.feed.Origin.{Origin}
 use Rattle.plant.specs.declared.sources.feed.Origin.TheVariants as origin
 use Rattle.plant.specs.declared.sources.feed.Feed.{Feed}
-use Rattle.plant_grammar.specs.Names.{is_named, AreApart}
+use Rattle.plant_grammar.specs.Names.{is_named, AreNamesApart}
 use Rattle.plant_grammar.specs.Lawful.{binds_of}
 use Rattle.plant_grammar.specs.Kinds.{input_kind_at, kind_of_space, items_or_none}
 use Rattle.plant.specs.PlantValue.{PlantValue}
 use Rattle.task_codes.specs.CodeValue.{ProgramValue, CodeValue, image_kinds, outputs_of, source_kind, expected_at, AreOnce, AreDistinct, IsBindingSound, IsSoundCode}
 use Rattle.plant.specs.StandsFor.{IsOrigin, IsSourceOf, firsts, mention}
-use Rattle.plant.specs.Steps.Drafts.{IsOriginOf, AreKindsOf, IsFeedOf, AreFeedsOf, IsPlaced, IsPlacedSource, IsBindingBy, IsLinked, IsOnceBound, Triples, tasks_taken, all_taken, IsTakenFrom, IsTaskOf}
+use Rattle.plant.specs.Steps.Drafts.{IsOriginOf, AreKindsOf, IsFeedOf, AreFeedsOf, IsPlacedBinding, IsPlacedSource, IsBindingBy, IsCodeLinked, IsOnceBound, Triples, tasks_taken, all_taken, IsTakenFrom, IsTaskOf}
 use Rattle.plant.proofs.NameLemmas.{one_name}
 use Rattle.plant.proofs.ImageLemmas.{outputs_placed}
 use Rattle.plant.proofs.ProducerLemmas.{firsts_all, firsts_hold, firsts_distinct, all_flat, flat_all}
@@ -53,7 +53,7 @@ source_linked plant c (named.Output r i o) (origin.Output t k) (source.Given p j
 
 -- a bound input has its binding
 pub binding_linked : (plant : PlantValue) (c : CodeValue) (ds : List Declaration) (b : Bind) (f : Feed) (x : Binding) → AllZip (AreKindsOf plant) c.producers c.expected
-    → IsFeedOf plant ds b f → IsPlaced c.producers f x → IsBindingBy plant c ds b x
+    → IsFeedOf plant ds b f → IsPlacedBinding c.producers f x → IsBindingBy plant c ds b x
 binding_linked plant c ds b f x es fed placed =
     let s = source_linked plant c b.source f.origin x.source f.kind es fed.origin_is placed.source_is in
     record {
@@ -65,7 +65,7 @@ binding_linked plant c ds b f x es fed placed =
     }
 
 bindings_linked : (plant : PlantValue) (c : CodeValue) (ds : List Declaration) → AllZip (AreKindsOf plant) c.producers c.expected → (bs : List Bind) (fs : List Feed) (xs : List Binding)
-    → AllZip (IsFeedOf plant ds) bs fs → AllZip (IsPlaced c.producers) fs xs → AllZip (IsBindingBy plant c ds) bs xs
+    → AllZip (IsFeedOf plant ds) bs fs → AllZip (IsPlacedBinding c.producers) fs xs → AllZip (IsBindingBy plant c ds) bs xs
 bindings_linked plant c ds es [] [] [] fed placed = tt
 bindings_linked plant c ds es [] [] (x ∷ xs) fed placed = absurd placed
 bindings_linked plant c ds es [] (f ∷ fs) xs fed placed = absurd fed
@@ -74,7 +74,7 @@ bindings_linked plant c ds es (b ∷ bs) (f ∷ fs) [] fed placed = absurd place
 bindings_linked plant c ds es (b ∷ bs) (f ∷ fs) (x ∷ xs) fed placed = (binding_linked plant c ds b f x es fed.0 placed.0, bindings_linked plant c ds es bs fs xs fed.1 placed.1)
 
 -- bindings of inputs that are apart have places of their own
-pub once_bound : (plant : PlantValue) (c : CodeValue) (ds : List Declaration) (bs : List Bind) (xs : List Binding) → AreApart (map (λ b. b.input) bs) → AllZip (IsBindingBy plant c ds) bs xs → AreOnce xs
+pub once_bound : (plant : PlantValue) (c : CodeValue) (ds : List Declaration) (bs : List Bind) (xs : List Binding) → AreNamesApart (map (λ b. b.input) bs) → AllZip (IsBindingBy plant c ds) bs xs → AreOnce xs
 once_bound plant c ds bs xs apart each j k d within inside same =
     let one = zip_back (IsBindingBy plant c ds) bs xs each j (get_or xs j d) (slice_get-get_or xs j d within) in
     let two = zip_back (IsBindingBy plant c ds) bs xs each k (get_or xs k d) (slice_get-get_or xs k d inside) in
@@ -92,13 +92,13 @@ mention_is ps place m kind (origin.Field a) (source.Given p k) at = absurd at
 mention_is ps place m kind (origin.Output t k) (source.Field b) at = absurd at
 mention_is ps place m kind (origin.Output t k) (source.Given p j) at = rw at.0 refl
 
-mentions_are : (ps : List TaskRef) (fs : List Feed) (xs : List Binding) → AllZip (IsPlaced ps) fs xs → flat_map (mention ps) xs ≡ flat_map tasks_taken fs
+mentions_are : (ps : List TaskRef) (fs : List Feed) (xs : List Binding) → AllZip (IsPlacedBinding ps) fs xs → flat_map (mention ps) xs ≡ flat_map tasks_taken fs
 mentions_are ps [] [] z = refl
 mentions_are ps [] (x ∷ xs) z = absurd z
 mentions_are ps (f ∷ fs) [] z = absurd z
 mentions_are ps (f ∷ fs) (x ∷ xs) z = rw (mention_is ps f.place x.place f.kind f.origin x.source z.0.source_is, mentions_are ps fs xs z.1) refl
 
-pub all_mentions_are : (ps : List TaskRef) (fs : List (List Feed)) (bs : List (List Binding)) → AllZip (AllZip (IsPlaced ps)) fs bs → flat_map (λ xs. flat_map (mention ps) xs) bs ≡ all_taken fs
+pub all_mentions_are : (ps : List TaskRef) (fs : List (List Feed)) (bs : List (List Binding)) → AllZip (AllZip (IsPlacedBinding ps)) fs bs → flat_map (λ xs. flat_map (mention ps) xs) bs ≡ all_taken fs
 all_mentions_are ps [] [] z = refl
 all_mentions_are ps [] (x ∷ xs) z = absurd z
 all_mentions_are ps (f ∷ fs) [] z = absurd z
@@ -136,7 +136,7 @@ taken_known fs producers e =
 module _ (plant : PlantValue) (us : List Use) (draft : CodeValue) (fs : List (List Feed)) (ps : List TaskRef) (es : List (List Kind)) (bs : List (List Binding))
     (outputs-are : draft.outputs ≡ outputs_of draft.programs) (many : length us ≡ length draft.programs) (apart : All IsOnceBound us)
     (fed : length fs ≡ length draft.programs) (feeds : Triples (AreFeedsOf plant) us draft.programs fs) (producers-are : ps ≡ firsts (all_taken fs))
-    (kinds : AllZip (AreKindsOf plant) ps es) (placed : AllZip (AllZip (IsPlaced ps)) fs bs) where
+    (kinds : AllZip (AreKindsOf plant) ps es) (placed : AllZip (AllZip (IsPlacedBinding ps)) fs bs) where
   abbrev pub code : CodeValue
   code = record { programs = draft.programs; bindings = bs; producers = ps; expected = es; outputs = draft.outputs }
 
@@ -145,14 +145,14 @@ module _ (plant : PlantValue) (us : List Use) (draft : CodeValue) (fs : List (Li
       → AllZip (IsBindingBy plant code p.ladder.declarations) (binds_of u) (items_or_none (slice_get bs i))
   bound_at i u p at at' =
       let f = item_at fs draft.programs fed i p at' in
-      let x = zip_at (AllZip (IsPlaced ps)) fs bs placed i f.0 f.1 in
+      let x = zip_at (AllZip (IsPlacedBinding ps)) fs bs placed i f.0 f.1 in
       let both = bindings_linked plant code p.ladder.declarations kinds (binds_of u) f.0 x.0 (feeds i u p f.0 at at' f.1) x.2 in
       rw x.1 both
 
   once_at : (i : ℕ) (o : Option (List Binding)) → slice_get bs i ≡ o → AreOnce (items_or_none o)
   once_at i None e = λ j k d within inside same. absurd (omega arith)
   once_at i (Some xs) e =
-      let f = zip_back (AllZip (IsPlaced ps)) fs bs placed i xs e in
+      let f = zip_back (AllZip (IsPlacedBinding ps)) fs bs placed i xs e in
       let p = item_at draft.programs fs (sym fed) i f.0 f.1 in
       let u = item_at us draft.programs many i p.0 p.1 in
       let each = rw e at (bound_at i u.0 p.0 u.1 p.1) in
@@ -170,7 +170,7 @@ module _ (plant : PlantValue) (us : List Use) (draft : CodeValue) (fs : List (Li
 
   pub linked_sound : IsSoundCode code
   linked_sound = record {
-    each_bound = sym (zip_length (AllZip (IsPlaced ps)) fs bs placed) ∙ fed;
+    each_bound = sym (zip_length (AllZip (IsPlacedBinding ps)) fs bs placed) ∙ fed;
     each_expected = sym (zip_length (AreKindsOf plant) ps es kinds);
     outputs_are = outputs-are;
     each_output = outputs_placed code outputs-are;
@@ -179,7 +179,7 @@ module _ (plant : PlantValue) (us : List Use) (draft : CodeValue) (fs : List (Li
     distinct = subst AreDistinct (sym producers-are) (firsts_distinct (all_taken fs));
   }
 
-  pub linked : IsLinked plant us draft code
+  pub linked : IsCodeLinked plant us draft code
   linked = record {
     same = record { programs_are = refl; outputs_are = refl };
     bound = bound_at;
@@ -190,5 +190,5 @@ module _ (plant : PlantValue) (us : List Use) (draft : CodeValue) (fs : List (Li
 
   -- the same of copies of the programs and outputs
   pub linked_copy : (qs : List ProgramValue) (os : List TaskOutput) → qs ≡ draft.programs → os ≡ draft.outputs
-      → IsLinked plant us draft (record { programs = qs; bindings = bs; producers = ps; expected = es; outputs = os })
+      → IsCodeLinked plant us draft (record { programs = qs; bindings = bs; producers = ps; expected = es; outputs = os })
   linked_copy qs os e f = rw (e, f) linked

@@ -11,7 +11,7 @@ use Rattle.declared_names.specs.declared.declarations.Declaration.{Declaration}
 use Rattle.task_codes.specs.declared.task_output.TaskOutput.{TaskOutput}
 use Rattle.plant_grammar.specs.Kinds.{items_or_none}
 use Rattle.task_codes.specs.CodeValue.{ProgramValue, output_kind, outputs_of, outputs_in, output_at}
-use Rattle.plant.specs.Steps.Outputs.{StandsBefore, IsBefore}
+use Rattle.plant.specs.Steps.Outputs.{StandsBefore, IsEarlierOutput}
 use Rattle.plant.specs.Steps.Drafts.{IsPlacedAt}
 use Rattle.lists.proofs.Pairs.{pairs_append}
 
@@ -25,22 +25,22 @@ program_outputs e = outputs_in e.0 e.1.ladder.declarations
 abbrev if_any : ℕ → ℕ → Option Kind → List TaskOutput
 if_any i n o = items_or_none (option_map (λ (kind : Kind). (record { program = i; place = n; kind = kind }) ∷ []) o)
 
-none_in_order : AllPairs IsBefore []
+none_in_order : AllPairs IsEarlierOutput []
 none_in_order = λ i j d lt below. absurd (omega (arith, below))
 
-one_in_order : (i n : ℕ) (o : Option Kind) → AllPairs IsBefore (if_any i n o) × All (λ (o : TaskOutput). (o.program ≡ i) × (o.place ≡ n)) (if_any i n o)
+one_in_order : (i n : ℕ) (o : Option Kind) → AllPairs IsEarlierOutput (if_any i n o) × All (λ (o : TaskOutput). (o.program ≡ i) × (o.place ≡ n)) (if_any i n o)
 one_in_order i n None = (none_in_order, All-nil (λ (o : TaskOutput). (o.program ≡ i) × (o.place ≡ n)))
 one_in_order i n (Some kind) =
     (λ j k d lt below. absurd (omega (arith, lt, below)), All-cons (λ (o : TaskOutput). (o.program ≡ i) × (o.place ≡ n)) (record { program = i; place = n; kind = kind }) [] (refl, refl) (All-nil (λ (o : TaskOutput). (o.program ≡ i) × (o.place ≡ n))))
 
 -- the variables of a program from place n on
 variables_in_order : (i n : ℕ) (ds : List Declaration)
-    → AllPairs IsBefore (flat_map (variable_outputs i) (enumerate_from n ds)) × All (λ (o : TaskOutput). (o.program ≡ i) × (n ≤ o.place)) (flat_map (variable_outputs i) (enumerate_from n ds))
+    → AllPairs IsEarlierOutput (flat_map (variable_outputs i) (enumerate_from n ds)) × All (λ (o : TaskOutput). (o.program ≡ i) × (n ≤ o.place)) (flat_map (variable_outputs i) (enumerate_from n ds))
 variables_in_order i n [] = (none_in_order, All-nil (λ (o : TaskOutput). (o.program ≡ i) × (n ≤ o.place)))
 variables_in_order i n (d ∷ ds) =
     let here = one_in_order i n (output_kind d.declared) in
     let more = variables_in_order i (n + 1) ds in (
-      pairs_append IsBefore (output_at i n d) (flat_map (variable_outputs i) (enumerate_from (n + 1) ds)) here.0 more.0
+      pairs_append IsEarlierOutput (output_at i n d) (flat_map (variable_outputs i) (enumerate_from (n + 1) ds)) here.0 more.0
           (λ k e lt. λ m f lt'. let a = here.1 k e lt in let b = more.1 m f lt' in inr (a.0 ∙ sym b.0, omega (arith, a.1, b.1))),
       All-append (λ (o : TaskOutput). (o.program ≡ i) × (n ≤ o.place)) (output_at i n d) (flat_map (variable_outputs i) (enumerate_from (n + 1) ds))
           (λ k e lt. let a = here.1 k e lt in (a.0, omega (arith, a.1))) (λ k e lt. let b = more.1 k e lt in (b.0, omega (arith, b.1))),
@@ -48,29 +48,29 @@ variables_in_order i n (d ∷ ds) =
 
 -- the programs from number n on
 programs_in_order : (n : ℕ) (ps : List ProgramValue)
-    → AllPairs IsBefore (flat_map program_outputs (enumerate_from n ps)) × All (λ (o : TaskOutput). n ≤ o.program) (flat_map program_outputs (enumerate_from n ps))
+    → AllPairs IsEarlierOutput (flat_map program_outputs (enumerate_from n ps)) × All (λ (o : TaskOutput). n ≤ o.program) (flat_map program_outputs (enumerate_from n ps))
 programs_in_order n [] = (none_in_order, All-nil (λ (o : TaskOutput). n ≤ o.program))
 programs_in_order n (p ∷ ps) =
     let here = variables_in_order n 0 p.ladder.declarations in
     let more = programs_in_order (n + 1) ps in (
-      pairs_append IsBefore (outputs_in n p.ladder.declarations) (flat_map program_outputs (enumerate_from (n + 1) ps)) here.0 more.0
+      pairs_append IsEarlierOutput (outputs_in n p.ladder.declarations) (flat_map program_outputs (enumerate_from (n + 1) ps)) here.0 more.0
           (λ k e lt. λ m f lt'. let a = here.1 k e lt in let b = more.1 m f lt' in inl (omega (arith, a.0, b))),
       All-append (λ (o : TaskOutput). n ≤ o.program) (outputs_in n p.ladder.declarations) (flat_map program_outputs (enumerate_from (n + 1) ps))
           (λ k e lt. let a = here.1 k e lt in omega (arith, a.0)) (λ k e lt. let b = more.1 k e lt in omega (arith, b)),
     )
 
-pub outputs_in_order : (ps : List ProgramValue) (os : List TaskOutput) → os ≡ outputs_of ps → AllPairs IsBefore os
-outputs_in_order ps os e = subst (λ (xs : List TaskOutput). AllPairs IsBefore xs) (sym e) (programs_in_order 0 ps).0
+pub outputs_in_order : (ps : List ProgramValue) (os : List TaskOutput) → os ≡ outputs_of ps → AllPairs IsEarlierOutput os
+outputs_in_order ps os e = subst (λ (xs : List TaskOutput). AllPairs IsEarlierOutput xs) (sym e) (programs_in_order 0 ps).0
 
 -- of two outputs in order, the one at the lower position stands before the other
-before_at : (os : List TaskOutput) (j k : ℕ) (a b : TaskOutput) → AllPairs IsBefore os → j < k → slice_get os j ≡ Some a → slice_get os k ≡ Some b → IsBefore a b
+before_at : (os : List TaskOutput) (j k : ℕ) (a b : TaskOutput) → AllPairs IsEarlierOutput os → j < k → slice_get os j ≡ Some a → slice_get os k ≡ Some b → IsEarlierOutput a b
 before_at os j k a b pairs lt at at' =
     let within = slice_get_within os k b at' in
     let one : get_or os j a ≡ a = get_or_from_slice_get os j a a at in
     let other : get_or os k a ≡ b = get_or_from_slice_get os k b a at' in
     rw (one, other) at (pairs j k a lt within)
 
-not_before : (o : TaskOutput) (program place : ℕ) (kind : Kind) → StandsBefore o program place → IsBefore (record { program = program; place = place; kind = kind }) o → ⊥
+not_before : (o : TaskOutput) (program place : ℕ) (kind : Kind) → StandsBefore o program place → IsEarlierOutput (record { program = program; place = place; kind = kind }) o → ⊥
 not_before o program place kind (inl a) (inl b) = omega (arith, a, b)
 not_before o program place kind (inl a) (inr b) = omega (arith, a, b.0)
 not_before o program place kind (inr a) (inl b) = omega (arith, a.0, b)
@@ -87,7 +87,7 @@ placed_alike os j k o program place kind e at placed =
     (ap (λ (x : TaskOutput). x.program) same, ap (λ (x : TaskOutput). x.place) same)
 
 -- behind an output that stands before the place, if anywhere
-pub sought_behind : (os : List TaskOutput) (m k : ℕ) (o : TaskOutput) (program place : ℕ) (kind : Kind) → AllPairs IsBefore os → slice_get os m ≡ Some o → StandsBefore o program place
+pub sought_behind : (os : List TaskOutput) (m k : ℕ) (o : TaskOutput) (program place : ℕ) (kind : Kind) → AllPairs IsEarlierOutput os → slice_get os m ≡ Some o → StandsBefore o program place
     → IsPlacedAt os program place k kind → m + 1 ≤ k
 sought_behind os m k o program place kind pairs at before placed = elim (cases_lt m k) [
   | inl lt ↦ omega (arith, lt)
@@ -98,7 +98,7 @@ sought_behind os m k o program place kind pairs at before placed = elim (cases_l
 ]
 
 -- in front of an output that neither stands there nor before the place, if anywhere
-pub sought_in_front : (os : List TaskOutput) (m k : ℕ) (o : TaskOutput) (program place : ℕ) (kind : Kind) → AllPairs IsBefore os → slice_get os m ≡ Some o
+pub sought_in_front : (os : List TaskOutput) (m k : ℕ) (o : TaskOutput) (program place : ℕ) (kind : Kind) → AllPairs IsEarlierOutput os → slice_get os m ≡ Some o
     → (o.program ≡ program → o.place ≡ place → ⊥) → (StandsBefore o program place → ⊥) → IsPlacedAt os program place k kind → k < m
 sought_in_front os m k o program place kind pairs at other late placed = elim (cases_lt k m) [
   | inl lt ↦ lt

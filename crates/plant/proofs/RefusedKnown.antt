@@ -14,10 +14,10 @@ use Rattle.plant_grammar.specs.declared.grammar.tree.Program.{Program}
 use Rattle.plant_grammar.specs.declared.grammar.tree.Bind.{Bind}
 use Rattle.plant_grammar.specs.declared.grammar.tree.Item.{Item}
 use Rattle.plant_grammar.specs.declared.grammar.tree.Resource.{Resource}
-use Rattle.plant_grammar.specs.Grammar.{key_word, mark, section_word, bind_words, list_words, block_words, program_words, item_words, resource_words}
+use Rattle.plant_grammar.specs.Grammar.{key_word, mark_word, section_word, bind_words, list_words, block_words, program_words, item_words, resource_words}
 use Rattle.plant_text.specs.Spelling.{BeginsWith}
-use Rattle.plant_grammar.specs.NameFaults.{IsRefused, IsAfter, IsAfterName, IsBehind, name_and_comma, bind_and_comma, RefusesVariable, RefusesList, RefusesBlock, RefusesBlocks, RefusesProgram, RefusesPrograms, RefusesTask, RefusesBind, RefusesBinds, RefusesInstance, RefusesItems, RefusesResource, RefusesResources, RefusesConfiguration}
-use Rattle.plant_grammar.specs.Steps.Declaring.{BeginWith, RefusesPlant}
+use Rattle.plant_grammar.specs.NameFaults.{IsRefused, IsAfter, IsAfterName, IsAfterWhole, name_and_comma, bind_and_comma, RefusesVariable, RefusesList, RefusesBlock, RefusesBlocks, RefusesProgram, RefusesPrograms, RefusesTask, RefusesBind, RefusesBinds, RefusesInstance, RefusesItems, RefusesResource, RefusesResources, RefusesConfiguration}
+use Rattle.plant_grammar.specs.Steps.Declaring.{BeginWith, RefusesPlantWords}
 use Rattle.plant_text.specs.Lines.{WordValue, body_lines, IsBegunBy}
 use Rattle.plant.proofs.KnownWords.{IsKnown, AreKnown, nothing, key_is, mark_is, name_is, behind, both, all_of, section_is, list_is, block_is, program_is, bind_is, item_is, resource_is}
 use Rattle.plant.proofs.BodyCounts.{map_take}
@@ -31,7 +31,7 @@ after_known t P words one more h = subst AreKnown (sym h.parts) (behind t h.more
 after_name_known : (P : List Token → Type 0) (words : List Token) → ((w : List Token) → P w → AreKnown w) → IsAfterName P words → AreKnown words
 after_name_known P words more h = after_known (token.Name h.name) P words (name_is h.name) more h.after
 
-behind_known : {A : Type 0} (f : A → List Token) (P : List A → List Token → Type 0) (words : List Token) → ((x : A) → AreKnown (f x)) → ((xs : List A) (w : List Token) → P xs w → AreKnown w) → IsBehind f P words → AreKnown words
+behind_known : {A : Type 0} (f : A → List Token) (P : List A → List Token → Type 0) (words : List Token) → ((x : A) → AreKnown (f x)) → ((xs : List A) (w : List Token) → P xs w → AreKnown w) → IsAfterWhole f P words → AreKnown words
 behind_known f P words each more h = subst AreKnown (sym h.parts) (both (flat_map f h.whole) h.more (all_of f each h.whole) (more h.whole h.more h.holds))
 
 either_known : (P Q : Type 0) (words : List Token) → (P → AreKnown words) → (Q → AreKnown words) → P ⊎ Q → AreKnown words
@@ -39,10 +39,10 @@ either_known P Q words p q (inl h) = p h
 either_known P Q words p q (inr h) = q h
 
 name_comma_is : (n : List ℕ) → AreKnown (name_and_comma n)
-name_comma_is n = behind (token.Name n) (mark Comma ∷ []) (name_is n) (behind (mark Comma) [] (mark_is Comma) nothing)
+name_comma_is n = behind (token.Name n) (mark_word Comma ∷ []) (name_is n) (behind (mark_word Comma) [] (mark_is Comma) nothing)
 
 bind_comma_is : (b : Bind) → AreKnown (bind_and_comma b)
-bind_comma_is b = both (bind_words b) (mark Comma ∷ []) (bind_is b) (behind (mark Comma) [] (mark_is Comma) nothing)
+bind_comma_is b = both (bind_words b) (mark_word Comma ∷ []) (bind_is b) (behind (mark_word Comma) [] (mark_is Comma) nothing)
 
 variable_known : (k : GrammarFaultKind) (before : List Declaration) (words : List Token) → RefusesVariable k before words → AreKnown words
 unfolding RefusesVariable
@@ -76,7 +76,7 @@ bind_known k n words h = behind_known bind_and_comma _ words bind_comma_is (λ b
 binds_known : (k : GrammarFaultKind) (n : ℕ) (words : List Token) → RefusesBinds k n words → AreKnown words
 unfolding RefusesBinds
 binds_known k n words h =
-    after_known (key_word key.With) _ words (key_is key.With) (λ w1 h1. after_name_known _ w1 (λ w2 h2. after_known (mark Colon) _ w2 (mark_is Colon) (λ w3 h3. after_name_known _ w3 (λ w4 h4. after_known (mark Open) _ w4 (mark_is Open) (λ w5 h5. bind_known k n w5 h5) h4) h3) h2) h1) h
+    after_known (key_word key.With) _ words (key_is key.With) (λ w1 h1. after_name_known _ w1 (λ w2 h2. after_known (mark_word Colon) _ w2 (mark_is Colon) (λ w3 h3. after_name_known _ w3 (λ w4 h4. after_known (mark_word Open) _ w4 (mark_is Open) (λ w5 h5. bind_known k n w5 h5) h4) h3) h2) h1) h
 
 instance_known : (k : GrammarFaultKind) (i n : ℕ) (before : List Item) (words : List Token) → RefusesInstance k i n before words → AreKnown words
 unfolding RefusesInstance
@@ -98,14 +98,14 @@ unfolding RefusesResources
 resources_known k i n words h = behind_known resource_words _ words resource_is (λ rs w r. resource_known k _ _ rs w r) h
 
 -- none of the words up to a name refused is unknown
-plant_known : (k : GrammarFaultKind) (words : List Token) → RefusesPlant k words → AreKnown words
+plant_known : (k : GrammarFaultKind) (words : List Token) → RefusesPlantWords k words → AreKnown words
 unfolding RefusesPrograms RefusesConfiguration
 plant_known k words (inl h) = behind_known program_words _ words program_is (λ ps w r. program_known k ps w r) h
 plant_known k words (inr h) =
     behind_known program_words _ words program_is (λ ps w r. after_known (key_word key.Configuration) _ w (key_is key.Configuration) (λ w1 h1. after_name_known (RefusesResources k 0 0) w1 (λ w2 h2. resources_known k 0 0 w2 h2) h1) r) h
 
 -- a text that begins with its words, as far as they are words, begins with those up to a name refused
-pub begun_by_refused : (text : List ℕ) (ws : List WordValue) (k : GrammarFaultKind) (words : List Token) → IsBegunBy text ws → map (λ (w : WordValue). w.token) ws ≡ words → (b : BeginWith (RefusesPlant k) words)
+pub begun_by_refused : (text : List ℕ) (ws : List WordValue) (k : GrammarFaultKind) (words : List Token) → IsBegunBy text ws → map (λ (w : WordValue). w.token) ws ≡ words → (b : BeginWith (RefusesPlantWords k) words)
     → (lines : List ℕ) × BeginsWith 1 text b.front lines
 begun_by_refused text ws k words begun is b =
     let front = take (length b.front) ws in

@@ -23,11 +23,11 @@ use Rattle.plant_grammar.specs.declared.grammar.tree.Resource.{Resource}
 use Rattle.plant_grammar.specs.Grammar.{Tree}
 use Rattle.plant_grammar.specs.Names.{is_named, IsAt}
 use Rattle.plant_grammar.specs.Lawful.{variables, tasks_of, use_of, binds_of, IsResourceLawful}
-use Rattle.plant.specs.Faultless.{IsLadderOf}
+use Rattle.program_bodies.specs.Ladders.{IsLadderOf}
 use Rattle.plant.specs.PlantValue.{TaskValue, ResourceValue, PlantValue, code_at, IsSoundPlant, AreProducersOf}
 use Rattle.task_codes.specs.CodeValue.{ProgramValue, CodeValue, bindings_at}
 use Rattle.plant.specs.StandsFor.{runs_in, IsOrigin, IsSourceOf, IsBindingOf, IsCodeOf, IsResourceOf, IsPlantOf, task_value}
-use Rattle.plant.specs.Steps.Drafts.{drafted, IsProgramOf, IsDraftOf, IsResourceDraft, IsReady, IsOnceBound, IsBindingBy, IsLinked, IsResourceLinked, HasPrograms, Triples}
+use Rattle.plant.specs.Steps.Drafts.{drafted, IsProgramOf, IsDraftOf, IsResourceDraft, IsReady, IsOnceBound, IsBindingBy, IsCodeLinked, IsResourceLinked, HasPrograms, Triples}
 use Rattle.plant.proofs.Zips.{zip_imply, item_at}
 
 -- two lists of one length whose items go together by place
@@ -122,7 +122,7 @@ module _ (programs : List Program) (name : List ℕ) (rs : List Resource) (ds vs
   abbrev tree : Tree
   tree = record { programs = programs; name = name; resources = rs }
 
-  code_is : (r : Resource) (t : TaskLine) (d c : CodeValue) → IsDraftOf programs r t d → IsLinked draft (runs_in r t) d c → IsCodeOf tree plant r t c
+  code_is : (r : Resource) (t : TaskLine) (d c : CodeValue) → IsDraftOf programs r t d → IsCodeLinked draft (runs_in r t) d c → IsCodeOf tree plant r t c
   code_is r t d c of_draft is =
       record {
         many = ap length is.same.programs_are ∙ sym (zip_length (IsProgramOf programs) (runs_in r t) d.programs of_draft.programs_are);
@@ -194,12 +194,12 @@ runs_many programs r ts ds known i t d at at' =
 -- a resource of linked parts
 pub resource_made : (plant : PlantValue) (r : Resource) (draft v : ResourceValue) (n : List ℕ) (ls : List TaskLine) (ts : List TaskValue) (cs : List CodeValue)
     → v ≡ record { name = n; tasks = ts; codes = cs } → n ≡ r.name → ls ≡ tasks_of r → ts ≡ map task_value ls → length cs ≡ length ls
-    → Triples (λ t d c. IsLinked plant (runs_in r t) d c) ls draft.codes cs → IsResourceLinked plant r draft v
+    → Triples (λ t d c. IsCodeLinked plant (runs_in r t) d c) ls draft.codes cs → IsResourceLinked plant r draft v
 resource_made plant r draft v n ls ts cs e named lines tasks many each =
     let made : IsResourceLinked plant r draft (record { name = n; tasks = ts; codes = cs }) = record {
       name_is = named;
       tasks_are = tasks ∙ ap (map task_value) lines;
       many = many ∙ ap length lines;
-      codes_are = subst (λ (l : List TaskLine). Triples (λ t d c. IsLinked plant (runs_in r t) d c) l draft.codes cs) lines each;
+      codes_are = subst (λ (l : List TaskLine). Triples (λ t d c. IsCodeLinked plant (runs_in r t) d c) l draft.codes cs) lines each;
     } in
     subst (IsResourceLinked plant r draft) (sym e) made

@@ -1,34 +1,10 @@
 -- When a plant that is written without a mistake in grammar has no fault either, its sources aside.
-use Rattle.std.specs.Prelude.{◌≡◌, ℕ, All}
-use Rattle.ladder_text.specs.Rows.{rows_of}
-use Rattle.ladder_text.specs.Places.{layout_of}
-use Rattle.ladder_text.specs.Picture.{picture_of}
-use Rattle.ladder_text.specs.Faults.{IsWellDrawn}
-use Rattle.network.specs.GraphValue.{GraphValue}
-use Rattle.network.specs.Networks.{AreNetworks, HasFaultlessNetworks}
-use Rattle.variable_binding.specs.Binding.{CanBind}
-use Rattle.power_flow.specs.LadderValue.{LadderValue, diagrams}
-use Rattle.plant_grammar.specs.declared.grammar.tree.Program.{Program}
+use Rattle.std.specs.Prelude.{All}
 use Rattle.plant_grammar.specs.Grammar.{Tree}
-use Rattle.plant_grammar.specs.Lawful.{variables, IsTreeLawful}
-
--- The ladder of a program: its body is well drawn, and its networks are those of the drawing. Each of these meets the left rail and has at most 200 rows,
--- no two boxes have one name, and the names are bound to the program's variables.
-pub record IsLadderOf (p : Program) (l : LadderValue) : Type 0 where
-  pub first_line : ℕ
-  pub graph : GraphValue
-  pub well_drawn : IsWellDrawn (rows_of p.body)
-  pub built : AreNetworks (picture_of first_line (layout_of (rows_of p.body))) graph
-  pub networks_faultless : HasFaultlessNetworks (picture_of first_line (layout_of (rows_of p.body)))
-  pub declared : l.declarations ≡ variables p
-  pub networks_are : l.networks ≡ diagrams graph
-  pub bound : CanBind (variables p) (diagrams graph)
-
--- the body of the program has a ladder
-abbrev pub HasLadder : Program → Type 0
-HasLadder p = (ladder : LadderValue) × IsLadderOf p ladder
+use Rattle.plant_grammar.specs.Lawful.{IsTreeLawful}
+use Rattle.program_bodies.specs.Ladders.{HasLadder}
 
 -- A tree without a fault, its sources aside: its words are lawful, and the body of each program has a ladder.
-pub record IsFaultless (tree : Tree) : Type 0 where
+pub record IsTreeFaultless (tree : Tree) : Type 0 where
   pub lawful : IsTreeLawful tree
   pub drawn : All HasLadder tree.programs

@@ -1,8 +1,6 @@
 pub mod PlantValue
 pub mod StandsFor
 pub mod Faultless
-pub mod Faults
-pub mod BodyFaults
 pub mod PlantText
 pub mod Find
 pub mod Plan

@@ -27,11 +27,13 @@ resource_name_at plant resource = option_map (λ (r : ResourceValue). r.name) (s
 
 -- the tasks of a resource; none where there is no such resource
 abbrev pub tasks_at : PlantValue → ℕ → List TaskValue
-tasks_at plant resource = items_or_none (option_map (λ (r : ResourceValue). r.tasks) (slice_get plant.resources resource))
+tasks_at plant resource =
+    items_or_none (option_map (λ (r : ResourceValue). r.tasks) (slice_get plant.resources resource))
 
 -- the codes of a resource's tasks
 abbrev pub codes_at : PlantValue → ℕ → List CodeValue
-codes_at plant resource = items_or_none (option_map (λ (r : ResourceValue). r.codes) (slice_get plant.resources resource))
+codes_at plant resource =
+    items_or_none (option_map (λ (r : ResourceValue). r.codes) (slice_get plant.resources resource))
 
 -- the code of a task
 abbrev pub code_at : PlantValue → TaskRef → Option CodeValue
@@ -43,7 +45,9 @@ producers_at plant t = items_or_none (option_map (λ (c : CodeValue). c.producer
 
 -- each task from which a code takes is a task of the plant, and its image has the kinds that are expected
 abbrev pub AreProducersOf : PlantValue → CodeValue → Type 0
-AreProducersOf plant c = (k : ℕ) (t : TaskRef) → slice_get c.producers k ≡ Some t → (p : CodeValue) × (code_at plant t ≡ Some p) × (slice_get c.expected k ≡ Some (image_kinds p))
+AreProducersOf plant c =
+    (k : ℕ) (t : TaskRef) → slice_get c.producers k ≡ Some t
+    → (p : CodeValue) × (code_at plant t ≡ Some p) × (slice_get c.expected k ≡ Some (image_kinds p))
 
 -- a plant: each task has its code, and takes from tasks of the plant, of which none is its producer twice
 pub record IsSoundPlant (plant : PlantValue) : Type 0 where

@@ -19,7 +19,7 @@ use Rattle.plant_grammar.specs.declared.grammar.tree.Resource.{Resource}
 use Rattle.plant_grammar.specs.Grammar.{Tree}
 use Rattle.plant_grammar.specs.Names.{is_named, IsAt}
 use Rattle.plant_grammar.specs.Lawful.{variables, tasks_of, uses_of, binds_of}
-use Rattle.plant.specs.Faultless.{IsLadderOf}
+use Rattle.program_bodies.specs.Ladders.{IsLadderOf}
 use Rattle.plant_grammar.specs.Kinds.{input_kind_at}
 use Rattle.plant.specs.PlantValue.{TaskValue, ResourceValue, PlantValue, AreProducersOf}
 use Rattle.task_codes.specs.CodeValue.{ProgramValue, CodeValue, bindings_at, source_kind, IsSoundCode}
@@ -46,7 +46,8 @@ abbrev pub IsSourceOf : PlantValue → CodeValue → SourceName → Source → T
 IsSourceOf plant c (source.Field a) (Field b) = a ≡ b
 IsSourceOf plant c (source.Field a) (Given p k) = ⊥
 IsSourceOf plant c (source.Output r i o) (Field b) = ⊥
-IsSourceOf plant c (source.Output r i o) (Given p k) = (t : TaskRef) × (slice_get c.producers p ≡ Some t) × IsOrigin plant r i o t k
+IsSourceOf plant c (source.Output r i o) (Given p k) =
+    (t : TaskRef) × (slice_get c.producers p ≡ Some t) × IsOrigin plant r i o t k
 
 -- a bind by its names: the input's place, and a source that gives values of the input's kind
 pub record IsBindingOf (plant : PlantValue) (c : CodeValue) (type : Program) (b : Bind) (found : Binding) : Type 0 where
@@ -57,7 +58,8 @@ pub record IsBindingOf (plant : PlantValue) (c : CodeValue) (type : Program) (b 
   pub source_kind_is : source_kind c found.source ≡ Some kind
 
 -- an instance: its name, the ladder of its type, and its bound inputs
-pub record IsInstanceOf (tree : Tree) (plant : PlantValue) (c : CodeValue) (u : Use) (p : ProgramValue) (bindings : List Binding) : Type 0 where
+pub record IsInstanceOf (tree : Tree) (plant : PlantValue) (c : CodeValue)
+    (u : Use) (p : ProgramValue) (bindings : List Binding) : Type 0 where
   pub name_is : p.name ≡ u.instance
   pub place : ℕ
   pub type : Program
@@ -84,7 +86,8 @@ firsts (t ∷ ts) = t ∷ filter (λ s. not (s.resource == t.resource && s.task 
 -- the code of a task: its instances in order, its producers in order of first mention, and the kinds of their images
 pub record IsCodeOf (tree : Tree) (plant : PlantValue) (r : Resource) (t : TaskLine) (c : CodeValue) : Type 0 where
   pub many : length c.programs ≡ length (runs_in r t)
-  pub each : (i : ℕ) (u : Use) (p : ProgramValue) → slice_get (runs_in r t) i ≡ Some u → slice_get c.programs i ≡ Some p → IsInstanceOf tree plant c u p (bindings_at c i)
+  pub each : (i : ℕ) (u : Use) (p : ProgramValue) → slice_get (runs_in r t) i ≡ Some u → slice_get c.programs i ≡ Some p
+      → IsInstanceOf tree plant c u p (bindings_at c i)
   pub producers_are : c.producers ≡ firsts (flat_map (λ bs. flat_map (mention c.producers) bs) c.bindings)
   pub sound : IsSoundCode c
   pub taken : AreProducersOf plant c

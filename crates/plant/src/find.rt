@@ -1,24 +1,10 @@
 ghost use Rattle.std.specs.Prelude.{MatchOption, Contains};
-ghost use Rattle.plant.specs.PlantValue.{TaskValue};
 ghost use Rattle.plant.specs.Find.{ArePartsOf, IsTaskAt, IsTaskNamed, Finds};
-ghost use Rattle.plant.specs.Steps.Found.{FindsAt};
 
+use crate::named::find_named;
 use crate::plant::Plant;
-use crate::task::Task;
 use due_list::TaskRef;
 use plant_grammar::is_named;
-
-/// The position of the first task of a name.
-fn find_task(tasks: &[Task], name: &str) -> Option<usize>
-    ensures { FindsAt (λ (t : TaskValue). t.name) tasks.now name.now result }
-{
-    for (k, task) in tasks.iter().enumerate() {
-        if is_named(name, task.name()) {
-            return Some(k);
-        }
-    }
-    None
-}
 
 /// The parts of a name before and behind its first dot.
 fn parts(name: &str) -> Option<(&str, &str)>
@@ -36,7 +22,7 @@ impl Plant {
         if !is_named(owner, name) {
             return None;
         }
-        find_task(self.tasks(resource), task)
+        find_named(self.tasks(resource), task)
     }
 
     /// The task of two names, its resource's and its own.

@@ -1,11 +1,10 @@
 //! Plants: programs with drawn ladders, resources with their tasks, and what feeds what.
 #![tactic(auto)]
 
-mod bodies;
 mod find;
+mod named;
 mod planning;
 mod plant;
-mod plant_fault;
 mod plant_resource;
 mod read;
 mod sources;
@@ -14,8 +13,8 @@ mod task;
 pub use due_list::{Due, PlanFault, TaskRef, one_plan};
 pub use planning::plan;
 pub use plant::Plant;
-pub use plant_fault::{BodyFault, PlantFault, PlantFaultKind};
 pub use plant_grammar::kind_of_space;
 pub use plant_text::{Address, Space};
+pub use program_bodies::{BodyFault, PlantFault, PlantFaultKind};
 pub use task::Task;
 pub use task_codes::{Binding, Source, TaskCode, TaskOutput};

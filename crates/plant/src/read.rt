@@ -1,14 +1,13 @@
 ghost use Rattle.std.specs.Prelude.{IfOk, IfErr};
-ghost use Rattle.plant.specs.Faults.{IsPlantFault, IsOfBody, IsOfName};
+ghost use Rattle.program_bodies.specs.Faults.{IsPlantFault, IsOfBody, IsOfDeclaredName};
 ghost use Rattle.plant.specs.PlantText.{IsPlantText, IsBodyFaultIn, IsNameFaultIn};
 
-use crate::bodies::drawn::draw_all;
-use crate::bodies::reading::Reading;
 use crate::plant::Plant;
-use crate::plant_fault::PlantFault;
+use crate::sources::reading::Reading;
 use crate::sources::resolve::resolve;
 use plant_grammar::{Reader, read_tree};
 use plant_text::read_words;
+use program_bodies::{PlantFault, draw_all};
 use std::alloc::Global;
 
 impl Plant {
@@ -19,7 +18,7 @@ impl Plant {
         ensures ok { IfOk result (λ p. IsPlantText text.now p) }
         ensures value { IfErr result IsPlantFault }
         ensures body { IfErr result (λ fault. IsOfBody fault.kind → IsBodyFaultIn text.now fault) }
-        ensures name { IfErr result (λ fault. IsOfName fault.kind → IsNameFaultIn text.now fault) }
+        ensures name { IfErr result (λ fault. IsOfDeclaredName fault.kind → IsNameFaultIn text.now fault) }
     {
         let words = read_words(alloc, text)?;
         let mut reader = Reader::new(words.words(), words.last());

@@ -7,6 +7,7 @@ pub mod images;
 pub mod link;
 pub mod lookup;
 pub mod producers;
+pub mod reading;
 pub mod resolve;
 pub mod resource_draft;
 pub mod task_draft;

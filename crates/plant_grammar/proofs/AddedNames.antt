@@ -9,7 +9,7 @@ use Rattle.declared_names.specs.declared.declarations.Declared.{Declared}
 use Rattle.declared_names.specs.Names.{IsDeclared}
 use Rattle.plant_grammar.specs.declared.grammar_fault.GrammarFaultKind.{GrammarFaultKind}
 use Rattle.plant_grammar.specs.Names.{is_named}
-use Rattle.plant_grammar.specs.NameFaults.{TellsOfName, IsTaken}
+use Rattle.plant_grammar.specs.NameFaults.{TellsOfName, IsNameTaken}
 use Rattle.plant_grammar.proofs.Apart.{list_any-map, named_back, any_with}
 use Rattle.plant_grammar.proofs.RefusedNames.{tells_with}
 
@@ -25,7 +25,7 @@ any_split p xs ys some = by_case (list_any p xs) refl (sym (list_any-append p xs
     by_case true e h = inl (Any-from_list_any p xs e)
     by_case false e h = inr (Any-from_list_any p ys h)
 
-declared_apart : (old : List Declaration) (d : Declared) (names : List (List ℕ)) (n : List ℕ) → IsDeclared (old ++ map (λ m. record { name = m; declared = d }) names) n → IsTaken (λ (v : Declaration). v.name) old n ⊎ IsTaken (λ (m : List ℕ). m) names n
+declared_apart : (old : List Declaration) (d : Declared) (names : List (List ℕ)) (n : List ℕ) → IsDeclared (old ++ map (λ m. record { name = m; declared = d }) names) n → IsNameTaken (λ (v : Declaration). v.name) old n ⊎ IsNameTaken (λ (m : List ℕ). m) names n
 declared_apart old d names n some =
     let make : List ℕ → Declaration = λ m. record { name = m; declared = d } in
     let same : Declaration → Bool = λ v. is_named n v.name in
@@ -38,7 +38,7 @@ declared_apart old d names n some =
 -- what is told of the name at this place of the list
 pub add_refused : (k : GrammarFaultKind) (old now : List Declaration) (d : Declared) (names read : List (List ℕ)) (i : ℕ) (n : List ℕ) → read ≡ names → now ≡ old ++ map (λ m. record { name = m; declared = d }) (take i names) → i < length read → n ≡ get_or read i n
     → TellsOfName k (IsDeclared now n) (1000 ≤ length now)
-    → (before more : List (List ℕ)) × (name : List ℕ) × (names ≡ before ++ name ∷ more) × TellsOfName k (IsTaken (λ (v : Declaration). v.name) old name ⊎ IsTaken (λ (m : List ℕ). m) before name) (1000 ≤ length old + length before)
+    → (before more : List (List ℕ)) × (name : List ℕ) × (names ≡ before ++ name ∷ more) × TellsOfName k (IsNameTaken (λ (v : Declaration). v.name) old name ⊎ IsNameTaken (λ (m : List ℕ). m) before name) (1000 ≤ length old + length before)
 add_refused k old now d names read i n same grown lt is tells =
     let make : List ℕ → Declaration = λ m. record { name = m; declared = d } in
     let before = take i names in

@@ -9,7 +9,7 @@ use Rattle.std.proofs.lemmas.Slice.Eq.{bytes_eq-Decides}
 use Rattle.std.specs.Prelude.{Any}
 use Rattle.std.specs.List.{flat_map, list_any}
 use Rattle.std.specs.Str.{str_to_ascii_lowercase}
-use Rattle.plant_grammar.specs.Names.{is_named, AreApart}
+use Rattle.plant_grammar.specs.Names.{is_named, AreNamesApart}
 use Rattle.plant_grammar.specs.Steps.ReadParts.{IsNew}
 
 -- one name is another either way round
@@ -28,7 +28,7 @@ get_or-itself [] i e lt = absurd (omega arith)
 get_or-itself (x ∷ xs) zero e lt = refl
 get_or-itself (x ∷ xs) (suc i) e lt = get_or-itself xs i e (omega arith)
 
-apart_push : {A : Type 0} (f : A → List ℕ) (xs : List A) (y : A) → AreApart (map f xs) → IsNew f xs (f y) → AreApart (map f xs ++ f y ∷ [])
+apart_push : {A : Type 0} (f : A → List ℕ) (xs : List A) (y : A) → AreNamesApart (map f xs) → IsNew f xs (f y) → AreNamesApart (map f xs ++ f y ∷ [])
 apart_push f xs y apart new j k d within inside same =
     let long = length-append (map f xs) (f y ∷ []) in
     let names-long = length-map xs f in
@@ -54,10 +54,10 @@ apart_push f xs y apart new j k d within inside same =
         (i, get_or xs i y, early, get_or-itself xs i y early, rw (left, right) at same')
 
 -- a new name keeps the names apart
-pub apart_more : {A : Type 0} (f : A → List ℕ) (xs ys : List A) (y : A) → ys ≡ xs ++ y ∷ [] → AreApart (map f xs) → IsNew f xs (f y) → AreApart (map f ys)
-apart_more f xs ys y e apart new = subst (λ zs. AreApart (map f zs)) (sym e) (subst AreApart (sym (map-append f xs (y ∷ []))) (apart_push f xs y apart new))
+pub apart_more : {A : Type 0} (f : A → List ℕ) (xs ys : List A) (y : A) → ys ≡ xs ++ y ∷ [] → AreNamesApart (map f xs) → IsNew f xs (f y) → AreNamesApart (map f ys)
+apart_more f xs ys y e apart new = subst (λ zs. AreNamesApart (map f zs)) (sym e) (subst AreNamesApart (sym (map-append f xs (y ∷ []))) (apart_push f xs y apart new))
 
-pub apart_none : AreApart []
+pub apart_none : AreNamesApart []
 apart_none j k d within inside same = absurd (omega (arith, within))
 
 pub any_with : {A : Type 0} (P Q : A → Type 0) (xs : List A) → ((x : A) → P x → Q x) → Any P xs → Any Q xs

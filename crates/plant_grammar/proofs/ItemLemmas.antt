@@ -16,7 +16,7 @@ use Rattle.plant_grammar.specs.declared.grammar.tree.TaskLine.{TaskLine}
 use Rattle.plant_grammar.specs.declared.grammar.tree.Use.{Use}
 use Rattle.plant_grammar.specs.declared.grammar.tree.Resource.{Resource}
 use Rattle.plant_grammar.specs.Grammar.{Tree}
-use Rattle.plant_grammar.specs.Names.{AreApart}
+use Rattle.plant_grammar.specs.Names.{AreNamesApart}
 use Rattle.plant_grammar.specs.Lawful.{task_of, use_of, binds_of, IsUseLawful, IsResourceLawful}
 use Rattle.plant_grammar.specs.Steps.ReadParts.{TallyValue, tally_with, is_task_line, IsNew, MayFollow, AreItemsLawful, AreResourcesLawful}
 use Rattle.plant_grammar.proofs.Apart.{apart_more, apart_none}
@@ -47,14 +47,14 @@ items_push tree xs (item.Task t) lawful (new, few, positive) =
       tasks_apart = apart_more (λ (t : TaskLine). t.name) (flat_map task_of xs) _ t tasks lawful.tasks_apart new;
       few_tasks = omega (arith, few, grown (flat_map task_of xs) _ t tasks);
       intervals = subst (λ ts. All (λ (t : TaskLine). 0 < t.interval) ts) (sym tasks) (All-push (λ (t : TaskLine). 0 < t.interval) (flat_map task_of xs) t lawful.intervals positive);
-      instances_apart = subst (λ us. AreApart (map (λ (u : Use). u.instance) us)) (sym uses) lawful.instances_apart;
+      instances_apart = subst (λ us. AreNamesApart (map (λ (u : Use). u.instance) us)) (sym uses) lawful.instances_apart;
       uses_lawful = uses_more tree xs (item.Task t) lawful (λ u is. absurd cc);
     }
 items_push tree xs (item.Use v) lawful (new, last) =
     let tasks : flat_map task_of (xs ++ item.Use v ∷ []) ≡ flat_map task_of xs = flat_map-push task_of xs (item.Use v) ∙ append-nil (flat_map task_of xs) in
     let uses : flat_map use_of (xs ++ item.Use v ∷ []) ≡ flat_map use_of xs ++ v ∷ [] = flat_map-push use_of xs (item.Use v) in
     record {
-      tasks_apart = subst (λ ts. AreApart (map (λ (t : TaskLine). t.name) ts)) (sym tasks) lawful.tasks_apart;
+      tasks_apart = subst (λ ts. AreNamesApart (map (λ (t : TaskLine). t.name) ts)) (sym tasks) lawful.tasks_apart;
       few_tasks = subst (λ ts. length ts ≤ 16) (sym tasks) lawful.few_tasks;
       intervals = subst (λ ts. All (λ (t : TaskLine). 0 < t.interval) ts) (sym tasks) lawful.intervals;
       instances_apart = apart_more (λ (u : Use). u.instance) (flat_map use_of xs) _ v uses lawful.instances_apart new;

@@ -10,9 +10,9 @@ use Rattle.plant_text.specs.declared.token.Token.{Token}
 use Rattle.plant_text.specs.declared.token.Token.TheVariants as token
 use Rattle.plant_text.specs.declared.token.Punctuation.TheVariants.{Comma}
 use Rattle.plant_grammar.specs.declared.grammar.tree.Bind.{Bind}
-use Rattle.plant_grammar.specs.Grammar.{mark, name_words, bind_words, with_commas}
-use Rattle.plant_grammar.specs.WordFaults.{IsWordFault}
-use Rattle.plant_grammar.specs.NameFaults.{IsOfName, TellsOfName, IsTaken, IsRefused, IsAfter, IsAfterName, IsBehind, name_and_comma, bind_and_comma}
+use Rattle.plant_grammar.specs.Grammar.{mark_word, name_words, bind_words, with_commas}
+use Rattle.plant_grammar.specs.WordFaults.{IsGrammarFault}
+use Rattle.plant_grammar.specs.NameFaults.{IsOfName, TellsOfName, IsNameTaken, IsRefused, IsAfter, IsAfterName, IsAfterWhole, name_and_comma, bind_and_comma}
 use Rattle.plant_grammar.specs.Steps.Declaring.{RepeatsName, IsNameNext, BeginWith}
 
 -- a fault that tells of no name
@@ -49,8 +49,8 @@ name_next k words Taken full Twice two tells (inr e) =
 
 -- a name that is refused stands next, and one of these has it
 pub name_repeated : {A : Type 0} (k : GrammarFaultKind) (words : List Token) (name_of : A → List ℕ) (xs : List A) (full : Type 0)
-    → TellsOfName k (RepeatsName name_of xs words) (IsNameNext words × full) → IsOfName k → BeginWith (IsRefused k (IsTaken name_of xs) full) words
-name_repeated k words name_of xs full tells of = name_next k words (IsTaken name_of xs) full (RepeatsName name_of xs words) (λ r. r) tells of
+    → TellsOfName k (RepeatsName name_of xs words) (IsNameNext words × full) → IsOfName k → BeginWith (IsRefused k (IsNameTaken name_of xs) full) words
+name_repeated k words name_of xs full tells of = name_next k words (IsNameTaken name_of xs) full (RepeatsName name_of xs words) (λ r. r) tells of
 
 -- whatever holds of the front, so does what follows from it
 pub begin_with : (P Q : List Token → Type 0) (words : List Token) → ((front : List Token) → P front → Q front) → BeginWith P words → BeginWith Q words
@@ -71,7 +71,7 @@ begin_after_name n P start now e b =
     begin_with (IsAfter (token.Name n) P) (IsAfterName P) start (λ front h. record { name = n; after = h }) (begin_after (token.Name n) P start now e b)
 
 -- whole things were read before
-pub begin_behind : {A : Type 0} (f : A → List Token) (P : List A → List Token → Type 0) (xs : List A) (start now : List Token) → start ≡ flat_map f xs ++ now → BeginWith (P xs) now → BeginWith (IsBehind f P) start
+pub begin_behind : {A : Type 0} (f : A → List Token) (P : List A → List Token → Type 0) (xs : List A) (start now : List Token) → start ≡ flat_map f xs ++ now → BeginWith (P xs) now → BeginWith (IsAfterWhole f P) start
 begin_behind f P xs start now e b = record {
   front = flat_map f xs ++ b.front;
   rest = b.rest;
@@ -80,29 +80,29 @@ begin_behind f P xs start now e b = record {
 }
 
 -- names with commas between them and one more comma are names with a comma behind each
-pub names_and_commas : (ns : List (List ℕ)) (rest : List Token) → 0 < length ns → name_words ns ++ mark Comma ∷ rest ≡ flat_map name_and_comma ns ++ rest
+pub names_and_commas : (ns : List (List ℕ)) (rest : List Token) → 0 < length ns → name_words ns ++ mark_word Comma ∷ rest ≡ flat_map name_and_comma ns ++ rest
 names_and_commas [] rest some = absurd (omega (arith, some))
 names_and_commas (n ∷ []) rest some = refl
-names_and_commas (n ∷ m ∷ more) rest some = ap (λ ws. token.Name n ∷ mark Comma ∷ ws) (names_and_commas (m ∷ more) rest (omega arith))
+names_and_commas (n ∷ m ∷ more) rest some = ap (λ ws. token.Name n ∷ mark_word Comma ∷ ws) (names_and_commas (m ∷ more) rest (omega arith))
 
 -- binds with commas between them and one more comma are binds with a comma behind each
-pub binds_and_commas : (bs : List Bind) (rest : List Token) → 0 < length bs → with_commas bs ++ mark Comma ∷ rest ≡ flat_map bind_and_comma bs ++ rest
+pub binds_and_commas : (bs : List Bind) (rest : List Token) → 0 < length bs → with_commas bs ++ mark_word Comma ∷ rest ≡ flat_map bind_and_comma bs ++ rest
 binds_and_commas [] rest some = absurd (omega (arith, some))
 binds_and_commas (b ∷ []) rest some =
-    sym (append_assoc (bind_words b) (mark Comma ∷ []) rest) ∙ ap (λ ws. ws ++ rest) (sym (flat_map-cons bind_and_comma b [] ∙ nil_behind (bind_and_comma b)))
+    sym (append_assoc (bind_words b) (mark_word Comma ∷ []) rest) ∙ ap (λ ws. ws ++ rest) (sym (flat_map-cons bind_and_comma b [] ∙ nil_behind (bind_and_comma b)))
   where
     nil_behind : (ws : List Token) → ws ++ flat_map bind_and_comma [] ≡ ws
     nil_behind [] = refl
     nil_behind (w ∷ ws) = ap (λ r. w ∷ r) (nil_behind ws)
 binds_and_commas (b ∷ c ∷ bs) rest some =
-    append_assoc (bind_words b) (mark Comma ∷ with_commas (c ∷ bs)) (mark Comma ∷ rest)
-    ∙ ap (λ ws. bind_words b ++ mark Comma ∷ ws) (binds_and_commas (c ∷ bs) rest (omega arith))
-    ∙ sym (append_assoc (bind_words b) (mark Comma ∷ []) (flat_map bind_and_comma (c ∷ bs) ++ rest))
+    append_assoc (bind_words b) (mark_word Comma ∷ with_commas (c ∷ bs)) (mark_word Comma ∷ rest)
+    ∙ ap (λ ws. bind_words b ++ mark_word Comma ∷ ws) (binds_and_commas (c ∷ bs) rest (omega arith))
+    ∙ sym (append_assoc (bind_words b) (mark_word Comma ∷ []) (flat_map bind_and_comma (c ∷ bs) ++ rest))
     ∙ sym (append_assoc (bind_and_comma b) (flat_map bind_and_comma (c ∷ bs)) rest)
     ∙ ap (λ ws. ws ++ rest) (sym (flat_map-cons bind_and_comma b (c ∷ bs)))
 
 -- want of memory tells of no name, whatever a name is refused for
-pub memory_result : {T : Type 0} (P : GrammarFault → Type 0) (r : Result T GrammarFault) → IsErrAnd r (λ fault. (fault.kind ≡ kind.Memory) × IsWordFault fault) → IfErr r (λ f. IsOfName f.kind → P f)
+pub memory_result : {T : Type 0} (P : GrammarFault → Type 0) (r : Result T GrammarFault) → IsErrAnd r (λ fault. (fault.kind ≡ kind.Memory) × IsGrammarFault fault) → IfErr r (λ f. IsOfName f.kind → P f)
 memory_result P (Ok x) h = tt
 memory_result P (Err fault) h = λ of. absurd (memory_no_name fault h.0 of)
 
@@ -117,7 +117,7 @@ tells_with kind.TooMany a b c d f g h = g h
 tells_with kind.Memory a b c d f g h = tt
 
 -- what is told of the name that stands next
-pub tells_next : {A : Type 0} (k : GrammarFaultKind) (name_of : A → List ℕ) (xs : List A) (name : List ℕ) (words rest : List Token) (twice full many : Type 0) → words ≡ token.Name name ∷ rest → (twice → IsTaken name_of xs name) → (full → many)
+pub tells_next : {A : Type 0} (k : GrammarFaultKind) (name_of : A → List ℕ) (xs : List A) (name : List ℕ) (words rest : List Token) (twice full many : Type 0) → words ≡ token.Name name ∷ rest → (twice → IsNameTaken name_of xs name) → (full → many)
     → TellsOfName k twice full → TellsOfName k (RepeatsName name_of xs words) (IsNameNext words × many)
 tells_next k name_of xs name words rest twice full many e is_taken is_full tells =
     tells_with k twice full (RepeatsName name_of xs words) (IsNameNext words × many) (λ t. (name, rest, e, is_taken t)) (λ f. ((name, rest, e), is_full f)) tells
@@ -125,6 +125,6 @@ tells_next k name_of xs name words rest twice full many e is_taken is_full tells
 -- a name of a list, with a comma behind each before it
 pub names_split : (before : List (List ℕ)) (n : List ℕ) (more : List (List ℕ)) (rest : List Token) → (after : List Token) × (name_words (before ++ n ∷ more) ++ rest ≡ flat_map name_and_comma before ++ token.Name n ∷ after)
 names_split [] n [] rest = (rest, refl)
-names_split [] n (m ∷ more) rest = (mark Comma ∷ name_words (m ∷ more) ++ rest, refl)
-names_split (x ∷ []) n more rest = let found = names_split [] n more rest in (found.0, ap (λ ws. token.Name x ∷ mark Comma ∷ ws) found.1)
-names_split (x ∷ y ∷ xs) n more rest = let found = names_split (y ∷ xs) n more rest in (found.0, ap (λ ws. token.Name x ∷ mark Comma ∷ ws) found.1)
+names_split [] n (m ∷ more) rest = (mark_word Comma ∷ name_words (m ∷ more) ++ rest, refl)
+names_split (x ∷ []) n more rest = let found = names_split [] n more rest in (found.0, ap (λ ws. token.Name x ∷ mark_word Comma ∷ ws) found.1)
+names_split (x ∷ y ∷ xs) n more rest = let found = names_split (y ∷ xs) n more rest in (found.0, ap (λ ws. token.Name x ∷ mark_word Comma ∷ ws) found.1)

@@ -16,9 +16,9 @@ use Rattle.plant_grammar.specs.declared.grammar.tree.Bind.{Bind}
 use Rattle.plant_grammar.specs.declared.grammar.tree.Use.{Use}
 use Rattle.plant_grammar.specs.declared.grammar.tree.Item.{Item}
 use Rattle.plant_grammar.specs.declared.grammar.tree.Resource.{Resource}
-use Rattle.plant_grammar.specs.Grammar.{key_word, mark, section_word, name_words, list_words, block_words, program_words, with_commas, item_words, resource_words}
+use Rattle.plant_grammar.specs.Grammar.{key_word, mark_word, section_word, name_words, list_words, block_words, program_words, with_commas, item_words, resource_words}
 use Rattle.plant_grammar.specs.Lawful.{list_variables, block_variables, task_of, use_of, uses_of}
-use Rattle.plant_grammar.specs.NameFaults.{IsOfName, TellsOfName, IsTaken, IsRefused, IsAfter, IsAfterName, name_and_comma, bind_and_comma, RefusesVariable, RefusesList, RefusesBlock, RefusesBlocks, RefusesProgramName, RefusesProgram, RefusesPrograms, RefusesTask, RefusesBind, RefusesBinds, RefusesInstanceName, RefusesInstance, RefusesItems, RefusesResourceName, RefusesResource, RefusesResources, RefusesConfiguration}
+use Rattle.plant_grammar.specs.NameFaults.{IsOfName, TellsOfName, IsNameTaken, IsRefused, IsAfter, IsAfterName, name_and_comma, bind_and_comma, RefusesVariable, RefusesList, RefusesBlock, RefusesBlocks, RefusesProgramName, RefusesProgram, RefusesPrograms, RefusesTask, RefusesBind, RefusesBinds, RefusesInstanceName, RefusesInstance, RefusesItems, RefusesResourceName, RefusesResource, RefusesResources, RefusesConfiguration}
 use Rattle.plant_grammar.specs.Steps.Declaring.{RepeatsName, IsNameNext, BeginWith, RefusesItem}
 use Rattle.plant_grammar.specs.Steps.ReadParts.{TallyValue, tally_with}
 use Rattle.plant_grammar.proofs.RefusedNames.{name_next, name_repeated, begin_with, begin_after, begin_after_name, begin_behind, names_and_commas, names_split, binds_and_commas}
@@ -31,7 +31,7 @@ pub begin_right : (P Q : List Token → Type 0) (words : List Token) → BeginWi
 begin_right P Q words b = begin_with Q (λ w. P w ⊎ Q w) words (λ front h. inr h) b
 
 abbrev taken_of : List Declaration → List (List ℕ) → List ℕ → Type 0
-taken_of before names n = IsTaken (λ (v : Declaration). v.name) before n ⊎ IsTaken (λ (m : List ℕ). m) names n
+taken_of before names n = IsNameTaken (λ (v : Declaration). v.name) before n ⊎ IsNameTaken (λ (m : List ℕ). m) names n
 
 two_ways : (before : List Declaration) (names : List (List ℕ)) (words : List Token) → RepeatsName (λ (v : Declaration). v.name) before words ⊎ RepeatsName (λ (m : List ℕ). m) names words
     → (name : List ℕ) × (rest : List Token) × (words ≡ token.Name name ∷ rest) × taken_of before names name
@@ -52,7 +52,7 @@ pub first_variable : (k : GrammarFaultKind) (before : List Declaration) (names :
 first_variable k before names start none tells of = variable_refused k before names start start (ap (λ (ns : List (List ℕ)). flat_map name_and_comma ns ++ start) (sym none)) tells of
 
 -- a further name of a list
-pub next_variable : (k : GrammarFaultKind) (before : List Declaration) (names : List (List ℕ)) (start now mid : List Token) → 0 < length names → start ≡ name_words names ++ now → now ≡ mark Comma ∷ mid
+pub next_variable : (k : GrammarFaultKind) (before : List Declaration) (names : List (List ℕ)) (start now mid : List Token) → 0 < length names → start ≡ name_words names ++ now → now ≡ mark_word Comma ∷ mid
     → TellsOfName k (RepeatsName (λ (v : Declaration). v.name) before mid ⊎ RepeatsName (λ (m : List ℕ). m) names mid) (IsNameNext mid × (1000 ≤ length before + length names)) → IsOfName k → BeginWith (RefusesVariable k before) start
 next_variable k before names start now mid some h1 h2 tells of = variable_refused k before names start mid (h1 ∙ ap (λ r. name_words names ++ r) h2 ∙ names_and_commas names mid some) tells of
 
@@ -112,7 +112,7 @@ pub task_refused : (k : GrammarFaultKind) (before : List Item) (start now : List
     → TellsOfName k (RepeatsName (λ (t : TaskLine). t.name) (flat_map task_of before) now) (IsNameNext now × (16 ≤ length (flat_map task_of before))) → IsOfName k → BeginWith (RefusesTask k before) start
 unfolding RefusesTask
 task_refused k before start now e tells of = let tasks = flat_map task_of before in
-    begin_after (key_word key.Task) (IsRefused k (IsTaken (λ (t : TaskLine). t.name) tasks) (16 ≤ length tasks)) start now e (name_repeated k now (λ (t : TaskLine). t.name) tasks (16 ≤ length tasks) tells of)
+    begin_after (key_word key.Task) (IsRefused k (IsNameTaken (λ (t : TaskLine). t.name) tasks) (16 ≤ length tasks)) start now e (name_repeated k now (λ (t : TaskLine). t.name) tasks (16 ≤ length tasks) tells of)
 
 -- a bind behind others of its instance
 bind_refused : (k : GrammarFaultKind) (n m : ℕ) (binds : List Bind) (start now : List Token) → start ≡ flat_map bind_and_comma binds ++ now → n ≡ m + length binds
@@ -127,13 +127,13 @@ pub first_bind : (k : GrammarFaultKind) (m : ℕ) (start : List Token) → Tells
 first_bind k m start tells of = bind_refused k m m [] start start refl (omega arith) tells of
 
 -- a further bind of an instance
-pub next_bind : (k : GrammarFaultKind) (n m : ℕ) (binds : List Bind) (start now mid : List Token) → 0 < length binds → start ≡ with_commas binds ++ now → now ≡ mark Comma ∷ mid → n ≡ m + length binds
+pub next_bind : (k : GrammarFaultKind) (n m : ℕ) (binds : List Bind) (start now mid : List Token) → 0 < length binds → start ≡ with_commas binds ++ now → now ≡ mark_word Comma ∷ mid → n ≡ m + length binds
     → TellsOfName k ⊥ (IsNameNext mid × (4096 ≤ n)) → IsOfName k → BeginWith (RefusesBind k m) start
 next_bind k n m binds start now mid some h1 h2 many tells of = bind_refused k n m binds start mid (h1 ∙ ap (λ r. with_commas binds ++ r) h2 ∙ binds_and_commas binds mid some) many tells of
 
 -- the parenthesis before the binds
-pub in_binds : (k : GrammarFaultKind) (m : ℕ) (start now : List Token) → start ≡ mark Open ∷ now → BeginWith (RefusesBind k m) now → BeginWith (IsAfter (mark Open) (RefusesBind k m)) start
-in_binds k m start now e b = begin_after (mark Open) (RefusesBind k m) start now e b
+pub in_binds : (k : GrammarFaultKind) (m : ℕ) (start now : List Token) → start ≡ mark_word Open ∷ now → BeginWith (RefusesBind k m) now → BeginWith (IsAfter (mark_word Open) (RefusesBind k m)) start
+in_binds k m start now e b = begin_after (mark_word Open) (RefusesBind k m) start now e b
 
 -- an instance up to its name
 pub instance_named : (k : GrammarFaultKind) (i m : ℕ) (before : List Item) (start now : List Token) → start ≡ key_word key.Program ∷ now
@@ -145,18 +145,18 @@ instance_named k i m before start now e tells of =
 
 -- an instance up to one of its binds
 pub in_instance : (k : GrammarFaultKind) (i m n : ℕ) (before : List Item) (name task type : List ℕ) (start one two three four five six : List Token)
-    → start ≡ key_word key.Program ∷ one → one ≡ token.Name name ∷ two → two ≡ key_word key.With ∷ three → three ≡ token.Name task ∷ four → four ≡ mark Colon ∷ five → five ≡ token.Name type ∷ six → n ≡ m
-    → BeginWith (IsAfter (mark Open) (RefusesBind k n)) six → BeginWith (RefusesInstance k i m before) start
+    → start ≡ key_word key.Program ∷ one → one ≡ token.Name name ∷ two → two ≡ key_word key.With ∷ three → three ≡ token.Name task ∷ four → four ≡ mark_word Colon ∷ five → five ≡ token.Name type ∷ six → n ≡ m
+    → BeginWith (IsAfter (mark_word Open) (RefusesBind k n)) six → BeginWith (RefusesInstance k i m before) start
 unfolding RefusesInstance RefusesBinds
 in_instance k i m n before name task type start one two three four five six h1 h2 h3 h4 h5 h6 same b =
-    let binds = IsAfter (mark Open) (RefusesBind k m) in
+    let binds = IsAfter (mark_word Open) (RefusesBind k m) in
     begin_after (key_word key.Program) (λ more. RefusesInstanceName k i before more ⊎ IsAfterName (RefusesBinds k m) more) start one h1
     (begin_right (RefusesInstanceName k i before) (IsAfterName (RefusesBinds k m)) one
     (begin_after_name name (RefusesBinds k m) one two h2
-    (begin_after (key_word key.With) (IsAfterName (IsAfter (mark Colon) (IsAfterName binds))) two three h3
-    (begin_after_name task (IsAfter (mark Colon) (IsAfterName binds)) three four h4
-    (begin_after (mark Colon) (IsAfterName binds) four five h5
-    (begin_after_name type binds five six h6 (subst (λ (j : ℕ). BeginWith (IsAfter (mark Open) (RefusesBind k j)) six) same b)))))))
+    (begin_after (key_word key.With) (IsAfterName (IsAfter (mark_word Colon) (IsAfterName binds))) two three h3
+    (begin_after_name task (IsAfter (mark_word Colon) (IsAfterName binds)) three four h4
+    (begin_after (mark_word Colon) (IsAfterName binds) four five h5
+    (begin_after_name type binds five six h6 (subst (λ (j : ℕ). BeginWith (IsAfter (mark_word Open) (RefusesBind k j)) six) same b)))))))
 
 -- a line of a resource behind others
 pub item_refused : (k : GrammarFaultKind) (old tally : TallyValue) (items : List Item) (start now : List Token) → start ≡ flat_map item_words items ++ now → tally ≡ tally_with old (flat_map use_of items)

@@ -8,7 +8,7 @@ use Rattle.plant_grammar.specs.declared.grammar.tree.Resource.{Resource}
 use Rattle.plant_grammar.specs.Grammar.{TextValue, key_word, program_words, resources_words, words_of}
 use Rattle.plant_grammar.specs.Lawful.{uses_of, binds_of, IsResourceLawful, IsTreeLawful}
 use Rattle.plant_grammar.specs.Steps.Lines.{ReaderValue}
-use Rattle.plant_grammar.specs.Steps.Reading.{programs_of, all_words, all_lines, tree_written, AreSameWords, AreSameLines, IsTreeOf, BeginWithTexts}
+use Rattle.plant_grammar.specs.Steps.Reading.{programs_of, all_words, tree_written, AreSameWords, AreSameLines, IsTreeOf, BeginWithTexts}
 use Rattle.plant_grammar.specs.Steps.ReadParts.{TallyValue, tally_with, types_alone, AreProgramsDeclared, AreResourcesLawful}
 
 -- a resource is lawful in each tree of these program types

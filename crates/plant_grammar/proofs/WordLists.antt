@@ -3,7 +3,7 @@ use Rattle.std.proofs.Common.{◌≡◌, ℕ, ◌+◌, ◌<◌, List, [], ◌∷
 use Rattle.std.specs.Prelude.{All}
 use Rattle.std.proofs.lemmas.List.Elements.{All-push}
 use Rattle.std.specs.List.{flat_map}
-use Rattle.std.proofs.lemmas.List.{append-nil, length-append, flat_map_more}
+use Rattle.std.proofs.lemmas.List.{length-append, flat_map_more}
 use Rattle.std.proofs.lemmas.List.Concat.{flat_map-cons}
 use Rattle.plant_text.specs.declared.token.Token.{Token}
 use Rattle.plant_text.specs.declared.token.Punctuation.TheVariants.{Comma, Colon, Semicolon}
@@ -19,7 +19,7 @@ use Rattle.plant_grammar.specs.declared.grammar.tree.NameList.{NameList}
 use Rattle.plant_grammar.specs.declared.grammar.tree.VarBlock.{VarBlock}
 use Rattle.plant_grammar.specs.declared.grammar.tree.Program.{Program}
 use Rattle.plant_text.specs.Lines.{WordValue}
-use Rattle.plant_grammar.specs.Grammar.{mark, key_word, bind_words, with_commas, item_words, items_words, task_words, use_words, resource_words, resources_words, name_words, list_words, lists_words, type_word, block_words, program_words}
+use Rattle.plant_grammar.specs.Grammar.{mark_word, key_word, bind_words, with_commas, item_words, items_words, task_words, use_words, resource_words, resources_words, name_words, list_words, lists_words, type_word, block_words, program_words}
 
 pub flat_map-push : {A B : Type 0} (f : A → List B) (xs : List A) (y : A) → flat_map f (xs ++ y ∷ []) ≡ flat_map f xs ++ f y
 flat_map-push f xs y = sym (flat_map_more f [] xs y)
@@ -66,27 +66,27 @@ lists_end (x ∷ xs) = ap (λ ws. list_words x ++ ws) (lists_end xs) ∙ sym (ap
 pub lists_done : (xs : List NameList) (start now after : List Token) → start ≡ flat_map list_words xs ++ now → now ≡ key_word key.EndVar ∷ after → start ≡ lists_words xs ++ after
 lists_done xs start now after h1 h2 = ended list_words (key_word key.EndVar) lists_words lists_end xs start now after h1 h2
 
-with_commas_push : (bs : List Bind) (b : Bind) → 0 < length bs → with_commas (bs ++ b ∷ []) ≡ with_commas bs ++ mark Comma ∷ bind_words b
+with_commas_push : (bs : List Bind) (b : Bind) → 0 < length bs → with_commas (bs ++ b ∷ []) ≡ with_commas bs ++ mark_word Comma ∷ bind_words b
 with_commas_push [] b some = absurd (omega (arith, some))
 with_commas_push (x ∷ []) b some = refl
 with_commas_push (x ∷ y ∷ ys) b some =
-    ap (λ ws. bind_words x ++ mark Comma ∷ ws) (with_commas_push (y ∷ ys) b (omega arith)) ∙ sym (append_assoc (bind_words x) (mark Comma ∷ with_commas (y ∷ ys)) (mark Comma ∷ bind_words b))
+    ap (λ ws. bind_words x ++ mark_word Comma ∷ ws) (with_commas_push (y ∷ ys) b (omega arith)) ∙ sym (append_assoc (bind_words x) (mark_word Comma ∷ with_commas (y ∷ ys)) (mark_word Comma ∷ bind_words b))
 
 -- a comma and a bind were read
-pub binds_more : (bs cs : List Bind) (b : Bind) (start now mid after : List Token) → 0 < length bs → cs ≡ bs ++ b ∷ [] → start ≡ with_commas bs ++ now → now ≡ mark Comma ∷ mid → mid ≡ bind_words b ++ after → start ≡ with_commas cs ++ after
+pub binds_more : (bs cs : List Bind) (b : Bind) (start now mid after : List Token) → 0 < length bs → cs ≡ bs ++ b ∷ [] → start ≡ with_commas bs ++ now → now ≡ mark_word Comma ∷ mid → mid ≡ bind_words b ++ after → start ≡ with_commas cs ++ after
 binds_more bs cs b start now mid after some h0 h1 h2 h3 =
-    h1 ∙ ap (λ r. with_commas bs ++ r) (h2 ∙ ap (λ r. mark Comma ∷ r) h3) ∙ sym (append_assoc (with_commas bs) (mark Comma ∷ bind_words b) after)
+    h1 ∙ ap (λ r. with_commas bs ++ r) (h2 ∙ ap (λ r. mark_word Comma ∷ r) h3) ∙ sym (append_assoc (with_commas bs) (mark_word Comma ∷ bind_words b) after)
     ∙ ap (λ ws. ws ++ after) (sym (with_commas_push bs b some)) ∙ ap (λ xs. with_commas xs ++ after) (sym h0)
 
-name_words_push : (ns : List (List ℕ)) (n : List ℕ) → 0 < length ns → name_words (ns ++ n ∷ []) ≡ name_words ns ++ mark Comma ∷ token.Name n ∷ []
+name_words_push : (ns : List (List ℕ)) (n : List ℕ) → 0 < length ns → name_words (ns ++ n ∷ []) ≡ name_words ns ++ mark_word Comma ∷ token.Name n ∷ []
 name_words_push [] n some = absurd (omega (arith, some))
 name_words_push (x ∷ []) n some = refl
-name_words_push (x ∷ y ∷ ys) n some = ap (λ ws. token.Name x ∷ mark Comma ∷ ws) (name_words_push (y ∷ ys) n (omega arith))
+name_words_push (x ∷ y ∷ ys) n some = ap (λ ws. token.Name x ∷ mark_word Comma ∷ ws) (name_words_push (y ∷ ys) n (omega arith))
 
 -- a comma and a name were read
-pub names_more : (ns ms : List (List ℕ)) (n : List ℕ) (start now mid after : List Token) → 0 < length ns → ms ≡ ns ++ n ∷ [] → start ≡ name_words ns ++ now → now ≡ mark Comma ∷ mid → mid ≡ token.Name n ∷ after → start ≡ name_words ms ++ after
+pub names_more : (ns ms : List (List ℕ)) (n : List ℕ) (start now mid after : List Token) → 0 < length ns → ms ≡ ns ++ n ∷ [] → start ≡ name_words ns ++ now → now ≡ mark_word Comma ∷ mid → mid ≡ token.Name n ∷ after → start ≡ name_words ms ++ after
 names_more ns ms n start now mid after some h0 h1 h2 h3 =
-    h1 ∙ ap (λ r. name_words ns ++ r) (h2 ∙ ap (λ r. mark Comma ∷ r) h3) ∙ sym (append_assoc (name_words ns) (mark Comma ∷ token.Name n ∷ []) after)
+    h1 ∙ ap (λ r. name_words ns ++ r) (h2 ∙ ap (λ r. mark_word Comma ∷ r) h3) ∙ sym (append_assoc (name_words ns) (mark_word Comma ∷ token.Name n ∷ []) after)
     ∙ ap (λ ws. ws ++ after) (sym (name_words_push ns n some)) ∙ ap (λ xs. name_words xs ++ after) (sym h0)
 
 -- there is one more
@@ -113,7 +113,7 @@ resource_has_words r rest = omega (arith, length-append (resource_words r) rest)
 pub list_has_words : (l : NameList) (rest : List Token) → length rest < length (list_words l ++ rest)
 unfolding list_words
 list_has_words l rest =
-    let marks = mark Colon ∷ type_word l.type_name ∷ mark Semicolon ∷ [] in
+    let marks = mark_word Colon ∷ type_word l.type_name ∷ mark_word Semicolon ∷ [] in
     omega (arith, length-append (list_words l) rest, length-append (name_words l.names.items) marks)
 
 pub block_has_words : (b : VarBlock) (rest : List Token) → length rest < length (block_words b ++ rest)

@@ -39,11 +39,13 @@ pub record TextValue : Type 0 where
   pub program : Program
   pub first_line : ℕ
 
+-- a keyword, as a word
 abbrev pub key_word : Keyword → Token
 key_word k = token.Keyword k
 
-abbrev pub mark : Punctuation → Token
-mark p = token.Punctuation p
+-- a mark, as a word
+abbrev pub mark_word : Punctuation → Token
+mark_word p = token.Punctuation p
 
 -- VAR_INPUT, VAR_OUTPUT or VAR
 abbrev pub section_word : Section → Token
@@ -65,11 +67,11 @@ type_word (Block b) = token.Block b
 abbrev pub name_words : List (List ℕ) → List Token
 name_words [] = []
 name_words (n ∷ []) = token.Name n ∷ []
-name_words (n ∷ m ∷ more) = token.Name n ∷ mark Comma ∷ name_words (m ∷ more)
+name_words (n ∷ m ∷ more) = token.Name n ∷ mark_word Comma ∷ name_words (m ∷ more)
 
 -- names, a colon, their type, a semicolon
 unfoldable pub list_words : NameList → List Token
-list_words l = name_words l.names.items ++ mark Colon ∷ type_word l.type_name ∷ mark Semicolon ∷ []
+list_words l = name_words l.names.items ++ mark_word Colon ∷ type_word l.type_name ∷ mark_word Semicolon ∷ []
 
 -- lists of names, and the end of the block
 abbrev pub lists_words : List NameList → List Token
@@ -81,47 +83,55 @@ block_words b = section_word b.section ∷ lists_words b.lists.items
 
 -- PROGRAM, its name, its blocks, its body, END_PROGRAM
 unfoldable pub program_words : Program → List Token
-program_words p = key_word key.Program ∷ token.Name p.name ∷ flat_map block_words p.blocks.items ++ token.Body p.body ∷ key_word key.EndProgram ∷ []
+program_words p =
+    key_word key.Program ∷ token.Name p.name ∷ flat_map block_words p.blocks.items
+    ++ token.Body p.body ∷ key_word key.EndProgram ∷ []
 
 abbrev pub interval_words : ℕ → List Token
-interval_words n = key_word key.Interval ∷ mark Assign ∷ token.Duration n ∷ []
+interval_words n = key_word key.Interval ∷ mark_word Assign ∷ token.Duration n ∷ []
 
 abbrev pub priority_words : ℕ → List Token
-priority_words n = key_word key.Priority ∷ mark Assign ∷ token.Number n ∷ []
+priority_words n = key_word key.Priority ∷ mark_word Assign ∷ token.Number n ∷ []
 
 -- the two settings of a task, in either order
 abbrev pub settings : Order → ℕ → ℕ → List Token
-settings IntervalFirst interval priority = interval_words interval ++ mark Comma ∷ priority_words priority
-settings PriorityFirst interval priority = priority_words priority ++ mark Comma ∷ interval_words interval
+settings IntervalFirst interval priority = interval_words interval ++ mark_word Comma ∷ priority_words priority
+settings PriorityFirst interval priority = priority_words priority ++ mark_word Comma ∷ interval_words interval
 
 unfoldable pub task_words : TaskLine → List Token
-task_words t = key_word key.Task ∷ token.Name t.name ∷ mark Open ∷ settings t.order t.interval t.priority ++ mark Close ∷ mark Semicolon ∷ []
+task_words t =
+    key_word key.Task ∷ token.Name t.name ∷ mark_word Open ∷ settings t.order t.interval t.priority
+    ++ mark_word Close ∷ mark_word Semicolon ∷ []
 
 -- an address, or `resource.instance.output`
 abbrev pub source_words : SourceName → List Token
 source_words (source.Field address) = token.Address address ∷ []
-source_words (source.Output resource instance output) = token.Name resource ∷ mark Dot ∷ token.Name instance ∷ mark Dot ∷ token.Name output ∷ []
+source_words (source.Output resource instance output) =
+    token.Name resource ∷ mark_word Dot ∷ token.Name instance ∷ mark_word Dot ∷ token.Name output ∷ []
 
 unfoldable pub bind_words : Bind → List Token
-bind_words b = token.Name b.input ∷ mark Assign ∷ source_words b.source
+bind_words b = token.Name b.input ∷ mark_word Assign ∷ source_words b.source
 
 -- binds with commas between them
 abbrev pub with_commas : List Bind → List Token
 with_commas [] = []
 with_commas (b ∷ []) = bind_words b
-with_commas (b ∷ c ∷ bs) = bind_words b ++ mark Comma ∷ with_commas (c ∷ bs)
+with_commas (b ∷ c ∷ bs) = bind_words b ++ mark_word Comma ∷ with_commas (c ∷ bs)
 
 -- there may be no parentheses
 abbrev pub binds_words : Option (List Bind) → List Token
 binds_words None = []
-binds_words (Some binds) = mark Open ∷ with_commas binds ++ mark Close ∷ []
+binds_words (Some binds) = mark_word Open ∷ with_commas binds ++ mark_word Close ∷ []
 
-abbrev pub listed : Option (Vec Bind) → Option (List Bind)
-listed None = None
-listed (Some binds) = Some binds.items
+-- the binds of an instance, where it has parentheses
+abbrev pub binds_listed : Option (Vec Bind) → Option (List Bind)
+binds_listed None = None
+binds_listed (Some binds) = Some binds.items
 
 unfoldable pub use_words : Use → List Token
-use_words u = key_word key.Program ∷ token.Name u.instance ∷ key_word key.With ∷ token.Name u.task ∷ mark Colon ∷ token.Name u.program ∷ binds_words (listed u.binds) ++ mark Semicolon ∷ []
+use_words u =
+    key_word key.Program ∷ token.Name u.instance ∷ key_word key.With ∷ token.Name u.task
+    ∷ mark_word Colon ∷ token.Name u.program ∷ binds_words (binds_listed u.binds) ++ mark_word Semicolon ∷ []
 
 abbrev pub item_words : Item → List Token
 item_words (item.Task t) = task_words t
@@ -133,7 +143,8 @@ items_words [] = key_word key.EndResource ∷ []
 items_words (x ∷ xs) = item_words x ++ items_words xs
 
 unfoldable pub resource_words : Resource → List Token
-resource_words r = key_word key.Resource ∷ token.Name r.name ∷ key_word key.On ∷ token.Name r.node ∷ items_words r.items.items
+resource_words r =
+    key_word key.Resource ∷ token.Name r.name ∷ key_word key.On ∷ token.Name r.node ∷ items_words r.items.items
 
 -- resources, and the end of the configuration
 abbrev pub resources_words : List Resource → List Token
@@ -142,4 +153,5 @@ resources_words (r ∷ rs) = resource_words r ++ resources_words rs
 
 -- the words of a tree, in order
 unfoldable pub words_of : Tree → List Token
-words_of t = flat_map program_words t.programs ++ key_word key.Configuration ∷ token.Name t.name ∷ resources_words t.resources
+words_of t =
+    flat_map program_words t.programs ++ key_word key.Configuration ∷ token.Name t.name ∷ resources_words t.resources

@@ -1,4 +1,5 @@
--- When a plant that is written without a mistake in grammar is lawful too, as far as its words alone tell: its bodies and its sources aside.
+-- When a plant that is written without a mistake in grammar is lawful too, as far as its words alone tell: its bodies
+-- and its sources aside.
 use Rattle.std.specs.Prelude.{◌≡◌, ℕ, ◌<◌, ◌≤◌, IsTrue, List, [], ◌∷◌, length, map, take, slice_get, Some, All, Any}
 use Rattle.std.specs.List.{flat_map}
 use Rattle.declared_names.specs.declared.declarations.Declared.{Declared}
@@ -17,8 +18,8 @@ use Rattle.plant_grammar.specs.declared.grammar.tree.Use.{Use}
 use Rattle.plant_grammar.specs.declared.grammar.tree.Item.{Item}
 use Rattle.plant_grammar.specs.declared.grammar.tree.Item.TheVariants as item
 use Rattle.plant_grammar.specs.declared.grammar.tree.Resource.{Resource}
-use Rattle.plant_grammar.specs.Grammar.{Tree, listed}
-use Rattle.plant_grammar.specs.Names.{is_named, AreApart}
+use Rattle.plant_grammar.specs.Grammar.{Tree, binds_listed}
+use Rattle.plant_grammar.specs.Names.{is_named, AreNamesApart}
 use Rattle.plant_grammar.specs.Kinds.{items_or_none}
 
 -- what a name of a section is declared as
@@ -61,7 +62,7 @@ IsBlockLawful b = All (IsListLawful b.section) b.lists.items
 
 -- a program type: each name once, at most 1,000 of them, and blocks in VAR alone
 pub record IsProgramLawful (p : Program) : Type 0 where
-  pub apart : AreApart (map (λ v. v.name) (variables p))
+  pub apart : AreNamesApart (map (λ v. v.name) (variables p))
   pub few : length (variables p) ≤ 1000
   pub blocks_are : All IsBlockLawful p.blocks.items
 
@@ -83,34 +84,36 @@ uses_of r = flat_map use_of r.items.items
 
 -- the binds of an instance
 abbrev pub binds_of : Use → List Bind
-binds_of u = items_or_none (listed u.binds)
+binds_of u = items_or_none (binds_listed u.binds)
 
 -- an instance names a task that stands before it and a program type, and binds no input twice
 pub record IsUseLawful (tree : Tree) (before : List Item) (u : Use) : Type 0 where
   pub task_is : Any (λ t. IsTrue (is_named u.task t.name)) (flat_map task_of before)
   pub type_is : Any (λ p. IsTrue (is_named u.program p.name)) tree.programs
-  pub apart : AreApart (map (λ b. b.input) (binds_of u))
+  pub apart : AreNamesApart (map (λ b. b.input) (binds_of u))
 
 -- a resource: at most 16 tasks, none of interval 0, names apart, and lawful instances
 pub record IsResourceLawful (tree : Tree) (r : Resource) : Type 0 where
-  pub tasks_apart : AreApart (map (λ t. t.name) (tasks_of r))
+  pub tasks_apart : AreNamesApart (map (λ t. t.name) (tasks_of r))
   pub few_tasks : length (tasks_of r) ≤ 16
   pub intervals : All (λ t. 0 < t.interval) (tasks_of r)
-  pub instances_apart : AreApart (map (λ u. u.instance) (uses_of r))
-  pub uses_lawful : (k : ℕ) (u : Use) → slice_get r.items.items k ≡ Some (item.Use u) → IsUseLawful tree (take k r.items.items) u
+  pub instances_apart : AreNamesApart (map (λ u. u.instance) (uses_of r))
+  pub uses_lawful : (k : ℕ) (u : Use) → slice_get r.items.items k ≡ Some (item.Use u)
+      → IsUseLawful tree (take k r.items.items) u
 
 -- all instances of a plant
 abbrev pub all_uses : Tree → List Use
 all_uses tree = flat_map uses_of tree.resources
 
--- A tree without a fault, its bodies and its sources aside: names apart, limits kept, and each program and resource lawful.
+-- A tree without a fault, its bodies and its sources aside: names apart, limits kept, and each program and resource
+-- lawful.
 pub record IsTreeLawful (tree : Tree) : Type 0 where
-  pub types_apart : AreApart (map (λ p. p.name) tree.programs)
+  pub types_apart : AreNamesApart (map (λ p. p.name) tree.programs)
   pub few_types : length tree.programs ≤ 64
   pub programs_lawful : All IsProgramLawful tree.programs
   pub some_resource : 0 < length tree.resources
   pub few_resources : length tree.resources ≤ 16
-  pub resources_apart : AreApart (map (λ r. r.name) tree.resources)
+  pub resources_apart : AreNamesApart (map (λ r. r.name) tree.resources)
   pub resources_lawful : All (IsResourceLawful tree) tree.resources
   pub few_instances : length (all_uses tree) ≤ 64
   pub few_binds : length (flat_map binds_of (all_uses tree)) ≤ 4096

@@ -17,7 +17,7 @@ use Rattle.plant_grammar.specs.declared.grammar.tree.Bind.{Bind}
 use Rattle.plant_grammar.specs.declared.grammar.tree.Use.{Use}
 use Rattle.plant_grammar.specs.declared.grammar.tree.Item.{Item}
 use Rattle.plant_grammar.specs.declared.grammar.tree.Resource.{Resource}
-use Rattle.plant_grammar.specs.Grammar.{key_word, mark, section_word, list_words, block_words, program_words, bind_words, item_words, resource_words}
+use Rattle.plant_grammar.specs.Grammar.{key_word, mark_word, section_word, list_words, block_words, program_words, bind_words, item_words, resource_words}
 use Rattle.plant_grammar.specs.Names.{is_named}
 use Rattle.plant_grammar.specs.Lawful.{list_variables, block_variables, task_of, use_of, uses_of, binds_of}
 
@@ -36,11 +36,13 @@ TellsOfName kind.TooMany twice full = full
 TellsOfName kind.Memory twice full = Unit {0}
 
 -- one of these has the name, in whatever case
-abbrev pub IsTaken : {A : Type 0} → (A → List ℕ) → List A → List ℕ → Type 0
-IsTaken name_of xs name = Any (λ x. IsTrue (is_named name (name_of x))) xs
+abbrev pub IsNameTaken : {A : Type 0} → (A → List ℕ) → List A → List ℕ → Type 0
+IsNameTaken name_of xs name = Any (λ x. IsTrue (is_named name (name_of x))) xs
 
--- The words are a name alone. The kind is NameTwice only where the name is taken, and TooMany only where there are as many as there may be.
-pub record IsRefused (k : GrammarFaultKind) (Taken : List ℕ → Type 0) (full : Type 0) (words : List Token) : Type 0 where
+-- The words are a name alone. The kind is NameTwice only where the name is taken, and TooMany only where there are as
+-- many as there may be.
+pub record IsRefused (k : GrammarFaultKind) (Taken : List ℕ → Type 0) (full : Type 0)
+    (words : List Token) : Type 0 where
   pub name : List ℕ
   pub alone : words ≡ token.Name name ∷ []
   pub told : TellsOfName k (Taken name) full
@@ -57,7 +59,8 @@ pub record IsAfterName (P : List Token → Type 0) (words : List Token) : Type 0
   pub after : IsAfter (token.Name name) P words
 
 -- the words of whole things, one after the other, and behind them words of which this holds
-pub record IsBehind {A : Type 0} (words_of_one : A → List Token) (P : List A → List Token → Type 0) (words : List Token) : Type 0 where
+pub record IsAfterWhole {A : Type 0} (words_of_one : A → List Token) (P : List A → List Token → Type 0)
+    (words : List Token) : Type 0 where
   pub whole : List A
   pub more : List Token
   pub parts : words ≡ flat_map words_of_one whole ++ more
@@ -65,19 +68,26 @@ pub record IsBehind {A : Type 0} (words_of_one : A → List Token) (P : List A �
 
 -- a name, and the comma behind it
 abbrev pub name_and_comma : List ℕ → List Token
-name_and_comma name = token.Name name ∷ mark Comma ∷ []
+name_and_comma name = token.Name name ∷ mark_word Comma ∷ []
 
 -- a bind, and the comma behind it
 abbrev pub bind_and_comma : Bind → List Token
-bind_and_comma b = bind_words b ++ mark Comma ∷ []
+bind_and_comma b = bind_words b ++ mark_word Comma ∷ []
 
--- names of a list up to the one refused, which these variables of its program have or an earlier name of the list; 1,000 variables are the most
+-- names of a list up to the one refused, which these variables of its program have or an earlier name of the list;
+-- 1,000 variables are the most
 unfoldable pub RefusesVariable : GrammarFaultKind → List Declaration → List Token → Type 0
-RefusesVariable k before words = IsBehind name_and_comma (λ names more. IsRefused k (λ n. IsTaken (λ (v : Declaration). v.name) before n ⊎ IsTaken (λ (m : List ℕ). m) names n) (1000 ≤ length before + length names) more) words
+RefusesVariable k before words =
+    IsAfterWhole name_and_comma
+    (λ names more. IsRefused k
+    (λ n. IsNameTaken (λ (v : Declaration). v.name) before n ⊎ IsNameTaken (λ (m : List ℕ). m) names n)
+    (1000 ≤ length before + length names) more) words
 
 -- lists of a section up to a name refused, behind these variables of the program
 unfoldable pub RefusesList : GrammarFaultKind → Section → List Declaration → List Token → Type 0
-RefusesList k s before words = IsBehind list_words (λ (lists : List NameList) more. RefusesVariable k (before ++ flat_map (list_variables s) lists) more) words
+RefusesList k s before words =
+    IsAfterWhole list_words
+    (λ (lists : List NameList) more. RefusesVariable k (before ++ flat_map (list_variables s) lists) more) words
 
 -- the word of a section, and its lists up to a name refused
 unfoldable pub RefusesBlock : GrammarFaultKind → List Declaration → List Token → Type 0
@@ -85,60 +95,89 @@ RefusesBlock k before words = (s : Section) × IsAfter (section_word s) (Refuses
 
 -- the blocks of a program up to a name refused, behind these variables of the program
 unfoldable pub RefusesBlocks : GrammarFaultKind → List Declaration → List Token → Type 0
-RefusesBlocks k before words = IsBehind block_words (λ (blocks : List VarBlock) more. RefusesBlock k (before ++ flat_map block_variables blocks) more) words
+RefusesBlocks k before words =
+    IsAfterWhole block_words
+    (λ (blocks : List VarBlock) more. RefusesBlock k (before ++ flat_map block_variables blocks) more) words
 
 -- the name of a program, if one of these programs has it or they are 64
 abbrev pub RefusesProgramName : GrammarFaultKind → List Program → List Token → Type 0
-RefusesProgramName k before words = IsRefused k (IsTaken (λ (p : Program). p.name) before) (64 ≤ length before) words
+RefusesProgramName k before words =
+    IsRefused k (IsNameTaken (λ (p : Program). p.name) before) (64 ≤ length before) words
 
 -- a program up to its own name, if these programs have it or are 64, or up to a variable refused
 unfoldable pub RefusesProgram : GrammarFaultKind → List Program → List Token → Type 0
-RefusesProgram k before words = IsAfter (key_word key.Program) (λ more. RefusesProgramName k before more ⊎ IsAfterName (RefusesBlocks k []) more) words
+RefusesProgram k before words =
+    IsAfter (key_word key.Program)
+    (λ more. RefusesProgramName k before more ⊎ IsAfterName (RefusesBlocks k []) more) words
 
 -- programs up to a name refused
 unfoldable pub RefusesPrograms : GrammarFaultKind → List Token → Type 0
-RefusesPrograms k words = IsBehind program_words (λ (programs : List Program) more. RefusesProgram k programs more) words
+RefusesPrograms k words =
+    IsAfterWhole program_words (λ (programs : List Program) more. RefusesProgram k programs more) words
 
 -- a task up to its name, if a task of these lines of its resource has it or 16 of them are tasks
 unfoldable pub RefusesTask : GrammarFaultKind → List Item → List Token → Type 0
-RefusesTask k before words = IsAfter (key_word key.Task) (IsRefused k (IsTaken (λ (t : TaskLine). t.name) (flat_map task_of before)) (16 ≤ length (flat_map task_of before))) words
+RefusesTask k before words =
+    IsAfter (key_word key.Task)
+    (IsRefused k (IsNameTaken (λ (t : TaskLine). t.name) (flat_map task_of before))
+    (16 ≤ length (flat_map task_of before))) words
 
 -- binds up to the one too many, behind so many binds of the plant; 4,096 are the most
 unfoldable pub RefusesBind : GrammarFaultKind → ℕ → List Token → Type 0
-RefusesBind k binds words = IsBehind bind_and_comma (λ (before : List Bind) more. IsRefused k (λ n. ⊥) (4096 ≤ binds + length before) more) words
+RefusesBind k binds words =
+    IsAfterWhole bind_and_comma
+    (λ (before : List Bind) more. IsRefused k (λ n. ⊥) (4096 ≤ binds + length before) more) words
 
--- Behind the name of a program instance: WITH, its task, a colon, its program type, and its binds up to the one too many.
+-- Behind the name of a program instance: WITH, its task, a colon, its program type, and its binds up to the one too
+-- many.
 unfoldable pub RefusesBinds : GrammarFaultKind → ℕ → List Token → Type 0
-RefusesBinds k binds words = IsAfter (key_word key.With) (IsAfterName (IsAfter (mark Colon) (IsAfterName (IsAfter (mark Open) (RefusesBind k binds))))) words
+RefusesBinds k binds words =
+    IsAfter (key_word key.With)
+    (IsAfterName (IsAfter (mark_word Colon) (IsAfterName (IsAfter (mark_word Open) (RefusesBind k binds))))) words
 
 -- the name of a program instance, if an instance of these lines of its resource has it or the plant has 64
 abbrev pub RefusesInstanceName : GrammarFaultKind → ℕ → List Item → List Token → Type 0
-RefusesInstanceName k instances before words = IsRefused k (IsTaken (λ (u : Use). u.instance) (flat_map use_of before)) (64 ≤ instances) words
+RefusesInstanceName k instances before words =
+    IsRefused k (IsNameTaken (λ (u : Use). u.instance) (flat_map use_of before)) (64 ≤ instances) words
 
--- A program instance behind so many instances and binds of the plant: up to its name, if an instance of these lines of its resource has it or the plant has 64, or up to the bind that is too many.
+-- A program instance behind so many instances and binds of the plant: up to its name, if an instance of these lines
+-- of its resource has it or the plant has 64, or up to the bind that is too many.
 unfoldable pub RefusesInstance : GrammarFaultKind → ℕ → ℕ → List Item → List Token → Type 0
 RefusesInstance k instances binds before words =
-    IsAfter (key_word key.Program) (λ more. RefusesInstanceName k instances before more ⊎ IsAfterName (RefusesBinds k binds) more) words
+    IsAfter (key_word key.Program)
+    (λ more. RefusesInstanceName k instances before more ⊎ IsAfterName (RefusesBinds k binds) more) words
 
 -- the lines of a resource up to a name refused, behind so many instances and binds of the plant
 unfoldable pub RefusesItems : GrammarFaultKind → ℕ → ℕ → List Token → Type 0
 RefusesItems k instances binds words =
-    IsBehind item_words (λ (items : List Item) more. RefusesTask k items more ⊎ RefusesInstance k (instances + length (flat_map use_of items)) (binds + length (flat_map binds_of (flat_map use_of items))) items more) words
+    IsAfterWhole item_words
+    (λ (items : List Item) more. RefusesTask k items more
+    ⊎ RefusesInstance k (instances + length (flat_map use_of items))
+    (binds + length (flat_map binds_of (flat_map use_of items))) items more) words
 
 -- the name of a resource, if one of these resources has it or they are 16
 abbrev pub RefusesResourceName : GrammarFaultKind → List Resource → List Token → Type 0
-RefusesResourceName k before words = IsRefused k (IsTaken (λ (r : Resource). r.name) before) (16 ≤ length before) words
+RefusesResourceName k before words =
+    IsRefused k (IsNameTaken (λ (r : Resource). r.name) before) (16 ≤ length before) words
 
--- A resource behind so many instances and binds of the plant: up to its own name, if these resources have it or are 16, or up to a name refused in one of its lines.
+-- A resource behind so many instances and binds of the plant: up to its own name, if these resources have it or are
+-- 16, or up to a name refused in one of its lines.
 unfoldable pub RefusesResource : GrammarFaultKind → ℕ → ℕ → List Resource → List Token → Type 0
 RefusesResource k instances binds before words =
-    IsAfter (key_word key.Resource) (λ more. RefusesResourceName k before more ⊎ IsAfterName (IsAfter (key_word key.On) (IsAfterName (RefusesItems k instances binds))) more) words
+    IsAfter (key_word key.Resource)
+    (λ more. RefusesResourceName k before more
+    ⊎ IsAfterName (IsAfter (key_word key.On) (IsAfterName (RefusesItems k instances binds))) more) words
 
 -- resources up to a name refused, behind so many instances and binds of the plant
 unfoldable pub RefusesResources : GrammarFaultKind → ℕ → ℕ → List Token → Type 0
 RefusesResources k instances binds words =
-    IsBehind resource_words (λ (rs : List Resource) more. RefusesResource k (instances + length (flat_map uses_of rs)) (binds + length (flat_map binds_of (flat_map uses_of rs))) rs more) words
+    IsAfterWhole resource_words
+    (λ (rs : List Resource) more. RefusesResource k (instances + length (flat_map uses_of rs))
+    (binds + length (flat_map binds_of (flat_map uses_of rs))) rs more) words
 
 -- programs, CONFIGURATION, its name, and the resources up to a name refused
 unfoldable pub RefusesConfiguration : GrammarFaultKind → List Token → Type 0
-RefusesConfiguration k words = IsBehind program_words (λ (programs : List Program) more. IsAfter (key_word key.Configuration) (IsAfterName (RefusesResources k 0 0)) more) words
+RefusesConfiguration k words =
+    IsAfterWhole program_words
+    (λ (programs : List Program) more. IsAfter (key_word key.Configuration) (IsAfterName (RefusesResources k 0 0)) more)
+    words

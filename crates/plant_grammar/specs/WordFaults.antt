@@ -15,5 +15,5 @@ IsOfWord kind.TooMany line = Unit {0}
 IsOfWord kind.Memory line = line ≡ 0
 
 -- a fault of a word, with the line that belongs to its kind
-abbrev pub IsWordFault : GrammarFault → Type 0
-IsWordFault fault = IsOfWord fault.kind fault.line
+abbrev pub IsGrammarFault : GrammarFault → Type 0
+IsGrammarFault fault = IsOfWord fault.kind fault.line

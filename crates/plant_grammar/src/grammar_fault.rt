@@ -40,9 +40,9 @@ impl GrammarFault {
 
 impl From<AllocError> for GrammarFault {
     ghost use Rattle.plant_grammar.specs.declared.grammar_fault.GrammarFaultKind.TheVariants.{Memory};
-    ghost use Rattle.plant_grammar.specs.WordFaults.{IsWordFault};
+    ghost use Rattle.plant_grammar.specs.WordFaults.{IsGrammarFault};
 
-    ghost from_gives = { λ _ fault. (fault.kind ≡ Memory) × IsWordFault fault };
+    ghost from_gives = { λ _ fault. (fault.kind ≡ Memory) × IsGrammarFault fault };
 
     fn from(_fault: AllocError) -> GrammarFault {
         GrammarFault::at(GrammarFaultKind::Memory, 0)
@@ -51,9 +51,9 @@ impl From<AllocError> for GrammarFault {
 
 impl<T: Drop> From<AllocFailed<T>> for GrammarFault {
     ghost use Rattle.plant_grammar.specs.declared.grammar_fault.GrammarFaultKind.TheVariants.{Memory};
-    ghost use Rattle.plant_grammar.specs.WordFaults.{IsWordFault};
+    ghost use Rattle.plant_grammar.specs.WordFaults.{IsGrammarFault};
 
-    ghost from_gives = { λ _ fault. (fault.kind ≡ Memory) × IsWordFault fault };
+    ghost from_gives = { λ _ fault. (fault.kind ≡ Memory) × IsGrammarFault fault };
 
     fn from(_fault: AllocFailed<T>) -> GrammarFault {
         GrammarFault::at(GrammarFaultKind::Memory, 0)

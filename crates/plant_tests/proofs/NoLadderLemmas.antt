@@ -23,7 +23,7 @@ use Rattle.network.specs.Networks.Chained.{here, along}
 use Rattle.network.specs.Links.{place, Takes}
 use Rattle.power_flow.specs.LadderValue.{LadderValue}
 use Rattle.plant_grammar.specs.declared.grammar.tree.Program.{Program}
-use Rattle.plant.specs.Faultless.{IsLadderOf}
+use Rattle.program_bodies.specs.Ladders.{IsLadderOf}
 use Rattle.worked_drawings.specs.Figures.{unattached_box}
 use Rattle.plant_tests.specs.NoLadder.{HasNoLadder, name_twice, tall_box}
 

@@ -2,7 +2,7 @@
 use Rattle.std.specs.Prelude.{◌≡◌, ℕ, List, [], ◌∷◌, ◌++◌, codes, replicate}
 use Rattle.power_flow.specs.LadderValue.{LadderValue}
 use Rattle.plant_grammar.specs.declared.grammar.tree.Program.{Program}
-use Rattle.plant.specs.Faultless.{IsLadderOf}
+use Rattle.program_bodies.specs.Ladders.{IsLadderOf}
 use Rattle.worked_drawings.specs.Figures.{text_of}
 
 -- no program with this body has a ladder

@@ -23,8 +23,13 @@ body_lines ws = flat_map body_line ws
 
 -- If all of these are words, the text spells them.
 abbrev pub IsSpelledBy : List ℕ → List WordValue → Type 0
-IsSpelledBy text ws = All (λ t. t ≢ token.Unknown) (map (λ (w : WordValue). w.token) ws) → Spells text (map (λ (w : WordValue). w.token) ws)
+IsSpelledBy text ws =
+    All (λ t. t ≢ token.Unknown) (map (λ (w : WordValue). w.token) ws)
+    → Spells text (map (λ (w : WordValue). w.token) ws)
 
 -- The text begins with each front of these words, as far as they are words.
 abbrev pub IsBegunBy : List ℕ → List WordValue → Type 0
-IsBegunBy text ws = (front back : List WordValue) → ws ≡ front ++ back → All (λ t. t ≢ token.Unknown) (map (λ (w : WordValue). w.token) front) → BeginsWith 1 text (map (λ (w : WordValue). w.token) front) (body_lines front)
+IsBegunBy text ws =
+    (front back : List WordValue) → ws ≡ front ++ back
+    → All (λ t. t ≢ token.Unknown) (map (λ (w : WordValue). w.token) front)
+    → BeginsWith 1 text (map (λ (w : WordValue). w.token) front) (body_lines front)

@@ -30,7 +30,8 @@ IsGap text = (pieces : List (List ℕ)) × AllByRecursion IsSpace pieces × (tex
 
 -- no letter or digit follows a letter or digit
 abbrev pub is_parted : List ℕ → List ℕ → Bool
-is_parted word rest = not (is_name_char (slice_index_or word (length word - 1) 32) && is_name_char (slice_index_or rest 0 32))
+is_parted word rest =
+    not (is_name_char (slice_index_or word (length word - 1) 32) && is_name_char (slice_index_or rest 0 32))
 
 -- up to the end of the line
 abbrev pub first_line : List ℕ → List ℕ
@@ -41,24 +42,31 @@ is_one_line text = not (list_any (λ c. c == 10) text)
 
 -- The only word of the line is END_PROGRAM. A comment behind it may run on.
 abbrev pub IsEndLine : List ℕ → Type 0
-IsEndLine line = (gap word rest more : List ℕ) × (line ≡ gap ++ word ++ rest) × IsGap gap × (word_of word ≡ token.Keyword key.EndProgram) × IsGap (rest ++ 10 ∷ more)
+IsEndLine line =
+    (gap word rest more : List ℕ) × (line ≡ gap ++ word ++ rest)
+    × IsGap gap × (word_of word ≡ token.Keyword key.EndProgram) × IsGap (rest ++ 10 ∷ more)
 
 -- whole lines, none of which has END_PROGRAM as its only word
 abbrev pub IsBody : List ℕ → Type 0
-IsBody body = (lines : List (List ℕ)) × (body ≡ flat_map (λ line. line ++ 10 ∷ []) lines) × AllByRecursion (λ line. IsTrue (is_one_line line) × (IsEndLine line → ⊥)) lines
+IsBody body =
+    (lines : List (List ℕ)) × (body ≡ flat_map (λ line. line ++ 10 ∷ []) lines)
+    × AllByRecursion (λ line. IsTrue (is_one_line line) × (IsEndLine line → ⊥)) lines
 
 -- the next word begins no block of variables
 abbrev pub BeginsNoBlock : List ℕ → Type 0
 BeginsNoBlock text =
     (gap word rest : List ℕ) → text ≡ gap ++ word ++ rest → IsGap gap → IsTrue (is_parted word rest)
-    → (word_of word ≢ token.Keyword key.Var) × (word_of word ≢ token.Keyword key.VarInput) × (word_of word ≢ token.Keyword key.VarOutput)
+    → (word_of word ≢ token.Keyword key.Var) × (word_of word ≢ token.Keyword key.VarInput)
+    × (word_of word ≢ token.Keyword key.VarOutput)
 
--- The text is these words, with gaps around them. A body begins on the line after the last word before it, and ends before the line of END_PROGRAM.
+-- The text is these words, with gaps around them. A body begins on the line after the last word before it, and ends
+-- before the line of END_PROGRAM.
 abbrev pub Spells : List ℕ → List Token → Type 0
 Spells text [] = IsGap text
 Spells text (token.Body body ∷ more) =
     (gap line_end rest : List ℕ) × (text ≡ gap ++ line_end ++ body ++ rest)
-    × BeginsNoBlock text × IsGap gap × IsTrue (is_one_line gap) × IsLineEnd line_end × IsBody body × IsEndLine (first_line rest) × Spells rest more
+    × BeginsNoBlock text × IsGap gap × IsTrue (is_one_line gap) × IsLineEnd line_end
+    × IsBody body × IsEndLine (first_line rest) × Spells rest more
 Spells text (t ∷ more) =
     (gap word rest : List ℕ) × (text ≡ gap ++ word ++ rest)
     × IsGap gap × (word_of word ≡ t) × IsTrue (is_parted word rest) × Spells rest more
@@ -67,14 +75,16 @@ Spells text (t ∷ more) =
 abbrev pub feeds : List ℕ → ℕ
 feeds text = count_by (λ c. c == 10) text
 
--- The text begins with these words, as one that spells them does, and the bodies among them begin on the lines of these numbers.
--- Its first line has this number, and behind each line feed begins a further one; none has a number above the greatest.
+-- The text begins with these words, as one that spells them does, and the bodies among them begin on the lines of
+-- these numbers. Its first line has this number, and behind each line feed begins a further one; none has a number
+-- above the greatest.
 abbrev pub BeginsWith : ℕ → List ℕ → List Token → List ℕ → Type 0
 BeginsWith line text [] lines = lines ≡ []
 BeginsWith line text (token.Body body ∷ more) [] = ⊥
 BeginsWith line text (token.Body body ∷ more) (first ∷ lines) =
     (gap line_end rest : List ℕ) × (text ≡ gap ++ line_end ++ body ++ rest)
-    × BeginsNoBlock text × IsGap gap × IsTrue (is_one_line gap) × IsLineEnd line_end × IsBody body × IsEndLine (first_line rest)
+    × BeginsNoBlock text × IsGap gap × IsTrue (is_one_line gap) × IsLineEnd line_end
+    × IsBody body × IsEndLine (first_line rest)
     × (first ≡ min (line + 1) 18446744073709551615) × BeginsWith (line + 1 + feeds body) rest more lines
 BeginsWith line text (t ∷ more) lines =
     (gap word rest : List ℕ) × (text ≡ gap ++ word ++ rest)

@@ -25,20 +25,24 @@ or_else (Some x) other = Some x
 -- the keywords of a program
 unfoldable pub program_keyword : List ℕ → Option Keyword
 program_keyword w = first_that (
-    (same_word w (codes "PROGRAM"), key.Program) ∷ (same_word w (codes "END_PROGRAM"), key.EndProgram) ∷ (same_word w (codes "VAR"), key.Var)
-    ∷ (same_word w (codes "VAR_INPUT"), key.VarInput) ∷ (same_word w (codes "VAR_OUTPUT"), key.VarOutput) ∷ (same_word w (codes "END_VAR"), key.EndVar) ∷ [])
+    (same_word w (codes "PROGRAM"), key.Program) ∷ (same_word w (codes "END_PROGRAM"), key.EndProgram)
+    ∷ (same_word w (codes "VAR"), key.Var) ∷ (same_word w (codes "VAR_INPUT"), key.VarInput)
+    ∷ (same_word w (codes "VAR_OUTPUT"), key.VarOutput) ∷ (same_word w (codes "END_VAR"), key.EndVar) ∷ [])
 
 -- the keywords of a configuration
 unfoldable pub configuration_keyword : List ℕ → Option Keyword
 configuration_keyword w = first_that (
-    (same_word w (codes "CONFIGURATION"), key.Configuration) ∷ (same_word w (codes "END_CONFIGURATION"), key.EndConfiguration)
-    ∷ (same_word w (codes "RESOURCE"), key.Resource) ∷ (same_word w (codes "END_RESOURCE"), key.EndResource) ∷ (same_word w (codes "ON"), key.On) ∷ [])
+    (same_word w (codes "CONFIGURATION"), key.Configuration)
+    ∷ (same_word w (codes "END_CONFIGURATION"), key.EndConfiguration) ∷ (same_word w (codes "RESOURCE"), key.Resource)
+    ∷ (same_word w (codes "END_RESOURCE"), key.EndResource) ∷ (same_word w (codes "ON"), key.On) ∷ [])
 
 -- the keywords of a task, and those of kinds
 unfoldable pub task_keyword : List ℕ → Option Keyword
 task_keyword w = first_that (
-    (same_word w (codes "TASK"), key.Task) ∷ (same_word w (codes "WITH"), key.With) ∷ (same_word w (codes "INTERVAL"), key.Interval) ∷ (same_word w (codes "PRIORITY"), key.Priority)
-    ∷ (same_word w (codes "BOOL"), key.Bool) ∷ (same_word w (codes "INT"), key.Int) ∷ (same_word w (codes "TIME"), key.Time) ∷ [])
+    (same_word w (codes "TASK"), key.Task) ∷ (same_word w (codes "WITH"), key.With)
+    ∷ (same_word w (codes "INTERVAL"), key.Interval) ∷ (same_word w (codes "PRIORITY"), key.Priority)
+    ∷ (same_word w (codes "BOOL"), key.Bool) ∷ (same_word w (codes "INT"), key.Int)
+    ∷ (same_word w (codes "TIME"), key.Time) ∷ [])
 
 -- the keyword that a word is, in either case
 unfoldable pub keyword : List ℕ → Option Keyword
@@ -47,16 +51,20 @@ keyword w = or_else (program_keyword w) (or_else (configuration_keyword w) (task
 -- the punctuation that a word is
 unfoldable pub punctuation : List ℕ → Option Punctuation
 punctuation w = first_that (
-    (same_word w (codes "("), Open) ∷ (same_word w (codes ")"), Close) ∷ (same_word w (codes ":"), Colon) ∷ (same_word w (codes ";"), Semicolon)
-    ∷ (same_word w (codes ","), Comma) ∷ (same_word w (codes "."), Dot) ∷ (same_word w (codes ":="), Assign) ∷ [])
+    (same_word w (codes "("), Open) ∷ (same_word w (codes ")"), Close) ∷ (same_word w (codes ":"), Colon)
+    ∷ (same_word w (codes ";"), Semicolon) ∷ (same_word w (codes ","), Comma) ∷ (same_word w (codes "."), Dot)
+    ∷ (same_word w (codes ":="), Assign) ∷ [])
 
 -- the space of addresses that a word begins with
 unfoldable pub address_space : List ℕ → Option Space
-address_space w = first_that ((same_word (take 3 w) (codes "%IX"), BitSpace) ∷ (same_word (take 3 w) (codes "%IW"), WordSpace) ∷ [])
+address_space w =
+    first_that ((same_word (take 3 w) (codes "%IX"), BitSpace) ∷ (same_word (take 3 w) (codes "%IW"), WordSpace) ∷ [])
 
 -- %IX or %IW and a number up to 65535
 unfoldable pub address : List ℕ → Option Address
-address w = option_and_then (λ s. option_map (λ n. record { space = s; number = n }) (number_up_to 65535 (drop 3 w))) (address_space w)
+address w =
+    option_and_then (λ s. option_map (λ n. record { space = s; number = n }) (number_up_to 65535 (drop 3 w)))
+    (address_space w)
 
 -- the name that a word is, if it is an identifier and isn't reserved
 unfoldable pub name : List ℕ → Option Token
@@ -72,7 +80,8 @@ fixed_word w =
 unfoldable pub value_word : List ℕ → Option Token
 value_word w =
     or_else (option_map (λ n. token.Number n) (number_up_to 65535 w)) (
-    or_else (option_map (λ n. token.Duration n) (duration_up_to 2147483647 w)) (option_map (λ a. token.Address a) (address w)))
+    or_else (option_map (λ n. token.Duration n) (duration_up_to 2147483647 w))
+    (option_map (λ a. token.Address a) (address w)))
 
 -- what a word is, in either case: a fixed word, a value, a name, or unknown
 unfoldable pub word_of : List ℕ → Token

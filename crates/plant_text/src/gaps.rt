@@ -1,6 +1,6 @@
 //! What may stand between words: blanks, tabs, line ends and comments.
 
-ghost use Rattle.std.specs.Prelude.{◌≡◌, ◌<◌, IfSome, length};
+ghost use Rattle.std.specs.Prelude.{◌≡◌};
 ghost use Rattle.std.specs.Option.{option_map};
 ghost use Rattle.plant_text.specs.Steps.Gaps.{behind_comment, behind_star, behind_feed, behind_space, IsBehindGap};
 

@@ -1,11 +1,10 @@
 //! The lexer: a plant's text word by word, with the line of each.
 
-ghost use Rattle.std.specs.Prelude.{◌≡◌, ◌≢◌, ◌<◌, ◌+◌, ◌-◌, ℕ, List, [], IfOk, IfSome, OnOk, IsTrue, MatchOption, length, min, take};
+ghost use Rattle.std.specs.Prelude.{◌≡◌, ◌<◌, [], IfOk, IfSome, OnOk, IsTrue, length};
 ghost use Rattle.words.specs.Lines.{without_last};
 ghost use Rattle.plant_text.specs.declared.token.Token.TheVariants as token;
 ghost use Rattle.plant_text.specs.Spelling.{BeginsNoBlock, feeds};
-ghost use Rattle.plant_text.specs.Steps.Gaps.{IsBehindGap};
-ghost use Rattle.plant_text.specs.Steps.Lexing.{part_before, IsPart, HasNoBodyThen, IsKnownThen, IsFirstWord, IsNext, StandsFirst};
+ghost use Rattle.plant_text.specs.Steps.Lexing.{part_before, line_behind, IsPart, HasNoBodyThen, IsKnownThen, IsFirstWord, FindsFirstWord, StandsFirst};
 
 use crate::bodies::{
     begins_no_block, behind_blank_line, behind_body, is_blank_line, without_return,
@@ -122,7 +121,7 @@ impl<'a> Lexer<'a> {
     /// Goes on to what is left behind a part of the text.
     fn advance(&mut self, rest: &'a [u8])
         ensures text { self.new.text ≡ rest.now }
-        ensures line { self.new.line ≡ min (self.old.line + feeds (part_before self.old.text rest.now)) 18446744073709551615 }
+        ensures line { self.new.line ≡ line_behind self.old rest.now }
     {
         let passed = &self.rest[..self.rest.len().saturating_sub(rest.len())];
         self.line = self.line.saturating_add(feeds(passed));
@@ -189,7 +188,7 @@ impl<'a> Lexer<'a> {
 
     /// The word behind a gap.
     fn word_behind_gap(&mut self, alloc: Global) -> Result<Option<Word>, AllocError>
-        ensures word { IfOk result (λ w. IsNext self.old.text w self.new.text) }
+        ensures word { IfOk result (λ w. FindsFirstWord self.old.text w self.new.text) }
         ensures first { IfOk result (λ w. IfSome w (λ t. StandsFirst self.old t self.new)) }
         ensures shorter { IfOk result (λ w. IfSome w (λ _. length self.new.text < length self.old.text)) }
     {
@@ -207,7 +206,7 @@ impl<'a> Lexer<'a> {
 
     /// The next word. `None`: there is no further one. Behind `Unknown` there is none.
     pub fn next(&mut self, alloc: Global) -> Result<Option<Word>, AllocError>
-        ensures word { IfOk result (λ w. IsNext self.old.text w self.new.text) }
+        ensures word { IfOk result (λ w. FindsFirstWord self.old.text w self.new.text) }
         ensures first { IfOk result (λ w. IfSome w (λ t. StandsFirst self.old t self.new)) }
         ensures shorter { IfOk result (λ w. IfSome w (λ _. length self.new.text < length self.old.text)) }
     {

@@ -117,7 +117,7 @@ impl From<BindFault> for TextCommandFault {
 
 impl From<PlantFault> for TextCommandFault {
     ghost use Rattle.text_commands.specs.Giving.{GivenFor};
-    ghost use Rattle.plant.specs.declared.plant_fault.PlantFaultKind.TheVariants as plant;
+    ghost use Rattle.program_bodies.specs.declared.plant_fault.PlantFaultKind.TheVariants as plant;
     ghost use Rattle.text_commands.specs.declared.text_fault.TextFault.TheVariants.{Plant};
 
     ghost from_gives = { λ found fault. GivenFor (found.kind ≡ plant.Memory) (Plant found) fault };

@@ -28,7 +28,8 @@ slots_in r ts = slots_within r ts (length ts)
 -- the tasks of the first n resources
 abbrev pub slots_before : List (List Timing) → ℕ → List Slot
 slots_before resources zero = []
-slots_before resources (suc n) = slots_before resources n ++ slots_within n (timings_at resources n) (length (timings_at resources n))
+slots_before resources (suc n) =
+    slots_before resources n ++ slots_within n (timings_at resources n) (length (timings_at resources n))
 
 -- all tasks
 abbrev pub slots_of : List (List Timing) → List Slot
@@ -59,6 +60,13 @@ abbrev pub dues_until : List Slot → ℕ → List Due
 dues_until order zero = []
 dues_until order (suc n) = dues_until order n ++ dues_at order (suc n)
 
+-- with more entries behind these they are more than 100,000
+abbrev pub AreTooMany : List Due → List Due → Type 0
+AreTooMany dues more = 100000 < length (dues ++ more)
+
 -- by priority, resource and task
 abbrev pub slot_cmp : Slot → Slot → Ordering
-slot_cmp a b = ordering_then (nat_cmp a.priority b.priority) (ordering_then (nat_cmp a.resource b.resource) (ordering_then (nat_cmp a.task b.task) (nat_cmp a.interval b.interval)))
+slot_cmp a b =
+    ordering_then (nat_cmp a.priority b.priority)
+    (ordering_then (nat_cmp a.resource b.resource)
+    (ordering_then (nat_cmp a.task b.task) (nat_cmp a.interval b.interval)))

@@ -1,7 +1,8 @@
 -- What is known of a plant while its sources are resolved. Its codes have programs and outputs, and no bindings yet.
 use Rattle.std.specs.Prelude.{◌≡◌, ℕ, ◌<◌, List, [], ◌∷◌, ◌++◌, map, slice_get, length, Some, All, Contains}
 use Rattle.std.specs.Borrow.{Bor}
-use Rattle.std.specs.Global.{Vec}
+use Rattle.std.specs.Global.{Global, Vec}
+use Rattle.std.specs.declared.sync.Arc.{Arc}
 use Rattle.std.specs.List.{flat_map, filter, find, AllZip}
 use Rattle.declared_names.specs.declared.declarations.Kind.{Kind}
 use Rattle.declared_names.specs.declared.declarations.Declaration.{Declaration}
@@ -11,6 +12,7 @@ use Rattle.task_codes.specs.declared.binding.Source.TheVariants as source
 use Rattle.task_codes.specs.declared.binding.Binding.{Binding}
 use Rattle.due_list.specs.declared.task_ref.TaskRef.{TaskRef}
 use Rattle.task_codes.specs.declared.task_output.TaskOutput.{TaskOutput}
+use Rattle.task_codes.specs.declared.task_code.TaskCode.{TaskCode}
 use Rattle.plant_grammar.specs.declared.grammar.tree.Program.{Program}
 use Rattle.plant_grammar.specs.declared.grammar.tree.TaskLine.{TaskLine}
 use Rattle.plant_grammar.specs.declared.grammar.tree.SourceName.{SourceName}
@@ -22,10 +24,10 @@ use Rattle.plant_grammar.specs.declared.grammar.tree.Resource.{Resource}
 use Rattle.plant.specs.declared.sources.feed.Origin.{Origin}
 use Rattle.plant.specs.declared.sources.feed.Origin.TheVariants as origin
 use Rattle.plant.specs.declared.sources.feed.Feed.{Feed}
-use Rattle.plant_grammar.specs.Names.{is_named, IsAt, AreApart}
-use Rattle.plant.specs.Faultless.{IsLadderOf}
+use Rattle.plant_grammar.specs.Names.{is_named, IsAt, AreNamesApart}
+use Rattle.program_bodies.specs.Ladders.{IsLadderOf}
 use Rattle.plant_grammar.specs.Lawful.{use_of, tasks_of, uses_of, binds_of}
-use Rattle.plant.specs.Steps.Reading.{TypeValue}
+use Rattle.program_bodies.specs.ProgramTypes.{TypeValue}
 use Rattle.plant_grammar.specs.Kinds.{input_kind_at, kind_of_space}
 use Rattle.plant.specs.PlantValue.{ResourceValue, PlantValue, code_at, AreProducersOf}
 use Rattle.task_codes.specs.CodeValue.{ProgramValue, CodeValue, lists_of, image_kinds, outputs_of, source_kind, bindings_at, IsSoundCode}
@@ -38,6 +40,11 @@ seen refs = map (λ r. r.now) refs
 -- the plant that drafts of resources are
 abbrev pub drafted : List ResourceValue → PlantValue
 drafted rs = record { resources = rs }
+
+-- a code of these programs and outputs, nothing bound yet
+abbrev pub unbound_code : List ProgramValue → List TaskOutput → CodeValue
+unbound_code programs outputs =
+    record { programs = programs; bindings = []; producers = []; expected = []; outputs = outputs }
 
 -- the programs of types
 abbrev pub programs_in : List TypeValue → List Program
@@ -71,7 +78,7 @@ AreDrafts r tasks drafts = (programs : List Program) × AllZip (IsDraftOf progra
 
 -- the instance binds no input twice
 abbrev pub IsOnceBound : Use → Type 0
-IsOnceBound u = AreApart (map (λ b. b.input) (binds_of u))
+IsOnceBound u = AreNamesApart (map (λ b. b.input) (binds_of u))
 
 -- what resolution takes of a lawful resource: no interval is 0, and no instance binds an input twice
 pub record IsReady (r : Resource) : Type 0 where
@@ -80,7 +87,8 @@ pub record IsReady (r : Resource) : Type 0 where
 
 -- at position k of the outputs stands the one of this program, place and kind
 abbrev pub IsPlacedAt : List TaskOutput → ℕ → ℕ → ℕ → Kind → Type 0
-IsPlacedAt outputs program place k kind = slice_get outputs k ≡ Some (record { program = program; place = place; kind = kind })
+IsPlacedAt outputs program place k kind =
+    slice_get outputs k ≡ Some (record { program = program; place = place; kind = kind })
 
 -- the output that this name means in a program of the task stands at place k of its image
 pub record IsOutputAt (c : CodeValue) (program : ℕ) (name : List ℕ) (k : ℕ) (kind : Kind) : Type 0 where
@@ -107,7 +115,8 @@ pub record IsImageKind (plant : PlantValue) (t : TaskRef) (k : ℕ) (kind : Kind
 
 -- `resource.instance.output` names a value of a task's image, which is of this kind
 abbrev pub IsValue : PlantValue → List ℕ → List ℕ → List ℕ → TaskRef × ℕ × Kind → Type 0
-IsValue plant resource instance output x = IsOrigin plant resource instance output x.0 x.1 × IsImageKind plant x.0 x.1 x.2
+IsValue plant resource instance output x =
+    IsOrigin plant resource instance output x.0 x.1 × IsImageKind plant x.0 x.1 x.2
 
 -- a source is the address that is written, or the value that the names mean, and gives values of this kind
 abbrev pub IsOriginOf : PlantValue → SourceName → Origin → Kind → Type 0
@@ -134,7 +143,9 @@ pub record IsUseResolved (plant : PlantValue) (types : List TypeValue) (u : Use)
 
 -- R holds of the items of three lists, place by place
 abbrev pub Triples : {A B C : Type 0} → (A → B → C → Type 0) → List A → List B → List C → Type 0
-Triples {A} {B} {C} R xs ys zs = (k : ℕ) (x : A) (y : B) (z : C) → slice_get xs k ≡ Some x → slice_get ys k ≡ Some y → slice_get zs k ≡ Some z → R x y z
+Triples {A} {B} {C} R xs ys zs =
+    (k : ℕ) (x : A) (y : B) (z : C) → slice_get xs k ≡ Some x → slice_get ys k ≡ Some y → slice_get zs k ≡ Some z
+    → R x y z
 
 -- the binds of an instance are resolved, by the variables of its program
 abbrev pub AreFeedsOf : PlantValue → Use → ProgramValue → List Feed → Type 0
@@ -182,9 +193,14 @@ IsPlacedSource producers (origin.Output t k) (source.Field b) = ⊥
 IsPlacedSource producers (origin.Output t k) (source.Given p j) = (slice_get producers p ≡ Some t) × (j ≡ k)
 
 -- the binding of a bound input
-pub record IsPlaced (producers : List TaskRef) (f : Feed) (b : Binding) : Type 0 where
+pub record IsPlacedBinding (producers : List TaskRef) (f : Feed) (b : Binding) : Type 0 where
   pub place_is : b.place ≡ f.place
   pub source_is : IsPlacedSource producers f.origin b.source
+
+-- the bindings of the bound inputs of each program
+abbrev pub AreAllBindings : List TaskRef → List (Vec Feed) → List (Vec Binding) → Type 0
+AreAllBindings producers feeds bindings =
+    AllZip (AllZip (IsPlacedBinding producers)) (lists_of feeds) (lists_of bindings)
 
 -- a code has the programs and outputs of a draft
 pub record HasPrograms (draft code : CodeValue) : Type 0 where
@@ -192,7 +208,8 @@ pub record HasPrograms (draft code : CodeValue) : Type 0 where
   pub outputs_are : code.outputs ≡ draft.outputs
 
 -- a binding by the variables of its program: the input's place, and a source that gives values of the input's kind
-pub record IsBindingBy (plant : PlantValue) (c : CodeValue) (ds : List Declaration) (b : Bind) (found : Binding) : Type 0 where
+pub record IsBindingBy (plant : PlantValue) (c : CodeValue) (ds : List Declaration)
+    (b : Bind) (found : Binding) : Type 0 where
   pub input_is : place_of ds b.input ≡ Some found.place
   pub source_is : IsSourceOf plant c b.source found.source
   pub kind : Kind
@@ -200,7 +217,7 @@ pub record IsBindingBy (plant : PlantValue) (c : CodeValue) (ds : List Declarati
   pub source_kind_is : source_kind c found.source ≡ Some kind
 
 -- the code of a draft with its sources resolved
-pub record IsLinked (plant : PlantValue) (us : List Use) (draft code : CodeValue) : Type 0 where
+pub record IsCodeLinked (plant : PlantValue) (us : List Use) (draft code : CodeValue) : Type 0 where
   pub same : HasPrograms draft code
   pub bound : (i : ℕ) (u : Use) (p : ProgramValue) → slice_get us i ≡ Some u → slice_get code.programs i ≡ Some p
       → AllZip (IsBindingBy plant code p.ladder.declarations) (binds_of u) (bindings_at code i)
@@ -208,13 +225,27 @@ pub record IsLinked (plant : PlantValue) (us : List Use) (draft code : CodeValue
   pub sound : IsSoundCode code
   pub taken : AreProducersOf plant code
 
+-- the code of the draft of a task of a resource, in the plant that is drafted
+abbrev pub IsTaskLinked : List ResourceValue → Resource → TaskLine → CodeValue → CodeValue → Type 0
+IsTaskLinked drafts r t draft code = IsCodeLinked (drafted drafts) (runs_in r t) draft code
+
 -- the codes of drafts of tasks of a resource
-abbrev pub AreLinked : PlantValue → Resource → List TaskLine → List CodeValue → List CodeValue → Type 0
-AreLinked plant r tasks drafts codes = Triples (λ t d c. IsLinked plant (runs_in r t) d c) tasks drafts codes
+abbrev pub AreCodesLinked : PlantValue → Resource → List TaskLine → List CodeValue → List CodeValue → Type 0
+AreCodesLinked plant r tasks drafts codes = Triples (λ t d c. IsCodeLinked plant (runs_in r t) d c) tasks drafts codes
+
+-- the codes of drafts of tasks of a resource, in the plant that is drafted
+abbrev pub AreTasksLinked : List ResourceValue → Resource → List (Bor TaskLine) → List CodeValue
+    → List (Arc TaskCode Global) → Type 0
+AreTasksLinked drafts r tasks task_drafts codes =
+    AreCodesLinked (drafted drafts) r (seen tasks) task_drafts (map (λ c. c.value) codes)
 
 -- a resource with its tasks, and the code of each draft
 pub record IsResourceLinked (plant : PlantValue) (r : Resource) (draft v : ResourceValue) : Type 0 where
   pub name_is : v.name ≡ r.name
   pub tasks_are : v.tasks ≡ map task_value (tasks_of r)
   pub many : length v.codes ≡ length (tasks_of r)
-  pub codes_are : AreLinked plant r (tasks_of r) draft.codes v.codes
+  pub codes_are : AreCodesLinked plant r (tasks_of r) draft.codes v.codes
+
+-- the resources of the plant that is drafted, each with its tasks and the code of each draft
+abbrev pub AreResourcesLinked : List ResourceValue → List Resource → List ResourceValue → Type 0
+AreResourcesLinked drafts resources linked = Triples (IsResourceLinked (drafted drafts)) resources drafts linked

@@ -8,4 +8,5 @@ FindsBoth {A} {B} R found = MatchOption found ((x : A) (y : B) → R x y → ⊥
 
 -- what is found is the position of something of this name; it is none only where nothing has the name
 abbrev pub FindsAt : {A : Type 0} → (A → List ℕ) → List A → List ℕ → Option ℕ → Type 0
-FindsAt {A} name_of xs name found = MatchOption found ((k : ℕ) (x : A) → IsAt name_of xs name k x → ⊥) (λ k. (x : A) × IsAt name_of xs name k x)
+FindsAt {A} name_of xs name found =
+    MatchOption found ((k : ℕ) (x : A) → IsAt name_of xs name k x → ⊥) (λ k. (x : A) × IsAt name_of xs name k x)

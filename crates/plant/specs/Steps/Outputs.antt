@@ -23,5 +23,5 @@ abbrev pub StandsBefore : TaskOutput → ℕ → ℕ → Type 0
 StandsBefore o program place = (o.program < program) ⊎ ((o.program ≡ program) × (o.place < place))
 
 -- the one output stands before the other, by program and place
-abbrev pub IsBefore : TaskOutput → TaskOutput → Type 0
-IsBefore a b = StandsBefore a b.program b.place
+abbrev pub IsEarlierOutput : TaskOutput → TaskOutput → Type 0
+IsEarlierOutput a b = StandsBefore a b.program b.place

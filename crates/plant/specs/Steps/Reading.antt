@@ -1,15 +1,10 @@
 -- What is known of a plant's text once its bodies are drawn, its sources not yet resolved.
 use Rattle.std.specs.Prelude.{ℕ, List, map}
-use Rattle.power_flow.specs.LadderValue.{LadderValue}
-use Rattle.plant_grammar.specs.declared.grammar.tree.Program.{Program}
 use Rattle.plant_grammar.specs.declared.grammar.tree.Resource.{Resource}
 use Rattle.plant_grammar.specs.Grammar.{Tree}
+use Rattle.program_bodies.specs.ProgramTypes.{TypeValue}
 
--- a program type, and its ladder
-pub record TypeValue : Type 0 where
-  pub program : Program
-  pub ladder : LadderValue
-
+-- the program types with their ladders, and the resources as they are written
 pub record ReadingValue : Type 0 where
   pub types : List TypeValue
   pub resources : List Resource

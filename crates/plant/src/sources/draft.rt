@@ -2,16 +2,16 @@
 
 ghost use Rattle.std.specs.Prelude.{◌≡◌, ◌++◌, IfOk, OnOk, IfErr};
 ghost use Rattle.plant_grammar.specs.NameFaults.{TellsOfName};
-ghost use Rattle.plant_grammar.specs.WordFaults.{IsWordFault};
+ghost use Rattle.plant_grammar.specs.WordFaults.{IsGrammarFault};
 ghost use Rattle.std.specs.List.{AllZip};
 ghost use Rattle.plant_grammar.specs.Lawful.{tasks_of, task_of};
 ghost use Rattle.plant.specs.StandsFor.{runs_in};
 ghost use Rattle.plant.specs.Steps.Drafts.{seen, runs_at, programs_in, IsProgramOf, IsDraftOf, IsResourceDraft};
 
-use crate::bodies::program_type::{ProgramType, type_named};
 use crate::sources::resource_draft::ResourceDraft;
 use crate::sources::task_draft::TaskDraft;
 use plant_grammar::{GrammarFault, GrammarFaultKind, Item, Name, Resource, TaskLine, Use};
+use program_bodies::{ProgramType, type_named};
 use std::alloc::{AllocError, Global};
 use std::sync::Arc;
 use task_codes::ProgramInstance;
@@ -76,7 +76,7 @@ fn draft_program(
 ) -> Result<ProgramInstance, GrammarFault>
     ensures ok { IfOk result (λ p. IsProgramOf (programs_in types.now) run.now p) }
     ensures tells { IfErr result (λ e. TellsOfName e.kind ⊥ ⊥) }
-    ensures value { IfErr result IsWordFault }
+    ensures value { IfErr result IsGrammarFault }
 {
     let Some(found) = type_named(types, &run.program) else {
         return Err(GrammarFault::at(GrammarFaultKind::UnknownName, run.program.line()));
@@ -94,7 +94,7 @@ fn draft_programs(
 ) -> Result<Vec<ProgramInstance>, GrammarFault>
     ensures ok { IfOk result (λ ps. AllZip (IsProgramOf (programs_in types.now)) (seen runs.now) ps.items) }
     ensures tells { IfErr result (λ e. TellsOfName e.kind ⊥ ⊥) }
-    ensures value { IfErr result IsWordFault }
+    ensures value { IfErr result IsGrammarFault }
 {
     let mut programs = Vec::new(alloc);
     for run in runs {
@@ -113,7 +113,7 @@ fn draft_task(
 ) -> Result<TaskDraft, GrammarFault>
     ensures ok { IfOk result (λ d. IsDraftOf (programs_in types.now) resource.now task.now d) }
     ensures tells { IfErr result (λ e. TellsOfName e.kind ⊥ ⊥) }
-    ensures value { IfErr result IsWordFault }
+    ensures value { IfErr result IsGrammarFault }
 {
     let runs = runs_in(alloc, resource, task)?;
     let programs = draft_programs(alloc, types, runs.as_slice())?;
@@ -130,7 +130,7 @@ fn draft_tasks(
 ) -> Result<Vec<TaskDraft>, GrammarFault>
     ensures ok { IfOk result (λ ds. AllZip (IsDraftOf (programs_in types.now) resource.now) (seen tasks.now) ds.items) }
     ensures tells { IfErr result (λ e. TellsOfName e.kind ⊥ ⊥) }
-    ensures value { IfErr result IsWordFault }
+    ensures value { IfErr result IsGrammarFault }
 {
     let mut drafts = Vec::new(alloc);
     for task in tasks {
@@ -148,7 +148,7 @@ fn draft_resource(
 ) -> Result<ResourceDraft, GrammarFault>
     ensures ok { IfOk result (λ d. IsResourceDraft (programs_in types.now) resource.now d) }
     ensures tells { IfErr result (λ e. TellsOfName e.kind ⊥ ⊥) }
-    ensures value { IfErr result IsWordFault }
+    ensures value { IfErr result IsGrammarFault }
 {
     let tasks = tasks_of(alloc, resource)?;
     let drafts = draft_tasks(alloc, types, resource, tasks.as_slice())?;
@@ -164,7 +164,7 @@ pub fn draft_resources(
 ) -> Result<Vec<ResourceDraft>, GrammarFault>
     ensures ok { IfOk result (λ ds. AllZip (IsResourceDraft (programs_in types.now)) resources.now ds.items) }
     ensures tells { IfErr result (λ e. TellsOfName e.kind ⊥ ⊥) }
-    ensures value { IfErr result IsWordFault }
+    ensures value { IfErr result IsGrammarFault }
 {
     let mut drafts = Vec::new(alloc);
     for resource in resources {

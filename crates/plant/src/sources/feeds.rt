@@ -2,28 +2,29 @@
 
 ghost use Rattle.std.specs.Prelude.{◌≡◌, All, IfOk, OnOk, length, IfErr};
 ghost use Rattle.plant_grammar.specs.NameFaults.{TellsOfName};
-ghost use Rattle.plant_grammar.specs.WordFaults.{IsWordFault};
+ghost use Rattle.plant_grammar.specs.WordFaults.{IsGrammarFault};
 ghost use Rattle.std.specs.List.{AllZip, flat_map};
 ghost use Rattle.plant_grammar.specs.Lawful.{binds_of, use_of, uses_of};
 ghost use Rattle.plant_grammar.specs.Steps.ReadParts.{FindsInput};
 ghost use Rattle.plant.specs.Steps.Drafts.{drafted, IsValue, IsOriginOf, IsFeedOf, HasFeed, AreAllFeeds, IsUseResolved};
 
-use crate::bodies::program_type::{ProgramType, type_named};
+use crate::named::find_named;
 use crate::sources::feed::{Feed, Origin};
-use crate::sources::lookup::{find_instance, find_output, find_resource};
+use crate::sources::lookup::{find_instance, find_output};
 use crate::sources::resource_draft::ResourceDraft;
 use due_list::TaskRef;
 use plant_grammar::{
     Bind, GrammarFault, GrammarFaultKind, Item, Name, Resource, SourceName, Use, kind_of_space,
 };
 use power_flow::{Declarations, Declared, Kind};
+use program_bodies::{ProgramType, type_named};
 use std::alloc::Global;
 use task_codes::ProgramInstance;
 
 /// The fault of a name that isn't declared where it is sought.
 fn unknown(name: &Name) -> GrammarFault
     ensures tells { TellsOfName result.kind ⊥ ⊥ }
-    ensures value { IsWordFault result }
+    ensures value { IsGrammarFault result }
 {
     GrammarFault::at(GrammarFaultKind::UnknownName, name.line())
 }
@@ -37,9 +38,9 @@ fn find_value(
 ) -> Result<(TaskRef, usize, Kind), GrammarFault>
     ensures ok { IfOk result (IsValue (drafted drafts.now) resource.now instance.now output.now) }
     ensures tells { IfErr result (λ e. TellsOfName e.kind ⊥ ⊥) }
-    ensures value { IfErr result IsWordFault }
+    ensures value { IfErr result IsGrammarFault }
 {
-    let Some(position) = find_resource(drafts, resource.as_str()) else {
+    let Some(position) = find_named(drafts, resource.as_str()) else {
         return Err(unknown(resource));
     };
     let tasks = drafts[position].tasks();
@@ -63,7 +64,7 @@ fn find_origin(
 ) -> Result<(Origin, Kind), GrammarFault>
     ensures ok { IfOk result (λ x. IsOriginOf (drafted drafts.now) source.now x.0 x.1) }
     ensures tells { IfErr result (λ e. TellsOfName e.kind ⊥ ⊥) }
-    ensures value { IfErr result IsWordFault }
+    ensures value { IfErr result IsGrammarFault }
 {
     match source {
         SourceName::Field(address) => Ok((Origin::Field(*address), kind_of_space(address.space))),
@@ -105,7 +106,7 @@ fn feed(
 ) -> Result<Feed, GrammarFault>
     ensures ok { IfOk result (λ f. IsFeedOf (drafted drafts.now) declarations.now bind.now f) }
     ensures tells { IfErr result (λ e. TellsOfName e.kind ⊥ ⊥) }
-    ensures value { IfErr result IsWordFault }
+    ensures value { IfErr result IsGrammarFault }
 {
     let Some((place, kind)) = find_input(declarations, bind.input.as_str()) else {
         return Err(unknown(&bind.input));
@@ -140,7 +141,7 @@ fn feeds(
 ) -> Result<Vec<Feed>, GrammarFault>
     ensures ok { IfOk result (λ fs. AllZip (IsFeedOf (drafted drafts.now) declarations.now) binds.now fs.items) }
     ensures tells { IfErr result (λ e. TellsOfName e.kind ⊥ ⊥) }
-    ensures value { IfErr result IsWordFault }
+    ensures value { IfErr result IsGrammarFault }
 {
     let mut feeds = Vec::new(alloc);
     for bind in binds {
@@ -161,7 +162,7 @@ pub fn feeds_of(
     ensures many { IfOk result (λ fs. length fs.items ≡ length programs.now) }
     ensures each { IfOk result (λ fs. AreAllFeeds (drafted drafts.now) runs.now programs.now fs.items) }
     ensures tells { IfErr result (λ e. TellsOfName e.kind ⊥ ⊥) }
-    ensures value { IfErr result IsWordFault }
+    ensures value { IfErr result IsGrammarFault }
 {
     let mut all = Vec::new(alloc);
     for (i, program) in programs.iter().enumerate() {
@@ -180,7 +181,7 @@ fn check_binds(
 ) -> Result<(), GrammarFault>
     ensures ok { OnOk result (All (HasFeed (drafted drafts.now) declarations.now) binds.now) }
     ensures tells { IfErr result (λ e. TellsOfName e.kind ⊥ ⊥) }
-    ensures value { IfErr result IsWordFault }
+    ensures value { IfErr result IsGrammarFault }
 {
     for bind in binds {
         feed(drafts, declarations, bind)?;
@@ -192,7 +193,7 @@ fn check_binds(
 fn check_use(drafts: &[ResourceDraft], types: &[ProgramType], run: &Use) -> Result<(), GrammarFault>
     ensures ok { OnOk result (IsUseResolved (drafted drafts.now) types.now run.now) }
     ensures tells { IfErr result (λ e. TellsOfName e.kind ⊥ ⊥) }
-    ensures value { IfErr result IsWordFault }
+    ensures value { IfErr result IsGrammarFault }
 {
     let Some(found) = type_named(types, &run.program) else {
         return Err(unknown(&run.program));
@@ -208,7 +209,7 @@ fn check_item(
 ) -> Result<(), GrammarFault>
     ensures ok { OnOk result (All (IsUseResolved (drafted drafts.now) types.now) (use_of item.now)) }
     ensures tells { IfErr result (λ e. TellsOfName e.kind ⊥ ⊥) }
-    ensures value { IfErr result IsWordFault }
+    ensures value { IfErr result IsGrammarFault }
 {
     match item {
         Item::Task(_) => Ok(()),
@@ -224,7 +225,7 @@ fn check_resource(
 ) -> Result<(), GrammarFault>
     ensures ok { OnOk result (All (IsUseResolved (drafted drafts.now) types.now) (uses_of resource.now)) }
     ensures tells { IfErr result (λ e. TellsOfName e.kind ⊥ ⊥) }
-    ensures value { IfErr result IsWordFault }
+    ensures value { IfErr result IsGrammarFault }
 {
     for item in &resource.items {
         check_item(drafts, types, item)?;
@@ -240,7 +241,7 @@ pub fn check_sources(
 ) -> Result<(), GrammarFault>
     ensures ok { OnOk result (All (IsUseResolved (drafted drafts.now) types.now) (flat_map uses_of resources.now)) }
     ensures tells { IfErr result (λ e. TellsOfName e.kind ⊥ ⊥) }
-    ensures value { IfErr result IsWordFault }
+    ensures value { IfErr result IsGrammarFault }
 {
     for resource in resources {
         check_resource(drafts, types, resource)?;

@@ -2,12 +2,12 @@
 
 ghost use Rattle.std.specs.Prelude.{◌≡◌, ◌<◌, List, IfOk, All, length, map, IfErr};
 ghost use Rattle.plant_grammar.specs.NameFaults.{TellsOfName};
-ghost use Rattle.plant_grammar.specs.WordFaults.{IsWordFault};
+ghost use Rattle.plant_grammar.specs.WordFaults.{IsGrammarFault};
 ghost use Rattle.std.specs.List.{AllZip};
 ghost use Rattle.plant_grammar.specs.declared.grammar.tree.Program.{Program};
-ghost use Rattle.plant_grammar.specs.Lawful.{tasks_of, uses_of};
+ghost use Rattle.plant_grammar.specs.Lawful.{uses_of};
 ghost use Rattle.plant.specs.StandsFor.{runs_in, task_value};
-ghost use Rattle.plant.specs.Steps.Drafts.{seen, drafted, AreDrafts, IsResourceDraft, IsReady, IsOnceBound, IsLinked, AreLinked, IsResourceLinked, Triples};
+ghost use Rattle.plant.specs.Steps.Drafts.{seen, drafted, AreDrafts, IsResourceDraft, IsReady, IsOnceBound, IsCodeLinked, IsTaskLinked, AreTasksLinked, IsResourceLinked, AreResourcesLinked};
 
 use crate::plant_resource::PlantResource;
 use crate::sources::draft::{runs_in, tasks_of};
@@ -42,9 +42,9 @@ fn link_runs(
 ) -> Result<TaskCode, GrammarFault>
     requires many { length runs.now ≡ length draft.now.programs }
     requires once { All IsOnceBound (seen runs.now) }
-    ensures ok { IfOk result (IsLinked (drafted drafts.now) (seen runs.now) draft.now) }
+    ensures ok { IfOk result (IsCodeLinked (drafted drafts.now) (seen runs.now) draft.now) }
     ensures tells { IfErr result (λ e. TellsOfName e.kind ⊥ ⊥) }
-    ensures value { IfErr result IsWordFault }
+    ensures value { IfErr result IsGrammarFault }
 {
     let feeds = feeds_of(alloc, drafts, draft.programs(), runs)?;
     let producers = producers_of(alloc, feeds.as_slice())?;
@@ -65,9 +65,9 @@ fn link_task(
 ) -> Result<Arc<TaskCode>, GrammarFault>
     requires many { length (runs_in resource.now task.now) ≡ length draft.now.programs }
     requires once { All IsOnceBound (runs_in resource.now task.now) }
-    ensures ok { IfOk result (λ c. IsLinked (drafted drafts.now) (runs_in resource.now task.now) draft.now c.value) }
+    ensures ok { IfOk result (λ c. IsTaskLinked drafts.now resource.now task.now draft.now c.value) }
     ensures tells { IfErr result (λ e. TellsOfName e.kind ⊥ ⊥) }
-    ensures value { IfErr result IsWordFault }
+    ensures value { IfErr result IsGrammarFault }
 {
     let runs = runs_in(alloc, resource, task)?;
     let code = link_runs(alloc, drafts, draft, runs.as_slice())?;
@@ -86,9 +86,9 @@ fn link_tasks(
     requires known { AreDrafts resource.now (seen tasks.now) task_drafts.now }
     requires once { All IsOnceBound (uses_of resource.now) }
     ensures many { IfOk result (λ cs. length cs.items ≡ length tasks.now) }
-    ensures each { IfOk result (λ cs. AreLinked (drafted drafts.now) resource.now (seen tasks.now) task_drafts.now (map (λ c. c.value) cs.items)) }
+    ensures each { IfOk result (λ cs. AreTasksLinked drafts.now resource.now tasks.now task_drafts.now cs.items) }
     ensures tells { IfErr result (λ e. TellsOfName e.kind ⊥ ⊥) }
-    ensures value { IfErr result IsWordFault }
+    ensures value { IfErr result IsGrammarFault }
 {
     let mut codes = Vec::new(alloc);
     for (i, draft) in task_drafts.iter().enumerate() {
@@ -122,7 +122,7 @@ fn link_resource(
     requires ready { IsReady resource.now }
     ensures ok { IfOk result (λ v. IsResourceLinked (drafted drafts.now) resource.now draft.now v) }
     ensures tells { IfErr result (λ e. TellsOfName e.kind ⊥ ⊥) }
-    ensures value { IfErr result IsWordFault }
+    ensures value { IfErr result IsGrammarFault }
 {
     let lines = tasks_of(alloc, resource)?;
     let codes = link_tasks(alloc, drafts, resource, lines.as_slice(), draft.tasks())?;
@@ -140,9 +140,9 @@ pub fn link_resources(
     requires known { (programs : List Program) × AllZip (IsResourceDraft programs) resources.now drafts.now }
     requires ready { All IsReady resources.now }
     ensures many { IfOk result (λ vs. length vs.items ≡ length resources.now) }
-    ensures each { IfOk result (λ vs. Triples (IsResourceLinked (drafted drafts.now)) resources.now drafts.now vs.items) }
+    ensures each { IfOk result (λ vs. AreResourcesLinked drafts.now resources.now vs.items) }
     ensures tells { IfErr result (λ e. TellsOfName e.kind ⊥ ⊥) }
-    ensures value { IfErr result IsWordFault }
+    ensures value { IfErr result IsGrammarFault }
 {
     let mut linked = Vec::new(alloc);
     for (i, draft) in drafts.iter().enumerate() {

@@ -1,48 +1,21 @@
-//! What stands under a name: resources, instances and their outputs.
+//! What stands under a name: instances and their outputs.
 
 ghost use Rattle.std.specs.Prelude.{◌≡◌, ◌↔◌, IsTrue, AllPairs};
-ghost use Rattle.plant.specs.PlantValue.{ResourceValue};
-ghost use Rattle.task_codes.specs.CodeValue.{ProgramValue};
 ghost use Rattle.plant.specs.Steps.Drafts.{IsInstanceAt, IsPlacedAt, IsOutputAt};
-ghost use Rattle.plant.specs.Steps.Found.{FindsBoth, FindsAt};
-ghost use Rattle.plant.specs.Steps.Outputs.{StandsBefore, IsBefore};
+ghost use Rattle.plant.specs.Steps.Found.{FindsBoth};
+ghost use Rattle.plant.specs.Steps.Outputs.{StandsBefore, IsEarlierOutput};
 
-use crate::sources::resource_draft::ResourceDraft;
+use crate::named::find_named;
 use crate::sources::task_draft::TaskDraft;
-use plant_grammar::is_named;
 use power_flow::Kind;
-use task_codes::{ProgramInstance, TaskOutput};
-
-/// The position of the resource of a name.
-pub fn find_resource(resources: &[ResourceDraft], name: &str) -> Option<usize>
-    ensures { FindsAt (λ (r : ResourceValue). r.name) resources.now name.now result }
-{
-    for (k, resource) in resources.iter().enumerate() {
-        if is_named(name, resource.name()) {
-            return Some(k);
-        }
-    }
-    None
-}
-
-/// The position of the program of a name.
-fn find_program(programs: &[ProgramInstance], name: &str) -> Option<usize>
-    ensures { FindsAt (λ (p : ProgramValue). p.name) programs.now name.now result }
-{
-    for (k, program) in programs.iter().enumerate() {
-        if is_named(name, program.name()) {
-            return Some(k);
-        }
-    }
-    None
-}
+use task_codes::TaskOutput;
 
 /// The positions of the task that runs the instance of a name, and of its program there.
 pub fn find_instance(tasks: &[TaskDraft], name: &str) -> Option<(usize, usize)>
     ensures { FindsBoth (IsInstanceAt tasks.now name.now) result }
 {
     for (k, task) in tasks.iter().enumerate() {
-        if let Some(program) = find_program(task.programs(), name) {
+        if let Some(program) = find_named(task.programs(), name) {
             return Some((k, program));
         }
     }
@@ -65,7 +38,7 @@ fn stands_at(output: TaskOutput, program: usize, place: usize) -> bool
 
 /// The position of the output of a program at a place, and its kind. Outputs stand in order of program and place, so that halving finds it.
 fn output_position(outputs: &[TaskOutput], program: usize, place: usize) -> Option<(usize, Kind)>
-    requires { AllPairs IsBefore outputs.now }
+    requires { AllPairs IsEarlierOutput outputs.now }
     ensures { FindsBoth (IsPlacedAt outputs.now program place) result }
 {
     let mut low = 0;

@@ -5,7 +5,7 @@ ghost use Rattle.std.specs.List.{AllZip, flat_map};
 ghost use Rattle.plant.specs.PlantValue.{code_at};
 ghost use Rattle.task_codes.specs.CodeValue.{lists_of};
 ghost use Rattle.plant.specs.StandsFor.{firsts};
-ghost use Rattle.plant.specs.Steps.Drafts.{drafted, AddsFirsts, tasks_taken, all_taken, AreKindsOf, IsPlaced, IsTakenFrom, IsTaskOf};
+ghost use Rattle.plant.specs.Steps.Drafts.{drafted, AddsFirsts, tasks_taken, all_taken, AreKindsOf, IsPlacedBinding, AreAllBindings, IsTakenFrom, IsTaskOf};
 
 use crate::sources::feed::{Feed, Origin};
 use crate::sources::resource_draft::ResourceDraft;
@@ -112,7 +112,7 @@ fn position_of(producers: &[TaskRef], task: TaskRef) -> usize
 /// The binding of a bound input.
 fn binding(producers: &[TaskRef], feed: &Feed) -> Binding
     requires { IsTakenFrom producers.now feed.now }
-    ensures { IsPlaced producers.now feed.now result }
+    ensures { IsPlacedBinding producers.now feed.now result }
 {
     let source = match feed.origin {
         Origin::Field(address) => Source::Field(address),
@@ -134,7 +134,7 @@ fn bindings(
     feeds: &[Feed],
 ) -> Result<Vec<Binding>, AllocError>
     requires { All (IsTakenFrom producers.now) feeds.now }
-    ensures { IfOk result (λ bs. AllZip (IsPlaced producers.now) feeds.now bs.items) }
+    ensures { IfOk result (λ bs. AllZip (IsPlacedBinding producers.now) feeds.now bs.items) }
 {
     let mut bindings = Vec::new(alloc);
     for feed in feeds {
@@ -150,7 +150,7 @@ pub fn bindings_of(
     feeds: &[Vec<Feed>],
 ) -> Result<Vec<Vec<Binding>>, AllocError>
     requires { All (All (IsTakenFrom producers.now)) (lists_of feeds.now) }
-    ensures { IfOk result (λ bs. AllZip (AllZip (IsPlaced producers.now)) (lists_of feeds.now) (lists_of bs.items)) }
+    ensures { IfOk result (λ bs. AreAllBindings producers.now feeds.now bs.items) }
 {
     let mut all = Vec::new(alloc);
     for of_program in feeds {

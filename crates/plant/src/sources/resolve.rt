@@ -1,15 +1,15 @@
 ghost use Rattle.std.specs.Prelude.{ℕ, List, IfOk, IfErr};
 ghost use Rattle.plant_grammar.specs.NameFaults.{TellsOfName};
-ghost use Rattle.plant_grammar.specs.WordFaults.{IsWordFault};
+ghost use Rattle.plant_grammar.specs.WordFaults.{IsGrammarFault};
 ghost use Rattle.plant_grammar.specs.Lawful.{IsTreeLawful};
 ghost use Rattle.plant.specs.Steps.Reading.{tree_of};
 ghost use Rattle.plant.specs.StandsFor.{IsPlantOf};
 
-use crate::bodies::reading::Reading;
 use crate::plant::Plant;
 use crate::sources::draft::draft_resources;
 use crate::sources::feeds::check_sources;
 use crate::sources::link::link_resources;
+use crate::sources::reading::Reading;
 use plant_grammar::GrammarFault;
 use std::alloc::Global;
 
@@ -18,7 +18,7 @@ pub fn resolve(alloc: Global, reading: &Reading) -> Result<Plant, GrammarFault>
     requires { (name : List ℕ) × IsTreeLawful (tree_of name reading.now) }
     ensures ok { IfOk result (λ p. (name : List ℕ) → IsPlantOf (tree_of name reading.now) p) }
     ensures tells { IfErr result (λ e. TellsOfName e.kind ⊥ ⊥) }
-    ensures value { IfErr result IsWordFault }
+    ensures value { IfErr result IsGrammarFault }
 {
     let types = reading.types();
     let resources = reading.resources();

@@ -1,4 +1,4 @@
-ghost use Rattle.std.specs.Prelude.{◌≡◌, IfOk, length};
+ghost use Rattle.std.specs.Prelude.{◌≡◌, IfOk};
 ghost use Rattle.task_codes.specs.CodeValue.{outputs_of};
 
 use crate::sources::images::outputs_of;
@@ -14,12 +14,13 @@ pub struct TaskDraft {
 }
 
 impl Model for TaskDraft {
-    ghost use Rattle.std.specs.Prelude.{◌≡◌, []};
+    ghost use Rattle.std.specs.Prelude.{◌≡◌};
     ghost use Rattle.task_codes.specs.CodeValue.{CodeValue, outputs_of};
+    ghost use Rattle.plant.specs.Steps.Drafts.{unbound_code};
 
     ghost Value = { CodeValue };
 
-    ghost view = { λ d. record { programs = d.programs.items; bindings = []; producers = []; expected = []; outputs = d.outputs.items } };
+    ghost view = { λ d. unbound_code d.programs.items d.outputs.items };
 
     ghost invariant = { λ d. d.outputs.items ≡ outputs_of d.programs.items };
 }

@@ -6,7 +6,8 @@ use Rattle.plant_text.specs.Lines.{WordValue, body_line, body_lines}
 use Rattle.plant_grammar.specs.declared.grammar_fault.GrammarFault.{GrammarFault}
 use Rattle.plant_grammar.specs.declared.grammar_fault.GrammarFaultKind.TheVariants.{Syntax}
 
--- what is left to be read: the words, the line of each, the lines of the bodies among them, and the line on which the text ends
+-- what is left to be read: the words, the line of each, the lines of the bodies among them, and the line on which the
+-- text ends
 pub record ReaderValue : Type 0 where
   pub words : List Token
   pub lines : List ℕ
@@ -15,7 +16,8 @@ pub record ReaderValue : Type 0 where
 
 -- all of these words are left, in a text that ends on this line
 abbrev pub all_left : List WordValue → ℕ → ReaderValue
-all_left words last = record { words = map (λ w. w.token) words; lines = map (λ w. w.line) words; bodies = body_lines words; last = last }
+all_left words last =
+    record { words = map (λ w. w.token) words; lines = map (λ w. w.line) words; bodies = body_lines words; last = last }
 
 -- the line of the next word, or that on which the text ends
 abbrev pub next_line : ReaderValue → ℕ
@@ -38,8 +40,8 @@ abbrev pub IsLeft : Token → ReaderValue → ReaderValue → Type 0
 IsLeft t old new = old.bodies ≡ body_line (record { token = t; line = next_line old }) ++ new.bodies
 
 -- the next word is this one
-abbrev pub IsNext : Token → List Token → Type 0
-IsNext t words = (rest : List Token) × (words ≡ t ∷ rest)
+abbrev pub IsWordNext : Token → List Token → Type 0
+IsWordNext t words = (rest : List Token) × (words ≡ t ∷ rest)
 
 -- the next word is another one, or there is none
 abbrev pub IsNotNext : Token → List Token → Type 0

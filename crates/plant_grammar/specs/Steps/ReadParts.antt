@@ -16,9 +16,9 @@ use Rattle.plant_grammar.specs.Kinds.{items_or_none, kind_of_space, input_kind_a
 use Rattle.plant_grammar.specs.declared.grammar.tree.Bind.{Bind}
 use Rattle.plant_text.specs.declared.token.Token.{Token}
 use Rattle.plant_text.specs.declared.token.Punctuation.TheVariants.{Close}
-use Rattle.plant_grammar.specs.Grammar.{Tree, TextValue, mark, with_commas, listed}
-use Rattle.plant_grammar.specs.Names.{AreApart}
-use Rattle.plant_grammar.specs.NameFaults.{IsTaken}
+use Rattle.plant_grammar.specs.Grammar.{Tree, TextValue, mark_word, with_commas, binds_listed}
+use Rattle.plant_grammar.specs.Names.{AreNamesApart}
+use Rattle.plant_grammar.specs.NameFaults.{IsNameTaken}
 use Rattle.plant_grammar.specs.Lawful.{task_of, use_of, binds_of, IsProgramLawful, IsUseLawful, IsResourceLawful}
 use Rattle.plant_grammar.specs.Steps.Reading.{programs_of}
 
@@ -41,11 +41,11 @@ with_binds t n = record { instances = t.instances; binds = t.binds + n }
 
 -- the binds of an instance, none where it has no parentheses
 abbrev pub bound_in : Option (Vec Bind) → List Bind
-bound_in binds = items_or_none (listed binds)
+bound_in binds = items_or_none (binds_listed binds)
 
 -- the words begin with these binds and the parenthesis that closes them, and behind it stand the others
 abbrev pub EndWithBinds : List Bind → List Token → List Token → Type 0
-EndWithBinds binds words rest = words ≡ with_commas binds ++ mark Close ∷ rest
+EndWithBinds binds words rest = words ≡ with_commas binds ++ mark_word Close ∷ rest
 
 -- the program types alone
 abbrev pub types_alone : List TextValue → Tree
@@ -53,18 +53,18 @@ types_alone types = record { programs = programs_of types; name = []; resources 
 
 -- each name once, and at most 1,000
 pub record AreVariables (variables : List Declaration) : Type 0 where
-  pub apart : AreApart (map (λ v. v.name) variables)
+  pub apart : AreNamesApart (map (λ v. v.name) variables)
   pub few : length variables ≤ 1000
 
 -- program types: at most 64, their names apart, and each lawful
 pub record AreProgramsDeclared (programs : List Program) : Type 0 where
   pub few : length programs ≤ 64
-  pub apart : AreApart (map (λ p. p.name) programs)
+  pub apart : AreNamesApart (map (λ p. p.name) programs)
   pub declared : All IsProgramLawful programs
 
 -- nothing in the list has this name
 abbrev pub IsNew : {A : Type 0} → (A → List ℕ) → List A → List ℕ → Type 0
-IsNew name_of xs name = IsTaken name_of xs name → ⊥
+IsNew name_of xs name = IsNameTaken name_of xs name → ⊥
 
 abbrev pub is_task_line : Item → Bool
 is_task_line (item.Task t) = true
@@ -72,21 +72,23 @@ is_task_line (item.Use u) = false
 
 -- a task or an instance that may follow these
 abbrev pub MayFollow : Tree → List Item → Item → Type 0
-MayFollow tree before (item.Task t) = IsNew (λ t. t.name) (flat_map task_of before) t.name × (length (flat_map task_of before) < 16) × (0 < t.interval)
-MayFollow tree before (item.Use u) = IsNew (λ u. u.instance) (flat_map use_of before) u.instance × IsUseLawful tree before u
+MayFollow tree before (item.Task t) =
+    IsNew (λ t. t.name) (flat_map task_of before) t.name × (length (flat_map task_of before) < 16) × (0 < t.interval)
+MayFollow tree before (item.Use u) =
+    IsNew (λ u. u.instance) (flat_map use_of before) u.instance × IsUseLawful tree before u
 
 -- the lines of a resource: at most 16 tasks, none of interval 0, names apart, and lawful instances
 pub record AreItemsLawful (tree : Tree) (items : List Item) : Type 0 where
-  pub tasks_apart : AreApart (map (λ t. t.name) (flat_map task_of items))
+  pub tasks_apart : AreNamesApart (map (λ t. t.name) (flat_map task_of items))
   pub few_tasks : length (flat_map task_of items) ≤ 16
   pub intervals : All (λ t. 0 < t.interval) (flat_map task_of items)
-  pub instances_apart : AreApart (map (λ u. u.instance) (flat_map use_of items))
+  pub instances_apart : AreNamesApart (map (λ u. u.instance) (flat_map use_of items))
   pub uses_lawful : (k : ℕ) (u : Use) → slice_get items k ≡ Some (item.Use u) → IsUseLawful tree (take k items) u
 
 -- resources: at most 16, their names apart, and each lawful
 pub record AreResourcesLawful (tree : Tree) (resources : List Resource) : Type 0 where
   pub few : length resources ≤ 16
-  pub apart : AreApart (map (λ r. r.name) resources)
+  pub apart : AreNamesApart (map (λ r. r.name) resources)
   pub lawful : All (IsResourceLawful tree) resources
 
 -- the kind of the input of this name
@@ -104,4 +106,6 @@ IsOfInputKind ds b = (kind : Kind) × (input_kind_of ds b.input ≡ Some kind) �
 
 -- the place of the input of this name, with its kind; none where the name is no input's
 abbrev pub FindsInput : List Declaration → List ℕ → Option (ℕ × Kind) → Type 0
-FindsInput ds name found = MatchOption found (input_kind_of ds name ≡ None) (λ x. (place_of ds name ≡ Some x.0) × (input_kind_at ds x.0 ≡ Some x.1))
+FindsInput ds name found =
+    MatchOption found (input_kind_of ds name ≡ None)
+    (λ x. (place_of ds name ≡ Some x.0) × (input_kind_at ds x.0 ≡ Some x.1))

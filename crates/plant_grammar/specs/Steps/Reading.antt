@@ -5,7 +5,6 @@ use Rattle.plant_grammar.specs.declared.grammar.tree.Program.{Program}
 use Rattle.plant_grammar.specs.declared.grammar.tree.Resource.{Resource}
 use Rattle.plant_text.specs.declared.token.Token.{Token}
 use Rattle.plant_grammar.specs.Grammar.{Tree, TextValue, program_words, words_of}
-use Rattle.plant_grammar.specs.Grammar.{TextValue}
 use Rattle.plant_grammar.specs.Lawful.{IsTreeLawful}
 use Rattle.plant_grammar.specs.Steps.Lines.{ReaderValue}
 
@@ -33,12 +32,21 @@ AreSameWords some words others rest = all_words some words ≡ all_words others 
 abbrev pub AreSameLines : List TextValue → List ℕ → List TextValue → List ℕ → Type 0
 AreSameLines some lines others more = all_lines some lines ≡ all_lines others more
 
+-- the words of the one programs and those behind them begin with the words of the others
+abbrev pub BeginWithWordsOf : List TextValue → List Token → List TextValue → Type 0
+BeginWithWordsOf some words others = (rest : List Token) × AreSameWords some words others rest
+
+-- the lines of the bodies of the one programs and those behind them begin with those of the others
+abbrev pub BeginWithLinesOf : List TextValue → List ℕ → List TextValue → Type 0
+BeginWithLinesOf some lines others = (more : List ℕ) × AreSameLines some lines others more
+
 -- what is written, under the configuration's name
 abbrev pub tree_written : List ℕ → List TextValue → List Resource → Tree
 tree_written name texts resources = record { programs = programs_of texts; name = name; resources = resources }
 
 -- The words begin with those of a lawful tree of these programs and resources, and the rest is left.
-pub record IsTreeOf (words : List Token) (texts : List TextValue) (resources : List Resource) (rest : List Token) : Type 0 where
+pub record IsTreeOf (words : List Token) (texts : List TextValue) (resources : List Resource)
+    (rest : List Token) : Type 0 where
   pub name : List ℕ
   pub written : words ≡ words_of (tree_written name texts resources) ++ rest
   pub lawful : IsTreeLawful (tree_written name texts resources)

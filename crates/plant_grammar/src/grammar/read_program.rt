@@ -1,7 +1,7 @@
 //! The rules of the grammar from names to programs.
 
-ghost use Rattle.std.specs.Prelude.{◌≡◌, ◌∷◌, ◌++◌, ◌+◌, ◌<◌, ◌≤◌, ◌⊎◌, ℕ, List, IfOk, OnOk, OnErr, IsTrue, IsFalse, All, length, IfErr};
-ghost use Rattle.plant_grammar.specs.WordFaults.{IsWordFault};
+ghost use Rattle.std.specs.Prelude.{◌≡◌, ◌∷◌, ◌++◌, ◌+◌, ◌<◌, IfOk, OnOk, OnErr, IsTrue, IsFalse, All, length, IfErr};
+ghost use Rattle.plant_grammar.specs.WordFaults.{IsGrammarFault};
 ghost use Rattle.std.specs.List.{flat_map};
 ghost use Rattle.plant_text.specs.declared.token.Token.TheVariants as token;
 ghost use Rattle.plant_grammar.specs.Grammar.{section_word, kind_word, type_word, name_words, list_words, lists_words, block_words, program_words};
@@ -10,7 +10,7 @@ ghost use Rattle.plant_grammar.specs.NameFaults.{TellsOfName, RefusesVariable, R
 ghost use Rattle.plant_grammar.specs.Steps.Declaring.{TellsOfType, TellsOfVariable, BeginRefused};
 ghost use Rattle.plant_grammar.specs.Steps.Lines.{IsOneNext, IsNoneNext};
 ghost use Rattle.plant_grammar.specs.Steps.ReadParts.{IsNew, AreProgramsDeclared};
-ghost use Rattle.plant_grammar.specs.Steps.Reading.{programs_of, all_words, AreSameWords, AreSameLines};
+ghost use Rattle.plant_grammar.specs.Steps.Reading.{programs_of, all_words, AreSameWords, AreSameLines, BeginWithWordsOf, BeginWithLinesOf};
 
 use crate::grammar::known_names::{check_new, is_program};
 use crate::grammar::name::Name;
@@ -27,8 +27,6 @@ use std::alloc::Global;
 const MOST_TYPES: usize = 64;
 
 impl<'a> Reader<'a> {
-    ghost use Rattle.plant_text.specs.declared.token.Token.{Token};
-
     /// A further name of a program, behind the variables and the names of the same list.
     fn variable(
         &mut self,
@@ -39,7 +37,7 @@ impl<'a> Reader<'a> {
         ensures ok { IfOk result (λ name. self.old.words ≡ token.Name name ∷ self.new.words) }
         ensures bodies { OnOk result (self.new.bodies ≡ self.old.bodies) }
         ensures tells { IfErr result (TellsOfVariable variables.now before.now self.old.words) }
-        ensures value { IfErr result IsWordFault }
+        ensures value { IfErr result IsGrammarFault }
     {
         let name = self.name(alloc)?;
         variables.check(before, &name)?;
@@ -53,7 +51,7 @@ impl<'a> Reader<'a> {
         ensures bodies { OnOk result (self.new.bodies ≡ self.old.bodies) }
         ensures some { IfOk result (λ names. 0 < length names.items) }
         ensures names { IfErr result (BeginRefused (λ k. RefusesVariable k variables.now) self.old.words) }
-        ensures value { IfErr result IsWordFault }
+        ensures value { IfErr result IsGrammarFault }
     {
         let mut names = Vec::new(alloc);
         names.push(self.variable(alloc, variables, &names)?)?;
@@ -69,7 +67,7 @@ impl<'a> Reader<'a> {
         ensures ok { IfOk result (λ kind. self.old.words ≡ kind_word kind ∷ self.new.words) }
         ensures bodies { OnOk result (self.new.bodies ≡ self.old.bodies) }
         ensures tells { IfErr result (λ e. TellsOfName e.kind ⊥ ⊥) }
-        ensures value { IfErr result IsWordFault }
+        ensures value { IfErr result IsGrammarFault }
     {
         if self.sees_keyword(Keyword::Int) {
             self.keyword(Keyword::Int)?;
@@ -89,7 +87,7 @@ impl<'a> Reader<'a> {
         ensures bodies { OnOk result (self.new.bodies ≡ self.old.bodies) }
         ensures lawful { IfOk result (λ t. IsTypeLawful section t) }
         ensures tells { IfErr result (λ e. TellsOfName e.kind ⊥ ⊥) }
-        ensures value { IfErr result IsWordFault }
+        ensures value { IfErr result IsGrammarFault }
     {
         if !self.sees_block_type() {
             return Ok(TypeName::Elementary(self.kind()?));
@@ -113,7 +111,7 @@ impl<'a> Reader<'a> {
         ensures declared { IfOk result (λ l. variables.new ≡ variables.old ++ list_variables section l) }
         ensures lawful { IfOk result (λ l. IsListLawful section l) }
         ensures names { IfErr result (BeginRefused (λ k. RefusesVariable k variables.old) self.old.words) }
-        ensures value { IfErr result IsWordFault }
+        ensures value { IfErr result IsGrammarFault }
     {
         let names = self.names(alloc, variables)?;
         self.punctuation(Punctuation::Colon)?;
@@ -137,7 +135,7 @@ impl<'a> Reader<'a> {
         ensures declared { IfOk result (λ ls. variables.new ≡ variables.old ++ lists_variables section ls.items) }
         ensures lawful { IfOk result (λ ls. All (IsListLawful section) ls.items) }
         ensures names { IfErr result (BeginRefused (λ k. RefusesList k section variables.old) self.old.words) }
-        ensures value { IfErr result IsWordFault }
+        ensures value { IfErr result IsGrammarFault }
     {
         let mut lists = Vec::new(alloc);
         'lists: while !self.sees_keyword(Keyword::EndVar) {
@@ -163,7 +161,7 @@ impl<'a> Reader<'a> {
         ensures ok { IfOk result (λ s. self.old.words ≡ section_word s ∷ self.new.words) }
         ensures bodies { OnOk result (self.new.bodies ≡ self.old.bodies) }
         ensures tells { IfErr result (λ e. TellsOfName e.kind ⊥ ⊥) }
-        ensures value { IfErr result IsWordFault }
+        ensures value { IfErr result IsGrammarFault }
     {
         if self.sees_keyword(Keyword::VarInput) {
             self.keyword(Keyword::VarInput)?;
@@ -185,7 +183,7 @@ impl<'a> Reader<'a> {
         ensures declared { IfOk result (λ b. variables.new ≡ variables.old ++ block_variables b) }
         ensures lawful { IfOk result (λ b. IsBlockLawful b) }
         ensures names { IfErr result (BeginRefused (λ k. RefusesBlock k variables.old) self.old.words) }
-        ensures value { IfErr result IsWordFault }
+        ensures value { IfErr result IsGrammarFault }
     {
         let section = self.section()?;
         let lists = self.lists(alloc, section, variables)?;
@@ -204,7 +202,7 @@ impl<'a> Reader<'a> {
         ensures declared { IfOk result (λ bs. variables.new ≡ variables.old ++ flat_map block_variables bs.items) }
         ensures lawful { IfOk result (λ bs. All IsBlockLawful bs.items) }
         ensures names { IfErr result (BeginRefused (λ k. RefusesBlocks k variables.old) self.old.words) }
-        ensures value { IfErr result IsWordFault }
+        ensures value { IfErr result IsGrammarFault }
     {
         let mut blocks = Vec::new(alloc);
         'sections: while self.sees_section() {
@@ -221,7 +219,7 @@ impl<'a> Reader<'a> {
         ensures new { IfOk result (λ name. IsNew (λ p. p.name) (programs_of before.now) name) }
         ensures few { OnOk result (length before.now < 64) }
         ensures tells { IfErr result (TellsOfType before.now self.old.words) }
-        ensures value { IfErr result IsWordFault }
+        ensures value { IfErr result IsGrammarFault }
     {
         let name = self.name(alloc)?;
         check_new(&name, is_program(before, &name), before.len() >= MOST_TYPES)?;
@@ -241,7 +239,7 @@ impl<'a> Reader<'a> {
         ensures few { OnOk result (length before.now < 64) }
         ensures declared { IfOk result (λ p. IsProgramLawful p.program) }
         ensures names { IfErr result (BeginRefused (λ k. RefusesProgram k (programs_of before.now)) self.old.words) }
-        ensures value { IfErr result IsWordFault }
+        ensures value { IfErr result IsGrammarFault }
     {
         self.keyword(Keyword::Program)?;
         let name = self.new_type(alloc, before)?;
@@ -263,12 +261,12 @@ impl<'a> Reader<'a> {
     ) -> Result<(), GrammarFault>
         requires { AreProgramsDeclared (programs_of texts.old.items) }
         ensures ok { OnOk result (AreSameWords texts.old.items self.old.words texts.new.items self.new.words) }
-        ensures err { OnErr result ((rest : List Token) × AreSameWords texts.old.items self.old.words texts.new.items rest) }
+        ensures err { OnErr result (BeginWithWordsOf texts.old.items self.old.words texts.new.items) }
         ensures lines { OnOk result (AreSameLines texts.old.items self.old.bodies texts.new.items self.new.bodies) }
-        ensures err_lines { OnErr result ((more : List ℕ) × AreSameLines texts.old.items self.old.bodies texts.new.items more) }
+        ensures err_lines { OnErr result (BeginWithLinesOf texts.old.items self.old.bodies texts.new.items) }
         ensures declared { AreProgramsDeclared (programs_of texts.new.items) }
         ensures names { IfErr result (BeginRefused RefusesPrograms (all_words texts.old.items self.old.words)) }
-        ensures value { IfErr result IsWordFault }
+        ensures value { IfErr result IsGrammarFault }
     {
         'programs: while self.sees_keyword(Keyword::Program) {
             let text = self.program(alloc, texts.as_slice())?;

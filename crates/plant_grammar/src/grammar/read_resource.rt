@@ -1,18 +1,16 @@
 //! The rules of the grammar from tasks to resources.
 
-ghost use Rattle.std.specs.Prelude.{◌≡◌, ◌⊎◌, [], ◌∷◌, ◌++◌, ◌+◌, ◌<◌, ◌≤◌, IfOk, OnOk, All, Any, Some, map, length, IsTrue, IfErr};
-ghost use Rattle.plant_grammar.specs.WordFaults.{IsWordFault};
+ghost use Rattle.std.specs.Prelude.{◌≡◌, [], ◌∷◌, ◌++◌, ◌+◌, ◌<◌, IfOk, OnOk, Any, map, length, IsTrue, IfErr};
+ghost use Rattle.plant_grammar.specs.WordFaults.{IsGrammarFault};
 ghost use Rattle.std.specs.List.{flat_map};
 ghost use Rattle.plant_text.specs.declared.token.Token.TheVariants as token;
-ghost use Rattle.plant_text.specs.declared.token.Keyword.TheVariants as key;
-ghost use Rattle.plant_grammar.specs.Grammar.{interval_words, priority_words, settings, task_words, source_words, bind_words, with_commas, binds_words, listed, use_words, item_words, items_words, resource_words, resources_words};
-ghost use Rattle.plant_grammar.specs.Names.{is_named, AreApart};
-ghost use Rattle.plant_grammar.specs.Lawful.{variables, task_of, use_of, uses_of, binds_of, IsUseLawful, IsResourceLawful};
+ghost use Rattle.plant_grammar.specs.Grammar.{interval_words, priority_words, settings, task_words, source_words, bind_words, binds_words, binds_listed, use_words, item_words, items_words, resource_words, resources_words};
+ghost use Rattle.plant_grammar.specs.Names.{is_named, AreNamesApart};
+ghost use Rattle.plant_grammar.specs.Lawful.{variables, task_of, use_of, uses_of, IsUseLawful, IsResourceLawful};
 ghost use Rattle.plant_grammar.specs.NameFaults.{TellsOfName, RefusesTask, RefusesBind};
 ghost use Rattle.plant_grammar.specs.Steps.Declaring.{TellsOfTask, TellsOfInstance, TellsOfBind, TellsOfResource, BeginRefused, RefusesFurtherInstance, RefusesItem, RefusesFurtherItems, RefusesFurtherResource, RefusesFurtherResources, RefusesInParentheses};
 ghost use Rattle.plant_grammar.specs.Steps.ReadParts.{types_alone, with_instance, with_binds, tally_with, EndWithBinds, bound_in, HasFieldKind, IsOfInputKind, IsNew, MayFollow, AreItemsLawful, AreResourcesLawful};
-ghost use Rattle.plant_grammar.specs.declared.grammar.tree.Item.TheVariants as item;
-ghost use Rattle.plant_grammar.specs.Kinds.{items_or_none, kind_of_space};
+ghost use Rattle.plant_grammar.specs.Kinds.{kind_of_space};
 
 use crate::grammar::known_names::{
     check_new, count_tasks, input_kind, is_bound, is_instance, is_resource, is_task, program_named,
@@ -40,7 +38,7 @@ impl<'a> Reader<'a> {
         ensures ok { IfOk result (λ n. self.old.words ≡ interval_words n ++ self.new.words) }
         ensures positive { IfOk result (λ n. 0 < n) }
         ensures tells { IfErr result (λ e. TellsOfName e.kind ⊥ ⊥) }
-        ensures value { IfErr result IsWordFault }
+        ensures value { IfErr result IsGrammarFault }
     {
         self.keyword(Keyword::Interval)?;
         self.punctuation(Punctuation::Assign)?;
@@ -57,7 +55,7 @@ impl<'a> Reader<'a> {
     fn priority(&mut self) -> Result<u16, GrammarFault>
         ensures ok { IfOk result (λ n. self.old.words ≡ priority_words n ++ self.new.words) }
         ensures tells { IfErr result (λ e. TellsOfName e.kind ⊥ ⊥) }
-        ensures value { IfErr result IsWordFault }
+        ensures value { IfErr result IsGrammarFault }
     {
         self.keyword(Keyword::Priority)?;
         self.punctuation(Punctuation::Assign)?;
@@ -69,7 +67,7 @@ impl<'a> Reader<'a> {
         ensures ok { IfOk result (λ s. self.old.words ≡ settings s.0 s.1 s.2 ++ self.new.words) }
         ensures positive { IfOk result (λ s. 0 < s.1) }
         ensures tells { IfErr result (λ e. TellsOfName e.kind ⊥ ⊥) }
-        ensures value { IfErr result IsWordFault }
+        ensures value { IfErr result IsGrammarFault }
     {
         if self.sees_keyword(Keyword::Interval) {
             let interval = self.interval()?;
@@ -90,7 +88,7 @@ impl<'a> Reader<'a> {
         ensures new { IfOk result (λ name. IsNew (λ t. t.name) (flat_map task_of before.now) name) }
         ensures few { OnOk result (length (flat_map task_of before.now) < 16) }
         ensures tells { IfErr result (TellsOfTask before.now self.old.words) }
-        ensures value { IfErr result IsWordFault }
+        ensures value { IfErr result IsGrammarFault }
     {
         let name = self.name(alloc)?;
         check_new(
@@ -109,7 +107,7 @@ impl<'a> Reader<'a> {
         ensures few { OnOk result (length (flat_map task_of before.now) < 16) }
         ensures positive { IfOk result (λ t. 0 < t.interval) }
         ensures names { IfErr result (BeginRefused (λ k. RefusesTask k before.now) self.old.words) }
-        ensures value { IfErr result IsWordFault }
+        ensures value { IfErr result IsGrammarFault }
     {
         self.keyword(Keyword::Task)?;
         let name = self.task_name(alloc, before)?;
@@ -130,7 +128,7 @@ impl<'a> Reader<'a> {
         ensures ok { IfOk result (λ a. self.old.words ≡ token.Address a ∷ self.new.words) }
         ensures kind { IfOk result (λ a. kind_of_space a.space ≡ kind) }
         ensures tells { IfErr result (λ e. TellsOfName e.kind ⊥ ⊥) }
-        ensures value { IfErr result IsWordFault }
+        ensures value { IfErr result IsGrammarFault }
     {
         let other = GrammarFault::at(GrammarFaultKind::WrongKind, self.line());
         let address = self.address()?;
@@ -146,7 +144,7 @@ impl<'a> Reader<'a> {
         ensures ok { IfOk result (λ s. self.old.words ≡ source_words s ++ self.new.words) }
         ensures kind { IfOk result (HasFieldKind kind) }
         ensures tells { IfErr result (λ e. TellsOfName e.kind ⊥ ⊥) }
-        ensures value { IfErr result IsWordFault }
+        ensures value { IfErr result IsGrammarFault }
     {
         if self.sees_address() {
             Ok(SourceName::Field(self.address_of(kind)?))
@@ -178,7 +176,7 @@ impl<'a> Reader<'a> {
         ensures kind { IfOk result (IsOfInputKind (variables program.now.program)) }
         ensures tally { OnOk result (tally.new ≡ with_binds tally.old 1) }
         ensures tells { IfErr result (TellsOfBind tally.old.binds self.old.words) }
-        ensures value { IfErr result IsWordFault }
+        ensures value { IfErr result IsGrammarFault }
     {
         let input = self.name(alloc)?;
         let Some(kind) = input_kind(program, &input) else {
@@ -202,10 +200,10 @@ impl<'a> Reader<'a> {
         tally: &mut Tally,
     ) -> Result<Vec<Bind>, GrammarFault>
         ensures ok { IfOk result (λ binds. EndWithBinds binds.items self.old.words self.new.words) }
-        ensures apart { IfOk result (λ binds. AreApart (map (λ b. b.input) binds.items)) }
+        ensures apart { IfOk result (λ binds. AreNamesApart (map (λ b. b.input) binds.items)) }
         ensures tally { IfOk result (λ binds. tally.new ≡ with_binds tally.old (length binds.items)) }
         ensures names { IfErr result (BeginRefused (λ k. RefusesBind k tally.old.binds) self.old.words) }
-        ensures value { IfErr result IsWordFault }
+        ensures value { IfErr result IsGrammarFault }
     {
         let mut binds = Vec::new(alloc);
         if !self.sees_punctuation(Punctuation::Close) {
@@ -227,11 +225,11 @@ impl<'a> Reader<'a> {
         program: &ProgramText,
         tally: &mut Tally,
     ) -> Result<Option<Vec<Bind>>, GrammarFault>
-        ensures ok { IfOk result (λ binds. self.old.words ≡ binds_words (listed binds) ++ self.new.words) }
-        ensures apart { IfOk result (λ binds. AreApart (map (λ b. b.input) (bound_in binds))) }
+        ensures ok { IfOk result (λ binds. self.old.words ≡ binds_words (binds_listed binds) ++ self.new.words) }
+        ensures apart { IfOk result (λ binds. AreNamesApart (map (λ b. b.input) (bound_in binds))) }
         ensures tally { IfOk result (λ binds. tally.new ≡ with_binds tally.old (length (bound_in binds))) }
         ensures names { IfErr result (BeginRefused (RefusesInParentheses tally.old.binds) self.old.words) }
-        ensures value { IfErr result IsWordFault }
+        ensures value { IfErr result IsGrammarFault }
     {
         if self.sees_punctuation(Punctuation::Open) {
             self.punctuation(Punctuation::Open)?;
@@ -252,7 +250,7 @@ impl<'a> Reader<'a> {
         ensures new { IfOk result (λ name. IsNew (λ u. u.instance) (flat_map use_of before.now) name) }
         ensures tally { OnOk result (tally.new ≡ with_instance tally.old) }
         ensures tells { IfErr result (TellsOfInstance before.now tally.old.instances self.old.words) }
-        ensures value { IfErr result IsWordFault }
+        ensures value { IfErr result IsGrammarFault }
     {
         let name = self.name(alloc)?;
         check_new(&name, is_instance(before, &name), false)?;
@@ -265,7 +263,7 @@ impl<'a> Reader<'a> {
         ensures ok { IfOk result (λ name. self.old.words ≡ token.Name name ∷ self.new.words) }
         ensures known { IfOk result (λ name. Any (λ t. IsTrue (is_named name t.name)) (flat_map task_of before.now)) }
         ensures tells { IfErr result (λ e. TellsOfName e.kind ⊥ ⊥) }
-        ensures value { IfErr result IsWordFault }
+        ensures value { IfErr result IsGrammarFault }
     {
         let name = self.name(alloc)?;
         if is_task(before, &name) {
@@ -289,7 +287,7 @@ impl<'a> Reader<'a> {
         ensures lawful { IfOk result (λ u. IsUseLawful (types_alone types.now) before.now u) }
         ensures tally { IfOk result (λ u. tally.new ≡ tally_with tally.old (u ∷ [])) }
         ensures names { IfErr result (BeginRefused (RefusesFurtherInstance tally.old before.now) self.old.words) }
-        ensures value { IfErr result IsWordFault }
+        ensures value { IfErr result IsGrammarFault }
     {
         self.keyword(Keyword::Program)?;
         let instance = self.instance_name(alloc, before, tally)?;
@@ -323,7 +321,7 @@ impl<'a> Reader<'a> {
         ensures lawful { IfOk result (λ x. MayFollow (types_alone types.now) before.now x) }
         ensures tally { IfOk result (λ x. tally.new ≡ tally_with tally.old (use_of x)) }
         ensures names { IfErr result (BeginRefused (RefusesItem tally.old before.now) self.old.words) }
-        ensures value { IfErr result IsWordFault }
+        ensures value { IfErr result IsGrammarFault }
     {
         if self.sees_keyword(Keyword::Task) {
             Ok(Item::Task(self.task(alloc, before)?))
@@ -344,7 +342,7 @@ impl<'a> Reader<'a> {
         ensures lawful { IfOk result (λ xs. AreItemsLawful (types_alone types.now) xs.items) }
         ensures tally { IfOk result (λ xs. tally.new ≡ tally_with tally.old (flat_map use_of xs.items)) }
         ensures names { IfErr result (BeginRefused (RefusesFurtherItems tally.old) self.old.words) }
-        ensures value { IfErr result IsWordFault }
+        ensures value { IfErr result IsGrammarFault }
     {
         let mut items = Vec::new(alloc);
         'items: while !self.sees_keyword(Keyword::EndResource) {
@@ -361,7 +359,7 @@ impl<'a> Reader<'a> {
         ensures new { IfOk result (λ name. IsNew (λ r. r.name) before.now name) }
         ensures few { OnOk result (length before.now < 16) }
         ensures tells { IfErr result (TellsOfResource before.now self.old.words) }
-        ensures value { IfErr result IsWordFault }
+        ensures value { IfErr result IsGrammarFault }
     {
         let name = self.name(alloc)?;
         check_new(
@@ -387,7 +385,7 @@ impl<'a> Reader<'a> {
         ensures lawful { IfOk result (λ r. IsResourceLawful (types_alone types.now) r) }
         ensures tally { IfOk result (λ r. tally.new ≡ tally_with tally.old (uses_of r)) }
         ensures names { IfErr result (BeginRefused (RefusesFurtherResource tally.old before.now) self.old.words) }
-        ensures value { IfErr result IsWordFault }
+        ensures value { IfErr result IsGrammarFault }
     {
         self.keyword(Keyword::Resource)?;
         let name = self.resource_name(alloc, before)?;
@@ -410,7 +408,7 @@ impl<'a> Reader<'a> {
         ensures lawful { IfOk result (λ rs. AreResourcesLawful (types_alone types.now) rs.items) }
         ensures tally { IfOk result (λ rs. tally.new ≡ tally_with tally.old (flat_map uses_of rs.items)) }
         ensures names { IfErr result (BeginRefused (RefusesFurtherResources tally.old) self.old.words) }
-        ensures value { IfErr result IsWordFault }
+        ensures value { IfErr result IsGrammarFault }
     {
         let mut resources = Vec::new(alloc);
         'resources: while resources.is_empty() || !self.sees_keyword(Keyword::EndConfiguration) {

@@ -1,8 +1,8 @@
 //! The words of a plant's text, up to the word that ends its configuration.
 
 ghost use Rattle.std.specs.Prelude.{◌≡◌, [], IfOk, IfErr};
-ghost use Rattle.plant_grammar.specs.WordFaults.{IsWordFault};
-ghost use Rattle.plant_grammar.specs.Steps.Declaring.{BeginRefused, RefusesPlant};
+ghost use Rattle.plant_grammar.specs.WordFaults.{IsGrammarFault};
+ghost use Rattle.plant_grammar.specs.Steps.Declaring.{BeginRefused, RefusesPlantWords};
 ghost use Rattle.plant_grammar.specs.Steps.Reading.{IsTreeOf, BeginWithTexts};
 
 use crate::grammar::program_text::ProgramText;
@@ -25,8 +25,8 @@ pub fn read_tree<'a>(
     requires { texts.old.items ≡ [] }
     ensures ok { IfOk result (λ resources. IsTreeOf reader.old.words texts.new.items resources.items reader.new.words) }
     ensures texts { BeginWithTexts reader.old texts.new.items }
-    ensures value { IfErr result IsWordFault }
-    ensures name { IfErr result (BeginRefused RefusesPlant reader.old.words) }
+    ensures value { IfErr result IsGrammarFault }
+    ensures name { IfErr result (BeginRefused RefusesPlantWords reader.old.words) }
 {
     reader.programs(alloc, texts)?;
     reader.keyword(Keyword::Configuration)?;

@@ -1,9 +1,9 @@
 ghost use Rattle.std.specs.Prelude.{◌≡◌, ◌≢◌, ◌∷◌, List, OnOk, IfOk, OnErr, IfErr, IsTrue, IsFalse};
-ghost use Rattle.plant_grammar.specs.WordFaults.{IsWordFault};
+ghost use Rattle.plant_grammar.specs.WordFaults.{IsGrammarFault};
 ghost use Rattle.plant_text.specs.declared.token.Token.TheVariants as token;
 ghost use Rattle.plant_grammar.specs.declared.grammar_fault.GrammarFaultKind.TheVariants.{Memory};
 ghost use Rattle.plant_grammar.specs.NameFaults.{TellsOfName};
-ghost use Rattle.plant_grammar.specs.Steps.Lines.{all_left, next_line, syntax_at, behind, IsLeft, IsNext, IsNotNext, IsOneNext, IsNoneNext, TellsNext};
+ghost use Rattle.plant_grammar.specs.Steps.Lines.{all_left, next_line, syntax_at, behind, IsLeft, IsWordNext, IsNotNext, IsOneNext, IsNoneNext, TellsNext};
 
 use crate::grammar::name::Name;
 use crate::grammar_fault::{GrammarFault, GrammarFaultKind};
@@ -31,9 +31,8 @@ impl<'a> Model for Reader<'a> {
 }
 
 impl<'a> Reader<'a> {
-    ghost use Rattle.std.specs.Prelude.{[], ℕ};
+    ghost use Rattle.std.specs.Prelude.{[]};
     ghost use Rattle.plant_text.specs.declared.token.Token.{Token};
-    ghost use Rattle.plant_text.specs.declared.address.Address.{Address};
     ghost use Rattle.std_blocks.specs.declared.block_type.BlockType.{BlockType};
 
     /// A reader of all the words of a text that ends on a line.
@@ -86,7 +85,7 @@ impl<'a> Reader<'a> {
         ensures ok { OnOk result (self.now.words ≡ []) }
         ensures err { IfErr result (λ e. (e ≡ syntax_at self.now) × (self.now.words ≢ [])) }
         ensures tells { IfErr result (λ e. TellsOfName e.kind ⊥ ⊥) }
-        ensures value { IfErr result IsWordFault }
+        ensures value { IfErr result IsGrammarFault }
     {
         match self.words {
             [] => Ok(()),
@@ -101,7 +100,7 @@ impl<'a> Reader<'a> {
         ensures err { IfErr result (λ e. (e ≡ syntax_at self.old) × (self.new ≡ self.old)) }
         ensures other { OnErr result (IsNotNext (token.Keyword keyword) self.old.words) }
         ensures tells { IfErr result (λ e. TellsOfName e.kind ⊥ ⊥) }
-        ensures value { IfErr result IsWordFault }
+        ensures value { IfErr result IsGrammarFault }
     {
         if !self.sees_keyword(keyword) {
             return Err(self.syntax());
@@ -117,7 +116,7 @@ impl<'a> Reader<'a> {
         ensures err { IfErr result (λ e. (e ≡ syntax_at self.old) × (self.new ≡ self.old)) }
         ensures other { OnErr result (IsNotNext (token.Punctuation punctuation) self.old.words) }
         ensures tells { IfErr result (λ e. TellsOfName e.kind ⊥ ⊥) }
-        ensures value { IfErr result IsWordFault }
+        ensures value { IfErr result IsGrammarFault }
     {
         if !self.sees_punctuation(punctuation) {
             return Err(self.syntax());
@@ -133,7 +132,7 @@ impl<'a> Reader<'a> {
         ensures err { IfErr result (λ e. e.kind ≢ Memory → e ≡ syntax_at self.old) }
         ensures kept { OnErr result (self.new ≡ self.old) }
         ensures tells { IfErr result (λ e. TellsOfName e.kind ⊥ ⊥) }
-        ensures value { IfErr result IsWordFault }
+        ensures value { IfErr result IsGrammarFault }
     {
         match self.peek() {
             Some(Token::Name(text)) => {
@@ -152,7 +151,7 @@ impl<'a> Reader<'a> {
         ensures err { IfErr result (λ e. e.kind ≢ Memory → e ≡ syntax_at self.old) }
         ensures kept { OnErr result (self.new ≡ self.old) }
         ensures tells { IfErr result (λ e. TellsOfName e.kind ⊥ ⊥) }
-        ensures value { IfErr result IsWordFault }
+        ensures value { IfErr result IsGrammarFault }
     {
         match self.peek() {
             Some(Token::Body(text)) => {
@@ -170,7 +169,7 @@ impl<'a> Reader<'a> {
         ensures err { IfErr result (λ e. (e ≡ syntax_at self.old) × (self.new ≡ self.old)) }
         ensures other { OnErr result (IsNoneNext token.Duration self.old.words) }
         ensures tells { IfErr result (λ e. TellsOfName e.kind ⊥ ⊥) }
-        ensures value { IfErr result IsWordFault }
+        ensures value { IfErr result IsGrammarFault }
     {
         match self.peek() {
             Some(Token::Duration(n)) => {
@@ -187,7 +186,7 @@ impl<'a> Reader<'a> {
         ensures err { IfErr result (λ e. (e ≡ syntax_at self.old) × (self.new ≡ self.old)) }
         ensures other { OnErr result (IsNoneNext token.Number self.old.words) }
         ensures tells { IfErr result (λ e. TellsOfName e.kind ⊥ ⊥) }
-        ensures value { IfErr result IsWordFault }
+        ensures value { IfErr result IsGrammarFault }
     {
         match self.peek() {
             Some(Token::Number(n)) => {
@@ -204,7 +203,7 @@ impl<'a> Reader<'a> {
         ensures err { IfErr result (λ e. (e ≡ syntax_at self.old) × (self.new ≡ self.old)) }
         ensures other { OnErr result (IsNoneNext token.Address self.old.words) }
         ensures tells { IfErr result (λ e. TellsOfName e.kind ⊥ ⊥) }
-        ensures value { IfErr result IsWordFault }
+        ensures value { IfErr result IsGrammarFault }
     {
         match self.peek() {
             Some(Token::Address(address)) => {
@@ -222,7 +221,7 @@ impl<'a> Reader<'a> {
         ensures err { IfErr result (λ e. (e ≡ syntax_at self.old) × (self.new ≡ self.old)) }
         ensures other { OnErr result ((b : BlockType) (rest : List Token) → self.old.words ≡ token.Block b ∷ rest → ⊥) }
         ensures tells { IfErr result (λ e. TellsOfName e.kind ⊥ ⊥) }
-        ensures value { IfErr result IsWordFault }
+        ensures value { IfErr result IsGrammarFault }
     {
         match self.peek() {
             Some(Token::Block(block)) => {
@@ -235,7 +234,7 @@ impl<'a> Reader<'a> {
 
     /// Whether the next word is a keyword.
     pub fn sees_keyword(&self, keyword: Keyword) -> bool
-        ensures yes { IsTrue result → IsNext (token.Keyword keyword) self.now.words }
+        ensures yes { IsTrue result → IsWordNext (token.Keyword keyword) self.now.words }
         ensures no { IsFalse result → IsNotNext (token.Keyword keyword) self.now.words }
     {
         match self.words {
@@ -246,7 +245,7 @@ impl<'a> Reader<'a> {
 
     /// Whether the next word is a mark.
     pub fn sees_punctuation(&self, punctuation: Punctuation) -> bool
-        ensures yes { IsTrue result → IsNext (token.Punctuation punctuation) self.now.words }
+        ensures yes { IsTrue result → IsWordNext (token.Punctuation punctuation) self.now.words }
         ensures no { IsFalse result → IsNotNext (token.Punctuation punctuation) self.now.words }
     {
         match self.words {

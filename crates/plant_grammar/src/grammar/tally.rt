@@ -1,5 +1,5 @@
-ghost use Rattle.std.specs.Prelude.{◌≡◌, ◌≤◌, ◌+◌, OnOk, IfErr};
-ghost use Rattle.plant_grammar.specs.WordFaults.{IsWordFault};
+ghost use Rattle.std.specs.Prelude.{◌≡◌, ◌≤◌, OnOk, IfErr};
+ghost use Rattle.plant_grammar.specs.WordFaults.{IsGrammarFault};
 ghost use Rattle.plant_grammar.specs.declared.grammar_fault.GrammarFaultKind.TheVariants.{TooMany};
 
 use crate::grammar::name::Name;
@@ -63,7 +63,7 @@ impl Tally {
     pub fn add_instance(&mut self, name: &Name) -> Result<(), GrammarFault>
         ensures ok { OnOk result (self.new ≡ with_instance self.old) }
         ensures err { IfErr result (λ e. (e.kind ≡ TooMany) × (self.new ≡ self.old) × (self.old.instances ≡ 64)) }
-        ensures value { IfErr result IsWordFault }
+        ensures value { IfErr result IsGrammarFault }
     {
         if self.instances >= MOST_INSTANCES {
             return Err(GrammarFault::at(GrammarFaultKind::TooMany, name.line()));
@@ -76,7 +76,7 @@ impl Tally {
     pub fn add_bind(&mut self, input: &Name) -> Result<(), GrammarFault>
         ensures ok { OnOk result (self.new ≡ with_binds self.old 1) }
         ensures err { IfErr result (λ e. (e.kind ≡ TooMany) × (self.new ≡ self.old) × (self.old.binds ≡ 4096)) }
-        ensures value { IfErr result IsWordFault }
+        ensures value { IfErr result IsGrammarFault }
     {
         if self.binds >= MOST_BINDS {
             return Err(GrammarFault::at(GrammarFaultKind::TooMany, input.line()));

@@ -1,8 +1,8 @@
 ghost use Rattle.std.specs.Prelude.{◌≡◌, ◌↔◌, ◌+◌, ◌<◌, ◌≤◌, ◌++◌, [], ◌∷◌, List, IsTrue, OnOk, length, IfErr};
-ghost use Rattle.plant_grammar.specs.WordFaults.{IsWordFault};
+ghost use Rattle.plant_grammar.specs.WordFaults.{IsGrammarFault};
 ghost use Rattle.declared_names.specs.Names.{IsDeclared};
 ghost use Rattle.plant_grammar.specs.Lawful.{declared_as, list_variables};
-ghost use Rattle.plant_grammar.specs.NameFaults.{IsOfName, IsTaken};
+ghost use Rattle.plant_grammar.specs.NameFaults.{IsOfName, IsNameTaken};
 ghost use Rattle.plant_grammar.specs.Steps.Declaring.{TellsOfChecked, TellsOfAdded, RefusesOneOf};
 ghost use Rattle.plant_grammar.specs.Steps.ReadParts.{AreVariables, IsNew};
 
@@ -37,7 +37,7 @@ impl Model for Variables {
 
 /// Whether one of the names is this one.
 fn is_among(names: &[Name], name: &Name) -> bool
-    ensures { IsTrue result ↔ IsTaken (λ n. n) names.now name.now }
+    ensures { IsTrue result ↔ IsNameTaken (λ n. n) names.now name.now }
 {
     names.iter().any(|other| name.is_same(other))
 }
@@ -88,7 +88,7 @@ impl Variables {
         ensures new { OnOk result (IsNew (λ n. n) more.now name.now) }
         ensures few { OnOk result (length self.now + length more.now < 1000) }
         ensures tells { IfErr result (TellsOfChecked self.now more.now name.now) }
-        ensures value { IfErr result IsWordFault }
+        ensures value { IfErr result IsGrammarFault }
     {
         let is_full = more.len() >= MOST_NAMES - self.len();
         check_new(name, self.has(name) || is_among(more, name), is_full)
@@ -98,7 +98,7 @@ impl Variables {
     fn add(&mut self, name: &Name, declared: Declared) -> Result<(), GrammarFault>
         ensures ok { OnOk result (self.new ≡ self.old ++ record { name = name.now; declared = declared } ∷ []) }
         ensures tells { IfErr result (TellsOfAdded self.old name.now) }
-        ensures value { IfErr result IsWordFault }
+        ensures value { IfErr result IsGrammarFault }
     {
         if self.declarations.len() >= MOST_NAMES {
             return Err(GrammarFault::at(GrammarFaultKind::TooMany, name.line()));
@@ -118,7 +118,7 @@ impl Variables {
     pub fn add_list(&mut self, section: Section, list: &NameList) -> Result<(), GrammarFault>
         ensures ok { OnOk result (self.new ≡ self.old ++ list_variables section list.now) }
         ensures names { IfErr result (λ e. IsOfName e.kind → RefusesOneOf list.now.names.items self.old e.kind) }
-        ensures value { IfErr result IsWordFault }
+        ensures value { IfErr result IsGrammarFault }
     {
         let declared = declared_as(section, list.type_name);
         for name in &list.names {

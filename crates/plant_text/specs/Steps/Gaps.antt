@@ -22,7 +22,8 @@ behind_feed (c ∷ more) = if c == 10 then Some more else None
 abbrev pub behind_space : List ℕ → Option (List ℕ)
 behind_space [] = None
 behind_space (c ∷ more) =
-    if c == 32 || (c == 9 || c == 10) then Some more else (if c == 13 then behind_feed more else (if c == 40 then behind_star more else None))
+    if c == 32 || (c == 9 || c == 10) then Some more
+    else (if c == 13 then behind_feed more else (if c == 40 then behind_star more else None))
 
 -- What is left behind a gap, and begins with no further one.
 abbrev pub IsBehindGap : List ℕ → List ℕ → Type 0

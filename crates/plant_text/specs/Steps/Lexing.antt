@@ -1,12 +1,12 @@
 -- What the lexer asks of a text, and promises of one word.
-use Rattle.std.specs.Prelude.{ℕ, ◌-◌, min, take, length, MatchOption, ◌≡◌, ◌≢◌, ◌==◌, ◌&&◌, ◌||◌, Bool, true, false, List, [], ◌∷◌, ◌++◌, Option, Some, take_while}
+use Rattle.std.specs.Prelude.{ℕ, ◌+◌, ◌-◌, min, take, length, MatchOption, ◌≡◌, ◌≢◌, ◌==◌, ◌&&◌, ◌||◌, Bool, true, false, List, [], ◌∷◌, ◌++◌, Option, Some, take_while}
 use Rattle.std.specs.Str.{IsUtf8}
 use Rattle.plant_text.specs.declared.token.Token.{Token}
 use Rattle.plant_text.specs.declared.token.Token.TheVariants as token
 use Rattle.plant_text.specs.declared.token.Keyword.{Keyword}
 use Rattle.plant_text.specs.declared.token.Keyword.TheVariants as key
 use Rattle.plant_text.specs.Words.{is_name_char, word_of}
-use Rattle.plant_text.specs.Spelling.{is_parted, IsGap, IsLineEnd, IsBody, is_one_line, first_line, IsEndLine, Spells, BeginsWith}
+use Rattle.plant_text.specs.Spelling.{is_parted, IsGap, IsLineEnd, IsBody, is_one_line, first_line, IsEndLine, feeds, Spells, BeginsWith}
 use Rattle.plant_text.specs.Lines.{WordValue, body_line}
 
 -- a character of a word that begins with a letter or a digit; `#` stands in durations
@@ -32,7 +32,9 @@ may_run_on (c ∷ e ∷ more) = c == 40 && e == 42
 
 -- The text is a gap on one line, the line's end, and the rest.
 abbrev pub IsBlankLine : List ℕ → List ℕ → Type 0
-IsBlankLine text rest = (gap line_end : List ℕ) × (text ≡ gap ++ line_end ++ rest) × IsGap gap × (is_one_line gap ≡ true) × IsLineEnd line_end
+IsBlankLine text rest =
+    (gap line_end : List ℕ) × (text ≡ gap ++ line_end ++ rest)
+    × IsGap gap × (is_one_line gap ≡ true) × IsLineEnd line_end
 
 -- The text begins with no blank line.
 abbrev pub HasNoBlankLine : List ℕ → Type 0
@@ -83,16 +85,21 @@ abbrev pub IsFirstWord : List ℕ → Token → List ℕ → Type 0
 IsFirstWord text t rest = t ≢ token.Unknown → (more : List Token) → Spells rest more → Spells text (t ∷ more)
 
 -- the next word of the text and what is left behind it; none where only a gap is left
-abbrev pub IsNext : List ℕ → Option WordValue → List ℕ → Type 0
-IsNext text next rest = MatchOption next (IsGap text) (λ w. IsFirstWord text w.token rest)
+abbrev pub FindsFirstWord : List ℕ → Option WordValue → List ℕ → Type 0
+FindsFirstWord text next rest = MatchOption next (IsGap text) (λ w. IsFirstWord text w.token rest)
 
 -- what is left of a text, and the number of the line on which it begins
 pub record LexerValue : Type 0 where
   pub text : List ℕ
   pub line : ℕ
 
+-- the number of the line on which the rest of a text begins
+abbrev pub line_behind : LexerValue → List ℕ → ℕ
+line_behind l rest = min (l.line + feeds (part_before l.text rest)) 18446744073709551615
+
 -- If this is a word, the text begins with it, and then with what the rest begins with. Lines are counted on.
 abbrev pub StandsFirst : LexerValue → WordValue → LexerValue → Type 0
 StandsFirst old w new = w.token ≢ token.Unknown → (n : ℕ) → old.line ≡ min n 18446744073709551615
     → (m : ℕ) × (new.line ≡ min m 18446744073709551615)
-    × ((more : List Token) (lines : List ℕ) → BeginsWith m new.text more lines → BeginsWith n old.text (w.token ∷ more) (body_line w ++ lines))
+    × ((more : List Token) (lines : List ℕ) → BeginsWith m new.text more lines
+    → BeginsWith n old.text (w.token ∷ more) (body_line w ++ lines))

@@ -1,4 +1,4 @@
-use Rattle.std.proofs.Common.{◌≡◌, ◌<◌, List, length, map, ap, ◌∙◌, arith}
+use Rattle.std.proofs.Common.{◌<◌, List, length, map, ap, ◌∙◌, arith}
 use Rattle.std.specs.Global.{Vec}
 use Rattle.due_list.specs.declared.timing.Timing.{Timing}
 use Rattle.plant.specs.PlantValue.{TaskValue}

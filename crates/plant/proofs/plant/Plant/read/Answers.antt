@@ -10,12 +10,12 @@ use Rattle.plant_grammar.specs.Lawful.{IsTreeLawful}
 use Rattle.plant_grammar.specs.Steps.Lines.{ReaderValue}
 use Rattle.plant_grammar.specs.Steps.Reading.{tree_written}
 use Rattle.lists.proofs.Results.{kept_fault}
-use Rattle.plant.specs.Faults.{IsPlantFault, IsOfBody, IsOfName, fault_of_word}
+use Rattle.program_bodies.specs.Faults.{IsPlantFault, IsOfBody, IsOfDeclaredName, fault_of_word}
 use Rattle.plant.specs.PlantText.{IsBodyFaultIn, IsNameFaultIn}
 use Rattle.plant.specs.StandsFor.{IsPlantOf}
-use Rattle.plant.specs.Steps.Reading.{ReadingValue, tree_of}
+use Rattle.plant.specs.Steps.Reading.{tree_of}
 use Rattle.plant.proofs.BodyCounts.{begun_by_programs}
-use Rattle.plant.proofs.DrawnLemmas.{drawn_tree, drawn_have_ladders}
+use Rattle.plant.proofs.DrawnTrees.{drawn_tree, drawn_have_ladders}
 use Rattle.plant.proofs.FaultLemmas.{plant_of_word, no_body, of_name, no_name, memory_no_body, memory_no_name, body_no_name}
 use Rattle.plant.proofs.KnownWords.{words_known}
 use Rattle.plant.proofs.RefusedKnown.{begun_by_refused}
@@ -65,7 +65,7 @@ returns-in_err-types-clause-body c =
 pub returns-in_err-types-clause-name : goal.returns-in_err-types-clause-name
 returns-in_err-types-clause-name c =
     let fault = c.in_err-types.field-0.0 in
-    kept_fault fault (λ f. IsOfName f.kind → IsNameFaultIn c.args.text.now f) c.from_residual-in_err-types.result c.from_residual-in_err-types.ensures.1
+    kept_fault fault (λ f. IsOfDeclaredName f.kind → IsNameFaultIn c.args.text.now f) c.from_residual-in_err-types.result c.from_residual-in_err-types.ensures.1
     (λ of. let is = (c.in_err-types.ensures.fault (λ m. memory_no_name fault m of)).fault_is in absurd (body_no_name fault.kind is.why is.kind_is of))
 
 pub returns-in_err-resources-clause-value : goal.returns-in_err-resources-clause-value
@@ -84,7 +84,7 @@ returns-in_err-resources-clause-name c =
     let word = c.in_err-resources.field-0.0 in
     let ws = c.in_ok-words.words in
     let words : map (λ (w : WordValue). w.token) ws ≡ c.new-reader.result.words = ap (λ (ws : List WordValue). map (λ (w : WordValue). w.token) ws) (sym c.words-2.ensures) ∙ ap (λ (r : ReaderValue). r.words) (sym c.new-reader.ensures) in
-    kept_fault (fault_of_word word) (λ f. IsOfName f.kind → IsNameFaultIn c.args.text.now f) c.from_residual-in_err-resources.result c.from_residual-in_err-resources.ensures.1
+    kept_fault (fault_of_word word) (λ f. IsOfDeclaredName f.kind → IsNameFaultIn c.args.text.now f) c.from_residual-in_err-resources.result c.from_residual-in_err-resources.ensures.1
     (λ of.
     let met = c.in_err-resources.ensures.name (of_name word.kind of) in
     let begun = begun_by_refused (without_last 13 c.args.text.now) ws word.kind c.new-reader.result.words c.in_ok-words.ensures.begun words met in
@@ -111,7 +111,7 @@ returns-in_err-plant-clause-body c =
 pub returns-in_err-plant-clause-name : goal.returns-in_err-plant-clause-name
 returns-in_err-plant-clause-name c =
     let word = c.in_err-plant.field-0.0 in
-    kept_fault (fault_of_word word) (λ f. IsOfName f.kind → IsNameFaultIn c.args.text.now f) c.from_residual-in_err-plant.result c.from_residual-in_err-plant.ensures.1
+    kept_fault (fault_of_word word) (λ f. IsOfDeclaredName f.kind → IsNameFaultIn c.args.text.now f) c.from_residual-in_err-plant.result c.from_residual-in_err-plant.ensures.1
     (λ of. absurd (no_name word.kind c.in_err-plant.ensures.tells of))
 
 pub returns-in_err-end-clause-value : goal.returns-in_err-end-clause-value
@@ -128,5 +128,5 @@ returns-in_err-end-clause-body c =
 pub returns-in_err-end-clause-name : goal.returns-in_err-end-clause-name
 returns-in_err-end-clause-name c =
     let word = c.in_err-end.field-0.0 in
-    kept_fault (fault_of_word word) (λ f. IsOfName f.kind → IsNameFaultIn c.args.text.now f) c.from_residual-in_err-end.result c.from_residual-in_err-end.ensures.1
+    kept_fault (fault_of_word word) (λ f. IsOfDeclaredName f.kind → IsNameFaultIn c.args.text.now f) c.from_residual-in_err-end.result c.from_residual-in_err-end.ensures.1
     (λ of. absurd (no_name word.kind c.in_err-end.ensures.tells of))

@@ -1,7 +1,7 @@
 use Rattle.std.proofs.Common.{rules, ◌≡◌, ◌∙◌, ap, Some}
 use Rattle.std.specs.List.{find}
 use Rattle.plant_grammar.specs.Names.{is_named}
-use Rattle.plant.specs.Steps.Reading.{TypeValue}
+use Rattle.program_bodies.specs.ProgramTypes.{TypeValue}
 use Rattle.task_codes.specs.CodeValue.{ProgramValue}
 use Rattle.plant.proofs.DraftLemmas.{program_made}
 use Rattle.plant.proofs.sources.draft.draft_program.Goals as goal

@@ -1,7 +1,7 @@
 use Rattle.std.proofs.Common.{rules, ◌≡◌, Some}
 use Rattle.std.specs.List.{find}
 use Rattle.plant_grammar.specs.Names.{is_named}
-use Rattle.plant.specs.Steps.Reading.{TypeValue}
+use Rattle.program_bodies.specs.ProgramTypes.{TypeValue}
 use Rattle.std.proofs.lemmas.Result.{on_ok_weaker}
 use Rattle.plant.proofs.sources.feeds.check_use.Goals as goal
 

@@ -6,7 +6,7 @@ use Rattle.declared_names.specs.declared.declarations.Kind.{Kind}
 use Rattle.task_codes.specs.declared.binding.Binding.{Binding}
 use Rattle.plant.specs.declared.sources.feed.Feed.{Feed}
 use Rattle.plant_grammar.specs.declared.grammar.tree.Use.{Use}
-use Rattle.plant.specs.Steps.Drafts.{drafted, IsLinked}
+use Rattle.plant.specs.Steps.Drafts.{drafted, IsCodeLinked}
 use Rattle.plant.proofs.LinkLemmas.{linked_copy, producers_known, taken_known}
 use Rattle.plant.proofs.sources.link.link_runs.Goals as goal
 
@@ -68,4 +68,4 @@ returns-clause-ok c =
     let programs : c.in_ok-programs.programs.items ≡ draft.programs = c.in_ok-programs.ensures ∙ c.programs-2.ensures.list in
     let outputs : c.in_ok-outputs.outputs.items ≡ draft.outputs = c.in_ok-outputs.ensures.items ∙ c.outputs.ensures in
     let is = linked_copy plant us draft fs ps es bs c.programs.ensures.outputs many c.requires.once fed feeds producers kinds placed c.in_ok-programs.programs.items c.in_ok-outputs.outputs.items programs outputs in
-    subst (IsLinked plant us draft) (sym c.new.ensures) is
+    subst (IsCodeLinked plant us draft) (sym c.new.ensures) is

@@ -11,7 +11,7 @@ use Rattle.plant_grammar.specs.declared.grammar.tree.Use.{Use}
 use Rattle.plant_grammar.specs.Names.{is_named}
 use Rattle.plant_grammar.specs.Lawful.{uses_of}
 use Rattle.plant.specs.StandsFor.{runs_in}
-use Rattle.plant.specs.Steps.Drafts.{drafted, IsDraftOf, IsLinked, IsOnceBound}
+use Rattle.plant.specs.Steps.Drafts.{drafted, IsDraftOf, IsCodeLinked, IsOnceBound}
 use Rattle.plant.proofs.StandLemmas.{runs_many}
 use Rattle.plant.proofs.Zips.{ref_at, triples_more, all_filter}
 use Rattle.plant.proofs.sources.link.link_tasks.Goals as goal
@@ -58,7 +58,7 @@ loop-i-preserved c =
     let longer = length_push c.loop-i.codes.items c.in_ok-code.code in
     record {
       many = omega arith;
-      each = triples_more (λ t d e. IsLinked (drafted c.args.drafts.now) (runs_in r t) d e) (λ (e : Arc TaskCode Global). e.value) lines drafts c.loop-i.codes.items c.push.new.self.items i task.now draft
+      each = triples_more (λ t d e. IsCodeLinked (drafted c.args.drafts.now) (runs_in r t) d e) (λ (e : Arc TaskCode Global). e.value) lines drafts c.loop-i.codes.items c.push.new.self.items i task.now draft
           c.in_ok-code.code c.loop-i.invariant.many (ref_at tasks i task here c.index-tasks-i.is) (slice_get_read drafts (length drafts) i draft refl c.loop-i-test.true c.index-task_drafts-i.is)
           c.loop-i.invariant.each c.in_ok-code.ensures.ok c.in_ok-push.ensures.items;
     }

@@ -3,7 +3,7 @@ use Rattle.declared_names.specs.declared.declarations.Kind.TheVariants as kind
 use Rattle.plant_text.specs.declared.address.Space.TheVariants as space
 use Rattle.plant.specs.declared.sources.feed.Feed.{Feed}
 use Rattle.plant.specs.declared.sources.feed.Origin.TheVariants as origin
-use Rattle.plant.specs.Steps.Drafts.{IsPlaced}
+use Rattle.plant.specs.Steps.Drafts.{IsPlacedBinding}
 use Rattle.plant.proofs.Zips.{zip_more, at_itself}
 use Rattle.plant.proofs.sources.producers.bindings.Goals as goal
 
@@ -15,5 +15,5 @@ unfolding any_feed
 loop-feed-preserved c =
     let feeds = c.args.feeds.now in
     let i = c.loop-feed.feed-index in
-    zip_more (IsPlaced c.args.producers.now) feeds i c.loop-feed.bindings.items c.push.new.self.items (get_or feeds i any_feed) c.binding.result c.loop-feed-test.true
+    zip_more (IsPlacedBinding c.args.producers.now) feeds i c.loop-feed.bindings.items c.push.new.self.items (get_or feeds i any_feed) c.binding.result c.loop-feed-test.true
     (at_itself feeds i any_feed c.loop-feed-test.true) c.loop-feed.invariant c.binding.ensures c.in_ok-push.ensures.items

@@ -6,7 +6,7 @@ use Rattle.std.specs.Global.{Global}
 use Rattle.std.specs.List.{AllZip}
 use Rattle.task_codes.specs.declared.binding.Binding.{Binding}
 use Rattle.plant.specs.declared.sources.feed.Feed.{Feed}
-use Rattle.plant.specs.Steps.Drafts.{IsPlaced, IsTakenFrom}
+use Rattle.plant.specs.Steps.Drafts.{IsPlacedBinding, IsTakenFrom}
 use Rattle.plant.proofs.Zips.{zip_more_map, all_at}
 use Rattle.plant.proofs.sources.producers.bindings_of.Goals as goal
 
@@ -21,6 +21,6 @@ bindings-requires c =
 
 pub loop-of_program-preserved : goal.loop-of_program-preserved
 loop-of_program-preserved c =
-    zip_more_map (AllZip (IsPlaced c.args.producers.now)) (λ (f : Vec Feed Global). f.items) (λ (b : Vec Binding Global). b.items) c.args.feeds.now c.loop-of_program.of_program-index
+    zip_more_map (AllZip (IsPlacedBinding c.args.producers.now)) (λ (f : Vec Feed Global). f.items) (λ (b : Vec Binding Global). b.items) c.args.feeds.now c.loop-of_program.of_program-index
     c.loop-of_program.all.items c.push.new.self.items c.of_program-item.result c.in_ok-found.found c.loop-of_program-test.true c.of_program-item.is c.loop-of_program.invariant
     (rw c.deref.ensures.value at c.in_ok-found.ensures) c.in_ok-push.ensures.items

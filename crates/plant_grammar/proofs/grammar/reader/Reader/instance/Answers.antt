@@ -1,9 +1,8 @@
-use Rattle.std.proofs.Common.{rules, ◌≡◌, Some}
+use Rattle.std.proofs.Common.{rules, ◌≡◌, Some, ap}
 use Rattle.std.specs.List.{find}
 use Rattle.plant_grammar.specs.Names.{is_named}
 use Rattle.plant_grammar.specs.Grammar.{TextValue}
 use Rattle.plant_grammar.proofs.TypeLemmas.{known_type}
-use Rattle.std.proofs.Common.{ap}
 use Rattle.plant_grammar.specs.Steps.ReadParts.{TallyValue}
 use Rattle.plant_grammar.specs.NameFaults.{IsOfName, RefusesInstance}
 use Rattle.plant_grammar.specs.Steps.Declaring.{BeginWith}

@@ -1,4 +1,4 @@
-use Rattle.std.proofs.Common.{◌≤◌, length, rules, IsTrue}
+use Rattle.std.proofs.Common.{◌≤◌, length, rules}
 use Rattle.lists.proofs.Results.{kept_fault}
 use Rattle.plant_grammar.specs.declared.grammar.tree.Program.{Program}
 use Rattle.plant_grammar.specs.Steps.Reading.{programs_of}

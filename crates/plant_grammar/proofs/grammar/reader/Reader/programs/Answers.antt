@@ -1,10 +1,9 @@
 use Rattle.std.proofs.Common.{rules, ◌≡◌, ◌++◌, ◌∷◌, [], ◌∙◌, ◌<◌, ℕ, List, append_assoc, length, ap, sym, subst, arith}
 use Rattle.std.proofs.lemmas.List.{length-map}
 use Rattle.std.specs.List.{flat_map}
-use Rattle.plant_grammar.specs.Grammar.{TextValue}
+use Rattle.plant_grammar.specs.Grammar.{TextValue, program_words}
 use Rattle.plant_text.specs.declared.token.Token.{Token}
 use Rattle.plant_grammar.specs.declared.grammar.tree.Program.{Program}
-use Rattle.plant_grammar.specs.Grammar.{program_words}
 use Rattle.plant_grammar.specs.Steps.ReadParts.{IsNew}
 use Rattle.plant_grammar.specs.Steps.Reading.{programs_of, lines_of}
 use Rattle.plant_grammar.proofs.TypeLemmas.{programs_more, map-grown}

@@ -1,11 +1,10 @@
-use Rattle.std.proofs.Common.{◌<◌, length, subst}
+use Rattle.std.proofs.Common.{◌<◌, length, subst, List}
 use Rattle.plant_grammar.specs.declared.grammar.tree.Resource.{Resource}
 use Rattle.plant_grammar.specs.Lawful.{uses_of}
 use Rattle.plant_grammar.specs.Grammar.{resource_words}
 use Rattle.plant_grammar.specs.Steps.ReadParts.{types_alone, IsNew}
 use Rattle.plant_grammar.proofs.WordLists.{words_more, resources_done}
 use Rattle.plant_grammar.proofs.ItemLemmas.{resources_more, tally_more}
-use Rattle.std.proofs.Common.{List}
 use Rattle.plant_grammar.specs.NameFaults.{IsOfName, RefusesResource, RefusesResources}
 use Rattle.plant_grammar.specs.Steps.Declaring.{BeginWith}
 use Rattle.lists.proofs.Results.{kept_fault}

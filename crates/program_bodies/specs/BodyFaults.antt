@@ -13,22 +13,22 @@ use Rattle.power_flow.specs.LadderValue.{diagrams}
 use Rattle.variable_binding.specs.Binding.{CanBind}
 use Rattle.variable_binding.specs.Findings.{IsFirstBindFault}
 use Rattle.variable_binding.specs.declared.bind_fault.BindFault.{BindFault}
-use Rattle.plant.specs.declared.plant_fault.BodyFault.{BodyFault}
-use Rattle.plant.specs.declared.plant_fault.BodyFault.TheVariants as body
-use Rattle.plant.specs.declared.plant_fault.PlantFault.{PlantFault}
-use Rattle.plant.specs.declared.plant_fault.PlantFaultKind.{PlantFaultKind}
-use Rattle.plant.specs.declared.plant_fault.PlantFaultKind.TheVariants as kind
+use Rattle.program_bodies.specs.declared.plant_fault.BodyFault.{BodyFault}
+use Rattle.program_bodies.specs.declared.plant_fault.BodyFault.TheVariants as body
+use Rattle.program_bodies.specs.declared.plant_fault.PlantFault.{PlantFault}
+use Rattle.program_bodies.specs.declared.plant_fault.PlantFaultKind.{PlantFaultKind}
+use Rattle.program_bodies.specs.declared.plant_fault.PlantFaultKind.TheVariants as kind
 use Rattle.plant_grammar.specs.Grammar.{TextValue}
 use Rattle.plant_grammar.specs.Lawful.{variables}
-use Rattle.plant.specs.Faultless.{HasLadder}
+use Rattle.program_bodies.specs.Ladders.{HasLadder}
 
 -- the number of a body's first line, from 1 to the greatest on which a drawing may begin
-abbrev pub body_line : TextValue → ℕ
-body_line t = max 1 (min t.first_line 9223372036854775807)
+abbrev pub drawing_line : TextValue → ℕ
+drawing_line t = max 1 (min t.first_line 9223372036854775807)
 
 -- what is drawn in a body
 abbrev pub picture_in : TextValue → Picture
-picture_in t = picture_of (body_line t) (layout_of (rows_of t.program.body))
+picture_in t = picture_of (drawing_line t) (layout_of (rows_of t.program.body))
 
 -- a program's networks have no fault, and their names can't be bound to its variables; this is the first fault
 pub record RefusesNames (t : TextValue) (fault : BindFault) : Type 0 where
@@ -38,11 +38,20 @@ pub record RefusesNames (t : TextValue) (fault : BindFault) : Type 0 where
   pub refused : CanBind (variables t.program) (diagrams graph) → ⊥
   pub first : IsFirstBindFault (variables t.program) graph fault
 
--- The body isn't well drawn, its networks have a fault, or its names do; the first of these faults is this one, and on this line. Lines are counted on from the body's first.
+-- The body isn't well drawn, its networks have a fault, or its names do; the first of these faults is this one,
+-- and on this line. Lines are counted on from the body's first.
 abbrev pub RefusesBody : TextValue → BodyFault → ℕ → Type 0
-RefusesBody t (body.Drawing k) line = IsIllDrawn (rows_of t.program.body) × ((column : ℕ) × TellsFirstFault t.program.body (body_line t) (record { kind = k; line = line; column = column }))
-RefusesBody t (body.Graph k) line = IsWellDrawn (rows_of t.program.body) × ((place : Place) × IsFirstGraphFaultAt (picture_in t) k place × GraphFaultLiesAt (body_line t) place (record { kind = k; line = line; column = place.column }))
-RefusesBody t (body.Bind k) line = IsWellDrawn (rows_of t.program.body) × ((column : ℕ) × RefusesNames t (record { kind = k; line = line; column = column }))
+RefusesBody t (body.Drawing k) line =
+    IsIllDrawn (rows_of t.program.body)
+    × ((column : ℕ)
+    × TellsFirstFault t.program.body (drawing_line t) (record { kind = k; line = line; column = column }))
+RefusesBody t (body.Graph k) line =
+    IsWellDrawn (rows_of t.program.body)
+    × ((place : Place) × IsFirstGraphFaultAt (picture_in t) k place
+    × GraphFaultLiesAt (drawing_line t) place (record { kind = k; line = line; column = place.column }))
+RefusesBody t (body.Bind k) line =
+    IsWellDrawn (rows_of t.program.body)
+    × ((column : ℕ) × RefusesNames t (record { kind = k; line = line; column = column }))
 
 -- the kind of a plant's fault that a body's fault is
 abbrev pub kind_of_body : BodyFault → PlantFaultKind

@@ -1,9 +1,15 @@
--- What is known of program types whose bodies are drawn.
+-- Program types whose bodies are drawn.
 use Rattle.std.specs.Prelude.{◌≡◌, List, map, All}
+use Rattle.power_flow.specs.LadderValue.{LadderValue}
+use Rattle.plant_grammar.specs.declared.grammar.tree.Program.{Program}
 use Rattle.plant_grammar.specs.Grammar.{TextValue}
-use Rattle.plant.specs.Faultless.{IsLadderOf}
-use Rattle.plant.specs.Steps.Reading.{TypeValue}
 use Rattle.plant_grammar.specs.Steps.Reading.{programs_of}
+use Rattle.program_bodies.specs.Ladders.{IsLadderOf}
+
+-- a program type, and its ladder
+pub record TypeValue : Type 0 where
+  pub program : Program
+  pub ladder : LadderValue
 
 -- the types of these programs, in order, each with its ladder
 pub record AreDrawn (texts : List TextValue) (types : List TypeValue) : Type 0 where

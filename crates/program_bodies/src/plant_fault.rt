@@ -1,5 +1,5 @@
 ghost use Rattle.std.specs.Prelude.{◌≡◌, None};
-ghost use Rattle.plant.specs.Faults.{kind_of_word};
+ghost use Rattle.program_bodies.specs.Faults.{kind_of_word};
 
 use ladder_text::DrawFaultKind;
 use network::GraphFaultKind;
@@ -69,8 +69,8 @@ impl PlantFault {
 }
 
 impl From<AllocError> for PlantFault {
-    ghost use Rattle.plant.specs.declared.plant_fault.PlantFaultKind.TheVariants.{Memory};
-    ghost use Rattle.plant.specs.Faults.{IsPlantFault};
+    ghost use Rattle.program_bodies.specs.declared.plant_fault.PlantFaultKind.TheVariants.{Memory};
+    ghost use Rattle.program_bodies.specs.Faults.{IsPlantFault};
 
     ghost from_gives = { λ _ fault. (fault.kind ≡ Memory) × IsPlantFault fault };
 
@@ -80,8 +80,8 @@ impl From<AllocError> for PlantFault {
 }
 
 impl<T: Drop> From<AllocFailed<T>> for PlantFault {
-    ghost use Rattle.plant.specs.declared.plant_fault.PlantFaultKind.TheVariants.{Memory};
-    ghost use Rattle.plant.specs.Faults.{IsPlantFault};
+    ghost use Rattle.program_bodies.specs.declared.plant_fault.PlantFaultKind.TheVariants.{Memory};
+    ghost use Rattle.program_bodies.specs.Faults.{IsPlantFault};
 
     ghost from_gives = { λ _ fault. (fault.kind ≡ Memory) × IsPlantFault fault };
 
@@ -106,7 +106,7 @@ fn kind_of_word(kind: GrammarFaultKind) -> PlantFaultKind
 }
 
 impl From<GrammarFault> for PlantFault {
-    ghost use Rattle.plant.specs.Faults.{fault_of_word};
+    ghost use Rattle.program_bodies.specs.Faults.{fault_of_word};
 
     ghost from_gives = { λ word fault. fault ≡ fault_of_word word };
 

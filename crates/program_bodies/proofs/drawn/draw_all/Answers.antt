@@ -1,9 +1,9 @@
 use Rattle.std.proofs.Common.{◌≢◌, ◌++◌, ◌∷◌, []}
-use Rattle.plant.specs.declared.plant_fault.PlantFaultKind.TheVariants.{Memory}
-use Rattle.plant.specs.BodyFaults.{IsFirstBodyFault}
+use Rattle.program_bodies.specs.declared.plant_fault.PlantFaultKind.TheVariants.{Memory}
+use Rattle.program_bodies.specs.BodyFaults.{IsFirstBodyFault}
 use Rattle.lists.proofs.Results.{kept_fault}
-use Rattle.plant.proofs.DrawnLemmas.{drawn_more, passed_more, first_refused}
-use Rattle.plant.proofs.bodies.drawn.draw_all.Goals as goal
+use Rattle.program_bodies.proofs.DrawnLemmas.{drawn_more, passed_more, first_refused}
+use Rattle.program_bodies.proofs.drawn.draw_all.Goals as goal
 
 pub loop-text-preserved : goal.loop-text-preserved
 loop-text-preserved c =

@@ -1,5 +1,5 @@
 -- Why the body of a program is refused, from why a layer below refused it.
-use Rattle.std.proofs.Common.{◌≡◌, ◌≢◌, ℕ, Result, Ok, Err, IfErr, Some, refl, ap, sym, subst}
+use Rattle.std.proofs.Common.{◌≢◌, ℕ, Result, Ok, Err, IfErr, refl, ap, sym, subst}
 use Rattle.std.specs.Result.{IsErrAnd}
 use Rattle.drawings.specs.declared.place.Place.{Place}
 use Rattle.ladder_text.specs.Rows.{rows_of}
@@ -13,18 +13,13 @@ use Rattle.network.specs.declared.fault.GraphFaultKind.TheVariants as graph
 use Rattle.network.specs.Networks.{IsFirstGraphFaultAt, GraphFaultLiesAt}
 use Rattle.variable_binding.specs.declared.bind_fault.BindFault.{BindFault}
 use Rattle.variable_binding.specs.declared.bind_fault.BindKind.TheVariants as bind
-use Rattle.plant.specs.declared.plant_fault.BodyFault.{BodyFault}
-use Rattle.plant.specs.declared.plant_fault.BodyFault.TheVariants as body
-use Rattle.plant.specs.declared.plant_fault.PlantFault.{PlantFault}
-use Rattle.plant.specs.declared.plant_fault.PlantFaultKind.{PlantFaultKind}
-use Rattle.plant.specs.declared.plant_fault.PlantFaultKind.TheVariants as kind
-use Rattle.plant.specs.Faults.{IsPlantFault}
+use Rattle.program_bodies.specs.declared.plant_fault.BodyFault.{BodyFault}
+use Rattle.program_bodies.specs.declared.plant_fault.BodyFault.TheVariants as body
+use Rattle.program_bodies.specs.declared.plant_fault.PlantFault.{PlantFault}
+use Rattle.program_bodies.specs.declared.plant_fault.PlantFaultKind.TheVariants as kind
+use Rattle.program_bodies.specs.Faults.{IsHandedOn, HandsOnDrawing, HandsOnNetworks, HandsOnNames}
 use Rattle.plant_grammar.specs.Grammar.{TextValue}
-use Rattle.plant.specs.BodyFaults.{body_line, picture_in, RefusesBody, RefusesNames, IsBodyFault, kind_of_body}
-
--- the fault of a layer below is handed on: memory as memory, another one with its line and as what it is
-abbrev pub IsHandedOn : Type 0 → PlantFaultKind → ℕ → BodyFault → PlantFault → Type 0
-IsHandedOn IsMemory k line why fault = (IsMemory → fault.kind ≡ kind.Memory) × ((IsMemory → ⊥) → fault ≡ record { kind = k; line = line; inner = Some why }) × IsPlantFault fault
+use Rattle.program_bodies.specs.BodyFaults.{drawing_line, picture_in, RefusesBody, RefusesNames, IsBodyFault, kind_of_body}
 
 -- a refusal that is handed on is the body's
 pub body_refused : {T IsMemory : Type 0} (t : TextValue) (line : ℕ) (why : BodyFault) (r : Result T PlantFault)
@@ -41,14 +36,14 @@ body_refused t line why (Err fault) given refused = λ other.
 
 -- a drawing that is refused
 pub drawing_refused : {T : Type 0} (t : TextValue) (found : DrawFault) (r : Result T PlantFault)
-    → IsErrAnd r (IsHandedOn (found.kind ≡ draw.Memory) kind.Drawing found.line (body.Drawing found.kind))
-    → (found.kind ≢ draw.Memory → IsIllDrawn (rows_of t.program.body)) → TellsFirstFault t.program.body (body_line t) found
+    → IsErrAnd r (HandsOnDrawing found)
+    → (found.kind ≢ draw.Memory → IsIllDrawn (rows_of t.program.body)) → TellsFirstFault t.program.body (drawing_line t) found
     → IfErr r (λ fault. fault.kind ≢ kind.Memory → IsBodyFault t fault)
 drawing_refused t found r given ill first = body_refused t found.line (body.Drawing found.kind) r given (λ other. (ill other, (found.column, first)))
 
 -- networks that are refused
 pub networks_refused : {T : Type 0} (t : TextValue) (found : GraphFault) (r : Result T PlantFault) → IsWellDrawn (rows_of t.program.body)
-    → IsErrAnd r (IsHandedOn (found.kind ≡ graph.Memory) kind.Graph found.line (body.Graph found.kind))
+    → IsErrAnd r (HandsOnNetworks found)
     → (found.kind ≢ graph.Memory → (place : Place) × IsFirstGraphFaultAt (picture_in t) found.kind place × GraphFaultLiesAt (picture_in t).first_line place found)
     → IfErr r (λ fault. fault.kind ≢ kind.Memory → IsBodyFault t fault)
 unfolding pictures.picture_of
@@ -56,7 +51,7 @@ networks_refused t found r drawn given at = body_refused t found.line (body.Grap
 
 -- names that are refused
 pub names_refused : {T : Type 0} (t : TextValue) (found : BindFault) (r : Result T PlantFault) → IsWellDrawn (rows_of t.program.body)
-    → IsErrAnd r (IsHandedOn (found.kind ≡ bind.Memory) kind.Bind found.line (body.Bind found.kind))
+    → IsErrAnd r (HandsOnNames found)
     → (found.kind ≢ bind.Memory → RefusesNames t found)
     → IfErr r (λ fault. fault.kind ≢ kind.Memory → IsBodyFault t fault)
 names_refused t found r drawn given names = body_refused t found.line (body.Bind found.kind) r given (λ other. (drawn, (found.column, names other)))

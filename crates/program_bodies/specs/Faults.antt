@@ -3,14 +3,17 @@ use Rattle.std.specs.Prelude.{◌≡◌, ◌≢◌, ◌⊎◌, ℕ, Option, None
 use Rattle.plant_grammar.specs.declared.grammar_fault.GrammarFault.{GrammarFault}
 use Rattle.plant_grammar.specs.declared.grammar_fault.GrammarFaultKind.{GrammarFaultKind}
 use Rattle.plant_grammar.specs.declared.grammar_fault.GrammarFaultKind.TheVariants as word
+use Rattle.ladder_text.specs.declared.draw_fault.DrawFault.{DrawFault}
 use Rattle.ladder_text.specs.declared.draw_fault.DrawFaultKind.TheVariants as draw
+use Rattle.network.specs.declared.fault.GraphFault.{GraphFault}
 use Rattle.network.specs.declared.fault.GraphFaultKind.TheVariants as graph
+use Rattle.variable_binding.specs.declared.bind_fault.BindFault.{BindFault}
 use Rattle.variable_binding.specs.declared.bind_fault.BindKind.TheVariants as bind
-use Rattle.plant.specs.declared.plant_fault.BodyFault.{BodyFault}
-use Rattle.plant.specs.declared.plant_fault.BodyFault.TheVariants as body
-use Rattle.plant.specs.declared.plant_fault.PlantFault.{PlantFault}
-use Rattle.plant.specs.declared.plant_fault.PlantFaultKind.{PlantFaultKind}
-use Rattle.plant.specs.declared.plant_fault.PlantFaultKind.TheVariants as kind
+use Rattle.program_bodies.specs.declared.plant_fault.BodyFault.{BodyFault}
+use Rattle.program_bodies.specs.declared.plant_fault.BodyFault.TheVariants as body
+use Rattle.program_bodies.specs.declared.plant_fault.PlantFault.{PlantFault}
+use Rattle.program_bodies.specs.declared.plant_fault.PlantFaultKind.{PlantFaultKind}
+use Rattle.program_bodies.specs.declared.plant_fault.PlantFaultKind.TheVariants as kind
 
 -- the inner kind is one of drawings, and not want of memory
 abbrev pub IsOfDrawing : Option BodyFault → Type 0
@@ -33,7 +36,8 @@ IsOfNames (Some (body.Drawing k)) = ⊥
 IsOfNames (Some (body.Graph k)) = ⊥
 IsOfNames (Some (body.Bind k)) = k ≢ bind.Memory
 
--- a drawing's fault, one of its networks and one of its names have a kind of that layer inside, all others none; want of memory has line 0
+-- A drawing's fault, one of its networks and one of its names have a kind of that layer inside, all others none.
+-- Want of memory has line 0.
 abbrev pub IsOfKind : PlantFaultKind → ℕ → Option BodyFault → Type 0
 IsOfKind kind.Syntax line inner = inner ≡ None
 IsOfKind kind.Drawing line inner = IsOfDrawing inner
@@ -50,13 +54,36 @@ IsOfKind kind.Memory line inner = (inner ≡ None) × (line ≡ 0)
 abbrev pub IsPlantFault : PlantFault → Type 0
 IsPlantFault fault = IsOfKind fault.kind fault.line fault.inner
 
+-- The fault of a layer below is handed on: want of memory as such, another one with its layer's kind, its line, and
+-- what it is.
+abbrev pub IsHandedOn : Type 0 → PlantFaultKind → ℕ → BodyFault → PlantFault → Type 0
+IsHandedOn IsMemory k line why fault =
+    (IsMemory → fault.kind ≡ kind.Memory)
+    × ((IsMemory → ⊥) → fault ≡ record { kind = k; line = line; inner = Some why })
+    × IsPlantFault fault
+
+-- the fault of a drawing is handed on
+abbrev pub HandsOnDrawing : DrawFault → PlantFault → Type 0
+HandsOnDrawing found fault =
+    IsHandedOn (found.kind ≡ draw.Memory) kind.Drawing found.line (body.Drawing found.kind) fault
+
+-- the fault of networks is handed on
+abbrev pub HandsOnNetworks : GraphFault → PlantFault → Type 0
+HandsOnNetworks found fault =
+    IsHandedOn (found.kind ≡ graph.Memory) kind.Graph found.line (body.Graph found.kind) fault
+
+-- the fault of names is handed on
+abbrev pub HandsOnNames : BindFault → PlantFault → Type 0
+HandsOnNames found fault =
+    IsHandedOn (found.kind ≡ bind.Memory) kind.Bind found.line (body.Bind found.kind) fault
+
 -- one of the kinds of faults that the body of a program has
 abbrev pub IsOfBody : PlantFaultKind → Type 0
 IsOfBody k = (k ≡ kind.Drawing) ⊎ ((k ≡ kind.Graph) ⊎ (k ≡ kind.Bind))
 
 -- one of the kinds of faults of a name that is declared, or of one too many
-abbrev pub IsOfName : PlantFaultKind → Type 0
-IsOfName k = (k ≡ kind.NameTwice) ⊎ (k ≡ kind.TooMany)
+abbrev pub IsOfDeclaredName : PlantFaultKind → Type 0
+IsOfDeclaredName k = (k ≡ kind.NameTwice) ⊎ (k ≡ kind.TooMany)
 
 -- the kind of a word's fault, as one of a plant's text
 abbrev pub kind_of_word : GrammarFaultKind → PlantFaultKind

@@ -2,8 +2,8 @@ ghost use Rattle.std.specs.Prelude.{◌≡◌};
 ghost use Rattle.std.specs.List.{find};
 ghost use Rattle.std.specs.Option.{option_map};
 ghost use Rattle.plant_grammar.specs.Names.{is_named};
-ghost use Rattle.plant.specs.Steps.Reading.{TypeValue};
-ghost use Rattle.plant.specs.Faultless.{IsLadderOf};
+ghost use Rattle.program_bodies.specs.ProgramTypes.{TypeValue};
+ghost use Rattle.program_bodies.specs.Ladders.{IsLadderOf};
 
 use plant_grammar::{Name, Program};
 use power_flow::Ladder;
@@ -18,8 +18,8 @@ pub struct ProgramType {
 }
 
 impl Model for ProgramType {
-    ghost use Rattle.plant.specs.Steps.Reading.{TypeValue};
-    ghost use Rattle.plant.specs.Faultless.{IsLadderOf};
+    ghost use Rattle.program_bodies.specs.ProgramTypes.{TypeValue};
+    ghost use Rattle.program_bodies.specs.Ladders.{IsLadderOf};
 
     ghost Value = { TypeValue };
 

@@ -1,18 +1,14 @@
 -- Program types that are drawn one by one.
-use Rattle.std.proofs.Common.{◌≡◌, ℕ, List, [], ◌∷◌, ◌++◌, map, sym, ap, ◌∙◌, subst, append_assoc}
+use Rattle.std.proofs.Common.{◌≡◌, List, [], ◌∷◌, ◌++◌, map, sym, ap, ◌∙◌, subst, append_assoc}
 use Rattle.std.specs.Prelude.{All}
-use Rattle.std.proofs.lemmas.List.{append-nil, map-append}
+use Rattle.std.proofs.lemmas.List.{map-append}
 use Rattle.std.proofs.lemmas.List.Elements.{All-nil, All-cons, All-push, All-tail, All-head}
-use Rattle.plant.specs.declared.plant_fault.PlantFault.{PlantFault}
-use Rattle.plant.specs.Faultless.{IsLadderOf, HasLadder}
+use Rattle.program_bodies.specs.declared.plant_fault.PlantFault.{PlantFault}
+use Rattle.program_bodies.specs.Ladders.{IsLadderOf, HasLadder}
 use Rattle.plant_grammar.specs.Grammar.{TextValue}
-use Rattle.plant.specs.BodyFaults.{IsBodyFault, IsFirstBodyFault}
-use Rattle.plant.specs.Steps.Drawn.{AreDrawn}
-use Rattle.plant.specs.Steps.Reading.{TypeValue, tree_of}
-use Rattle.plant_grammar.specs.declared.grammar.tree.Program.{Program}
-use Rattle.plant_grammar.specs.declared.grammar.tree.Resource.{Resource}
-use Rattle.plant_grammar.specs.Grammar.{Tree}
-use Rattle.plant_grammar.specs.Steps.Reading.{programs_of, tree_written}
+use Rattle.program_bodies.specs.BodyFaults.{IsBodyFault, IsFirstBodyFault}
+use Rattle.program_bodies.specs.ProgramTypes.{AreDrawn, TypeValue}
+use Rattle.plant_grammar.specs.Steps.Reading.{programs_of}
 
 abbrev IsWithLadder : TypeValue → Type 0
 IsWithLadder t = IsLadderOf t.program t.ladder
@@ -31,10 +27,6 @@ drawn_more before xs ys x t more same ladder drawn = record {
 
 pub passed_more : (all before left now : List TextValue) (t : TextValue) → left ≡ t ∷ now → before ++ left ≡ all → (before ++ t ∷ []) ++ now ≡ all
 passed_more all before left now t front parts = append_assoc before (t ∷ []) now ∙ ap (λ ts. before ++ ts) (sym front) ∙ parts
-
--- all programs are drawn
-pub drawn_whole : (all before left : List TextValue) (types : List TypeValue) → left ≡ [] → before ++ left ≡ all → AreDrawn before types → AreDrawn all types
-drawn_whole all before left types none parts drawn = subst (λ ts. AreDrawn ts types) (sym (append-nil before) ∙ ap (λ ts. before ++ ts) (sym none) ∙ parts) drawn
 
 -- programs that are drawn have ladders
 with_ladders : (texts : List TextValue) (types : List TypeValue) → map (λ (t : TypeValue). t.program) types ≡ programs_of texts → All (λ (t : TypeValue). IsLadderOf t.program t.ladder) types → All HasItsLadder texts
@@ -57,16 +49,3 @@ first_refused texts before types t left now fault front all drawn is = record {
   drawn = with_ladders before types drawn.programs_are drawn.ladders;
   fault_is = is;
 }
-
--- the tree of what is read and drawn is the one that is written
-pub drawn_tree : (name : List ℕ) (texts : List TextValue) (types : List TypeValue) (rs : List Resource) → AreDrawn texts types → tree_of name (record { types = types; resources = rs }) ≡ tree_written name texts rs
-drawn_tree name texts types rs drawn = let with_programs : List Program → Tree = λ ps. record { programs = ps; name = name; resources = rs } in ap with_programs drawn.programs_are
-
-each_with_ladder : (types : List TypeValue) → All IsWithLadder types → All HasLadder (map (λ (t : TypeValue). t.program) types)
-each_with_ladder [] ladders = All-nil HasLadder
-each_with_ladder (t ∷ ts) ladders =
-    All-cons HasLadder t.program (map (λ (t : TypeValue). t.program) ts) (t.ladder, All-head IsWithLadder t ts ladders) (each_with_ladder ts (All-tail IsWithLadder t ts ladders))
-
--- the programs that are drawn have ladders
-pub drawn_have_ladders : (texts : List TextValue) (types : List TypeValue) → AreDrawn texts types → All HasLadder (programs_of texts)
-drawn_have_ladders texts types drawn = subst (All HasLadder) drawn.programs_are (each_with_ladder types drawn.ladders)

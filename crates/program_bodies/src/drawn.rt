@@ -1,12 +1,12 @@
 ghost use Rattle.std.specs.Prelude.{◌≡◌, ◌≢◌, IfOk, IfErr};
-ghost use Rattle.plant.specs.Faults.{IsPlantFault};
-ghost use Rattle.plant.specs.declared.plant_fault.PlantFaultKind.TheVariants.{Memory};
-ghost use Rattle.plant.specs.Faultless.{IsLadderOf};
-ghost use Rattle.plant.specs.BodyFaults.{IsBodyFault, IsFirstBodyFault};
-ghost use Rattle.plant.specs.Steps.Drawn.{AreDrawn};
+ghost use Rattle.program_bodies.specs.Faults.{IsPlantFault};
+ghost use Rattle.program_bodies.specs.declared.plant_fault.PlantFaultKind.TheVariants.{Memory};
+ghost use Rattle.program_bodies.specs.Ladders.{IsLadderOf};
+ghost use Rattle.program_bodies.specs.BodyFaults.{IsBodyFault, IsFirstBodyFault};
+ghost use Rattle.program_bodies.specs.ProgramTypes.{AreDrawn};
 
-use crate::bodies::program_type::ProgramType;
 use crate::plant_fault::PlantFault;
+use crate::program_type::ProgramType;
 use ladder_text::{Drawing, ReadText};
 use network::Graph;
 use plant_grammar::ProgramText;

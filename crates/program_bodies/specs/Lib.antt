@@ -1,0 +1,4 @@
+pub mod Ladders
+pub mod ProgramTypes
+pub mod Faults
+pub mod BodyFaults
