@@ -3,13 +3,14 @@ use Rattle.std.specs.Prelude.{◌≡◌, ℕ, ◌≤◌, List, reverse, Some, le
 use Rattle.plant.specs.PlantValue.{IsSoundPlant}
 use Rattle.evaluation.specs.Meaning.{Evaluated}
 use Rattle.exchange.specs.declared.event.Event.{Event}
-use Rattle.exchange.specs.declared.book.misfit.Misfit.{Misfit}
-use Rattle.exchange.specs.declared.book.misfit.Misfit.TheVariants.{Memory}
+use Rattle.evaluation_book.specs.declared.book.misfit.Misfit.{Misfit}
+use Rattle.evaluation_book.specs.declared.book.misfit.Misfit.TheVariants.{Memory}
 use Rattle.exchange.specs.History.{Setting}
 use Rattle.exchange.specs.Run.{IsRun}
 use Rattle.exchange.specs.World.{WorldValue}
-use Rattle.exchange.specs.Fits.{AllFit}
-use Rattle.exchange.specs.Book.{IsMisfit, AllCouldBeMade, Replays}
+use Rattle.evaluation_book.specs.Fits.{AllFit}
+use Rattle.evaluation_book.specs.Book.{IsMisfit}
+use Rattle.exchange.specs.Replays.{AllCouldBeMade, Replays}
 use Rattle.exchange.specs.Consistent.{IsConsistent}
 use Rattle.exchange.specs.Theorem.{HoldersAgreeIn, IsDataConsistent}
 

@@ -10,9 +10,10 @@ use Rattle.plant.specs.PlantValue.{PlantValue, code_at}
 use Rattle.task_codes.specs.CodeValue.{bindings_at, source_kind}
 use Rattle.evaluation.specs.declared.take.Take.{Take}
 use Rattle.evaluation.specs.Meaning.{Evaluated, IsMeant, IsWhole, given}
-use Rattle.exchange_core.specs.Last.{from_of}
+use Rattle.evaluation.specs.Last.{from_of}
 use Rattle.exchange.specs.Run.{message}
-use Rattle.exchange.specs.Fits.{Each, name_from}
+use Rattle.lists.specs.Each.{Each}
+use Rattle.evaluation_book.specs.Fits.{name_from}
 
 -- An input of an evaluation that is bound to this output of task p: a binding of one of the code's programs has as its source that output of a producer, which is p.
 pub record IsBoundTo (x : Evaluated) (p : TaskRef) (output : ℕ) (b : Binding) : Type 0 where

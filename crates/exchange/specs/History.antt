@@ -2,7 +2,7 @@
 use Rattle.std.specs.Prelude.{ℕ, ◌+◌, ◌==◌, ◌&&◌, Bool, true, false, nat_lt, nat_le, List, [], ◌∷◌, is_some, slice_index, length, filter, if◌then◌else◌}
 use Rattle.due_list.specs.declared.task_ref.TaskRef.{TaskRef}
 use Rattle.plant.specs.PlantValue.{PlantValue, code_at}
-use Rattle.exchange_core.specs.Last.{same_task}
+use Rattle.evaluation.specs.Last.{same_task}
 use Rattle.exchange.specs.declared.event.Event.{Event}
 use Rattle.exchange.specs.declared.event.Event.TheVariants.{Evaluate, Deliver, Restart}
 
@@ -11,6 +11,10 @@ pub record Setting : Type 0 where
   pub plant : PlantValue
   pub first : List ℕ
   pub max_number : ℕ
+
+-- the setting of this plant, these first incarnations and this greatest number
+abbrev pub setting_over : PlantValue → List ℕ → ℕ → Setting
+setting_over plant first max_number = record { plant = plant; first = first; max_number = max_number }
 
 -- an evaluation
 abbrev pub is_evaluate : Event → Bool

@@ -6,7 +6,7 @@ use Rattle.due_list.specs.declared.task_ref.TaskRef.{TaskRef}
 use Rattle.evaluation.specs.declared.name.Name.{Name}
 use Rattle.evaluation.specs.declared.take.Take.{Take}
 use Rattle.evaluation.specs.Meaning.{Evaluated}
-use Rattle.exchange_core.specs.Last.{same_task, from_of}
+use Rattle.evaluation.specs.Last.{same_task, from_of}
 use Rattle.exchange.specs.declared.event.Event.{Event}
 use Rattle.exchange.specs.declared.event.Event.TheVariants.{Evaluate, Deliver, Restart}
 

@@ -4,7 +4,7 @@ use Rattle.due_list.specs.declared.task_ref.TaskRef.{TaskRef}
 use Rattle.plant.specs.PlantValue.{code_at}
 use Rattle.evaluation.specs.declared.field_input.FieldInput.{FieldInput}
 use Rattle.evaluation.specs.Meaning.{Evaluated, IsMeant}
-use Rattle.exchange_core.specs.Last.{state_of}
+use Rattle.evaluation.specs.Last.{state_of}
 use Rattle.exchange.specs.declared.event.Event.{Event}
 use Rattle.exchange.specs.declared.event.Event.TheVariants.{Evaluate}
 use Rattle.exchange.specs.History.{Setting, made_count, is_lawful, history_of}

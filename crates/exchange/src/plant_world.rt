@@ -37,7 +37,7 @@ ghost use Rattle.exchange.specs.declared.world_fault.WorldFault.TheVariants.{Mem
 ghost use Rattle.exchange.specs.History.{incarnation_of, is_lawful};
 ghost use Rattle.exchange.specs.Run.{IsRun};
 ghost use Rattle.exchange.specs.World.{held_at};
-ghost use Rattle.exchange.specs.Fits.{AllFit};
+ghost use Rattle.evaluation_book.specs.Fits.{AllFit};
 ghost use Rattle.exchange.specs.Consistent.{IsConsistent};
 ghost use Rattle.exchange.specs.Theorem.{IsDataConsistent};
 ghost use Rattle.exchange.specs.Step.{history_at, IsDone, IsEvaluatedNow, IsCause, IsStep, IsDelivered, IsLawfulAt, Follows};

@@ -15,7 +15,7 @@ use Rattle.exchange_core.specs.declared.core_fault.CoreFault.{CoreFault}
 use Rattle.exchange_core.specs.declared.core_fault.CoreFault.TheVariants as fault
 use Rattle.exchange_core.specs.declared.eval_fault.EvalFault.{EvalFault}
 use Rattle.exchange_core.specs.declared.eval_fault.EvalFault.TheVariants.{NoSuchTask, NumbersSpent, Memory}
-use Rattle.exchange_core.specs.Last.{state_of, takes_of, last_number}
+use Rattle.evaluation.specs.Last.{state_of, takes_of, last_number}
 use Rattle.exchange_core.specs.Held.{Table, known, with_known, empty_for, IsShaped}
 
 -- A core: its plant, its resource, its incarnation, the greatest number, and the last evaluation known of each task:

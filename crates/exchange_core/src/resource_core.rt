@@ -35,7 +35,7 @@ ghost use Rattle.std.specs.Prelude.{◌≡◌, ◌≢◌, ◌+◌, ◌<◌, ◌�
 ghost use Rattle.std.specs.Option.{option_copied};
 ghost use Rattle.plant.specs.PlantValue.{code_at};
 ghost use Rattle.evaluation.specs.Meaning.{IsAsked};
-ghost use Rattle.exchange_core.specs.Last.{last_number, takes_of, state_of};
+ghost use Rattle.evaluation.specs.Last.{last_number, takes_of, state_of};
 ghost use Rattle.exchange_core.specs.Held.{known};
 ghost use Rattle.exchange_core.specs.CoreValue.{fresh_core, IsCoreFault, IsUsable, IsAccepted, IsNextOf, IsNext, IsDue, IsEvalFault, held_of, own_task};
 ghost use Rattle.exchange_core.specs.declared.eval_fault.EvalFault.TheVariants.{Memory};

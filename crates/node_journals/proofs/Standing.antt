@@ -19,7 +19,7 @@ use Rattle.evaluation.specs.declared.take.Take.{Take}
 use Rattle.evaluation.specs.Meaning.{Evaluated, IsAsked, evaluated}
 use Rattle.exchange_core.specs.declared.accepted.Accepted.{Accepted}
 use Rattle.exchange_core.specs.declared.accepted.Accepted.TheVariants.{Taken, Old, Unused}
-use Rattle.exchange_core.specs.Last.{same_task, last_number, takes_of, state_of}
+use Rattle.evaluation.specs.Last.{same_task, last_number, takes_of, state_of}
 use Rattle.exchange_core.specs.Held.{known, with_known, empty_for}
 use Rattle.exchange_core.specs.CoreValue.{CoreValue, fresh_core, own_task, is_greater, IsUsable, IsAccepted, IsNext, IsNextOf}
 use Rattle.exchange_core.specs.Steps.Knowing.{has_place}

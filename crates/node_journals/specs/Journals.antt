@@ -7,7 +7,7 @@ use Rattle.plant.specs.PlantValue.{PlantValue, code_at}
 use Rattle.task_codes.specs.CodeValue.{CodeValue, expected_at}
 use Rattle.evaluation.specs.Names.{precedes}
 use Rattle.evaluation.specs.Meaning.{Evaluated, IsAsked}
-use Rattle.exchange_core.specs.Last.{same_task, state_of, takes_of}
+use Rattle.evaluation.specs.Last.{same_task, state_of, takes_of}
 use Rattle.node_journals.specs.declared.step.Step.{Step}
 use Rattle.node_journals.specs.declared.step.Step.TheVariants.{Took, Made, Restarted}
 use Rattle.node_journals.specs.declared.journal.Journal.{Journal}

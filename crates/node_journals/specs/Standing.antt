@@ -4,7 +4,7 @@ use Rattle.due_list.specs.declared.task_ref.TaskRef.{TaskRef}
 use Rattle.plant.specs.PlantValue.{code_at, IsSoundPlant}
 use Rattle.task_codes.specs.CodeValue.{CodeValue, expected_at}
 use Rattle.evaluation.specs.Meaning.{Evaluated}
-use Rattle.exchange_core.specs.Last.{last_number}
+use Rattle.evaluation.specs.Last.{last_number}
 use Rattle.exchange_core.specs.Held.{known, IsShaped}
 use Rattle.exchange_core.specs.CoreValue.{CoreValue}
 use Rattle.node_journals.specs.declared.step.Step.{Step}

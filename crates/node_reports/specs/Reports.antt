@@ -7,8 +7,9 @@ use Rattle.evaluation.specs.Meaning.{Evaluated}
 use Rattle.exchange.specs.declared.event.Event.{Event}
 use Rattle.exchange.specs.History.{Setting}
 use Rattle.exchange.specs.Run.{IsRun}
-use Rattle.exchange.specs.Fits.{AllFit}
-use Rattle.exchange.specs.Book.{BookValue, Replays}
+use Rattle.evaluation_book.specs.Fits.{AllFit}
+use Rattle.evaluation_book.specs.Book.{BookValue}
+use Rattle.exchange.specs.Replays.{Replays}
 use Rattle.node_journals.specs.declared.command.Command.{Command}
 use Rattle.node_journals.specs.declared.act.Act.{Act}
 use Rattle.node_journals.specs.declared.act.Act.TheVariants.{Evaluate, Restart}

@@ -11,7 +11,7 @@ use Rattle.task_codes.specs.CodeValue.{CodeValue}
 use Rattle.evaluation.specs.declared.field_input.FieldInput.{FieldInput}
 use Rattle.evaluation.specs.declared.name.Name.{Name}
 use Rattle.evaluation.specs.Meaning.{Evaluated, IsAsked}
-use Rattle.exchange_core.specs.Last.{state_of, takes_of, last_number}
+use Rattle.evaluation.specs.Last.{state_of, takes_of, last_number}
 use Rattle.exchange_core.specs.Held.{known, with_known}
 use Rattle.exchange_core.specs.CoreValue.{CoreValue, IsNext, IsNextOf, IsDue, next_name_of, own_task, fresh_core}
 use Rattle.exchange.specs.declared.event.Event.{Event}
