@@ -18,7 +18,7 @@ use Rattle.evaluation.specs.declared.take.Take.{Take}
 use Rattle.evaluation.specs.Meaning.{Evaluated}
 use Rattle.evaluation.specs.Last.{same_task, last_number, from_of}
 use Rattle.lists.specs.Each.{Among, Each}
-use Rattle.evaluation_book.specs.Fits.{last_in, name_from, is_below, IsNumbered, IsKnown, IsUntorn, IsNotBack, IsOwnLatest, AllFit}
+use Rattle.evaluation_book.specs.Fits.{last_in, name_from, is_below, HasImage, IsNotBackFrom, IsNumbered, IsKnown, IsUntorn, IsNotBack, IsOwnLatest, AllFit}
 use Rattle.evaluation_book.specs.Steps.Deciding.{same_name, is_named, same_value, same_values, same_from, incarnation_in, present_in, is_of_task, if_of, newest_in, is_numbered, has_named, known_from, is_known, keeps_image, untorn_from, is_untorn, takes_from, keeps_take, keeps_takes, is_not_back, is_own_latest}
 
 -- a test that is true just where this holds
@@ -227,9 +227,6 @@ test-known older t = by t.from where
   by None = record { holds = λ e. tt; passes = λ h. refl }
   by (Some f) = test-named (name_from t.producer f) older
 
-abbrev pub HasImage : Name → List Value → Evaluated → Type 0
-HasImage name image y = y.name ≡ name → image ≡ y.outputs
-
 -- the third clause
 test-image : (first : List ℕ) (older : List Evaluated) → AllFit first older → (name : Name) (image : List Value)
     → IsTest (keeps_image image (find (is_named name) older)) (Each (λ (y : Evaluated). y.name ≡ name → image ≡ y.outputs) older)
@@ -275,16 +272,13 @@ test-taking q (u ∷ us) = by (same_task u.producer q) (test-task u.producer q) 
 test-taker : (n : ℕ) (q : TaskRef) (y : Evaluated) → IsTest (takes_from n q y) ((y.name.task.resource ≡ n) × ((u : Take) × Among u y.takes × (u.producer ≡ q)))
 test-taker n q y = test-and _ _ _ _ (test-same _ _) (test-taking q y.takes)
 
-abbrev pub Keeps : Name → Take → Evaluated → Type 0
-Keeps name t y = y.name.task.resource ≡ name.task.resource → y.name.incarnation ≡ name.incarnation → Each (λ (u : Take). u.producer ≡ t.producer → is_below t.producer t.from u.from ≡ false) y.takes
-
 test-kept : (first : List ℕ) (older : List Evaluated) → AllFit first older → (name : Name) → Each (IsLow name.task.resource name.incarnation) older → (t : Take) → (t.producer.resource ≡ name.task.resource → ⊥)
-    → IsTest (keeps_takes name.incarnation t (find (takes_from name.task.resource t.producer) older)) (Each (Keeps name t) older)
+    → IsTest (keeps_takes name.incarnation t (find (takes_from name.task.resource t.producer) older)) (Each (IsNotBackFrom name t) older)
 test-kept first [] fit name low t other = record { holds = λ e. tt; passes = λ h. refl }
 test-kept first (x ∷ older) fit name low t other = by (takes_from name.task.resource t.producer x) (test-taker name.task.resource t.producer x) (test-kept first older fit.1 name low.1 t other) where
   by : (b : Bool) → IsTest b ((x.name.task.resource ≡ name.task.resource) × ((u : Take) × Among u x.takes × (u.producer ≡ t.producer)))
-      → IsTest (keeps_takes name.incarnation t (find (takes_from name.task.resource t.producer) older)) (Each (Keeps name t) older)
-      → IsTest (keeps_takes name.incarnation t (cond b (Some x) (find (takes_from name.task.resource t.producer) older))) (Each (Keeps name t) (x ∷ older))
+      → IsTest (keeps_takes name.incarnation t (find (takes_from name.task.resource t.producer) older)) (Each (IsNotBackFrom name t) older)
+      → IsTest (keeps_takes name.incarnation t (cond b (Some x) (find (takes_from name.task.resource t.producer) older))) (Each (IsNotBackFrom name t) (x ∷ older))
   by true d ih = now (eqb x.name.incarnation name.incarnation) (test-same x.name.incarnation name.incarnation) where
     taken : (x.name.task.resource ≡ name.task.resource) × ((u : Take) × Among u x.takes × (u.producer ≡ t.producer))
     taken = d.holds refl
@@ -297,19 +291,19 @@ test-kept first (x ∷ older) fit name low t other = by (takes_from name.task.re
 
     later : x.name.incarnation ≡ name.incarnation → (y : Evaluated)
         → (y.name.task.resource ≡ x.name.task.resource → y.name.incarnation ≡ x.name.incarnation → Each (λ (u : Take). u.producer ≡ taken.1.0.producer → is_below taken.1.0.producer taken.1.0.from u.from ≡ false) y.takes)
-        → is_below t.producer t.from taken.1.0.from ≡ false → Keeps name t y
+        → is_below t.producer t.from taken.1.0.from ≡ false → IsNotBackFrom name t y
     later same y kept high own at =
         each-map _ _ (λ u under alike. not_below-onward (is_below t.producer) (λ o. refl) (λ f. refl) (below-onward t.producer) t.from taken.1.0.from u.from high (subst (λ p. is_below p taken.1.0.from u.from ≡ false) taken.1.2 (under (alike ∙ sym taken.1.2)))) y.takes
         (kept (own ∙ sym taken.0) (at ∙ sym same))
 
-    now : (b : Bool) → IsTest b (x.name.incarnation ≡ name.incarnation) → IsTest (not b || list_all (keeps_take t) x.takes) (Each (Keeps name t) (x ∷ older))
+    now : (b : Bool) → IsTest b (x.name.incarnation ≡ name.incarnation) → IsTest (not b || list_all (keeps_take t) x.takes) (Each (IsNotBackFrom name t) (x ∷ older))
     now true same =
         record {
           holds = λ e. (λ _ _. (test-takes t x.takes).holds e, each-map _ _ (λ y kept. later (same.holds refl) y kept (above e)) older (Each-at _ x.takes taken.1.0 fit.0.not_back taken.1.1 apart));
           passes = λ h. (test-takes t x.takes).passes (h.0 taken.0 (same.holds refl));
         }
     now false differs = record { holds = λ _. (λ own at. absurd (false≢true (differs.passes at)), each-map _ _ earlier older fit.0.numbered.not_below_latest); passes = λ _. refl } where
-      earlier : (y : Evaluated) → (y.name.task.resource ≡ x.name.task.resource → y.name.incarnation ≤ x.name.incarnation) → Keeps name t y
+      earlier : (y : Evaluated) → (y.name.task.resource ≡ x.name.task.resource → y.name.incarnation ≤ x.name.incarnation) → IsNotBackFrom name t y
       earlier y below own at =
           let under = below (own ∙ sym taken.0) in
           let high = low.0 taken.0 in

@@ -25,16 +25,14 @@ pub struct Book {
 }
 
 impl Model for Book {
-    ghost use Rattle.std.specs.Prelude.{reverse};
-    ghost use Rattle.evaluation_book.specs.Fits.{AllFit};
     ghost use Rattle.evaluation_book.specs.Book.{BookValue};
-    ghost use Rattle.evaluation_book.specs.Steps.Ledger.{Tells};
+    ghost use Rattle.evaluation_book.specs.Steps.Ledger.{IsKept};
 
     ghost Value = { BookValue };
 
     ghost view = { λ b. record { first = b.first.items; entries = b.entries.items } };
 
-    ghost invariant = { λ b. AllFit b.first.items (reverse b.entries.items) × Tells b.first.items (reverse b.entries.items) b.ledger };
+    ghost invariant = { λ b. IsKept b.first.items b.entries.items b.ledger };
 }
 
 ghost use Rattle.std.specs.Prelude.{◌≡◌, ◌++◌, ◌∷◌, [], IfOk, IfErr, OnOk, OnErr, reverse};

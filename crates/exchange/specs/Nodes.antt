@@ -29,4 +29,5 @@ pub record IsWorld (s : Setting) (events : List Event) (log : List Evaluated) (c
   pub logged : IsRun s events log
   pub firsts : length s.first ≡ length s.plant.resources
   pub sized : length cores ≡ length s.plant.resources
-  pub nodes : (n : ℕ) (core : CoreValue) → slice_get cores n ≡ Some core → IsNode s (history_of s events) (reverse log) n core
+  pub nodes : (n : ℕ) (core : CoreValue) → slice_get cores n ≡ Some core
+      → IsNode s (history_of s events) (reverse log) n core

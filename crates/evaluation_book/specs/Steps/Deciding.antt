@@ -1,5 +1,6 @@
--- Steps of the proofs: the tests by which a book decides whether an evaluation fits. Entries stand with the newest first.
-use Rattle.std.specs.Prelude.{ℕ, ◌+◌, Bool, true, false, if◌then◌else◌, ◌==◌, ◌&&◌, ◌||◌, not, nat_lt, nat_le, List, Option, Some, None, length, slice_index, is_some}
+-- Steps of the proofs: the tests by which a book decides whether an evaluation fits.
+-- Entries stand with the newest first.
+use Rattle.std.specs.Prelude.{ℕ, ◌+◌, Bool, true, false, if◌then◌else◌, ◌==◌, ◌&&◌, ◌||◌, not, nat_lt, nat_le, List, Option, Some, None, length, reverse, slice_index, is_some, MatchOption}
 use Rattle.std.specs.Ordering.{int_eq}
 use Rattle.std.specs.Cmp.Lexicographic.{pointwise}
 use Rattle.std.specs.List.{list_all, list_any, find}
@@ -12,7 +13,8 @@ use Rattle.evaluation.specs.Meaning.{Evaluated}
 use Rattle.evaluation.specs.Last.{same_task, last_number, from_of}
 use Rattle.evaluation_book.specs.declared.book.misfit.Misfit.{Misfit}
 use Rattle.evaluation_book.specs.declared.book.misfit.Misfit.TheVariants.{WrongNumber, UnknownTake, Torn, Back, NotOwnLatest}
-use Rattle.evaluation_book.specs.Fits.{name_from, is_below}
+use Rattle.evaluation_book.specs.Fits.{name_from, is_below, Fits}
+use Rattle.evaluation_book.specs.Book.{BookValue, IsMisfit}
 
 -- two names are one
 abbrev pub same_name : Name → Name → Bool
@@ -48,7 +50,8 @@ incarnation_in first (Some y) = y.name.incarnation
 
 -- a resource's present incarnation: that of its newest entry, or else its first one
 abbrev pub present_in : List ℕ → List Evaluated → ℕ → ℕ
-present_in first older n = incarnation_in (slice_index first n) (find (λ (y : Evaluated). y.name.task.resource == n) older)
+present_in first older n =
+    incarnation_in (slice_index first n) (find (λ (y : Evaluated). y.name.task.resource == n) older)
 
 -- an entry is of this task
 abbrev pub is_of_task : TaskRef → Evaluated → Bool
@@ -63,11 +66,15 @@ if_of i (Some y) = if y.name.incarnation == i then Some y else None
 abbrev pub newest_in : List Evaluated → TaskRef → ℕ → Option Evaluated
 newest_in older t i = if_of i (find (is_of_task t) older)
 
+-- a name's number is one more than that of its task's newest entry in its incarnation
+abbrev pub is_next : List Evaluated → Name → Bool
+is_next older name = name.number == last_number (newest_in older name.task name.incarnation) + 1
+
 -- the first clause of what fits
 abbrev pub is_numbered : List ℕ → List Evaluated → Name → Bool
 is_numbered first older name =
     nat_lt name.task.resource (length first)
-    && (nat_le (present_in first older name.task.resource) name.incarnation && (name.number == last_number (newest_in older name.task name.incarnation) + 1))
+    && (nat_le (present_in first older name.task.resource) name.incarnation && is_next older name)
 
 -- an entry's name is this one
 abbrev pub is_named : Name → Evaluated → Bool
@@ -111,13 +118,19 @@ abbrev pub keeps_takes : ℕ → Take → Option Evaluated → Bool
 keeps_takes i t None = true
 keeps_takes i t (Some y) = not (y.name.incarnation == i) || list_all (keeps_take t) y.takes
 
+-- the newest entry of a name's resource that takes from a take's producer keeps that take
+abbrev pub is_kept : List Evaluated → Name → Take → Bool
+is_kept older name t = keeps_takes name.incarnation t (find (takes_from name.task.resource t.producer) older)
+
 -- the fourth clause, for one take
 abbrev pub is_not_back : List Evaluated → Name → Take → Bool
-is_not_back older name t = t.producer.resource == name.task.resource || keeps_takes name.incarnation t (find (takes_from name.task.resource t.producer) older)
+is_not_back older name t = t.producer.resource == name.task.resource || is_kept older name t
 
 -- the fifth clause, for one take
 abbrev pub is_own_latest : List Evaluated → Name → Take → Bool
-is_own_latest older name t = not (t.producer.resource == name.task.resource) || same_from t.from (from_of (newest_in older t.producer name.incarnation))
+is_own_latest older name t =
+    not (t.producer.resource == name.task.resource)
+    || same_from t.from (from_of (newest_in older t.producer name.incarnation))
 
 -- the first clause that fails, if one does
 abbrev pub first_failed : List ℕ → List Evaluated → Name → List Take → Option Misfit
@@ -128,3 +141,8 @@ first_failed first older name takes =
     else if not (list_all (is_not_back older name) takes) then Some Back
     else if not (list_all (is_own_latest older name) takes) then Some NotOwnLatest
     else None
+
+-- What is decided of an evaluation: no misfit if it fits a book's entries, else the first clause that fails.
+abbrev pub IsDecided : BookValue → Evaluated → Option Misfit → Type 0
+IsDecided book x misfit =
+    MatchOption misfit (Fits book.first (reverse book.entries) x) (IsMisfit book.first (reverse book.entries) x)

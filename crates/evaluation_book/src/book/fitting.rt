@@ -1,7 +1,6 @@
-ghost use Rattle.std.specs.Prelude.{◌≡◌, MatchOption, reverse};
-ghost use Rattle.evaluation_book.specs.Fits.{Fits, AllFit};
-ghost use Rattle.evaluation_book.specs.Book.{IsMisfit};
-ghost use Rattle.evaluation_book.specs.Steps.Deciding.{first_failed};
+ghost use Rattle.std.specs.Prelude.{◌≡◌, reverse};
+ghost use Rattle.evaluation_book.specs.Fits.{AllFit};
+ghost use Rattle.evaluation_book.specs.Steps.Deciding.{first_failed, IsDecided};
 
 use crate::book::Book;
 use crate::book::misfit::Misfit;
@@ -13,7 +12,7 @@ use evaluation::{Evaluation, Name, Take};
 
 /// Why an evaluation doesn't fit these entries, if it doesn't.
 pub fn find_misfit(book: &Book, evaluation: &Evaluation) -> Option<Misfit>
-    ensures { MatchOption result (Fits book.now.first (reverse book.now.entries) evaluation.now) (IsMisfit book.now.first (reverse book.now.entries) evaluation.now) }
+    ensures { IsDecided book.now evaluation.now result }
 {
     first_failed(book, evaluation.name(), evaluation.takes())
 }

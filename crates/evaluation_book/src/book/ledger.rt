@@ -1,6 +1,5 @@
-ghost use Rattle.std.specs.Prelude.{◌≡◌, ◌∷◌, ◌<◌, ℕ, List, [], IfOk, OnOk, OnErr, length};
-ghost use Rattle.evaluation.specs.Meaning.{Evaluated};
-ghost use Rattle.evaluation_book.specs.Steps.Ledger.{Tells};
+ghost use Rattle.std.specs.Prelude.{◌<◌, [], IfOk, OnOk, OnErr, length};
+ghost use Rattle.evaluation_book.specs.Steps.Ledger.{Tells, TellsOneMore, TellsAsBefore};
 
 mod place;
 mod places;
@@ -44,8 +43,8 @@ impl Ledger {
     /// Notes one entry more, which stands at this index. All growths come first; without memory the ledger tells the same as before.
     pub fn enter(&mut self, evaluation: &Evaluation, index: usize) -> Result<(), AllocError>
         requires { evaluation.now.name.task.resource < length self.old.present.items }
-        ensures ok { OnOk result ((first : List ℕ) (older : List Evaluated) → index ≡ length older → Tells first older self.old → Tells first (evaluation.now ∷ older) self.new) }
-        ensures err { OnErr result ((first : List ℕ) (older : List Evaluated) → Tells first older self.old → Tells first older self.new) }
+        ensures ok { OnOk result (TellsOneMore self.old self.new evaluation.now index) }
+        ensures err { OnErr result (TellsAsBefore self.old self.new) }
     {
         let name = evaluation.name();
         let resource = name.task.resource;

@@ -2,7 +2,7 @@ ghost use Rattle.std.specs.Prelude.{◌≡◌, Some, reverse};
 ghost use Rattle.std.specs.List.{list_all, find};
 ghost use Rattle.std.specs.Option.{option_copied};
 ghost use Rattle.evaluation_book.specs.Fits.{is_below};
-ghost use Rattle.evaluation_book.specs.Steps.Deciding.{takes_from, keeps_take, keeps_takes, is_not_back};
+ghost use Rattle.evaluation_book.specs.Steps.Deciding.{takes_from, keeps_take, keeps_takes, is_kept, is_not_back};
 
 use crate::book::Book;
 use crate::book::entry_at::entry_at;
@@ -25,7 +25,7 @@ fn is_not_back(book: &Book, name: Name, take: &Take) -> bool
 
 /// Whether the newest entry of this resource that takes from that producer is of another incarnation, or a take is below none of its takes.
 fn is_kept(book: &Book, name: Name, take: &Take) -> bool
-    ensures { result ≡ keeps_takes name.incarnation take.now (find (takes_from name.task.resource take.now.producer) (reverse book.now.entries)) }
+    ensures { result ≡ is_kept (reverse book.now.entries) name take.now }
 {
     match newest_taker(book, name.task.resource, take.producer) {
         None => true,

@@ -1,13 +1,13 @@
-ghost use Rattle.std.specs.Prelude.{◌≡◌, ◌==◌, ◌+◌, ◌<◌, length, reverse};
-ghost use Rattle.evaluation.specs.Last.{last_number};
+ghost use Rattle.std.specs.Prelude.{◌≡◌, ◌<◌, length, reverse};
 ghost use Rattle.evaluation_book.specs.Fits.{AllFit};
-ghost use Rattle.evaluation_book.specs.Steps.Deciding.{present_in, newest_in, is_numbered};
+ghost use Rattle.evaluation_book.specs.Steps.Deciding.{present_in, is_next, is_numbered};
 
 use crate::book::Book;
 use crate::book::last_entry::last_number;
 use evaluation::Name;
 
-/// Whether a name is the next one of its task: its resource exists, its incarnation isn't below the resource's present one, and its number is the next in that incarnation.
+/// Whether a name is the next one of its task: its resource exists, its incarnation isn't below the resource's present one,
+/// and its number is the next in that incarnation.
 pub fn is_numbered(book: &Book, name: Name) -> bool
     ensures value { result ≡ is_numbered book.now.first (reverse book.now.entries) name }
     ensures fit { AllFit book.now.first (reverse book.now.entries) }
@@ -28,7 +28,7 @@ fn present_in(book: &Book, resource: usize) -> u32
 
 /// Whether its number is one more than that of its task's last entry in its incarnation.
 fn is_next(book: &Book, name: Name) -> bool
-    ensures { result ≡ (name.number == last_number (newest_in (reverse book.now.entries) name.task name.incarnation) + 1) }
+    ensures { result ≡ is_next (reverse book.now.entries) name }
 {
     let last = last_number(book, name.task, name.incarnation);
     name.number > 0 && name.number - 1 == last

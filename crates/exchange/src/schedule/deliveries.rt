@@ -1,9 +1,8 @@
 //! The deliveries of what an entry took.
 
 ghost use Rattle.std.specs.Prelude.{◌≡◌, ◌++◌, ◌&&◌, OnOk, Some, reverse};
-ghost use Rattle.std.specs.List.{flat_map};
 ghost use Rattle.evaluation.specs.Last.{same_task, from_of};
-ghost use Rattle.exchange.specs.Schedule.{is_from, message_of, delivery};
+ghost use Rattle.exchange.specs.Schedule.{is_from, message_of, delivery, deliveries};
 
 use crate::event::Event;
 use crate::schedule::last_taken::last_taken;
@@ -76,7 +75,7 @@ pub fn push_deliveries(
     name: Name,
     takes: &[Take],
 ) -> Result<(), AllocError>
-    ensures { OnOk result (events.new.items ≡ events.old.items ++ flat_map (delivery (reverse older.now) name) takes.now) }
+    ensures { OnOk result (events.new.items ≡ events.old.items ++ deliveries (reverse older.now) name takes.now) }
 {
     for take in takes {
         push_delivery(events, older, name, take)?;

@@ -1,9 +1,7 @@
-ghost use Rattle.std.specs.Prelude.{◌≡◌, ◌++◌, ◌∷◌, [], OnOk, OnErr, if◌then◌else◌};
+ghost use Rattle.std.specs.Prelude.{◌≡◌, OnOk, OnErr};
 ghost use Rattle.std.specs.List.{find, position};
 ghost use Rattle.std.specs.Option.{option_copied};
-ghost use Rattle.due_list.specs.declared.task_ref.TaskRef.{TaskRef as Task};
-ghost use Rattle.evaluation.specs.Last.{same_task};
-ghost use Rattle.evaluation_book.specs.Steps.Ledger.{is_row, places_in, last_index, index_of, AreRising};
+ghost use Rattle.evaluation_book.specs.Steps.Ledger.{is_row, places_in, last_index, index_of, AreRising, AddsPlace, KeepsPlaces, AddsRow};
 
 use crate::book::ledger::place::Place;
 use crate::book::ledger::task_places::TaskPlaces;
@@ -49,8 +47,8 @@ pub fn find_place(places: &[Place], incarnation: u32, number: u32) -> Option<usi
 
 /// Adds a place to a task's.
 pub fn add_place(rows: &mut Vec<TaskPlaces>, task: TaskRef, place: Place) -> Result<(), AllocError>
-    ensures ok { OnOk result ((t : Task) → places_in rows.new.items t ≡ (if same_task task t then places_in rows.old.items t ++ place ∷ [] else places_in rows.old.items t)) }
-    ensures err { OnErr result ((t : Task) → places_in rows.new.items t ≡ places_in rows.old.items t) }
+    ensures ok { OnOk result (AddsPlace rows.old.items rows.new.items task place) }
+    ensures err { OnErr result (KeepsPlaces rows.old.items rows.new.items) }
 {
     match row_of(rows.as_slice(), task) {
         None => add_row(rows, task, place),
@@ -69,7 +67,7 @@ fn row_of(rows: &[TaskPlaces], task: TaskRef) -> Option<usize>
 }
 
 fn add_row(rows: &mut Vec<TaskPlaces>, task: TaskRef, place: Place) -> Result<(), AllocError>
-    ensures ok { OnOk result ((row : _) × (row.task ≡ task) × (row.places.items ≡ place ∷ []) × (rows.new.items ≡ rows.old.items ++ row ∷ [])) }
+    ensures ok { OnOk result (AddsRow rows.old.items rows.new.items task place) }
     ensures err { OnErr result (rows.new.items ≡ rows.old.items) }
 {
     let alloc = *rows.allocator();
