@@ -9,15 +9,15 @@ use Rattle.std.proofs.lemmas.Bool.{leb-true, le-leb}
 use Rattle.std.proofs.lemmas.Slice.Eq.{slice_eq-Decides}
 use Rattle.std_blocks.specs.declared.value.Value.{Value}
 use Rattle.std_blocks.specs.declared.value.Value.TheVariants.{Bool as On, Int, Time}
-use Rattle.lists.proofs.Each.{Each-at}
-use Rattle.lists.proofs.Orders.{not_below-onward}
+use Rattle.list_items.proofs.Each.{Each-at}
+use Rattle.list_items.proofs.Orders.{not_below-onward}
 use Rattle.lists.proofs.Tables.{both_same, both_itself}
 use Rattle.due_list.specs.declared.task_ref.TaskRef.{TaskRef}
 use Rattle.evaluation.specs.declared.name.Name.{Name}
 use Rattle.evaluation.specs.declared.take.Take.{Take}
 use Rattle.evaluation.specs.Meaning.{Evaluated}
 use Rattle.evaluation.specs.Last.{same_task, last_number, from_of}
-use Rattle.lists.specs.Each.{Among, Each}
+use Rattle.list_items.specs.Each.{Among, Each}
 use Rattle.evaluation_book.specs.Fits.{last_in, name_from, is_below, HasImage, IsNotBackFrom, IsNumbered, IsKnown, IsUntorn, IsNotBack, IsOwnLatest, AllFit}
 use Rattle.evaluation_book.specs.Steps.Deciding.{same_name, is_named, same_value, same_values, same_from, incarnation_in, present_in, is_of_task, if_of, newest_in, is_numbered, has_named, known_from, is_known, keeps_image, untorn_from, is_untorn, takes_from, keeps_take, keeps_takes, is_not_back, is_own_latest}
 

@@ -18,7 +18,7 @@ use Rattle.evaluation_book.specs.declared.book.ledger.Ledger.{Ledger}
 use Rattle.evaluation_book.specs.declared.book.ledger.place.Place.{Place}
 use Rattle.evaluation_book.specs.declared.book.ledger.task_places.TaskPlaces.{TaskPlaces}
 use Rattle.evaluation_book.specs.declared.book.ledger.taker.Taker.{Taker}
-use Rattle.lists.specs.Each.{Each}
+use Rattle.list_items.specs.Each.{Each}
 use Rattle.evaluation_book.specs.Fits.{last_in, IsNumbered, AllFit}
 use Rattle.evaluation_book.specs.Steps.Deciding.{present_in, is_of_task, is_named, takes_from, incarnation_in}
 use Rattle.evaluation_book.specs.Steps.Ledger.{newest_place, presents, place_of, places_of, places_in, last_index, pair_cmp, index_of, AreRising, taker_in, has_row, noted, AreTables, Tells}

@@ -6,7 +6,7 @@ use Rattle.std.proofs.lemmas.Bool.{false≢true}
 use Rattle.evaluation.specs.Meaning.{Evaluated}
 use Rattle.evaluation_book.specs.declared.book.misfit.Misfit.{Misfit}
 use Rattle.evaluation_book.specs.declared.book.misfit.Misfit.TheVariants.{WrongNumber, UnknownTake, Torn, Back, NotOwnLatest, Memory}
-use Rattle.lists.specs.Each.{Each}
+use Rattle.list_items.specs.Each.{Each}
 use Rattle.evaluation_book.specs.Fits.{IsNumbered, IsKnown, IsUntorn, IsNotBack, IsOwnLatest, Fits, AllFit}
 use Rattle.evaluation_book.specs.Book.{IsMisfit}
 use Rattle.evaluation_book.specs.Steps.Deciding.{is_numbered, is_known, is_untorn, is_not_back, is_own_latest, first_failed}

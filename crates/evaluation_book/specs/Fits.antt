@@ -1,6 +1,6 @@
 -- When an evaluation fits a book's entries. Entries stand with the newest first.
 use Rattle.std.specs.Prelude.{◌≡◌, ◌≢◌, ℕ, ◌+◌, ◌<◌, ◌≤◌, ◌==◌, ◌&&◌, Bool, true, false, List, [], ◌∷◌, Option, Some, None, length, slice_index, MatchOption, if◌then◌else◌}
-use Rattle.lists.specs.Each.{Among, Each}
+use Rattle.list_items.specs.Each.{Among, Each}
 use Rattle.std_blocks.specs.declared.value.Value.{Value}
 use Rattle.due_list.specs.declared.task_ref.TaskRef.{TaskRef}
 use Rattle.evaluation.specs.declared.name.Name.{Name}

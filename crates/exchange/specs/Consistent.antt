@@ -12,7 +12,7 @@ use Rattle.evaluation.specs.declared.take.Take.{Take}
 use Rattle.evaluation.specs.Meaning.{Evaluated, IsMeant, IsWhole, given}
 use Rattle.evaluation.specs.Last.{from_of}
 use Rattle.exchange.specs.Run.{message}
-use Rattle.lists.specs.Each.{Each}
+use Rattle.list_items.specs.Each.{Each}
 use Rattle.evaluation_book.specs.Fits.{name_from}
 
 -- An input of an evaluation that is bound to this output of task p:

@@ -22,13 +22,13 @@ pub struct World {
 impl Model for World {
     ghost use Rattle.exchange.specs.History.{setting_over};
     ghost use Rattle.exchange.specs.World.{WorldValue, world_of};
-    ghost use Rattle.exchange.specs.Nodes.{IsWorld};
+    ghost use Rattle.exchange.specs.Nodes.{IsWorldOf};
 
     ghost Value = { WorldValue };
 
     ghost view = { λ w. world_of (setting_over w.plant.value w.first.items w.max_number) w.events.items w.log.items };
 
-    ghost invariant = { λ w. IsWorld (setting_over w.plant.value w.first.items w.max_number) w.events.items w.log.items w.cores.items };
+    ghost invariant = { λ w. IsWorldOf w.plant.value w.first.items w.max_number w.events.items w.log.items w.cores.items };
 }
 
 ghost use Rattle.std.specs.Prelude.{◌≡◌, ◌∷◌, [], true, IfOk, IfErr, IfSome, OnOk, OnErr, Contains, length, reverse, take};

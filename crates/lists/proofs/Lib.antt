@@ -1,6 +1,4 @@
-pub mod Each
 pub mod Members
-pub mod Orders
 pub mod Pairs
 pub mod Places
 pub mod Results

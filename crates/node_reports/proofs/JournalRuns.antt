@@ -8,7 +8,7 @@ use Rattle.due_list.specs.declared.task_ref.TaskRef.{TaskRef}
 use Rattle.plant.specs.PlantValue.{PlantValue}
 use Rattle.evaluation.specs.Meaning.{Evaluated}
 use Rattle.evaluation.specs.Last.{same_task}
-use Rattle.lists.specs.Each.{Each}
+use Rattle.list_items.specs.Each.{Each}
 use Rattle.evaluation_book.specs.Fits.{last_in}
 use Rattle.node_journals.specs.declared.step.Step.{Step}
 use Rattle.node_journals.specs.declared.step.Step.TheVariants.{Took, Made, Restarted}

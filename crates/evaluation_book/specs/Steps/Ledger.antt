@@ -13,7 +13,7 @@ use Rattle.evaluation_book.specs.declared.book.ledger.Ledger.{Ledger}
 use Rattle.evaluation_book.specs.declared.book.ledger.place.Place.{Place}
 use Rattle.evaluation_book.specs.declared.book.ledger.task_places.TaskPlaces.{TaskPlaces}
 use Rattle.evaluation_book.specs.declared.book.ledger.taker.Taker.{Taker}
-use Rattle.lists.specs.Each.{Each}
+use Rattle.list_items.specs.Each.{Each}
 use Rattle.evaluation_book.specs.Fits.{AllFit}
 use Rattle.evaluation_book.specs.Steps.Deciding.{is_of_task, takes_from}
 

@@ -4,8 +4,8 @@ use Rattle.std.specs.Prelude.{MatchOption}
 use Rattle.std.specs.List.{zip}
 use Rattle.std.proofs.lemmas.Bool.{eqb-true}
 use Rattle.std.proofs.lemmas.Bool.Decides.{nat_tests}
-use Rattle.lists.proofs.Each.{Each-from}
-use Rattle.lists.proofs.Orders.{not_below-onward}
+use Rattle.list_items.proofs.Each.{Each-from}
+use Rattle.list_items.proofs.Orders.{not_below-onward}
 use Rattle.declared_names.specs.declared.declarations.Kind.{Kind}
 use Rattle.due_list.specs.declared.task_ref.TaskRef.{TaskRef}
 use Rattle.task_codes.specs.CodeValue.{CodeValue}
@@ -20,7 +20,7 @@ use Rattle.exchange.specs.declared.event.Event.TheVariants.{Evaluate, Deliver, R
 use Rattle.exchange.specs.History.{Setting, incarnation_of, number_of}
 use Rattle.exchange.specs.Run.{IsLog, IsNextEvaluation, next_name, latest, message, has_reached}
 use Rattle.exchange.specs.Laws.{greater, held_with}
-use Rattle.lists.specs.Each.{Among, Each}
+use Rattle.list_items.specs.Each.{Among, Each}
 use Rattle.evaluation_book.specs.Fits.{is_below, name_from}
 use Rattle.exchange.proofs.Histories.Tasks.{same_task-true}
 use Rattle.exchange.proofs.Histories.Latest.{precedes-irreflexive, not_itself}

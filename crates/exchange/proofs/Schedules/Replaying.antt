@@ -20,13 +20,13 @@ use Rattle.exchange.specs.declared.event.Event.{Event}
 use Rattle.exchange.specs.declared.event.Event.TheVariants.{Evaluate, Restart}
 use Rattle.exchange.specs.History.{Setting, is_lawful, after_events, history_of, incarnation_of, number_of}
 use Rattle.exchange.specs.Run.{IsNextEvaluation, next_name, latest, has_reached}
-use Rattle.lists.specs.Each.{Among, Each}
+use Rattle.list_items.specs.Each.{Among, Each}
 use Rattle.evaluation_book.specs.Fits.{last_in, name_from, is_below, IsUntorn, IsNotBack, IsOwnLatest, Fits, AllFit}
 use Rattle.exchange.specs.Replays.{CouldBeMade, AllCouldBeMade, Replays}
 use Rattle.exchange.specs.Schedule.{present, delivery, events_of, schedule_of}
 use Rattle.exchange.proofs.Histories.Names.{after_append, length-log}
 use Rattle.exchange.proofs.Histories.Steps.{latest-other_evaluate, number-latest}
-use Rattle.lists.proofs.Each.{Each-at}
+use Rattle.list_items.proofs.Each.{Each-at}
 use Rattle.exchange.proofs.Consistency.Fitting.{last_among-entry, own-latest}
 use Rattle.exchange.proofs.Consistency.NotBack.{is_below-itself}
 use Rattle.exchange.proofs.Consistency.AllFits.{taken_name}

@@ -15,7 +15,7 @@ use Rattle.exchange.specs.declared.event.Event.TheVariants.{Deliver, Restart}
 use Rattle.exchange.specs.History.{Setting, made_count, is_lawful, after_events, incarnation_of}
 use Rattle.exchange.specs.Run.{IsLog, latest, message}
 use Rattle.exchange.specs.Laws.{greater, held_with}
-use Rattle.lists.specs.Each.{Among, Each}
+use Rattle.list_items.specs.Each.{Among, Each}
 use Rattle.evaluation_book.specs.Fits.{name_from, is_below, IsKnown}
 use Rattle.exchange.specs.Schedule.{is_from, message_of, taken_in, takes_from, last_taken, delivery_from, delivery}
 use Rattle.exchange.proofs.Histories.Tasks.{same_task-true, same_task-itself}

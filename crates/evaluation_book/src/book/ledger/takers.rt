@@ -3,7 +3,7 @@ ghost use Rattle.std.specs.List.{find, list_any};
 ghost use Rattle.std.specs.Option.{option_copied};
 ghost use Rattle.due_list.specs.declared.task_ref.TaskRef.{TaskRef as Task};
 ghost use Rattle.evaluation.specs.Last.{same_task};
-ghost use Rattle.lists.specs.Each.{Each};
+ghost use Rattle.list_items.specs.Each.{Each};
 ghost use Rattle.evaluation_book.specs.Steps.Ledger.{is_taker, taker_in, has_row, noted};
 
 use crate::book::ledger::taker::Taker;

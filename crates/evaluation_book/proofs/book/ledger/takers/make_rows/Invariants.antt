@@ -2,7 +2,7 @@
 use Rattle.std.proofs.Common.{◌≡◌, ℕ, true, take}
 use Rattle.due_list.specs.declared.task_ref.TaskRef.{TaskRef}
 use Rattle.evaluation.specs.declared.take.Take.{Take}
-use Rattle.lists.specs.Each.{Each}
+use Rattle.list_items.specs.Each.{Each}
 use Rattle.evaluation_book.specs.Steps.Ledger.{taker_in, has_row}
 use Rattle.evaluation_book.proofs.book.ledger.takers.make_rows.Given as goal
 

@@ -2,7 +2,7 @@
 use Rattle.std.proofs.Common.{◌≡◌, inl, inr, ℕ, zero, suc, List, [], ◌∷◌, Some, refl, subst, arith}
 use Rattle.std.specs.Prelude.{slice_get}
 use Rattle.std.proofs.lemmas.Option.{none-some, same_Some}
-use Rattle.lists.specs.Each.{Among, Each}
+use Rattle.list_items.specs.Each.{Among, Each}
 
 -- what each item has, one of them has
 pub Each-at : {X : Type 0} (P : X → Type 0) (xs : List X) (y : X) → Each P xs → Among y xs → P y
