@@ -1,11 +1,10 @@
 -- What the tests of a book tell of an evaluation.
-use Rattle.std.proofs.Common.{refl, ◌≡◌, ℕ, Bool, true, false, cond, List, None, Some}
+use Rattle.std.proofs.Common.{refl, ℕ, Bool, true, false, cond, List, None, Some}
 use Rattle.std.specs.Prelude.{not, MatchOption}
 use Rattle.std.specs.List.{list_all}
 use Rattle.std.proofs.lemmas.Bool.{false≢true}
 use Rattle.evaluation.specs.Meaning.{Evaluated}
-use Rattle.evaluation_book.specs.declared.book.misfit.Misfit.{Misfit}
-use Rattle.evaluation_book.specs.declared.book.misfit.Misfit.TheVariants.{WrongNumber, UnknownTake, Torn, Back, NotOwnLatest, Memory}
+use Rattle.evaluation_book.specs.declared.book.misfit.Misfit.TheVariants.{WrongNumber, UnknownTake, Torn, Back, NotOwnLatest}
 use Rattle.list_items.specs.Each.{Each}
 use Rattle.evaluation_book.specs.Fits.{IsNumbered, IsKnown, IsUntorn, IsNotBack, IsOwnLatest, Fits, AllFit}
 use Rattle.evaluation_book.specs.Book.{IsMisfit}

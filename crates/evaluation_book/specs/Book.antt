@@ -1,5 +1,5 @@
 -- What a book is, and what it answers. Entries stand with the newest first, but in the book itself.
-use Rattle.std.specs.Prelude.{ℕ, List, reverse}
+use Rattle.std.specs.Prelude.{ℕ, List}
 use Rattle.list_items.specs.Each.{Each}
 use Rattle.evaluation.specs.Meaning.{Evaluated}
 use Rattle.evaluation_book.specs.declared.book.misfit.Misfit.{Misfit}

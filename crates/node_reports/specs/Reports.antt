@@ -1,6 +1,6 @@
 -- What a report of the threads has to be: the book fits, the journals are lawful, they made the book's entries,
 -- the commands are accounted for, and the book's entries are a run.
-use Rattle.std.specs.Prelude.{◌≡◌, ℕ, ◌+◌, ◌<◌, ◌≤◌, ◌==◌, ◌&&◌, Bool, true, false, not, List, Option, Some, None, All, Contains, length, map, filter, reverse, take, slice_get}
+use Rattle.std.specs.Prelude.{◌≡◌, ℕ, ◌<◌, ◌≤◌, ◌==◌, ◌&&◌, Bool, true, false, not, List, Option, Some, None, All, Contains, length, map, filter, reverse, take, slice_get}
 use Rattle.std.specs.List.{filter_map, list_any}
 use Rattle.std.specs.List.Sorted.{IsStrictlyIncreasing}
 use Rattle.plant.specs.PlantValue.{PlantValue, tasks_at}

@@ -15,7 +15,7 @@ mod starting;
 mod worker;
 mod worker_state;
 
-ghost use Rattle.std.specs.Prelude.{◌≡◌, All, IfOk};
+ghost use Rattle.std.specs.Prelude.{All, IfOk};
 ghost use Rattle.node_threads.specs.declared.threads.ended.Ended.{Ended};
 ghost use Rattle.node_journals.specs.Journals.{IsLawful};
 ghost use Rattle.node_threads.specs.Steps.Working.{IsWorkerFor};
