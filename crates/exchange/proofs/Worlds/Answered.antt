@@ -16,7 +16,7 @@ use Rattle.exchange.specs.declared.event.Event.TheVariants.{Deliver}
 use Rattle.exchange.specs.History.{Setting, history_of}
 use Rattle.exchange.specs.Run.{IsLog, latest, message}
 use Rattle.exchange.specs.Laws.{greater, held_with}
-use Rattle.exchange.specs.World.{WorldValue, node_takes}
+use Rattle.exchange.specs.World.{WorldValue, world_of, node_takes}
 use Rattle.exchange.specs.Step.{Answers, IsDelivered}
 use Rattle.exchange.specs.Nodes.{IsNode, IsWorld}
 use Rattle.exchange.proofs.Histories.Tasks.{same_task-itself}

@@ -18,7 +18,7 @@ use Rattle.exchange.specs.declared.event.Event.{Event}
 use Rattle.exchange.specs.declared.event.Event.TheVariants.{Evaluate, Restart}
 use Rattle.exchange.specs.History.{Setting, is_lawful, history_of, incarnation_of, number_of}
 use Rattle.exchange.specs.Run.{IsLog, IsNextEvaluation, next_name, latest}
-use Rattle.exchange.specs.World.{WorldValue, node_takes}
+use Rattle.exchange.specs.World.{WorldValue, world_of, node_takes}
 use Rattle.exchange.specs.Step.{IsDone, IsEvaluatedNow}
 use Rattle.exchange.specs.Nodes.{IsNode, IsWorld}
 use Rattle.exchange.proofs.Histories.Names.{AllLawful, AllLawful-after}
