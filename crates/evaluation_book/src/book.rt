@@ -26,13 +26,13 @@ pub struct Book {
 
 impl Model for Book {
     ghost use Rattle.evaluation_book.specs.Book.{BookValue};
-    ghost use Rattle.evaluation_book.specs.Steps.Ledger.{IsKept};
+    ghost use Rattle.evaluation_book.specs.Steps.Ledger.{IsBook};
 
     ghost Value = { BookValue };
 
     ghost view = { λ b. record { first = b.first.items; entries = b.entries.items } };
 
-    ghost invariant = { λ b. IsKept b.first.items b.entries.items b.ledger };
+    ghost invariant = { λ b. IsBook b.first.items b.entries.items b.ledger };
 }
 
 ghost use Rattle.std.specs.Prelude.{◌≡◌, ◌++◌, ◌∷◌, [], IfOk, IfErr, OnOk, OnErr, reverse};

@@ -74,13 +74,13 @@ IsAccepted old new x Taken =
     × (new ≡ record old { table = with_known old.table x.name.task (Some x) })
 
 -- what is known of one of its tasks
-abbrev pub last_of : CoreValue → ℕ → Option Evaluated
-last_of core task = known core.table (own_task core task)
+abbrev pub own_last : CoreValue → ℕ → Option Evaluated
+own_last core task = known core.table (own_task core task)
 
 -- the name of the next evaluation of one of its tasks
 abbrev pub next_name_of : CoreValue → ℕ → Name
 next_name_of core task =
-    record { task = own_task core task; incarnation = core.incarnation; number = last_number (last_of core task) + 1 }
+    record { task = own_task core task; incarnation = core.incarnation; number = last_number (own_last core task) + 1 }
 
 -- x is what this code makes, asked with what is known of each producer
 -- and the state that the task's last evaluation left
@@ -93,7 +93,7 @@ IsAskedOf core ticket name dt inputs code x =
 pub record IsNextOf (core : CoreValue) (ticket task dt : ℕ) (inputs : List FieldInput) (x : Evaluated) : Type 0 where
   pub code : CodeValue
   pub found : code_at core.plant (own_task core task) ≡ Some code
-  pub below : last_number (last_of core task) < core.max_number
+  pub below : last_number (own_last core task) < core.max_number
   pub asked : IsAskedOf core ticket (next_name_of core task) dt inputs code x
 
 -- x was made next, and from then on it is what is known of that task
@@ -102,17 +102,17 @@ pub record IsNext (old new : CoreValue) (ticket task dt : ℕ) (inputs : List Fi
   pub after : new ≡ record old { table = with_known old.table (own_task old task) (Some x) }
 
 -- the core's resource has a task
-abbrev pub HasTask : CoreValue → ℕ → Type 0
-HasTask core task = is_some (code_at core.plant (own_task core task)) ≡ true
+abbrev pub HasOwnTask : CoreValue → ℕ → Type 0
+HasOwnTask core task = is_some (code_at core.plant (own_task core task)) ≡ true
 
 -- a task can be evaluated next: the resource has it, and its numbers aren't spent
 abbrev pub IsDue : CoreValue → ℕ → Type 0
-IsDue core task = HasTask core task × (last_number (last_of core task) < core.max_number)
+IsDue core task = HasOwnTask core task × (last_number (own_last core task) < core.max_number)
 
 -- why a task is not evaluated: the first cause that holds; memory is wanting only where it could be
 abbrev pub IsEvalFault : CoreValue → ℕ → EvalFault → Type 0
 IsEvalFault core task NoSuchTask = code_at core.plant (own_task core task) ≡ None
-IsEvalFault core task NumbersSpent = HasTask core task × (core.max_number ≤ last_number (last_of core task))
+IsEvalFault core task NumbersSpent = HasOwnTask core task × (core.max_number ≤ last_number (own_last core task))
 IsEvalFault core task Memory = IsDue core task
 
 -- what is held of a task of another resource; nothing of a task of its own

@@ -35,7 +35,7 @@ ghost use Rattle.std.specs.Prelude.{◌≡◌, ◌≢◌, ◌+◌, ◌<◌, ◌�
 ghost use Rattle.std.specs.Option.{option_copied};
 ghost use Rattle.plant.specs.PlantValue.{code_at};
 ghost use Rattle.evaluation.specs.Last.{last_number};
-ghost use Rattle.exchange_core.specs.CoreValue.{fresh_core, IsCoreFault, IsUsable, IsAccepted, IsAskedOf, IsNextOf, IsNext, IsDue, IsEvalFault, held_of, last_of, own_task};
+ghost use Rattle.exchange_core.specs.CoreValue.{fresh_core, IsCoreFault, IsUsable, IsAccepted, IsAskedOf, IsNextOf, IsNext, IsDue, IsEvalFault, held_of, own_last, own_task};
 ghost use Rattle.exchange_core.specs.declared.eval_fault.EvalFault.TheVariants.{Memory};
 
 impl Core {
@@ -129,7 +129,7 @@ impl Core {
     /// The number of the next evaluation of a task of the resource; else the first cause why there can't be one. No memory is needed.
     pub fn next_number(&self, task: usize) -> Result<u32, EvalFault>
         ensures due { OnOk result (IsDue self.now task) }
-        ensures number { IfOk result (λ n. n ≡ last_number (last_of self.now task) + 1) }
+        ensures number { IfOk result (λ n. n ≡ last_number (own_last self.now task) + 1) }
         ensures fault { IfErr result (IsEvalFault self.now task) }
         ensures lasting { IfErr result (λ f. f ≢ Memory) }
     {

@@ -131,5 +131,5 @@ abbrev pub TellsAsBefore : Ledger → Ledger → Type 0
 TellsAsBefore old new = (first : List ℕ) (older : List Evaluated) → Tells first older old → Tells first older new
 
 -- What a book keeps, of entries in their order: each one fits those before it, and the ledger tells of them.
-abbrev pub IsKept : List ℕ → List Evaluated → Ledger → Type 0
-IsKept first entries ledger = AllFit first (reverse entries) × Tells first (reverse entries) ledger
+abbrev pub IsBook : List ℕ → List Evaluated → Ledger → Type 0
+IsBook first entries ledger = AllFit first (reverse entries) × Tells first (reverse entries) ledger
