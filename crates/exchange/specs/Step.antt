@@ -54,8 +54,8 @@ IsCause w e Memory = is_lawful_at w e ≡ true
 IsCause w e fault = ⊥
 
 -- a lawful event is refused for want of memory alone
-abbrev pub IsRefusal : WorldValue → Event → WorldFault → Type 0
-IsRefusal w e fault = fault ≢ Memory → is_lawful_at w e ≡ false
+abbrev pub IsRefusedEvent : WorldValue → Event → WorldFault → Type 0
+IsRefusedEvent w e fault = fault ≢ Memory → is_lawful_at w e ≡ false
 
 -- the latest of task p at n after the delivery of message k to n
 abbrev pub latest_with : WorldValue → ℕ → ℕ → TaskRef → Option Evaluated

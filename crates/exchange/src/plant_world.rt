@@ -40,7 +40,7 @@ ghost use Rattle.exchange.specs.World.{fresh_world, held_at};
 ghost use Rattle.evaluation_book.specs.Fits.{AllFit};
 ghost use Rattle.exchange.specs.Consistent.{IsConsistent};
 ghost use Rattle.exchange.specs.Theorem.{IsDataConsistent};
-ghost use Rattle.exchange.specs.Step.{history_at, is_lawful_at, IsDone, IsEvaluatedNow, IsCause, IsRefusal, IsStep, IsDelivered, IsLawfulAt, Follows};
+ghost use Rattle.exchange.specs.Step.{history_at, is_lawful_at, IsDone, IsEvaluatedNow, IsCause, IsRefusedEvent, IsStep, IsDelivered, IsLawfulAt, Follows};
 ghost use Rattle.exchange.specs.Steps.Fresh.{AreFreshCores};
 
 /// The cores before the first event.
@@ -97,7 +97,7 @@ impl World {
         ensures done { IfOk result (IsStep self.old self.new event.now) }
         ensures err { OnErr result (self.new ≡ self.old) }
         ensures cause { IfErr result (IsCause self.old event.now) }
-        ensures refused { IfErr result (IsRefusal self.old event.now) }
+        ensures refused { IfErr result (IsRefusedEvent self.old event.now) }
     {
         match event {
             Event::Evaluate {
