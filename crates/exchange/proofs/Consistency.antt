@@ -2,5 +2,6 @@
 pub mod Fitting
 pub mod NotBack
 pub mod AllFits
+pub mod Entered
 pub mod Places
 pub mod Makings

@@ -1,6 +1,5 @@
 -- Histories of lawful events, and their logs.
 pub mod Tasks
-pub mod Lists
 pub mod Latest
 pub mod Names
 pub mod Steps

@@ -1,5 +1,4 @@
 pub mod Histories
 pub mod Worlds
 pub mod Consistency
-pub mod Books
 pub mod Schedules

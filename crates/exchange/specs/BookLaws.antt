@@ -3,28 +3,33 @@ use Rattle.std.specs.Prelude.{◌≡◌, ℕ, ◌≤◌, List, reverse, Some, le
 use Rattle.plant.specs.PlantValue.{IsSoundPlant}
 use Rattle.evaluation.specs.Meaning.{Evaluated}
 use Rattle.exchange.specs.declared.event.Event.{Event}
-use Rattle.exchange.specs.declared.book.misfit.Misfit.{Misfit}
-use Rattle.exchange.specs.declared.book.misfit.Misfit.TheVariants.{Memory}
+use Rattle.evaluation_book.specs.declared.book.misfit.Misfit.{Misfit}
+use Rattle.evaluation_book.specs.declared.book.misfit.Misfit.TheVariants.{Memory}
 use Rattle.exchange.specs.History.{Setting}
 use Rattle.exchange.specs.Run.{IsRun}
 use Rattle.exchange.specs.World.{WorldValue}
-use Rattle.exchange.specs.Fits.{AllFit}
-use Rattle.exchange.specs.Book.{IsMisfit, AllCouldBeMade, Replays}
+use Rattle.evaluation_book.specs.Fits.{AllFit}
+use Rattle.evaluation_book.specs.Book.{IsMisfit}
+use Rattle.exchange.specs.Replays.{AllCouldBeMade, Replays}
 use Rattle.exchange.specs.Consistent.{IsConsistent}
 use Rattle.exchange.specs.Theorem.{HoldersAgreeIn, IsDataConsistent}
 
 -- a run is a consistent log
 abbrev pub RunsAreConsistent : Type 0
-RunsAreConsistent = (s : Setting) (events : List Event) (log : List Evaluated) → IsRun s events log → IsConsistent s.plant (reverse log)
+RunsAreConsistent =
+    (s : Setting) (events : List Event) (log : List Evaluated) → IsRun s events log → IsConsistent s.plant (reverse log)
 
 -- each evaluation of a run fits those before it
 abbrev pub RunsFit : Type 0
-RunsFit = (s : Setting) (events : List Event) (log : List Evaluated) → length s.first ≡ length s.plant.resources → IsRun s events log → AllFit s.first (reverse log)
+RunsFit =
+    (s : Setting) (events : List Event) (log : List Evaluated) → length s.first ≡ length s.plant.resources
+    → IsRun s events log → AllFit s.first (reverse log)
 
 -- entering the log of a run into a book, in order, is refused for nothing but want of memory
 abbrev pub RunsAreEntered : Type 0
 RunsAreEntered =
-    (s : Setting) (events : List Event) (log : List Evaluated) (k : ℕ) (x : Evaluated) (misfit : Misfit) → length s.first ≡ length s.plant.resources → IsRun s events log
+    (s : Setting) (events : List Event) (log : List Evaluated) (k : ℕ) (x : Evaluated) (misfit : Misfit)
+    → length s.first ≡ length s.plant.resources → IsRun s events log
     → slice_get log k ≡ Some x → IsMisfit s.first (reverse (take k log)) x misfit → misfit ≡ Memory
 
 -- the first incarnations are numbers of 32 bits
@@ -34,18 +39,23 @@ AreIncarnations first = (n : ℕ) → slice_index first n ≤ 4294967295
 -- each evaluation of a run could have been made after those before it
 abbrev pub RunsCouldBeMade : Type 0
 RunsCouldBeMade =
-    (s : Setting) (events : List Event) (log : List Evaluated) → IsSoundPlant s.plant → length s.first ≡ length s.plant.resources → AreIncarnations s.first → IsRun s events log → AllCouldBeMade s (reverse log)
+    (s : Setting) (events : List Event) (log : List Evaluated) → IsSoundPlant s.plant
+    → length s.first ≡ length s.plant.resources → AreIncarnations s.first → IsRun s events log
+    → AllCouldBeMade s (reverse log)
 
 -- events that make the entries of a run again are events of that run
 abbrev pub RunsReplay : Type 0
 RunsReplay =
-    (s : Setting) (events again : List Event) (log : List Evaluated) → IsSoundPlant s.plant → length s.first ≡ length s.plant.resources → AreIncarnations s.first → IsRun s events log
+    (s : Setting) (events again : List Event) (log : List Evaluated) → IsSoundPlant s.plant
+    → length s.first ≡ length s.plant.resources → AreIncarnations s.first → IsRun s events log
     → Replays s.first log again → IsRun s again log
 
--- Where events make the entries of a book again, the consistency theorem holds of these events and entries, and the entries are a consistent log.
+-- Where events make the entries of a book again, the consistency theorem holds of these events and entries,
+-- and the entries are a consistent log.
 abbrev pub BooksAreConsistent : Type 0
 BooksAreConsistent =
-    (s : Setting) (entries : List Evaluated) (events : List Event) → IsSoundPlant s.plant → length s.first ≡ length s.plant.resources → AllCouldBeMade s (reverse entries) → Replays s.first entries events
+    (s : Setting) (entries : List Evaluated) (events : List Event) → IsSoundPlant s.plant
+    → length s.first ≡ length s.plant.resources → AllCouldBeMade s (reverse entries) → Replays s.first entries events
     → IsDataConsistent s events entries × IsConsistent s.plant (reverse entries)
 
 -- resources that hold one evaluation hold equal values

@@ -10,11 +10,13 @@ use Rattle.plant.specs.PlantValue.{PlantValue, code_at}
 use Rattle.task_codes.specs.CodeValue.{bindings_at, source_kind}
 use Rattle.evaluation.specs.declared.take.Take.{Take}
 use Rattle.evaluation.specs.Meaning.{Evaluated, IsMeant, IsWhole, given}
-use Rattle.exchange_core.specs.Last.{from_of}
+use Rattle.evaluation.specs.Last.{from_of}
 use Rattle.exchange.specs.Run.{message}
-use Rattle.exchange.specs.Fits.{Each, name_from}
+use Rattle.list_items.specs.Each.{Each}
+use Rattle.evaluation_book.specs.Fits.{name_from}
 
--- An input of an evaluation that is bound to this output of task p: a binding of one of the code's programs has as its source that output of a producer, which is p.
+-- An input of an evaluation that is bound to this output of task p:
+-- a binding of one of the code's programs has as its source that output of a producer, which is p.
 pub record IsBoundTo (x : Evaluated) (p : TaskRef) (output : ℕ) (b : Binding) : Type 0 where
   pub program : ℕ
   pub number : ℕ
@@ -25,13 +27,17 @@ pub record IsBoundTo (x : Evaluated) (p : TaskRef) (output : ℕ) (b : Binding) 
 
 -- all inputs that are bound to task p have their values of this image
 abbrev pub HaveValuesOf : Evaluated → TaskRef → List Value → Type 0
-HaveValuesOf x p image = (output : ℕ) (b : Binding) → IsBoundTo x p output b → given x.inputs x.takes b.source ≡ slice_get image output
+HaveValuesOf x p image =
+    (output : ℕ) (b : Binding) → IsBoundTo x p output b → given x.inputs x.takes b.source ≡ slice_get image output
 
 -- all inputs that are bound to task p have the initial value of their kind: FALSE, 0 or T#0ms
 abbrev pub AreInitial : Evaluated → TaskRef → Type 0
-AreInitial x p = (output : ℕ) (b : Binding) → IsBoundTo x p output b → given x.inputs x.takes b.source ≡ option_map value_first (source_kind x.code b.source)
+AreInitial x p =
+    (output : ℕ) (b : Binding) → IsBoundTo x p output b
+    → given x.inputs x.takes b.source ≡ option_map value_first (source_kind x.code b.source)
 
--- the take of an evaluation from its k-th producer, p, names the evaluation of p with this incarnation and number, or none
+-- the take of an evaluation from its k-th producer, p,
+-- names the evaluation of p with this incarnation and number, or none
 pub record IsTaken (x : Evaluated) (k : ℕ) (p : TaskRef) (from : Option (ℕ × ℕ)) : Type 0 where
   pub take : Take
   pub taken : slice_get x.takes k ≡ Some take
@@ -42,7 +48,8 @@ pub record IsTaken (x : Evaluated) (k : ℕ) (p : TaskRef) (from : Option (ℕ �
 abbrev pub AreTakenFrom : Evaluated → TaskRef → Option (ℕ × ℕ) → Type 0
 AreTakenFrom x p from = (k : ℕ) → slice_get x.code.producers k ≡ Some p → IsTaken x k p from
 
--- All that an evaluation takes from task p is of this evaluation of p: each take from p names it, and all inputs bound to p have their values of its image.
+-- All that an evaluation takes from task p is of this evaluation of p:
+-- each take from p names it, and all inputs bound to p have their values of its image.
 -- Where it is none, no take from p names any, and all inputs bound to p are initial.
 pub record TakesOnly (x : Evaluated) (p : TaskRef) (entry : Option Evaluated) : Type 0 where
   pub named : AreTakenFrom x p (from_of entry)
@@ -59,23 +66,34 @@ pub record TakesOneEntry (log : List Evaluated) (j : ℕ) (x : Evaluated) (p : T
 
 -- the place of a take in a log: the message that it names, and 0 for a take of nothing
 abbrev pub IsPlace : List Evaluated → Take → ℕ → Type 0
-IsPlace log t k = MatchOption t.from (k ≡ 0) (λ f. (y : Evaluated) × (message log k ≡ Some y) × (y.name ≡ name_from t.producer f))
+IsPlace log t k =
+    MatchOption t.from (k ≡ 0) (λ f. (y : Evaluated) × (message log k ≡ Some y) × (y.name ≡ name_from t.producer f))
 
--- Of two evaluations of one resource in one incarnation, the later one takes nothing from a producer that stands before what the earlier one took from it.
+-- of two takes from one producer, the place of the second isn't before that of the first
+abbrev pub StandInOrder : List Evaluated → Take → Take → Type 0
+StandInOrder log t u = t.producer ≡ u.producer → (a b : ℕ) → IsPlace log t a → IsPlace log u b → a ≤ b
+
+-- Of two evaluations of one resource in one incarnation,
+-- the later one takes nothing from a producer that stands before what the earlier one took from it.
 abbrev pub NeverGoesBack : List Evaluated → Type 0
 NeverGoesBack log =
-    (i j : ℕ) (x y : Evaluated) → i < j → message log i ≡ Some x → message log j ≡ Some y → x.name.task.resource ≡ y.name.task.resource → x.name.incarnation ≡ y.name.incarnation
-    → Each (λ (t : Take). Each (λ (u : Take). t.producer ≡ u.producer → (a b : ℕ) → IsPlace log t a → IsPlace log u b → a ≤ b) y.takes) x.takes
+    (i j : ℕ) (x y : Evaluated) → i < j → message log i ≡ Some x → message log j ≡ Some y
+    → x.name.task.resource ≡ y.name.task.resource → x.name.incarnation ≡ y.name.incarnation
+    → Each (λ (t : Take). Each (StandInOrder log t) y.takes) x.takes
 
 -- a consistent log of a plant
 pub record IsConsistent (plant : PlantValue) (log : List Evaluated) : Type 0 where
-  -- for each entry and each of its producers, all inputs bound to that producer have the values of one image, that of one entry of that producer earlier in the log, or all are initial
-  pub one_image : (j k : ℕ) (x : Evaluated) (p : TaskRef) → message log j ≡ Some x → slice_get x.code.producers k ≡ Some p → TakesOneEntry log j x p ⊎ TakesOnly x p None
+  -- for each entry and each of its producers, all inputs bound to that producer have the values of one image,
+  -- that of one entry of that producer earlier in the log, or all are initial
+  pub one_image : (j k : ℕ) (x : Evaluated) (p : TaskRef) → message log j ≡ Some x
+      → slice_get x.code.producers k ≡ Some p → TakesOneEntry log j x p ⊎ TakesOnly x p None
   -- within one incarnation of a resource, the places taken of one producer never fall
   pub never_back : NeverGoesBack log
   -- entries of equal name are equal
-  pub equal_names : (i j : ℕ) (x y : Evaluated) → message log i ≡ Some x → message log j ≡ Some y → x.name ≡ y.name → x ≡ y
-  -- the code is that of the task in the plant; the states are of that code, and there is one take for each of its producers
+  pub equal_names : (i j : ℕ) (x y : Evaluated) → message log i ≡ Some x → message log j ≡ Some y
+      → x.name ≡ y.name → x ≡ y
+  -- the code is that of the task in the plant; the states are of that code,
+  -- and there is one take for each of its producers
   pub coded : (j : ℕ) (x : Evaluated) → message log j ≡ Some x → code_at plant x.name.task ≡ Some x.code
   pub whole : (j : ℕ) (x : Evaluated) → message log j ≡ Some x → IsWhole x
   -- the outputs and the state after are what the task means

@@ -2,7 +2,7 @@
 use Rattle.std.specs.Prelude.{ℕ, ◌+◌, ◌==◌, ◌&&◌, Bool, true, false, nat_lt, nat_le, List, [], ◌∷◌, is_some, slice_index, length, filter, if◌then◌else◌}
 use Rattle.due_list.specs.declared.task_ref.TaskRef.{TaskRef}
 use Rattle.plant.specs.PlantValue.{PlantValue, code_at}
-use Rattle.exchange_core.specs.Last.{same_task}
+use Rattle.evaluation.specs.Last.{same_task}
 use Rattle.exchange.specs.declared.event.Event.{Event}
 use Rattle.exchange.specs.declared.event.Event.TheVariants.{Evaluate, Deliver, Restart}
 
@@ -11,6 +11,10 @@ pub record Setting : Type 0 where
   pub plant : PlantValue
   pub first : List ℕ
   pub max_number : ℕ
+
+-- the setting of this plant, these first incarnations and this greatest number
+abbrev pub setting_over : PlantValue → List ℕ → ℕ → Setting
+setting_over plant first max_number = record { plant = plant; first = first; max_number = max_number }
 
 -- an evaluation
 abbrev pub is_evaluate : Event → Bool
@@ -53,11 +57,15 @@ number_of t history = length (filter (is_evaluate_of t) (since_restart t.resourc
 abbrev pub incarnation_of : Setting → ℕ → List Event → ℕ
 incarnation_of s n history = slice_index s.first n + length (filter (is_restart_of n) history)
 
--- An event is lawful after a history: its resource, task or message exists, and its task's numbers or its resource's incarnations aren't spent.
+-- An event is lawful after a history: its resource, task or message exists,
+-- and its task's numbers or its resource's incarnations aren't spent.
 abbrev pub is_lawful : Setting → List Event → Event → Bool
-is_lawful s history (Evaluate ticket task dt inputs) = is_some (code_at s.plant task) && nat_lt (number_of task history) s.max_number
-is_lawful s history (Deliver message resource) = nat_lt resource (length s.plant.resources) && (nat_le 1 message && nat_le message (made_count history))
-is_lawful s history (Restart resource) = nat_lt resource (length s.plant.resources) && nat_lt (incarnation_of s resource history) 4294967295
+is_lawful s history (Evaluate ticket task dt inputs) =
+    is_some (code_at s.plant task) && nat_lt (number_of task history) s.max_number
+is_lawful s history (Deliver message resource) =
+    nat_lt resource (length s.plant.resources) && (nat_le 1 message && nat_le message (made_count history))
+is_lawful s history (Restart resource) =
+    nat_lt resource (length s.plant.resources) && nat_lt (incarnation_of s resource history) 4294967295
 
 -- the history after these events: each lawful one has happened, every other one has changed nothing
 abbrev pub after_events : Setting → List Event → List Event → List Event
@@ -71,4 +79,5 @@ history_of s events = after_events s [] events
 -- the lawful ones among these events, in their order, after a history
 abbrev pub lawful_among : Setting → List Event → List Event → List Event
 lawful_among s history [] = []
-lawful_among s history (e ∷ es) = if is_lawful s history e then e ∷ lawful_among s (e ∷ history) es else lawful_among s history es
+lawful_among s history (e ∷ es) =
+    if is_lawful s history e then e ∷ lawful_among s (e ∷ history) es else lawful_among s history es

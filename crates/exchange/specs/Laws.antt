@@ -3,7 +3,7 @@ use Rattle.std.specs.Prelude.{◌≡◌, ◌≢◌, ℕ, ◌<◌, true, List, �
 use Rattle.due_list.specs.declared.task_ref.TaskRef.{TaskRef}
 use Rattle.evaluation.specs.Names.{precedes}
 use Rattle.evaluation.specs.Meaning.{Evaluated}
-use Rattle.exchange_core.specs.Last.{same_task}
+use Rattle.evaluation.specs.Last.{same_task}
 use Rattle.exchange.specs.declared.event.Event.{Event}
 use Rattle.exchange.specs.declared.event.Event.TheVariants.{Deliver}
 use Rattle.exchange.specs.History.{Setting, history_of}
@@ -11,11 +11,15 @@ use Rattle.exchange.specs.Run.{IsRun, latest, message}
 
 -- a list of events has one run
 abbrev pub OneRun : Type 0
-OneRun = (s : Setting) (events : List Event) (log log2 : List Evaluated) → IsRun s events log → IsRun s events log2 → log ≡ log2
+OneRun =
+    (s : Setting) (events : List Event) (log log2 : List Evaluated) → IsRun s events log → IsRun s events log2
+    → log ≡ log2
 
 -- of two evaluations of one task in a run, the pair of the later one is greater
 abbrev pub PairsRise : Type 0
-PairsRise = (s : Setting) (events : List Event) (log : List Evaluated) (j k : ℕ) (x y : Evaluated) → IsRun s events log → slice_get log j ≡ Some x → slice_get log k ≡ Some y
+PairsRise =
+    (s : Setting) (events : List Event) (log : List Evaluated) (j k : ℕ) (x y : Evaluated) → IsRun s events log
+    → slice_get log j ≡ Some x → slice_get log k ≡ Some y
     → x.name.task ≡ y.name.task → j < k → precedes x.name y.name ≡ true
 
 -- the greater of what is held and a new one
@@ -28,7 +32,11 @@ abbrev pub held_with : TaskRef → Option Evaluated → Option Evaluated → Opt
 held_with p held None = held
 held_with p held (Some x) = if same_task x.name.task p then greater held x else held
 
--- after any events, a delivery to another resource than p's changes the latest of p there to the greater of it and the message
+-- after any events, a delivery to another resource than p's changes the latest of p there
+-- to the greater of it and the message
 abbrev pub KeptIsLatest : Type 0
-KeptIsLatest = (s : Setting) (events : List Event) (log : List Evaluated) (n k : ℕ) (p : TaskRef) → IsRun s events log → p.resource ≢ n
-    → latest n (Deliver k n ∷ history_of s events) p (reverse log) ≡ held_with p (latest n (history_of s events) p (reverse log)) (message (reverse log) k)
+KeptIsLatest =
+    (s : Setting) (events : List Event) (log : List Evaluated) (n k : ℕ) (p : TaskRef) → IsRun s events log
+    → p.resource ≢ n
+    → latest n (Deliver k n ∷ history_of s events) p (reverse log)
+    ≡ held_with p (latest n (history_of s events) p (reverse log)) (message (reverse log) k)

@@ -4,8 +4,7 @@ pub mod World
 pub mod Nodes
 pub mod Step
 pub mod Laws
-pub mod Fits
-pub mod Book
+pub mod Replays
 pub mod Schedule
 pub mod Consistent
 pub mod Theorem

@@ -1,12 +1,12 @@
 -- What the parts of a world are: its cores, beside its events and its log.
 use Rattle.std.specs.Prelude.{◌≡◌, ℕ, ◌==◌, ◌||◌, List, Option, Some, None, length, reverse, slice_get, if◌then◌else◌}
 use Rattle.due_list.specs.declared.task_ref.TaskRef.{TaskRef}
-use Rattle.plant.specs.PlantValue.{IsSoundPlant}
+use Rattle.plant.specs.PlantValue.{PlantValue, IsSoundPlant}
 use Rattle.evaluation.specs.Meaning.{Evaluated}
 use Rattle.exchange_core.specs.Held.{known, IsShaped}
 use Rattle.exchange_core.specs.CoreValue.{CoreValue}
 use Rattle.exchange.specs.declared.event.Event.{Event}
-use Rattle.exchange.specs.History.{Setting, history_of, incarnation_of}
+use Rattle.exchange.specs.History.{Setting, setting_over, history_of, incarnation_of}
 use Rattle.exchange.specs.Run.{IsRun, latest}
 use Rattle.exchange.specs.World.{node_takes}
 
@@ -29,4 +29,9 @@ pub record IsWorld (s : Setting) (events : List Event) (log : List Evaluated) (c
   pub logged : IsRun s events log
   pub firsts : length s.first ≡ length s.plant.resources
   pub sized : length cores ≡ length s.plant.resources
-  pub nodes : (n : ℕ) (core : CoreValue) → slice_get cores n ≡ Some core → IsNode s (history_of s events) (reverse log) n core
+  pub nodes : (n : ℕ) (core : CoreValue) → slice_get cores n ≡ Some core
+      → IsNode s (history_of s events) (reverse log) n core
+
+-- so of a world over this plant, these first incarnations and this greatest number
+abbrev pub IsWorldOf : PlantValue → List ℕ → ℕ → List Event → List Evaluated → List CoreValue → Type 0
+IsWorldOf plant first max_number events log cores = IsWorld (setting_over plant first max_number) events log cores

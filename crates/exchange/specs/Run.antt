@@ -7,12 +7,13 @@ use Rattle.task_codes.specs.CodeValue.{CodeValue}
 use Rattle.evaluation.specs.declared.field_input.FieldInput.{FieldInput}
 use Rattle.evaluation.specs.declared.name.Name.{Name}
 use Rattle.evaluation.specs.Meaning.{Evaluated, IsAsked}
-use Rattle.exchange_core.specs.Last.{same_task, state_of, takes_of}
+use Rattle.evaluation.specs.Last.{same_task, state_of, takes_of}
 use Rattle.exchange.specs.declared.event.Event.{Event}
 use Rattle.exchange.specs.declared.event.Event.TheVariants.{Evaluate, Deliver, Restart}
 use Rattle.exchange.specs.History.{Setting, made_count, since_restart, is_deliver_of, incarnation_of, number_of, history_of}
 
--- Message k, this evaluation, has reached resource n: it was made there after the last restart of n, or it was delivered there after it.
+-- Message k, this evaluation, has reached resource n:
+-- it was made there after the last restart of n, or it was delivered there after it.
 abbrev pub has_reached : ℕ → List Event → ℕ → Evaluated → Bool
 has_reached n history k x =
     if x.name.task.resource == n
@@ -27,30 +28,39 @@ message (x ∷ older) k = if k == suc (length older) then Some x else message ol
 -- of the evaluations of p, the last one that passes, by its message and itself
 abbrev pub last_among : TaskRef → (ℕ → Evaluated → Bool) → List Evaluated → Option Evaluated
 last_among p passes [] = None
-last_among p passes (x ∷ older) = if same_task x.name.task p && passes (suc (length older)) x then Some x else last_among p passes older
+last_among p passes (x ∷ older) =
+    if same_task x.name.task p && passes (suc (length older)) x then Some x else last_among p passes older
 
 -- The latest of producer p at resource n: the last of its evaluations among those that have reached n.
 abbrev pub latest : ℕ → List Event → TaskRef → List Evaluated → Option Evaluated
 latest n history p log = last_among p (has_reached n history) log
 
--- the name of the next evaluation of a task: the present incarnation of its resource, and one more than its evaluations since that began
+-- the name of the next evaluation of a task: the present incarnation of its resource,
+-- and one more than its evaluations since that began
 abbrev pub next_name : Setting → TaskRef → List Event → Name
-next_name s t history = record { task = t; incarnation = incarnation_of s t.resource history; number = number_of t history + 1 }
+next_name s t history =
+    record { task = t; incarnation = incarnation_of s t.resource history; number = number_of t history + 1 }
 
--- x is the next evaluation of a task after a history and its log: the plant's code, asked with the latest of each producer and the state that the task's latest left
-pub record IsNextEvaluation (s : Setting) (history : List Event) (log : List Evaluated) (ticket : ℕ) (task : TaskRef) (dt : ℕ) (inputs : List FieldInput) (x : Evaluated) : Type 0 where
+-- x is the next evaluation of a task after a history and its log:
+-- the plant's code, asked with the latest of each producer and the state that the task's latest left
+pub record IsNextEvaluation (s : Setting) (history : List Event) (log : List Evaluated) (ticket : ℕ) (task : TaskRef)
+    (dt : ℕ) (inputs : List FieldInput) (x : Evaluated) : Type 0 where
   pub code : CodeValue
   pub found : code_at s.plant task ≡ Some code
-  pub asked : IsAsked ticket (next_name s task history) dt inputs (takes_of (λ p. latest task.resource history p log) code) (state_of code (latest task.resource history task log)) code x
+  pub asked : IsAsked ticket (next_name s task history) dt inputs
+      (takes_of (λ p. latest task.resource history p log) code)
+      (state_of code (latest task.resource history task log)) code x
 
--- These are the evaluations made in a history of lawful events: an Evaluate has made one, put in front of those before; no other event makes any.
+-- These are the evaluations made in a history of lawful events:
+-- an Evaluate has made one, put in front of those before; no other event makes any.
 abbrev pub IsLog : Setting → List Event → List Evaluated → Type 0
 IsLog s [] [] = Unit {0}
 IsLog s [] (x ∷ older) = ⊥
 IsLog s (Deliver message resource ∷ history) log = IsLog s history log
 IsLog s (Restart resource ∷ history) log = IsLog s history log
 IsLog s (Evaluate ticket task dt inputs ∷ history) [] = ⊥
-IsLog s (Evaluate ticket task dt inputs ∷ history) (x ∷ older) = IsLog s history older × IsNextEvaluation s history older ticket task dt inputs x
+IsLog s (Evaluate ticket task dt inputs ∷ history) (x ∷ older) =
+    IsLog s history older × IsNextEvaluation s history older ticket task dt inputs x
 
 -- a run of a list of events: the evaluations made, in the order of their making
 abbrev pub IsRun : Setting → List Event → List Evaluated → Type 0

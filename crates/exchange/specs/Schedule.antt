@@ -6,13 +6,15 @@ use Rattle.due_list.specs.declared.task_ref.TaskRef.{TaskRef}
 use Rattle.evaluation.specs.declared.name.Name.{Name}
 use Rattle.evaluation.specs.declared.take.Take.{Take}
 use Rattle.evaluation.specs.Meaning.{Evaluated}
-use Rattle.exchange_core.specs.Last.{same_task, from_of}
+use Rattle.evaluation.specs.Last.{same_task, from_of}
 use Rattle.exchange.specs.declared.event.Event.{Event}
 use Rattle.exchange.specs.declared.event.Event.TheVariants.{Evaluate, Deliver, Restart}
 
 -- the present incarnation of a resource: that of its newest entry, else its first
 abbrev pub present : List ℕ → List Evaluated → ℕ → ℕ
-present first older n = option_map_or (λ (y : Evaluated). y.name.incarnation) (find (λ (y : Evaluated). y.name.task.resource == n) older) (slice_index first n)
+present first older n =
+    option_map_or (λ (y : Evaluated). y.name.incarnation) (find (λ (y : Evaluated). y.name.task.resource == n) older)
+    (slice_index first n)
 
 -- whether this incarnation and number were taken
 abbrev pub is_from : Option (ℕ × ℕ) → ℕ × ℕ → Bool
@@ -22,7 +24,8 @@ is_from (Some e) f = e.0 == f.0 && e.1 == f.1
 -- the message of a task's evaluation of this incarnation and number, 0 where there is none
 abbrev pub message_of : List Evaluated → TaskRef → ℕ × ℕ → ℕ
 message_of [] q f = 0
-message_of (y ∷ older) q f = if same_task y.name.task q && is_from (from_of (Some y)) f then suc (length older) else message_of older q f
+message_of (y ∷ older) q f =
+    if same_task y.name.task q && is_from (from_of (Some y)) f then suc (length older) else message_of older q f
 
 -- the incarnation and number taken of a producer
 abbrev pub taken_in : TaskRef → List Take → Option (ℕ × ℕ)
@@ -30,7 +33,9 @@ taken_in q takes = option_and_then (λ (u : Take). u.from) (find (λ (u : Take).
 
 -- an entry of this name's resource and incarnation, which took from this producer
 abbrev pub takes_from : Name → TaskRef → Evaluated → Bool
-takes_from name q y = y.name.task.resource == name.task.resource && (y.name.incarnation == name.incarnation && list_any (λ (u : Take). same_task u.producer q) y.takes)
+takes_from name q y =
+    y.name.task.resource == name.task.resource
+    && (y.name.incarnation == name.incarnation && list_any (λ (u : Take). same_task u.producer q) y.takes)
 
 -- what was taken last of a producer at this name's resource, in its incarnation
 abbrev pub last_taken : List Evaluated → Name → TaskRef → Option (ℕ × ℕ)
@@ -39,17 +44,24 @@ last_taken older name q = option_and_then (λ (y : Evaluated). taken_in q y.take
 -- the delivery of what is taken of a producer, unless that is nothing or was taken last
 abbrev pub delivery_from : List Evaluated → Name → TaskRef → Option (ℕ × ℕ) → List Event
 delivery_from older name q None = []
-delivery_from older name q (Some f) = if is_from (last_taken older name q) f then [] else Deliver (message_of older q f) name.task.resource ∷ []
+delivery_from older name q (Some f) =
+    if is_from (last_taken older name q) f then [] else Deliver (message_of older q f) name.task.resource ∷ []
 
 -- the delivery that a take needs; none from the own resource
 abbrev pub delivery : List Evaluated → Name → Take → List Event
-delivery older name t = if t.producer.resource == name.task.resource then [] else delivery_from older name t.producer t.from
+delivery older name t =
+    if t.producer.resource == name.task.resource then [] else delivery_from older name t.producer t.from
 
--- the events of an entry: the restarts that bring its resource to its incarnation, the deliveries that its takes need, and its evaluation
+-- the deliveries that these takes need, in their order
+abbrev pub deliveries : List Evaluated → Name → List Take → List Event
+deliveries older name takes = flat_map (delivery older name) takes
+
+-- the events of an entry: the restarts that bring its resource to its incarnation, the deliveries that its takes need,
+-- and its evaluation
 abbrev pub events_of : List ℕ → List Evaluated → Evaluated → List Event
 events_of first older x =
     replicate (x.name.incarnation - present first older x.name.task.resource) (Restart x.name.task.resource)
-    ++ (flat_map (delivery older x.name) x.takes ++ Evaluate x.ticket x.name.task x.dt x.inputs ∷ [])
+    ++ (deliveries older x.name x.takes ++ Evaluate x.ticket x.name.task x.dt x.inputs ∷ [])
 
 -- the events of all entries, in their order
 abbrev pub schedule_of : List ℕ → List Evaluated → List Event

@@ -1,4 +1,2 @@
--- Steps of the proofs: the cores halfway, and the tests of a book. Only contracts inside this crate cite them, so no reader has to believe them.
+-- Steps of the proofs: the cores halfway. Only contracts inside this crate cite them, so no reader has to believe them.
 pub mod Fresh
-pub mod Deciding
-pub mod Ledger

@@ -4,17 +4,17 @@ use Rattle.due_list.specs.declared.task_ref.TaskRef.{TaskRef}
 use Rattle.plant.specs.PlantValue.{code_at}
 use Rattle.evaluation.specs.declared.field_input.FieldInput.{FieldInput}
 use Rattle.evaluation.specs.Meaning.{Evaluated, IsMeant}
-use Rattle.exchange_core.specs.Last.{state_of}
+use Rattle.evaluation.specs.Last.{state_of}
 use Rattle.exchange.specs.declared.event.Event.{Event}
 use Rattle.exchange.specs.declared.event.Event.TheVariants.{Evaluate}
 use Rattle.exchange.specs.History.{Setting, made_count, is_lawful, history_of}
 use Rattle.exchange.specs.Run.{IsRun}
-use Rattle.exchange.specs.World.{WorldValue, latest_at, held_at}
+use Rattle.exchange.specs.World.{WorldValue, world_of, latest_at, held_at}
 use Rattle.exchange.specs.Consistent.{TakesOnly, NeverGoesBack}
 
 -- the world after the first events of a list whose run this is
 abbrev pub world_after : Setting → List Event → List Evaluated → WorldValue
-world_after s before log = record { setting = s; events = before; log = take (made_count (history_of s before)) log }
+world_after s before log = world_of s before (take (made_count (history_of s before)) log)
 
 -- How an evaluation of a run came about: x is the entry at place k.
 pub record IsMade (s : Setting) (events : List Event) (log : List Evaluated) (k : ℕ) (x : Evaluated) : Type 0 where
@@ -27,9 +27,11 @@ pub record IsMade (s : Setting) (events : List Event) (log : List Evaluated) (k 
   pub events_are : events ≡ before ++ Evaluate ticket x.name.task dt inputs ∷ later
   pub lawful : is_lawful s (history_of s before) (Evaluate ticket x.name.task dt inputs) ≡ true
   pub place : k ≡ made_count (history_of s before)
-  -- all that it takes from one producer is of one evaluation of it, the latest that had reached the taker's resource; its inputs are initial if none had
+  -- all that it takes from one producer is of one evaluation of it, the latest that had reached the taker's resource;
+  -- its inputs are initial if none had
   pub taken : (p : TaskRef) → TakesOnly x p (latest_at (world_after s before log) x.name.task.resource p)
-  -- it started from the stored state: what the task's evaluation before left in this incarnation; the initial state if there was none
+  -- it started from the stored state: what the task's evaluation before left in this incarnation;
+  -- the initial state if there was none
   pub code_is : code_at s.plant x.name.task ≡ Some x.code
   pub stored : x.before ≡ state_of x.code (latest_at (world_after s before log) x.name.task.resource x.name.task)
   -- with the event's ticket, elapsed time and field inputs, its outputs and the state after are the meaning of that
@@ -40,17 +42,21 @@ pub record IsMade (s : Setting) (events : List Event) (log : List Evaluated) (k 
 
 -- resources that hold one evaluation hold equal values
 abbrev pub HoldersAgreeIn : WorldValue → Type 0
-HoldersAgreeIn w = (n m : ℕ) (p q : TaskRef) (x y : Evaluated) → held_at w n p ≡ Some x → held_at w m q ≡ Some y → x.name ≡ y.name → x ≡ y
+HoldersAgreeIn w =
+    (n m : ℕ) (p q : TaskRef) (x y : Evaluated) → held_at w n p ≡ Some x → held_at w m q ≡ Some y
+    → x.name ≡ y.name → x ≡ y
 
 -- what the theorem says of a list of events and its run
 pub record IsDataConsistent (s : Setting) (events : List Event) (log : List Evaluated) : Type 0 where
-  -- each evaluation took the latest that had reached its resource, started from the stored state, and is what that means
+  -- each evaluation took the latest that had reached its resource, started from the stored state,
+  -- and is what that means
   pub made : (k : ℕ) (x : Evaluated) → slice_get log k ≡ Some x → IsMade s events log k x
   -- evaluations taken never go back within an incarnation
   pub never_back : NeverGoesBack (reverse log)
   -- resources that hold one evaluation hold equal values
-  pub holders : HoldersAgreeIn (record { setting = s; events = events; log = log })
+  pub holders : HoldersAgreeIn (world_of s events log)
 
 -- over every list of events
 abbrev pub ConsistencyTheorem : Type 0
-ConsistencyTheorem = (s : Setting) (events : List Event) (log : List Evaluated) → IsRun s events log → IsDataConsistent s events log
+ConsistencyTheorem =
+    (s : Setting) (events : List Event) (log : List Evaluated) → IsRun s events log → IsDataConsistent s events log

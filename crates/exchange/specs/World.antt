@@ -1,19 +1,27 @@
 -- What a world is, to a contract: its setting, the events that were done, and the evaluations made, in their order.
-use Rattle.std.specs.Prelude.{ℕ, ◌==◌, Bool, List, Option, None, reverse, if◌then◌else◌}
+use Rattle.std.specs.Prelude.{ℕ, ◌==◌, Bool, List, [], Option, None, reverse, if◌then◌else◌}
 use Rattle.std.specs.List.{list_any}
 use Rattle.due_list.specs.declared.task_ref.TaskRef.{TaskRef}
 use Rattle.plant.specs.PlantValue.{PlantValue, codes_at}
 use Rattle.task_codes.specs.CodeValue.{CodeValue}
 use Rattle.evaluation.specs.Meaning.{Evaluated}
-use Rattle.exchange_core.specs.Last.{same_task}
+use Rattle.evaluation.specs.Last.{same_task}
 use Rattle.exchange.specs.declared.event.Event.{Event}
-use Rattle.exchange.specs.History.{Setting, history_of}
+use Rattle.exchange.specs.History.{Setting, setting_over, history_of}
 use Rattle.exchange.specs.Run.{latest}
 
 pub record WorldValue : Type 0 where
   pub setting : Setting
   pub events : List Event
   pub log : List Evaluated
+
+-- the world of this setting, in which these events were done and these evaluations made
+abbrev pub world_of : Setting → List Event → List Evaluated → WorldValue
+world_of s events log = record { setting = s; events = events; log = log }
+
+-- a world before its first event
+abbrev pub fresh_world : PlantValue → List ℕ → ℕ → WorldValue
+fresh_world plant first max_number = world_of (setting_over plant first max_number) [] []
 
 -- whether some task of resource n takes from task p
 abbrev pub node_takes : PlantValue → ℕ → TaskRef → Bool

@@ -1,17 +1,17 @@
-//! The exchange of all resources of a plant, in one thread, by a list of events; and the book of the evaluations made.
+//! The exchange of all resources of a plant, in one thread, by a list of events; and the events that make a book's entries again.
 #![tactic(auto)]
 
-mod book;
 mod done;
 mod event;
 mod laws;
 mod log_laws;
 mod plant_world;
 mod replay_laws;
+mod schedule;
 mod world_fault;
 
-pub use book::{Book, Misfit};
 pub use done::Done;
+pub use evaluation_book::{Book, Misfit};
 pub use event::Event;
 pub use laws::{keeping_the_greatest_keeps_the_latest, one_run, pairs_rise};
 pub use log_laws::{
@@ -20,4 +20,5 @@ pub use log_laws::{
 };
 pub use plant_world::World;
 pub use replay_laws::{runs_could_be_made, runs_replay};
+pub use schedule::Schedule;
 pub use world_fault::WorldFault;

@@ -20,28 +20,28 @@ pub struct World {
 }
 
 impl Model for World {
-    ghost use Rattle.exchange.specs.World.{WorldValue};
-    ghost use Rattle.exchange.specs.Nodes.{IsWorld};
+    ghost use Rattle.exchange.specs.History.{setting_over};
+    ghost use Rattle.exchange.specs.World.{WorldValue, world_of};
+    ghost use Rattle.exchange.specs.Nodes.{IsWorldOf};
 
     ghost Value = { WorldValue };
 
-    ghost view = { λ w. record { setting = record { plant = w.plant.value; first = w.first.items; max_number = w.max_number }; events = w.events.items; log = w.log.items } };
+    ghost view = { λ w. world_of (setting_over w.plant.value w.first.items w.max_number) w.events.items w.log.items };
 
-    ghost invariant = { λ w. IsWorld (record { plant = w.plant.value; first = w.first.items; max_number = w.max_number }) w.events.items w.log.items w.cores.items };
+    ghost invariant = { λ w. IsWorldOf w.plant.value w.first.items w.max_number w.events.items w.log.items w.cores.items };
 }
 
-ghost use Rattle.std.specs.Prelude.{◌≡◌, ◌≢◌, ◌∷◌, [], true, false, IfOk, IfErr, IfSome, OnOk, OnErr, Contains, length, reverse, take};
+ghost use Rattle.std.specs.Prelude.{◌≡◌, ◌∷◌, [], true, IfOk, IfErr, IfSome, OnOk, OnErr, Contains, length, reverse, take};
 ghost use Rattle.std.specs.Option.{option_copied};
 ghost use Rattle.exchange.specs.declared.event.Event.TheVariants.{Evaluate, Deliver, Restart};
-ghost use Rattle.exchange.specs.declared.world_fault.WorldFault.TheVariants.{Memory};
-ghost use Rattle.exchange.specs.History.{incarnation_of, is_lawful};
+ghost use Rattle.exchange.specs.History.{incarnation_of};
 ghost use Rattle.exchange.specs.Run.{IsRun};
-ghost use Rattle.exchange.specs.World.{held_at};
-ghost use Rattle.exchange.specs.Fits.{AllFit};
+ghost use Rattle.exchange.specs.World.{fresh_world, held_at};
+ghost use Rattle.evaluation_book.specs.Fits.{AllFit};
 ghost use Rattle.exchange.specs.Consistent.{IsConsistent};
 ghost use Rattle.exchange.specs.Theorem.{IsDataConsistent};
-ghost use Rattle.exchange.specs.Step.{history_at, IsDone, IsEvaluatedNow, IsCause, IsStep, IsDelivered, IsLawfulAt, Follows};
-ghost use Rattle.exchange.specs.Steps.Fresh.{AreFresh};
+ghost use Rattle.exchange.specs.Step.{history_at, is_lawful_at, IsDone, IsEvaluatedNow, IsCause, IsRefusedEvent, IsStep, IsDelivered, IsLawfulAt, Follows};
+ghost use Rattle.exchange.specs.Steps.Fresh.{AreFreshCores};
 
 /// The cores before the first event.
 fn fresh_cores(
@@ -51,7 +51,7 @@ fn fresh_cores(
     max_number: u32,
 ) -> Result<Vec<Core>, AllocError>
     requires { length first.now ≡ length plant.now.value.resources }
-    ensures { IfOk result (λ cores. AreFresh plant.now.value first.now max_number (length plant.now.value.resources) cores.items) }
+    ensures { IfOk result (λ cores. AreFreshCores plant.now.value first.now max_number cores.items) }
 {
     let mut cores = Vec::with_capacity(alloc, plant.resources())?;
     for resource in 0..plant.resources() {
@@ -75,7 +75,7 @@ impl World {
         max_number: u32,
     ) -> Result<World, AllocError>
         requires { length first.now ≡ length plant.value.resources }
-        ensures { IfOk result (λ w. w ≡ record { setting = record { plant = plant.value; first = first.now; max_number = max_number }; events = []; log = [] }) }
+        ensures { IfOk result (λ w. w ≡ fresh_world plant.value first.now max_number) }
     {
         let resources = plant.resources();
         prove!(resources == first.len());
@@ -97,7 +97,7 @@ impl World {
         ensures done { IfOk result (IsStep self.old self.new event.now) }
         ensures err { OnErr result (self.new ≡ self.old) }
         ensures cause { IfErr result (IsCause self.old event.now) }
-        ensures refused { IfErr result (λ fault. fault ≢ Memory → is_lawful self.old.setting (history_at self.old) event.now ≡ false) }
+        ensures refused { IfErr result (IsRefusedEvent self.old event.now) }
     {
         match event {
             Event::Evaluate {
@@ -176,7 +176,7 @@ impl World {
     fn go(&mut self, alloc: Global, event: &Event) -> Result<(), AllocError>
         ensures ok { OnOk result (Follows self.old self.new (event.now ∷ [])) }
         ensures err { OnErr result (self.new ≡ self.old) }
-        ensures lawful { OnErr result (is_lawful self.old.setting (history_at self.old) event.now ≡ true) }
+        ensures lawful { OnErr result (is_lawful_at self.old event.now ≡ true) }
     {
         match self.step(alloc, event) {
             Ok(_) => Ok(()),

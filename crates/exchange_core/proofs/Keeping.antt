@@ -8,7 +8,7 @@ use Rattle.plant.specs.PlantValue.{ResourceValue, PlantValue, code_at, IsSoundPl
 use Rattle.task_codes.specs.CodeValue.{CodeValue, image_kinds}
 use Rattle.evaluation.specs.declared.field_input.FieldInput.{FieldInput}
 use Rattle.evaluation.specs.Meaning.{Evaluated}
-use Rattle.exchange_core.specs.Last.{same_task}
+use Rattle.evaluation.specs.Last.{same_task}
 use Rattle.exchange_core.specs.Held.{known, with_known}
 use Rattle.exchange_core.specs.CoreValue.{CoreValue, fresh_core, own_task, IsUsable, IsNextOf, IsCore, IsKnownOf}
 use Rattle.exchange_core.specs.Steps.Knowing.{has_place, FitsLast}

@@ -17,7 +17,7 @@ use Rattle.task_codes.specs.CodeValue.{CodeValue, expected_at, image_kinds, IsSo
 use Rattle.evaluation.specs.declared.take.Take.{Take}
 use Rattle.evaluation.specs.Takes.{initial_image, IsTakeOf, AreTakesOf}
 use Rattle.evaluation.specs.Meaning.{Evaluated}
-use Rattle.exchange_core.specs.Last.{take_of, takes_of}
+use Rattle.evaluation.specs.Last.{take_of, takes_of}
 use Rattle.exchange_core.specs.Held.{known}
 use Rattle.exchange_core.specs.CoreValue.{CoreValue, IsCore}
 

@@ -15,7 +15,7 @@ use Rattle.exchange_core.specs.declared.core_fault.CoreFault.{CoreFault}
 use Rattle.exchange_core.specs.declared.core_fault.CoreFault.TheVariants as fault
 use Rattle.exchange_core.specs.declared.eval_fault.EvalFault.{EvalFault}
 use Rattle.exchange_core.specs.declared.eval_fault.EvalFault.TheVariants.{NoSuchTask, NumbersSpent, Memory}
-use Rattle.exchange_core.specs.Last.{state_of, takes_of, last_number}
+use Rattle.evaluation.specs.Last.{state_of, takes_of, last_number}
 use Rattle.exchange_core.specs.Held.{Table, known, with_known, empty_for, IsShaped}
 
 -- A core: its plant, its resource, its incarnation, the greatest number, and the last evaluation known of each task:
@@ -27,10 +27,14 @@ pub record CoreValue : Type 0 where
   pub max_number : ℕ
   pub table : Table
 
+-- the core of these parts
+abbrev pub core_of : PlantValue → ℕ → ℕ → ℕ → Table → CoreValue
+core_of plant resource incarnation max_number table =
+    record { plant = plant; resource = resource; incarnation = incarnation; max_number = max_number; table = table }
+
 -- a core that holds nothing, with all tasks initial
 abbrev pub fresh_core : PlantValue → ℕ → ℕ → ℕ → CoreValue
-fresh_core plant resource incarnation max_number =
-    record { plant = plant; resource = resource; incarnation = incarnation; max_number = max_number; table = empty_for plant }
+fresh_core plant resource incarnation max_number = core_of plant resource incarnation max_number (empty_for plant)
 
 -- why there is no core; memory is wanting only where there is such a resource
 abbrev pub IsCoreFault : PlantValue → ℕ → CoreFault → Type 0
@@ -50,7 +54,8 @@ pub record Expects (plant : PlantValue) (resource : ℕ) (p : TaskRef) (kinds : 
   pub producer_is : slice_get code.producers place ≡ Some p
   pub kinds_are : expected_at code place ≡ kinds
 
--- an evaluation is of use: it is of another resource's task, from which a task here takes, and its image has the kinds expected
+-- an evaluation is of use: it is of another resource's task, from which a task here takes,
+-- and its image has the kinds expected
 pub record IsUsable (core : CoreValue) (x : Evaluated) : Type 0 where
   pub another : x.name.task.resource ≢ core.resource
   pub expected : Expects core.plant core.resource x.name.task (map kind_of x.outputs)
@@ -64,39 +69,58 @@ is_greater (Some y) name = precedes y.name name
 abbrev pub IsAccepted : CoreValue → CoreValue → Evaluated → Accepted → Type 0
 IsAccepted old new x Unused = (IsUsable old x → ⊥) × (new ≡ old)
 IsAccepted old new x Old = IsUsable old x × (is_greater (known old.table x.name.task) x.name ≡ false) × (new ≡ old)
-IsAccepted old new x Taken = IsUsable old x × (is_greater (known old.table x.name.task) x.name ≡ true) × (new ≡ record old { table = with_known old.table x.name.task (Some x) })
+IsAccepted old new x Taken =
+    IsUsable old x × (is_greater (known old.table x.name.task) x.name ≡ true)
+    × (new ≡ record old { table = with_known old.table x.name.task (Some x) })
+
+-- what is known of one of its tasks
+abbrev pub own_last : CoreValue → ℕ → Option Evaluated
+own_last core task = known core.table (own_task core task)
 
 -- the name of the next evaluation of one of its tasks
 abbrev pub next_name_of : CoreValue → ℕ → Name
-next_name_of core task = record { task = own_task core task; incarnation = core.incarnation; number = last_number (known core.table (own_task core task)) + 1 }
+next_name_of core task =
+    record { task = own_task core task; incarnation = core.incarnation; number = last_number (own_last core task) + 1 }
 
--- x is the next evaluation of one of its tasks: the plant's code, asked with what is known of each producer and the state that the task's last evaluation left
+-- x is what this code makes, asked with what is known of each producer
+-- and the state that the task's last evaluation left
+abbrev pub IsAskedOf : CoreValue → ℕ → Name → ℕ → List FieldInput → CodeValue → Evaluated → Type 0
+IsAskedOf core ticket name dt inputs code x =
+    IsAsked ticket name dt inputs (takes_of (known core.table) code) (state_of code (known core.table name.task)) code x
+
+-- x is the next evaluation of one of its tasks: the plant's code,
+-- asked with what is known of each producer and the state that the task's last evaluation left
 pub record IsNextOf (core : CoreValue) (ticket task dt : ℕ) (inputs : List FieldInput) (x : Evaluated) : Type 0 where
   pub code : CodeValue
   pub found : code_at core.plant (own_task core task) ≡ Some code
-  pub below : last_number (known core.table (own_task core task)) < core.max_number
-  pub asked : IsAsked ticket (next_name_of core task) dt inputs (takes_of (known core.table) code) (state_of code (known core.table (own_task core task))) code x
+  pub below : last_number (own_last core task) < core.max_number
+  pub asked : IsAskedOf core ticket (next_name_of core task) dt inputs code x
 
 -- x was made next, and from then on it is what is known of that task
 pub record IsNext (old new : CoreValue) (ticket task dt : ℕ) (inputs : List FieldInput) (x : Evaluated) : Type 0 where
   pub next : IsNextOf old ticket task dt inputs x
   pub after : new ≡ record old { table = with_known old.table (own_task old task) (Some x) }
 
+-- the core's resource has a task
+abbrev pub HasOwnTask : CoreValue → ℕ → Type 0
+HasOwnTask core task = is_some (code_at core.plant (own_task core task)) ≡ true
+
 -- a task can be evaluated next: the resource has it, and its numbers aren't spent
 abbrev pub IsDue : CoreValue → ℕ → Type 0
-IsDue core task = (is_some (code_at core.plant (own_task core task)) ≡ true) × (last_number (known core.table (own_task core task)) < core.max_number)
+IsDue core task = HasOwnTask core task × (last_number (own_last core task) < core.max_number)
 
 -- why a task is not evaluated: the first cause that holds; memory is wanting only where it could be
 abbrev pub IsEvalFault : CoreValue → ℕ → EvalFault → Type 0
 IsEvalFault core task NoSuchTask = code_at core.plant (own_task core task) ≡ None
-IsEvalFault core task NumbersSpent = (is_some (code_at core.plant (own_task core task)) ≡ true) × (core.max_number ≤ last_number (known core.table (own_task core task)))
+IsEvalFault core task NumbersSpent = HasOwnTask core task × (core.max_number ≤ last_number (own_last core task))
 IsEvalFault core task Memory = IsDue core task
 
 -- what is held of a task of another resource; nothing of a task of its own
 abbrev pub held_of : CoreValue → TaskRef → Option Evaluated
 held_of core p = if p.resource == core.resource then None else known core.table p
 
--- what is known of a task is an evaluation with an image of that task's kinds, and of a task of the resource itself one of the task's code
+-- what is known of a task is an evaluation with an image of that task's kinds,
+-- and of a task of the resource itself one of the task's code
 pub record IsKnownOf (core : CoreValue) (p : TaskRef) (x : Evaluated) : Type 0 where
   pub code : CodeValue
   pub found : code_at core.plant p ≡ Some code

@@ -1,4 +1,3 @@
-pub mod Last
 pub mod Held
 pub mod CoreValue
 pub mod Steps

@@ -21,7 +21,7 @@ impl Model for Known {
 ghost use Rattle.std.specs.Prelude.{◌≡◌, IfOk, None, Some, replicate};
 ghost use Rattle.std.specs.Option.{option_copied};
 ghost use Rattle.evaluation.specs.States.{AreStatesOf};
-ghost use Rattle.exchange_core.specs.Last.{state_of, last_number};
+ghost use Rattle.evaluation.specs.Last.{state_of, last_number};
 ghost use Rattle.exchange_core.specs.Held.{known, with_known, empty_for};
 ghost use Rattle.exchange_core.specs.CoreValue.{is_greater};
 ghost use Rattle.exchange_core.specs.Steps.Knowing.{has_place, FitsLast};

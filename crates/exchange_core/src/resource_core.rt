@@ -22,22 +22,20 @@ pub struct Core {
 }
 
 impl Model for Core {
-    ghost use Rattle.exchange_core.specs.CoreValue.{CoreValue, IsCore};
+    ghost use Rattle.exchange_core.specs.CoreValue.{CoreValue, core_of, IsCore};
 
     ghost Value = { CoreValue };
 
-    ghost view = { λ c. record { plant = c.plant.value; resource = c.resource; incarnation = c.incarnation; max_number = c.max_number; table = c.table } };
+    ghost view = { λ c. core_of c.plant.value c.resource c.incarnation c.max_number c.table };
 
-    ghost invariant = { λ c. IsCore (record { plant = c.plant.value; resource = c.resource; incarnation = c.incarnation; max_number = c.max_number; table = c.table }) };
+    ghost invariant = { λ c. IsCore (core_of c.plant.value c.resource c.incarnation c.max_number c.table) };
 }
 
 ghost use Rattle.std.specs.Prelude.{◌≡◌, ◌≢◌, ◌+◌, ◌<◌, ◌↔◌, IfOk, IfErr, OnOk, OnErr, IsTrue, Some, length};
 ghost use Rattle.std.specs.Option.{option_copied};
 ghost use Rattle.plant.specs.PlantValue.{code_at};
-ghost use Rattle.evaluation.specs.Meaning.{IsAsked};
-ghost use Rattle.exchange_core.specs.Last.{last_number, takes_of, state_of};
-ghost use Rattle.exchange_core.specs.Held.{known};
-ghost use Rattle.exchange_core.specs.CoreValue.{fresh_core, IsCoreFault, IsUsable, IsAccepted, IsNextOf, IsNext, IsDue, IsEvalFault, held_of, own_task};
+ghost use Rattle.evaluation.specs.Last.{last_number};
+ghost use Rattle.exchange_core.specs.CoreValue.{fresh_core, IsCoreFault, IsUsable, IsAccepted, IsAskedOf, IsNextOf, IsNext, IsDue, IsEvalFault, held_of, own_last, own_task};
 ghost use Rattle.exchange_core.specs.declared.eval_fault.EvalFault.TheVariants.{Memory};
 
 impl Core {
@@ -131,7 +129,7 @@ impl Core {
     /// The number of the next evaluation of a task of the resource; else the first cause why there can't be one. No memory is needed.
     pub fn next_number(&self, task: usize) -> Result<u32, EvalFault>
         ensures due { OnOk result (IsDue self.now task) }
-        ensures number { IfOk result (λ n. n ≡ last_number (known self.now.table (own_task self.now task)) + 1) }
+        ensures number { IfOk result (λ n. n ≡ last_number (own_last self.now task) + 1) }
         ensures fault { IfErr result (IsEvalFault self.now task) }
         ensures lasting { IfErr result (λ f. f ≢ Memory) }
     {
@@ -194,7 +192,7 @@ impl Core {
     ) -> Result<Evaluation, AllocError>
         requires own { name.task.resource ≡ self.now.resource }
         requires found { code_at self.now.plant name.task ≡ Some code.now.value }
-        ensures { IfOk result (IsAsked ticket name dt inputs.now (takes_of (known self.now.table) code.now.value) (state_of code.now.value (known self.now.table name.task)) code.now.value) }
+        ensures { IfOk result (IsAskedOf self.now ticket name dt inputs.now code.now.value) }
     {
         let before = self.table.state_of(alloc, name.task, code)?;
         let takes = takes_of(alloc, &self.table, code)?;

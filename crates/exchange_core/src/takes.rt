@@ -1,6 +1,6 @@
 ghost use Rattle.std.specs.Prelude.{◌≡◌, IfOk};
 ghost use Rattle.task_codes.specs.CodeValue.{IsSoundCode};
-ghost use Rattle.exchange_core.specs.Last.{take_of, takes_of};
+ghost use Rattle.evaluation.specs.Last.{take_of, takes_of};
 ghost use Rattle.exchange_core.specs.Held.{known};
 
 use crate::known::Known;

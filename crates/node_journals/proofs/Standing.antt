@@ -19,7 +19,7 @@ use Rattle.evaluation.specs.declared.take.Take.{Take}
 use Rattle.evaluation.specs.Meaning.{Evaluated, IsAsked, evaluated}
 use Rattle.exchange_core.specs.declared.accepted.Accepted.{Accepted}
 use Rattle.exchange_core.specs.declared.accepted.Accepted.TheVariants.{Taken, Old, Unused}
-use Rattle.exchange_core.specs.Last.{same_task, last_number, takes_of, state_of}
+use Rattle.evaluation.specs.Last.{same_task, last_number, takes_of, state_of}
 use Rattle.exchange_core.specs.Held.{known, with_known, empty_for}
 use Rattle.exchange_core.specs.CoreValue.{CoreValue, fresh_core, own_task, is_greater, IsUsable, IsAccepted, IsNext, IsNextOf}
 use Rattle.exchange_core.specs.Steps.Knowing.{has_place}
@@ -272,20 +272,20 @@ codes_long r = length r.codes
 abbrev none_known : Option Evaluated
 none_known = None
 
-nothing_known : (plant : PlantValue) (p : TaskRef) → known (empty_for plant) p ≡ None
-nothing_known plant p = cell_filled codes_long none_known plant.resources p.resource p.task
-
 -- a core that holds nothing stands where nothing was done yet, and where the last step is a restart
 module _ (plant : PlantValue) (resource incarnation max_number : ℕ) (sound : IsSoundPlant plant) where
+  nothing_known : (p : TaskRef) → known (empty_for plant) p ≡ None
+  nothing_known p = cell_filled codes_long none_known plant.resources p.resource p.task
+
   pub stands-fresh : Stands resource incarnation [] (fresh_core plant resource incarnation max_number)
   stands-fresh = record {
     sound = sound;
     shaped = row_lengths_filled codes_long none_known plant.resources;
     resource_is = refl;
     incarnation_is = refl;
-    own = λ p here. nothing_known plant p;
+    own = λ p here. nothing_known p;
     counted = λ p here. refl;
-    others = λ t code k p here found at away. subst (IsGreatest (ComesFrom p (expected_at code k)) []) (sym (nothing_known plant p)) (All-nil (λ y. ComesFrom p (expected_at code k) y → ⊥));
+    others = λ t code k p here found at away. subst (IsGreatest (ComesFrom p (expected_at code k)) []) (sym (nothing_known p)) (All-nil (λ y. ComesFrom p (expected_at code k) y → ⊥));
   }
 
   pub stands-restarted : (first ticket : ℕ) (before : List Step) → Stands resource first (Restarted ticket incarnation ∷ before) (fresh_core plant resource incarnation max_number)
@@ -294,7 +294,7 @@ module _ (plant : PlantValue) (resource incarnation max_number : ℕ) (sound : I
     shaped = row_lengths_filled codes_long none_known plant.resources;
     resource_is = refl;
     incarnation_is = refl;
-    own = λ p here. nothing_known plant p;
+    own = λ p here. nothing_known p;
     counted = λ p here. refl;
-    others = λ t code k p here found at away. subst (IsGreatest (ComesFrom p (expected_at code k)) []) (sym (nothing_known plant p)) (All-nil (λ y. ComesFrom p (expected_at code k) y → ⊥));
+    others = λ t code k p here found at away. subst (IsGreatest (ComesFrom p (expected_at code k)) []) (sym (nothing_known p)) (All-nil (λ y. ComesFrom p (expected_at code k) y → ⊥));
   }

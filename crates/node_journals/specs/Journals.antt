@@ -1,4 +1,5 @@
--- When the journal of a resource is lawful: each step is one that the resource could do after the steps before it. The steps before stand with the newest first.
+-- When the journal of a resource is lawful: each step is one that the resource could do after the steps before it.
+-- The steps before stand with the newest first.
 use Rattle.std.specs.Prelude.{◌≡◌, ◌≢◌, ℕ, ◌+◌, ◌<◌, ◌≤◌, true, false, List, [], ◌∷◌, ◌++◌, Option, Some, None, All, length, map, filter, reverse, slice_get}
 use Rattle.declared_names.specs.declared.declarations.Kind.{Kind}
 use Rattle.declared_names.specs.Kinds.{kind_of}
@@ -7,7 +8,7 @@ use Rattle.plant.specs.PlantValue.{PlantValue, code_at}
 use Rattle.task_codes.specs.CodeValue.{CodeValue, expected_at}
 use Rattle.evaluation.specs.Names.{precedes}
 use Rattle.evaluation.specs.Meaning.{Evaluated, IsAsked}
-use Rattle.exchange_core.specs.Last.{same_task, state_of, takes_of}
+use Rattle.evaluation.specs.Last.{same_task, state_of, takes_of}
 use Rattle.node_journals.specs.declared.step.Step.{Step}
 use Rattle.node_journals.specs.declared.step.Step.TheVariants.{Took, Made, Restarted}
 use Rattle.node_journals.specs.declared.journal.Journal.{Journal}
@@ -57,7 +58,8 @@ last_made t before = newest (made_of t before)
 abbrev pub ComesFrom : TaskRef → List Kind → Evaluated → Type 0
 ComesFrom p kinds x = (x.name.task ≡ p) × (map kind_of x.outputs ≡ kinds)
 
--- Of those evaluations that are P, this is the first one among those of greatest pair: those before it are below it, and none after it is above it.
+-- Of those evaluations that are P, this is the first one among those of greatest pair:
+-- those before it are below it, and none after it is above it.
 pub record IsFirstGreatest (P : Evaluated → Type 0) (xs : List Evaluated) (x : Evaluated) : Type 0 where
   pub later : List Evaluated
   pub earlier : List Evaluated
@@ -71,15 +73,24 @@ abbrev pub IsGreatest : (Evaluated → Type 0) → List Evaluated → Option Eva
 IsGreatest P xs None = All (λ y. P y → ⊥) xs
 IsGreatest P xs (Some x) = IsFirstGreatest P xs x
 
--- What a task takes from each of its producers: from one of another resource the first among those of greatest pair of the evaluations that were received since the last Restarted
--- from that producer with the kinds expected, and from one of its own resource the last one that was made since then.
-pub record IsLast (resource : ℕ) (before : List Step) (code : CodeValue) (last : TaskRef → Option Evaluated) : Type 0 where
-  pub others : (k : ℕ) (p : TaskRef) → slice_get code.producers k ≡ Some p → p.resource ≢ resource → IsGreatest (ComesFrom p (expected_at code k)) (received (since_restarted before)) (last p)
+-- that one of those received since the last Restarted
+abbrev pub IsGreatestReceived : List Step → (Evaluated → Type 0) → Option Evaluated → Type 0
+IsGreatestReceived before P x = IsGreatest P (received (since_restarted before)) x
+
+-- What a task takes from each of its producers: from one of another resource the first among those of greatest pair
+-- of the evaluations that were received since the last Restarted from that producer with the kinds expected,
+-- and from one of its own resource the last one that was made since then.
+pub record IsLast (resource : ℕ) (before : List Step) (code : CodeValue) (last : TaskRef → Option Evaluated)
+    : Type 0 where
+  pub others : (k : ℕ) (p : TaskRef) → slice_get code.producers k ≡ Some p → p.resource ≢ resource
+      → IsGreatestReceived before (ComesFrom p (expected_at code k)) (last p)
   pub own : (p : TaskRef) → p.resource ≡ resource → last p ≡ last_made p before
 
--- An evaluation is one that the resource could make after these steps: of a task of its own, in the present incarnation, with the next number, which is within the limit,
+-- An evaluation is one that the resource could make after these steps:
+-- of a task of its own, in the present incarnation, with the next number, which is within the limit,
 -- and by the plant's code, asked with the takes just said and the state that the task's last evaluation left.
-pub record IsNextMade (plant : PlantValue) (max_number resource first : ℕ) (before : List Step) (x : Evaluated) : Type 0 where
+pub record IsNextMade (plant : PlantValue) (max_number resource first : ℕ) (before : List Step) (x : Evaluated)
+    : Type 0 where
   pub code : CodeValue
   pub last : TaskRef → Option Evaluated
   pub resource_is : x.name.task.resource ≡ resource
@@ -88,13 +99,16 @@ pub record IsNextMade (plant : PlantValue) (max_number resource first : ℕ) (be
   pub number_is : x.name.number ≡ length (made_of x.name.task before) + 1
   pub number_left : x.name.number ≤ max_number
   pub taken : IsLast resource before code last
-  pub asked : IsAsked x.ticket x.name x.dt x.inputs (takes_of last code) (state_of code (last_made x.name.task before)) code x
+  pub asked : IsAsked x.ticket x.name x.dt x.inputs
+      (takes_of last code) (state_of code (last_made x.name.task before)) code x
 
--- A step is one that the resource could do after these steps: it may receive anything, it makes what it could make, and a restart raises the incarnation.
+-- A step is one that the resource could do after these steps:
+-- it may receive anything, it makes what it could make, and a restart raises the incarnation.
 abbrev pub Follows : PlantValue → ℕ → ℕ → ℕ → List Step → Step → Type 0
 Follows plant max_number resource first before (Took x) = Unit {0}
 Follows plant max_number resource first before (Made x) = IsNextMade plant max_number resource first before x
-Follows plant max_number resource first before (Restarted ticket incarnation) = incarnation_of first before < incarnation
+Follows plant max_number resource first before (Restarted ticket incarnation) =
+    incarnation_of first before < incarnation
 
 -- each of a list has R to those before it; the newest stands first
 abbrev pub EachAfter : {X : Type 0} → (List X → X → Type 0) → List X → Type 0
@@ -104,6 +118,10 @@ EachAfter R (x ∷ before) = R before x × EachAfter R before
 -- a journal is lawful for a plant and a limit of numbers: each step could follow those before it
 pub record IsLawful (plant : PlantValue) (max_number : ℕ) (j : Journal) : Type 0 where
   pub follows : EachAfter (Follows plant max_number j.resource j.first) (reverse j.steps)
+
+-- the journal of a resource that has done nothing since its first incarnation began
+abbrev pub fresh_journal : ℕ → ℕ → Journal
+fresh_journal resource first = record { resource = resource; first = first; steps = [] }
 
 -- the journal with one more step
 abbrev pub with_step : Journal → Step → Journal

@@ -4,15 +4,16 @@ use Rattle.due_list.specs.declared.task_ref.TaskRef.{TaskRef}
 use Rattle.plant.specs.PlantValue.{code_at, IsSoundPlant}
 use Rattle.task_codes.specs.CodeValue.{CodeValue, expected_at}
 use Rattle.evaluation.specs.Meaning.{Evaluated}
-use Rattle.exchange_core.specs.Last.{last_number}
+use Rattle.evaluation.specs.Last.{last_number}
 use Rattle.exchange_core.specs.Held.{known, IsShaped}
 use Rattle.exchange_core.specs.CoreValue.{CoreValue}
 use Rattle.node_journals.specs.declared.step.Step.{Step}
 use Rattle.node_journals.specs.declared.step.Step.TheVariants.{Made}
 use Rattle.node_journals.specs.declared.journal.Journal.{Journal}
-use Rattle.node_journals.specs.Journals.{incarnation_of, since_restarted, received, made_of, last_made, ComesFrom, IsGreatest, IsLawful, with_step}
+use Rattle.node_journals.specs.Journals.{incarnation_of, made_of, last_made, ComesFrom, IsGreatestReceived, IsLawful, with_step}
 
--- the incarnation is the present one, of each task of the resource the last evaluation is known, and of each task from which one takes the greatest received
+-- the incarnation is the present one, of each task of the resource the last evaluation is known,
+-- and of each task from which one takes the greatest received
 pub record Stands (resource first : ℕ) (before : List Step) (core : CoreValue) : Type 0 where
   pub sound : IsSoundPlant core.plant
   pub shaped : IsShaped core.plant core.table
@@ -20,8 +21,9 @@ pub record Stands (resource first : ℕ) (before : List Step) (core : CoreValue)
   pub incarnation_is : core.incarnation ≡ incarnation_of first before
   pub own : (p : TaskRef) → p.resource ≡ resource → known core.table p ≡ last_made p before
   pub counted : (p : TaskRef) → p.resource ≡ resource → last_number (last_made p before) ≡ length (made_of p before)
-  pub others : (t : TaskRef) (code : CodeValue) (k : ℕ) (p : TaskRef) → t.resource ≡ resource → code_at core.plant t ≡ Some code → slice_get code.producers k ≡ Some p → p.resource ≢ resource
-      → IsGreatest (ComesFrom p (expected_at code k)) (received (since_restarted before)) (known core.table p)
+  pub others : (t : TaskRef) (code : CodeValue) (k : ℕ) (p : TaskRef) → t.resource ≡ resource
+      → code_at core.plant t ≡ Some code → slice_get code.producers k ≡ Some p → p.resource ≢ resource
+      → IsGreatestReceived before (ComesFrom p (expected_at code k)) (known core.table p)
 
 -- a lawful journal, and the core where it has come to
 pub record IsStation (core : CoreValue) (j : Journal) : Type 0 where

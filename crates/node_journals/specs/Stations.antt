@@ -1,5 +1,5 @@
 -- What a resource is while it runs: its core, and the journal that has come to where the core stands.
-use Rattle.std.specs.Prelude.{◌≡◌, ℕ, List, []}
+use Rattle.std.specs.Prelude.{◌≡◌, ℕ, List}
 use Rattle.plant.specs.PlantValue.{PlantValue}
 use Rattle.evaluation.specs.declared.field_input.FieldInput.{FieldInput}
 use Rattle.evaluation.specs.Meaning.{Evaluated}
@@ -7,7 +7,7 @@ use Rattle.exchange_core.specs.declared.accepted.Accepted.{Accepted}
 use Rattle.exchange_core.specs.CoreValue.{CoreValue, fresh_core, IsAccepted, IsNext}
 use Rattle.node_journals.specs.declared.step.Step.TheVariants.{Took, Made, Restarted}
 use Rattle.node_journals.specs.declared.journal.Journal.{Journal}
-use Rattle.node_journals.specs.Journals.{with_step}
+use Rattle.node_journals.specs.Journals.{fresh_journal, with_step}
 
 -- a resource that runs: its core and its journal
 pub record StationValue : Type 0 where
@@ -23,7 +23,7 @@ pub record PendingValue : Type 0 where
 -- a resource in its first incarnation: nothing is held, all tasks are initial, and the journal has no steps
 abbrev pub fresh_station : PlantValue → ℕ → ℕ → ℕ → StationValue
 fresh_station plant resource first max_number =
-    record { core = fresh_core plant resource first max_number; journal = record { resource = resource; first = first; steps = [] } }
+    record { core = fresh_core plant resource first max_number; journal = fresh_journal resource first }
 
 -- x was received: the journal has it as its last step, and the core has answered
 pub record IsReceived (old new : StationValue) (x : Evaluated) (answer : Accepted) : Type 0 where
@@ -31,7 +31,8 @@ pub record IsReceived (old new : StationValue) (x : Evaluated) (answer : Accepte
   pub noted : new.journal ≡ with_step old.journal (Took x)
 
 -- the core has made its next evaluation, and the journal is as it was
-pub record IsPending (old : StationValue) (new : PendingValue) (ticket task dt : ℕ) (inputs : List FieldInput) : Type 0 where
+pub record IsPending (old : StationValue) (new : PendingValue) (ticket task dt : ℕ) (inputs : List FieldInput)
+    : Type 0 where
   pub next : IsNext old.core new.core ticket task dt inputs new.made
   pub journal : new.journal ≡ old.journal
 

@@ -1,7 +1,7 @@
-ghost use Rattle.std.specs.Prelude.{◌≡◌, [], IfOk, OnOk, OnErr};
+ghost use Rattle.std.specs.Prelude.{◌≡◌, IfOk, OnOk, OnErr};
 ghost use Rattle.exchange_core.specs.CoreValue.{IsAccepted};
 ghost use Rattle.node_journals.specs.declared.step.Step.TheVariants.{Took};
-ghost use Rattle.node_journals.specs.Journals.{with_step};
+ghost use Rattle.node_journals.specs.Journals.{fresh_journal, with_step};
 
 use crate::step::Step;
 use crate::steps::Steps;
@@ -20,7 +20,7 @@ pub struct Journal {
 impl Journal {
     /// A journal without steps.
     pub fn new(alloc: Global, resource: usize, first: u32) -> Journal
-        ensures { result ≡ record { resource = resource; first = first; steps = [] } }
+        ensures { result ≡ fresh_journal resource first }
     {
         Journal {
             resource,

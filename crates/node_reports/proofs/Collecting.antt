@@ -8,7 +8,7 @@ use Rattle.std.proofs.lemmas.List.Elements.{filter_map-append, filter-append}
 use Rattle.std.proofs.lemmas.Option.{same_Some, slice_get_within, slice_get-map, get_or_from_slice_get, slice_get-get_or}
 use Rattle.lists.proofs.Places.{element_at, same_by_each}
 use Rattle.evaluation.specs.Meaning.{Evaluated}
-use Rattle.exchange.specs.Book.{BookValue}
+use Rattle.evaluation_book.specs.Book.{BookValue}
 use Rattle.node_journals.specs.declared.command.Command.{Command}
 use Rattle.node_journals.specs.declared.step.Step.{Step}
 use Rattle.node_journals.specs.declared.journal.Journal.{Journal}

@@ -7,8 +7,9 @@ use Rattle.std.proofs.lemmas.List.Elements.{filter-append}
 use Rattle.due_list.specs.declared.task_ref.TaskRef.{TaskRef}
 use Rattle.plant.specs.PlantValue.{PlantValue}
 use Rattle.evaluation.specs.Meaning.{Evaluated}
-use Rattle.exchange_core.specs.Last.{same_task}
-use Rattle.exchange.specs.Fits.{Each, last_in}
+use Rattle.evaluation.specs.Last.{same_task}
+use Rattle.list_items.specs.Each.{Each}
+use Rattle.evaluation_book.specs.Fits.{last_in}
 use Rattle.node_journals.specs.declared.step.Step.{Step}
 use Rattle.node_journals.specs.declared.step.Step.TheVariants.{Took, Made, Restarted}
 use Rattle.node_journals.specs.Journals.{incarnation_of, made, newest, made_of, last_made, IsNextMade, Follows, EachAfter}

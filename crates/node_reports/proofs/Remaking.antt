@@ -6,10 +6,12 @@ use Rattle.std.proofs.lemmas.Option.{get_or_from_slice_get}
 use Rattle.lists.proofs.Places.{element_at}
 use Rattle.plant.specs.PlantValue.{PlantValue, IsSoundPlant}
 use Rattle.evaluation.specs.Meaning.{Evaluated}
-use Rattle.exchange_core.specs.Last.{state_of}
+use Rattle.evaluation.specs.Last.{state_of}
 use Rattle.exchange.specs.Run.{IsRun}
-use Rattle.exchange.specs.Fits.{Each, Fits, AllFit, last_in}
-use Rattle.exchange.specs.Book.{BookValue, CouldBeMade, AllCouldBeMade}
+use Rattle.list_items.specs.Each.{Each}
+use Rattle.evaluation_book.specs.Fits.{Fits, AllFit, last_in}
+use Rattle.evaluation_book.specs.Book.{BookValue}
+use Rattle.exchange.specs.Replays.{CouldBeMade, AllCouldBeMade}
 use Rattle.node_journals.specs.declared.journal.Journal.{Journal}
 use Rattle.node_journals.specs.Journals.{made, last_made, IsLawful}
 use Rattle.node_reports.specs.Reports.{entries_of, IsFittingBook, AreJournalsOf, AreInBook, RunsAgain}

@@ -2,7 +2,7 @@
 use Rattle.std.proofs.Common.{◌≡◌, ℕ, List, All, sym, subst}
 use Rattle.lists.proofs.Members.{all_from_places}
 use Rattle.plant.specs.PlantValue.{PlantValue}
-use Rattle.exchange.specs.Book.{BookValue}
+use Rattle.evaluation_book.specs.Book.{BookValue}
 use Rattle.node_journals.specs.declared.journal.Journal.{Journal}
 use Rattle.node_journals.specs.Journals.{made, IsLawful}
 use Rattle.node_reports.specs.Reports.{entries_of, IsFittingBook, AreJournalsOf, AreInBook, RunsAgain}

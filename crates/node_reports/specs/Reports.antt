@@ -1,14 +1,16 @@
--- What a report of the threads has to be: the book fits, the journals are lawful, they made the book's entries, the commands are accounted for, and the book's entries are a run.
-use Rattle.std.specs.Prelude.{◌≡◌, ℕ, ◌+◌, ◌<◌, ◌≤◌, ◌==◌, ◌&&◌, Bool, true, false, not, List, Option, Some, None, All, Contains, length, map, filter, reverse, take, slice_get}
+-- What a report of the threads has to be: the book fits, the journals are lawful, they made the book's entries,
+-- the commands are accounted for, and the book's entries are a run.
+use Rattle.std.specs.Prelude.{◌≡◌, ℕ, ◌<◌, ◌≤◌, ◌==◌, ◌&&◌, Bool, true, false, not, List, Option, Some, None, All, Contains, length, map, filter, reverse, take, slice_get}
 use Rattle.std.specs.List.{filter_map, list_any}
 use Rattle.std.specs.List.Sorted.{IsStrictlyIncreasing}
 use Rattle.plant.specs.PlantValue.{PlantValue, tasks_at}
 use Rattle.evaluation.specs.Meaning.{Evaluated}
 use Rattle.exchange.specs.declared.event.Event.{Event}
-use Rattle.exchange.specs.History.{Setting}
+use Rattle.exchange.specs.History.{Setting, setting_over}
 use Rattle.exchange.specs.Run.{IsRun}
-use Rattle.exchange.specs.Fits.{AllFit}
-use Rattle.exchange.specs.Book.{BookValue, Replays}
+use Rattle.evaluation_book.specs.Fits.{AllFit}
+use Rattle.evaluation_book.specs.Book.{BookValue}
+use Rattle.exchange.specs.Replays.{Replays}
 use Rattle.node_journals.specs.declared.command.Command.{Command}
 use Rattle.node_journals.specs.declared.act.Act.{Act}
 use Rattle.node_journals.specs.declared.act.Act.TheVariants.{Evaluate, Restart}
@@ -45,13 +47,15 @@ AreInBook entries journals = All (λ (j : Journal). made j.steps ≡ entries_of 
 
 -- the command that an evaluation answers: of its ticket, resource, task, elapsed time and field inputs
 abbrev pub command_of : Evaluated → Command
-command_of x = record { ticket = x.ticket; resource = x.name.task.resource; act = Evaluate x.name.task.task x.dt x.inputs }
+command_of x =
+    record { ticket = x.ticket; resource = x.name.task.resource; act = Evaluate x.name.task.task x.dt x.inputs }
 
 -- a step of a resource, where it is a restart, answers a Restart command of that resource
 abbrev pub IsCommanded : List Command → ℕ → Step → Type 0
 IsCommanded commands resource (Took x) = Unit {0}
 IsCommanded commands resource (Made x) = Unit {0}
-IsCommanded commands resource (Restarted ticket incarnation) = Contains commands (record { ticket = ticket; resource = resource; act = Restart })
+IsCommanded commands resource (Restarted ticket incarnation) =
+    Contains commands (record { ticket = ticket; resource = resource; act = Restart })
 
 -- the ticket of an evaluation made or of a restart
 abbrev pub ticket_of : Step → Option ℕ
@@ -80,9 +84,11 @@ is_unanswered entries c = is_evaluate c.act && not (list_any (λ (x : Evaluated)
 abbrev pub unanswered_of : List Command → List Evaluated → List ℕ
 unanswered_of commands entries = map (λ (c : Command). c.ticket) (filter (is_unanswered entries) commands)
 
--- Fourth. Each entry answers an Evaluate command of its ticket with its contents, each restart answers a Restart command of its resource, the tickets rise in each journal,
+-- Fourth. Each entry answers an Evaluate command of its ticket with its contents,
+-- each restart answers a Restart command of its resource, the tickets rise in each journal,
 -- and the Evaluate commands that no entry answers are listed.
-pub record AreAnswers (commands : List Command) (entries : List Evaluated) (journals : List Journal) (unanswered : List ℕ) : Type 0 where
+pub record AreAnswers (commands : List Command) (entries : List Evaluated) (journals : List Journal)
+    (unanswered : List ℕ) : Type 0 where
   pub commanded : All (λ (x : Evaluated). Contains commands (command_of x)) entries
   pub obedient : All (IsObedient commands) journals
   pub unanswered_are : unanswered ≡ unanswered_of commands entries
@@ -117,8 +123,11 @@ LacksTask plant c = by c.act
     by (Evaluate task dt inputs) = length (tasks_at plant c.resource) ≤ task
     by Restart = ⊥
 
--- A command may have met a cause, where this says that it wasn't obeyed. One may be out of turns also when it is done with, and an evaluation made may not be sent; after any other cause the command isn't obeyed.
--- Only a task that isn't there is no such task, only one that is there spends its numbers or is a misfit, and only for a restart a keeper is asked.
+-- A command may have met a cause, where this says that it wasn't obeyed.
+-- One may be out of turns also when it is done with, and an evaluation made may not be sent;
+-- after any other cause the command isn't obeyed.
+-- Only a task that isn't there is no such task, only one that is there spends its numbers or is a misfit,
+-- and only for a restart a keeper is asked.
 abbrev pub MayMeet : PlantValue → Command → Type 0 → Cause → Type 0
 MayMeet plant c Unobeyed OutOfTurns = Unit {0}
 MayMeet plant c Unobeyed NoSuchTask = LacksTask plant c × Unobeyed
@@ -130,12 +139,17 @@ MayMeet plant c Unobeyed NotSent = c.act ≡ Restart → Unobeyed
 MayMeet plant c Unobeyed Stopped = Unobeyed
 
 -- a fault is told of a command, by its ticket and resource, and of a cause that the command may have met
-pub record IsToldOf (plant : PlantValue) (commands : List Command) (journals : List Journal) (unanswered : List ℕ) (f : NodeFault) : Type 0 where
+pub record IsToldOf (plant : PlantValue) (commands : List Command) (journals : List Journal) (unanswered : List ℕ)
+    (f : NodeFault) : Type 0 where
   pub command : Command
   pub listed : Contains commands command
   pub ticket_is : command.ticket ≡ f.ticket
   pub resource_is : command.resource ≡ f.resource
   pub may_meet : MayMeet plant command (IsUnobeyed unanswered journals command) f.cause
+
+-- each of these faults is
+abbrev pub AllTold : PlantValue → List Command → List Journal → List ℕ → List NodeFault → Type 0
+AllTold plant commands journals unanswered faults = All (IsToldOf plant commands journals unanswered) faults
 
 -- a resource obeys no further command after a fault of it that may stop it: want of memory, or a misfit
 abbrev pub may_stop : Cause → Bool
@@ -152,15 +166,18 @@ may_stop Stopped = false
 abbrev pub may_have_stopped : ℕ → List NodeFault → Bool
 may_have_stopped resource faults = list_any (λ (f : NodeFault). f.resource == resource && may_stop f.cause) faults
 
--- The faults are told by ticket, at most one of each; each is told of a command; and a resource has stopped only where an earlier fault may have stopped it.
-pub record AreTold (plant : PlantValue) (commands : List Command) (journals : List Journal) (unanswered : List ℕ) (faults : List NodeFault) : Type 0 where
-  pub rising : IsStrictlyIncreasing (map (λ (f : NodeFault). f.ticket) faults)
-  pub told : All (IsToldOf plant commands journals unanswered) faults
-  pub stopped : (k : ℕ) (f : NodeFault) → slice_get faults k ≡ Some f → f.cause ≡ Stopped → may_have_stopped f.resource (take k faults) ≡ true
-
 -- the tickets of faults
 abbrev pub fault_tickets : List NodeFault → List ℕ
 fault_tickets faults = map (λ (f : NodeFault). f.ticket) faults
+
+-- The faults are told by ticket, at most one of each; each is told of a command;
+-- and a resource has stopped only where an earlier fault may have stopped it.
+pub record AreTold (plant : PlantValue) (commands : List Command) (journals : List Journal) (unanswered : List ℕ)
+    (faults : List NodeFault) : Type 0 where
+  pub rising : IsStrictlyIncreasing (fault_tickets faults)
+  pub told : AllTold plant commands journals unanswered faults
+  pub stopped : (k : ℕ) (f : NodeFault) → slice_get faults k ≡ Some f → f.cause ≡ Stopped
+      → may_have_stopped f.resource (take k faults) ≡ true
 
 -- These are among the faults noted, their tickets rise, and each ticket of a fault noted is among theirs.
 pub record AreByTicket (noted listed : List NodeFault) : Type 0 where
@@ -170,8 +187,11 @@ pub record AreByTicket (noted listed : List NodeFault) : Type 0 where
 
 -- the setting in which the threads ran: the plant, the journals' first incarnations, and the limit
 abbrev pub setting_of : PlantValue → ℕ → List Journal → Setting
-setting_of plant max_number journals = record { plant = plant; first = firsts_of journals; max_number = max_number }
+setting_of plant max_number journals = setting_over plant (firsts_of journals) max_number
 
--- Fifth. Events that make the book's entries again, such as the book's schedule, have just these entries as their run, over the plant, the journals' first incarnations and the limit.
+-- Fifth. Events that make the book's entries again, such as the book's schedule,
+-- have just these entries as their run, over the plant, the journals' first incarnations and the limit.
 abbrev pub RunsAgain : PlantValue → ℕ → BookValue → List Journal → Type 0
-RunsAgain plant max_number book journals = (events : List Event) → Replays book.first book.entries events → IsRun (setting_of plant max_number journals) events book.entries
+RunsAgain plant max_number book journals =
+    (events : List Event) → Replays book.first book.entries events
+    → IsRun (setting_of plant max_number journals) events book.entries

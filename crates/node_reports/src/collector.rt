@@ -4,11 +4,10 @@ mod stops;
 mod told;
 mod unanswered;
 
-ghost use Rattle.std.specs.Prelude.{◌≡◌, ◌≤◌, IsTrue, IfOk, All, Contains};
-ghost use Rattle.std.specs.List.Sorted.{IsStrictlyIncreasing};
+ghost use Rattle.std.specs.Prelude.{IsTrue, IfOk, All};
 ghost use Rattle.node_journals.specs.Commands.{AreNumbered};
 ghost use Rattle.node_journals.specs.Journals.{IsLawful};
-ghost use Rattle.node_reports.specs.Reports.{IsFittingBook, AreJournalsOf, AreInBook, AreAnswers, RunsAgain, IsObedient, AreTold, command_of, AreByTicket};
+ghost use Rattle.node_reports.specs.Reports.{IsFittingBook, AreJournalsOf, AreInBook, AreAnswers, RunsAgain, AreTold, AreByTicket};
 ghost use Rattle.node_reports.specs.Steps.Collecting.{Agrees};
 
 use crate::collector::agreement::{all_begin, all_made};

@@ -15,7 +15,7 @@ impl Model for Tickets {
     ghost view = { λ t. t.listed.items };
 }
 
-ghost use Rattle.std.specs.Prelude.{◌≡◌, ◌↔◌, ◌<◌, [], ◌∷◌, ◌++◌, IfOk, IfSome, IsTrue, OnOk};
+ghost use Rattle.std.specs.Prelude.{◌≡◌, ◌↔◌, ◌<◌, [], ◌∷◌, ◌++◌, IfSome, IsTrue, OnOk};
 
 impl Tickets {
     /// No tickets.

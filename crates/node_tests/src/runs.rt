@@ -2,7 +2,7 @@
 
 use crate::checks::{equal, holds};
 use evaluation::{Frame, Inputs};
-use exchange::{Event, World};
+use exchange::{Event, Schedule, World};
 use node::{
     Act, Cause, Command, Gate, Keeper, MemoryKeeper, Report, are_for_plant, are_numbered,
     run_threads,

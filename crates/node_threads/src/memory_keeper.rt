@@ -1,4 +1,4 @@
-ghost use Rattle.std.specs.Prelude.{ℕ, ◌≡◌, ◌+◌};
+ghost use Rattle.std.specs.Prelude.{◌≡◌};
 ghost use Rattle.node_threads.specs.Keepers.{Raises, IsNextNumber};
 
 use crate::keeper::Keeper;

@@ -15,7 +15,7 @@ mod starting;
 mod worker;
 mod worker_state;
 
-ghost use Rattle.std.specs.Prelude.{◌≡◌, All, IfOk};
+ghost use Rattle.std.specs.Prelude.{All, IfOk};
 ghost use Rattle.node_threads.specs.declared.threads.ended.Ended.{Ended};
 ghost use Rattle.node_journals.specs.Journals.{IsLawful};
 ghost use Rattle.node_threads.specs.Steps.Working.{IsWorkerFor};
@@ -31,7 +31,7 @@ use crate::threads::preparing::{make_inboxes, make_workers};
 use crate::threads::starting::start_all;
 use crate::threads::worker::Worker;
 use crossbeam_channel::Receiver;
-use exchange::Book;
+use evaluation_book::Book;
 use node_journals::{Command, NodeFault, RunFault};
 pub use outcome::Outcome;
 use plant::Plant;

@@ -8,7 +8,7 @@ use Rattle.exchange.specs.Run.{IsLog, IsRun}
 use Rattle.exchange.specs.World.{WorldValue}
 use Rattle.exchange.specs.Step.{Follows}
 use Rattle.exchange.specs.Laws.{OneRun}
-use Rattle.exchange.specs.Book.{BookValue}
+use Rattle.evaluation_book.specs.Book.{BookValue}
 use Rattle.node_journals.specs.declared.journal.Journal.{Journal}
 use Rattle.node_reports.specs.Reports.{RunsAgain, firsts_of}
 use Rattle.run_texts.specs.Steps.Replaying.{IsReplay}

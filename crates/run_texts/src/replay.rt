@@ -5,7 +5,7 @@ ghost use Rattle.node_reports.specs.Reports.{RunsAgain, firsts_of};
 ghost use Rattle.run_texts.specs.Steps.Replaying.{IsReplay};
 
 use evaluation::Frame;
-use exchange::{Book, World, one_run};
+use exchange::{Book, Schedule, World, one_run};
 use node_journals::Journal;
 use node_reports::Report;
 use plant::Plant;

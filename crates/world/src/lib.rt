@@ -14,9 +14,9 @@ mod simulation;
 
 pub use evaluation_line::push_evaluation;
 pub use exchange::{
-    Book, Done, Event, Misfit, World, WorldFault, books_are_consistent, consistency_theorem,
-    holders_agree, keeping_the_greatest_keeps_the_latest, one_run, pairs_rise, runs_are_consistent,
-    runs_are_entered, runs_could_be_made, runs_fit, runs_replay,
+    Book, Done, Event, Misfit, Schedule, World, WorldFault, books_are_consistent,
+    consistency_theorem, holders_agree, keeping_the_greatest_keeps_the_latest, one_run, pairs_rise,
+    runs_are_consistent, runs_are_entered, runs_could_be_made, runs_fit, runs_replay,
 };
 pub use schedule_laws::one_reading;
 pub use sim_fault::SimFault;

@@ -13,7 +13,7 @@ use std::sync::Arc;
 use std::test::Fail;
 use std_blocks::Value;
 use worked_texts::{LOOP, PAIR};
-use world::{Book, Event, Misfit};
+use world::{Book, Event, Misfit, Schedule};
 
 /// A frame to be entered, and what the book answers: resource, incarnation and number, what was taken of the counter and its values there.
 type Row = (

@@ -7,17 +7,18 @@ use Rattle.due_list.specs.declared.task_ref.TaskRef.{TaskRef}
 use Rattle.evaluation.specs.declared.field_input.FieldInput.{FieldInput}
 use Rattle.evaluation.specs.Names.{precedes}
 use Rattle.evaluation.specs.Meaning.{Evaluated, evaluated}
-use Rattle.exchange_core.specs.Last.{same_task, last_number, from_of, take_of, takes_of, state_of}
+use Rattle.evaluation.specs.Last.{same_task, last_number, from_of, take_of, takes_of, state_of}
 use Rattle.exchange.specs.declared.event.Event.{Event}
 use Rattle.exchange.specs.declared.event.Event.TheVariants.{Evaluate, Deliver, Restart}
 use Rattle.exchange.specs.History.{Setting, incarnation_of, number_of}
 use Rattle.exchange.specs.Run.{IsLog, IsNextEvaluation, next_name, latest, has_reached}
-use Rattle.exchange.specs.Fits.{Among, last_in, name_from, IsKnown, IsUntorn, IsNotBack, IsOwnLatest, Fits, AllFit}
+use Rattle.list_items.specs.Each.{Among}
+use Rattle.evaluation_book.specs.Fits.{last_in, name_from, IsKnown, IsUntorn, IsNotBack, IsOwnLatest, Fits, AllFit}
 use Rattle.exchange.proofs.Histories.Tasks.{same_task-true, resource_exists}
 use Rattle.exchange.proofs.Histories.Latest.{Rises, precedes-irreflexive}
 use Rattle.exchange.proofs.Histories.Names.{AllLawful, log-rises}
 use Rattle.exchange.proofs.Histories.Steps.{number-latest}
-use Rattle.exchange.proofs.Histories.Lists.{Each-from}
+use Rattle.list_items.proofs.Each.{Each-from}
 use Rattle.exchange.proofs.Consistency.Fitting.{last_among-entry, AllBefore-entry, incarnation-low, own-latest}
 use Rattle.exchange.proofs.Consistency.NotBack.{takes-reach, takes-each}
 

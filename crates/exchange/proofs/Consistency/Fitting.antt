@@ -8,12 +8,13 @@ use Rattle.evaluation.specs.declared.field_input.FieldInput.{FieldInput}
 use Rattle.evaluation.specs.declared.name.Name.{Name}
 use Rattle.evaluation.specs.Names.{precedes}
 use Rattle.evaluation.specs.Meaning.{Evaluated}
-use Rattle.exchange_core.specs.Last.{same_task, takes_of}
+use Rattle.evaluation.specs.Last.{same_task, takes_of}
 use Rattle.exchange.specs.declared.event.Event.{Event}
 use Rattle.exchange.specs.declared.event.Event.TheVariants.{Evaluate, Deliver, Restart}
 use Rattle.exchange.specs.History.{Setting, incarnation_of}
 use Rattle.exchange.specs.Run.{IsLog, IsNextEvaluation, next_name, latest, last_among}
-use Rattle.exchange.specs.Fits.{Among, last_in}
+use Rattle.list_items.specs.Each.{Among}
+use Rattle.evaluation_book.specs.Fits.{last_in}
 use Rattle.exchange.proofs.Histories.Tasks.{same_task-true, same_task-itself}
 use Rattle.exchange.proofs.Histories.Latest.{AllBefore}
 use Rattle.exchange.proofs.Histories.Names.{AllLawful, length-log, before_next, named}

@@ -10,7 +10,7 @@ use Rattle.plant.specs.PlantValue.{code_at}
 use Rattle.task_codes.specs.CodeValue.{CodeValue}
 use Rattle.evaluation.specs.declared.field_input.FieldInput.{FieldInput}
 use Rattle.evaluation.specs.Meaning.{Evaluated}
-use Rattle.exchange_core.specs.Last.{state_of}
+use Rattle.evaluation.specs.Last.{state_of}
 use Rattle.exchange.specs.declared.event.Event.{Event}
 use Rattle.exchange.specs.declared.event.Event.TheVariants.{Evaluate, Deliver, Restart}
 use Rattle.exchange.specs.History.{Setting, made_count, is_lawful, after_events, history_of}
@@ -21,7 +21,7 @@ use Rattle.exchange.specs.Theorem.{IsMade, ConsistencyTheorem}
 use Rattle.exchange.proofs.Histories.Names.{length-log, named}
 use Rattle.exchange.proofs.Worlds.Moves.{run-message}
 use Rattle.exchange.proofs.Consistency.Places.{next-code, takes-latest, run-consistent}
-use Rattle.exchange.proofs.Books.Entered.{holders-agree}
+use Rattle.exchange.proofs.Consistency.Entered.{holders-agree}
 
 -- the place in a history at which an entry of its log was made
 record MadeIn (s : Setting) (history : List Event) (log : List Evaluated) (k : ℕ) (x : Evaluated) : Type 0 where

@@ -2,8 +2,10 @@
 use Rattle.std.proofs.Common.{◌≡◌, ℕ, ◌+◌, ◌≤◌, Bool, true, false, cond, List, [], ◌∷◌, map, Option, Some, None, refl, ap, sym, ◌∙◌, subst, arith, eqb}
 use Rattle.std.specs.Prelude.{MatchOption}
 use Rattle.std.specs.List.{zip}
-use Rattle.std.proofs.lemmas.Bool.{eqb-true, false≢true}
+use Rattle.std.proofs.lemmas.Bool.{eqb-true}
 use Rattle.std.proofs.lemmas.Bool.Decides.{nat_tests}
+use Rattle.list_items.proofs.Each.{Each-from}
+use Rattle.list_items.proofs.Orders.{not_below-onward}
 use Rattle.declared_names.specs.declared.declarations.Kind.{Kind}
 use Rattle.due_list.specs.declared.task_ref.TaskRef.{TaskRef}
 use Rattle.task_codes.specs.CodeValue.{CodeValue}
@@ -12,18 +14,18 @@ use Rattle.evaluation.specs.declared.name.Name.{Name}
 use Rattle.evaluation.specs.declared.take.Take.{Take}
 use Rattle.evaluation.specs.Names.{precedes}
 use Rattle.evaluation.specs.Meaning.{Evaluated}
-use Rattle.exchange_core.specs.Last.{same_task, from_of, take_of, takes_of}
+use Rattle.evaluation.specs.Last.{same_task, from_of, take_of, takes_of}
 use Rattle.exchange.specs.declared.event.Event.{Event}
 use Rattle.exchange.specs.declared.event.Event.TheVariants.{Evaluate, Deliver, Restart}
 use Rattle.exchange.specs.History.{Setting, incarnation_of, number_of}
 use Rattle.exchange.specs.Run.{IsLog, IsNextEvaluation, next_name, latest, message, has_reached}
 use Rattle.exchange.specs.Laws.{greater, held_with}
-use Rattle.exchange.specs.Fits.{Among, Each, is_below, name_from}
+use Rattle.list_items.specs.Each.{Among, Each}
+use Rattle.evaluation_book.specs.Fits.{is_below, name_from}
 use Rattle.exchange.proofs.Histories.Tasks.{same_task-true}
 use Rattle.exchange.proofs.Histories.Latest.{precedes-irreflexive, not_itself}
 use Rattle.exchange.proofs.Histories.Names.{AllLawful, length-log, before_next, log-rises, named}
 use Rattle.exchange.proofs.Histories.Steps.{latest-deliver, latest-own_deliver, latest-other_deliver, latest-other_restart, latest-evaluate, latest-other_evaluate, incarnation-restart}
-use Rattle.exchange.proofs.Histories.Lists.{Each-from}
 use Rattle.exchange.proofs.Consistency.Fitting.{taken, last_among-entry, AllBefore-entry, incarnation-low}
 
 not_below-trans : (a b c : Name) → precedes a b ≡ false → precedes b c ≡ false → precedes a c ≡ false
@@ -34,10 +36,7 @@ is_below-itself q None = refl
 is_below-itself q (Some f) = not_itself (record { task = q; incarnation = f.0; number = f.1 })
 
 pub is_below-trans : (q : TaskRef) (a b c : Option (ℕ × ℕ)) → is_below q a b ≡ false → is_below q b c ≡ false → is_below q a c ≡ false
-is_below-trans q a b None h k = refl
-is_below-trans q a None (Some c) h k = absurd (false≢true (sym k))
-is_below-trans q None (Some b) (Some c) h k = absurd (false≢true (sym h))
-is_below-trans q (Some a) (Some b) (Some c) h k = not_below-trans (name_from q a) (name_from q b) (name_from q c) h k
+is_below-trans q = not_below-onward (is_below q) (λ o. refl) (λ f. refl) (λ e f g. not_below-trans (name_from q e) (name_from q f) (name_from q g))
 
 -- what is held with one more is not below what was held
 kept-not_below : (q : TaskRef) (held new : Option Evaluated) → is_below q (from_of (held_with q held new)) (from_of held) ≡ false

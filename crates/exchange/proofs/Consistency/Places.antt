@@ -17,18 +17,19 @@ use Rattle.evaluation.specs.declared.take.Take.{Take}
 use Rattle.evaluation.specs.Names.{precedes}
 use Rattle.evaluation.specs.Takes.{initial_image, IsTakeOf}
 use Rattle.evaluation.specs.Meaning.{Evaluated, IsMeant, IsWhole, given}
-use Rattle.exchange_core.specs.Last.{same_task, from_of, image_of, takes_of}
+use Rattle.evaluation.specs.Last.{same_task, from_of, image_of, takes_of}
 use Rattle.exchange.specs.declared.event.Event.{Event}
 use Rattle.exchange.specs.declared.event.Event.TheVariants.{Evaluate, Deliver, Restart}
 use Rattle.exchange.specs.History.{Setting, history_of}
 use Rattle.exchange.specs.Run.{IsLog, IsRun, IsNextEvaluation, next_name, latest, message, has_reached}
-use Rattle.exchange.specs.Fits.{Among, Each, name_from, is_below}
+use Rattle.list_items.specs.Each.{Among, Each}
+use Rattle.evaluation_book.specs.Fits.{name_from, is_below}
 use Rattle.exchange.specs.Consistent.{IsBoundTo, HaveValuesOf, AreInitial, AreTakenFrom, TakesOnly, TakesOneEntry, IsPlace, IsConsistent}
 use Rattle.exchange.proofs.Histories.Tasks.{same_task-true, same_task-itself}
 use Rattle.exchange.proofs.Histories.Latest.{Rises}
 use Rattle.exchange.proofs.Histories.Names.{AllLawful, AllLawful-after, log-rises, named}
 use Rattle.exchange.proofs.Histories.Pairs.{message-within, rises-messages}
-use Rattle.exchange.proofs.Histories.Lists.{Each-at, Each-from, slice_get-among}
+use Rattle.list_items.proofs.Each.{Each-at, Each-from, slice_get-among}
 use Rattle.exchange.proofs.Consistency.Fitting.{taken, last_among-entry}
 use Rattle.exchange.proofs.Consistency.NotBack.{takes-reach, takes-each}
 use Rattle.exchange.proofs.Consistency.AllFits.{one_name}

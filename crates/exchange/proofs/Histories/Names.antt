@@ -7,7 +7,7 @@ use Rattle.evaluation.specs.declared.field_input.FieldInput.{FieldInput}
 use Rattle.evaluation.specs.declared.name.Name.{Name}
 use Rattle.evaluation.specs.Names.{precedes}
 use Rattle.evaluation.specs.Meaning.{Evaluated}
-use Rattle.exchange_core.specs.Last.{same_task}
+use Rattle.evaluation.specs.Last.{same_task}
 use Rattle.exchange.specs.declared.event.Event.{Event}
 use Rattle.exchange.specs.declared.event.Event.TheVariants.{Evaluate, Deliver, Restart}
 use Rattle.exchange.specs.History.{Setting, made_count, number_of, incarnation_of, is_lawful, after_events}

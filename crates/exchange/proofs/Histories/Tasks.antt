@@ -8,7 +8,7 @@ use Rattle.due_list.specs.declared.task_ref.TaskRef.{TaskRef}
 use Rattle.plant_grammar.specs.Kinds.{items_or_none}
 use Rattle.plant.specs.PlantValue.{ResourceValue, PlantValue, code_at}
 use Rattle.task_codes.specs.CodeValue.{CodeValue}
-use Rattle.exchange_core.specs.Last.{same_task}
+use Rattle.evaluation.specs.Last.{same_task}
 
 -- the task of a resource that two numbers name
 abbrev task_ref : ℕ → ℕ → TaskRef

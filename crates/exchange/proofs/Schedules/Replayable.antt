@@ -6,13 +6,13 @@ use Rattle.due_list.specs.declared.task_ref.TaskRef.{TaskRef}
 use Rattle.plant.specs.PlantValue.{code_at}
 use Rattle.evaluation.specs.declared.field_input.FieldInput.{FieldInput}
 use Rattle.evaluation.specs.Meaning.{Evaluated}
-use Rattle.exchange_core.specs.Last.{state_of}
+use Rattle.evaluation.specs.Last.{state_of}
 use Rattle.exchange.specs.declared.event.Event.{Event}
 use Rattle.exchange.specs.declared.event.Event.TheVariants.{Evaluate, Deliver, Restart}
 use Rattle.exchange.specs.History.{Setting, incarnation_of, number_of, is_lawful, history_of}
 use Rattle.exchange.specs.Run.{IsLog, IsNextEvaluation, next_name}
-use Rattle.exchange.specs.Fits.{last_in}
-use Rattle.exchange.specs.Book.{CouldBeMade, AllCouldBeMade}
+use Rattle.evaluation_book.specs.Fits.{last_in}
+use Rattle.exchange.specs.Replays.{CouldBeMade, AllCouldBeMade}
 use Rattle.exchange.specs.BookLaws.{AreIncarnations, RunsCouldBeMade, RunsReplay}
 use Rattle.exchange.proofs.Histories.Names.{AllLawful, AllLawful-after, named}
 use Rattle.exchange.proofs.Histories.Steps.{incarnation-restart}

@@ -15,17 +15,18 @@ use Rattle.evaluation.specs.declared.name.Name.{Name}
 use Rattle.evaluation.specs.declared.take.Take.{Take}
 use Rattle.evaluation.specs.Takes.{initial_image, AreTakesOf}
 use Rattle.evaluation.specs.Meaning.{Evaluated, evaluated}
-use Rattle.exchange_core.specs.Last.{same_task, from_of, last_number, state_of, take_of, takes_of}
+use Rattle.evaluation.specs.Last.{same_task, from_of, last_number, state_of, take_of, takes_of}
 use Rattle.exchange.specs.declared.event.Event.{Event}
 use Rattle.exchange.specs.declared.event.Event.TheVariants.{Evaluate, Restart}
 use Rattle.exchange.specs.History.{Setting, is_lawful, after_events, history_of, incarnation_of, number_of}
 use Rattle.exchange.specs.Run.{IsNextEvaluation, next_name, latest, has_reached}
-use Rattle.exchange.specs.Fits.{Among, Each, last_in, name_from, is_below, IsUntorn, IsNotBack, IsOwnLatest, Fits, AllFit}
-use Rattle.exchange.specs.Book.{CouldBeMade, AllCouldBeMade, Replays}
+use Rattle.list_items.specs.Each.{Among, Each}
+use Rattle.evaluation_book.specs.Fits.{last_in, name_from, is_below, IsUntorn, IsNotBack, IsOwnLatest, Fits, AllFit}
+use Rattle.exchange.specs.Replays.{CouldBeMade, AllCouldBeMade, Replays}
 use Rattle.exchange.specs.Schedule.{present, delivery, events_of, schedule_of}
 use Rattle.exchange.proofs.Histories.Names.{after_append, length-log}
 use Rattle.exchange.proofs.Histories.Steps.{latest-other_evaluate, number-latest}
-use Rattle.exchange.proofs.Histories.Lists.{Each-at}
+use Rattle.list_items.proofs.Each.{Each-at}
 use Rattle.exchange.proofs.Consistency.Fitting.{last_among-entry, own-latest}
 use Rattle.exchange.proofs.Consistency.NotBack.{is_below-itself}
 use Rattle.exchange.proofs.Consistency.AllFits.{taken_name}

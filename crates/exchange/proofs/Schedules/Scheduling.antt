@@ -9,19 +9,18 @@ use Rattle.evaluation.specs.declared.name.Name.{Name}
 use Rattle.evaluation.specs.declared.take.Take.{Take}
 use Rattle.evaluation.specs.Names.{precedes}
 use Rattle.evaluation.specs.Meaning.{Evaluated}
-use Rattle.exchange_core.specs.Last.{same_task, from_of}
+use Rattle.evaluation.specs.Last.{same_task, from_of}
 use Rattle.exchange.specs.declared.event.Event.{Event}
 use Rattle.exchange.specs.declared.event.Event.TheVariants.{Deliver, Restart}
 use Rattle.exchange.specs.History.{Setting, made_count, is_lawful, after_events, incarnation_of}
 use Rattle.exchange.specs.Run.{IsLog, latest, message}
 use Rattle.exchange.specs.Laws.{greater, held_with}
-use Rattle.exchange.specs.Fits.{Among, Each, name_from, is_below, IsKnown}
-use Rattle.exchange.specs.Steps.Deciding.{same_name}
+use Rattle.list_items.specs.Each.{Among, Each}
+use Rattle.evaluation_book.specs.Fits.{name_from, is_below, IsKnown}
 use Rattle.exchange.specs.Schedule.{is_from, message_of, taken_in, takes_from, last_taken, delivery_from, delivery}
 use Rattle.exchange.proofs.Histories.Tasks.{same_task-true, same_task-itself}
 use Rattle.exchange.proofs.Histories.Names.{AllLawful, after_append, length-log, log-rises}
 use Rattle.exchange.proofs.Histories.Steps.{latest-deliver, latest-other_deliver, latest-restart, latest-other_restart, incarnation-restart}
-use Rattle.exchange.proofs.Books.Deciding.{test-name}
 use Rattle.exchange.proofs.Consistency.NotBack.{AllReach, TakesReach, takes-reach, is_below-itself, is_below-trans, deliver-not_below}
 
 -- a lawful event happens
@@ -34,6 +33,21 @@ is_from-true None f e = absurd (false≢true e)
 is_from-true (Some g) f e =
     let parts = and_parts (eqb g.0 f.0) (eqb g.1 f.1) e in
     rw (eqb-true g.0 f.0 parts.0, eqb-true g.1 f.1 parts.1) refl
+
+-- a name is that of a task's evaluation of this incarnation and number
+abbrev is_named : Name → TaskRef → ℕ × ℕ → Bool
+is_named name q f = same_task name.task q && is_from (Some (name.incarnation, name.number)) f
+
+named-true : (name : Name) (q : TaskRef) (f : ℕ × ℕ) → is_named name q f ≡ true → name ≡ name_from q f
+named-true name q f e =
+    let parts = and_parts (same_task name.task q) (is_from (Some (name.incarnation, name.number)) f) e in
+    let pair = and_parts (eqb name.incarnation f.0) (eqb name.number f.1) parts.1 in
+    ap (λ p. name_from p (name.incarnation, name.number)) (same_task-true name.task q parts.0)
+    ∙ ap (λ i. name_from q (i, name.number)) (eqb-true name.incarnation f.0 pair.0)
+    ∙ ap (λ n. name_from q (f.0, n)) (eqb-true name.number f.1 pair.1)
+
+named-itself : (q : TaskRef) (f : ℕ × ℕ) → is_named (name_from q f) q f ≡ true
+named-itself q f = rw (same_task-itself q, eq-eqb f.0 f.0 refl, eq-eqb f.1 f.1 refl) refl
 
 -- among these entries, one of resource n in incarnation i took this of producer q
 pub record Took (seen : List Evaluated) (n i : ℕ) (q : TaskRef) (f : Option (ℕ × ℕ)) : Type 0 where
@@ -144,11 +158,11 @@ placed-later x log name k p =
 
 pub place : (log : List Evaluated) (q : TaskRef) (f : ℕ × ℕ) (y : Evaluated) → Among y log → y.name ≡ name_from q f → Placed log (name_from q f) (message_of log q f)
 place [] q f y among e = elim among [ ]
-place (x ∷ log) q f y among e = by (same_name x.name (name_from q f)) refl among (place log q f y) where
-  by : (b : Bool) → same_name x.name (name_from q f) ≡ b → Among y (x ∷ log)
+place (x ∷ log) q f y among e = by (is_named x.name q f) refl among (place log q f y) where
+  by : (b : Bool) → is_named x.name q f ≡ b → Among y (x ∷ log)
       → (Among y log → y.name ≡ name_from q f → Placed log (name_from q f) (message_of log q f)) → Placed (x ∷ log) (name_from q f) (cond b (suc (length log)) (message_of log q f))
-  by true g a ih = record { entry = x; came = (rw (eq-eqb (suc (length log)) (suc (length log)) refl) refl); named = (test-name x.name (name_from q f)).holds g; low = omega arith; high = omega arith }
-  by false g (inl same) ih = absurd (false≢true (sym g ∙ (test-name x.name (name_from q f)).passes (ap (λ z. z.name) same ∙ e)))
+  by true g a ih = record { entry = x; came = (rw (eq-eqb (suc (length log)) (suc (length log)) refl) refl); named = named-true x.name q f g; low = omega arith; high = omega arith }
+  by false g (inl same) ih = absurd (false≢true (sym g ∙ ap (λ m. is_named m q f) (ap (λ z. z.name) same ∙ e) ∙ named-itself q f))
   by false g (inr a) ih = placed-later x log (name_from q f) (message_of log q f) (ih a e)
 
 -- what was taken last is not above the latest

@@ -16,7 +16,7 @@ use Rattle.exchange.specs.declared.event.Event.TheVariants.{Deliver}
 use Rattle.exchange.specs.History.{Setting, history_of}
 use Rattle.exchange.specs.Run.{IsLog, latest, message}
 use Rattle.exchange.specs.Laws.{greater, held_with}
-use Rattle.exchange.specs.World.{WorldValue, node_takes}
+use Rattle.exchange.specs.World.{WorldValue, world_of, node_takes}
 use Rattle.exchange.specs.Step.{Answers, IsDelivered}
 use Rattle.exchange.specs.Nodes.{IsNode, IsWorld}
 use Rattle.exchange.proofs.Histories.Tasks.{same_task-itself}
@@ -25,7 +25,6 @@ use Rattle.exchange.proofs.Histories.Names.{log-rises}
 use Rattle.exchange.proofs.Histories.Steps.{latest-deliver}
 use Rattle.exchange.proofs.Worlds.Takes.{usable-takes}
 use Rattle.exchange.proofs.Worlds.Moves.{message-usable, stays, grows, run-message}
-use Rattle.exchange.proofs.Worlds.Events.{world_data}
 
 same : (x : Evaluated) (o : Option Evaluated) → held_with x.name.task o (Some x) ≡ greater o x
 same x o = rw (same_task-itself x.name.task) refl
@@ -36,7 +35,7 @@ moved x (Some y) e = λ f. false≢true (sym (not_itself x.name) ∙ subst (λ z
 
 pub delivered : (s : Setting) (events : List Event) (log : List Evaluated) (n k : ℕ) (core new : CoreValue) (x : Evaluated) (a : Accepted) → IsSoundPlant s.plant
     → IsLog s (history_of s events) (reverse log) → IsNode s (history_of s events) (reverse log) n core → message (reverse log) k ≡ Some x → IsAccepted core new x a
-    → IsDelivered (world_data s events log) k n a
+    → IsDelivered (world_of s events log) k n a
 delivered s events log n k core new x a sound is node came done = (x, came, by a done) where
   h : List Event
   h = history_of s events
@@ -59,7 +58,7 @@ delivered s events log n k core new x a sound is node came done = (x, came, by a
   unused none (inr away) false e = inr e
   unused none (inr away) true e = absurd (none away e)
 
-  by : (a : Accepted) → IsAccepted core new x a → Answers (world_data s events log) k n x.name.task a
+  by : (a : Accepted) → IsAccepted core new x a → Answers (world_of s events log) k n x.name.task a
   by Unused d = unused (λ away takes. d.0 (message-usable s h (reverse log) n k core x sound is node came away takes)) (cases_eq x.name.task.resource n) (node_takes s.plant n x.name.task) refl
   by Taken d =
       let parts = usable-takes s h (reverse log) n core x node d.0 in
@@ -70,7 +69,7 @@ delivered s events log n k core new x a sound is node came done = (x, came, by a
       let g : is_greater now x.name ≡ false = subst (λ o. is_greater o x.name ≡ false) (keeps parts.0 parts.1) d.1 in
       (parts.0, parts.1, after parts.0 ∙ stays x now g)
 
-pub delivered_at : (old : WorldValue) (s : Setting) (events : List Event) (log : List Evaluated) (cores : List CoreValue) (m n : ℕ) (core new : CoreValue) (x : Evaluated) (a : Accepted) → world_data s events log ≡ old
+pub delivered_at : (old : WorldValue) (s : Setting) (events : List Event) (log : List Evaluated) (cores : List CoreValue) (m n : ℕ) (core new : CoreValue) (x : Evaluated) (a : Accepted) → world_of s events log ≡ old
     → IsWorld s events log cores → n < length cores → core ≡ get_or cores n core → 1 ≤ m → m ≤ length log → x ≡ get_or log (m - 1) x → IsAccepted core new x a → IsDelivered old m n a
 delivered_at old s events log cores m n core new x a view world inside at low high came done =
     let e : suc (m - 1) ≡ m = omega arith in

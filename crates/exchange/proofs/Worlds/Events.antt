@@ -11,14 +11,14 @@ use Rattle.task_codes.specs.CodeValue.{CodeValue}
 use Rattle.evaluation.specs.declared.field_input.FieldInput.{FieldInput}
 use Rattle.evaluation.specs.declared.name.Name.{Name}
 use Rattle.evaluation.specs.Meaning.{Evaluated, IsAsked}
-use Rattle.exchange_core.specs.Last.{state_of, takes_of, last_number}
+use Rattle.evaluation.specs.Last.{state_of, takes_of, last_number}
 use Rattle.exchange_core.specs.Held.{known, with_known}
 use Rattle.exchange_core.specs.CoreValue.{CoreValue, IsNext, IsNextOf, IsDue, next_name_of, own_task, fresh_core}
 use Rattle.exchange.specs.declared.event.Event.{Event}
 use Rattle.exchange.specs.declared.event.Event.TheVariants.{Evaluate, Restart}
 use Rattle.exchange.specs.History.{Setting, is_lawful, history_of, incarnation_of, number_of}
 use Rattle.exchange.specs.Run.{IsLog, IsNextEvaluation, next_name, latest}
-use Rattle.exchange.specs.World.{WorldValue, node_takes}
+use Rattle.exchange.specs.World.{WorldValue, world_of, node_takes}
 use Rattle.exchange.specs.Step.{IsDone, IsEvaluatedNow}
 use Rattle.exchange.specs.Nodes.{IsNode, IsWorld}
 use Rattle.exchange.proofs.Histories.Names.{AllLawful, AllLawful-after}
@@ -206,14 +206,11 @@ module _ (s : Setting) (events : List Event) (log : List Evaluated) (cores : Lis
       ∙ ap (incarnation_of s n) (sym (history-one_more s events (Restart n) (restart-lawful_at n last core inside at was low)))
 
 -- how a done event reads on the values before and after
-abbrev pub world_data : Setting → List Event → List Evaluated → WorldValue
-world_data s events log = record { setting = s; events = events; log = log }
+pub done_same : (old : WorldValue) (s : Setting) (events events2 : List Event) (log : List Evaluated) (e : Event) → world_of s events log ≡ old → is_lawful s (history_of s events) e ≡ true → events2 ≡ events ++ e ∷ []
+    → IsDone old (world_of s events2 log) e old.log
+done_same old s events events2 log e view lawful grown = subst (λ w. IsDone w (world_of s events2 log) e w.log) view (record { lawful = lawful; is = rw grown refl })
 
-pub done_same : (old : WorldValue) (s : Setting) (events events2 : List Event) (log : List Evaluated) (e : Event) → world_data s events log ≡ old → is_lawful s (history_of s events) e ≡ true → events2 ≡ events ++ e ∷ []
-    → IsDone old (world_data s events2 log) e old.log
-done_same old s events events2 log e view lawful grown = subst (λ w. IsDone w (world_data s events2 log) e w.log) view (record { lawful = lawful; is = rw grown refl })
-
-pub done_evaluated : (old : WorldValue) (s : Setting) (events events2 : List Event) (log log2 : List Evaluated) (e : Event) (x : Evaluated) (k : ℕ) → world_data s events log ≡ old → is_lawful s (history_of s events) e ≡ true
-    → events2 ≡ events ++ e ∷ [] → log2 ≡ log ++ x ∷ [] → k ≡ length log2 → IsEvaluatedNow old (world_data s events2 log2) e k
+pub done_evaluated : (old : WorldValue) (s : Setting) (events events2 : List Event) (log log2 : List Evaluated) (e : Event) (x : Evaluated) (k : ℕ) → world_of s events log ≡ old → is_lawful s (history_of s events) e ≡ true
+    → events2 ≡ events ++ e ∷ [] → log2 ≡ log ++ x ∷ [] → k ≡ length log2 → IsEvaluatedNow old (world_of s events2 log2) e k
 done_evaluated old s events events2 log log2 e x k view lawful grown added at =
-    subst (λ w. IsEvaluatedNow w (world_data s events2 log2) e k) view (record { made = x; done = record { lawful = lawful; is = rw (grown, added) refl }; place = at })
+    subst (λ w. IsEvaluatedNow w (world_of s events2 log2) e k) view (record { made = x; done = record { lawful = lawful; is = rw (grown, added) refl }; place = at })

@@ -11,7 +11,7 @@ use Rattle.plant_grammar.specs.Kinds.{items_or_none}
 use Rattle.plant.specs.PlantValue.{ResourceValue}
 use Rattle.task_codes.specs.CodeValue.{CodeValue}
 use Rattle.evaluation.specs.Meaning.{Evaluated}
-use Rattle.exchange_core.specs.Last.{same_task}
+use Rattle.evaluation.specs.Last.{same_task}
 use Rattle.exchange_core.specs.Held.{known}
 use Rattle.exchange_core.specs.CoreValue.{CoreValue, held_of}
 use Rattle.exchange.specs.History.{history_of}

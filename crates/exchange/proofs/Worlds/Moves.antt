@@ -14,7 +14,7 @@ use Rattle.evaluation.specs.declared.field_input.FieldInput.{FieldInput}
 use Rattle.evaluation.specs.Meaning.{Evaluated}
 use Rattle.exchange_core.specs.declared.accepted.Accepted.{Accepted}
 use Rattle.exchange_core.specs.declared.accepted.Accepted.TheVariants.{Taken, Old, Unused}
-use Rattle.exchange_core.specs.Last.{same_task}
+use Rattle.evaluation.specs.Last.{same_task}
 use Rattle.exchange_core.specs.Held.{known, with_known, empty_for, IsShaped}
 use Rattle.exchange_core.specs.Steps.Knowing.{has_place}
 use Rattle.exchange_core.specs.CoreValue.{CoreValue, IsUsable, IsAccepted, is_greater, fresh_core}

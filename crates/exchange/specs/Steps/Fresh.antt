@@ -3,7 +3,12 @@ use Rattle.std.specs.Prelude.{◌≡◌, ℕ, List, Some, length, slice_get, sli
 use Rattle.plant.specs.PlantValue.{PlantValue}
 use Rattle.exchange_core.specs.CoreValue.{CoreValue, fresh_core}
 
--- the cores of a world before its first event
+-- so many cores of a world before its first event
 pub record AreFresh (plant : PlantValue) (first : List ℕ) (max_number count : ℕ) (cores : List CoreValue) : Type 0 where
   pub sized : length cores ≡ count
-  pub fresh : (n : ℕ) (core : CoreValue) → slice_get cores n ≡ Some core → core ≡ fresh_core plant n (slice_index first n) max_number
+  pub fresh : (n : ℕ) (core : CoreValue) → slice_get cores n ≡ Some core
+      → core ≡ fresh_core plant n (slice_index first n) max_number
+
+-- the cores of all resources of a plant
+abbrev pub AreFreshCores : PlantValue → List ℕ → ℕ → List CoreValue → Type 0
+AreFreshCores plant first max_number cores = AreFresh plant first max_number (length plant.resources) cores

@@ -1,16 +1,17 @@
 -- What the checks of a report decide, step by step.
-use Rattle.std.specs.Prelude.{◌≡◌, ℕ, ◌+◌, ◌-◌, ◌<◌, ◌≤◌, ◌==◌, ◌||◌, ◌++◌, Bool, true, false, List, [], Option, Some, IfSome, All, Contains, length, map, drop, reverse, take, slice_get, slice_index_or}
+use Rattle.std.specs.Prelude.{◌≡◌, ℕ, ◌+◌, ◌-◌, ◌<◌, ◌≤◌, ◌==◌, ◌&&◌, ◌||◌, ◌++◌, ◌∷◌, Bool, true, false, IsTrue, List, [], Option, Some, IfSome, All, Contains, length, drop, reverse, take, slice_get, slice_index_or}
 use Rattle.std.specs.List.{list_any}
 use Rattle.std.specs.List.Sorted.{IsStrictlyIncreasing}
 use Rattle.plant.specs.PlantValue.{PlantValue, IsSoundPlant}
 use Rattle.evaluation.specs.Meaning.{Evaluated}
-use Rattle.exchange.specs.Fits.{AllFit}
-use Rattle.exchange.specs.Book.{BookValue}
+use Rattle.evaluation_book.specs.Fits.{AllFit}
+use Rattle.evaluation_book.specs.Book.{BookValue}
+use Rattle.node_journals.specs.declared.command.Command.{Command}
 use Rattle.node_journals.specs.declared.journal.Journal.{Journal}
 use Rattle.node_journals.specs.declared.cause.Cause.TheVariants.{Stopped}
 use Rattle.node_journals.specs.declared.node_fault.NodeFault.{NodeFault}
 use Rattle.node_journals.specs.Journals.{made}
-use Rattle.node_reports.specs.Reports.{entries_of, is_restart_of, may_have_stopped, fault_tickets}
+use Rattle.node_reports.specs.Reports.{entries_of, is_restart_of, IsUnobeyed, IsToldOf, may_stop, may_have_stopped, fault_tickets}
 
 -- a journal is that of the resource at a place, and begins in this place's incarnation
 pub record BeginsAt (first : List ℕ) (place : ℕ) (j : Journal) : Type 0 where
@@ -21,14 +22,22 @@ pub record BeginsAt (first : List ℕ) (place : ℕ) (j : Journal) : Type 0 wher
 abbrev pub AllBegin : List ℕ → List Journal → Type 0
 AllBegin first journals = (k : ℕ) (j : Journal) → slice_get journals k ≡ Some j → BeginsAt first k j
 
--- Each journal has come to a place: what it made are these entries of the resource at its place, and then what it made from that place on.
+-- Each journal has come to a place: what it made are these entries of the resource at its place,
+-- and then what it made from that place on.
 pub record HaveCome (entries : List Evaluated) (journals : List Journal) (at : List ℕ) : Type 0 where
   pub many : length at ≡ length journals
-  pub each : (k : ℕ) (j : Journal) → slice_get journals k ≡ Some j → made j.steps ≡ entries_of k entries ++ made (drop (slice_index_or at k 0) j.steps)
+  pub each : (k : ℕ) (j : Journal) → slice_get journals k ≡ Some j
+      → made j.steps ≡ entries_of k entries ++ made (drop (slice_index_or at k 0) j.steps)
+
+-- the places have gone on by this entry, whichever entries the journals had come to before
+abbrev pub HaveGoneOn : List Journal → List ℕ → List ℕ → Evaluated → Type 0
+HaveGoneOn journals old new x =
+    (earlier : List Evaluated) → HaveCome earlier journals old → HaveCome (earlier ++ x ∷ []) journals new
 
 -- no journal made anything from its place on
 abbrev pub AreAtEnd : List Journal → List ℕ → Type 0
-AreAtEnd journals at = (k : ℕ) (j : Journal) → slice_get journals k ≡ Some j → made (drop (slice_index_or at k 0) j.steps) ≡ []
+AreAtEnd journals at =
+    (k : ℕ) (j : Journal) → slice_get journals k ≡ Some j → made (drop (slice_index_or at k 0) j.steps) ≡ []
 
 -- what each journal made are, in order, the entries of the resource at its place
 abbrev pub AllMade : List Evaluated → List Journal → Type 0
@@ -36,14 +45,17 @@ AllMade entries journals = (k : ℕ) (j : Journal) → slice_get journals k ≡ 
 
 -- each place is marked where it was, or where the test passes for its ticket, which is one more than the place
 abbrev pub AreMarkedAlso : (ℕ → Bool) → List Bool → List Bool → Type 0
-AreMarkedAlso test old new = (k : ℕ) → k < length old → slice_index_or new k false ≡ (slice_index_or old k false || test (k + 1))
+AreMarkedAlso test old new =
+    (k : ℕ) → k < length old → slice_index_or new k false ≡ (slice_index_or old k false || test (k + 1))
 
 -- for each place, whether an entry has its ticket, which is one more than the place
 pub record AreMarks (count : ℕ) (entries : List Evaluated) (marks : List Bool) : Type 0 where
   pub many : length marks ≡ count
-  pub each : (k : ℕ) → k < count → slice_index_or marks k false ≡ list_any (λ (x : Evaluated). x.ticket == k + 1) entries
+  pub each : (k : ℕ) → k < count
+      → slice_index_or marks k false ≡ list_any (λ (x : Evaluated). x.ticket == k + 1) entries
 
--- The book fits, and each resource of the plant has its journal, which begins in the book's first incarnation and made the book's entries.
+-- The book fits, and each resource of the plant has its journal,
+-- which begins in the book's first incarnation and made the book's entries.
 pub record Agrees (plant : PlantValue) (book : BookValue) (journals : List Journal) : Type 0 where
   pub sound : IsSoundPlant plant
   pub fit : AllFit book.first (reverse book.entries)
@@ -57,7 +69,8 @@ pub record RiseTo (xs : List ℕ) (last : Option ℕ) : Type 0 where
   pub rising : IsStrictlyIncreasing xs
   pub last_is : slice_get xs (length xs - 1) ≡ last
 
--- the same of the first k of the faults noted, which stand by ticket; the last ticket listed is this, and isn't above those that follow
+-- the same of the first k of the faults noted, which stand by ticket;
+-- the last ticket listed is this, and isn't above those that follow
 pub record AreListedUpTo (k : ℕ) (noted listed : List NodeFault) (last : Option ℕ) : Type 0 where
   pub rise : RiseTo (fault_tickets listed) last
   pub among : All (λ (f : NodeFault). Contains noted f) listed
@@ -66,7 +79,9 @@ pub record AreListedUpTo (k : ℕ) (noted listed : List NodeFault) (last : Optio
 
 -- for each place, whether a journal has a restart of its ticket, which is one more than the place
 abbrev pub AreRestartMarks : List Journal → List Bool → Type 0
-AreRestartMarks journals marks = (k : ℕ) → k < length marks → slice_index_or marks k false ≡ list_any (λ (j : Journal). list_any (is_restart_of (k + 1)) j.steps) journals
+AreRestartMarks journals marks =
+    (k : ℕ) → k < length marks
+    → slice_index_or marks k false ≡ list_any (λ (j : Journal). list_any (is_restart_of (k + 1)) j.steps) journals
 
 -- no mark stands at the place of a ticket
 pub record IsUnmarked (marks : List Bool) (ticket : ℕ) : Type 0 where
@@ -75,10 +90,33 @@ pub record IsUnmarked (marks : List Bool) (ticket : ℕ) : Type 0 where
   pub within : place < length marks
   pub unmarked : slice_index_or marks place false ≡ false
 
+-- a command wasn't obeyed, if this answer is true and these mark the restarts of the journals
+abbrev pub TellsUnobeyed : List Bool → List ℕ → Command → Bool → Type 0
+TellsUnobeyed marks unanswered command answer =
+    (journals : List Journal) → AreRestartMarks journals marks → IsTrue answer → IsUnobeyed unanswered journals command
+
+-- a fault is told of a command, if this answer is true and these mark the restarts of the journals
+abbrev pub TellsTold : List Bool → PlantValue → List Command → List ℕ → NodeFault → Bool → Type 0
+TellsTold marks plant commands unanswered f answer =
+    (journals : List Journal) → AreRestartMarks journals marks → IsTrue answer
+    → IsToldOf plant commands journals unanswered f
+
+-- only what was marked is marked, and the resource of a fault that may stop it
+abbrev pub MarksNoOther : List Bool → List Bool → NodeFault → Type 0
+MarksNoOther old new f =
+    (r : ℕ) → IsTrue (slice_index_or new r false)
+    → IsTrue (slice_index_or old r false || (f.resource == r && may_stop f.cause))
+
+-- the resource of a fault is marked, if it has stopped
+abbrev pub IsMarkedIfStopped : List Bool → NodeFault → Type 0
+IsMarkedIfStopped marks f = f.cause ≡ Stopped → IsTrue (slice_index_or marks f.resource false)
+
 -- a mark at the place of a resource says that one of these faults may have stopped it
 abbrev pub AreStopMarks : List NodeFault → List Bool → Type 0
 AreStopMarks faults marks = (r : ℕ) → slice_index_or marks r false ≡ true → may_have_stopped r faults ≡ true
 
 -- a resource has stopped only where an earlier one of the faults may have stopped it; this of the first k of them
 abbrev pub AreStopsTold : ℕ → List NodeFault → Type 0
-AreStopsTold k faults = (i : ℕ) (f : NodeFault) → i < k → slice_get faults i ≡ Some f → f.cause ≡ Stopped → may_have_stopped f.resource (take i faults) ≡ true
+AreStopsTold k faults =
+    (i : ℕ) (f : NodeFault) → i < k → slice_get faults i ≡ Some f → f.cause ≡ Stopped
+    → may_have_stopped f.resource (take i faults) ≡ true

@@ -1,7 +1,6 @@
-ghost use Rattle.std.specs.Prelude.{◌≡◌, ◌↔◌, ◌<◌, ◌≤◌, ◌+◌, ◌++◌, ℕ, [], ◌∷◌, IsTrue, MatchOption, IfOk, IfSome, List, Some, drop, length, slice_get};
-ghost use Rattle.evaluation.specs.Meaning.{Evaluated};
+ghost use Rattle.std.specs.Prelude.{◌≡◌, ◌<◌, [], ◌∷◌, IsTrue, MatchOption, IfOk, IfSome, drop, length};
 ghost use Rattle.node_journals.specs.Journals.{made};
-ghost use Rattle.node_reports.specs.Steps.Collecting.{BeginsAt, AllBegin, HaveCome, AreAtEnd, AllMade};
+ghost use Rattle.node_reports.specs.Steps.Collecting.{BeginsAt, AllBegin, HaveCome, HaveGoneOn, AreAtEnd, AllMade};
 
 use evaluation::Frame;
 use node_journals::{Journal, Step};
@@ -34,7 +33,7 @@ fn behind(steps: &[Step], from: usize, entry: &Frame) -> Option<usize>
 
 /// Goes on in the journal of an entry's resource to the place behind that entry, if it is what that journal made next.
 fn advance(journals: &[Journal], at: &mut [usize], entry: &Frame) -> bool
-    ensures { IsTrue result → (earlier : List Evaluated) → HaveCome earlier journals.now at.old → HaveCome (earlier ++ entry.now ∷ []) journals.now at.new }
+    ensures { IsTrue result → HaveGoneOn journals.now at.old at.new entry.now }
 {
     let resource = entry.name().task.resource;
     if resource >= journals.len() || resource >= at.len() {
@@ -61,7 +60,8 @@ fn are_at_end(journals: &[Journal], at: &[usize]) -> bool
     true
 }
 
-/// Goes through the entries, and each journal along with them: whether what each made from its place on are, in order, the entries of the resource at its place.
+/// Goes through the entries, and each journal along with them: whether what each made from its place on are, in order,
+/// the entries of the resource at its place.
 fn walk(journals: &[Journal], at: &mut [usize], entries: &[Frame]) -> bool
     ensures { IsTrue result → HaveCome [] journals.now at.old → AllMade entries.now journals.now }
 {

@@ -1,7 +1,7 @@
 ghost use Rattle.std.specs.Prelude.{◌≡◌, ◌↔◌, ◌≤◌, IsTrue, IfSome, All, Contains};
 ghost use Rattle.std.specs.List.Sorted.{IsStrictlyIncreasing};
 ghost use Rattle.node_journals.specs.declared.act.Act.TheVariants.{Restart};
-ghost use Rattle.node_reports.specs.Reports.{command_of, IsCommanded, IsObedient, ticket_of, tickets_of};
+ghost use Rattle.node_reports.specs.Reports.{command_of, IsCommanded, ticket_of, tickets_of};
 
 use crate::tickets::is_above;
 use evaluation::{Evaluation, Frame};

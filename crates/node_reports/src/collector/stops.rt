@@ -1,7 +1,6 @@
-ghost use Rattle.std.specs.Prelude.{◌≡◌, ◌⊎◌, ◌&&◌, ◌==◌, ◌||◌, ℕ, List, [], false, true, IsTrue, IfOk, length, slice_index_or};
-ghost use Rattle.node_journals.specs.declared.cause.Cause.TheVariants.{Stopped};
+ghost use Rattle.std.specs.Prelude.{◌≡◌, [], IsTrue, IfOk, length};
 ghost use Rattle.node_reports.specs.Reports.{may_stop};
-ghost use Rattle.node_reports.specs.Steps.Collecting.{AreStopMarks, AreStopsTold};
+ghost use Rattle.node_reports.specs.Steps.Collecting.{MarksNoOther, IsMarkedIfStopped, AreStopMarks, AreStopsTold};
 
 use node_journals::{Cause, NodeFault};
 use std::alloc::{AllocError, Global};
@@ -18,8 +17,8 @@ fn may_stop(cause: Cause) -> bool
 
 /// Whether a resource that has stopped is marked. One that a fault may have stopped is marked from then on.
 fn follows(marks: &mut [bool], fault: &NodeFault) -> bool
-    ensures marked { (r : ℕ) → IsTrue (slice_index_or marks.new r false) → IsTrue (slice_index_or marks.old r false || (fault.now.resource == r && may_stop fault.now.cause)) }
-    ensures stopped { IsTrue result → fault.now.cause ≡ Stopped → IsTrue (slice_index_or marks.old fault.now.resource false) }
+    ensures marked { MarksNoOther marks.old marks.new fault.now }
+    ensures stopped { IsTrue result → IsMarkedIfStopped marks.old fault.now }
 {
     if fault.resource >= marks.len() {
         return false;

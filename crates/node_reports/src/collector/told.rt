@@ -1,9 +1,8 @@
-ghost use Rattle.std.specs.Prelude.{◌≡◌, ◌↔◌, ◌<◌, ◌+◌, ◌||◌, ℕ, List, false, true, IsTrue, IfOk, IfSome, All, Contains, length, slice_get, slice_index_or};
+ghost use Rattle.std.specs.Prelude.{◌≡◌, ◌↔◌, IsTrue, IfOk, Contains};
 ghost use Rattle.std.specs.List.{list_any};
 ghost use Rattle.node_journals.specs.declared.act.Act.TheVariants.{Restart};
-ghost use Rattle.node_journals.specs.declared.journal.Journal.{Journal as JournalValue};
-ghost use Rattle.node_reports.specs.Reports.{is_restart_of, HasTask, LacksTask, IsUnobeyed, MayMeet, IsToldOf, AreTold, AreByTicket};
-ghost use Rattle.node_reports.specs.Steps.Collecting.{AreMarkedAlso, AreRestartMarks, IsUnmarked};
+ghost use Rattle.node_reports.specs.Reports.{is_restart_of, HasTask, LacksTask, MayMeet, AllTold, AreTold, AreByTicket};
+ghost use Rattle.node_reports.specs.Steps.Collecting.{AreMarkedAlso, AreRestartMarks, IsUnmarked, TellsUnobeyed, TellsTold};
 
 use crate::collector::obedience::find_command;
 use crate::collector::stops::are_stops_told;
@@ -66,7 +65,7 @@ fn is_among(tickets: &[u64], ticket: u64) -> bool
 
 /// Whether a command wasn't obeyed.
 fn is_unobeyed(command: &Command, unanswered: &[u64], restarts: &[bool]) -> bool
-    ensures { (journals : List JournalValue) → AreRestartMarks journals restarts.now → IsTrue result → IsUnobeyed unanswered.now journals command.now }
+    ensures { TellsUnobeyed restarts.now unanswered.now command.now result }
 {
     match &command.act {
         Act::Evaluate { .. } => is_among(unanswered, command.ticket),
@@ -126,7 +125,7 @@ fn is_told(
     restarts: &[bool],
     fault: &NodeFault,
 ) -> bool
-    ensures { (journals : List JournalValue) → AreRestartMarks journals restarts.now → IsTrue result → IsToldOf plant.now commands.now journals unanswered.now fault.now }
+    ensures { TellsTold restarts.now plant.now commands.now unanswered.now fault.now result }
 {
     match find_command(commands, fault.ticket) {
         Some(command) => {
@@ -148,7 +147,7 @@ fn are_told(
     unanswered: &[u64],
     faults: &[NodeFault],
 ) -> Result<bool, AllocError>
-    ensures { IfOk result (λ told. IsTrue told → All (IsToldOf plant.now commands.now journals.now unanswered.now) faults.now) }
+    ensures { IfOk result (λ all. IsTrue all → AllTold plant.now commands.now journals.now unanswered.now faults.now) }
 {
     if faults.is_empty() {
         return Ok(true);

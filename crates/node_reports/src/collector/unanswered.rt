@@ -1,5 +1,4 @@
-ghost use Rattle.std.specs.Prelude.{◌≡◌, ◌==◌, ◌||◌, ◌&&◌, ◌+◌, ◌<◌, ℕ, Bool, false, not, IfOk, length, vec_len, slice_index_or};
-ghost use Rattle.std.specs.List.{list_any};
+ghost use Rattle.std.specs.Prelude.{◌≡◌, ◌==◌, ◌&&◌, ◌<◌, false, not, IfOk};
 ghost use Rattle.node_journals.specs.Commands.{AreNumbered};
 ghost use Rattle.node_reports.specs.Reports.{unanswered_of, is_evaluate};
 ghost use Rattle.node_reports.specs.Steps.Collecting.{AreMarkedAlso, AreMarks};

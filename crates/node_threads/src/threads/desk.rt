@@ -1,7 +1,7 @@
 use crate::gate::Gate;
 use crate::threads::inbox::Inbox;
 use crossbeam_channel::Sender;
-use exchange::Book;
+use evaluation_book::Book;
 use plant::Plant;
 use std::sync::Mutex;
 

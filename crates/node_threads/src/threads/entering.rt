@@ -2,7 +2,7 @@ ghost use Rattle.node_threads.specs.Steps.Working.{IsWorking};
 
 use crate::threads::worker_state::WorkerState;
 use evaluation::Frame;
-use exchange::{Book, Misfit};
+use evaluation_book::{Book, Misfit};
 use node_journals::{Cause, PendingEvaluation};
 use std::sync::{Mutex, Wait};
 

@@ -1,4 +1,4 @@
-use exchange::Book;
+use evaluation_book::Book;
 use node_journals::{Journal, NodeFault};
 
 /// What the threads of a run left.

@@ -1,6 +1,6 @@
 ghost use Rattle.std.specs.Prelude.{◌≡◌, All, IfOk};
 ghost use Rattle.node_journals.specs.Journals.{IsLawful};
-ghost use Rattle.node_threads.specs.Steps.Working.{IsWorkerFor};
+ghost use Rattle.node_threads.specs.Steps.Working.{IsWorkerFor, IsPromisedFor};
 
 use crate::gate::Gate;
 use crate::keeper::Keeper;
@@ -38,7 +38,7 @@ fn start_one<'s, E, R: Threads + Wait + Sync, K: Keeper, G: Gate>(
 where
     K: 's,
     requires { (worker.plant ≡ desk.plant.now) × (worker.max_number ≡ max_number) }
-    ensures { IfOk result (λ h. (h.promise.plant.now ≡ desk.entry.plant.now) × (h.promise.max_number ≡ max_number)) }
+    ensures { IfOk result (λ h. IsPromisedFor desk.entry.plant.now max_number h.promise) }
 {
     let promise = LawfulFor {
         plant: desk.plant,
@@ -67,7 +67,7 @@ pub(crate) fn start_all<'s, E, R: Threads + Wait + Sync, K: Keeper, G: Gate>(
 where
     K: 's,
     requires { All (IsWorkerFor desk.plant.now max_number) workers.items }
-    ensures { IfOk result (λ hs. All (λ h. (h.promise.plant.now ≡ desk.entry.plant.now) × (h.promise.max_number ≡ max_number)) hs.items) }
+    ensures { IfOk result (λ hs. All (λ h. IsPromisedFor desk.entry.plant.now max_number h.promise) hs.items) }
 {
     let mut handles = Vec::new(alloc);
     for worker in workers {

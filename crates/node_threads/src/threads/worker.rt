@@ -3,7 +3,7 @@ use crate::threads::entering::enter_pending;
 use crate::threads::restarting::restart_station;
 use crate::threads::worker_state::WorkerState;
 use evaluation::{Frame, Inputs};
-use exchange::Book;
+use evaluation_book::Book;
 use node_journals::{Cause, Journal, RunFault, Station};
 use plant::Plant;
 use std::alloc::Global;

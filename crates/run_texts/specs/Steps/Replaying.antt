@@ -5,7 +5,8 @@ use Rattle.evaluation.specs.Meaning.{Evaluated}
 use Rattle.exchange.specs.declared.event.Event.{Event}
 use Rattle.exchange.specs.History.{Setting}
 use Rattle.exchange.specs.Run.{IsRun}
-use Rattle.exchange.specs.Book.{BookValue, Replays}
+use Rattle.evaluation_book.specs.Book.{BookValue}
+use Rattle.exchange.specs.Replays.{Replays}
 
 -- the plant, from these first incarnations, with numbers up to the greatest of 32 bits
 abbrev pub replayed_in : PlantValue → List ℕ → Setting

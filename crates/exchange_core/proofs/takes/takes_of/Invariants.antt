@@ -1,6 +1,6 @@
 use Rattle.std.proofs.Common.{◌≡◌, map, take}
 use Rattle.std.specs.List.{zip}
-use Rattle.exchange_core.specs.Last.{take_of}
+use Rattle.evaluation.specs.Last.{take_of}
 use Rattle.exchange_core.specs.Held.{known}
 use Rattle.exchange_core.proofs.takes.takes_of.Given as goal
 

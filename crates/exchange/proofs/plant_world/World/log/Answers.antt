@@ -2,11 +2,11 @@
 use Rattle.std.proofs.Common.{reverse, subst}
 use Rattle.exchange.specs.History.{Setting}
 use Rattle.exchange.specs.World.{WorldValue}
-use Rattle.exchange.specs.Fits.{AllFit}
+use Rattle.evaluation_book.specs.Fits.{AllFit}
 use Rattle.exchange.specs.Consistent.{IsConsistent}
 use Rattle.exchange.specs.Theorem.{IsDataConsistent}
 use Rattle.exchange.proofs.Consistency.Places.{run-consistent}
-use Rattle.exchange.proofs.Books.Entered.{run-fits}
+use Rattle.exchange.proofs.Consistency.Entered.{run-fits}
 use Rattle.exchange.proofs.Consistency.Makings.{consistency-theorem}
 use Rattle.exchange.proofs.plant_world.World.log.Goals as goal
 

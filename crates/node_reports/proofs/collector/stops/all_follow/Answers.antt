@@ -1,9 +1,6 @@
 -- One more fault follows those before it.
-use Rattle.std.proofs.Common.{◌≡◌, ◌<◌, ◌||◌, ◌&&◌, ◌==◌, inl, inr, Some, take, slice_get, length, get_or, refl, ap, sym, ◌∙◌, subst, arith}
-use Rattle.std.proofs.lemmas.Bool.{cases_lt}
-use Rattle.std.proofs.lemmas.List.Folds.{list_any_more}
-use Rattle.std.proofs.lemmas.Option.{slice_get-get_or, same_Some}
-use Rattle.node_journals.specs.declared.cause.Cause.TheVariants.{OutOfTurns, Stopped}
+use Rattle.std.proofs.Common.{◌<◌, length, refl, arith}
+use Rattle.node_journals.specs.declared.cause.Cause.TheVariants.{OutOfTurns}
 use Rattle.node_journals.specs.declared.node_fault.NodeFault.{NodeFault}
 use Rattle.node_reports.proofs.Stopping.{stop_marks_more, stops_more}
 use Rattle.node_reports.proofs.collector.stops.all_follow.Goals as goal

@@ -1,0 +1,32 @@
+-- What the tests of a book tell of an evaluation.
+use Rattle.std.proofs.Common.{refl, ℕ, Bool, true, false, cond, List, None, Some}
+use Rattle.std.specs.Prelude.{not, MatchOption}
+use Rattle.std.specs.List.{list_all}
+use Rattle.std.proofs.lemmas.Bool.{false≢true}
+use Rattle.evaluation.specs.Meaning.{Evaluated}
+use Rattle.evaluation_book.specs.declared.book.misfit.Misfit.TheVariants.{WrongNumber, UnknownTake, Torn, Back, NotOwnLatest}
+use Rattle.list_items.specs.Each.{Each}
+use Rattle.evaluation_book.specs.Fits.{IsNumbered, IsKnown, IsUntorn, IsNotBack, IsOwnLatest, Fits, AllFit}
+use Rattle.evaluation_book.specs.Book.{IsMisfit}
+use Rattle.evaluation_book.specs.Steps.Deciding.{is_numbered, is_known, is_untorn, is_not_back, is_own_latest, first_failed}
+use Rattle.evaluation_book.proofs.Deciding.{IsTest, test-each, test-numbered, test-known, test-untorn, test-not_back, test-own_latest}
+
+fails : (P : Type 0) → IsTest false P → ¬ P
+fails P test h = false≢true (test.passes h)
+
+-- the first clause that fails is the misfit, and where none fails the evaluation fits
+pub first_failed-is : (first : List ℕ) (older : List Evaluated) → AllFit first older → (x : Evaluated) → MatchOption (first_failed first older x.name x.takes) (Fits first older x) (IsMisfit first older x)
+first_failed-is first older fit x =
+    by (is_numbered first older x.name) (list_all (is_known older) x.takes) (list_all (is_untorn older) x.takes) (list_all (is_not_back older x.name) x.takes) (list_all (is_own_latest older x.name) x.takes)
+    (test-numbered first older fit x.name) (test-each (is_known older) (IsKnown older) (test-known older) x.takes) (test-each (is_untorn older) (IsUntorn older) (test-untorn first older fit) x.takes)
+    (λ n. test-each (is_not_back older x.name) (IsNotBack older x.name) (test-not_back first older fit x.name n.not_below_latest) x.takes)
+    (λ n. test-each (is_own_latest older x.name) (IsOwnLatest older x.name) (test-own_latest first older fit x.name n.not_below_latest) x.takes) where
+      by : (a b c d e : Bool) → IsTest a (IsNumbered first older x.name) → IsTest b (Each (IsKnown older) x.takes) → IsTest c (Each (IsUntorn older) x.takes)
+          → (IsNumbered first older x.name → IsTest d (Each (IsNotBack older x.name) x.takes)) → (IsNumbered first older x.name → IsTest e (Each (IsOwnLatest older x.name) x.takes))
+          → MatchOption (cond (not a) (Some WrongNumber) (cond (not b) (Some UnknownTake) (cond (not c) (Some Torn) (cond (not d) (Some Back) (cond (not e) (Some NotOwnLatest) None))))) (Fits first older x) (IsMisfit first older x)
+      by false b c d e p q r s t = fails _ p
+      by true false c d e p q r s t = (p.holds refl, fails _ q)
+      by true true false d e p q r s t = (p.holds refl, q.holds refl, fails _ r)
+      by true true true false e p q r s t = (p.holds refl, q.holds refl, r.holds refl, fails _ (s (p.holds refl)))
+      by true true true true false p q r s t = (p.holds refl, q.holds refl, r.holds refl, (s (p.holds refl)).holds refl, fails _ (t (p.holds refl)))
+      by true true true true true p q r s t = record { numbered = p.holds refl; known = q.holds refl; untorn = r.holds refl; not_back = (s (p.holds refl)).holds refl; own_latest = (t (p.holds refl)).holds refl }

@@ -1,6 +1,0 @@
-use Rattle.std.proofs.Common.{◌≡◌, reverse, take}
-use Rattle.exchange.specs.Schedule.{schedule_of}
-use Rattle.exchange.proofs.book.Book.schedule.Given as goal
-
-abbrev pub invariant-loop-i : goal.invariant-loop-i
-invariant-loop-i l = l.events.items ≡ schedule_of l.self.first (reverse (take l.i l.self.entries))
