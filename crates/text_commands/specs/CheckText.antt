@@ -18,11 +18,11 @@ abbrev pub task_count : PlantValue → ℕ
 task_count plant = sum_by (λ (r : ResourceValue). length r.tasks) plant.resources
 
 -- how many program instances the tasks run
-abbrev pub programs_of : List CodeValue → ℕ
-programs_of codes = sum_by (λ (c : CodeValue). length c.programs) codes
+abbrev pub instances_of : List CodeValue → ℕ
+instances_of codes = sum_by (λ (c : CodeValue). length c.programs) codes
 
 abbrev pub program_count : PlantValue → ℕ
-program_count plant = sum_by (λ (r : ResourceValue). programs_of r.codes) plant.resources
+program_count plant = sum_by (λ (r : ResourceValue). instances_of r.codes) plant.resources
 
 -- how many inputs of the instances are bound
 abbrev pub connections_of : List CodeValue → ℕ
@@ -55,23 +55,23 @@ pub record IsRefusal (text : List ℕ) (fault : PlantFault) : Type 0 where
   pub body : IsOfBody fault.kind → IsBodyFaultIn text fault
 
 -- only the reader of plants refuses a text here
-abbrev pub RefusesText : List ℕ → TextFault → Type 0
-RefusesText text (Draw fault) = ⊥
-RefusesText text (Graph fault) = ⊥
-RefusesText text (Bind fault) = ⊥
-RefusesText text (Plant fault) = IsRefusal text fault
-RefusesText text TooLong = ⊥
+abbrev pub RefusesPlantText : List ℕ → TextFault → Type 0
+RefusesPlantText text (Draw fault) = ⊥
+RefusesPlantText text (Graph fault) = ⊥
+RefusesPlantText text (Bind fault) = ⊥
+RefusesPlantText text (Plant fault) = IsRefusal text fault
+RefusesPlantText text TooLong = ⊥
 
 -- no plant was read: its text is refused, or memory
-abbrev pub RefusesPlant : List ℕ → TextCommandFault → Type 0
-RefusesPlant text (Text fault) = RefusesText text fault
-RefusesPlant text (Word fault) = ⊥
-RefusesPlant text Write = ⊥
-RefusesPlant text Memory = Unit {0}
+abbrev pub GivesNoPlant : List ℕ → TextCommandFault → Type 0
+GivesNoPlant text (Text fault) = RefusesPlantText text fault
+GivesNoPlant text (Word fault) = ⊥
+GivesNoPlant text Write = ⊥
+GivesNoPlant text Memory = Unit {0}
 
 -- why there was a fault, and what was written before: nothing but where the output failed
 abbrev pub ExplainsCheck : List ℕ → Option (List ℕ) → Option (List ℕ) → TextCommandFault → Type 0
-ExplainsCheck text old new (Text fault) = RefusesText text fault × Keeps old new
+ExplainsCheck text old new (Text fault) = RefusesPlantText text fault × Keeps old new
 ExplainsCheck text old new (Word fault) = ⊥
 ExplainsCheck text old new Write = WritesCheckPart text old new
 ExplainsCheck text old new Memory = Keeps old new

@@ -28,11 +28,11 @@ use Rattle.text_commands.specs.declared.text_command_fault.TextCommandFault.{Tex
 use Rattle.text_commands.specs.declared.text_command_fault.TextCommandFault.TheVariants.{Text, Word, Write, Memory}
 use Rattle.text_commands.specs.declared.text_fault.TextFault.{TextFault}
 use Rattle.text_commands.specs.declared.text_fault.TextFault.TheVariants.{Draw, Graph, Bind, Plant, TooLong}
-use Rattle.text_commands.specs.Rows.{RowValue, AreRows, IsFirstRefused, scans_of}
+use Rattle.text_commands.specs.Rows.{RowValue, SpellRows, IsFirstRefused, scans_of}
 use Rattle.text_commands.specs.Lines.{line_of}
 
 -- the text of a drawing is read as this picture
-pub record IsDrawn (text : List ℕ) (drawn : Picture) : Type 0 where
+pub record IsPictureOf (text : List ℕ) (drawn : Picture) : Type 0 where
   pub well_drawn : IsWellDrawn (rows_of text)
   pub picture : drawn ≡ picture_of 1 (layout_of (rows_of text))
 
@@ -41,7 +41,7 @@ pub record IsDrawn (text : List ℕ) (drawn : Picture) : Type 0 where
 pub record IsLadderOfDrawing (text : List ℕ) (ds : List Declaration) (networks : List Diagram) : Type 0 where
   pub picture : Picture
   pub graph : GraphValue
-  pub drawn : IsDrawn text picture
+  pub drawn : IsPictureOf text picture
   pub built : AreNetworks picture graph
   pub faultless : IsFaultless picture
   pub guessed : AreGuessed graph ds
@@ -93,7 +93,7 @@ pub record Asked (drawing : List ℕ) (words : List (List ℕ)) : Type 0 where
   pub networks : List Diagram
   pub ladder : IsLadderOfDrawing drawing declarations networks
   pub rows : List RowValue
-  pub read : AreRows declarations words rows
+  pub read : SpellRows declarations words rows
 
 -- the text of all scans of the drawing was written
 abbrev pub WritesAll : List ℕ → List (List ℕ) → ℕ → Option (List ℕ) → Option (List ℕ) → Type 0
@@ -108,15 +108,15 @@ pub record RefusesWords (drawing : List ℕ) (words : List (List ℕ)) (fault : 
   pub declarations : List Declaration
   pub networks : List Diagram
   pub ladder : IsLadderOfDrawing drawing declarations networks
-  pub refused : (rows : List RowValue) → AreRows declarations words rows → ⊥
+  pub refused : (rows : List RowValue) → SpellRows declarations words rows → ⊥
   pub first : IsFirstRefused declarations words fault
 
 -- the drawing's networks have no fault, and their names can't be bound; this is the first fault
-pub record RefusesNames (drawing : List ℕ) (fault : BindFault) : Type 0 where
+pub record RefusesNamesOf (drawing : List ℕ) (fault : BindFault) : Type 0 where
   pub picture : Picture
   pub graph : GraphValue
   pub declarations : List Declaration
-  pub drawn : IsDrawn drawing picture
+  pub drawn : IsPictureOf drawing picture
   pub built : AreNetworks picture graph
   pub faultless : IsFaultless picture
   pub guessed : AreGuessed graph declarations
@@ -124,24 +124,24 @@ pub record RefusesNames (drawing : List ℕ) (fault : BindFault) : Type 0 where
   pub first : IsFirstFault declarations graph fault
 
 -- the networks of the drawing have this fault at some place, the first by its kind, row and column
-pub record RefusesNetworks (drawing : List ℕ) (fault : GraphFault) : Type 0 where
+pub record RefusesNetworksOf (drawing : List ℕ) (fault : GraphFault) : Type 0 where
   pub picture : Picture
-  pub drawn : IsDrawn drawing picture
+  pub drawn : IsPictureOf drawing picture
   pub place : Place
   pub first : IsFaultAt picture fault.kind place
   pub found : IsFoundAt picture.first_line place fault
 
 -- what holds after a refusal by the text
-abbrev pub RefusesText : List ℕ → TextFault → Type 0
-RefusesText drawing (Draw fault) = IsIllDrawn (rows_of drawing) × (fault.kind ≢ draw.Memory)
-RefusesText drawing (Graph fault) = RefusesNetworks drawing fault
-RefusesText drawing (Bind fault) = RefusesNames drawing fault
-RefusesText drawing (Plant fault) = ⊥
-RefusesText drawing TooLong = ⊥
+abbrev pub RefusesDrawing : List ℕ → TextFault → Type 0
+RefusesDrawing drawing (Draw fault) = IsIllDrawn (rows_of drawing) × (fault.kind ≢ draw.Memory)
+RefusesDrawing drawing (Graph fault) = RefusesNetworksOf drawing fault
+RefusesDrawing drawing (Bind fault) = RefusesNamesOf drawing fault
+RefusesDrawing drawing (Plant fault) = ⊥
+RefusesDrawing drawing TooLong = ⊥
 
 -- why there was a fault, and what was written before: nothing before a fault of the text or of the words
 abbrev pub Explains : List ℕ → List (List ℕ) → ℕ → Option (List ℕ) → Option (List ℕ) → TextCommandFault → Type 0
-Explains drawing words dt old new (Text fault) = RefusesText drawing fault × Keeps old new
+Explains drawing words dt old new (Text fault) = RefusesDrawing drawing fault × Keeps old new
 Explains drawing words dt old new (Word fault) = RefusesWords drawing words fault × Keeps old new
 Explains drawing words dt old new Write = WritesPart drawing words dt old new
 Explains drawing words dt old new Memory = Keeps old new ⊎ WritesPart drawing words dt old new

@@ -23,13 +23,13 @@ accepted_text Old = codes "old"
 accepted_text Unused = codes "unused"
 
 -- why an event is refused
-abbrev pub cause_text : WorldFault → List ℕ
-cause_text NoSuchResource = codes "NoSuchResource"
-cause_text NoSuchTask = codes "NoSuchTask"
-cause_text NoSuchMessage = codes "NoSuchMessage"
-cause_text NumbersSpent = codes "NumbersSpent"
-cause_text IncarnationsSpent = codes "IncarnationsSpent"
-cause_text Memory = codes "Memory"
+abbrev pub refusal_text : WorldFault → List ℕ
+refusal_text NoSuchResource = codes "NoSuchResource"
+refusal_text NoSuchTask = codes "NoSuchTask"
+refusal_text NoSuchMessage = codes "NoSuchMessage"
+refusal_text NumbersSpent = codes "NumbersSpent"
+refusal_text IncarnationsSpent = codes "IncarnationsSpent"
+refusal_text Memory = codes "Memory"
 
 -- `DELIVER m R taken`
 abbrev pub delivery_line : PlantValue → ℕ → ℕ → Accepted → List ℕ
@@ -41,7 +41,7 @@ restart_line plant n incarnation = codes "RESTART " ++ resource_text plant n ++ 
 
 -- `REFUSED e Kind`
 abbrev pub refused_line : ℕ → WorldFault → List ℕ
-refused_line number cause = codes "REFUSED " ++ decimal number ++ codes " " ++ cause_text cause ++ codes "\n"
+refused_line number cause = codes "REFUSED " ++ decimal number ++ codes " " ++ refusal_text cause ++ codes "\n"
 
 -- The line of a lawful event after other events: for an Evaluate that of the evaluation which it adds to their run, with its place there;
 -- for a Deliver what the resource answers; for a Restart the incarnation that the resource then has.
@@ -56,8 +56,8 @@ abbrev pub IsRefusedLine : WorldValue → ℕ → Event → List ℕ → Type 0
 IsRefusedLine w number e line = (cause : WorldFault) × IsCause w e cause × (cause ≢ Memory) × (line ≡ refused_line number cause)
 
 -- the line of an event after other events, by whether it is lawful there
-abbrev pub Tells : WorldValue → ℕ → Event → List ℕ → Type 0
-Tells w number e line =
+abbrev pub TellsEvent : WorldValue → ℕ → Event → List ℕ → Type 0
+TellsEvent w number e line =
     ((is_lawful w.setting (history_of w.setting w.events) e ≡ true) × IsDoneLine w e line)
     ⊎ ((is_lawful w.setting (history_of w.setting w.events) e ≡ false) × IsRefusedLine w number e line)
 
@@ -65,7 +65,7 @@ Tells w number e line =
 pub record IsLineAfter (s : Setting) (before : List Event) (e : Event) (line : List ℕ) : Type 0 where
   pub log : List Evaluated
   pub run : IsRun s before log
-  pub tells : Tells (record { setting = s; events = before; log = log }) (length before + 1) e line
+  pub tells : TellsEvent (record { setting = s; events = before; log = log }) (length before + 1) e line
 
 -- The text of the run of these events: one line for each event, each after those before it.
 pub record IsRunText (s : Setting) (events : List Event) (text : List ℕ) : Type 0 where

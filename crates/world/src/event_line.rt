@@ -3,7 +3,7 @@
 ghost use Rattle.std.specs.Prelude.{◌≡◌, ◌++◌, OnOk, OnErr, string_bytes};
 ghost use Rattle.std.specs.Option.{option_map};
 ghost use Rattle.world.specs.RunLines.{resource_text, evaluation_line};
-ghost use Rattle.world.specs.RunText.{accepted_text, cause_text, delivery_line, restart_line, refused_line};
+ghost use Rattle.world.specs.RunText.{accepted_text, refusal_text, delivery_line, restart_line, refused_line};
 ghost use Rattle.world.specs.Steps.Telling.{made_line, done_line, IsTold};
 
 use crate::evaluation_line::{push_evaluation, push_resource};
@@ -25,7 +25,7 @@ fn push_accepted(line: &mut String, accepted: Accepted) -> Result<(), AllocError
 }
 
 fn push_cause(line: &mut String, cause: WorldFault) -> Result<(), AllocError>
-    ensures { OnOk result (string_bytes line.new ≡ string_bytes line.old ++ cause_text cause) }
+    ensures { OnOk result (string_bytes line.new ≡ string_bytes line.old ++ refusal_text cause) }
 {
     match cause {
         WorldFault::NoSuchResource => line.push_str("NoSuchResource"),
