@@ -151,8 +151,8 @@ fn help_with_a_plant(alloc: Global, text: &str, fault: PlantFault) -> Result<Str
     help_of(shown, topic, more.as_str())
 }
 
-/// What helps to mend a text that is refused: the line with the place, what is wrong there, and names that were meant perhaps.
-/// It is empty for want of memory.
+/// What helps to mend a text that is refused: the line with the place, what is wrong there, and names that were meant
+/// perhaps. It is empty for want of memory.
 pub fn help_with(alloc: Global, text: &str, refusal: Refusal) -> Result<String, AllocError>
     ensures { IfOk result (λ help. TellsOf (topic_of refusal) (string_bytes help)) }
 {
