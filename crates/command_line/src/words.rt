@@ -1,7 +1,7 @@
-ghost use Rattle.std.specs.Prelude.{◌≡◌, [], IfOk, MatchOption, Some, codes, map, unwrap_or, string_bytes};
+ghost use Rattle.std.specs.Prelude.{◌≡◌, IfOk, MatchOption, Some, map, string_bytes};
 ghost use Rattle.std.specs.Str.Parse.{digits_value};
-ghost use Rattle.clap.specs.Words.{rows_of, found_of, first_of, all_of, subcommand_of};
-ghost use Rattle.command_line.specs.CommandLine.{plc_app, IsNumber, GivesNumber, AsksEval, AsksPlan, AsksSim, AsksRun, AsksFor, given_word, is_given};
+ghost use Rattle.clap.specs.Words.{rows_of, found_of, first_of, subcommand_of};
+ghost use Rattle.command_line.specs.CommandLine.{plc_app, IsNumber, GivesNumber, AsksEval, AsksPlan, AsksSim, AsksRun, AsksFor, given_word, words_given, is_given};
 
 use crate::commands::commands;
 use crate::request::{Request, RunRequest, SimRequest, TextRequest};
@@ -60,7 +60,7 @@ fn is_given(matches: &ArgMatches<'_>, id: &str) -> bool
 }
 
 fn words_given<'a>(alloc: Global, matches: &ArgMatches<'a>) -> Result<Vec<&'a str>, AllocError>
-    ensures { IfOk result (λ words. map (λ w. w.now) words.items ≡ unwrap_or (all_of (codes "words") (rows_of (found_of matches.now))) []) }
+    ensures { IfOk result (λ words. map (λ w. w.now) words.items ≡ words_given (rows_of (found_of matches.now))) }
 {
     match matches.get_strs("words") {
         Some(words) => Vec::from_slice(alloc, words),
