@@ -1,9 +1,10 @@
 -- Why a command ended, from why a part of it did.
-use Rattle.std.proofs.Common.{◌≡◌, ℕ, List, Option, Result, Ok, Err, IfErr, inl, inr, sym, subst}
+use Rattle.std.proofs.Common.{◌≡◌, ℕ, List, Option, Result, Ok, Err, IfErr, inl, inr}
 use Rattle.std.proofs.KnownBytes.{Keeps-refl}
 use Rattle.network.specs.Links.{Diagram}
 use Rattle.declared_names.specs.declared.declarations.Declaration.{Declaration}
 use Rattle.std.specs.Result.{IsErrAnd}
+use Rattle.lists.proofs.Results.{kept_fault}
 use Rattle.variable_binding.specs.declared.bind_fault.BindFault.{BindFault}
 use Rattle.variable_binding.specs.declared.bind_fault.BindKind.TheVariants.{Memory as BindMemory}
 use Rattle.network.specs.declared.fault.GraphFault.{GraphFault}
@@ -31,11 +32,6 @@ explain_rows drawing words dt old ds networks (Text fault) ladder refused = absu
 explain_rows drawing words dt old ds networks (Word fault) ladder refused = (record { declarations = ds; networks = networks; ladder = ladder; refused = refused.0; first = refused.1 }, Keeps-refl old)
 explain_rows drawing words dt old ds networks Write ladder refused = absurd refused
 explain_rows drawing words dt old ds networks Memory ladder refused = inl (Keeps-refl old)
-
--- the fault is the one that was met
-pub kept_fault : {T : Type 0} (e : TextCommandFault) (P : TextCommandFault → Type 0) (r : Result T TextCommandFault) → IsErrAnd r (λ fault. fault ≡ e) → P e → IfErr r P
-kept_fault e P (Ok x) is h = tt
-kept_fault e P (Err fault) is h = subst P (sym is) h
 
 explain_scans : (drawing : List ℕ) (words : List (List ℕ)) (dt : ℕ) (old new : Option (List ℕ)) (asked : Asked drawing words) (found : SendFault)
     → WritesSomeScans asked.declarations asked.networks dt asked.rows old new → Explains drawing words dt old new (sending_fault found)

@@ -1,5 +1,5 @@
 -- What `plc check` writes.
-use Rattle.std.specs.Prelude.{◌≢◌, ℕ, ◌++◌, List, Option, length, codes, take, sum_by}
+use Rattle.std.specs.Prelude.{◌≢◌, ℕ, ◌++◌, List, Option, length, codes, sum_by}
 use Rattle.std.specs.Fmt.{decimal}
 use Rattle.std.specs.Io.KnownBytes.{Appends, Keeps}
 use Rattle.plant.specs.PlantValue.{ResourceValue, PlantValue}
@@ -8,6 +8,7 @@ use Rattle.plant.specs.Faults.{IsPlantFault, IsOfBody}
 use Rattle.plant.specs.PlantText.{IsPlantText, IsBodyFaultIn}
 use Rattle.plant.specs.declared.plant_fault.PlantFault.{PlantFault}
 use Rattle.plant.specs.declared.plant_fault.PlantFaultKind.TheVariants as plant
+use Rattle.text_writer.specs.Sending.{SendsPart}
 use Rattle.text_commands.specs.declared.text_command_fault.TextCommandFault.{TextCommandFault}
 use Rattle.text_commands.specs.declared.text_command_fault.TextCommandFault.TheVariants.{Text, Word, Write, Memory}
 use Rattle.text_commands.specs.declared.text_fault.TextFault.{TextFault}
@@ -38,7 +39,8 @@ count_line what n = what ++ codes " " ++ decimal n ++ codes "\n"
 -- four lines: how many resources, tasks, program instances and bound inputs a plant has
 abbrev pub check_lines : PlantValue → List ℕ
 check_lines plant =
-    count_line (codes "resources") (length plant.resources) ++ count_line (codes "tasks") (task_count plant) ++ count_line (codes "programs") (program_count plant) ++ count_line (codes "connections") (connection_count plant)
+    count_line (codes "resources") (length plant.resources) ++ count_line (codes "tasks") (task_count plant)
+    ++ count_line (codes "programs") (program_count plant) ++ count_line (codes "connections") (connection_count plant)
 
 -- the text is a plant, and its four lines were written
 abbrev pub WritesCheck : List ℕ → Option (List ℕ) → Option (List ℕ) → Type 0
@@ -46,9 +48,10 @@ WritesCheck text old new = (plant : PlantValue) × IsPlantText text plant × App
 
 -- the text is a plant, and no more than a beginning of its four lines was written
 abbrev pub WritesCheckPart : List ℕ → Option (List ℕ) → Option (List ℕ) → Type 0
-WritesCheckPart text old new = (plant : PlantValue) × IsPlantText text plant × (written : ℕ) × Appends old new (take written (check_lines plant))
+WritesCheckPart text old new = (plant : PlantValue) × IsPlantText text plant × SendsPart (check_lines plant) old new
 
--- a refusal of the text of a plant: not want of memory, with what belongs to its kind; the fault of a body is that of the first body that is refused
+-- a refusal of the text of a plant: not want of memory, with what belongs to its kind; the fault of a body is that of
+-- the first body that is refused
 pub record IsRefusal (text : List ℕ) (fault : PlantFault) : Type 0 where
   pub not_memory : fault.kind ≢ plant.Memory
   pub value : IsPlantFault fault

@@ -65,18 +65,24 @@ pub record IsRow (ds : List Declaration) (word : List ℕ) (row : RowValue) : Ty
 
 -- no two rows are of the same variable
 abbrev pub AreOfDistinctVariables : List RowValue → Type 0
-AreOfDistinctVariables rows = (j k : ℕ) (d : RowValue) → j < length rows → k < length rows → (slice_index_or rows j d).place ≡ (slice_index_or rows k d).place → j ≡ k
+AreOfDistinctVariables rows = (j k : ℕ) (d : RowValue) → j < length rows → k < length rows
+    → (slice_index_or rows j d).place ≡ (slice_index_or rows k d).place → j ≡ k
 
 -- the words are these rows, one by one, each of another variable
 pub record SpellRows (ds : List Declaration) (words : List (List ℕ)) (rows : List RowValue) : Type 0 where
   pub each : AllZip (IsRow ds) words rows
   pub apart : AreOfDistinctVariables rows
 
+-- the words are no rows
+abbrev pub SpellNoRows : List Declaration → List (List ℕ) → Type 0
+SpellNoRows ds words = (rows : List RowValue) → SpellRows ds words rows → ⊥
+
 -- a BOOL variable has the name in the word
 abbrev pub NamesBool : List Declaration → List ℕ → Type 0
 NamesBool ds word = (place : ℕ) × (place_of ds (name_in word) ≡ Some place) × IsBoolAt ds place
 
--- why a word behind these rows is refused: for the name before its `=`; for want of a `=`, or for the digits behind a good name; for a variable that a row has
+-- why a word behind these rows is refused: for the name before its `=`; for want of a `=`, or for the digits behind a
+-- good name; for a variable that a row has
 abbrev pub IsRefusedFor : List Declaration → List RowValue → List ℕ → WordFaultKind → Type 0
 IsRefusedFor ds rows word NoVariable = HasEquals word × (NamesBool ds word → ⊥)
 IsRefusedFor ds rows word BadDigits = (HasEquals word → ⊥) ⊎ (NamesBool ds word × (AreDigits (digits_in word) → ⊥))

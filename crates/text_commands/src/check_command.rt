@@ -1,5 +1,6 @@
-ghost use Rattle.std.specs.Prelude.{◌≡◌, ◌<◌, ◌^◌, ◌++◌, OnOk, IfOk, IfErr, string_bytes};
+ghost use Rattle.std.specs.Prelude.{◌≡◌, ◌<◌, ◌^◌, OnOk, IfOk, IfErr, string_bytes};
 ghost use Rattle.plant.specs.PlantText.{IsPlantText};
+ghost use Rattle.text_writer.specs.Growing.{GrowsBy};
 ghost use Rattle.text_commands.specs.CheckText.{count_line, check_lines, GivesNoPlant, WritesCheck, ExplainsCheck};
 ghost use Rattle.text_commands.specs.Steps.Counting.{AreCounts};
 
@@ -20,7 +21,7 @@ pub fn read_plant(alloc: Global, text: &str) -> Result<Plant, TextCommandFault>
 }
 
 fn push_count(text: &mut String, what: &str, count: usize) -> Result<(), AllocError>
-    ensures { OnOk result (string_bytes text.new ≡ string_bytes text.old ++ count_line what.now count) }
+    ensures { OnOk result (GrowsBy text.old text.new (count_line what.now count)) }
 {
     write!(text, "{what} {count}\n")
 }
