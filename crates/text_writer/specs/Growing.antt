@@ -2,5 +2,5 @@
 use Rattle.std.specs.Prelude.{◌≡◌, ℕ, ◌++◌, List, String, string_bytes}
 
 -- this stands behind what was there
-abbrev pub GrowsBy : String → String → List ℕ → Type 0
-GrowsBy old new more = string_bytes new ≡ string_bytes old ++ more
+abbrev pub GrowsBy : {A : Type 0} → String A → String A → List ℕ → Type 0
+GrowsBy {A} old new more = string_bytes new ≡ string_bytes old ++ more
