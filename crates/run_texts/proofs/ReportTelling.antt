@@ -24,7 +24,7 @@ lines_alone plant old new report appended = begins (report_lines plant report) (
 -- all lines were written, and the last one in part
 pub last_partly : (plant : PlantValue) (old mid new : Option (List ℕ)) (report : Report) → Appends old mid (report_lines plant report)
     → (k : ℕ) → Appends mid new (take k (replay_line true)) → TellsPart plant report old new Write
-last_partly plant old mid new report appended k last = part_of_second (report_lines plant report) (replay_line true) old mid new appended (record { written = k; appended = last })
+last_partly plant old mid new report appended k last = part_of_second (report_lines plant report) (replay_line true) old mid new appended (k, last)
 
 -- the test of a fault
 pub faulty : (faults : List NodeFault) (b : Bool) → b ≡ (length faults == 0) → IsTrue (not b) ↔ (faults ≢ [])
