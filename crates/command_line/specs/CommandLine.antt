@@ -69,7 +69,8 @@ sim_app = with_rule (with_rule (with_rule (new_app (codes "sim")) plant_rule) sc
 
 -- `run PLANT --until MS [--paced] [ADDRESS=VALUE]..`
 abbrev pub run_app : App
-run_app = with_rule (with_rule (with_rule (with_rule (new_app (codes "run")) plant_rule) until_rule) paced_rule) words_rule
+run_app =
+    with_rule (with_rule (with_rule (with_rule (new_app (codes "run")) plant_rule) until_rule) paced_rule) words_rule
 
 -- `explain KIND`
 abbrev pub explain_app : App
@@ -85,7 +86,9 @@ commanded a = record a { top = record a.top { subcommand_required = true } }
 
 -- `plc` with the three commands of one text
 abbrev pub text_app : App
-text_app = with_subcommand (with_subcommand (with_subcommand (commanded (versioned (new_app (codes "plc")))) eval_app.top) check_app.top) plan_app.top
+text_app =
+    let plc = commanded (versioned (new_app (codes "plc"))) in
+    with_subcommand (with_subcommand (with_subcommand plc eval_app.top) check_app.top) plan_app.top
 
 -- `plc`, and one of the six
 abbrev pub plc_app : App
@@ -101,16 +104,21 @@ GivesNumber otherwise None n = n ≡ otherwise
 GivesNumber otherwise (Some text) n = IsNumber text × (n ≡ digits_value 10 text)
 
 -- what stands for a word by its id in what was found
-abbrev pub word_of : Text → List Row → List ℕ
-word_of id found = unwrap_or (first_of id found) []
+abbrev pub given_word : Text → List Row → List ℕ
+given_word id found = unwrap_or (first_of id found) []
+
+-- the words NAME=BITS or ADDRESS=VALUE in what was found
+abbrev pub words_given : List Row → List Text
+words_given found = unwrap_or (all_of (codes "words") found) []
 
 -- a flag was given: what stands for it is `true`
 abbrev pub is_given : Text → List Row → Bool
 is_given id found = option_map_or (λ text. bytes_eq text (codes "true")) (first_of id found) false
 
 abbrev pub AsksEval : List Row → Request → Type 0
-AsksEval found (OfText (Eval drawing dt words)) = (drawing.now ≡ word_of (codes "DRAWING") found) × GivesNumber 0 (first_of (codes "dt") found) dt
-    × (map (λ w. w.now) words.items ≡ unwrap_or (all_of (codes "words") found) [])
+AsksEval found (OfText (Eval drawing dt words)) =
+    (drawing.now ≡ given_word (codes "DRAWING") found) × GivesNumber 0 (first_of (codes "dt") found) dt
+    × (map (λ w. w.now) words.items ≡ words_given found)
 AsksEval found (OfText (Check plant)) = ⊥
 AsksEval found (OfText (Plan plant until)) = ⊥
 AsksEval found (Sim sim) = ⊥
@@ -119,7 +127,7 @@ AsksEval found (Explain kind) = ⊥
 
 abbrev pub AsksCheck : List Row → Request → Type 0
 AsksCheck found (OfText (Eval drawing dt words)) = ⊥
-AsksCheck found (OfText (Check plant)) = plant.now ≡ word_of (codes "PLANT") found
+AsksCheck found (OfText (Check plant)) = plant.now ≡ given_word (codes "PLANT") found
 AsksCheck found (OfText (Plan plant until)) = ⊥
 AsksCheck found (Sim sim) = ⊥
 AsksCheck found (Run run) = ⊥
@@ -128,7 +136,8 @@ AsksCheck found (Explain kind) = ⊥
 abbrev pub AsksPlan : List Row → Request → Type 0
 AsksPlan found (OfText (Eval drawing dt words)) = ⊥
 AsksPlan found (OfText (Check plant)) = ⊥
-AsksPlan found (OfText (Plan plant until)) = (plant.now ≡ word_of (codes "PLANT") found) × GivesNumber 0 (first_of (codes "until") found) until
+AsksPlan found (OfText (Plan plant until)) =
+    (plant.now ≡ given_word (codes "PLANT") found) × GivesNumber 0 (first_of (codes "until") found) until
 AsksPlan found (Sim sim) = ⊥
 AsksPlan found (Run run) = ⊥
 AsksPlan found (Explain kind) = ⊥
@@ -138,7 +147,8 @@ AsksSim found (OfText (Eval drawing dt words)) = ⊥
 AsksSim found (OfText (Check plant)) = ⊥
 AsksSim found (OfText (Plan plant until)) = ⊥
 AsksSim found (Sim sim) =
-    (sim.plant.now ≡ word_of (codes "PLANT") found) × (sim.schedule.now ≡ word_of (codes "SCHEDULE") found) × GivesNumber 4294967295 (first_of (codes "max-number") found) sim.max_number
+    (sim.plant.now ≡ given_word (codes "PLANT") found) × (sim.schedule.now ≡ given_word (codes "SCHEDULE") found)
+    × GivesNumber 4294967295 (first_of (codes "max-number") found) sim.max_number
 AsksSim found (Run run) = ⊥
 AsksSim found (Explain kind) = ⊥
 
@@ -148,20 +158,26 @@ AsksRun found (OfText (Check plant)) = ⊥
 AsksRun found (OfText (Plan plant until)) = ⊥
 AsksRun found (Sim sim) = ⊥
 AsksRun found (Run run) =
-    (run.plant.now ≡ word_of (codes "PLANT") found) × GivesNumber 0 (first_of (codes "until") found) run.until × (run.paced ≡ is_given (codes "paced") found)
-    × (map (λ w. w.now) run.words.items ≡ unwrap_or (all_of (codes "words") found) [])
+    (run.plant.now ≡ given_word (codes "PLANT") found) × GivesNumber 0 (first_of (codes "until") found) run.until
+    × (run.paced ≡ is_given (codes "paced") found) × (map (λ w. w.now) run.words.items ≡ words_given found)
 AsksRun found (Explain kind) = ⊥
 
 abbrev pub AsksExplain : List Row → Request → Type 0
 AsksExplain found (OfText text) = ⊥
 AsksExplain found (Sim sim) = ⊥
 AsksExplain found (Run run) = ⊥
-AsksExplain found (Explain kind) = kind.now ≡ word_of (codes "KIND") found
+AsksExplain found (Explain kind) = kind.now ≡ given_word (codes "KIND") found
 
 -- the request is what the subcommand asks for, with what was found for its options
-abbrev pub IsAsked : Option (Text × List Row) → Request → Type 0
-IsAsked None request = ⊥
-IsAsked (Some (name, found)) request = ((name ≡ codes "eval") × AsksEval found request) ⊎ (((name ≡ codes "check") × AsksCheck found request) ⊎ (((name ≡ codes "plan") × AsksPlan found request) ⊎ (((name ≡ codes "sim") × AsksSim found request) ⊎ (((name ≡ codes "run") × AsksRun found request) ⊎ ((name ≡ codes "explain") × AsksExplain found request)))))
+abbrev pub AsksFor : Option (Text × List Row) → Request → Type 0
+AsksFor None request = ⊥
+AsksFor (Some (name, found)) request =
+    ((name ≡ codes "eval") × AsksEval found request)
+    ⊎ (((name ≡ codes "check") × AsksCheck found request)
+    ⊎ (((name ≡ codes "plan") × AsksPlan found request)
+    ⊎ (((name ≡ codes "sim") × AsksSim found request)
+    ⊎ (((name ≡ codes "run") × AsksRun found request)
+    ⊎ ((name ≡ codes "explain") × AsksExplain found request)))))
 
 -- the file that is to be read
 abbrev pub file_of : TextRequest → List ℕ

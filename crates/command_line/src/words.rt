@@ -1,7 +1,7 @@
-ghost use Rattle.std.specs.Prelude.{◌≡◌, [], IfOk, MatchOption, Some, codes, map, unwrap_or, string_bytes};
+ghost use Rattle.std.specs.Prelude.{◌≡◌, IfOk, MatchOption, Some, map, string_bytes};
 ghost use Rattle.std.specs.Str.Parse.{digits_value};
-ghost use Rattle.clap.specs.Words.{rows_of, found_of, first_of, all_of, subcommand_of};
-ghost use Rattle.command_line.specs.CommandLine.{plc_app, IsNumber, GivesNumber, AsksEval, AsksPlan, AsksSim, AsksRun, IsAsked, word_of, is_given};
+ghost use Rattle.clap.specs.Words.{rows_of, found_of, first_of, subcommand_of};
+ghost use Rattle.command_line.specs.CommandLine.{plc_app, IsNumber, GivesNumber, AsksEval, AsksPlan, AsksSim, AsksRun, AsksFor, given_word, words_given, is_given};
 
 use crate::commands::commands;
 use crate::request::{Request, RunRequest, SimRequest, TextRequest};
@@ -41,7 +41,7 @@ fn number_of<'a>(
 
 /// The word that stands for an argument.
 fn given_word<'a>(matches: &ArgMatches<'a>, id: &str) -> &'a str
-    ensures { result.now ≡ word_of id.now (rows_of (found_of matches.now)) }
+    ensures { result.now ≡ given_word id.now (rows_of (found_of matches.now)) }
 {
     match matches.get_str(id) {
         Some(word) => word,
@@ -59,8 +59,8 @@ fn is_given(matches: &ArgMatches<'_>, id: &str) -> bool
     }
 }
 
-fn words_of<'a>(alloc: Global, matches: &ArgMatches<'a>) -> Result<Vec<&'a str>, AllocError>
-    ensures { IfOk result (λ words. map (λ w. w.now) words.items ≡ unwrap_or (all_of (codes "words") (rows_of (found_of matches.now))) []) }
+fn words_given<'a>(alloc: Global, matches: &ArgMatches<'a>) -> Result<Vec<&'a str>, AllocError>
+    ensures { IfOk result (λ words. map (λ w. w.now) words.items ≡ words_given (rows_of (found_of matches.now))) }
 {
     match matches.get_strs("words") {
         Some(words) => Vec::from_slice(alloc, words),
@@ -84,7 +84,7 @@ fn eval_request<'a>(
             0,
             "MS of --dt is a number from 0 to 4294967295",
         )?,
-        words: words_of(alloc, inner)?,
+        words: words_given(alloc, inner)?,
     }))
 }
 
@@ -124,7 +124,7 @@ fn run_request<'a>(
         plant: given_word(inner, "PLANT"),
         until: number_of(command, inner, "until", 0, UNTIL_REFUSED)?,
         paced: is_given(inner, "paced"),
-        words: words_of(alloc, inner)?,
+        words: words_given(alloc, inner)?,
     }))
 }
 
@@ -135,7 +135,7 @@ fn request_of<'a>(
     name: &str,
     inner: &ArgMatches<'a>,
 ) -> Result<Request<'a>, Error>
-    ensures { IfOk result (IsAsked (Some (name.now, rows_of (found_of inner.now)))) }
+    ensures { IfOk result (AsksFor (Some (name.now, rows_of (found_of inner.now)))) }
 {
     match name {
         "eval" => eval_request(alloc, command, inner),
@@ -152,7 +152,7 @@ fn request_of<'a>(
 
 /// Reads the words, of which the first is the program's own name.
 pub fn read_words<'a>(alloc: Global, words: &'a [String]) -> Result<Request<'a>, Error>
-    ensures { IfOk result (IsAsked (subcommand_of plc_app (map (λ word. string_bytes word) words.now))) }
+    ensures { IfOk result (AsksFor (subcommand_of plc_app (map (λ word. string_bytes word) words.now))) }
 {
     let mut command = commands(alloc)?;
     let matches = command.try_get_matches_from_mut(words)?;

@@ -16,6 +16,7 @@ WritesAnswer (Plan plant until) text old new = WritesPlan text until old new
 
 -- why what was asked for wasn't written, and what was written before
 abbrev pub ExplainsAnswer : TextRequest → List ℕ → Option (List ℕ) → Option (List ℕ) → TextCommandFault → Type 0
-ExplainsAnswer (Eval drawing dt words) text old new fault = Explains text (words_in (Eval drawing dt words)) dt old new fault
+ExplainsAnswer (Eval drawing dt words) text old new fault =
+    Explains text (words_in (Eval drawing dt words)) dt old new fault
 ExplainsAnswer (Check plant) text old new fault = ExplainsCheck text old new fault
 ExplainsAnswer (Plan plant until) text old new fault = ExplainsPlan text until old new fault

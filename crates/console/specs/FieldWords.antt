@@ -4,5 +4,5 @@ use Rattle.std.specs.Borrow.{Bor}
 use Rattle.std.specs.List.{join_by}
 
 -- the words as one text, parted by one blank
-abbrev pub joined : List (Bor (List ℕ)) → List ℕ
-joined words = join_by (λ (w : Bor (List ℕ)). w.now) (codes " ") words
+abbrev pub one_text_of : List (Bor (List ℕ)) → List ℕ
+one_text_of words = join_by (λ (w : Bor (List ℕ)). w.now) (codes " ") words

@@ -57,9 +57,10 @@ impl From<WriteFault> for CommandFault {
 }
 
 impl From<SendFault> for CommandFault {
-    ghost use Rattle.console.specs.Giving.{sending_fault};
+    ghost use Rattle.text_commands.specs.Giving.{sending_fault};
+    ghost use Rattle.console.specs.Giving.{command_fault};
 
-    ghost from_gives = { λ found fault. fault ≡ sending_fault found };
+    ghost from_gives = { λ found fault. fault ≡ command_fault (sending_fault found) };
 
     fn from(fault: SendFault) -> CommandFault {
         match fault {

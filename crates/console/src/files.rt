@@ -1,6 +1,6 @@
 ghost use Rattle.std.specs.Prelude.{IfOk, IfErr};
 ghost use Rattle.plant.specs.PlantText.{IsPlantText};
-ghost use Rattle.text_commands.specs.CheckText.{RefusesPlant};
+ghost use Rattle.text_commands.specs.CheckText.{GivesNoPlant};
 
 use crate::faults::print_fault;
 use crate::status::FAILED;
@@ -28,7 +28,7 @@ pub(crate) fn file_text<R: Files + Eprint + AllocGlobal>(
 /// Reads a plant that is to be shared.
 fn shared_plant(alloc: Global, text: &str) -> Result<Arc<Plant>, TextCommandFault>
     ensures ok { IfOk result (λ plant. IsPlantText text.now plant.value) }
-    ensures err { IfErr result (RefusesPlant text.now) }
+    ensures err { IfErr result (GivesNoPlant text.now) }
 {
     let plant = read_plant(alloc, text)?;
     Ok(Arc::new(alloc, plant)?)

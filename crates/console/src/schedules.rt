@@ -20,8 +20,10 @@ pub fn obey_schedule<W: Write>(
     schedule: &str,
     writer: &mut W,
 ) -> Result<(), SimFault>
-    ensures ok { OnOk result (WritesRun plant.value request.now.max_number schedule.now (W.contents writer.old) (W.contents writer.new)) }
-    ensures fault { IfErr result (EndsEarly plant.value request.now.max_number schedule.now (W.contents writer.old) (W.contents writer.new)) }
+    ensures ok { OnOk result
+        (WritesRun plant.value request.now.max_number schedule.now (W.contents writer.old) (W.contents writer.new)) }
+    ensures fault { IfErr result
+        (EndsEarly plant.value request.now.max_number schedule.now (W.contents writer.old) (W.contents writer.new)) }
 {
     simulate(alloc, plant, schedule, request.max_number, writer)
 }

@@ -7,7 +7,7 @@ use Rattle.guidance.specs.declared.refusal.Refusal.TheVariants.{Drawing, Network
 use Rattle.guidance.specs.Topics.{told_of, of_drawing, of_networks, of_names, of_plant}
 
 -- the text has the sentence on this kind and a line feed behind it
-pub record Tells (t : Topic) (text : List ℕ) : Type 0 where
+pub record TellsTopic (t : Topic) (text : List ℕ) : Type 0 where
   pub before : List ℕ
   pub after : List ℕ
   pub is : text ≡ before ++ (told_of t).sentence ++ codes "\n" ++ after
@@ -15,7 +15,7 @@ pub record Tells (t : Topic) (text : List ℕ) : Type 0 where
 -- it tells of this kind, or is empty where there is none
 abbrev pub TellsOf : Option Topic → List ℕ → Type 0
 TellsOf None text = text ≡ []
-TellsOf (Some t) text = Tells t text
+TellsOf (Some t) text = TellsTopic t text
 
 -- the kind of fault that was refused
 abbrev pub topic_of : Refusal → Option Topic

@@ -36,24 +36,31 @@ told_of topic.NameMissing = told table.NAME_MISSING.now table.NAME_MISSING_REFUS
 told_of topic.StrayName = told table.STRAY_NAME.now table.STRAY_NAME_REFUSED.now table.STRAY_NAME_MENDED.now
 told_of topic.Unattached = told table.UNATTACHED.now table.UNATTACHED_REFUSED.now table.UNATTACHED_MENDED.now
 told_of topic.TooTall = told table.TOO_TALL.now table.TOO_TALL_REFUSED.now table.TOO_TALL_MENDED.now
-told_of topic.InstanceTwice = told table.INSTANCE_TWICE.now table.INSTANCE_TWICE_REFUSED.now table.INSTANCE_TWICE_MENDED.now
+told_of topic.InstanceTwice =
+    told table.INSTANCE_TWICE.now table.INSTANCE_TWICE_REFUSED.now table.INSTANCE_TWICE_MENDED.now
 told_of topic.UnknownName = told table.UNKNOWN_NAME.now table.UNKNOWN_NAME_REFUSED.now table.UNKNOWN_NAME_MENDED.now
 told_of topic.WrongKind = told table.WRONG_KIND.now table.WRONG_KIND_REFUSED.now table.WRONG_KIND_MENDED.now
 told_of topic.WritesInput = told table.WRITES_INPUT.now table.WRITES_INPUT_REFUSED.now table.WRITES_INPUT_MENDED.now
 told_of topic.UnknownPin = told table.UNKNOWN_PIN.now table.UNKNOWN_PIN_REFUSED.now table.UNKNOWN_PIN_MENDED.now
 told_of topic.PinMissing = told table.PIN_MISSING.now table.PIN_MISSING_REFUSED.now table.PIN_MISSING_MENDED.now
-told_of topic.LiteralOutOfRange = told table.LITERAL_OUT_OF_RANGE.now table.LITERAL_OUT_OF_RANGE_REFUSED.now table.LITERAL_OUT_OF_RANGE_MENDED.now
+told_of topic.LiteralOutOfRange =
+    told table.LITERAL_OUT_OF_RANGE.now table.LITERAL_OUT_OF_RANGE_REFUSED.now table.LITERAL_OUT_OF_RANGE_MENDED.now
 told_of topic.PlantSyntax = told table.PLANT_SYNTAX.now table.PLANT_SYNTAX_REFUSED.now table.PLANT_SYNTAX_MENDED.now
 told_of topic.BodyDrawing = told table.BODY_DRAWING.now table.BODY_DRAWING_REFUSED.now table.BODY_DRAWING_MENDED.now
 told_of topic.BodyGraph = told table.BODY_GRAPH.now table.BODY_GRAPH_REFUSED.now table.BODY_GRAPH_MENDED.now
 told_of topic.BodyBind = told table.BODY_BIND.now table.BODY_BIND_REFUSED.now table.BODY_BIND_MENDED.now
-told_of topic.PlantNameTwice = told table.PLANT_NAME_TWICE.now table.PLANT_NAME_TWICE_REFUSED.now table.PLANT_NAME_TWICE_MENDED.now
-told_of topic.PlantUnknownName = told table.PLANT_UNKNOWN_NAME.now table.PLANT_UNKNOWN_NAME_REFUSED.now table.PLANT_UNKNOWN_NAME_MENDED.now
-told_of topic.PlantWrongKind = told table.PLANT_WRONG_KIND.now table.PLANT_WRONG_KIND_REFUSED.now table.PLANT_WRONG_KIND_MENDED.now
-told_of topic.InputBoundTwice = told table.INPUT_BOUND_TWICE.now table.INPUT_BOUND_TWICE_REFUSED.now table.INPUT_BOUND_TWICE_MENDED.now
+told_of topic.PlantNameTwice =
+    told table.PLANT_NAME_TWICE.now table.PLANT_NAME_TWICE_REFUSED.now table.PLANT_NAME_TWICE_MENDED.now
+told_of topic.PlantUnknownName =
+    told table.PLANT_UNKNOWN_NAME.now table.PLANT_UNKNOWN_NAME_REFUSED.now table.PLANT_UNKNOWN_NAME_MENDED.now
+told_of topic.PlantWrongKind =
+    told table.PLANT_WRONG_KIND.now table.PLANT_WRONG_KIND_REFUSED.now table.PLANT_WRONG_KIND_MENDED.now
+told_of topic.InputBoundTwice =
+    told table.INPUT_BOUND_TWICE.now table.INPUT_BOUND_TWICE_REFUSED.now table.INPUT_BOUND_TWICE_MENDED.now
 told_of topic.TooMany = told table.TOO_MANY.now table.TOO_MANY_REFUSED.now table.TOO_MANY_MENDED.now
 told_of topic.TooLong = told table.TOO_LONG.now table.TOO_LONG_REFUSED.now table.TOO_LONG_MENDED.now
-told_of topic.ScheduleSyntax = told table.SCHEDULE_SYNTAX.now table.SCHEDULE_SYNTAX_REFUSED.now table.SCHEDULE_SYNTAX_MENDED.now
+told_of topic.ScheduleSyntax =
+    told table.SCHEDULE_SYNTAX.now table.SCHEDULE_SYNTAX_REFUSED.now table.SCHEDULE_SYNTAX_MENDED.now
 
 -- the kind of fault of a drawing, which is none for want of memory
 abbrev pub of_drawing : DrawFaultKind → Option Topic

@@ -1,6 +1,6 @@
 ghost use Rattle.std.specs.Prelude.{◌≡◌, ◌++◌, OnOk, IfOk, string_bytes, codes};
 ghost use Rattle.guidance.specs.Topics.{told_of, of_plant};
-ghost use Rattle.guidance.specs.Helping.{Tells, TellsOf, topic_of};
+ghost use Rattle.guidance.specs.Helping.{TellsTopic, TellsOf, topic_of};
 
 use crate::drawing_names::names_of_a_drawing;
 use crate::excerpt::{Place, excerpt, line_of, whole_of};
@@ -99,8 +99,8 @@ fn near_plant(alloc: Global, text: &str, line: u64) -> Result<String, AllocError
 }
 
 /// A line with a mark, the sentence on the kind of fault, and what else helps.
-fn joined(mut shown: String, topic: Topic, more: &str) -> Result<String, AllocError>
-    ensures { IfOk result (λ help. Tells topic (string_bytes help)) }
+fn help_of(mut shown: String, topic: Topic, more: &str) -> Result<String, AllocError>
+    ensures { IfOk result (λ help. TellsTopic topic (string_bytes help)) }
 {
     push_sentence(&mut shown, topic)?;
     shown.push_str(more)?;
@@ -126,7 +126,7 @@ fn help_at(
         Topic::UnknownName => near_drawing(alloc, text, line)?,
         _ => String::new(alloc),
     };
-    joined(shown, topic, more.as_str())
+    help_of(shown, topic, more.as_str())
 }
 
 /// A whole line marked.
@@ -148,11 +148,11 @@ fn help_with_a_plant(alloc: Global, text: &str, fault: PlantFault) -> Result<Str
         Topic::PlantUnknownName => near_plant(alloc, text, fault.line)?,
         _ => String::new(alloc),
     };
-    joined(shown, topic, more.as_str())
+    help_of(shown, topic, more.as_str())
 }
 
-/// What helps to mend a text that is refused: the line with the place, what is wrong there, and names that were meant perhaps.
-/// It is empty for want of memory.
+/// What helps to mend a text that is refused: the line with the place, what is wrong there, and names that were meant
+/// perhaps. It is empty for want of memory.
 pub fn help_with(alloc: Global, text: &str, refusal: Refusal) -> Result<String, AllocError>
     ensures { IfOk result (λ help. TellsOf (topic_of refusal) (string_bytes help)) }
 {
@@ -170,9 +170,9 @@ pub fn help_with(alloc: Global, text: &str, refusal: Refusal) -> Result<String, 
             help_at(alloc, text, topic, fault.line, fault.column)
         }
         Refusal::Plant(fault) => help_with_a_plant(alloc, text, fault),
-        Refusal::Plan => joined(String::new(alloc), Topic::TooLong, ""),
+        Refusal::Plan => help_of(String::new(alloc), Topic::TooLong, ""),
         Refusal::Schedule { line } => {
-            joined(line_marked(alloc, text, line)?, Topic::ScheduleSyntax, "")
+            help_of(line_marked(alloc, text, line)?, Topic::ScheduleSyntax, "")
         }
     }
 }

@@ -17,7 +17,8 @@ pub struct Mention<'a> {
     pub name: &'a [u8],
     /// The program type, resource or instance to which the thing belongs; empty where there is none.
     pub owner: &'a [u8],
-    /// The program type of an instance that is declared; the resource of the instance of which an output is used; else empty.
+    /// The program type of an instance that is declared; the resource of the instance of which an output is used; else
+    /// empty.
     pub origin: &'a [u8],
     pub line: u64,
     pub is_declaration: bool,

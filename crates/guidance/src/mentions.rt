@@ -69,7 +69,8 @@ fn turn_behind(word: &[u8], in_configuration: bool) -> Option<Turn> {
     }
 }
 
-/// What comes behind a sign between an input and its source, in a source, or between two of them. `None`: it is no such sign.
+/// What comes behind a sign between an input and its source, in a source, or between two of them. `None`: it is no such
+/// sign.
 fn turn_by_sign(word: &[u8], turn: Turn) -> Option<Turn> {
     match (word, turn) {
         (b"=", Turn::UsesInput) => Some(Turn::UsesSource(Thing::Resource)),

@@ -2,6 +2,7 @@
 use Rattle.std.proofs.Common.{◌≡◌, ℕ, List, [], Option, Result, Ok, Err, IfErr, inl, inr, sym, subst}
 use Rattle.std.specs.Result.{IsErrAnd}
 use Rattle.std.proofs.KnownBytes.{Keeps-refl}
+use Rattle.lists.proofs.Results.{kept_fault}
 use Rattle.plant.specs.PlantValue.{PlantValue}
 use Rattle.evaluation.specs.declared.field_input.FieldInput.{FieldInput}
 use Rattle.node_journals.specs.declared.command.Command.{Command}
@@ -17,13 +18,9 @@ use Rattle.text_commands.specs.declared.text_command_fault.TextCommandFault.TheV
 use Rattle.text_commands.specs.PlanText.{RefusesPlanOf}
 use Rattle.run_texts.specs.RunCommands.{ArePlanned}
 use Rattle.run_texts.specs.ReportText.{report_lines, TellsPart}
-use Rattle.console.specs.Giving.{GivenForRun, command_fault, sending_fault}
+use Rattle.text_commands.specs.Giving.{sending_fault}
+use Rattle.console.specs.Giving.{GivenForRun, command_fault}
 use Rattle.plc_main.specs.RunText.{IsReportOf, ExplainsRun}
-
--- the fault is the one that was met
-pub kept_fault : {T : Type 0} (e : CommandFault) (P : CommandFault → Type 0) (r : Result T CommandFault) → IsErrAnd r (λ fault. fault ≡ e) → P e → IfErr r P
-kept_fault e P (Ok x) is h = tt
-kept_fault e P (Err fault) is h = subst P (sym is) h
 
 no_plan : (plant : PlantValue) (until : ℕ) (inputs : List FieldInput) (old : Option (List ℕ)) (found : TextCommandFault) → RefusesPlanOf plant until found → ExplainsRun plant until inputs old old (command_fault found)
 no_plan plant until inputs old (text.Text fault) refused = (refused, Keeps-refl old)
@@ -42,14 +39,15 @@ no_report plant until inputs old found (Ok x) given = tt
 no_report plant until inputs old found (Err fault) given = elim given [ inl w ↦ subst (ExplainsRun plant until inputs old old) (sym w.1) (inl (Keeps-refl old)) | inr w ↦ subst (ExplainsRun plant until inputs old old) (sym w.1) (Keeps-refl old) ]
 
 told_of : (plant : PlantValue) (until : ℕ) (inputs : List FieldInput) (old new : Option (List ℕ)) (report : Report) (found : SendFault) → IsReportOf plant until inputs report → TellsPart plant report old new found
-    → ExplainsRun plant until inputs old new (sending_fault found)
+    → ExplainsRun plant until inputs old new (command_fault (sending_fault found))
 told_of plant until inputs old new report sending.Write is part = record { report = report; is_report = is; sent = part }
 told_of plant until inputs old new report sending.Memory is part = inr (record { report = report; is_report = is; sent = part_of_first (report_lines plant report) [] old new part })
 
 -- the report was told in part
-pub told_partly : {T : Type 0} (plant : PlantValue) (until : ℕ) (inputs : List FieldInput) (old new : Option (List ℕ)) (report : Report) (found : SendFault) (r : Result T CommandFault) → IsErrAnd r (λ fault. fault ≡ sending_fault found)
+pub told_partly : {T : Type 0} (plant : PlantValue) (until : ℕ) (inputs : List FieldInput) (old new : Option (List ℕ)) (report : Report) (found : SendFault) (r : Result T CommandFault) → IsErrAnd r (λ fault. fault ≡ command_fault (sending_fault found))
     → IsReportOf plant until inputs report → TellsPart plant report old new found → IfErr r (ExplainsRun plant until inputs old new)
-told_partly plant until inputs old new report found r given is part = kept_fault (sending_fault found) (ExplainsRun plant until inputs old new) r given (told_of plant until inputs old new report found is part)
+told_partly plant until inputs old new report found r given is part =
+    kept_fault (command_fault (sending_fault found)) (ExplainsRun plant until inputs old new) r given (told_of plant until inputs old new report found is part)
 
 -- what the threads answered is a report of the commands for the plan
 pub report_of : (plant : PlantValue) (until : ℕ) (inputs : List FieldInput) (commands : List Command) (report : Report) → ArePlanned plant until inputs commands

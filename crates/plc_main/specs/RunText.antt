@@ -14,7 +14,8 @@ use Rattle.text_commands.specs.PlanText.{RefusesPlanOf}
 use Rattle.run_texts.specs.RunCommands.{ArePlanned}
 use Rattle.run_texts.specs.ReportText.{report_lines, replay_line}
 
--- What a report of threads is: its book fits, its journals are lawful and made the book's entries, the commands are accounted for, the book's entries are a run, and the faults are told of commands that may have met them.
+-- What a report of threads is: its book fits, its journals are lawful and made the book's entries, the commands are
+-- accounted for, the book's entries are a run, and the faults are told of commands that may have met them.
 pub record IsReport (plant : PlantValue) (commands : List Command) (max_number : ℕ) (r : Report) : Type 0 where
   pub fitting : IsFittingBook r.book r.journals
   pub journals : AreJournalsOf plant max_number r.journals
@@ -29,20 +30,24 @@ pub record IsReportOf (plant : PlantValue) (until : ℕ) (inputs : List FieldInp
   pub planned : ArePlanned plant until inputs commands
   pub reported : IsReport plant commands 4294967295 report
 
--- The lines of such a report were written, and `REPLAY equal` last; the answer is whether there is a fault in the report.
-pub record WritesReport (plant : PlantValue) (until : ℕ) (inputs : List FieldInput) (old new : Option (List ℕ)) (faulty : Bool) : Type 0 where
+-- The lines of such a report were written, and `REPLAY equal` last; the answer is whether there is a fault in the
+-- report.
+pub record WritesReport (plant : PlantValue) (until : ℕ) (inputs : List FieldInput)
+    (old new : Option (List ℕ)) (faulty : Bool) : Type 0 where
   pub report : Report
   pub is_report : IsReportOf plant until inputs report
   pub appended : Appends old new (report_lines plant report ++ replay_line true)
   pub faulty_is : IsTrue faulty ↔ (report.node_faults ≢ [])
 
 -- no more than a beginning of the lines of such a report was written, and of a last line behind them
-pub record WritesReportPart (plant : PlantValue) (until : ℕ) (inputs : List FieldInput) (last : List ℕ) (old new : Option (List ℕ)) : Type 0 where
+pub record WritesReportPart (plant : PlantValue) (until : ℕ) (inputs : List FieldInput)
+    (last : List ℕ) (old new : Option (List ℕ)) : Type 0 where
   pub report : Report
   pub is_report : IsReportOf plant until inputs report
   pub sent : SendsPart (report_lines plant report ++ last) old new
 
--- why there was a fault, and what was written before: nothing before a plan that is too long and threads that gave no report, and after want of memory no last line
+-- why there was a fault, and what was written before: nothing before a plan that is too long and threads that gave no
+-- report, and after want of memory no last line
 abbrev pub ExplainsRun : PlantValue → ℕ → List FieldInput → Option (List ℕ) → Option (List ℕ) → CommandFault → Type 0
 ExplainsRun plant until inputs old new (Text fault) = RefusesPlanOf plant until (text.Text fault) × Keeps old new
 ExplainsRun plant until inputs old new (Word fault) = ⊥

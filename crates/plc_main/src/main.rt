@@ -46,8 +46,12 @@ fn obey_run<R: AllocGlobal + Threads + Wait + Sync, K: Keeper, G: Gate, W: Write
     writer: &mut W,
 ) -> Result<bool, CommandFault>
     requires { vec_len keepers ≡ length prepared.plant.value.resources }
-    ensures ok { IfOk result (WritesReport prepared.plant.value request.now.until prepared.inputs (W.contents writer.old) (W.contents writer.new)) }
-    ensures fault { IfErr result (ExplainsRun prepared.plant.value request.now.until prepared.inputs (W.contents writer.old) (W.contents writer.new)) }
+    ensures ok { IfOk result
+        (WritesReport prepared.plant.value request.now.until prepared.inputs
+        (W.contents writer.old) (W.contents writer.new)) }
+    ensures fault { IfErr result
+        (ExplainsRun prepared.plant.value request.now.until prepared.inputs
+        (W.contents writer.old) (W.contents writer.new)) }
 {
     let Prepared { plant, inputs } = prepared;
     run_text(

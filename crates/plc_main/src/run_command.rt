@@ -11,9 +11,9 @@ use std::io::Write;
 use std::sync::{Arc, Wait};
 use std::thread::Threads;
 
-/// Runs the plan of a plant up to and with `until` (in ms) in threads, a command with these field inputs for each entry, and writes what they did:
-/// a line for each evaluation, then for each command that wasn't answered and for each fault, and last whether one thread makes the same evaluations.
-/// It tells whether there was a fault.
+/// Runs the plan of a plant up to and with `until` (in ms) in threads, a command with these field inputs for each
+/// entry, and writes what they did: a line for each evaluation, then for each command that wasn't answered and for each
+/// fault, and last whether one thread makes the same evaluations. It tells whether there was a fault.
 ///
 /// `TooLong` and `Run` come before anything is written. After `Write` and `Memory` what went out is a prefix.
 pub fn run_text<R: Threads + Wait + Sync, K: Keeper, G: Gate, W: Write>(
@@ -28,7 +28,8 @@ pub fn run_text<R: Threads + Wait + Sync, K: Keeper, G: Gate, W: Write>(
 ) -> Result<bool, CommandFault>
     requires { vec_len keepers ≡ length plant.value.resources }
     ensures ok { IfOk result (WritesReport plant.value until inputs (W.contents writer.old) (W.contents writer.new)) }
-    ensures fault { IfErr result (ExplainsRun plant.value until inputs (W.contents writer.old) (W.contents writer.new)) }
+    ensures fault { IfErr result
+        (ExplainsRun plant.value until inputs (W.contents writer.old) (W.contents writer.new)) }
 {
     let commands = planned_commands(alloc, &plant, until, &inputs)?;
     let shared = Arc::try_clone(&plant)?;

@@ -1,6 +1,5 @@
 -- How the telling of a report ends, from how a part of it does.
-use Rattle.std.proofs.Common.{◌≡◌, ◌≢◌, ◌↔◌, ℕ, ◌==◌, suc, Bool, true, false, not, IsTrue, List, [], ◌∷◌, length, take, Option, Result, Ok, Err, IfErr, refl, sym, ap, ◌∙◌, subst, arith}
-use Rattle.std.specs.Result.{IsErrAnd}
+use Rattle.std.proofs.Common.{◌≡◌, ◌≢◌, ◌↔◌, ℕ, ◌==◌, suc, Bool, true, false, not, IsTrue, List, [], ◌∷◌, length, take, Option, refl, sym, ap, ◌∙◌, arith}
 use Rattle.std.specs.Io.KnownBytes.{Appends}
 use Rattle.std.proofs.lemmas.Bool.{eqb-true}
 use Rattle.std.proofs.lemmas.List.{append-nil}
@@ -12,11 +11,6 @@ use Rattle.text_writer.specs.declared.send_fault.SendFault.TheVariants.{Write, M
 use Rattle.text_writer.specs.Sending.{SendsPart}
 use Rattle.text_writer.proofs.Sending.{begins, part_of_first, part_of_second}
 use Rattle.run_texts.specs.ReportText.{report_lines, replay_line, TellsPart}
-
--- the fault is the one that was met
-pub kept_fault : {T : Type 0} (e : SendFault) (P : SendFault → Type 0) (r : Result T SendFault) → IsErrAnd r (λ fault. fault ≡ e) → P e → IfErr r P
-kept_fault e P (Ok x) is h = tt
-kept_fault e P (Err fault) is h = subst P (sym is) h
 
 -- the lines were written in part
 pub lines_partly : (plant : PlantValue) (old new : Option (List ℕ)) (report : Report) (found : SendFault) → SendsPart (report_lines plant report) old new → TellsPart plant report old new found
@@ -30,7 +24,7 @@ lines_alone plant old new report appended = begins (report_lines plant report) (
 -- all lines were written, and the last one in part
 pub last_partly : (plant : PlantValue) (old mid new : Option (List ℕ)) (report : Report) → Appends old mid (report_lines plant report)
     → (k : ℕ) → Appends mid new (take k (replay_line true)) → TellsPart plant report old new Write
-last_partly plant old mid new report appended k last = part_of_second (report_lines plant report) (replay_line true) old mid new appended (record { written = k; appended = last })
+last_partly plant old mid new report appended k last = part_of_second (report_lines plant report) (replay_line true) old mid new appended (k, last)
 
 -- the test of a fault
 pub faulty : (faults : List NodeFault) (b : Bool) → b ≡ (length faults == 0) → IsTrue (not b) ↔ (faults ≢ [])

@@ -8,7 +8,8 @@ use Rattle.evaluation.specs.Meaning.{Evaluated}
 use Rattle.text_writer.specs.declared.send_fault.SendFault.{SendFault}
 use Rattle.text_writer.specs.declared.send_fault.SendFault.TheVariants as sending
 use Rattle.text_writer.specs.Sending.{SendsPart}
-use Rattle.world.specs.RunLines.{resource_text, evaluation_line}
+use Rattle.line_parts.specs.LineParts.{resource_text}
+use Rattle.world.specs.RunLines.{evaluation_line}
 use Rattle.node_journals.specs.declared.cause.Cause.{Cause}
 use Rattle.node_journals.specs.declared.cause.Cause.TheVariants.{OutOfTurns, NoSuchTask, NumbersSpent, Memory, Misfit, Keeper, NotSent, Stopped}
 use Rattle.node_journals.specs.declared.node_fault.NodeFault.{NodeFault}
@@ -23,6 +24,9 @@ entry_lines plant k (x ∷ xs) = evaluation_line plant k x ++ entry_lines plant 
 abbrev pub unanswered_line : ℕ → List ℕ
 unanswered_line ticket = codes "UNANSWERED " ++ decimal ticket ++ codes "\n"
 
+abbrev pub unanswered_lines : List ℕ → List ℕ
+unanswered_lines tickets = flat_map unanswered_line tickets
+
 -- why a command wasn't obeyed, or a message not sent
 abbrev pub cause_text : Cause → List ℕ
 cause_text OutOfTurns = codes "OutOfTurns"
@@ -36,11 +40,18 @@ cause_text Stopped = codes "Stopped"
 
 -- `FAULT R1 3 NumbersSpent`: the resource, the ticket of the command to it, and the cause
 abbrev pub fault_line : PlantValue → NodeFault → List ℕ
-fault_line plant f = codes "FAULT " ++ resource_text plant f.resource ++ codes " " ++ decimal f.ticket ++ codes " " ++ cause_text f.cause ++ codes "\n"
+fault_line plant f =
+    codes "FAULT " ++ resource_text plant f.resource ++ codes " " ++ decimal f.ticket ++ codes " "
+    ++ cause_text f.cause ++ codes "\n"
 
--- What the threads did: a line for each entry of the book, with its place from 1, for each command that no entry answers, and for each fault.
+abbrev pub fault_lines : PlantValue → List NodeFault → List ℕ
+fault_lines plant faults = flat_map (fault_line plant) faults
+
+-- What the threads did: a line for each entry of the book, with its place from 1, for each command that no entry
+-- answers, and for each fault.
 abbrev pub report_lines : PlantValue → Report → List ℕ
-report_lines plant r = entry_lines plant 1 r.book.entries ++ flat_map unanswered_line r.unanswered ++ flat_map (fault_line plant) r.node_faults
+report_lines plant r =
+    entry_lines plant 1 r.book.entries ++ unanswered_lines r.unanswered ++ fault_lines plant r.node_faults
 
 -- the last line: whether the run of the book's schedule gives its entries
 abbrev pub replay_line : Bool → List ℕ

@@ -13,9 +13,14 @@ use Rattle.node_journals.specs.declared.act.Act.TheVariants.{Evaluate}
 abbrev pub interval_at : PlantValue → TaskRef → ℕ
 interval_at plant t = unwrap_or (option_map (λ (found : TaskValue). found.interval) (task_at plant t)) 0
 
--- the command for an entry of the plan: its resource is to evaluate its task, the task's interval after the time before, with these field inputs
+-- the command for an entry of the plan: its resource is to evaluate its task, the task's interval after the time
+-- before, with these field inputs
 abbrev pub command_for : PlantValue → List FieldInput → ℕ → Due → Command
-command_for plant inputs ticket d = record { ticket = ticket; resource = d.task.resource; act = Evaluate d.task.task (interval_at plant d.task) inputs }
+command_for plant inputs ticket d = record {
+  ticket = ticket;
+  resource = d.task.resource;
+  act = Evaluate d.task.task (interval_at plant d.task) inputs;
+}
 
 -- a command for each entry of a plan, in order; their tickets count from k on
 abbrev pub commands_from : PlantValue → List FieldInput → ℕ → List Due → List Command
@@ -23,7 +28,8 @@ commands_from plant inputs k [] = []
 commands_from plant inputs k (d ∷ dues) = command_for plant inputs k d ∷ commands_from plant inputs (k + 1) dues
 
 -- the commands are those for the entries of the plan, of which there are at most 100,000
-pub record ArePlanned (plant : PlantValue) (until : ℕ) (inputs : List FieldInput) (commands : List Command) : Type 0 where
+pub record ArePlanned (plant : PlantValue) (until : ℕ) (inputs : List FieldInput)
+    (commands : List Command) : Type 0 where
   pub dues : List Due
   pub planned : IsPlan plant until dues
   pub few : length dues ≤ 100000

@@ -36,7 +36,8 @@ fn first_incarnations(alloc: Global, journals: &[Journal]) -> Result<Vec<u32>, A
     Ok(first)
 }
 
-/// Runs the schedule of a book in one thread, from these first incarnations, and tells whether that makes the book's entries.
+/// Runs the schedule of a book in one thread, from these first incarnations, and tells whether that makes the book's
+/// entries.
 fn is_replayed(
     alloc: Global,
     plant: Arc<Plant>,
@@ -54,12 +55,13 @@ fn is_replayed(
     }
 }
 
-/// Runs the schedule of a report's book in one thread, from the journals' first incarnations, and tells whether that makes the book's entries.
-/// It does if the report is one of threads.
+/// Runs the schedule of a report's book in one thread, from the journals' first incarnations, and tells whether that
+/// makes the book's entries. It does if the report is one of threads.
 pub(crate) fn replay(alloc: Global, plant: Arc<Plant>, report: &Report) -> Result<bool, AllocError>
     requires { length report.now.journals ≡ length plant.value.resources }
     ensures answer { IfOk result (IsReplay plant.value (firsts_of report.now.journals) report.now.book) }
-    ensures equal { RunsAgain plant.value 4294967295 report.now.book report.now.journals → IfOk result (λ equal. equal ≡ true) }
+    ensures equal { RunsAgain plant.value 4294967295 report.now.book report.now.journals
+        → IfOk result (λ equal. equal ≡ true) }
 {
     one_run();
     let first = first_incarnations(alloc, report.journals.as_slice())?;

@@ -1,13 +1,13 @@
 //! The lines of a report: what the threads made, what they didn't do, and what went wrong.
 
-ghost use Rattle.std.specs.Prelude.{◌≡◌, ◌++◌, OnOk, OnErr, string_bytes};
-ghost use Rattle.std.specs.List.{flat_map};
+ghost use Rattle.std.specs.Prelude.{◌≡◌, OnOk, OnErr};
 ghost use Rattle.std.specs.Io.KnownBytes.{Appends};
-ghost use Rattle.world.specs.RunLines.{resource_text};
+ghost use Rattle.text_writer.specs.Growing.{GrowsBy};
 ghost use Rattle.text_writer.specs.Sending.{SendsPart};
-ghost use Rattle.run_texts.specs.ReportText.{cause_text, unanswered_line, fault_line, entry_lines, report_lines, replay_line};
+ghost use Rattle.run_texts.specs.ReportText.{cause_text, unanswered_line, unanswered_lines, fault_line, fault_lines, entry_lines, report_lines, replay_line};
 
 use evaluation::Frame;
+use line_parts::push_resource;
 use node_journals::{Cause, NodeFault};
 use node_reports::Report;
 use plant::Plant;
@@ -32,28 +32,20 @@ fn cause_name(cause: Cause) -> &'static str
     }
 }
 
-fn resource_name(plant: &Plant, resource: usize) -> &str
-    ensures { result.now ≡ resource_text plant.now resource }
-{
-    match plant.resource_name(resource) {
-        Some(name) => name,
-        None => "",
-    }
-}
-
 fn push_unanswered(lines: &mut String, ticket: u64) -> Result<(), AllocError>
-    ensures { OnOk result (string_bytes lines.new ≡ string_bytes lines.old ++ unanswered_line ticket) }
+    ensures { OnOk result (GrowsBy lines.old lines.new (unanswered_line ticket)) }
 {
     write!(lines, "UNANSWERED {ticket}\n")
 }
 
 fn push_fault(lines: &mut String, plant: &Plant, fault: NodeFault) -> Result<(), AllocError>
-    ensures { OnOk result (string_bytes lines.new ≡ string_bytes lines.old ++ fault_line plant.now fault) }
+    ensures { OnOk result (GrowsBy lines.old lines.new (fault_line plant.now fault)) }
 {
-    let resource = resource_name(plant, fault.resource);
     let ticket = fault.ticket;
     let cause = cause_name(fault.cause);
-    write!(lines, "FAULT {resource} {ticket} {cause}\n")
+    lines.push_str("FAULT ")?;
+    push_resource(lines, plant, fault.resource)?;
+    write!(lines, " {ticket} {cause}\n")
 }
 
 /// Writes a line for each evaluation, with its place, counted from 1.
@@ -63,8 +55,10 @@ fn write_entries<W: Write>(
     entries: &[Frame],
     writer: &mut W,
 ) -> Result<(), SendFault>
-    ensures ok { OnOk result (Appends (W.contents writer.old) (W.contents writer.new) (entry_lines plant.now 1 entries.now)) }
-    ensures part { OnErr result (SendsPart (entry_lines plant.now 1 entries.now) (W.contents writer.old) (W.contents writer.new)) }
+    ensures ok { OnOk result
+        (Appends (W.contents writer.old) (W.contents writer.new) (entry_lines plant.now 1 entries.now)) }
+    ensures part { OnErr result
+        (SendsPart (entry_lines plant.now 1 entries.now) (W.contents writer.old) (W.contents writer.new)) }
 {
     let mut lines = String::new(alloc);
     for i in 0..entries.len() {
@@ -81,8 +75,9 @@ fn write_unanswered<W: Write>(
     tickets: &[u64],
     writer: &mut W,
 ) -> Result<(), SendFault>
-    ensures ok { OnOk result (Appends (W.contents writer.old) (W.contents writer.new) (flat_map unanswered_line tickets.now)) }
-    ensures part { OnErr result (SendsPart (flat_map unanswered_line tickets.now) (W.contents writer.old) (W.contents writer.new)) }
+    ensures ok { OnOk result (Appends (W.contents writer.old) (W.contents writer.new) (unanswered_lines tickets.now)) }
+    ensures part { OnErr result
+        (SendsPart (unanswered_lines tickets.now) (W.contents writer.old) (W.contents writer.new)) }
 {
     let mut lines = String::new(alloc);
     for ticket in tickets {
@@ -99,8 +94,10 @@ fn write_faults<W: Write>(
     faults: &[NodeFault],
     writer: &mut W,
 ) -> Result<(), SendFault>
-    ensures ok { OnOk result (Appends (W.contents writer.old) (W.contents writer.new) (flat_map (fault_line plant.now) faults.now)) }
-    ensures part { OnErr result (SendsPart (flat_map (fault_line plant.now) faults.now) (W.contents writer.old) (W.contents writer.new)) }
+    ensures ok { OnOk result
+        (Appends (W.contents writer.old) (W.contents writer.new) (fault_lines plant.now faults.now)) }
+    ensures part { OnErr result
+        (SendsPart (fault_lines plant.now faults.now) (W.contents writer.old) (W.contents writer.new)) }
 {
     let mut lines = String::new(alloc);
     for fault in faults {
@@ -117,8 +114,10 @@ pub(crate) fn write_report<W: Write>(
     report: &Report,
     writer: &mut W,
 ) -> Result<(), SendFault>
-    ensures ok { OnOk result (Appends (W.contents writer.old) (W.contents writer.new) (report_lines plant.now report.now)) }
-    ensures part { OnErr result (SendsPart (report_lines plant.now report.now) (W.contents writer.old) (W.contents writer.new)) }
+    ensures ok { OnOk result
+        (Appends (W.contents writer.old) (W.contents writer.new) (report_lines plant.now report.now)) }
+    ensures part { OnErr result
+        (SendsPart (report_lines plant.now report.now) (W.contents writer.old) (W.contents writer.new)) }
 {
     write_entries(alloc, plant, report.book.entries(), writer)?;
     write_unanswered(alloc, report.unanswered.as_slice(), writer)?;

@@ -65,7 +65,8 @@ fn commands_until(
     Ok(commands_of(alloc, plant, inputs, &dues)?)
 }
 
-/// The commands for the plan of a plant up to and with `until` (in ms): one for each entry, with these field inputs. They are numbered, and for resources of the plant.
+/// The commands for the plan of a plant up to and with `until` (in ms): one for each entry, with these field inputs.
+/// They are numbered, and for resources of the plant.
 pub fn planned_commands(
     alloc: Global,
     plant: &Plant,

@@ -11,8 +11,8 @@ use std::io::Write;
 use std::sync::Arc;
 use text_writer::{SendFault, write_text};
 
-/// Writes what the threads of a run did: a line for each evaluation, then for each command that wasn't answered and for each fault, and last whether one thread makes the same evaluations.
-/// It tells whether there was a fault.
+/// Writes what the threads of a run did: a line for each evaluation, then for each command that wasn't answered and for
+/// each fault, and last whether one thread makes the same evaluations. It tells whether there was a fault.
 ///
 /// After `Write` what went out is a prefix, and after `Memory` there is no last line.
 pub fn tell_report<W: Write>(

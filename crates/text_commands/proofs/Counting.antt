@@ -7,7 +7,7 @@ use Rattle.std.proofs.lemmas.List.Sums.{sum_by_more, sum_by-take-le}
 use Rattle.std.proofs.lemmas.Option.{slice_get_cases, slice_get_within, get_or_from_slice_get}
 use Rattle.plant_grammar.specs.Kinds.{items_or_none}
 use Rattle.plant.specs.PlantValue.{ResourceValue, PlantValue, tasks_at, codes_at}
-use Rattle.text_commands.specs.CheckText.{task_count, programs_of, program_count, connections_of, connection_count}
+use Rattle.text_commands.specs.CheckText.{task_count, instances_of, program_count, connections_of, connection_count}
 
 pub more_found : {X : Type 0} (f : X → ℕ) (xs : List X) (n : ℕ) (x : X) → slice_get xs n ≡ Some x → sum_by f (take (n + 1) xs) ≡ sum_by f (take n xs) + f x
 more_found f xs n x is = sum_by_more f xs n x (slice_get_within xs n x is) ∙ ap (λ y. sum_by f (take n xs) + f y) (get_or_from_slice_get xs n x x is)
@@ -47,11 +47,11 @@ tasks_more plant n lt = more_at (λ r. length r.tasks) plant n (length (tasks_at
 pub tasks_room : (plant : PlantValue) (n : ℕ) → n < length plant.resources → sum_by (λ (r : ResourceValue). length r.tasks) (take n plant.resources) + length (tasks_at plant n) ≤ task_count plant
 tasks_room plant n lt = omega (arith, tasks_more plant n lt, sum_by-take-le (λ (r : ResourceValue). length r.tasks) plant.resources (n + 1))
 
-pub programs_more : (plant : PlantValue) (n : ℕ) → n < length plant.resources → sum_by (λ (r : ResourceValue). programs_of r.codes) (take (n + 1) plant.resources) ≡ sum_by (λ (r : ResourceValue). programs_of r.codes) (take n plant.resources) + programs_of (codes_at plant n)
-programs_more plant n lt = more_at (λ r. programs_of r.codes) plant n (programs_of (codes_at plant n)) lt (λ r e. ap (λ o. programs_of (items_or_none (option_map (λ (r : ResourceValue). r.codes) o))) e)
+pub programs_more : (plant : PlantValue) (n : ℕ) → n < length plant.resources → sum_by (λ (r : ResourceValue). instances_of r.codes) (take (n + 1) plant.resources) ≡ sum_by (λ (r : ResourceValue). instances_of r.codes) (take n plant.resources) + instances_of (codes_at plant n)
+programs_more plant n lt = more_at (λ r. instances_of r.codes) plant n (instances_of (codes_at plant n)) lt (λ r e. ap (λ o. instances_of (items_or_none (option_map (λ (r : ResourceValue). r.codes) o))) e)
 
-pub programs_room : (plant : PlantValue) (n : ℕ) → n < length plant.resources → sum_by (λ (r : ResourceValue). programs_of r.codes) (take n plant.resources) + programs_of (codes_at plant n) ≤ program_count plant
-programs_room plant n lt = omega (arith, programs_more plant n lt, sum_by-take-le (λ (r : ResourceValue). programs_of r.codes) plant.resources (n + 1))
+pub programs_room : (plant : PlantValue) (n : ℕ) → n < length plant.resources → sum_by (λ (r : ResourceValue). instances_of r.codes) (take n plant.resources) + instances_of (codes_at plant n) ≤ program_count plant
+programs_room plant n lt = omega (arith, programs_more plant n lt, sum_by-take-le (λ (r : ResourceValue). instances_of r.codes) plant.resources (n + 1))
 
 pub connections_more : (plant : PlantValue) (n : ℕ) → n < length plant.resources → sum_by (λ (r : ResourceValue). connections_of r.codes) (take (n + 1) plant.resources) ≡ sum_by (λ (r : ResourceValue). connections_of r.codes) (take n plant.resources) + connections_of (codes_at plant n)
 connections_more plant n lt = more_at (λ r. connections_of r.codes) plant n (connections_of (codes_at plant n)) lt (λ r e. ap (λ o. connections_of (items_or_none (option_map (λ (r : ResourceValue). r.codes) o))) e)

@@ -2,6 +2,7 @@
 use Rattle.std.proofs.Common.{◌≡◌, ℕ, ◌≤◌, List, length, Option, Result, IfErr, inl, inr}
 use Rattle.std.specs.Result.{IsErrAnd}
 use Rattle.std.proofs.KnownBytes.{Keeps-refl}
+use Rattle.lists.proofs.Results.{kept_fault}
 use Rattle.std.specs.Io.KnownBytes.{Appends}
 use Rattle.due_list.specs.declared.due.Due.{Due}
 use Rattle.plant.specs.PlantValue.{PlantValue}
@@ -15,7 +16,6 @@ use Rattle.text_writer.specs.declared.send_fault.SendFault.TheVariants as sendin
 use Rattle.text_commands.specs.Giving.{sending_fault}
 use Rattle.text_commands.specs.PlanText.{plan_lines, RefusesPlanOf, WritesPlan, WritesPlanPart, ExplainsPlan}
 use Rattle.text_writer.specs.Sending.{SendsPart}
-use Rattle.text_commands.proofs.Explaining.{kept_fault}
 
 pub plan_refused : (text : List ℕ) (until : ℕ) (old : Option (List ℕ)) (plant : PlantValue) (fault : TextCommandFault) → IsPlantText text plant → RefusesPlanOf plant until fault → ExplainsPlan text until old old fault
 plan_refused text until old plant (Text (Draw fault)) read refused = absurd refused

@@ -20,7 +20,7 @@ use Rattle.plant.specs.PlantValue.{ResourceValue, PlantValue}
 use Rattle.task_codes.specs.CodeValue.{CodeValue, bindings_at}
 use Rattle.plant.specs.StandsFor.{runs_in, task_value, IsBindingOf, IsCodeOf, IsResourceOf}
 use Rattle.plant.specs.PlantText.{IsPlantText}
-use Rattle.text_commands.specs.CheckText.{programs_of, connections_of}
+use Rattle.text_commands.specs.CheckText.{instances_of, connections_of}
 use Rattle.text_commands.specs.Steps.Counting.{AreCounts}
 
 zip_get : {X Y : Type 0} (R : X → Y → Type 0) (xs : List X) (ys : List Y) (k : ℕ) (y : Y) → AllZip R xs ys → slice_get ys k ≡ Some y → (x : X) × (slice_get xs k ≡ Some x) × R x y
@@ -80,7 +80,7 @@ small_code tree plant r t c few bound of =
 -- the counts of a resource
 record IsSmallResource (v : ResourceValue) : Type 0 where
   tasks : length v.tasks ≤ 16
-  programs : programs_of v.codes ≤ 1024
+  programs : instances_of v.codes ≤ 1024
   connections : connections_of v.codes ≤ 4194304
 
 small_resource : (tree : Tree) (plant : PlantValue) (k : ℕ) (r : Resource) (v : ResourceValue) → IsTreeLawful tree → slice_get tree.resources k ≡ Some r → IsResourceOf tree plant r v → IsSmallResource v
@@ -104,6 +104,6 @@ counts_are text plant read =
     let few = read.faultless.lawful.few_resources in
     let small : All IsSmallResource plant.resources = all_from_places IsSmallResource plant.resources (λ k v at. let r = zip_get (IsResourceOf tree plant) tree.resources plant.resources k v read.stands at in small_resource tree plant k r.0 v read.faultless.lawful r.1 r.2) in
     let tasks = sum_by-le (λ (r : ResourceValue). length r.tasks) 16 plant.resources (λ k d lt. (small k d lt).tasks) in
-    let programs = sum_by-le (λ (r : ResourceValue). programs_of r.codes) 1024 plant.resources (λ k d lt. (small k d lt).programs) in
+    let programs = sum_by-le (λ (r : ResourceValue). instances_of r.codes) 1024 plant.resources (λ k d lt. (small k d lt).programs) in
     let connections = sum_by-le (λ (r : ResourceValue). connections_of r.codes) 4194304 plant.resources (λ k d lt. (small k d lt).connections) in
     record { tasks = omega (arith, tasks, many, few); programs = omega (arith, programs, many, few); connections = omega (arith, connections, many, few) }

@@ -7,11 +7,11 @@ use Rattle.program_bodies.specs.declared.plant_fault.PlantFault.{PlantFault}
 use Rattle.program_bodies.specs.declared.plant_fault.PlantFaultKind.TheVariants.{Memory}
 use Rattle.text_commands.specs.declared.text_command_fault.TextCommandFault.{TextCommandFault}
 use Rattle.text_commands.specs.declared.text_fault.TextFault.TheVariants.{Plant}
-use Rattle.text_commands.specs.CheckText.{RefusesPlant}
+use Rattle.text_commands.specs.CheckText.{GivesNoPlant}
 use Rattle.text_commands.specs.Giving.{GivenFor}
 
 -- a refusal by the reader of plants is one of the text, or of memory
 pub plant_refused : {T : Type 0} (text : List ℕ) (found : PlantFault) (r : Result T TextCommandFault) → IsErrAnd r (GivenFor (found.kind ≡ Memory) (Plant found))
-    → IsPlantFault found → (IsOfBody found.kind → IsBodyFaultIn text found) → IfErr r (RefusesPlant text)
+    → IsPlantFault found → (IsOfBody found.kind → IsBodyFaultIn text found) → IfErr r (GivesNoPlant text)
 plant_refused text found (Ok x) given value body = tt
 plant_refused text found (Err fault) given value body = elim given [ inl w ↦ rw w.1 tt | inr w ↦ rw w.1 (record { not_memory = w.0; value = value; body = body }) ]

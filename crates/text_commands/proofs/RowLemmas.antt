@@ -11,7 +11,7 @@ use Rattle.lists.proofs.Zips.{zip_length, zip_push}
 use Rattle.declared_names.specs.declared.declarations.Declaration.{Declaration}
 use Rattle.text_commands.specs.declared.word_fault.WordFaultKind.{WordFaultKind}
 use Rattle.text_commands.specs.declared.word_fault.WordFaultKind.TheVariants.{NoVariable, BadDigits, Twice}
-use Rattle.text_commands.specs.Rows.{RowValue, IsRow, AreRows, AreApart, IsBoolAt, IsRefusedFor, IsFirstRefused, texts}
+use Rattle.text_commands.specs.Rows.{RowValue, IsRow, SpellRows, AreOfDistinctVariables, IsBoolAt, IsRefusedFor, IsFirstRefused, texts}
 
 zip_at : {X Y : Type 0} (R : X → Y → Type 0) (xs : List X) (ys : List Y) (i : ℕ) (d : X) (e : Y) → AllZip R xs ys → i < length ys → R (get_or xs i d) (get_or ys i e)
 zip_at R [] [] i d e each lt = absurd (omega arith)
@@ -29,7 +29,7 @@ same_place ds word r s one other = let e = one.named in let f = other.named in c
 
 -- one word is no row
 pub refuse_word : (ds : List Declaration) (words : List (Bor (List ℕ))) (n : ℕ) (d : Bor (List ℕ)) → n < length words → ((row : RowValue) → IsRow ds (get_or words n d).now row → ⊥)
-    → (rows : List RowValue) → AreRows ds (texts words) rows → ⊥
+    → (rows : List RowValue) → SpellRows ds (texts words) rows → ⊥
 refuse_word ds words n d lt never rows are =
     let r : RowValue = record { place = 0; digits = [] } in
     let long = zip_length (IsRow ds) (texts words) rows are.each in
@@ -39,7 +39,7 @@ refuse_word ds words n d lt never rows are =
 -- one word names the variable of a row before it
 pub refuse_twice : (ds : List Declaration) (words : List (Bor (List ℕ))) (n : ℕ) (d : Bor (List ℕ)) (before : List RowValue) (row : RowValue) → n < length words
     → AllZip (IsRow ds) (take n (texts words)) before → IsRow ds (get_or words n d).now row → Any (λ s. s.place ≡ row.place) before
-    → (rows : List RowValue) → AreRows ds (texts words) rows → ⊥
+    → (rows : List RowValue) → SpellRows ds (texts words) rows → ⊥
 refuse_twice ds words n d before row lt each is (j, s, within, at, same) rows are =
     let long = zip_length (IsRow ds) (texts words) rows are.each in
     let texts-long = length-map words (λ (w : Bor (List ℕ)). w.now) in
@@ -61,7 +61,7 @@ refused_behind ds rows word Twice (row, is, (j, other, within, at, same)) = absu
 
 -- the words before are rows, and this one is refused
 pub first_refused : (ds : List Declaration) (words : List (Bor (List ℕ))) (n : ℕ) (d : Bor (List ℕ)) (before : List RowValue) (kind : WordFaultKind) → n < length words
-    → AllZip (IsRow ds) (take n (texts words)) before → AreApart before → IsRefusedFor ds before (get_or words n d).now kind
+    → AllZip (IsRow ds) (take n (texts words)) before → AreOfDistinctVariables before → IsRefusedFor ds before (get_or words n d).now kind
     → IsFirstRefused ds (texts words) (record { number = n; kind = kind })
 first_refused ds words n d before kind lt each apart refused =
     let texts-long = length-map words (λ (w : Bor (List ℕ)). w.now) in
@@ -70,7 +70,7 @@ first_refused ds words n d before kind lt each apart refused =
     record { word = (get_or words n d).now; at = at; rows = before; before = record { each = each; apart = apart }; refused = refused }
 
 pub first_bad : (ds : List Declaration) (words : List (Bor (List ℕ))) (n : ℕ) (d : Bor (List ℕ)) (before : List RowValue) (kind : WordFaultKind) → n < length words
-    → AllZip (IsRow ds) (take n (texts words)) before → AreApart before → IsRefusedFor ds [] (get_or words n d).now kind
+    → AllZip (IsRow ds) (take n (texts words)) before → AreOfDistinctVariables before → IsRefusedFor ds [] (get_or words n d).now kind
     → IsFirstRefused ds (texts words) (record { number = n; kind = kind })
 first_bad ds words n d before kind lt each apart refused = first_refused ds words n d before kind lt each apart (refused_behind ds before (get_or words n d).now kind refused)
 
@@ -87,7 +87,7 @@ get_or-itself [] i e lt = absurd (omega arith)
 get_or-itself (x ∷ xs) zero e lt = refl
 get_or-itself (x ∷ xs) (suc i) e lt = get_or-itself xs i e (omega arith)
 
-pub apart_push : (before : List RowValue) (row : RowValue) → AreApart before → (Any (λ s. s.place ≡ row.place) before → ⊥) → AreApart (before ++ row ∷ [])
+pub apart_push : (before : List RowValue) (row : RowValue) → AreOfDistinctVariables before → (Any (λ s. s.place ≡ row.place) before → ⊥) → AreOfDistinctVariables (before ++ row ∷ [])
 apart_push before row apart new j k d within inside same =
     let long = length-append before (row ∷ []) in
     elim (cases_lt j (length before)) [
@@ -110,5 +110,5 @@ apart_push before row apart new j k d within inside same =
         (i, get_or before i d, early, get_or-itself before i d early, rw (get_or_append_left before (row ∷ []) d i early, right) at same')
 
 -- each row is of a BOOL variable
-pub all_bool : (ds : List Declaration) (words : List (List ℕ)) (rows : List RowValue) → AreRows ds words rows → All (λ row. IsBoolAt ds row.place) rows
+pub all_bool : (ds : List Declaration) (words : List (List ℕ)) (rows : List RowValue) → SpellRows ds words rows → All (λ row. IsBoolAt ds row.place) rows
 all_bool ds words rows are k d lt = (zip_at (IsRow ds) words rows k [] d are.each lt).bool

@@ -1,5 +1,5 @@
 -- What `plc check` writes.
-use Rattle.std.specs.Prelude.{◌≢◌, ℕ, ◌++◌, List, Option, length, codes, take, sum_by}
+use Rattle.std.specs.Prelude.{◌≢◌, ℕ, ◌++◌, List, Option, length, codes, sum_by}
 use Rattle.std.specs.Fmt.{decimal}
 use Rattle.std.specs.Io.KnownBytes.{Appends, Keeps}
 use Rattle.plant.specs.PlantValue.{ResourceValue, PlantValue}
@@ -8,6 +8,7 @@ use Rattle.program_bodies.specs.Faults.{IsPlantFault, IsOfBody}
 use Rattle.plant.specs.PlantText.{IsPlantText, IsBodyFaultIn}
 use Rattle.program_bodies.specs.declared.plant_fault.PlantFault.{PlantFault}
 use Rattle.program_bodies.specs.declared.plant_fault.PlantFaultKind.TheVariants as plant
+use Rattle.text_writer.specs.Sending.{SendsPart}
 use Rattle.text_commands.specs.declared.text_command_fault.TextCommandFault.{TextCommandFault}
 use Rattle.text_commands.specs.declared.text_command_fault.TextCommandFault.TheVariants.{Text, Word, Write, Memory}
 use Rattle.text_commands.specs.declared.text_fault.TextFault.{TextFault}
@@ -18,11 +19,11 @@ abbrev pub task_count : PlantValue → ℕ
 task_count plant = sum_by (λ (r : ResourceValue). length r.tasks) plant.resources
 
 -- how many program instances the tasks run
-abbrev pub programs_of : List CodeValue → ℕ
-programs_of codes = sum_by (λ (c : CodeValue). length c.programs) codes
+abbrev pub instances_of : List CodeValue → ℕ
+instances_of codes = sum_by (λ (c : CodeValue). length c.programs) codes
 
 abbrev pub program_count : PlantValue → ℕ
-program_count plant = sum_by (λ (r : ResourceValue). programs_of r.codes) plant.resources
+program_count plant = sum_by (λ (r : ResourceValue). instances_of r.codes) plant.resources
 
 -- how many inputs of the instances are bound
 abbrev pub connections_of : List CodeValue → ℕ
@@ -38,7 +39,8 @@ count_line what n = what ++ codes " " ++ decimal n ++ codes "\n"
 -- four lines: how many resources, tasks, program instances and bound inputs a plant has
 abbrev pub check_lines : PlantValue → List ℕ
 check_lines plant =
-    count_line (codes "resources") (length plant.resources) ++ count_line (codes "tasks") (task_count plant) ++ count_line (codes "programs") (program_count plant) ++ count_line (codes "connections") (connection_count plant)
+    count_line (codes "resources") (length plant.resources) ++ count_line (codes "tasks") (task_count plant)
+    ++ count_line (codes "programs") (program_count plant) ++ count_line (codes "connections") (connection_count plant)
 
 -- the text is a plant, and its four lines were written
 abbrev pub WritesCheck : List ℕ → Option (List ℕ) → Option (List ℕ) → Type 0
@@ -46,32 +48,33 @@ WritesCheck text old new = (plant : PlantValue) × IsPlantText text plant × App
 
 -- the text is a plant, and no more than a beginning of its four lines was written
 abbrev pub WritesCheckPart : List ℕ → Option (List ℕ) → Option (List ℕ) → Type 0
-WritesCheckPart text old new = (plant : PlantValue) × IsPlantText text plant × (written : ℕ) × Appends old new (take written (check_lines plant))
+WritesCheckPart text old new = (plant : PlantValue) × IsPlantText text plant × SendsPart (check_lines plant) old new
 
--- a refusal of the text of a plant: not want of memory, with what belongs to its kind; the fault of a body is that of the first body that is refused
+-- a refusal of the text of a plant: not want of memory, with what belongs to its kind; the fault of a body is that of
+-- the first body that is refused
 pub record IsRefusal (text : List ℕ) (fault : PlantFault) : Type 0 where
   pub not_memory : fault.kind ≢ plant.Memory
   pub value : IsPlantFault fault
   pub body : IsOfBody fault.kind → IsBodyFaultIn text fault
 
 -- only the reader of plants refuses a text here
-abbrev pub RefusesText : List ℕ → TextFault → Type 0
-RefusesText text (Draw fault) = ⊥
-RefusesText text (Graph fault) = ⊥
-RefusesText text (Bind fault) = ⊥
-RefusesText text (Plant fault) = IsRefusal text fault
-RefusesText text TooLong = ⊥
+abbrev pub RefusesPlantText : List ℕ → TextFault → Type 0
+RefusesPlantText text (Draw fault) = ⊥
+RefusesPlantText text (Graph fault) = ⊥
+RefusesPlantText text (Bind fault) = ⊥
+RefusesPlantText text (Plant fault) = IsRefusal text fault
+RefusesPlantText text TooLong = ⊥
 
 -- no plant was read: its text is refused, or memory
-abbrev pub RefusesPlant : List ℕ → TextCommandFault → Type 0
-RefusesPlant text (Text fault) = RefusesText text fault
-RefusesPlant text (Word fault) = ⊥
-RefusesPlant text Write = ⊥
-RefusesPlant text Memory = Unit {0}
+abbrev pub GivesNoPlant : List ℕ → TextCommandFault → Type 0
+GivesNoPlant text (Text fault) = RefusesPlantText text fault
+GivesNoPlant text (Word fault) = ⊥
+GivesNoPlant text Write = ⊥
+GivesNoPlant text Memory = Unit {0}
 
 -- why there was a fault, and what was written before: nothing but where the output failed
 abbrev pub ExplainsCheck : List ℕ → Option (List ℕ) → Option (List ℕ) → TextCommandFault → Type 0
-ExplainsCheck text old new (Text fault) = RefusesText text fault × Keeps old new
+ExplainsCheck text old new (Text fault) = RefusesPlantText text fault × Keeps old new
 ExplainsCheck text old new (Word fault) = ⊥
 ExplainsCheck text old new Write = WritesCheckPart text old new
 ExplainsCheck text old new Memory = Keeps old new

@@ -28,20 +28,20 @@ use Rattle.text_commands.specs.declared.text_command_fault.TextCommandFault.{Tex
 use Rattle.text_commands.specs.declared.text_command_fault.TextCommandFault.TheVariants.{Text, Word, Write, Memory}
 use Rattle.text_commands.specs.declared.text_fault.TextFault.{TextFault}
 use Rattle.text_commands.specs.declared.text_fault.TextFault.TheVariants.{Draw, Graph, Bind, Plant, TooLong}
-use Rattle.text_commands.specs.Rows.{RowValue, AreRows, IsFirstRefused, scans_of}
+use Rattle.text_commands.specs.Rows.{RowValue, SpellRows, SpellNoRows, IsFirstRefused, scans_of}
 use Rattle.text_commands.specs.Lines.{line_of}
 
 -- the text of a drawing is read as this picture
-pub record IsDrawn (text : List ℕ) (drawn : Picture) : Type 0 where
+pub record IsPictureOf (text : List ℕ) (drawn : Picture) : Type 0 where
   pub well_drawn : IsWellDrawn (rows_of text)
   pub picture : drawn ≡ picture_of 1 (layout_of (rows_of text))
 
--- The ladder of a drawing: its networks in order, and its names, declared by their use. Each network meets the left rail and has at most 200 rows,
--- no two boxes have one name, and the names can be bound.
+-- The ladder of a drawing: its networks in order, and its names, declared by their use. Each network meets the left
+-- rail and has at most 200 rows, no two boxes have one name, and the names can be bound.
 pub record IsLadderOfDrawing (text : List ℕ) (ds : List Declaration) (networks : List Diagram) : Type 0 where
   pub picture : Picture
   pub graph : GraphValue
-  pub drawn : IsDrawn text picture
+  pub drawn : IsPictureOf text picture
   pub built : AreNetworks picture graph
   pub faultless : HasFaultlessNetworks picture
   pub guessed : AreGuessed graph ds
@@ -57,12 +57,16 @@ set_digit slots place (Some digit) = slice_set slots place (Variable (BoolValue 
 abbrev pub set_before : List RowValue → ℕ → List Slot → List Slot
 set_before rows k slots = fold (λ slots' row. set_digit slots' row.place (slice_get row.digits k)) slots rows
 
--- After some scans: how many, what stands at each name, the memories, and the text so far. All begins as declared and with memories OFF.
--- Each scan has the meaning of the networks after the digits are set, and adds one line of the variables.
-pub data Scanned (ds : List Declaration) (networks : List Diagram) (dt : ℕ) (rows : List RowValue) : ℕ → List Slot → List Bool → List ℕ → Type 0 where
-  begun : {memories : List Bool} → length memories ≡ sum_by (λ d. length d.elements) networks → All (λ m. m ≡ false) memories
+-- After some scans: how many, what stands at each name, the memories, and the text so far. All begins as declared and
+-- with memories OFF. Each scan has the meaning of the networks after the digits are set, and adds one line of the
+-- variables.
+pub data Scanned (ds : List Declaration) (networks : List Diagram) (dt : ℕ) (rows : List RowValue)
+    : ℕ → List Slot → List Bool → List ℕ → Type 0 where
+  begun : {memories : List Bool} → length memories ≡ sum_by (λ d. length d.elements) networks
+      → All (λ m. m ≡ false) memories
       → Scanned ds networks dt rows 0 (map (λ e. slot_first e.declared) ds) memories []
-  after : {k : ℕ} {slots slots' : List Slot} {memories memories' : List Bool} {text : List ℕ} → Scanned ds networks dt rows k slots memories text
+  after : {k : ℕ} {slots slots' : List Slot} {memories memories' : List Bool} {text : List ℕ}
+      → Scanned ds networks dt rows k slots memories text
       → ScanMeaning ds dt networks (set_before rows k slots) memories slots' memories'
       → Scanned ds networks dt rows (k + 1) slots' memories' (text ++ line_of ds slots')
 
@@ -76,13 +80,15 @@ pub record SomeScans (ds : List Declaration) (networks : List Diagram) (dt : ℕ
   pub scanned : Scanned ds networks dt rows scans slots memories text
 
 -- all scans were made, and their text was written
-pub record WritesScans (ds : List Declaration) (networks : List Diagram) (dt : ℕ) (rows : List RowValue) (old new : Option (List ℕ)) : Type 0 where
+pub record WritesScans (ds : List Declaration) (networks : List Diagram) (dt : ℕ) (rows : List RowValue)
+    (old new : Option (List ℕ)) : Type 0 where
   pub made : SomeScans ds networks dt rows
   pub all : made.scans ≡ scans_of rows
   pub appended : Appends old new made.text
 
 -- the beginning of the text of some scans was written
-pub record WritesSomeScans (ds : List Declaration) (networks : List Diagram) (dt : ℕ) (rows : List RowValue) (old new : Option (List ℕ)) : Type 0 where
+pub record WritesSomeScans (ds : List Declaration) (networks : List Diagram) (dt : ℕ) (rows : List RowValue)
+    (old new : Option (List ℕ)) : Type 0 where
   pub made : SomeScans ds networks dt rows
   pub written : ℕ
   pub appended : Appends old new (take written made.text)
@@ -93,30 +99,32 @@ pub record Asked (drawing : List ℕ) (words : List (List ℕ)) : Type 0 where
   pub networks : List Diagram
   pub ladder : IsLadderOfDrawing drawing declarations networks
   pub rows : List RowValue
-  pub read : AreRows declarations words rows
+  pub read : SpellRows declarations words rows
 
 -- the text of all scans of the drawing was written
 abbrev pub WritesAll : List ℕ → List (List ℕ) → ℕ → Option (List ℕ) → Option (List ℕ) → Type 0
-WritesAll drawing words dt old new = (asked : Asked drawing words) × WritesScans asked.declarations asked.networks dt asked.rows old new
+WritesAll drawing words dt old new =
+    (asked : Asked drawing words) × WritesScans asked.declarations asked.networks dt asked.rows old new
 
 -- no more than the beginning of the text of some of its scans was written
 abbrev pub WritesPart : List ℕ → List (List ℕ) → ℕ → Option (List ℕ) → Option (List ℕ) → Type 0
-WritesPart drawing words dt old new = (asked : Asked drawing words) × WritesSomeScans asked.declarations asked.networks dt asked.rows old new
+WritesPart drawing words dt old new =
+    (asked : Asked drawing words) × WritesSomeScans asked.declarations asked.networks dt asked.rows old new
 
 -- the words are no rows of the drawing's ladder, and this is the first fault
 pub record RefusesWords (drawing : List ℕ) (words : List (List ℕ)) (fault : WordFault) : Type 0 where
   pub declarations : List Declaration
   pub networks : List Diagram
   pub ladder : IsLadderOfDrawing drawing declarations networks
-  pub refused : (rows : List RowValue) → AreRows declarations words rows → ⊥
+  pub refused : SpellNoRows declarations words
   pub first : IsFirstRefused declarations words fault
 
 -- the drawing's networks have no fault, and their names can't be bound; this is the first fault
-pub record RefusesNames (drawing : List ℕ) (fault : BindFault) : Type 0 where
+pub record RefusesNamesOf (drawing : List ℕ) (fault : BindFault) : Type 0 where
   pub picture : Picture
   pub graph : GraphValue
   pub declarations : List Declaration
-  pub drawn : IsDrawn drawing picture
+  pub drawn : IsPictureOf drawing picture
   pub built : AreNetworks picture graph
   pub faultless : HasFaultlessNetworks picture
   pub guessed : AreGuessed graph declarations
@@ -124,24 +132,24 @@ pub record RefusesNames (drawing : List ℕ) (fault : BindFault) : Type 0 where
   pub first : IsFirstBindFault declarations graph fault
 
 -- the networks of the drawing have this fault at some place, the first by its kind, row and column
-pub record RefusesNetworks (drawing : List ℕ) (fault : GraphFault) : Type 0 where
+pub record RefusesNetworksOf (drawing : List ℕ) (fault : GraphFault) : Type 0 where
   pub picture : Picture
-  pub drawn : IsDrawn drawing picture
+  pub drawn : IsPictureOf drawing picture
   pub place : Place
   pub first : IsFirstGraphFaultAt picture fault.kind place
   pub found : GraphFaultLiesAt picture.first_line place fault
 
 -- what holds after a refusal by the text
-abbrev pub RefusesText : List ℕ → TextFault → Type 0
-RefusesText drawing (Draw fault) = IsIllDrawn (rows_of drawing) × (fault.kind ≢ draw.Memory)
-RefusesText drawing (Graph fault) = RefusesNetworks drawing fault
-RefusesText drawing (Bind fault) = RefusesNames drawing fault
-RefusesText drawing (Plant fault) = ⊥
-RefusesText drawing TooLong = ⊥
+abbrev pub RefusesDrawing : List ℕ → TextFault → Type 0
+RefusesDrawing drawing (Draw fault) = IsIllDrawn (rows_of drawing) × (fault.kind ≢ draw.Memory)
+RefusesDrawing drawing (Graph fault) = RefusesNetworksOf drawing fault
+RefusesDrawing drawing (Bind fault) = RefusesNamesOf drawing fault
+RefusesDrawing drawing (Plant fault) = ⊥
+RefusesDrawing drawing TooLong = ⊥
 
 -- why there was a fault, and what was written before: nothing before a fault of the text or of the words
 abbrev pub Explains : List ℕ → List (List ℕ) → ℕ → Option (List ℕ) → Option (List ℕ) → TextCommandFault → Type 0
-Explains drawing words dt old new (Text fault) = RefusesText drawing fault × Keeps old new
+Explains drawing words dt old new (Text fault) = RefusesDrawing drawing fault × Keeps old new
 Explains drawing words dt old new (Word fault) = RefusesWords drawing words fault × Keeps old new
 Explains drawing words dt old new Write = WritesPart drawing words dt old new
 Explains drawing words dt old new Memory = Keeps old new ⊎ WritesPart drawing words dt old new

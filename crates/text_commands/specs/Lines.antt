@@ -1,18 +1,11 @@
 -- What a line shows: the variables after a scan.
-use Rattle.std.specs.Prelude.{ℕ, ◌++◌, if◌then◌else◌, List, [], ◌∷◌, codes}
+use Rattle.std.specs.Prelude.{ℕ, ◌++◌, List, [], ◌∷◌, codes}
 use Rattle.std.specs.List.{join_with_byte}
-use Rattle.std.specs.Fmt.{decimal, signed_decimal}
 use Rattle.std_blocks.specs.declared.value.Value.{Value}
-use Rattle.std_blocks.specs.declared.value.Value.TheVariants.{Bool as BoolValue, Int as IntValue, Time as TimeValue}
 use Rattle.declared_names.specs.declared.declarations.Declaration.{Declaration}
 use Rattle.scan_steps.specs.declared.slot.Slot.{Slot}
 use Rattle.scan_steps.specs.declared.slot.Slot.TheVariants.{Variable, Block}
-
--- a BOOL is 0 or 1, an INT a decimal number, a TIME its milliseconds
-abbrev pub value_text : Value → List ℕ
-value_text (BoolValue on) = if on then codes "1" else codes "0"
-value_text (IntValue n) = signed_decimal n
-value_text (TimeValue t) = codes "T#" ++ decimal t ++ codes "ms"
+use Rattle.line_parts.specs.LineParts.{value_text}
 
 -- NAME=VALUE
 abbrev pub item_text : List ℕ → Value → List ℕ

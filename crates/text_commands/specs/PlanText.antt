@@ -1,15 +1,13 @@
 -- What `plc plan` writes.
-use Rattle.std.specs.Prelude.{ℕ, ◌<◌, ◌≤◌, ◌++◌, ◌⊎◌, List, Option, length, codes, slice_get}
-use Rattle.std.specs.Option.{option_map}
+use Rattle.std.specs.Prelude.{ℕ, ◌<◌, ◌≤◌, ◌++◌, ◌⊎◌, List, Option, length, codes}
 use Rattle.std.specs.List.{flat_map}
 use Rattle.std.specs.Fmt.{decimal}
 use Rattle.std.specs.Io.KnownBytes.{Appends, Keeps}
 use Rattle.due_list.specs.declared.due.Due.{Due}
-use Rattle.due_list.specs.declared.task_ref.TaskRef.{TaskRef}
-use Rattle.plant_grammar.specs.Kinds.{items_or_none}
-use Rattle.plant.specs.PlantValue.{TaskValue, ResourceValue, PlantValue}
+use Rattle.plant.specs.PlantValue.{PlantValue}
 use Rattle.plant.specs.PlantText.{IsPlantText}
-use Rattle.plant.specs.Plan.{task_at, IsPlan}
+use Rattle.plant.specs.Plan.{IsPlan}
+use Rattle.line_parts.specs.LineParts.{task_text}
 use Rattle.text_commands.specs.CheckText.{IsRefusal}
 use Rattle.text_writer.specs.Sending.{SendsPart}
 use Rattle.text_commands.specs.declared.text_command_fault.TextCommandFault.{TextCommandFault}
@@ -17,16 +15,9 @@ use Rattle.text_commands.specs.declared.text_command_fault.TextCommandFault.TheV
 use Rattle.text_commands.specs.declared.text_fault.TextFault.{TextFault}
 use Rattle.text_commands.specs.declared.text_fault.TextFault.TheVariants.{Draw, Graph, Bind, Plant, TooLong}
 
--- the name of a task's resource, and its own
-abbrev pub resource_name : PlantValue → TaskRef → List ℕ
-resource_name plant t = items_or_none (option_map (λ (r : ResourceValue). r.name) (slice_get plant.resources t.resource))
-
-abbrev pub task_name : PlantValue → TaskRef → List ℕ
-task_name plant t = items_or_none (option_map (λ (found : TaskValue). found.name) (task_at plant t))
-
 -- a line `10 R1.FAST`: the moment, and the task
 abbrev pub due_line : PlantValue → Due → List ℕ
-due_line plant d = decimal d.moment ++ codes " " ++ resource_name plant d.task ++ codes "." ++ task_name plant d.task ++ codes "\n"
+due_line plant d = decimal d.moment ++ codes " " ++ task_text plant d.task ++ codes "\n"
 
 -- a line for each entry of a plan
 abbrev pub plan_lines : PlantValue → List Due → List ℕ

@@ -31,8 +31,8 @@ abbrev pub digits_in : List ℕ → List ℕ
 digits_in word = after_first is_equals word
 
 -- 0 or 1
-abbrev pub is_bit : ℕ → Bool
-is_bit c = c == 48 || c == 49
+abbrev pub is_zero_or_one : ℕ → Bool
+is_zero_or_one c = c == 48 || c == 49
 
 abbrev pub is_bool_kind : Kind → Bool
 is_bool_kind kind.Bool = true
@@ -54,7 +54,7 @@ IsBoolAt ds place = (e : Declaration) × (slice_get ds place ≡ Some e) × IsTr
 pub record AreDigits (digits : List ℕ) : Type 0 where
   pub some : 0 < length digits
   pub few : length digits ≤ 1000
-  pub each : All (λ c. IsTrue (is_bit c)) digits
+  pub each : All (λ c. IsTrue (is_zero_or_one c)) digits
 
 -- the word names a BOOL variable, and gives it a row of digits
 pub record IsRow (ds : List Declaration) (word : List ℕ) (row : RowValue) : Type 0 where
@@ -64,19 +64,25 @@ pub record IsRow (ds : List Declaration) (word : List ℕ) (row : RowValue) : Ty
   pub lawful : AreDigits row.digits
 
 -- no two rows are of the same variable
-abbrev pub AreApart : List RowValue → Type 0
-AreApart rows = (j k : ℕ) (d : RowValue) → j < length rows → k < length rows → (slice_index_or rows j d).place ≡ (slice_index_or rows k d).place → j ≡ k
+abbrev pub AreOfDistinctVariables : List RowValue → Type 0
+AreOfDistinctVariables rows = (j k : ℕ) (d : RowValue) → j < length rows → k < length rows
+    → (slice_index_or rows j d).place ≡ (slice_index_or rows k d).place → j ≡ k
 
 -- the words are these rows, one by one, each of another variable
-pub record AreRows (ds : List Declaration) (words : List (List ℕ)) (rows : List RowValue) : Type 0 where
+pub record SpellRows (ds : List Declaration) (words : List (List ℕ)) (rows : List RowValue) : Type 0 where
   pub each : AllZip (IsRow ds) words rows
-  pub apart : AreApart rows
+  pub apart : AreOfDistinctVariables rows
+
+-- the words are no rows
+abbrev pub SpellNoRows : List Declaration → List (List ℕ) → Type 0
+SpellNoRows ds words = (rows : List RowValue) → SpellRows ds words rows → ⊥
 
 -- a BOOL variable has the name in the word
 abbrev pub NamesBool : List Declaration → List ℕ → Type 0
 NamesBool ds word = (place : ℕ) × (place_of ds (name_in word) ≡ Some place) × IsBoolAt ds place
 
--- why a word behind these rows is refused: for the name before its `=`; for want of a `=`, or for the digits behind a good name; for a variable that a row has
+-- why a word behind these rows is refused: for the name before its `=`; for want of a `=`, or for the digits behind a
+-- good name; for a variable that a row has
 abbrev pub IsRefusedFor : List Declaration → List RowValue → List ℕ → WordFaultKind → Type 0
 IsRefusedFor ds rows word NoVariable = HasEquals word × (NamesBool ds word → ⊥)
 IsRefusedFor ds rows word BadDigits = (HasEquals word → ⊥) ⊎ (NamesBool ds word × (AreDigits (digits_in word) → ⊥))
@@ -87,7 +93,7 @@ pub record IsFirstRefused (ds : List Declaration) (words : List (List ℕ)) (fau
   pub word : List ℕ
   pub at : slice_get words fault.number ≡ Some word
   pub rows : List RowValue
-  pub before : AreRows ds (take fault.number words) rows
+  pub before : SpellRows ds (take fault.number words) rows
   pub refused : IsRefusedFor ds rows word fault.kind
 
 -- as many scans as the longest row has digits, and one if there are no rows

@@ -1,6 +1,7 @@
-ghost use Rattle.std.specs.Prelude.{◌≡◌, ◌<◌, ◌^◌, ◌++◌, OnOk, IfOk, IfErr, string_bytes};
+ghost use Rattle.std.specs.Prelude.{◌≡◌, ◌<◌, ◌^◌, OnOk, IfOk, IfErr, string_bytes};
 ghost use Rattle.plant.specs.PlantText.{IsPlantText};
-ghost use Rattle.text_commands.specs.CheckText.{count_line, check_lines, RefusesPlant, WritesCheck, ExplainsCheck};
+ghost use Rattle.text_writer.specs.Growing.{GrowsBy};
+ghost use Rattle.text_commands.specs.CheckText.{count_line, check_lines, GivesNoPlant, WritesCheck, ExplainsCheck};
 ghost use Rattle.text_commands.specs.Steps.Counting.{AreCounts};
 
 use crate::plant_counts::{count_connections, count_programs, count_tasks};
@@ -14,13 +15,13 @@ use text_writer::write_text;
 /// Reads the text of a plant.
 pub fn read_plant(alloc: Global, text: &str) -> Result<Plant, TextCommandFault>
     ensures ok { IfOk result (λ plant. IsPlantText text.now plant) }
-    ensures err { IfErr result (RefusesPlant text.now) }
+    ensures err { IfErr result (GivesNoPlant text.now) }
 {
     Ok(Plant::read(alloc, text)?)
 }
 
 fn push_count(text: &mut String, what: &str, count: usize) -> Result<(), AllocError>
-    ensures { OnOk result (string_bytes text.new ≡ string_bytes text.old ++ count_line what.now count) }
+    ensures { OnOk result (GrowsBy text.old text.new (count_line what.now count)) }
 {
     write!(text, "{what} {count}\n")
 }

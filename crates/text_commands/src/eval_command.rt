@@ -31,7 +31,8 @@ fn read_ladder(alloc: Global, drawing: &str) -> Result<Ladder, TextCommandFault>
 /// Sets the variable of a row to its digit for scan k, counted from 0, if it has one.
 fn set_row(row: &Row<'_>, k: usize, state: &mut State)
     requires { (ds : List Declaration) × AreSlotsOf ds state.old.slots × IsBoolAt ds row.now.place }
-    ensures slots { state.new ≡ record state.old { slots = set_digit state.old.slots row.now.place (slice_get row.now.digits k) } }
+    ensures slots { state.new
+        ≡ record state.old { slots = set_digit state.old.slots row.now.place (slice_get row.now.digits k) } }
     ensures declared { (ds : List Declaration) → AreSlotsOf ds state.old.slots → AreSlotsOf ds state.new.slots }
 {
     if let Some(digit) = row.digit(k) {
@@ -59,8 +60,12 @@ fn write_scans<W: Write>(
     writer: &mut W,
 ) -> Result<(), SendFault>
     requires { All (λ row. IsBoolAt ladder.now.declarations row.place) rows.now }
-    ensures ok { OnOk result (WritesScans ladder.now.declarations ladder.now.networks dt rows.now (W.contents writer.old) (W.contents writer.new)) }
-    ensures part { OnErr result (WritesSomeScans ladder.now.declarations ladder.now.networks dt rows.now (W.contents writer.old) (W.contents writer.new)) }
+    ensures ok { OnOk result
+        (WritesScans ladder.now.declarations ladder.now.networks dt rows.now
+        (W.contents writer.old) (W.contents writer.new)) }
+    ensures part { OnErr result
+        (WritesSomeScans ladder.now.declarations ladder.now.networks dt rows.now
+        (W.contents writer.old) (W.contents writer.new)) }
 {
     let mut state = ladder.initial(alloc)?;
     for k in 0..scan_count(rows) {
@@ -84,8 +89,10 @@ pub fn eval<W: Write>(
     dt: u32,
     writer: &mut W,
 ) -> Result<(), TextCommandFault>
-    ensures ok { OnOk result (WritesAll drawing.now (texts words.now) dt (W.contents writer.old) (W.contents writer.new)) }
-    ensures fault { IfErr result (Explains drawing.now (texts words.now) dt (W.contents writer.old) (W.contents writer.new)) }
+    ensures ok { OnOk result
+        (WritesAll drawing.now (texts words.now) dt (W.contents writer.old) (W.contents writer.new)) }
+    ensures fault { IfErr result
+        (Explains drawing.now (texts words.now) dt (W.contents writer.old) (W.contents writer.new)) }
 {
     let ladder = read_ladder(alloc, drawing)?;
     let rows = read_rows(alloc, ladder.declarations(), words)?;

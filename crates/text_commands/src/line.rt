@@ -1,23 +1,11 @@
-ghost use Rattle.std.specs.Prelude.{◌≡◌, ◌+◌, ◌<◌, ◌++◌, OnOk, IfOk, length, string_bytes, take};
-ghost use Rattle.std.specs.List.{join_with_byte};
-ghost use Rattle.text_commands.specs.Lines.{value_text, item_text, items_of, line_of};
-ghost use Rattle.text_commands.specs.Steps.Joining.{ready};
+ghost use Rattle.std.specs.Prelude.{◌≡◌, ◌+◌, ◌<◌, ◌++◌, OnOk, IfOk, length, string_bytes};
+ghost use Rattle.text_commands.specs.Lines.{item_text, line_of};
+ghost use Rattle.text_commands.specs.Steps.Joining.{ready, IsLineTo};
 
+use line_parts::push_value;
 use power_flow::{Declarations, State};
 use std::alloc::{AllocError, Global};
-use std::fmt::Write;
 use std_blocks::Value;
-
-fn push_value(line: &mut String, value: Value) -> Result<(), AllocError>
-    ensures { OnOk result (string_bytes line.new ≡ string_bytes line.old ++ value_text value) }
-{
-    match value {
-        Value::Bool(true) => line.push_str("1"),
-        Value::Bool(false) => line.push_str("0"),
-        Value::Int(number) => write!(line, "{number}"),
-        Value::Time(time) => write!(line, "T#{time}ms"),
-    }
-}
 
 /// Makes a line ready for the next item.
 fn push_blank(line: &mut String) -> Result<(), AllocError>
@@ -48,8 +36,8 @@ fn push_variable(
     place: usize,
 ) -> Result<(), AllocError>
     requires place { place < length declarations.now }
-    requires before { string_bytes line.old ≡ join_with_byte 32 (items_of (take place declarations.now) state.now.slots) }
-    ensures { OnOk result (string_bytes line.new ≡ join_with_byte 32 (items_of (take (place + 1) declarations.now) state.now.slots)) }
+    requires before { IsLineTo place declarations.now state.now.slots (string_bytes line.old) }
+    ensures { OnOk result (IsLineTo (place + 1) declarations.now state.now.slots (string_bytes line.new)) }
 {
     let Some((name, _)) = declarations.entry(place) else {
         return Ok(());

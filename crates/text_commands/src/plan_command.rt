@@ -1,42 +1,26 @@
-ghost use Rattle.std.specs.Prelude.{◌≡◌, ◌≤◌, ◌++◌, length, OnOk, OnErr, IfOk, IfErr, string_bytes};
+ghost use Rattle.std.specs.Prelude.{◌≤◌, length, OnOk, OnErr, IfOk, IfErr};
 ghost use Rattle.std.specs.Io.KnownBytes.{Appends};
 ghost use Rattle.plant.specs.Plan.{IsPlan};
-ghost use Rattle.text_commands.specs.PlanText.{resource_name, task_name, due_line, plan_lines, RefusesPlanOf, WritesPlan, ExplainsPlan};
+ghost use Rattle.text_writer.specs.Growing.{GrowsBy};
 ghost use Rattle.text_writer.specs.Sending.{SendsPart};
+ghost use Rattle.text_commands.specs.PlanText.{due_line, plan_lines, RefusesPlanOf, WritesPlan, ExplainsPlan};
 
 use crate::check_command::read_plant;
 use crate::text_command_fault::TextCommandFault;
-use plant::{Due, Plant, TaskRef, plan};
+use line_parts::push_task;
+use plant::{Due, Plant, plan};
 use std::alloc::{AllocError, Global};
 use std::fmt::Write as _;
 use std::io::Write;
 use text_writer::{SendFault, send_full, write_text};
 
-fn resource_name(plant: &Plant, task: TaskRef) -> &str
-    ensures { result.now ≡ resource_name plant.now task }
-{
-    match plant.resource_name(task.resource) {
-        Some(name) => name,
-        None => "",
-    }
-}
-
-fn task_name(plant: &Plant, task: TaskRef) -> &str
-    ensures { result.now ≡ task_name plant.now task }
-{
-    match plant.tasks(task.resource).get(task.task) {
-        Some(found) => found.name(),
-        None => "",
-    }
-}
-
 fn push_due(lines: &mut String, plant: &Plant, due: Due) -> Result<(), AllocError>
-    ensures { OnOk result (string_bytes lines.new ≡ string_bytes lines.old ++ due_line plant.now due) }
+    ensures { OnOk result (GrowsBy lines.old lines.new (due_line plant.now due)) }
 {
     let moment = due.moment;
-    let resource = resource_name(plant, due.task);
-    let task = task_name(plant, due.task);
-    write!(lines, "{moment} {resource}.{task}\n")
+    write!(lines, "{moment} ")?;
+    push_task(lines, plant, due.task)?;
+    lines.push_str("\n")
 }
 
 /// Writes a line for each entry.
@@ -47,7 +31,8 @@ fn write_dues<W: Write>(
     writer: &mut W,
 ) -> Result<(), SendFault>
     ensures ok { OnOk result (Appends (W.contents writer.old) (W.contents writer.new) (plan_lines plant.now dues.now)) }
-    ensures part { OnErr result (SendsPart (plan_lines plant.now dues.now) (W.contents writer.old) (W.contents writer.new)) }
+    ensures part { OnErr result
+        (SendsPart (plan_lines plant.now dues.now) (W.contents writer.old) (W.contents writer.new)) }
 {
     let mut lines = String::new(alloc);
     for due in dues {
@@ -67,7 +52,8 @@ pub fn plan_of(alloc: Global, plant: &Plant, until: u32) -> Result<Vec<Due>, Tex
 
 /// Reads a plant, and writes its plan up to and with `until` (in ms), a line for each entry, as `10 R1.FAST`.
 ///
-/// `Text` comes before anything is written; `TooLong` exactly where there are more than 100,000 lines. After `Write` and `Memory` what went out is a prefix.
+/// `Text` comes before anything is written; `TooLong` exactly where there are more than 100,000 lines. After `Write`
+/// and `Memory` what went out is a prefix.
 pub fn plan_text<W: Write>(
     alloc: Global,
     plant: &str,

@@ -2,7 +2,7 @@ ghost use Rattle.std.specs.Prelude.{◌≡◌, ◌<◌, ◌^◌, length, sum_by}
 ghost use Rattle.std.specs.Option.{option_map_or};
 ghost use Rattle.plant.specs.PlantValue.{IsSoundPlant, codes_at, code_at};
 ghost use Rattle.task_codes.specs.CodeValue.{CodeValue};
-ghost use Rattle.text_commands.specs.CheckText.{task_count, programs_of, program_count, connections_of, connection_count};
+ghost use Rattle.text_commands.specs.CheckText.{task_count, instances_of, program_count, connections_of, connection_count};
 
 use plant::{Plant, TaskCode, TaskRef};
 
@@ -29,10 +29,10 @@ fn programs_at(plant: &Plant, task: TaskRef) -> usize
 }
 
 /// How many program instances the tasks of a resource run.
-fn programs_of(plant: &Plant, resource: usize) -> usize
+fn instances_of(plant: &Plant, resource: usize) -> usize
     requires sound { IsSoundPlant plant.now }
-    requires few { programs_of (codes_at plant.now resource) < 2 ^ 64 }
-    ensures { result ≡ programs_of (codes_at plant.now resource) }
+    requires few { instances_of (codes_at plant.now resource) < 2 ^ 64 }
+    ensures { result ≡ instances_of (codes_at plant.now resource) }
 {
     let mut count = 0;
     for task in 0..plant.tasks(resource).len() {
@@ -48,7 +48,7 @@ pub fn count_programs(plant: &Plant) -> usize
 {
     let mut count = 0;
     for resource in 0..plant.resources() {
-        count += programs_of(plant, resource);
+        count += instances_of(plant, resource);
     }
     count
 }

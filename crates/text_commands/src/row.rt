@@ -1,6 +1,6 @@
 ghost use Rattle.std.specs.Prelude.{◌≡◌, ◌↔◌, IfOk, IfErr, OnErr, IsTrue, MatchOption, ℕ, [], Any, Some, slice_get};
 ghost use Rattle.declared_names.specs.Names.{place_of};
-ghost use Rattle.text_commands.specs.Rows.{RowValue, IsRow, IsBoolAt, IsRefusedFor, AreDigits, is_bool, is_bit};
+ghost use Rattle.text_commands.specs.Rows.{RowValue, IsRow, IsBoolAt, IsRefusedFor, AreDigits, is_bool, is_zero_or_one};
 
 use crate::word_fault::WordFaultKind;
 use power_flow::{Declarations, Declared, Kind};

@@ -1,5 +1,5 @@
 ghost use Rattle.std.specs.Prelude.{◌≡◌, ◌↔◌, ◌⊎◌, IfOk, IfErr, IsTrue, ℕ, List, Any, fold, length};
-ghost use Rattle.text_commands.specs.Rows.{RowValue, AreRows, scans_of, texts};
+ghost use Rattle.text_commands.specs.Rows.{RowValue, SpellRows, scans_of, texts};
 ghost use Rattle.text_commands.specs.Steps.Refusing.{RefusesRows};
 
 use crate::row::{Row, read_row};
@@ -20,7 +20,7 @@ pub fn read_rows<'a>(
     declarations: &Declarations,
     words: &[&'a str],
 ) -> Result<Vec<Row<'a>>, TextCommandFault>
-    ensures ok { IfOk result (λ rows. AreRows declarations.now (texts words.now) rows.items) }
+    ensures ok { IfOk result (λ rows. SpellRows declarations.now (texts words.now) rows.items) }
     ensures err { IfErr result (λ fault. RefusesRows declarations.now (texts words.now) fault) }
 {
     let mut rows = Vec::new(alloc);

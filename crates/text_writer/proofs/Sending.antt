@@ -6,28 +6,29 @@ use Rattle.std.proofs.lemmas.List.Concat.{flat_map-append}
 use Rattle.std.proofs.KnownBytes.{Appends-nil, Appends-trans}
 use Rattle.std.specs.Io.KnownBytes.{Appends}
 use Rattle.std.specs.List.{flat_map}
-use Rattle.text_writer.specs.Sending.{Sends, SendsPart}
+use Rattle.text_writer.specs.Sending.{Sends, SendsPart, SendsLess}
 
 -- a beginning was written
 pub begins : (whole sent rest : List ℕ) (old new : Option (List ℕ)) → sent ++ rest ≡ whole → Appends old new sent → SendsPart whole old new
-begins whole sent rest old new is appended = record {
-  written = length sent;
-  appended = subst (Appends old new) (sym (ap (take (length sent)) (sym is) ∙ take-append_seam sent rest)) appended;
-}
+begins whole sent rest old new is appended = (length sent, subst (Appends old new) (sym (ap (take (length sent)) (sym is) ∙ take-append_seam sent rest)) appended)
+
+-- where not all was written, no more than a beginning was
+pub part_of_less : (text : List ℕ) (old new : Option (List ℕ)) → SendsLess text old new → SendsPart text old new
+part_of_less text old new less = (less.0, less.2)
 
 -- a beginning of the first part is a beginning of the whole
 pub part_of_first : (first second : List ℕ) (old new : Option (List ℕ)) → SendsPart first old new → SendsPart (first ++ second) old new
 part_of_first first second old new part =
-    let k = part.written in
+    let k = part.0 in
     let whole : take k first ++ (drop k first ++ second) ≡ first ++ second = sym (append_assoc (take k first) (drop k first) second) ∙ ap (λ t. t ++ second) (take-append-drop k first) in
-    begins (first ++ second) (take k first) (drop k first ++ second) old new whole part.appended
+    begins (first ++ second) (take k first) (drop k first ++ second) old new whole part.1
 
 -- the first part, and then a beginning of the second, is a beginning of the whole
 pub part_of_second : (first second : List ℕ) (old mid new : Option (List ℕ)) → Appends old mid first → SendsPart second mid new → SendsPart (first ++ second) old new
 part_of_second first second old mid new appended part =
-    let k = part.written in
+    let k = part.0 in
     let whole : (first ++ take k second) ++ drop k second ≡ first ++ second = append_assoc first (take k second) (drop k second) ∙ ap (λ t. first ++ t) (take-append-drop k second) in
-    begins (first ++ second) (first ++ take k second) (drop k second) old new whole (Appends-trans old mid new first (take k second) appended part.appended)
+    begins (first ++ second) (first ++ take k second) (drop k second) old new whole (Appends-trans old mid new first (take k second) appended part.1)
 
 -- one line more was made
 pub more_made : (made rest line more after : List ℕ) (old new : Option (List ℕ)) → Sends made rest old new → after ≡ rest ++ line → more ≡ made ++ line → Sends more after old new
@@ -50,14 +51,10 @@ pub part_sent : (made rest others whole : List ℕ) (old new : Option (List ℕ)
 part_sent made rest others whole old new is sends = subst (λ t. SendsPart t old new) is (part_of_first made others old new (begins made sends.sent rest old new sends.whole sends.appended))
 
 -- nor did it where a beginning of what was left followed
-pub part_left : (made rest others whole : List ℕ) (old mid new : Option (List ℕ)) (k : ℕ) → made ++ others ≡ whole → Sends made rest old mid → Appends mid new (take k rest) → SendsPart whole old new
-part_left made rest others whole old mid new k is sends then =
-    let part : SendsPart made old new = subst (λ t. SendsPart t old new) sends.whole (part_of_second sends.sent rest old mid new sends.appended (record { written = k; appended = then })) in
+pub part_left : (made rest others whole : List ℕ) (old mid new : Option (List ℕ)) → made ++ others ≡ whole → Sends made rest old mid → SendsPart rest mid new → SendsPart whole old new
+part_left made rest others whole old mid new is sends then =
+    let part : SendsPart made old new = subst (λ t. SendsPart t old new) sends.whole (part_of_second sends.sent rest old mid new sends.appended then) in
     subst (λ t. SendsPart t old new) is (part_of_first made others old new part)
-
--- all that was left was written
-pub all_sent : (made rest : List ℕ) (old mid new : Option (List ℕ)) → Sends made rest old mid → Appends mid new rest → Appends old new made
-all_sent made rest old mid new sends then = subst (Appends old new) sends.whole (Appends-trans old mid new sends.sent rest sends.appended then)
 
 -- nothing was made yet
 pub none_made : (rest : List ℕ) (old : Option (List ℕ)) → rest ≡ [] → Sends [] rest old old
@@ -76,6 +73,21 @@ line_more line xs i d lt =
 pub on_err : {T E P : Type 0} (r : Result T E) → P → OnErr r P
 on_err (Ok x) p = tt
 on_err (Err e) p = p
+
+-- no more than a beginning of the lines of all items went out, where the next line wasn't made
+pub lines_unmade : {X T E : Type 0} (line : X → List ℕ) (xs : List X) (i : ℕ) (rest : List ℕ) (old new : Option (List ℕ)) (r : Result T E) → Sends (flat_map line (take i xs)) rest old new → OnErr r (SendsPart (flat_map line xs) old new)
+lines_unmade line xs i rest old new r sends = on_err r (part_sent (flat_map line (take i xs)) rest (flat_map line (drop i xs)) (flat_map line xs) old new (lines_parted line xs i) sends)
+
+-- nor where what was left of those that were made went out in part
+pub lines_unsent : {X T E : Type 0} (line : X → List ℕ) (xs : List X) (i : ℕ) (rest : List ℕ) (old mid new : Option (List ℕ)) (r : Result T E) → Sends (flat_map line (take i xs)) rest old mid → SendsPart rest mid new → OnErr r (SendsPart (flat_map line xs) old new)
+lines_unsent line xs i rest old mid new r sends then =
+    on_err r (part_left (flat_map line (take i xs)) rest (flat_map line (drop i xs)) (flat_map line xs) old mid new (lines_parted line xs i) sends then)
+
+-- one item's line more was made
+pub line_made : {X : Type 0} (line : X → List ℕ) (xs : List X) (i : ℕ) (d : X) (rest after : List ℕ) (old new : Option (List ℕ)) → i < length xs → Sends (flat_map line (take i xs)) rest old new → after ≡ rest ++ line (get_or xs i d)
+    → Sends (flat_map line (take (i + 1) xs)) after old new
+line_made line xs i d rest after old new lt sends is =
+    more_made (flat_map line (take i xs)) rest (line (get_or xs i d)) (flat_map line (take (i + 1) xs)) after old new sends is (line_more line xs i d lt)
 
 -- the second part comes behind the first
 pub then_ok : {T E : Type 0} (r : Result T E) (first second : List ℕ) (old mid new : Option (List ℕ)) → Appends old mid first → OnOk r (Appends mid new second) → OnOk r (Appends old new (first ++ second))

@@ -1,5 +1,5 @@
 -- A text that is written some at a time.
-use Rattle.std.specs.Prelude.{◌≡◌, ℕ, ◌++◌, List, Option, take}
+use Rattle.std.specs.Prelude.{◌≡◌, ℕ, ◌<◌, ◌++◌, List, Option, length, take}
 use Rattle.std.specs.Io.KnownBytes.{Appends}
 
 -- some of the text that stood to be written was written, and the rest stands still
@@ -9,6 +9,9 @@ pub record Sends (before after : List ℕ) (old new : Option (List ℕ)) : Type 
   pub whole : sent ++ after ≡ before
 
 -- no more than a beginning of a text was written
-pub record SendsPart (text : List ℕ) (old new : Option (List ℕ)) : Type 0 where
-  pub written : ℕ
-  pub appended : Appends old new (take written text)
+abbrev pub SendsPart : List ℕ → Option (List ℕ) → Option (List ℕ) → Type 0
+SendsPart text old new = (written : ℕ) × Appends old new (take written text)
+
+-- a beginning of a text was written, and not all of it
+abbrev pub SendsLess : List ℕ → Option (List ℕ) → Option (List ℕ) → Type 0
+SendsLess text old new = (written : ℕ) × (written < length text) × Appends old new (take written text)

@@ -1,6 +1,5 @@
-ghost use Rattle.std.specs.Prelude.{◌≡◌, ℕ, ◌<◌, OnOk, OnErr, string_bytes, take};
-ghost use Rattle.std.specs.Io.KnownBytes.{Appends};
-ghost use Rattle.text_writer.specs.Sending.{Sends};
+ghost use Rattle.std.specs.Prelude.{OnOk, OnErr, string_bytes};
+ghost use Rattle.text_writer.specs.Sending.{Sends, SendsPart};
 
 use crate::text_output::{WriteFault, write_text};
 use std::io::Write;
@@ -10,8 +9,9 @@ const FULL: usize = 65_536;
 
 /// Writes the lines and empties them, if there are many.
 pub fn send_full<W: Write>(lines: &mut String, writer: &mut W) -> Result<(), WriteFault>
-    ensures ok { OnOk result (Sends (string_bytes lines.old) (string_bytes lines.new) (W.contents writer.old) (W.contents writer.new)) }
-    ensures part { OnErr result ((k : ℕ) × Appends (W.contents writer.old) (W.contents writer.new) (take k (string_bytes lines.old))) }
+    ensures ok { OnOk result
+        (Sends (string_bytes lines.old) (string_bytes lines.new) (W.contents writer.old) (W.contents writer.new)) }
+    ensures part { OnErr result (SendsPart (string_bytes lines.old) (W.contents writer.old) (W.contents writer.new)) }
 {
     if lines.len() >= FULL {
         write_text(writer, lines.as_str())?;

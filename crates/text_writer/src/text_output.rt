@@ -1,5 +1,6 @@
-ghost use Rattle.std.specs.Prelude.{◌≡◌, ℕ, ◌≤◌, ◌<◌, take, length, OnOk, OnErr};
+ghost use Rattle.std.specs.Prelude.{OnOk, OnErr};
 ghost use Rattle.std.specs.Io.KnownBytes.{Appends};
+ghost use Rattle.text_writer.specs.Sending.{SendsLess};
 
 use std::io::Write;
 
@@ -7,10 +8,11 @@ use std::io::Write;
 #[derive(Clone, Copy, Debug, PartialEq, Eq)]
 pub struct WriteFault;
 
-/// Writes the whole text. Any error of the writer, and a write that takes nothing, is a fault; what went out then is a prefix, and not all.
+/// Writes the whole text. Any error of the writer, and a write that takes nothing, is a fault; what went out then is a
+/// prefix, and not all.
 pub fn write_text<W: Write>(writer: &mut W, text: &str) -> Result<(), WriteFault>
     ensures whole { OnOk result (Appends (W.contents writer.old) (W.contents writer.new) text.now) }
-    ensures prefix { OnErr result ((k : ℕ) × (k < length text.now) × Appends (W.contents writer.old) (W.contents writer.new) (take k text.now)) }
+    ensures prefix { OnErr result (SendsLess text.now (W.contents writer.old) (W.contents writer.new)) }
 {
     let bytes = text.as_bytes();
     let mut done = 0;

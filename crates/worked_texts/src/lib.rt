@@ -1,16 +1,6 @@
 //! Drawings and plants that the tests of several crates read.
 #![tactic(auto)]
 
-/// Two branches that join.
-pub const BRANCHES: &str = "\
-|  A           Y
-+--| |--+------( )
-|       |
-|       +--+
-|  C       |   X
-+--| |-----+---( )
-";
-
 /// A motor's start and stop.
 pub const START_STOP: &str = "\
 |  START      STOP     RUN
@@ -33,22 +23,6 @@ pub const ON_DELAY: &str = "\
 +--| |----|IN    Q|---( )
 | T#30ms--|PT   ET|--E
 |         +-------+
-";
-
-/// A wire beside a wire, which is no box.
-pub const PARALLEL_WIRE: &str = "\
-|             Y
-+--+-----+----( )
-|  |     |
-|  +-----+
-";
-
-/// A box that no line reaches.
-pub const UNATTACHED_BOX: &str = "\
-|   T1
-|  +-----+
-|  | TON |
-|  +-----+
 ";
 
 /// A fast task that counts up to 3, and a slow one that watches it.

@@ -19,12 +19,8 @@ use Rattle.exchange.specs.declared.event.Event.TheVariants.{Evaluate, Deliver, R
 use Rattle.world.specs.declared.read_line.Keyword.{Keyword}
 use Rattle.world.specs.declared.read_line.Keyword.TheVariants as key
 use Rattle.world.specs.ScheduleText.{IsTaskWord, SpellsEvaluate, SpellsDeliver, SpellsRestart, SpellsEvent}
-use Rattle.world.specs.Steps.ReadingLines.{keyword_of}
+use Rattle.world.specs.Steps.ReadingLines.{texts, keyword_of}
 use Rattle.world.proofs.ScheduleLists.{to_the_end}
-
--- the characters of words
-abbrev pub texts : List (Bor (List ℕ)) → List (List ℕ)
-texts ws = map (λ w. w.now) ws
 
 -- a word to fill in
 abbrev pub no_word : Bor (List ℕ)

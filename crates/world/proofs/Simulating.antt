@@ -13,7 +13,6 @@ use Rattle.std.proofs.lemmas.Option.{slice_get_within, same_Some}
 use Rattle.lists.proofs.Places.{push_here}
 use Rattle.due_list.specs.declared.task_ref.TaskRef.{TaskRef}
 use Rattle.plant.specs.PlantValue.{PlantValue}
-use Rattle.evaluation.specs.Meaning.{Evaluated}
 use Rattle.exchange_core.specs.declared.accepted.Accepted.{Accepted}
 use Rattle.exchange_core.specs.declared.accepted.Accepted.TheVariants.{Taken, Old, Unused}
 use Rattle.exchange.specs.declared.event.Event.{Event}
@@ -24,7 +23,7 @@ use Rattle.exchange.specs.History.{Setting, history_of, after_events, is_lawful,
 use Rattle.exchange.specs.Run.{IsLog, latest}
 use Rattle.exchange.specs.World.{WorldValue}
 use Rattle.exchange.specs.Step.{history_at, IsCause, Answers}
-use Rattle.world.specs.RunText.{IsDoneLine, Tells, IsLineAfter, IsRunText, restart_line}
+use Rattle.world.specs.RunText.{IsDoneLine, TellsEvent, IsLineAfter, IsRunText, restart_line}
 use Rattle.world.specs.ScheduleText.{is_idle, SpellsEvent, SpellEvents, Spell}
 use Rattle.world.specs.Steps.Telling.{IsTold}
 use Rattle.world.specs.Steps.Simulating.{HasTold, HasRested, HasWritten, HasDone}
@@ -68,7 +67,7 @@ cause_moved w events (Restart n) NoSuchMessage same h = h
 cause_moved w events (Restart n) NumbersSpent same h = h
 cause_moved w events (Restart n) Memory same h = subst (λ (l : List Event). is_lawful w.setting l (Restart n) ≡ true) same h
 
-tells_moved : (w : WorldValue) (events : List Event) (n : ℕ) (e : Event) (line : List ℕ) → history_at w ≡ history_of w.setting events → Tells w n e line → Tells (record w { events = events }) n e line
+tells_moved : (w : WorldValue) (events : List Event) (n : ℕ) (e : Event) (line : List ℕ) → history_at w ≡ history_of w.setting events → TellsEvent w n e line → TellsEvent (record w { events = events }) n e line
 tells_moved w events n e line same (inl h) = inl (subst (λ (l : List Event). is_lawful w.setting l e ≡ true) same h.0, done_moved w events e line same h.1)
 tells_moved w events n e line same (inr h) =
     inr (subst (λ (l : List Event). is_lawful w.setting l e ≡ false) same h.0, (h.1.0, cause_moved w events e h.1.0 same h.1.1, h.1.2, h.1.3))
@@ -78,12 +77,12 @@ line_after : (s : Setting) (events : List Event) (old new : WorldValue) (n : ℕ
     → IsLineAfter s events e line
 line_after s events old new n e line setting same number t =
     let run : IsLog s (history_of s old.events) (reverse old.log) = subst (λ (x : Setting). IsLog x (history_of x old.events) (reverse old.log)) setting t.run in
-    let moved : Tells (record old { events = events }) n e line = tells_moved old events n e line (subst (λ (x : Setting). history_of x old.events ≡ history_of x events) (sym setting) same) t.tells in
-    let tells : Tells (record { setting = s; events = events; log = old.log }) n e line = subst (λ (x : Setting). Tells (record { setting = x; events = events; log = old.log }) n e line) setting moved in
+    let moved : TellsEvent (record old { events = events }) n e line = tells_moved old events n e line (subst (λ (x : Setting). history_of x old.events ≡ history_of x events) (sym setting) same) t.tells in
+    let tells : TellsEvent (record { setting = s; events = events; log = old.log }) n e line = subst (λ (x : Setting). TellsEvent (record { setting = x; events = events; log = old.log }) n e line) setting moved in
     record {
       log = old.log;
       run = subst (λ (l : List Event). IsLog s l (reverse old.log)) same run;
-      tells = subst (λ k. Tells (record { setting = s; events = events; log = old.log }) k e line) number tells;
+      tells = subst (λ k. TellsEvent (record { setting = s; events = events; log = old.log }) k e line) number tells;
     }
 
 front : {X : Type 0} (xs ys : List X) (k : ℕ) → k < length xs → slice_get (xs ++ ys) k ≡ slice_get xs k

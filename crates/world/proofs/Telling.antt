@@ -15,7 +15,7 @@ use Rattle.exchange.specs.Run.{IsRun, IsLog}
 use Rattle.exchange.specs.World.{WorldValue}
 use Rattle.exchange.specs.Step.{history_at, IsDone, IsStep, IsCause}
 use Rattle.world.specs.RunLines.{evaluation_line}
-use Rattle.world.specs.RunText.{Tells, refused_line, delivery_line, restart_line}
+use Rattle.world.specs.RunText.{TellsEvent, refused_line, delivery_line, restart_line}
 use Rattle.world.specs.Steps.Telling.{made_line, done_line, IsTold}
 
 pub length-one_more : {X : Type 0} (xs : List X) (y : X) → length (xs ++ y ∷ []) ≡ length xs + 1
@@ -73,7 +73,7 @@ run_before old new (Restart n) (MadeOne m) h run = absurd h
 run_before old new (Restart n) (Delivered a) h run = absurd h
 
 -- the line of an event that was done
-done_tells : (old new : WorldValue) (n : ℕ) (e : Event) (d : Done) (line : List ℕ) → IsStep old new e d → IsRun new.setting new.events new.log → line ≡ done_line new.setting.plant new.log e d → Tells old n e line
+done_tells : (old new : WorldValue) (n : ℕ) (e : Event) (d : Done) (line : List ℕ) → IsStep old new e d → IsRun new.setting new.events new.log → line ≡ done_line new.setting.plant new.log e d → TellsEvent old n e line
 done_tells old new n (Evaluate ticket task dt inputs) (MadeOne k) line h run is =
     let e = Evaluate ticket task dt inputs in
     let whole : IsRun old.setting (old.events ++ e ∷ []) (old.log ++ h.made ∷ []) = subst (λ (w : WorldValue). IsRun w.setting w.events w.log) h.done.is run in

@@ -1,38 +1,18 @@
 -- The lines that tell what events did.
-use Rattle.std.specs.Prelude.{ℕ, ◌++◌, List, [], ◌∷◌, map, zip, codes, slice_get, Option, Some, None, if◌then◌else◌}
+use Rattle.std.specs.Prelude.{ℕ, ◌++◌, List, [], ◌∷◌, map, zip, codes, slice_get, Option, Some, None}
 use Rattle.std.specs.Option.{option_map}
 use Rattle.std.specs.List.{join_with_byte}
-use Rattle.std.specs.Fmt.{decimal, signed_decimal}
+use Rattle.std.specs.Fmt.{decimal}
 use Rattle.std_blocks.specs.declared.value.Value.{Value}
-use Rattle.std_blocks.specs.declared.value.Value.TheVariants.{Bool as BoolValue, Int as IntValue, Time as TimeValue}
 use Rattle.declared_names.specs.declared.declarations.Declaration.{Declaration}
-use Rattle.due_list.specs.declared.task_ref.TaskRef.{TaskRef}
 use Rattle.task_codes.specs.declared.task_output.TaskOutput.{TaskOutput}
 use Rattle.plant_grammar.specs.Kinds.{items_or_none}
-use Rattle.plant.specs.PlantValue.{TaskValue, ResourceValue, PlantValue}
+use Rattle.plant.specs.PlantValue.{PlantValue}
 use Rattle.task_codes.specs.CodeValue.{ProgramValue, CodeValue}
-use Rattle.plant.specs.Plan.{task_at}
+use Rattle.line_parts.specs.LineParts.{value_text, task_text}
 use Rattle.evaluation.specs.declared.name.Name.{Name}
 use Rattle.evaluation.specs.declared.take.Take.{Take}
 use Rattle.evaluation.specs.Meaning.{Evaluated}
-
--- a BOOL is 0 or 1, an INT a decimal number, a TIME its milliseconds
-abbrev pub value_text : Value → List ℕ
-value_text (BoolValue on) = if on then codes "1" else codes "0"
-value_text (IntValue n) = signed_decimal n
-value_text (TimeValue t) = codes "T#" ++ decimal t ++ codes "ms"
-
--- a resource's name as it was declared
-abbrev pub resource_text : PlantValue → ℕ → List ℕ
-resource_text plant n = items_or_none (option_map (λ (r : ResourceValue). r.name) (slice_get plant.resources n))
-
--- a task's name as it was declared
-abbrev pub task_name : PlantValue → TaskRef → List ℕ
-task_name plant t = items_or_none (option_map (λ (found : TaskValue). found.name) (task_at plant t))
-
--- R.T: the names of a task's resource and its own
-abbrev pub task_text : PlantValue → TaskRef → List ℕ
-task_text plant t = resource_text plant t.resource ++ codes "." ++ task_name plant t
 
 -- i.n: an incarnation and a number; `-` for none
 abbrev pub pair_text : Option (ℕ × ℕ) → List ℕ
@@ -49,22 +29,35 @@ instance_text c o = items_or_none (option_map (λ (p : ProgramValue). p.name) (s
 
 abbrev pub variable_text : TaskOutput → Option ProgramValue → List ℕ
 variable_text o None = []
-variable_text o (Some p) = items_or_none (option_map (λ (d : Declaration). d.name) (slice_get p.ladder.declarations o.place))
+variable_text o (Some p) =
+    items_or_none (option_map (λ (d : Declaration). d.name) (slice_get p.ladder.declarations o.place))
 
 -- PROGRAM.OUTPUT=value
 abbrev pub give_text : CodeValue → TaskOutput × Value → List ℕ
-give_text c given = instance_text c given.0 ++ codes "." ++ variable_text given.0 (slice_get c.programs given.0.program) ++ codes "=" ++ value_text given.1
+give_text c given =
+    instance_text c given.0 ++ codes "." ++ variable_text given.0 (slice_get c.programs given.0.program) ++ codes "="
+    ++ value_text given.1
 
 -- items parted by one blank; `-` for none
 abbrev pub list_text : List (List ℕ) → List ℕ
 list_text [] = codes "-"
 list_text (item ∷ more) = join_with_byte 32 (item ∷ more)
 
+-- what was taken, and what was given
+abbrev pub takes_text : PlantValue → List Take → List ℕ
+takes_text plant takes = list_text (map (take_text plant) takes)
+
+abbrev pub gives_text : CodeValue → List Value → List ℕ
+gives_text c values = list_text (map (give_text c) (zip c.outputs values))
+
 -- `EVAL m R.T i.n`: message m is the evaluation of this name
 abbrev pub name_text : PlantValue → ℕ → Name → List ℕ
-name_text plant m name = codes "EVAL " ++ decimal m ++ codes " " ++ task_text plant name.task ++ codes " " ++ decimal name.incarnation ++ codes "." ++ decimal name.number
+name_text plant m name =
+    codes "EVAL " ++ decimal m ++ codes " " ++ task_text plant name.task ++ codes " "
+    ++ decimal name.incarnation ++ codes "." ++ decimal name.number
 
 -- `EVAL m R.T i.n TAKES list GIVES list`: message m is this evaluation
 abbrev pub evaluation_line : PlantValue → ℕ → Evaluated → List ℕ
 evaluation_line plant m x =
-    name_text plant m x.name ++ codes " TAKES " ++ list_text (map (take_text plant) x.takes) ++ codes " GIVES " ++ list_text (map (give_text x.code) (zip x.code.outputs x.outputs)) ++ codes "\n"
+    name_text plant m x.name ++ codes " TAKES " ++ takes_text plant x.takes
+    ++ codes " GIVES " ++ gives_text x.code x.outputs ++ codes "\n"

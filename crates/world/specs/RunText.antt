@@ -14,7 +14,8 @@ use Rattle.exchange.specs.History.{Setting, history_of, is_lawful, incarnation_o
 use Rattle.exchange.specs.Run.{IsRun}
 use Rattle.exchange.specs.World.{WorldValue}
 use Rattle.exchange.specs.Step.{IsCause, IsDelivered}
-use Rattle.world.specs.RunLines.{resource_text, evaluation_line}
+use Rattle.line_parts.specs.LineParts.{resource_text}
+use Rattle.world.specs.RunLines.{evaluation_line}
 
 -- what a resource answers to a message
 abbrev pub accepted_text : Accepted → List ℕ
@@ -23,41 +24,49 @@ accepted_text Old = codes "old"
 accepted_text Unused = codes "unused"
 
 -- why an event is refused
-abbrev pub cause_text : WorldFault → List ℕ
-cause_text NoSuchResource = codes "NoSuchResource"
-cause_text NoSuchTask = codes "NoSuchTask"
-cause_text NoSuchMessage = codes "NoSuchMessage"
-cause_text NumbersSpent = codes "NumbersSpent"
-cause_text IncarnationsSpent = codes "IncarnationsSpent"
-cause_text Memory = codes "Memory"
+abbrev pub refusal_text : WorldFault → List ℕ
+refusal_text NoSuchResource = codes "NoSuchResource"
+refusal_text NoSuchTask = codes "NoSuchTask"
+refusal_text NoSuchMessage = codes "NoSuchMessage"
+refusal_text NumbersSpent = codes "NumbersSpent"
+refusal_text IncarnationsSpent = codes "IncarnationsSpent"
+refusal_text Memory = codes "Memory"
 
 -- `DELIVER m R taken`
 abbrev pub delivery_line : PlantValue → ℕ → ℕ → Accepted → List ℕ
-delivery_line plant message n a = codes "DELIVER " ++ decimal message ++ codes " " ++ resource_text plant n ++ codes " " ++ accepted_text a ++ codes "\n"
+delivery_line plant message n a =
+    codes "DELIVER " ++ decimal message ++ codes " " ++ resource_text plant n ++ codes " "
+    ++ accepted_text a ++ codes "\n"
 
 -- `RESTART R i`
 abbrev pub restart_line : PlantValue → ℕ → ℕ → List ℕ
-restart_line plant n incarnation = codes "RESTART " ++ resource_text plant n ++ codes " " ++ decimal incarnation ++ codes "\n"
+restart_line plant n incarnation =
+    codes "RESTART " ++ resource_text plant n ++ codes " " ++ decimal incarnation ++ codes "\n"
 
 -- `REFUSED e Kind`
 abbrev pub refused_line : ℕ → WorldFault → List ℕ
-refused_line number cause = codes "REFUSED " ++ decimal number ++ codes " " ++ cause_text cause ++ codes "\n"
+refused_line number cause = codes "REFUSED " ++ decimal number ++ codes " " ++ refusal_text cause ++ codes "\n"
 
--- The line of a lawful event after other events: for an Evaluate that of the evaluation which it adds to their run, with its place there;
--- for a Deliver what the resource answers; for a Restart the incarnation that the resource then has.
+-- The line of a lawful event after other events: for an Evaluate that of the evaluation which it adds to their run,
+-- with its place there; for a Deliver what the resource answers; for a Restart the incarnation that the resource then
+-- has.
 abbrev pub IsDoneLine : WorldValue → Event → List ℕ → Type 0
 IsDoneLine w (Evaluate ticket task dt inputs) line =
-    (x : Evaluated) × IsRun w.setting (w.events ++ Evaluate ticket task dt inputs ∷ []) (w.log ++ x ∷ []) × (line ≡ evaluation_line w.setting.plant (length w.log + 1) x)
+    (x : Evaluated) × IsRun w.setting (w.events ++ Evaluate ticket task dt inputs ∷ []) (w.log ++ x ∷ [])
+    × (line ≡ evaluation_line w.setting.plant (length w.log + 1) x)
 IsDoneLine w (Deliver k n) line = (a : Accepted) × IsDelivered w k n a × (line ≡ delivery_line w.setting.plant k n a)
-IsDoneLine w (Restart n) line = line ≡ restart_line w.setting.plant n (incarnation_of w.setting n (history_of w.setting (w.events ++ Restart n ∷ [])))
+IsDoneLine w (Restart n) line =
+    line
+    ≡ restart_line w.setting.plant n (incarnation_of w.setting n (history_of w.setting (w.events ++ Restart n ∷ [])))
 
 -- the line of an event that is refused tells its number, and the first cause
 abbrev pub IsRefusedLine : WorldValue → ℕ → Event → List ℕ → Type 0
-IsRefusedLine w number e line = (cause : WorldFault) × IsCause w e cause × (cause ≢ Memory) × (line ≡ refused_line number cause)
+IsRefusedLine w number e line =
+    (cause : WorldFault) × IsCause w e cause × (cause ≢ Memory) × (line ≡ refused_line number cause)
 
 -- the line of an event after other events, by whether it is lawful there
-abbrev pub Tells : WorldValue → ℕ → Event → List ℕ → Type 0
-Tells w number e line =
+abbrev pub TellsEvent : WorldValue → ℕ → Event → List ℕ → Type 0
+TellsEvent w number e line =
     ((is_lawful w.setting (history_of w.setting w.events) e ≡ true) × IsDoneLine w e line)
     ⊎ ((is_lawful w.setting (history_of w.setting w.events) e ≡ false) × IsRefusedLine w number e line)
 
@@ -65,11 +74,12 @@ Tells w number e line =
 pub record IsLineAfter (s : Setting) (before : List Event) (e : Event) (line : List ℕ) : Type 0 where
   pub log : List Evaluated
   pub run : IsRun s before log
-  pub tells : Tells (record { setting = s; events = before; log = log }) (length before + 1) e line
+  pub tells : TellsEvent (record { setting = s; events = before; log = log }) (length before + 1) e line
 
 -- The text of the run of these events: one line for each event, each after those before it.
 pub record IsRunText (s : Setting) (events : List Event) (text : List ℕ) : Type 0 where
   pub lines : List (List ℕ)
   pub many : length lines ≡ length events
-  pub each : (k : ℕ) (e : Event) (line : List ℕ) → slice_get events k ≡ Some e → slice_get lines k ≡ Some line → IsLineAfter s (take k events) e line
+  pub each : (k : ℕ) (e : Event) (line : List ℕ) → slice_get events k ≡ Some e → slice_get lines k ≡ Some line
+      → IsLineAfter s (take k events) e line
   pub text_is : text ≡ flat_map (λ line. line) lines

@@ -6,4 +6,5 @@ use Rattle.world.specs.ScheduleText.{IsSchedule}
 
 -- a text spells one list of events
 abbrev pub OneReading : Type 0
-OneReading = (plant : PlantValue) (text : List ℕ) (a b : List Event) → IsSchedule plant a text → IsSchedule plant b text → a ≡ b
+OneReading =
+    (plant : PlantValue) (text : List ℕ) (a b : List Event) → IsSchedule plant a text → IsSchedule plant b text → a ≡ b

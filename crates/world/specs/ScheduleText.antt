@@ -37,13 +37,15 @@ pub record IsTaskWord (plant : PlantValue) (word : List ℕ) (t : TaskRef) : Typ
 abbrev pub SpellsEvaluate : PlantValue → TaskRef → ℕ → List FieldInput → List (List ℕ) → Type 0
 SpellsEvaluate plant task dt inputs [] = ⊥
 SpellsEvaluate plant task dt inputs (first ∷ []) = ⊥
-SpellsEvaluate plant task dt inputs (first ∷ second ∷ more) = IsTaskWord plant first task × (number_up_to 4294967295 second ≡ Some dt) × AreInputs more inputs
+SpellsEvaluate plant task dt inputs (first ∷ second ∷ more) =
+    IsTaskWord plant first task × (number_up_to 4294967295 second ≡ Some dt) × AreInputs more inputs
 
 -- the words behind DELIVER: a message, and a resource
 abbrev pub SpellsDeliver : PlantValue → ℕ → ℕ → List (List ℕ) → Type 0
 SpellsDeliver plant message resource [] = ⊥
 SpellsDeliver plant message resource (first ∷ []) = ⊥
-SpellsDeliver plant message resource (first ∷ second ∷ []) = (number_up_to 18446744073709551615 first ≡ Some message) × IsResourceWord plant second resource
+SpellsDeliver plant message resource (first ∷ second ∷ []) =
+    (number_up_to 18446744073709551615 first ≡ Some message) × IsResourceWord plant second resource
 SpellsDeliver plant message resource (first ∷ second ∷ third ∷ more) = ⊥
 
 -- the words behind RESTART: a resource
@@ -55,9 +57,16 @@ SpellsRestart plant resource (first ∷ second ∷ more) = ⊥
 -- the words of a line spell the event of this number, which is an evaluation's ticket; keywords stand in either case
 abbrev pub SpellsEvent : PlantValue → ℕ → Event → List (List ℕ) → Type 0
 SpellsEvent plant number e [] = ⊥
-SpellsEvent plant number (Evaluate ticket task dt inputs) (keyword ∷ more) = IsTrue (same_word keyword (codes "EVAL")) × (ticket ≡ number) × SpellsEvaluate plant task dt inputs more
-SpellsEvent plant number (Deliver message resource) (keyword ∷ more) = IsTrue (same_word keyword (codes "DELIVER")) × SpellsDeliver plant message resource more
-SpellsEvent plant number (Restart resource) (keyword ∷ more) = IsTrue (same_word keyword (codes "RESTART")) × SpellsRestart plant resource more
+SpellsEvent plant number (Evaluate ticket task dt inputs) (keyword ∷ more) =
+    IsTrue (same_word keyword (codes "EVAL")) × (ticket ≡ number) × SpellsEvaluate plant task dt inputs more
+SpellsEvent plant number (Deliver message resource) (keyword ∷ more) =
+    IsTrue (same_word keyword (codes "DELIVER")) × SpellsDeliver plant message resource more
+SpellsEvent plant number (Restart resource) (keyword ∷ more) =
+    IsTrue (same_word keyword (codes "RESTART")) × SpellsRestart plant resource more
+
+-- they spell no event
+abbrev pub SpellsNoEvent : PlantValue → ℕ → List (List ℕ) → Type 0
+SpellsNoEvent plant number words = (e : Event) → SpellsEvent plant number e words → ⊥
 
 -- a word begins with `#`
 abbrev pub is_marked : List ℕ → Bool
@@ -78,7 +87,8 @@ abbrev pub SpellEvents : PlantValue → ℕ → List Event → List (List (List 
 SpellEvents plant number [] [] = Unit {0}
 SpellEvents plant number [] (line ∷ lines) = ⊥
 SpellEvents plant number (e ∷ events) [] = ⊥
-SpellEvents plant number (e ∷ events) (line ∷ lines) = SpellsEvent plant number e line × SpellEvents plant (number + 1) events lines
+SpellEvents plant number (e ∷ events) (line ∷ lines) =
+    SpellsEvent plant number e line × SpellEvents plant (number + 1) events lines
 
 -- these lines spell these events, counted from 1: blank lines and comments aside, the k-th line spells event k
 abbrev pub Spell : PlantValue → List Event → List (List (List ℕ)) → Type 0
@@ -91,4 +101,4 @@ IsSchedule plant events text = Spell plant events (schedule_lines text)
 -- no event is spelled by this line, and it is no comment and not blank
 pub record IsBadLine (plant : PlantValue) (number : ℕ) (line : List (List ℕ)) : Type 0 where
   pub busy : is_idle line ≡ false
-  pub unspelled : (e : Event) → SpellsEvent plant number e line → ⊥
+  pub unspelled : SpellsNoEvent plant number line

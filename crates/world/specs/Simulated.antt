@@ -11,10 +11,15 @@ use Rattle.world.specs.ScheduleText.{Spell, IsSchedule, IsBadLine, schedule_line
 
 -- all first incarnations are 1
 abbrev pub from_one : PlantValue → ℕ → Setting
-from_one plant max_number = record { plant = plant; first = replicate (length plant.resources) 1; max_number = max_number }
+from_one plant max_number = record {
+  plant = plant;
+  first = replicate (length plant.resources) 1;
+  max_number = max_number;
+}
 
 -- the schedule spells these events, and what was written is the text of their run and nothing else
-pub record WritesRun (plant : PlantValue) (max_number : ℕ) (schedule : List ℕ) (old new : Option (List ℕ)) : Type 0 where
+pub record WritesRun (plant : PlantValue) (max_number : ℕ) (schedule : List ℕ)
+    (old new : Option (List ℕ)) : Type 0 where
   pub events : List Event
   pub spelled : IsSchedule plant events schedule
   pub text : List ℕ
@@ -27,8 +32,10 @@ pub record RunsFirst (plant : PlantValue) (max_number : ℕ) (schedule : List �
   pub spelled : Spell plant events (take n (schedule_lines schedule))
   pub told : IsRunText (from_one plant max_number) events text
 
--- line n, counted from 1, is the first that is no event, comment or blank, and what was written is the lines of the events before it
-pub record StopsAt (plant : PlantValue) (max_number : ℕ) (schedule : List ℕ) (n : ℕ) (old new : Option (List ℕ)) : Type 0 where
+-- line n, counted from 1, is the first that is no event, comment or blank, and what was written is the lines of the
+-- events before it
+pub record StopsAt (plant : PlantValue) (max_number : ℕ) (schedule : List ℕ) (n : ℕ)
+    (old new : Option (List ℕ)) : Type 0 where
   pub before : ℕ
   pub number_is : n ≡ before + 1
   pub text : List ℕ
@@ -39,7 +46,8 @@ pub record StopsAt (plant : PlantValue) (max_number : ℕ) (schedule : List ℕ)
   pub written : Appends old new text
 
 -- a beginning of the lines of some first events was written, and not all of them
-pub record WritesBeginning (plant : PlantValue) (max_number : ℕ) (schedule : List ℕ) (old new : Option (List ℕ)) : Type 0 where
+pub record WritesBeginning (plant : PlantValue) (max_number : ℕ) (schedule : List ℕ)
+    (old new : Option (List ℕ)) : Type 0 where
   pub lines : ℕ
   pub text : List ℕ
   pub run : RunsFirst plant max_number schedule lines text
@@ -48,7 +56,8 @@ pub record WritesBeginning (plant : PlantValue) (max_number : ℕ) (schedule : L
   pub written : Appends old new (take bytes text)
 
 -- the lines of some first events were written
-pub record WritesFirst (plant : PlantValue) (max_number : ℕ) (schedule : List ℕ) (old new : Option (List ℕ)) : Type 0 where
+pub record WritesFirst (plant : PlantValue) (max_number : ℕ) (schedule : List ℕ)
+    (old new : Option (List ℕ)) : Type 0 where
   pub lines : ℕ
   pub text : List ℕ
   pub run : RunsFirst plant max_number schedule lines text

@@ -1,58 +1,21 @@
 //! The line that tells an evaluation.
 
-ghost use Rattle.std.specs.Prelude.{◌≡◌, ◌++◌, OnOk, Some, length, map, slice_get, string_bytes, zip};
+ghost use Rattle.std.specs.Prelude.{◌≡◌, OnOk, Some, length, slice_get};
 ghost use Rattle.task_codes.specs.declared.task_output.TaskOutput.{TaskOutput};
+ghost use Rattle.text_writer.specs.Growing.{GrowsBy};
 ghost use Rattle.world.specs.Steps.Telling.{gap_before};
-ghost use Rattle.world.specs.RunLines.{value_text, resource_text, task_name, task_text, pair_text, take_text, give_text, list_text, name_text, evaluation_line};
+ghost use Rattle.world.specs.RunLines.{pair_text, take_text, takes_text, give_text, gives_text, name_text, evaluation_line};
 
 use evaluation::{Evaluation, Take};
-use plant::{Plant, TaskCode, TaskRef};
+use line_parts::{push_task, push_value};
+use plant::{Plant, TaskCode};
 use std::alloc::AllocError;
 use std::fmt::Write;
 use std_blocks::Value;
 
-fn push_value(line: &mut String, value: Value) -> Result<(), AllocError>
-    ensures { OnOk result (string_bytes line.new ≡ string_bytes line.old ++ value_text value) }
-{
-    match value {
-        Value::Bool(true) => line.push_str("1"),
-        Value::Bool(false) => line.push_str("0"),
-        Value::Int(number) => write!(line, "{number}"),
-        Value::Time(time) => write!(line, "T#{time}ms"),
-    }
-}
-
-/// Writes a resource's name, as it was declared, behind a line.
-pub fn push_resource(line: &mut String, plant: &Plant, resource: usize) -> Result<(), AllocError>
-    ensures { OnOk result (string_bytes line.new ≡ string_bytes line.old ++ resource_text plant.now resource) }
-{
-    match plant.resource_name(resource) {
-        Some(name) => line.push_str(name),
-        None => Ok(()),
-    }
-}
-
-fn task_name(plant: &Plant, task: TaskRef) -> &str
-    ensures { result.now ≡ task_name plant.now task }
-{
-    match plant.tasks(task.resource).get(task.task) {
-        Some(found) => found.name(),
-        None => "",
-    }
-}
-
-/// Writes a task, as `R1.FAST`, behind a line.
-fn push_task(line: &mut String, plant: &Plant, task: TaskRef) -> Result<(), AllocError>
-    ensures { OnOk result (string_bytes line.new ≡ string_bytes line.old ++ task_text plant.now task) }
-{
-    push_resource(line, plant, task.resource)?;
-    line.push_str(".")?;
-    line.push_str(task_name(plant, task))
-}
-
 /// Writes an incarnation and a number, as `1.2`, or `-` for none, behind a line.
 fn push_pair(line: &mut String, pair: Option<(u32, u32)>) -> Result<(), AllocError>
-    ensures { OnOk result (string_bytes line.new ≡ string_bytes line.old ++ pair_text pair) }
+    ensures { OnOk result (GrowsBy line.old line.new (pair_text pair)) }
 {
     match pair {
         Some((incarnation, number)) => write!(line, "{incarnation}.{number}"),
@@ -62,7 +25,7 @@ fn push_pair(line: &mut String, pair: Option<(u32, u32)>) -> Result<(), AllocErr
 
 /// Writes what was taken from a producer, as `R1.FAST=1.2`, behind a line.
 fn push_take(line: &mut String, plant: &Plant, take: &Take) -> Result<(), AllocError>
-    ensures { OnOk result (string_bytes line.new ≡ string_bytes line.old ++ take_text plant.now take.now) }
+    ensures { OnOk result (GrowsBy line.old line.new (take_text plant.now take.now)) }
 {
     push_task(line, plant, take.producer)?;
     line.push_str("=")?;
@@ -71,7 +34,7 @@ fn push_take(line: &mut String, plant: &Plant, take: &Take) -> Result<(), AllocE
 
 /// Makes a line ready for an item of a list: a blank behind the item before, if there is one.
 fn push_gap(line: &mut String, item: usize) -> Result<(), AllocError>
-    ensures { OnOk result (string_bytes line.new ≡ string_bytes line.old ++ gap_before item) }
+    ensures { OnOk result (GrowsBy line.old line.new (gap_before item)) }
 {
     if item == 0 {
         Ok(())
@@ -82,7 +45,7 @@ fn push_gap(line: &mut String, item: usize) -> Result<(), AllocError>
 
 /// Writes what was taken, or `-` for nothing, behind a line.
 fn push_takes(line: &mut String, plant: &Plant, takes: &[Take]) -> Result<(), AllocError>
-    ensures { OnOk result (string_bytes line.new ≡ string_bytes line.old ++ list_text (map (take_text plant.now) takes.now)) }
+    ensures { OnOk result (GrowsBy line.old line.new (takes_text plant.now takes.now)) }
 {
     if takes.is_empty() {
         return line.push_str("-");
@@ -101,7 +64,8 @@ fn push_give(
     output: usize,
     value: Value,
 ) -> Result<(), AllocError>
-    ensures { (o : TaskOutput) → slice_get code.now.outputs output ≡ Some o → OnOk result (string_bytes line.new ≡ string_bytes line.old ++ give_text code.now (o, value)) }
+    ensures { (o : TaskOutput) → slice_get code.now.outputs output ≡ Some o
+        → OnOk result (GrowsBy line.old line.new (give_text code.now (o, value))) }
 {
     let Some((instance, name)) = code.output_name(output) else {
         return Ok(());
@@ -116,7 +80,7 @@ fn push_give(
 /// Writes what was given, or `-` for nothing, behind a line.
 fn push_gives(line: &mut String, code: &TaskCode, values: &[Value]) -> Result<(), AllocError>
     requires { length values.now ≡ length code.now.outputs }
-    ensures { OnOk result (string_bytes line.new ≡ string_bytes line.old ++ list_text (map (give_text code.now) (zip code.now.outputs values.now))) }
+    ensures { OnOk result (GrowsBy line.old line.new (gives_text code.now values.now)) }
 {
     if values.is_empty() {
         return line.push_str("-");
@@ -135,7 +99,7 @@ fn push_name(
     message: u64,
     evaluation: &Evaluation,
 ) -> Result<(), AllocError>
-    ensures { OnOk result (string_bytes line.new ≡ string_bytes line.old ++ name_text plant.now message evaluation.now.name) }
+    ensures { OnOk result (GrowsBy line.old line.new (name_text plant.now message evaluation.now.name)) }
 {
     let name = evaluation.name();
     let incarnation = name.incarnation;
@@ -145,15 +109,15 @@ fn push_name(
     write!(line, " {incarnation}.{number}")
 }
 
-/// Writes the line of an evaluation, such as `EVAL 2 R2.SLOW 1.1 TAKES R1.FAST=1.1 GIVES B.SEEN=1 B.HIT=0`, behind what is there.
-/// `message` is the place of the evaluation in its run or book, counted from 1.
+/// Writes the line of an evaluation, such as `EVAL 2 R2.SLOW 1.1 TAKES R1.FAST=1.1 GIVES B.SEEN=1 B.HIT=0`, behind what
+/// is there. `message` is the place of the evaluation in its run or book, counted from 1.
 pub fn push_evaluation(
     line: &mut String,
     plant: &Plant,
     message: u64,
     evaluation: &Evaluation,
 ) -> Result<(), AllocError>
-    ensures { OnOk result (string_bytes line.new ≡ string_bytes line.old ++ evaluation_line plant.now message evaluation.now) }
+    ensures { OnOk result (GrowsBy line.old line.new (evaluation_line plant.now message evaluation.now)) }
 {
     push_name(line, plant, message, evaluation)?;
     line.push_str(" TAKES ")?;

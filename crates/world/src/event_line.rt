@@ -1,21 +1,22 @@
 //! The line that tells an event.
 
-ghost use Rattle.std.specs.Prelude.{◌≡◌, ◌++◌, OnOk, OnErr, string_bytes};
+ghost use Rattle.std.specs.Prelude.{OnOk, string_bytes};
 ghost use Rattle.std.specs.Option.{option_map};
-ghost use Rattle.world.specs.RunLines.{resource_text, evaluation_line};
-ghost use Rattle.world.specs.RunText.{accepted_text, cause_text, delivery_line, restart_line, refused_line};
+ghost use Rattle.text_writer.specs.Growing.{GrowsBy};
+ghost use Rattle.world.specs.RunText.{accepted_text, refusal_text, delivery_line, restart_line, refused_line};
 ghost use Rattle.world.specs.Steps.Telling.{made_line, done_line, IsTold};
 
-use crate::evaluation_line::{push_evaluation, push_resource};
+use crate::evaluation_line::push_evaluation;
 use evaluation::Frame;
 use exchange::{Done, Event, World, WorldFault};
 use exchange_core::Accepted;
+use line_parts::push_resource;
 use plant::Plant;
 use std::alloc::{AllocError, Global};
 use std::fmt::Write;
 
 fn push_accepted(line: &mut String, accepted: Accepted) -> Result<(), AllocError>
-    ensures { OnOk result (string_bytes line.new ≡ string_bytes line.old ++ accepted_text accepted) }
+    ensures { OnOk result (GrowsBy line.old line.new (accepted_text accepted)) }
 {
     match accepted {
         Accepted::Taken => line.push_str("taken"),
@@ -25,7 +26,7 @@ fn push_accepted(line: &mut String, accepted: Accepted) -> Result<(), AllocError
 }
 
 fn push_cause(line: &mut String, cause: WorldFault) -> Result<(), AllocError>
-    ensures { OnOk result (string_bytes line.new ≡ string_bytes line.old ++ cause_text cause) }
+    ensures { OnOk result (GrowsBy line.old line.new (refusal_text cause)) }
 {
     match cause {
         WorldFault::NoSuchResource => line.push_str("NoSuchResource"),
@@ -45,7 +46,7 @@ fn push_delivery(
     resource: usize,
     accepted: Accepted,
 ) -> Result<(), AllocError>
-    ensures { OnOk result (string_bytes line.new ≡ string_bytes line.old ++ delivery_line plant.now message resource accepted) }
+    ensures { OnOk result (GrowsBy line.old line.new (delivery_line plant.now message resource accepted)) }
 {
     write!(line, "DELIVER {message} ")?;
     push_resource(line, plant, resource)?;
@@ -61,7 +62,7 @@ fn push_restart(
     resource: usize,
     incarnation: u32,
 ) -> Result<(), AllocError>
-    ensures { OnOk result (string_bytes line.new ≡ string_bytes line.old ++ restart_line plant.now resource incarnation) }
+    ensures { OnOk result (GrowsBy line.old line.new (restart_line plant.now resource incarnation)) }
 {
     line.push_str("RESTART ")?;
     push_resource(line, plant, resource)?;
@@ -70,7 +71,7 @@ fn push_restart(
 
 /// Writes `REFUSED e Kind` behind a line.
 fn push_refused(line: &mut String, number: u64, cause: WorldFault) -> Result<(), AllocError>
-    ensures { OnOk result (string_bytes line.new ≡ string_bytes line.old ++ refused_line number cause) }
+    ensures { OnOk result (GrowsBy line.old line.new (refused_line number cause)) }
 {
     write!(line, "REFUSED {number} ")?;
     push_cause(line, cause)?;
@@ -83,7 +84,8 @@ fn push_made(
     message: u64,
     made: Option<&Frame>,
 ) -> Result<(), AllocError>
-    ensures { OnOk result (string_bytes line.new ≡ string_bytes line.old ++ made_line plant.now message (option_map (λ f. f.now) made.entry)) }
+    ensures { OnOk result
+        (GrowsBy line.old line.new (made_line plant.now message (option_map (λ f. f.now) made.entry))) }
 {
     match made {
         Some(frame) => push_evaluation(line, plant, message, frame.evaluation()),
@@ -99,7 +101,7 @@ fn push_done(
     event: &Event,
     done: Done,
 ) -> Result<(), AllocError>
-    ensures { OnOk result (string_bytes line.new ≡ string_bytes line.old ++ done_line plant.now log.now event.now done) }
+    ensures { OnOk result (GrowsBy line.old line.new (done_line plant.now log.now event.now done)) }
 {
     match event {
         Event::Evaluate { .. } => match done {

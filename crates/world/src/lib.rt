@@ -1,5 +1,5 @@
-//! Schedules: texts of events, read and done line by line to all resources of a plant, and the lines that tell what each event did.
-//! The resources themselves and the book stand in `exchange`.
+//! Schedules: texts of events, read and done line by line to all resources of a plant, and the lines that tell what
+//! each event did. The resources themselves and the book stand in `exchange`.
 #![tactic(auto)]
 
 mod evaluation_line;

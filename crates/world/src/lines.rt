@@ -3,7 +3,7 @@
 ghost use Rattle.std.specs.Prelude.{◌≡◌};
 ghost use Rattle.words.specs.Lines.{without_last};
 ghost use Rattle.world.specs.ScheduleText.{is_idle};
-ghost use Rattle.std.specs.Prelude.{map};
+ghost use Rattle.world.specs.Steps.ReadingLines.{texts};
 
 /// The text without its last byte, where that is `byte`.
 pub fn without_last(byte: u8, text: &[u8]) -> &[u8]
@@ -17,7 +17,7 @@ pub fn without_last(byte: u8, text: &[u8]) -> &[u8]
 
 /// Whether a line of these words is blank or a comment.
 pub fn is_idle(words: &[&[u8]]) -> bool
-    ensures { result ≡ is_idle (map (λ w. w.now) words.now) }
+    ensures { result ≡ is_idle (texts words.now) }
 {
     match words {
         [] => true,

@@ -1,17 +1,18 @@
 //! The places of named resources and tasks.
 
-ghost use Rattle.std.specs.Prelude.{◌≡◌, ◌<◌, ◌==◌, ℕ, IfSome, MatchOption, Some, length, position, slice_get};
+ghost use Rattle.std.specs.Prelude.{◌≡◌, ◌<◌, ◌==◌, IfSome, Some, length, position, slice_get};
 ghost use Rattle.words.specs.Chars.{same_word};
-ghost use Rattle.due_list.specs.declared.task_ref.TaskRef.{TaskRef};
 ghost use Rattle.plant.specs.PlantValue.{ResourceValue, TaskValue};
 ghost use Rattle.world.specs.ScheduleText.{resource_named, task_in, IsTaskWord, IsResourceWord};
+ghost use Rattle.world.specs.Steps.ReadingLines.{Finds};
 
 use plant::{Plant, Task, TaskRef};
 use words::is_plain_name;
 
 /// Whether the resource at a place has this name, whatever the case of the letters.
 fn is_named(plant: &Plant, resource: usize, name: &[u8]) -> bool
-    ensures { (r : ResourceValue) → slice_get plant.now.resources resource ≡ Some r → result ≡ same_word name.now r.name }
+    ensures { (r : ResourceValue) → slice_get plant.now.resources resource ≡ Some r
+        → result ≡ same_word name.now r.name }
 {
     match plant.resource_name(resource) {
         Some(found) => name.eq_ignore_ascii_case(found.as_bytes()),
@@ -19,7 +20,8 @@ fn is_named(plant: &Plant, resource: usize, name: &[u8]) -> bool
     }
 }
 
-/// Where a resource of this name stands, whatever the case of the letters. Without one it is the number of resources, where none stands.
+/// Where a resource of this name stands, whatever the case of the letters. Without one it is the number of resources,
+/// where none stands.
 fn resource_named(plant: &Plant, name: &[u8]) -> usize
     ensures { result ≡ resource_named plant.now name.now }
 {
@@ -39,8 +41,8 @@ fn position_of(tasks: &[Task], name: &[u8]) -> Option<usize>
         .position(|task| name.eq_ignore_ascii_case(task.name().as_bytes()))
 }
 
-/// Where a task of this name stands in a resource, whatever the case of the letters. Without one it is the number of the resource's tasks,
-/// where none stands.
+/// Where a task of this name stands in a resource, whatever the case of the letters. Without one it is the number of
+/// the resource's tasks, where none stands.
 fn task_in(plant: &Plant, resource: usize, name: &[u8]) -> usize
     ensures { result ≡ task_in plant.now resource name.now }
 {
@@ -53,7 +55,7 @@ fn task_in(plant: &Plant, resource: usize, name: &[u8]) -> usize
 
 /// The resource that a word names. `None`: the word is no identifier, or it is reserved.
 pub fn resource_of(plant: &Plant, word: &[u8]) -> Option<usize>
-    ensures { MatchOption result ((n : ℕ) → IsResourceWord plant.now word.now n → ⊥) (λ n. IsResourceWord plant.now word.now n) }
+    ensures { Finds (IsResourceWord plant.now word.now) result }
 {
     if is_plain_name(word) {
         Some(resource_named(plant, word))
@@ -69,9 +71,10 @@ fn dot_in(word: &[u8]) -> Option<usize>
     word.iter().position(|c| *c == b'.')
 }
 
-/// The task that a word such as `R1.FAST` names. `None`: it isn't two identifiers that aren't reserved, with a dot between them.
+/// The task that a word such as `R1.FAST` names. `None`: it isn't two identifiers that aren't reserved, with a dot
+/// between them.
 pub fn task_of(plant: &Plant, word: &[u8]) -> Option<TaskRef>
-    ensures { MatchOption result ((t : TaskRef) → IsTaskWord plant.now word.now t → ⊥) (λ t. IsTaskWord plant.now word.now t) }
+    ensures { Finds (IsTaskWord plant.now word.now) result }
 {
     let dot = dot_in(word)?;
     let resource = resource_of(plant, &word[..dot])?;

@@ -1,12 +1,9 @@
 //! The event that a line spells.
 
-ghost use Rattle.std.specs.Prelude.{◌≡◌, ◌≢◌, ℕ, List, IfOk, IfErr, MatchOption, map};
-ghost use Rattle.due_list.specs.declared.task_ref.TaskRef.{TaskRef};
-ghost use Rattle.evaluation.specs.declared.field_input.FieldInput.{FieldInput};
-ghost use Rattle.exchange.specs.declared.event.Event.{Event};
+ghost use Rattle.std.specs.Prelude.{◌≡◌, ◌≢◌, ℕ, IfOk, IfErr};
 ghost use Rattle.world.specs.declared.line_fault.LineFault.TheVariants.{Syntax, Write};
-ghost use Rattle.world.specs.ScheduleText.{SpellsEvaluate, SpellsDeliver, SpellsRestart, SpellsEvent};
-ghost use Rattle.world.specs.Steps.ReadingLines.{keyword_of};
+ghost use Rattle.world.specs.ScheduleText.{SpellsEvaluate, SpellsDeliver, SpellsRestart, SpellsEvent, SpellsNoEvent};
+ghost use Rattle.world.specs.Steps.ReadingLines.{texts, keyword_of, Finds, SpellsNoEvaluate};
 
 use crate::line_fault::LineFault;
 use crate::names::{resource_of, task_of};
@@ -46,9 +43,9 @@ fn read_evaluate(
     plant: &Plant,
     words: &[&[u8]],
 ) -> Result<(TaskRef, u32, Inputs), LineFault>
-    ensures ok { IfOk result (λ r. SpellsEvaluate plant.now r.0 r.1 r.2 (map (λ w. w.now) words.now)) }
+    ensures ok { IfOk result (λ r. SpellsEvaluate plant.now r.0 r.1 r.2 (texts words.now)) }
     ensures early { IfErr result (λ f. f ≢ Write) }
-    ensures fault { IfErr result (λ f. f ≡ Syntax → (task : TaskRef) (dt : ℕ) (inputs : List FieldInput) → SpellsEvaluate plant.now task dt inputs (map (λ w. w.now) words.now) → ⊥) }
+    ensures fault { IfErr result (λ f. f ≡ Syntax → SpellsNoEvaluate plant.now (texts words.now)) }
 {
     let [task, dt, inputs @ ..] = words else {
         return Err(LineFault::Syntax);
@@ -65,7 +62,7 @@ fn read_evaluate(
 
 /// The message and the resource that the words behind `DELIVER` spell.
 fn read_deliver(plant: &Plant, words: &[&[u8]]) -> Option<(u64, usize)>
-    ensures { MatchOption result ((m n : ℕ) → SpellsDeliver plant.now m n (map (λ w. w.now) words.now) → ⊥) (λ r. SpellsDeliver plant.now r.0 r.1 (map (λ w. w.now) words.now)) }
+    ensures { Finds (λ (d : ℕ × ℕ). SpellsDeliver plant.now d.0 d.1 (texts words.now)) result }
 {
     let [message, resource] = words else {
         return None;
@@ -77,7 +74,7 @@ fn read_deliver(plant: &Plant, words: &[&[u8]]) -> Option<(u64, usize)>
 
 /// The resource that the words behind `RESTART` spell.
 fn read_restart(plant: &Plant, words: &[&[u8]]) -> Option<usize>
-    ensures { MatchOption result ((n : ℕ) → SpellsRestart plant.now n (map (λ w. w.now) words.now) → ⊥) (λ n. SpellsRestart plant.now n (map (λ w. w.now) words.now)) }
+    ensures { Finds (λ n. SpellsRestart plant.now n (texts words.now)) result }
 {
     let [resource] = words else {
         return None;
@@ -92,9 +89,9 @@ pub fn read_event(
     ticket: u64,
     words: &[&[u8]],
 ) -> Result<Event, LineFault>
-    ensures ok { IfOk result (λ e. SpellsEvent plant.now ticket e (map (λ w. w.now) words.now)) }
+    ensures ok { IfOk result (λ e. SpellsEvent plant.now ticket e (texts words.now)) }
     ensures early { IfErr result (λ f. f ≢ Write) }
-    ensures fault { IfErr result (λ f. f ≡ Syntax → (e : Event) → SpellsEvent plant.now ticket e (map (λ w. w.now) words.now) → ⊥) }
+    ensures fault { IfErr result (λ f. f ≡ Syntax → SpellsNoEvent plant.now ticket (texts words.now)) }
 {
     let [first, behind @ ..] = words else {
         return Err(LineFault::Syntax);

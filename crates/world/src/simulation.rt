@@ -1,9 +1,10 @@
 //! A schedule is done line by line.
 
-ghost use Rattle.std.specs.Prelude.{◌≡◌, ◌<◌, [], IfErr, IfOk, OnErr, OnOk, length, map, replicate};
+ghost use Rattle.std.specs.Prelude.{◌≡◌, ◌<◌, [], IfErr, IfOk, OnErr, OnOk, length, replicate};
 ghost use Rattle.words.specs.Lines.{without_last};
 ghost use Rattle.evaluation.specs.InputTexts.{words_of};
 ghost use Rattle.world.specs.Simulated.{from_one, WritesRun, EndsEarly};
+ghost use Rattle.world.specs.Steps.ReadingLines.{texts};
 ghost use Rattle.world.specs.Steps.Simulating.{HasDone, HasStopped};
 
 use crate::event_line::tell;
@@ -68,8 +69,12 @@ impl Simulation {
         out: &mut W,
     ) -> Result<(), LineFault>
         requires { self.old.events < 18446744073709551615 }
-        ensures ok { OnOk result (HasDone self.old.world self.new.world self.old.events self.new.events (map (λ w. w.now) words.now) (W.contents out.old) (W.contents out.new)) }
-        ensures fault { IfErr result (HasStopped self.old.world self.new.world self.old.events (map (λ w. w.now) words.now) (W.contents out.old) (W.contents out.new)) }
+        ensures ok { OnOk result
+            (HasDone self.old.world self.new.world self.old.events self.new.events (texts words.now)
+            (W.contents out.old) (W.contents out.new)) }
+        ensures fault { IfErr result
+            (HasStopped self.old.world self.new.world self.old.events (texts words.now)
+            (W.contents out.old) (W.contents out.new)) }
     {
         if is_idle(words) {
             return Ok(());
@@ -91,8 +96,12 @@ impl Simulation {
         out: &mut W,
     ) -> Result<(), LineFault>
         requires { self.old.events < 18446744073709551615 }
-        ensures ok { OnOk result (HasDone self.old.world self.new.world self.old.events self.new.events (words_of (without_last 13 text.now)) (W.contents out.old) (W.contents out.new)) }
-        ensures fault { IfErr result (HasStopped self.old.world self.new.world self.old.events (words_of (without_last 13 text.now)) (W.contents out.old) (W.contents out.new)) }
+        ensures ok { OnOk result
+            (HasDone self.old.world self.new.world self.old.events self.new.events (words_of (without_last 13 text.now))
+            (W.contents out.old) (W.contents out.new)) }
+        ensures fault { IfErr result
+            (HasStopped self.old.world self.new.world self.old.events (words_of (without_last 13 text.now))
+            (W.contents out.old) (W.contents out.new)) }
     {
         words.clear();
         push_words(words, without_last(b'\r', text.as_bytes()))?;
@@ -100,12 +109,12 @@ impl Simulation {
     }
 }
 
-/// Does the events of a schedule one after the other and writes a line for each, before it reads the next one. All first incarnations are 1, and an
-/// event's ticket is its number, from 1; refused events count, blank lines and comments don't. Each task makes evaluations of numbers up to
-/// `max_number` in an incarnation.
+/// Does the events of a schedule one after the other and writes a line for each, before it reads the next one. All
+/// first incarnations are 1, and an event's ticket is its number, from 1; refused events count, blank lines and
+/// comments don't. Each task makes evaluations of numbers up to `max_number` in an incarnation.
 ///
-/// `Syntax` is the first line, counted from 1, that is no event, comment or blank; the lines of the events before it are written. After `Write` what
-/// went out is a beginning of the text, after `Memory` the lines of some first events.
+/// `Syntax` is the first line, counted from 1, that is no event, comment or blank; the lines of the events before it
+/// are written. After `Write` what went out is a beginning of the text, after `Memory` the lines of some first events.
 pub fn simulate<W: Write>(
     alloc: Global,
     plant: Arc<Plant>,
@@ -114,7 +123,8 @@ pub fn simulate<W: Write>(
     out: &mut W,
 ) -> Result<(), SimFault>
     ensures ok { OnOk result (WritesRun plant.value max_number schedule.now (W.contents out.old) (W.contents out.new)) }
-    ensures fault { IfErr result (EndsEarly plant.value max_number schedule.now (W.contents out.old) (W.contents out.new)) }
+    ensures fault { IfErr result
+        (EndsEarly plant.value max_number schedule.now (W.contents out.old) (W.contents out.new)) }
 {
     let _bytes = bytes_in(schedule);
     let world = open(alloc, plant, max_number)?;

@@ -10,7 +10,7 @@ use Rattle.exchange.specs.History.{history_of, after_events}
 use Rattle.exchange.specs.Run.{IsRun}
 use Rattle.exchange.specs.World.{WorldValue}
 use Rattle.world.specs.RunLines.{evaluation_line}
-use Rattle.world.specs.RunText.{delivery_line, restart_line, Tells}
+use Rattle.world.specs.RunText.{delivery_line, restart_line, TellsEvent}
 
 -- what stands before item k of a list
 abbrev pub gap_before : ℕ → List ℕ
@@ -31,6 +31,7 @@ done_line plant log e done = []
 -- an event was done or refused, and this line tells it
 pub record IsTold (old new : WorldValue) (number : ℕ) (e : Event) (line : List ℕ) : Type 0 where
   pub setting : new.setting ≡ old.setting
-  pub history : history_of new.setting new.events ≡ after_events old.setting (history_of old.setting old.events) (e ∷ [])
+  pub history : history_of new.setting new.events
+      ≡ after_events old.setting (history_of old.setting old.events) (e ∷ [])
   pub run : IsRun old.setting old.events old.log
-  pub tells : Tells old number e line
+  pub tells : TellsEvent old number e line

@@ -1,5 +1,5 @@
 use Rattle.std.proofs.Common.{◌+◌, ◌++◌, string_bytes, ap, ◌∙◌}
-use Rattle.text_writer.proofs.Sending.{none_made, more_made, sends_on, part_sent, part_left, on_err}
+use Rattle.text_writer.proofs.Sending.{none_made, more_made, sends_on, part_of_less, part_sent, part_left, on_err}
 use Rattle.world.specs.RunLines.{evaluation_line}
 use Rattle.run_texts.proofs.Reporting.{entries_parted, entry_more}
 use Rattle.run_texts.proofs.report_text.write_entries.Goals as goal
@@ -14,7 +14,7 @@ pub returns-in_err-send_full-clause-part : goal.returns-in_err-send_full-clause-
 returns-in_err-send_full-clause-part g c =
     let told = c.in_ok-push_evaluation.ensures ∙ ap (λ x. string_bytes c.loop-i.lines ++ evaluation_line c.args.plant.now (c.loop-i.i + 1) x) (c.evaluation.ensures ∙ c.index-entries-i.is) in
     let made = more_made _ _ _ _ _ _ _ c.loop-i.invariant told (entry_more c.args.plant.now c.args.entries.now c.loop-i.i c.index-entries-i.result c.loop-i-test.true) in
-    on_err _ (part_left _ _ _ _ _ _ _ c.in_err-send_full.ensures.part.0 (entries_parted c.args.plant.now c.args.entries.now (c.loop-i.i + 1)) made c.in_err-send_full.ensures.part.1)
+    on_err _ (part_left _ _ _ _ _ _ _ (entries_parted c.args.plant.now c.args.entries.now (c.loop-i.i + 1)) made c.in_err-send_full.ensures.part)
 
 pub loop-i-preserved : goal.loop-i-preserved
 loop-i-preserved g c =
@@ -24,5 +24,5 @@ loop-i-preserved g c =
 
 pub returns-in_err-write_text-clause-part : goal.returns-in_err-write_text-clause-part
 returns-in_err-write_text-clause-part g c =
-    let part = rw c.as_str.ensures.value at c.in_err-write_text.ensures.prefix in
-    on_err _ (part_left _ _ _ _ _ _ _ part.0 (entries_parted c.args.plant.now c.args.entries.now c.loop-i.i) c.loop-i.invariant part.2)
+    let part = part_of_less _ _ _ (rw c.as_str.ensures.value at c.in_err-write_text.ensures.prefix) in
+    on_err _ (part_left _ _ _ _ _ _ _ (entries_parted c.args.plant.now c.args.entries.now c.loop-i.i) c.loop-i.invariant part)

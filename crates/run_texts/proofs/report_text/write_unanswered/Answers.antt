@@ -1,5 +1,4 @@
-use Rattle.std.proofs.Common.{◌+◌}
-use Rattle.text_writer.proofs.Sending.{none_made, more_made, sends_on, part_sent, part_left, lines_parted, line_more, on_err}
+use Rattle.text_writer.proofs.Sending.{none_made, sends_on, part_of_less, lines_unmade, lines_unsent, line_made}
 use Rattle.run_texts.specs.ReportText.{unanswered_line}
 use Rattle.run_texts.proofs.report_text.write_unanswered.Goals as goal
 
@@ -7,19 +6,18 @@ pub loop-ticket-init : goal.loop-ticket-init
 loop-ticket-init g c = none_made _ _ c.new-lines.ensures.bytes
 
 pub returns-in_err-push_unanswered-clause-part : goal.returns-in_err-push_unanswered-clause-part
-returns-in_err-push_unanswered-clause-part g c = on_err _ (part_sent _ _ _ _ _ _ (lines_parted unanswered_line c.args.tickets.now c.loop-ticket.ticket-index) c.loop-ticket.invariant)
+returns-in_err-push_unanswered-clause-part g c = lines_unmade unanswered_line c.args.tickets.now _ _ _ _ _ c.loop-ticket.invariant
 
 pub returns-in_err-send_full-clause-part : goal.returns-in_err-send_full-clause-part
 returns-in_err-send_full-clause-part g c =
-    let made = more_made _ _ _ _ _ _ _ c.loop-ticket.invariant c.in_ok-push_unanswered.ensures (line_more unanswered_line c.args.tickets.now c.loop-ticket.ticket-index _ c.loop-ticket-test.true) in
-    on_err _ (part_left _ _ _ _ _ _ _ c.in_err-send_full.ensures.part.0 (lines_parted unanswered_line c.args.tickets.now (c.loop-ticket.ticket-index + 1)) made c.in_err-send_full.ensures.part.1)
+    let made = line_made unanswered_line c.args.tickets.now _ _ _ _ _ _ c.loop-ticket-test.true c.loop-ticket.invariant c.in_ok-push_unanswered.ensures in
+    lines_unsent unanswered_line c.args.tickets.now _ _ _ _ _ _ made c.in_err-send_full.ensures.part
 
 pub loop-ticket-preserved : goal.loop-ticket-preserved
 loop-ticket-preserved g c =
-    let made = more_made _ _ _ _ _ _ _ c.loop-ticket.invariant c.in_ok-push_unanswered.ensures (line_more unanswered_line c.args.tickets.now c.loop-ticket.ticket-index _ c.loop-ticket-test.true) in
+    let made = line_made unanswered_line c.args.tickets.now _ _ _ _ _ _ c.loop-ticket-test.true c.loop-ticket.invariant c.in_ok-push_unanswered.ensures in
     sends_on _ _ _ _ _ _ made c.in_ok-send_full.ensures.ok
 
 pub returns-in_err-write_text-clause-part : goal.returns-in_err-write_text-clause-part
 returns-in_err-write_text-clause-part g c =
-    let part = rw c.as_str.ensures.value at c.in_err-write_text.ensures.prefix in
-    on_err _ (part_left _ _ _ _ _ _ _ part.0 (lines_parted unanswered_line c.args.tickets.now c.loop-ticket.ticket-index) c.loop-ticket.invariant part.2)
+    lines_unsent unanswered_line c.args.tickets.now _ _ _ _ _ _ c.loop-ticket.invariant (part_of_less _ _ _ (rw c.as_str.ensures.value at c.in_err-write_text.ensures.prefix))

@@ -1,9 +1,10 @@
 -- The report is written whole or in part.
 use Rattle.std.proofs.Common.{ap, ◌∙◌}
 use Rattle.std.proofs.KnownBytes.{Appends-trans}
+use Rattle.lists.proofs.Results.{kept_fault}
 use Rattle.text_writer.specs.declared.send_fault.SendFault.TheVariants.{Write, Memory}
 use Rattle.run_texts.specs.ReportText.{report_lines, replay_line, TellsPart}
-use Rattle.run_texts.proofs.ReportTelling.{kept_fault, lines_partly, lines_alone, last_partly, faulty}
+use Rattle.run_texts.proofs.ReportTelling.{lines_partly, lines_alone, last_partly, faulty}
 use Rattle.run_texts.proofs.telling.tell_report.Goals as goal
 
 pub returns-in_err-write_report-clause-fault : goal.returns-in_err-write_report-clause-fault

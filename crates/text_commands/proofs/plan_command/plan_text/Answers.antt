@@ -1,5 +1,5 @@
 use Rattle.text_commands.specs.PlanText.{ExplainsPlan}
-use Rattle.text_commands.proofs.Explaining.{kept_fault}
+use Rattle.lists.proofs.Results.{kept_fault}
 use Rattle.text_commands.proofs.PlanExplaining.{plan_refused, plan_written, plan_partly}
 use Rattle.text_commands.proofs.plan_command.plan_text.Goals as goal
 

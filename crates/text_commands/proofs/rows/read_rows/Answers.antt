@@ -1,7 +1,7 @@
 use Rattle.std.proofs.Common.{◌≡◌, ◌+◌, refl, sym, subst, take}
 use Rattle.std.specs.Prelude.{Any, false, true}
 use Rattle.std.specs.List.{AllZip}
-use Rattle.text_commands.specs.Rows.{RowValue, IsRow, AreApart, texts}
+use Rattle.text_commands.specs.Rows.{RowValue, IsRow, AreOfDistinctVariables, texts}
 use Rattle.text_commands.proofs.RowLemmas.{first_bad, first_refused, refuse_word, refuse_twice, each_push, apart_push}
 use Rattle.text_commands.proofs.rows.read_rows.Goals as goal
 
@@ -27,5 +27,5 @@ loop-number-preserved c =
     record {
       each = subst (AllZip (IsRow c.args.declarations.now) (take (c.loop-number.number + 1) (texts c.args.words.now))) (sym c.in_ok-push.ensures.items)
           (each_push _ _ _ _ _ _ c.loop-number-test.true c.loop-number.invariant.each c.in-Ok.ensures.ok);
-      apart = subst AreApart (sym c.in_ok-push.ensures.items) (apart_push _ _ c.loop-number.invariant.apart new);
+      apart = subst AreOfDistinctVariables (sym c.in_ok-push.ensures.items) (apart_push _ _ c.loop-number.invariant.apart new);
     }

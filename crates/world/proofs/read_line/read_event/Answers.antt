@@ -26,7 +26,7 @@ returns-in-Some-clause-ok c =
 
 pub returns-in-None-read_deliver-clause-fault : goal.returns-in-None-read_deliver-clause-fault
 returns-in-None-read_deliver-clause-fault c =
-    λ _. no_deliver c.args.plant.now c.args.ticket c.args.words.now (sym c.in-Some-Deliver.ensures ∙ ap (λ k. Some k) c.in-Some-Deliver.field-0-is) c.in-None-read_deliver.ensures
+    λ _. no_deliver c.args.plant.now c.args.ticket c.args.words.now (sym c.in-Some-Deliver.ensures ∙ ap (λ k. Some k) c.in-Some-Deliver.field-0-is) (λ message resource. c.in-None-read_deliver.ensures (message, resource))
 
 pub returns-in-Some-read_restart-clause-ok : goal.returns-in-Some-read_restart-clause-ok
 returns-in-Some-read_restart-clause-ok c =

@@ -3,7 +3,7 @@ use Rattle.std.proofs.lemmas.List.{take_all}
 use Rattle.plant.specs.PlantValue.{tasks_at, codes_at}
 use Rattle.task_codes.specs.CodeValue.{CodeValue}
 use Rattle.text_commands.proofs.Counting.{more_or, room_or, as_many}
-use Rattle.text_commands.proofs.plant_counts.programs_of.Goals as goal
+use Rattle.text_commands.proofs.plant_counts.instances_of.Goals as goal
 
 pub overflow_add-count : goal.overflow_add-count
 overflow_add-count c = omega (arith, room_or (λ (c : CodeValue). length c.programs) (codes_at c.args.plant.now c.args.resource) c.loop-task.task, c.programs_at-count.ensures, c.loop-task.invariant, c.requires.few)
