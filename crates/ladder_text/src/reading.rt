@@ -54,7 +54,7 @@ fn check_names(alloc: Global, worded: &WordedGrid) -> Result<(), Refusal>
     ensures refused { IfErr result (λ e. e.kind ≢ Memory → IsIllDrawn worded.now) }
     ensures first { IfErr result (λ e. e.kind ≢ Memory → IsFirstFrom worded.now 8 e.kind e.place.row e.place.column) }
 {
-    for row in 0..worded.marked().row_end() {
+    for row in 0..worded.marked().grid().row_end() {
         if let Some(column) = unnamed_in_row(alloc, worded, row)? {
             return Err(fault(DrawFaultKind::NameMissing, Place { row, column }));
         }
@@ -70,7 +70,7 @@ fn first_stray_word(alloc: Global, worded: &WordedGrid) -> Result<Option<Place>,
     ensures some { IfOk result (λ found. IfSome found (λ p. IsTrue (has_stray_word (layout_of worded.now) p.row))) }
     ensures first { IfOk result (λ found. IsFirstOf (IsStrayWordAt worded.now) found) }
 {
-    for row in 0..worded.marked().row_end() {
+    for row in 0..worded.marked().grid().row_end() {
         if let Some(column) = stray_in_row(alloc, worded, row)? {
             return Ok(Some(Place { row, column }));
         }

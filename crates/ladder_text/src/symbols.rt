@@ -22,7 +22,7 @@ fn contact_here(
 ) -> Result<Option<Contact>, AllocError>
     ensures { IfOk result (λ o. o ≡ contact_here (layout_of worded.now) row column) }
 {
-    if worded.marked().last() < column {
+    if worded.marked().grid().last() < column {
         return Ok(None);
     }
     match worded.marked().contact_at(row, column) {
@@ -49,7 +49,7 @@ fn coil_here(
 ) -> Result<Option<Coil>, AllocError>
     ensures { IfOk result (λ o. o ≡ coil_here (layout_of worded.now) row column) }
 {
-    if worded.marked().last() < column {
+    if worded.marked().grid().last() < column {
         return Ok(None);
     }
     match worded.marked().coil_at(row, column) {
@@ -106,7 +106,7 @@ pub fn contacts(alloc: Global, worded: &WordedGrid) -> Result<Vec<Contact>, Allo
     ensures { IfOk result (λ v. v.items ≡ contacts (layout_of worded.now)) }
 {
     let mut all = Vec::new(alloc);
-    for row in 0..worded.marked().row_end().saturating_sub(1) {
+    for row in 0..worded.marked().grid().row_end().saturating_sub(1) {
         push_contacts(alloc, worded, row + 1, &mut all)?;
     }
     Ok(all)
@@ -118,7 +118,7 @@ pub fn coils(alloc: Global, worded: &WordedGrid) -> Result<Vec<Coil>, AllocError
     ensures { IfOk result (λ v. v.items ≡ coils (layout_of worded.now)) }
 {
     let mut all = Vec::new(alloc);
-    for row in 0..worded.marked().row_end().saturating_sub(1) {
+    for row in 0..worded.marked().grid().row_end().saturating_sub(1) {
         push_coils(alloc, worded, row + 1, &mut all)?;
     }
     Ok(all)

@@ -37,13 +37,14 @@ fn word_rest(marked: &MarkedGrid, bare: bool, cells: &[u8], row: usize, column: 
     ensures rest { result ≡ run (in_word (layout_of marked.now) row) (column + 1) (width marked.now) }
     ensures within { column ≤ width marked.now → column + result ≤ width marked.now }
 {
-    let limit = marked.last();
+    let grid = marked.grid();
+    let limit = grid.last();
     let mut n = 0;
     while n < limit
         && in_word_with(
             marked,
             bare,
-            marked.grid().cell(cells, row, column + 1 + n),
+            grid.cell(cells, row, column + 1 + n),
             row,
             column + 1 + n,
         )
@@ -59,15 +60,16 @@ pub fn words(alloc: Global, marked: &MarkedGrid, row: usize) -> Result<Vec<Span>
     ensures { IfOk result (λ v. v.items ≡ words (layout_of marked.now) row) }
 {
     let mut words = Vec::new(alloc);
-    let cells = marked.grid().cells(row);
-    let last = marked.last();
+    let grid = marked.grid();
+    let cells = grid.cells(row);
+    let last = grid.last();
     let bare = marked.is_bare(row);
-    let mut inside = in_word_with(marked, bare, marked.grid().cell(cells, row, 0), row, 0);
+    let mut inside = in_word_with(marked, bare, grid.cell(cells, row, 0), row, 0);
     let mut column = 0;
     while column < last {
         let before = inside;
         column += 1;
-        let c = marked.grid().cell(cells, row, column);
+        let c = grid.cell(cells, row, column);
         inside = in_word_with(marked, bare, c, row, column);
         if inside && !before {
             let rest = word_rest(marked, bare, cells, row, column);
@@ -106,7 +108,7 @@ fn symbols_in(
     ensures { IfOk result (λ v. v.items ≡ symbols (layout_of marked.now) row) }
 {
     let mut symbols = Vec::new(alloc);
-    let last = marked.last();
+    let last = marked.grid().last();
     let mut column = 0;
     while column < last {
         let mark = marked.mark_in(marks, row, column + 1);
@@ -125,7 +127,7 @@ fn symbols_by_place(alloc: Global, marked: &MarkedGrid, row: usize) -> Result<Ve
     ensures { IfOk result (λ v. v.items ≡ symbols (layout_of marked.now) row) }
 {
     let mut symbols = Vec::new(alloc);
-    for column in 0..marked.last() {
+    for column in 0..marked.grid().last() {
         let mark = marked.mark(row, column + 1);
         if let Some(symbol) = symbol_with(marked, mark, row, column + 1) {
             symbols.push(symbol)?;

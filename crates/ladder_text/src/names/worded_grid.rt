@@ -36,7 +36,7 @@ fn words_by_row(alloc: Global, marked: &MarkedGrid) -> Result<Vec<SpanRow>, Allo
     ensures { IfOk result (λ v. AreOfRows (words (layout_of marked.now)) (length marked.now) v.items) }
 {
     let mut all = Vec::new(alloc);
-    for row in 0..marked.row_end() {
+    for row in 0..marked.grid().row_end() {
         all.push(SpanRow::new(words(alloc, marked, row)?))?;
     }
     Ok(all)
@@ -47,7 +47,7 @@ fn symbols_by_row(alloc: Global, marked: &MarkedGrid) -> Result<Vec<SpanRow>, Al
     ensures { IfOk result (λ v. AreOfRows (symbols (layout_of marked.now)) (length marked.now) v.items) }
 {
     let mut all = Vec::new(alloc);
-    for row in 0..marked.row_end() {
+    for row in 0..marked.grid().row_end() {
         all.push(SpanRow::new(symbols(alloc, marked, row)?))?;
     }
     Ok(all)

@@ -6,7 +6,7 @@ mod place_faults;
 mod rails;
 mod symbol_places;
 
-ghost use Rattle.std.specs.Prelude.{◌≡◌, ◌<◌, ◌≤◌, ◌^◌, IfSome, IfOk, length};
+ghost use Rattle.std.specs.Prelude.{◌≡◌, ◌<◌, ◌≤◌, ◌^◌, IfSome, IfOk};
 ghost use Rattle.ladder_text.specs.Rows.{width};
 ghost use Rattle.ladder_text.specs.Boxes.{outlines};
 ghost use Rattle.ladder_text.specs.Places.{layout_of, is_taken, mark as place_mark};
@@ -130,28 +130,13 @@ impl MarkedGrid {
         self.boxes.as_slice()
     }
 
-    pub fn last(&self) -> usize
-        ensures last { result ≡ width self.now }
-        ensures narrow { result ≤ 240 }
-    {
-        self.grid.last()
-    }
-
-    /// One more than the number of rows.
-    pub fn row_end(&self) -> usize
-        ensures rows { result ≡ length self.now }
-        ensures few { result ≤ 2001 }
-    {
-        self.grid.row_end()
-    }
-
     /// What stands at a place.
     #[tactic(auto, unfolding(crate::specs::Places::layout_of))]
     pub fn mark(&self, row: usize, column: usize) -> Mark
         requires { column < 2 ^ 62 }
         ensures { result ≡ place_mark (layout_of self.now) row column }
     {
-        if column == 0 || self.last() < column {
+        if column == 0 || self.grid.last() < column {
             return self.find_mark(row, column);
         }
         match self.marks_on(row) {

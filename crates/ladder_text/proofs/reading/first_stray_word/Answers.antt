@@ -1,4 +1,4 @@
-use Rattle.std.proofs.Common.{◌<◌, length, ap, subst, arith}
+use Rattle.std.proofs.Common.{◌<◌, length, ap, subst, ◌∙◌, arith}
 use Rattle.ladder_text.specs.Rows.{Rows}
 use Rattle.ladder_text.specs.Places.{layout_of}
 use Rattle.ladder_text.specs.Names.{words}
@@ -13,6 +13,6 @@ returns-in-Some-clause-first c =
     let d = c.args.worded.now in
     let p = layout_of d in
     let r = c.loop-row.row in
-    let size = ap (λ (e : Rows). length e) c.marked.ensures in
+    let size = ap (λ (e : Rows). length e) (c.grid.ensures ∙ c.marked.ensures) in
     let inside : r < length d = omega (arith, c.row_end-row-end.ensures.rows, size, c.loop-row-test.true) in
     word_first d r c.in-Some.column inside c.loop-row.invariant (subst (IsFirstColumnOf (IsSpanAt (words p r) (stray_name p r))) c.in-Some.is c.in_ok-column.ensures.first)

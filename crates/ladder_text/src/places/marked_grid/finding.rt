@@ -68,8 +68,8 @@ impl MarkedGrid {
     fn row_marks_by_place(&self, alloc: Global, row: usize) -> Result<MarkRow, AllocError>
         ensures { IfOk result (λ m. m ≡ row_marks (layout_of self.now) row) }
     {
-        let mut marks = MarkRow::with_room(alloc, self.last())?;
-        for column in 0..self.last() {
+        let mut marks = MarkRow::with_room(alloc, self.grid.last())?;
+        for column in 0..self.grid.last() {
             marks.push(self.find_mark(row, column + 1))?;
         }
         Ok(marks)
@@ -86,7 +86,7 @@ impl MarkedGrid {
         }
         let bare = self.is_bare(row);
         let cells = self.grid.cells(row);
-        let last = self.last();
+        let last = self.grid.last();
         let mut marks = MarkRow::with_room(alloc, last)?;
         let mut column = 0;
         while column < last {
@@ -111,7 +111,7 @@ impl MarkedGrid {
         ensures { IfOk result (λ v. v.items ≡ marks_of (layout_of self.now)) }
     {
         let mut all = Vec::new(alloc);
-        for row in 0..self.row_end().saturating_sub(1) {
+        for row in 0..self.grid.row_end().saturating_sub(1) {
             all.push(self.row_marks(alloc, row + 1)?)?;
         }
         Ok(all)

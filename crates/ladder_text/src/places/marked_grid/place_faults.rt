@@ -87,7 +87,7 @@ impl MarkedGrid {
         ensures len { result ≡ upright_len (layout_of self.now) row column }
         ensures few { result ≤ 2001 }
     {
-        let limit = self.row_end().saturating_sub(1);
+        let limit = self.grid.row_end().saturating_sub(1);
         let mut n = 0;
         while n < limit && is_vertical(self.mark(row + n, column)) {
             n += 1;
@@ -179,7 +179,7 @@ impl MarkedGrid {
     {
         let cells = self.grid.cells(row);
         let mut before = self.mark(row, 0);
-        for column in 0..self.last() + 1 {
+        for column in 0..self.grid.last() + 1 {
             let c = self.grid.cell(cells, row, column);
             let mark = self.mark_in(marks, row, column);
             if !self.is_fine(c, before, mark, row, column) {
@@ -218,7 +218,7 @@ impl MarkedGrid {
     pub fn is_fine_everywhere(&self) -> bool
         ensures { IsTrue result → (fault : PlaceFault) → NowhereInRows self.now (has_fault fault (layout_of self.now)) }
     {
-        for row in 0..self.row_end() {
+        for row in 0..self.grid.row_end() {
             if !self.is_row_fine(row) {
                 return false;
             }
@@ -233,7 +233,7 @@ impl MarkedGrid {
         ensures some { IfSome result (λ c. IsTrue (has_fault fault (layout_of self.now) row c)) }
         ensures before { IfSome result (λ c. (k : ℕ) → k < c → IsFalse (has_fault fault (layout_of self.now) row k)) }
     {
-        for column in 0..self.last() + 1 {
+        for column in 0..self.grid.last() + 1 {
             if self.has_fault(fault, row, column) {
                 return Some(column);
             }
@@ -248,7 +248,7 @@ impl MarkedGrid {
         ensures some { IfSome result (λ p. PassesAt self.now (has_fault fault (layout_of self.now)) p) }
         ensures first { IfSome result (λ p. IsFirstToPass self.now (has_fault fault (layout_of self.now)) p) }
     {
-        for row in 0..self.row_end() {
+        for row in 0..self.grid.row_end() {
             if let Some(column) = self.fault_in_row(fault, row) {
                 return Some(Place { row, column });
             }

@@ -11,7 +11,7 @@ impl MarkedGrid {
     fn may_be_rail(&self, row: usize) -> bool
         ensures { result ≡ may_be_rail (layout_of self.now) row }
     {
-        let last = self.last();
+        let last = self.grid.last();
         let mark = self.grid.at(row, last);
         mark == b' ' || ((mark == b'|' || mark == b'+') && !self.in_box_or_symbol(row, last))
     }
@@ -21,7 +21,8 @@ impl MarkedGrid {
     fn find_right_rail(&self) -> bool
         ensures { result ≡ has_right_rail (layout_of self.now) }
     {
-        self.grid.left() < self.last() && (1..self.row_end()).all(|row| self.may_be_rail(row))
+        self.grid.left() < self.grid.last()
+            && (1..self.grid.row_end()).all(|row| self.may_be_rail(row))
     }
 
     /// Whether the last column is a right rail.
@@ -38,6 +39,6 @@ impl MarkedGrid {
     pub fn is_rail_column(&self, column: usize) -> bool
         ensures { result ≡ is_rail_column (layout_of self.now) column }
     {
-        column == self.grid.left() || (column == self.last() && self.has_right_rail())
+        column == self.grid.left() || (column == self.grid.last() && self.has_right_rail())
     }
 }

@@ -1,5 +1,5 @@
-use Rattle.std.proofs.Common.{◌+◌, ◌∙◌, sym, arith}
-use Rattle.ladder_text.specs.Rows.{width}
+use Rattle.std.proofs.Common.{◌+◌, ◌∙◌, ap, sym, arith}
+use Rattle.ladder_text.specs.Rows.{Rows, width}
 use Rattle.ladder_text.specs.Places.{layout_of}
 use Rattle.ladder_text.specs.Names.{in_word}
 use Rattle.ladder_text.proofs.Rows.RunLemmas.{run-is}
@@ -9,7 +9,8 @@ use Rattle.ladder_text.proofs.names.spans.word_rest.Goals as goal
 pub returns-else-in_word_with-clause-rest : goal.returns-else-in_word_with-clause-rest
 returns-else-in_word_with-clause-rest c =
     let a = c.args in
-    sym (run-is (in_word (layout_of a.marked.now) a.row) (a.column + 1) c.loop-n.n (width a.marked.now) (omega arith) c.loop-n.invariant.1 (λ k. sym c.in_word_with.ensures ∙ c.if-in_word_with.false))
+    let wide = ap (λ (e : Rows). width e) c.grid-grid.ensures in
+    sym (run-is (in_word (layout_of a.marked.now) a.row) (a.column + 1) c.loop-n.n (width a.marked.now) (omega (arith, wide)) c.loop-n.invariant.1 (λ k. sym c.in_word_with.ensures ∙ c.if-in_word_with.false))
 
 pub returns-else-in_word_with-clause-within : goal.returns-else-in_word_with-clause-within
 unfolding layout_of
@@ -18,7 +19,8 @@ returns-else-in_word_with-clause-within c = λ inside. word_within (layout_of c.
 pub returns-after-loop-n-clause-rest : goal.returns-after-loop-n-clause-rest
 returns-after-loop-n-clause-rest c =
     let a = c.args in
-    sym (run-is (in_word (layout_of a.marked.now) a.row) (a.column + 1) c.loop-n.n (width a.marked.now) (omega arith) c.loop-n.invariant.1 (λ k. absurd (omega arith)))
+    let wide = ap (λ (e : Rows). width e) c.grid-grid.ensures in
+    sym (run-is (in_word (layout_of a.marked.now) a.row) (a.column + 1) c.loop-n.n (width a.marked.now) (omega (arith, wide)) c.loop-n.invariant.1 (λ k. absurd (omega (arith, wide))))
 
 pub returns-after-loop-n-clause-within : goal.returns-after-loop-n-clause-within
 unfolding layout_of

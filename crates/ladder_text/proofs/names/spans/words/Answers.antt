@@ -1,5 +1,5 @@
 use Rattle.std.proofs.Common.{◌≡◌, ◌+◌, ◌++◌, ◌∷◌, [], List, ap, sym, arith, ◌∙◌}
-use Rattle.ladder_text.specs.Rows.{upto, width}
+use Rattle.ladder_text.specs.Rows.{Rows, upto, width}
 use Rattle.ladder_text.specs.Boxes.{option_list}
 use Rattle.ladder_text.specs.Places.{layout_of}
 use Rattle.ladder_text.specs.Names.{words, word_at}
@@ -10,7 +10,8 @@ use Rattle.ladder_text.proofs.names.spans.words.Goals as goal
 pub returns : goal.returns
 unfolding layout_of words
 returns c =
-    let e : c.loop-column.column ≡ width c.args.marked.now = omega arith in
+    let wide = ap (λ (e : Rows). width e) c.grid-grid.ensures in
+    let e : c.loop-column.column ≡ width c.args.marked.now = omega (arith, wide) in
     c.loop-column.invariant.words ∙ ap (λ n. upto n (λ k. option_list (word_at (layout_of c.args.marked.now) c.args.row k))) e
 
 pub loop-column-preserved-then-not-before : goal.loop-column-preserved-then-not-before
@@ -23,8 +24,9 @@ loop-column-preserved-then-not-before c =
     let here = sym c.in_word_with-inside-in-loop-column.ensures ∙ c.if-inside.true in
     let before = sym c.loop-column.invariant.inside ∙ c.if-not-before.true in
     let long = c.word_rest-rest.ensures.rest in
+    let wide = ap (λ (e : Rows). width e) c.grid-grid.ensures in
     record {
-      within = omega (arith, c.word_rest-rest.ensures.within (omega arith));
+      within = omega (arith, wide, c.word_rest-rest.ensures.within (omega (arith, wide)));
       words = c.in_ok-push.ensures.items ∙ ap (λ (l : List Span). l ++ record { first = k + 1; end = k + 1 + 1 + n } ∷ []) c.loop-column.invariant.words ∙ sym (words_more p r k n here long before);
       inside = c.if-inside.true ∙ sym (word_last p r k n here long);
     }
