@@ -62,5 +62,5 @@ HasLongPlan resources until = (dues : List Due) × IsPlanOf resources until dues
 -- there is one plan
 abbrev pub OnePlan : Type 0
 OnePlan =
-    (resources : List (List Timing)) (until : ℕ) (a b : List Due) → IsPlanOf resources until a → IsPlanOf resources until b
-    → a ≡ b
+    (resources : List (List Timing)) (until : ℕ) (a b : List Due) → IsPlanOf resources until a
+    → IsPlanOf resources until b → a ≡ b
