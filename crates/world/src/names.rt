@@ -2,9 +2,9 @@
 
 ghost use Rattle.std.specs.Prelude.{◌≡◌, ◌<◌, ◌==◌, IfSome, Some, length, position, slice_get};
 ghost use Rattle.words.specs.Chars.{same_word};
+ghost use Rattle.plant.specs.Find.{Finds};
 ghost use Rattle.plant.specs.PlantValue.{ResourceValue, TaskValue};
 ghost use Rattle.world.specs.ScheduleText.{resource_named, task_in, IsTaskWord, IsResourceWord};
-ghost use Rattle.world.specs.Steps.ReadingLines.{Finds};
 
 use plant::{Plant, Task, TaskRef};
 use words::is_plain_name;

@@ -1,9 +1,10 @@
 //! The event that a line spells.
 
 ghost use Rattle.std.specs.Prelude.{◌≡◌, ◌≢◌, ℕ, IfOk, IfErr};
+ghost use Rattle.plant.specs.Find.{Finds};
 ghost use Rattle.world.specs.declared.line_fault.LineFault.TheVariants.{Syntax, Write};
 ghost use Rattle.world.specs.ScheduleText.{SpellsEvaluate, SpellsDeliver, SpellsRestart, SpellsEvent, SpellsNoEvent};
-ghost use Rattle.world.specs.Steps.ReadingLines.{texts, keyword_of, Finds, SpellsNoEvaluate};
+ghost use Rattle.world.specs.Steps.ReadingLines.{texts, keyword_of, SpellsNoEvaluate};
 
 use crate::line_fault::LineFault;
 use crate::names::{resource_of, task_of};

@@ -1,5 +1,5 @@
 -- Steps of proofs: what the words of a line spell.
-use Rattle.std.specs.Prelude.{ℕ, List, [], ◌∷◌, map, codes, Option, MatchOption}
+use Rattle.std.specs.Prelude.{ℕ, List, [], ◌∷◌, map, codes, Option}
 use Rattle.std.specs.Borrow.{Bor}
 use Rattle.words.specs.Chars.{same_word, first_that}
 use Rattle.due_list.specs.declared.task_ref.TaskRef.{TaskRef}
@@ -12,10 +12,6 @@ use Rattle.world.specs.ScheduleText.{SpellsEvaluate}
 -- the characters of words
 abbrev pub texts : List (Bor (List ℕ)) → List (List ℕ)
 texts words = map (λ w. w.now) words
-
--- what is found is one of which this holds; where nothing is found, it holds of nothing
-abbrev pub Finds : {A : Type 0} → (A → Type 0) → Option A → Type 0
-Finds {A} P found = MatchOption found ((x : A) → P x → ⊥) P
 
 -- the keyword that a word is
 unfoldable pub keyword_of : List ℕ → Option Keyword
