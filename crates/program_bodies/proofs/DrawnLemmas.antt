@@ -8,7 +8,6 @@ use Rattle.program_bodies.specs.Ladders.{IsLadderOf, HasLadder}
 use Rattle.plant_grammar.specs.Grammar.{TextValue}
 use Rattle.program_bodies.specs.BodyFaults.{IsBodyFault, IsFirstBodyFault}
 use Rattle.program_bodies.specs.ProgramTypes.{AreDrawn, TypeValue}
-use Rattle.plant_grammar.specs.Steps.Reading.{programs_of}
 
 abbrev IsWithLadder : TypeValue → Type 0
 IsWithLadder t = IsLadderOf t.program t.ladder
@@ -29,12 +28,12 @@ pub passed_more : (all before left now : List TextValue) (t : TextValue) → lef
 passed_more all before left now t front parts = append_assoc before (t ∷ []) now ∙ ap (λ ts. before ++ ts) (sym front) ∙ parts
 
 -- programs that are drawn have ladders
-with_ladders : (texts : List TextValue) (types : List TypeValue) → map (λ (t : TypeValue). t.program) types ≡ programs_of texts → All (λ (t : TypeValue). IsLadderOf t.program t.ladder) types → All HasItsLadder texts
+with_ladders : (texts : List TextValue) (types : List TypeValue) → map (λ (t : TypeValue). t.program) types ≡ map (λ (t : TextValue). t.program) texts → All (λ (t : TypeValue). IsLadderOf t.program t.ladder) types → All HasItsLadder texts
 with_ladders [] types same ladders = All-nil HasItsLadder
 with_ladders (t ∷ ts) [] same ladders = absurd cc
 with_ladders (t ∷ ts) (y ∷ ys) same ladders =
     let first : y.program ≡ t.program = cc in
-    let rest : map (λ (t : TypeValue). t.program) ys ≡ programs_of ts = cc in
+    let rest : map (λ (t : TypeValue). t.program) ys ≡ map (λ (t : TextValue). t.program) ts = cc in
     let ladder = All-head (λ (t : TypeValue). IsLadderOf t.program t.ladder) y ys ladders in
     All-cons HasItsLadder t ts (y.ladder, subst (λ p. IsLadderOf p y.ladder) first ladder) (with_ladders ts ys rest (All-tail (λ (t : TypeValue). IsLadderOf t.program t.ladder) y ys ladders))
 
