@@ -1,4 +1,4 @@
--- Each test of a book tells whether its clause holds.
+-- AllByRecursion test of a book tells whether its clause holds.
 use Rattle.std.proofs.Common.{◌≡◌, arith, inl, inr, ℕ, ◌+◌, ◌<◌, ◌≤◌, Bool, true, false, cond, ◌&&◌, ◌||◌, List, [], ◌∷◌, length, Option, Some, None, refl, ap, sym, ◌∙◌, subst, eqb, ltb, leb}
 use Rattle.std.specs.Prelude.{not, is_some, slice_index, MatchOption}
 use Rattle.std.specs.Bool.{Decides}
@@ -9,17 +9,18 @@ use Rattle.std.proofs.lemmas.Bool.{leb-true, le-leb}
 use Rattle.std.proofs.lemmas.Slice.Eq.{slice_eq-Decides}
 use Rattle.std_blocks.specs.declared.value.Value.{Value}
 use Rattle.std_blocks.specs.declared.value.Value.TheVariants.{Bool as On, Int, Time}
-use Rattle.list_items.proofs.Each.{Each-at}
-use Rattle.list_items.proofs.Orders.{not_below-onward}
+use Rattle.lists.proofs.Each.{Each-at}
+use Rattle.lists.proofs.Orders.{not_below-onward}
 use Rattle.lists.proofs.Tables.{both_same, both_itself}
 use Rattle.due_list.specs.declared.task_ref.TaskRef.{TaskRef}
 use Rattle.evaluation.specs.declared.name.Name.{Name}
 use Rattle.evaluation.specs.declared.take.Take.{Take}
 use Rattle.evaluation.specs.Meaning.{Evaluated}
 use Rattle.evaluation.specs.Last.{same_task, last_number, from_of}
-use Rattle.list_items.specs.Each.{Among, Each}
-use Rattle.evaluation_book.specs.Fits.{last_in, name_from, is_below, HasImage, IsNotBackFrom, IsNumbered, IsKnown, IsUntorn, IsNotBack, IsOwnLatest, AllFit}
-use Rattle.evaluation_book.specs.Steps.Deciding.{same_name, is_named, same_value, same_values, same_from, incarnation_in, present_in, is_of_task, if_of, newest_in, is_numbered, has_named, known_from, is_known, keeps_image, untorn_from, is_untorn, takes_from, keeps_take, keeps_takes, is_not_back, is_own_latest}
+use Rattle.std.specs.List.{AllByRecursion}
+use Rattle.lists.specs.Among.{Among}
+use Rattle.evaluation_book.specs.Fits.{last_in, incarnation_in, present_in, name_from, is_below, HasImage, IsNotBackFrom, IsNumbered, IsKnown, IsUntorn, IsNotBack, IsOwnLatest, AllFit}
+use Rattle.evaluation_book.specs.Steps.Deciding.{same_name, is_named, same_value, same_values, same_from, is_of_task, if_of, newest_in, is_numbered, has_named, known_from, is_known, keeps_image, untorn_from, is_untorn, takes_from, keeps_take, keeps_takes, is_not_back, is_own_latest}
 
 -- a test that is true just where this holds
 pub record IsTest (b : Bool) (P : Type 0) : Type 0 where
@@ -64,11 +65,11 @@ test-not : (b : Bool) → IsTest (not b) (b ≡ false)
 test-not true = record { holds = λ e. absurd (false≢true e); passes = λ e. absurd (false≢true (sym e)) }
 test-not false = record { holds = λ e. refl; passes = λ e. refl }
 
-pub test-each : {X : Type 0} (f : X → Bool) (P : X → Type 0) → ((x : X) → IsTest (f x) (P x)) → (xs : List X) → IsTest (list_all f xs) (Each P xs)
+pub test-each : {X : Type 0} (f : X → Bool) (P : X → Type 0) → ((x : X) → IsTest (f x) (P x)) → (xs : List X) → IsTest (list_all f xs) (AllByRecursion P xs)
 test-each f P each [] = record { holds = λ e. tt; passes = λ h. refl }
-test-each f P each (x ∷ xs) = test-and (f x) (list_all f xs) (P x) (Each P xs) (each x) (test-each f P each xs)
+test-each f P each (x ∷ xs) = test-and (f x) (list_all f xs) (P x) (AllByRecursion P xs) (each x) (test-each f P each xs)
 
-pub each-map : {X : Type 0} (P Q : X → Type 0) → ((x : X) → P x → Q x) → (xs : List X) → Each P xs → Each Q xs
+pub each-map : {X : Type 0} (P Q : X → Type 0) → ((x : X) → P x → Q x) → (xs : List X) → AllByRecursion P xs → AllByRecursion Q xs
 each-map P Q more [] all = tt
 each-map P Q more (x ∷ xs) all = (more x all.0, each-map P Q more xs all.1)
 
@@ -120,19 +121,19 @@ test-from (Some a) (Some b) = by (test-and _ _ _ _ (test-same a.0 b.0) (test-sam
 
 -- no entry of a task in an incarnation has a greater number than the last one
 pub last-greatest : (first : List ℕ) (older : List Evaluated) → AllFit first older → (t : TaskRef) (i : ℕ)
-    → Each (λ (y : Evaluated). y.name.task ≡ t → y.name.incarnation ≡ i → y.name.number ≤ last_number (last_in older t i)) older
+    → AllByRecursion (λ (y : Evaluated). y.name.task ≡ t → y.name.incarnation ≡ i → y.name.number ≤ last_number (last_in older t i)) older
 last-greatest first [] fit t i = tt
 last-greatest first (x ∷ older) fit t i =
     by (same_task x.name.task t && eqb x.name.incarnation i) (test-and _ _ _ _ (test-task x.name.task t) (test-same x.name.incarnation i)) (last-greatest first older fit.1 t i) where
-      by : (b : Bool) → IsTest b ((x.name.task ≡ t) × (x.name.incarnation ≡ i)) → Each (λ (y : Evaluated). y.name.task ≡ t → y.name.incarnation ≡ i → y.name.number ≤ last_number (last_in older t i)) older
-          → Each (λ (y : Evaluated). y.name.task ≡ t → y.name.incarnation ≡ i → y.name.number ≤ last_number (cond b (Some x) (last_in older t i))) (x ∷ older)
+      by : (b : Bool) → IsTest b ((x.name.task ≡ t) × (x.name.incarnation ≡ i)) → AllByRecursion (λ (y : Evaluated). y.name.task ≡ t → y.name.incarnation ≡ i → y.name.number ≤ last_number (last_in older t i)) older
+          → AllByRecursion (λ (y : Evaluated). y.name.task ≡ t → y.name.incarnation ≡ i → y.name.number ≤ last_number (cond b (Some x) (last_in older t i))) (x ∷ older)
       by true d ih = (λ _ _. omega arith, each-map _ _ (λ y low own now. let under = low own now in omega (arith, next, under)) older ih) where
         next : x.name.number ≡ last_number (last_in older t i) + 1
         next = subst (λ j. x.name.number ≡ last_number (last_in older t j) + 1) (d.holds refl).1 (subst (λ s. x.name.number ≡ last_number (last_in older s x.name.incarnation) + 1) (d.holds refl).0 fit.0.numbered.next)
       by false d ih = (λ own now. absurd (false≢true (d.passes (own, now))), ih)
 
 -- no entry has the name of a later one
-names-differ : (first : List ℕ) (older : List Evaluated) (x : Evaluated) → AllFit first (x ∷ older) → Each (λ (y : Evaluated). y.name ≡ x.name → ⊥) older
+names-differ : (first : List ℕ) (older : List Evaluated) (x : Evaluated) → AllFit first (x ∷ older) → AllByRecursion (λ (y : Evaluated). y.name ≡ x.name → ⊥) older
 names-differ first older x fit = each-map _ _ apart older (last-greatest first older fit.1 x.name.task x.name.incarnation) where
   apart : (y : Evaluated) → (y.name.task ≡ x.name.task → y.name.incarnation ≡ x.name.incarnation → y.name.number ≤ last_number (last_in older x.name.task x.name.incarnation)) → y.name ≡ x.name → ⊥
   apart y low same =
@@ -145,11 +146,11 @@ IsLow n i y = y.name.task.resource ≡ n → y.name.incarnation ≤ i
 
 -- the present incarnation of a resource is the least that isn't below its first one or that of any entry
 test-present : (first : List ℕ) (older : List Evaluated) → AllFit first older → (n i : ℕ)
-    → IsTest (leb (present_in first older n) i) ((slice_index first n ≤ i) × Each (λ (y : Evaluated). y.name.task.resource ≡ n → y.name.incarnation ≤ i) older)
+    → IsTest (leb (present_in first older n) i) ((slice_index first n ≤ i) × AllByRecursion (λ (y : Evaluated). y.name.task.resource ≡ n → y.name.incarnation ≤ i) older)
 test-present first [] fit n i = record { holds = λ e. (leb-true (slice_index first n) i e, tt); passes = λ h. le-leb (slice_index first n) i h.0 }
 test-present first (x ∷ older) fit n i = by (eqb x.name.task.resource n) (test-same x.name.task.resource n) (test-present first older fit.1 n i) where
-  by : (b : Bool) → IsTest b (x.name.task.resource ≡ n) → IsTest (leb (present_in first older n) i) ((slice_index first n ≤ i) × Each (IsLow n i) older)
-      → IsTest (leb (incarnation_in (slice_index first n) (cond b (Some x) (find (λ (y : Evaluated). eqb y.name.task.resource n) older))) i) ((slice_index first n ≤ i) × Each (IsLow n i) (x ∷ older))
+  by : (b : Bool) → IsTest b (x.name.task.resource ≡ n) → IsTest (leb (present_in first older n) i) ((slice_index first n ≤ i) × AllByRecursion (IsLow n i) older)
+      → IsTest (leb (incarnation_in (slice_index first n) (cond b (Some x) (find (λ (y : Evaluated). eqb y.name.task.resource n) older))) i) ((slice_index first n ≤ i) × AllByRecursion (IsLow n i) (x ∷ older))
   by true d ih = record { holds = λ e. low (leb-true x.name.incarnation i e); passes = λ h. le-leb x.name.incarnation i (h.1.0 (d.holds refl)) } where
     same : x.name.task.resource ≡ n
     same = d.holds refl
@@ -160,11 +161,11 @@ test-present first (x ∷ older) fit n i = by (eqb x.name.task.resource n) (test
     lower : x.name.incarnation ≤ i → (y : Evaluated) → (y.name.task.resource ≡ x.name.task.resource → y.name.incarnation ≤ x.name.incarnation) → y.name.task.resource ≡ n → y.name.incarnation ≤ i
     lower h y below own = let under = below (own ∙ sym same) in omega (arith, h, under)
 
-    low : x.name.incarnation ≤ i → (slice_index first n ≤ i) × Each (λ (y : Evaluated). y.name.task.resource ≡ n → y.name.incarnation ≤ i) (x ∷ older)
+    low : x.name.incarnation ≤ i → (slice_index first n ≤ i) × AllByRecursion (λ (y : Evaluated). y.name.task.resource ≡ n → y.name.incarnation ≤ i) (x ∷ older)
     low h = (omega (arith, first_low), (λ _. h, each-map _ _ (lower h) older fit.0.numbered.not_below_latest))
   by false d ih = record { holds = λ e. ((ih.holds e).0, (λ own. absurd (false≢true (d.passes own)), (ih.holds e).1)); passes = λ h. ih.passes (h.0, h.1.1) }
 
-last_in-none : (t : TaskRef) (i : ℕ) (older : List Evaluated) → Each (λ (y : Evaluated). y.name.task ≡ t → y.name.incarnation < i) older → last_in older t i ≡ None
+last_in-none : (t : TaskRef) (i : ℕ) (older : List Evaluated) → AllByRecursion (λ (y : Evaluated). y.name.task ≡ t → y.name.incarnation < i) older → last_in older t i ≡ None
 last_in-none t i [] low = refl
 last_in-none t i (x ∷ older) low =
     by (same_task x.name.task t && eqb x.name.incarnation i) (test-and _ _ _ _ (test-task x.name.task t) (test-same x.name.incarnation i)) (last_in-none t i older low.1) where
@@ -173,7 +174,7 @@ last_in-none t i (x ∷ older) low =
       by false d ih = ih
 
 -- where no entry of the resource is of a greater incarnation, the newest entry of a task, if it is of this incarnation, is the last one in it
-newest-last : (first : List ℕ) (older : List Evaluated) → AllFit first older → (t : TaskRef) (i : ℕ) → Each (IsLow t.resource i) older → newest_in older t i ≡ last_in older t i
+newest-last : (first : List ℕ) (older : List Evaluated) → AllFit first older → (t : TaskRef) (i : ℕ) → AllByRecursion (IsLow t.resource i) older → newest_in older t i ≡ last_in older t i
 newest-last first [] fit t i low = refl
 newest-last first (x ∷ older) fit t i low = by (same_task x.name.task t) (test-task x.name.task t) (newest-last first older fit.1 t i low.1) where
   by : (b : Bool) → IsTest b (x.name.task ≡ t) → newest_in older t i ≡ last_in older t i → if_of i (cond b (Some x) (find (is_of_task t) older)) ≡ cond (b && eqb x.name.incarnation i) (Some x) (last_in older t i)
@@ -199,11 +200,11 @@ test-numbered first older fit name =
       holds = λ e. record { exists = (all.holds e).0; not_below_first = (all.holds e).1.0.0; not_below_latest = (all.holds e).1.0.1; next = (all.holds e).1.1 };
       passes = λ n. all.passes (n.exists, ((n.not_below_first, n.not_below_latest), n.next));
     } where
-      next : Each (IsLow name.task.resource name.incarnation) older → IsTest (eqb name.number (last_number (newest_in older name.task name.incarnation) + 1)) (name.number ≡ last_number (last_in older name.task name.incarnation) + 1)
+      next : AllByRecursion (IsLow name.task.resource name.incarnation) older → IsTest (eqb name.number (last_number (newest_in older name.task name.incarnation) + 1)) (name.number ≡ last_number (last_in older name.task name.incarnation) + 1)
       next low = subst (λ l. IsTest (eqb name.number (last_number l + 1)) (name.number ≡ last_number (last_in older name.task name.incarnation) + 1)) (sym (newest-last first older fit name.task name.incarnation low)) (test-same name.number _)
 
       all : IsTest (is_numbered first older name) ((name.task.resource < length first) × (((slice_index first name.task.resource ≤ name.incarnation)
-          × Each (IsLow name.task.resource name.incarnation) older) × (name.number ≡ last_number (last_in older name.task name.incarnation) + 1)))
+          × AllByRecursion (IsLow name.task.resource name.incarnation) older) × (name.number ≡ last_number (last_in older name.task name.incarnation) + 1)))
       all = test-and _ _ _ _ (test-below _ _) (test-then _ _ _ _ (test-present first older fit name.task.resource name.incarnation) (λ h. next h.1))
 
 -- the second clause
@@ -229,11 +230,11 @@ test-known older t = by t.from where
 
 -- the third clause
 test-image : (first : List ℕ) (older : List Evaluated) → AllFit first older → (name : Name) (image : List Value)
-    → IsTest (keeps_image image (find (is_named name) older)) (Each (λ (y : Evaluated). y.name ≡ name → image ≡ y.outputs) older)
+    → IsTest (keeps_image image (find (is_named name) older)) (AllByRecursion (λ (y : Evaluated). y.name ≡ name → image ≡ y.outputs) older)
 test-image first [] fit name image = record { holds = λ e. tt; passes = λ h. refl }
 test-image first (x ∷ older) fit name image = by (same_name x.name name) (test-name x.name name) (test-image first older fit.1 name image) where
-  by : (b : Bool) → IsTest b (x.name ≡ name) → IsTest (keeps_image image (find (is_named name) older)) (Each (HasImage name image) older)
-      → IsTest (keeps_image image (cond b (Some x) (find (is_named name) older))) (Each (HasImage name image) (x ∷ older))
+  by : (b : Bool) → IsTest b (x.name ≡ name) → IsTest (keeps_image image (find (is_named name) older)) (AllByRecursion (HasImage name image) older)
+      → IsTest (keeps_image image (cond b (Some x) (find (is_named name) older))) (AllByRecursion (HasImage name image) (x ∷ older))
   by true d ih = record { holds = λ e. (λ _. (test-values image x.outputs).holds e, each-map _ _ other older (names-differ first older x fit)); passes = λ h. (test-values image x.outputs).passes (h.0 (d.holds refl)) } where
     other : (y : Evaluated) → (y.name ≡ x.name → ⊥) → y.name ≡ name → image ≡ y.outputs
     other y apart own = absurd (apart (own ∙ sym (d.holds refl)))
@@ -241,7 +242,7 @@ test-image first (x ∷ older) fit name image = by (same_name x.name name) (test
 
 pub test-untorn : (first : List ℕ) (older : List Evaluated) → AllFit first older → (t : Take) → IsTest (is_untorn older t) (IsUntorn older t)
 test-untorn first older fit t = by t.from where
-  by : (from : Option (ℕ × ℕ)) → IsTest (untorn_from older t.producer t.image from) (MatchOption from (Unit {0}) (λ f. Each (λ (y : Evaluated). y.name ≡ name_from t.producer f → t.image ≡ y.outputs) older))
+  by : (from : Option (ℕ × ℕ)) → IsTest (untorn_from older t.producer t.image from) (MatchOption from (Unit {0}) (λ f. AllByRecursion (λ (y : Evaluated). y.name ≡ name_from t.producer f → t.image ≡ y.outputs) older))
   by None = record { holds = λ e. tt; passes = λ h. refl }
   by (Some f) = test-image first older fit (name_from t.producer f) t.image
 
@@ -249,7 +250,7 @@ test-untorn first older fit t = by t.from where
 below-onward : (q : TaskRef) (e f g : ℕ × ℕ) → is_below q (Some e) (Some f) ≡ false → is_below q (Some f) (Some g) ≡ false → is_below q (Some e) (Some g) ≡ false
 below-onward q e f g h k = grind (arith, nat_tests)
 
-test-takes : (t : Take) (us : List Take) → IsTest (list_all (keeps_take t) us) (Each (λ (u : Take). u.producer ≡ t.producer → is_below t.producer t.from u.from ≡ false) us)
+test-takes : (t : Take) (us : List Take) → IsTest (list_all (keeps_take t) us) (AllByRecursion (λ (u : Take). u.producer ≡ t.producer → is_below t.producer t.from u.from ≡ false) us)
 test-takes t us =
     test-each (keeps_take t) (λ (u : Take). u.producer ≡ t.producer → is_below t.producer t.from u.from ≡ false)
     (λ u. test-implies _ _ _ _ (test-task u.producer t.producer) (test-not (is_below t.producer t.from u.from))) us
@@ -272,13 +273,13 @@ test-taking q (u ∷ us) = by (same_task u.producer q) (test-task u.producer q) 
 test-taker : (n : ℕ) (q : TaskRef) (y : Evaluated) → IsTest (takes_from n q y) ((y.name.task.resource ≡ n) × ((u : Take) × Among u y.takes × (u.producer ≡ q)))
 test-taker n q y = test-and _ _ _ _ (test-same _ _) (test-taking q y.takes)
 
-test-kept : (first : List ℕ) (older : List Evaluated) → AllFit first older → (name : Name) → Each (IsLow name.task.resource name.incarnation) older → (t : Take) → (t.producer.resource ≡ name.task.resource → ⊥)
-    → IsTest (keeps_takes name.incarnation t (find (takes_from name.task.resource t.producer) older)) (Each (IsNotBackFrom name t) older)
+test-kept : (first : List ℕ) (older : List Evaluated) → AllFit first older → (name : Name) → AllByRecursion (IsLow name.task.resource name.incarnation) older → (t : Take) → (t.producer.resource ≡ name.task.resource → ⊥)
+    → IsTest (keeps_takes name.incarnation t (find (takes_from name.task.resource t.producer) older)) (AllByRecursion (IsNotBackFrom name t) older)
 test-kept first [] fit name low t other = record { holds = λ e. tt; passes = λ h. refl }
 test-kept first (x ∷ older) fit name low t other = by (takes_from name.task.resource t.producer x) (test-taker name.task.resource t.producer x) (test-kept first older fit.1 name low.1 t other) where
   by : (b : Bool) → IsTest b ((x.name.task.resource ≡ name.task.resource) × ((u : Take) × Among u x.takes × (u.producer ≡ t.producer)))
-      → IsTest (keeps_takes name.incarnation t (find (takes_from name.task.resource t.producer) older)) (Each (IsNotBackFrom name t) older)
-      → IsTest (keeps_takes name.incarnation t (cond b (Some x) (find (takes_from name.task.resource t.producer) older))) (Each (IsNotBackFrom name t) (x ∷ older))
+      → IsTest (keeps_takes name.incarnation t (find (takes_from name.task.resource t.producer) older)) (AllByRecursion (IsNotBackFrom name t) older)
+      → IsTest (keeps_takes name.incarnation t (cond b (Some x) (find (takes_from name.task.resource t.producer) older))) (AllByRecursion (IsNotBackFrom name t) (x ∷ older))
   by true d ih = now (eqb x.name.incarnation name.incarnation) (test-same x.name.incarnation name.incarnation) where
     taken : (x.name.task.resource ≡ name.task.resource) × ((u : Take) × Among u x.takes × (u.producer ≡ t.producer))
     taken = d.holds refl
@@ -290,13 +291,13 @@ test-kept first (x ∷ older) fit name low t other = by (takes_from name.task.re
     above e = Each-at _ x.takes taken.1.0 ((test-takes t x.takes).holds e) taken.1.1 taken.1.2
 
     later : x.name.incarnation ≡ name.incarnation → (y : Evaluated)
-        → (y.name.task.resource ≡ x.name.task.resource → y.name.incarnation ≡ x.name.incarnation → Each (λ (u : Take). u.producer ≡ taken.1.0.producer → is_below taken.1.0.producer taken.1.0.from u.from ≡ false) y.takes)
+        → (y.name.task.resource ≡ x.name.task.resource → y.name.incarnation ≡ x.name.incarnation → AllByRecursion (λ (u : Take). u.producer ≡ taken.1.0.producer → is_below taken.1.0.producer taken.1.0.from u.from ≡ false) y.takes)
         → is_below t.producer t.from taken.1.0.from ≡ false → IsNotBackFrom name t y
     later same y kept high own at =
         each-map _ _ (λ u under alike. not_below-onward (is_below t.producer) (λ o. refl) (λ f. refl) (below-onward t.producer) t.from taken.1.0.from u.from high (subst (λ p. is_below p taken.1.0.from u.from ≡ false) taken.1.2 (under (alike ∙ sym taken.1.2)))) y.takes
         (kept (own ∙ sym taken.0) (at ∙ sym same))
 
-    now : (b : Bool) → IsTest b (x.name.incarnation ≡ name.incarnation) → IsTest (not b || list_all (keeps_take t) x.takes) (Each (IsNotBackFrom name t) (x ∷ older))
+    now : (b : Bool) → IsTest b (x.name.incarnation ≡ name.incarnation) → IsTest (not b || list_all (keeps_take t) x.takes) (AllByRecursion (IsNotBackFrom name t) (x ∷ older))
     now true same =
         record {
           holds = λ e. (λ _ _. (test-takes t x.takes).holds e, each-map _ _ (λ y kept. later (same.holds refl) y kept (above e)) older (Each-at _ x.takes taken.1.0 fit.0.not_back taken.1.1 apart));
@@ -311,18 +312,18 @@ test-kept first (x ∷ older) fit name low t other = by (takes_from name.task.re
           absurd (omega (arith, under, high, unlike, at))
   by false d ih = record { holds = λ e. (λ own now. none own x.takes (λ u among. among), ih.holds e); passes = λ h. ih.passes h.1 } where
     none : x.name.task.resource ≡ name.task.resource → (us : List Take) → ((u : Take) → Among u us → Among u x.takes)
-        → Each (λ (u : Take). u.producer ≡ t.producer → is_below t.producer t.from u.from ≡ false) us
+        → AllByRecursion (λ (u : Take). u.producer ≡ t.producer → is_below t.producer t.from u.from ≡ false) us
     none own [] within = tt
     none own (u ∷ us) within = (λ same. absurd (false≢true (d.passes (own, (u, within u (inl refl), same)))), none own us (λ w among. within w (inr among)))
 
-pub test-not_back : (first : List ℕ) (older : List Evaluated) → AllFit first older → (name : Name) → Each (IsLow name.task.resource name.incarnation) older → (t : Take) → IsTest (is_not_back older name t) (IsNotBack older name t)
+pub test-not_back : (first : List ℕ) (older : List Evaluated) → AllFit first older → (name : Name) → AllByRecursion (IsLow name.task.resource name.incarnation) older → (t : Take) → IsTest (is_not_back older name t) (IsNotBack older name t)
 test-not_back first older fit name low t =
     test-unless _ _ _ _ (test-same t.producer.resource name.task.resource) (test-kept first older fit name low t)
 
 -- the fifth clause
-pub test-own_latest : (first : List ℕ) (older : List Evaluated) → AllFit first older → (name : Name) → Each (IsLow name.task.resource name.incarnation) older → (t : Take) → IsTest (is_own_latest older name t) (IsOwnLatest older name t)
+pub test-own_latest : (first : List ℕ) (older : List Evaluated) → AllFit first older → (name : Name) → AllByRecursion (IsLow name.task.resource name.incarnation) older → (t : Take) → IsTest (is_own_latest older name t) (IsOwnLatest older name t)
 test-own_latest first older fit name low t = test-if _ _ _ _ (test-same t.producer.resource name.task.resource) latest where
   latest : t.producer.resource ≡ name.task.resource → IsTest (same_from t.from (from_of (newest_in older t.producer name.incarnation))) (t.from ≡ from_of (last_in older t.producer name.incarnation))
   latest own =
       subst (λ l. IsTest (same_from t.from (from_of l)) (t.from ≡ from_of (last_in older t.producer name.incarnation)))
-      (sym (newest-last first older fit t.producer name.incarnation (subst (λ n. Each (IsLow n name.incarnation) older) (sym own) low))) (test-from t.from (from_of (last_in older t.producer name.incarnation)))
+      (sym (newest-last first older fit t.producer name.incarnation (subst (λ n. AllByRecursion (IsLow n name.incarnation) older) (sym own) low))) (test-from t.from (from_of (last_in older t.producer name.incarnation)))

@@ -18,9 +18,9 @@ use Rattle.evaluation_book.specs.declared.book.ledger.Ledger.{Ledger}
 use Rattle.evaluation_book.specs.declared.book.ledger.place.Place.{Place}
 use Rattle.evaluation_book.specs.declared.book.ledger.task_places.TaskPlaces.{TaskPlaces}
 use Rattle.evaluation_book.specs.declared.book.ledger.taker.Taker.{Taker}
-use Rattle.list_items.specs.Each.{Each}
-use Rattle.evaluation_book.specs.Fits.{last_in, IsNumbered, AllFit}
-use Rattle.evaluation_book.specs.Steps.Deciding.{present_in, is_of_task, is_named, takes_from, incarnation_in}
+use Rattle.std.specs.List.{AllByRecursion}
+use Rattle.evaluation_book.specs.Fits.{last_in, incarnation_in, present_in, IsNumbered, AllFit}
+use Rattle.evaluation_book.specs.Steps.Deciding.{is_of_task, is_named, takes_from}
 use Rattle.evaluation_book.specs.Steps.Ledger.{newest_place, presents, place_of, places_of, places_in, last_index, pair_cmp, index_of, AreRising, taker_in, has_row, noted, AreTables, Tells}
 use Rattle.evaluation_book.proofs.Deciding.{test-task, last-greatest}
 use Rattle.evaluation_book.proofs.Ledgers.{taker-noted}
@@ -88,15 +88,15 @@ last-newest t (x ∷ older) = by (is_of_task t x) (last-newest t older) where
   by true ih = last-snoc (places_of t older) (place_of x (length older))
   by false ih = ih
 
-each-snoc : {X : Type 0} (P : X → Type 0) (xs : List X) (x : X) → Each P xs → P x → Each P (xs ++ x ∷ [])
+each-snoc : {X : Type 0} (P : X → Type 0) (xs : List X) (x : X) → AllByRecursion P xs → P x → AllByRecursion P (xs ++ x ∷ [])
 each-snoc P [] x all new = (new, tt)
 each-snoc P (y ∷ ys) x all new = (all.0, each-snoc P ys x all.1 new)
 
 -- what holds of the place of each of a task's entries
-each-place : (P : Place → Type 0) (t : TaskRef) (older : List Evaluated) → Each (λ (y : Evaluated). y.name.task ≡ t → (k : ℕ) → P (place_of y k)) older → Each P (places_of t older)
+each-place : (P : Place → Type 0) (t : TaskRef) (older : List Evaluated) → AllByRecursion (λ (y : Evaluated). y.name.task ≡ t → (k : ℕ) → P (place_of y k)) older → AllByRecursion P (places_of t older)
 each-place P t [] all = tt
 each-place P t (x ∷ older) all = by (is_of_task t x) refl (each-place P t older all.1) where
-  by : (b : Bool) → is_of_task t x ≡ b → Each P (places_of t older) → Each P (cond b (places_of t older ++ place_of x (length older) ∷ []) (places_of t older))
+  by : (b : Bool) → is_of_task t x ≡ b → AllByRecursion P (places_of t older) → AllByRecursion P (cond b (places_of t older ++ place_of x (length older) ∷ []) (places_of t older))
   by true e ih = each-snoc P (places_of t older) (place_of x (length older)) ih (all.0 ((test-task x.name.task t).holds e) (length older))
   by false e ih = ih
 
@@ -104,20 +104,20 @@ lower : (a b c e : ℕ) → a ≤ c → (a ≡ c → b < e) → ordering_then (n
 lower a b c e h k = grind (arith, nat_tests)
 
 -- the places of a task's entries are below the next one's
-below-next : (first : List ℕ) (older : List Evaluated) → AllFit first older → (x : Evaluated) → IsNumbered first older x.name → Each (λ (q : Place). pair_cmp x.name.incarnation x.name.number q ≡ Less) (places_of x.name.task older)
+below-next : (first : List ℕ) (older : List Evaluated) → AllFit first older → (x : Evaluated) → IsNumbered first older x.name → AllByRecursion (λ (q : Place). pair_cmp x.name.incarnation x.name.number q ≡ Less) (places_of x.name.task older)
 below-next first older fit x numbered =
     each-place (λ (q : Place). pair_cmp x.name.incarnation x.name.number q ≡ Less) x.name.task older
     (both older numbered.not_below_latest (last-greatest first older fit x.name.task x.name.incarnation)) where
-      both : (ys : List Evaluated) → Each (λ (y : Evaluated). y.name.task.resource ≡ x.name.task.resource → y.name.incarnation ≤ x.name.incarnation) ys
-          → Each (λ (y : Evaluated). y.name.task ≡ x.name.task → y.name.incarnation ≡ x.name.incarnation → y.name.number ≤ last_number (last_in older x.name.task x.name.incarnation)) ys
-          → Each (λ (y : Evaluated). y.name.task ≡ x.name.task → (k : ℕ) → pair_cmp x.name.incarnation x.name.number (place_of y k) ≡ Less) ys
+      both : (ys : List Evaluated) → AllByRecursion (λ (y : Evaluated). y.name.task.resource ≡ x.name.task.resource → y.name.incarnation ≤ x.name.incarnation) ys
+          → AllByRecursion (λ (y : Evaluated). y.name.task ≡ x.name.task → y.name.incarnation ≡ x.name.incarnation → y.name.number ≤ last_number (last_in older x.name.task x.name.incarnation)) ys
+          → AllByRecursion (λ (y : Evaluated). y.name.task ≡ x.name.task → (k : ℕ) → pair_cmp x.name.incarnation x.name.number (place_of y k) ≡ Less) ys
       both [] low least = tt
       both (y ∷ ys) low least = (
         (λ own k. lower y.name.incarnation y.name.number x.name.incarnation x.name.number (low.0 (ap (λ (p : TaskRef). p.resource) own)) (λ now. let under = least.0 own now in omega (arith, under, numbered.next))),
         both ys low.1 least.1,
       )
 
-rising-snoc : (ps : List Place) (p : Place) → AreRising ps → Each (λ (q : Place). pair_cmp p.incarnation p.number q ≡ Less) ps → AreRising (ps ++ p ∷ [])
+rising-snoc : (ps : List Place) (p : Place) → AreRising ps → AllByRecursion (λ (q : Place). pair_cmp p.incarnation p.number q ≡ Less) ps → AreRising (ps ++ p ∷ [])
 rising-snoc [] p rising low = (tt, tt)
 rising-snoc (q ∷ qs) p rising low = (each-snoc (λ (r : Place). pair_cmp r.incarnation r.number q ≡ Less) qs p rising.0 low.0, rising-snoc qs p rising.1 low.1)
 
@@ -128,13 +128,13 @@ places-rise first t (x ∷ older) fit = by (is_of_task t x) refl (places-rise fi
   by : (b : Bool) → is_of_task t x ≡ b → AreRising (places_of t older) → AreRising (cond b (places_of t older ++ place_of x (length older) ∷ []) (places_of t older))
   by true e ih =
       rising-snoc (places_of t older) (place_of x (length older)) ih
-      (subst (λ u. Each (λ (q : Place). pair_cmp x.name.incarnation x.name.number q ≡ Less) (places_of u older)) ((test-task x.name.task t).holds e) (below-next first older fit.1 x fit.0.numbered))
+      (subst (λ u. AllByRecursion (λ (q : Place). pair_cmp x.name.incarnation x.name.number q ≡ Less) (places_of u older)) ((test-task x.name.task t).holds e) (below-next first older fit.1 x fit.0.numbered))
   by false e ih = ih
 
 differs : (a b i n : ℕ) → ordering_then (nat_cmp a i) (nat_cmp b n) ≡ Less → (eqb a i && eqb b n) ≡ false
 differs a b i n h = grind (arith, nat_tests)
 
-index-snoc : (i n : ℕ) (ps : List Place) (p : Place) → Each (λ (q : Place). pair_cmp p.incarnation p.number q ≡ Less) ps
+index-snoc : (i n : ℕ) (ps : List Place) (p : Place) → AllByRecursion (λ (q : Place). pair_cmp p.incarnation p.number q ≡ Less) ps
     → index_of i n (ps ++ p ∷ []) ≡ cond (eqb p.incarnation i && eqb p.number n) (Some p.index) (index_of i n ps)
 index-snoc i n [] p low = refl
 index-snoc i n (q ∷ qs) p low =
@@ -157,11 +157,11 @@ index-named first t i n (x ∷ older) fit = by (same_task x.name.task t) refl (i
       ≡ cond (b && (eqb x.name.incarnation i && eqb x.name.number n)) (Some (length older)) (newest_place (is_named (record { task = t; incarnation = i; number = n })) older)
   by true e ih =
       index-snoc i n (places_of t older) (place_of x (length older))
-      (subst (λ u. Each (λ (q : Place). pair_cmp x.name.incarnation x.name.number q ≡ Less) (places_of u older)) ((test-task x.name.task t).holds e) (below-next first older fit.1 x fit.0.numbered))
+      (subst (λ u. AllByRecursion (λ (q : Place). pair_cmp x.name.incarnation x.name.number q ≡ Less) (places_of u older)) ((test-task x.name.task t).holds e) (below-next first older fit.1 x fit.0.numbered))
       ∙ ap (λ o. cond (eqb x.name.incarnation i && eqb x.name.number n) (Some (length older)) o) ih
   by false e ih = ih
 
-made-at : (rows : List Taker) (n : ℕ) (q : TaskRef) (us : List Take) → Each (λ (u : Take). has_row rows n u.producer ≡ true) us → list_any (λ (u : Take). same_task u.producer q) us ≡ true → has_row rows n q ≡ true
+made-at : (rows : List Taker) (n : ℕ) (q : TaskRef) (us : List Take) → AllByRecursion (λ (u : Take). has_row rows n u.producer ≡ true) us → list_any (λ (u : Take). same_task u.producer q) us ≡ true → has_row rows n q ≡ true
 made-at rows n q [] all has = absurd (false≢true has)
 made-at rows n q (u ∷ us) all has = by (same_task u.producer q) refl has (made-at rows n q us all.1) where
   by : (b : Bool) → same_task u.producer q ≡ b → (b || list_any (λ (u : Take). same_task u.producer q) us) ≡ true → (list_any (λ (u : Take). same_task u.producer q) us ≡ true → has_row rows n q ≡ true) → has_row rows n q ≡ true
@@ -171,7 +171,7 @@ made-at rows n q (u ∷ us) all has = by (same_task u.producer q) refl has (made
 -- the tables of one entry more
 pub tables-more : (first : List ℕ) (older : List Evaluated) (present : List ℕ) (tasks tasks_more : List TaskPlaces) (takers takers_made : List Taker) (x : Evaluated) → AreTables first older present tasks takers
     → ((t : TaskRef) → places_in tasks_more t ≡ cond (same_task x.name.task t) (places_in tasks t ++ place_of x (length older) ∷ []) (places_in tasks t))
-    → ((n : ℕ) (q : TaskRef) → taker_in takers_made n q ≡ taker_in takers n q) → Each (λ (u : Take). has_row takers_made x.name.task.resource u.producer ≡ true) x.takes
+    → ((n : ℕ) (q : TaskRef) → taker_in takers_made n q ≡ taker_in takers n q) → AllByRecursion (λ (u : Take). has_row takers_made x.name.task.resource u.producer ≡ true) x.takes
     → AreTables first (x ∷ older) (slice_set present x.name.task.resource x.name.incarnation) tasks_more (map (noted x.name.task.resource x.takes (length older)) takers_made)
 tables-more first older present tasks tasks_more takers takers_made x tables more same made =
     record {
@@ -213,7 +213,7 @@ get_or-defaults (x ∷ xs) (suc k) d e within = get_or-defaults xs k d e (omega 
 pub entered : (first : List ℕ) (older : List Evaluated) (present : List ℕ) (tasks tasks_more : List TaskPlaces) (takers takers_made rows : List Taker) (x : Evaluated) (name : Name) (takes used : List Take) (index : ℕ)
     → name ≡ x.name → takes ≡ x.takes → used ≡ x.takes → index ≡ length older → AreTables first older present tasks takers
     → ((t : TaskRef) → places_in tasks_more t ≡ cond (same_task name.task t) (places_in tasks t ++ record { incarnation = name.incarnation; number = name.number; index = index } ∷ []) (places_in tasks t))
-    → ((n : ℕ) (q : TaskRef) → taker_in takers_made n q ≡ taker_in takers n q) → Each (λ (u : Take). has_row takers_made name.task.resource u.producer ≡ true) takes → rows ≡ map (noted name.task.resource used index) takers_made
+    → ((n : ℕ) (q : TaskRef) → taker_in takers_made n q ≡ taker_in takers n q) → AllByRecursion (λ (u : Take). has_row takers_made name.task.resource u.producer ≡ true) takes → rows ≡ map (noted name.task.resource used index) takers_made
     → AreTables first (x ∷ older) (slice_set present name.task.resource name.incarnation) tasks_more rows
 entered first older present tasks tasks_more takers takers_made rows x name takes used index named taken again at tables more same made noting =
     subst (λ n. AreTables first (x ∷ older) (slice_set present n.task.resource n.incarnation) tasks_more rows) (sym named)
@@ -228,8 +228,8 @@ entered first older present tasks tasks_more takers takers_made rows x name take
           ∙ ap (λ (n : Name). cond (same_task n.task t) (places_in tasks t ++ record { incarnation = n.incarnation; number = n.number; index = index } ∷ []) (places_in tasks t)) named
           ∙ ap (λ k. cond (same_task x.name.task t) (places_in tasks t ++ place_of x k ∷ []) (places_in tasks t)) at
 
-      made_now : Each (λ (u : Take). has_row takers_made x.name.task.resource u.producer ≡ true) x.takes
-      made_now = subst (λ us. Each (λ (u : Take). has_row takers_made x.name.task.resource u.producer ≡ true) us) taken (subst (λ (n : Name). Each (λ (u : Take). has_row takers_made n.task.resource u.producer ≡ true) takes) named made)
+      made_now : AllByRecursion (λ (u : Take). has_row takers_made x.name.task.resource u.producer ≡ true) x.takes
+      made_now = subst (λ us. AllByRecursion (λ (u : Take). has_row takers_made x.name.task.resource u.producer ≡ true) us) taken (subst (λ (n : Name). AllByRecursion (λ (u : Take). has_row takers_made n.task.resource u.producer ≡ true) takes) named made)
 
 module _ (first : List ℕ) (entries : List Evaluated) (ledger : Ledger) (told : AllFit first (reverse entries) × Tells first (reverse entries) ledger) where
   pub at-newest : (f : Evaluated → Bool) (index : Option ℕ) → index ≡ newest_place f (reverse entries) → option_and_then (λ k. slice_get entries k) index ≡ find f (reverse entries)

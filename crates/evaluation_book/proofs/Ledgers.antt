@@ -9,7 +9,7 @@ use Rattle.std.specs.List.{find, list_any, position, position_from}
 use Rattle.std.specs.List.Sorted.{IsNonDecreasingBy, IsPartitionPoint}
 use Rattle.std.proofs.lemmas.Iterator.Adapters.{position_from-zero}
 use Rattle.std.proofs.lemmas.Bool.Decides.{nat_tests}
-use Rattle.list_items.specs.Each.{Each}
+use Rattle.std.specs.List.{AllByRecursion}
 use Rattle.std.proofs.lemmas.Bool.{false≢true, eq-eqb, eqb-true, and_parts, cases_lt}
 use Rattle.due_list.specs.declared.task_ref.TaskRef.{TaskRef}
 use Rattle.evaluation.specs.declared.take.Take.{Take}
@@ -132,13 +132,13 @@ map-step f [] i d within = absurd (omega (arith, within))
 map-step f (x ∷ xs) zero d within = refl
 map-step f (x ∷ xs) (suc i) d within = ap (λ ys. f x ∷ ys) (map-step f xs i d (omega (arith, within)))
 
-each-get : {X : Type 0} (P : X → Type 0) (xs : List X) → Each P xs → (k : ℕ) (d : X) → k < length xs → P (get_or xs k d)
+each-get : {X : Type 0} (P : X → Type 0) (xs : List X) → AllByRecursion P xs → (k : ℕ) (d : X) → k < length xs → P (get_or xs k d)
 each-get P [] all k d within = absurd (omega (arith, within))
 each-get P (x ∷ xs) all zero d within = all.0
 each-get P (x ∷ xs) all (suc k) d within = each-get P xs all.1 k d (omega (arith, within))
 
 -- each of one more
-pub each-more : {X : Type 0} (P Q : X → Type 0) → ((x : X) → P x → Q x) → (xs : List X) (i : ℕ) (x : X) → i < length xs → get_or xs i x ≡ x → Each P (take i xs) → Q x → Each Q (take (suc i) xs)
+pub each-more : {X : Type 0} (P Q : X → Type 0) → ((x : X) → P x → Q x) → (xs : List X) (i : ℕ) (x : X) → i < length xs → get_or xs i x ≡ x → AllByRecursion P (take i xs) → Q x → AllByRecursion Q (take (suc i) xs)
 each-more P Q more [] i x within at all new = absurd (omega (arith, within))
 each-more P Q more (y ∷ ys) zero x within at all new = (subst Q (sym at) new, tt)
 each-more P Q more (y ∷ ys) (suc i) x within at all new = (more y all.0, each-more P Q more ys i x (omega (arith, within)) at all.1 new)

@@ -5,7 +5,7 @@ use Rattle.std.specs.List.{list_all}
 use Rattle.std.proofs.lemmas.Bool.{false≢true}
 use Rattle.evaluation.specs.Meaning.{Evaluated}
 use Rattle.evaluation_book.specs.declared.book.misfit.Misfit.TheVariants.{WrongNumber, UnknownTake, Torn, Back, NotOwnLatest}
-use Rattle.list_items.specs.Each.{Each}
+use Rattle.std.specs.List.{AllByRecursion}
 use Rattle.evaluation_book.specs.Fits.{IsNumbered, IsKnown, IsUntorn, IsNotBack, IsOwnLatest, Fits, AllFit}
 use Rattle.evaluation_book.specs.Book.{IsMisfit}
 use Rattle.evaluation_book.specs.Steps.Deciding.{is_numbered, is_known, is_untorn, is_not_back, is_own_latest, first_failed}
@@ -21,8 +21,8 @@ first_failed-is first older fit x =
     (test-numbered first older fit x.name) (test-each (is_known older) (IsKnown older) (test-known older) x.takes) (test-each (is_untorn older) (IsUntorn older) (test-untorn first older fit) x.takes)
     (λ n. test-each (is_not_back older x.name) (IsNotBack older x.name) (test-not_back first older fit x.name n.not_below_latest) x.takes)
     (λ n. test-each (is_own_latest older x.name) (IsOwnLatest older x.name) (test-own_latest first older fit x.name n.not_below_latest) x.takes) where
-      by : (a b c d e : Bool) → IsTest a (IsNumbered first older x.name) → IsTest b (Each (IsKnown older) x.takes) → IsTest c (Each (IsUntorn older) x.takes)
-          → (IsNumbered first older x.name → IsTest d (Each (IsNotBack older x.name) x.takes)) → (IsNumbered first older x.name → IsTest e (Each (IsOwnLatest older x.name) x.takes))
+      by : (a b c d e : Bool) → IsTest a (IsNumbered first older x.name) → IsTest b (AllByRecursion (IsKnown older) x.takes) → IsTest c (AllByRecursion (IsUntorn older) x.takes)
+          → (IsNumbered first older x.name → IsTest d (AllByRecursion (IsNotBack older x.name) x.takes)) → (IsNumbered first older x.name → IsTest e (AllByRecursion (IsOwnLatest older x.name) x.takes))
           → MatchOption (cond (not a) (Some WrongNumber) (cond (not b) (Some UnknownTake) (cond (not c) (Some Torn) (cond (not d) (Some Back) (cond (not e) (Some NotOwnLatest) None))))) (Fits first older x) (IsMisfit first older x)
       by false b c d e p q r s t = fails _ p
       by true false c d e p q r s t = (p.holds refl, fails _ q)

@@ -1,6 +1,6 @@
 -- What a book is, and what it answers. Entries stand with the newest first, but in the book itself.
 use Rattle.std.specs.Prelude.{ℕ, List}
-use Rattle.list_items.specs.Each.{Each}
+use Rattle.std.specs.List.{AllByRecursion}
 use Rattle.evaluation.specs.Meaning.{Evaluated}
 use Rattle.evaluation_book.specs.declared.book.misfit.Misfit.{Misfit}
 use Rattle.evaluation_book.specs.declared.book.misfit.Misfit.TheVariants.{WrongNumber, UnknownTake, Torn, Back, NotOwnLatest, Memory}
@@ -14,13 +14,13 @@ pub record BookValue : Type 0 where
 -- why an evaluation isn't entered: the first clause that fails; memory is wanting only where all hold
 abbrev pub IsMisfit : List ℕ → List Evaluated → Evaluated → Misfit → Type 0
 IsMisfit first older x WrongNumber = ¬ (IsNumbered first older x.name)
-IsMisfit first older x UnknownTake = IsNumbered first older x.name × ¬ (Each (IsKnown older) x.takes)
+IsMisfit first older x UnknownTake = IsNumbered first older x.name × ¬ (AllByRecursion (IsKnown older) x.takes)
 IsMisfit first older x Torn =
-    IsNumbered first older x.name × Each (IsKnown older) x.takes × ¬ (Each (IsUntorn older) x.takes)
+    IsNumbered first older x.name × AllByRecursion (IsKnown older) x.takes × ¬ (AllByRecursion (IsUntorn older) x.takes)
 IsMisfit first older x Back =
-    IsNumbered first older x.name × Each (IsKnown older) x.takes × Each (IsUntorn older) x.takes
-    × ¬ (Each (IsNotBack older x.name) x.takes)
+    IsNumbered first older x.name × AllByRecursion (IsKnown older) x.takes × AllByRecursion (IsUntorn older) x.takes
+    × ¬ (AllByRecursion (IsNotBack older x.name) x.takes)
 IsMisfit first older x NotOwnLatest =
-    IsNumbered first older x.name × Each (IsKnown older) x.takes × Each (IsUntorn older) x.takes
-    × Each (IsNotBack older x.name) x.takes × ¬ (Each (IsOwnLatest older x.name) x.takes)
+    IsNumbered first older x.name × AllByRecursion (IsKnown older) x.takes × AllByRecursion (IsUntorn older) x.takes
+    × AllByRecursion (IsNotBack older x.name) x.takes × ¬ (AllByRecursion (IsOwnLatest older x.name) x.takes)
 IsMisfit first older x Memory = Fits first older x

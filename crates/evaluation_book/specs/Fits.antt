@@ -1,6 +1,7 @@
 -- When an evaluation fits a book's entries. Entries stand with the newest first.
-use Rattle.std.specs.Prelude.{◌≡◌, ◌≢◌, ℕ, ◌+◌, ◌<◌, ◌≤◌, ◌==◌, ◌&&◌, Bool, true, false, List, [], ◌∷◌, Option, Some, None, length, slice_index, MatchOption, if◌then◌else◌}
-use Rattle.list_items.specs.Each.{Among, Each}
+use Rattle.std.specs.Prelude.{◌≡◌, ◌≢◌, ℕ, ◌+◌, ◌<◌, ◌≤◌, ◌==◌, ◌&&◌, Bool, true, false, List, [], ◌∷◌, Option, Some, None, length, slice_index, find, MatchOption, if◌then◌else◌}
+use Rattle.std.specs.List.{AllByRecursion}
+use Rattle.lists.specs.Among.{Among}
 use Rattle.std_blocks.specs.declared.value.Value.{Value}
 use Rattle.due_list.specs.declared.task_ref.TaskRef.{TaskRef}
 use Rattle.evaluation.specs.declared.name.Name.{Name}
@@ -14,6 +15,16 @@ abbrev pub last_in : List Evaluated → TaskRef → ℕ → Option Evaluated
 last_in [] t incarnation = None
 last_in (x ∷ older) t incarnation =
     if same_task x.name.task t && x.name.incarnation == incarnation then Some x else last_in older t incarnation
+
+-- the incarnation of an entry, or else the first one
+abbrev pub incarnation_in : ℕ → Option Evaluated → ℕ
+incarnation_in first None = first
+incarnation_in first (Some y) = y.name.incarnation
+
+-- a resource's present incarnation: that of its newest entry, or else its first one
+abbrev pub present_in : List ℕ → List Evaluated → ℕ → ℕ
+present_in first older n =
+    incarnation_in (slice_index first n) (find (λ (y : Evaluated). y.name.task.resource == n) older)
 
 -- the name that a take from p gives
 abbrev pub name_from : TaskRef → ℕ × ℕ → Name
@@ -34,7 +45,7 @@ IsNoLater name y = y.name.task.resource ≡ name.task.resource → y.name.incarn
 pub record IsNumbered (first : List ℕ) (older : List Evaluated) (name : Name) : Type 0 where
   pub exists : name.task.resource < length first
   pub not_below_first : slice_index first name.task.resource ≤ name.incarnation
-  pub not_below_latest : Each (IsNoLater name) older
+  pub not_below_latest : AllByRecursion (IsNoLater name) older
   pub next : name.number ≡ last_number (last_in older name.task name.incarnation) + 1
 
 -- Second clause. A take that isn't of nothing names an entry.
@@ -48,11 +59,11 @@ HasImage name image y = y.name ≡ name → image ≡ y.outputs
 
 -- Third clause. It has the image of that entry.
 abbrev pub IsUntorn : List Evaluated → Take → Type 0
-IsUntorn older t = MatchOption t.from (Unit {0}) (λ f. Each (HasImage (name_from t.producer f) t.image) older)
+IsUntorn older t = MatchOption t.from (Unit {0}) (λ f. AllByRecursion (HasImage (name_from t.producer f) t.image) older)
 
 -- a take is below none of these from its producer
 abbrev pub IsBelowNone : Take → List Take → Type 0
-IsBelowNone t us = Each (λ (u : Take). u.producer ≡ t.producer → is_below t.producer t.from u.from ≡ false) us
+IsBelowNone t us = AllByRecursion (λ (u : Take). u.producer ≡ t.producer → is_below t.producer t.from u.from ≡ false) us
 
 -- a take is below none that an entry of the name's resource and incarnation took from its producer
 abbrev pub IsNotBackFrom : Name → Take → Evaluated → Type 0
@@ -62,7 +73,7 @@ IsNotBackFrom name t y =
 -- Fourth clause. A take from another resource isn't below an earlier take of this resource and incarnation
 -- from that producer.
 abbrev pub IsNotBack : List Evaluated → Name → Take → Type 0
-IsNotBack older name t = t.producer.resource ≢ name.task.resource → Each (IsNotBackFrom name t) older
+IsNotBack older name t = t.producer.resource ≢ name.task.resource → AllByRecursion (IsNotBackFrom name t) older
 
 -- Fifth clause. A take from the own resource is that task's last entry in this incarnation,
 -- or of nothing if there is none.
@@ -73,10 +84,10 @@ IsOwnLatest older name t =
 -- An evaluation fits the entries before it: all five clauses hold.
 pub record Fits (first : List ℕ) (older : List Evaluated) (x : Evaluated) : Type 0 where
   pub numbered : IsNumbered first older x.name
-  pub known : Each (IsKnown older) x.takes
-  pub untorn : Each (IsUntorn older) x.takes
-  pub not_back : Each (IsNotBack older x.name) x.takes
-  pub own_latest : Each (IsOwnLatest older x.name) x.takes
+  pub known : AllByRecursion (IsKnown older) x.takes
+  pub untorn : AllByRecursion (IsUntorn older) x.takes
+  pub not_back : AllByRecursion (IsNotBack older x.name) x.takes
+  pub own_latest : AllByRecursion (IsOwnLatest older x.name) x.takes
 
 -- each entry fits those before it
 abbrev pub AllFit : List ℕ → List Evaluated → Type 0

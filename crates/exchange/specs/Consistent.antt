@@ -12,7 +12,7 @@ use Rattle.evaluation.specs.declared.take.Take.{Take}
 use Rattle.evaluation.specs.Meaning.{Evaluated, IsMeant, IsWhole, given}
 use Rattle.evaluation.specs.Last.{from_of}
 use Rattle.exchange.specs.Run.{message}
-use Rattle.list_items.specs.Each.{Each}
+use Rattle.std.specs.List.{AllByRecursion}
 use Rattle.evaluation_book.specs.Fits.{name_from}
 
 -- An input of an evaluation that is bound to this output of task p:
@@ -79,7 +79,7 @@ abbrev pub NeverGoesBack : List Evaluated → Type 0
 NeverGoesBack log =
     (i j : ℕ) (x y : Evaluated) → i < j → message log i ≡ Some x → message log j ≡ Some y
     → x.name.task.resource ≡ y.name.task.resource → x.name.incarnation ≡ y.name.incarnation
-    → Each (λ (t : Take). Each (StandInOrder log t) y.takes) x.takes
+    → AllByRecursion (λ (t : Take). AllByRecursion (StandInOrder log t) y.takes) x.takes
 
 -- a consistent log of a plant
 pub record IsConsistent (plant : PlantValue) (log : List Evaluated) : Type 0 where

@@ -1,20 +1,15 @@
 -- Which events make the entries of a book again. Entries stand with the newest first.
-use Rattle.std.specs.Prelude.{ℕ, suc, ◌-◌, Bool, false, ◌==◌, ◌&&◌, List, [], ◌∷◌, ◌++◌, Option, Some, None, length, replicate, slice_index, if◌then◌else◌}
+use Rattle.std.specs.Prelude.{ℕ, suc, ◌-◌, Bool, false, ◌==◌, ◌&&◌, List, [], ◌∷◌, ◌++◌, Option, Some, None, length, replicate, if◌then◌else◌}
 use Rattle.std.specs.List.{list_any, find, flat_map}
-use Rattle.std.specs.Option.{option_and_then, option_map_or}
+use Rattle.std.specs.Option.{option_and_then}
 use Rattle.due_list.specs.declared.task_ref.TaskRef.{TaskRef}
 use Rattle.evaluation.specs.declared.name.Name.{Name}
 use Rattle.evaluation.specs.declared.take.Take.{Take}
 use Rattle.evaluation.specs.Meaning.{Evaluated}
 use Rattle.evaluation.specs.Last.{same_task, from_of}
+use Rattle.evaluation_book.specs.Fits.{present_in}
 use Rattle.exchange.specs.declared.event.Event.{Event}
 use Rattle.exchange.specs.declared.event.Event.TheVariants.{Evaluate, Deliver, Restart}
-
--- the present incarnation of a resource: that of its newest entry, else its first
-abbrev pub present : List ℕ → List Evaluated → ℕ → ℕ
-present first older n =
-    option_map_or (λ (y : Evaluated). y.name.incarnation) (find (λ (y : Evaluated). y.name.task.resource == n) older)
-    (slice_index first n)
 
 -- whether this incarnation and number were taken
 abbrev pub is_from : Option (ℕ × ℕ) → ℕ × ℕ → Bool
@@ -60,7 +55,7 @@ deliveries older name takes = flat_map (delivery older name) takes
 -- and its evaluation
 abbrev pub events_of : List ℕ → List Evaluated → Evaluated → List Event
 events_of first older x =
-    replicate (x.name.incarnation - present first older x.name.task.resource) (Restart x.name.task.resource)
+    replicate (x.name.incarnation - present_in first older x.name.task.resource) (Restart x.name.task.resource)
     ++ (deliveries older x.name x.takes ++ Evaluate x.ticket x.name.task x.dt x.inputs ∷ [])
 
 -- the events of all entries, in their order

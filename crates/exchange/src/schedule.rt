@@ -8,7 +8,8 @@ ghost use Rattle.std.specs.List.{find};
 ghost use Rattle.std.specs.Option.{option_copied};
 ghost use Rattle.exchange.specs.declared.event.Event.TheVariants.{Restart};
 ghost use Rattle.exchange.specs.Replays.{Replays};
-ghost use Rattle.exchange.specs.Schedule.{present, events_of, schedule_of};
+ghost use Rattle.evaluation_book.specs.Fits.{present_in};
+ghost use Rattle.exchange.specs.Schedule.{events_of, schedule_of};
 
 use crate::event::Event;
 use crate::schedule::deliveries::push_deliveries;
@@ -28,7 +29,7 @@ fn newest(older: &[Frame], resource: usize) -> Option<&Frame>
 
 /// The present incarnation of a resource: that of its newest entry, else its first.
 fn present(first: &[u32], older: &[Frame], resource: usize) -> u32
-    ensures { result ≡ present first.now (reverse older.now) resource }
+    ensures { result ≡ present_in first.now (reverse older.now) resource }
 {
     match newest(older, resource) {
         None => first.get(resource).copied().unwrap_or(0),

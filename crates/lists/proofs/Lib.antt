@@ -1,4 +1,6 @@
+pub mod Each
 pub mod Members
+pub mod Orders
 pub mod Pairs
 pub mod Places
 pub mod Results

@@ -4,7 +4,6 @@ use Rattle.std.proofs.lemmas.Bool.{cases_eq}
 use Rattle.std.proofs.lemmas.List.{get_or-set_same, get_or-set_other}
 use Rattle.std.proofs.lemmas.Option.{slice_get_within, slice_get-get_or, get_or_from_slice_get, slice_get-map}
 use Rattle.std.specs.Option.{option_map}
-use Rattle.drawings.specs.declared.place.Place.{Place}
 
 pub some_is : {A : Type 0} (a b : A) → Some a ≡ Some b → a ≡ b
 some_is a b e = cc
@@ -20,9 +19,6 @@ pub map_get : {A B : Type 0} (f : A → B) (xs : List A) (k : ℕ) (b : B) → s
 map_get f [] k b h = absurd (cc)
 map_get f (x ∷ xs) zero b h = (x, refl, some_is (f x) b h)
 map_get f (x ∷ xs) (suc k) b h = map_get f xs k b h
-
-pub place_same : (a b : Place) → a.row ≡ b.row → a.column ≡ b.column → a ≡ b
-place_same a b r c = ap (λ (x : ℕ). record { row = x; column = a.column }) r ∙ ap (λ (x : ℕ). record { row = b.row; column = x }) c
 
 -- what a clause by cases says of the case at hand
 pub match_some : {A : Type 0} (P : Type 0) (Q : A → Type 0) (o : Option A) (x : A) → o ≡ Some x → MatchOption o P Q → Q x

@@ -1,4 +1,5 @@
 pub mod Basics
+pub mod Elements
 pub mod Spots
 pub mod Listed
 pub mod Joined

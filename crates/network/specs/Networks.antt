@@ -122,7 +122,7 @@ IsFirstGraphFaultAt g Unattached p = IsFirst (IsUnattachedAt g) p
 IsFirstGraphFaultAt g TooTall p = HoldsNowhere (IsUnattachedAt g) × IsFirst (IsTooTallAt g) p
 IsFirstGraphFaultAt g InstanceTwice p = HoldsNowhere (IsUnattachedAt g) × HoldsNowhere (IsTooTallAt g)
     × IsFirst (IsTwiceAt g) p
-IsFirstGraphFaultAt g Memory p = Unit {0}
+IsFirstGraphFaultAt g Memory p = ⊥
 
 -- the fault is at the line and column of p, in a drawing that begins with this line;
 -- where no number is as great as that line, at the greatest

@@ -8,7 +8,7 @@ use Rattle.due_list.specs.declared.task_ref.TaskRef.{TaskRef}
 use Rattle.plant.specs.PlantValue.{PlantValue}
 use Rattle.evaluation.specs.Meaning.{Evaluated}
 use Rattle.evaluation.specs.Last.{same_task}
-use Rattle.list_items.specs.Each.{Each}
+use Rattle.std.specs.List.{AllByRecursion}
 use Rattle.evaluation_book.specs.Fits.{last_in}
 use Rattle.node_journals.specs.declared.step.Step.{Step}
 use Rattle.node_journals.specs.declared.step.Step.TheVariants.{Took, Made, Restarted}
@@ -17,12 +17,12 @@ use Rattle.node_reports.specs.Reports.{entries_of}
 
 -- no evaluation of a lawful journal is of a later incarnation than the present one
 pub below_present : (plant : PlantValue) (max_number resource first : ℕ) (steps : List Step) → EachAfter (Follows plant max_number resource first) steps
-    → Each (λ (y : Evaluated). y.name.incarnation ≤ incarnation_of first steps) (made steps)
+    → AllByRecursion (λ (y : Evaluated). y.name.incarnation ≤ incarnation_of first steps) (made steps)
 below_present plant max_number resource first [] lawful = tt
 below_present plant max_number resource first (Took x ∷ steps) lawful = below_present plant max_number resource first steps lawful.1
 below_present plant max_number resource first (Made x ∷ steps) lawful = (let is = lawful.0.incarnation_is in omega arith, below_present plant max_number resource first steps lawful.1)
 below_present plant max_number resource first (Restarted ticket incarnation ∷ steps) lawful = by (made steps) (below_present plant max_number resource first steps lawful.1) where
-  by : (ys : List Evaluated) → Each (λ (y : Evaluated). y.name.incarnation ≤ incarnation_of first steps) ys → Each (λ (y : Evaluated). y.name.incarnation ≤ incarnation) ys
+  by : (ys : List Evaluated) → AllByRecursion (λ (y : Evaluated). y.name.incarnation ≤ incarnation_of first steps) ys → AllByRecursion (λ (y : Evaluated). y.name.incarnation ≤ incarnation) ys
   by [] low = tt
   by (y ∷ ys) low = (let here = low.0 in let raised = lawful.0 in omega arith, by ys low.1)
 
@@ -31,7 +31,7 @@ and_false true = refl
 and_false false = refl
 
 -- in an incarnation above all of these there is no last one
-last_above : (t : TaskRef) (most incarnation : ℕ) → most < incarnation → (ys : List Evaluated) → Each (λ (y : Evaluated). y.name.incarnation ≤ most) ys → last_in ys t incarnation ≡ None
+last_above : (t : TaskRef) (most incarnation : ℕ) → most < incarnation → (ys : List Evaluated) → AllByRecursion (λ (y : Evaluated). y.name.incarnation ≤ most) ys → last_in ys t incarnation ≡ None
 last_above t most incarnation above [] below = refl
 last_above t most incarnation above (y ∷ ys) below =
     let lower = below.0 in

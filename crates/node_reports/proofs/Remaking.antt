@@ -8,7 +8,7 @@ use Rattle.plant.specs.PlantValue.{PlantValue, IsSoundPlant}
 use Rattle.evaluation.specs.Meaning.{Evaluated}
 use Rattle.evaluation.specs.Last.{state_of}
 use Rattle.exchange.specs.Run.{IsRun}
-use Rattle.list_items.specs.Each.{Each}
+use Rattle.std.specs.List.{AllByRecursion}
 use Rattle.evaluation_book.specs.Fits.{Fits, AllFit, last_in}
 use Rattle.evaluation_book.specs.Book.{BookValue}
 use Rattle.exchange.specs.Replays.{CouldBeMade, AllCouldBeMade}
@@ -21,14 +21,14 @@ use Rattle.node_reports.proofs.JournalRuns.{IsMadeAfter, made_after, last_made_i
 abbrev pub HasIncarnation : Evaluated → Type 0
 HasIncarnation x = x.name.incarnation ≤ 4294967295
 
-each-append : {X : Type 0} (P : X → Type 0) (xs ys : List X) → Each P xs → Each P ys → Each P (xs ++ ys)
+each-append : {X : Type 0} (P : X → Type 0) (xs ys : List X) → AllByRecursion P xs → AllByRecursion P ys → AllByRecursion P (xs ++ ys)
 each-append P [] ys a b = b
 each-append P (x ∷ xs) ys a b = (a.0, each-append P xs ys a.1 b)
 
-each-reverse : {X : Type 0} (P : X → Type 0) (xs : List X) → All P xs → Each P (reverse xs)
+each-reverse : {X : Type 0} (P : X → Type 0) (xs : List X) → All P xs → AllByRecursion P (reverse xs)
 each-reverse P [] all = tt
 each-reverse P (x ∷ xs) all =
-    subst (Each P) (sym (reverse-append (x ∷ []) xs)) (each-append P (reverse xs) (x ∷ []) (each-reverse P xs (All-tail P x xs all)) (All-head P x xs all, tt))
+    subst (AllByRecursion P) (sym (reverse-append (x ∷ []) xs)) (each-append P (reverse xs) (x ∷ []) (each-reverse P xs (All-tail P x xs all)) (All-head P x xs all, tt))
 
 -- what holds of each holds of the one at a place
 holds_at : {X : Type 0} (P : X → Type 0) (xs : List X) (k : ℕ) (x : X) → k < length xs → slice_get xs k ≡ Some x → All P xs → P x
@@ -76,7 +76,7 @@ entry_made plant max_number first journals entries newer older x long js in_book
         ∙ last_in-entries x.name.task x.name.incarnation older
 
 all_made : (plant : PlantValue) (max_number : ℕ) (first : List ℕ) (journals : List Journal) (entries : List Evaluated) (newer older : List Evaluated)
-    → length first ≡ length journals → AreJournalsOf plant max_number journals → AreInBook entries journals → reverse entries ≡ newer ++ older → AllFit first older → Each HasIncarnation older
+    → length first ≡ length journals → AreJournalsOf plant max_number journals → AreInBook entries journals → reverse entries ≡ newer ++ older → AllFit first older → AllByRecursion HasIncarnation older
     → AllCouldBeMade (record { plant = plant; first = first; max_number = max_number }) older
 all_made plant max_number first journals entries newer [] long js in_book is fit bounds = tt
 all_made plant max_number first journals entries newer (x ∷ older) long js in_book is fit bounds = (

@@ -41,7 +41,7 @@ use Rattle.power_flow.specs.Waiting.{box_of, boxes_of, coil_of, coils_of}
 use Rattle.power_flow.proofs.PowerLemmas.{on_source}
 use Rattle.power_flow.proofs.BoxesSources.{right_pin_in, right_pin_at}
 use Rattle.power_flow.proofs.Walking.{ends_has, Lets, Comes}
-use Rattle.power_flow.proofs.PlaceLemmas.{same_place}
+use Rattle.network.proofs.Elements.{place_same}
 use Rattle.power_flow.proofs.StepLemmas.{kept_before}
 use Rattle.power_flow.proofs.Sweeping as sweeping
 use Rattle.power_flow.proofs.Sweeping.{at_row, Touches}
@@ -514,7 +514,7 @@ module _ (ds : List Declaration) (d : Diagram) (top count : ℕ) (boxes : List B
           together mid one.rest one.long
           (λ q ge free. one.outside q ge (λ e. free p takes (sym e)))
           (λ x takes' h. elim (cases_eq x.row p.row) [
-            | inl same ↦ let Q : Place → Type 0 = λ w. (at_row mid.rows top w ≡ true) ↔ Coming w in subst Q (same_place p x (sym same) (sym takes'.0)) one.state
+            | inl same ↦ let Q : Place → Type 0 = λ w. (at_row mid.rows top w ≡ true) ↔ Coming w in subst Q (place_same p x (sym same) (sym takes'.0)) one.state
             | inr ne ↦
                 let ge = (sweeping.in_rows d top count conducts IsSource sound rows_in no_source rail_source n (Box b) x at (inr (inr (inl takes')))).0 in
                 let same = one.outside x ge ne in

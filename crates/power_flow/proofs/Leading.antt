@@ -16,7 +16,7 @@ use Rattle.network.specs.Links.{Diagram, Gives, place}
 use Rattle.network.specs.Apart.{Has, first_place}
 use Rattle.network.specs.GraphValue.{IsSoundNetwork}
 use Rattle.power_flow.specs.Steps.RowEnds.{AreRows, IsGiven, IsGivenByPin, AreEnds, AreEndsTo, AreEndsWithin, TellsLed}
-use Rattle.power_flow.proofs.PlaceLemmas.{same_place}
+use Rattle.network.proofs.Elements.{place_same}
 
 -- a place that gives state isn't left of where its element begins
 gives_after : (d : Diagram) → IsSoundNetwork d → (e : Element) (p : Place) → Contains d.elements e → Gives e p → (first_place e).column ≤ p.column
@@ -59,10 +59,10 @@ module _ (d : Diagram) (sound : IsSoundNetwork d) (top k : ℕ) (e : Element) (a
       go : (f : Element) → slice_get d.elements j ≡ Some f → Gives f p → (first_place f).column ≤ at.column → ⊥
       go (Wire q) at' g left =
           let c = ap (λ (x : Place). x.column) g in let r = ap (λ (x : Place). x.row) g in
-          one (Wire q) at' (inl (same_place q at (omega arith) (omega arith)))
+          one (Wire q) at' (inl (place_same q at (omega arith) (omega arith)))
       go (Join q) at' g left =
           let c = ap (λ (x : Place). x.column) g in let r = ap (λ (x : Place). x.row) g in
-          one (Join q) at' (inl (same_place q at (omega arith) (omega arith)))
+          one (Join q) at' (inl (place_same q at (omega arith) (omega arith)))
       go (Upright q) at' g left = absurd g
       go (Contact c) at' g left = let r = g.0 in let end = g.2 in one (Contact c) at' (inr (inl (sym row ∙ r, left, omega arith)))
       go (Coil c) at' g left = let r = g.0 in let end = g.2 in one (Coil c) at' (inr (inl (sym row ∙ r, left, omega arith)))

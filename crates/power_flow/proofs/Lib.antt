@@ -1,4 +1,3 @@
-pub mod PlaceLemmas
 pub mod PowerLemmas
 pub mod Lists
 pub mod Leading

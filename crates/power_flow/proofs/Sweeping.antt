@@ -17,7 +17,7 @@ use Rattle.power_flow.specs.Steps.Columns.{IsStop, IsLed, StandsIn, IsUpright}
 use Rattle.power_flow.proofs.PowerLemmas.{on_source, on_step}
 use Rattle.power_flow.proofs.Walking as walking
 use Rattle.power_flow.proofs.Walking.{ends_has, Lets, Out, Comes}
-use Rattle.power_flow.proofs.PlaceLemmas.{same_place, stands_first}
+use Rattle.network.proofs.Elements.{place_same, stands_first}
 
 -- the state of the row of p
 abbrev pub at_row : List Bool → ℕ → Place → Bool
@@ -137,11 +137,11 @@ module _ (d : Diagram) (top count : ℕ) (conducts : ℕ → Bool) (IsSource : P
       → (first_place e).column ≤ x.column → x.column ≤ q.column → j ≡ k
   gap j k (Wire at) f q x in' in'' gives has row ge le =
       let column = ap (λ (p : Place). p.column) gives in
-      let same : q ≡ x = same_place q x (sym row) (omega arith) in
+      let same : q ≡ x = place_same q x (sym row) (omega arith) in
       sound.apart.elements j k (Wire at) f x in' in'' (inr (inl (gives ∙ same))) has
   gap j k (Join at) f q x in' in'' gives has row ge le =
       let column = ap (λ (p : Place). p.column) gives in
-      let same : q ≡ x = same_place q x (sym row) (omega arith) in
+      let same : q ≡ x = place_same q x (sym row) (omega arith) in
       sound.apart.elements j k (Join at) f x in' in'' (inr (inl (gives ∙ same))) has
   gap j k (Upright at) f q x in' in'' gives has row ge le = absurd gives
   gap j k (Contact c) f q x in' in'' gives has row ge le =
@@ -172,7 +172,7 @@ module _ (d : Diagram) (top count : ℕ) (conducts : ℕ → Bool) (IsSource : P
             let same = gap j n e f q x at at' gives has row (omega arith) (omega arith) in
             omega arith
         | inr over ↦
-            let here : x ≡ needed.spot = same_place x needed.spot (row ∙ sym needed.row) (omega arith) in
+            let here : x ≡ needed.spot = place_same x needed.spot (row ∙ sym needed.row) (omega arith) in
             let P : Place → Type 0 = λ p. Has f p in
             let same = sound.apart.elements n needed.index f needed.element needed.spot at' needed.at (subst P here has) (inr (inr (inl needed.takes))) in
             omega arith
@@ -281,7 +281,7 @@ module _ (d : Diagram) (top count : ℕ) (conducts : ℕ → Bool) (IsSource : P
     where
       same_out : (a b : Place) → p.row ≡ b.row → p.row ≡ a.row → p.column ≡ b.column + 1 → p.column ≡ a.column + 1 → GoesOn b → GoesOn a
       same_out a b row row' column column' out =
-          let same : b ≡ a = same_place b a (sym row ∙ row') (omega arith) in
+          let same : b ≡ a = place_same b a (sym row ∙ row') (omega arith) in
           let P : Place → Type 0 = λ w. GoesOn w in
           subst P same out
 
@@ -323,7 +323,7 @@ module _ (d : Diagram) (top count : ℕ) (conducts : ℕ → Bool) (IsSource : P
       let below = order_row n pending.index f pending.element (omega arith) at' pending.at (omega arith) in
       let standing = pending.each (first_place f).row (omega arith) (omega arith) in
       let found = any_found (λ w. Stands w (place (first_place f).row q.column)) d.elements standing in
-      let here : place (first_place f).row q.column ≡ first_place f = same_place (place (first_place f).row q.column) (first_place f) refl (sym column) in
+      let here : place (first_place f).row q.column ≡ first_place f = place_same (place (first_place f).row q.column) (first_place f) refl (sym column) in
       let P : Place → Type 0 = λ p. Stands found.1 p in
       let there = subst P here found.3 in
       let same = same_at found.0 n found.1 f found.2 at' (sound.apart.elements found.0 n found.1 f (first_place f) found.2 at' (inr (inr (inr there))) (inl refl)) in
@@ -413,7 +413,7 @@ module _ (d : Diagram) (top count : ℕ) (conducts : ℕ → Bool) (IsSource : P
         let comes = (coming_on n f q at (inr (inl takes)) (inr (inr (inl takes))) (alone q)).1 on in
         let row' = comes.1.row in
         let column' = comes.1.column in
-        let same : comes.0 ≡ p = same_place comes.0 p (sym row' ∙ row) (omega arith) in
+        let same : comes.0 ≡ p = place_same comes.0 p (sym row' ∙ row) (omega arith) in
         let P : Place → Type 0 = λ w. On w in
         subst P same comes.2.0,
   )
@@ -727,7 +727,7 @@ module _ (d : Diagram) (top count : ℕ) (conducts : ℕ → Bool) (IsSource : P
           let earlier = order_column j n e f lt at' at in
           elim (cases_lt q.column p.column) [
             | inl over ↦
-                let here : place q.row p.column ≡ needed.spot = same_place (place q.row p.column) needed.spot (sym needed.row) (omega arith) in
+                let here : place q.row p.column ≡ needed.spot = place_same (place q.row p.column) needed.spot (sym needed.row) (omega arith) in
                 let P : Place → Type 0 = λ w. Takes needed.element w in
                 let same = sound.apart.elements found.0 needed.index found.1 needed.element (place q.row p.column) found.2 needed.at (inr (inr (inr found.3))) (inr (inr (inl (subst P (sym here) needed.takes)))) in
                 let back = order_row n found.0 f found.1 (omega arith) at found.2 (two ∙ sym column) in

@@ -10,7 +10,7 @@ use Rattle.network.specs.Links.{Diagram, Stands, place}
 use Rattle.network.specs.Apart.{first_place, Precedes}
 use Rattle.network.specs.GraphValue.{IsSoundNetwork}
 use Rattle.power_flow.specs.Steps.Columns.{StandsIn, IsUpright}
-use Rattle.power_flow.proofs.PlaceLemmas.{stands_first}
+use Rattle.network.proofs.Elements.{stands_first}
 
 -- nothing comes between two places of which one is right below the other
 none_between : (p q r : Place) → r.column ≡ p.column → r.row ≡ p.row + 1 → Precedes p q → Precedes q r → ⊥

@@ -30,7 +30,7 @@ impl Model for ProgramType {
 
 impl ProgramType {
     /// A program type and its ladder.
-    pub fn new(program: Program, ladder: Arc<Ladder>) -> ProgramType
+    pub(crate) fn new(program: Program, ladder: Arc<Ladder>) -> ProgramType
         requires { IsLadderOf program ladder.value }
         ensures { result ≡ record { program = program; ladder = ladder.value } }
     {

@@ -158,7 +158,8 @@ fn mark_output(pin: &BoundOutput, outputs: &PinsOut, rows: &mut [bool])
     requires { pin.now.row < length rows.old }
     ensures long { length rows.new ≡ length rows.old }
     ensures marked { (r : ℕ) → (bit_at rows.new r ≡ true)
-        ↔ ((bit_at rows.old r ≡ true) ⊎ ((pin.now.row ≡ r) × (is_true (Some (field_value outputs.now pin.now.field)) ≡ true))) }
+        ↔ ((bit_at rows.old r ≡ true)
+            ⊎ ((pin.now.row ≡ r) × (is_true (Some (field_value outputs.now pin.now.field)) ≡ true))) }
 {
     if is_output_on(outputs, pin.field) {
         rows[pin.row] = true;

@@ -7,7 +7,9 @@ use Rattle.std_blocks.specs.declared.block_type.BlockType.TheVariants.{SR, RS, C
 
 -- Before its first step a block is OFF, at 0 and at T#0ms, and its edge inputs count as OFF.
 abbrev pub initial : BlockType → BlockState
-initial block = record { block = block; on = false; last_in = false; last_cu = false; last_cd = false; count = pos 0; elapsed = 0 }
+initial block = record {
+    block = block; on = false; last_in = false; last_cu = false; last_cd = false; count = pos 0; elapsed = 0
+}
 
 -- the input bit at a place
 abbrev pub bit : PinsIn → ℕ → Bool
@@ -51,7 +53,8 @@ counted_down s pins =
     else (if rises s.last_cd (bit pins 0) then one_less s.count
     else s.count)
 
--- CTUD: R makes CV 0; else LD makes it PV; else, unless both rise, a rise of CU makes it one more and a rise of CD one less.
+-- CTUD: R makes CV 0; else LD makes it PV; else, unless both rise, a rise of CU makes it one more
+-- and a rise of CD one less.
 abbrev pub counted_both : BlockState → PinsIn → ℤ
 counted_both s pins =
     let up = rises s.last_cu (bit pins 0) in
@@ -107,17 +110,22 @@ state_after RS s pins dt = record s { on = reset_dominant s pins }
 state_after CTU s pins dt = record s { last_cu = bit pins 0; count = counted_up s pins }
 state_after CTD s pins dt = record s { last_cd = bit pins 0; count = counted_down s pins }
 state_after CTUD s pins dt = record s { last_cu = bit pins 0; last_cd = bit pins 1; count = counted_both s pins }
-state_after TP s pins dt = record s { last_in = bit pins 0; elapsed = pulse_time s pins dt; on = pulse_output s pins dt }
-state_after TON s pins dt = record s { last_in = bit pins 0; elapsed = on_delay_time s pins dt; on = on_delay_output s pins dt }
-state_after TOF s pins dt = record s { last_in = bit pins 0; elapsed = off_delay_time s pins dt; on = off_delay_output s pins dt }
+state_after TP s pins dt =
+    record s { last_in = bit pins 0; elapsed = pulse_time s pins dt; on = pulse_output s pins dt }
+state_after TON s pins dt =
+    record s { last_in = bit pins 0; elapsed = on_delay_time s pins dt; on = on_delay_output s pins dt }
+state_after TOF s pins dt =
+    record s { last_in = bit pins 0; elapsed = off_delay_time s pins dt; on = off_delay_output s pins dt }
 
--- The outputs of a block of each type in a state that a step with these inputs has left: Q of a counter up is CV >= PV, Q of a counter down is CV <= 0.
+-- The outputs of a block of each type in a state that a step with these inputs has left:
+-- Q of a counter up is CV >= PV, Q of a counter down is CV <= 0.
 abbrev pub outputs_of : BlockType → BlockState → PinsIn → PinsOut
 outputs_of SR s pins = record { bits = s.on ∷ false ∷ []; int = pos 0; time = 0 }
 outputs_of RS s pins = record { bits = s.on ∷ false ∷ []; int = pos 0; time = 0 }
 outputs_of CTU s pins = record { bits = int_le pins.int s.count ∷ false ∷ []; int = s.count; time = 0 }
 outputs_of CTD s pins = record { bits = int_le s.count (pos 0) ∷ false ∷ []; int = s.count; time = 0 }
-outputs_of CTUD s pins = record { bits = int_le pins.int s.count ∷ int_le s.count (pos 0) ∷ []; int = s.count; time = 0 }
+outputs_of CTUD s pins =
+    record { bits = int_le pins.int s.count ∷ int_le s.count (pos 0) ∷ []; int = s.count; time = 0 }
 outputs_of TP s pins = record { bits = s.on ∷ false ∷ []; int = pos 0; time = s.elapsed }
 outputs_of TON s pins = record { bits = s.on ∷ false ∷ []; int = pos 0; time = s.elapsed }
 outputs_of TOF s pins = record { bits = s.on ∷ false ∷ []; int = pos 0; time = s.elapsed }

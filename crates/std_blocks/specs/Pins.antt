@@ -24,17 +24,22 @@ latch_pins set reset = (set, input (Bit 0)) ∷ (reset, input (Bit 1)) ∷ (code
 -- A counter in one direction has an input that it counts, one that sets its count, a preset, an output and its count.
 abbrev pub counter_pins : List ℕ → List ℕ → List (List ℕ × Pin)
 counter_pins count reset =
-    (count, input (Bit 0)) ∷ (reset, input (Bit 1)) ∷ (codes "PV", input Int) ∷ (codes "Q", output (Bit 0)) ∷ (codes "CV", output Int) ∷ []
+    (count, input (Bit 0)) ∷ (reset, input (Bit 1)) ∷ (codes "PV", input Int)
+    ∷ (codes "Q", output (Bit 0)) ∷ (codes "CV", output Int) ∷ []
 
--- A counter in both directions has two inputs that it counts, two that set its count, a preset, an output for each direction and its count.
+-- A counter in both directions has two inputs that it counts, two that set its count, a preset,
+-- an output for each direction and its count.
 abbrev pub up_down_pins : List (List ℕ × Pin)
 up_down_pins =
-    (codes "CU", input (Bit 0)) ∷ (codes "CD", input (Bit 1)) ∷ (codes "R", input (Bit 2)) ∷ (codes "LD", input (Bit 3)) ∷ (codes "PV", input Int)
+    (codes "CU", input (Bit 0)) ∷ (codes "CD", input (Bit 1)) ∷ (codes "R", input (Bit 2)) ∷ (codes "LD", input (Bit 3))
+    ∷ (codes "PV", input Int)
     ∷ (codes "QU", output (Bit 0)) ∷ (codes "QD", output (Bit 1)) ∷ (codes "CV", output Int) ∷ []
 
 -- A timer has an input, a preset, an output and its elapsed time.
 abbrev pub timer_pins : List (List ℕ × Pin)
-timer_pins = (codes "IN", input (Bit 0)) ∷ (codes "PT", input Time) ∷ (codes "Q", output (Bit 0)) ∷ (codes "ET", output Time) ∷ []
+timer_pins =
+    (codes "IN", input (Bit 0)) ∷ (codes "PT", input Time)
+    ∷ (codes "Q", output (Bit 0)) ∷ (codes "ET", output Time) ∷ []
 
 -- The pins of each type with their names. Bits are numbered in the order of their side.
 abbrev pub pins_of : BlockType → List (List ℕ × Pin)

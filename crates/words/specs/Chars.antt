@@ -37,20 +37,25 @@ first_that (x ∷ more) = if x.0 then Some x.1 else first_that more
 -- the block type that a word names
 unfoldable pub block_type : List ℕ → Option BlockType
 block_type w = first_that (
-    (same_word w (codes "SR"), SR) ∷ (same_word w (codes "RS"), RS) ∷ (same_word w (codes "CTU"), CTU) ∷ (same_word w (codes "CTD"), CTD)
-    ∷ (same_word w (codes "CTUD"), CTUD) ∷ (same_word w (codes "TP"), TP) ∷ (same_word w (codes "TON"), TON) ∷ (same_word w (codes "TOF"), TOF) ∷ [])
+    (same_word w (codes "SR"), SR) ∷ (same_word w (codes "RS"), RS)
+    ∷ (same_word w (codes "CTU"), CTU) ∷ (same_word w (codes "CTD"), CTD) ∷ (same_word w (codes "CTUD"), CTUD)
+    ∷ (same_word w (codes "TP"), TP) ∷ (same_word w (codes "TON"), TON) ∷ (same_word w (codes "TOF"), TOF) ∷ [])
 
 -- the words for kinds and values
 unfoldable pub is_value_word : List ℕ → Bool
-is_value_word w = list_any (same_word w) (codes "BOOL" ∷ codes "INT" ∷ codes "TIME" ∷ codes "TRUE" ∷ codes "FALSE" ∷ [])
+is_value_word w = list_any (same_word w)
+    (codes "BOOL" ∷ codes "INT" ∷ codes "TIME" ∷ codes "TRUE" ∷ codes "FALSE" ∷ [])
 
 -- the words of a program
 unfoldable pub is_program_word : List ℕ → Bool
-is_program_word w = list_any (same_word w) (codes "PROGRAM" ∷ codes "END_PROGRAM" ∷ codes "VAR" ∷ codes "VAR_INPUT" ∷ codes "VAR_OUTPUT" ∷ codes "END_VAR" ∷ codes "RETAIN" ∷ [])
+is_program_word w = list_any (same_word w)
+    (codes "PROGRAM" ∷ codes "END_PROGRAM" ∷ codes "VAR" ∷ codes "VAR_INPUT" ∷ codes "VAR_OUTPUT"
+    ∷ codes "END_VAR" ∷ codes "RETAIN" ∷ [])
 
 -- the words of a configuration
 unfoldable pub is_resource_word : List ℕ → Bool
-is_resource_word w = list_any (same_word w) (codes "CONFIGURATION" ∷ codes "END_CONFIGURATION" ∷ codes "RESOURCE" ∷ codes "END_RESOURCE" ∷ codes "ON" ∷ [])
+is_resource_word w = list_any (same_word w)
+    (codes "CONFIGURATION" ∷ codes "END_CONFIGURATION" ∷ codes "RESOURCE" ∷ codes "END_RESOURCE" ∷ codes "ON" ∷ [])
 
 -- the words of a task
 unfoldable pub is_task_word : List ℕ → Bool
@@ -101,7 +106,9 @@ is_digit_or_score c = is_digit c || c == 95
 
 -- the units of a duration, the greatest first; 0 for anything else
 abbrev pub unit_rank : List ℕ → ℕ
-unit_rank u = unwrap_or (first_that ((same_word u (codes "d"), 1) ∷ (same_word u (codes "h"), 2) ∷ (same_word u (codes "m"), 3) ∷ (same_word u (codes "s"), 4) ∷ (same_word u (codes "ms"), 5) ∷ [])) 0
+unit_rank u = unwrap_or (first_that (
+    (same_word u (codes "d"), 1) ∷ (same_word u (codes "h"), 2) ∷ (same_word u (codes "m"), 3)
+    ∷ (same_word u (codes "s"), 4) ∷ (same_word u (codes "ms"), 5) ∷ [])) 0
 
 -- a text without an underscore that it begins with
 abbrev pub without_score : List ℕ → List ℕ
@@ -127,7 +134,8 @@ is_part above w = is_number (take_while is_digit_or_score w) && nat_lt above (un
 -- one or more parts of a duration, at most n, with at most one underscore between two
 abbrev pub is_parts : ℕ → ℕ → List ℕ → Bool
 is_parts zero above w = false
-is_parts (suc n) above w = is_part above w && (length (part_more w) == 0 || is_parts n (unit_rank (part_unit w)) (without_score (part_more w)))
+is_parts (suc n) above w = is_part above w
+    && (length (part_more w) == 0 || is_parts n (unit_rank (part_unit w)) (without_score (part_more w)))
 
 -- the parts of a whole duration
 unfoldable pub has_parts : ℕ → List ℕ → Bool

@@ -17,7 +17,8 @@ AreParts above (p ∷ ps) = IsTrue (is_number p.number) × (above < unit_rank p.
 abbrev pub IsSpelling : List Part → List ℕ → Type 0
 IsSpelling [] w = ⊥
 IsSpelling (p ∷ []) w = w ≡ p.number ++ p.unit
-IsSpelling (p ∷ q ∷ ps) w = (rest : List ℕ) × IsSpelling (q ∷ ps) rest × ((w ≡ p.number ++ p.unit ++ rest) ⊎ (w ≡ p.number ++ p.unit ++ 95 ∷ rest))
+IsSpelling (p ∷ q ∷ ps) w = (rest : List ℕ) × IsSpelling (q ∷ ps) rest
+    × ((w ≡ p.number ++ p.unit ++ rest) ⊎ (w ≡ p.number ++ p.unit ++ 95 ∷ rest))
 
 -- the word is `T#` or `TIME#`, in either case, and then the parts
 pub record IsDurationOf (w : List ℕ) (ps : List Part) : Type 0 where

@@ -18,18 +18,27 @@ number_value w = digits_value 0 w
 -- how many milliseconds a unit is, by its rank: d, h, m, s, ms
 abbrev pub unit_length : ℕ → ℕ
 unit_length rank =
-    if rank == 1 then 86400000 else (if rank == 2 then 3600000 else (if rank == 3 then 60000 else (if rank == 4 then 1000 else 1)))
+    if rank == 1 then 86400000
+    else (if rank == 2 then 3600000
+    else (if rank == 3 then 60000
+    else (if rank == 4 then 1000
+    else 1)))
 
--- the milliseconds of at most n parts, each a number and a unit
+-- the milliseconds of the part that a text begins with, a number and a unit
+abbrev pub part_value : List ℕ → ℕ
+part_value w = number_value (take_while is_digit_or_score w) * unit_length (unit_rank (part_unit w))
+
+-- the milliseconds of at most n parts
 abbrev pub parts_value : ℕ → List ℕ → ℕ
 parts_value zero w = 0
 parts_value (suc n) w =
-    number_value (take_while is_digit_or_score w) * unit_length (unit_rank (part_unit w))
-    + (if length (part_more w) == 0 then 0 else parts_value n (without_score (part_more w)))
+    part_value w + (if length (part_more w) == 0 then 0 else parts_value n (without_score (part_more w)))
 
 -- how many milliseconds a duration is, behind T# or TIME#
 unfoldable pub duration_value : List ℕ → ℕ
-duration_value w = if is_duration_behind (codes "T#") 2 w then parts_value (length w) (drop 2 w) else parts_value (length w) (drop 5 w)
+duration_value w =
+    if is_duration_behind (codes "T#") 2 w then parts_value (length w) (drop 2 w)
+    else parts_value (length w) (drop 5 w)
 
 -- n, unless it is above the limit
 abbrev pub limited : ℕ → ℕ → Option ℕ

@@ -3,7 +3,7 @@
 ghost use Rattle.std.specs.Prelude.{◌≡◌, ◌≤◌, ◌*◌, List, None, IsTrue, IfSome, length, take_while, drop};
 ghost use Rattle.words.specs.Durations.{Part, IsDurationOf, milliseconds};
 ghost use Rattle.words.specs.Chars.{is_letter, is_digit_or_score, unit_rank, without_score, part_rest, part_unit, part_more, is_part, is_parts, has_parts, is_duration_behind, is_duration};
-ghost use Rattle.words.specs.Numbers.{number_value, unit_length, parts_value, duration_value, limited, duration_up_to};
+ghost use Rattle.words.specs.Numbers.{unit_length, part_value, parts_value, duration_value, limited, duration_up_to};
 
 use crate::numbers::{digits_up_to, is_number};
 
@@ -168,7 +168,7 @@ pub fn is_duration(word: &[u8]) -> bool
 
 /// The milliseconds of the first part of a duration, unless they are above the limit.
 fn part_up_to(word: &[u8], most: u64) -> Option<u64>
-    ensures { result ≡ limited most (number_value (take_while is_digit_or_score word.now) * unit_length (unit_rank (part_unit word.now))) }
+    ensures { result ≡ limited most (part_value word.now) }
 {
     let length = unit_length(part_unit(word));
     let value = digits_up_to(digits(word), most)?.checked_mul(length)?;

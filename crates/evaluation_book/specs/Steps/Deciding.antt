@@ -1,6 +1,6 @@
 -- Steps of the proofs: the tests by which a book decides whether an evaluation fits.
 -- Entries stand with the newest first.
-use Rattle.std.specs.Prelude.{ℕ, ◌+◌, Bool, true, false, if◌then◌else◌, ◌==◌, ◌&&◌, ◌||◌, not, nat_lt, nat_le, List, Option, Some, None, length, reverse, slice_index, is_some, MatchOption}
+use Rattle.std.specs.Prelude.{ℕ, ◌+◌, Bool, true, false, if◌then◌else◌, ◌==◌, ◌&&◌, ◌||◌, not, nat_lt, nat_le, List, Option, Some, None, length, reverse, is_some, MatchOption}
 use Rattle.std.specs.Ordering.{int_eq}
 use Rattle.std.specs.Cmp.Lexicographic.{pointwise}
 use Rattle.std.specs.List.{list_all, list_any, find}
@@ -13,7 +13,7 @@ use Rattle.evaluation.specs.Meaning.{Evaluated}
 use Rattle.evaluation.specs.Last.{same_task, last_number, from_of}
 use Rattle.evaluation_book.specs.declared.book.misfit.Misfit.{Misfit}
 use Rattle.evaluation_book.specs.declared.book.misfit.Misfit.TheVariants.{WrongNumber, UnknownTake, Torn, Back, NotOwnLatest}
-use Rattle.evaluation_book.specs.Fits.{name_from, is_below, Fits}
+use Rattle.evaluation_book.specs.Fits.{present_in, name_from, is_below, Fits}
 use Rattle.evaluation_book.specs.Book.{BookValue, IsMisfit}
 
 -- two names are one
@@ -42,16 +42,6 @@ same_from None None = true
 same_from (Some a) (Some b) = a.0 == b.0 && a.1 == b.1
 same_from None (Some b) = false
 same_from (Some a) None = false
-
--- the incarnation of an entry, or else the first one
-abbrev pub incarnation_in : ℕ → Option Evaluated → ℕ
-incarnation_in first None = first
-incarnation_in first (Some y) = y.name.incarnation
-
--- a resource's present incarnation: that of its newest entry, or else its first one
-abbrev pub present_in : List ℕ → List Evaluated → ℕ → ℕ
-present_in first older n =
-    incarnation_in (slice_index first n) (find (λ (y : Evaluated). y.name.task.resource == n) older)
 
 -- an entry is of this task
 abbrev pub is_of_task : TaskRef → Evaluated → Bool

@@ -13,7 +13,7 @@ use Rattle.evaluation_book.specs.declared.book.ledger.Ledger.{Ledger}
 use Rattle.evaluation_book.specs.declared.book.ledger.place.Place.{Place}
 use Rattle.evaluation_book.specs.declared.book.ledger.task_places.TaskPlaces.{TaskPlaces}
 use Rattle.evaluation_book.specs.declared.book.ledger.taker.Taker.{Taker}
-use Rattle.list_items.specs.Each.{Each}
+use Rattle.std.specs.List.{AllByRecursion}
 use Rattle.evaluation_book.specs.Fits.{AllFit}
 use Rattle.evaluation_book.specs.Steps.Deciding.{is_of_task, takes_from}
 
@@ -67,7 +67,7 @@ index_of incarnation number (p ∷ ps) =
 -- each place's pair is below those of the later ones
 abbrev pub AreRising : List Place → Type 0
 AreRising [] = Unit {0}
-AreRising (p ∷ ps) = Each (λ (q : Place). pair_cmp q.incarnation q.number p ≡ Less) ps × AreRising ps
+AreRising (p ∷ ps) = AllByRecursion (λ (q : Place). pair_cmp q.incarnation q.number p ≡ Less) ps × AreRising ps
 
 -- the rows tell of one place more of a task, its last, and of all else as before
 abbrev pub AddsPlace : List TaskPlaces → List TaskPlaces → TaskRef → Place → Type 0

@@ -1,6 +1,6 @@
 ghost use Rattle.std.specs.Prelude.{◌≡◌, ◌<◌, length, reverse};
-ghost use Rattle.evaluation_book.specs.Fits.{AllFit};
-ghost use Rattle.evaluation_book.specs.Steps.Deciding.{present_in, is_next, is_numbered};
+ghost use Rattle.evaluation_book.specs.Fits.{present_in, AllFit};
+ghost use Rattle.evaluation_book.specs.Steps.Deciding.{is_next, is_numbered};
 
 use crate::book::Book;
 use crate::book::last_entry::last_number;

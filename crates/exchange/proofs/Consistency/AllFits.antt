@@ -12,13 +12,13 @@ use Rattle.exchange.specs.declared.event.Event.{Event}
 use Rattle.exchange.specs.declared.event.Event.TheVariants.{Evaluate, Deliver, Restart}
 use Rattle.exchange.specs.History.{Setting, incarnation_of, number_of}
 use Rattle.exchange.specs.Run.{IsLog, IsNextEvaluation, next_name, latest, has_reached}
-use Rattle.list_items.specs.Each.{Among}
+use Rattle.lists.specs.Among.{Among}
 use Rattle.evaluation_book.specs.Fits.{last_in, name_from, IsKnown, IsUntorn, IsNotBack, IsOwnLatest, Fits, AllFit}
 use Rattle.exchange.proofs.Histories.Tasks.{same_task-true, resource_exists}
 use Rattle.exchange.proofs.Histories.Latest.{Rises, precedes-irreflexive}
 use Rattle.exchange.proofs.Histories.Names.{AllLawful, log-rises}
 use Rattle.exchange.proofs.Histories.Steps.{number-latest}
-use Rattle.list_items.proofs.Each.{Each-from}
+use Rattle.lists.proofs.Each.{Each-from}
 use Rattle.exchange.proofs.Consistency.Fitting.{last_among-entry, AllBefore-entry, incarnation-low, own-latest}
 use Rattle.exchange.proofs.Consistency.NotBack.{takes-reach, takes-each}
 

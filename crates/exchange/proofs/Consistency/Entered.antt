@@ -9,7 +9,7 @@ use Rattle.evaluation.specs.Last.{same_task}
 use Rattle.exchange.specs.History.{history_of}
 use Rattle.exchange.specs.Run.{has_reached}
 use Rattle.exchange.specs.World.{WorldValue, node_takes, latest_at, held_at}
-use Rattle.list_items.specs.Each.{Among}
+use Rattle.lists.specs.Among.{Among}
 use Rattle.evaluation_book.specs.declared.book.misfit.Misfit.{Misfit}
 use Rattle.evaluation_book.specs.declared.book.misfit.Misfit.TheVariants.{WrongNumber, UnknownTake, Torn, Back, NotOwnLatest, Memory}
 use Rattle.evaluation_book.specs.Fits.{Fits, AllFit}

@@ -13,7 +13,7 @@ use Rattle.exchange.specs.declared.event.Event.{Event}
 use Rattle.exchange.specs.declared.event.Event.TheVariants.{Evaluate, Deliver, Restart}
 use Rattle.exchange.specs.History.{Setting, incarnation_of}
 use Rattle.exchange.specs.Run.{IsLog, IsNextEvaluation, next_name, latest, last_among}
-use Rattle.list_items.specs.Each.{Among}
+use Rattle.lists.specs.Among.{Among}
 use Rattle.evaluation_book.specs.Fits.{last_in}
 use Rattle.exchange.proofs.Histories.Tasks.{same_task-true, same_task-itself}
 use Rattle.exchange.proofs.Histories.Latest.{AllBefore}

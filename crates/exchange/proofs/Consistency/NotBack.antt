@@ -4,8 +4,8 @@ use Rattle.std.specs.Prelude.{MatchOption}
 use Rattle.std.specs.List.{zip}
 use Rattle.std.proofs.lemmas.Bool.{eqb-true}
 use Rattle.std.proofs.lemmas.Bool.Decides.{nat_tests}
-use Rattle.list_items.proofs.Each.{Each-from}
-use Rattle.list_items.proofs.Orders.{not_below-onward}
+use Rattle.lists.proofs.Each.{Each-from}
+use Rattle.lists.proofs.Orders.{not_below-onward}
 use Rattle.declared_names.specs.declared.declarations.Kind.{Kind}
 use Rattle.due_list.specs.declared.task_ref.TaskRef.{TaskRef}
 use Rattle.task_codes.specs.CodeValue.{CodeValue}
@@ -20,7 +20,8 @@ use Rattle.exchange.specs.declared.event.Event.TheVariants.{Evaluate, Deliver, R
 use Rattle.exchange.specs.History.{Setting, incarnation_of, number_of}
 use Rattle.exchange.specs.Run.{IsLog, IsNextEvaluation, next_name, latest, message, has_reached}
 use Rattle.exchange.specs.Laws.{greater, held_with}
-use Rattle.list_items.specs.Each.{Among, Each}
+use Rattle.std.specs.List.{AllByRecursion}
+use Rattle.lists.specs.Among.{Among}
 use Rattle.evaluation_book.specs.Fits.{is_below, name_from}
 use Rattle.exchange.proofs.Histories.Tasks.{same_task-true}
 use Rattle.exchange.proofs.Histories.Latest.{precedes-irreflexive, not_itself}
@@ -95,11 +96,11 @@ evaluate-not_below s n k t dt inputs q h x log all is next = by (same_task t q) 
 
 -- no take from a producer is above this
 abbrev pub TakesReach : TaskRef → Option (ℕ × ℕ) → List Take → Type 0
-TakesReach q bound ts = Each (λ (u : Take). u.producer ≡ q → is_below q bound u.from ≡ false) ts
+TakesReach q bound ts = AllByRecursion (λ (u : Take). u.producer ≡ q → is_below q bound u.from ≡ false) ts
 
 -- no take of an entry of this resource and incarnation is above this
 abbrev pub AllReach : ℕ → ℕ → TaskRef → Option (ℕ × ℕ) → List Evaluated → Type 0
-AllReach n i q bound log = Each (λ (y : Evaluated). y.name.task.resource ≡ n → y.name.incarnation ≡ i → TakesReach q bound y.takes) log
+AllReach n i q bound log = AllByRecursion (λ (y : Evaluated). y.name.task.resource ≡ n → y.name.incarnation ≡ i → TakesReach q bound y.takes) log
 
 TakesReach-higher : (q : TaskRef) (a b : Option (ℕ × ℕ)) (ts : List Take) → is_below q a b ≡ false → TakesReach q b ts → TakesReach q a ts
 TakesReach-higher q a b [] h all = tt
@@ -110,9 +111,9 @@ AllReach-higher n i q a b [] h all = tt
 AllReach-higher n i q a b (y ∷ ys) h all = (λ e f. TakesReach-higher q a b y.takes h (all.0 e f), AllReach-higher n i q a b ys h all.1)
 
 -- what holds of the take of the last evaluation of each producer holds of all takes
-pub takes-each : (P : Take → Type 0) (last : TaskRef → Option Evaluated) → ((q : TaskRef) (kinds : List Kind) → P (take_of q kinds (last q))) → (code : CodeValue) → Each P (takes_of last code)
+pub takes-each : (P : Take → Type 0) (last : TaskRef → Option Evaluated) → ((q : TaskRef) (kinds : List Kind) → P (take_of q kinds (last q))) → (code : CodeValue) → AllByRecursion P (takes_of last code)
 takes-each P last each code = by code.producers code.expected where
-  by : (ps : List TaskRef) (es : List (List Kind)) → Each P (map (λ e. take_of e.0 e.1 (last e.0)) (zip ps es))
+  by : (ps : List TaskRef) (es : List (List Kind)) → AllByRecursion P (map (λ e. take_of e.0 e.1 (last e.0)) (zip ps es))
   by [] es = tt
   by (p ∷ ps) [] = tt
   by (p ∷ ps) (kinds ∷ es) = (each p kinds, by ps es)

@@ -22,14 +22,15 @@ use Rattle.exchange.specs.declared.event.Event.{Event}
 use Rattle.exchange.specs.declared.event.Event.TheVariants.{Evaluate, Deliver, Restart}
 use Rattle.exchange.specs.History.{Setting, history_of}
 use Rattle.exchange.specs.Run.{IsLog, IsRun, IsNextEvaluation, next_name, latest, message, has_reached}
-use Rattle.list_items.specs.Each.{Among, Each}
+use Rattle.std.specs.List.{AllByRecursion}
+use Rattle.lists.specs.Among.{Among}
 use Rattle.evaluation_book.specs.Fits.{name_from, is_below}
 use Rattle.exchange.specs.Consistent.{IsBoundTo, HaveValuesOf, AreInitial, AreTakenFrom, TakesOnly, TakesOneEntry, IsPlace, IsConsistent}
 use Rattle.exchange.proofs.Histories.Tasks.{same_task-true, same_task-itself}
 use Rattle.exchange.proofs.Histories.Latest.{Rises}
 use Rattle.exchange.proofs.Histories.Names.{AllLawful, AllLawful-after, log-rises, named}
 use Rattle.exchange.proofs.Histories.Pairs.{message-within, rises-messages}
-use Rattle.list_items.proofs.Each.{Each-at, Each-from, slice_get-among}
+use Rattle.lists.proofs.Each.{Each-at, Each-from, slice_get-among}
 use Rattle.exchange.proofs.Consistency.Fitting.{taken, last_among-entry}
 use Rattle.exchange.proofs.Consistency.NotBack.{takes-reach, takes-each}
 use Rattle.exchange.proofs.Consistency.AllFits.{one_name}
@@ -47,8 +48,8 @@ pub record TakesLast (x : Evaluated) (k : ℕ) (p : TaskRef) (last : Option Eval
   pub image : (z : Evaluated) → last ≡ Some z → take.image ≡ z.outputs
 
 module _ (x : Evaluated) (last : TaskRef → Option Evaluated) (whole : IsWhole x) (takes : x.takes ≡ takes_of last x.code) where
-  all_last : Each (IsOfLast last) x.takes
-  all_last = subst (Each (IsOfLast last)) (sym takes) (takes-each (IsOfLast last) last (λ q kinds. (refl, λ z e. ap (image_of kinds) e)) x.code)
+  all_last : AllByRecursion (IsOfLast last) x.takes
+  all_last = subst (AllByRecursion (IsOfLast last)) (sym takes) (takes-each (IsOfLast last) last (λ q kinds. (refl, λ z e. ap (image_of kinds) e)) x.code)
 
   takes-last : (k : ℕ) (p : TaskRef) → slice_get x.code.producers k ≡ Some p → TakesLast x k p (last p)
   takes-last k p e =
@@ -113,14 +114,14 @@ IsOld older p o = MatchOption o (Unit {0}) (λ z. Among z older × (same_task z.
 -- a take is not below an older one of this resource and incarnation from that producer, whose ever it is
 abbrev pub IsKept : List Evaluated → Name → Take → Type 0
 IsKept older name t =
-    Each (λ (y : Evaluated). y.name.task.resource ≡ name.task.resource → y.name.incarnation ≡ name.incarnation → Each (λ (u : Take). u.producer ≡ t.producer → is_below t.producer t.from u.from ≡ false) y.takes) older
+    AllByRecursion (λ (y : Evaluated). y.name.task.resource ≡ name.task.resource → y.name.incarnation ≡ name.incarnation → AllByRecursion (λ (u : Take). u.producer ≡ t.producer → is_below t.producer t.from u.from ≡ false) y.takes) older
 
 -- an evaluation agrees with those before it
 pub record Agrees (plant : PlantValue) (older : List Evaluated) (x : Evaluated) : Type 0 where
   pub taken_of : TaskRef → Option Evaluated
   pub olds : (p : TaskRef) → IsOld older p (taken_of p)
   pub only : (p : TaskRef) → TakesOnly x p (taken_of p)
-  pub kept : Each (IsKept older x.name) x.takes
+  pub kept : AllByRecursion (IsKept older x.name) x.takes
   pub coded : code_at plant x.name.task ≡ Some x.code
   pub whole : IsWhole x
   pub meant : IsMeant x
@@ -135,8 +136,8 @@ next-agrees s h log k t dt inputs x all is next =
       taken_of = λ p. latest t.resource h p log;
       olds = λ p. last_among-entry p (has_reached t.resource h) log;
       only = λ p. takes-latest s h log k t dt inputs x p next;
-      kept = subst (λ n. Each (IsKept log n) x.takes) (sym (named s h log k t dt inputs x next))
-          (subst (Each (IsKept log (next_name s t h))) (sym (taken s h log k t dt inputs x next))
+      kept = subst (λ n. AllByRecursion (IsKept log n) x.takes) (sym (named s h log k t dt inputs x next))
+          (subst (AllByRecursion (IsKept log (next_name s t h))) (sym (taken s h log k t dt inputs x next))
           (takes-each (IsKept log (next_name s t h)) (λ p. latest t.resource h p log) (λ q kinds. takes-reach s t.resource q h log all is) next.code));
       coded = subst (λ n. code_at s.plant n.task ≡ Some x.code) (sym (named s h log k t dt inputs x next)) (next.found ∙ ap (λ (c : CodeValue). Some c) (sym (next-code s h log k t dt inputs x next)));
       whole = next.asked.whole;
@@ -238,7 +239,7 @@ kept-at : (plant : PlantValue) (log : List Evaluated) (i j : ℕ) (x y : Evaluat
     → Among t x.takes → Among u y.takes → t.producer ≡ u.producer → is_below u.producer u.from t.from ≡ false
 kept-at plant log i j x y t u a low e here now in_x in_y =
     Each-at (λ (v : Take). v.producer ≡ u.producer → is_below u.producer u.from v.from ≡ false) x.takes t
-    (Each-at (λ (z : Evaluated). z.name.task.resource ≡ y.name.task.resource → z.name.incarnation ≡ y.name.incarnation → Each (λ (v : Take). v.producer ≡ u.producer → is_below u.producer u.from v.from ≡ false) z.takes) a.older x
+    (Each-at (λ (z : Evaluated). z.name.task.resource ≡ y.name.task.resource → z.name.incarnation ≡ y.name.incarnation → AllByRecursion (λ (v : Take). v.producer ≡ u.producer → is_below u.producer u.from v.from ≡ false) z.takes) a.older x
     (Each-at (IsKept a.older y.name) y.takes u a.agrees.kept in_y) (message-among a.older i x (a.narrower i x low e)) here now)
     in_x
 

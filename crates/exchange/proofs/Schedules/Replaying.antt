@@ -2,7 +2,6 @@
 use Rattle.std.proofs.Common.{◌≡◌, ◌⊎◌, inl, inr, ℕ, ◌+◌, ◌-◌, ◌<◌, ◌≤◌, Bool, true, false, cond, ◌&&◌, ◌||◌, List, [], ◌∷◌, ◌++◌, map, length, replicate, Option, Some, None, refl, ap, sym, ◌∙◌, subst, arith, eqb, ltb}
 use Rattle.std.specs.Prelude.{MatchOption, slice_index, reverse}
 use Rattle.std.specs.List.{find, flat_map, zip}
-use Rattle.std.specs.Option.{option_map_or}
 use Rattle.std.proofs.lemmas.Bool.{ne_eqb, eqb-true, eqb-false, false≢true, lt-ltb}
 use Rattle.std.proofs.lemmas.Bool.Decides.{nat_tests}
 use Rattle.declared_names.specs.declared.declarations.Kind.{Kind}
@@ -20,13 +19,14 @@ use Rattle.exchange.specs.declared.event.Event.{Event}
 use Rattle.exchange.specs.declared.event.Event.TheVariants.{Evaluate, Restart}
 use Rattle.exchange.specs.History.{Setting, is_lawful, after_events, history_of, incarnation_of, number_of}
 use Rattle.exchange.specs.Run.{IsNextEvaluation, next_name, latest, has_reached}
-use Rattle.list_items.specs.Each.{Among, Each}
-use Rattle.evaluation_book.specs.Fits.{last_in, name_from, is_below, IsUntorn, IsNotBack, IsOwnLatest, Fits, AllFit}
+use Rattle.std.specs.List.{AllByRecursion}
+use Rattle.lists.specs.Among.{Among}
+use Rattle.evaluation_book.specs.Fits.{last_in, incarnation_in, present_in, name_from, is_below, IsUntorn, IsNotBack, IsOwnLatest, Fits, AllFit}
 use Rattle.exchange.specs.Replays.{CouldBeMade, AllCouldBeMade, Replays}
-use Rattle.exchange.specs.Schedule.{present, delivery, events_of, schedule_of}
+use Rattle.exchange.specs.Schedule.{delivery, events_of, schedule_of}
 use Rattle.exchange.proofs.Histories.Names.{after_append, length-log}
 use Rattle.exchange.proofs.Histories.Steps.{latest-other_evaluate, number-latest}
-use Rattle.list_items.proofs.Each.{Each-at}
+use Rattle.lists.proofs.Each.{Each-at}
 use Rattle.exchange.proofs.Consistency.Fitting.{last_among-entry, own-latest}
 use Rattle.exchange.proofs.Consistency.NotBack.{is_below-itself}
 use Rattle.exchange.proofs.Consistency.AllFits.{taken_name}
@@ -67,7 +67,7 @@ module _ (s : Setting) (g : List Event) (log : List Evaluated) (x : Evaluated) (
           subst (λ f. is_below t.producer t.from f ≡ false) (sym (ap (λ u. u.from) is)) (is_below-itself t.producer t.from)
       one (inr earlier) =
           Each-at (λ u. u.producer ≡ t.producer → is_below t.producer t.from u.from ≡ false) took.entry.takes took.take
-          (Each-at (λ y. y.name.task.resource ≡ x.name.task.resource → y.name.incarnation ≡ x.name.incarnation → Each (λ (u : Take). u.producer ≡ t.producer → is_below t.producer t.from u.from ≡ false) y.takes) log took.entry (back away) earlier took.here (took.at ∙ at))
+          (Each-at (λ y. y.name.task.resource ≡ x.name.task.resource → y.name.incarnation ≡ x.name.incarnation → AllByRecursion (λ (u : Take). u.producer ≡ t.producer → is_below t.producer t.from u.from ≡ false) y.takes) log took.entry (back away) earlier took.here (took.at ∙ at))
           took.in_takes took.of
 
   -- each take is of the latest
@@ -98,7 +98,7 @@ take-same n g log t kinds initial untorn is = by (latest n g t.producer log) (la
   by (Some z) w e =
       same_take t (take_of t.producer kinds (Some z)) refl e
       (Each-at (λ y. y.name ≡ name_from t.producer (z.name.incarnation, z.name.number) → t.image ≡ y.outputs) log z
-      (subst (λ o. MatchOption o (Unit {0}) (λ f. Each (λ (y : Evaluated). y.name ≡ name_from t.producer f → t.image ≡ y.outputs) log)) e untorn)
+      (subst (λ o. MatchOption o (Unit {0}) (λ f. AllByRecursion (λ (y : Evaluated). y.name ≡ name_from t.producer f → t.image ≡ y.outputs) log)) e untorn)
       w.0 (taken_name t.producer z w.1))
 
 takes-same : (n : ℕ) (g : List Event) (log : List Evaluated) (ps : List TaskRef) (es : List (List Kind)) (ts : List Take) → Suits ps es ts
@@ -173,12 +173,12 @@ held-evaluate s g log x k t dt inputs held lawful next =
 -- the events so far make these entries, and leave each resource in its present incarnation
 pub record Scheduled (s : Setting) (h : List Event) (log : List Evaluated) : Type 0 where
   pub held : Held s h log log
-  pub incarnations : (m : ℕ) → incarnation_of s m h ≡ present s.first log m
+  pub incarnations : (m : ℕ) → incarnation_of s m h ≡ present_in s.first log m
 
-present-low : (first : List ℕ) (n i : ℕ) → slice_index first n ≤ i → (log : List Evaluated) → Each (λ (y : Evaluated). y.name.task.resource ≡ n → y.name.incarnation ≤ i) log → present first log n ≤ i
+present-low : (first : List ℕ) (n i : ℕ) → slice_index first n ≤ i → (log : List Evaluated) → AllByRecursion (λ (y : Evaluated). y.name.task.resource ≡ n → y.name.incarnation ≤ i) log → present_in first log n ≤ i
 present-low first n i low [] all = low
 present-low first n i low (y ∷ ys) all = by (present-low first n i low ys all.1) (eqb y.name.task.resource n) refl where
-  by : present first ys n ≤ i → (b : Bool) → eqb y.name.task.resource n ≡ b → option_map_or (λ (y : Evaluated). y.name.incarnation) (cond b (Some y) (find (λ (y : Evaluated). eqb y.name.task.resource n) ys)) (slice_index first n) ≤ i
+  by : present_in first ys n ≤ i → (b : Bool) → eqb y.name.task.resource n ≡ b → incarnation_in (slice_index first n) (cond b (Some y) (find (λ (y : Evaluated). eqb y.name.task.resource n) ys)) ≤ i
   by ih true e = all.0 (eqb-true y.name.task.resource n e)
   by ih false e = ih
 
@@ -187,7 +187,7 @@ module _ (s : Setting) (h : List Event) (log : List Evaluated) (x : Evaluated) (
   resource = x.name.task.resource
 
   abbrev count : ℕ
-  count = x.name.incarnation - present s.first log x.name.task.resource
+  count = x.name.incarnation - present_in s.first log x.name.task.resource
 
   abbrev begun : List Event
   begun = after_events s h (replicate count (Restart resource))
@@ -197,7 +197,7 @@ module _ (s : Setting) (h : List Event) (log : List Evaluated) (x : Evaluated) (
 
   risen : incarnation_of s resource h + count ≡ x.name.incarnation
   risen =
-      let low : present s.first log resource ≤ x.name.incarnation = present-low s.first resource x.name.incarnation fits.numbered.not_below_first log fits.numbered.not_below_latest in
+      let low : present_in s.first log resource ≤ x.name.incarnation = present-low s.first resource x.name.incarnation fits.numbered.not_below_first log fits.numbered.not_below_latest in
       omega (arith, sched.incarnations resource)
 
   inside : resource < length s.plant.resources
@@ -234,7 +234,7 @@ module _ (s : Setting) (h : List Event) (log : List Evaluated) (x : Evaluated) (
         held = held-evaluate s brought log x x.ticket x.name.task x.dt x.inputs delivered.held lawful (makes s brought log x sound delivered.held at_last fits r delivered.up);
         incarnations = λ m. delivered.incarnations m ∙ by m (eqb resource m) refl;
       }) where
-        by : (m : ℕ) (b : Bool) → eqb resource m ≡ b → incarnation_of s m begun ≡ option_map_or (λ (y : Evaluated). y.name.incarnation) (cond b (Some x) (find (λ (y : Evaluated). eqb y.name.task.resource m) log)) (slice_index s.first m)
+        by : (m : ℕ) (b : Bool) → eqb resource m ≡ b → incarnation_of s m begun ≡ incarnation_in (slice_index s.first m) (cond b (Some x) (find (λ (y : Evaluated). eqb y.name.task.resource m) log))
         by m true e = subst (λ r. incarnation_of s r begun ≡ x.name.incarnation) (eqb-true resource m e) (restarted.here ∙ risen)
         by m false e = restarted.others m e ∙ sched.incarnations m
 

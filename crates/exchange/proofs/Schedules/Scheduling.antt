@@ -15,7 +15,8 @@ use Rattle.exchange.specs.declared.event.Event.TheVariants.{Deliver, Restart}
 use Rattle.exchange.specs.History.{Setting, made_count, is_lawful, after_events, incarnation_of}
 use Rattle.exchange.specs.Run.{IsLog, latest, message}
 use Rattle.exchange.specs.Laws.{greater, held_with}
-use Rattle.list_items.specs.Each.{Among, Each}
+use Rattle.std.specs.List.{AllByRecursion}
+use Rattle.lists.specs.Among.{Among}
 use Rattle.evaluation_book.specs.Fits.{name_from, is_below, IsKnown}
 use Rattle.exchange.specs.Schedule.{is_from, message_of, taken_in, takes_from, last_taken, delivery_from, delivery}
 use Rattle.exchange.proofs.Histories.Tasks.{same_task-true, same_task-itself}
@@ -192,7 +193,7 @@ greater-reaches q (Some z) y = by (precedes z.name y.name) refl where
 
 -- these takes are reached: the latest at the resource isn't below any of them
 abbrev pub AllUp : ℕ → List Event → List Evaluated → List Take → Type 0
-AllUp n g log ts = Each (λ (t : Take). (t.producer.resource ≡ n → ⊥) → is_below t.producer (from_of (latest n g t.producer log)) t.from ≡ false) ts
+AllUp n g log ts = AllByRecursion (λ (t : Take). (t.producer.resource ≡ n → ⊥) → is_below t.producer (from_of (latest n g t.producer log)) t.from ≡ false) ts
 
 pub record Delivered (s : Setting) (h : List Event) (log seen : List Evaluated) (n : ℕ) (ts : List Take) (g : List Event) : Type 0 where
   pub held : Held s g log seen
@@ -274,7 +275,7 @@ module _ (s : Setting) (log seen : List Evaluated) (name : Name) (inside : name.
       }
 
   -- the deliveries of some takes
-  pub deliver-all : (ts : List Take) (h : List Event) → Held s h log seen → incarnation_of s taker h ≡ name.incarnation → Each (IsKnown log) ts
+  pub deliver-all : (ts : List Take) (h : List Event) → Held s h log seen → incarnation_of s taker h ≡ name.incarnation → AllByRecursion (IsKnown log) ts
       → ((t : Take) → Among t ts → (f : ℕ × ℕ) → t.from ≡ Some f → Took seen taker name.incarnation t.producer (Some f)) → Delivered s h log seen taker ts (after_events s h (flat_map (delivery log name) ts))
   deliver-all [] h held at known took = record { held = held; incarnations = λ m. refl; up = tt; above = λ q. is_below-itself q (from_of (latest taker h q log)) }
   deliver-all (t ∷ ts) h held at known took =

@@ -9,7 +9,7 @@ use Rattle.plant.specs.PlantValue.{PlantValue, AreProducersOf}
 use Rattle.task_codes.specs.CodeValue.{CodeValue, AreDistinct, image_kinds}
 use Rattle.evaluation.specs.declared.take.Take.{Take}
 use Rattle.evaluation.specs.Takes.{initial_image, IsTakeOf, AreTakesOf}
-use Rattle.list_items.specs.Each.{Among}
+use Rattle.lists.specs.Among.{Among}
 
 -- one take for each producer, in order, and a take of nothing has the initial image of the kinds expected
 abbrev pub Suits : List TaskRef → List (List Kind) → List Take → Type 0

@@ -22,7 +22,8 @@ use Rattle.network.specs.Steps.Joined.Joined.{here as joined_here, along as join
 use Rattle.network.specs.Steps.Listing.{AreElementsOf}
 use Rattle.network.specs.Steps.Pairs.{AreLaidOut, IsPairOf, pair_of, Enters, Leaves, AreLast, AreTakers, IsLeftPair, IsUnder, IsUpperPair, IsNewPair, Adds, ArePairsTo, AreLabels}
 use Rattle.network.specs.Steps.Rows.{in_row, Puts}
-use Rattle.network.proofs.Basics.{some_is, one_at, place_same}
+use Rattle.network.proofs.Basics.{some_is, one_at}
+use Rattle.network.proofs.Elements.{place_same, stands_first}
 use Rattle.network.proofs.Joined.RowLemmas.{IsPinTo, pin_to_wide, pin_to_here, pin_to_cases, pin_to_skip, puts_as, puts_one}
 use Rattle.network.proofs.Joined.Spreading.{Joined-trans}
 use Rattle.network.proofs.Listed.Sharing.{same_number}
@@ -189,14 +190,6 @@ takes_enters (Upright at) p h = absurd h
 takes_enters (Contact c) p h = symbol_enters (Contact c) c.row c.column p (λ q is. is) h
 takes_enters (Coil c) p h = symbol_enters (Coil c) c.row c.column p (λ q is. is) h
 takes_enters (Box b) p h = inl h
-
-stands_first : (e : Element) (p : Place) → Stands e p → first_place e ≡ p
-stands_first (Wire at) p h = absurd h
-stands_first (Join at) p h = h
-stands_first (Upright at) p h = h
-stands_first (Contact c) p h = absurd h
-stands_first (Coil c) p h = absurd h
-stands_first (Box b) p h = absurd h
 
 has_gives : (e : Element) (p : Place) → Gives e p → Has e p
 has_gives e p h = inr (inl h)

@@ -11,7 +11,8 @@ use Rattle.drawings.specs.declared.drawn_box.Side.TheVariants.{Left, Right}
 use Rattle.network.specs.declared.joining.row_table.InRow.{InRow}
 use Rattle.network.specs.Links.{place, IsPinPlace}
 use Rattle.network.specs.Steps.Rows.{in_row, Puts}
-use Rattle.network.proofs.Basics.{some_is, one_at, place_same, get_set}
+use Rattle.network.proofs.Basics.{some_is, one_at, get_set}
+use Rattle.network.proofs.Elements.{place_same}
 
 -- the column of a side
 abbrev pub side_column : Side → DrawnBox → ℕ

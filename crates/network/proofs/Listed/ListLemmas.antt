@@ -10,7 +10,7 @@ use Rattle.network.specs.Links.{place}
 use Rattle.network.specs.Apart.{first_place}
 use Rattle.network.specs.Networks.{Precedes}
 use Rattle.network.specs.Steps.Listing.{AreElementsBefore, AreElementsOf, IsTheElementAt, IsNoElementAt}
-use Rattle.network.proofs.Basics.{place_same}
+use Rattle.network.proofs.Elements.{place_same}
 use Rattle.network.proofs.Spots.{push_old}
 use Rattle.network.proofs.Listed.Sharing.{begins, has_on_page, has_row}
 

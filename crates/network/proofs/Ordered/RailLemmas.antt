@@ -10,7 +10,7 @@ use Rattle.drawings.specs.declared.mark.Mark.TheVariants.{Rail}
 use Rattle.drawings.specs.declared.place.Place.{Place}
 use Rattle.network.specs.Links.{place}
 use Rattle.network.specs.Networks.{IsLeftRail, AreLeftRails}
-use Rattle.network.proofs.Basics.{place_same}
+use Rattle.network.proofs.Elements.{place_same}
 use Rattle.network.proofs.Listed.Sharing.{rail_row}
 
 -- the places of the left rail in the rows above n

@@ -14,7 +14,8 @@ use Rattle.network.specs.Networks.Chained.{here, along}
 use Rattle.network.specs.Steps.Listing.{AreElementsOf}
 use Rattle.network.specs.Steps.Pairs.{AreLabels}
 use Rattle.network.specs.Steps.Ranks.{AreTops, AreRanksOf, AreEntries, AreRanks}
-use Rattle.network.proofs.Basics.{some_is, one_at, place_same}
+use Rattle.network.proofs.Basics.{some_is, one_at}
+use Rattle.network.proofs.Elements.{place_same}
 use Rattle.network.proofs.Spots.{push_old}
 
 pub chained_is : (g : Picture) {e f : Element} → IsElementOf g e → Chained g e f → IsElementOf g f

@@ -151,7 +151,8 @@ impl State {
         requires memories { length self.old.memories ≡ sum_by (λ c. length c.elements.items) circuits.now }
         ensures meaning { (ds : List Declaration) (rails : List Place) → AreCircuits ds rails circuits.now
             → AllAreWide (map (circuit_diagram rails) circuits.now) → AreSlotsOf ds self.old.slots
-            → ScanMeaning ds dt (map (circuit_diagram rails) circuits.now) self.old.slots self.old.memories self.new.slots self.new.memories }
+            → ScanMeaning ds dt (map (circuit_diagram rails) circuits.now)
+                self.old.slots self.old.memories self.new.slots self.new.memories }
         ensures slots { length self.new.slots ≡ length self.old.slots }
         ensures memories { length self.new.memories ≡ length self.old.memories }
         ensures links { self.new.waiting_links ≡ self.old.waiting_links }

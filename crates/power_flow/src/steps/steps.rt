@@ -127,7 +127,8 @@ fn pin_beginning(
     requires row { pin.now.row - top < length ends.now }
     requires low { length ends.now ≤ 200 }
     ensures left { (elements : List Element) → let d = diagram rails.now elements in
-        TellsLed d top ends.now (place pin.now.row drawn.now.left) → pin.now.side ≡ Left → IsLeftPinBegun d top drawn.now pin.now (listed result) }
+        TellsLed d top ends.now (place pin.now.row drawn.now.left) → pin.now.side ≡ Left
+        → IsLeftPinBegun d top drawn.now pin.now (listed result) }
     ensures right { pin.now.side ≡ Right → result ≡ None }
 {
     match pin.side {
@@ -158,8 +159,10 @@ fn push_pins(
     requires rows { (pin : DrawnPin) → Contains drawn.now.pins pin → pin.row - top < length ends.now }
     requires low { length ends.now ≤ 200 }
     ensures { OnOk result ((elements : List Element) → let d = diagram rails.now elements in
-        ((pin : DrawnPin) → Contains drawn.now.pins pin → pin.side ≡ Left → TellsLed d top ends.now (place pin.row drawn.now.left))
-        → (begins : List (List Step)) × AllZip (IsLeftPinBegun d top drawn.now) (left_pins drawn.now.pins) begins × (steps.new.items ≡ steps.old.items ++ joined begins)) }
+        ((pin : DrawnPin) → Contains drawn.now.pins pin → pin.side ≡ Left
+            → TellsLed d top ends.now (place pin.row drawn.now.left))
+        → (begins : List (List Step)) × AllZip (IsLeftPinBegun d top drawn.now) (left_pins drawn.now.pins) begins
+            × (steps.new.items ≡ steps.old.items ++ joined begins)) }
 {
     for pin in drawn.pins.as_slice() {
         push_step(steps, pin_beginning(rails, ends, top, drawn, pin))?;

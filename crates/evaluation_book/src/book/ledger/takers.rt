@@ -3,7 +3,7 @@ ghost use Rattle.std.specs.List.{find, list_any};
 ghost use Rattle.std.specs.Option.{option_copied};
 ghost use Rattle.due_list.specs.declared.task_ref.TaskRef.{TaskRef as Task};
 ghost use Rattle.evaluation.specs.Last.{same_task};
-ghost use Rattle.list_items.specs.Each.{Each};
+ghost use Rattle.std.specs.List.{AllByRecursion};
 ghost use Rattle.evaluation_book.specs.Steps.Ledger.{is_taker, taker_in, has_row, noted};
 
 use crate::book::ledger::taker::Taker;
@@ -31,7 +31,7 @@ fn find_row(rows: &[Taker], resource: usize, producer: TaskRef) -> Option<&Taker
 /// Makes a row of a resource for each producer of these takes.
 pub fn make_rows(rows: &mut Vec<Taker>, resource: usize, takes: &[Take]) -> Result<(), AllocError>
     ensures same { (n : ℕ) (q : Task) → taker_in rows.new.items n q ≡ taker_in rows.old.items n q }
-    ensures made { OnOk result (Each (λ u. has_row rows.new.items resource u.producer ≡ true) takes.now) }
+    ensures made { OnOk result (AllByRecursion (λ u. has_row rows.new.items resource u.producer ≡ true) takes.now) }
 {
     for take in takes {
         make_row(rows, resource, take.producer)?;

@@ -2,7 +2,7 @@
 use Rattle.std.proofs.Common.{◌<◌, ◌∙◌, ap, arith, length}
 use Rattle.std.specs.Prelude.{reverse}
 use Rattle.evaluation_book.specs.Book.{BookValue}
-use Rattle.evaluation_book.specs.Steps.Deciding.{present_in}
+use Rattle.evaluation_book.specs.Fits.{present_in}
 use Rattle.evaluation_book.proofs.Ledgered.{present-long, present-told, get_or-defaults}
 use Rattle.evaluation_book.proofs.book.numbered.present_in.Goals as goal
 

@@ -1,17 +1,18 @@
--- What is in a list, and what holds of each item in it: words that go item by item.
+-- What holds of each item of a list, and what is among its items.
 use Rattle.std.proofs.Common.{◌≡◌, inl, inr, ℕ, zero, suc, List, [], ◌∷◌, Some, refl, subst}
 use Rattle.std.specs.Prelude.{slice_get}
 use Rattle.std.proofs.lemmas.Option.{none-some, same_Some}
-use Rattle.list_items.specs.Each.{Among, Each}
+use Rattle.std.specs.List.{AllByRecursion}
+use Rattle.lists.specs.Among.{Among}
 
 -- what each item has, one of them has
-pub Each-at : {X : Type 0} (P : X → Type 0) (xs : List X) (y : X) → Each P xs → Among y xs → P y
+pub Each-at : {X : Type 0} (P : X → Type 0) (xs : List X) (y : X) → AllByRecursion P xs → Among y xs → P y
 Each-at P [] y all among = elim among [ ]
 Each-at P (x ∷ xs) y all (inl same) = subst P same all.0
 Each-at P (x ∷ xs) y all (inr among) = Each-at P xs y all.1 among
 
 -- and the other way round
-pub Each-from : {X : Type 0} (P : X → Type 0) (xs : List X) → ((y : X) → Among y xs → P y) → Each P xs
+pub Each-from : {X : Type 0} (P : X → Type 0) (xs : List X) → ((y : X) → Among y xs → P y) → AllByRecursion P xs
 Each-from P [] every = tt
 Each-from P (x ∷ xs) every = (every x (inl refl), Each-from P xs (λ y among. every y (inr among)))
 

@@ -1,5 +1,5 @@
--- Places by their rows and columns.
-use Rattle.std.proofs.Common.{◌≡◌, ap, ◌∙◌}
+-- Places by their rows and columns, and where elements begin. Proofs of power_flow cite this file too.
+use Rattle.std.proofs.Common.{◌≡◌, ℕ, ap, ◌∙◌}
 use Rattle.drawings.specs.declared.place.Place.{Place}
 use Rattle.network.specs.declared.element.Element.{Element}
 use Rattle.network.specs.declared.element.Element.TheVariants.{Wire, Join, Upright, Contact, Coil, Box}
@@ -7,8 +7,8 @@ use Rattle.network.specs.Links.{Stands, place}
 use Rattle.network.specs.Apart.{first_place}
 
 -- two places of one row and one column are one
-pub same_place : (p q : Place) → p.row ≡ q.row → p.column ≡ q.column → p ≡ q
-same_place p q row column = ap (λ r. place r p.column) row ∙ ap (λ c. place q.row c) column
+pub place_same : (a b : Place) → a.row ≡ b.row → a.column ≡ b.column → a ≡ b
+place_same a b row column = ap (λ (r : ℕ). place r a.column) row ∙ ap (λ (c : ℕ). place b.row c) column
 
 -- what stands at a place begins there
 pub stands_first : (e : Element) (p : Place) → Stands e p → first_place e ≡ p
