@@ -28,8 +28,8 @@ impl Model for World {
 
     ghost view = { λ w. world_of (setting_over w.plant.value w.first.items w.max_number) w.events.items w.log.items };
 
-    ghost invariant = {
-        λ w. IsWorldOf w.plant.value w.first.items w.max_number w.events.items w.log.items w.cores.items };
+    ghost invariant = { λ w. IsWorldOf w.plant.value w.first.items w.max_number
+        w.events.items w.log.items w.cores.items };
 }
 
 ghost use Rattle.std.specs.Prelude.{◌≡◌, ◌∷◌, [], true, IfOk, IfErr, IfSome, OnOk, OnErr, Contains, length, reverse, take};

@@ -159,7 +159,7 @@ fn mark_output(pin: &BoundOutput, outputs: &PinsOut, rows: &mut [bool])
     ensures long { length rows.new ≡ length rows.old }
     ensures marked { (r : ℕ) → (bit_at rows.new r ≡ true)
         ↔ ((bit_at rows.old r ≡ true)
-            ⊎ ((pin.now.row ≡ r) × (is_true (Some (field_value outputs.now pin.now.field)) ≡ true))) }
+        ⊎ ((pin.now.row ≡ r) × (is_true (Some (field_value outputs.now pin.now.field)) ≡ true))) }
 {
     if is_output_on(outputs, pin.field) {
         rows[pin.row] = true;

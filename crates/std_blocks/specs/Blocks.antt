@@ -8,7 +8,13 @@ use Rattle.std_blocks.specs.declared.block_type.BlockType.TheVariants.{SR, RS, C
 -- Before its first step a block is OFF, at 0 and at T#0ms, and its edge inputs count as OFF.
 abbrev pub initial : BlockType → BlockState
 initial block = record {
-    block = block; on = false; last_in = false; last_cu = false; last_cd = false; count = pos 0; elapsed = 0
+  block = block;
+  on = false;
+  last_in = false;
+  last_cu = false;
+  last_cd = false;
+  count = pos 0;
+  elapsed = 0;
 }
 
 -- the input bit at a place

@@ -43,7 +43,7 @@ fn push_top(
     requires table { AreRanksOf tops.old.items table.old }
     ensures tops { OnOk result ((Any (λ t. t.label ≡ label) tops.old.items × (tops.new.items ≡ tops.old.items))
         ⊎ ((Any (λ t. t.label ≡ label) tops.old.items → ⊥)
-            × (tops.new.items ≡ tops.old.items ++ record { label = label; row = row } ∷ []))) }
+        × (tops.new.items ≡ tops.old.items ++ record { label = label; row = row } ∷ []))) }
     ensures table { OnOk result (AreRanksOf tops.new.items table.new) }
 {
     if table[label].is_none() {

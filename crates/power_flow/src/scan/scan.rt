@@ -152,7 +152,7 @@ impl State {
         ensures meaning { (ds : List Declaration) (rails : List Place) → AreCircuits ds rails circuits.now
             → AllAreWide (map (circuit_diagram rails) circuits.now) → AreSlotsOf ds self.old.slots
             → ScanMeaning ds dt (map (circuit_diagram rails) circuits.now)
-                self.old.slots self.old.memories self.new.slots self.new.memories }
+            self.old.slots self.old.memories self.new.slots self.new.memories }
         ensures slots { length self.new.slots ≡ length self.old.slots }
         ensures memories { length self.new.memories ≡ length self.old.memories }
         ensures links { self.new.waiting_links ≡ self.old.waiting_links }

@@ -160,9 +160,9 @@ fn push_pins(
     requires low { length ends.now ≤ 200 }
     ensures { OnOk result ((elements : List Element) → let d = diagram rails.now elements in
         ((pin : DrawnPin) → Contains drawn.now.pins pin → pin.side ≡ Left
-            → TellsLed d top ends.now (place pin.row drawn.now.left))
+        → TellsLed d top ends.now (place pin.row drawn.now.left))
         → (begins : List (List Step)) × AllZip (IsLeftPinBegun d top drawn.now) (left_pins drawn.now.pins) begins
-            × (steps.new.items ≡ steps.old.items ++ joined begins)) }
+        × (steps.new.items ≡ steps.old.items ++ joined begins)) }
 {
     for pin in drawn.pins.as_slice() {
         push_step(steps, pin_beginning(rails, ends, top, drawn, pin))?;
