@@ -1,5 +1,5 @@
 -- The first fault of a text: each kind of fault as a property of a place, and which of all faults is told.
-use Rattle.std.specs.Prelude.{ℕ, ◌+◌, ◌-◌, ◌≡◌, ◌≢◌, ◌<◌, ◌≤◌, ◌⊎◌, IsTrue, List, [], length, take, min, slice_get, Bool, Some}
+use Rattle.std.specs.Prelude.{ℕ, ◌+◌, ◌-◌, ◌≡◌, ◌≢◌, ◌<◌, ◌⊎◌, IsTrue, List, length, take, min, slice_get, Bool, Some}
 use Rattle.std.specs.List.{Any, list_any}
 use Rattle.ladder_text.specs.declared.draw_fault.DrawFault.{DrawFault}
 use Rattle.ladder_text.specs.declared.draw_fault.DrawFaultKind.{DrawFaultKind}

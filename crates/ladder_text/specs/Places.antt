@@ -5,7 +5,6 @@ use Rattle.drawings.specs.declared.mark.Mark.{Mark}
 use Rattle.drawings.specs.declared.mark.Mark.TheVariants.{Blank, Rail, Wire, Join, Upright, ContactPart, CoilPart, BoxPart}
 use Rattle.drawings.specs.declared.contact.ContactKind.{ContactKind}
 use Rattle.drawings.specs.declared.coil.CoilKind.{CoilKind}
-use Rattle.drawings.specs.declared.drawn_box.Side.TheVariants as side
 use Rattle.drawings.specs.declared.place.Place.{Place}
 use Rattle.ladder_rows.specs.declared.boxes.outline.Outline.{Outline}
 use Rattle.ladder_rows.specs.Rows.{Rows, char_at, height, width, is_rail_char}

@@ -1,5 +1,5 @@
 -- A text without a fault is well drawn.
-use Rattle.std.proofs.Common.{ℕ, ◌<◌, ◌≤◌, ◌≡◌, List, Option, Some, None, refl, arith, Bool, true, false, IsTrue, IsFalse, inl, inr}
+use Rattle.std.proofs.Common.{ℕ, ◌<◌, ◌≡◌, List, Option, Some, None, refl, arith, Bool, true, false, IsTrue, IsFalse, inl, inr}
 use Rattle.std.specs.List.{list_any}
 use Rattle.std.proofs.lemmas.Bool.{cases_lt, both_ways, false_from_ne_true}
 use Rattle.std.proofs.lemmas.List.Folds.{Any-from_list_any}

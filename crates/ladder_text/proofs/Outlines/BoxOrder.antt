@@ -1,5 +1,5 @@
 -- The boxes of a drawing stand in order, and whether they share places.
-use Rattle.std.proofs.Common.{ℕ, ◌+◌, ◌<◌, ◌≤◌, ◌≡◌, Bool, true, false, not, ◌||◌, ◌&&◌, ◌==◌, List, length, take, get_or, subst, Some, refl, sym, ap, ◌∙◌, arith, nat_le, length-take-le, inl, inr}
+use Rattle.std.proofs.Common.{ℕ, ◌+◌, ◌<◌, ◌≡◌, Bool, true, false, not, ◌||◌, ◌&&◌, ◌==◌, List, length, take, get_or, subst, Some, refl, sym, ap, ◌∙◌, arith, nat_le, length-take-le, inl, inr}
 use Rattle.std.specs.List.{slice_get, list_all}
 use Rattle.std.proofs.lemmas.Bool.{false_from_ne_true, and_parts, and_from, eqb-true, eq-eqb, both_ways, cases_lt}
 use Rattle.std.proofs.lemmas.List.Folds.{list_any_at, list_all_at, Any-from_list_any}
