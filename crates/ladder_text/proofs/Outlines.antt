@@ -1,9 +1,5 @@
--- Boxes and their pins.
-pub mod PinLemmas
-pub mod PinRows
-pub mod RowPins
+-- The boxes of a drawing: their places and their order.
 pub mod BoxPlaces
-pub mod CornerLemmas
 pub mod RisingBoxes
 pub mod BoxOrder
-pub mod RowBoxLemmas
+pub mod SharedBoxes

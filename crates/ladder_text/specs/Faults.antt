@@ -1,39 +1,22 @@
 -- The faults, each as a test of a place, and when a drawing is well drawn.
-use Rattle.std.specs.Prelude.{ℕ, false, ◌+◌, ◌-◌, ◌≤◌, ◌<◌, IsTrue, IsFalse, List, ◌==◌, if◌then◌else◌, length, Bool, ◌&&◌, ◌||◌, not, nat_lt, nat_le, Option, Some, None, is_some, is_none}
+use Rattle.std.specs.Prelude.{ℕ, false, ◌+◌, ◌-◌, ◌≤◌, ◌<◌, IsTrue, IsFalse, List, ◌==◌, if◌then◌else◌, Bool, ◌&&◌, ◌||◌, not, nat_lt, Option, Some, None, is_some}
 use Rattle.std.specs.List.{list_all, list_any, range_with_len, count_by}
-use Rattle.ladder_text.specs.declared.names.span.Span.{Span}
+use Rattle.ladder_rows.specs.declared.span.Span.{Span}
 use Rattle.drawings.specs.declared.drawn_box.Operand.{Operand}
-use Rattle.drawings.specs.declared.drawn_box.Side.{Side}
 use Rattle.drawings.specs.declared.drawn_box.Side.TheVariants as side
-use Rattle.drawings.specs.declared.drawn_box.DrawnPin.{DrawnPin}
 use Rattle.ladder_text.specs.declared.places.place_fault.PlaceFault.{PlaceFault}
 use Rattle.ladder_text.specs.declared.places.place_fault.PlaceFault.TheVariants.{BadMark, Crossing, NoSource}
-use Rattle.ladder_text.specs.declared.boxes.outline.Outline.{Outline}
-use Rattle.ladder_text.specs.Rows.{Rows, char_at, height, width, run}
-use Rattle.words.specs.Chars.{between, is_word_char, is_name, is_plain_name, is_operand}
-use Rattle.ladder_text.specs.Boxes.{outline_at, begins_box, covers, left_column}
-use Rattle.ladder_text.specs.Places.{Layout, contact_at, coil_at, is_taken, is_rail_char, mark, is_wire, is_join, is_upright, is_vertical, is_line, is_box_part, gives, pin_on, layout_of}
+use Rattle.ladder_rows.specs.declared.boxes.outline.Outline.{Outline}
+use Rattle.ladder_rows.specs.Rows.{Rows, char_at, height, width, run, is_rail_char}
+use Rattle.words.specs.Chars.{is_word_char, is_name, is_plain_name, is_operand}
+use Rattle.ladder_rows.specs.BoxTests.{share_place, blind_right_of, blind_left_of, some_takes_word}
+use Rattle.ladder_rows.specs.Faults.{not_ascii, no_left_rail, bad_box, NowhereInRows, InNoRow}
+use Rattle.ladder_text.specs.Places.{Layout, contact_at, coil_at, is_taken, mark, is_wire, is_join, is_upright, is_vertical, is_line, is_box_part, gives, layout_of}
 use Rattle.ladder_text.specs.Names.{overlap, words, symbols, tops, things, word_text}
-
--- a character outside 32 to 126
-abbrev pub not_ascii : Rows → ℕ → ℕ → Bool
-not_ascii d r c = not (between 32 (char_at d r c) 126)
-
--- a character of the left rail's column that is no rail's
-abbrev pub no_left_rail : Rows → ℕ → Bool
-no_left_rail d r = let c = char_at d r (left_column d) in not (c == 32 || is_rail_char c)
-
--- a box begins, and isn't as it should be
-abbrev pub bad_box : Rows → ℕ → ℕ → Bool
-bad_box d r c = begins_box d r c && is_none (outline_at d r c)
 
 -- two boxes are the same one
 abbrev pub same_corner : Outline → Outline → Bool
 same_corner a b = a.top == b.top && a.left == b.left
-
--- two boxes have a place in common
-abbrev pub share_place : Outline → Outline → Bool
-share_place a b = nat_le a.top b.bottom && nat_le b.top a.bottom && nat_le a.left b.right && nat_le b.left a.right
 
 -- a box shares no place with another one
 abbrev pub is_apart : List Outline → Outline → Bool
@@ -46,15 +29,6 @@ boxes_apart p = list_all (is_apart p.boxes) p.boxes
 -- a blank, a line's character, a rail's, or one of a word
 abbrev pub has_meaning : ℕ → Bool
 has_meaning c = c == 32 || c == 45 || is_rail_char c || is_word_char c
-
--- the place on the right of (r, c) is the left side of a box, on a row without a left pin
-abbrev pub blind_right_of : ℕ → ℕ → Outline → Bool
-blind_right_of r c b = covers r (c + 1) b && c + 1 == b.left && not (list_any (pin_on side.Left r) b.pins)
-
--- the place on the left of (r, c) is the right side of a box, on a row without a right pin
-abbrev pub blind_left_of : ℕ → ℕ → Outline → Bool
-blind_left_of r c b =
-    covers r (c - 1) b && nat_lt 0 c && c - 1 == b.right && not (list_any (pin_on side.Right r) b.pins)
 
 -- the same for some box on the right
 abbrev pub blind_right : Layout → ℕ → ℕ → Bool
@@ -139,17 +113,6 @@ has_unnamed p r = list_any (name_missing p r) (things p r)
 abbrev pub has_stray_word : Layout → ℕ → Bool
 has_stray_word p r = list_any (stray_name p r) (words p r)
 
--- whether the operand of a pin on side s begins at (r, c)
-abbrev pub takes_word : Side → ℕ → ℕ → DrawnPin → Bool
-takes_word s r c q = pin_on s r q && begins_at c q.operand where
-  begins_at : ℕ → Option Operand → Bool
-  begins_at c None = false
-  begins_at c (Some o) = o.column == c
-
--- whether the operand of some pin on side s begins at (r, c)
-unfoldable pub some_takes_word : List Outline → Side → ℕ → ℕ → Bool
-some_takes_word bs s r c = list_any (λ b. list_any (takes_word s r c) b.pins) bs
-
 -- an operand that isn't of the form wanted, or belongs to two pins: a left one and a right one
 abbrev pub is_stray_operand : List Outline → ℕ → Option Operand → Bool
 is_stray_operand bs r None = false
@@ -170,20 +133,6 @@ abbrev pub has_fault : PlaceFault → Layout → ℕ → ℕ → Bool
 has_fault BadMark p = bad_mark p
 has_fault Crossing p = crossing p
 has_fault NoSource p = no_source p
-
--- no place of the rows, nor of their margin, passes the test
-abbrev pub NowhereInRows : Rows → (ℕ → ℕ → Bool) → Type 0
-NowhereInRows d test = (r c : ℕ) → r < length d → c ≤ width d → IsFalse (test r c)
-
--- no row passes the test
-abbrev pub InNoRow : Rows → (ℕ → Bool) → Type 0
-InNoRow d test = (r : ℕ) → r < length d → IsFalse (test r)
-
--- the test passes at a place of the rows or of their margin
-pub record PassesInRows (d : Rows) (test : ℕ → ℕ → Bool) (r c : ℕ) : Type 0 where
-  pub in_rows : r < length d
-  pub in_columns : c ≤ width d
-  pub passes : IsTrue (test r c)
 
 -- every symbol and box has a word above it, and no word is stray
 pub record IsNamed (d : Rows) : Type 0 where

@@ -1,22 +1,20 @@
 -- The first fault of a text: each kind of fault as a property of a place, and which of all faults is told.
-use Rattle.std.specs.Prelude.{ℕ, ◌+◌, ◌-◌, ◌≡◌, ◌≢◌, ◌<◌, ◌≤◌, ◌⊎◌, IsTrue, List, [], length, take, min, slice_get, slice_index_or, Bool, Some}
+use Rattle.std.specs.Prelude.{ℕ, ◌+◌, ◌-◌, ◌≡◌, ◌≢◌, ◌<◌, ◌⊎◌, IsTrue, List, length, take, min, slice_get, Bool, Some}
 use Rattle.std.specs.List.{Any, list_any}
 use Rattle.ladder_text.specs.declared.draw_fault.DrawFault.{DrawFault}
 use Rattle.ladder_text.specs.declared.draw_fault.DrawFaultKind.{DrawFaultKind}
 use Rattle.ladder_text.specs.declared.draw_fault.DrawFaultKind.TheVariants as kind
 use Rattle.drawings.specs.declared.drawn_box.DrawnPin.{DrawnPin}
 use Rattle.drawings.specs.declared.drawn_box.Operand.{Operand}
-use Rattle.ladder_text.specs.declared.boxes.outline.Outline.{Outline}
-use Rattle.ladder_text.specs.declared.names.span.Span.{Span}
-use Rattle.ladder_text.specs.Rows.{Rows, rows_of, width}
-use Rattle.ladder_text.specs.Boxes.{left_column, outlines}
+use Rattle.ladder_rows.specs.declared.boxes.outline.Outline.{Outline}
+use Rattle.ladder_rows.specs.declared.span.Span.{Span}
+use Rattle.ladder_rows.specs.Rows.{Rows, rows_of, width}
+use Rattle.ladder_rows.specs.Boxes.{left_column, outlines}
 use Rattle.ladder_text.specs.Places.{layout_of}
 use Rattle.ladder_text.specs.Names.{words, things}
-use Rattle.ladder_text.specs.Faults.{PassesInRows, not_ascii, no_left_rail, bad_box, share_place, bad_mark, crossing, no_source, name_missing, stray_name, is_stray_operand}
-
--- row 2001, column 1, if there is such a row; or column 241 of a row that reaches it
-abbrev pub IsTooLargeAt : Rows → ℕ → ℕ → Type 0
-IsTooLargeAt d r c = ((2001 < length d) × (r ≡ 2001) × (c ≡ 1)) ⊎ ((241 < length (slice_index_or d r [])) × (c ≡ 241))
+use Rattle.ladder_rows.specs.Faults.{PassesInRows, not_ascii, no_left_rail, bad_box, IsTooLargeAt, IsFirstAt}
+use Rattle.ladder_rows.specs.BoxTests.{share_place}
+use Rattle.ladder_text.specs.Faults.{bad_mark, crossing, no_source, name_missing, stray_name, is_stray_operand}
 
 -- row 1, column 1, if nothing is drawn; or a character of the left rail's column that is no rail's
 abbrev pub IsOffRailAt : Rows → ℕ → ℕ → Type 0
@@ -94,15 +92,6 @@ rank kind.NoSource = 7
 rank kind.NameMissing = 8
 rank kind.StrayName = 9
 rank kind.Memory = 10
-
--- (r, c) comes before (i, j), by row and then column, or is the same place
-abbrev pub IsPlaceUpTo : ℕ → ℕ → ℕ → ℕ → Type 0
-IsPlaceUpTo r c i j = (r < i) ⊎ ((r ≡ i) × (c ≤ j))
-
--- (r, c) is the first of the places that are such
-pub record IsFirstAt (IsSuch : ℕ → ℕ → Type 0) (r c : ℕ) : Type 0 where
-  pub such : IsSuch r c
-  pub first : (i j : ℕ) → IsSuch i j → IsPlaceUpTo r c i j
 
 -- (r, c) is the first place with a fault of the kind, and no fault of a kind before it is anywhere
 pub record IsFirstDrawFault (d : Rows) (k : DrawFaultKind) (r c : ℕ) : Type 0 where

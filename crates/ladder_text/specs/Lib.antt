@@ -1,6 +1,4 @@
-pub mod Rows
 pub mod SymbolKinds
-pub mod Boxes
 pub mod Places
 pub mod Names
 pub mod Faults

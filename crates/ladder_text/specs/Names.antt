@@ -1,16 +1,17 @@
 -- Words, and the symbols and boxes that they name.
 use Rattle.std.specs.Prelude.{ℕ, ◌+◌, ◌-◌, List, [], ◌++◌, ◌==◌, if◌then◌else◌, map, Bool, ◌&&◌, ◌||◌, not, nat_lt, Option, Some, None, is_some}
 use Rattle.std.specs.List.{filter, find}
-use Rattle.ladder_text.specs.declared.names.span.Span.{Span}
+use Rattle.ladder_rows.specs.declared.span.Span.{Span}
 use Rattle.drawings.specs.declared.contact.Contact.{Contact}
 use Rattle.drawings.specs.declared.coil.Coil.{Coil}
 use Rattle.drawings.specs.declared.drawn_box.DrawnBox.{DrawnBox}
-use Rattle.ladder_text.specs.declared.boxes.outline.Outline.{Outline}
+use Rattle.ladder_rows.specs.declared.boxes.outline.Outline.{Outline}
 use Rattle.drawings.specs.declared.contact.ContactKind.{ContactKind}
 use Rattle.drawings.specs.declared.coil.CoilKind.{CoilKind}
-use Rattle.ladder_text.specs.Rows.{char_at, height, width, run, upto}
+use Rattle.ladder_rows.specs.Rows.{char_at, height, width, run, upto}
 use Rattle.words.specs.Chars.{is_word_char}
-use Rattle.ladder_text.specs.Boxes.{cut, option_list}
+use Rattle.ladder_rows.specs.Boxes.{cut, option_list}
+use Rattle.ladder_rows.specs.BoxTests.{top_span}
 use Rattle.ladder_text.specs.Places.{Layout, contact_at, coil_at, is_taken, in_operand}
 
 -- two spans have a column in common
@@ -43,10 +44,6 @@ symbol_at p r c = if is_some (contact_at p r c) || is_some (coil_at p r c) then 
 -- the three columns of each symbol, and the top side of each box, in a row
 unfoldable pub symbols : Layout → ℕ → List Span
 symbols p r = upto (width p.rows) (λ c. option_list (symbol_at p r c))
-
--- the columns of the top side of a box
-abbrev pub top_span : Outline → Span
-top_span b = record { first = b.left; end = b.right + 1 }
 
 -- the top sides of the boxes that begin in a row
 unfoldable pub tops : Layout → ℕ → List Span

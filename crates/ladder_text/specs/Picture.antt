@@ -3,7 +3,7 @@ use Rattle.std.specs.Prelude.{ℕ, List, [], ◌∷◌}
 use Rattle.drawings.specs.declared.mark.Mark.{Mark}
 use Rattle.drawings.specs.declared.mark.Mark.TheVariants.{Blank}
 use Rattle.drawings.specs.Picture.{Picture, picture}
-use Rattle.ladder_text.specs.Rows.{width, height, upto}
+use Rattle.ladder_rows.specs.Rows.{width, height, upto}
 use Rattle.ladder_text.specs.Places.{Layout, mark}
 use Rattle.ladder_text.specs.Names.{contacts, coils, drawn_boxes}
 

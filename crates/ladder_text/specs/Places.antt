@@ -1,19 +1,16 @@
 -- What stands at each place.
-use Rattle.std.specs.Prelude.{ℕ, ◌+◌, ◌-◌, List, ◌==◌, if◌then◌else◌, length, Bool, true, false, ◌&&◌, ◌||◌, not, nat_lt, nat_le, Option, Some, None, is_some}
+use Rattle.std.specs.Prelude.{ℕ, ◌+◌, ◌-◌, List, ◌==◌, if◌then◌else◌, Bool, true, false, ◌&&◌, ◌||◌, not, nat_lt, Option, None, is_some}
 use Rattle.std.specs.List.{list_all, list_any, range_with_len}
 use Rattle.drawings.specs.declared.mark.Mark.{Mark}
 use Rattle.drawings.specs.declared.mark.Mark.TheVariants.{Blank, Rail, Wire, Join, Upright, ContactPart, CoilPart, BoxPart}
 use Rattle.drawings.specs.declared.contact.ContactKind.{ContactKind}
 use Rattle.drawings.specs.declared.coil.CoilKind.{CoilKind}
-use Rattle.drawings.specs.declared.drawn_box.Operand.{Operand}
-use Rattle.drawings.specs.declared.drawn_box.DrawnPin.{DrawnPin}
-use Rattle.drawings.specs.declared.drawn_box.Side.{Side}
-use Rattle.drawings.specs.declared.drawn_box.Side.TheVariants as side
 use Rattle.drawings.specs.declared.place.Place.{Place}
-use Rattle.ladder_text.specs.declared.boxes.outline.Outline.{Outline}
-use Rattle.ladder_text.specs.Rows.{Rows, char_at, height, width}
+use Rattle.ladder_rows.specs.declared.boxes.outline.Outline.{Outline}
+use Rattle.ladder_rows.specs.Rows.{Rows, char_at, height, width, is_rail_char}
 use Rattle.ladder_text.specs.SymbolKinds.{contact_kind, coil_kind}
-use Rattle.ladder_text.specs.Boxes.{outlines, covers, meets_row, left_column}
+use Rattle.ladder_rows.specs.Boxes.{outlines, covers, left_column}
+use Rattle.ladder_rows.specs.BoxTests.{box_reaches, right_pin_at}
 
 -- the rows of a text with what is found first: the left rail's column and the boxes
 pub record Layout : Type 0 where
@@ -62,10 +59,6 @@ in_coil p = within_three (coil_at p)
 abbrev pub is_taken : Layout → ℕ → ℕ → Bool
 is_taken p r c = in_box p r c || in_contact p r c || in_coil p r c
 
--- `|` or `+`
-abbrev pub is_rail_char : ℕ → Bool
-is_rail_char c = c == 124 || c == 43
-
 -- what stands in the last column of row r is a blank, or `|` or `+` outside boxes and symbols
 unfoldable pub may_be_rail : Layout → ℕ → Bool
 may_be_rail p r =
@@ -78,20 +71,6 @@ has_right_rail p = nat_lt p.left (width p.rows) && list_all (may_be_rail p) (ran
 -- the column c has a rail
 abbrev pub is_rail_column : Layout → ℕ → Bool
 is_rail_column p c = c == p.left || (c == width p.rows && has_right_rail p)
-
--- whether the operand of a pin, or a dash on its way there, is at (r, c)
-abbrev pub operand_reaches : Outline → ℕ → ℕ → Option Operand → Side → Bool
-operand_reaches b r c None s = false
-operand_reaches b r c (Some o) side.Left = nat_le o.column c && nat_lt c b.left
-operand_reaches b r c (Some o) side.Right = nat_lt b.right c && nat_lt c (o.column + length o.text)
-
--- the same for a pin, whose row is r
-abbrev pub pin_reaches : Outline → ℕ → ℕ → DrawnPin → Bool
-pin_reaches b r c q = q.row == r && operand_reaches b r c q.operand q.side
-
--- the same of all pins of a box
-abbrev pub box_reaches : ℕ → ℕ → Outline → Bool
-box_reaches r c b = meets_row r b && list_any (pin_reaches b r c) b.pins
 
 -- the operand of some pin, or a dash on its way there, is at (r, c)
 abbrev pub in_operand : Layout → ℕ → ℕ → Bool
@@ -152,21 +131,6 @@ is_vertical m = is_join m || is_upright m
 -- a place through which state runs from left to right
 abbrev pub is_line : Mark → Bool
 is_line m = is_wire m || is_join m || is_symbol m
-
--- two sides are the same one
-abbrev pub same_side : Side → Side → Bool
-same_side side.Left side.Left = true
-same_side side.Left side.Right = false
-same_side side.Right side.Left = false
-same_side side.Right side.Right = true
-
--- a pin on a side and a row
-abbrev pub pin_on : Side → ℕ → DrawnPin → Bool
-pin_on s r q = q.row == r && same_side q.side s
-
--- (r, c) is on the right side of a box on the row of a right pin
-abbrev pub right_pin_at : ℕ → ℕ → Outline → Bool
-right_pin_at r c b = meets_row r b && c == b.right && list_any (pin_on side.Right r) b.pins
 
 -- the same for some box
 abbrev pub is_right_pin : List Outline → ℕ → ℕ → Bool

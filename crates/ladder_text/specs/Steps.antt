@@ -1,7 +1,6 @@
 -- Steps of the proofs: what the reading knows halfway. Only contracts inside this crate cite them, so no reader has to
 -- believe them.
 pub mod Pairs
-pub mod RowBoxes
 pub mod RowMarks
 pub mod RowSpans
 pub mod Search

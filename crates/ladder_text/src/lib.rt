@@ -11,8 +11,6 @@
 //! the mark at each place, and its contacts, coils and boxes with their names. Rows and columns count from 1.
 #![tactic(auto)]
 
-mod boxes;
-mod characters;
 mod draw_fault;
 mod earlier;
 mod names;

@@ -1,7 +1,7 @@
 //! A drawing read from its text.
 
 ghost use Rattle.std.specs.Prelude.{◌≡◌, ◌≢◌, ◌↔◌, ◌<◌, ◌≤◌, ◌^◌, IfOk, IfErr};
-ghost use Rattle.ladder_text.specs.Rows.{rows_of};
+ghost use Rattle.ladder_rows.specs.Rows.{rows_of};
 ghost use Rattle.ladder_text.specs.Places.{layout_of};
 ghost use Rattle.ladder_text.specs.Faults.{IsWellDrawn, IsIllDrawn};
 ghost use Rattle.ladder_text.specs.FirstFault.{HasNoDrawFault, TellsFirstFault};
@@ -14,6 +14,7 @@ use crate::reading::read_well_drawn;
 use crate::refusal::Refusal;
 use crate::symbols::{coils, contacts, drawn_boxes};
 use drawings::Drawing;
+use ladder_rows::{boxes_are_whole, rows_are_within};
 use std::alloc::Global;
 
 #[tactic(auto, unfolding(crate::specs::Picture::picture_of, crate::specs::Places::layout_of))]
@@ -23,6 +24,7 @@ fn read_drawing(alloc: Global, text: &str, first_line: u64) -> Result<Drawing, R
     ensures refused { IfErr result (λ e. e.kind ≢ Memory → IsIllDrawn (rows_of text.now)) }
     ensures first { IfErr result (λ e. IsFirstUnlessMemory (rows_of text.now) e.kind e.place) }
 {
+    boxes_are_whole();
     let worded = read_well_drawn(alloc, text)?;
     let contacts = contacts(alloc, &worded)?;
     let coils = coils(alloc, &worded)?;
@@ -56,6 +58,8 @@ impl ReadText for Drawing {
         ensures first { IfErr result (λ fault. TellsFirstFault text.now first_line fault) }
         ensures same { IsWellDrawn (rows_of text.now) ↔ HasNoDrawFault (rows_of text.now) }
     {
+        boxes_are_whole();
+        rows_are_within();
         match read_drawing(alloc, text, first_line) {
             Ok(drawing) => Ok(drawing),
             Err(refusal) => Err(refusal.on_lines(first_line)),

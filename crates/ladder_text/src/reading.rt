@@ -1,16 +1,14 @@
 //! Reading a text: its faults are sought kind by kind, each over the whole text.
 
 ghost use Rattle.std.specs.Prelude.{◌≡◌, ◌≢◌, ◌<◌, ◌≤◌, ◌-◌, ℕ, IfOk, IfErr, IfNone, IfSome, IsFalse, IsTrue, length};
-ghost use Rattle.ladder_text.specs.Rows.{rows_of, width};
+ghost use Rattle.ladder_rows.specs.Rows.{rows_of, width};
 ghost use Rattle.ladder_text.specs.Places.{layout_of};
-ghost use Rattle.ladder_text.specs.Faults.{IsWellDrawn, IsIllDrawn, NowhereInRows, InNoRow, has_fault, not_ascii, no_left_rail, bad_box, boxes_apart, has_unnamed, has_stray_word, has_stray_operand};
+ghost use Rattle.ladder_text.specs.Faults.{IsWellDrawn, IsIllDrawn, has_fault, boxes_apart, has_unnamed, has_stray_word, has_stray_operand};
+ghost use Rattle.ladder_rows.specs.Faults.{NowhereInRows, InNoRow, not_ascii, no_left_rail, bad_box};
 ghost use Rattle.ladder_text.specs.FirstFault.{IsStrayWordAt};
 ghost use Rattle.ladder_text.specs.Steps.Search.{IsFirstFrom, IsFirstOf, IsFirstUnlessMemory};
 ghost use Rattle.ladder_text.specs.declared.draw_fault.DrawFaultKind.TheVariants.{Memory};
 
-use crate::boxes::outlines::first_bad_box;
-use crate::characters::grid::Grid;
-use crate::characters::rows::{first_not_ascii, rows_of};
 use crate::draw_fault::DrawFaultKind;
 use crate::earlier::or_earlier;
 use crate::names::names_above::{stray_in_row, unnamed_in_row};
@@ -19,6 +17,7 @@ use crate::places::marked_grid::MarkedGrid;
 use crate::places::place_fault::PlaceFault;
 use crate::refusal::Refusal;
 use drawings::Place;
+use ladder_rows::{Grid, boxes_are_whole, first_bad_box, first_not_ascii, rows_of};
 use std::alloc::{AllocError, Global};
 
 fn fault(kind: DrawFaultKind, place: Place) -> Refusal
@@ -151,6 +150,7 @@ pub fn read_well_drawn(alloc: Global, text: &str) -> Result<WordedGrid, Refusal>
     ensures refused { IfErr result (λ e. e.kind ≢ Memory → IsIllDrawn (rows_of text.now)) }
     ensures first { IfErr result (λ e. IsFirstUnlessMemory (rows_of text.now) e.kind e.place) }
 {
+    boxes_are_whole();
     let grid = read_grid(alloc, text)?;
     let boxed = read_boxes(alloc, grid)?;
     let marked = boxed.with_marks(alloc)?;

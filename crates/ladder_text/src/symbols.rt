@@ -4,11 +4,11 @@ ghost use Rattle.std.specs.Prelude.{◌≡◌, ◌+◌, ◌-◌, ◌++◌, ◌<�
 ghost use Rattle.ladder_text.specs.Places.{layout_of};
 ghost use Rattle.ladder_text.specs.Names.{contact_here, coil_here, row_contacts, row_coils, contacts, coils, drawn_box, drawn_boxes};
 
-use crate::boxes::outline::Outline;
 use crate::names::names_above::name_above;
-use crate::names::span::{Span, symbol_span};
+use crate::names::span::symbol_span;
 use crate::names::worded_grid::WordedGrid;
 use drawings::{Coil, Contact, DrawnBox};
+use ladder_rows::{Outline, Span};
 use std::alloc::{AllocError, Global};
 use words::Text;
 

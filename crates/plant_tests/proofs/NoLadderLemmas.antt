@@ -5,13 +5,14 @@ use Rattle.std.proofs.lemmas.Bool.{and_parts, true≢false}
 use Rattle.std.specs.Prelude.{slice_index_or}
 use Rattle.drawings.specs.declared.drawn_box.DrawnBox.{DrawnBox}
 use Rattle.std_blocks.specs.declared.block_type.BlockType.TheVariants as block
-use Rattle.ladder_text.specs.Rows.{rows_of, char_at}
+use Rattle.ladder_rows.specs.Rows.{rows_of, char_at}
 use Rattle.words.specs.Chars.{block_type, is_value_word, is_program_word, is_resource_word, is_task_word, is_reserved, is_identifier, is_plain_name, is_name, is_part, has_parts, is_duration_behind, is_duration, is_operand}
 use Rattle.ladder_text.specs.SymbolKinds.{contact_kind, coil_kind}
-use Rattle.ladder_text.specs.Boxes.{left_column, begins_box, nearer_pin, outline_at, box_at, row_outlines, outlines}
+use Rattle.ladder_rows.specs.Boxes.{left_column, begins_box, nearer_pin, outline_at, box_at, row_outlines, outlines}
 use Rattle.ladder_text.specs.Places.{contact_at, coil_at, may_be_rail, has_right_rail, mark, gives, layout_of}
 use Rattle.ladder_text.specs.Names.{in_word, word_at, words, symbol_at, symbols, tops, things, name_above, row_contacts, contacts, row_coils, coils, drawn_boxes}
-use Rattle.ladder_text.specs.Faults.{name_missing, stray_name, some_takes_word, has_stray_operand}
+use Rattle.ladder_text.specs.Faults.{name_missing, stray_name, has_stray_operand}
+use Rattle.ladder_rows.specs.BoxTests.{some_takes_word}
 use Rattle.ladder_text.specs.Picture.{marks_of, picture_of}
 use Rattle.drawings.specs.declared.mark.Mark.{Mark}
 use Rattle.drawings.specs.declared.mark.Mark.TheVariants as mark

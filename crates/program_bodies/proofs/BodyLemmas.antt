@@ -2,7 +2,7 @@
 use Rattle.std.proofs.Common.{◌≢◌, ℕ, Result, Ok, Err, IfErr, refl, ap, sym, subst}
 use Rattle.std.specs.Result.{IsErrAnd}
 use Rattle.drawings.specs.declared.place.Place.{Place}
-use Rattle.ladder_text.specs.Rows.{rows_of}
+use Rattle.ladder_rows.specs.Rows.{rows_of}
 use Rattle.ladder_text.specs.Picture as pictures
 use Rattle.ladder_text.specs.FirstFault.{TellsFirstFault}
 use Rattle.ladder_text.specs.Faults.{IsWellDrawn, IsIllDrawn}

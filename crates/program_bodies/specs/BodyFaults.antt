@@ -1,7 +1,7 @@
 -- The fault of a program's body.
 use Rattle.std.specs.Prelude.{◌≡◌, ℕ, List, ◌∷◌, ◌++◌, All, min, max, Some}
 use Rattle.drawings.specs.declared.place.Place.{Place}
-use Rattle.ladder_text.specs.Rows.{rows_of}
+use Rattle.ladder_rows.specs.Rows.{rows_of}
 use Rattle.ladder_text.specs.Places.{layout_of}
 use Rattle.drawings.specs.Picture.{Picture}
 use Rattle.ladder_text.specs.Picture.{picture_of}

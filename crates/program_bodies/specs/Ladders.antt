@@ -1,6 +1,6 @@
 -- The ladder of a program.
 use Rattle.std.specs.Prelude.{◌≡◌, ℕ}
-use Rattle.ladder_text.specs.Rows.{rows_of}
+use Rattle.ladder_rows.specs.Rows.{rows_of}
 use Rattle.ladder_text.specs.Places.{layout_of}
 use Rattle.ladder_text.specs.Picture.{picture_of}
 use Rattle.ladder_text.specs.Faults.{IsWellDrawn}

@@ -1,7 +1,7 @@
 -- What `plc eval` writes.
 use Rattle.std.specs.Prelude.{◌≡◌, ◌≢◌, ℕ, ◌+◌, ◌++◌, ◌==◌, ◌≤◌, ◌⊎◌, List, [], Bool, false, Option, Some, None, All, length, map, fold, sum_by, slice_get, slice_set, take}
 use Rattle.std.specs.Io.KnownBytes.{Appends, Keeps}
-use Rattle.ladder_text.specs.Rows.{rows_of}
+use Rattle.ladder_rows.specs.Rows.{rows_of}
 use Rattle.ladder_text.specs.Places.{layout_of}
 use Rattle.drawings.specs.Picture.{Picture}
 use Rattle.ladder_text.specs.Picture.{picture_of}

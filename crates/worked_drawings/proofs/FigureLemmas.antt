@@ -4,13 +4,15 @@ use Rattle.std.specs.List.{list_any}
 use Rattle.std.proofs.lemmas.Bool.{and_parts, not-true, leb-true, ltb-true, true≢false}
 use Rattle.ladder_text.specs.declared.places.place_fault.PlaceFault.{PlaceFault}
 use Rattle.ladder_text.specs.declared.places.place_fault.PlaceFault.TheVariants.{BadMark, Crossing, NoSource}
-use Rattle.ladder_text.specs.Rows.{Rows, rows_of, char_at, height, width}
+use Rattle.ladder_rows.specs.Rows.{Rows, rows_of, char_at, height, width}
 use Rattle.words.specs.Chars.{block_type, is_value_word, is_program_word, is_resource_word, is_task_word, is_reserved, is_identifier, is_plain_name, is_name, is_part, has_parts, is_duration_behind, is_duration, is_operand}
 use Rattle.ladder_text.specs.SymbolKinds.{contact_kind, coil_kind}
-use Rattle.ladder_text.specs.Boxes.{left_column, begins_box, nearer_pin, outline_at, box_at, row_outlines, outlines}
+use Rattle.ladder_rows.specs.Boxes.{left_column, begins_box, nearer_pin, outline_at, box_at, row_outlines, outlines}
 use Rattle.ladder_text.specs.Places.{contact_at, coil_at, may_be_rail, has_right_rail, mark, gives, layout_of}
 use Rattle.ladder_text.specs.Names.{in_word, word_at, words, symbol_at, symbols, tops, things, name_above, row_contacts, contacts, row_coils, coils, drawn_boxes}
-use Rattle.ladder_text.specs.Faults.{IsWellDrawn, IsIllDrawn, NowhereInRows, has_fault, not_ascii, no_left_rail, bad_box, boxes_apart, name_missing, stray_name, some_takes_word, has_stray_operand}
+use Rattle.ladder_text.specs.Faults.{IsWellDrawn, IsIllDrawn, has_fault, boxes_apart, name_missing, stray_name, has_stray_operand}
+use Rattle.ladder_rows.specs.Faults.{NowhereInRows, not_ascii, no_left_rail, bad_box}
+use Rattle.ladder_rows.specs.BoxTests.{some_takes_word}
 use Rattle.ladder_text.specs.Picture.{marks_of, picture_of}
 use Rattle.worked_drawings.specs.Figures.{IsDrawnAs, IsBranchesListed, IsOnDelayListed, branches, branches_marks, start_stop, start_stop_marks, rising_contact, rising_contact_marks, on_delay, on_delay_marks, parallel_wire, parallel_wire_marks, unattached_box, unattached_box_marks, wire_beside_box, box_without_type, box_without_bottom, cut_drawing, two_words, word_of_two, loose_upright, loose_contact}
 

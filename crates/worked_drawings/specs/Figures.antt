@@ -5,7 +5,7 @@ use Rattle.drawings.specs.declared.mark.Mark.TheVariants.{Blank, Rail, Wire, Joi
 use Rattle.drawings.specs.declared.contact.Contact.{Contact}
 use Rattle.drawings.specs.declared.coil.Coil.{Coil}
 use Rattle.drawings.specs.declared.drawn_box.DrawnBox.{DrawnBox}
-use Rattle.ladder_text.specs.Rows.{rows_of, trimmed}
+use Rattle.ladder_rows.specs.Rows.{rows_of, trimmed}
 use Rattle.ladder_text.specs.Places.{layout_of}
 use Rattle.ladder_text.specs.Faults.{IsWellDrawn}
 use Rattle.ladder_text.specs.Picture.{marks_of, picture_of}

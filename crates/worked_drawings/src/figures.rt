@@ -1,6 +1,6 @@
 //! The worked drawings: contracts that hold of the definitions alone.
 
-ghost use Rattle.ladder_text.specs.Rows.{rows_of};
+ghost use Rattle.ladder_rows.specs.Rows.{rows_of};
 ghost use Rattle.ladder_text.specs.Faults.{IsIllDrawn};
 ghost use Rattle.worked_drawings.specs.Figures.{IsDrawnAs, IsBranchesListed, IsOnDelayListed, branches, branches_marks, start_stop, start_stop_marks, rising_contact, rising_contact_marks, on_delay, on_delay_marks, parallel_wire, parallel_wire_marks, unattached_box, unattached_box_marks, wire_beside_box, box_without_type, box_without_bottom, cut_drawing, two_words, word_of_two, loose_upright, loose_contact};
 

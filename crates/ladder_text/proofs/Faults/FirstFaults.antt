@@ -6,18 +6,21 @@ use Rattle.std.proofs.lemmas.List.Folds.{list_any_at}
 use Rattle.ladder_text.specs.declared.draw_fault.DrawFaultKind.{DrawFaultKind}
 use Rattle.ladder_text.specs.declared.draw_fault.DrawFaultKind.TheVariants as kind
 use Rattle.drawings.specs.declared.drawn_box.DrawnPin.{DrawnPin}
-use Rattle.ladder_text.specs.declared.boxes.outline.Outline.{Outline}
+use Rattle.ladder_rows.specs.declared.boxes.outline.Outline.{Outline}
 use Rattle.drawings.specs.declared.place.Place.{Place}
 use Rattle.ladder_text.specs.declared.places.place_fault.PlaceFault.{PlaceFault}
 use Rattle.ladder_text.specs.declared.places.place_fault.PlaceFault.TheVariants.{BadMark, Crossing, NoSource}
-use Rattle.ladder_text.specs.Rows.{Rows, width, height}
-use Rattle.ladder_text.specs.Boxes.{left_column, outlines}
+use Rattle.ladder_rows.specs.Rows.{Rows, width}
+use Rattle.ladder_rows.specs.Laws.{AreBoxesWhole}
+use Rattle.ladder_rows.specs.Boxes.{left_column, outlines}
 use Rattle.ladder_text.specs.Places.{layout_of}
 use Rattle.ladder_text.specs.Names.{words, things}
-use Rattle.ladder_text.specs.Faults.{PassesInRows, IsWellDrawn, NowhereInRows, has_fault, not_ascii, no_left_rail, bad_box, boxes_apart, name_missing, stray_name, is_stray_operand, has_stray_pin, has_stray_operand}
-use Rattle.ladder_text.specs.FirstFault.{IsDrawFaultAt, HasNoDrawFault, IsFirstAt, IsFirstDrawFault, IsTooLargeAt, IsOffRailAt, IsSharedAt, IsUnnamedAt, IsStrayWordAt, IsStrayOperandAt, IsSpanAt, rank}
+use Rattle.ladder_rows.specs.Faults.{PassesInRows, NowhereInRows, not_ascii, no_left_rail, bad_box, IsFirstAt, IsTooLargeAt}
+use Rattle.ladder_text.specs.Faults.{IsWellDrawn, has_fault, boxes_apart, name_missing, stray_name, is_stray_operand, has_stray_pin, has_stray_operand}
+use Rattle.ladder_text.specs.FirstFault.{IsDrawFaultAt, HasNoDrawFault, IsFirstDrawFault, IsOffRailAt, IsSharedAt, IsUnnamedAt, IsStrayWordAt, IsStrayOperandAt, IsSpanAt, rank}
 use Rattle.ladder_text.specs.Steps.Search.{IsNone, IsFirstOf, IsFirstFrom, IsFirstColumn, or_earlier}
-use Rattle.ladder_text.proofs.Outlines.BoxOrder.{boxes_in_order, not_apart}
+use Rattle.ladder_text.proofs.Outlines.BoxOrder.{not_apart}
+use Rattle.ladder_text.proofs.Outlines.RisingBoxes.{outlines_rising}
 use Rattle.ladder_text.proofs.Faults.SearchLemmas.{no_span, row_first, either_first, second_first}
 use Rattle.ladder_text.proofs.Rows.WidthLemmas.{row-narrow}
 
@@ -84,13 +87,13 @@ none_off_rail : (d : Rows) → 0 < width d → ((r : ℕ) → r < length d → I
 none_off_rail d drawn rail r c (inl w) = absurd (omega (arith, w.0))
 none_off_rail d drawn rail r c (inr w) = both_ways (no_left_rail d r) (rail r w.1) w.3
 
-none_shared : (d : Rows) → IsTrue (boxes_apart (layout_of d)) → IsNone (IsSharedAt (outlines d))
+none_shared : AreBoxesWhole → (d : Rows) → IsTrue (boxes_apart (layout_of d)) → IsNone (IsSharedAt (outlines d))
 unfolding layout_of
-none_shared d apart r c w = both_ways (boxes_apart (layout_of d)) (not_apart (height d) (outlines d) (boxes_in_order d) w.number w.box w.listed w.shares) apart
+none_shared whole d apart r c w = both_ways (boxes_apart (layout_of d)) (not_apart (outlines d) (outlines_rising whole d) w.number w.box w.listed w.shares) apart
 
-none_box : (d : Rows) → NowhereInRows d (bad_box d) → IsTrue (boxes_apart (layout_of d)) → IsNone (IsDrawFaultAt d kind.BadBox)
-none_box d whole apart r c (inl w) = none_found d (bad_box d) whole r c w
-none_box d whole apart r c (inr w) = none_shared d apart r c w
+none_box : AreBoxesWhole → (d : Rows) → NowhereInRows d (bad_box d) → IsTrue (boxes_apart (layout_of d)) → IsNone (IsDrawFaultAt d kind.BadBox)
+none_box shape d whole apart r c (inl w) = none_found d (bad_box d) whole r c w
+none_box shape d whole apart r c (inr w) = none_shared shape d apart r c w
 
 none_unnamed : (d : Rows) → ((r : ℕ) → r < length d → IsFalse (list_any (name_missing (layout_of d) r) (things (layout_of d) r))) → IsNone (IsUnnamedAt d)
 none_unnamed d named r c w = no_span (name_missing (layout_of d) r) (things (layout_of d) r) (named r w.0) c w.1
@@ -121,8 +124,8 @@ behind_grid d k r c ascii low narrow drawn rail first =
     (from_before d kind.TooLarge k r c (none_large d low narrow) (from_before d kind.NoLeftRail k r c (none_off_rail d drawn rail) first)))
 
 -- and whose boxes were
-pub behind_boxes : (d : Rows) (k : DrawFaultKind) (r c : ℕ) → NowhereInRows d (bad_box d) → IsTrue (boxes_apart (layout_of d)) → IsFirstFrom d 5 k r c → IsFirstFrom d 4 k r c
-behind_boxes d k r c whole apart first = from_before d kind.BadBox k r c (none_box d whole apart) first
+pub behind_boxes : AreBoxesWhole → (d : Rows) (k : DrawFaultKind) (r c : ℕ) → NowhereInRows d (bad_box d) → IsTrue (boxes_apart (layout_of d)) → IsFirstFrom d 5 k r c → IsFirstFrom d 4 k r c
+behind_boxes shape d k r c whole apart first = from_before d kind.BadBox k r c (none_box shape d whole apart) first
 
 -- and whose places were
 pub behind_places : (d : Rows) (k : DrawFaultKind) (r c : ℕ) → ((f : PlaceFault) → NowhereInRows d (has_fault f (layout_of d))) → IsFirstFrom d 8 k r c → IsFirstFrom d 5 k r c
@@ -221,21 +224,21 @@ operand_first d r c words operand =
     from_here d kind.StrayName r c (second_first (IsStrayWordAt d) (IsStrayOperandAt (outlines d)) r c words operand)
 
 -- a text that is well drawn has no fault
-pub faultless_of : (d : Rows) → IsWellDrawn d → HasNoDrawFault d
-faultless_of d well kind.NotAscii r c w = none_found d (not_ascii d) well.ascii r c w
-faultless_of d well kind.TooLarge r c w = let low = well.low_enough in none_large d (omega arith) well.narrow_enough r c w
-faultless_of d well kind.NoLeftRail r c w = none_off_rail d well.drawn well.left_rail r c w
-faultless_of d well kind.BadBox r c w = none_box d well.boxes_whole well.boxes_apart r c w
-faultless_of d well kind.BadMark r c w = none_found d (has_fault BadMark (layout_of d)) (well.places BadMark) r c w
-faultless_of d well kind.Crossing r c w = none_found d (has_fault Crossing (layout_of d)) (well.places Crossing) r c w
-faultless_of d well kind.NoSource r c w = none_found d (has_fault NoSource (layout_of d)) (well.places NoSource) r c w
-faultless_of d well kind.NameMissing r c w = none_unnamed d well.named.things_named r c w
-faultless_of d well kind.StrayName r c w = none_stray d well.named.no_stray_name well.operands_good r c w
-faultless_of d well kind.Memory r c w = w
+pub faultless_of : AreBoxesWhole → (d : Rows) → IsWellDrawn d → HasNoDrawFault d
+faultless_of shape d well kind.NotAscii r c w = none_found d (not_ascii d) well.ascii r c w
+faultless_of shape d well kind.TooLarge r c w = let low = well.low_enough in none_large d (omega arith) well.narrow_enough r c w
+faultless_of shape d well kind.NoLeftRail r c w = none_off_rail d well.drawn well.left_rail r c w
+faultless_of shape d well kind.BadBox r c w = none_box shape d well.boxes_whole well.boxes_apart r c w
+faultless_of shape d well kind.BadMark r c w = none_found d (has_fault BadMark (layout_of d)) (well.places BadMark) r c w
+faultless_of shape d well kind.Crossing r c w = none_found d (has_fault Crossing (layout_of d)) (well.places Crossing) r c w
+faultless_of shape d well kind.NoSource r c w = none_found d (has_fault NoSource (layout_of d)) (well.places NoSource) r c w
+faultless_of shape d well kind.NameMissing r c w = none_unnamed d well.named.things_named r c w
+faultless_of shape d well kind.StrayName r c w = none_stray d well.named.no_stray_name well.operands_good r c w
+faultless_of shape d well kind.Memory r c w = w
 
 -- the same of rows that are the same: with their boxes, with their marks, and with their words
-pub of_boxed : (d s : Rows) (k : DrawFaultKind) (r c : ℕ) → s ≡ d → NowhereInRows s (bad_box s) → IsTrue (boxes_apart (layout_of s)) → IsFirstFrom s 5 k r c → IsFirstFrom d 4 k r c
-of_boxed d s k r c e whole apart first = subst (λ (x : Rows). IsFirstFrom x 4 k r c) e (behind_boxes s k r c whole apart first)
+pub of_boxed : AreBoxesWhole → (d s : Rows) (k : DrawFaultKind) (r c : ℕ) → s ≡ d → NowhereInRows s (bad_box s) → IsTrue (boxes_apart (layout_of s)) → IsFirstFrom s 5 k r c → IsFirstFrom d 4 k r c
+of_boxed shape d s k r c e whole apart first = subst (λ (x : Rows). IsFirstFrom x 4 k r c) e (behind_boxes shape s k r c whole apart first)
 
 pub of_words : (p w : Rows) (k : DrawFaultKind) (r c : ℕ) → w ≡ p → ((f : PlaceFault) → NowhereInRows p (has_fault f (layout_of p))) → IsFirstFrom w 8 k r c → IsFirstFrom p 5 k r c
 of_words p w k r c e places first = behind_places p k r c places (subst (λ (x : Rows). IsFirstFrom x 8 k r c) e first)

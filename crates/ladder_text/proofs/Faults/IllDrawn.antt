@@ -3,10 +3,11 @@ use Rattle.std.proofs.Common.{ℕ, ◌<◌, ◌≤◌, ◌≡◌, ◌∙◌, len
 use Rattle.std.specs.List.{list_any}
 use Rattle.std.proofs.lemmas.Bool.{true≢false}
 use Rattle.ladder_text.specs.declared.places.place_fault.PlaceFault.{PlaceFault}
-use Rattle.ladder_text.specs.Rows.{Rows, width}
+use Rattle.ladder_rows.specs.Rows.{Rows, width}
 use Rattle.ladder_text.specs.Places.{layout_of}
 use Rattle.ladder_text.specs.Names.{words, things}
-use Rattle.ladder_text.specs.Faults.{IsIllDrawn, PassesInRows, bad_box, boxes_apart, has_stray_operand, has_fault, not_ascii, no_left_rail, name_missing, stray_name}
+use Rattle.ladder_text.specs.Faults.{IsIllDrawn, boxes_apart, has_stray_operand, has_fault, name_missing, stray_name}
+use Rattle.ladder_rows.specs.Faults.{PassesInRows, bad_box, not_ascii, no_left_rail}
 
 pub clash : (b : Bool) → b ≡ true → b ≡ false → ⊥
 clash b t f = true≢false (sym t ∙ f)

@@ -1,9 +1,10 @@
 -- A drawing is well drawn, from what was checked.
 use Rattle.std.proofs.Common.{ℕ, ◌<◌, ◌≤◌, length, arith, IsFalse, IsTrue}
 use Rattle.ladder_text.specs.declared.places.place_fault.PlaceFault.{PlaceFault}
-use Rattle.ladder_text.specs.Rows.{Rows, width}
+use Rattle.ladder_rows.specs.Rows.{Rows, width}
 use Rattle.ladder_text.specs.Places.{layout_of}
-use Rattle.ladder_text.specs.Faults.{IsWellDrawn, IsNamed, NowhereInRows, has_fault, not_ascii, no_left_rail, bad_box, boxes_apart, has_stray_operand}
+use Rattle.ladder_text.specs.Faults.{IsWellDrawn, IsNamed, has_fault, boxes_apart, has_stray_operand}
+use Rattle.ladder_rows.specs.Faults.{NowhereInRows, not_ascii, no_left_rail, bad_box}
 
 pub well_drawn_checked : (d : Rows) → NowhereInRows d (not_ascii d) → length d ≤ 2001 → width d ≤ 240 → 0 < width d
     → ((r : ℕ) → r < length d → IsFalse (no_left_rail d r)) → NowhereInRows d (bad_box d) → IsTrue (boxes_apart (layout_of d))

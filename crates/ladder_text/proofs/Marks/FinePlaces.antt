@@ -2,13 +2,13 @@
 use Rattle.std.proofs.Common.{ℕ, ◌-◌, ◌≤◌, ◌≡◌, ◌==◌, ◌&&◌, ◌||◌, not, if◌then◌else◌, Bool, true, false, refl, ap, ◌∙◌}
 use Rattle.std.proofs.lemmas.Bool.{and_parts, and_left, and_right, or_from, eqb-true}
 use Rattle.drawings.specs.declared.mark.Mark.TheVariants.{Blank, Rail, Wire, Join, Upright, ContactPart, CoilPart, BoxPart}
-use Rattle.ladder_text.specs.declared.boxes.box_test.BoxTest.TheVariants.{BlindLeft, BlindRight}
+use Rattle.ladder_rows.specs.declared.boxes.box_test.BoxTest.TheVariants.{BlindLeft, BlindRight}
 use Rattle.ladder_text.specs.declared.places.place_fault.PlaceFault.{PlaceFault}
 use Rattle.ladder_text.specs.declared.places.place_fault.PlaceFault.TheVariants.{BadMark, Crossing, NoSource}
-use Rattle.ladder_text.specs.Rows.{char_at}
-use Rattle.ladder_text.specs.Places.{Layout, mark, in_box, in_contact, in_coil, in_operand, is_taken, is_rail_column, is_rail_char, is_wire, is_join, is_upright, is_vertical, is_symbol, is_box_part, gives}
+use Rattle.ladder_rows.specs.Rows.{char_at, is_rail_char}
+use Rattle.ladder_text.specs.Places.{Layout, mark, in_box, in_contact, in_coil, in_operand, is_taken, is_rail_column, is_wire, is_join, is_upright, is_vertical, is_symbol, is_box_part, gives}
 use Rattle.ladder_text.specs.Faults.{has_meaning, is_blind, line_end, bad_mark, no_source, has_fault}
-use Rattle.ladder_text.specs.Steps.RowBoxes.{IsBare}
+use Rattle.ladder_rows.specs.Steps.RowBoxes.{IsBare}
 use Rattle.ladder_text.proofs.Marks.MarkLemmas.{taken_by_mark}
 use Rattle.ladder_text.proofs.Marks.SymbolPlaces.{first_by_mark}
 

@@ -1,10 +1,9 @@
 -- On the marks of a layout.
 use Rattle.std.proofs.Common.{ℕ, zero, suc, ◌+◌, ◌-◌, ◌<◌, ◌≤◌, ◌≡◌, List, [], length, get_or, refl, ap, ◌∙◌, arith, Bool, true, false, ◌||◌, if◌then◌else◌, inl, inr}
-use Rattle.ladder_text.specs.Rows.{Rows, width, height}
+use Rattle.ladder_rows.specs.Rows.{Rows, width, height, char_at}
 use Rattle.drawings.specs.declared.mark.Mark.{Mark}
 use Rattle.drawings.specs.declared.mark.Mark.TheVariants.{Blank, Rail, Wire, Join, Upright, ContactPart, CoilPart, BoxPart}
 use Rattle.ladder_text.specs.Places.{Layout, layout_of, mark, in_box, in_contact, in_coil, in_operand, is_taken, line_mark, is_box_part, is_symbol}
-use Rattle.ladder_text.specs.Rows.{char_at}
 use Rattle.ladder_text.specs.Picture.{marks_of, row_marks}
 use Rattle.ladder_text.specs.Steps.RowMarks.{AreMarksIfFound, AreMarksOf}
 use Rattle.ladder_text.proofs.Marks.PictureLemmas.{length-upto, get_or-upto}

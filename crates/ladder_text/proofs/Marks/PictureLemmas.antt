@@ -3,7 +3,7 @@ use Rattle.std.proofs.Common.{ℕ, zero, suc, ◌+◌, ◌<◌, ◌≤◌, ◌�
 use Rattle.std.proofs.lemmas.Bool.{cases_lt}
 use Rattle.std.proofs.Math.ListN.{get_or-append, get_or-eq_default}
 use Rattle.std.proofs.Math.Seq.{get_or-append_seam}
-use Rattle.ladder_text.specs.Rows.{width, height, upto}
+use Rattle.ladder_rows.specs.Rows.{width, height, upto}
 use Rattle.drawings.specs.declared.mark.Mark.{Mark}
 use Rattle.drawings.specs.declared.mark.Mark.TheVariants.{Blank}
 use Rattle.ladder_text.specs.Places.{Layout, mark}

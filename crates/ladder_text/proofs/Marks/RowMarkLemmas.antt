@@ -4,8 +4,8 @@ use Rattle.std.specs.Option.{is_some}
 use Rattle.std.proofs.lemmas.Bool.{both_ways, and_right, or_from}
 use Rattle.drawings.specs.declared.mark.Mark.{Mark}
 use Rattle.drawings.specs.declared.mark.Mark.TheVariants.{Blank, ContactPart, CoilPart}
-use Rattle.ladder_text.specs.Rows.{upto, width, char_at}
-use Rattle.ladder_text.specs.Places.{Layout, contact_at, coil_at, in_box, in_contact, in_coil, is_rail_column, is_rail_char, mark}
+use Rattle.ladder_rows.specs.Rows.{upto, width, char_at, is_rail_char}
+use Rattle.ladder_text.specs.Places.{Layout, contact_at, coil_at, in_box, in_contact, in_coil, is_rail_column, mark}
 use Rattle.ladder_text.proofs.Rows.RunLemmas.{upto-more}
 use Rattle.ladder_text.proofs.Marks.SymbolPlaces.{contact_parts, coil_parts, contacts_same, coils_same, contact_off_coil, mark-contact, mark-coil, not_some, drawn_inside}
 

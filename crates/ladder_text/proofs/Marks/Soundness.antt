@@ -1,6 +1,7 @@
 -- A well drawn text's picture is sound.
 use Rattle.std.proofs.Common.{ℕ, List, ◌≡◌}
-use Rattle.ladder_text.specs.Rows.{Rows, rows_of}
+use Rattle.ladder_rows.specs.Rows.{rows_of}
+use Rattle.ladder_rows.specs.Laws.{AreBoxesWhole}
 use Rattle.ladder_text.specs.Places.{layout_of}
 use Rattle.ladder_text.specs.Faults.{IsWellDrawn}
 use Rattle.drawings.specs.Picture.{Picture, IsSound}
@@ -11,9 +12,9 @@ use Rattle.ladder_text.proofs.Marks.PictureLemmas.{mark_at-drawn}
 use Rattle.ladder_text.proofs.Outlines.RisingBoxes.{boxes_rising_of}
 use Rattle.ladder_text.proofs.Outlines.BoxPlaces.{mark_at-box, boxes_sharing, box_whole}
 
-pub sound_of_text : (line : ℕ) (text : List ℕ) → IsWellDrawn (rows_of text) → IsSound (picture_of line (layout_of (rows_of text)))
+sound_of_text : AreBoxesWhole → (line : ℕ) (text : List ℕ) → IsWellDrawn (rows_of text) → IsSound (picture_of line (layout_of (rows_of text)))
 unfolding picture_of layout_of
-sound_of_text line text well =
+sound_of_text whole line text well =
     let d = rows_of text in
     record {
       few_rows = well.low_enough;
@@ -24,16 +25,12 @@ sound_of_text line text well =
       contacts_apart = contacts_sharing (layout_of d);
       coils = mark_at-coil line (layout_of d);
       coils_apart = coils_sharing (layout_of d);
-      boxes = mark_at-box line d;
-      boxes_apart = boxes_sharing d well.boxes_apart;
-      boxes_rising = boxes_rising_of d;
-      boxes_whole = box_whole d;
+      boxes = mark_at-box whole line d;
+      boxes_apart = boxes_sharing whole d well.boxes_apart;
+      boxes_rising = boxes_rising_of whole d;
+      boxes_whole = box_whole whole d;
     }
 
--- the same, of rows that are a text's
-pub sound_of : (line : ℕ) (d : Rows) (text : List ℕ) → d ≡ rows_of text → IsWellDrawn d → IsSound (picture_of line (layout_of d))
-sound_of line d text e well = rw e (sound_of_text line text (rw e at well))
-
 -- the same, of a picture that is a text's
-pub sound_picture : (g : Picture) (line : ℕ) (text : List ℕ) → g ≡ picture_of line (layout_of (rows_of text)) → IsWellDrawn (rows_of text) → IsSound g
-sound_picture g line text e well = rw e (sound_of_text line text well)
+pub sound_picture : AreBoxesWhole → (g : Picture) (line : ℕ) (text : List ℕ) → g ≡ picture_of line (layout_of (rows_of text)) → IsWellDrawn (rows_of text) → IsSound g
+sound_picture whole g line text e well = rw e (sound_of_text whole line text well)

@@ -7,7 +7,7 @@ use Rattle.drawings.specs.declared.contact.Contact.{Contact}
 use Rattle.drawings.specs.declared.coil.Coil.{Coil}
 use Rattle.drawings.specs.declared.contact.ContactKind.{ContactKind}
 use Rattle.drawings.specs.declared.coil.CoilKind.{CoilKind}
-use Rattle.ladder_text.specs.Rows.{height, width}
+use Rattle.ladder_rows.specs.Rows.{height, width}
 use Rattle.ladder_text.specs.Places.{Layout, contact_at, coil_at}
 use Rattle.ladder_text.specs.Names.{contact_with, coil_with, row_contacts, row_coils, contacts, coils}
 use Rattle.drawings.specs.Picture.{mark_at, IsSymbolPlace}

@@ -1,5 +1,5 @@
 -- The places of contacts and coils.
-use Rattle.std.proofs.Common.{ℕ, ◌+◌, ◌-◌, ◌<◌, ◌≤◌, ◌≡◌, ◌≢◌, ◌==◌, Bool, true, false, not, ◌&&◌, ◌||◌, cond, List, [], length, get_or, Option, Some, None, refl, sym, ap, ◌∙◌, arith, ◌⊎◌, inl, inr}
+use Rattle.std.proofs.Common.{ℕ, ◌+◌, ◌-◌, ◌<◌, ◌≤◌, ◌≡◌, ◌≢◌, ◌==◌, Bool, true, false, not, ◌&&◌, ◌||◌, cond, [], length, get_or, Option, Some, None, refl, sym, ap, ◌∙◌, arith, ◌⊎◌, inl, inr}
 use Rattle.std.specs.Option.{is_some}
 use Rattle.std.proofs.lemmas.Bool.{and_parts, or_parts, or_cases, or_from, or_left, or_right, not-true, eqb-true, cases_lt, both_ways}
 use Rattle.std.proofs.lemmas.Option.{none-some}
@@ -7,7 +7,7 @@ use Rattle.std.proofs.lemmas.List.{get_or_past}
 use Rattle.drawings.specs.declared.mark.Mark.TheVariants.{ContactPart, CoilPart}
 use Rattle.drawings.specs.declared.contact.ContactKind.{ContactKind}
 use Rattle.drawings.specs.declared.coil.CoilKind.{CoilKind}
-use Rattle.ladder_text.specs.Rows.{Rows, char_at, width}
+use Rattle.ladder_rows.specs.Rows.{Rows, char_at, width}
 use Rattle.ladder_text.specs.SymbolKinds.{contact_kind, coil_kind}
 use Rattle.ladder_text.specs.Places.{Layout, contact_at, coil_at, in_box, in_contact, in_coil, within_three, mark, is_symbol}
 use Rattle.ladder_text.specs.Faults.{is_first_of_symbol}
@@ -251,11 +251,4 @@ unfolding char_at
 drawn_inside d r c h = elim (cases_lt c (length (get_or d r []))) [
   | inl l ↦ row-narrow d r c l
   | inr l ↦ absurd (h (get_or_past (get_or d r []) c 32 l))
-]
-
-pub drawn_in_row : (d : Rows) (r c : ℕ) → char_at d r c ≢ 32 → r < length d
-unfolding char_at
-drawn_in_row d r c h = elim (cases_lt r (length d)) [
-  | inl l ↦ l
-  | inr l ↦ absurd (h (ap (λ (row : List ℕ). get_or row c 32) (get_or_past d r [] l)))
 ]

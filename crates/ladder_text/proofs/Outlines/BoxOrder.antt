@@ -1,33 +1,23 @@
 -- The boxes of a drawing stand in order, and whether they share places.
-use Rattle.std.proofs.Common.{ℕ, ◌+◌, ◌<◌, ◌≤◌, ◌≡◌, Bool, true, false, not, ◌||◌, ◌&&◌, ◌==◌, List, length, take, get_or, subst, Some, refl, sym, ap, ◌∙◌, arith, nat_le, length-take-le, inl, inr}
+use Rattle.std.proofs.Common.{ℕ, ◌+◌, ◌<◌, ◌≡◌, Bool, true, false, not, ◌||◌, ◌&&◌, ◌==◌, List, length, take, get_or, subst, Some, refl, sym, ap, ◌∙◌, arith, nat_le, length-take-le, inl, inr}
 use Rattle.std.specs.List.{slice_get, list_all}
-use Rattle.std.proofs.lemmas.Bool.{and_parts, and_from, eqb-true, eq-eqb, both_ways, cases_lt}
-use Rattle.std.proofs.lemmas.List.Elements.{All-weaker}
+use Rattle.std.proofs.lemmas.Bool.{false_from_ne_true, and_parts, and_from, eqb-true, eq-eqb, both_ways, cases_lt}
 use Rattle.std.proofs.lemmas.List.Folds.{list_any_at, list_all_at, Any-from_list_any}
 use Rattle.std.proofs.lemmas.List.Sums.{list_all-from_AllPass}
 use Rattle.std.proofs.lemmas.List.{get_or-take}
 use Rattle.std.proofs.lemmas.Option.{slice_get_within, get_or_from_slice_get, slice_get-get_or, same_Some}
-use Rattle.ladder_text.specs.declared.boxes.outline.Outline.{Outline}
-use Rattle.ladder_text.specs.Rows.{Rows, height}
-use Rattle.ladder_text.specs.Boxes.{outlines}
-use Rattle.ladder_text.specs.Faults.{is_apart, same_corner, share_place}
-use Rattle.ladder_text.specs.Steps.RowBoxes.{AreInOrder}
-use Rattle.ladder_text.specs.FirstFault.{shares_before}
-use Rattle.ladder_text.proofs.Outlines.PinRows.{IsFromTo}
-use Rattle.ladder_text.proofs.Outlines.BoxPlaces.{box_there}
-use Rattle.ladder_text.proofs.Outlines.RisingBoxes.{outlines_rising}
+use Rattle.ladder_rows.specs.declared.boxes.outline.Outline.{Outline}
+use Rattle.ladder_text.specs.Faults.{is_apart, same_corner}
+use Rattle.ladder_rows.specs.BoxTests.{share_place}
+use Rattle.ladder_text.specs.FirstFault.{shares_before, IsSharedAt}
+use Rattle.ladder_rows.specs.Faults.{IsFirstAt}
+use Rattle.drawings.specs.declared.place.Place.{Place}
+use Rattle.ladder_text.specs.Steps.Search.{IsFirstShared}
+use Rattle.ladder_text.proofs.Rows.ItemLemmas.{IsRising, IsBefore}
 
-pub boxes_in_order : (d : Rows) → AreInOrder (height d) (outlines d)
-boxes_in_order d = record {
-  each = λ k b e. let w = box_there d k b e in record {
-    above = w.row_above;
-    high = omega (arith, w.high);
-    within = w.row_within;
-    pins = All-weaker (IsFromTo (b.top + 1) b.bottom) (λ q. (b.top ≤ q.row) × (q.row ≤ b.bottom)) (λ q v. (omega (arith, v.0), omega (arith, v.1))) b.pins w.pins;
-    by_row = w.by_row;
-  };
-  rising = λ j k a b h x y. outlines_rising d j k a b h x y;
-}
+-- boxes stand by row and then column of their corners
+abbrev pub AreRising : List Outline → Type 0
+AreRising bs = IsRising (IsBefore (λ (o : Outline). o.top) (λ (o : Outline). o.left)) bs
 
 share-swap : (a b : Outline) → share_place a b ≡ true → share_place b a ≡ true
 share-swap a b h =
@@ -39,10 +29,6 @@ share-swap a b h =
 same-self : (a : Outline) → same_corner a a ≡ true
 same-self a = and_from _ _ (eq-eqb a.top a.top refl) (eq-eqb a.left a.left refl)
 
-ne_true : (b : Bool) → (b ≡ true → ⊥) → b ≡ false
-ne_true true h = absurd (h refl)
-ne_true false h = refl
-
 or-right : (a b : Bool) → b ≡ false → (a || not b) ≡ true
 or-right true b h = refl
 or-right false b h = rw h refl
@@ -53,7 +39,7 @@ or-left a b h = rw h refl
 -- a box that shares a place with no earlier one
 earlier_apart : (bs : List Outline) (j k : ℕ) (a b : Outline) → j < k → slice_get bs j ≡ Some a → slice_get bs k ≡ Some b → shares_before bs k b ≡ false → share_place b a ≡ false
 earlier_apart bs j k a b h x y none =
-    ne_true (share_place b a) (λ s.
+    false_from_ne_true (share_place b a) (λ s.
     let within : j < length (take k bs) = let last : k < length bs = slice_get_within bs k b y in omega (arith, length-take-le k bs (omega arith)) in
     let at : get_or (take k bs) j a ≡ a = get_or-take k bs j a h ∙ get_or_from_slice_get bs j a a x in
     both_ways (shares_before bs k b) none (list_any_at (share_place b) (take k bs) j a within (rw at s)))
@@ -61,7 +47,7 @@ earlier_apart bs j k a b h x y none =
 pair_apart : (bs : List Outline) → ((k : ℕ) (b : Outline) → slice_get bs k ≡ Some b → shares_before bs k b ≡ false)
     → (j k : ℕ) (a b : Outline) → slice_get bs j ≡ Some a → slice_get bs k ≡ Some b → (same_corner a b || not (share_place a b)) ≡ true
 pair_apart bs none j k a b x y = elim (cases_lt j k) [
-  | inl h ↦ or-right _ _ (ne_true (share_place a b) (λ s. both_ways (share_place b a) (earlier_apart bs j k a b h x y (none k b y)) (share-swap a b s)))
+  | inl h ↦ or-right _ _ (false_from_ne_true (share_place a b) (λ s. both_ways (share_place b a) (earlier_apart bs j k a b h x y (none k b y)) (share-swap a b s)))
   | inr h ↦ elim (cases_lt k j) [
     | inl l ↦ or-right _ _ (earlier_apart bs k j b a l y x (none j a x))
     | inr l ↦
@@ -80,20 +66,20 @@ all_apart bs none =
     list_all-from_AllPass (λ (b : Outline). same_corner a b || not (share_place a b)) bs (λ k e l.
     pair_apart bs each j k a (get_or bs k e) (slice_get-get_or bs j d h) (slice_get-get_or bs k e l)))
 
-other_corner : (n : ℕ) (bs : List Outline) → AreInOrder n bs → (j k : ℕ) (a b : Outline) → j < k → slice_get bs j ≡ Some a → slice_get bs k ≡ Some b → same_corner b a ≡ false
-other_corner n bs o j k a b h x y =
-    ne_true (same_corner b a) (λ s.
+other_corner : (bs : List Outline) → AreRising bs → (j k : ℕ) (a b : Outline) → j < k → slice_get bs j ≡ Some a → slice_get bs k ≡ Some b → same_corner b a ≡ false
+other_corner bs o j k a b h x y =
+    false_from_ne_true (same_corner b a) (λ s.
     let w = and_parts (b.top == a.top) (b.left == a.left) s in
     let top : b.top ≡ a.top = eqb-true b.top a.top w.0 in
     let left : b.left ≡ a.left = eqb-true b.left a.left w.1 in
-    elim (o.rising j k a b h x y) [
+    elim (o j k a b h x y) [
       | inl l ↦ omega arith
       | inr v ↦ omega (arith, v.1)
     ])
 
 -- where one does, they aren't
-pub not_apart : (n : ℕ) (bs : List Outline) → AreInOrder n bs → (k : ℕ) (b : Outline) → slice_get bs k ≡ Some b → shares_before bs k b ≡ true → list_all (is_apart bs) bs ≡ false
-not_apart n bs o k b y s =
+pub not_apart : (bs : List Outline) → AreRising bs → (k : ℕ) (b : Outline) → slice_get bs k ≡ Some b → shares_before bs k b ≡ true → list_all (is_apart bs) bs ≡ false
+not_apart bs o k b y s =
     let w = Any-from_list_any (share_place b) (take k bs) s in
     let j = w.0 in
     let a = w.1 in
@@ -102,7 +88,7 @@ not_apart n bs o k b y s =
     let early : j < k = omega (arith, w.2, size) in
     let at : get_or bs j a ≡ a = sym (get_or-take k bs j a early) ∙ w.3 in
     let x : slice_get bs j ≡ Some a = slice_get-get_or bs j a (omega arith) ∙ ap (λ (c : Outline). Some c) at in
-    let corner : same_corner b a ≡ false = other_corner n bs o j k a b early x y in
+    let corner : same_corner b a ≡ false = other_corner bs o j k a b early x y in
     let here : get_or bs k b ≡ b = get_or_from_slice_get bs k b b y in
     let bad : is_apart bs b ≡ false =
     list_all_at (λ (c : Outline). same_corner b c || not (share_place b c)) bs j a (omega arith) (rw (at, corner, w.4) refl) in
@@ -119,3 +105,24 @@ none_more bs n c e here before k b h x = elim (cases_lt k n) [
       let same : c ≡ b = same_Some c b (sym e ∙ ap (slice_get bs) at ∙ x) in
       subst (λ (i : ℕ). shares_before bs i b ≡ false) at (subst (λ (o : Outline). shares_before bs n o ≡ false) same here)
 ]
+
+-- the first box that shares a place begins before the others that do
+pub first_of_shared : (bs : List Outline) → AreRising bs → (p : Place) → IsFirstShared bs p → IsFirstAt (IsSharedAt bs) p.row p.column
+first_of_shared bs o p s = record {
+  such = record { number = s.number; box = s.outline; listed = s.listed; row = sym s.row; column = sym s.column; shares = s.shares };
+  first = λ i j w. elim (cases_lt w.number s.number) [
+    | inl l ↦ absurd (both_ways (shares_before bs w.number w.box) (s.first w.number w.box l w.listed) w.shares)
+    | inr l ↦ elim (cases_lt s.number w.number) [
+      | inl m ↦ elim (o s.number w.number s.outline w.box m s.listed w.listed) [
+        | inl a ↦ inl (omega (arith, a, s.row, w.row))
+        | inr a ↦ inr (omega (arith, a.0, s.row, w.row), omega (arith, a.1, s.column, w.column))
+      ]
+      | inr m ↦
+          let at : s.number ≡ w.number = omega arith in
+          let same : s.outline ≡ w.box = same_Some s.outline w.box (sym s.listed ∙ ap (slice_get bs) at ∙ w.listed) in
+          let top = ap (λ (b : Outline). b.top) same in
+          let left = ap (λ (b : Outline). b.left) same in
+          inr (omega (arith, top, s.row, w.row), omega (arith, left, s.column, w.column))
+    ]
+  ];
+}

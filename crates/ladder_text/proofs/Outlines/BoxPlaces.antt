@@ -1,86 +1,31 @@
 -- The boxes stand where they say, are whole, and share no place.
-use Rattle.std.proofs.Common.{ℕ, ◌+◌, ◌-◌, ◌<◌, ◌≤◌, ◌≡◌, ◌≢◌, Bool, true, false, not, ◌||◌, List, get_or, Option, Some, None, IsTrue, refl, sym, ap, ◌∙◌, arith, leb, inl, inr}
-use Rattle.std.specs.List.{slice_get, list_all}
+use Rattle.std.proofs.Common.{ℕ, ◌<◌, ◌≤◌, ◌≡◌, Bool, true, not, ◌||◌, List, get_or, Some, IsTrue, refl, sym, ap, ◌∙◌, arith, leb, inl, inr}
+use Rattle.std.specs.List.{slice_get, list_all, All}
 use Rattle.std.proofs.lemmas.Bool.{and_parts, and_from, or_cases, not-true, both_ways, true_from_ne_false, eqb-true, le-leb}
-use Rattle.std.proofs.lemmas.Option.{none-some, same_Some, slice_get_within, get_or_from_slice_get}
+use Rattle.std.proofs.lemmas.Option.{same_Some, slice_get_within, get_or_from_slice_get}
+use Rattle.std.proofs.lemmas.List.Elements.{All-weaker}
 use Rattle.std.proofs.lemmas.List.Folds.{list_any_at, list_all_at}
 use Rattle.drawings.specs.declared.mark.Mark.TheVariants.{BoxPart}
-use Rattle.std_blocks.specs.declared.block_type.BlockType.{BlockType}
-use Rattle.drawings.specs.declared.drawn_box.DrawnPin.{DrawnPin}
 use Rattle.drawings.specs.declared.drawn_box.DrawnBox.{DrawnBox}
-use Rattle.ladder_text.specs.declared.boxes.outline.Outline.{Outline}
-use Rattle.ladder_text.specs.Rows.{Rows, char_at, height, width}
-use Rattle.ladder_text.specs.Boxes.{begins_box, outline_at, outline_with, block_in, pins_of_rows, bottom_row, top_end, is_edge, box_at, row_outlines, outlines, covers}
+use Rattle.drawings.specs.Picture.{mark_at, IsBoxPlace, IsWhole}
+use Rattle.ladder_rows.specs.declared.boxes.outline.Outline.{Outline}
+use Rattle.ladder_rows.specs.Rows.{Rows, height, width}
+use Rattle.ladder_rows.specs.Boxes.{box_at, row_outlines, outlines, covers}
+use Rattle.ladder_rows.specs.BoxTests.{share_place}
+use Rattle.ladder_rows.specs.Laws.{AreBoxesWhole}
 use Rattle.ladder_text.specs.Places.{Layout, in_box, mark, layout_of}
 use Rattle.ladder_text.specs.Names.{drawn_boxes}
-use Rattle.ladder_text.specs.Faults.{boxes_apart, is_apart, same_corner, share_place}
-use Rattle.drawings.specs.Picture.{mark_at, IsBoxPlace, IsWhole}
+use Rattle.ladder_text.specs.Faults.{boxes_apart, is_apart, same_corner}
 use Rattle.ladder_text.specs.Picture.{picture_of}
 use Rattle.ladder_text.proofs.Rows.ItemLemmas.{IsPlaced, IsAlikeOnce, found_item, found_once, map_item}
-use Rattle.ladder_text.proofs.Marks.SymbolPlaces.{cond_some_of, drawn_inside, drawn_in_row}
 use Rattle.ladder_text.proofs.Marks.PictureLemmas.{mark_at-inside}
-use Rattle.ladder_text.proofs.Outlines.PinRows.{IsFromTo, pins_of_rows_from, pins_of_rows_rising}
-use Rattle.ladder_text.specs.Steps.RowBoxes.{row_of_pin}
-use Rattle.std.specs.List.Sorted.{IsNonDecreasingBy}
-use Rattle.std.specs.List.{All}
-use Rattle.std.proofs.lemmas.List.Elements.{All-weaker}
-use Rattle.std.proofs.Common.{subst}
 
--- the box o begins at (r, c) of the rows
-pub record IsOutlineAt (d : Rows) (r c : ℕ) (o : Outline) : Type 0 where
-  pub top : o.top ≡ r
-  pub left : o.left ≡ c
-  pub high : r < o.bottom
-  pub wide : c < o.right
-  pub corner : char_at d o.bottom o.right ≡ 43
-  pub pins : All (IsFromTo (o.top + 1) o.bottom) o.pins
-  pub by_row : IsNonDecreasingBy row_of_pin o.pins
+pub outlines_placed : AreBoxesWhole → (d : Rows) → IsPlaced (λ (o : Outline). o.top) (λ (o : Outline). o.left) (box_at d)
+outlines_placed whole d r c o e = let w = whole d r c o e in (w.top, w.left)
 
-outline_with_parts : (d : Rows) (r c bottom e : ℕ) (block : Option BlockType) (pins : Option (List DrawnPin)) (o : Outline)
-    → outline_with d r c bottom e block pins ≡ Some o → r < bottom → c < e
-    → ((ps : List DrawnPin) → pins ≡ Some ps → All (IsFromTo (r + 1) bottom) ps × IsNonDecreasingBy row_of_pin ps) → IsOutlineAt d r c o
-outline_with_parts d r c bottom e None pins o q h w f = absurd (none-some o q)
-outline_with_parts d r c bottom e (Some block) None o q h w f = absurd (none-some o q)
-outline_with_parts d r c bottom e (Some block) (Some pins) o q h w f =
-    let s = cond_some_of (is_edge d c e bottom) _ o q in
-    let t = same_Some _ o s.1 in
-    let down : o.bottom ≡ bottom = ap (λ (b : Outline). b.bottom) (sym t) in
-    let across : o.right ≡ e = ap (λ (b : Outline). b.right) (sym t) in
-    record {
-      top = ap (λ (b : Outline). b.top) (sym t);
-      left = ap (λ (b : Outline). b.left) (sym t);
-      high = omega arith;
-      wide = omega arith;
-      corner = rw (down, across) (eqb-true _ _ (and_parts _ _ s.0).1);
-      pins = subst (λ (b : Outline). All (IsFromTo (b.top + 1) b.bottom) b.pins) t (f pins refl).0;
-      by_row = subst (λ (b : Outline). IsNonDecreasingBy row_of_pin b.pins) t (f pins refl).1;
-    }
-
-elim_some_of : {A : Type 0} (b : Bool) (o : Option A) (x : A) → elim b [ true ↦ o | false ↦ None ] ≡ Some x → o ≡ Some x
-elim_some_of true o x e = e
-elim_some_of false o x e = absurd (none-some x e)
-
-inner_of : (r b : ℕ) (ps : List DrawnPin) → All (IsFromTo (r + 2) (r + 2 + (b - (r + 2)))) ps → All (IsFromTo (r + 1) b) ps
-inner_of r b ps h = All-weaker (IsFromTo (r + 2) (r + 2 + (b - (r + 2)))) (IsFromTo (r + 1) b) (λ p w. (omega (arith, w.0), omega (arith, w.0, w.1))) ps h
-
-inner_pins : (d : Rows) (r c : ℕ) (ps : List DrawnPin) → pins_of_rows d c (top_end d r c) (r + 2) (bottom_row d r c - (r + 2)) ≡ Some ps
-    → All (IsFromTo (r + 1) (bottom_row d r c)) ps
-inner_pins d r c ps e = inner_of r (bottom_row d r c) ps (pins_of_rows_from d c (top_end d r c) (r + 2) (bottom_row d r c - (r + 2)) ps e)
-
-outline_parts : (d : Rows) (r c : ℕ) (o : Outline) → box_at d r c ≡ Some o → IsOutlineAt d r c o
-unfolding box_at outline_at
-outline_parts d r c o e =
-    outline_with_parts d r c (bottom_row d r c) (top_end d r c) (block_in d r c)
-    (pins_of_rows d c (top_end d r c) (r + 2) (bottom_row d r c - (r + 2))) o
-    (elim_some_of (begins_box d r c) (outline_at d r c) o e) (omega arith) (omega arith)
-    (λ ps h. (inner_pins d r c ps h, pins_of_rows_rising d c (top_end d r c) (r + 2) (bottom_row d r c - (r + 2)) ps h))
-
-pub outlines_placed : (d : Rows) → IsPlaced (λ (o : Outline). o.top) (λ (o : Outline). o.left) (box_at d)
-outlines_placed d r c o e = let w = outline_parts d r c o e in (w.top, w.left)
-
-outlines_once : (d : Rows) → IsAlikeOnce (λ (a : Outline) (b : Outline). (a.top ≡ b.top) × (a.left ≡ b.left)) (outlines d)
+outlines_once : AreBoxesWhole → (d : Rows) → IsAlikeOnce (λ (a : Outline) (b : Outline). (a.top ≡ b.top) × (a.left ≡ b.left)) (outlines d)
 unfolding outlines row_outlines
-outlines_once d = found_once (λ (o : Outline). o.top) (λ (o : Outline). o.left) (box_at d) (outlines_placed d) (height d) (width d)
+outlines_once whole d = found_once (λ (o : Outline). o.top) (λ (o : Outline). o.left) (box_at d) (outlines_placed whole d) (height d) (width d)
 
 -- a box stands where o says, inside the rows and columns
 pub record IsBoxThere (d : Rows) (o : Outline) : Type 0 where
@@ -90,25 +35,21 @@ pub record IsBoxThere (d : Rows) (o : Outline) : Type 0 where
   pub wide : o.left < o.right
   pub row_within : o.bottom ≤ height d
   pub column_within : o.right ≤ width d
-  pub pins : All (IsFromTo (o.top + 1) o.bottom) o.pins
-  pub by_row : IsNonDecreasingBy row_of_pin o.pins
+  pub pins : All (λ q. (o.top < q.row) × (q.row < o.bottom)) o.pins
 
-pub box_there : (d : Rows) (k : ℕ) (o : Outline) → slice_get (outlines d) k ≡ Some o → IsBoxThere d o
+pub box_there : AreBoxesWhole → (d : Rows) (k : ℕ) (o : Outline) → slice_get (outlines d) k ≡ Some o → IsBoxThere d o
 unfolding outlines row_outlines
-box_there d k o e =
+box_there whole d k o e =
     let i = found_item (box_at d) (height d) (width d) k o e in
-    let w = outline_parts d i.row i.column o i.is in
-    let ink : char_at d o.bottom o.right ≢ 32 = λ q. omega (arith, q, w.corner) in
-    let row = drawn_in_row d o.bottom o.right ink in
+    let w = whole d i.row i.column o i.is in
     record {
       row_above = omega (arith, w.top, i.row_above);
       column_above = omega (arith, w.left, i.column_above);
       high = omega (arith, w.top, w.high);
       wide = omega (arith, w.left, w.wide);
-      row_within = omega arith;
-      column_within = drawn_inside d o.bottom o.right ink;
-      pins = w.pins;
-      by_row = w.by_row;
+      row_within = w.row_within;
+      column_within = w.column_within;
+      pins = All-weaker (λ q. (i.row < q.row) × (q.row < o.bottom)) (λ q. (o.top < q.row) × (q.row < o.bottom)) (λ q v. (omega (arith, w.top, v.0), v.1)) o.pins w.pins;
     }
 
 -- (r, c) is a place of the box o
@@ -146,13 +87,13 @@ same_corner_of a b r c e s t = elim (or_cases _ _ e) [
   | inr h ↦ absurd (both_ways (share_place a b) (not-true (share_place a b) h) (sharing a b r c s t))
 ]
 
-outlines_sharing : (d : Rows) → IsTrue (boxes_apart (layout_of d)) → (j k : ℕ) (a b : Outline) → slice_get (outlines d) j ≡ Some a → slice_get (outlines d) k ≡ Some b
+outlines_sharing : AreBoxesWhole → (d : Rows) → IsTrue (boxes_apart (layout_of d)) → (j k : ℕ) (a b : Outline) → slice_get (outlines d) j ≡ Some a → slice_get (outlines d) k ≡ Some b
     → (r c : ℕ) → IsOutlinePlace a r c → IsOutlinePlace b r c → j ≡ k
 unfolding layout_of
-outlines_sharing d apart j k a b x y r c s t =
+outlines_sharing whole d apart j k a b x y r c s t =
     let w = list_all_item (is_apart (outlines d)) (outlines d) j a x apart in
     let v = list_all_item (λ (b : Outline). same_corner a b || not (share_place a b)) (outlines d) k b y w in
-    outlines_once d j k a b x y (same_corner_of a b r c v s t)
+    outlines_once whole d j k a b x y (same_corner_of a b r c v s t)
 
 -- the outline of a box that is listed
 pub record IsOfOutline (d : Rows) (k : ℕ) (x : DrawnBox) : Type 0 where
@@ -182,31 +123,31 @@ drawn_box_item d k x e =
 outline_place : (d : Rows) (k : ℕ) (x : DrawnBox) (w : IsOfOutline d k x) (r c : ℕ) → IsBoxPlace x r c → IsOutlinePlace w.outline r c
 outline_place d k x w r c s = (omega (arith, w.top, s.0), omega (arith, w.bottom, s.1), omega (arith, w.left, s.2), omega (arith, w.right, s.3))
 
-pub mark_at-box : (line : ℕ) (d : Rows) (k : ℕ) (x : DrawnBox) → slice_get (drawn_boxes (layout_of d)) k ≡ Some x
+pub mark_at-box : AreBoxesWhole → (line : ℕ) (d : Rows) (k : ℕ) (x : DrawnBox) → slice_get (drawn_boxes (layout_of d)) k ≡ Some x
     → (r c : ℕ) → IsBoxPlace x r c → mark_at (picture_of line (layout_of d)) r c ≡ BoxPart
 unfolding layout_of
-mark_at-box line d k x e r c s =
+mark_at-box whole line d k x e r c s =
     let w = drawn_box_item d k x e in
-    let i = box_there d k w.outline w.listed in
+    let i = box_there whole d k w.outline w.listed in
     let t = outline_place d k x w r c s in
     mark_at-inside line (layout_of d) r c (omega (arith, i.row_above, t.0)) (omega (arith, i.row_within, t.1)) (omega (arith, i.column_above, t.2)) (omega (arith, i.column_within, t.3))
     ∙ mark-box (layout_of d) r c (in_box_of (layout_of d) k w.outline r c w.listed t)
 
-pub boxes_sharing : (d : Rows) → IsTrue (boxes_apart (layout_of d)) → (j k : ℕ) (x y : DrawnBox)
+pub boxes_sharing : AreBoxesWhole → (d : Rows) → IsTrue (boxes_apart (layout_of d)) → (j k : ℕ) (x y : DrawnBox)
     → slice_get (drawn_boxes (layout_of d)) j ≡ Some x → slice_get (drawn_boxes (layout_of d)) k ≡ Some y
     → (r c : ℕ) → IsBoxPlace x r c → IsBoxPlace y r c → j ≡ k
-boxes_sharing d apart j k x y a b r c s t =
+boxes_sharing whole d apart j k x y a b r c s t =
     let v = drawn_box_item d j x a in
     let w = drawn_box_item d k y b in
-    outlines_sharing d apart j k v.outline w.outline v.listed w.listed r c (outline_place d j x v r c s) (outline_place d k y w r c t)
+    outlines_sharing whole d apart j k v.outline w.outline v.listed w.listed r c (outline_place d j x v r c s) (outline_place d k y w r c t)
 
-pub box_whole : (d : Rows) (k : ℕ) (x : DrawnBox) → slice_get (drawn_boxes (layout_of d)) k ≡ Some x → IsWhole x
-box_whole d k x e =
+pub box_whole : AreBoxesWhole → (d : Rows) (k : ℕ) (x : DrawnBox) → slice_get (drawn_boxes (layout_of d)) k ≡ Some x → IsWhole x
+box_whole whole d k x e =
     let w = drawn_box_item d k x e in
-    let i = box_there d k w.outline w.listed in
+    let i = box_there whole d k w.outline w.listed in
     record {
       wide = omega (arith, w.left, w.right, i.wide);
       high = omega (arith, w.top, w.bottom, i.high);
-      pins = rw w.pins (All-weaker (IsFromTo (w.outline.top + 1) w.outline.bottom) (λ p. (x.top < p.row) × (p.row < x.bottom))
+      pins = rw w.pins (All-weaker (λ p. (w.outline.top < p.row) × (p.row < w.outline.bottom)) (λ p. (x.top < p.row) × (p.row < x.bottom))
           (λ p v. (omega (arith, w.top, v.0), omega (arith, w.bottom, v.1))) w.outline.pins i.pins);
     }

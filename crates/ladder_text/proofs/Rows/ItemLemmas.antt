@@ -4,8 +4,8 @@ use Rattle.std.specs.List.{slice_get}
 use Rattle.std.proofs.lemmas.Bool.{cases_lt}
 use Rattle.std.proofs.lemmas.Option.{none-some}
 use Rattle.lists.proofs.Places.{slice_get-append}
-use Rattle.ladder_text.specs.Rows.{upto}
-use Rattle.ladder_text.specs.Boxes.{option_list}
+use Rattle.ladder_rows.specs.Rows.{upto}
+use Rattle.ladder_rows.specs.Boxes.{option_list}
 
 pub option_item : {A : Type 0} (o : Option A) (k : ℕ) (x : A) → slice_get (option_list o) k ≡ Some x → (k ≡ 0) × (o ≡ Some x)
 option_item None k x e = absurd (none-some x e)

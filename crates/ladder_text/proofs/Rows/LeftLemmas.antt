@@ -6,8 +6,8 @@ use Rattle.std.proofs.lemmas.Bool.{both_ways, true_from_ne_false, eqb-true, case
 use Rattle.std.proofs.lemmas.List.{get_or_past}
 use Rattle.std.proofs.lemmas.List.Folds.{list_all_at}
 use Rattle.words.specs.Lines.{lines_of, without_last}
-use Rattle.ladder_text.specs.Rows.{Rows, rows_of, row_of, trimmed, put_before, width}
-use Rattle.ladder_text.specs.Boxes.{is_blank_column, left_column}
+use Rattle.ladder_rows.specs.Rows.{Rows, rows_of, row_of, trimmed, put_before, width}
+use Rattle.ladder_rows.specs.Boxes.{is_blank_column, left_column}
 use Rattle.ladder_text.proofs.Rows.RunLemmas.{run_passes}
 use Rattle.ladder_text.proofs.Rows.WidthLemmas.{row-narrow}
 

@@ -6,7 +6,7 @@ use Rattle.std.proofs.lemmas.Bool.{cases_lt, cases_eq, and_parts, and_from, and_
 use Rattle.std.proofs.lemmas.List.{append-nil}
 use Rattle.std.proofs.lemmas.List.Folds.{list_any_at, list_all_at}
 use Rattle.std.proofs.lemmas.List.Sums.{sum_by-cons}
-use Rattle.ladder_text.specs.declared.names.span.Span.{Span}
+use Rattle.ladder_rows.specs.declared.span.Span.{Span}
 use Rattle.words.specs.Chars.{is_name}
 use Rattle.ladder_text.specs.Places.{Layout}
 use Rattle.ladder_text.specs.Names.{overlap, words, symbols, tops, things, word_text}

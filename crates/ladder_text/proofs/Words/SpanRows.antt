@@ -8,9 +8,9 @@ use Rattle.std.proofs.lemmas.List.{get_or_past}
 use Rattle.std.proofs.lemmas.List.Elements.{filter_map-append}
 use Rattle.std.proofs.lemmas.Option.{same_Some, none-some}
 use Rattle.lists.proofs.Places.{none_from_is_some}
-use Rattle.ladder_text.specs.declared.names.span.Span.{Span}
-use Rattle.ladder_text.specs.Rows.{Rows, char_at, width, upto}
-use Rattle.ladder_text.specs.Boxes.{option_list}
+use Rattle.ladder_rows.specs.declared.span.Span.{Span}
+use Rattle.ladder_rows.specs.Rows.{Rows, char_at, width, upto}
+use Rattle.ladder_rows.specs.Boxes.{option_list}
 use Rattle.ladder_text.specs.Places.{Layout, contact_at, coil_at}
 use Rattle.ladder_text.specs.Names.{in_word, word_at, words, symbol_at, symbols, contact_with, coil_with, row_contacts, row_coils}
 use Rattle.ladder_text.specs.Faults.{is_first_of_symbol}

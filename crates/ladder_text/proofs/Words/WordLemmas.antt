@@ -3,10 +3,10 @@ use Rattle.std.proofs.Common.{ℕ, zero, suc, ◌+◌, ◌-◌, ◌<◌, ◌≤�
 use Rattle.std.proofs.lemmas.List.{append-nil}
 use Rattle.std.proofs.lemmas.Bool.{and_parts, and_right, both_ways, or_cases}
 use Rattle.std.specs.Option.{is_some}
-use Rattle.ladder_text.specs.declared.names.span.Span.{Span}
-use Rattle.ladder_text.specs.Rows.{run, upto, width, char_at}
+use Rattle.ladder_rows.specs.declared.span.Span.{Span}
+use Rattle.ladder_rows.specs.Rows.{run, upto, width, char_at}
 use Rattle.words.specs.Chars.{is_word_char}
-use Rattle.ladder_text.specs.Boxes.{option_list}
+use Rattle.ladder_rows.specs.Boxes.{option_list}
 use Rattle.drawings.specs.declared.mark.Mark.{Mark}
 use Rattle.drawings.specs.declared.mark.Mark.TheVariants.{ContactPart, CoilPart}
 use Rattle.ladder_text.specs.Places.{Layout, contact_at, coil_at}

@@ -5,8 +5,8 @@ use Rattle.std.proofs.lemmas.Bool.{cases_lt, both_ways}
 use Rattle.std.proofs.lemmas.List.{get_or-take, get_or_default}
 use Rattle.std.proofs.lemmas.List.Folds.{list_any_at}
 use Rattle.std.proofs.lemmas.Option.{slice_get_read}
-use Rattle.ladder_text.specs.declared.names.span.Span.{Span}
-use Rattle.ladder_text.specs.Rows.{width}
+use Rattle.ladder_rows.specs.declared.span.Span.{Span}
+use Rattle.ladder_rows.specs.Rows.{width}
 use Rattle.ladder_text.specs.Places.{Layout}
 use Rattle.ladder_text.specs.Names.{in_word, word_at, words}
 use Rattle.ladder_text.specs.FirstFault.{IsSpanAt}

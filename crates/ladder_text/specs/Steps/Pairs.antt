@@ -2,7 +2,7 @@
 use Rattle.std.specs.Prelude.{ℕ, ◌<◌, ◌≤◌, ◌+◌, ◌≡◌, List, [], length, slice_index_or, Bool, true}
 use Rattle.std.specs.List.{list_all}
 use Rattle.words.specs.Chars.{is_name}
-use Rattle.ladder_text.specs.declared.names.span.Span.{Span}
+use Rattle.ladder_rows.specs.declared.span.Span.{Span}
 use Rattle.ladder_text.specs.Places.{Layout}
 use Rattle.ladder_text.specs.Names.{overlap, words, symbols, tops, word_text}
 

@@ -2,9 +2,9 @@
 use Rattle.std.specs.Prelude.{ℕ, ◌<◌, ◌≤◌, ◌≡◌, ◌⊎◌, List, [], slice_index_or, Option, IfSome, Bool}
 use Rattle.drawings.specs.declared.mark.Mark.{Mark}
 use Rattle.drawings.specs.declared.mark.Mark.TheVariants.{Blank}
-use Rattle.ladder_text.specs.declared.boxes.outline.Outline.{Outline}
-use Rattle.ladder_text.specs.Rows.{Rows, width}
-use Rattle.ladder_text.specs.Boxes.{outlines}
+use Rattle.ladder_rows.specs.declared.boxes.outline.Outline.{Outline}
+use Rattle.ladder_rows.specs.Rows.{Rows, width}
+use Rattle.ladder_rows.specs.Boxes.{outlines}
 use Rattle.ladder_text.specs.Places.{Layout, mark, has_right_rail, layout_of}
 use Rattle.ladder_text.specs.Picture.{marks_of}
 

@@ -1,7 +1,7 @@
 -- The spans that are kept row by row.
 use Rattle.std.specs.Prelude.{ℕ, ◌<◌, ◌≡◌, List, [], length, slice_index_or}
-use Rattle.ladder_text.specs.declared.names.span.Span.{Span}
-use Rattle.ladder_text.specs.Rows.{Rows}
+use Rattle.ladder_rows.specs.declared.span.Span.{Span}
+use Rattle.ladder_rows.specs.Rows.{Rows}
 use Rattle.ladder_text.specs.Places.{layout_of}
 use Rattle.ladder_text.specs.Names.{words, symbols}
 

@@ -1,33 +1,18 @@
 -- What the search for faults knows halfway.
-use Rattle.std.specs.Prelude.{◌≡◌, ◌≢◌, ℕ, ◌+◌, ◌<◌, ◌≤◌, IsFalse, Bool, nat_lt, if◌then◌else◌, List, length, take, position, Option, Some, None}
+use Rattle.std.specs.Prelude.{◌≡◌, ◌≢◌, ℕ, ◌+◌, ◌<◌, ◌≤◌, IsFalse, if◌then◌else◌, true, false, List, slice_get, Option, Some, None}
 use Rattle.ladder_text.specs.declared.draw_fault.DrawFaultKind.{DrawFaultKind}
 use Rattle.ladder_text.specs.declared.draw_fault.DrawFaultKind.TheVariants.{Memory}
 use Rattle.drawings.specs.declared.place.Place.{Place}
-use Rattle.ladder_text.specs.declared.names.span.Span.{Span}
+use Rattle.ladder_rows.specs.declared.span.Span.{Span}
+use Rattle.ladder_rows.specs.declared.boxes.outline.Outline.{Outline}
 use Rattle.ladder_text.specs.declared.places.place_fault.PlaceFault.{PlaceFault}
-use Rattle.ladder_text.specs.Rows.{Rows, width}
-use Rattle.ladder_text.specs.Boxes.{left_column}
+use Rattle.ladder_rows.specs.Rows.{Rows}
 use Rattle.ladder_text.specs.Places.{Layout, layout_of, is_before}
 use Rattle.ladder_text.specs.Names.{words, tops, things}
-use Rattle.ladder_text.specs.Faults.{NowhereInRows, PassesInRows, not_ascii, name_missing, stray_name, has_fault}
-use Rattle.ladder_text.specs.FirstFault.{IsDrawFaultAt, IsFirstDrawFault, IsFirstAt, IsSpanAt, rank}
-
--- rows of printable characters within the limits, with the left rail's column and the last column
-abbrev pub AreMeasured : Rows → ℕ → ℕ → Type 0
-AreMeasured d left last =
-    (left ≡ left_column d) × (last ≡ width d) × (last ≤ 240) × (length d ≤ 2001) × NowhereInRows d (not_ascii d)
-
--- no place of a row, nor its margin, passes the test
-abbrev pub NowhereInRow : Rows → (ℕ → Bool) → Type 0
-NowhereInRow d test = (c : ℕ) → c ≤ width d → IsFalse (test c)
-
--- the place p passes the test
-abbrev pub PassesAt : Rows → (ℕ → ℕ → Bool) → Place → Type 0
-PassesAt d test p = PassesInRows d test p.row p.column
-
--- p is the first place that passes the test
-abbrev pub IsFirstToPass : Rows → (ℕ → ℕ → Bool) → Place → Type 0
-IsFirstToPass d test p = IsFirstAt (PassesInRows d test) p.row p.column
+use Rattle.ladder_rows.specs.Faults.{IsFirstAt}
+use Rattle.ladder_rows.specs.Steps.Search.{NowhereInRow}
+use Rattle.ladder_text.specs.Faults.{name_missing, stray_name, has_fault}
+use Rattle.ladder_text.specs.FirstFault.{shares_before, IsDrawFaultAt, IsFirstDrawFault, IsSpanAt, rank}
 
 -- no place is such
 abbrev pub IsNone : (ℕ → ℕ → Type 0) → Type 0
@@ -78,20 +63,17 @@ abbrev pub or_earlier : Place → Option Place → Place
 or_earlier p None = p
 or_earlier p (Some q) = if is_before q p then q else p
 
--- column 241 of the row r, or else row 2001
-abbrev pub place_beyond : Option ℕ → Place
-place_beyond None = record { row = 2001; column = 1 }
-place_beyond (Some r) = record { row = r; column = 241 }
-
--- the first row of 2000 with more than 240 characters behind its margin
-abbrev pub first_long : Rows → Option ℕ
-first_long d = position (λ row. nat_lt 241 (length row)) (take 2001 d)
-
--- the first place of more than 2000 rows of 240 columns
-abbrev pub first_beyond : Rows → Place
-first_beyond d = place_beyond (first_long d)
-
 -- what words of row r may name: the boxes and all things of the row below it
 pub record AreNamed (p : Layout) (r : ℕ) (ts all : List Span) : Type 0 where
   pub are_tops : ts ≡ tops p (r + 1)
   pub are_things : all ≡ things p (r + 1)
+
+-- the corner of the first box that shares a place with one before it
+pub record IsFirstShared (bs : List Outline) (p : Place) : Type 0 where
+  pub number : ℕ
+  pub outline : Outline
+  pub listed : slice_get bs number ≡ Some outline
+  pub row : p.row ≡ outline.top
+  pub column : p.column ≡ outline.left
+  pub shares : shares_before bs number outline ≡ true
+  pub first : (j : ℕ) (b : Outline) → j < number → slice_get bs j ≡ Some b → shares_before bs j b ≡ false

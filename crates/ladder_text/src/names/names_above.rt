@@ -10,8 +10,9 @@ ghost use Rattle.ladder_text.specs.Steps.Pairs.{StandAbove, are_names};
 ghost use Rattle.std.specs.Str.{IsAscii};
 
 use crate::names::pairs::are_paired;
-use crate::names::span::{Span, overlap};
+use crate::names::span::overlap;
 use crate::names::worded_grid::WordedGrid;
+use ladder_rows::Span;
 use std::alloc::{AllocError, Global};
 use words::{Text, is_name, is_plain_name};
 

@@ -4,7 +4,8 @@ ghost use Rattle.std.specs.Prelude.{◌≡◌, ◌&&◌, nat_le, IsTrue};
 ghost use Rattle.ladder_text.specs.Names.{overlap};
 ghost use Rattle.ladder_text.specs.Steps.Pairs.{ArePaired};
 
-use crate::names::span::{Span, overlap};
+use crate::names::span::overlap;
+use ladder_rows::Span;
 
 /// Whether a word and a symbol overlap, and neither begins before a column.
 fn is_pair(from: usize, word: &Span, symbol: &Span) -> bool

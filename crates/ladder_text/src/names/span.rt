@@ -1,12 +1,7 @@
 ghost use Rattle.std.specs.Prelude.{◌≡◌, ◌<◌, ◌^◌};
 ghost use Rattle.ladder_text.specs.Names.{overlap, symbol_span};
 
-/// A part of a row, from its first column up to, and without, its end.
-#[derive(Clone, Copy)]
-pub struct Span {
-    pub first: usize,
-    pub end: usize,
-}
+use ladder_rows::Span;
 
 /// The three columns of a symbol, from its first on.
 pub fn symbol_span(first: usize) -> Span

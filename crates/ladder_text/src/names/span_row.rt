@@ -1,6 +1,6 @@
 ghost use Rattle.std.specs.Prelude.{◌≡◌};
 
-use crate::names::span::Span;
+use ladder_rows::Span;
 use std::marker::Model;
 
 /// Spans of a row, seen by contracts as a list.
@@ -11,7 +11,7 @@ pub struct SpanRow {
 
 impl Model for SpanRow {
     ghost use Rattle.std.specs.Prelude.{List};
-    ghost use Rattle.ladder_text.specs.declared.names.span.Span.{Span};
+    ghost use Rattle.ladder_rows.specs.declared.span.Span.{Span};
 
     ghost Value = { List Span };
 

@@ -1,16 +1,17 @@
 //! The words and the symbols of a row.
 
 ghost use Rattle.std.specs.Prelude.{[], ◌≡◌, ◌+◌, ◌-◌, ◌<◌, ◌≤◌, ◌^◌, IfOk, IsTrue, slice_index_or};
-ghost use Rattle.ladder_text.specs.Rows.{char_at, width, run};
-ghost use Rattle.ladder_text.specs.Boxes.{outlines};
+ghost use Rattle.ladder_rows.specs.Rows.{char_at, width, run};
+ghost use Rattle.ladder_rows.specs.Boxes.{outlines};
 ghost use Rattle.ladder_text.specs.Places.{layout_of, mark as place_mark};
-ghost use Rattle.ladder_text.specs.Steps.RowBoxes.{IsBare};
+ghost use Rattle.ladder_rows.specs.Steps.RowBoxes.{IsBare};
 ghost use Rattle.ladder_text.specs.Steps.RowMarks.{AreMarksOf};
 ghost use Rattle.ladder_text.specs.Names.{in_word, words, symbol_at, symbols};
 
-use crate::names::span::{Span, symbol_span};
+use crate::names::span::symbol_span;
 use crate::places::marked_grid::MarkedGrid;
 use drawings::{Mark, MarkRow};
+use ladder_rows::{Span, runs_end};
 use std::alloc::{AllocError, Global};
 use words::is_word_char;
 
@@ -37,6 +38,7 @@ fn word_rest(marked: &MarkedGrid, bare: bool, cells: &[u8], row: usize, column: 
     ensures rest { result ≡ run (in_word (layout_of marked.now) row) (column + 1) (width marked.now) }
     ensures within { column ≤ width marked.now → column + result ≤ width marked.now }
 {
+    runs_end();
     let grid = marked.grid();
     let limit = grid.last();
     let mut n = 0;

@@ -5,10 +5,10 @@ ghost use Rattle.ladder_text.specs.Places.{layout_of};
 ghost use Rattle.ladder_text.specs.Names.{words, symbols};
 ghost use Rattle.ladder_text.specs.Steps.RowSpans.{AreOfRows};
 
-use crate::names::span::Span;
 use crate::names::span_row::SpanRow;
 use crate::names::spans::{symbols, words};
 use crate::places::marked_grid::MarkedGrid;
+use ladder_rows::Span;
 use std::alloc::{AllocError, Global};
 use std::marker::Model;
 
@@ -21,7 +21,7 @@ pub struct WordedGrid {
 }
 
 impl Model for WordedGrid {
-    ghost use Rattle.ladder_text.specs.Rows.{Rows};
+    ghost use Rattle.ladder_rows.specs.Rows.{Rows};
     ghost use Rattle.ladder_text.specs.Steps.RowSpans.{AreWordsAndSymbols};
 
     ghost Value = { Rows };

@@ -1,5 +1,6 @@
 //! The boxes, the rails and the marks of a text.
 
+mod box_faults;
 mod box_places;
 mod finding;
 mod place_faults;
@@ -7,17 +8,15 @@ mod rails;
 mod symbol_places;
 
 ghost use Rattle.std.specs.Prelude.{◌≡◌, ◌<◌, ◌≤◌, ◌^◌, IfSome, IfOk};
-ghost use Rattle.ladder_text.specs.Rows.{width};
-ghost use Rattle.ladder_text.specs.Boxes.{outlines};
+ghost use Rattle.ladder_rows.specs.Rows.{width};
+ghost use Rattle.ladder_rows.specs.Boxes.{outlines};
 ghost use Rattle.ladder_text.specs.Places.{layout_of, is_taken, mark as place_mark};
 ghost use Rattle.ladder_text.specs.Steps.RowMarks.{AreMarksOf};
 ghost use Rattle.ladder_text.specs.Picture.{marks_of};
 
-use crate::boxes::box_rows::Boxes;
-use crate::boxes::outline::Outline;
-use crate::characters::grid::Grid;
 use crate::places::mark_tests::is_taken;
 use drawings::{Mark, MarkRow};
+use ladder_rows::{Boxes, Grid, Outline};
 use std::alloc::{AllocError, Global};
 use std::marker::Model;
 
@@ -32,7 +31,7 @@ pub struct MarkedGrid {
 }
 
 impl Model for MarkedGrid {
-    ghost use Rattle.ladder_text.specs.Rows.{Rows};
+    ghost use Rattle.ladder_rows.specs.Rows.{Rows};
     ghost use Rattle.ladder_text.specs.Steps.RowMarks.{AreFoundIn};
 
     ghost Value = { Rows };

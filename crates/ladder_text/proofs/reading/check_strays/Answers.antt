@@ -1,6 +1,7 @@
 use Rattle.std.proofs.Common.{subst}
-use Rattle.ladder_text.specs.Boxes.{outlines}
-use Rattle.ladder_text.specs.FirstFault.{IsFirstAt, IsStrayWordAt, IsStrayOperandAt}
+use Rattle.ladder_rows.specs.Boxes.{outlines}
+use Rattle.ladder_rows.specs.Faults.{IsFirstAt}
+use Rattle.ladder_text.specs.FirstFault.{IsStrayWordAt, IsStrayOperandAt}
 use Rattle.ladder_text.specs.Steps.Search.{IsFirstOf}
 use Rattle.ladder_text.proofs.Faults.FirstFaults.{operand_first}
 use Rattle.ladder_text.proofs.reading.check_strays.Goals as goal

@@ -1,5 +1,5 @@
 use Rattle.std.proofs.Common.{◌<◌, length, ap, subst, ◌∙◌, arith}
-use Rattle.ladder_text.specs.Rows.{Rows}
+use Rattle.ladder_rows.specs.Rows.{Rows}
 use Rattle.ladder_text.specs.Places.{layout_of}
 use Rattle.ladder_text.specs.Names.{words}
 use Rattle.ladder_text.specs.Faults.{stray_name}

@@ -1,7 +1,7 @@
 use Rattle.std.proofs.Common.{ℕ, ◌<◌, length, subst, IsFalse}
 use Rattle.ladder_text.specs.declared.draw_fault.DrawFaultKind.TheVariants.{TooLarge}
-use Rattle.ladder_text.specs.Rows.{Rows}
-use Rattle.ladder_text.specs.Faults.{not_ascii}
+use Rattle.ladder_rows.specs.Rows.{Rows}
+use Rattle.ladder_rows.specs.Faults.{not_ascii}
 use Rattle.ladder_text.specs.FirstFault.{IsFirstDrawFault}
 use Rattle.ladder_text.proofs.Faults.FirstFaults.{large_first}
 use Rattle.ladder_text.proofs.reading.read_grid.Goals as goal

@@ -1,6 +1,6 @@
 use Rattle.std.proofs.Common.{◌≡◌, ◌≢◌, ◌∙◌, subst, rules}
 use Rattle.ladder_text.specs.declared.draw_fault.DrawFaultKind.TheVariants.{Memory}
-use Rattle.ladder_text.specs.Rows.{Rows, rows_of}
+use Rattle.ladder_rows.specs.Rows.{Rows, rows_of}
 use Rattle.ladder_text.specs.FirstFault.{IsFirstDrawFault}
 use Rattle.ladder_text.specs.Steps.Search.{IsFirstFrom}
 use Rattle.ladder_text.proofs.Faults.FirstFaults.{behind_grid, behind_names, of_boxed, of_words}
@@ -32,7 +32,7 @@ returns-in_err-check_places-clause-first c =
     let k = c.in_err-check_places.field-0.0.kind in
     let p = c.in_err-check_places.field-0.0.place in
     let places : IsFirstFrom c.in_ok-boxed.boxed 5 k p.row p.column = subst (λ (d : Rows). IsFirstFrom d 5 k p.row p.column) c.in_ok-marked.ensures c.in_err-check_places.ensures.first in
-    let boxed : IsFirstFrom c.in_ok-grid.grid 4 k p.row p.column = of_boxed c.in_ok-grid.grid c.in_ok-boxed.boxed k p.row p.column s.same s.whole s.apart places in
+    let boxed : IsFirstFrom c.in_ok-grid.grid 4 k p.row p.column = of_boxed c.boxes_are_whole.ensures c.in_ok-grid.grid c.in_ok-boxed.boxed k p.row p.column s.same s.whole s.apart places in
     let first : k ≢ Memory → IsFirstDrawFault (rows_of c.args.text.now) k p.row p.column
     = λ n. subst (λ (d : Rows). IsFirstDrawFault d k p.row p.column) g.same (behind_grid c.in_ok-grid.grid k p.row p.column g.ascii g.low g.narrow g.drawn g.left_rail boxed) in
     search (rules, first)
@@ -48,7 +48,7 @@ returns-in_err-check_names-clause-first c =
     let words : IsFirstFrom c.in_ok-marked.marked 5 k p.row p.column
     = of_words c.in_ok-marked.marked c.in_ok-worded.worded k p.row p.column c.in_ok-worded.ensures c.in_ok-check_places.ensures.none (c.in_err-check_names.ensures.first n) in
     let places : IsFirstFrom c.in_ok-boxed.boxed 5 k p.row p.column = subst (λ (d : Rows). IsFirstFrom d 5 k p.row p.column) c.in_ok-marked.ensures words in
-    let boxed : IsFirstFrom c.in_ok-grid.grid 4 k p.row p.column = of_boxed c.in_ok-grid.grid c.in_ok-boxed.boxed k p.row p.column s.same s.whole s.apart places in
+    let boxed : IsFirstFrom c.in_ok-grid.grid 4 k p.row p.column = of_boxed c.boxes_are_whole.ensures c.in_ok-grid.grid c.in_ok-boxed.boxed k p.row p.column s.same s.whole s.apart places in
     subst (λ (d : Rows). IsFirstDrawFault d k p.row p.column) g.same (behind_grid c.in_ok-grid.grid k p.row p.column g.ascii g.low g.narrow g.drawn g.left_rail boxed) in
     search (rules, first)
 
@@ -63,6 +63,6 @@ returns-in_err-check_strays-clause-first c =
     let names : IsFirstFrom c.in_ok-worded.worded 8 k p.row p.column = behind_names c.in_ok-worded.worded k p.row p.column c.in_ok-check_names.ensures.named (c.in_err-check_strays.ensures.first n) in
     let words : IsFirstFrom c.in_ok-marked.marked 5 k p.row p.column = of_words c.in_ok-marked.marked c.in_ok-worded.worded k p.row p.column c.in_ok-worded.ensures c.in_ok-check_places.ensures.none names in
     let places : IsFirstFrom c.in_ok-boxed.boxed 5 k p.row p.column = subst (λ (d : Rows). IsFirstFrom d 5 k p.row p.column) c.in_ok-marked.ensures words in
-    let boxed : IsFirstFrom c.in_ok-grid.grid 4 k p.row p.column = of_boxed c.in_ok-grid.grid c.in_ok-boxed.boxed k p.row p.column s.same s.whole s.apart places in
+    let boxed : IsFirstFrom c.in_ok-grid.grid 4 k p.row p.column = of_boxed c.boxes_are_whole.ensures c.in_ok-grid.grid c.in_ok-boxed.boxed k p.row p.column s.same s.whole s.apart places in
     subst (λ (d : Rows). IsFirstDrawFault d k p.row p.column) g.same (behind_grid c.in_ok-grid.grid k p.row p.column g.ascii g.low g.narrow g.drawn g.left_rail boxed) in
     search (rules, first)

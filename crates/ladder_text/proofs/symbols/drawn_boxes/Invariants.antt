@@ -1,5 +1,5 @@
 use Rattle.std.proofs.Common.{◌≡◌, map, take}
-use Rattle.ladder_text.specs.Boxes.{outlines}
+use Rattle.ladder_rows.specs.Boxes.{outlines}
 use Rattle.ladder_text.specs.Places.{layout_of}
 use Rattle.ladder_text.specs.Names.{drawn_box}
 use Rattle.ladder_text.proofs.symbols.drawn_boxes.Given as goal

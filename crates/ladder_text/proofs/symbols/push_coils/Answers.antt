@@ -1,7 +1,7 @@
 use Rattle.std.proofs.Common.{◌∙◌, ◌++◌, List, ap, rules}
 use Rattle.std.specs.List.{filter_map}
 use Rattle.std.proofs.lemmas.List.{take_all}
-use Rattle.ladder_text.specs.declared.names.span.Span.{Span}
+use Rattle.ladder_rows.specs.declared.span.Span.{Span}
 use Rattle.drawings.specs.declared.coil.Coil.{Coil}
 use Rattle.ladder_text.specs.Places.{layout_of, coil_at}
 use Rattle.ladder_text.specs.Names.{coil_with}

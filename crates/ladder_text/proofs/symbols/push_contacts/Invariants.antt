@@ -1,6 +1,6 @@
 use Rattle.std.proofs.Common.{◌≡◌, ◌++◌, take}
 use Rattle.std.specs.List.{filter_map}
-use Rattle.ladder_text.specs.declared.names.span.Span.{Span}
+use Rattle.ladder_rows.specs.declared.span.Span.{Span}
 use Rattle.ladder_text.specs.Places.{layout_of, contact_at}
 use Rattle.ladder_text.specs.Names.{contact_with}
 use Rattle.ladder_text.proofs.symbols.push_contacts.Given as goal

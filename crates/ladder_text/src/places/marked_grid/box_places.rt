@@ -1,41 +1,18 @@
 //! Where boxes are, and what reaches out of them.
 
-ghost use Rattle.std.specs.Prelude.{◌≡◌, ◌<◌, ◌^◌, IfOk, IfSome, is_some, is_none, IsTrue};
+ghost use Rattle.std.specs.Prelude.{◌≡◌, ◌<◌, ◌^◌, IfOk, IsTrue};
 ghost use Rattle.std.specs.List.{list_any};
-ghost use Rattle.ladder_text.specs.Boxes.{outlines};
+ghost use Rattle.ladder_rows.specs.Boxes.{outlines};
 ghost use Rattle.ladder_text.specs.Places.{layout_of, in_box, in_operand, is_right_pin};
 ghost use Rattle.ladder_text.specs.Names.{tops};
-ghost use Rattle.ladder_text.specs.Faults.{blind_left, blind_right, boxes_apart, has_stray_operand};
-ghost use Rattle.ladder_text.specs.FirstFault.{IsSharedAt, IsStrayOperandAt};
-ghost use Rattle.ladder_text.specs.Steps.RowBoxes.{box_test, IsFirstShared, IsBare};
-ghost use Rattle.ladder_text.specs.Steps.Search.{IsFirstOf};
+ghost use Rattle.ladder_text.specs.Faults.{blind_left, blind_right};
+ghost use Rattle.ladder_rows.specs.Steps.RowBoxes.{box_test, IsBare};
 
-use crate::boxes::box_test::BoxTest;
-use crate::names::span::Span;
 use crate::places::marked_grid::MarkedGrid;
-use drawings::Place;
+use ladder_rows::{BoxTest, Span};
 use std::alloc::{AllocError, Global};
 
 impl MarkedGrid {
-    /// The corner of the first box that shares a place with one before it.
-    #[tactic(auto, unfolding(crate::specs::Places::layout_of))]
-    pub fn first_shared_box(&self) -> Option<Place>
-        ensures none { is_none result ≡ boxes_apart (layout_of self.now) }
-        ensures some { IfSome result (λ p. IsFirstShared (outlines self.now) p) }
-        ensures first { IsFirstOf (IsSharedAt (outlines self.now)) result }
-    {
-        self.boxes.first_shared()
-    }
-
-    /// The first place of a stray operand.
-    #[tactic(auto, unfolding(crate::specs::Places::layout_of, crate::specs::Faults::has_stray_operand))]
-    pub fn first_stray_operand(&self) -> Option<Place>
-        ensures stray { is_some result ≡ has_stray_operand (layout_of self.now) }
-        ensures first { IsFirstOf (IsStrayOperandAt (outlines self.now)) result }
-    {
-        self.boxes.first_stray_operand()
-    }
-
     /// Whether a box passes a test at a place.
     fn any_box(&self, test: BoxTest, row: usize, column: usize) -> bool
         requires { column < 2 ^ 63 }

@@ -1,10 +1,10 @@
 //! The marks, found by the characters, the boxes and the rails.
 
 ghost use Rattle.std.specs.Prelude.{◌≡◌, ◌<◌, ◌^◌, IfOk, IsTrue};
-ghost use Rattle.ladder_text.specs.Rows.{char_at};
-ghost use Rattle.ladder_text.specs.Boxes.{outlines};
+ghost use Rattle.ladder_rows.specs.Rows.{char_at};
+ghost use Rattle.ladder_rows.specs.Boxes.{outlines};
 ghost use Rattle.ladder_text.specs.Places.{layout_of, in_contact, in_coil, mark};
-ghost use Rattle.ladder_text.specs.Steps.RowBoxes.{IsBare};
+ghost use Rattle.ladder_rows.specs.Steps.RowBoxes.{IsBare};
 ghost use Rattle.ladder_text.specs.Picture.{row_marks, marks_of};
 
 use crate::places::marked_grid::MarkedGrid;

@@ -1,18 +1,21 @@
 //! The faults of single places.
 
 ghost use Rattle.std.specs.Prelude.{◌≡◌, ◌+◌, ◌-◌, ◌<◌, ◌≤◌, ◌^◌, ℕ, IsTrue, IsFalse, IfNone, IfSome};
-ghost use Rattle.ladder_text.specs.Rows.{char_at, width};
-ghost use Rattle.ladder_text.specs.Boxes.{outlines};
+ghost use Rattle.ladder_rows.specs.Rows.{char_at, width};
+ghost use Rattle.ladder_rows.specs.Boxes.{outlines};
 ghost use Rattle.ladder_text.specs.Places.{layout_of, gives, mark as place_mark};
-ghost use Rattle.ladder_text.specs.Steps.RowBoxes.{IsBare};
+ghost use Rattle.ladder_rows.specs.Steps.RowBoxes.{IsBare};
 ghost use Rattle.ladder_text.specs.Steps.RowMarks.{AreMarksOf};
-ghost use Rattle.ladder_text.specs.Faults.{has_fed_join, is_blind, touches, is_fed, upright_len, bad_mark, crossing, no_source, has_fault, NowhereInRows};
-ghost use Rattle.ladder_text.specs.Steps.Search.{NowhereInRow, IsFineAt, IsFineRow, PassesAt, IsFirstToPass};
+ghost use Rattle.ladder_text.specs.Faults.{has_fed_join, is_blind, touches, is_fed, upright_len, bad_mark, crossing, no_source, has_fault};
+ghost use Rattle.ladder_rows.specs.Faults.{NowhereInRows};
+ghost use Rattle.ladder_rows.specs.Steps.Search.{NowhereInRow, PassesAt, IsFirstToPass};
+ghost use Rattle.ladder_text.specs.Steps.Search.{IsFineAt, IsFineRow};
 
 use crate::places::mark_tests::{has_meaning, is_line, is_taken, is_vertical};
 use crate::places::marked_grid::MarkedGrid;
 use crate::places::place_fault::PlaceFault;
 use drawings::{Mark, MarkRow, Place};
+use ladder_rows::runs_end;
 
 impl MarkedGrid {
     #[tactic(auto, unfolding(crate::specs::Places::layout_of, crate::specs::Places::gives))]
@@ -87,6 +90,7 @@ impl MarkedGrid {
         ensures len { result ≡ upright_len (layout_of self.now) row column }
         ensures few { result ≤ 2001 }
     {
+        runs_end();
         let limit = self.grid.row_end().saturating_sub(1);
         let mut n = 0;
         while n < limit && is_vertical(self.mark(row + n, column)) {

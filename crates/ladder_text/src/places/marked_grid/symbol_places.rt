@@ -1,7 +1,7 @@
 //! Where contacts and coils are.
 
 ghost use Rattle.std.specs.Prelude.{◌≡◌, ◌+◌, ◌-◌, ◌<◌, ◌^◌, is_some};
-ghost use Rattle.ladder_text.specs.Rows.{char_at};
+ghost use Rattle.ladder_rows.specs.Rows.{char_at};
 ghost use Rattle.ladder_text.specs.SymbolKinds.{contact_kind, coil_kind};
 ghost use Rattle.ladder_text.specs.Places.{layout_of, are_three_free, contact_at, coil_at, in_box, in_contact, in_coil, is_taken, mark as place_mark};
 ghost use Rattle.ladder_text.specs.Faults.{is_first_of_symbol};

@@ -1,6 +1,6 @@
 use Rattle.std.proofs.Common.{◌<◌, sym, ◌∙◌, refl, Option, ap, ℕ, arith}
 use Rattle.std.specs.Option.{is_some}
-use Rattle.ladder_text.specs.declared.names.span.Span.{Span}
+use Rattle.ladder_rows.specs.declared.span.Span.{Span}
 use Rattle.ladder_text.specs.Places.{layout_of}
 use Rattle.ladder_text.specs.Faults.{name_missing}
 use Rattle.ladder_text.specs.Names.{things}

@@ -1,6 +1,6 @@
 use Rattle.std.proofs.Common.{◌≡◌, ap, arith, ◌∙◌}
-use Rattle.ladder_text.specs.Rows.{Rows, upto, width}
-use Rattle.ladder_text.specs.Boxes.{option_list}
+use Rattle.ladder_rows.specs.Rows.{Rows, upto, width}
+use Rattle.ladder_rows.specs.Boxes.{option_list}
 use Rattle.ladder_text.specs.Places.{layout_of}
 use Rattle.ladder_text.specs.Names.{symbols, symbol_at}
 use Rattle.ladder_text.proofs.names.spans.symbols_by_place.Goals as goal

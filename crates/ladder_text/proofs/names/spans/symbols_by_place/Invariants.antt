@@ -1,6 +1,6 @@
 use Rattle.std.proofs.Common.{◌≡◌}
-use Rattle.ladder_text.specs.Rows.{upto}
-use Rattle.ladder_text.specs.Boxes.{option_list}
+use Rattle.ladder_rows.specs.Rows.{upto}
+use Rattle.ladder_rows.specs.Boxes.{option_list}
 use Rattle.ladder_text.specs.Places.{layout_of}
 use Rattle.ladder_text.specs.Names.{symbol_at}
 use Rattle.ladder_text.proofs.names.spans.symbols_by_place.Given as goal

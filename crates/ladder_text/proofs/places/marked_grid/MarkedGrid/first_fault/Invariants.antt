@@ -1,5 +1,5 @@
 use Rattle.std.proofs.Common.{ℕ, ◌<◌, ◌≤◌, IsFalse}
-use Rattle.ladder_text.specs.Rows.{width}
+use Rattle.ladder_rows.specs.Rows.{width}
 use Rattle.ladder_text.specs.Places.{layout_of}
 use Rattle.ladder_text.specs.Faults.{has_fault}
 use Rattle.ladder_text.proofs.places.marked_grid.MarkedGrid.first_fault.Given as goal

@@ -1,5 +1,5 @@
 use Rattle.std.proofs.Common.{ap, subst, ◌∙◌}
-use Rattle.ladder_text.specs.Rows.{Rows}
+use Rattle.ladder_rows.specs.Rows.{Rows}
 use Rattle.ladder_text.specs.Places.{layout_of, has_right_rail}
 use Rattle.ladder_text.specs.Steps.RowMarks.{IsRailIfFound}
 use Rattle.ladder_text.proofs.places.marked_grid.MarkedGrid.has_right_rail.Goals as goal

@@ -1,10 +1,10 @@
 use Rattle.std.proofs.Common.{not, ap, sym, ◌∙◌}
 use Rattle.ladder_text.specs.Places.{layout_of}
-use Rattle.ladder_text.proofs.Outlines.RowBoxLemmas.{off_operands}
+use Rattle.ladder_rows.specs.declared.boxes.box_test.BoxTest.TheVariants.{Reaches}
 use Rattle.ladder_text.proofs.places.marked_grid.MarkedGrid.in_operand_of.Goals as goal
 
 pub returns-else-not-bare : goal.returns-else-not-bare
 unfolding layout_of
 returns-else-not-bare c =
     let a = c.args in
-    ap not c.if-not-bare.false ∙ sym (off_operands (layout_of a.self.now) a.row a.column (c.requires.bare c.if-not-bare.false))
+    ap not c.if-not-bare.false ∙ sym ((c.requires.bare c.if-not-bare.false).none Reaches a.column)

@@ -1,5 +1,5 @@
 use Rattle.std.proofs.Common.{ap, ◌∙◌, rules, tests, inl, inr}
-use Rattle.ladder_text.specs.Rows.{Rows}
+use Rattle.ladder_rows.specs.Rows.{Rows}
 use Rattle.ladder_text.specs.Places.{layout_of}
 use Rattle.ladder_text.specs.Picture.{marks_of}
 use Rattle.ladder_text.proofs.places.marked_grid.MarkedGrid.into_marks.Goals as goal

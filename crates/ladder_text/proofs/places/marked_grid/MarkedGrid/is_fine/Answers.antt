@@ -1,5 +1,5 @@
 use Rattle.std.proofs.Common.{◌≡◌, ◌-◌, ◌∙◌, ap, sym, true, inl, inr}
-use Rattle.ladder_text.specs.Rows.{char_at}
+use Rattle.ladder_rows.specs.Rows.{char_at}
 use Rattle.ladder_text.specs.Places.{layout_of, gives}
 use Rattle.ladder_text.specs.Faults.{has_meaning}
 use Rattle.ladder_text.proofs.Marks.FinePlaces.{fine_wire, fine_contact, fine_coil, fine_blank, fine_rail}

@@ -1,6 +1,6 @@
 use Rattle.std.proofs.Common.{not, sym, ◌∙◌, true, false, ◌≡◌, Bool, refl}
 use Rattle.ladder_text.specs.Places.{layout_of}
-use Rattle.ladder_text.specs.declared.boxes.box_test.BoxTest.TheVariants.{Covers}
+use Rattle.ladder_rows.specs.declared.boxes.box_test.BoxTest.TheVariants.{Covers}
 use Rattle.ladder_text.proofs.Marks.RowMarkLemmas.{blank_mark}
 use Rattle.ladder_text.proofs.places.marked_grid.MarkedGrid.mark_with.Goals as goal
 

@@ -1,7 +1,7 @@
 use Rattle.std.proofs.Common.{◌∙◌, ◌∷◌, ◌++◌, [], List, ap, sym, arith}
 use Rattle.drawings.specs.declared.mark.Mark.{Mark}
 use Rattle.drawings.specs.declared.mark.Mark.TheVariants.{Blank, ContactPart, CoilPart}
-use Rattle.ladder_text.specs.Rows.{Rows, width}
+use Rattle.ladder_rows.specs.Rows.{Rows, width}
 use Rattle.ladder_text.specs.Places.{layout_of}
 use Rattle.ladder_text.proofs.Marks.RowMarkLemmas.{contact_passed, coil_passed}
 use Rattle.ladder_text.proofs.places.marked_grid.MarkedGrid.row_marks.Goals as goal

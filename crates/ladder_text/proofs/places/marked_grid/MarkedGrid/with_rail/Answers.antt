@@ -1,5 +1,5 @@
 use Rattle.std.proofs.Common.{ap, sym, ◌∙◌}
-use Rattle.ladder_text.specs.Rows.{Rows}
+use Rattle.ladder_rows.specs.Rows.{Rows}
 use Rattle.ladder_text.specs.Places.{layout_of, has_right_rail}
 use Rattle.ladder_text.proofs.places.marked_grid.MarkedGrid.with_rail.Goals as goal
 

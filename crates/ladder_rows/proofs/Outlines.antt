@@ -1,0 +1,7 @@
+-- Boxes and their pins.
+pub mod PinLemmas
+pub mod PinRows
+pub mod RowPins
+pub mod CornerLemmas
+pub mod WholeBoxes
+pub mod RowBoxLemmas

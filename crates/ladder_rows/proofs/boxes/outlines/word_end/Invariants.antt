@@ -1,0 +1,10 @@
+use Rattle.std.proofs.Common.{ℕ, ◌≡◌, ◌≤◌, ◌<◌, ◌+◌, ◌-◌, true}
+use Rattle.ladder_rows.specs.Rows.{char_at}
+use Rattle.words.specs.Chars.{is_word_char}
+use Rattle.ladder_rows.proofs.boxes.outlines.word_end.Given as goal
+
+abbrev pub invariant-loop-n : goal.invariant-loop-n
+invariant-loop-n l = (l.n ≤ l.limit) × ((k : ℕ) → k < l.n → is_word_char (char_at l.grid l.row (l.column + k)) ≡ true)
+
+abbrev pub decreases-loop-n : goal.decreases-loop-n
+decreases-loop-n l = l.limit - l.n

@@ -1,8 +1,0 @@
-use Rattle.std.proofs.Common.{◌≡◌, ℕ, ◌<◌, Some, false}
-use Rattle.std.specs.List.{slice_get}
-use Rattle.ladder_text.specs.declared.boxes.outline.Outline.{Outline}
-use Rattle.ladder_text.specs.FirstFault.{shares_before}
-use Rattle.ladder_text.proofs.boxes.box_rows.Boxes.first_shared.Given as goal
-
-abbrev pub invariant-loop-number : goal.invariant-loop-number
-invariant-loop-number l = (k : ℕ) (b : Outline) → k < l.number → slice_get l.self k ≡ Some b → shares_before l.self k b ≡ false

@@ -1,7 +1,0 @@
-use Rattle.std.proofs.Common.{ℕ, ◌<◌, ◌≤◌, IsFalse}
-use Rattle.ladder_text.specs.Rows.{width}
-use Rattle.ladder_text.specs.Faults.{bad_box}
-use Rattle.ladder_text.proofs.boxes.outlines.first_bad_box.Given as goal
-
-abbrev pub invariant-loop-row : goal.invariant-loop-row
-invariant-loop-row l = (r c : ℕ) → r < l.row → c ≤ width l.grid → IsFalse (bad_box l.grid r c)

@@ -1,7 +1,0 @@
-use Rattle.std.proofs.Common.{◌≡◌}
-use Rattle.ladder_text.specs.Rows.{upto}
-use Rattle.ladder_text.specs.Boxes.{row_outlines}
-use Rattle.ladder_text.proofs.boxes.outlines.outlines.Given as goal
-
-abbrev pub invariant-loop-row : goal.invariant-loop-row
-invariant-loop-row l = l.all.items ≡ upto l.row (row_outlines l.grid)

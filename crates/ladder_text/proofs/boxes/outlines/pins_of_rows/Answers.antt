@@ -1,8 +1,0 @@
-use Rattle.std.proofs.Common.{sym, arith, rules}
-use Rattle.ladder_text.proofs.Outlines.PinLemmas.{pins-none}
-use Rattle.ladder_text.proofs.boxes.outlines.pins_of_rows.Goals as goal
-
-pub returns-in-None : goal.returns-in-None
-returns-in-None c =
-    let a = c.args in
-    sym (pins-none a.grid.now a.left a.right a.from c.loop-i.i a.count (omega arith) (search rules))

@@ -1,9 +1,0 @@
-use Rattle.std.proofs.Common.{ℕ, ◌≡◌, ◌≤◌, ◌<◌, ◌+◌, ◌-◌}
-use Rattle.ladder_text.specs.Rows.{char_at}
-use Rattle.ladder_text.proofs.characters.grid.Grid.dashes_after.Given as goal
-
-abbrev pub invariant-loop-n : goal.invariant-loop-n
-invariant-loop-n l = (l.n ≤ l.limit) × ((k : ℕ) → k < l.n → char_at l.self l.row (l.column + 1 + k) ≡ 45)
-
-abbrev pub decreases-loop-n : goal.decreases-loop-n
-decreases-loop-n l = l.limit - l.n

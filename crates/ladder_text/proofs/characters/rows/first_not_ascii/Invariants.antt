@@ -1,6 +1,0 @@
-use Rattle.std.proofs.Common.{ℕ, ◌<◌, IsFalse}
-use Rattle.ladder_text.specs.Faults.{not_ascii}
-use Rattle.ladder_text.proofs.characters.rows.first_not_ascii.Given as goal
-
-abbrev pub invariant-loop-row : goal.invariant-loop-row
-invariant-loop-row l = (r c : ℕ) → r < l.row → IsFalse (not_ascii l.rows r c)

@@ -1,6 +1,0 @@
-use Rattle.std.proofs.Common.{◌≡◌, [], ◌∷◌, map}
-use Rattle.ladder_text.specs.Rows.{row_of}
-use Rattle.ladder_text.proofs.characters.rows.rows_of.Given as goal
-
-abbrev pub invariant-loop-line : goal.invariant-loop-line
-invariant-loop-line l = l.rows.items ≡ [] ∷ map row_of (map (λ x. x.now) l.yielded)
