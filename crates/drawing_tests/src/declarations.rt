@@ -1,18 +1,17 @@
 //! Which names are declared, and where they are found.
 
-use crate::checks::{equal, holds};
+use crate::checks::{equal, holds, must};
 use power_flow::{Declarations, DeclareFault, Declared, Kind};
-use std::test::Fail;
 use std_blocks::BlockType;
 
 /// No word of a drawing is longer than 240 characters; a name may be.
 #[test]
-fn names_differ_by_more_than_case(rt: HostRuntime) -> Result<(), Fail> {
+fn names_differ_by_more_than_case(rt: HostRuntime) {
     let mut long = String::new(rt.alloc());
     for _ in 0..241 {
-        long.push('x')?;
+        must(&rt, long.push('x'));
     }
-    let mut long_again = String::from_str(rt.alloc(), long.as_str())?;
+    let mut long_again = must(&rt, String::from_str(rt.alloc(), long.as_str()));
     long_again.make_ascii_uppercase();
     let mut declarations = Declarations::new(rt.alloc());
     holds(&rt, "nothing is declared", declarations.is_empty());
@@ -49,5 +48,4 @@ fn names_differ_by_more_than_case(rt: HostRuntime) -> Result<(), Fail> {
     ] {
         equal(&rt, name, &declarations.position(name), &place);
     }
-    Ok(())
 }

@@ -1,14 +1,14 @@
 //! What a graph tells that no scan asks for.
 
-use crate::checks::equal;
+use crate::checks::{equal, must};
 use ladder_text::{Drawing, ReadText};
 use network::Graph;
-use std::test::Fail;
 
 #[test]
-fn tells_its_first_line_and_rails(rt: HostRuntime) -> Result<(), Fail> {
-    let drawing = Drawing::read(rt.alloc(), "  +--+\n  |  |\n\n  +--+\n", 7)?;
-    let graph = Graph::build(rt.alloc(), &drawing)?;
+fn tells_its_first_line_and_rails(rt: HostRuntime) {
+    let text = "  +--+\n  |  |\n\n  +--+\n";
+    let drawing = must(&rt, Drawing::read(rt.alloc(), text, 7));
+    let graph = must(&rt, Graph::build(rt.alloc(), &drawing));
     for &(row, column, is_right_of_it) in &[
         (1, 4, true),
         (2, 4, true),
@@ -33,5 +33,4 @@ fn tells_its_first_line_and_rails(rt: HostRuntime) -> Result<(), Fail> {
     let (first_line, rails, networks) = graph.into_parts();
     let parts = (first_line, rails.len(), networks.len());
     equal(&rt, "parts", &parts, &(7, 3, 2));
-    Ok(())
 }

@@ -1,12 +1,11 @@
 //! What a journal notes, and what a core answers to it.
 
-use crate::checks::{equal, holds};
+use crate::checks::{equal, holds, must};
 use crate::runs::pair;
 use evaluation::{Frame, Inputs};
 use exchange_core::{Accepted, Core};
 use node::{Journal, Step};
 use std::sync::Arc;
-use std::test::Fail;
 
 /// Whether a step notes that this frame was received.
 fn took(step: &Step, frame: &Frame) -> bool {
@@ -17,16 +16,18 @@ fn took(step: &Step, frame: &Frame) -> bool {
 }
 
 #[test]
-fn a_frame_is_taken_once_and_noted_each_time(rt: HostRuntime) -> Result<(), Fail> {
+fn a_frame_is_taken_once_and_noted_each_time(rt: HostRuntime) {
     let alloc = rt.alloc();
-    let plant = pair(alloc)?;
-    let inputs = Inputs::read(alloc, "%IX0=1")?;
-    let mut counter = Core::new(alloc, Arc::try_clone(&plant)?, 0, 1, 9)?;
-    let frame = counter.evaluate(alloc, 1, 0, 10, &inputs)?;
-    let mut core = Core::new(alloc, plant, 1, 1, 9)?;
+    let plant = pair(&rt, alloc);
+    let inputs = must(&rt, Inputs::read(alloc, "%IX0=1"));
+    let shared = must(&rt, Arc::try_clone(&plant));
+    let mut counter = must(&rt, Core::new(alloc, shared, 0, 1, 9));
+    let frame = must(&rt, counter.evaluate(alloc, 1, 0, 10, &inputs));
+    let mut core = must(&rt, Core::new(alloc, plant, 1, 1, 9));
     let mut journal = Journal::new(alloc, 1, 1);
     for &answer in &[Accepted::Taken, Accepted::Old] {
-        let found = journal.take(&mut core, frame.try_clone()?)?;
+        let share = must(&rt, frame.try_clone());
+        let found = must(&rt, journal.take(&mut core, share));
         equal(&rt, "answer", &found, &answer);
     }
     let steps = journal.steps.as_slice();
@@ -34,5 +35,4 @@ fn a_frame_is_taken_once_and_noted_each_time(rt: HostRuntime) -> Result<(), Fail
     for step in steps {
         holds(&rt, "the frame was noted", took(step, &frame));
     }
-    Ok(())
 }

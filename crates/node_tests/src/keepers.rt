@@ -2,10 +2,9 @@
 
 use crate::checks::equal;
 use node::{FreeGate, Gate, Keeper, KeeperFault, MemoryKeeper, OutOfTurns, PacedGate};
-use std::test::Fail;
 
 #[test]
-fn keepers_and_gates_answer_by_themselves(rt: HostRuntime) -> Result<(), Fail> {
+fn keepers_and_gates_answer_by_themselves(rt: HostRuntime) {
     let mut keeper = MemoryKeeper::new(0);
     for &answer in &[Ok(1), Ok(2)] {
         equal(&rt, "the next", &keeper.raise(), &answer);
@@ -25,5 +24,4 @@ fn keepers_and_gates_answer_by_themselves(rt: HostRuntime) -> Result<(), Fail> {
     equal(&rt, "the first is done", &done, &(Ok(()), Ok(())));
     let next = (gate.issue(2), gate.issue(3));
     equal(&rt, "the third, early", &next, &(Ok(()), Err(OutOfTurns)));
-    Ok(())
 }

@@ -4,7 +4,6 @@ use crate::checks::holds;
 use crate::runs::{Ask, is_made_again, keepers_of, pair, run};
 use node::{Cause, PacedGate, Report};
 use std::process::Abort;
-use std::test::Fail;
 
 /// No evaluation was a misfit, and each resource that stopped had a fault for want of memory before.
 fn tells_of_memory_alone(rt: &impl Abort, report: &Report) {
@@ -21,7 +20,7 @@ fn tells_of_memory_alone(rt: &impl Abort, report: &Report) {
 }
 
 #[test]
-fn a_run_where_memory_is_wanting_tells_of_memory_alone(rt: HostRuntime) -> Result<(), Fail> {
+fn a_run_where_memory_is_wanting_tells_of_memory_alone(rt: HostRuntime) {
     let alloc = rt.alloc();
     let asks = [
         Ask::Evaluate(0, 0, true),
@@ -32,8 +31,8 @@ fn a_run_where_memory_is_wanting_tells_of_memory_alone(rt: HostRuntime) -> Resul
         Ask::Evaluate(1, 0, false),
     ];
     let gate = PacedGate::new(10_000_000);
-    let report = run(&rt, alloc, &asks, keepers_of(alloc, 2, 0)?, &gate, u32::MAX)?;
+    let keepers = keepers_of(&rt, alloc, 2, 0);
+    let report = run(&rt, alloc, &asks, keepers, &gate, u32::MAX);
     tells_of_memory_alone(&rt, &report);
-    is_made_again(&rt, alloc, &pair(alloc)?, &report, u32::MAX)?;
-    Ok(())
+    is_made_again(&rt, alloc, &pair(&rt, alloc), &report, u32::MAX);
 }

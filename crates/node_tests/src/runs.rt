@@ -1,6 +1,6 @@
 //! Runs of threads, most of them on a counter and its watcher, and what their reports have.
 
-use crate::checks::{equal, holds};
+use crate::checks::{equal, holds, must};
 use evaluation::{Frame, Inputs};
 use exchange::{Event, Schedule, World};
 use node::{
@@ -11,7 +11,6 @@ use plant::Plant;
 use std::alloc::Global;
 use std::process::Abort;
 use std::sync::{Arc, Wait};
-use std::test::Fail;
 use std::thread::Threads;
 use std_blocks::Value;
 use worked_texts::PAIR;
@@ -36,51 +35,52 @@ pub struct Told {
     pub kinds: &'static str,
 }
 
-pub fn pair(alloc: Global) -> Result<Arc<Plant>, Fail> {
-    Ok(Arc::new(alloc, Plant::read(alloc, PAIR)?)?)
+pub fn plant_of(rt: &impl Abort, alloc: Global, text: &str) -> Arc<Plant> {
+    let plant = must(rt, Plant::read(alloc, text));
+    must(rt, Arc::new(alloc, plant))
+}
+
+pub fn pair(rt: &impl Abort, alloc: Global) -> Arc<Plant> {
+    plant_of(rt, alloc, PAIR)
 }
 
 /// So many keepers.
-pub fn keepers_of(alloc: Global, count: usize, last: u32) -> Result<Vec<MemoryKeeper>, Fail> {
+pub fn keepers_of(rt: &impl Abort, alloc: Global, count: usize, last: u32) -> Vec<MemoryKeeper> {
     let mut keepers = Vec::new(alloc);
     for _resource in 0..count {
-        keepers.push(MemoryKeeper::new(last))?;
+        must(rt, keepers.push(MemoryKeeper::new(last)));
     }
-    Ok(keepers)
+    keepers
 }
 
-fn command_of(alloc: Global, ticket: u64, ask: Ask) -> Result<Command, Fail> {
+fn command_of(rt: &impl Abort, alloc: Global, ticket: u64, ask: Ask) -> Command {
     let (resource, act) = match ask {
         Ask::Evaluate(resource, task, is_on) => {
-            let inputs = Inputs::read(alloc, if is_on { "%IX0=1" } else { "" })?;
-            (
-                resource,
-                Act::Evaluate {
-                    task,
-                    dt: 10,
-                    inputs,
-                },
-            )
+            let read = Inputs::read(alloc, if is_on { "%IX0=1" } else { "" });
+            let inputs = must(rt, read);
+            let dt = 10;
+            (resource, Act::Evaluate { task, dt, inputs })
         }
         Ask::Restart(resource) => (resource, Act::Restart),
     };
-    Ok(Command {
+    Command {
         ticket,
         resource,
         act,
-    })
+    }
 }
 
-pub fn commands_of(alloc: Global, asks: &[Ask]) -> Result<Vec<Command>, Fail> {
+pub fn commands_of(rt: &impl Abort, alloc: Global, asks: &[Ask]) -> Vec<Command> {
     let mut commands = Vec::new(alloc);
     for (place, ask) in asks.iter().enumerate() {
-        commands.push(command_of(alloc, place as u64 + 1, *ask)?)?;
+        let command = command_of(rt, alloc, place as u64 + 1, *ask);
+        must(rt, commands.push(command));
     }
-    Ok(commands)
+    commands
 }
 
 /// The report of a run of these commands on a plant.
-pub fn run_on<R: Threads + Wait + Sync, K: Keeper, G: Gate>(
+pub fn run_on<R: Threads + Wait + Sync + Abort, K: Keeper, G: Gate>(
     rt: &R,
     alloc: Global,
     plant: &Arc<Plant>,
@@ -88,40 +88,48 @@ pub fn run_on<R: Threads + Wait + Sync, K: Keeper, G: Gate>(
     keepers: Vec<K>,
     gate: &G,
     max_number: u32,
-) -> Result<Report, Fail> {
-    if !are_numbered(commands) {
-        return Err("the tickets are not 1, 2, 3".into());
-    }
-    if !are_for_plant(plant, commands) {
-        return Err("there is no such resource".into());
-    }
-    if keepers.len() != plant.resources() {
-        return Err("not one keeper for each resource".into());
-    }
-    let shared = Arc::try_clone(plant)?;
-    Ok(run_threads(rt, alloc, shared, commands, keepers, gate, max_number)?)
+) -> Report {
+    let shared = must(rt, Arc::try_clone(plant));
+    assert!(rt; are_numbered(commands));
+    assert!(rt; are_for_plant(&shared, commands));
+    assert!(rt; keepers.len() == shared.resources());
+    let report = run_threads(rt, alloc, shared, commands, keepers, gate, max_number);
+    must(rt, report)
 }
 
 /// The report of a run on the pair.
-pub fn run<R: Threads + Wait + Sync, K: Keeper, G: Gate>(
+pub fn run<R: Threads + Wait + Sync + Abort, K: Keeper, G: Gate>(
     rt: &R,
     alloc: Global,
     asks: &[Ask],
     keepers: Vec<K>,
     gate: &G,
     max_number: u32,
-) -> Result<Report, Fail> {
-    let plant = pair(alloc)?;
-    let commands = commands_of(alloc, asks)?;
-    run_on(
+) -> Report {
+    let plant = pair(rt, alloc);
+    let commands = commands_of(rt, alloc, asks);
+    let commands = commands.as_slice();
+    run_on(rt, alloc, &plant, commands, keepers, gate, max_number)
+}
+
+/// The world of a plant after these events, by one thread.
+pub fn world_of(
+    rt: &impl Abort,
+    alloc: Global,
+    plant: &Arc<Plant>,
+    first: &[u32],
+    max_number: u32,
+    events: &[Event],
+) -> World {
+    let shared = must(rt, Arc::try_clone(plant));
+    assert!(rt; first.len() == shared.resources());
+    let mut world = must(rt, World::new(alloc, shared, first, max_number));
+    holds(
         rt,
-        alloc,
-        &plant,
-        commands.as_slice(),
-        keepers,
-        gate,
-        max_number,
-    )
+        "there is memory for the run",
+        world.run(alloc, events).is_ok(),
+    );
+    world
 }
 
 fn entry_of(frame: &Frame) -> Entry {
@@ -144,6 +152,15 @@ fn letter_of(event: &Event) -> char {
     }
 }
 
+/// The incarnations in which the resources began.
+fn first_of(rt: &impl Abort, alloc: Global, report: &Report) -> Vec<u32> {
+    let mut first = Vec::new(alloc);
+    for journal in report.journals.as_slice() {
+        must(rt, first.push(journal.first));
+    }
+    first
+}
+
 /// One thread that does the events of the book's schedule makes the book's entries. These are the events.
 pub fn is_made_again(
     rt: &impl Abort,
@@ -151,37 +168,22 @@ pub fn is_made_again(
     plant: &Arc<Plant>,
     report: &Report,
     max_number: u32,
-) -> Result<Vec<Event>, Fail> {
-    let mut first = Vec::new(alloc);
-    for journal in report.journals.as_slice() {
-        first.push(journal.first)?;
-    }
-    if first.len() != plant.resources() {
-        return Err("not one journal for each resource".into());
-    }
-    let events = report.book.schedule(alloc)?;
-    let shared = Arc::try_clone(plant)?;
-    let mut world = World::new(alloc, shared, first.as_slice(), max_number)?;
-    if world.run(alloc, events.as_slice()).is_err() {
-        return Err("no memory for the run".into());
-    }
+) -> Vec<Event> {
+    let first = first_of(rt, alloc, report);
+    let events = must(rt, report.book.schedule(alloc));
+    let first = first.as_slice();
+    let world = world_of(rt, alloc, plant, first, max_number, events.as_slice());
     let entries = report.book.entries();
     let how_many = world.log().len();
     equal(rt, "how many evaluations", &how_many, &entries.len());
     for (made, entry) in world.log().iter().zip(entries) {
         holds(rt, "the evaluation is the entry", made.same(entry));
     }
-    Ok(events)
+    events
 }
 
 /// Just this is told of a run on the pair, and the run of the book's schedule makes the book's entries.
-pub fn has_told(
-    rt: &impl Abort,
-    alloc: Global,
-    report: &Report,
-    max_number: u32,
-    told: &Told,
-) -> Result<(), Fail> {
+pub fn has_told(rt: &impl Abort, alloc: Global, report: &Report, max_number: u32, told: &Told) {
     let entries = report.book.entries();
     equal(rt, "how many entries", &entries.len(), &told.entries.len());
     for (frame, entry) in entries.iter().zip(told.entries) {
@@ -195,11 +197,10 @@ pub fn has_told(
         let found = (fault.resource, fault.ticket, fault.cause);
         equal(rt, "fault", &found, wanted);
     }
-    let plant = pair(alloc)?;
+    let plant = pair(rt, alloc);
     let mut kinds = String::new(alloc);
-    for event in &is_made_again(rt, alloc, &plant, report, max_number)? {
-        kinds.push(letter_of(event))?;
+    for event in &is_made_again(rt, alloc, &plant, report, max_number) {
+        must(rt, kinds.push(letter_of(event)));
     }
     equal(rt, "kinds of events", &kinds.as_str(), &told.kinds);
-    Ok(())
 }

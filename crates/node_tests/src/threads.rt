@@ -1,10 +1,9 @@
 //! What a run of threads reports.
 
-use crate::checks::equal;
+use crate::checks::{equal, must};
 use crate::gates::{ClosedToFirst, OnceKeeper, PairGate};
 use crate::runs::{Ask, Told, has_told, keepers_of, pair, run};
 use node::{Cause, FreeGate, PacedGate, RunFault, run_threads};
-use std::test::Fail;
 use std_blocks::Value;
 
 const TURNS: u64 = 10_000_000;
@@ -98,47 +97,42 @@ const PACED: &[(u64, u32, &[Ask], Told)] = &[
 ];
 
 #[test]
-fn paced_runs_are_told(rt: HostRuntime) -> Result<(), Fail> {
+fn paced_runs_are_told(rt: HostRuntime) {
     let alloc = rt.alloc();
     for &(turns, max_number, asks, told) in PACED {
-        let keepers = keepers_of(alloc, 2, 0)?;
+        let keepers = keepers_of(&rt, alloc, 2, 0);
         let gate = PacedGate::new(turns);
-        let report = run(&rt, alloc, asks, keepers, &gate, max_number)?;
-        has_told(&rt, alloc, &report, max_number, &told)?;
+        let report = run(&rt, alloc, asks, keepers, &gate, max_number);
+        has_told(&rt, alloc, &report, max_number, &told);
     }
-    Ok(())
 }
 
 #[test]
-fn both_resources_are_served_at_once(rt: HostRuntime) -> Result<(), Fail> {
+fn both_resources_are_served_at_once(rt: HostRuntime) {
     let alloc = rt.alloc();
-    let keepers = keepers_of(alloc, 2, 0)?;
+    let keepers = keepers_of(&rt, alloc, 2, 0);
     let gate = PairGate::new();
-    let report = run(&rt, alloc, COUNT_AND_WATCH, keepers, &gate, u32::MAX)?;
+    let report = run(&rt, alloc, COUNT_AND_WATCH, keepers, &gate, u32::MAX);
     let counts = (
         report.book.entries().len(),
         report.unanswered.as_slice().len(),
         report.node_faults.as_slice().len(),
     );
     equal(&rt, "entries, unanswered, faults", &counts, &(2, 0, 0));
-    Ok(())
 }
 
 #[test]
-fn a_keeper_that_is_spent_ends_the_run(rt: HostRuntime) -> Result<(), Fail> {
+fn a_keeper_that_is_spent_ends_the_run(rt: HostRuntime) {
     let alloc = rt.alloc();
-    let plant = pair(alloc)?;
-    let keepers = keepers_of(alloc, 2, u32::MAX)?;
-    if keepers.len() != plant.resources() {
-        return Err("not one keeper for each resource".into());
-    }
+    let plant = pair(&rt, alloc);
+    let keepers = keepers_of(&rt, alloc, 2, u32::MAX);
+    assert!(rt; keepers.len() == plant.resources());
     let report = run_threads(&rt, alloc, plant, &[], keepers, &FreeGate, 1);
     equal(&rt, "fault", &report.err(), &Some(RunFault::Keeper));
-    Ok(())
 }
 
 #[test]
-fn a_resource_whose_keeper_fails_goes_on(rt: HostRuntime) -> Result<(), Fail> {
+fn a_resource_whose_keeper_fails_goes_on(rt: HostRuntime) {
     let alloc = rt.alloc();
     let asks = [
         Ask::Evaluate(0, 0, true),
@@ -148,18 +142,18 @@ fn a_resource_whose_keeper_fails_goes_on(rt: HostRuntime) -> Result<(), Fail> {
     ];
     let mut keepers = Vec::new(alloc);
     for _resource in 0..2 {
-        keepers.push(OnceKeeper::new())?;
+        must(&rt, keepers.push(OnceKeeper::new()));
     }
     let gate = PacedGate::new(TURNS);
-    let report = run(&rt, alloc, &asks, keepers, &gate, u32::MAX)?;
-    has_told(&rt, alloc, &report, u32::MAX, &NOT_RESTARTED)
+    let report = run(&rt, alloc, &asks, keepers, &gate, u32::MAX);
+    has_told(&rt, alloc, &report, u32::MAX, &NOT_RESTARTED);
 }
 
 #[test]
-fn a_command_that_does_not_pass_is_not_obeyed(rt: HostRuntime) -> Result<(), Fail> {
+fn a_command_that_does_not_pass_is_not_obeyed(rt: HostRuntime) {
     let alloc = rt.alloc();
-    let keepers = keepers_of(alloc, 2, 0)?;
+    let keepers = keepers_of(&rt, alloc, 2, 0);
     let gate = ClosedToFirst::new(TURNS);
-    let report = run(&rt, alloc, COUNT_AND_WATCH, keepers, &gate, u32::MAX)?;
-    has_told(&rt, alloc, &report, u32::MAX, &NOT_PASSED)
+    let report = run(&rt, alloc, COUNT_AND_WATCH, keepers, &gate, u32::MAX);
+    has_told(&rt, alloc, &report, u32::MAX, &NOT_PASSED);
 }
