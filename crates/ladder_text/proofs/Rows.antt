@@ -1,5 +1,4 @@
 -- Rows of characters, and lists by place.
 pub mod RunLemmas
-pub mod WidthLemmas
 pub mod LeftLemmas
 pub mod ItemLemmas

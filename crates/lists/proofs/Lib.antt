@@ -1,4 +1,5 @@
 pub mod Each
+pub mod Longest
 pub mod Members
 pub mod Orders
 pub mod Pairs

@@ -13,7 +13,7 @@ use Rattle.ladder_rows.specs.Rows.{Rows, char_at, height, width, upto}
 use Rattle.ladder_rows.specs.Boxes.{begins_box, outline_at, outline_with, block_in, pins_of_rows, bottom_row, top_end, is_edge, option_list, box_at, row_outlines, outlines}
 use Rattle.ladder_rows.specs.Laws.{AreBoxesWhole}
 use Rattle.ladder_rows.specs.Steps.RowBoxes.{row_of_pin, IsInRows, AreInRows}
-use Rattle.ladder_rows.proofs.Rows.WidthLemmas.{row-narrow}
+use Rattle.lists.proofs.Longest.{row-narrow}
 use Rattle.ladder_rows.proofs.Outlines.PinRows.{IsFromTo, pins_of_rows_from, pins_of_rows_rising}
 
 -- the box o begins at (r, c) of the rows

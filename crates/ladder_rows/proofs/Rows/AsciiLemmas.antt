@@ -9,7 +9,7 @@ use Rattle.std.specs.Str.{IsAscii}
 use Rattle.ladder_rows.specs.Rows.{Rows, char_at}
 use Rattle.ladder_rows.specs.Boxes.{cut}
 use Rattle.ladder_rows.specs.Faults.{NowhereInRows, not_ascii}
-use Rattle.ladder_rows.proofs.Rows.WidthLemmas.{row-narrow}
+use Rattle.lists.proofs.Longest.{row-narrow}
 
 pub row_small : (d : Rows) (r k : ℕ) → NowhereInRows d (not_ascii d) → r < length d → k < length (get_or d r []) → get_or (get_or d r []) k 0 < 128
 unfolding char_at

@@ -22,7 +22,7 @@ use Rattle.ladder_text.specs.Steps.Search.{IsNone, IsFirstOf, IsFirstFrom, IsFir
 use Rattle.ladder_text.proofs.Outlines.BoxOrder.{not_apart}
 use Rattle.ladder_text.proofs.Outlines.RisingBoxes.{outlines_rising}
 use Rattle.ladder_text.proofs.Faults.SearchLemmas.{no_span, row_first, either_first, second_first}
-use Rattle.ladder_text.proofs.Rows.WidthLemmas.{row-narrow}
+use Rattle.lists.proofs.Longest.{row-narrow}
 
 rank_above : (k : DrawFaultKind) → 0 < rank k
 rank_above kind.NotAscii = omega arith

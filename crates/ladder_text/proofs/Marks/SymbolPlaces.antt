@@ -11,7 +11,7 @@ use Rattle.ladder_rows.specs.Rows.{Rows, char_at, width}
 use Rattle.ladder_text.specs.SymbolKinds.{contact_kind, coil_kind}
 use Rattle.ladder_text.specs.Places.{Layout, contact_at, coil_at, in_box, in_contact, in_coil, within_three, mark, is_symbol}
 use Rattle.ladder_text.specs.Faults.{is_first_of_symbol}
-use Rattle.ladder_text.proofs.Rows.WidthLemmas.{row-narrow}
+use Rattle.lists.proofs.Longest.{row-narrow}
 
 -- a contact of kind k begins at (r, c)
 pub record IsContact (p : Layout) (r c : ℕ) (k : ContactKind) : Type 0 where

@@ -9,7 +9,7 @@ use Rattle.words.specs.Lines.{lines_of, without_last}
 use Rattle.ladder_rows.specs.Rows.{Rows, rows_of, row_of, trimmed, put_before, width}
 use Rattle.ladder_rows.specs.Boxes.{is_blank_column, left_column}
 use Rattle.ladder_text.proofs.Rows.RunLemmas.{run_passes}
-use Rattle.ladder_text.proofs.Rows.WidthLemmas.{row-narrow}
+use Rattle.lists.proofs.Longest.{row-narrow}
 
 -- the last of the characters, a blank where there are none
 abbrev last_of : List ℕ → ℕ

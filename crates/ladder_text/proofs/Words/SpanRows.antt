@@ -14,7 +14,7 @@ use Rattle.ladder_rows.specs.Boxes.{option_list}
 use Rattle.ladder_text.specs.Places.{Layout, contact_at, coil_at}
 use Rattle.ladder_text.specs.Names.{in_word, word_at, words, symbol_at, symbols, contact_with, coil_with, row_contacts, row_coils}
 use Rattle.ladder_text.specs.Faults.{is_first_of_symbol}
-use Rattle.ladder_text.proofs.Rows.WidthLemmas.{row-narrow}
+use Rattle.lists.proofs.Longest.{row-narrow}
 use Rattle.ladder_text.proofs.Marks.SymbolPlaces.{cond_some_of, no_symbol}
 
 blank_below : (d : Rows) (r c : ℕ) → length d ≤ r → char_at d r c ≡ 32
