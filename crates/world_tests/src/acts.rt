@@ -1,9 +1,10 @@
 //! Events in short: what is done of which task, or at which resource.
 
+use crate::checks::must;
 use evaluation::Inputs;
 use plant::TaskRef;
 use std::alloc::Global;
-use std::test::Fail;
+use std::process::Abort;
 use world::Event;
 
 /// The only task of the first resource, and of the second one.
@@ -29,26 +30,26 @@ pub enum Act {
 }
 
 /// The event of an act, under this ticket where it is an evaluation.
-fn event_of(alloc: Global, ticket: u64, act: Act) -> Result<Event, Fail> {
-    Ok(match act {
+fn event_of(rt: &impl Abort, alloc: Global, ticket: u64, act: Act) -> Event {
+    match act {
         Act::Evaluate(task, is_on) => Event::Evaluate {
             ticket,
             task,
             dt: 10,
-            inputs: Inputs::read(alloc, if is_on { "%IX0=1" } else { "" })?,
+            inputs: must(rt, Inputs::read(alloc, if is_on { "%IX0=1" } else { "" })),
         },
         Act::Deliver(message, resource) => Event::Deliver { message, resource },
         Act::Restart(resource) => Event::Restart { resource },
-    })
+    }
 }
 
 /// The events of these acts, all evaluations under one ticket.
-pub fn events_of(alloc: Global, acts: &[Act]) -> Result<Vec<Event>, Fail> {
+pub fn events_of(rt: &impl Abort, alloc: Global, acts: &[Act]) -> Vec<Event> {
     let mut events = Vec::new(alloc);
     for act in acts {
-        events.push(event_of(alloc, 9, *act)?)?;
+        must(rt, events.push(event_of(rt, alloc, 9, *act)));
     }
-    Ok(events)
+    events
 }
 
 /// The next number that looks drawn by lot, below 2^24.
@@ -58,7 +59,12 @@ fn next(seed: &mut u32) -> u32 {
 }
 
 /// 4 to 19 events drawn by lot for a plant of so many resources: half of them evaluations, one in eight a restart. Some are not lawful.
-pub fn drawn_events(alloc: Global, seed: &mut u32, resources: usize) -> Result<Vec<Event>, Fail> {
+pub fn drawn_events(
+    rt: &impl Abort,
+    alloc: Global,
+    seed: &mut u32,
+    resources: usize,
+) -> Vec<Event> {
     let mut events = Vec::new(alloc);
     for ticket in 0..4 + next(seed) % 16 {
         let resource = (next(seed) as usize).checked_rem(resources).unwrap_or(0);
@@ -67,9 +73,9 @@ pub fn drawn_events(alloc: Global, seed: &mut u32, resources: usize) -> Result<V
             1..=3 => Act::Deliver(1 + u64::from(next(seed) % 9), resource),
             _ => Act::Evaluate(TaskRef { resource, task: 0 }, next(seed) % 2 == 1),
         };
-        events.push(event_of(alloc, u64::from(ticket), act)?)?;
+        must(rt, events.push(event_of(rt, alloc, u64::from(ticket), act)));
     }
-    Ok(events)
+    events
 }
 
 /// Both do the same; evaluations have one ticket, one time and the same inputs.

@@ -1,7 +1,7 @@
 //! What a book refuses, and the schedules that it hands out.
 
 use crate::acts::{Act, FAST, SLOW, do_the_same, drawn_events, events_of};
-use crate::checks::{equal, holds};
+use crate::checks::{equal, holds, must};
 use crate::runs::{are_same, book_of, plant_of, world_after};
 use evaluation::{
     Evaluation, Frame, Image, Inputs, Name, Take, TaskState, fits_state, suits_takes,
@@ -10,7 +10,6 @@ use plant::{Plant, TaskCode, TaskRef};
 use std::alloc::Global;
 use std::process::Abort;
 use std::sync::Arc;
-use std::test::Fail;
 use std_blocks::Value;
 use worked_texts::{LOOP, PAIR};
 use world::{Book, Event, Misfit, Schedule};
@@ -78,30 +77,26 @@ const OWN: &[Row] = &[
 
 /// A frame of this name, from the first state of the code, that took these values from there.
 fn frame_of(
+    rt: &impl Abort,
     alloc: Global,
     code: &Arc<TaskCode>,
     name: Name,
     from: Option<(u32, u32)>,
     values: &[Value],
-) -> Result<Frame, Fail> {
-    let image = Image::of(Vec::from_slice(alloc, values)?);
+) -> Frame {
     let take = Take {
         producer: FAST,
         from,
-        image,
+        image: Image::of(must(rt, Vec::from_slice(alloc, values))),
     };
-    let takes = vec![in alloc; take]?;
-    let before = TaskState::initial(alloc, code)?;
-    if !fits_state(code, &before) {
-        return Err("the state does not fit".into());
-    }
-    if !suits_takes(code, takes.as_slice()) {
-        return Err("the takes do not suit".into());
-    }
-    let inputs = Inputs::read(alloc, "")?;
-    let code = Arc::try_clone(code)?;
-    let evaluation = Evaluation::make(alloc, 9, name, 10, inputs, takes, before, code)?;
-    Ok(Frame::new(alloc, evaluation)?)
+    let takes = must(rt, vec![in alloc; take]);
+    let before = must(rt, TaskState::initial(alloc, code));
+    let inputs = must(rt, Inputs::read(alloc, ""));
+    let code = must(rt, Arc::try_clone(code));
+    assert!(rt; fits_state(&code, &before));
+    assert!(rt; suits_takes(&code, takes.as_slice()));
+    let made = Evaluation::make(alloc, 9, name, 10, inputs, takes, before, code);
+    must(rt, Frame::new(alloc, must(rt, made)))
 }
 
 /// Enters a frame. Where it is refused, it comes back. The entries are those before, and this one where it isn't refused.
@@ -110,11 +105,11 @@ fn enter(
     book: &mut Book,
     entries: &mut Vec<Frame>,
     frame: Frame,
-) -> Result<Option<Misfit>, Fail> {
-    let share = frame.try_clone()?;
+) -> Option<Misfit> {
+    let share = must(rt, frame.try_clone());
     let answer = match book.enter(frame) {
         Ok(()) => {
-            entries.push(share)?;
+            must(rt, entries.push(share));
             None
         }
         Err((back, misfit)) => {
@@ -122,29 +117,19 @@ fn enter(
             Some(misfit)
         }
     };
-    holds(
-        rt,
-        "the entries are those that fit",
-        are_same(book.entries(), entries.as_slice()),
-    );
-    Ok(answer)
+    let are_those = are_same(book.entries(), entries.as_slice());
+    holds(rt, "the entries are those that fit", are_those);
+    answer
 }
 
 /// A book of the task of this place of the plant answers so, after these evaluations of its first task.
-fn answers(
-    rt: &impl Abort,
-    alloc: Global,
-    text: &str,
-    task: TaskRef,
-    acts: &[Act],
-    rows: &[Row],
-) -> Result<(), Fail> {
-    let plant = plant_of(alloc, text)?;
-    let code = plant.code(task).ok_or("no task")?;
-    let mut book = book_after(alloc, &plant, acts)?;
+fn answers(rt: &impl Abort, alloc: Global, text: &str, task: TaskRef, acts: &[Act], rows: &[Row]) {
+    let plant = plant_of(rt, alloc, text);
+    let code = must(rt, plant.code(task).ok_or("no task"));
+    let mut book = book_after(rt, alloc, &plant, acts);
     let mut entries = Vec::new(alloc);
     for frame in book.entries() {
-        entries.push(frame.try_clone()?)?;
+        must(rt, entries.push(must(rt, frame.try_clone())));
     }
     for &((resource, incarnation, number), from, values, misfit) in rows {
         let name = Name {
@@ -152,47 +137,40 @@ fn answers(
             incarnation,
             number,
         };
-        let frame = frame_of(alloc, code, name, from, values)?;
-        let answer = enter(rt, &mut book, &mut entries, frame)?;
+        let frame = frame_of(rt, alloc, code, name, from, values);
+        let answer = enter(rt, &mut book, &mut entries, frame);
         equal(rt, "answer", &answer, &misfit);
     }
-    Ok(())
 }
 
 /// The book of what these acts make, its first incarnations 1.
-fn book_after(alloc: Global, plant: &Arc<Plant>, acts: &[Act]) -> Result<Book, Fail> {
+fn book_after(rt: &impl Abort, alloc: Global, plant: &Arc<Plant>, acts: &[Act]) -> Book {
     let first = [1, 1];
-    let first = first.get(..plant.resources()).ok_or("too many resources")?;
-    let events = events_of(alloc, acts)?;
-    let world = world_after(alloc, plant, first, events.as_slice())?;
-    book_of(alloc, first, world.log())
+    let first = first.get(..plant.resources()).ok_or("too many resources");
+    let first = must(rt, first);
+    let events = events_of(rt, alloc, acts);
+    let world = world_after(rt, alloc, plant, first, events.as_slice());
+    book_of(rt, alloc, first, world.log())
 }
 
 #[test]
-fn a_book_refuses_what_does_not_fit(rt: HostRuntime) -> Result<(), Fail> {
+fn a_book_refuses_what_does_not_fit(rt: HostRuntime) {
     let alloc = rt.alloc();
     let once = [Act::Evaluate(FAST, true)];
     let twice = [Act::Evaluate(FAST, true), Act::Evaluate(FAST, false)];
-    answers(&rt, alloc, PAIR, SLOW, &once, TAKES)?;
-    answers(&rt, alloc, PAIR, SLOW, &once, NAMES)?;
-    answers(&rt, alloc, PAIR, SLOW, &twice, BACK)?;
-    answers(&rt, alloc, LOOP, FAST, &[Act::Evaluate(FAST, false)], OWN)
+    answers(&rt, alloc, PAIR, SLOW, &once, TAKES);
+    answers(&rt, alloc, PAIR, SLOW, &once, NAMES);
+    answers(&rt, alloc, PAIR, SLOW, &twice, BACK);
+    answers(&rt, alloc, LOOP, FAST, &[Act::Evaluate(FAST, false)], OWN);
 }
 
 /// The book of what some acts make hands out this schedule.
-fn has_schedule(
-    rt: &impl Abort,
-    alloc: Global,
-    plant: &str,
-    acts: &[Act],
-    wanted: &[Act],
-) -> Result<(), Fail> {
-    let plant = plant_of(alloc, plant)?;
-    let schedule = book_after(alloc, &plant, acts)?.schedule(alloc)?;
-    let wanted = events_of(alloc, wanted)?;
+fn has_schedule(rt: &impl Abort, alloc: Global, plant: &str, acts: &[Act], wanted: &[Act]) {
+    let plant = plant_of(rt, alloc, plant);
+    let schedule = must(rt, book_after(rt, alloc, &plant, acts).schedule(alloc));
+    let wanted = events_of(rt, alloc, wanted);
     let is_so = do_the_same(schedule.as_slice(), wanted.as_slice());
     holds(rt, "the schedule is the wanted one", is_so);
-    Ok(())
 }
 
 /// What is made restarts as often as the incarnation rose.
@@ -251,11 +229,11 @@ const OWN_AGAIN: &[Act] = &[
 ];
 
 #[test]
-fn a_schedule_has_what_the_entries_need(rt: HostRuntime) -> Result<(), Fail> {
+fn a_schedule_has_what_the_entries_need(rt: HostRuntime) {
     let alloc = rt.alloc();
-    has_schedule(&rt, alloc, PAIR, RESTARTS, RESTARTS)?;
-    has_schedule(&rt, alloc, PAIR, LATE, LATE_AGAIN)?;
-    has_schedule(&rt, alloc, LOOP, OWN_MESSAGE, OWN_AGAIN)
+    has_schedule(&rt, alloc, PAIR, RESTARTS, RESTARTS);
+    has_schedule(&rt, alloc, PAIR, LATE, LATE_AGAIN);
+    has_schedule(&rt, alloc, LOOP, OWN_MESSAGE, OWN_AGAIN);
 }
 
 /// How many entries the book of what these events make has. The run of its schedule makes them again.
@@ -265,30 +243,29 @@ fn made_again(
     plant: &Arc<Plant>,
     first: &[u32],
     events: &[Event],
-) -> Result<usize, Fail> {
-    let world = world_after(alloc, plant, first, events)?;
-    let book = book_of(alloc, first, world.log())?;
-    let schedule = book.schedule(alloc)?;
-    let again = world_after(alloc, plant, first, schedule.as_slice())?;
+) -> usize {
+    let world = world_after(rt, alloc, plant, first, events);
+    let book = book_of(rt, alloc, first, world.log());
+    let schedule = must(rt, book.schedule(alloc));
+    let again = world_after(rt, alloc, plant, first, schedule.as_slice());
     let is_same = are_same(again.log(), book.entries()) && are_same(book.entries(), world.log());
     holds(rt, "the entries are made again", is_same);
-    Ok(book.entries().len())
+    book.entries().len()
 }
 
 /// 500 lists of events drawn by lot for each of two plants are made again by the schedules of their books. They have 1,000 evaluations at least.
 #[test]
-fn drawn_logs_are_made_again(rt: HostRuntime) -> Result<(), Fail> {
+fn drawn_logs_are_made_again(rt: HostRuntime) {
     let alloc = rt.alloc();
     for &(text, first) in &[(PAIR, [2, 5].as_slice()), (LOOP, [3].as_slice())] {
-        let plant = plant_of(alloc, text)?;
+        let plant = plant_of(&rt, alloc, text);
         let mut seed = 1;
         let mut entries: usize = 0;
         for _list in 0..500 {
-            let events = drawn_events(alloc, &mut seed, first.len())?;
-            let made = made_again(&rt, alloc, &plant, first, events.as_slice())?;
+            let events = drawn_events(&rt, alloc, &mut seed, first.len());
+            let made = made_again(&rt, alloc, &plant, first, events.as_slice());
             entries = entries.saturating_add(made);
         }
         holds(&rt, "there are 1,000 evaluations", 1_000 <= entries);
     }
-    Ok(())
 }

@@ -1,42 +1,50 @@
 //! What many tests do with events: a world after them, and the book of its log.
 
+use crate::checks::{holds, must};
 use evaluation::Frame;
 use plant::Plant;
 use std::alloc::Global;
+use std::process::Abort;
 use std::sync::Arc;
-use std::test::Fail;
 use world::{Book, Event, World};
 
-pub fn plant_of(alloc: Global, text: &str) -> Result<Arc<Plant>, Fail> {
-    Ok(Arc::new(alloc, Plant::read(alloc, text)?)?)
+pub fn plant_of(rt: &impl Abort, alloc: Global, text: &str) -> Arc<Plant> {
+    let plant = must(rt, Plant::read(alloc, text));
+    must(rt, Arc::new(alloc, plant))
+}
+
+/// A world before any event.
+pub fn fresh_world(rt: &impl Abort, alloc: Global, plant: &Arc<Plant>, first: &[u32]) -> World {
+    let plant = must(rt, Arc::try_clone(plant));
+    assert!(rt; first.len() == plant.resources());
+    must(rt, World::new(alloc, plant, first, u32::MAX))
 }
 
 /// A world after these events.
 pub fn world_after(
+    rt: &impl Abort,
     alloc: Global,
     plant: &Arc<Plant>,
     first: &[u32],
     events: &[Event],
-) -> Result<World, Fail> {
-    if first.len() != plant.resources() {
-        return Err("not one first incarnation for each resource".into());
-    }
-    let mut world = World::new(alloc, Arc::try_clone(plant)?, first, u32::MAX)?;
-    match world.run(alloc, events) {
-        Ok(()) => Ok(world),
-        Err(_) => Err("no memory for a run".into()),
-    }
+) -> World {
+    let mut world = fresh_world(rt, alloc, plant, first);
+    holds(
+        rt,
+        "there is memory for a run",
+        world.run(alloc, events).is_ok(),
+    );
+    world
 }
 
 /// The book of a log that fits.
-pub fn book_of(alloc: Global, first: &[u32], log: &[Frame]) -> Result<Book, Fail> {
-    let mut book = Book::new(alloc, first)?;
+pub fn book_of(rt: &impl Abort, alloc: Global, first: &[u32], log: &[Frame]) -> Book {
+    let mut book = must(rt, Book::new(alloc, first));
     for frame in log {
-        if let Err((_, misfit)) = book.enter(frame.try_clone()?) {
-            return Err(misfit.into());
-        }
+        let entered = book.enter(must(rt, frame.try_clone()));
+        must(rt, entered.map_err(|(_, misfit)| misfit));
     }
-    Ok(book)
+    book
 }
 
 pub fn are_same(frames: &[Frame], others: &[Frame]) -> bool {

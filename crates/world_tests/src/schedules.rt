@@ -1,13 +1,12 @@
 //! Schedules as texts: what they write, and what is left where the writer or the text fails.
 
-use crate::checks::{equal, holds};
+use crate::checks::{equal, holds, must};
 use crate::halting::Halting;
 use crate::runs::plant_of;
 use plant::Plant;
 use std::alloc::Global;
 use std::process::Abort;
 use std::sync::Arc;
-use std::test::Fail;
 use worked_texts::PAIR;
 use world::{SimFault, simulate};
 
@@ -41,18 +40,18 @@ fn writes(
     mut out: Halting,
     answer: Result<(), SimFault>,
     text: &[u8],
-) -> Result<(), Fail> {
-    let found = simulate(alloc, Arc::try_clone(plant)?, schedule, u32::MAX, &mut out);
+) {
+    let shared = must(rt, Arc::try_clone(plant));
+    let found = simulate(alloc, shared, schedule, u32::MAX, &mut out);
     equal(rt, "answer", &found, &answer);
     holds(rt, "the text is written", out.taken.as_slice() == text);
-    Ok(())
 }
 
 /// A writer without room has the first bytes.
 #[test]
-fn a_schedule_is_written_as_far_as_it_goes(rt: HostRuntime) -> Result<(), Fail> {
+fn a_schedule_is_written_as_far_as_it_goes(rt: HostRuntime) {
     let alloc = rt.alloc();
-    let plant = plant_of(alloc, PAIR)?;
+    let plant = plant_of(&rt, alloc, PAIR);
     let written = WRITTEN.as_bytes();
     let all = written.len();
     let cut = Err(SimFault::Write);
@@ -64,13 +63,13 @@ fn a_schedule_is_written_as_far_as_it_goes(rt: HostRuntime) -> Result<(), Fail> 
         (80, all, false, cut),
         (0, all, true, cut),
     ] {
-        let out = Halting::new(alloc, room, step, fails)?;
+        let out = must(&rt, Halting::new(alloc, room, step, fails));
         let first = written.get(..room).unwrap_or_default();
-        writes(&rt, alloc, &plant, RESTARTED, out, answer, first)?;
+        writes(&rt, alloc, &plant, RESTARTED, out, answer, first);
     }
     let bad = "DELIVER 99 R2\n# a comment\nEVAL R9.FAST 10\nEVAL R1.FAST\nEVAL R1.FAST 10\n";
     let refusals = b"REFUSED 1 NoSuchMessage\nREFUSED 2 NoSuchResource\n";
-    let out = Halting::new(alloc, usize::MAX, usize::MAX, true)?;
+    let out = must(&rt, Halting::new(alloc, usize::MAX, usize::MAX, true));
     let answer = Err(SimFault::Syntax { line: 4 });
-    writes(&rt, alloc, &plant, bad, out, answer, refusals.as_slice())
+    writes(&rt, alloc, &plant, bad, out, answer, refusals.as_slice());
 }

@@ -1,14 +1,13 @@
 //! What a list of events does to the resources of a plant.
 
 use crate::acts::{Act, FAST, SLOW, do_the_same, events_of};
-use crate::checks::{equal, holds};
-use crate::runs::{plant_of, world_after};
+use crate::checks::{equal, holds, must};
+use crate::runs::{fresh_world, plant_of};
 use evaluation::Name;
 use exchange_core::Accepted;
 use plant::TaskRef;
 use std::alloc::Global;
 use std::process::Abort;
-use std::test::Fail;
 use std_blocks::Value;
 use worked_texts::PAIR;
 use world::{Done, Event, World, WorldFault};
@@ -107,42 +106,40 @@ fn steps(
     world: &mut World,
     acts: &[Act],
     answers: &[Result<Done, WorldFault>],
-) -> Result<(), Fail> {
-    for (event, answer) in events_of(alloc, acts)?.iter().zip(answers) {
+) {
+    let events = events_of(rt, alloc, acts);
+    for (event, answer) in events.iter().zip(answers) {
         equal(rt, "answer", &world.step(alloc, event), answer);
     }
-    Ok(())
 }
 
 #[test]
-fn each_step_tells_what_it_did(rt: HostRuntime) -> Result<(), Fail> {
+fn each_step_tells_what_it_did(rt: HostRuntime) {
     let alloc = rt.alloc();
-    let plant = plant_of(alloc, PAIR)?;
-    let mut world = world_after(alloc, &plant, &[1, 1], &[])?;
+    let plant = plant_of(&rt, alloc, PAIR);
+    let mut world = fresh_world(&rt, alloc, &plant, &[1, 1]);
     has_counts(&rt, &world, 0, 0);
     equal(&rt, "held", &held(&world, 1, FAST), &None);
     holds_no_other(&rt, &world);
-    steps(&rt, alloc, &mut world, &ACTS, &ANSWERS)?;
+    steps(&rt, alloc, &mut world, &ACTS, &ANSWERS);
     has_restarted(&rt, &world);
     holds_no_other(&rt, &world);
-    let second = world.log().get(1).ok_or("no second evaluation")?;
+    let second = must(&rt, world.log().get(1).ok_or("no second evaluation"));
     let values = [Value::Int(1), Value::Bool(false)];
     equal(&rt, "image", &second.outputs().values(), &values.as_slice());
-    Ok(())
 }
 
 #[test]
-fn the_greatest_incarnation_is_the_last(rt: HostRuntime) -> Result<(), Fail> {
+fn the_greatest_incarnation_is_the_last(rt: HostRuntime) {
     let alloc = rt.alloc();
-    let plant = plant_of(alloc, PAIR)?;
-    let mut world = world_after(alloc, &plant, &[u32::MAX, 1], &[])?;
+    let plant = plant_of(&rt, alloc, PAIR);
+    let mut world = fresh_world(&rt, alloc, &plant, &[u32::MAX, 1]);
     let spent = [Err(WorldFault::IncarnationsSpent)];
-    steps(&rt, alloc, &mut world, &[Act::Restart(0)], &spent)?;
+    steps(&rt, alloc, &mut world, &[Act::Restart(0)], &spent);
     has_counts(&rt, &world, 0, 0);
     let restarted = [Ok(Done::Restarted { incarnation: 2 })];
-    steps(&rt, alloc, &mut world, &[Act::Restart(1)], &restarted)?;
+    steps(&rt, alloc, &mut world, &[Act::Restart(1)], &restarted);
     has_counts(&rt, &world, 0, 1);
-    Ok(())
 }
 
 /// Runs the events, and goes on where memory was refused once; whether all were run.
@@ -157,11 +154,11 @@ fn run_on(alloc: Global, world: &mut World, events: &[Event]) -> bool {
 }
 
 #[test]
-fn a_run_does_the_lawful_events(rt: HostRuntime) -> Result<(), Fail> {
+fn a_run_does_the_lawful_events(rt: HostRuntime) {
     let alloc = rt.alloc();
-    let plant = plant_of(alloc, PAIR)?;
-    let events = events_of(alloc, &ACTS)?;
-    let mut world = world_after(alloc, &plant, &[1, 1], &[])?;
+    let plant = plant_of(&rt, alloc, PAIR);
+    let events = events_of(&rt, alloc, &ACTS);
+    let mut world = fresh_world(&rt, alloc, &plant, &[1, 1]);
     let has_run = run_on(alloc, &mut world, events.as_slice());
     holds(&rt, "all events have run", has_run);
     has_restarted(&rt, &world);
@@ -171,5 +168,4 @@ fn a_run_does_the_lawful_events(rt: HostRuntime) -> Result<(), Fail> {
         "the lawful events are kept",
         do_the_same(world.events(), lawful),
     );
-    Ok(())
 }
