@@ -1,4 +1,4 @@
-//! Comparisons that many tests make. Each is proved once here: a comparison in the body of a test takes about a second to prove, a call of these nearly none.
+//! Comparisons that many tests make, and what a call gives that is to succeed. Each is proved once here: a comparison in the body of a test takes about a second to prove, a `?` one for each value that the body holds, a call of these nearly none.
 
 use std::fmt::Debug;
 use std::process::Abort;
@@ -11,4 +11,9 @@ pub fn holds(rt: &impl Abort, what: &str, is_so: bool) {
 /// Both are equal, or the test ends with what was compared, and both.
 pub fn equal<T: PartialEq + Debug>(rt: &impl Abort, what: &str, found: &T, wanted: &T) {
     assert_eq!(rt; found, wanted, "{what}");
+}
+
+/// What a call gives that is to succeed, or the test ends with its fault.
+pub fn must<T, E: Debug>(rt: &impl Abort, answer: Result<T, E>) -> T {
+    answer.expect(rt, "it succeeds")
 }

@@ -1,13 +1,12 @@
 //! What the core of a resource keeps, takes and forgets.
 
-use crate::checks::{equal, holds};
+use crate::checks::{equal, holds, must};
 use evaluation::{Frame, Inputs};
 use exchange_core::{Accepted, Core, CoreFault, EvalFault};
 use plant::{Plant, TaskRef};
 use std::alloc::Global;
 use std::process::Abort;
 use std::sync::Arc;
-use std::test::Fail;
 use worked_texts::{LOOP, PAIR};
 
 const FAST: TaskRef = TaskRef {
@@ -16,24 +15,26 @@ const FAST: TaskRef = TaskRef {
 };
 
 /// The core of a resource of a plant, in its first incarnation.
-fn core(alloc: Global, plant: &str, resource: usize) -> Result<Result<Core, CoreFault>, Fail> {
-    let plant = Arc::new(alloc, Plant::read(alloc, plant)?)?;
-    Ok(Core::new(alloc, plant, resource, 1, u32::MAX))
+fn core(rt: &impl Abort, alloc: Global, plant: &str, resource: usize) -> Result<Core, CoreFault> {
+    let plant = must(rt, Plant::read(alloc, plant));
+    let plant = must(rt, Arc::new(alloc, plant));
+    Core::new(alloc, plant, resource, 1, u32::MAX)
 }
 
 /// The next evaluation of the first task, its input on, asked again where memory was refused: then the same call gives what it would have given.
-fn evaluated(alloc: Global, core: &mut Core) -> Result<Frame, Fail> {
-    let inputs = Inputs::read(alloc, "%IX0=1")?;
-    match core.evaluate(alloc, 1, 0, 10, &inputs) {
-        Err(EvalFault::Memory) => Ok(core.evaluate(alloc, 1, 0, 10, &inputs)?),
-        answer => Ok(answer?),
-    }
+fn evaluated(rt: &impl Abort, alloc: Global, core: &mut Core) -> Frame {
+    let inputs = must(rt, Inputs::read(alloc, "%IX0=1"));
+    let answer = match core.evaluate(alloc, 1, 0, 10, &inputs) {
+        Err(EvalFault::Memory) => core.evaluate(alloc, 1, 0, 10, &inputs),
+        answer => answer,
+    };
+    must(rt, answer)
 }
 
 /// The first evaluation of the first task of a plant.
-fn first_of(alloc: Global, plant: &str) -> Result<Frame, Fail> {
-    let mut core = core(alloc, plant, 0)??;
-    evaluated(alloc, &mut core)
+fn first_of(rt: &impl Abort, alloc: Global, plant: &str) -> Frame {
+    let mut core = must(rt, core(rt, alloc, plant, 0));
+    evaluated(rt, alloc, &mut core)
 }
 
 /// Which evaluation of the counter a core holds.
@@ -43,41 +44,38 @@ fn held(core: &Core) -> Option<(u32, u32)> {
 }
 
 #[test]
-fn a_resource_that_does_not_exist_has_no_core(rt: HostRuntime) -> Result<(), Fail> {
+fn a_resource_that_does_not_exist_has_no_core(rt: HostRuntime) {
     for &(resource, fault) in &[(0, None), (1, None), (2, Some(CoreFault::NoSuchResource))] {
-        let found = core(rt.alloc(), PAIR, resource)?.err();
+        let found = core(&rt, rt.alloc(), PAIR, resource).err();
         equal(&rt, "core", &found, &fault);
     }
-    Ok(())
 }
 
 #[test]
-fn a_refused_evaluation_leaves_no_gap(rt: HostRuntime) -> Result<(), Fail> {
-    let mut counter = core(rt.alloc(), PAIR, 0)??;
-    let first = evaluated(rt.alloc(), &mut counter)?;
-    let second = evaluated(rt.alloc(), &mut counter)?;
+fn a_refused_evaluation_leaves_no_gap(rt: HostRuntime) {
+    let mut counter = must(&rt, core(&rt, rt.alloc(), PAIR, 0));
+    let first = evaluated(&rt, rt.alloc(), &mut counter);
+    let second = evaluated(&rt, rt.alloc(), &mut counter);
     let numbers = (first.name().number, second.name().number);
     equal(&rt, "numbers", &numbers, &(1, 2));
     let (before, after) = (second.evaluation().before(), first.evaluation().after());
     holds(&rt, "from the state after", before.same(after));
-    Ok(())
 }
 
 /// The image of another plant's task has other kinds.
 #[test]
-fn a_core_takes_what_it_can_use(rt: HostRuntime) -> Result<(), Fail> {
-    let mut watcher = core(rt.alloc(), PAIR, 1)??;
+fn a_core_takes_what_it_can_use(rt: HostRuntime) {
+    let mut watcher = must(&rt, core(&rt, rt.alloc(), PAIR, 1));
     for &(plant, accepted) in &[
         (LOOP, Accepted::Unused),
         (PAIR, Accepted::Taken),
         (PAIR, Accepted::Old),
         (LOOP, Accepted::Unused),
     ] {
-        let frame = first_of(rt.alloc(), plant)?;
+        let frame = first_of(&rt, rt.alloc(), plant);
         equal(&rt, "accepted", &watcher.accept(frame), &accepted);
     }
     equal(&rt, "held", &held(&watcher), &Some((1, 1)));
-    Ok(())
 }
 
 /// A core after a restart, or as it came back.
@@ -97,14 +95,14 @@ fn restarted(rt: &impl Abort, alloc: Global, core: Core) -> Core {
 
 /// A core that was refused its restart for want of memory is asked again.
 #[test]
-fn a_restart_forgets(rt: HostRuntime) -> Result<(), Fail> {
-    let mut watcher = core(rt.alloc(), PAIR, 1)??;
-    watcher.accept(first_of(rt.alloc(), PAIR)?);
-    let before = evaluated(rt.alloc(), &mut watcher)?;
+fn a_restart_forgets(rt: HostRuntime) {
+    let mut watcher = must(&rt, core(&rt, rt.alloc(), PAIR, 1));
+    watcher.accept(first_of(&rt, rt.alloc(), PAIR));
+    let before = evaluated(&rt, rt.alloc(), &mut watcher);
     let mut watcher = restarted(&rt, rt.alloc(), restarted(&rt, rt.alloc(), watcher));
     let found = (watcher.incarnation(), held(&watcher));
     equal(&rt, "incarnation, held", &found, &(2, None));
-    let after = evaluated(rt.alloc(), &mut watcher)?;
+    let after = evaluated(&rt, rt.alloc(), &mut watcher);
     for &(frame, incarnation, from) in &[(&before, 1, Some((1, 1))), (&after, 2, None)] {
         let name = (frame.name().incarnation, frame.name().number);
         equal(&rt, "name", &name, &(incarnation, 1));
@@ -113,5 +111,4 @@ fn a_restart_forgets(rt: HostRuntime) -> Result<(), Fail> {
     }
     let (before, after) = (before.evaluation().before(), after.evaluation().before());
     holds(&rt, "from the first state", after.same(before));
-    Ok(())
 }

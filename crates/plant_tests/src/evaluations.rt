@@ -1,6 +1,6 @@
 //! Which inputs, takes, states, evaluations and frames are the same or fit.
 
-use crate::checks::{equal, holds};
+use crate::checks::{equal, holds, must};
 use evaluation::{
     Evaluation, FieldInput, Frame, Image, InputFault, Inputs, Name, Take, TaskState, fits_state,
     suits_takes,
@@ -9,7 +9,6 @@ use plant::{Address, Plant, Space, TaskCode, TaskRef};
 use std::alloc::Global;
 use std::process::Abort;
 use std::sync::Arc;
-use std::test::Fail;
 use std_blocks::Value;
 use worked_texts::PAIR;
 
@@ -66,78 +65,74 @@ const SLOW: TaskRef = TaskRef {
 };
 
 /// The code of a task of a plant.
-fn code_of(alloc: Global, plant: &str, task: TaskRef) -> Result<Arc<TaskCode>, Fail> {
-    let plant = Plant::read(alloc, plant)?;
-    let code = plant.code(task).ok_or("no task")?;
-    Ok(Arc::try_clone(code)?)
+fn code_of(rt: &impl Abort, alloc: Global, plant: &str, task: TaskRef) -> Arc<TaskCode> {
+    let plant = must(rt, Plant::read(alloc, plant));
+    let code = must(rt, plant.code(task).ok_or("no task"));
+    must(rt, Arc::try_clone(code))
 }
 
-/// An evaluation of a task that takes nothing, from a state, under a ticket.
+/// The frame of an evaluation of a task that takes nothing, from a state, under a ticket.
 fn evaluated(
+    rt: &impl Abort,
     alloc: Global,
     ticket: u64,
     task: TaskRef,
     code: &Arc<TaskCode>,
     inputs: &str,
     before: TaskState,
-) -> Result<Evaluation, Fail> {
+) -> Frame {
     let name = Name {
         task,
         incarnation: 1,
         number: 1,
     };
-    let (inputs, takes) = (Inputs::read(alloc, inputs)?, Vec::new(alloc));
-    if !fits_state(code, &before) {
-        return Err("the state does not fit".into());
-    }
-    if !suits_takes(code, takes.as_slice()) {
-        return Err("the takes do not suit".into());
-    }
-    let code = Arc::try_clone(code)?;
-    let evaluation = Evaluation::make(alloc, ticket, name, 10, inputs, takes, before, code)?;
-    Ok(evaluation)
+    let inputs = must(rt, Inputs::read(alloc, inputs));
+    let takes = Vec::new(alloc);
+    let code = must(rt, Arc::try_clone(code));
+    assert!(rt; fits_state(&code, &before));
+    assert!(rt; suits_takes(&code, takes.as_slice()));
+    let made = Evaluation::make(alloc, ticket, name, 10, inputs, takes, before, code);
+    must(rt, Frame::new(alloc, must(rt, made)))
 }
 
 /// The frame of a task, evaluated under a ticket, from the state that evaluations with the inputs before leave.
 fn frame_after(
+    rt: &impl Abort,
     alloc: Global,
     plant: &str,
     task: TaskRef,
     before: &[&str],
     ticket: u64,
     inputs: &str,
-) -> Result<Frame, Fail> {
-    let code = code_of(alloc, plant, task)?;
-    let mut state = TaskState::initial(alloc, &code)?;
+) -> Frame {
+    let code = code_of(rt, alloc, plant, task);
+    let mut state = must(rt, TaskState::initial(alloc, &code));
     for inputs in before {
-        let evaluation = evaluated(alloc, 1, task, &code, inputs, state)?;
-        state = evaluation.after().try_copy()?;
+        let frame = evaluated(rt, alloc, 1, task, &code, inputs, state);
+        state = must(rt, frame.evaluation().after().try_copy());
     }
-    let evaluation = evaluated(alloc, ticket, task, &code, inputs, state)?;
-    let frame = Frame::new(alloc, evaluation)?;
-    Ok(frame)
+    evaluated(rt, alloc, ticket, task, &code, inputs, state)
 }
 
 #[test]
-fn frames_are_the_same_by_ticket_and_inputs(rt: HostRuntime) -> Result<(), Fail> {
-    let frame = frame_after(rt.alloc(), PAIR, FAST, &[], 1, "%IX0=1")?;
+fn frames_are_the_same_by_ticket_and_inputs(rt: HostRuntime) {
+    let frame = frame_after(&rt, rt.alloc(), PAIR, FAST, &[], 1, "%IX0=1");
     for &(ticket, inputs, is_same) in &[
         (1, "%IX0=1", true),
         (2, "%IX0=1", false),
         (1, "%IX0=0", false),
     ] {
-        let other = frame_after(rt.alloc(), PAIR, FAST, &[], ticket, inputs)?;
+        let other = frame_after(&rt, rt.alloc(), PAIR, FAST, &[], ticket, inputs);
         equal(&rt, inputs, &other.same(&frame), &is_same);
     }
-    Ok(())
 }
 
 #[test]
-fn shares_and_copies_are_the_same(rt: HostRuntime) -> Result<(), Fail> {
-    let frame = frame_after(rt.alloc(), PAIR, FAST, &[], 1, "%IX0=1")?;
-    let share = frame.try_clone()?;
+fn shares_and_copies_are_the_same(rt: HostRuntime) {
+    let frame = frame_after(&rt, rt.alloc(), PAIR, FAST, &[], 1, "%IX0=1");
+    let share = must(&rt, frame.try_clone());
     let evaluation = share.evaluation();
-    let copy = evaluation.after().try_copy()?;
+    let copy = must(&rt, evaluation.after().try_copy());
     let found = (
         share.same(&frame),
         copy.same(evaluation.after()),
@@ -147,7 +142,6 @@ fn shares_and_copies_are_the_same(rt: HostRuntime) -> Result<(), Fail> {
     equal(&rt, "share, copy", &found, &(true, true, true, false));
     let values = [Value::Int(1), Value::Bool(false)];
     equal(&rt, "image", &share.outputs().values(), &values.as_slice());
-    Ok(())
 }
 
 #[test]
@@ -189,7 +183,7 @@ fn are_same(frame: &Frame, other: &Frame) -> [bool; 5] {
 
 /// The states before differ in one value, in one memory, or in one block, and nothing else does.
 #[test]
-fn what_no_output_shows_counts(rt: HostRuntime) -> Result<(), Fail> {
+fn what_no_output_shows_counts(rt: HostRuntime) {
     let alloc = rt.alloc();
     for &(task, first, second, is_hidden) in &[
         (0, "%IX0=0", "%IX0=1", false),
@@ -197,22 +191,21 @@ fn what_no_output_shows_counts(rt: HostRuntime) -> Result<(), Fail> {
         (2, "%IX0=1", "%IX0=0", true),
     ] {
         let task = TaskRef { resource: 0, task };
-        let marked = frame_after(alloc, MARKS, task, &[first, second], 1, "%IX0=0")?;
-        let again = frame_after(alloc, MARKS, task, &[first, second], 1, "%IX0=0")?;
-        let plain = frame_after(alloc, MARKS, task, &["%IX0=0", "%IX0=0"], 1, "%IX0=0")?;
+        let marked = frame_after(&rt, alloc, MARKS, task, &[first, second], 1, "%IX0=0");
+        let again = frame_after(&rt, alloc, MARKS, task, &[first, second], 1, "%IX0=0");
+        let plain = frame_after(&rt, alloc, MARKS, task, &["%IX0=0", "%IX0=0"], 1, "%IX0=0");
         equal(&rt, "again", &are_same(&marked, &again), &[true; 5]);
         let told_apart = [true, true, false, false, false];
         equal(&rt, "plain", &are_same(&marked, &plain), &told_apart);
         let found = show_the_same(marked.evaluation().before(), plain.evaluation().before());
         equal(&rt, "no variable shows it", &found, &is_hidden);
     }
-    Ok(())
 }
 
 #[test]
-fn takes_are_one_for_each_producer(rt: HostRuntime) -> Result<(), Fail> {
+fn takes_are_one_for_each_producer(rt: HostRuntime) {
     let alloc = rt.alloc();
-    let code = code_of(alloc, PAIR, SLOW)?;
+    let code = code_of(&rt, alloc, PAIR, SLOW);
     holds(&rt, "none is too few", !suits_takes(&code, &[]));
     let (one, off) = (Value::Int(1), Value::Bool(false));
     let (initial, given) = ([Value::Int(0), off], [one, off]);
@@ -228,17 +221,16 @@ fn takes_are_one_for_each_producer(rt: HostRuntime) -> Result<(), Fail> {
         let take = Take {
             producer,
             from,
-            image: Image::of(Vec::from_slice(alloc, values)?),
+            image: Image::of(must(&rt, Vec::from_slice(alloc, values))),
         };
-        let takes = vec![in alloc; take]?;
+        let takes = must(&rt, vec![in alloc; take]);
         equal(&rt, "suits", &suits_takes(&code, takes.as_slice()), &suits);
     }
-    Ok(())
 }
 
 #[test]
-fn inputs_are_the_same_in_one_order(rt: HostRuntime) -> Result<(), Fail> {
-    let inputs = Inputs::read(rt.alloc(), "%IX0=1 %IX1=0 %IW2=-7")?;
+fn inputs_are_the_same_in_one_order(rt: HostRuntime) {
+    let inputs = must(&rt, Inputs::read(rt.alloc(), "%IX0=1 %IX1=0 %IW2=-7"));
     for &(text, is_same) in &[
         ("%ix0=1\t%ix1=0 %Iw2=-0_7 ", Ok(true)),
         ("%IX1=0 %IX0=1 %IW2=-7", Ok(false)),
@@ -250,12 +242,12 @@ fn inputs_are_the_same_in_one_order(rt: HostRuntime) -> Result<(), Fail> {
         let found = Inputs::read(rt.alloc(), text).map(|other| inputs.same(&other));
         equal(&rt, text, &found, &is_same);
     }
-    Ok(())
 }
 
 #[test]
-fn a_copy_holds_the_same_inputs(rt: HostRuntime) -> Result<(), Fail> {
-    let copy = Inputs::read(rt.alloc(), "%IX0=1 %IW2=-7")?.try_copy()?;
+fn a_copy_holds_the_same_inputs(rt: HostRuntime) {
+    let inputs = must(&rt, Inputs::read(rt.alloc(), "%IX0=1 %IW2=-7"));
+    let copy = must(&rt, inputs.try_copy());
     for &(space, number, value) in &[
         (Space::Bit, 0, Value::Bool(true)),
         (Space::Bit, 2, Value::Bool(false)),
@@ -271,5 +263,4 @@ fn a_copy_holds_the_same_inputs(rt: HostRuntime) -> Result<(), Fail> {
     };
     let listed = (copy.listed().len(), copy.listed().get(1));
     equal(&rt, "second", &listed, &(2, Some(&second)));
-    Ok(())
 }

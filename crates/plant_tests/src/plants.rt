@@ -1,8 +1,7 @@
 //! What a plant tells of its tasks.
 
-use crate::checks::equal;
+use crate::checks::{equal, must};
 use plant::{Binding, Plant, Source, TaskRef};
-use std::test::Fail;
 
 /// Two resources, of which the second takes from itself and from two tasks of the first, in another order than these stand in.
 const TAKERS: &str = "\
@@ -54,8 +53,8 @@ fn bound(place: usize, producer: usize, output: usize) -> Binding {
 }
 
 #[test]
-fn a_plant_tells_what_its_tasks_take(rt: HostRuntime) -> Result<(), Fail> {
-    let plant = Plant::read(rt.alloc(), TAKERS)?;
+fn a_plant_tells_what_its_tasks_take(rt: HostRuntime) {
+    let plant = must(&rt, Plant::read(rt.alloc(), TAKERS));
     for &(name, task) in &[
         ("R1.K1", Some(FIRST)),
         ("r1.k2", Some(SECOND)),
@@ -77,7 +76,7 @@ fn a_plant_tells_what_its_tasks_take(rt: HostRuntime) -> Result<(), Fail> {
         &plant.producers(TAKER),
         &producers.as_slice(),
     );
-    let code = plant.code(TAKER).ok_or("no code")?;
+    let code = must(&rt, plant.code(TAKER).ok_or("no code"));
     for &(program, bindings) in &[
         (0, [bound(0, 0, 2)].as_slice()),
         (1, [bound(1, 1, 0), bound(0, 2, 0)].as_slice()),
@@ -98,5 +97,4 @@ fn a_plant_tells_what_its_tasks_take(rt: HostRuntime) -> Result<(), Fail> {
     ] {
         equal(&rt, "output", &code.output_name(output), &name);
     }
-    Ok(())
 }
