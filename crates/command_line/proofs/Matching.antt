@@ -79,9 +79,6 @@ pub entered : (m : ArgMatches) (r : Option (Bor (List ℕ) × Bor ArgMatches)) (
 entered m r name inner is named found =
     both_parts _ _ _ name.now (rows_of (found_of inner.now)) (sym (ap (option_map (λ p. p.0.now)) is) ∙ named) (sym (ap (option_map (λ p. rows_of (found_of p.1.now))) is) ∙ found)
 
--- the words of the command line name this subcommand, with what was found for it
-pub named_by : (command : Command) (words : List (List ℕ)) (m : ArgMatches) (r : Option (Bor (List ℕ) × Bor ArgMatches)) (name : Bor (List ℕ)) (inner : Bor ArgMatches) → r ≡ Some (name, inner)
-    → option_map (λ p. p.0.now) r ≡ subcommand_name_of m → option_map (λ p. rows_of (found_of p.1.now)) r ≡ option_map (λ p. p.1) (subcommand_rows_of m)
-    → HasMatchesOf (app_of command) words m → app_of command ≡ plc_app → Some (name.now, rows_of (found_of inner.now)) ≡ subcommand_of plc_app words
-named_by command words m r name inner is named found has app_is =
-    sym (entered m r name inner is named found) ∙ (has (ap is_simple app_is)).1 ∙ ap (λ (a : App). subcommand_of a words) app_is
+-- the subcommand that was found is that of the words of the command line
+pub found_by : (command : Command) (words : List (List ℕ)) (m : ArgMatches) → HasMatchesOf (app_of command) words m → app_of command ≡ plc_app → subcommand_rows_of m ≡ subcommand_of plc_app words
+found_by command words m has app_is = (has (ap is_simple app_is)).1 ∙ ap (λ (a : App). subcommand_of a words) app_is
