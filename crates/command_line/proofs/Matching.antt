@@ -1,12 +1,11 @@
 -- What is found for the words of the command line.
-use Rattle.std.proofs.Common.{◌≡◌, ℕ, ◌<◌, ◌==◌, Bool, true, false, bytes_eq, codes, List, [], ◌∷◌, Option, Some, None, option_map, map, Result, Ok, Err, IfOk, IsOkAnd, unwrap_or, slice_index, refl, sym, ap, ap₂, ◌∙◌, subst, arith}
+use Rattle.std.proofs.Common.{◌≡◌, ℕ, ◌<◌, ◌==◌, Bool, true, false, bytes_eq, codes, List, [], ◌∷◌, Option, Some, None, option_map, map, unwrap_or, slice_index, refl, sym, ap, ap₂, ◌∙◌, subst, arith}
 use Rattle.std.proofs.lemmas.Bool.{eqb-true}
 use Rattle.std.specs.Borrow.{Bor}
 use Rattle.std.specs.Option.{option_map_or}
 use Rattle.std.specs.Char.{digit_value}
 use Rattle.std.specs.Str.Parse.{digits_value}
-use Rattle.clap.specs.Words.{App, AddsArg, AddsSubcommand, Row, Rule, app_of, rule_of, with_rule, with_subcommand, HasMatchesOf, rows_of, found_of, is_simple, subcommand_of, subcommand_name_of, subcommand_rows_of}
-use Rattle.clap.specs.declared.builder.arg.Arg.{Arg}
+use Rattle.clap.specs.Words.{App, AddsSubcommand, Row, app_of, with_subcommand, HasMatchesOf, rows_of, found_of, is_simple, subcommand_of, subcommand_name_of, subcommand_rows_of}
 use Rattle.clap.specs.declared.builder.command.Command.{Command}
 use Rattle.clap.specs.declared.parser.matches.ArgMatches.{ArgMatches}
 use Rattle.clap.proofs.SimpleLemmas.{plain_fields}
@@ -40,25 +39,10 @@ pub some_flag : (r : Option (Bor (List ℕ))) (v w : Option (List ℕ)) (text : 
     → b ≡ option_map_or (λ text. bytes_eq text (codes "true")) w false
 some_flag r v w text b e f is same = subst (λ (t : Option (List ℕ)). b ≡ option_map_or (λ text. bytes_eq text (codes "true")) t false) (sym (ap (option_map (λ s. s.now)) is) ∙ e ∙ f) same
 
--- a command with one more argument, which isn't global
-pub one_more_arg : {E : Type 0} (old new : Result Command E) (arg : Arg) (a : App) (rule : Rule) → IfOk old (λ c. app_of c ≡ a) → IfOk new (λ n. IsOkAnd old (λ o. AddsArg o arg n)) → arg.global ≡ false → rule_of arg ≡ rule
-    → IfOk new (λ n. app_of n ≡ with_rule a rule)
-one_more_arg (Ok o) (Ok n) arg a rule old_is adds local rule_is = adds.shape local ∙ ap₂ with_rule old_is rule_is
-one_more_arg (Ok o) (Err e) arg a rule old_is adds local rule_is = tt
-one_more_arg (Err f) (Ok n) arg a rule old_is adds local rule_is = absurd adds
-one_more_arg (Err f) (Err e) arg a rule old_is adds local rule_is = tt
-
 -- a command with one more subcommand, which has no global argument
-one_more : (old sub new : Command) (a b : App) → AddsSubcommand old sub new → app_of old ≡ a → app_of sub ≡ b → b.top.is_plain ≡ true → app_of new ≡ with_subcommand a b.top
+pub one_more : (old sub new : Command) (a b : App) → AddsSubcommand old sub new → app_of old ≡ a → app_of sub ≡ b → b.top.is_plain ≡ true → app_of new ≡ with_subcommand a b.top
 one_more old sub new a b adds old_is sub_is plain =
     adds.shape (plain_fields sub (ap (λ (x : App). x.top.is_plain) sub_is ∙ plain)).globals ∙ ap₂ with_subcommand old_is (ap (λ (x : App). x.top) sub_is)
-
-pub one_more_command : {E : Type 0} (old sub new : Result Command E) (a b : App) → IfOk old (λ c. app_of c ≡ a) → IfOk sub (λ c. app_of c ≡ b) → IfOk new (λ n. IsOkAnd old (λ o. IsOkAnd sub (λ s. AddsSubcommand o s n)))
-    → b.top.is_plain ≡ true → IfOk new (λ n. app_of n ≡ with_subcommand a b.top)
-one_more_command (Ok o) (Ok s) (Ok n) a b old_is sub_is adds plain = one_more o s n a b adds old_is sub_is plain
-one_more_command (Ok o) (Err f) (Ok n) a b old_is sub_is adds plain = absurd adds
-one_more_command (Err f) sub (Ok n) a b old_is sub_is adds plain = absurd adds
-one_more_command old sub (Err e) a b old_is sub_is adds plain = tt
 
 pub no_words : (r : Option (Bor (List (Bor (List ℕ))))) (v w : Option (List (List ℕ))) → option_map (λ s. map (λ x. x.now) s.now) r ≡ v → v ≡ w → r ≡ None → [] ≡ unwrap_or w []
 no_words r v w e f is = subst (λ (t : Option (List (List ℕ))). [] ≡ unwrap_or t []) (sym (ap (option_map (λ s. map (λ x. x.now) s.now)) is) ∙ e ∙ f) refl
@@ -79,6 +63,9 @@ pub entered : (m : ArgMatches) (r : Option (Bor (List ℕ) × Bor ArgMatches)) (
 entered m r name inner is named found =
     both_parts _ _ _ name.now (rows_of (found_of inner.now)) (sym (ap (option_map (λ p. p.0.now)) is) ∙ named) (sym (ap (option_map (λ p. rows_of (found_of p.1.now))) is) ∙ found)
 
--- the subcommand that was found is that of the words of the command line
-pub found_by : (command : Command) (words : List (List ℕ)) (m : ArgMatches) → HasMatchesOf (app_of command) words m → app_of command ≡ plc_app → subcommand_rows_of m ≡ subcommand_of plc_app words
-found_by command words m has app_is = (has (ap is_simple app_is)).1 ∙ ap (λ (a : App). subcommand_of a words) app_is
+-- the words of the command line name this subcommand, with what was found for it
+pub named_by : (command : Command) (words : List (List ℕ)) (m : ArgMatches) (r : Option (Bor (List ℕ) × Bor ArgMatches)) (name : Bor (List ℕ)) (inner : Bor ArgMatches) → r ≡ Some (name, inner)
+    → option_map (λ p. p.0.now) r ≡ subcommand_name_of m → option_map (λ p. rows_of (found_of p.1.now)) r ≡ option_map (λ p. p.1) (subcommand_rows_of m)
+    → HasMatchesOf (app_of command) words m → app_of command ≡ plc_app → Some (name.now, rows_of (found_of inner.now)) ≡ subcommand_of plc_app words
+named_by command words m r name inner is named found has app_is =
+    sym (entered m r name inner is named found) ∙ (has (ap is_simple app_is)).1 ∙ ap (λ (a : App). subcommand_of a words) app_is

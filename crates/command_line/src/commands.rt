@@ -1,5 +1,5 @@
-ghost use Rattle.std.specs.Prelude.{◌≡◌, false, IfOk, IsOkAnd, codes};
-ghost use Rattle.clap.specs.Words.{AddsArg, AddsSubcommand, app_of, new_app, rule_of};
+ghost use Rattle.std.specs.Prelude.{◌≡◌, false, IfOk, codes};
+ghost use Rattle.clap.specs.Words.{app_of, new_app, rule_of};
 ghost use Rattle.command_line.specs.CommandLine.{needed_word, option_of, words_rule, plant_rule, until_rule, paced_rule, eval_app, check_app, plan_app, sim_app, run_app, explain_app, versioned, commanded, plc_app, text_app};
 
 use crate::help::{
@@ -76,51 +76,24 @@ fn paced_arg<'a>(alloc: Global) -> Arg<'a>
         .help("Each command waits until the one before it is done")
 }
 
-/// A command with one more argument, if there was memory for the command.
-fn with_arg<'a>(
-    command: Result<Command<'a>, AllocError>,
-    arg: Arg<'a>,
-) -> Result<Command<'a>, AllocError>
-    ensures { IfOk result (λ new. IsOkAnd command.entry (λ old. AddsArg old arg.entry new)) }
-{
-    command?.arg(arg)
-}
-
-/// A command with one more subcommand, if there was memory for both.
-fn with_subcommand<'a>(
-    command: Result<Command<'a>, AllocError>,
-    subcommand: Result<Command<'a>, AllocError>,
-) -> Result<Command<'a>, AllocError>
-    ensures { IfOk result (λ new. IsOkAnd command.entry (λ old.
-        IsOkAnd subcommand.entry (λ sub. AddsSubcommand old sub new))) }
-{
-    command?.subcommand(subcommand?)
-}
-
 fn eval_command<'a>(alloc: Global) -> Result<Command<'a>, AllocError>
     ensures { IfOk result (λ c. app_of c ≡ eval_app) }
 {
-    let of_drawing = Command::new(alloc, "eval")
+    Command::new(alloc, "eval")
         .about("Evaluates a drawing, scan by scan, and writes its variables after each scan")
         .after_help(EVAL_HELP)
-        .arg(needed_arg(alloc, "DRAWING", "The file of the drawing"));
-    let timed = with_arg(
-        of_drawing,
-        number_arg(
+        .arg(needed_arg(alloc, "DRAWING", "The file of the drawing"))?
+        .arg(number_arg(
             alloc,
             "dt",
             "MS",
             "The time between two scans in milliseconds, 0 to 4294967295 [default: 0]",
-        ),
-    );
-    with_arg(
-        timed,
-        words_arg(
+        ))?
+        .arg(words_arg(
             alloc,
             "NAME=BITS",
             "The values of a variable, a digit for each scan",
-        ),
-    )
+        ))
 }
 
 fn check_command<'a>(alloc: Global) -> Result<Command<'a>, AllocError>
@@ -135,56 +108,47 @@ fn check_command<'a>(alloc: Global) -> Result<Command<'a>, AllocError>
 fn plan_command<'a>(alloc: Global) -> Result<Command<'a>, AllocError>
     ensures { IfOk result (λ c. app_of c ≡ plan_app) }
 {
-    let of_plant = Command::new(alloc, "plan")
+    Command::new(alloc, "plan")
         .about("Reads a plant, and writes when its tasks are due")
         .after_help(PLAN_HELP)
-        .arg(plant_arg(alloc));
-    with_arg(of_plant, until_arg(alloc))
+        .arg(plant_arg(alloc))?
+        .arg(until_arg(alloc))
 }
 
 fn sim_command<'a>(alloc: Global) -> Result<Command<'a>, AllocError>
     ensures { IfOk result (λ c. app_of c ≡ sim_app) }
 {
-    let of_plant = Command::new(alloc, "sim")
+    Command::new(alloc, "sim")
         .about(
             "Runs a schedule of evaluations, deliveries and restarts over a plant, and writes what each did",
         )
         .after_help(SIM_HELP)
-        .arg(plant_arg(alloc));
-    let scheduled = with_arg(
-        of_plant,
-        needed_arg(alloc, "SCHEDULE", "The file of the schedule"),
-    );
-    with_arg(
-        scheduled,
-        number_arg(
+        .arg(plant_arg(alloc))?
+        .arg(needed_arg(alloc, "SCHEDULE", "The file of the schedule"))?
+        .arg(number_arg(
             alloc,
             "max-number",
             "N",
             "How often a task is evaluated in one incarnation at most, 0 to 4294967295 [default: 4294967295]",
-        ),
-    )
+        ))
 }
 
 fn run_command<'a>(alloc: Global) -> Result<Command<'a>, AllocError>
     ensures { IfOk result (λ c. app_of c ≡ run_app) }
 {
-    let of_plant = Command::new(alloc, "run")
+    Command::new(alloc, "run")
         .about(
             "Runs a plant in threads, one for each resource, and writes what each evaluation gave",
         )
         .after_help(RUN_HELP)
-        .arg(plant_arg(alloc));
-    let timed = with_arg(of_plant, until_arg(alloc));
-    let paced = with_arg(timed, paced_arg(alloc));
-    with_arg(
-        paced,
-        words_arg(
+        .arg(plant_arg(alloc))?
+        .arg(until_arg(alloc))?
+        .arg(paced_arg(alloc))?
+        .arg(words_arg(
             alloc,
             "ADDRESS=VALUE",
             "The value of a field address, as %IX0=1 or %IW2=-7",
-        ),
-    )
+        ))
 }
 
 fn explain_command<'a>(alloc: Global) -> Result<Command<'a>, AllocError>
@@ -196,32 +160,42 @@ fn explain_command<'a>(alloc: Global) -> Result<Command<'a>, AllocError>
         .arg(needed_arg(alloc, "KIND", "The kind of a fault, as NoSource"))
 }
 
+/// The program without its commands, and without a version.
+fn named_command<'a>(alloc: Global) -> Result<Command<'a>, AllocError>
+    ensures { IfOk result (λ c. app_of c ≡ new_app (codes "plc")) }
+{
+    let command = Command::new(alloc, "plc").bin_name("plc")?;
+    Ok(
+        command
+            .about("Runs ladder diagrams drawn in characters (IEC 61131-3)")
+            .after_help(FIRST_STEPS),
+    )
+}
+
 /// The program without its commands.
 fn plc_command<'a>(alloc: Global) -> Result<Command<'a>, AllocError>
     ensures { IfOk result (λ c. app_of c ≡ commanded (versioned (new_app (codes "plc")))) }
 {
-    Command::new(alloc, "plc")
-        .about("Runs ladder diagrams drawn in characters (IEC 61131-3)")
-        .after_help(FIRST_STEPS)
-        .version(VERSION)
-        .subcommand_required(true)
-        .bin_name("plc")
+    let command = named_command(alloc)?;
+    Ok(command.version(VERSION).subcommand_required(true))
 }
 
 /// The program with the commands of one text: a drawing or a plant.
 fn text_commands<'a>(alloc: Global) -> Result<Command<'a>, AllocError>
     ensures { IfOk result (λ c. app_of c ≡ text_app) }
 {
-    let with_eval = with_subcommand(plc_command(alloc), eval_command(alloc));
-    let with_check = with_subcommand(with_eval, check_command(alloc));
-    with_subcommand(with_check, plan_command(alloc))
+    plc_command(alloc)?
+        .subcommand(eval_command(alloc)?)?
+        .subcommand(check_command(alloc)?)?
+        .subcommand(plan_command(alloc)?)
 }
 
 /// The commands of the program.
 pub fn commands<'a>(alloc: Global) -> Result<Command<'a>, AllocError>
     ensures { IfOk result (λ c. app_of c ≡ plc_app) }
 {
-    let with_sim = with_subcommand(text_commands(alloc), sim_command(alloc));
-    let with_run = with_subcommand(with_sim, run_command(alloc));
-    with_subcommand(with_run, explain_command(alloc))
+    text_commands(alloc)?
+        .subcommand(sim_command(alloc)?)?
+        .subcommand(run_command(alloc)?)?
+        .subcommand(explain_command(alloc)?)
 }

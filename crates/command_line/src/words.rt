@@ -1,6 +1,6 @@
 ghost use Rattle.std.specs.Prelude.{◌≡◌, IfOk, MatchOption, Some, map, string_bytes};
 ghost use Rattle.std.specs.Str.Parse.{digits_value};
-ghost use Rattle.clap.specs.Words.{rows_of, found_of, first_of, subcommand_of, subcommand_rows_of};
+ghost use Rattle.clap.specs.Words.{rows_of, found_of, first_of, subcommand_of};
 ghost use Rattle.command_line.specs.CommandLine.{plc_app, IsNumber, GivesNumber, AsksEval, AsksPlan, AsksSim, AsksRun, AsksFor, given_word, words_given, is_given};
 
 use crate::commands::commands;
@@ -150,25 +150,14 @@ fn request_of<'a>(
     }
 }
 
-/// What is asked for, by what was found for the words.
-fn request_found<'a>(
-    alloc: Global,
-    command: &mut Command<'a>,
-    matches: &ArgMatches<'a>,
-) -> Result<Request<'a>, Error>
-    ensures { IfOk result (AsksFor (subcommand_rows_of matches.now)) }
-{
-    match matches.subcommand() {
-        Some((name, inner)) => request_of(alloc, command, name, inner),
-        None => Err(command.error(ErrorKind::MissingSubcommand, "a command is missing")?),
-    }
-}
-
 /// Reads the words, of which the first is the program's own name.
 pub fn read_words<'a>(alloc: Global, words: &'a [String]) -> Result<Request<'a>, Error>
     ensures { IfOk result (AsksFor (subcommand_of plc_app (map (λ word. string_bytes word) words.now))) }
 {
     let mut command = commands(alloc)?;
     let matches = command.try_get_matches_from_mut(words)?;
-    request_found(alloc, &mut command, &matches)
+    match matches.subcommand() {
+        Some((name, inner)) => request_of(alloc, &mut command, name, inner),
+        None => Err(command.error(ErrorKind::MissingSubcommand, "a command is missing")?),
+    }
 }

@@ -1,14 +1,14 @@
+-- The arguments are added one by one.
 use Rattle.std.proofs.Common.{ap, ap₂, ◌∙◌}
 use Rattle.std.proofs.lemmas.Result.{IfOk-weaker}
 use Rattle.clap.specs.Words.{with_rule}
 use Rattle.clap.specs.Simple.{app_of_fields}
-use Rattle.command_line.proofs.Matching.{one_more_arg}
 use Rattle.command_line.proofs.commands.run_command.Goals as goal
 
 pub returns : goal.returns
 returns c =
     let top = ap app_of_fields c.after_help.ensures ∙ ap app_of_fields c.about.ensures ∙ c.new.ensures.app in
-    let one = IfOk-weaker c.arg-of_plant.result _ _ (λ new added. added.shape c.plant_arg.ensures.local ∙ ap₂ with_rule top c.plant_arg.ensures.rule) c.arg-of_plant.ensures in
-    let two = one_more_arg c.arg-of_plant.result c.with_arg-timed.result _ _ _ one c.with_arg-timed.ensures c.until_arg.ensures.local c.until_arg.ensures.rule in
-    let three = one_more_arg c.with_arg-timed.result c.with_arg-paced.result _ _ _ two c.with_arg-paced.ensures c.paced_arg.ensures.local c.paced_arg.ensures.rule in
-    one_more_arg c.with_arg-paced.result c.with_arg.result _ _ _ three c.with_arg.ensures c.words_arg.ensures.local c.words_arg.ensures.rule
+    let one = c.in_ok-arg.ensures.shape c.plant_arg.ensures.local ∙ ap₂ with_rule top c.plant_arg.ensures.rule in
+    let two = c.in_ok-arg-2.ensures.shape c.until_arg.ensures.local ∙ ap₂ with_rule one c.until_arg.ensures.rule in
+    let three = c.in_ok-arg-3.ensures.shape c.paced_arg.ensures.local ∙ ap₂ with_rule two c.paced_arg.ensures.rule in
+    IfOk-weaker c.arg-4.result _ _ (λ new added. added.shape c.words_arg.ensures.local ∙ ap₂ with_rule three c.words_arg.ensures.rule) c.arg-4.ensures

@@ -1,9 +1,10 @@
 use Rattle.std.proofs.Common.{refl}
-use Rattle.command_line.proofs.Matching.{one_more_command}
+use Rattle.std.proofs.lemmas.Result.{IfOk-weaker}
+use Rattle.command_line.proofs.Matching.{one_more}
 use Rattle.command_line.proofs.commands.text_commands.Goals as goal
 
 pub returns : goal.returns
 returns c =
-    let one = one_more_command c.plc_command.result c.eval_command.result _ _ _ c.plc_command.ensures c.eval_command.ensures c.with_subcommand-with_eval.ensures refl in
-    let two = one_more_command c.with_subcommand-with_eval.result c.check_command.result _ _ _ one c.check_command.ensures c.with_subcommand-with_check.ensures refl in
-    one_more_command c.with_subcommand-with_check.result c.plan_command.result _ _ _ two c.plan_command.ensures c.with_subcommand.ensures refl
+    let one = one_more _ _ _ _ _ c.in_ok-subcommand.ensures c.in_ok-plc_command.ensures c.in_ok-eval_command.ensures refl in
+    let two = one_more _ _ _ _ _ c.in_ok-subcommand-2.ensures one c.in_ok-check_command.ensures refl in
+    IfOk-weaker c.subcommand-3.result _ _ (λ new added. one_more _ _ _ _ _ added two c.in_ok-plan_command.ensures refl) c.subcommand-3.ensures
