@@ -1,5 +1,5 @@
 -- Evaluations with the same contents are equal, since the waiting places of a state are those of its code.
-use Rattle.std.proofs.Common.{◌≡◌, List, refl, ap, sym, subst}
+use Rattle.std.proofs.Common.{◌≡◌, List, refl, sym, subst}
 use Rattle.power_flow.specs.StateValue.{StateValue}
 use Rattle.task_codes.specs.CodeValue.{CodeValue}
 use Rattle.evaluation.specs.States.{AreStatesOf}

@@ -1,10 +1,10 @@
 -- What holds of all rows.
-use Rattle.std.specs.Prelude.{ℕ, ◌+◌, ◌≡◌, ◌<◌, ◌≤◌, length, Bool, true, false, Some}
+use Rattle.std.specs.Prelude.{ℕ, ◌+◌, ◌≡◌, ◌<◌, ◌≤◌, length, Bool, true, false, IsFalse, Some}
 use Rattle.std.specs.List.{All}
 use Rattle.ladder_rows.specs.declared.boxes.outline.Outline.{Outline}
 use Rattle.ladder_rows.specs.Rows.{Rows, height, width, run}
 use Rattle.ladder_rows.specs.Boxes.{box_at}
-use Rattle.ladder_rows.specs.Faults.{IsTooLargeAt}
+use Rattle.ladder_rows.specs.Faults.{IsTooLargeAt, PassesInRows, IsFirstAt}
 
 -- the box b begins at (r, c), ends within the rows and columns, and has its pins between its top and its bottom
 pub record IsWholeAt (d : Rows) (r c : ℕ) (b : Outline) : Type 0 where
@@ -29,3 +29,9 @@ abbrev pub DoRunsEnd : Type 0
 DoRunsEnd =
     (p : ℕ → Bool) (i m n : ℕ) → m ≤ n → ((j : ℕ) → j < m → p (i + j) ≡ true) → (m < n → p (i + m) ≡ false)
     → run p i n ≡ m
+
+-- a place that passes a test is the first one, where none of a row above it passes, and none before it in its row
+abbrev pub IsFirstByRows : Type 0
+IsFirstByRows =
+    (d : Rows) (test : ℕ → ℕ → Bool) (r c : ℕ) → ((i j : ℕ) → i < r → j ≤ width d → IsFalse (test i j))
+    → ((k : ℕ) → k < c → IsFalse (test r k)) → PassesInRows d test r c → IsFirstAt (PassesInRows d test) r c

@@ -15,5 +15,5 @@ pub use boxes::outline::Outline;
 pub use boxes::outlines::first_bad_box;
 pub use characters::grid::Grid;
 pub use characters::rows::{Row, first_not_ascii, rows_of};
-pub use laws::{boxes_are_whole, rows_are_within, runs_end};
+pub use laws::{boxes_are_whole, first_is_by_rows, rows_are_within, runs_end};
 pub use span::Span;

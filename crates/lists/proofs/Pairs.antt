@@ -1,5 +1,5 @@
 -- What holds of each item of a list with each behind it.
-use Rattle.std.proofs.Common.{◌≡◌, suc, List, [], ◌∷◌, ◌++◌, map, All, arith}
+use Rattle.std.proofs.Common.{suc, List, [], ◌∷◌, ◌++◌, map, All, arith}
 use Rattle.std.specs.Prelude.{AllPairs}
 use Rattle.std.proofs.lemmas.List.Elements.{All-append, All-map, All-head, All-tail}
 use Rattle.std.proofs.lemmas.List.Kept.{AllPairs-cons}

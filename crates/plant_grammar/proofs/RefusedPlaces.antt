@@ -95,12 +95,12 @@ program_named k before start now e tells of =
     (begin_left (RefusesProgramName k before) (IsAfterName (RefusesBlocks k [])) now (name_repeated k now (λ (p : Program). p.name) before (64 ≤ length before) tells of))
 
 -- a program up to a variable
-pub in_program : (k : GrammarFaultKind) (before : List Program) (n : List ℕ) (declared : List Declaration) (start one two : List Token) → start ≡ key_word key.Program ∷ one → one ≡ token.Name n ∷ two → declared ≡ []
-    → BeginWith (RefusesBlocks k declared) two → BeginWith (RefusesProgram k before) start
+pub in_program : (k : GrammarFaultKind) (before : List Program) (n : List ℕ) (declared : List Declaration) (start now : List Token) → start ≡ key_word key.Program ∷ token.Name n ∷ now → declared ≡ []
+    → BeginWith (RefusesBlocks k declared) now → BeginWith (RefusesProgram k before) start
 unfolding RefusesProgram
-in_program k before n declared start one two h1 h2 none b =
-    begin_after (key_word key.Program) (λ more. RefusesProgramName k before more ⊎ IsAfterName (RefusesBlocks k []) more) start one h1
-    (begin_right (RefusesProgramName k before) (IsAfterName (RefusesBlocks k [])) one (begin_after_name n (RefusesBlocks k []) one two h2 (subst (λ ds. BeginWith (RefusesBlocks k ds) two) none b)))
+in_program k before n declared start now e none b =
+    begin_after (key_word key.Program) (λ more. RefusesProgramName k before more ⊎ IsAfterName (RefusesBlocks k []) more) start (token.Name n ∷ now) e
+    (begin_right (RefusesProgramName k before) (IsAfterName (RefusesBlocks k [])) (token.Name n ∷ now) (begin_after_name n (RefusesBlocks k []) (token.Name n ∷ now) now refl (subst (λ ds. BeginWith (RefusesBlocks k ds) now) none b)))
 
 -- a program behind others
 pub program_refused : (k : GrammarFaultKind) (programs : List Program) (start now : List Token) → start ≡ flat_map program_words programs ++ now → BeginWith (RefusesProgram k programs) now → BeginWith (RefusesPrograms k) start
@@ -144,19 +144,19 @@ instance_named k i m before start now e tells of =
     (begin_left (RefusesInstanceName k i before) (IsAfterName (RefusesBinds k m)) now (name_repeated k now (λ (u : Use). u.instance) (flat_map use_of before) (64 ≤ i) tells of))
 
 -- an instance up to one of its binds
-pub in_instance : (k : GrammarFaultKind) (i m n : ℕ) (before : List Item) (name task type : List ℕ) (start one two three four five six : List Token)
-    → start ≡ key_word key.Program ∷ one → one ≡ token.Name name ∷ two → two ≡ key_word key.With ∷ three → three ≡ token.Name task ∷ four → four ≡ mark_word Colon ∷ five → five ≡ token.Name type ∷ six → n ≡ m
-    → BeginWith (IsAfter (mark_word Open) (RefusesBind k n)) six → BeginWith (RefusesInstance k i m before) start
+pub in_instance : (k : GrammarFaultKind) (i m n : ℕ) (before : List Item) (name task type : List ℕ) (start one two now : List Token)
+    → start ≡ key_word key.Program ∷ token.Name name ∷ one → one ≡ key_word key.With ∷ token.Name task ∷ two → two ≡ mark_word Colon ∷ token.Name type ∷ now → n ≡ m
+    → BeginWith (IsAfter (mark_word Open) (RefusesBind k n)) now → BeginWith (RefusesInstance k i m before) start
 unfolding RefusesInstance RefusesBinds
-in_instance k i m n before name task type start one two three four five six h1 h2 h3 h4 h5 h6 same b =
+in_instance k i m n before name task type start one two now h1 h2 h3 same b =
     let binds = IsAfter (mark_word Open) (RefusesBind k m) in
-    begin_after (key_word key.Program) (λ more. RefusesInstanceName k i before more ⊎ IsAfterName (RefusesBinds k m) more) start one h1
-    (begin_right (RefusesInstanceName k i before) (IsAfterName (RefusesBinds k m)) one
-    (begin_after_name name (RefusesBinds k m) one two h2
-    (begin_after (key_word key.With) (IsAfterName (IsAfter (mark_word Colon) (IsAfterName binds))) two three h3
-    (begin_after_name task (IsAfter (mark_word Colon) (IsAfterName binds)) three four h4
-    (begin_after (mark_word Colon) (IsAfterName binds) four five h5
-    (begin_after_name type binds five six h6 (subst (λ (j : ℕ). BeginWith (IsAfter (mark_word Open) (RefusesBind k j)) six) same b)))))))
+    begin_after (key_word key.Program) (λ more. RefusesInstanceName k i before more ⊎ IsAfterName (RefusesBinds k m) more) start (token.Name name ∷ one) h1
+    (begin_right (RefusesInstanceName k i before) (IsAfterName (RefusesBinds k m)) (token.Name name ∷ one)
+    (begin_after_name name (RefusesBinds k m) (token.Name name ∷ one) one refl
+    (begin_after (key_word key.With) (IsAfterName (IsAfter (mark_word Colon) (IsAfterName binds))) one (token.Name task ∷ two) h2
+    (begin_after_name task (IsAfter (mark_word Colon) (IsAfterName binds)) (token.Name task ∷ two) two refl
+    (begin_after (mark_word Colon) (IsAfterName binds) two (token.Name type ∷ now) h3
+    (begin_after_name type binds (token.Name type ∷ now) now refl (subst (λ (j : ℕ). BeginWith (IsAfter (mark_word Open) (RefusesBind k j)) now) same b)))))))
 
 -- a line of a resource behind others
 pub item_refused : (k : GrammarFaultKind) (old tally : TallyValue) (items : List Item) (start now : List Token) → start ≡ flat_map item_words items ++ now → tally ≡ tally_with old (flat_map use_of items)

@@ -7,9 +7,8 @@ use Rattle.std.proofs.lemmas.List.{get_or-take, get_or_default, take_all}
 use Rattle.std.proofs.lemmas.List.Folds.{list_any_at, list_any_more}
 use Rattle.drawings.specs.declared.place.Place.{Place}
 use Rattle.ladder_rows.specs.declared.span.Span.{Span}
-use Rattle.ladder_rows.specs.Rows.{Rows, width}
 use Rattle.ladder_text.specs.Places.{is_before}
-use Rattle.ladder_rows.specs.Faults.{PassesInRows, IsPlaceUpTo, IsFirstAt}
+use Rattle.ladder_rows.specs.Faults.{IsPlaceUpTo, IsFirstAt}
 use Rattle.ladder_text.specs.FirstFault.{IsSpanAt}
 use Rattle.ladder_text.specs.Steps.Search.{IsNone, IsFirstOf, IsFirstColumn, IsFirstColumnOf, or_earlier}
 
@@ -27,19 +26,6 @@ row_first IsSuch r c above here = record {
     ]
   ];
 }
-
--- the same of a test that passes nowhere above, and before the column in no place of its row
-pub found_first : (d : Rows) (test : ℕ → ℕ → Bool) (r c : ℕ) → ((i j : ℕ) → i < r → j ≤ width d → IsFalse (test i j)) → ((k : ℕ) → k < c → IsFalse (test r k))
-    → PassesInRows d test r c → IsFirstAt (PassesInRows d test) r c
-found_first d test r c above before here =
-    row_first (PassesInRows d test) r c (λ i j h w. both_ways (test i j) (above i j h w.in_columns) w.passes)
-    (record {
-      such = here;
-      first = λ k w. elim (cases_lt k c) [
-        | inl l ↦ absurd (both_ways (test r k) (before k l) w.passes)
-        | inr l ↦ l
-      ];
-    })
 
 up_to-next : (r c i j k l : ℕ) → IsPlaceUpTo r c i j → IsPlaceUpTo i j k l → IsPlaceUpTo r c k l
 up_to-next r c i j k l (inl a) (inl b) = inl (omega arith)

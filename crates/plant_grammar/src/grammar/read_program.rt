@@ -4,11 +4,12 @@ ghost use Rattle.std.specs.Prelude.{◌≡◌, ◌∷◌, ◌++◌, ◌+◌, ◌
 ghost use Rattle.plant_grammar.specs.WordFaults.{IsGrammarFault};
 ghost use Rattle.std.specs.List.{flat_map};
 ghost use Rattle.plant_text.specs.declared.token.Token.TheVariants as token;
-ghost use Rattle.plant_grammar.specs.Grammar.{section_word, kind_word, type_word, name_words, list_words, lists_words, block_words, program_words};
+ghost use Rattle.plant_text.specs.declared.token.Keyword.TheVariants as key;
+ghost use Rattle.plant_grammar.specs.Grammar.{key_word, section_word, kind_word, type_word, name_words, list_words, lists_words, block_words, program_words};
 ghost use Rattle.plant_grammar.specs.Lawful.{list_variables, lists_variables, block_variables, IsTypeLawful, IsListLawful, IsBlockLawful, IsProgramLawful};
 ghost use Rattle.plant_grammar.specs.NameFaults.{TellsOfName, RefusesVariable, RefusesList, RefusesBlock, RefusesBlocks, RefusesProgram, RefusesPrograms};
 ghost use Rattle.plant_grammar.specs.Steps.Declaring.{TellsOfType, TellsOfVariable, BeginRefused};
-ghost use Rattle.plant_grammar.specs.Steps.Lines.{IsOneNext, IsNoneNext};
+ghost use Rattle.plant_grammar.specs.Steps.Lines.{next_line, IsOneNext, IsNoneNext};
 ghost use Rattle.plant_grammar.specs.Steps.ReadParts.{IsNew, AreProgramsDeclared};
 ghost use Rattle.plant_grammar.specs.Steps.Reading.{programs_of, all_words, AreSameWords, AreSameLines, BeginWithWordsOf, BeginWithLinesOf};
 
@@ -22,6 +23,7 @@ use crate::grammar_fault::{GrammarFault, GrammarFaultKind};
 use declared_names::Kind;
 use plant_text::{Keyword, Punctuation};
 use std::alloc::Global;
+use words::Text;
 
 /// How many program types a plant may have.
 const MOST_TYPES: usize = 64;
@@ -226,6 +228,32 @@ impl<'a> Reader<'a> {
         Ok(name)
     }
 
+    /// PROGRAM and the new name of a program type, behind these.
+    #[tactic(auto, using(crate::proofs::RefusedNames::no_name))]
+    fn program_start(&mut self, alloc: Global, before: &[ProgramText]) -> Result<Name, GrammarFault>
+        ensures ok { IfOk result (λ name. self.old.words ≡ key_word key.Program ∷ token.Name name ∷ self.new.words) }
+        ensures bodies { OnOk result (self.new.bodies ≡ self.old.bodies) }
+        ensures new { IfOk result (λ name. IsNew (λ p. p.name) (programs_of before.now) name) }
+        ensures few { OnOk result (length before.now < 64) }
+        ensures names { IfErr result (BeginRefused (λ k. RefusesProgram k (programs_of before.now)) self.old.words) }
+        ensures value { IfErr result IsGrammarFault }
+    {
+        self.keyword(Keyword::Program)?;
+        self.new_type(alloc, before)
+    }
+
+    /// A body up to the end of its program.
+    fn program_end(&mut self, alloc: Global) -> Result<Text, GrammarFault>
+        ensures ok { IfOk result (λ body. self.old.words ≡ token.Body body ∷ key_word key.EndProgram ∷ self.new.words) }
+        ensures bodies { OnOk result (self.old.bodies ≡ next_line self.old ∷ self.new.bodies) }
+        ensures tells { IfErr result (λ e. TellsOfName e.kind ⊥ ⊥) }
+        ensures value { IfErr result IsGrammarFault }
+    {
+        let body = self.body(alloc)?;
+        self.keyword(Keyword::EndProgram)?;
+        Ok(body)
+    }
+
     /// A program type, behind these. Its body isn't drawn.
     #[tactic(auto, using(crate::proofs::RefusedNames::no_name, crate::proofs::RefusedNames::memory_no_name), unfolding(crate::specs::Grammar::program_words))]
     fn program(
@@ -241,13 +269,11 @@ impl<'a> Reader<'a> {
         ensures names { IfErr result (BeginRefused (λ k. RefusesProgram k (programs_of before.now)) self.old.words) }
         ensures value { IfErr result IsGrammarFault }
     {
-        self.keyword(Keyword::Program)?;
-        let name = self.new_type(alloc, before)?;
+        let name = self.program_start(alloc, before)?;
         let mut variables = Variables::new(alloc);
         let blocks = self.blocks(alloc, &mut variables)?;
         let first_line = self.line();
-        let body = self.body(alloc)?;
-        self.keyword(Keyword::EndProgram)?;
+        let body = self.program_end(alloc)?;
         let program = Program { name, blocks, body };
         Ok(ProgramText::new(program, first_line, variables.into_declarations()))
     }

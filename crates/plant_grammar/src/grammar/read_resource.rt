@@ -1,16 +1,19 @@
 //! The rules of the grammar from tasks to resources.
 
-ghost use Rattle.std.specs.Prelude.{◌≡◌, [], ◌∷◌, ◌++◌, ◌+◌, ◌<◌, IfOk, OnOk, Any, map, length, IsTrue, IfErr};
+ghost use Rattle.std.specs.Prelude.{◌≡◌, Some, [], ◌∷◌, ◌++◌, ◌+◌, ◌<◌, IfOk, OnOk, Any, map, length, IsTrue, IfErr};
 ghost use Rattle.plant_grammar.specs.WordFaults.{IsGrammarFault};
-ghost use Rattle.std.specs.List.{flat_map};
+ghost use Rattle.std.specs.List.{find, flat_map};
 ghost use Rattle.plant_text.specs.declared.token.Token.TheVariants as token;
-ghost use Rattle.plant_grammar.specs.Grammar.{interval_words, priority_words, settings, task_words, source_words, bind_words, binds_words, binds_listed, use_words, item_words, items_words, resource_words, resources_words};
+ghost use Rattle.plant_text.specs.declared.token.Keyword.TheVariants.{Program, With};
+ghost use Rattle.plant_text.specs.declared.token.Punctuation.TheVariants.{Colon};
+ghost use Rattle.plant_grammar.specs.Grammar.{key_word, mark_word, interval_words, priority_words, settings, task_words, source_words, bind_words, binds_words, binds_listed, use_words, item_words, items_words, resource_words, resources_words};
 ghost use Rattle.plant_grammar.specs.Names.{is_named, AreNamesApart};
 ghost use Rattle.plant_grammar.specs.Lawful.{variables, task_of, use_of, uses_of, IsUseLawful, IsResourceLawful};
 ghost use Rattle.plant_grammar.specs.NameFaults.{TellsOfName, RefusesTask, RefusesBind};
 ghost use Rattle.plant_grammar.specs.Steps.Declaring.{TellsOfTask, TellsOfInstance, TellsOfBind, TellsOfResource, BeginRefused, RefusesFurtherInstance, RefusesItem, RefusesFurtherItems, RefusesFurtherResource, RefusesFurtherResources, RefusesInParentheses};
-ghost use Rattle.plant_grammar.specs.Steps.ReadParts.{types_alone, with_instance, with_binds, tally_with, EndWithBinds, bound_in, HasFieldKind, IsOfInputKind, IsNew, MayFollow, AreItemsLawful, AreResourcesLawful};
+ghost use Rattle.plant_grammar.specs.Steps.ReadParts.{types_alone, with_instance, with_binds, tally_with, EndWithBinds, bound_in, input_kind_of, HasFieldKind, IsOfInputKind, IsNew, MayFollow, AreItemsLawful, AreResourcesLawful};
 ghost use Rattle.plant_grammar.specs.Kinds.{kind_of_space};
+ghost use Rattle.declared_names.specs.declared.declarations.Kind.{Kind};
 
 use crate::grammar::known_names::{
     check_new, count_tasks, input_kind, is_bound, is_instance, is_resource, is_task, program_named,
@@ -139,6 +142,25 @@ impl<'a> Reader<'a> {
         }
     }
 
+    /// An output of an instance of a resource.
+    fn output(&mut self, alloc: Global) -> Result<SourceName, GrammarFault>
+        ensures ok { IfOk result (λ s. self.old.words ≡ source_words s ++ self.new.words) }
+        ensures kind { (kind : Kind) → IfOk result (HasFieldKind kind) }
+        ensures tells { IfErr result (λ e. TellsOfName e.kind ⊥ ⊥) }
+        ensures value { IfErr result IsGrammarFault }
+    {
+        let resource = self.name(alloc)?;
+        self.punctuation(Punctuation::Dot)?;
+        let instance = self.name(alloc)?;
+        self.punctuation(Punctuation::Dot)?;
+        let output = self.name(alloc)?;
+        Ok(SourceName::Output {
+            resource,
+            instance,
+            output,
+        })
+    }
+
     /// The source of an input of a kind.
     fn source(&mut self, alloc: Global, kind: Kind) -> Result<SourceName, GrammarFault>
         ensures ok { IfOk result (λ s. self.old.words ≡ source_words s ++ self.new.words) }
@@ -149,17 +171,34 @@ impl<'a> Reader<'a> {
         if self.sees_address() {
             Ok(SourceName::Field(self.address_of(kind)?))
         } else {
-            let resource = self.name(alloc)?;
-            self.punctuation(Punctuation::Dot)?;
-            let instance = self.name(alloc)?;
-            self.punctuation(Punctuation::Dot)?;
-            let output = self.name(alloc)?;
-            Ok(SourceName::Output {
-                resource,
-                instance,
-                output,
-            })
+            self.output(alloc)
         }
+    }
+
+    /// The input of a bind of an instance of a type, behind these, and the kind that its source has.
+    fn bound_input(
+        &mut self,
+        alloc: Global,
+        program: &ProgramText,
+        before: &[Bind],
+        tally: &mut Tally,
+    ) -> Result<(Name, Kind), GrammarFault>
+        ensures ok { IfOk result (λ i. self.old.words ≡ token.Name i.0 ∷ self.new.words) }
+        ensures new { IfOk result (λ i. IsNew (λ b. b.input) before.now i.0) }
+        ensures kind { IfOk result (λ i. input_kind_of (variables program.now.program) i.0 ≡ Some i.1) }
+        ensures tally { OnOk result (tally.new ≡ with_binds tally.old 1) }
+        ensures tells { IfErr result (TellsOfBind tally.old.binds self.old.words) }
+        ensures value { IfErr result IsGrammarFault }
+    {
+        let input = self.name(alloc)?;
+        let Some(kind) = input_kind(program, &input) else {
+            return Err(GrammarFault::at(GrammarFaultKind::UnknownName, input.line()));
+        };
+        if is_bound(before, &input) {
+            return Err(GrammarFault::at(GrammarFaultKind::InputBoundTwice, input.line()));
+        }
+        tally.add_bind(&input)?;
+        Ok((input, kind))
     }
 
     /// A bind of an instance of a type, behind these.
@@ -178,14 +217,7 @@ impl<'a> Reader<'a> {
         ensures tells { IfErr result (TellsOfBind tally.old.binds self.old.words) }
         ensures value { IfErr result IsGrammarFault }
     {
-        let input = self.name(alloc)?;
-        let Some(kind) = input_kind(program, &input) else {
-            return Err(GrammarFault::at(GrammarFaultKind::UnknownName, input.line()));
-        };
-        if is_bound(before, &input) {
-            return Err(GrammarFault::at(GrammarFaultKind::InputBoundTwice, input.line()));
-        }
-        tally.add_bind(&input)?;
+        let (input, kind) = self.bound_input(alloc, program, before, tally)?;
         self.punctuation(Punctuation::Assign)?;
         let source = self.source(alloc, kind)?;
         Ok(Bind { input, source })
@@ -273,6 +305,54 @@ impl<'a> Reader<'a> {
         }
     }
 
+    /// PROGRAM and the new name of an instance, behind these lines of its resource.
+    #[tactic(auto, using(crate::proofs::RefusedNames::no_name))]
+    fn instance_start(
+        &mut self,
+        alloc: Global,
+        before: &[Item],
+        tally: &mut Tally,
+    ) -> Result<Name, GrammarFault>
+        ensures ok { IfOk result (λ name. self.old.words ≡ key_word Program ∷ token.Name name ∷ self.new.words) }
+        ensures new { IfOk result (λ name. IsNew (λ u. u.instance) (flat_map use_of before.now) name) }
+        ensures tally { OnOk result (tally.new ≡ with_instance tally.old) }
+        ensures names { IfErr result (BeginRefused (RefusesFurtherInstance tally.old before.now) self.old.words) }
+        ensures value { IfErr result IsGrammarFault }
+    {
+        self.keyword(Keyword::Program)?;
+        self.instance_name(alloc, before, tally)
+    }
+
+    /// WITH and the name of a task of these lines.
+    fn task_of_instance(&mut self, alloc: Global, before: &[Item]) -> Result<Name, GrammarFault>
+        ensures ok { IfOk result (λ name. self.old.words ≡ key_word With ∷ token.Name name ∷ self.new.words) }
+        ensures known { IfOk result (λ name. Any (λ t. IsTrue (is_named name t.name)) (flat_map task_of before.now)) }
+        ensures tells { IfErr result (λ e. TellsOfName e.kind ⊥ ⊥) }
+        ensures value { IfErr result IsGrammarFault }
+    {
+        self.keyword(Keyword::With)?;
+        self.known_task(alloc, before)
+    }
+
+    /// The type of an instance behind its colon, by its name, and the program of that name.
+    fn type_of_instance<'t>(
+        &mut self,
+        alloc: Global,
+        types: &'t [ProgramText],
+    ) -> Result<(Name, &'t ProgramText), GrammarFault>
+        ensures ok { IfOk result (λ p. self.old.words ≡ mark_word Colon ∷ token.Name p.0 ∷ self.new.words) }
+        ensures found { IfOk result (λ p. find (λ t. is_named p.0 t.program.name) types.now ≡ Some p.1.now) }
+        ensures tells { IfErr result (λ e. TellsOfName e.kind ⊥ ⊥) }
+        ensures value { IfErr result IsGrammarFault }
+    {
+        self.punctuation(Punctuation::Colon)?;
+        let name = self.name(alloc)?;
+        match program_named(types, &name) {
+            Some(program) => Ok((name, program)),
+            None => Err(GrammarFault::at(GrammarFaultKind::UnknownName, name.line())),
+        }
+    }
+
     /// A program instance, behind these lines of its resource.
     #[tactic(auto, using(crate::proofs::RefusedNames::no_name, crate::proofs::RefusedNames::memory_no_name), unfolding(crate::specs::Grammar::use_words))]
     fn instance(
@@ -289,16 +369,10 @@ impl<'a> Reader<'a> {
         ensures names { IfErr result (BeginRefused (RefusesFurtherInstance tally.old before.now) self.old.words) }
         ensures value { IfErr result IsGrammarFault }
     {
-        self.keyword(Keyword::Program)?;
-        let instance = self.instance_name(alloc, before, tally)?;
-        self.keyword(Keyword::With)?;
-        let task = self.known_task(alloc, before)?;
-        self.punctuation(Punctuation::Colon)?;
-        let program = self.name(alloc)?;
-        let Some(found) = program_named(types, &program) else {
-            return Err(GrammarFault::at(GrammarFaultKind::UnknownName, program.line()));
-        };
-        let binds = self.some_binds(alloc, found, tally)?;
+        let instance = self.instance_start(alloc, before, tally)?;
+        let task = self.task_of_instance(alloc, before)?;
+        let (program, text) = self.type_of_instance(alloc, types)?;
+        let binds = self.some_binds(alloc, text, tally)?;
         self.punctuation(Punctuation::Semicolon)?;
         Ok(Use {
             instance,

@@ -15,7 +15,7 @@ use crate::places::mark_tests::{has_meaning, is_line, is_taken, is_vertical};
 use crate::places::marked_grid::MarkedGrid;
 use crate::places::place_fault::PlaceFault;
 use drawings::{Mark, MarkRow, Place};
-use ladder_rows::runs_end;
+use ladder_rows::{first_is_by_rows, runs_end};
 
 impl MarkedGrid {
     #[tactic(auto, unfolding(crate::specs::Places::layout_of, crate::specs::Places::gives))]
@@ -246,12 +246,12 @@ impl MarkedGrid {
     }
 
     /// The first place with a fault.
-    #[tactic(auto, using(crate::proofs::Faults::SearchLemmas::found_first))]
     pub fn first_fault(&self, fault: PlaceFault) -> Option<Place>
         ensures none { IfNone result (NowhereInRows self.now (has_fault fault (layout_of self.now))) }
         ensures some { IfSome result (λ p. PassesAt self.now (has_fault fault (layout_of self.now)) p) }
         ensures first { IfSome result (λ p. IsFirstToPass self.now (has_fault fault (layout_of self.now)) p) }
     {
+        first_is_by_rows();
         for row in 0..self.grid.row_end() {
             if let Some(column) = self.fault_in_row(fault, row) {
                 return Some(Place { row, column });

@@ -1,0 +1,21 @@
+use Rattle.std.proofs.Common.{◌≤◌, length, arith}
+use Rattle.std.proofs.lemmas.List.{length-map}
+use Rattle.std.proofs.lemmas.Result.{IfErr-weaker}
+use Rattle.plant_grammar.specs.Grammar.{TextValue}
+use Rattle.plant_grammar.specs.declared.grammar.tree.Program.{Program}
+use Rattle.plant_grammar.specs.Steps.Reading.{programs_of}
+use Rattle.plant_grammar.specs.Steps.Declaring.{RepeatsName, IsNameNext}
+use Rattle.plant_grammar.proofs.RefusedNames.{tells_with}
+use Rattle.plant_grammar.proofs.RefusedPlaces.{program_named}
+use Rattle.plant_grammar.proofs.grammar.reader.Reader.program_start.Goals as goal
+
+pub returns-clause-names : goal.returns-clause-names
+returns-clause-names c =
+    let before = programs_of c.args.before.now in
+    let words = c.keyword.new.self.words in
+    let repeats = RepeatsName (λ (x : Program). x.name) before words in
+    IfErr-weaker c.new_type.result _ _
+    (λ fault tells of. program_named fault.kind before c.args.self.now.words words c.in_ok-keyword.ensures.ok
+    (tells_with fault.kind repeats (IsNameNext words × (64 ≤ length c.args.before.now)) repeats (IsNameNext words × (64 ≤ length before)) (λ twice. twice)
+    (λ full. (full.0, omega (arith, full.1, length-map c.args.before.now (λ (t : TextValue). t.program)))) tells) of)
+    c.new_type.ensures.tells
