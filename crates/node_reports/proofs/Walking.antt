@@ -1,5 +1,5 @@
 -- One walk over the book, and along the journals.
-use Rattle.std.proofs.Common.{◌≡◌, ◌≢◌, ◌⊎◌, inl, inr, ℕ, ◌+◌, ◌<◌, ◌++◌, true, false, cond, eqb, List, [], ◌∷◌, length, drop, get_or, set, Some, slice_get, ap, sym, ◌∙◌, subst, append_assoc, length-set}
+use Rattle.std.proofs.Common.{◌≡◌, ◌≢◌, ◌⊎◌, inl, inr, ℕ, ◌<◌, ◌++◌, true, false, cond, eqb, List, [], ◌∷◌, length, drop, get_or, set, Some, slice_get, ap, sym, ◌∙◌, subst, append_assoc, length-set}
 use Rattle.std.proofs.lemmas.Bool.Decides.{eqb_tells}
 use Rattle.std.proofs.lemmas.List.{get_or-set_same, get_or-set_other, append-nil}
 use Rattle.std.proofs.lemmas.List.Elements.{filter-append}
