@@ -5,7 +5,7 @@ use Rattle.task_codes.specs.CodeValue.{CodeValue}
 use Rattle.evaluation.specs.States.{AreStatesOf}
 use Rattle.evaluation.specs.Meaning.{Evaluated, IsWhole}
 use Rattle.evaluation.specs.Steps.Contents.{HaveSameContents}
-use Rattle.evaluation.proofs.StateLemmas.{same_as_itself, states_of_one}
+use Rattle.evaluation.proofs.InitialStates.{same_as_itself, states_of_one}
 
 pub equal_contents : (x y : Evaluated) → IsWhole x → IsWhole y → HaveSameContents x y → x ≡ y
 equal_contents x y one other same =

@@ -1,7 +1,7 @@
 pub mod Contents
-pub mod Lists
-pub mod FillLemmas
-pub mod ScanLemmas
-pub mod StateLemmas
+pub mod MappedLists
+pub mod FilledInputs
+pub mod ScannedPrograms
+pub mod InitialStates
 pub mod Meant
-pub mod InputLemmas
+pub mod FieldInputs

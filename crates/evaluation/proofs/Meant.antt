@@ -19,8 +19,8 @@ use Rattle.evaluation.specs.declared.take.Take.{Take}
 use Rattle.evaluation.specs.Meaning.{Evaluated, IsUnbound, AreFilled, IsFilled, IsScanned, AllFilled, AllScanned, Means, IsMeant, IsAsked, evaluated, output_value}
 use Rattle.evaluation.specs.Laws.{OneMeaning, OneEvaluation}
 use Rattle.evaluation.specs.States.{AreStatesOf, AreSame}
-use Rattle.evaluation.proofs.Lists.{found_not_none}
-use Rattle.evaluation.proofs.StateLemmas.{same_as_itself, states_of_one}
+use Rattle.evaluation.proofs.MappedLists.{found_not_none}
+use Rattle.evaluation.proofs.InitialStates.{same_as_itself, states_of_one}
 
 -- a place is bound by some binding, or by none
 bound_or_not : (bindings : List Binding) (place : ℕ) → ((j : ℕ) × (b : Binding) × (slice_get bindings j ≡ Some b) × (b.place ≡ place)) ⊎ IsUnbound bindings place

@@ -139,7 +139,7 @@ fn inputs_of(alloc: Global, words: &[&[u8]]) -> Result<Vec<FieldInput>, InputFau
 }
 
 /// Whether an address comes twice.
-#[tactic(auto, using(crate::proofs::InputLemmas::few_apart))]
+#[tactic(auto, using(crate::proofs::FieldInputs::few_apart))]
 fn has_twice(alloc: Global, inputs: &[FieldInput]) -> Result<bool, AllocError>
     ensures { IfOk result (λ twice. IsFalse twice ↔ AreApart inputs.now) }
 {

@@ -1,4 +1,4 @@
--- AllByRecursion test of a book tells whether its clause holds.
+-- Each test of a book tells whether its clause holds.
 use Rattle.std.proofs.Common.{◌≡◌, arith, inl, inr, ℕ, ◌+◌, ◌<◌, ◌≤◌, Bool, true, false, cond, ◌&&◌, ◌||◌, List, [], ◌∷◌, length, Option, Some, None, refl, ap, sym, ◌∙◌, subst, eqb, ltb, leb}
 use Rattle.std.specs.Prelude.{not, is_some, slice_index, MatchOption}
 use Rattle.std.specs.Bool.{Decides}

@@ -1,7 +1,7 @@
 -- Boxes and their pins.
-pub mod PinLemmas
+pub mod FaultyPins
 pub mod PinRows
 pub mod RowPins
-pub mod CornerLemmas
+pub mod Corners
 pub mod WholeBoxes
-pub mod RowBoxLemmas
+pub mod RowBoxes

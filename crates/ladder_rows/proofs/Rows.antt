@@ -1,7 +1,7 @@
 -- Rows of characters.
-pub mod RowLemmas
-pub mod RunLemmas
-pub mod WidthLemmas
-pub mod SizeLemmas
-pub mod AsciiLemmas
+pub mod TextRows
+pub mod Runs
+pub mod Widths
+pub mod Limits
+pub mod AsciiCharacters
 pub mod FirstPlaces

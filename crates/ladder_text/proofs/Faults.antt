@@ -1,6 +1,6 @@
 -- Faults, and which of them is the first.
 pub mod WellDrawn
 pub mod IllDrawn
-pub mod SearchLemmas
+pub mod FirstPlaces
 pub mod FirstFaults
 pub mod Faultless

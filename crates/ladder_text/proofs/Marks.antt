@@ -1,9 +1,9 @@
 -- What stands at a place, and the picture of all places.
-pub mod PlaceLemmas
-pub mod MarkLemmas
+pub mod LaidPlaces
+pub mod LaidMarks
 pub mod SymbolPlaces
 pub mod SymbolItems
-pub mod RowMarkLemmas
+pub mod RowMarks
 pub mod FinePlaces
-pub mod PictureLemmas
+pub mod PictureMarks
 pub mod Soundness

@@ -1,4 +1,4 @@
 -- Rows of characters, and lists by place.
-pub mod RunLemmas
-pub mod LeftLemmas
-pub mod ItemLemmas
+pub mod Runs
+pub mod LeftRail
+pub mod ListedItems

@@ -1,5 +1,5 @@
 -- Words above symbols.
-pub mod WordLemmas
+pub mod RowWords
 pub mod WordOrder
-pub mod PairLemmas
+pub mod NamedSymbols
 pub mod SpanRows

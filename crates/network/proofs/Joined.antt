@@ -1,5 +1,5 @@
 -- Elements that are joined.
 pub mod LaidOut
-pub mod RowLemmas
-pub mod PairLemmas
+pub mod RowTables
+pub mod LinkedPairs
 pub mod Spreading

@@ -1,4 +1,4 @@
 -- Elements of a drawing in a list.
 pub mod Sharing
-pub mod SymbolLemmas
-pub mod ListLemmas
+pub mod FoundSymbols
+pub mod ElementOrder

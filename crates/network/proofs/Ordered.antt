@@ -1,4 +1,4 @@
 -- Networks in order.
-pub mod RailLemmas
-pub mod TopLemmas
-pub mod SplitLemmas
+pub mod LeftRails
+pub mod Ranking
+pub mod Splitting

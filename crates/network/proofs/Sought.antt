@@ -1,3 +1,3 @@
 -- The faults of networks.
-pub mod FoundLemmas
-pub mod CornerLemmas
+pub mod FirstFound
+pub mod FirstCorners

@@ -21,7 +21,7 @@ use Rattle.network.specs.Steps.Ranks.{AreRanks, AreSplit, IsIn, ArePlaces, IsUnm
 use Rattle.network.specs.Steps.Twice.{IsTwiceIn}
 use Rattle.network.proofs.Basics.{one_at}
 use Rattle.network.proofs.Listed.Sharing.{shared, has_mark, has_on_page, within_rows, within_box, pin_within, precedes_not, marks_no_rail}
-use Rattle.network.proofs.Ordered.TopLemmas.{chained_is, chained_then}
+use Rattle.network.proofs.Ordered.Ranking.{chained_is, chained_then}
 
 -- what is known of an answer, once its error has become another
 pub ok_of : {T E F : Type 0} (P : T → Type 0) (Q : E → Type 0) (r : Result T E) (out : Result T F) (x : T) → MatchResult r (λ y. out ≡ Ok y) Q → is_ok out ≡ is_ok r → out ≡ Ok x → IfOk r P → P x

@@ -1,15 +1,15 @@
-pub mod ImageLemmas
+pub mod ProgramOutputs
 pub mod OutputOrder
-pub mod NameLemmas
+pub mod FoldedNames
 pub mod Zips
-pub mod DraftLemmas
-pub mod ProducerLemmas
-pub mod LinkLemmas
-pub mod StandLemmas
-pub mod FindLemmas
+pub mod Drafting
+pub mod FirstMentions
+pub mod LinkedCodes
+pub mod LinkedPlants
+pub mod FoundTasks
 pub mod RefusedKnown
 pub mod KnownWords
 pub mod BodyCounts
-mod PlanLemmas
-pub mod FaultLemmas
+mod DueTasks
+pub mod WordFaults
 pub mod DrawnTrees

@@ -13,7 +13,7 @@ use std::alloc::Global;
 impl Plant {
     /// Reads the text of a plant. The first fault met from top to bottom is answered, with its line; a word that the grammar doesn't have there, or that is no word,
     /// is met where it stands, a program's drawing at its END_PROGRAM, and the sources of bound inputs at END_CONFIGURATION.
-    #[tactic(auto, using(crate::proofs::FaultLemmas::memory_no_name, crate::proofs::FaultLemmas::memory_no_body))]
+    #[tactic(auto, using(crate::proofs::WordFaults::memory_no_name, crate::proofs::WordFaults::memory_no_body))]
     pub fn read(alloc: Global, text: &str) -> Result<Plant, PlantFault>
         ensures ok { IfOk result (λ p. IsPlantText text.now p) }
         ensures value { IfErr result IsPlantFault }

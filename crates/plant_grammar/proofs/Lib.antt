@@ -1,9 +1,9 @@
 pub mod Apart
 pub mod WordLists
-pub mod ItemLemmas
-pub mod TypeLemmas
+pub mod ResourceLines
+pub mod FoundTypes
 pub mod RefusedNames
 pub mod RefusedPlaces
 pub mod AddedNames
-pub mod VariableLemmas
-pub mod TreeLemmas
+pub mod ProgramVariables
+pub mod WholeTrees

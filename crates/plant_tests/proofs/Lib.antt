@@ -1,1 +1,1 @@
-pub mod NoLadderLemmas
+pub mod NoLadders

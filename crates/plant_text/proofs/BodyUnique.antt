@@ -5,7 +5,7 @@ use Rattle.std.specs.List.{AllByRecursion}
 use Rattle.std.specs.Str.{IsUtf8}
 use Rattle.plant_text.specs.Spelling.{first_line, is_one_line, IsEndLine}
 use Rattle.plant_text.specs.Steps.Lexing.{IsBlankLine, IsBehindBody, IsBodyThen}
-use Rattle.plant_text.proofs.LineLemmas.{first_line_at, one_line_and, first_of_lines, lines_text, IsLine}
+use Rattle.plant_text.proofs.BodyLines.{first_line_at, one_line_and, first_of_lines, lines_text, IsLine}
 use Rattle.plant_text.proofs.LineCounts.{passed}
 
 -- the line that ends behind the blank part

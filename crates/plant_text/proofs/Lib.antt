@@ -1,7 +1,7 @@
-pub mod GapLemmas
-pub mod WordLemmas
-pub mod FrontLemmas
-pub mod LineLemmas
-pub mod SpellingLemmas
+pub mod FoundGaps
+pub mod SingleWords
+pub mod FirstWords
+pub mod BodyLines
+pub mod SpelledWords
 pub mod LineCounts
 pub mod BodyUnique

@@ -11,8 +11,8 @@ use Rattle.plant_text.specs.Spelling.{is_parted, is_one_line, first_line, IsGap,
 use Rattle.plant_text.specs.Steps.Gaps.{IsBehindGap}
 use Rattle.plant_text.specs.Steps.Lexing.{IsWordThen, IsBlankLine, IsBehindBody, LexerValue, StandsFirst}
 use Rattle.plant_text.specs.Lines.{WordValue, body_line, body_lines, IsBegunBy}
-use Rattle.plant_text.proofs.FrontLemmas.{word_of-body}
-use Rattle.plant_text.proofs.SpellingLemmas.{known_before, known_last}
+use Rattle.plant_text.proofs.FirstWords.{word_of-body}
+use Rattle.plant_text.proofs.SpelledWords.{known_before, known_last}
 
 feeds_both : (a b : List ℕ) → feeds (a ++ b) ≡ feeds a + feeds b
 feeds_both a b = sum_by-append (λ (c : ℕ). cond (c == 10) 1 0) a b

@@ -157,7 +157,7 @@ fn value_word(word: &[u8]) -> Option<Token>
 }
 
 /// A name, or what is no word.
-#[tactic(auto, using(crate::proofs::WordLemmas::name_utf8), unfolding(crate::specs::Words::name))]
+#[tactic(auto, using(crate::proofs::SingleWords::name_utf8), unfolding(crate::specs::Words::name))]
 fn name_word(alloc: Global, word: &[u8]) -> Result<Token, AllocError>
     ensures { IfOk result (λ t. t ≡ unwrap_or (name word.now) token.Unknown) }
 {

@@ -1,2 +1,2 @@
-pub mod BodyLemmas
-pub mod DrawnLemmas
+pub mod RefusedBodies
+pub mod DrawnTypes

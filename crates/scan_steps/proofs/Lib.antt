@@ -1,3 +1,3 @@
-pub mod SlotLemmas
+pub mod KeptKinds
 pub mod PairSteps
 pub mod BoxesStepping

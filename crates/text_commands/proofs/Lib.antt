@@ -1,7 +1,7 @@
-pub mod LineLemmas
+pub mod VariableLines
 pub mod Setting
 pub mod Scanning
-pub mod RowLemmas
+pub mod WordRows
 pub mod Explaining
 pub mod Counting
 pub mod PlantBounds

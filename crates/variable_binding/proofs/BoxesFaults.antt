@@ -10,7 +10,7 @@ use Rattle.std.specs.List.{list_any}
 use Rattle.std.proofs.lemmas.Bool.{false≢true}
 use Rattle.std.proofs.lemmas.Bool.Decides.{Decides-eqb}
 use Rattle.network.specs.declared.element.Element.{Element}
-use Rattle.variable_binding.proofs.FindingLemmas.{parts, first_more}
+use Rattle.variable_binding.proofs.FirstFindings.{parts, first_more}
 use Rattle.variable_binding.specs.Steps.ElementFindings.{IsFirstFinding}
 use Rattle.variable_binding.specs.Steps.Earlier.{IsEarlierFinding}
 use Rattle.variable_binding.specs.declared.finding.Finding.{Finding}

@@ -42,7 +42,7 @@ use Rattle.variable_binding.specs.Findings.{ComesNoLater, IsFault}
 use Rattle.variable_binding.specs.Steps.BoxFindings.{name_kind, read_name_fault, read_fault_at, read_fault_by, store_name_fault, store_fault_at, store_fault_by, operand_fault, own_field, kind_at, corner, side_place, fault_here, fault_if, type_number, instance_fault, same_side, is_bit, has_bit, same_field, same_pin, is_among, pin_fault, operand_finding, is_beside, has_line, line_fault, pin_findings, corner_findings, pins_findings, box_findings}
 use Rattle.variable_binding.specs.Steps.ElementFindings.{write_fault, fault_with, variable_declared, element_findings, network_findings, findings, IsFirstFinding, IsBound, HasNoFinding}
 use Rattle.variable_binding.proofs.NameFaults.{ReadFault, StoreFault, LiteralFault, nothing_found, read_found, read_meant, store_found, store_meant, coil_stores, literal_found, literal_meant}
-use Rattle.variable_binding.proofs.FindingLemmas.{none_in_networks}
+use Rattle.variable_binding.proofs.FirstFindings.{none_in_networks}
 use Rattle.variable_binding.proofs.BoxesFaults.{same_pin_refl, any_false, slice_get-take, same_number, eqb_same}
 
 -- a fault that stands in a list of findings, if any does

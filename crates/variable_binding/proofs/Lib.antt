@@ -1,8 +1,8 @@
 pub mod Dots
-pub mod FindingLemmas
+pub mod FirstFindings
 pub mod NameFaults
 pub mod BoxesFaults
 pub mod FaultsFound
 pub mod NamedNetworks
 pub mod WorkedFaults
-pub mod GuessLemmas
+pub mod GuessedNames

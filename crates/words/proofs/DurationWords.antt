@@ -9,7 +9,7 @@ use Rattle.std.proofs.lemmas.Slice.Eq.{bytes_eq-Decides}
 use Rattle.words.specs.Chars.{same_word, has_parts, is_duration_behind, is_duration}
 use Rattle.words.specs.Numbers.{parts_value, duration_value, limited, duration_up_to}
 use Rattle.words.specs.Durations.{Part, AreParts, IsSpelling, IsDurationOf, milliseconds}
-use Rattle.words.proofs.DurationLemmas.{parts_spelled}
+use Rattle.words.proofs.DurationParts.{parts_spelled}
 use Rattle.words.proofs.DurationParse.{spelled_parts, spelled_long}
 
 -- a duration behind n characters: its parts

@@ -1,7 +1,7 @@
-pub mod NameLemmas
-pub mod AsciiLemmas
-pub mod TextLemmas
-pub mod NumberLemmas
-pub mod DurationLemmas
+pub mod DurationPrefix
+pub mod AsciiNames
+pub mod AsciiTexts
+pub mod NumbersBeyond
+pub mod DurationParts
 pub mod DurationParse
 pub mod DurationWords

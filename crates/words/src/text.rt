@@ -42,7 +42,7 @@ impl Text {
     }
 
     /// A copy of ASCII characters.
-    #[tactic(auto, using(crate::proofs::TextLemmas::utf8_from_ascii))]
+    #[tactic(auto, using(crate::proofs::AsciiTexts::utf8_from_ascii))]
     pub fn from_ascii(alloc: Global, bytes: &[u8]) -> Result<Text, AllocError>
         requires { IsAscii bytes.now }
         ensures { IfOk result (λ t. t ≡ bytes.now) }

@@ -1,1 +1,1 @@
-pub mod FigureLemmas
+pub mod WorkedFigures

@@ -5,7 +5,7 @@ ghost use Rattle.ladder_text.specs.Faults.{IsIllDrawn};
 ghost use Rattle.worked_drawings.specs.Figures.{IsDrawnAs, IsBranchesListed, IsOnDelayListed, branches, branches_marks, start_stop, start_stop_marks, rising_contact, rising_contact_marks, on_delay, on_delay_marks, parallel_wire, parallel_wire_marks, unattached_box, unattached_box_marks, wire_beside_box, box_without_type, box_without_bottom, cut_drawing, two_words, word_of_two, loose_upright, loose_contact};
 
 /// The worked drawings are well drawn, and have the marks that are shown.
-#[tactic(auto, using(crate::proofs::FigureLemmas::branches_drawn, crate::proofs::FigureLemmas::start_stop_drawn, crate::proofs::FigureLemmas::rising_contact_drawn, crate::proofs::FigureLemmas::on_delay_drawn, crate::proofs::FigureLemmas::parallel_wire_drawn, crate::proofs::FigureLemmas::unattached_box_drawn))]
+#[tactic(auto, using(crate::proofs::WorkedFigures::branches_drawn, crate::proofs::WorkedFigures::start_stop_drawn, crate::proofs::WorkedFigures::rising_contact_drawn, crate::proofs::WorkedFigures::on_delay_drawn, crate::proofs::WorkedFigures::parallel_wire_drawn, crate::proofs::WorkedFigures::unattached_box_drawn))]
 pub fn are_drawn()
     ensures branches { IsDrawnAs branches branches_marks }
     ensures start_stop { IsDrawnAs start_stop start_stop_marks }
@@ -16,14 +16,14 @@ pub fn are_drawn()
 {}
 
 /// The contacts, coils and boxes of two of them.
-#[tactic(auto, using(crate::proofs::FigureLemmas::branches_listed, crate::proofs::FigureLemmas::on_delay_listed))]
+#[tactic(auto, using(crate::proofs::WorkedFigures::branches_listed, crate::proofs::WorkedFigures::on_delay_listed))]
 pub fn are_listed()
     ensures branches { IsBranchesListed }
     ensures on_delay { IsOnDelayListed }
 {}
 
 /// Drawings with a fault aren't well drawn.
-#[tactic(auto, using(crate::proofs::FigureLemmas::wire_beside_box_refused, crate::proofs::FigureLemmas::box_without_type_refused, crate::proofs::FigureLemmas::box_without_bottom_refused, crate::proofs::FigureLemmas::cut_drawing_refused, crate::proofs::FigureLemmas::two_words_refused, crate::proofs::FigureLemmas::word_of_two_refused, crate::proofs::FigureLemmas::loose_upright_refused, crate::proofs::FigureLemmas::loose_contact_refused))]
+#[tactic(auto, using(crate::proofs::WorkedFigures::wire_beside_box_refused, crate::proofs::WorkedFigures::box_without_type_refused, crate::proofs::WorkedFigures::box_without_bottom_refused, crate::proofs::WorkedFigures::cut_drawing_refused, crate::proofs::WorkedFigures::two_words_refused, crate::proofs::WorkedFigures::word_of_two_refused, crate::proofs::WorkedFigures::loose_upright_refused, crate::proofs::WorkedFigures::loose_contact_refused))]
 pub fn are_refused()
     ensures wire_beside_box { IsIllDrawn (rows_of wire_beside_box) }
     ensures box_without_type { IsIllDrawn (rows_of box_without_type) }

@@ -181,7 +181,7 @@ fn nearer_pin(
     }
 }
 
-#[tactic(auto, using(words::proofs::AsciiLemmas::identifier_ascii))]
+#[tactic(auto, using(words::proofs::AsciiNames::identifier_ascii))]
 fn pins_from(
     alloc: Global,
     grid: &Grid,
@@ -334,7 +334,7 @@ fn box_at(
 }
 
 /// The box at a place with a character.
-#[tactic(auto, using(crate::proofs::Outlines::CornerLemmas::no_box_at))]
+#[tactic(auto, using(crate::proofs::Outlines::Corners::no_box_at))]
 fn box_with(
     alloc: Global,
     grid: &Grid,
@@ -395,7 +395,7 @@ fn is_bad_box(alloc: Global, grid: &Grid, row: usize, column: usize) -> Result<b
 }
 
 /// Whether a box begins at a place with a character, and isn't as it should be.
-#[tactic(auto, using(crate::proofs::Outlines::CornerLemmas::no_bad_box))]
+#[tactic(auto, using(crate::proofs::Outlines::Corners::no_bad_box))]
 fn is_bad_box_with(
     alloc: Global,
     grid: &Grid,

@@ -87,7 +87,7 @@ impl Grid {
     }
 
     /// The characters of a row from one column up to, and without, another.
-    #[tactic(auto, using(crate::proofs::Rows::AsciiLemmas::cut_ascii))]
+    #[tactic(auto, using(crate::proofs::Rows::AsciiCharacters::cut_ascii))]
     pub fn cut(&self, row: usize, from: usize, to: usize) -> &[u8]
         ensures value { result.now ≡ cut self.now row from to }
         ensures ascii { IsAscii result.now }

@@ -21,7 +21,7 @@ use Rattle.ladder_text.specs.FirstFault.{IsDrawFaultAt, HasNoDrawFault, IsFirstD
 use Rattle.ladder_text.specs.Steps.Search.{IsNone, IsFirstOf, IsFirstFrom, IsFirstColumn, or_earlier}
 use Rattle.ladder_text.proofs.Outlines.BoxOrder.{not_apart}
 use Rattle.ladder_text.proofs.Outlines.RisingBoxes.{outlines_rising}
-use Rattle.ladder_text.proofs.Faults.SearchLemmas.{no_span, row_first, either_first, second_first}
+use Rattle.ladder_text.proofs.Faults.FirstPlaces.{no_span, row_first, either_first, second_first}
 use Rattle.lists.proofs.Longest.{row-narrow}
 
 rank_above : (k : DrawFaultKind) → 0 < rank k

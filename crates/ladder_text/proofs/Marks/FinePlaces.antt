@@ -9,7 +9,7 @@ use Rattle.ladder_rows.specs.Rows.{char_at, is_rail_char}
 use Rattle.ladder_text.specs.Places.{Layout, mark, in_box, in_contact, in_coil, in_operand, is_taken, is_rail_column, is_wire, is_join, is_upright, is_vertical, is_symbol, is_box_part, gives}
 use Rattle.ladder_text.specs.Faults.{has_meaning, is_blind, line_end, bad_mark, no_source, has_fault}
 use Rattle.ladder_rows.specs.Steps.RowBoxes.{IsBare}
-use Rattle.ladder_text.proofs.Marks.MarkLemmas.{taken_by_mark}
+use Rattle.ladder_text.proofs.Marks.LaidMarks.{taken_by_mark}
 use Rattle.ladder_text.proofs.Marks.SymbolPlaces.{first_by_mark}
 
 wire_tests : (a b d e j u w : Bool)

@@ -6,9 +6,9 @@ use Rattle.ladder_text.specs.Places.{layout_of}
 use Rattle.ladder_text.specs.Faults.{IsWellDrawn}
 use Rattle.drawings.specs.Picture.{Picture, IsSound}
 use Rattle.ladder_text.specs.Picture.{picture_of}
-use Rattle.ladder_text.proofs.Rows.LeftLemmas.{left_above, left_within}
+use Rattle.ladder_text.proofs.Rows.LeftRail.{left_above, left_within}
 use Rattle.ladder_text.proofs.Marks.SymbolItems.{mark_at-contact, mark_at-coil, contacts_sharing, coils_sharing}
-use Rattle.ladder_text.proofs.Marks.PictureLemmas.{mark_at-drawn}
+use Rattle.ladder_text.proofs.Marks.PictureMarks.{mark_at-drawn}
 use Rattle.ladder_text.proofs.Outlines.RisingBoxes.{boxes_rising_of}
 use Rattle.ladder_text.proofs.Outlines.BoxPlaces.{mark_at-box, boxes_sharing, box_whole}
 

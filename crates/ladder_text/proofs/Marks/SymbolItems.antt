@@ -12,9 +12,9 @@ use Rattle.ladder_text.specs.Places.{Layout, contact_at, coil_at}
 use Rattle.ladder_text.specs.Names.{contact_with, coil_with, row_contacts, row_coils, contacts, coils}
 use Rattle.drawings.specs.Picture.{mark_at, IsSymbolPlace}
 use Rattle.ladder_text.specs.Picture.{picture_of}
-use Rattle.ladder_text.proofs.Rows.ItemLemmas.{IsPlaced, IsAlikeOnce, found_item, found_once}
+use Rattle.ladder_text.proofs.Rows.ListedItems.{IsPlaced, IsAlikeOnce, found_item, found_once}
 use Rattle.ladder_text.proofs.Marks.SymbolPlaces.{contact_parts, coil_parts, contacts_same, coils_same, mark-contact, mark-coil, drawn_inside}
-use Rattle.ladder_text.proofs.Marks.PictureLemmas.{mark_at-inside}
+use Rattle.ladder_text.proofs.Marks.PictureMarks.{mark_at-inside}
 
 contact_with_item : (p : Layout) (r c : ℕ) (o : Option ContactKind) (x : Contact) → contact_with p r c o ≡ Some x → (x.row ≡ r) × (x.column ≡ c) × (o ≡ Some x.kind)
 contact_with_item p r c None x e = absurd (none-some x e)

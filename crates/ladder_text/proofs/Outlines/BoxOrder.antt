@@ -13,7 +13,7 @@ use Rattle.ladder_text.specs.FirstFault.{shares_before, IsSharedAt}
 use Rattle.ladder_rows.specs.Faults.{IsFirstAt}
 use Rattle.drawings.specs.declared.place.Place.{Place}
 use Rattle.ladder_text.specs.Steps.Search.{IsFirstShared}
-use Rattle.ladder_text.proofs.Rows.ItemLemmas.{IsRising, IsBefore}
+use Rattle.ladder_text.proofs.Rows.ListedItems.{IsRising, IsBefore}
 
 -- boxes stand by row and then column of their corners
 abbrev pub AreRising : List Outline → Type 0

@@ -17,8 +17,8 @@ use Rattle.ladder_text.specs.Places.{Layout, in_box, mark, layout_of}
 use Rattle.ladder_text.specs.Names.{drawn_boxes}
 use Rattle.ladder_text.specs.Faults.{boxes_apart, is_apart, same_corner}
 use Rattle.ladder_text.specs.Picture.{picture_of}
-use Rattle.ladder_text.proofs.Rows.ItemLemmas.{IsPlaced, IsAlikeOnce, found_item, found_once, map_item}
-use Rattle.ladder_text.proofs.Marks.PictureLemmas.{mark_at-inside}
+use Rattle.ladder_text.proofs.Rows.ListedItems.{IsPlaced, IsAlikeOnce, found_item, found_once, map_item}
+use Rattle.ladder_text.proofs.Marks.PictureMarks.{mark_at-inside}
 
 pub outlines_placed : AreBoxesWhole → (d : Rows) → IsPlaced (λ (o : Outline). o.top) (λ (o : Outline). o.left) (box_at d)
 outlines_placed whole d r c o e = let w = whole d r c o e in (w.top, w.left)

@@ -7,7 +7,7 @@ use Rattle.ladder_rows.specs.Boxes.{box_at, row_outlines, outlines}
 use Rattle.ladder_rows.specs.Laws.{AreBoxesWhole}
 use Rattle.ladder_text.specs.Places.{layout_of}
 use Rattle.ladder_text.specs.Names.{drawn_boxes}
-use Rattle.ladder_text.proofs.Rows.ItemLemmas.{IsRising, IsBefore, found_rising}
+use Rattle.ladder_text.proofs.Rows.ListedItems.{IsRising, IsBefore, found_rising}
 use Rattle.ladder_text.proofs.Outlines.BoxPlaces.{outlines_placed, drawn_box_item}
 
 pub outlines_rising : AreBoxesWhole → (d : Rows) → IsRising (IsBefore (λ (o : Outline). o.top) (λ (o : Outline). o.left)) (outlines d)

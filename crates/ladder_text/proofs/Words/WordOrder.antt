@@ -11,7 +11,7 @@ use Rattle.ladder_text.specs.Places.{Layout}
 use Rattle.ladder_text.specs.Names.{in_word, word_at, words}
 use Rattle.ladder_text.specs.FirstFault.{IsSpanAt}
 use Rattle.ladder_text.specs.Steps.Search.{IsFirstColumn}
-use Rattle.ladder_text.proofs.Rows.ItemLemmas.{IsRising, options_rising}
+use Rattle.ladder_text.proofs.Rows.ListedItems.{IsRising, options_rising}
 use Rattle.ladder_text.proofs.Marks.SymbolPlaces.{cond_some_of}
 use Rattle.std.proofs.lemmas.Option.{same_Some}
 use Rattle.std.proofs.Common.{◌&&◌, not, ◌-◌}

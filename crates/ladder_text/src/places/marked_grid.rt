@@ -170,7 +170,7 @@ impl MarkedGrid {
     }
 
     /// Whether a place is in a box or a symbol.
-    #[tactic(auto, using(crate::proofs::Marks::MarkLemmas::taken_by_mark))]
+    #[tactic(auto, using(crate::proofs::Marks::LaidMarks::taken_by_mark))]
     pub fn is_taken(&self, row: usize, column: usize) -> bool
         requires { column < 2 ^ 62 }
         ensures { result ≡ is_taken (layout_of self.now) row column }

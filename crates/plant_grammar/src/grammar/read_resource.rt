@@ -405,7 +405,7 @@ impl<'a> Reader<'a> {
     }
 
     /// The lines of a resource, up to its end.
-    #[tactic(auto, using(crate::proofs::RefusedNames::no_name, crate::proofs::RefusedNames::memory_no_name, crate::proofs::WordLists::item_has_words, crate::proofs::ItemLemmas::no_items))]
+    #[tactic(auto, using(crate::proofs::RefusedNames::no_name, crate::proofs::RefusedNames::memory_no_name, crate::proofs::WordLists::item_has_words, crate::proofs::ResourceLines::no_items))]
     fn items(
         &mut self,
         alloc: Global,
@@ -445,7 +445,7 @@ impl<'a> Reader<'a> {
     }
 
     /// A resource, behind these.
-    #[tactic(auto, unfolding(crate::specs::Grammar::resource_words), using(crate::proofs::RefusedNames::no_name, crate::proofs::RefusedNames::memory_no_name, crate::proofs::ItemLemmas::resource_is_lawful))]
+    #[tactic(auto, unfolding(crate::specs::Grammar::resource_words), using(crate::proofs::RefusedNames::no_name, crate::proofs::RefusedNames::memory_no_name, crate::proofs::ResourceLines::resource_is_lawful))]
     fn resource(
         &mut self,
         alloc: Global,
@@ -470,7 +470,7 @@ impl<'a> Reader<'a> {
     }
 
     /// The resources, one at least, up to the end of the configuration.
-    #[tactic(auto, using(crate::proofs::RefusedNames::no_name, crate::proofs::RefusedNames::memory_no_name, crate::proofs::WordLists::resource_has_words, crate::proofs::ItemLemmas::no_resources))]
+    #[tactic(auto, using(crate::proofs::RefusedNames::no_name, crate::proofs::RefusedNames::memory_no_name, crate::proofs::WordLists::resource_has_words, crate::proofs::ResourceLines::no_resources))]
     pub fn resources(
         &mut self,
         alloc: Global,

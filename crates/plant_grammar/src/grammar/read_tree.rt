@@ -16,7 +16,7 @@ use std::alloc::Global;
 /// Reads program types and a configuration, up to the word that ends it. The first fault of a word is answered; bodies aren't drawn, and sources aren't resolved.
 ///
 /// The program types are left in `texts`, after a fault those before it. What stands behind the configuration is left in the reader.
-#[tactic(auto, using(crate::proofs::RefusedNames::no_name, crate::proofs::RefusedNames::memory_no_name, crate::proofs::TypeLemmas::no_programs), unfolding(crate::specs::Grammar::words_of))]
+#[tactic(auto, using(crate::proofs::RefusedNames::no_name, crate::proofs::RefusedNames::memory_no_name, crate::proofs::FoundTypes::no_programs), unfolding(crate::specs::Grammar::words_of))]
 pub fn read_tree<'a>(
     alloc: Global,
     reader: &mut Reader<'a>,

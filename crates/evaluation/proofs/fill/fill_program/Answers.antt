@@ -7,8 +7,8 @@ use Rattle.task_codes.specs.declared.binding.Source.TheVariants.{Field}
 use Rattle.task_codes.specs.declared.binding.Binding.{Binding}
 use Rattle.std_blocks.specs.declared.value.Value.{Value}
 use Rattle.evaluation.specs.Meaning.{given}
-use Rattle.evaluation.proofs.Lists.{on_true}
-use Rattle.evaluation.proofs.FillLemmas.{FilledTo, filled_more, filled_all, filled_fits, next_kind}
+use Rattle.evaluation.proofs.MappedLists.{on_true}
+use Rattle.evaluation.proofs.FilledInputs.{FilledTo, filled_more, filled_all, filled_fits, next_kind}
 use Rattle.evaluation.proofs.fill.fill_program.Goals as goal
 use Rattle.evaluation.proofs.fill.fill_program.Goals.{in-Some, in_default}
 

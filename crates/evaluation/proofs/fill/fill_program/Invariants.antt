@@ -1,4 +1,4 @@
-use Rattle.evaluation.proofs.FillLemmas.{FilledTo}
+use Rattle.evaluation.proofs.FilledInputs.{FilledTo}
 use Rattle.evaluation.proofs.fill.fill_program.Given as goal
 
 abbrev pub invariant-loop-binding : goal.invariant-loop-binding

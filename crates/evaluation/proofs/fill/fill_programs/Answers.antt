@@ -4,7 +4,7 @@ use Rattle.lists.proofs.Places.{element_at}
 use Rattle.task_codes.specs.declared.binding.Binding.{Binding}
 use Rattle.evaluation.specs.Steps.Filling.{AreReady}
 use Rattle.evaluation.specs.Meaning.{IsFilled}
-use Rattle.evaluation.proofs.FillLemmas.{ready, next_fits, fill_more, fill_all, fill_fits}
+use Rattle.evaluation.proofs.FilledInputs.{ready, next_fits, fill_more, fill_all, fill_fits}
 use Rattle.evaluation.proofs.fill.fill_programs.Goals as goal
 
 pub fill_program-requires-clause-ready : goal.fill_program-requires-clause-ready

@@ -1,5 +1,5 @@
-use Rattle.evaluation.proofs.Lists.{InPlace}
-use Rattle.evaluation.proofs.FillLemmas.{FillsProgram}
+use Rattle.evaluation.proofs.MappedLists.{InPlace}
+use Rattle.evaluation.proofs.FilledInputs.{FillsProgram}
 use Rattle.evaluation.proofs.fill.fill_programs.Given as goal
 
 abbrev pub invariant-loop-i : goal.invariant-loop-i

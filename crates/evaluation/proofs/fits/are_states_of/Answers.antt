@@ -4,8 +4,8 @@ use Rattle.std.proofs.lemmas.Option.{slice_get_read, slice_get_within}
 use Rattle.power_flow.specs.LadderValue.{LadderValue, Fits}
 use Rattle.power_flow.specs.StateValue.{StateValue}
 use Rattle.task_codes.specs.CodeValue.{ProgramValue}
-use Rattle.evaluation.proofs.Lists.{one_more}
-use Rattle.evaluation.proofs.ScanLemmas.{program_of}
+use Rattle.evaluation.proofs.MappedLists.{one_more}
+use Rattle.evaluation.proofs.ScannedPrograms.{program_of}
 use Rattle.evaluation.proofs.fits.are_states_of.Goals as goal
 
 pub returns-then-not-fits : goal.returns-then-not-fits

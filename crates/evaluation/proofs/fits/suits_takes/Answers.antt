@@ -5,7 +5,7 @@ use Rattle.due_list.specs.declared.task_ref.TaskRef.{TaskRef}
 use Rattle.task_codes.specs.CodeValue.{expected_at}
 use Rattle.evaluation.specs.declared.take.Take.{Take}
 use Rattle.evaluation.specs.Takes.{IsTakeOf}
-use Rattle.evaluation.proofs.Lists.{one_more}
+use Rattle.evaluation.proofs.MappedLists.{one_more}
 use Rattle.evaluation.proofs.fits.suits_takes.Goals as goal
 
 abbrev none : TaskRef

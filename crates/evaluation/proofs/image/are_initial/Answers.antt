@@ -1,7 +1,7 @@
 use Rattle.std.proofs.Common.{refl, sym, arith}
 use Rattle.std.proofs.lemmas.Option.{slice_get_within}
 use Rattle.declared_names.specs.Kinds.{value_first}
-use Rattle.evaluation.proofs.Lists.{map_by_each}
+use Rattle.evaluation.proofs.MappedLists.{map_by_each}
 use Rattle.evaluation.proofs.image.are_initial.Goals as goal
 
 pub returns : goal.returns

@@ -1,7 +1,7 @@
 use Rattle.std.proofs.Common.{◌≡◌, ◌++◌, ◌∷◌, [], Some, slice_get, sym, arith, ◌∙◌}
 use Rattle.evaluation.specs.Meaning.{output_value}
-use Rattle.evaluation.proofs.Lists.{found_not_none}
-use Rattle.evaluation.proofs.ScanLemmas.{output_has_value, value_more, kind_more}
+use Rattle.evaluation.proofs.MappedLists.{found_not_none}
+use Rattle.evaluation.proofs.ScannedPrograms.{output_has_value, value_more, kind_more}
 use Rattle.evaluation.proofs.outputs.read_outputs.Goals as goal
 use Rattle.evaluation.proofs.outputs.read_outputs.Goals.{in-Some+in-Some-output_value+in_ok-push, in-Some+in_default-output_value, in_default}
 

@@ -5,7 +5,7 @@ use Rattle.std.specs.BTreeMap.{is_at}
 use Rattle.evaluation.specs.declared.field_input.FieldInput.{FieldInput}
 use Rattle.evaluation.specs.declared.field_input.FieldInput.TheVariants.{Bit}
 use Rattle.evaluation.specs.Steps.InputWords.{key_of}
-use Rattle.evaluation.proofs.InputLemmas.{HasKey, known_more, keys_more, apart_all, not_apart}
+use Rattle.evaluation.proofs.FieldInputs.{HasKey, known_more, keys_more, apart_all, not_apart}
 use Rattle.evaluation.proofs.read_inputs.has_twice.Goals as goal
 
 abbrev none : FieldInput

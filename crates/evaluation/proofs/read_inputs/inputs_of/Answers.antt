@@ -1,7 +1,7 @@
 use Rattle.std.proofs.Common.{map, sym, ap, ◌∙◌}
 use Rattle.std.proofs.lemmas.List.{take_all}
 use Rattle.evaluation.specs.InputTexts.{input_of}
-use Rattle.evaluation.proofs.InputLemmas.{map_map}
+use Rattle.evaluation.proofs.FieldInputs.{map_map}
 use Rattle.evaluation.proofs.read_inputs.inputs_of.Goals as goal
 
 pub returns-clause-read : goal.returns-clause-read

@@ -3,8 +3,8 @@ use Rattle.std.proofs.lemmas.Option.{slice_get-get_or}
 use Rattle.power_flow.specs.StateValue.{StateValue}
 use Rattle.power_flow.specs.LadderValue.{LadderValue, Fits}
 use Rattle.evaluation.specs.Meaning.{IsScanned}
-use Rattle.evaluation.proofs.Lists.{InPlace}
-use Rattle.evaluation.proofs.ScanLemmas.{ScansProgram, next_scan_fits, scan_more, scan_all, scan_fits, program_of, has_program}
+use Rattle.evaluation.proofs.MappedLists.{InPlace}
+use Rattle.evaluation.proofs.ScannedPrograms.{ScansProgram, next_scan_fits, scan_more, scan_all, scan_fits, program_of, has_program}
 use Rattle.evaluation.proofs.scan.scan_programs.Goals as goal
 use Rattle.evaluation.proofs.scan.scan_programs.Goals.{in-Some, in_default}
 

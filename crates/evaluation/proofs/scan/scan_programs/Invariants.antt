@@ -1,5 +1,5 @@
-use Rattle.evaluation.proofs.Lists.{InPlace}
-use Rattle.evaluation.proofs.ScanLemmas.{ScansProgram}
+use Rattle.evaluation.proofs.MappedLists.{InPlace}
+use Rattle.evaluation.proofs.ScannedPrograms.{ScansProgram}
 use Rattle.evaluation.proofs.scan.scan_programs.Given as goal
 
 abbrev pub invariant-loop-i : goal.invariant-loop-i

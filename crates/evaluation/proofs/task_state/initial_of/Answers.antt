@@ -1,4 +1,4 @@
-use Rattle.evaluation.proofs.StateLemmas.{initial_is}
+use Rattle.evaluation.proofs.InitialStates.{initial_is}
 use Rattle.evaluation.proofs.task_state.initial_of.Goals as goal
 
 pub returns-clause-value : goal.returns-clause-value

@@ -6,8 +6,8 @@ use Rattle.power_flow.specs.LadderValue.{LadderValue, Fits}
 use Rattle.power_flow.specs.StateValue.{StateValue}
 use Rattle.task_codes.specs.CodeValue.{ProgramValue}
 use Rattle.evaluation.specs.States.{initial_state_of, initial_state}
-use Rattle.evaluation.proofs.ScanLemmas.{program_of, has_program, mapped_more}
-use Rattle.evaluation.proofs.StateLemmas.{initial_fits}
+use Rattle.evaluation.proofs.ScannedPrograms.{program_of, has_program, mapped_more}
+use Rattle.evaluation.proofs.InitialStates.{initial_fits}
 use Rattle.evaluation.proofs.task_state.initial_states.Goals as goal
 use Rattle.evaluation.proofs.task_state.initial_states.Goals.{in-Some+in_ok-initial_of+in_ok-push, in_default}
 

@@ -1,7 +1,7 @@
 use Rattle.std.proofs.Common.{◌≡◌, length, Some, slice_get, arith, ap, ◌∙◌, sym}
 use Rattle.std.proofs.lemmas.Option.{slice_get-get_or}
 use Rattle.exchange_core.specs.Held.{known}
-use Rattle.exchange_core.proofs.TakeLemmas.{kinds_of_producer, takes-more, takes-all}
+use Rattle.exchange_core.proofs.CodeTakes.{kinds_of_producer, takes-more, takes-all}
 use Rattle.exchange_core.proofs.takes.takes_of.Goals as goal
 
 pub loop-k-preserved : goal.loop-k-preserved

@@ -73,7 +73,7 @@ impl MarkedGrid {
         self.blind_left(row, column) || self.blind_right(row, end)
     }
 
-    #[tactic(auto, unfolding(crate::specs::Places::layout_of), using(crate::proofs::Marks::MarkLemmas::taken_by_mark))]
+    #[tactic(auto, unfolding(crate::specs::Places::layout_of), using(crate::proofs::Marks::LaidMarks::taken_by_mark))]
     fn bad_mark(&self, mark: Mark, row: usize, column: usize) -> bool
         requires column { column < 2 ^ 61 }
         requires mark { mark ≡ place_mark (layout_of self.now) row column }

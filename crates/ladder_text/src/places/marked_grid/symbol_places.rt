@@ -142,7 +142,7 @@ impl MarkedGrid {
     }
 
     /// Whether a contact or a coil begins at a place with a mark.
-    #[tactic(auto, using(crate::proofs::Marks::SymbolPlaces::first_by_mark, crate::proofs::Marks::RowMarkLemmas::contact_by_mark, crate::proofs::Marks::RowMarkLemmas::coil_by_mark))]
+    #[tactic(auto, using(crate::proofs::Marks::SymbolPlaces::first_by_mark, crate::proofs::Marks::RowMarks::contact_by_mark, crate::proofs::Marks::RowMarks::coil_by_mark))]
     pub fn begins_symbol(&self, mark: Mark, row: usize, column: usize) -> bool
         requires column { column < 2 ^ 62 }
         requires mark { mark ≡ place_mark (layout_of self.now) row column }

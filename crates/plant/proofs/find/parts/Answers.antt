@@ -1,6 +1,6 @@
 use Rattle.std.proofs.Common.{arith}
 use Rattle.std.proofs.lemmas.Str.Pattern.{split_once_first}
-use Rattle.plant.proofs.FindLemmas.{parts_are}
+use Rattle.plant.proofs.FoundTasks.{parts_are}
 use Rattle.plant.proofs.find.parts.Goals as goal
 
 pub returns : goal.returns

@@ -1,7 +1,7 @@
 use Rattle.std.proofs.Common.{◌<◌, IsTrue, arith}
 use Rattle.std.proofs.lemmas.Option.{slice_get_within}
 use Rattle.plant_grammar.specs.Names.{is_named}
-use Rattle.plant.proofs.NameLemmas.{at_index, none_more}
+use Rattle.plant.proofs.FoldedNames.{at_index, none_more}
 use Rattle.plant.proofs.named.find_named.Goals as goal
 
 pub returns-then-is_named : goal.returns-then-is_named

@@ -3,7 +3,7 @@ use Rattle.std.specs.Global.{Vec}
 use Rattle.due_list.specs.declared.timing.Timing.{Timing}
 use Rattle.plant.specs.PlantValue.{TaskValue}
 use Rattle.plant.specs.Plan.{timing_of}
-use Rattle.plant.proofs.PlanLemmas.{timings_more, timed_more}
+use Rattle.plant.proofs.DueTasks.{timings_more, timed_more}
 use Rattle.plant.proofs.planning.all_timings.Goals as goal
 
 pub loop-resource-preserved : goal.loop-resource-preserved

@@ -1,4 +1,4 @@
-use Rattle.plant_tests.proofs.NoLadderLemmas.{name_twice_refused, unattached_box_refused, tall_box_refused}
+use Rattle.plant_tests.proofs.NoLadders.{name_twice_refused, unattached_box_refused, tall_box_refused}
 use Rattle.plant_tests.proofs.no_ladder.have_no_ladder.Goals as goal
 
 pub returns : goal.returns

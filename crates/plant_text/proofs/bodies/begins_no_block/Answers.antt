@@ -2,7 +2,7 @@ use Rattle.std.proofs.Common.{◌≡◌, not, false, sym, ap, ◌∙◌}
 use Rattle.std.proofs.lemmas.Bool.{not-true}
 use Rattle.plant_text.specs.Words.{keyword}
 use Rattle.plant_text.specs.Steps.Lexing.{begins_block}
-use Rattle.plant_text.proofs.LineLemmas.{begins_none, begins_none_found}
+use Rattle.plant_text.proofs.BodyLines.{begins_none, begins_none_found}
 use Rattle.plant_text.proofs.bodies.begins_no_block.Goals as goal
 
 pub returns : goal.returns

@@ -1,5 +1,5 @@
 use Rattle.std.proofs.Common.{◌≡◌, true}
-use Rattle.plant_text.proofs.LineLemmas.{blank_line, blank_gap, not_blank}
+use Rattle.plant_text.proofs.BodyLines.{blank_line, blank_gap, not_blank}
 use Rattle.plant_text.proofs.bodies.behind_blank_line.Goals as goal
 use Rattle.plant_text.proofs.bodies.behind_blank_line.Goals.{in_default-via-in-Some+else-is_blank_line, in_default-via-in_default}
 

@@ -1,5 +1,5 @@
 use Rattle.std.proofs.Common.{◌≡◌, false, rules, tests}
-use Rattle.plant_text.proofs.LineLemmas.{IsBehindBody-next, IsBehindBody-less, not_end, no_body_behind, shorter_behind_line}
+use Rattle.plant_text.proofs.BodyLines.{IsBehindBody-next, IsBehindBody-less, not_end, no_body_behind, shorter_behind_line}
 use Rattle.plant_text.proofs.bodies.behind_body.Goals as goal
 
 pub lines-preserved : goal.lines-preserved

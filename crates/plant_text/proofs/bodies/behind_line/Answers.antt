@@ -1,6 +1,6 @@
 use Rattle.std.proofs.Common.{◌≡◌, [], length, ap, sym, drop, ◌∙◌, arith}
 use Rattle.plant_text.specs.Spelling.{first_line}
-use Rattle.plant_text.proofs.LineLemmas.{behind_first_line, only_line, empty_of_length}
+use Rattle.plant_text.proofs.BodyLines.{behind_first_line, only_line, empty_of_length}
 use Rattle.plant_text.proofs.bodies.behind_line.Goals as goal
 
 pub returns-in-len1-up : goal.returns-in-len1-up

@@ -2,7 +2,7 @@ use Rattle.std.proofs.Common.{◌≡◌, ◌∙◌, List, ℕ, subst, ap}
 use Rattle.words.specs.Lines.{without_last}
 use Rattle.plant_text.specs.Spelling.{first_line}
 use Rattle.plant_text.specs.Steps.Gaps.{IsBehindGap}
-use Rattle.plant_text.proofs.LineLemmas.{gap_both}
+use Rattle.plant_text.proofs.BodyLines.{gap_both}
 use Rattle.plant_text.proofs.bodies.is_blank_line.Goals as goal
 
 pub returns : goal.returns

@@ -1,4 +1,4 @@
-use Rattle.plant_text.proofs.LineLemmas.{end_line_then, end_line_else}
+use Rattle.plant_text.proofs.BodyLines.{end_line_then, end_line_else}
 use Rattle.plant_text.proofs.bodies.is_end_line.Goals as goal
 
 pub returns-then-is_end_program : goal.returns-then-is_end_program

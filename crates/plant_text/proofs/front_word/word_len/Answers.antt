@@ -1,4 +1,4 @@
-use Rattle.plant_text.proofs.FrontLemmas.{run_parted_at, percent_parted}
+use Rattle.plant_text.proofs.FirstWords.{run_parted_at, percent_parted}
 use Rattle.plant_text.proofs.front_word.word_len.Goals as goal
 
 pub returns-in-37-clause-parted : goal.returns-in-37-clause-parted

@@ -1,5 +1,5 @@
 use Rattle.std.proofs.Common.{sym, ◌∙◌}
-use Rattle.plant_text.proofs.GapLemmas.{no_comment_end}
+use Rattle.plant_text.proofs.FoundGaps.{no_comment_end}
 use Rattle.plant_text.proofs.gaps.behind_comment.Goals as goal
 
 pub returns : goal.returns

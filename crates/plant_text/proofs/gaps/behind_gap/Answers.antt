@@ -1,5 +1,5 @@
 use Rattle.std.proofs.Common.{sym}
-use Rattle.plant_text.proofs.GapLemmas.{IsBehindGap-more, IsBehindGap-here, shorter_behind_space}
+use Rattle.plant_text.proofs.FoundGaps.{IsBehindGap-more, IsBehindGap-here, shorter_behind_space}
 use Rattle.plant_text.proofs.gaps.behind_gap.Goals as goal
 
 pub pieces-preserved : goal.pieces-preserved

@@ -3,7 +3,7 @@ use Rattle.std.proofs.lemmas.List.{map-append}
 use Rattle.words.specs.Lines.{without_last}
 use Rattle.plant_text.specs.Lines.{WordValue}
 use Rattle.plant_text.specs.Steps.Lexing.{LexerValue}
-use Rattle.plant_text.proofs.SpellingLemmas.{IsReadTo, read_first, read_next, read_all}
+use Rattle.plant_text.proofs.SpelledWords.{IsReadTo, read_first, read_next, read_all}
 use Rattle.plant_text.proofs.LineCounts.{counted_first, counted_next, begun_first, begun_next}
 use Rattle.plant_text.proofs.word_list.read_words.Goals as goal
 

@@ -1,7 +1,7 @@
 use Rattle.std.proofs.Common.{length, map}
 use Rattle.plant_text.specs.Lines.{WordValue, IsBegunBy}
 use Rattle.words.specs.Lines.{without_last}
-use Rattle.plant_text.proofs.SpellingLemmas.{IsReadTo}
+use Rattle.plant_text.proofs.SpelledWords.{IsReadTo}
 use Rattle.plant_text.proofs.LineCounts.{IsCountedTo}
 use Rattle.plant_text.proofs.word_list.read_words.Given as goal
 

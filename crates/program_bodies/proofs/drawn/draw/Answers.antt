@@ -3,7 +3,7 @@ use Rattle.std.specs.Prelude.{min, max}
 use Rattle.plant_grammar.specs.declared.grammar.tree.Program.{Program}
 use Rattle.plant_grammar.specs.Lawful.{variables}
 use Rattle.program_bodies.specs.BodyFaults.{drawing_line, picture_in}
-use Rattle.program_bodies.proofs.BodyLemmas.{drawing_refused, networks_refused, names_refused}
+use Rattle.program_bodies.proofs.RefusedBodies.{drawing_refused, networks_refused, names_refused}
 use Rattle.program_bodies.proofs.drawn.draw.Goals as goal
 
 pub returns-in_err-drawing-clause-fault : goal.returns-in_err-drawing-clause-fault

@@ -2,7 +2,7 @@ use Rattle.std.proofs.Common.{◌≢◌, ◌++◌, ◌∷◌, []}
 use Rattle.program_bodies.specs.declared.plant_fault.PlantFaultKind.TheVariants.{Memory}
 use Rattle.program_bodies.specs.BodyFaults.{IsFirstBodyFault}
 use Rattle.lists.proofs.Results.{kept_fault}
-use Rattle.program_bodies.proofs.DrawnLemmas.{drawn_more, passed_more, first_refused}
+use Rattle.program_bodies.proofs.DrawnTypes.{drawn_more, passed_more, first_refused}
 use Rattle.program_bodies.proofs.drawn.draw_all.Goals as goal
 
 pub loop-text-preserved : goal.loop-text-preserved

@@ -7,7 +7,7 @@ use Rattle.declared_names.specs.declared.declarations.Declared.{Declared}
 use Rattle.scan_steps.specs.declared.slot.Slot.{Slot}
 use Rattle.scan_steps.specs.declared.slot.Slot.TheVariants.{Variable}
 use Rattle.scan_steps.specs.Slots.{IsSlotOf}
-use Rattle.scan_steps.proofs.SlotLemmas.{declared_there}
+use Rattle.scan_steps.proofs.KeptKinds.{declared_there}
 use Rattle.scan_steps.proofs.slots.are_slots_of.Goals as goal
 
 -- what holds of the slot at n, and of those before it

@@ -6,7 +6,7 @@ use Rattle.declared_names.specs.declared.declarations.Declaration.{Declaration}
 use Rattle.declared_names.specs.declared.declarations.Declared.{Declared}
 use Rattle.scan_steps.specs.declared.slot.Slot.{Slot}
 use Rattle.scan_steps.specs.First.{slot_first}
-use Rattle.scan_steps.proofs.SlotLemmas.{declared_there}
+use Rattle.scan_steps.proofs.KeptKinds.{declared_there}
 use Rattle.scan_steps.proofs.slots.first_slots.Goals as goal
 use Rattle.scan_steps.proofs.slots.first_slots.Goals.{in-Some+in_ok-push, in_default}
 

@@ -2,7 +2,7 @@ use Rattle.std.proofs.Common.{sym}
 use Rattle.std.proofs.lemmas.Option.{slice_get_within}
 use Rattle.lists.proofs.Places.{slice_get-set_same}
 use Rattle.scan_steps.specs.declared.slot.Slot.TheVariants.{Variable}
-use Rattle.scan_steps.proofs.SlotLemmas.{slot_of_variable, AreSlotsOf-set}
+use Rattle.scan_steps.proofs.KeptKinds.{slot_of_variable, AreSlotsOf-set}
 use Rattle.scan_steps.proofs.slots.set_variable.Goals as goal
 
 pub returns-in-Some-clause-stored : goal.returns-in-Some-clause-stored

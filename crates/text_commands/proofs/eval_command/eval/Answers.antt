@@ -1,7 +1,7 @@
 use Rattle.lists.proofs.Results.{kept_fault}
 use Rattle.text_commands.specs.Rows.{texts}
 use Rattle.text_commands.specs.EvalText.{Explains}
-use Rattle.text_commands.proofs.RowLemmas.{all_bool}
+use Rattle.text_commands.proofs.WordRows.{all_bool}
 use Rattle.text_commands.proofs.Explaining.{all_written, explain_rows, part_written}
 use Rattle.text_commands.proofs.eval_command.eval.Goals as goal
 

@@ -1,5 +1,5 @@
 use Rattle.std.proofs.Common.{◌≡◌, List, ℕ, OnOk, string_bytes, ◌∙◌, sym, subst}
-use Rattle.text_commands.proofs.LineLemmas.{line-more, line-same}
+use Rattle.text_commands.proofs.VariableLines.{line-more, line-same}
 use Rattle.text_commands.proofs.line.push_variable.Goals as goal
 
 pub returns-in_default-get : goal.returns-in_default-get

@@ -2,7 +2,7 @@ use Rattle.std.proofs.Common.{◌≡◌, ◌+◌, refl, sym, subst, take}
 use Rattle.std.specs.Prelude.{Any, false, true}
 use Rattle.std.specs.List.{AllZip}
 use Rattle.text_commands.specs.Rows.{RowValue, IsRow, AreOfDistinctVariables, texts}
-use Rattle.text_commands.proofs.RowLemmas.{first_bad, first_refused, refuse_word, refuse_twice, each_push, apart_push}
+use Rattle.text_commands.proofs.WordRows.{first_bad, first_refused, refuse_word, refuse_twice, each_push, apart_push}
 use Rattle.text_commands.proofs.rows.read_rows.Goals as goal
 
 pub returns-in-Err-clause-err : goal.returns-in-Err-clause-err

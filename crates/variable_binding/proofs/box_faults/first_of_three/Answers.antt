@@ -1,4 +1,4 @@
-use Rattle.variable_binding.proofs.FindingLemmas.{first_three}
+use Rattle.variable_binding.proofs.FirstFindings.{first_three}
 use Rattle.variable_binding.proofs.box_faults.first_of_three.Goals as goal
 
 pub returns : goal.returns

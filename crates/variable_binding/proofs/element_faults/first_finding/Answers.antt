@@ -1,4 +1,4 @@
-use Rattle.variable_binding.proofs.FindingLemmas.{first_network, first_none}
+use Rattle.variable_binding.proofs.FirstFindings.{first_network, first_none}
 use Rattle.variable_binding.proofs.element_faults.first_finding.Goals as goal
 
 pub loop-network-init : goal.loop-network-init

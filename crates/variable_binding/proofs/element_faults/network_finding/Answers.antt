@@ -1,5 +1,5 @@
 use Rattle.variable_binding.specs.Steps.ElementFindings.{element_findings}
-use Rattle.variable_binding.proofs.FindingLemmas.{first_flat}
+use Rattle.variable_binding.proofs.FirstFindings.{first_flat}
 use Rattle.variable_binding.proofs.element_faults.network_finding.Goals as goal
 
 pub loop-element-preserved : goal.loop-element-preserved

@@ -1,4 +1,4 @@
-use Rattle.variable_binding.proofs.GuessLemmas.{AreOrdered, ordered_none, ordered_more}
+use Rattle.variable_binding.proofs.GuessedNames.{AreOrdered, ordered_none, ordered_more}
 use Rattle.std.proofs.Common.{◌≡◌, take}
 use Rattle.std.proofs.lemmas.List.{take_all}
 use Rattle.std.specs.List.{flat_map}

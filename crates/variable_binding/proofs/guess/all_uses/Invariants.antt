@@ -1,6 +1,6 @@
 use Rattle.std.proofs.Common.{take}
 use Rattle.variable_binding.specs.Guess.{uses_of}
-use Rattle.variable_binding.proofs.GuessLemmas.{AreOrdered}
+use Rattle.variable_binding.proofs.GuessedNames.{AreOrdered}
 use Rattle.variable_binding.proofs.guess.all_uses.Given as goal
 
 abbrev pub invariant-loop-network : goal.invariant-loop-network

@@ -1,6 +1,6 @@
 use Rattle.std.proofs.Common.{◌∙◌, ap, sym}
 use Rattle.declared_names.specs.Names.{place_of}
-use Rattle.variable_binding.proofs.GuessLemmas.{declared_new, declared_before}
+use Rattle.variable_binding.proofs.GuessedNames.{declared_new, declared_before}
 use Rattle.variable_binding.proofs.guess.declare.Goals as goal
 
 pub returns : goal.returns

@@ -1,6 +1,6 @@
 use Rattle.std.proofs.Common.{◌+◌, List, sym, subst, arith}
 use Rattle.declared_names.specs.declared.declarations.Declaration.{Declaration}
-use Rattle.variable_binding.proofs.GuessLemmas.{FirstsTo, FirstsTo-more, FirstsTo-all}
+use Rattle.variable_binding.proofs.GuessedNames.{FirstsTo, FirstsTo-more, FirstsTo-all}
 use Rattle.variable_binding.proofs.guess.declare_all.Goals as goal
 
 pub loop-name_use-preserved : goal.loop-name_use-preserved

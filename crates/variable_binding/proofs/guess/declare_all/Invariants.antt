@@ -1,4 +1,4 @@
-use Rattle.variable_binding.proofs.GuessLemmas.{FirstsTo}
+use Rattle.variable_binding.proofs.GuessedNames.{FirstsTo}
 use Rattle.variable_binding.proofs.guess.declare_all.Given as goal
 
 abbrev pub invariant-loop-name_use : goal.invariant-loop-name_use

@@ -4,7 +4,7 @@ use Rattle.std.proofs.lemmas.List.Elements.{filter_agree}
 use Rattle.std.proofs.lemmas.List.Sorted.{answers_always}
 use Rattle.variable_binding.specs.declared.name_use.NameUse.{NameUse}
 use Rattle.variable_binding.specs.Guess.{is_before}
-use Rattle.variable_binding.proofs.GuessLemmas.{key_before, lt_is_before, ties_are}
+use Rattle.variable_binding.proofs.GuessedNames.{key_before, lt_is_before, ties_are}
 use Rattle.variable_binding.proofs.guess.sort_uses.Goals as goal
 
 pub returns-clause-sorted : goal.returns-clause-sorted

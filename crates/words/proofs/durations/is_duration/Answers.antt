@@ -1,6 +1,6 @@
 use Rattle.std.proofs.Common.{sym, ◌∙◌, codes}
 use Rattle.words.specs.Chars.{is_duration_behind, is_duration}
-use Rattle.words.proofs.DurationLemmas.{none_or}
+use Rattle.words.proofs.DurationParts.{none_or}
 use Rattle.words.proofs.DurationWords.{duration_is}
 use Rattle.words.proofs.durations.is_duration.Goals as goal
 

@@ -1,6 +1,6 @@
 use Rattle.std.proofs.Common.{◌≡◌, length, take, true, nat_le, rules, tests}
 use Rattle.words.specs.Chars.{same_word}
-use Rattle.words.proofs.NameLemmas.{behind-is}
+use Rattle.words.proofs.DurationPrefix.{behind-is}
 use Rattle.words.proofs.durations.is_duration_behind.Goals as goal
 
 pub returns : goal.returns

@@ -1,5 +1,5 @@
 use Rattle.std.proofs.Common.{◌<◌, length, arith, ◌∙◌, sym}
-use Rattle.words.proofs.NumberLemmas.{digits_beyond}
+use Rattle.words.proofs.NumbersBeyond.{digits_beyond}
 use Rattle.words.proofs.numbers.digits_up_to.Goals as goal
 
 pub returns-in_err-number-clause-value : goal.returns-in_err-number-clause-value

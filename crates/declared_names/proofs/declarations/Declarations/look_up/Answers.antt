@@ -5,7 +5,7 @@ use Rattle.std.specs.Map.{keys_of}
 use Rattle.std.specs.Str.{str_to_ascii_lowercase}
 use Rattle.declared_names.specs.declared.declarations.Declaration.{Declaration}
 use Rattle.declared_names.specs.Names.{place_of}
-use Rattle.declared_names.proofs.FoldedLemmas.{is_key, position_folded}
+use Rattle.declared_names.proofs.FoldedNames.{is_key, position_folded}
 use Rattle.declared_names.proofs.declarations.Declarations.look_up.Goals as goal
 
 pub returns : goal.returns

@@ -5,7 +5,7 @@ use Rattle.declared_names.specs.declared.declarations.Declaration.{Declaration}
 use Rattle.declared_names.specs.declared.declarations.Declared.{Declared}
 use Rattle.declared_names.specs.Steps.Folded.{AreFolded}
 use Rattle.declared_names.specs.Names.{place_of}
-use Rattle.declared_names.proofs.FoldedLemmas.{same_key, insert_new, AreFolded-push, values_of-push}
+use Rattle.declared_names.proofs.FoldedNames.{same_key, insert_new, AreFolded-push, values_of-push}
 use Rattle.indexmap.specs.IndexMap.{insert_entry}
 use Rattle.declared_names.proofs.declarations.Declarations.push.Goals as goal
 

@@ -4,7 +4,7 @@ use Rattle.task_codes.specs.CodeValue.{CodeValue}
 use Rattle.evaluation.specs.Takes.{AreTakesOf}
 use Rattle.exchange_core.specs.CoreValue.{CoreValue}
 use Rattle.exchange_core.proofs.Keeping.{fits-last}
-use Rattle.exchange_core.proofs.TakeLemmas.{takes-suit}
+use Rattle.exchange_core.proofs.CodeTakes.{takes-suit}
 use Rattle.exchange_core.proofs.resource_core.Core.evaluation.Goals as goal
 
 pub state_of-requires : goal.state_of-requires

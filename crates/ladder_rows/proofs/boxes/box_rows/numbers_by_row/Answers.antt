@@ -1,7 +1,7 @@
 use Rattle.std.proofs.Common.{◌≡◌, ◌+◌, ◌<◌, ◌∙◌, [], length, get_or, refl, arith, Some}
 use Rattle.std.specs.List.{slice_get}
 use Rattle.std.proofs.lemmas.Option.{slice_get_read}
-use Rattle.ladder_rows.proofs.Outlines.RowBoxLemmas.{numbers-more}
+use Rattle.ladder_rows.proofs.Outlines.RowBoxes.{numbers-more}
 use Rattle.ladder_rows.proofs.boxes.box_rows.numbers_by_row.Goals as goal
 
 pub loop-number-preserved : goal.loop-number-preserved

@@ -2,7 +2,7 @@ use Rattle.std.proofs.Common.{◌≡◌, ◌≤◌, ◌<◌, ◌∙◌, sym, ap,
 use Rattle.std.specs.List.{slice_get}
 use Rattle.std.proofs.lemmas.Option.{slice_get_read}
 use Rattle.ladder_rows.specs.Steps.RowBoxes.{word_test, holds}
-use Rattle.ladder_rows.proofs.Outlines.RowBoxLemmas.{slice_get-past}
+use Rattle.ladder_rows.proofs.Outlines.RowBoxes.{slice_get-past}
 use Rattle.ladder_rows.proofs.boxes.box_rows.takes_word_at.Goals as goal
 
 pub takes_word-requires : goal.takes_word-requires

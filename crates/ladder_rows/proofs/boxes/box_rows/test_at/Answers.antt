@@ -2,7 +2,7 @@ use Rattle.std.proofs.Common.{◌≡◌, ◌≤◌, ◌<◌, ◌∙◌, sym, ap,
 use Rattle.std.specs.List.{slice_get}
 use Rattle.std.proofs.lemmas.Option.{slice_get_read}
 use Rattle.ladder_rows.specs.Steps.RowBoxes.{box_test, holds}
-use Rattle.ladder_rows.proofs.Outlines.RowBoxLemmas.{slice_get-past}
+use Rattle.ladder_rows.proofs.Outlines.RowBoxes.{slice_get-past}
 use Rattle.ladder_rows.proofs.boxes.box_rows.test_at.Goals as goal
 
 pub test-requires-clause-pins : goal.test-requires-clause-pins

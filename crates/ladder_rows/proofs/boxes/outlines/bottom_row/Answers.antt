@@ -1,7 +1,7 @@
 use Rattle.std.proofs.Common.{◌+◌, ◌-◌, sym, ap, arith, rules}
 use Rattle.ladder_rows.specs.Rows.{height}
 use Rattle.ladder_rows.specs.Boxes.{has_sides, top_end}
-use Rattle.ladder_rows.proofs.Rows.RunLemmas.{run-is}
+use Rattle.ladder_rows.proofs.Rows.Runs.{run-is}
 use Rattle.ladder_rows.proofs.boxes.outlines.bottom_row.Goals as goal
 use Rattle.ladder_rows.proofs.boxes.outlines.bottom_row.Goals.{then-loop-n-test+else-has_sides, else-loop-n-test}
 

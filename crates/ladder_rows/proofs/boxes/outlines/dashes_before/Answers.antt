@@ -1,6 +1,6 @@
 use Rattle.std.proofs.Common.{◌-◌, ◌==◌, ◌≢◌, ◌∙◌, sym, arith, rules, tests, eq-eqb}
 use Rattle.ladder_rows.specs.Rows.{char_at}
-use Rattle.ladder_rows.proofs.Rows.RunLemmas.{run_back-is}
+use Rattle.ladder_rows.proofs.Rows.Runs.{run_back-is}
 use Rattle.ladder_rows.proofs.boxes.outlines.dashes_before.Goals as goal
 
 pub returns-else-at-eq45 : goal.returns-else-at-eq45

@@ -1,5 +1,5 @@
 use Rattle.std.proofs.Common.{sym, arith, rules}
-use Rattle.ladder_rows.proofs.Outlines.PinLemmas.{pins-none}
+use Rattle.ladder_rows.proofs.Outlines.FaultyPins.{pins-none}
 use Rattle.ladder_rows.proofs.boxes.outlines.pins_of_rows.Goals as goal
 
 pub returns-in-None : goal.returns-in-None

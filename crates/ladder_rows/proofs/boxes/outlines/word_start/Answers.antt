@@ -1,7 +1,7 @@
 use Rattle.std.proofs.Common.{◌+◌, ◌-◌, sym, ap, arith, rules}
 use Rattle.ladder_rows.specs.Rows.{char_at}
 use Rattle.words.specs.Chars.{is_word_char}
-use Rattle.ladder_rows.proofs.Rows.RunLemmas.{run_back-is}
+use Rattle.ladder_rows.proofs.Rows.Runs.{run_back-is}
 use Rattle.ladder_rows.proofs.boxes.outlines.word_start.Goals as goal
 use Rattle.ladder_rows.proofs.boxes.outlines.word_start.Goals.{then-loop-n-test+else-is_word_char, else-loop-n-test}
 

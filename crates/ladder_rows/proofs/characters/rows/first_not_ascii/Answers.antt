@@ -1,7 +1,7 @@
 use Rattle.std.proofs.Common.{ℕ, IsFalse, arith, below_more}
 use Rattle.ladder_rows.specs.Faults.{not_ascii}
-use Rattle.ladder_rows.proofs.Rows.RowLemmas.{not_ascii-in_row}
-use Rattle.ladder_rows.proofs.Rows.WidthLemmas.{not_ascii_found}
+use Rattle.ladder_rows.proofs.Rows.TextRows.{not_ascii-in_row}
+use Rattle.ladder_rows.proofs.Rows.Widths.{not_ascii_found}
 use Rattle.ladder_rows.proofs.Rows.FirstPlaces.{found_first}
 use Rattle.ladder_rows.proofs.characters.rows.first_not_ascii.Goals as goal
 

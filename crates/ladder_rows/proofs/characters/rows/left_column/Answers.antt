@@ -1,7 +1,7 @@
 use Rattle.std.proofs.Common.{sym, arith, rules, ◌+◌}
 use Rattle.ladder_rows.specs.Rows.{width}
 use Rattle.ladder_rows.specs.Boxes.{left_column, is_blank_column}
-use Rattle.ladder_rows.proofs.Rows.RunLemmas.{run-from_zero}
+use Rattle.ladder_rows.proofs.Rows.Runs.{run-from_zero}
 use Rattle.ladder_rows.proofs.characters.rows.left_column.Goals as goal
 
 pub returns-else-is_blank_column : goal.returns-else-is_blank_column

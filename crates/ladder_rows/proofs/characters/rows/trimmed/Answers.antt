@@ -1,5 +1,5 @@
 use Rattle.std.proofs.Common.{◌≡◌, ◌∙◌, sym, arith}
-use Rattle.ladder_rows.proofs.Rows.RowLemmas.{trimmed-at_blank, trimmed-at_kept}
+use Rattle.ladder_rows.proofs.Rows.TextRows.{trimmed-at_blank, trimmed-at_kept}
 use Rattle.ladder_rows.proofs.characters.rows.trimmed.Goals as goal
 use Rattle.ladder_rows.proofs.characters.rows.trimmed.Goals.{then-loop-end-test+else-line-end-eq32, else-loop-end-test}
 

@@ -3,8 +3,8 @@ use Rattle.ladder_text.specs.Places.{layout_of}
 use Rattle.ladder_text.specs.Names.{words}
 use Rattle.ladder_text.specs.Faults.{stray_name}
 use Rattle.ladder_text.proofs.Words.WordOrder.{first_of_words}
-use Rattle.ladder_text.proofs.Words.PairLemmas.{paired_words}
-use Rattle.ladder_text.proofs.Faults.SearchLemmas.{no_span}
+use Rattle.ladder_text.proofs.Words.NamedSymbols.{paired_words}
+use Rattle.ladder_text.proofs.Faults.FirstPlaces.{no_span}
 use Rattle.ladder_text.proofs.names.names_above.stray_in_row.Goals as goal
 
 pub returns-then-is_stray-clause-first : goal.returns-then-is_stray-clause-first

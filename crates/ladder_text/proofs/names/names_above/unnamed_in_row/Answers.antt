@@ -4,8 +4,8 @@ use Rattle.ladder_rows.specs.declared.span.Span.{Span}
 use Rattle.ladder_text.specs.Places.{layout_of}
 use Rattle.ladder_text.specs.Faults.{name_missing}
 use Rattle.ladder_text.specs.Names.{things}
-use Rattle.ladder_text.proofs.Words.PairLemmas.{paired_things}
-use Rattle.ladder_text.proofs.Faults.SearchLemmas.{no_span, span_found, span_passed, any_found, any_passed}
+use Rattle.ladder_text.proofs.Words.NamedSymbols.{paired_things}
+use Rattle.ladder_text.proofs.Faults.FirstPlaces.{no_span, span_found, span_passed, any_found, any_passed}
 use Rattle.ladder_text.proofs.names.names_above.unnamed_in_row.Goals as goal
 use Rattle.ladder_text.proofs.names.names_above.unnamed_in_row.Goals.{then-is_unnamed, else-is_unnamed}
 

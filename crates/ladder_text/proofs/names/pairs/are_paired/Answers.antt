@@ -3,7 +3,7 @@ use Rattle.std.specs.Prelude.{nat_le}
 use Rattle.std.proofs.lemmas.Bool.{and_parts, cases_lt, leb-true, ltb-true}
 use Rattle.ladder_text.specs.Names.{overlap}
 use Rattle.ladder_text.specs.Steps.Pairs.{span_at}
-use Rattle.ladder_text.proofs.Words.PairLemmas.{pairs-more}
+use Rattle.ladder_text.proofs.Words.NamedSymbols.{pairs-more}
 use Rattle.ladder_text.proofs.names.pairs.are_paired.Goals as goal
 
 pub loop-index-preserved : goal.loop-index-preserved

@@ -4,7 +4,7 @@ use Rattle.ladder_rows.specs.Boxes.{option_list}
 use Rattle.ladder_text.specs.Places.{layout_of}
 use Rattle.ladder_text.specs.Names.{symbols, symbol_at}
 use Rattle.ladder_rows.specs.declared.span.Span.{Span}
-use Rattle.ladder_text.proofs.Words.WordLemmas.{symbol_passed}
+use Rattle.ladder_text.proofs.Words.RowWords.{symbol_passed}
 use Rattle.ladder_text.proofs.names.spans.symbols_in.Goals as goal
 
 pub returns : goal.returns

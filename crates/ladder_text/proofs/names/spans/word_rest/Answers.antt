@@ -2,7 +2,7 @@ use Rattle.std.proofs.Common.{◌+◌, ◌∙◌, ap, sym, arith}
 use Rattle.ladder_rows.specs.Rows.{Rows, width}
 use Rattle.ladder_text.specs.Places.{layout_of}
 use Rattle.ladder_text.specs.Names.{in_word}
-use Rattle.ladder_text.proofs.Words.WordLemmas.{word_within}
+use Rattle.ladder_text.proofs.Words.RowWords.{word_within}
 use Rattle.ladder_text.proofs.names.spans.word_rest.Goals as goal
 
 pub returns-else-in_word_with-clause-rest : goal.returns-else-in_word_with-clause-rest

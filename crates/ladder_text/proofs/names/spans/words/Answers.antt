@@ -4,7 +4,7 @@ use Rattle.ladder_rows.specs.Boxes.{option_list}
 use Rattle.ladder_text.specs.Places.{layout_of}
 use Rattle.ladder_text.specs.Names.{words, word_at}
 use Rattle.ladder_rows.specs.declared.span.Span.{Span}
-use Rattle.ladder_text.proofs.Words.WordLemmas.{word_last, words_more}
+use Rattle.ladder_text.proofs.Words.RowWords.{word_last, words_more}
 use Rattle.ladder_text.proofs.names.spans.words.Goals as goal
 
 pub returns : goal.returns

@@ -1,6 +1,6 @@
 use Rattle.std.proofs.Common.{◌≡◌, ◌∙◌, ◌<◌, ◌↔◌, ℕ, slice_index, length, ap, arith}
 use Rattle.network.specs.Steps.Joined.{Joined}
-use Rattle.network.proofs.Joined.PairLemmas.{labels_are, all_within, written_over}
+use Rattle.network.proofs.Joined.LinkedPairs.{labels_are, all_within, written_over}
 use Rattle.network.proofs.joining.pairs.labels_of.Goals as goal
 
 pub settle_labels-requires-clause-within : goal.settle_labels-requires-clause-within

@@ -1,6 +1,6 @@
 use Rattle.std.proofs.Common.{◌≡◌, ◌∙◌, Some, length, slice_get, refl, arith}
 use Rattle.std.proofs.lemmas.Option.{slice_get_read}
-use Rattle.network.proofs.Joined.PairLemmas.{last_more, pairs_more}
+use Rattle.network.proofs.Joined.LinkedPairs.{last_more, pairs_more}
 use Rattle.network.proofs.joining.pairs.pairs_of.Goals as goal
 
 pub push_pairs-requires-clause-rows : goal.push_pairs-requires-clause-rows

@@ -4,8 +4,8 @@ use Rattle.std.proofs.lemmas.Option.{slice_get_read}
 use Rattle.drawings.specs.contracts.drawn_box.Side.{the_type}
 use Rattle.drawings.specs.declared.drawn_box.Side.TheVariants.{Left}
 use Rattle.network.specs.Links.{place}
-use Rattle.network.proofs.Joined.RowLemmas.{pin_here, pin_to_place, pin_to_all}
-use Rattle.network.proofs.Joined.PairLemmas.{adds_as, pins_pair, pins_skip}
+use Rattle.network.proofs.Joined.RowTables.{pin_here, pin_to_place, pin_to_all}
+use Rattle.network.proofs.Joined.LinkedPairs.{adds_as, pins_pair, pins_skip}
 use Rattle.network.proofs.joining.pairs.push_left_pins.Goals.{then-eq+in_ok-push_left, else-eq}
 use Rattle.network.proofs.joining.pairs.push_left_pins.Goals as goal
 

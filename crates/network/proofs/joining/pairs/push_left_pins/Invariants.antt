@@ -2,7 +2,7 @@ use Rattle.std.proofs.Common.{◌≡◌}
 use Rattle.drawings.specs.declared.place.Place.{Place}
 use Rattle.drawings.specs.declared.drawn_box.Side.TheVariants.{Left}
 use Rattle.network.specs.Steps.Pairs.{IsLeftPair, Adds}
-use Rattle.network.proofs.Joined.RowLemmas.{IsPinTo}
+use Rattle.network.proofs.Joined.RowTables.{IsPinTo}
 use Rattle.network.proofs.joining.pairs.push_left_pins.Given as goal
 
 abbrev pub invariant-loop-pin : goal.invariant-loop-pin

@@ -3,7 +3,7 @@ use Rattle.std.proofs.lemmas.Option.{slice_get_read}
 use Rattle.network.specs.declared.element.Element.TheVariants.{Wire, Join, Upright, Contact, Coil, Box}
 use Rattle.network.specs.Links.{place}
 use Rattle.network.proofs.Basics.{on_ok}
-use Rattle.network.proofs.Joined.PairLemmas.{of_element, wire_pairs, symbol_pairs, upright_pairs, join_pairs, box_pairs}
+use Rattle.network.proofs.Joined.LinkedPairs.{of_element, wire_pairs, symbol_pairs, upright_pairs, join_pairs, box_pairs}
 use Rattle.network.proofs.joining.pairs.push_pairs.Goals as goal
 
 pub push_left-requires : goal.push_left-requires

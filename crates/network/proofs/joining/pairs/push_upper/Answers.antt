@@ -1,7 +1,7 @@
 use Rattle.std.proofs.Common.{◌≡◌, ◌-◌, Some, length, slice_get, sym, ◌∙◌, refl, arith}
 use Rattle.std.proofs.lemmas.Bool.{false≢true}
 use Rattle.std.proofs.lemmas.Option.{slice_get_read}
-use Rattle.network.proofs.Joined.PairLemmas.{upper_pair, no_upper_pair}
+use Rattle.network.proofs.Joined.LinkedPairs.{upper_pair, no_upper_pair}
 use Rattle.network.proofs.joining.pairs.push_upper.Goals as goal
 
 pub returns-in_ok-push : goal.returns-in_ok-push

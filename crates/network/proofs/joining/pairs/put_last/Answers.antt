@@ -1,6 +1,6 @@
 use Rattle.std.proofs.Common.{◌+◌, ◌≤◌, inl, inr, refl, arith}
 use Rattle.network.specs.Links.{place}
-use Rattle.network.proofs.Joined.RowLemmas.{puts_one}
+use Rattle.network.proofs.Joined.RowTables.{puts_one}
 use Rattle.network.proofs.joining.pairs.put_last.Goals as goal
 
 pub overflow_add-column : goal.overflow_add-column

@@ -1,7 +1,7 @@
 use Rattle.std.proofs.Common.{length-set, inl, inr, refl, ap}
 use Rattle.network.specs.Apart.{first_place}
 use Rattle.drawings.specs.declared.place.Place.{Place}
-use Rattle.network.proofs.Joined.PairLemmas.{taker_put}
+use Rattle.network.proofs.Joined.LinkedPairs.{taker_put}
 use Rattle.network.proofs.joining.takers.put_taker.Goals as goal
 
 pub put_pins-requires : goal.put_pins-requires

@@ -1,6 +1,6 @@
 use Rattle.std.proofs.Common.{◌≡◌, ◌∙◌, Some, length, slice_get, refl, arith}
 use Rattle.std.proofs.lemmas.Option.{slice_get_read}
-use Rattle.network.proofs.Joined.PairLemmas.{takers_more}
+use Rattle.network.proofs.Joined.LinkedPairs.{takers_more}
 use Rattle.network.proofs.joining.takers.takers_of.Goals as goal
 
 pub put_taker-requires : goal.put_taker-requires

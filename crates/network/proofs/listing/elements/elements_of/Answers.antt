@@ -1,5 +1,5 @@
 use Rattle.std.proofs.Common.{arith}
-use Rattle.network.proofs.Listed.ListLemmas.{elements_none, elements_all}
+use Rattle.network.proofs.Listed.ElementOrder.{elements_none, elements_all}
 use Rattle.network.proofs.listing.elements.elements_of.Goals as goal
 
 pub loop-column-init : goal.loop-column-init

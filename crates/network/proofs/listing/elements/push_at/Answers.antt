@@ -9,7 +9,7 @@ use Rattle.network.specs.Links.{place}
 use Rattle.network.specs.Networks.{IsElementOf}
 use Rattle.network.specs.Steps.Listing.{AreElementsBefore}
 use Rattle.network.proofs.Basics.{on_ok}
-use Rattle.network.proofs.Listed.ListLemmas.{elements_found}
+use Rattle.network.proofs.Listed.ElementOrder.{elements_found}
 use Rattle.network.proofs.Listed.Sharing.{the_element}
 use Rattle.network.proofs.listing.elements.push_at.Goals as goal
 

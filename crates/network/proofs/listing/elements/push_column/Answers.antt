@@ -2,7 +2,7 @@ use Rattle.std.proofs.Common.{rules, ◌≡◌, ◌∙◌, Bool, true, false, no
 use denote.Enum.Bare.{same_true}
 use Rattle.drawings.specs.contracts.mark.Mark.{the_type}
 use Rattle.network.specs.Links.{place}
-use Rattle.network.proofs.Listed.ListLemmas.{elements_top, elements_skip, elements_next}
+use Rattle.network.proofs.Listed.ElementOrder.{elements_top, elements_skip, elements_next}
 use Rattle.network.proofs.Listed.Sharing.{no_element_blank}
 use Rattle.network.proofs.listing.elements.push_column.Goals.{then-ne+in_ok-push_at, else-ne}
 use Rattle.network.proofs.listing.elements.push_column.Goals as goal

@@ -1,4 +1,4 @@
-use Rattle.network.proofs.Listed.SymbolLemmas.{coil_position}
+use Rattle.network.proofs.Listed.FoundSymbols.{coil_position}
 use Rattle.network.proofs.listing.symbols.coil_number.Goals as goal
 
 pub returns : goal.returns

@@ -1,4 +1,4 @@
-use Rattle.network.proofs.Listed.SymbolLemmas.{contact_position}
+use Rattle.network.proofs.Listed.FoundSymbols.{contact_position}
 use Rattle.network.proofs.listing.symbols.contact_number.Goals as goal
 
 pub returns : goal.returns

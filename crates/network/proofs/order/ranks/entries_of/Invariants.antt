@@ -1,4 +1,4 @@
-use Rattle.network.proofs.Ordered.TopLemmas.{EntriesTo}
+use Rattle.network.proofs.Ordered.Ranking.{EntriesTo}
 use Rattle.network.proofs.order.ranks.entries_of.Given as goal
 
 abbrev pub invariant-loop-k : goal.invariant-loop-k

@@ -2,7 +2,7 @@ use Rattle.std.proofs.Common.{◌≡◌, ◌∙◌, ◌++◌, ℕ, List, Option,
 use Rattle.std.proofs.Math.Seq.{take-append_seam}
 use Rattle.network.proofs.Joined.LaidOut.{laid_out}
 use Rattle.network.proofs.Listed.Sharing.{rail_row}
-use Rattle.network.proofs.Ordered.TopLemmas.{ranks_are}
+use Rattle.network.proofs.Ordered.Ranking.{ranks_are}
 use Rattle.network.proofs.order.ranks.ranks_of.Goals as goal
 
 -- a list whose first elements are written over, all of them

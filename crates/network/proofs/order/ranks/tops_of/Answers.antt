@@ -6,7 +6,7 @@ use Rattle.network.specs.declared.joining.row_table.InRow.{InRow}
 use Rattle.network.specs.Links.{place, Takes}
 use Rattle.network.specs.Steps.Pairs.{AreTakers}
 use Rattle.network.proofs.Basics.{some_is}
-use Rattle.network.proofs.Ordered.TopLemmas.{ranks_none, tops_none, tops_skip, tops_had, tops_more, tops_all}
+use Rattle.network.proofs.Ordered.Ranking.{ranks_none, tops_none, tops_skip, tops_had, tops_more, tops_all}
 use Rattle.network.proofs.order.ranks.tops_of.Goals as goal
 use Rattle.network.proofs.order.ranks.tops_of.Goals.{in-Some+in_ok-push_top, in_default}
 

@@ -5,7 +5,7 @@ use Rattle.network.specs.Networks.{AreLeftRails}
 use Rattle.network.specs.Steps.Listing.{AreElementsOf}
 use Rattle.network.specs.Steps.Pairs.{AreLabels, AreTakers}
 use Rattle.network.specs.Steps.Ranks.{AreRanksOf}
-use Rattle.network.proofs.Ordered.TopLemmas.{TopsTo}
+use Rattle.network.proofs.Ordered.Ranking.{TopsTo}
 use Rattle.network.proofs.order.ranks.tops_of.Given as goal
 
 abbrev pub invariant-loop-rail : goal.invariant-loop-rail

@@ -3,7 +3,7 @@ use Rattle.std.proofs.lemmas.Option.{slice_get-get_or}
 use Rattle.std.proofs.lemmas.List.{length_push}
 use Rattle.std.proofs.lemmas.Iterator.Adapters.{YieldsList-from_vec}
 use Rattle.std.proofs.lemmas.Iterator.Consumers.{YieldsList-turn}
-use Rattle.network.proofs.Ordered.SplitLemmas.{split_put}
+use Rattle.network.proofs.Ordered.Splitting.{split_put}
 use Rattle.network.proofs.order.split.split.Goals as goal
 
 pub loop-element-preserved : goal.loop-element-preserved

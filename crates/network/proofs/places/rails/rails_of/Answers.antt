@@ -1,7 +1,7 @@
 use Rattle.std.proofs.Common.{rules, ◌∙◌, sym, arith}
 use denote.Enum.Bare.{same_true, same_false}
 use Rattle.drawings.specs.contracts.mark.Mark.{the_type}
-use Rattle.network.proofs.Ordered.RailLemmas.{rails_none, rails_skip, rails_more, rails_all}
+use Rattle.network.proofs.Ordered.LeftRails.{rails_none, rails_skip, rails_more, rails_all}
 use Rattle.network.proofs.places.rails.rails_of.Goals.{then-eq+in_ok-push, else-eq}
 use Rattle.network.proofs.places.rails.rails_of.Goals as goal
 

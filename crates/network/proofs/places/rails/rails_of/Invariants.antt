@@ -1,4 +1,4 @@
-use Rattle.network.proofs.Ordered.RailLemmas.{RailsTo}
+use Rattle.network.proofs.Ordered.LeftRails.{RailsTo}
 use Rattle.network.proofs.places.rails.rails_of.Given as goal
 
 abbrev pub invariant-loop-row : goal.invariant-loop-row

@@ -1,6 +1,6 @@
 use Rattle.std.proofs.Common.{◌≡◌, Some, length, slice_get, refl}
 use Rattle.std.proofs.lemmas.Option.{slice_get_read}
-use Rattle.network.proofs.Sought.CornerLemmas.{corners_more}
+use Rattle.network.proofs.Sought.FirstCorners.{corners_more}
 use Rattle.network.proofs.seeking.corners.corners_of.Goals as goal
 
 pub loop-drawn-preserved : goal.loop-drawn-preserved

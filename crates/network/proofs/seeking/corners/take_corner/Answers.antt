@@ -3,7 +3,7 @@ use Rattle.std.specs.BTreeMap.{get_by_text}
 use Rattle.std.specs.Str.{str_to_ascii_lowercase}
 use Rattle.std.proofs.lemmas.Map.Text.{btree_map_updates_text}
 use Rattle.network.specs.Links.{place}
-use Rattle.network.proofs.Sought.CornerLemmas.{takes_from}
+use Rattle.network.proofs.Sought.FirstCorners.{takes_from}
 use Rattle.network.proofs.seeking.corners.take_corner.Goals as goal
 
 pub returns : goal.returns

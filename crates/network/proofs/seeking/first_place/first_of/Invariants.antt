@@ -1,4 +1,4 @@
-use Rattle.network.proofs.Sought.FoundLemmas.{FirstTo}
+use Rattle.network.proofs.Sought.FirstFound.{FirstTo}
 use Rattle.network.proofs.seeking.first_place.first_of.Given as goal
 
 abbrev pub invariant-loop-place : goal.invariant-loop-place

@@ -1,7 +1,7 @@
 use Rattle.std.proofs.Common.{◌≡◌, ◌∙◌, ◌≤◌, ◌-◌, ℕ, IsTrue, leb, Some, length, slice_get, min, max, refl, ap, rules, tests, arith}
 use Rattle.std.proofs.lemmas.Option.{slice_get_read}
 use Rattle.drawings.specs.declared.place.Place.{Place}
-use Rattle.network.proofs.Sought.FoundLemmas.{rows_more, tall_from, far_from}
+use Rattle.network.proofs.Sought.FirstFound.{rows_more, tall_from, far_from}
 use Rattle.network.proofs.seeking.found.is_tall.Goals as goal
 
 at_least : (x : ℕ) → IsTrue (leb 200 x) → 200 ≤ x

@@ -1,5 +1,5 @@
 use Rattle.std.proofs.Common.{◌<◌}
-use Rattle.network.proofs.Sought.FoundLemmas.{RowsTo}
+use Rattle.network.proofs.Sought.FirstFound.{RowsTo}
 use Rattle.network.proofs.seeking.found.is_tall.Given as goal
 
 abbrev pub invariant-loop-element : goal.invariant-loop-element

@@ -1,6 +1,6 @@
 use Rattle.std.proofs.Common.{◌≡◌, Some, length, slice_get, refl}
 use Rattle.std.proofs.lemmas.Option.{slice_get_read}
-use Rattle.network.proofs.Sought.FoundLemmas.{firsts_more, firsts_added}
+use Rattle.network.proofs.Sought.FirstFound.{firsts_more, firsts_added}
 use Rattle.network.proofs.seeking.found.push_firsts.Goals as goal
 
 pub loop-element-preserved : goal.loop-element-preserved

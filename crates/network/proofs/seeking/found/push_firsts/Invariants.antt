@@ -1,4 +1,4 @@
-use Rattle.network.proofs.Sought.FoundLemmas.{FirstsTo}
+use Rattle.network.proofs.Sought.FirstFound.{FirstsTo}
 use Rattle.network.proofs.seeking.found.push_firsts.Given as goal
 
 abbrev pub invariant-loop-element : goal.invariant-loop-element

@@ -1,7 +1,7 @@
 use Rattle.std.proofs.Common.{◌≡◌, ◌∙◌, Some, length, slice_get, refl, sym}
 use Rattle.std.proofs.lemmas.Bool.{false≢true}
 use Rattle.std.proofs.lemmas.Option.{slice_get_read}
-use Rattle.network.proofs.Sought.FoundLemmas.{tall_skip, tall_more}
+use Rattle.network.proofs.Sought.FirstFound.{tall_skip, tall_more}
 use Rattle.network.proofs.seeking.found.tall_places.Goals.{then-is_tall+in_ok-push_firsts, else-is_tall}
 use Rattle.network.proofs.seeking.found.tall_places.Goals as goal
 

@@ -1,8 +1,8 @@
 use Rattle.std.proofs.Common.{◌≡◌, ◌∙◌, Some, length, slice_get, refl, sym}
 use Rattle.std.proofs.lemmas.Bool.{false≢true}
 use Rattle.std.proofs.lemmas.Option.{slice_get_read}
-use Rattle.network.proofs.Sought.FoundLemmas.{twice_skip, twice_more}
-use Rattle.network.proofs.Sought.CornerLemmas.{twice_from, twice_known}
+use Rattle.network.proofs.Sought.FirstFound.{twice_skip, twice_more}
+use Rattle.network.proofs.Sought.FirstCorners.{twice_from, twice_known}
 use Rattle.network.proofs.seeking.found.twice_places.Goals.{then-twice+in_ok-push, else-twice}
 use Rattle.network.proofs.seeking.found.twice_places.Goals as goal
 

@@ -2,7 +2,7 @@ use Rattle.std.proofs.Common.{◌≡◌, ◌∙◌, ◌<◌, Option, Some, None,
 use Rattle.std.specs.Option.{is_some}
 use Rattle.std.proofs.lemmas.Option.{slice_get_read, slice_get-get_or}
 use Rattle.network.proofs.Basics.{some_is}
-use Rattle.network.proofs.Sought.FoundLemmas.{unmet_skip, unmet_more}
+use Rattle.network.proofs.Sought.FirstFound.{unmet_skip, unmet_more}
 use Rattle.network.proofs.seeking.found.unmet_places.Goals.{then-is_none+in_ok-push, else-is_none}
 use Rattle.network.proofs.seeking.found.unmet_places.Goals as goal
 

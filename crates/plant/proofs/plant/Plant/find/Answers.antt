@@ -1,4 +1,4 @@
-use Rattle.plant.proofs.FindLemmas.{found_named}
+use Rattle.plant.proofs.FoundTasks.{found_named}
 use Rattle.plant.proofs.plant.Plant.find.Goals as goal
 
 pub returns-in-Some : goal.returns-in-Some

@@ -16,7 +16,7 @@ use Rattle.plant.specs.StandsFor.{IsPlantOf}
 use Rattle.plant.specs.Steps.Reading.{tree_of}
 use Rattle.plant.proofs.BodyCounts.{begun_by_programs}
 use Rattle.plant.proofs.DrawnTrees.{drawn_tree, drawn_have_ladders}
-use Rattle.plant.proofs.FaultLemmas.{plant_of_word, no_body, of_name, no_name, memory_no_body, memory_no_name, body_no_name}
+use Rattle.plant.proofs.WordFaults.{plant_of_word, no_body, of_name, no_name, memory_no_body, memory_no_name, body_no_name}
 use Rattle.plant.proofs.KnownWords.{words_known}
 use Rattle.plant.proofs.RefusedKnown.{begun_by_refused}
 use Rattle.plant.proofs.plant.Plant.read.Goals as goal

@@ -1,7 +1,7 @@
 use Rattle.std.proofs.Common.{◌<◌, arith}
 use Rattle.std.proofs.lemmas.Option.{slice_get_within}
 use Rattle.plant.specs.Find.{IsTaskAt}
-use Rattle.plant.proofs.FindLemmas.{tasks_more}
+use Rattle.plant.proofs.FoundTasks.{tasks_more}
 use Rattle.plant.proofs.plant.Plant.task_of.Goals as goal
 
 pub loop-resource-preserved : goal.loop-resource-preserved

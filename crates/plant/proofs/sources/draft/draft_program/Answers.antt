@@ -3,7 +3,7 @@ use Rattle.std.specs.List.{find}
 use Rattle.plant_grammar.specs.Names.{is_named}
 use Rattle.program_bodies.specs.ProgramTypes.{TypeValue}
 use Rattle.task_codes.specs.CodeValue.{ProgramValue}
-use Rattle.plant.proofs.DraftLemmas.{program_made}
+use Rattle.plant.proofs.Drafting.{program_made}
 use Rattle.plant.proofs.sources.draft.draft_program.Goals as goal
 
 pub returns-clause-ok : goal.returns-clause-ok

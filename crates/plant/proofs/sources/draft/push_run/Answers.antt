@@ -1,6 +1,6 @@
 use Rattle.std.proofs.Common.{IsTrue}
 use Rattle.plant_grammar.specs.Names.{is_named}
-use Rattle.plant.proofs.DraftLemmas.{run_pushed}
+use Rattle.plant.proofs.Drafting.{run_pushed}
 use Rattle.plant.proofs.sources.draft.push_run.Goals as goal
 
 pub returns-in_ok-push-in-Use : goal.returns-in_ok-push-in-Use

@@ -1,7 +1,7 @@
 use Rattle.plant_grammar.specs.declared.grammar.tree.Use.{Use}
 use Rattle.plant_grammar.specs.Names.{is_named}
 use Rattle.plant.specs.Steps.Drafts.{seen}
-use Rattle.plant.proofs.DraftLemmas.{runs_more}
+use Rattle.plant.proofs.Drafting.{runs_more}
 use Rattle.plant.proofs.sources.draft.runs_in.Goals as goal
 
 pub loop-item-preserved : goal.loop-item-preserved

@@ -1,4 +1,4 @@
-use Rattle.plant.proofs.ImageLemmas.{before_more, before_all}
+use Rattle.plant.proofs.ProgramOutputs.{before_more, before_all}
 use Rattle.plant.proofs.sources.images.outputs_of.Goals as goal
 
 pub loop-i-preserved : goal.loop-i-preserved

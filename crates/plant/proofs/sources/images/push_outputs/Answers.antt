@@ -1,4 +1,4 @@
-use Rattle.plant.proofs.ImageLemmas.{outputs_start, within_more, within_all}
+use Rattle.plant.proofs.ProgramOutputs.{outputs_start, within_more, within_all}
 use Rattle.plant.proofs.sources.images.push_outputs.Goals as goal
 
 pub loop-place-init : goal.loop-place-init

@@ -6,7 +6,7 @@ use Rattle.std.proofs.lemmas.List.{length-map}
 use Rattle.task_codes.specs.declared.task_code.TaskCode.{TaskCode}
 use Rattle.plant_grammar.specs.declared.grammar.tree.TaskLine.{TaskLine}
 use Rattle.plant.specs.Steps.Drafts.{drafted}
-use Rattle.plant.proofs.StandLemmas.{resource_made}
+use Rattle.plant.proofs.LinkedPlants.{resource_made}
 use Rattle.plant.proofs.sources.link.link_resource.Goals as goal
 
 pub returns-clause-ok : goal.returns-clause-ok

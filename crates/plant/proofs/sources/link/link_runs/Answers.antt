@@ -7,7 +7,7 @@ use Rattle.task_codes.specs.declared.binding.Binding.{Binding}
 use Rattle.plant.specs.declared.sources.feed.Feed.{Feed}
 use Rattle.plant_grammar.specs.declared.grammar.tree.Use.{Use}
 use Rattle.plant.specs.Steps.Drafts.{drafted, IsCodeLinked}
-use Rattle.plant.proofs.LinkLemmas.{linked_copy, producers_known, taken_known}
+use Rattle.plant.proofs.LinkedCodes.{linked_copy, producers_known, taken_known}
 use Rattle.plant.proofs.sources.link.link_runs.Goals as goal
 
 pub expected_of-requires : goal.expected_of-requires

@@ -12,7 +12,7 @@ use Rattle.plant_grammar.specs.Names.{is_named}
 use Rattle.plant_grammar.specs.Lawful.{uses_of}
 use Rattle.plant.specs.StandsFor.{runs_in}
 use Rattle.plant.specs.Steps.Drafts.{drafted, IsDraftOf, IsCodeLinked, IsOnceBound}
-use Rattle.plant.proofs.StandLemmas.{runs_many}
+use Rattle.plant.proofs.LinkedPlants.{runs_many}
 use Rattle.plant.proofs.Zips.{ref_at, triples_more, all_filter}
 use Rattle.plant.proofs.sources.link.link_tasks.Goals as goal
 

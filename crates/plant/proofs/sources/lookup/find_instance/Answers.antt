@@ -1,6 +1,6 @@
 use Rattle.std.proofs.Common.{◌<◌, length, refl, arith}
 use Rattle.std.proofs.lemmas.Option.{slice_get_within, slice_get_read}
-use Rattle.plant.proofs.FindLemmas.{instances_more}
+use Rattle.plant.proofs.FoundTasks.{instances_more}
 use Rattle.plant.proofs.sources.lookup.find_instance.Goals as goal
 
 pub returns-in-Some : goal.returns-in-Some

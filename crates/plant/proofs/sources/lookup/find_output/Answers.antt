@@ -1,7 +1,7 @@
 use Rattle.std.proofs.Common.{◌≡◌, ◌∙◌, Some, length, refl, sym, slice_get}
 use Rattle.std.proofs.lemmas.Option.{slice_get_read}
 use Rattle.declared_names.specs.Names.{place_of}
-use Rattle.plant.proofs.DraftLemmas.{output_found}
+use Rattle.plant.proofs.Drafting.{output_found}
 use Rattle.plant.proofs.OutputOrder.{outputs_in_order}
 use Rattle.plant.proofs.sources.lookup.find_output.Goals as goal
 

@@ -1,5 +1,5 @@
 use Rattle.std.proofs.Common.{◌≡◌, ◌∙◌, sym, true, false}
-use Rattle.plant.proofs.ProducerLemmas.{has, firsts_new, firsts_old}
+use Rattle.plant.proofs.FirstMentions.{has, firsts_new, firsts_old}
 use Rattle.plant.proofs.sources.producers.push_first.Goals as goal
 
 pub returns-then-contains : goal.returns-then-contains

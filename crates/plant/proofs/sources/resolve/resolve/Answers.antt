@@ -5,7 +5,7 @@ use Rattle.plant.specs.Steps.Reading.{tree_of}
 use Rattle.plant.specs.StandsFor.{IsPlantOf}
 use Rattle.plant.specs.Steps.Drafts.{programs_in, IsReady}
 use Rattle.plant.proofs.Zips.{all_at}
-use Rattle.plant.proofs.StandLemmas.{ready_from, stands, sound}
+use Rattle.plant.proofs.LinkedPlants.{ready_from, stands, sound}
 use Rattle.plant.proofs.sources.resolve.resolve.Goals as goal
 
 pub link_resources-requires-clause-ready : goal.link_resources-requires-clause-ready

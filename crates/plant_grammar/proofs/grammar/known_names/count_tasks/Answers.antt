@@ -1,7 +1,7 @@
 use Rattle.std.proofs.Common.{rules, ◌≡◌, ◌∙◌, sym}
 use Rattle.std.specs.List.{count_by}
 use Rattle.plant_grammar.specs.Steps.ReadParts.{is_task_line}
-use Rattle.plant_grammar.proofs.ItemLemmas.{tasks_counted}
+use Rattle.plant_grammar.proofs.ResourceLines.{tasks_counted}
 use Rattle.plant_grammar.proofs.grammar.known_names.count_tasks.Goals as goal
 
 pub returns : goal.returns

@@ -3,7 +3,7 @@ use Rattle.std.specs.List.{find}
 use Rattle.plant_grammar.specs.Grammar.{TextValue}
 use Rattle.plant_grammar.specs.declared.grammar.tree.Program.{Program}
 use Rattle.plant_grammar.specs.Names.{is_named}
-use Rattle.plant_grammar.proofs.TypeLemmas.{found_any_of}
+use Rattle.plant_grammar.proofs.FoundTypes.{found_any_of}
 use Rattle.plant_grammar.proofs.grammar.known_names.is_program.Goals as goal
 
 pub returns : goal.returns

@@ -2,7 +2,7 @@ use Rattle.std.proofs.Common.{rules, ◌≡◌, Bool, is_some}
 use Rattle.std.specs.List.{find}
 use Rattle.plant_grammar.specs.Names.{is_named}
 use Rattle.plant_grammar.specs.declared.grammar.tree.Resource.{Resource}
-use Rattle.plant_grammar.proofs.TypeLemmas.{found_any}
+use Rattle.plant_grammar.proofs.FoundTypes.{found_any}
 use Rattle.plant_grammar.proofs.grammar.known_names.is_resource.Goals as goal
 
 pub returns : goal.returns

@@ -8,7 +8,7 @@ use Rattle.plant_grammar.specs.Steps.Declaring.{BeginWith, RefusesPlantWords}
 use Rattle.plant_grammar.specs.Steps.ReadParts.{tally_with, types_alone, AreResourcesLawful}
 use Rattle.plant_grammar.specs.Steps.Reading.{programs_of, all_words}
 use Rattle.plant_grammar.proofs.RefusedPlaces.{begin_left, begin_right, in_configuration}
-use Rattle.plant_grammar.proofs.TreeLemmas.{tree_is, begun_words, begin_with_texts}
+use Rattle.plant_grammar.proofs.WholeTrees.{tree_is, begun_words, begin_with_texts}
 use Rattle.plant_grammar.proofs.grammar.read_tree.read_tree.Goals as goal
 
 pub returns-clause-ok : goal.returns-clause-ok

@@ -1,8 +1,8 @@
 use Rattle.std.proofs.Common.{◌≡◌, ◌+◌, ◌++◌, min, true, false, List, ℕ, ap, sym, subst, rules, tests, ◌∙◌}
 use Rattle.plant_text.specs.Lines.{WordValue}
 use Rattle.plant_text.specs.Steps.Lexing.{LexerValue, IsBodyThen}
-use Rattle.plant_text.proofs.SpellingLemmas.{body_read}
-use Rattle.plant_text.proofs.LineLemmas.{blank_gap}
+use Rattle.plant_text.proofs.SpelledWords.{body_read}
+use Rattle.plant_text.proofs.BodyLines.{blank_gap}
 use Rattle.plant_text.proofs.LineCounts.{body_stands}
 use Rattle.plant_text.proofs.BodyUnique.{no_end_behind, no_body_cut}
 use Rattle.plant_text.proofs.lexer.Lexer.body.Goals as goal

@@ -1,5 +1,5 @@
 use Rattle.std.proofs.Common.{◌≡◌}
-use Rattle.plant_text.proofs.SpellingLemmas.{word_read}
+use Rattle.plant_text.proofs.SpelledWords.{word_read}
 use Rattle.plant_text.proofs.LineCounts.{word_stands}
 use Rattle.plant_text.proofs.lexer.Lexer.word_behind_gap.Goals as goal
 

@@ -7,7 +7,7 @@ use Rattle.scan_steps.specs.declared.source.Source.TheVariants as source
 use Rattle.declared_names.specs.Names.{place_of}
 use Rattle.power_flow.specs.Meaning.{IsDrawn}
 use Rattle.power_flow.specs.Steps.BoxTable.{IsBitSource}
-use Rattle.power_flow.proofs.BoxesBinding.{four, declared_place}
+use Rattle.power_flow.proofs.Boxes.BoxesBinding.{four, declared_place}
 use Rattle.power_flow.proofs.binding.box_binding.bind_box.Goals as goal
 
 pub returns-clause-bound : goal.returns-clause-bound

@@ -5,7 +5,7 @@ use Rattle.network.specs.declared.element.Element.{Element}
 use Rattle.variable_binding.specs.Steps.Named.{IsNamedBox}
 use Rattle.power_flow.specs.Steps.BoxTable.{ArePinsIn, AreOutputsIn}
 use Rattle.power_flow.specs.Steps.BoxTable.{boxes_of}
-use Rattle.power_flow.proofs.BoxesBinding.{boxes_more}
+use Rattle.power_flow.proofs.Boxes.BoxesBinding.{boxes_more}
 use Rattle.power_flow.proofs.binding.box_binding.bind_boxes.Goals as goal
 
 pub loop-element-preserved : goal.loop-element-preserved

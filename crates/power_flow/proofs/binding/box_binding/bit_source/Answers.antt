@@ -2,7 +2,7 @@ use Rattle.std.proofs.Common.{subst}
 use Rattle.drawings.specs.declared.drawn_box.DrawnPin.{DrawnPin}
 use Rattle.std_blocks.specs.declared.pin.Field.TheVariants.{Bit}
 use Rattle.power_flow.specs.Steps.BoxTable.{IsBitSource}
-use Rattle.power_flow.proofs.BoxesBinding.{same_drawn}
+use Rattle.power_flow.proofs.Boxes.BoxesBinding.{same_drawn}
 use Rattle.power_flow.proofs.binding.box_binding.bit_source.Goals as goal
 
 pub returns-in-Some-clause-some : goal.returns-in-Some-clause-some

@@ -2,7 +2,7 @@ use Rattle.std.proofs.Common.{◌<◌}
 use Rattle.std.proofs.lemmas.List.Elements.{All-append}
 use Rattle.scan_steps.specs.declared.bound_box.BoundOutput.{BoundOutput}
 use Rattle.power_flow.specs.Steps.BoxTable.{IsBoundOutput, output_if}
-use Rattle.power_flow.proofs.BoxesBinding.{outputs_more, output_within, pin_in}
+use Rattle.power_flow.proofs.Boxes.BoxesBinding.{outputs_more, output_within, pin_in}
 use Rattle.power_flow.proofs.binding.box_binding.outputs_of.Goals as goal
 
 pub loop-pin-preserved : goal.loop-pin-preserved

@@ -7,7 +7,7 @@ use Rattle.scan_steps.specs.declared.bound_box.BoundOutput.{BoundOutput}
 use Rattle.variable_binding.specs.Steps.Named.{IsNamedBox}
 use Rattle.power_flow.specs.Steps.BoxTable.{ArePinsIn}
 use Rattle.power_flow.specs.Steps.BoxTable.{IsBoundBox}
-use Rattle.power_flow.proofs.BoxesBinding.{none_pushed}
+use Rattle.power_flow.proofs.Boxes.BoxesBinding.{none_pushed}
 use Rattle.power_flow.proofs.binding.box_binding.push_box.Goals as goal
 
 pub returns-in_default : goal.returns-in_default

@@ -1,6 +1,6 @@
 use Rattle.std.proofs.Common.{◌∙◌, ap}
 use Rattle.power_flow.specs.Steps.NameSources.{pin_source}
-use Rattle.power_flow.proofs.BoxesBinding.{same_drawn, in_range_of}
+use Rattle.power_flow.proofs.Boxes.BoxesBinding.{same_drawn, in_range_of}
 use Rattle.power_flow.proofs.binding.box_binding.value_source.Goals as goal
 
 pub returns-in-Some-clause-some : goal.returns-in-Some-clause-some

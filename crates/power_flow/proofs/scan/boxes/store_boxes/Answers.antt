@@ -2,7 +2,7 @@ use Rattle.std.proofs.Common.{◌+◌, ◌<◌, drop, length, get_or, Some, arit
 use Rattle.std.proofs.lemmas.Option.{slice_get-get_or}
 use Rattle.power_flow.specs.Meaning.{stored}
 use Rattle.power_flow.specs.Steps.BoxStores.{pin_stores, output_stores, with_blocks}
-use Rattle.power_flow.proofs.BlocksStored.{box_stored}
+use Rattle.power_flow.proofs.Boxes.BlocksStored.{box_stored}
 use Rattle.power_flow.proofs.scan.boxes.store_boxes.Goals as goal
 
 pub loop-k-preserved : goal.loop-k-preserved

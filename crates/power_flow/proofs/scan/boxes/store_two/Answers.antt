@@ -5,7 +5,7 @@ use Rattle.scan_steps.specs.declared.bound_box.BoundOutput.{BoundOutput}
 use Rattle.scan_steps.specs.declared.slot.Slot.{Slot}
 use Rattle.power_flow.specs.Meaning.{stored}
 use Rattle.power_flow.specs.Steps.BoxStores.{pin_store, pin_stores}
-use Rattle.power_flow.proofs.Stepping.{stored-append}
+use Rattle.power_flow.proofs.Ladders.Stepping.{stored-append}
 use Rattle.power_flow.proofs.scan.boxes.store_two.Goals as goal
 
 two_stores : (values : PinsOut) (pins : List BoundOutput) (d : BoundOutput) → length pins ≡ 2

@@ -1,6 +1,6 @@
 use Rattle.std.proofs.Common.{arith}
 use Rattle.power_flow.specs.Steps.Circuit.{circuit_diagram}
-use Rattle.power_flow.proofs.Scanning.{scan_more}
+use Rattle.power_flow.proofs.Ladders.Scanning.{scan_more}
 use Rattle.power_flow.proofs.scan.scan.+scan_circuits.Goals as goal
 
 pub returns-in-Some : goal.returns-in-Some

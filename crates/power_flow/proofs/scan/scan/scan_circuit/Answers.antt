@@ -1,9 +1,9 @@
 use Rattle.std.proofs.Common.{refl}
 use Rattle.power_flow.specs.Steps.BoxStores.{with_blocks}
 use Rattle.scan_steps.specs.Steps.Passing.{pass_of}
-use Rattle.power_flow.proofs.BoxesSources.{room}
-use Rattle.power_flow.proofs.BoxesMeaning.{circuit_meaning}
-use Rattle.power_flow.proofs.BlocksStored.{stored_apart, blocks_length, blocks_others, blocks_placed}
+use Rattle.power_flow.proofs.Boxes.BoxesSources.{room}
+use Rattle.power_flow.proofs.Boxes.BoxesMeaning.{circuit_meaning}
+use Rattle.power_flow.proofs.Boxes.BlocksStored.{stored_apart, blocks_length, blocks_others, blocks_placed}
 use Rattle.power_flow.proofs.scan.scan.scan_circuit.Goals as goal
 
 pub returns : goal.returns

@@ -1,6 +1,6 @@
 use Rattle.std.proofs.Common.{◌∙◌, sym}
 use Rattle.std.proofs.lemmas.Bool.{false≢true}
-use Rattle.power_flow.proofs.SameNetworks.{same_diagrams, diagrams_elements, diagrams_rails}
+use Rattle.power_flow.proofs.Networks.SameNetworks.{same_diagrams, diagrams_elements, diagrams_rails}
 use Rattle.power_flow.proofs.steps.circuits.are_same_networks.Goals as goal
 
 pub returns-then-have_same_rails : goal.returns-then-have_same_rails

@@ -3,9 +3,9 @@ use Rattle.network.specs.GraphValue.{diagram}
 use Rattle.scan_steps.specs.declared.step.BoundCoil.{BoundCoil}
 use Rattle.variable_binding.specs.Steps.Named.{IsNamedBox}
 use Rattle.power_flow.specs.Waiting.{coils_of, boxes_of}
-use Rattle.power_flow.proofs.Fusing.{fewer_in}
-use Rattle.power_flow.proofs.BoxesTable.{all_boxes, bound_boxes_are}
-use Rattle.power_flow.proofs.CircuitOf.{steps_within, coils_within, bound_coils_counted, boxes_in_rows}
+use Rattle.power_flow.proofs.Networks.Fusing.{fewer_in}
+use Rattle.power_flow.proofs.Boxes.BoxesTable.{all_boxes, bound_boxes_are}
+use Rattle.power_flow.proofs.Networks.CircuitOf.{steps_within, coils_within, bound_coils_counted, boxes_in_rows}
 use Rattle.power_flow.proofs.steps.circuits.circuit_of.Goals as goal
 
 pub of-rows-requires : goal.of-rows-requires

@@ -2,7 +2,7 @@ use Rattle.std.proofs.Common.{length, refl, ◌∙◌}
 use Rattle.std.proofs.lemmas.Iterator.Adapters.{YieldsList-from_vec}
 use Rattle.std.proofs.lemmas.Iterator.Consumers.{YieldsList-turn}
 use Rattle.std.proofs.lemmas.Option.{slice_get_read}
-use Rattle.power_flow.proofs.Binds.{circuits_more, shapes_more, elements_more}
+use Rattle.power_flow.proofs.Ladders.Binds.{circuits_more, shapes_more, elements_more}
 use Rattle.power_flow.proofs.steps.circuits.circuits_of.Goals as goal
 
 pub circuit_of-requires : goal.circuit_of-requires

@@ -1,6 +1,6 @@
 use Rattle.std.proofs.Common.{◌∙◌, refl, sym, arith}
 use Rattle.std.proofs.lemmas.Bool.{false≢true}
-use Rattle.power_flow.proofs.SameNetworks.{same_elements_of, elements_at}
+use Rattle.power_flow.proofs.Networks.SameNetworks.{same_elements_of, elements_at}
 use Rattle.power_flow.proofs.steps.circuits.have_same_elements.Goals as goal
 
 pub returns-then-not-are_same_elements : goal.returns-then-not-are_same_elements

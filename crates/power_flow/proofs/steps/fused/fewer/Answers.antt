@@ -1,6 +1,6 @@
 use Rattle.std.proofs.Common.{◌++◌, ap, sym, ◌∙◌}
 use Rattle.power_flow.specs.Steps.Fused.{single}
-use Rattle.power_flow.proofs.Fusing.{singles_push}
+use Rattle.power_flow.proofs.Networks.Fusing.{singles_push}
 use Rattle.power_flow.proofs.steps.fused.fewer.Goals as goal
 
 pub loop-step-preserved : goal.loop-step-preserved

@@ -1,6 +1,6 @@
 use Rattle.std.proofs.Common.{◌≡◌, ◌++◌, [], ◌∷◌, append_assoc, ap, sym, ◌∙◌}
 use Rattle.power_flow.specs.Steps.Fused.{single, singles}
-use Rattle.power_flow.proofs.Fusing.{singles_push}
+use Rattle.power_flow.proofs.Networks.Fusing.{singles_push}
 use Rattle.power_flow.proofs.steps.fused.push_both.Goals as goal
 
 pub returns-in_ok-push-in-Some : goal.returns-in_ok-push-in-Some

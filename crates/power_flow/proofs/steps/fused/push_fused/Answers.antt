@@ -1,7 +1,7 @@
 use Rattle.std.proofs.Common.{◌≡◌, ◌++◌, [], ◌∷◌, ap, ◌∙◌}
 use Rattle.std.specs.Option.{option_to_list}
 use Rattle.power_flow.specs.Steps.Fused.{singles}
-use Rattle.power_flow.proofs.Fusing.{singles_push}
+use Rattle.power_flow.proofs.Networks.Fusing.{singles_push}
 use Rattle.power_flow.proofs.steps.fused.push_fused.Goals as goal
 
 pub returns-in-Some : goal.returns-in-Some

@@ -1,7 +1,7 @@
 use Rattle.std.proofs.Common.{◌≤◌, ℕ, List, All, length, subst, arith}
 use Rattle.std.proofs.lemmas.List.{take_all}
 use Rattle.power_flow.specs.declared.steps.circuit.Circuit.{Circuit}
-use Rattle.power_flow.proofs.Binds.{most_more, least_more}
+use Rattle.power_flow.proofs.Ladders.Binds.{most_more, least_more}
 use Rattle.power_flow.proofs.steps.room.most_boxes.Goals as goal
 
 pub loop-circuit-init : goal.loop-circuit-init

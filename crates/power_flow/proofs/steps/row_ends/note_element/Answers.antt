@@ -2,8 +2,8 @@ use Rattle.std.proofs.Common.{◌+◌, length, inl, inr, refl, arith}
 use Rattle.network.specs.declared.element.Element.TheVariants.{Upright, Contact, Coil, Box}
 use Rattle.network.specs.Links.{place}
 use Rattle.network.specs.GraphValue.{diagram}
-use Rattle.power_flow.proofs.Leading.{symbol_more, none_more, box_more, in_rows, pins_in}
-use Rattle.power_flow.proofs.StepLemmas.{at_number, one_place}
+use Rattle.power_flow.proofs.Walks.Leading.{symbol_more, none_more, box_more, in_rows, pins_in}
+use Rattle.power_flow.proofs.Networks.ElementSteps.{at_number, one_place}
 use Rattle.power_flow.proofs.steps.row_ends.note_element.Goals as goal
 
 pub overflow_add-contact : goal.overflow_add-contact

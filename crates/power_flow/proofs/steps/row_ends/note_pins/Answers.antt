@@ -1,5 +1,5 @@
 use Rattle.std.proofs.Common.{sym, arith}
-use Rattle.power_flow.proofs.Leading.{pins_more_left, pins_more_right, pin_at}
+use Rattle.power_flow.proofs.Walks.Leading.{pins_more_left, pins_more_right, pin_at}
 use Rattle.power_flow.proofs.steps.row_ends.note_pins.Goals as goal
 use Rattle.power_flow.proofs.steps.row_ends.note_pins.Goals.{in-Left, in-Right}
 

@@ -1,7 +1,7 @@
 use Rattle.std.proofs.Common.{arith}
 use Rattle.std.proofs.lemmas.Option.{slice_get_within}
-use Rattle.power_flow.proofs.Leading.{pin_at}
-use Rattle.power_flow.proofs.RowLemmas.{pins_below, pins_reached, box_below, box_reached}
+use Rattle.power_flow.proofs.Walks.Leading.{pin_at}
+use Rattle.power_flow.proofs.Walks.NetworkRows.{pins_below, pins_reached, box_below, box_reached}
 use Rattle.power_flow.proofs.steps.rows.lowest_pin.Goals as goal
 
 pub loop-pin-preserved : goal.loop-pin-preserved

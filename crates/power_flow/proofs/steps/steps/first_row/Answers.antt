@@ -4,7 +4,7 @@ use Rattle.lists.proofs.Members.{any_at}
 use Rattle.network.specs.declared.element.Element.{Element}
 use Rattle.network.specs.Links.{Stands, place}
 use Rattle.network.specs.GraphValue.{diagram}
-use Rattle.power_flow.proofs.Uprights.{upright_is}
+use Rattle.power_flow.proofs.Walks.Uprights.{upright_is}
 use Rattle.power_flow.proofs.steps.steps.first_row.Goals as goal
 
 pub loop-number-preserved : goal.loop-number-preserved

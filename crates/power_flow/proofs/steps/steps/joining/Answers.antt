@@ -6,7 +6,7 @@ use Rattle.power_flow.specs.Steps.Columns.{StandsIn}
 use Rattle.power_flow.specs.Steps.Columns.Joins.{within, lowest}
 use Rattle.network.specs.declared.element.Element.{Element}
 use Rattle.network.specs.Links.{Stands}
-use Rattle.power_flow.proofs.Uprights.{below_stands}
+use Rattle.power_flow.proofs.Walks.Uprights.{below_stands}
 use Rattle.power_flow.proofs.steps.steps.joining.Goals as goal
 
 pub overflow_add-below : goal.overflow_add-below

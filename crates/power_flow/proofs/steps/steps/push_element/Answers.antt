@@ -5,9 +5,9 @@ use Rattle.network.specs.Apart.{first_place}
 use Rattle.network.specs.GraphValue.{diagram}
 use Rattle.power_flow.specs.Steps.NameSources.{name_source}
 use Rattle.power_flow.specs.Steps.RowEnds.{listed}
-use Rattle.power_flow.proofs.Leading.{pins_in}
+use Rattle.power_flow.proofs.Walks.Leading.{pins_in}
 use Rattle.power_flow.specs.Waiting.{coil_of, box_of}
-use Rattle.power_flow.proofs.StepLemmas.{filtered_short, at_number, first_in_rows, tells_first, tells_pin, wire_pushed, join_pushed, upright_pushed, contact_pushed, coil_pushed, box_pushed}
+use Rattle.power_flow.proofs.Networks.ElementSteps.{filtered_short, at_number, first_in_rows, tells_first, tells_pin, wire_pushed, join_pushed, upright_pushed, contact_pushed, coil_pushed, box_pushed}
 use Rattle.power_flow.proofs.steps.steps.push_element.Goals as goal
 
 pub row_below-row-requires : goal.row_below-row-requires

@@ -2,8 +2,8 @@ use Rattle.std.proofs.Common.{◌+◌, [], ◌∷◌, length, take, sym, ap, ◌
 use Rattle.std.proofs.lemmas.List.{length-take, length-append}
 use Rattle.network.specs.GraphValue.{diagram}
 use Rattle.power_flow.specs.Waiting.{coil_of, box_of, coils_of, boxes_of}
-use Rattle.power_flow.proofs.BoxesBinding.{boxes_more}
-use Rattle.power_flow.proofs.StepLemmas.{steps_to_more, coils_counted, filtered_short}
+use Rattle.power_flow.proofs.Boxes.BoxesBinding.{boxes_more}
+use Rattle.power_flow.proofs.Networks.ElementSteps.{steps_to_more, coils_counted, filtered_short}
 use Rattle.power_flow.proofs.steps.steps.push_elements.Goals as goal
 
 pub push_element-requires-clause-rows : goal.push_element-requires-clause-rows

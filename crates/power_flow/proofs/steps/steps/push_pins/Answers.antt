@@ -5,7 +5,7 @@ use Rattle.drawings.specs.declared.drawn_box.DrawnPin.{DrawnPin}
 use Rattle.network.specs.GraphValue.{diagram}
 use Rattle.power_flow.specs.Steps.Columns.{IsLeftPinBegun, left_pins}
 use Rattle.power_flow.specs.Steps.RowEnds.{listed}
-use Rattle.power_flow.proofs.StepLemmas.{left_pins_more}
+use Rattle.power_flow.proofs.Networks.ElementSteps.{left_pins_more}
 use Rattle.power_flow.proofs.steps.steps.push_pins.Goals as goal
 
 pub loop-pin-preserved : goal.loop-pin-preserved

@@ -1,6 +1,6 @@
 use Rattle.std.proofs.Common.{◌≡◌, length, ◌∙◌}
 use Rattle.network.specs.GraphValue.{diagram}
-use Rattle.power_flow.proofs.FewElements.{few_elements}
+use Rattle.power_flow.proofs.Networks.FewElements.{few_elements}
 use Rattle.power_flow.proofs.steps.steps.steps_of.Goals as goal
 
 pub push_elements-requires-clause-few : goal.push_elements-requires-clause-few

@@ -2,7 +2,7 @@ use Rattle.std.proofs.Common.{◌∙◌, List, ap}
 use Rattle.std.specs.List.{list_any}
 use Rattle.ladder_rows.specs.declared.boxes.outline.Outline.{Outline}
 use Rattle.ladder_rows.specs.Steps.RowBoxes.{box_test, holds_at}
-use Rattle.ladder_rows.proofs.Outlines.RowBoxLemmas.{any_test}
+use Rattle.ladder_rows.proofs.Outlines.RowBoxes.{any_test}
 use Rattle.ladder_rows.proofs.boxes.box_rows.Boxes.any.Goals as goal
 
 pub returns : goal.returns

@@ -2,7 +2,7 @@ use Rattle.std.proofs.Common.{◌∙◌, List, length, ap, subst}
 use Rattle.std.specs.List.{list_any}
 use Rattle.ladder_rows.specs.declared.boxes.outline.Outline.{Outline}
 use Rattle.ladder_rows.specs.Steps.RowBoxes.{AreInRows, word_test, holds_at}
-use Rattle.ladder_rows.proofs.Outlines.RowBoxLemmas.{any_word}
+use Rattle.ladder_rows.proofs.Outlines.RowBoxes.{any_word}
 use Rattle.ladder_rows.proofs.boxes.box_rows.Boxes.any_takes_word.Goals as goal
 
 pub returns : goal.returns

@@ -1,6 +1,6 @@
 use Rattle.std.proofs.Common.{ℕ, List, length, ap, sym, ◌∙◌}
 use Rattle.std.proofs.lemmas.Bool.{eqb-true}
-use Rattle.ladder_rows.proofs.Outlines.RowBoxLemmas.{bare_of}
+use Rattle.ladder_rows.proofs.Outlines.RowBoxes.{bare_of}
 use Rattle.ladder_rows.proofs.boxes.box_rows.Boxes.is_bare.Goals as goal
 
 pub returns : goal.returns

@@ -1,6 +1,6 @@
 use Rattle.std.proofs.Common.{◌≡◌, ◌≤◌, ◌<◌, ◌-◌, ◌∙◌, [], List, ℕ, length, get_or, sym, ap, subst, arith, rules, tests, inl, inr}
 use Rattle.ladder_rows.specs.Steps.RowBoxes.{AreInRows, numbers_on}
-use Rattle.ladder_rows.proofs.Outlines.RowBoxLemmas.{none_on, numbers-at}
+use Rattle.ladder_rows.proofs.Outlines.RowBoxes.{none_on, numbers-at}
 use Rattle.ladder_rows.proofs.boxes.box_rows.Boxes.on_row.Goals as goal
 
 pub returns-then-row-eq0 : goal.returns-then-row-eq0

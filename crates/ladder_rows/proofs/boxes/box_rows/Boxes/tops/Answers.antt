@@ -4,7 +4,7 @@ use Rattle.std.specs.Prelude.{IfOk}
 use Rattle.ladder_rows.specs.declared.boxes.outline.Outline.{Outline}
 use Rattle.ladder_rows.specs.declared.span.Span.{Span}
 use Rattle.ladder_rows.specs.Steps.RowBoxes.{AreInRows, top_at}
-use Rattle.ladder_rows.proofs.Outlines.RowBoxLemmas.{tops_on}
+use Rattle.ladder_rows.proofs.Outlines.RowBoxes.{tops_on}
 use Rattle.ladder_rows.proofs.boxes.box_rows.Boxes.tops.Goals as goal
 
 pub returns : goal.returns

@@ -1,6 +1,6 @@
 use Rattle.std.proofs.Common.{◌+◌, ◌-◌, sym, arith, ◌∙◌}
 use Rattle.ladder_rows.specs.Rows.{char_at, width}
-use Rattle.ladder_rows.proofs.Rows.RunLemmas.{run-of_char}
+use Rattle.ladder_rows.proofs.Rows.Runs.{run-of_char}
 use Rattle.ladder_rows.proofs.characters.grid.Grid.dashes_after.Goals as goal
 
 pub returns-else-at-eq45-clause-dashes : goal.returns-else-at-eq45-clause-dashes

@@ -1,6 +1,6 @@
 use Rattle.std.proofs.Common.{◌≡◌, arith}
 use Rattle.ladder_rows.specs.Rows.{width}
-use Rattle.ladder_rows.proofs.Rows.SizeLemmas.{beyond_first}
+use Rattle.ladder_rows.proofs.Rows.Limits.{beyond_first}
 use Rattle.ladder_rows.proofs.characters.grid.Grid.new.Goals as goal
 use Rattle.ladder_rows.proofs.characters.grid.Grid.new.Goals.{then-len-gt2001-via-then-len-gt2001, then-len-gt2001-via-else-len-gt2001+then-last-gt240}
 

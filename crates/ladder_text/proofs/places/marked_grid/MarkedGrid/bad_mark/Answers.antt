@@ -1,7 +1,7 @@
 use Rattle.std.proofs.Common.{◌≡◌, ◌||◌, ◌∙◌, sym, ap, rules}
 use Rattle.drawings.specs.declared.mark.Mark.{Mark}
 use Rattle.ladder_text.specs.Places.{layout_of, is_box_part, is_symbol, is_taken}
-use Rattle.ladder_text.proofs.Marks.MarkLemmas.{taken_by_mark}
+use Rattle.ladder_text.proofs.Marks.LaidMarks.{taken_by_mark}
 use Rattle.ladder_text.proofs.places.marked_grid.MarkedGrid.bad_mark.Goals as goal
 
 pub returns-then-not-has_meaning : goal.returns-then-not-has_meaning

@@ -4,7 +4,7 @@ use Rattle.std.proofs.lemmas.Iterator.Search.{all_from_yields_List}
 use Rattle.ladder_rows.specs.Rows.{Rows, height, width}
 use Rattle.ladder_rows.specs.Boxes.{left_column}
 use Rattle.ladder_text.specs.Places.{layout_of, may_be_rail}
-use Rattle.ladder_text.proofs.Marks.PlaceLemmas.{has_right_rail-if_left}
+use Rattle.ladder_text.proofs.Marks.LaidPlaces.{has_right_rail-if_left}
 use Rattle.ladder_text.proofs.places.marked_grid.MarkedGrid.find_right_rail.Goals as goal
 
 pub returns-then-left-last : goal.returns-then-left-last

@@ -5,7 +5,7 @@ use Rattle.drawings.specs.declared.place.Place.{Place}
 use Rattle.ladder_rows.specs.Boxes.{outlines}
 use Rattle.ladder_text.specs.Faults.{has_stray_pin}
 use Rattle.ladder_text.specs.FirstFault.{IsStrayBoxAt}
-use Rattle.ladder_text.proofs.Faults.SearchLemmas.{item_found, item_passed, any_found, any_passed, all_items}
+use Rattle.ladder_text.proofs.Faults.FirstPlaces.{item_found, item_passed, any_found, any_passed, all_items}
 use Rattle.ladder_text.proofs.places.marked_grid.MarkedGrid.first_stray_operand.Goals as goal
 use Rattle.ladder_text.proofs.places.marked_grid.MarkedGrid.first_stray_operand.Goals.{in-Some, in_default}
 

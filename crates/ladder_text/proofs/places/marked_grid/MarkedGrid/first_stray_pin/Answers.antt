@@ -5,7 +5,7 @@ use Rattle.drawings.specs.declared.place.Place.{Place}
 use Rattle.ladder_rows.specs.Boxes.{outlines}
 use Rattle.ladder_text.specs.Faults.{is_stray_operand}
 use Rattle.ladder_text.specs.FirstFault.{IsStrayPinAt}
-use Rattle.ladder_text.proofs.Faults.SearchLemmas.{item_found, item_passed, any_found, any_passed, all_items}
+use Rattle.ladder_text.proofs.Faults.FirstPlaces.{item_found, item_passed, any_found, any_passed, all_items}
 use Rattle.ladder_text.proofs.places.marked_grid.MarkedGrid.first_stray_pin.Goals as goal
 use Rattle.ladder_text.proofs.places.marked_grid.MarkedGrid.first_stray_pin.Goals.{in-Some, in_default}
 

@@ -1,7 +1,7 @@
 use Rattle.std.proofs.Common.{not, sym, ◌∙◌, true, false, ◌≡◌, Bool, refl}
 use Rattle.ladder_text.specs.Places.{layout_of}
 use Rattle.ladder_rows.specs.declared.boxes.box_test.BoxTest.TheVariants.{Covers}
-use Rattle.ladder_text.proofs.Marks.RowMarkLemmas.{blank_mark}
+use Rattle.ladder_text.proofs.Marks.RowMarks.{blank_mark}
 use Rattle.ladder_text.proofs.places.marked_grid.MarkedGrid.mark_with.Goals as goal
 
 not_false : (b : Bool) → not b ≡ true → b ≡ false

@@ -1,7 +1,7 @@
 use Rattle.std.proofs.Common.{◌<◌, ◌≡◌, ◌-◌, [], length, get_or, sym, subst, arith, rules, tests}
 use Rattle.ladder_rows.specs.Rows.{Rows}
 use Rattle.ladder_text.specs.Steps.RowMarks.{AreMarksIfFound}
-use Rattle.ladder_text.proofs.Marks.MarkLemmas.{marks-found}
+use Rattle.ladder_text.proofs.Marks.LaidMarks.{marks-found}
 use Rattle.ladder_text.proofs.places.marked_grid.MarkedGrid.marks_on.Goals as goal
 
 pub returns : goal.returns

@@ -3,7 +3,7 @@ use Rattle.drawings.specs.declared.mark.Mark.{Mark}
 use Rattle.drawings.specs.declared.mark.Mark.TheVariants.{Blank, ContactPart, CoilPart}
 use Rattle.ladder_rows.specs.Rows.{Rows, width}
 use Rattle.ladder_text.specs.Places.{layout_of}
-use Rattle.ladder_text.proofs.Marks.RowMarkLemmas.{contact_passed, coil_passed}
+use Rattle.ladder_text.proofs.Marks.RowMarks.{contact_passed, coil_passed}
 use Rattle.ladder_text.proofs.places.marked_grid.MarkedGrid.row_marks.Goals as goal
 
 pub loop-column-preserved-then-begins_contact : goal.loop-column-preserved-then-begins_contact

@@ -2,7 +2,7 @@ use Rattle.std.proofs.Common.{◌≡◌, ◌≤◌, ◌-◌, ◌∷◌, []}
 use Rattle.ladder_rows.specs.Rows.{upto}
 use Rattle.ladder_text.specs.Places.{layout_of, mark}
 use Rattle.drawings.specs.declared.mark.Mark.TheVariants.{Blank}
-use Rattle.ladder_text.proofs.Marks.RowMarkLemmas.{IsQuiet}
+use Rattle.ladder_text.proofs.Marks.RowMarks.{IsQuiet}
 use Rattle.ladder_text.proofs.places.marked_grid.MarkedGrid.row_marks.Given as goal
 
 abbrev pub invariant-loop-column : goal.invariant-loop-column

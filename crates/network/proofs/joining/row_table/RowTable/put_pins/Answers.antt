@@ -3,8 +3,8 @@ use denote.Enum.Bare.{same_true, same_false}
 use Rattle.std.proofs.lemmas.Option.{slice_get_read}
 use Rattle.drawings.specs.contracts.drawn_box.Side.{the_type}
 use Rattle.network.specs.Links.{place}
-use Rattle.network.proofs.Joined.RowLemmas.{side_column}
-use Rattle.network.proofs.Joined.RowLemmas.{pin_here, puts_pin, puts_skip, puts_all}
+use Rattle.network.proofs.Joined.RowTables.{side_column}
+use Rattle.network.proofs.Joined.RowTables.{pin_here, puts_pin, puts_skip, puts_all}
 use Rattle.network.proofs.joining.row_table.RowTable.put_pins.Goals.{then-eq, else-eq}
 use Rattle.network.proofs.joining.row_table.RowTable.put_pins.Goals as goal
 

@@ -1,7 +1,7 @@
 use Rattle.std.proofs.Common.{◌≡◌, length}
 use Rattle.network.specs.Steps.Rows.{Puts}
-use Rattle.network.proofs.Joined.RowLemmas.{side_column}
-use Rattle.network.proofs.Joined.RowLemmas.{IsPinTo}
+use Rattle.network.proofs.Joined.RowTables.{side_column}
+use Rattle.network.proofs.Joined.RowTables.{IsPinTo}
 use Rattle.network.proofs.joining.row_table.RowTable.put_pins.Given as goal
 
 abbrev pub invariant-loop-pin : goal.invariant-loop-pin

@@ -3,7 +3,7 @@ use Rattle.plant_grammar.specs.declared.grammar.tree.Bind.{Bind}
 use Rattle.plant_grammar.specs.Steps.ReadParts.{IsNew, TallyValue}
 use Rattle.plant_grammar.proofs.Apart.{apart_more}
 use Rattle.plant_grammar.proofs.WordLists.{binds_more, grown}
-use Rattle.plant_grammar.proofs.ItemLemmas.{bind_counted}
+use Rattle.plant_grammar.proofs.ResourceLines.{bind_counted}
 use Rattle.plant_grammar.specs.NameFaults.{IsOfName, RefusesBind}
 use Rattle.plant_grammar.specs.Steps.Declaring.{BeginWith}
 use Rattle.lists.proofs.Results.{kept_fault}

@@ -1,5 +1,5 @@
 use Rattle.std.proofs.Common.{ap}
-use Rattle.plant_grammar.proofs.TypeLemmas.{known_type}
+use Rattle.plant_grammar.proofs.FoundTypes.{known_type}
 use Rattle.plant_grammar.specs.Steps.ReadParts.{TallyValue}
 use Rattle.plant_grammar.specs.NameFaults.{IsOfName, RefusesInstance}
 use Rattle.plant_grammar.specs.Steps.Declaring.{BeginWith}

@@ -3,7 +3,7 @@ use Rattle.plant_grammar.specs.Lawful.{use_of}
 use Rattle.plant_grammar.specs.Grammar.{item_words}
 use Rattle.plant_grammar.specs.Steps.ReadParts.{types_alone, MayFollow}
 use Rattle.plant_grammar.proofs.WordLists.{words_more, items_done}
-use Rattle.plant_grammar.proofs.ItemLemmas.{items_more, tally_more}
+use Rattle.plant_grammar.proofs.ResourceLines.{items_more, tally_more}
 use Rattle.plant_grammar.specs.declared.grammar.tree.Item.{Item}
 use Rattle.plant_grammar.specs.NameFaults.{IsOfName, RefusesItems}
 use Rattle.plant_grammar.specs.Steps.Declaring.{BeginWith, RefusesItem}

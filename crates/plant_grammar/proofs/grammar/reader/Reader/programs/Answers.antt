@@ -6,7 +6,7 @@ use Rattle.plant_text.specs.declared.token.Token.{Token}
 use Rattle.plant_grammar.specs.declared.grammar.tree.Program.{Program}
 use Rattle.plant_grammar.specs.Steps.ReadParts.{IsNew}
 use Rattle.plant_grammar.specs.Steps.Reading.{programs_of, lines_of}
-use Rattle.plant_grammar.proofs.TypeLemmas.{programs_more, map-grown}
+use Rattle.plant_grammar.proofs.FoundTypes.{programs_more, map-grown}
 use Rattle.plant_grammar.proofs.WordLists.{words_more}
 use Rattle.plant_grammar.specs.NameFaults.{IsOfName, RefusesProgram, RefusesPrograms}
 use Rattle.plant_grammar.specs.Steps.Declaring.{BeginWith}

@@ -4,7 +4,7 @@ use Rattle.plant_grammar.specs.Lawful.{uses_of}
 use Rattle.plant_grammar.specs.Grammar.{resource_words}
 use Rattle.plant_grammar.specs.Steps.ReadParts.{types_alone, IsNew}
 use Rattle.plant_grammar.proofs.WordLists.{words_more, resources_done}
-use Rattle.plant_grammar.proofs.ItemLemmas.{resources_more, tally_more}
+use Rattle.plant_grammar.proofs.ResourceLines.{resources_more, tally_more}
 use Rattle.plant_grammar.specs.NameFaults.{IsOfName, RefusesResource, RefusesResources}
 use Rattle.plant_grammar.specs.Steps.Declaring.{BeginWith}
 use Rattle.lists.proofs.Results.{kept_fault}

@@ -1,5 +1,5 @@
 use Rattle.std.proofs.Common.{rules, ◌<◌, length}
-use Rattle.plant_grammar.proofs.VariableLemmas.{variables_more}
+use Rattle.plant_grammar.proofs.ProgramVariables.{variables_more}
 use Rattle.plant_grammar.proofs.grammar.variables.Variables.add.Goals as goal
 
 pub invariant_of-self : goal.invariant_of-self

@@ -3,8 +3,8 @@ use Rattle.std.proofs.lemmas.Option.{slice_get_within}
 use Rattle.lists.proofs.Members.{at_contains}
 use Rattle.drawings.specs.declared.place.Place.{Place}
 use Rattle.network.specs.Apart.{first_place}
-use Rattle.power_flow.proofs.StepLemmas.{at_number}
-use Rattle.power_flow.proofs.RowLemmas.{topmost_more, above_more, lowest_more, below_more}
+use Rattle.power_flow.proofs.Networks.ElementSteps.{at_number}
+use Rattle.power_flow.proofs.Walks.NetworkRows.{topmost_more, above_more, lowest_more, below_more}
 use Rattle.power_flow.proofs.steps.rows.Rows.of.Goals as goal
 
 pub loop-element-preserved : goal.loop-element-preserved

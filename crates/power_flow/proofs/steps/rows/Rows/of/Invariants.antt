@@ -2,7 +2,7 @@ use Rattle.std.proofs.Common.{◌≡◌, ◌<◌, ◌≤◌, ℕ, Some, slice_ge
 use Rattle.drawings.specs.declared.place.Place.{Place}
 use Rattle.network.specs.declared.element.Element.{Element}
 use Rattle.network.specs.Apart.{Has, first_place}
-use Rattle.power_flow.proofs.RowLemmas.{IsTopmost, IsLowest}
+use Rattle.power_flow.proofs.Walks.NetworkRows.{IsTopmost, IsLowest}
 use Rattle.power_flow.proofs.steps.rows.Rows.of.Given as goal
 
 abbrev pub invariant-loop-element : goal.invariant-loop-element
