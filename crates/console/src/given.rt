@@ -25,7 +25,9 @@ pub fn print_usage<R: Print + Eprint>(rt: &R, error: &clap::Error) -> io::Result
     if error.kind() == clap::error::ErrorKind::OutOfMemory {
         return print_failure(rt, CommandFault::Memory);
     }
-    error.print(rt)?;
+    if error.print(rt).is_err() {
+        return print_failure(rt, CommandFault::Write);
+    }
     if error.kind() == clap::error::ErrorKind::MissingSubcommand {
         eprintln!(rt; "\n{FIRST_STEPS}")?;
     }
