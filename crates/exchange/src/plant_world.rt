@@ -22,7 +22,7 @@ pub struct World {
 impl Model for World {
     ghost use Rattle.exchange.specs.History.{setting_over};
     ghost use Rattle.exchange.specs.World.{WorldValue, world_of};
-    ghost use Rattle.exchange.specs.Nodes.{IsWorldOf};
+    ghost use Rattle.exchange.specs.Steps.Nodes.{IsWorldOf};
 
     ghost Value = { WorldValue };
 
@@ -144,6 +144,7 @@ impl World {
         ensures consistent { IsConsistent self.now.setting.plant (reverse self.now.log) }
         ensures fit { AllFit self.now.setting.first (reverse self.now.log) }
         ensures data { IsDataConsistent self.now.setting self.now.events self.now.log }
+        ensures firsts { length self.now.setting.first ≡ length self.now.setting.plant.resources }
     {
         self.log.as_slice()
     }

@@ -36,6 +36,7 @@ ghost use Rattle.std.specs.Option.{option_copied};
 ghost use Rattle.plant.specs.PlantValue.{code_at};
 ghost use Rattle.evaluation.specs.Last.{last_number};
 ghost use Rattle.exchange_core.specs.CoreValue.{fresh_core, IsCoreFault, IsUsable, IsAccepted, IsAskedOf, IsNextOf, IsNext, IsDue, IsEvalFault, held_of, own_last, own_task};
+ghost use Rattle.exchange_core.specs.declared.accepted.Accepted.TheVariants.{Taken};
 ghost use Rattle.exchange_core.specs.declared.eval_fault.EvalFault.TheVariants.{Memory};
 
 impl Core {
@@ -83,7 +84,8 @@ impl Core {
 
     /// Takes in an evaluation of another resource's task, if it is of use here and newer than what is held of that task. Its place was made by `new`.
     pub fn accept(&mut self, frame: Frame) -> Accepted
-        ensures { IsAccepted self.old self.new frame result }
+        ensures answer { IsAccepted self.old self.new frame result }
+        ensures held { result ≡ Taken → held_of self.new frame.name.task ≡ Some frame }
     {
         if !self.is_usable(&frame) {
             return Accepted::Unused;

@@ -26,7 +26,7 @@ use Rattle.exchange_core.specs.Steps.Knowing.{has_place}
 use Rattle.node_journals.specs.declared.step.Step.{Step}
 use Rattle.node_journals.specs.declared.step.Step.TheVariants.{Took, Made, Restarted}
 use Rattle.node_journals.specs.Journals.{since_restarted, received, newest, made_of, last_made, ComesFrom, IsGreatest, IsNextMade}
-use Rattle.node_journals.specs.Standing.{Stands}
+use Rattle.node_journals.specs.Steps.Standing.{Stands}
 use Rattle.node_journals.proofs.Greatest.{greatest-other, greatest-old, greatest-taken}
 
 -- two codes of a plant that take from one task expect the same kinds of it

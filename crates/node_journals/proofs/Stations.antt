@@ -12,7 +12,7 @@ use Rattle.node_journals.specs.declared.step.Step.{Step}
 use Rattle.node_journals.specs.declared.step.Step.TheVariants.{Took, Made, Restarted}
 use Rattle.node_journals.specs.declared.journal.Journal.{Journal}
 use Rattle.node_journals.specs.Journals.{Follows, EachAfter, IsLawful, with_step}
-use Rattle.node_journals.specs.Standing.{Stands, IsStation, IsAhead}
+use Rattle.node_journals.specs.Steps.Standing.{Stands, IsStation, IsAhead}
 use Rattle.node_journals.proofs.Standing.{stands-took, stands-made, follows-made, stands-fresh, stands-restarted}
 
 -- the last step is the first one of the steps turned round

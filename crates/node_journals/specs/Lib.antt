@@ -1,4 +1,4 @@
+pub mod Causes
 pub mod Commands
 pub mod Journals
-pub mod Standing
-pub mod Stations
+pub mod Steps

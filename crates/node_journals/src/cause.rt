@@ -31,6 +31,10 @@ pub enum Cause {
 }
 
 impl From<EvalFault> for Cause {
+    ghost use Rattle.node_journals.specs.Causes.{cause_of};
+
+    ghost from_gives = { λ found cause. cause ≡ cause_of found };
+
     fn from(fault: EvalFault) -> Cause {
         match fault {
             EvalFault::NoSuchTask => Cause::NoSuchTask,

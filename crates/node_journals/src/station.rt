@@ -18,8 +18,8 @@ pub struct Station {
 }
 
 impl Model for Station {
-    ghost use Rattle.node_journals.specs.Stations.{StationValue};
-    ghost use Rattle.node_journals.specs.Standing.{IsStation};
+    ghost use Rattle.node_journals.specs.Steps.Stations.{StationValue};
+    ghost use Rattle.node_journals.specs.Steps.Standing.{IsStation};
 
     ghost Value = { StationValue };
 
@@ -31,8 +31,8 @@ impl Model for Station {
 ghost use Rattle.std.specs.Prelude.{◌≡◌, ◌<◌, IfOk, IfErr, OnErr};
 ghost use Rattle.exchange_core.specs.CoreValue.{IsCoreFault, IsEvalFault};
 ghost use Rattle.node_journals.specs.Journals.{IsLawful};
-ghost use Rattle.node_journals.specs.Stations.{fresh_station, IsReceived, IsPending, IsRestarted};
-ghost use Rattle.node_journals.specs.Standing.{IsStation};
+ghost use Rattle.node_journals.specs.Steps.Stations.{fresh_station, IsReceived, IsPending, IsRestarted};
+ghost use Rattle.node_journals.specs.Steps.Standing.{IsStation};
 
 impl Station {
     /// A resource in its first incarnation. It holds nothing, all its tasks are initial, and its journal has no steps. The numbers of its evaluations go up to `max_number`.

@@ -8,12 +8,13 @@ use Rattle.network.specs.GraphValue.{GraphValue}
 use Rattle.network.specs.Networks.{AreNetworks, HasFaultlessNetworks}
 use Rattle.variable_binding.specs.Binding.{CanBind}
 use Rattle.power_flow.specs.LadderValue.{LadderValue, diagrams}
+use Rattle.power_flow.specs.Waiting.{HasJustRoom}
 use Rattle.plant_grammar.specs.declared.grammar.tree.Program.{Program}
 use Rattle.plant_grammar.specs.Lawful.{variables}
 
 -- The ladder of a program: its body is well drawn, and its networks are those of the drawing. Each of these meets
 -- the left rail and has at most 200 rows, no two boxes have one name, and the names are bound to the program's
--- variables.
+-- variables. It has just as many waiting places as its networks need.
 pub record IsLadderOf (p : Program) (l : LadderValue) : Type 0 where
   pub first_line : ℕ
   pub graph : GraphValue
@@ -23,6 +24,7 @@ pub record IsLadderOf (p : Program) (l : LadderValue) : Type 0 where
   pub declared : l.declarations ≡ variables p
   pub networks_are : l.networks ≡ diagrams graph
   pub bound : CanBind (variables p) (diagrams graph)
+  pub room : HasJustRoom l
 
 -- the body of the program has a ladder
 abbrev pub HasLadder : Program → Type 0

@@ -14,8 +14,8 @@ use Rattle.text_commands.specs.declared.text_fault.TextFault.TheVariants.{Draw, 
 use Rattle.text_writer.specs.declared.send_fault.SendFault.{SendFault}
 use Rattle.text_writer.specs.declared.send_fault.SendFault.TheVariants as sending
 use Rattle.text_commands.specs.Giving.{sending_fault}
-use Rattle.text_commands.specs.PlanText.{plan_lines, RefusesPlanOf, WritesPlan, WritesPlanPart, ExplainsPlan}
-use Rattle.text_writer.specs.Sending.{SendsPart}
+use Rattle.text_commands.specs.PlanText.{plan_lines, RefusesPlanOf, WritesPlan, StopsPlan, ExplainsPlan}
+use Rattle.text_writer.specs.Sending.{Stops}
 
 pub plan_refused : (text : List ℕ) (until : ℕ) (old : Option (List ℕ)) (plant : PlantValue) (fault : TextCommandFault) → IsPlantText text plant → RefusesPlanOf plant until fault → ExplainsPlan text until old old fault
 plan_refused text until old plant (Text (Draw fault)) read refused = absurd refused
@@ -31,12 +31,12 @@ pub plan_written : (text : List ℕ) (until : ℕ) (old new : Option (List ℕ))
     → Appends old new (plan_lines plant dues) → WritesPlan text until old new
 plan_written text until old new plant dues read plan written = record { plan = record { plant = plant; read = read; dues = dues; planned = plan.0 }; few = plan.1; appended = written }
 
-sent_partly : (text : List ℕ) (until : ℕ) (old new : Option (List ℕ)) (found : SendFault) → WritesPlanPart text until old new → ExplainsPlan text until old new (sending_fault found)
+sent_partly : (text : List ℕ) (until : ℕ) (old new : Option (List ℕ)) (found : SendFault) → StopsPlan found text until old new → ExplainsPlan text until old new (sending_fault found)
 sent_partly text until old new sending.Write part = part
 sent_partly text until old new sending.Memory part = inr part
 
 pub plan_partly : {T : Type 0} (text : List ℕ) (until : ℕ) (old new : Option (List ℕ)) (plant : PlantValue) (dues : List Due) (found : SendFault) (r : Result T TextCommandFault) → IsErrAnd r (λ fault. fault ≡ sending_fault found)
-    → IsPlantText text plant → IsPlan plant until dues × (length dues ≤ 100000) → SendsPart (plan_lines plant dues) old new → IfErr r (ExplainsPlan text until old new)
+    → IsPlantText text plant → IsPlan plant until dues × (length dues ≤ 100000) → Stops found (plan_lines plant dues) old new → IfErr r (ExplainsPlan text until old new)
 plan_partly text until old new plant dues found r is read plan part =
     kept_fault (sending_fault found) (ExplainsPlan text until old new) r is
-    (sent_partly text until old new found (record { plan = record { plant = plant; read = read; dues = dues; planned = plan.0 }; few = plan.1; sent = part }))
+    (sent_partly text until old new found (record { plan = record { plant = plant; read = read; dues = dues; planned = plan.0 }; few = plan.1; stopped = part }))

@@ -8,7 +8,7 @@ use Rattle.program_bodies.specs.Faults.{IsPlantFault, IsOfBody}
 use Rattle.plant.specs.PlantText.{IsPlantText, IsBodyFaultIn}
 use Rattle.program_bodies.specs.declared.plant_fault.PlantFault.{PlantFault}
 use Rattle.program_bodies.specs.declared.plant_fault.PlantFaultKind.TheVariants as plant
-use Rattle.text_writer.specs.Sending.{SendsPart}
+use Rattle.text_writer.specs.Sending.{SendsLess}
 use Rattle.text_commands.specs.declared.text_command_fault.TextCommandFault.{TextCommandFault}
 use Rattle.text_commands.specs.declared.text_command_fault.TextCommandFault.TheVariants.{Text, Word, Write, Memory}
 use Rattle.text_commands.specs.declared.text_fault.TextFault.{TextFault}
@@ -46,9 +46,9 @@ check_lines plant =
 abbrev pub WritesCheck : List ℕ → Option (List ℕ) → Option (List ℕ) → Type 0
 WritesCheck text old new = (plant : PlantValue) × IsPlantText text plant × Appends old new (check_lines plant)
 
--- the text is a plant, and no more than a beginning of its four lines was written
+-- the text is a plant, and a beginning of its four lines was written, not all of them
 abbrev pub WritesCheckPart : List ℕ → Option (List ℕ) → Option (List ℕ) → Type 0
-WritesCheckPart text old new = (plant : PlantValue) × IsPlantText text plant × SendsPart (check_lines plant) old new
+WritesCheckPart text old new = (plant : PlantValue) × IsPlantText text plant × SendsLess (check_lines plant) old new
 
 -- a refusal of the text of a plant: not want of memory, with what belongs to its kind; the fault of a body is that of
 -- the first body that is refused

@@ -1,11 +1,12 @@
 -- What `plc eval` writes.
-use Rattle.std.specs.Prelude.{◌≡◌, ◌≢◌, ℕ, ◌+◌, ◌++◌, ◌==◌, ◌≤◌, ◌⊎◌, List, [], Bool, false, Option, Some, None, All, length, map, fold, sum_by, slice_get, slice_set, take}
+use Rattle.std.specs.Prelude.{◌≡◌, ◌≢◌, ℕ, ◌+◌, ◌++◌, ◌==◌, ◌≤◌, ◌⊎◌, List, [], Bool, false, Option, Some, None, All, length, map, fold, sum_by, slice_get, slice_set}
 use Rattle.std.specs.Io.KnownBytes.{Appends, Keeps}
 use Rattle.ladder_rows.specs.Rows.{rows_of}
 use Rattle.ladder_text.specs.Places.{layout_of}
 use Rattle.drawings.specs.Picture.{Picture}
 use Rattle.ladder_text.specs.Picture.{picture_of}
 use Rattle.ladder_text.specs.Faults.{IsWellDrawn, IsIllDrawn}
+use Rattle.ladder_text.specs.FirstFault.{TellsFirstFault}
 use Rattle.drawings.specs.declared.place.Place.{Place}
 use Rattle.ladder_text.specs.declared.draw_fault.DrawFaultKind.TheVariants as draw
 use Rattle.network.specs.Links.{Diagram}
@@ -30,6 +31,9 @@ use Rattle.text_commands.specs.declared.text_fault.TextFault.{TextFault}
 use Rattle.text_commands.specs.declared.text_fault.TextFault.TheVariants.{Draw, Graph, Bind, Plant, TooLong}
 use Rattle.text_commands.specs.Rows.{RowValue, SpellRows, SpellNoRows, IsFirstRefused, scans_of}
 use Rattle.text_commands.specs.Lines.{line_of}
+use Rattle.text_writer.specs.Sending.{Stops}
+use Rattle.text_writer.specs.declared.send_fault.SendFault.{SendFault}
+use Rattle.text_writer.specs.declared.send_fault.SendFault.TheVariants as sending
 
 -- the text of a drawing is read as this picture
 pub record IsPictureOf (text : List ℕ) (drawn : Picture) : Type 0 where
@@ -86,12 +90,11 @@ pub record WritesScans (ds : List Declaration) (networks : List Diagram) (dt : �
   pub all : made.scans ≡ scans_of rows
   pub appended : Appends old new made.text
 
--- the beginning of the text of some scans was written
-pub record WritesSomeScans (ds : List Declaration) (networks : List Diagram) (dt : ℕ) (rows : List RowValue)
-    (old new : Option (List ℕ)) : Type 0 where
+-- the text of some scans didn't go out whole
+pub record StopsScans (ds : List Declaration) (networks : List Diagram) (dt : ℕ) (rows : List RowValue)
+    (fault : SendFault) (old new : Option (List ℕ)) : Type 0 where
   pub made : SomeScans ds networks dt rows
-  pub written : ℕ
-  pub appended : Appends old new (take written made.text)
+  pub stopped : Stops fault made.text old new
 
 -- the ladder of the drawing, and the rows that the words are for it
 pub record Asked (drawing : List ℕ) (words : List (List ℕ)) : Type 0 where
@@ -106,10 +109,10 @@ abbrev pub WritesAll : List ℕ → List (List ℕ) → ℕ → Option (List ℕ
 WritesAll drawing words dt old new =
     (asked : Asked drawing words) × WritesScans asked.declarations asked.networks dt asked.rows old new
 
--- no more than the beginning of the text of some of its scans was written
-abbrev pub WritesPart : List ℕ → List (List ℕ) → ℕ → Option (List ℕ) → Option (List ℕ) → Type 0
-WritesPart drawing words dt old new =
-    (asked : Asked drawing words) × WritesSomeScans asked.declarations asked.networks dt asked.rows old new
+-- the text of some of its scans didn't go out whole
+abbrev pub StopsSome : SendFault → List ℕ → List (List ℕ) → ℕ → Option (List ℕ) → Option (List ℕ) → Type 0
+StopsSome fault drawing words dt old new =
+    (asked : Asked drawing words) × StopsScans asked.declarations asked.networks dt asked.rows fault old new
 
 -- the words are no rows of the drawing's ladder, and this is the first fault
 pub record RefusesWords (drawing : List ℕ) (words : List (List ℕ)) (fault : WordFault) : Type 0 where
@@ -139,9 +142,10 @@ pub record RefusesNetworksOf (drawing : List ℕ) (fault : GraphFault) : Type 0 
   pub first : IsFirstGraphFaultAt picture fault.kind place
   pub found : GraphFaultLiesAt picture.first_line place fault
 
--- what holds after a refusal by the text
+-- what holds after a refusal by the text: the fault is the first one
 abbrev pub RefusesDrawing : List ℕ → TextFault → Type 0
-RefusesDrawing drawing (Draw fault) = IsIllDrawn (rows_of drawing) × (fault.kind ≢ draw.Memory)
+RefusesDrawing drawing (Draw fault) =
+    IsIllDrawn (rows_of drawing) × (fault.kind ≢ draw.Memory) × TellsFirstFault drawing 1 fault
 RefusesDrawing drawing (Graph fault) = RefusesNetworksOf drawing fault
 RefusesDrawing drawing (Bind fault) = RefusesNamesOf drawing fault
 RefusesDrawing drawing (Plant fault) = ⊥
@@ -151,5 +155,5 @@ RefusesDrawing drawing TooLong = ⊥
 abbrev pub Explains : List ℕ → List (List ℕ) → ℕ → Option (List ℕ) → Option (List ℕ) → TextCommandFault → Type 0
 Explains drawing words dt old new (Text fault) = RefusesDrawing drawing fault × Keeps old new
 Explains drawing words dt old new (Word fault) = RefusesWords drawing words fault × Keeps old new
-Explains drawing words dt old new Write = WritesPart drawing words dt old new
-Explains drawing words dt old new Memory = Keeps old new ⊎ WritesPart drawing words dt old new
+Explains drawing words dt old new Write = StopsSome sending.Write drawing words dt old new
+Explains drawing words dt old new Memory = Keeps old new ⊎ StopsSome sending.Memory drawing words dt old new

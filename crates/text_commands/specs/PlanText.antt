@@ -9,7 +9,9 @@ use Rattle.plant.specs.PlantText.{IsPlantText}
 use Rattle.plant.specs.Plan.{IsPlan}
 use Rattle.line_parts.specs.LineParts.{task_text}
 use Rattle.text_commands.specs.CheckText.{IsRefusal}
-use Rattle.text_writer.specs.Sending.{SendsPart}
+use Rattle.text_writer.specs.Sending.{Stops}
+use Rattle.text_writer.specs.declared.send_fault.SendFault.{SendFault}
+use Rattle.text_writer.specs.declared.send_fault.SendFault.TheVariants as sending
 use Rattle.text_commands.specs.declared.text_command_fault.TextCommandFault.{TextCommandFault}
 use Rattle.text_commands.specs.declared.text_command_fault.TextCommandFault.TheVariants.{Text, Word, Write, Memory}
 use Rattle.text_commands.specs.declared.text_fault.TextFault.{TextFault}
@@ -47,11 +49,11 @@ pub record WritesPlan (text : List ℕ) (until : ℕ) (old new : Option (List �
   pub few : length plan.dues ≤ 100000
   pub appended : Appends old new (plan_lines plan.plant plan.dues)
 
--- the plan has at most 100,000 entries, and no more than a beginning of their lines was written
-pub record WritesPlanPart (text : List ℕ) (until : ℕ) (old new : Option (List ℕ)) : Type 0 where
+-- the plan has at most 100,000 entries, and their lines didn't go out whole
+pub record StopsPlan (fault : SendFault) (text : List ℕ) (until : ℕ) (old new : Option (List ℕ)) : Type 0 where
   pub plan : Planned text until
   pub few : length plan.dues ≤ 100000
-  pub sent : SendsPart (plan_lines plan.plant plan.dues) old new
+  pub stopped : Stops fault (plan_lines plan.plant plan.dues) old new
 
 -- what holds after a refusal by the text: a plan that is too long has more than 100,000 entries
 abbrev pub RefusesPlan : List ℕ → ℕ → TextFault → Type 0
@@ -65,5 +67,5 @@ RefusesPlan text until TooLong = (p : Planned text until) × (100000 < length p.
 abbrev pub ExplainsPlan : List ℕ → ℕ → Option (List ℕ) → Option (List ℕ) → TextCommandFault → Type 0
 ExplainsPlan text until old new (Text fault) = RefusesPlan text until fault × Keeps old new
 ExplainsPlan text until old new (Word fault) = ⊥
-ExplainsPlan text until old new Write = WritesPlanPart text until old new
-ExplainsPlan text until old new Memory = Keeps old new ⊎ WritesPlanPart text until old new
+ExplainsPlan text until old new Write = StopsPlan sending.Write text until old new
+ExplainsPlan text until old new Memory = Keeps old new ⊎ StopsPlan sending.Memory text until old new

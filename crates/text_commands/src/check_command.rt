@@ -41,7 +41,7 @@ fn check_lines(alloc: Global, plant: &Plant) -> Result<String, AllocError>
 
 /// Reads a plant, and writes how many resources, tasks, program instances and bound inputs it has, a line for each.
 ///
-/// `Text` and `Memory` come before anything is written. After `Write` what went out is a prefix.
+/// `Text` and `Memory` come before anything is written. After `Write` what went out is a prefix, and not all.
 pub fn check<W: Write>(alloc: Global, plant: &str, writer: &mut W) -> Result<(), TextCommandFault>
     ensures ok { OnOk result (WritesCheck plant.now (W.contents writer.old) (W.contents writer.new)) }
     ensures fault { IfErr result (ExplainsCheck plant.now (W.contents writer.old) (W.contents writer.new)) }

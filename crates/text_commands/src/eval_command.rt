@@ -1,8 +1,8 @@
-ghost use Rattle.std.specs.Prelude.{◌≡◌, List, OnOk, IfOk, IfErr, OnErr, All, slice_get};
+ghost use Rattle.std.specs.Prelude.{◌≡◌, List, OnOk, IfOk, IfErr, All, slice_get};
 ghost use Rattle.declared_names.specs.declared.declarations.Declaration.{Declaration};
 ghost use Rattle.scan_steps.specs.Slots.{AreSlotsOf};
 ghost use Rattle.text_commands.specs.Rows.{IsBoolAt, texts};
-ghost use Rattle.text_commands.specs.EvalText.{IsLadderOfDrawing, WritesScans, WritesSomeScans, WritesAll, Explains, set_digit, set_before};
+ghost use Rattle.text_commands.specs.EvalText.{IsLadderOfDrawing, WritesScans, StopsScans, WritesAll, Explains, set_digit, set_before};
 ghost use Rattle.text_commands.specs.Steps.Refusing.{RefusesLadder};
 
 use crate::line::state_line;
@@ -63,8 +63,8 @@ fn write_scans<W: Write>(
     ensures ok { OnOk result
         (WritesScans ladder.now.declarations ladder.now.networks dt rows.now
         (W.contents writer.old) (W.contents writer.new)) }
-    ensures part { OnErr result
-        (WritesSomeScans ladder.now.declarations ladder.now.networks dt rows.now
+    ensures stopped { IfErr result
+        (λ fault. StopsScans ladder.now.declarations ladder.now.networks dt rows.now fault
         (W.contents writer.old) (W.contents writer.new)) }
 {
     let mut state = ladder.initial(alloc)?;
@@ -81,7 +81,8 @@ fn write_scans<W: Write>(
 ///
 /// A word NAME=BITS sets its variable before scan k to the k-th digit. There are as many scans as the longest
 /// row has digits, and one without words. `dt` is the time between two scans in milliseconds.
-/// `Text` and `Word` come before anything is written. After `Write` and `Memory` what went out is a prefix.
+/// `Text` and `Word` come before anything is written. After `Write` what went out is a prefix and
+/// not all, after `Memory` a prefix.
 pub fn eval<W: Write>(
     alloc: Global,
     drawing: &str,

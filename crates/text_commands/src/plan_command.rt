@@ -1,8 +1,8 @@
-ghost use Rattle.std.specs.Prelude.{◌≤◌, length, OnOk, OnErr, IfOk, IfErr};
+ghost use Rattle.std.specs.Prelude.{◌≤◌, length, OnOk, IfOk, IfErr};
 ghost use Rattle.std.specs.Io.KnownBytes.{Appends};
 ghost use Rattle.plant.specs.Plan.{IsPlan};
 ghost use Rattle.text_writer.specs.Growing.{GrowsBy};
-ghost use Rattle.text_writer.specs.Sending.{SendsPart};
+ghost use Rattle.text_writer.specs.Sending.{Stops};
 ghost use Rattle.text_commands.specs.PlanText.{due_line, plan_lines, RefusesPlanOf, WritesPlan, ExplainsPlan};
 
 use crate::check_command::read_plant;
@@ -31,8 +31,8 @@ fn write_dues<W: Write>(
     writer: &mut W,
 ) -> Result<(), SendFault>
     ensures ok { OnOk result (Appends (W.contents writer.old) (W.contents writer.new) (plan_lines plant.now dues.now)) }
-    ensures part { OnErr result
-        (SendsPart (plan_lines plant.now dues.now) (W.contents writer.old) (W.contents writer.new)) }
+    ensures stopped { IfErr result
+        (λ fault. Stops fault (plan_lines plant.now dues.now) (W.contents writer.old) (W.contents writer.new)) }
 {
     let mut lines = String::new(alloc);
     for due in dues {
@@ -53,7 +53,7 @@ pub fn plan_of(alloc: Global, plant: &Plant, until: u32) -> Result<Vec<Due>, Tex
 /// Reads a plant, and writes its plan up to and with `until` (in ms), a line for each entry, as `10 R1.FAST`.
 ///
 /// `Text` comes before anything is written; `TooLong` exactly where there are more than 100,000 lines. After `Write`
-/// and `Memory` what went out is a prefix.
+/// what went out is a prefix and not all, after `Memory` a prefix.
 pub fn plan_text<W: Write>(
     alloc: Global,
     plant: &str,

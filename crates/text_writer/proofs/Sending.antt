@@ -1,7 +1,7 @@
 -- Lines are made one by one, and written some at a time.
-use Rattle.std.proofs.Common.{◌≡◌, ℕ, ◌+◌, ◌<◌, ◌++◌, List, [], ◌∷◌, length, take, drop, get_or, Option, Result, Ok, Err, OnOk, OnErr, sym, ap, subst, ◌∙◌, append_assoc}
-use Rattle.std.proofs.Math.Seq.{take-append_seam}
-use Rattle.std.proofs.lemmas.List.{take-append-drop, take_more, append-nil}
+use Rattle.std.proofs.Common.{◌≡◌, ℕ, ◌+◌, ◌<◌, ◌++◌, List, [], ◌∷◌, length, take, drop, get_or, Option, Result, Ok, Err, OnOk, OnErr, sym, ap, subst, ◌∙◌, ◌≤◌, append_assoc, arith}
+use Rattle.std.proofs.Math.Seq.{take-append_seam, take-append-add}
+use Rattle.std.proofs.lemmas.List.{take-append-drop, take_more, append-nil, take-append-le, length-append}
 use Rattle.std.proofs.lemmas.List.Concat.{flat_map-append}
 use Rattle.std.proofs.KnownBytes.{Appends-nil, Appends-trans}
 use Rattle.std.specs.Io.KnownBytes.{Appends}
@@ -55,6 +55,16 @@ pub part_left : (made rest others whole : List ℕ) (old mid new : Option (List 
 part_left made rest others whole old mid new is sends then =
     let part : SendsPart made old new = subst (λ t. SendsPart t old new) sends.whole (part_of_second sends.sent rest old mid new sends.appended then) in
     subst (λ t. SendsPart t old new) is (part_of_first made others old new part)
+
+-- nor did all of it where not all of what was left followed
+pub less_left : (made rest others whole : List ℕ) (old mid new : Option (List ℕ)) → made ++ others ≡ whole → Sends made rest old mid → SendsLess rest mid new → SendsLess whole old new
+less_left made rest others whole old mid new is sends then =
+    let k = then.0 in
+    let all : sends.sent ++ (rest ++ others) ≡ whole = sym (append_assoc sends.sent rest others) ∙ ap (λ t. t ++ others) sends.whole ∙ is in
+    let long : length sends.sent + (length rest + length others) ≡ length whole = ap (λ n. length sends.sent + n) (sym (length-append rest others)) ∙ sym (length-append sends.sent (rest ++ others)) ∙ ap length all in
+    let few : k ≤ length rest = let lt = then.1 in omega arith in
+    let same : sends.sent ++ take k rest ≡ take (length sends.sent + k) whole = ap (λ t. sends.sent ++ t) (sym (take-append-le k rest others few)) ∙ sym (take-append-add sends.sent (rest ++ others) k) ∙ ap (take (length sends.sent + k)) all in
+    (length sends.sent + k, (let lt = then.1 in omega arith), subst (Appends old new) same (Appends-trans old mid new sends.sent (take k rest) sends.appended then.2))
 
 -- nothing was made yet
 pub none_made : (rest : List ℕ) (old : Option (List ℕ)) → rest ≡ [] → Sends [] rest old old

@@ -18,7 +18,7 @@ use Rattle.exchange.specs.Run.{IsLog, latest, message}
 use Rattle.exchange.specs.Laws.{greater, held_with}
 use Rattle.exchange.specs.World.{WorldValue, world_of, node_takes}
 use Rattle.exchange.specs.Step.{Answers, IsDelivered}
-use Rattle.exchange.specs.Nodes.{IsNode, IsWorld}
+use Rattle.exchange.specs.Steps.Nodes.{IsNode, IsWorld}
 use Rattle.exchange.proofs.Histories.Tasks.{same_task-itself}
 use Rattle.exchange.proofs.Histories.Latest.{not_itself}
 use Rattle.exchange.proofs.Histories.Names.{log-rises}

@@ -20,7 +20,7 @@ use Rattle.exchange.specs.History.{Setting, is_lawful, history_of, incarnation_o
 use Rattle.exchange.specs.Run.{IsLog, IsNextEvaluation, next_name, latest}
 use Rattle.exchange.specs.World.{WorldValue, world_of, node_takes}
 use Rattle.exchange.specs.Step.{IsDone, IsEvaluatedNow}
-use Rattle.exchange.specs.Nodes.{IsNode, IsWorld}
+use Rattle.exchange.specs.Steps.Nodes.{IsNode, IsWorld}
 use Rattle.exchange.proofs.Histories.Names.{AllLawful, AllLawful-after}
 use Rattle.exchange.proofs.Histories.Steps.{incarnation-restart, number-latest}
 use Rattle.exchange.proofs.Worlds.Takes.{node-takes}

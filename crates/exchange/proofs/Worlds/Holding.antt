@@ -17,7 +17,7 @@ use Rattle.exchange_core.specs.CoreValue.{CoreValue, held_of}
 use Rattle.exchange.specs.History.{history_of}
 use Rattle.exchange.specs.Run.{has_reached, last_among}
 use Rattle.exchange.specs.World.{WorldValue, node_takes, latest_at, held_at}
-use Rattle.exchange.specs.Nodes.{IsNode}
+use Rattle.exchange.specs.Steps.Nodes.{IsNode}
 
 -- a core of the world holds the latest
 pub held-node : (w : WorldValue) (n : ℕ) (core : CoreValue) (p : TaskRef) → IsNode w.setting (history_of w.setting w.events) (reverse w.log) n core → held_of core p ≡ held_at w n p

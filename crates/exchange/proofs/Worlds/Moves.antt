@@ -24,7 +24,7 @@ use Rattle.exchange.specs.History.{Setting, made_count, is_lawful, history_of, a
 use Rattle.exchange.specs.Run.{IsLog, IsNextEvaluation, next_name, latest, message}
 use Rattle.exchange.specs.World.{node_takes}
 use Rattle.exchange.specs.Laws.{greater, held_with}
-use Rattle.exchange.specs.Nodes.{kept_of, IsNode, IsWorld}
+use Rattle.exchange.specs.Steps.Nodes.{kept_of, IsNode, IsWorld}
 use Rattle.exchange.proofs.Histories.Tasks.{same_task-true, codes_in}
 use Rattle.exchange.proofs.Histories.Names.{AllLawful, length-log, log-rises, named}
 use Rattle.exchange.proofs.Histories.Steps.{latest-deliver, latest-own_deliver, latest-other_deliver, latest-restart, latest-other_restart, latest-evaluate, latest-other_evaluate, incarnation-restart}

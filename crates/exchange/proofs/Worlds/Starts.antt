@@ -16,7 +16,7 @@ use Rattle.exchange.specs.declared.world_fault.WorldFault.TheVariants.{NoSuchRes
 use Rattle.exchange.specs.History.{Setting, history_of, after_events, is_lawful, number_of, lawful_among}
 use Rattle.exchange.specs.World.{WorldValue, node_takes}
 use Rattle.exchange.specs.Step.{IsDone, IsCause, IsLawfulAt, Follows}
-use Rattle.exchange.specs.Nodes.{IsNode, IsWorld}
+use Rattle.exchange.specs.Steps.Nodes.{IsNode, IsWorld}
 use Rattle.exchange.specs.Steps.Fresh.{AreFresh}
 use Rattle.exchange.proofs.Histories.Tasks.{resource_exists}
 use Rattle.exchange.proofs.Worlds.Moves.{slice_get-push, history-one_more, fresh_shape, fresh_known}

@@ -18,7 +18,7 @@ use Rattle.exchange.specs.declared.event.Event.{Event}
 use Rattle.exchange.specs.History.{Setting}
 use Rattle.exchange.specs.Run.{latest}
 use Rattle.exchange.specs.World.{node_takes}
-use Rattle.exchange.specs.Nodes.{IsNode}
+use Rattle.exchange.specs.Steps.Nodes.{IsNode}
 use Rattle.exchange.proofs.Histories.Tasks.{same_task-itself, same_task-true}
 
 list_any-found : {X : Type 0} (f : X → Bool) (xs : List X) (i : ℕ) (x : X) → slice_get xs i ≡ Some x → f x ≡ true → list_any f xs ≡ true

@@ -14,8 +14,8 @@ pub struct PendingEvaluation {
 }
 
 impl Model for PendingEvaluation {
-    ghost use Rattle.node_journals.specs.Stations.{PendingValue};
-    ghost use Rattle.node_journals.specs.Standing.{IsAhead};
+    ghost use Rattle.node_journals.specs.Steps.Stations.{PendingValue};
+    ghost use Rattle.node_journals.specs.Steps.Standing.{IsAhead};
 
     ghost Value = { PendingValue };
 
@@ -26,8 +26,8 @@ impl Model for PendingEvaluation {
 
 ghost use Rattle.std.specs.Prelude.{◌≡◌, IfOk, IfErr};
 ghost use Rattle.node_journals.specs.Journals.{IsLawful};
-ghost use Rattle.node_journals.specs.Stations.{IsNoted};
-ghost use Rattle.node_journals.specs.Standing.{IsAhead};
+ghost use Rattle.node_journals.specs.Steps.Stations.{IsNoted};
+ghost use Rattle.node_journals.specs.Steps.Standing.{IsAhead};
 
 impl PendingEvaluation {
     /// A resource whose core has made this evaluation.

@@ -20,7 +20,7 @@ pub returns-in_err-write_scans-clause-fault : goal.returns-in_err-write_scans-cl
 returns-in_err-write_scans-clause-fault g c =
     let read = rw (c.declarations.ensures.list, ← c.deref.ensures.value) at c.in_ok-rows.ensures.ok in
     part_written c.args.drawing.now (texts c.args.words.now) c.args.dt _ _ c.in_ok-ladder.ladder.declarations c.in_ok-ladder.ladder.networks c.deref.result.now c.in_err-write_scans.field-0.0 _ c.from_residual-in_err-write_scans.ensures.1
-    c.in_ok-ladder.ensures.ok read c.in_err-write_scans.ensures.part
+    c.in_ok-ladder.ensures.ok read c.in_err-write_scans.ensures.stopped
 
 pub returns-clause-ok : goal.returns-clause-ok
 returns-clause-ok g c =

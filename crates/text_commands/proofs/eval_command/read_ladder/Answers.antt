@@ -1,4 +1,4 @@
-use Rattle.text_commands.proofs.Explaining.{names_refused, networks_refused}
+use Rattle.text_commands.proofs.Explaining.{drawing_refused, names_refused, networks_refused}
 use Rattle.text_commands.proofs.eval_command.read_ladder.Goals as goal
 
 pub returns-in_err-bind-clause-err : goal.returns-in_err-bind-clause-err
@@ -26,3 +26,8 @@ returns-in_err-graph-clause-err c =
       first = fault.1;
       found = fault.2;
     })
+
+pub returns-in_err-drawing-clause-err : goal.returns-in_err-drawing-clause-err
+returns-in_err-drawing-clause-err c =
+    drawing_refused c.args.drawing.now c.in_err-drawing.field-0.0 c.from_residual-in_err-drawing.result c.from_residual-in_err-drawing.ensures.1
+    (λ other. (c.in_err-drawing.ensures.refused other, other, c.in_err-drawing.ensures.first))

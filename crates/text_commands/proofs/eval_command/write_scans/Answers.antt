@@ -2,13 +2,16 @@ use Rattle.std.proofs.Common.{◌≡◌, ◌+◌, ◌≤◌, ◌++◌, [], ◌�
 use Rattle.std.proofs.KnownBytes.{Appends-nil, Appends-trans}
 use Rattle.text_commands.specs.Rows.{scans_of}
 use Rattle.text_commands.specs.Lines.{line_of}
-use Rattle.text_commands.proofs.Scanning.{begun_at, scan_more, written_some, written_nothing, written_part}
-use Rattle.text_writer.proofs.Sending.{on_err}
+use Rattle.lists.proofs.Results.{kept_fault}
+use Rattle.text_writer.specs.declared.send_fault.SendFault.TheVariants.{Write, Memory}
+use Rattle.text_commands.specs.EvalText.{StopsScans}
+use Rattle.text_commands.proofs.Scanning.{begun_at, scan_more, stopped_behind, stopped_at_first, stopped_within}
 use Rattle.text_commands.proofs.Setting.{fits_after}
 use Rattle.text_commands.proofs.eval_command.write_scans.Goals as goal
 
-pub returns-in_err-state-clause-part : goal.returns-in_err-state-clause-part
-returns-in_err-state-clause-part g c = on_err _ (written_nothing _ _ _ _ _)
+pub returns-in_err-state-clause-stopped : goal.returns-in_err-state-clause-stopped
+returns-in_err-state-clause-stopped g c =
+    kept_fault Memory (λ fault. StopsScans c.args.ladder.now.declarations c.args.ladder.now.networks c.args.dt c.args.rows.now fault _ _) _ c.from_residual-in_err-state.ensures.1 (stopped_at_first _ _ _ _ _)
 
 pub loop-k-init : goal.loop-k-init
 loop-k-init g c = record {
@@ -18,19 +21,20 @@ loop-k-init g c = record {
   appended = Appends-nil _;
 }
 
-pub returns-in_err-line-clause-part : goal.returns-in_err-line-clause-part
-returns-in_err-line-clause-part g c =
+pub returns-in_err-line-clause-stopped : goal.returns-in_err-line-clause-stopped
+returns-in_err-line-clause-stopped g c =
     let few : c.loop-k.k ≤ scans_of c.args.rows.now = let e = c.scan_count-k-end.ensures in omega arith in
-    on_err _ (written_some _ _ _ _ _ _ _ _ _ _ few c.loop-k.invariant.scanned c.loop-k.invariant.appended)
+    kept_fault Memory (λ fault. StopsScans c.args.ladder.now.declarations c.args.ladder.now.networks c.args.dt c.args.rows.now fault _ _) _ c.from_residual-in_err-line.ensures.1
+    (stopped_behind _ _ _ _ _ _ _ _ _ _ few c.loop-k.invariant.scanned c.loop-k.invariant.appended)
 
-pub returns-in_err-write_text-clause-part : goal.returns-in_err-write_text-clause-part
-returns-in_err-write_text-clause-part g c =
+pub returns-in_err-write_text-clause-stopped : goal.returns-in_err-write_text-clause-stopped
+returns-in_err-write_text-clause-stopped g c =
     let few : c.loop-k.k + 1 ≤ scans_of c.args.rows.now = let e = c.scan_count-k-end.ensures in omega arith in
     let line : c.as_str.result.now ≡ line_of c.args.ladder.now.declarations c.scan.new.state.slots =
     c.as_str.ensures.value ∙ c.in_ok-line.ensures ∙ ap (λ ds. line_of ds c.scan.new.state.slots) c.declarations.ensures.list in
     let scanned = scan_more _ _ _ _ _ c.loop-k.state c.set_rows.new.state c.scan.new.state _ _ c.loop-k.invariant.scanned c.set_rows.ensures.slots c.scan.ensures.meaning line in
-    let part = c.in_err-write_text.ensures.prefix in
-    on_err _ (written_part _ _ _ _ _ _ _ _ _ _ _ _ part.0 few scanned c.loop-k.invariant.appended part.2)
+    kept_fault Write (λ fault. StopsScans c.args.ladder.now.declarations c.args.ladder.now.networks c.args.dt c.args.rows.now fault _ _) _ c.from_residual-in_err-write_text.ensures.1
+    (stopped_within _ _ _ _ _ _ _ _ _ _ _ few scanned c.loop-k.invariant.appended c.in_err-write_text.ensures.prefix)
 
 pub loop-k-preserved : goal.loop-k-preserved
 loop-k-preserved g c =

@@ -11,7 +11,7 @@ returns-in_err-dues-clause-fault g c =
 pub returns-in_err-write_dues-clause-fault : goal.returns-in_err-write_dues-clause-fault
 returns-in_err-write_dues-clause-fault g c =
     plan_partly c.args.plant.now c.args.until _ _ c.in_ok-plant.plant c.in_ok-dues.dues.items c.in_err-write_dues.field-0.0 _ c.from_residual-in_err-write_dues.ensures.1 c.in_ok-plant.ensures.ok c.in_ok-dues.ensures.ok
-    (rw c.deref.ensures.value at c.in_err-write_dues.ensures.part)
+    (rw c.deref.ensures.value at c.in_err-write_dues.ensures.stopped)
 
 pub returns-clause-ok : goal.returns-clause-ok
 returns-clause-ok g c =

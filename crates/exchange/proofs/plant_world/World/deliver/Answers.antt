@@ -10,7 +10,7 @@ use Rattle.exchange.proofs.plant_world.World.deliver.Goals as goal
 pub invariant_of-self-2 : goal.invariant_of-self-2
 invariant_of-self-2 c =
     rw (c.in-Ok-push.ensures.items, c.reserve.ensures.items)
-    (world-deliver_at _ c.self.inside.events.items c.self.inside.log.items c.self.inside.cores.items c.args.message c.args.resource c.index_mut-core.result.now c.accept-accepted.new.self c.in-Ok.frame c.accept-accepted.result c.self.invariant (omega (arith, c.self.inside.cores.ok.0)) c.index_mut-core.ensures.value (omega arith) (omega (arith, c.self.inside.log.ok.0)) (rw c.in-Ok.ensures c.index.ensures) c.accept-accepted.ensures)
+    (world-deliver_at _ c.self.inside.events.items c.self.inside.log.items c.self.inside.cores.items c.args.message c.args.resource c.index_mut-core.result.now c.accept-accepted.new.self c.in-Ok.frame c.accept-accepted.result c.self.invariant (omega (arith, c.self.inside.cores.ok.0)) c.index_mut-core.ensures.value (omega arith) (omega (arith, c.self.inside.log.ok.0)) (rw c.in-Ok.ensures c.index.ensures) c.accept-accepted.ensures.answer)
 
 pub returns-clause-done : goal.returns-clause-done
 returns-clause-done c =
@@ -25,7 +25,7 @@ returns-then-message-len-clause-cause c =
 
 pub returns-clause-answer : goal.returns-clause-answer
 returns-clause-answer c =
-    delivered_at c.args.self.now _ c.self.inside.events.items c.self.inside.log.items c.self.inside.cores.items c.args.message c.args.resource c.index_mut-core.result.now c.accept-accepted.new.self c.in-Ok.frame c.accept-accepted.result c.self.view_is c.self.invariant (omega (arith, c.self.inside.cores.ok.0)) c.index_mut-core.ensures.value (omega arith) (omega (arith, c.self.inside.log.ok.0)) (rw c.in-Ok.ensures c.index.ensures) c.accept-accepted.ensures
+    delivered_at c.args.self.now _ c.self.inside.events.items c.self.inside.log.items c.self.inside.cores.items c.args.message c.args.resource c.index_mut-core.result.now c.accept-accepted.new.self c.in-Ok.frame c.accept-accepted.result c.self.view_is c.self.invariant (omega (arith, c.self.inside.cores.ok.0)) c.index_mut-core.ensures.value (omega arith) (omega (arith, c.self.inside.log.ok.0)) (rw c.in-Ok.ensures c.index.ensures) c.accept-accepted.ensures.answer
 
 pub returns-in_default-clause-cause : goal.returns-in_default-clause-cause
 returns-in_default-clause-cause c =

@@ -1,7 +1,7 @@
 -- The journal and the core after a restart.
 use Rattle.std.proofs.Common.{rules, ◌≡◌, ◌++◌, ◌∷◌, [], subst, sym}
 use Rattle.node_journals.specs.declared.step.Step.TheVariants.{Restarted}
-use Rattle.node_journals.specs.Standing.{IsStation}
+use Rattle.node_journals.specs.Steps.Standing.{IsStation}
 use Rattle.node_journals.proofs.Stations.{station-restarted}
 use Rattle.node_journals.proofs.station.Station.restart.Goals as goal
 
