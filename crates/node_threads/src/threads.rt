@@ -21,7 +21,7 @@ ghost use Rattle.node_journals.specs.Journals.{IsLawful};
 ghost use Rattle.node_threads.specs.Steps.Working.{IsWorkerFor};
 
 use crate::gate::Gate;
-use crate::keeper::Keeper;
+use keepers::Keeper;
 use crate::threads::desk::Desk;
 use crate::threads::ended::Ended;
 use crate::threads::inbox::Inbox;

@@ -1,7 +1,7 @@
 ghost use Rattle.std.specs.Prelude.{◌≡◌, All, IfOk};
 ghost use Rattle.node_threads.specs.Steps.Working.{IsWorkerFor};
 
-use crate::keeper::Keeper;
+use keepers::Keeper;
 use crate::threads::inbox::Inbox;
 use crate::threads::worker::Worker;
 use crossbeam_channel::{Receiver, Sender};

@@ -1,7 +1,7 @@
 ghost use Rattle.std.specs.Prelude.{◌≡◌};
 ghost use Rattle.node_threads.specs.Steps.Working.{IsWorking};
 
-use crate::keeper::Keeper;
+use keepers::Keeper;
 use crate::threads::worker_state::WorkerState;
 use node_journals::{Cause, Station};
 use std::alloc::Global;

@@ -2,7 +2,7 @@ ghost use Rattle.std.specs.Prelude.{◌≡◌};
 ghost use Rattle.node_journals.specs.Journals.{IsLawful};
 
 use crate::gate::Gate;
-use crate::keeper::Keeper;
+use keepers::Keeper;
 use crate::threads::desk::Desk;
 use crate::threads::ended::Ended;
 use crate::threads::inbox::Inbox;

@@ -1,4 +1,4 @@
-use crate::keeper::Keeper;
+use keepers::Keeper;
 use crate::threads::entering::enter_pending;
 use crate::threads::restarting::restart_station;
 use crate::threads::worker_state::WorkerState;
