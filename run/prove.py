@@ -4,6 +4,7 @@ As many crates are proved at once as there are processors and memory for, or as 
 that it names stand, the one with the longest chain of others behind it first. What was proved before is kept, also
 where this is ended in the middle: the next call goes on.
 """
+import fcntl
 import os
 import re
 import shutil
@@ -14,6 +15,7 @@ import time
 
 sys.dont_write_bytecode = True
 from crates import PROGRAM, ROOT, around_proofs, crates_of, is_proved, lines_of, tell
+from room import Room, place_of_rooms
 
 SECONDS_BETWEEN_LINES = 300
 
@@ -24,7 +26,7 @@ class Proof:
     def __init__(self, crate, below, lines):
         self.crate, self.below, self.lines = crate, below, lines
         self.chain = lines
-        self.process = None
+        self.process = self.room = None
         self.jobs = 0
         self.is_done = False
         self.log = f"{ROOT}/crates/{crate}/out/build.log"
@@ -32,14 +34,22 @@ class Proof:
     def is_running(self):
         return self.process is not None and not self.is_done
 
-    def begin(self, jobs, around):
+    def begin(self, jobs, around, place):
         words = ["--jobs", str(jobs)]
         words = ["run", *words, "--", "--help"] if self.crate == PROGRAM else ["lib", *words]
         os.makedirs(os.path.dirname(self.log), exist_ok=True)
+        self.room = Room(self.crate, place)
         with open(self.log, "wb") as log:
-            how = {"cwd": f"{ROOT}/crates/{self.crate}", "env": around, "stdin": subprocess.DEVNULL}
+            how = {"cwd": self.room.folder, "env": around, "stdin": subprocess.DEVNULL}
             self.process = subprocess.Popen(["rt", *words], stdout=log, stderr=subprocess.STDOUT, **how)
         self.jobs = jobs
+
+    def end(self):
+        """Waits for the end; the status."""
+        status = self.process.wait()
+        self.is_done = True
+        self.room.leave()
+        return status
 
     def said(self):
         """The last that rt said of it."""
@@ -77,7 +87,7 @@ class Proofs:
     """The proofs of all crates of the program, lowest first."""
 
     def __init__(self):
-        self.around = around_proofs()
+        self.around, self.place = around_proofs(), place_of_rooms()
         self.at_once = max(1, int(self.around["RT_JOBS"]))
         self.all = proofs_to_make()
         self.begun = time.monotonic()
@@ -93,24 +103,22 @@ class Proofs:
         return sorted(found, key=lambda it: -it.chain)
 
     def begin_ready(self):
-        """Begins what can begin. A crate gets the share of all jobs that its chain has of what is left."""
+        """Begins what can begin. A crate gets the share of all jobs that its chain has of what is left, but leaves one for each other that can begin."""
         free = self.at_once - sum(it.jobs for it in self.running())
         left = max(1, sum(it.lines_left() for it in self.all))
-        for proof in self.ready():
+        ready = self.ready()
+        for others, proof in zip(range(len(ready) - 1, -1, -1), ready):
             if free < 1:
                 return
-            jobs = max(1, min(free, round(self.at_once * proof.chain / left)))
-            proof.begin(jobs, self.around)
+            jobs = max(1, min(free - others, round(self.at_once * proof.chain / left)))
+            proof.begin(jobs, self.around, self.place)
             free -= jobs
 
     def first_failed(self):
         """Notes which proofs ended; the first that failed, if one did."""
         for proof in self.running():
-            status = proof.process.poll()
-            if status is not None:
-                proof.is_done = True
-                if status:
-                    return proof
+            if proof.process.poll() is not None and proof.end():
+                return proof
         return None
 
     def end_all(self):
@@ -118,7 +126,7 @@ class Proofs:
         for proof in running:
             proof.process.terminate()
         for proof in running:
-            proof.process.wait()
+            proof.end()
 
     def state(self):
         """The crates at work, how far all is, and about how long it still takes."""
@@ -169,6 +177,9 @@ def main(words):
     if not shutil.which("rt"):
         tell("the program isn't built yet, and rt, the command of the Rattle kit, isn't on PATH")
         return 3
+    # One call builds at a time; another one waits, and finds what this one made.
+    folder = os.open(f"{ROOT}/crates", os.O_RDONLY)
+    fcntl.flock(folder, fcntl.LOCK_EX)
     proofs = Proofs()
     tell(
         f"the program is proved and built first: {len(proofs.all)} crates, {proofs.at_once} at once."
