@@ -75,3 +75,28 @@ def ring(count):
         text.append(f"    PROGRAM P WITH T : NEXT(B := R{(number - 1) % count}.P.Q, UP := %IX0);")
         text.append("  END_RESOURCE")
     return "\n".join(text + ["END_CONFIGURATION"]) + "\n"
+
+
+def rung(number):
+    """Three contacts and a coil. The first two contacts conduct by turns, so that all coils change where the input does."""
+    names = ["A", "B", f"V{number - 1:03}" if number else "A", f"V{number:03}"]
+    marks = ["| |", "|/|", "| |", "( )"]
+    if number % 2:
+        names[0], names[1] = names[1], names[0]
+        marks[0], marks[1] = marks[1], marks[0]
+    above = "".join(f"  {name:8}" for name in names).rstrip()
+    return f"|{above}\n+{'-----'.join('--' + mark for mark in marks)}"
+
+
+def working(count, rungs):
+    """So many resources of one task, each with a program of so many rungs of three contacts and a coil, due each millisecond."""
+    coils = [f"V{it:03}" for it in range(rungs)]
+    text = ["PROGRAM WORK", "VAR_INPUT A, B : BOOL; END_VAR", f"VAR_OUTPUT {coils[-1]} : BOOL; END_VAR"]
+    text.append(f"VAR {', '.join(coils[:-1])} : BOOL; END_VAR")
+    text += ["\n|\n".join(rung(it) for it in range(rungs)), "END_PROGRAM", "CONFIGURATION PLANT"]
+    for number in range(count):
+        text.append(f"  RESOURCE R{number} ON NODE")
+        text.append("    TASK T(INTERVAL := T#1ms, PRIORITY := 0);")
+        text.append("    PROGRAM P WITH T : WORK(A := %IX0, B := %IX1);")
+        text.append("  END_RESOURCE")
+    return "\n".join(text + ["END_CONFIGURATION"]) + "\n"

@@ -13,6 +13,11 @@ def rounds(count):
     return "\n".join(lines) + "\n"
 
 
+def in_turn(resources, count, values):
+    """Over a plant of so many resources of one task: an evaluation of each in turn, with so many values of the input by turns."""
+    return "".join(f"EVAL R{it % resources}.T 1 %IX0={it // resources % values}\n" for it in range(count))
+
+
 def plant_where(takes):
     """A plant of 16 resources of 16 tasks; each task that has an instance takes from one of each of the next resources."""
     inputs = [f"P{it}" for it in range(takes)]
