@@ -17,7 +17,7 @@ line_at text rest l = go l.5
     go (inr h) =
         (l.0 ++ 13 ∷ [], l.2 ∙ ap (λ x. l.0 ++ x ++ rest) h ∙ append_assoc l.0 (13 ∷ 10 ∷ []) rest ∙ sym (append_assoc l.0 (13 ∷ []) (10 ∷ rest)), one_line_and l.0 l.4)
 
-one_rest : (text r s : List ℕ) → IsBlankLine text r → IsBlankLine text s → r ≡ s
+pub one_rest : (text r s : List ℕ) → IsBlankLine text r → IsBlankLine text s → r ≡ s
 one_rest text r s one other =
     let a = line_at text r one in
     let b = line_at text s other in
@@ -43,10 +43,10 @@ one_end (k ∷ ks) (l ∷ ls) text r s e f all more end end' =
     let tail : lines_text ks ++ r ≡ lines_text ls ++ s = cc in
     one_end ks ls (lines_text ks ++ r) r s refl tail all.1 more.1 end end'
 
-one_body : (text r s : List ℕ) → IsBehindBody text r → IsEndLine (first_line r) → IsBehindBody text s → IsEndLine (first_line s) → r ≡ s
+pub one_body : (text r s : List ℕ) → IsBehindBody text r → IsEndLine (first_line r) → IsBehindBody text s → IsEndLine (first_line s) → r ≡ s
 one_body text r s b end c end' = one_end b.2.0 c.2.0 text r s (b.1 ∙ ap (λ x. x ++ r) b.2.1) (c.1 ∙ ap (λ x. x ++ s) c.2.1) b.2.2 c.2.2 end end'
 
-body_behind : (text lines body rest : List ℕ) → IsBlankLine text lines → IsBodyThen text body rest → IsBehindBody lines rest
+pub body_behind : (text lines body rest : List ℕ) → IsBlankLine text lines → IsBodyThen text body rest → IsBehindBody lines rest
 body_behind text lines body rest l b = (body, one_rest text lines (body ++ rest) l b.0, b.1)
 
 -- where no line of END_PROGRAM follows, there is no body

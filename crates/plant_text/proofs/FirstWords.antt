@@ -61,7 +61,7 @@ same_some (c ∷ w) v e h = omega arith
 abbrev pub IsLetters : List ℕ → Type 0
 IsLetters w = (are_letters w ≡ true) × (0 < length w)
 
-same_word_letters : (w v : List ℕ) → same_word w v ≡ true → are_letters v ≡ true → 0 < length v → IsLetters w
+pub same_word_letters : (w v : List ℕ) → same_word w v ≡ true → are_letters v ≡ true → 0 < length v → IsLetters w
 same_word_letters w v h l s =
     let e : map to_ascii_lowercase w ≡ map to_ascii_lowercase v = (bytes_eq-Decides (map to_ascii_lowercase w) (map to_ascii_lowercase v)).0 h in
     (same_letters w v e l, same_some w v e s)
@@ -132,7 +132,7 @@ task_letters w k h = elim (cases_of_cond (same_word w (codes "TASK")) _ _ _ h) [
   ]
 ]
 
-first_some : {A : Type 0} (a b : Option A) (x : A) → or_else a b ≡ Some x → (a ≡ Some x) ⊎ (b ≡ Some x)
+pub first_some : {A : Type 0} (a b : Option A) (x : A) → or_else a b ≡ Some x → (a ≡ Some x) ⊎ (b ≡ Some x)
 first_some None b x h = inr h
 first_some (Some y) b x h = inl h
 
@@ -204,12 +204,12 @@ letters_end (c ∷ w) rest h n =
     let parts = and_parts (is_name_char c) (are_letters w) h in
     take_while-yes is_name_char c (w ++ rest) parts.0 ∙ ap (λ x. c ∷ x) (letters_end w rest parts.1 n)
 
-letter_at : (w : List ℕ) (k : ℕ) → are_letters w ≡ true → k < length w → is_name_char (get_or w k 32) ≡ true
+pub letter_at : (w : List ℕ) (k : ℕ) → are_letters w ≡ true → k < length w → is_name_char (get_or w k 32) ≡ true
 letter_at [] k h l = absurd (omega arith)
 letter_at (c ∷ w) zero h l = (and_parts (is_name_char c) (are_letters w) h).0
 letter_at (c ∷ w) (suc k) h l = letter_at w k (and_parts (is_name_char c) (are_letters w) h).1 (omega arith)
 
-not_both : (x y : Bool) → not (x && y) ≡ true → x ≡ true → y ≡ false
+pub not_both : (x y : Bool) → not (x && y) ≡ true → x ≡ true → y ≡ false
 not_both x true h e = absurd (let f : not (x && true) ≡ false = rw e refl in cc)
 not_both x false h e = refl
 

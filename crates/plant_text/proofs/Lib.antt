@@ -5,3 +5,7 @@ pub mod BodyLines
 pub mod SpelledWords
 pub mod LineCounts
 pub mod BodyUnique
+pub mod WordShapes
+pub mod WholeWords
+pub mod ReadWords
+pub mod BodyTexts

@@ -6,6 +6,7 @@ use Rattle.std.proofs.lemmas.List.Sums.{sum_by-append}
 use Rattle.std.proofs.Math.Seq.{take-append_seam}
 use Rattle.plant_text.specs.declared.token.Token.{Token}
 use Rattle.plant_text.specs.declared.token.Token.TheVariants as token
+use Rattle.plant_text.specs.declared.lexer.Stage.TheVariants as stage
 use Rattle.plant_text.specs.Words.{word_of}
 use Rattle.plant_text.specs.Spelling.{is_parted, is_one_line, first_line, IsGap, IsLineEnd, IsBody, IsEndLine, BeginsNoBlock, feeds, BeginsWith}
 use Rattle.plant_text.specs.Steps.Gaps.{IsBehindGap}
@@ -94,7 +95,7 @@ abbrev pub IsCountedTo : List ℕ → List WordValue → LexerValue → Type 0
 IsCountedTo text ws left = AreKnown ws → (n : ℕ) × (left.line ≡ min n 18446744073709551615)
     × ((more : List Token) (lines : List ℕ) → BeginsWith n left.text more lines → BeginsWith 1 text (tokens ws ++ more) (body_lines ws ++ lines))
 
-pub counted_first : (text : List ℕ) (left : LexerValue) → left ≡ record { text = text; line = 1 } → IsCountedTo text [] left
+pub counted_first : (text : List ℕ) (left : LexerValue) → left ≡ record { text = text; line = 1; stage = stage.Outside; bodies = 0 } → IsCountedTo text [] left
 counted_first text left e known =
     (1, ap (λ (l : LexerValue). l.line) e, λ more lines s. subst (λ (l : LexerValue). BeginsWith 1 l.text more lines) e s)
 

@@ -3,7 +3,7 @@
 ghost use Rattle.std.specs.Prelude.{◌≡◌, ◌≤◌, ◌<◌, IsTrue, length, take, drop, take_while};
 ghost use Rattle.plant_text.specs.Words.{is_name_char};
 ghost use Rattle.plant_text.specs.Spelling.{is_parted};
-ghost use Rattle.plant_text.specs.Steps.Lexing.{is_run_char, letters};
+ghost use Rattle.plant_text.specs.Steps.Lexing.{is_run_char, letters, front_len};
 
 /// A letter, a digit or an underscore.
 fn is_name_char(c: u8) -> bool
@@ -49,6 +49,7 @@ fn run_len(text: &[u8]) -> usize
 pub fn word_len(text: &[u8]) -> usize
     ensures bound { result ≤ length text.now }
     ensures some { 0 < length text.now → 0 < result }
+    ensures len { result ≡ front_len text.now }
     ensures parted { IsTrue (is_parted (take result text.now) (drop result text.now)) }
 {
     match text {

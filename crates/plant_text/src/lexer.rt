@@ -1,10 +1,12 @@
 //! The lexer: a plant's text word by word, with the line of each.
 
-ghost use Rattle.std.specs.Prelude.{◌≡◌, ◌<◌, [], IfOk, IfSome, OnOk, IsTrue, length};
+ghost use Rattle.std.specs.Prelude.{◌≡◌, ◌≢◌, ◌<◌, ℕ, List, [], None, IfOk, IfSome, OnOk, IsTrue, IsFalse, length, true};
+ghost use Rattle.plant_text.specs.Words.{word_of};
 ghost use Rattle.words.specs.Lines.{without_last};
 ghost use Rattle.plant_text.specs.declared.token.Token.TheVariants as token;
-ghost use Rattle.plant_text.specs.Spelling.{BeginsNoBlock, feeds};
-ghost use Rattle.plant_text.specs.Steps.Lexing.{part_before, line_behind, IsPart, HasNoBodyThen, IsKnownThen, IsFirstWord, FindsFirstWord, StandsFirst};
+ghost use Rattle.plant_text.specs.declared.lexer.Stage.TheVariants as stage;
+ghost use Rattle.plant_text.specs.Spelling.{BeginsNoBlock, IsGap, feeds};
+ghost use Rattle.plant_text.specs.Steps.Lexing.{stage_behind, part_before, line_behind, IsPart, HasNoBodyThen, IsKnownThen, IsFirstWord, FindsFirstWord, StandsFirst, is_due, IsWhole, ReadsWord, ReadsBody, ReadsFirst, ReadsNone};
 
 use crate::bodies::{
     begins_no_block, behind_blank_line, behind_body, is_blank_line, without_return,
@@ -37,7 +39,9 @@ enum Stage {
 }
 
 /// Where the word behind this one stands.
-fn stage_behind(token: &Token, stage: Stage) -> Stage {
+fn stage_behind(token: &Token, stage: Stage) -> Stage
+    ensures { result ≡ stage_behind token.now stage }
+{
     match (stage, token) {
         (Stage::Outside, Token::Keyword(Keyword::Program)) => Stage::Heading,
         (Stage::Outside, Token::Keyword(Keyword::Configuration)) => Stage::Configuration,
@@ -88,13 +92,13 @@ impl<'a> Model for Lexer<'a> {
 
     ghost Value = { LexerValue };
 
-    ghost view = { λ l. record { text = l.rest.now; line = l.line } };
+    ghost view = { λ l. record { text = l.rest.now; line = l.line; stage = l.stage; bodies = l.bodies } };
 }
 
 impl<'a> Lexer<'a> {
     /// All words of a text.
     pub fn new(text: &'a str) -> Lexer<'a>
-        ensures { result ≡ record { text = without_last 13 text.now; line = 1 } }
+        ensures { result ≡ record { text = without_last 13 text.now; line = 1; stage = stage.Outside; bodies = 0 } }
     {
         let text = text.as_bytes();
         Lexer {
@@ -113,7 +117,9 @@ impl<'a> Lexer<'a> {
 
     /// Whether a body begins here, unless a block of variables does.
     fn is_body_due(&self) -> bool
-        ensures { IsTrue result → 0 < length self.now.text }
+        ensures some { IsTrue result → 0 < length self.now.text }
+        ensures yes { IsTrue result → is_due self.now.stage ≡ true }
+        ensures no { IsFalse result → is_due self.now.stage ≡ true → self.now.text ≡ [] }
     {
         self.stage == Stage::BodyDue && !self.rest.is_empty()
     }
@@ -122,6 +128,8 @@ impl<'a> Lexer<'a> {
     fn advance(&mut self, rest: &'a [u8])
         ensures text { self.new.text ≡ rest.now }
         ensures line { self.new.line ≡ line_behind self.old rest.now }
+        ensures stage { self.new.stage ≡ self.old.stage }
+        ensures counted { self.new.bodies ≡ self.old.bodies }
     {
         let passed = &self.rest[..self.rest.len().saturating_sub(rest.len())];
         self.line = self.line.saturating_add(feeds(passed));
@@ -133,6 +141,7 @@ impl<'a> Lexer<'a> {
         ensures unknown { result.token ≡ token.Unknown }
         ensures end { self.new.text ≡ [] }
         ensures line { self.new.line ≡ self.old.line }
+        ensures counted { self.new.bodies ≡ self.old.bodies }
     {
         self.rest = &[];
         Word::new(Token::Unknown, line)
@@ -142,6 +151,9 @@ impl<'a> Lexer<'a> {
     fn word(&mut self, alloc: Global) -> Result<Word, AllocError>
         requires { 0 < length self.old.text }
         ensures word { IfOk result (λ w. IsKnownThen self.old.text w.token self.new.text) }
+        ensures every { IfOk result (λ w. (word rest : List ℕ) → IsWhole self.old.text word rest → (w.token ≡ word_of word) × (self.new.text ≡ rest)) }
+        ensures stage { IfOk result (λ w. w.token ≢ token.Unknown → self.new.stage ≡ stage_behind w.token self.old.stage) }
+        ensures counted { OnOk result (self.new.bodies ≡ self.old.bodies) }
         ensures line { OnOk result (self.new.line ≡ self.old.line) }
         ensures shorter { OnOk result (length self.new.text < length self.old.text) }
     {
@@ -164,6 +176,7 @@ impl<'a> Lexer<'a> {
         ensures word { IfOk result (λ w. IsFirstWord self.old.text w.token self.new.text) }
         ensures first { IfOk result (λ w. StandsFirst self.old w self.new) }
         ensures none { IfOk result (λ w. w.token ≡ token.Unknown → HasNoBodyThen self.old.text) }
+        ensures every { IfOk result (λ w. ReadsBody self.old w self.new) }
         ensures shorter { OnOk result (length self.new.text < length self.old.text) }
     {
         let line = self.line;
@@ -188,6 +201,8 @@ impl<'a> Lexer<'a> {
 
     /// The word behind a gap.
     fn word_behind_gap(&mut self, alloc: Global) -> Result<Option<Word>, AllocError>
+        ensures every { IfOk result (λ w. ReadsWord self.old w self.new) }
+        ensures none { IfOk result (λ w. IsGap self.old.text → w ≡ None) }
         ensures word { IfOk result (λ w. FindsFirstWord self.old.text w self.new.text) }
         ensures first { IfOk result (λ w. IfSome w (λ t. StandsFirst self.old t self.new)) }
         ensures shorter { IfOk result (λ w. IfSome w (λ _. length self.new.text < length self.old.text)) }
@@ -206,6 +221,8 @@ impl<'a> Lexer<'a> {
 
     /// The next word. `None`: there is no further one. Behind `Unknown` there is none.
     pub fn next(&mut self, alloc: Global) -> Result<Option<Word>, AllocError>
+        ensures every { IfOk result (λ w. ReadsFirst self.old w self.new) }
+        ensures none { IfOk result (λ w. ReadsNone self.old w) }
         ensures word { IfOk result (λ w. FindsFirstWord self.old.text w self.new.text) }
         ensures first { IfOk result (λ w. IfSome w (λ t. StandsFirst self.old t self.new)) }
         ensures shorter { IfOk result (λ w. IfSome w (λ _. length self.new.text < length self.old.text)) }

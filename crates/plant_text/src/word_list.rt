@@ -1,6 +1,7 @@
 ghost use Rattle.std.specs.Prelude.{◌≡◌, IfOk};
 ghost use Rattle.words.specs.Lines.{without_last};
 ghost use Rattle.plant_text.specs.Lines.{IsSpelledBy, IsBegunBy};
+ghost use Rattle.plant_text.specs.Steps.Lexing.{AreAllWords};
 
 use crate::lexer::Lexer;
 use crate::word::Word;
@@ -41,6 +42,7 @@ impl Words {
 /// comment, a number out of its limits, a body without an end, the body of a 66th program.
 pub fn read_words(alloc: Global, text: &str) -> Result<Words, AllocError>
     ensures spelled { IfOk result (IsSpelledBy (without_last 13 text.now)) }
+    ensures every { IfOk result (AreAllWords (without_last 13 text.now)) }
     ensures begun { IfOk result (IsBegunBy (without_last 13 text.now)) }
 {
     let mut lexer = Lexer::new(text);

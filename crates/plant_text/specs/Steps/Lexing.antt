@@ -1,10 +1,12 @@
 -- What the lexer asks of a text, and promises of one word.
-use Rattle.std.specs.Prelude.{ℕ, ◌+◌, ◌-◌, min, take, length, MatchOption, ◌≡◌, ◌≢◌, ◌==◌, ◌&&◌, ◌||◌, Bool, true, false, List, [], ◌∷◌, ◌++◌, Option, Some, take_while}
+use Rattle.std.specs.Prelude.{ℕ, ◌+◌, ◌-◌, ◌≤◌, min, take, length, slice_index_or, if◌then◌else◌, MatchOption, ◌≡◌, ◌≢◌, ◌==◌, ◌&&◌, ◌||◌, not, map, Bool, true, false, List, [], ◌∷◌, ◌++◌, Option, Some, None, take_while}
 use Rattle.std.specs.Str.{IsUtf8}
 use Rattle.plant_text.specs.declared.token.Token.{Token}
 use Rattle.plant_text.specs.declared.token.Token.TheVariants as token
 use Rattle.plant_text.specs.declared.token.Keyword.{Keyword}
 use Rattle.plant_text.specs.declared.token.Keyword.TheVariants as key
+use Rattle.plant_text.specs.declared.lexer.Stage.{Stage}
+use Rattle.plant_text.specs.declared.lexer.Stage.TheVariants as stage
 use Rattle.plant_text.specs.Words.{is_name_char, word_of}
 use Rattle.plant_text.specs.Spelling.{is_parted, IsGap, IsLineEnd, IsBody, is_one_line, first_line, IsEndLine, feeds, Spells, BeginsWith}
 use Rattle.plant_text.specs.Lines.{WordValue, body_line}
@@ -16,6 +18,14 @@ is_run_char c = is_name_char c || c == 35
 -- the letters, digits and underscores that a text begins with
 abbrev pub letters : List ℕ → List ℕ
 letters text = take_while is_name_char text
+
+-- how long the word is that a text begins with: letters, digits, `_` and `#`, also behind `%`; or `:=`; or one character
+abbrev pub front_len : List ℕ → ℕ
+front_len [] = 0
+front_len (c ∷ more) =
+    if c == 58 && slice_index_or more 0 32 == 61 then 2
+    else (if c == 37 then 1 + length (take_while is_run_char more)
+    else (if is_run_char c then length (take_while is_run_char (c ∷ more)) else 1))
 
 -- the keywords that begin a block of variables
 abbrev pub begins_block : Option Keyword → Bool
@@ -88,10 +98,13 @@ IsFirstWord text t rest = t ≢ token.Unknown → (more : List Token) → Spells
 abbrev pub FindsFirstWord : List ℕ → Option WordValue → List ℕ → Type 0
 FindsFirstWord text next rest = MatchOption next (IsGap text) (λ w. IsFirstWord text w.token rest)
 
--- what is left of a text, and the number of the line on which it begins
+-- what is left of a text, the number of the line on which it begins, where its first word stands, and how many bodies
+-- lie before it
 pub record LexerValue : Type 0 where
   pub text : List ℕ
   pub line : ℕ
+  pub stage : Stage
+  pub bodies : ℕ
 
 -- the number of the line on which the rest of a text begins
 abbrev pub line_behind : LexerValue → List ℕ → ℕ
@@ -103,3 +116,102 @@ StandsFirst old w new = w.token ≢ token.Unknown → (n : ℕ) → old.line ≡
     → (m : ℕ) × (new.line ≡ min m 18446744073709551615)
     × ((more : List Token) (lines : List ℕ) → BeginsWith m new.text more lines
     → BeginsWith n old.text (w.token ∷ more) (body_line w ++ lines))
+
+-- where the word behind this one stands
+abbrev pub stage_behind : Token → Stage → Stage
+stage_behind (token.Keyword key.Program) stage.Outside = stage.Heading
+stage_behind (token.Keyword key.Configuration) stage.Outside = stage.Configuration
+stage_behind t stage.Outside = stage.Outside
+stage_behind (token.Name n) stage.Heading = stage.BodyDue
+stage_behind t stage.Heading = stage.Blocks
+stage_behind t stage.BodyDue = stage.Blocks
+stage_behind (token.Keyword key.EndVar) stage.Blocks = stage.BodyDue
+stage_behind t stage.Blocks = stage.Blocks
+stage_behind t stage.Configuration = stage.Configuration
+
+-- VAR, VAR_INPUT or VAR_OUTPUT
+abbrev pub is_section : Token → Bool
+is_section (token.Keyword k) = begins_block (Some k)
+is_section _ = false
+
+-- where a body is due
+abbrev pub is_due : Stage → Bool
+is_due stage.BodyDue = true
+is_due _ = false
+
+-- what may follow a word without a gap: `#` and `=` don't, since they would be part of it, nor does `*`
+abbrev pub may_follow : List ℕ → Bool
+may_follow rest =
+    not (slice_index_or rest 0 32 == 35 || (slice_index_or rest 0 32 == 61 || slice_index_or rest 0 32 == 42))
+
+-- a known word in front of a text, and the rest behind it
+abbrev pub IsWhole : List ℕ → List ℕ → List ℕ → Type 0
+IsWhole text word rest =
+    (text ≡ word ++ rest) × (word_of word ≢ token.Unknown) × (is_parted word rest ≡ true) × (may_follow rest ≡ true)
+
+-- a word that isn't read as a body and begins no body, where it stands
+abbrev pub IsInPlace : Stage → ℕ → Token → Type 0
+IsInPlace s bodies t = (t ≢ token.Unknown) × (is_due s ≡ true → (is_section t ≡ true) × (bodies ≤ 64))
+
+-- Where the first word stands so, and so many bodies lie before it: bodies stand where they are due and nowhere else,
+-- the 65th is the last, and no word is unknown.
+abbrev pub AreInPlace : Stage → ℕ → List Token → Type 0
+AreInPlace s bodies [] = is_due s ≡ false
+AreInPlace s bodies (token.Body body ∷ more) =
+    (is_due s ≡ true) × (bodies ≤ 64) × AreInPlace stage.Outside (bodies + 1) more
+AreInPlace s bodies (t ∷ more) = IsInPlace s bodies t × AreInPlace (stage_behind t s) bodies more
+
+-- Each word of a plant stands where the text may have it.
+abbrev pub AreWordsInPlace : List Token → Type 0
+AreWordsInPlace ts = AreInPlace stage.Outside 0 ts
+
+-- if it is a body, it is UTF-8
+abbrev pub IsText : Token → Type 0
+IsText (token.Body body) = IsUtf8 body
+IsText _ = Unit {0}
+
+-- The word was read, and this is left, where the next word stands so, behind so many bodies.
+pub record IsReadAs (found : Option WordValue) (t : Token) (new : LexerValue) (rest : List ℕ) (s : Stage)
+    (bodies : ℕ) : Type 0 where
+  pub word : WordValue
+  pub is : found ≡ Some word
+  pub token_is : word.token ≡ t
+  pub text_is : new.text ≡ rest
+  pub stage_is : new.stage ≡ s
+  pub bodies_are : new.bodies ≡ bodies
+
+-- A known word behind a gap is read.
+abbrev pub ReadsWord : LexerValue → Option WordValue → LexerValue → Type 0
+ReadsWord old found new =
+    (gap word rest : List ℕ) → old.text ≡ gap ++ word ++ rest → IsGap gap → word_of word ≢ token.Unknown
+    → is_parted word rest ≡ true → may_follow rest ≡ true
+    → IsReadAs found (word_of word) new rest (stage_behind (word_of word) old.stage) old.bodies
+
+-- A body that is UTF-8 is read.
+abbrev pub ReadsBody : LexerValue → WordValue → LexerValue → Type 0
+ReadsBody old w new =
+    (body rest : List ℕ) → IsBodyThen old.text body rest → IsUtf8 body → old.bodies ≤ 64
+    → IsReadAs (Some w) (token.Body body) new rest stage.Outside (old.bodies + 1)
+
+-- the word was read, and the others are left
+pub record IsReadBefore (found : Option WordValue) (t : Token) (more : List Token) (new : LexerValue) : Type 0 where
+  pub word : WordValue
+  pub is : found ≡ Some word
+  pub token_is : word.token ≡ t
+  pub spelled : Spells new.text more
+  pub after : AreInPlace new.stage new.bodies more
+
+-- Of words that the text spells, each in its place, the first is read.
+abbrev pub ReadsFirst : LexerValue → Option WordValue → LexerValue → Type 0
+ReadsFirst old found new =
+    (t : Token) (more : List Token) → Spells old.text (t ∷ more) → AreInPlace old.stage old.bodies (t ∷ more)
+    → IsText t → IsReadBefore found t more new
+
+-- Where the text has no further word, none is read.
+abbrev pub ReadsNone : LexerValue → Option WordValue → Type 0
+ReadsNone old found = IsGap old.text → is_due old.stage ≡ false → found ≡ None
+
+-- If the text spells words, each in its place, these are the words.
+abbrev pub AreAllWords : List ℕ → List WordValue → Type 0
+AreAllWords text ws =
+    (ts : List Token) → AreWordsInPlace ts → Spells text ts → map (λ (w : WordValue). w.token) ws ≡ ts

@@ -5,6 +5,8 @@ use Rattle.plant_text.specs.Lines.{WordValue}
 use Rattle.plant_text.specs.Steps.Lexing.{LexerValue}
 use Rattle.plant_text.proofs.SpelledWords.{IsReadTo, read_first, read_next, read_all}
 use Rattle.plant_text.proofs.LineCounts.{counted_first, counted_next, begun_first, begun_next}
+use Rattle.plant_text.proofs.ReadWords.{up_to_first, up_to_next, up_to_end}
+use Rattle.plant_text.proofs.BodyTexts.{texts_of}
 use Rattle.plant_text.proofs.word_list.read_words.Goals as goal
 
 pub words-init : goal.words-init
@@ -14,6 +16,7 @@ words-init c =
     record {
       spelled = rw none (subst (λ (l : LexerValue). IsReadTo text [] l.text) (sym c.new-lexer.ensures) (read_first text));
       counted = rw none (counted_first text c.new-lexer.result c.new-lexer.ensures);
+      every = rw none (up_to_first text c.new-lexer.result c.new-lexer.ensures);
       begun = rw none (begun_first text);
     }
 
@@ -27,8 +30,14 @@ words-preserved c =
       spelled = read_next text (map token_of c.words.words.items) (map token_of c.push.new.self.items) word.token c.words.lexer.text c.next.new.self.text
           (ap (map token_of) c.in_ok-push.ensures.items ∙ map-append token_of c.words.words.items (word ∷ [])) c.words.invariant.spelled (rw c.in-Some.is at c.in_ok-word.ensures.word);
       counted = counted;
+      every = up_to_next text (map token_of c.words.words.items) (map token_of c.push.new.self.items) word c.words.lexer c.next.new.self
+          (ap (map token_of) c.in_ok-push.ensures.items ∙ map-append token_of c.words.words.items (word ∷ [])) c.words.invariant.every (rw c.in-Some.is at c.in_ok-word.ensures.every) (rw c.in-Some.is at c.in_ok-word.ensures.none);
       begun = begun_next text c.words.words.items c.push.new.self.items word c.next.new.self c.in_ok-push.ensures.items c.words.invariant.begun counted;
     }
 
 pub returns-clause-spelled : goal.returns-clause-spelled
 returns-clause-spelled c = read_all (without_last 13 c.args.text.now) (map (λ (w : WordValue). w.token) c.words.words.items) c.words.lexer.text c.words.invariant.spelled (rw c.in_default.is at c.in_ok-word.ensures.word)
+
+pub returns-clause-every : goal.returns-clause-every
+returns-clause-every c = λ ts a s.
+    up_to_end (without_last 13 c.args.text.now) (map (λ (w : WordValue). w.token) c.words.words.items) c.words.lexer c.next.new.self c.words.invariant.every (rw c.in_default.is at c.in_ok-word.ensures.every) ts a s (texts_of c.args.text.now ts c.utf8.text s a)

@@ -3,12 +3,14 @@ use Rattle.plant_text.specs.Lines.{WordValue, IsBegunBy}
 use Rattle.words.specs.Lines.{without_last}
 use Rattle.plant_text.proofs.SpelledWords.{IsReadTo}
 use Rattle.plant_text.proofs.LineCounts.{IsCountedTo}
+use Rattle.plant_text.proofs.ReadWords.{IsReadUpTo}
 use Rattle.plant_text.proofs.word_list.read_words.Given as goal
 
 abbrev pub invariant-words : goal.invariant-words
 invariant-words l = record {
   spelled : IsReadTo (without_last 13 l.text) (map (λ (w : WordValue). w.token) l.words.items) l.lexer.text;
   counted : IsCountedTo (without_last 13 l.text) l.words.items l.lexer;
+  every : IsReadUpTo (without_last 13 l.text) (map (λ (w : WordValue). w.token) l.words.items) l.lexer;
   begun : IsBegunBy (without_last 13 l.text) l.words.items;
 }
 

@@ -5,6 +5,7 @@ use Rattle.plant_text.proofs.SpelledWords.{body_read}
 use Rattle.plant_text.proofs.BodyLines.{blank_gap}
 use Rattle.plant_text.proofs.LineCounts.{body_stands}
 use Rattle.plant_text.proofs.BodyUnique.{no_end_behind, no_body_cut}
+use Rattle.plant_text.proofs.ReadWords.{body_is}
 use Rattle.plant_text.proofs.lexer.Lexer.body.Goals as goal
 
 pub returns-clause-word : goal.returns-clause-word
@@ -45,3 +46,35 @@ returns-in_default-2-clause-none c = λ unknown body rest found whole.
     let same : c.args.self.now.text ≡ c.self.inside.rest.now = sym (ap (λ (l : LexerValue). l.text) c.self.view_is) in
     no_body_cut c.self.inside.rest.now c.in-Some.text.now c.in-Some-behind_body.rest.now body rest c.in-Some.ensures c.in-Some-behind_body.ensures.0 c.in-Some-behind_body.ensures.1
     (rw c.in_default-2.is at c.in_ok-body.ensures) (subst (λ (x : List ℕ). IsBodyThen x body rest) same found) whole
+
+pub returns-then-not-is_blank_line-clause-every : goal.returns-then-not-is_blank_line-clause-every
+returns-then-not-is_blank_line-clause-every c = λ body rest found whole few. absurd (
+    let same : c.args.self.now.text ≡ c.self.inside.rest.now = cc in
+    let moved = subst (λ (x : List ℕ). IsBodyThen x body rest) same found in
+    let yes : c.is_blank_line.result ≡ true = c.is_blank_line.ensures.1 (blank_gap c.self.inside.rest.now (body ++ rest) moved.0) in
+    let no : c.is_blank_line.result ≡ false = search (rules, tests) in
+    cc)
+
+pub returns-in_default-clause-every : goal.returns-in_default-clause-every
+returns-in_default-clause-every c = λ body rest found whole few. absurd (
+    let same : c.args.self.now.text ≡ c.self.inside.rest.now = cc in
+    let moved = subst (λ (x : List ℕ). IsBodyThen x body rest) same found in
+    c.in_default.ensures (body ++ rest) moved.0)
+
+pub returns-in_default-behind_body-clause-every : goal.returns-in_default-behind_body-clause-every
+returns-in_default-behind_body-clause-every c = λ body rest found whole few. absurd (
+    let same : c.args.self.now.text ≡ c.self.inside.rest.now = cc in
+    no_end_behind c.self.inside.rest.now c.in-Some.text.now body rest c.in-Some.ensures c.in_default-behind_body.ensures (subst (λ (x : List ℕ). IsBodyThen x body rest) same found))
+
+pub returns-in_default-2-clause-every : goal.returns-in_default-2-clause-every
+returns-in_default-2-clause-every c = λ body rest found whole few. absurd (
+    let same : c.args.self.now.text ≡ c.self.inside.rest.now = sym (ap (λ (l : LexerValue). l.text) c.self.view_is) in
+    no_body_cut c.self.inside.rest.now c.in-Some.text.now c.in-Some-behind_body.rest.now body rest c.in-Some.ensures c.in-Some-behind_body.ensures.0 c.in-Some-behind_body.ensures.1
+    (rw c.in_default-2.is at c.in_ok-body.ensures) (subst (λ (x : List ℕ). IsBodyThen x body rest) same found) whole)
+
+pub returns-clause-every : goal.returns-clause-every
+returns-clause-every c =
+    let same : c.args.self.now.text ≡ c.self.inside.rest.now = cc in
+    let counted : c.args.self.now.bodies ≡ c.self.inside.bodies = cc in
+    body_is c.args.self.now c.advance.new.self c.self.inside.rest.now c.in-Some.text.now c.in-Some-behind_body.rest.now c.in-Some-2.body c.new.result same (ap (λ (w : WordValue). w.token) c.new.ensures) c.advance.ensures.text c.advance.ensures.stage
+    (c.advance.ensures.counted ∙ c.saturating_add-self-inside.ensures ∙ ap (λ (x : ℕ). min (x + 1) 18446744073709551615) (sym counted)) c.in-Some.ensures c.in-Some-behind_body.ensures.0 c.in-Some-behind_body.ensures.1 (rw c.in-Some-2.is at c.in_ok-body.ensures)

@@ -1,4 +1,6 @@
-use Rattle.std.proofs.Common.{◌≡◌}
+use Rattle.std.proofs.Common.{◌≡◌, drop, arith, rules, tests}
+use Rattle.plant_text.proofs.BodyLines.{empty_of_length}
+use Rattle.plant_text.proofs.ReadWords.{gap_read, nothing_left, comment_left, no_word_left, front_two, not_empty}
 use Rattle.plant_text.proofs.SpelledWords.{word_read}
 use Rattle.plant_text.proofs.LineCounts.{word_stands}
 use Rattle.plant_text.proofs.lexer.Lexer.word_behind_gap.Goals as goal
@@ -12,3 +14,30 @@ pub returns-clause-first : goal.returns-clause-first
 returns-clause-first c =
     let same : c.args.self.now.text ≡ c.self.inside.rest.now = cc in
     word_stands c.args.self.now c.advance.new.self c.word.new.self c.self.inside.rest.now c.behind_gap-rest.result.now c.in_ok-word.field-0 same c.behind_gap-rest.ensures c.advance.ensures.text c.advance.ensures.line c.in_ok-word.ensures.word c.in_ok-word.ensures.line
+
+pub returns-clause-every : goal.returns-clause-every
+returns-clause-every c =
+    let same : c.args.self.now.text ≡ c.self.inside.rest.now = cc in
+    gap_read c.args.self.now c.advance.new.self c.word.new.self c.self.inside.rest.now c.behind_gap-rest.result.now c.in_ok-word.field-0 same c.behind_gap-rest.ensures c.advance.ensures.text c.advance.ensures.stage c.advance.ensures.counted c.in_ok-word.ensures.every c.in_ok-word.ensures.stage c.in_ok-word.ensures.counted
+
+pub returns-then-is_empty-clause-every : goal.returns-then-is_empty-clause-every
+returns-then-is_empty-clause-every c =
+    let same : c.args.self.now.text ≡ c.self.inside.rest.now = cc in
+    nothing_left c.args.self.now c.args.self.now c.self.inside.rest.now c.behind_gap-rest.result.now _ same c.behind_gap-rest.ensures (empty_of_length c.behind_gap-rest.result.now (grind arith))
+
+pub returns-in-40-clause-every : goal.returns-in-40-clause-every
+returns-in-40-clause-every c =
+    let same : c.args.self.now.text ≡ c.self.inside.rest.now = cc in
+    comment_left c.args.self.now c.stop.new.self c.self.inside.rest.now c.behind_gap-rest.result.now (drop 2 c.behind_gap-rest.result.now) _ same c.behind_gap-rest.ensures (front_two c.behind_gap-rest.result.now c.in-40.len_at_least (search (rules, tests)) (search (rules, tests)))
+
+pub returns-in-40-clause-none : goal.returns-in-40-clause-none
+returns-in-40-clause-none c = λ gap.
+    let same : c.args.self.now.text ≡ c.self.inside.rest.now = cc in
+    let none = no_word_left c.args.self.now.text c.self.inside.rest.now c.behind_gap-rest.result.now same c.behind_gap-rest.ensures gap in
+    absurd (not_empty c.behind_gap-rest.result.now c.is_empty.result c.is_empty.ensures c.if-is_empty.false none)
+
+pub returns-clause-none : goal.returns-clause-none
+returns-clause-none c = λ gap.
+    let same : c.args.self.now.text ≡ c.self.inside.rest.now = cc in
+    let none = no_word_left c.args.self.now.text c.self.inside.rest.now c.behind_gap-rest.result.now same c.behind_gap-rest.ensures gap in
+    absurd (not_empty c.behind_gap-rest.result.now c.is_empty.result c.is_empty.ensures c.if-is_empty.false none)

@@ -1,0 +1,22 @@
+use Rattle.std.proofs.Common.{◌≡◌, true, false, rules, tests}
+use Rattle.std.proofs.lemmas.Result.{IfOk-weaker}
+use Rattle.plant_text.specs.Steps.Lexing.{ReadsWord, ReadsFirst}
+use Rattle.plant_text.proofs.ReadWords.{first_elsewhere, first_of_block, first_of_body, true_false}
+use Rattle.plant_text.proofs.lexer.Lexer.next.Goals as goal
+
+pub returns-then-not-is_body_due-clause-every : goal.returns-then-not-is_body_due-clause-every
+returns-then-not-is_body_due-clause-every c =
+    let no : c.is_body_due.result ≡ false = search (rules, tests) in
+    IfOk-weaker c.word_behind_gap.result (λ w. ReadsWord c.args.self.now w c.word_behind_gap.new.self) (λ w. ReadsFirst c.args.self.now w c.word_behind_gap.new.self)
+    (λ w r. first_elsewhere c.args.self.now c.word_behind_gap.new.self w (c.is_body_due.ensures.no no) r) c.word_behind_gap.ensures.every
+
+pub returns-then-begins_no_block-clause-every : goal.returns-then-begins_no_block-clause-every
+returns-then-begins_no_block-clause-every c =
+    let due : c.is_body_due.result ≡ true = search (rules, tests) in
+    first_of_body c.args.self.now c.body.new.self c.in_ok-body.field-0 (c.is_body_due.ensures.yes due) (search (rules, tests)) c.in_ok-body.ensures.every
+
+pub returns-clause-every : goal.returns-clause-every
+returns-clause-every c =
+    let same : c.args.self.now.text ≡ c.self.inside.rest.now = cc in
+    IfOk-weaker c.word_behind_gap-2.result (λ w. ReadsWord c.args.self.now w c.word_behind_gap-2.new.self) (λ w. ReadsFirst c.args.self.now w c.word_behind_gap-2.new.self)
+    (λ w r. first_of_block c.args.self.now c.word_behind_gap-2.new.self w (λ none. true_false c.begins_no_block.result (c.begins_no_block.ensures.1 (rw same at none)) c.if-begins_no_block.false) r) c.word_behind_gap-2.ensures.every
