@@ -65,7 +65,7 @@ fn outcome(
     fill_programs(code, inputs, takes, after.as_mut_slice());
     scan_programs(code, after.as_mut_slice(), dt);
     let outputs = read_outputs(alloc, code, after.as_slice())?;
-    let after = TaskState::of(alloc, after)?;
+    let after = before.shared_or_of(alloc, after)?;
     Ok((outputs, after))
 }
 
