@@ -68,9 +68,10 @@ def try_commands(name, place):
 
 
 def try_schedule(name, place):
-    wanted = re.findall(r"(?m)^# ((?:EVAL|DELIVER|RESTART|REFUSED) .*)", read("examples", name))
-    found = run(f"./plc sim examples/pair.plant examples/{name}", place).stdout.splitlines()
-    if wanted and found != wanted:
+    text = read("examples", name)
+    wanted = re.findall(r"(?m)^# ((?:EVAL|DELIVER|RESTART|REFUSED) .*)", text)
+    command = re.search(r"(?m)^#   (\./plc sim .*)$", text)
+    if wanted and run(command[1], place).stdout.splitlines() != wanted:
         told.append(f"examples/{name}: its comments aren't what is written")
 
 
