@@ -1,6 +1,7 @@
 -- The parts of a core go on suiting each other.
-use Rattle.std.proofs.Common.{◌≡◌, ℕ, Bool, true, false, List, Option, Some, None, length, refl, ap, sym, ◌∙◌, subst}
+use Rattle.std.proofs.Common.{◌≡◌, ◌≢◌, ℕ, Bool, true, false, List, Option, Some, None, inl, inr, length, refl, ap, sym, ◌∙◌, subst}
 use Rattle.std.proofs.lemmas.Option.{none-some, same_Some}
+use Rattle.std.proofs.lemmas.Bool.Decides.{eqb_tells}
 use Rattle.lists.proofs.Tables.{both_same, cell_same, cell_other, cell_filled, row_lengths_kept, row_lengths_filled}
 use Rattle.due_list.specs.declared.task_ref.TaskRef.{TaskRef}
 use Rattle.plant_grammar.specs.Kinds.{items_or_none}
@@ -10,7 +11,7 @@ use Rattle.evaluation.specs.declared.field_input.FieldInput.{FieldInput}
 use Rattle.evaluation.specs.Meaning.{Evaluated}
 use Rattle.evaluation.specs.Last.{same_task}
 use Rattle.exchange_core.specs.Held.{known, with_known}
-use Rattle.exchange_core.specs.CoreValue.{CoreValue, fresh_core, own_task, IsUsable, IsNextOf, IsCore, IsKnownOf}
+use Rattle.exchange_core.specs.CoreValue.{CoreValue, fresh_core, held_of, own_task, IsUsable, IsNextOf, IsCore, IsKnownOf}
 use Rattle.exchange_core.specs.Steps.Knowing.{has_place, FitsLast}
 use Rattle.exchange_core.proofs.Tables.{place_of_code}
 
@@ -78,3 +79,12 @@ fits-last core p code is own found = by (known core.table p) refl where
 -- what may be known of a task has a place
 pub place-known : (core : CoreValue) (p : TaskRef) (x : Evaluated) → IsCore core → IsKnownOf core p x → has_place core.table p
 place-known core p x is may = place_of_code core.plant core.table p may.code is.shaped may.found
+
+-- what is made known of a task of another resource is held from then on
+pub held-set : (core : CoreValue) (p : TaskRef) (x : Evaluated) → IsCore core → IsKnownOf core p x → p.resource ≢ core.resource → held_of (record core { table = with_known core.table p (Some x) }) p ≡ Some x
+held-set core p x is may other =
+    let place = place-known core p x is may in
+    elim (eqb_tells p.resource core.resource) [
+      inl same ↦ absurd (other same.1)
+      | inr apart ↦ rw apart.0 (cell_same core.table p.resource p.task (Some x) None place.0 place.1)
+    ]

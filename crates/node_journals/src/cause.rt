@@ -31,6 +31,7 @@ pub enum Cause {
 }
 
 impl From<EvalFault> for Cause {
+    ghost use Rattle.std.specs.Prelude.{◌≡◌};
     ghost use Rattle.node_journals.specs.Causes.{cause_of};
 
     ghost from_gives = { λ found cause. cause ≡ cause_of found };

@@ -29,5 +29,5 @@ returns-in_err-graph-clause-err c =
 
 pub returns-in_err-drawing-clause-err : goal.returns-in_err-drawing-clause-err
 returns-in_err-drawing-clause-err c =
-    drawing_refused c.args.drawing.now c.in_err-drawing.field-0.0 c.from_residual-in_err-drawing.result c.from_residual-in_err-drawing.ensures.1
+    drawing_refused c.args.drawing.now c.in_err-drawing.field-0.0 c.from_residual.result c.from_residual.ensures.1
     (λ other. (c.in_err-drawing.ensures.refused other, other, c.in_err-drawing.ensures.first))

@@ -11,7 +11,7 @@ use Rattle.text_commands.proofs.eval_command.write_scans.Goals as goal
 
 pub returns-in_err-state-clause-stopped : goal.returns-in_err-state-clause-stopped
 returns-in_err-state-clause-stopped g c =
-    kept_fault Memory (λ fault. StopsScans c.args.ladder.now.declarations c.args.ladder.now.networks c.args.dt c.args.rows.now fault _ _) _ c.from_residual-in_err-state.ensures.1 (stopped_at_first _ _ _ _ _)
+    kept_fault Memory (λ fault. StopsScans c.args.ladder.now.declarations c.args.ladder.now.networks c.args.dt c.args.rows.now fault _ _) _ c.from_residual.ensures.1 (stopped_at_first _ _ _ _ _)
 
 pub loop-k-init : goal.loop-k-init
 loop-k-init g c = record {
@@ -34,7 +34,7 @@ returns-in_err-write_text-clause-stopped g c =
     c.as_str.ensures.value ∙ c.in_ok-line.ensures ∙ ap (λ ds. line_of ds c.scan.new.state.slots) c.declarations.ensures.list in
     let scanned = scan_more _ _ _ _ _ c.loop-k.state c.set_rows.new.state c.scan.new.state _ _ c.loop-k.invariant.scanned c.set_rows.ensures.slots c.scan.ensures.meaning line in
     kept_fault Write (λ fault. StopsScans c.args.ladder.now.declarations c.args.ladder.now.networks c.args.dt c.args.rows.now fault _ _) _ c.from_residual-in_err-write_text.ensures.1
-    (stopped_within _ _ _ _ _ _ _ _ _ _ _ few scanned c.loop-k.invariant.appended c.in_err-write_text.ensures.prefix)
+    (stopped_within _ _ _ _ _ _ _ _ _ _ _ _ few scanned c.loop-k.invariant.appended c.in_err-write_text.ensures.prefix)
 
 pub loop-k-preserved : goal.loop-k-preserved
 loop-k-preserved g c =

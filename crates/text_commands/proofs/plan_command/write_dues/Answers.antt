@@ -10,7 +10,7 @@ loop-due-init g c = none_made _ _ c.new-lines.ensures.bytes
 
 pub returns-in_err-push_due-clause-stopped : goal.returns-in_err-push_due-clause-stopped
 returns-in_err-push_due-clause-stopped g c =
-    kept_fault Memory (λ fault. Stops fault (plan_lines c.args.plant.now c.args.dues.now) _ _) _ c.from_residual-in_err-push_due.ensures.1
+    kept_fault Memory (λ fault. Stops fault (plan_lines c.args.plant.now c.args.dues.now) _ _) _ c.from_residual.ensures.1
     (part_sent _ _ _ _ _ _ (lines_parted (due_line c.args.plant.now) c.args.dues.now _) c.loop-due.invariant)
 
 pub returns-in_err-send_full-clause-stopped : goal.returns-in_err-send_full-clause-stopped
