@@ -1,5 +1,6 @@
 pub mod JournalRuns
 pub mod Remaking
+pub mod AskedAlike
 pub mod Collecting
 pub mod Reporting
 pub mod Faults

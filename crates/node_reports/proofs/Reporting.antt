@@ -1,14 +1,15 @@
 -- What is known where the book and the journals agree.
-use Rattle.std.proofs.Common.{◌≡◌, ℕ, List, All, sym, subst}
+use Rattle.std.proofs.Common.{◌≡◌, ℕ, List, All, reverse, sym, subst}
 use Rattle.lists.proofs.Members.{all_from_places}
 use Rattle.plant.specs.PlantValue.{PlantValue}
 use Rattle.evaluation_book.specs.Book.{BookValue}
+use Rattle.exchange.specs.Replays.{AllCouldBeMade}
 use Rattle.node_journals.specs.declared.journal.Journal.{Journal}
 use Rattle.node_journals.specs.Journals.{made, IsLawful}
-use Rattle.node_reports.specs.Reports.{entries_of, IsFittingBook, AreJournalsOf, AreInBook, RunsAgain}
+use Rattle.node_reports.specs.Reports.{entries_of, IsFittingBook, AreJournalsOf, AreInBook, RunsAgain, CanBeMadeAgain}
 use Rattle.node_reports.specs.Steps.Collecting.{Agrees}
 use Rattle.node_reports.proofs.Collecting.{firsts_are}
-use Rattle.node_reports.proofs.Remaking.{HasIncarnation, runs_again}
+use Rattle.node_reports.proofs.Remaking.{HasIncarnation, could_be_made, runs_again}
 
 pub fitting_book : (plant : PlantValue) (book : BookValue) (journals : List Journal) → Agrees plant book journals → IsFittingBook book journals
 fitting_book plant book journals agrees = record { fit = agrees.fit; first_is = firsts_are book journals agrees.as_many agrees.begin }
@@ -25,3 +26,9 @@ pub again : (plant : PlantValue) (max_number : ℕ) (book : BookValue) (journals
 again plant max_number book journals agrees lawful bounds =
     runs_again plant max_number book journals agrees.sound (fitting_book plant book journals agrees) (journals_of plant max_number book journals agrees lawful)
     (in_book plant book journals agrees) bounds
+
+pub made_again : (plant : PlantValue) (max_number : ℕ) (book : BookValue) (journals : List Journal) → Agrees plant book journals → All (IsLawful plant max_number) journals
+    → All HasIncarnation book.entries → CanBeMadeAgain plant max_number book journals
+made_again plant max_number book journals agrees lawful bounds =
+    subst (λ (first : List ℕ). AllCouldBeMade (record { plant = plant; first = first; max_number = max_number }) (reverse book.entries)) (fitting_book plant book journals agrees).first_is
+    (could_be_made plant max_number book journals (fitting_book plant book journals agrees) (journals_of plant max_number book journals agrees lawful) (in_book plant book journals agrees) bounds)

@@ -1,6 +1,6 @@
 -- What a report of the threads has to be: the book fits, the journals are lawful, they made the book's entries,
 -- the commands are accounted for, and the book's entries are a run.
-use Rattle.std.specs.Prelude.{◌≡◌, ℕ, ◌<◌, ◌≤◌, ◌==◌, ◌&&◌, Bool, true, false, not, List, Option, Some, None, All, Contains, length, map, filter, reverse, take, slice_get}
+use Rattle.std.specs.Prelude.{◌≡◌, ℕ, ◌<◌, ◌≤◌, ◌==◌, ◌&&◌, Bool, true, false, not, List, Option, Some, None, All, Contains, length, map, filter, find, reverse, take, slice_get}
 use Rattle.std.specs.List.{filter_map, list_any}
 use Rattle.std.specs.List.Sorted.{IsStrictlyIncreasing}
 use Rattle.plant.specs.PlantValue.{PlantValue, tasks_at}
@@ -10,7 +10,7 @@ use Rattle.exchange.specs.History.{Setting, setting_over}
 use Rattle.exchange.specs.Run.{IsRun}
 use Rattle.evaluation_book.specs.Fits.{AllFit}
 use Rattle.evaluation_book.specs.Book.{BookValue}
-use Rattle.exchange.specs.Replays.{Replays}
+use Rattle.exchange.specs.Replays.{Replays, AllCouldBeMade}
 use Rattle.node_journals.specs.declared.command.Command.{Command}
 use Rattle.node_journals.specs.declared.act.Act.{Act}
 use Rattle.node_journals.specs.declared.act.Act.TheVariants.{Evaluate, Restart}
@@ -179,10 +179,15 @@ pub record AreTold (plant : PlantValue) (commands : List Command) (journals : Li
   pub stopped : (k : ℕ) (f : NodeFault) → slice_get faults k ≡ Some f → f.cause ≡ Stopped
       → may_have_stopped f.resource (take k faults) ≡ true
 
--- These are among the faults noted, their tickets rise, and each ticket of a fault noted is among theirs.
+-- the first of these faults that has this ticket
+abbrev pub first_of_ticket : ℕ → List NodeFault → Option NodeFault
+first_of_ticket ticket noted = find (λ (f : NodeFault). f.ticket == ticket) noted
+
+-- Each of these is the first fault noted of its ticket, their tickets rise, and each ticket of a fault noted is among
+-- theirs.
 pub record AreByTicket (noted listed : List NodeFault) : Type 0 where
   pub rising : IsStrictlyIncreasing (fault_tickets listed)
-  pub among : All (λ (f : NodeFault). Contains noted f) listed
+  pub first : All (λ (f : NodeFault). first_of_ticket f.ticket noted ≡ Some f) listed
   pub told : All (λ (f : NodeFault). Contains (fault_tickets listed) f.ticket) noted
 
 -- the setting in which the threads ran: the plant, the journals' first incarnations, and the limit
@@ -195,3 +200,9 @@ abbrev pub RunsAgain : PlantValue → ℕ → BookValue → List Journal → Typ
 RunsAgain plant max_number book journals =
     (events : List Event) → Replays book.first book.entries events
     → IsRun (setting_of plant max_number journals) events book.entries
+
+-- So each entry could have been made after those before it: by the plant's code, with a number within the limit, from
+-- the state that the task's last entry in its incarnation left.
+abbrev pub CanBeMadeAgain : PlantValue → ℕ → BookValue → List Journal → Type 0
+CanBeMadeAgain plant max_number book journals =
+    AllCouldBeMade (setting_of plant max_number journals) (reverse book.entries)

@@ -7,7 +7,7 @@ mod unanswered;
 ghost use Rattle.std.specs.Prelude.{IsTrue, IfOk, All};
 ghost use Rattle.node_journals.specs.Commands.{AreNumbered};
 ghost use Rattle.node_journals.specs.Journals.{IsLawful};
-ghost use Rattle.node_reports.specs.Reports.{IsFittingBook, AreJournalsOf, AreInBook, AreAnswers, RunsAgain, AreTold, AreByTicket};
+ghost use Rattle.node_reports.specs.Reports.{IsFittingBook, AreJournalsOf, AreInBook, AreAnswers, RunsAgain, CanBeMadeAgain, AreTold, AreByTicket};
 ghost use Rattle.node_reports.specs.Steps.Collecting.{Agrees};
 
 use crate::collector::agreement::{all_begin, all_made};
@@ -62,6 +62,7 @@ pub fn collect(
     ensures faults { IfOk result (λ r. AreTold plant.now commands.now r.journals r.unanswered r.node_faults) }
     ensures noted { IfOk result (λ r. AreByTicket faults.items r.node_faults) }
     ensures again { IfOk result (λ r. RunsAgain plant.now max_number r.book r.journals) }
+    ensures made_again { IfOk result (λ r. CanBeMadeAgain plant.now max_number r.book r.journals) }
 {
     let agree = agrees(alloc, &book, plant, journals.as_slice())?;
     if !agree {

@@ -2,12 +2,14 @@
 #![tactic(auto)]
 
 mod collector;
+mod comparing;
 mod journals;
 mod node_faults;
 mod report;
 mod tickets;
 
 pub use collector::collect;
+pub use comparing::are_equal;
 pub use journals::Journals;
 pub use node_faults::NodeFaults;
 pub use report::Report;

@@ -1,5 +1,5 @@
 -- What the checks of a report decide, step by step.
-use Rattle.std.specs.Prelude.{◌≡◌, ℕ, ◌+◌, ◌-◌, ◌<◌, ◌≤◌, ◌==◌, ◌&&◌, ◌||◌, ◌++◌, ◌∷◌, Bool, true, false, IsTrue, List, [], Option, Some, IfSome, All, Contains, length, drop, reverse, take, slice_get, slice_index_or}
+use Rattle.std.specs.Prelude.{◌≡◌, ℕ, ◌+◌, ◌-◌, ◌<◌, ◌≤◌, ◌==◌, ◌&&◌, ◌||◌, ◌++◌, ◌∷◌, Bool, true, false, IsTrue, List, [], Option, Some, IfSome, MatchOption, All, Contains, length, drop, reverse, take, slice_get, slice_index_or}
 use Rattle.std.specs.List.{list_any}
 use Rattle.std.specs.List.Sorted.{IsStrictlyIncreasing}
 use Rattle.plant.specs.PlantValue.{PlantValue, IsSoundPlant}
@@ -11,7 +11,7 @@ use Rattle.node_journals.specs.declared.journal.Journal.{Journal}
 use Rattle.node_journals.specs.declared.cause.Cause.TheVariants.{Stopped}
 use Rattle.node_journals.specs.declared.node_fault.NodeFault.{NodeFault}
 use Rattle.node_journals.specs.Journals.{made}
-use Rattle.node_reports.specs.Reports.{entries_of, is_restart_of, IsUnobeyed, IsToldOf, may_stop, may_have_stopped, fault_tickets}
+use Rattle.node_reports.specs.Reports.{entries_of, is_restart_of, IsUnobeyed, IsToldOf, may_stop, may_have_stopped, fault_tickets, first_of_ticket}
 
 -- a journal is that of the resource at a place, and begins in this place's incarnation
 pub record BeginsAt (first : List ℕ) (place : ℕ) (j : Journal) : Type 0 where
@@ -73,7 +73,9 @@ pub record RiseTo (xs : List ℕ) (last : Option ℕ) : Type 0 where
 -- the last ticket listed is this, and isn't above those that follow
 pub record AreListedUpTo (k : ℕ) (noted listed : List NodeFault) (last : Option ℕ) : Type 0 where
   pub rise : RiseTo (fault_tickets listed) last
-  pub among : All (λ (f : NodeFault). Contains noted f) listed
+  pub first : All (λ (f : NodeFault). first_of_ticket f.ticket noted ≡ Some f) listed
+  pub high : (i : ℕ) (f : NodeFault) → i < k → slice_get noted i ≡ Some f
+      → MatchOption last ⊥ (λ before. f.ticket ≤ before)
   pub told : (i : ℕ) (f : NodeFault) → i < k → slice_get noted i ≡ Some f → Contains (fault_tickets listed) f.ticket
   pub low : IfSome last (λ before. (i : ℕ) (f : NodeFault) → k ≤ i → slice_get noted i ≡ Some f → before ≤ f.ticket)
 

@@ -3,10 +3,10 @@ use Rattle.std.proofs.Common.{All, Contains, refl, ap, sym, ◌∙◌, subst}
 use Rattle.std.specs.List.Sorted.{IsStrictlyIncreasing}
 use Rattle.evaluation.specs.Meaning.{Evaluated}
 use Rattle.node_journals.specs.declared.journal.Journal.{Journal}
-use Rattle.node_reports.specs.Reports.{IsFittingBook, AreJournalsOf, AreInBook, RunsAgain, IsCommanded, IsObedient, command_of, tickets_of, unanswered_of}
+use Rattle.node_reports.specs.Reports.{IsFittingBook, AreJournalsOf, AreInBook, RunsAgain, CanBeMadeAgain, IsCommanded, IsObedient, command_of, tickets_of, unanswered_of}
 use Rattle.node_reports.specs.Steps.Collecting.{Agrees}
 use Rattle.node_reports.proofs.Remaking.{HasIncarnation}
-use Rattle.node_reports.proofs.Reporting.{fitting_book, journals_of, in_book, again}
+use Rattle.node_reports.proofs.Reporting.{fitting_book, journals_of, in_book, again, made_again}
 use Rattle.node_reports.proofs.collector.collect.Goals as goal
 
 pub returns-clause-fitting : goal.returns-clause-fitting
@@ -42,3 +42,9 @@ returns-clause-again c =
     let agrees : Agrees c.args.plant.now c.args.book c.args.journals.items = subst (Agrees c.args.plant.now c.args.book) c.as_slice.ensures.value (c.in_ok-agree.ensures c.if-not-agree.false) in
     let bounds : All HasIncarnation c.args.book.entries = subst (All HasIncarnation) c.entries.ensures.value (c.if-not-are_answers.ensures.fit refl) in
     subst (RunsAgain c.args.plant.now c.args.max_number c.args.book) (sym c.of.ensures) (again c.args.plant.now c.args.max_number c.args.book c.args.journals.items agrees c.requires.lawful bounds)
+
+pub returns-clause-made_again : goal.returns-clause-made_again
+returns-clause-made_again c =
+    let agrees : Agrees c.args.plant.now c.args.book c.args.journals.items = subst (Agrees c.args.plant.now c.args.book) c.as_slice.ensures.value (c.in_ok-agree.ensures c.if-not-agree.false) in
+    let bounds : All HasIncarnation c.args.book.entries = subst (All HasIncarnation) c.entries.ensures.value (c.if-not-are_answers.ensures.fit refl) in
+    subst (CanBeMadeAgain c.args.plant.now c.args.max_number c.args.book) (sym c.of.ensures) (made_again c.args.plant.now c.args.max_number c.args.book c.args.journals.items agrees c.requires.lawful bounds)

@@ -28,7 +28,7 @@ loop-k-preserved c =
 pub returns : goal.returns
 returns c = record {
   rising = c.loop-k.invariant.rise.rising;
-  among = c.loop-k.invariant.among;
+  first = c.loop-k.invariant.first;
   told = all_from_places (λ (f : NodeFault). Contains (fault_tickets c.loop-k.listed.items) f.ticket) c.args.sorted.now
       (λ k f at. let within = slice_get_within c.args.sorted.now k f at in c.loop-k.invariant.told k f (omega arith) at);
 }

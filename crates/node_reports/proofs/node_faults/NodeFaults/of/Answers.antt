@@ -1,10 +1,10 @@
 -- A sort by ticket changes the order alone.
 use Rattle.std.proofs.Common.{rules, List, sym, subst}
 use Rattle.std.specs.List.Sorted.{IsNonDecreasingBy}
-use Rattle.std.proofs.lemmas.List.Sorted.{IsNonDecreasingBy-from_sort_by_key}
+use Rattle.std.proofs.lemmas.List.Sorted.{IsNonDecreasingBy-from_sort_by_key, answers_always}
 use Rattle.node_journals.specs.declared.node_fault.NodeFault.{NodeFault}
 use Rattle.node_reports.specs.Reports.{AreByTicket}
-use Rattle.node_reports.proofs.Faults.{any_order}
+use Rattle.node_reports.proofs.Faults.{stable_order}
 use Rattle.node_reports.proofs.node_faults.NodeFaults.of.Goals as goal
 
 pub first_of_each-requires : goal.first_of_each-requires
@@ -14,4 +14,4 @@ first_of_each-requires c =
 
 pub returns : goal.returns
 returns c =
-    any_order _ _ _ c.in_ok-sort_by_key.ensures.permutation (subst (λ (xs : List NodeFault). AreByTicket xs c.in_ok-first_of_each.field-0.items) c.as_slice.ensures.value c.in_ok-first_of_each.ensures)
+    stable_order _ _ _ c.in_ok-sort_by_key.ensures.permutation (c.in_ok-sort_by_key.ensures.stable (λ (f : NodeFault). f.ticket) (answers_always _ _ _ (λ q a r p k. search rules))) (subst (λ (xs : List NodeFault). AreByTicket xs c.in_ok-first_of_each.field-0.items) c.as_slice.ensures.value c.in_ok-first_of_each.ensures)

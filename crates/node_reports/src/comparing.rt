@@ -1,0 +1,45 @@
+ghost use Rattle.std.specs.Prelude.{◌≡◌, ◌↔◌, IsTrue};
+ghost use Rattle.evaluation.specs.Meaning.{IsMeant, IsWhole};
+ghost use Rattle.node_reports.specs.Steps.Comparing.{AreAskedAlike};
+
+use evaluation::{Evaluation, Frame, Take, one_evaluation};
+
+/// Whether both lists have the same takes in the same order.
+fn are_same_takes(takes: &[Take], others: &[Take]) -> bool
+    ensures { IsTrue result ↔ (takes.now ≡ others.now) }
+{
+    if takes.len() != others.len() {
+        return false;
+    }
+    for i in 0..takes.len() {
+        if !takes[i].same(&others[i]) {
+            return false;
+        }
+    }
+    true
+}
+
+/// Whether the same was asked of both, of the same state before.
+fn are_asked_alike(evaluation: &Evaluation, other: &Evaluation) -> bool
+    ensures { IsTrue result ↔ AreAskedAlike evaluation.now other.now }
+{
+    evaluation.ticket() == other.ticket()
+        && evaluation.name().same(&other.name())
+        && evaluation.dt() == other.dt()
+        && evaluation.inputs().same(other.inputs())
+        && are_same_takes(evaluation.takes(), other.takes())
+        && evaluation.before().same(other.before())
+}
+
+/// Whether two evaluations are equal that are by one code if they are of one task. What was asked and the state before
+/// are compared; all else follows from these.
+pub fn are_equal(frame: &Frame, other: &Frame) -> bool
+    requires one_code { frame.now.name.task ≡ other.now.name.task → frame.now.code ≡ other.now.code }
+    ensures { IsTrue result ↔ (frame.now ≡ other.now) }
+{
+    one_evaluation();
+    // The getters hand out that each is what its own code means.
+    let _outputs = frame.outputs();
+    let _others = other.outputs();
+    are_asked_alike(frame.evaluation(), other.evaluation())
+}
