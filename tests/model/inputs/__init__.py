@@ -1,0 +1,1 @@
+"""Inputs for the program, drawn by a seed: drawings, plants, schedules, and texts with a slip."""

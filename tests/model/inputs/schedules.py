@@ -1,0 +1,73 @@
+"""Schedules for plants: evaluations, deliveries in any order, losses, repeats, restarts, and lines that aren't lawful."""
+from .drawings import cased
+from .plants import PlantMaker, inputs
+
+
+class ScheduleMaker:
+    def __init__(self, chance, plant):
+        self.chance, self.plant = chance, plant
+        self.made = 0
+        # How often something happens, in this schedule.
+        self.share = {
+            self.evaluation: 10,
+            self.delivery: chance.choice([3, 12, 25]),
+            self.restart: chance.choice([0, 1, 3]),
+            self.unlawful: chance.choice([0, 0, 1]),
+            self.empty: chance.choice([0, 1]),
+        }
+
+    def lines(self, count):
+        events = self.chance.choices(list(self.share), weights=list(self.share.values()), k=count)
+        lines = [line for event in events for line in event()]
+        if self.chance.random() < 0.1:
+            lines.insert(self.chance.randint(0, len(lines)), self.chance.choice(NO_EVENTS))
+        return lines
+
+    def resource(self):
+        return self.chance.choice(self.plant.resources)
+
+    def task(self):
+        resource = self.resource()
+        return f"{resource}.{self.chance.choice(self.plant.tasks[resource])}"
+
+    def evaluation(self):
+        """An evaluation; now and then its message goes to all at once."""
+        self.made += 1
+        elapsed = self.chance.choice([0, 5, 10, 10, 20, 1000, 4294967295])
+        line = [self.keyword("EVAL"), cased(self.chance, self.task()), str(elapsed), *inputs(self.chance)]
+        yield self.chance.choice([" ", " ", " ", "  ", "\t"]).join(line)
+        if self.chance.random() < 0.4:
+            yield from (f"DELIVER {self.made} {it}" for it in self.plant.resources if self.chance.random() < 0.8)
+
+    def delivery(self):
+        """Mostly of one of the last messages; of an old one, or of one that isn't made yet, now and then."""
+        near = max(1, self.made - self.chance.randint(0, 6))
+        message = self.chance.choice([near] * 6 + [self.chance.randint(1, self.made + 1)])
+        yield f"{self.keyword('DELIVER')} {message} {cased(self.chance, self.resource())}"
+
+    def restart(self):
+        yield f"{self.keyword('RESTART')} {cased(self.chance, self.resource())}"
+
+    def unlawful(self):
+        resource = self.resource()
+        yield self.chance.choice(
+            [f"DELIVER 0 {resource}", "DELIVER 0 R9", f"DELIVER 18446744073709551615 {resource}", "RESTART R9", "EVAL R9.T1 10", f"EVAL {resource}.T9 0 %IX0=1"]
+        )
+
+    def empty(self):
+        yield self.chance.choice(["", " \t", "# a comment", "\t# EVAL"])
+
+    def keyword(self, word):
+        return cased(self.chance, word)
+
+
+NO_EVENTS = ["EVAL R1.T1", "DELIVER R1 1", "RESTART R1 R1", "EVAL R1 10", "EVAL R1.T1 10 %IX0=2", "EVAL R1.T1 10 %IX0=1 %ix00=0", "HEAR", "RESTART ON", "x"]
+
+
+def schedule(chance):
+    """A plant with a schedule."""
+    plant = PlantMaker(chance)
+    lines = ScheduleMaker(chance, plant).lines(chance.choice([5, 20, 60]))
+    most = ["--max-number", str(chance.choice([0, 1, 2, 3, 5]))] if chance.random() < 0.15 else []
+    files = {"it.plant": plant.text(), "it.schedule": "".join(f"{line}\n" for line in lines)}
+    return files, ["sim", "it.plant", "it.schedule", *most]

@@ -1,0 +1,1 @@
+"""What the program plc must do, by the rules alone: a model that shares nothing with the crates."""

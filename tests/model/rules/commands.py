@@ -1,0 +1,208 @@
+"""The program plc: what its words ask for, what it writes, and its status."""
+import os
+from dataclasses import dataclass, field
+
+from . import words
+from .binding import guessed, refuse_names
+from .drawing_faults import read_drawing
+from .inputs import BadInput, Inputs, parts_of
+from .lines import lines_of
+from .networks import networks_of
+from .plan import plan_of
+from .plant_text import read_plant
+from .refusal import Refusal
+from .run import Run, lines_of_run, paced_run
+from .scan import Ladder, State
+from .schedule import MOST_U32, events_of
+
+REFUSED_TEXT, REFUSED_WORDS, NO_FILE = 1, 2, 3
+MOST_DIGITS = 1000
+
+
+@dataclass
+class Answer:
+    """The status, the lines on standard output, and the first line on standard error where it is fixed."""
+
+    status: int = 0
+    lines: list = field(default_factory=list)
+    told: str | None = None
+
+
+class Refused(Exception):
+    """The command ends with this status; what was written stays."""
+
+    def __init__(self, status, told=None):
+        super().__init__(told)
+        self.status, self.told = status, told
+
+
+@dataclass
+class Shape:
+    """The words that a command has: its files, its options with a number, its flags, and whether further words follow."""
+
+    files: int
+    numbers: tuple = ()
+    flags: tuple = ()
+    needed: tuple = ()
+    has_more: bool = False
+
+
+SHAPES = {
+    "eval": Shape(1, numbers=("--dt",), has_more=True),
+    "check": Shape(1),
+    "plan": Shape(1, numbers=("--until",), needed=("--until",)),
+    "sim": Shape(2, numbers=("--max-number",)),
+    "run": Shape(1, numbers=("--until",), flags=("--paced",), needed=("--until",), has_more=True),
+}
+
+
+def answer_of(given, folder="."):
+    """What the program does with these words in a folder."""
+    answer = Answer()
+    try:
+        if not given or given[0] not in SHAPES:
+            raise Refused(REFUSED_WORDS)
+        files, options, more = read_words(SHAPES[given[0]], given[1:])
+        answer.lines = []
+        COMMANDS[given[0]](answer.lines.append, Files(folder), files, options, more)
+    except Refused as refused:
+        answer.status, answer.told = refused.status, refused.told
+    return answer
+
+
+def read_words(shape, given):
+    """The files, the options and the further words."""
+    options, plain, ahead, is_behind = {}, [], list(given), False
+    while ahead:
+        word = ahead.pop(0)
+        if is_behind or not word.startswith("-"):
+            plain.append(word)
+        elif word == "--":
+            is_behind = True
+        else:
+            option, equals, value = word.partition("=")
+            if option in options or option not in (*shape.numbers, *shape.flags):
+                raise Refused(REFUSED_WORDS)
+            options[option] = flag(equals) if option in shape.flags else number(value if equals else "".join(ahead[:1]))
+            del ahead[: option in shape.numbers and not equals]
+    if len(plain) < shape.files or (len(plain) > shape.files and not shape.has_more) or not set(shape.needed) <= set(options):
+        raise Refused(REFUSED_WORDS)
+    return plain[: shape.files], options, plain[shape.files :]
+
+
+def flag(equals):
+    if equals:
+        raise Refused(REFUSED_WORDS)
+    return True
+
+
+def number(word):
+    value = words.digits_of(word, MOST_U32)
+    if value is None:
+        raise Refused(REFUSED_WORDS)
+    return value
+
+
+class Files:
+    """The files of a folder, each told by its path as it was given."""
+
+    def __init__(self, folder):
+        self.folder = folder
+
+    def text(self, path):
+        try:
+            with open(os.path.join(self.folder, path), encoding="utf-8", newline="") as file:
+                return file.read()
+        except (OSError, UnicodeDecodeError):
+            raise Refused(NO_FILE) from None
+
+    def plant(self, path):
+        try:
+            return read_plant(self.text(path))
+        except Refusal as refusal:
+            within = f"{refusal.within} " if refusal.within else ""
+            raise Refused(REFUSED_TEXT, f"{path}:{refusal.line}: {within}{refusal.kind}") from None
+
+    def ladder(self, path):
+        try:
+            drawing = read_drawing(lines_of(self.text(path)))
+            networks = networks_of(drawing)
+            declarations = guessed(drawing)
+            refuse_names(drawing, declarations)
+            return Ladder(drawing, networks, declarations)
+        except Refusal as refusal:
+            raise Refused(REFUSED_TEXT, f"{path}:{refusal.line}:{refusal.column}: {refusal.kind}") from None
+
+
+def evaluate(write, files, paths, options, more):
+    ladder = files.ladder(paths[0])
+    variables = [it for it in ladder.declarations if it.role != "Instance"]
+    rows = rows_of(more, [it for it in variables if it.kind == "BOOL"])
+    state = State(ladder.declarations)
+    for scan in range(max(map(len, rows.values()), default=1)):
+        for name, digits in rows.items():
+            if scan < len(digits):
+                state.set(name, digits[scan] == "1")
+        ladder.scan(state, options.get("--dt", 0))
+        write(" ".join(f"{it.name}={words.shown(state.get(it.name))}" for it in variables))
+
+
+def rows_of(given, variables):
+    """The digits of each variable that is named by a word NAME=BITS."""
+    rows = {}
+    for word in given:
+        name, _, digits = word.partition("=")
+        name = words.fold(name)
+        is_known = any(words.fold(it.name) == name for it in variables)
+        if not is_known or name in rows or not digits or digits.strip("01") or len(digits) > MOST_DIGITS:
+            raise Refused(REFUSED_WORDS)
+        rows[name] = digits
+    return rows
+
+
+def check(write, files, paths, _options, _more):
+    plant = files.plant(paths[0])
+    counts = {
+        "resources": len(plant.resources),
+        "tasks": len(plant.tasks()),
+        "programs": len(plant.programs()),
+        "connections": plant.connections(),
+    }
+    for name, count in counts.items():
+        write(f"{name} {count}")
+
+
+def due_of(plant, until):
+    try:
+        return plan_of(plant, until)
+    except Refusal as refusal:
+        raise Refused(REFUSED_TEXT, f"plan: {refusal.kind}") from None
+
+
+def plan(write, files, paths, options, _more):
+    for moment, task in due_of(files.plant(paths[0]), options["--until"]):
+        write(f"{moment} {task.full_name}")
+
+
+def simulate(write, files, paths, options, _more):
+    run = Run(files.plant(paths[0]), options.get("--max-number", MOST_U32))
+    try:
+        for line in lines_of_run(run, events_of(lines_of(files.text(paths[1])))):
+            write(line)
+    except Refusal as refusal:
+        raise Refused(REFUSED_TEXT, f"{paths[1]}:{refusal.line}: {refusal.kind}") from None
+
+
+def run_paced(write, files, paths, options, more):
+    """In a run that isn't paced the order isn't fixed: there is no model of it."""
+    try:
+        inputs = Inputs(parts_of(" ".join(more)))
+    except BadInput:
+        raise Refused(REFUSED_WORDS) from None
+    plant = files.plant(paths[0])
+    for made in paced_run(plant, due_of(plant, options["--until"]), inputs):
+        write(made.line())
+    write("REPLAY equal")
+
+
+COMMANDS = {"eval": evaluate, "check": check, "plan": plan, "sim": simulate, "run": run_paced}

@@ -1,0 +1,158 @@
+"""The run of events: what is evaluated, what has reached a resource, what is the latest of it."""
+from dataclasses import dataclass
+
+from . import words
+from .plant import Field
+from .plant_text import find
+from .scan import State
+from .schedule import MOST_U32, Deliver, Evaluate, Restart
+
+
+class Refused(Exception):
+    """An event that isn't lawful, with its cause."""
+
+
+@dataclass(eq=False)
+class Evaluation:
+    """A message: an evaluation of a task, named by incarnation and number, with what it took and gave."""
+
+    message: int
+    task: object
+    name: tuple
+    takes: list
+    image: dict
+    state: dict
+
+    def line(self):
+        """The line that is written of it."""
+        taken = [f"{task.full_name}={'-' if it is None else pair(it.name)}" for task, it in self.takes]
+        given = [f"{program.name}.{it.name}={words.shown(value)}" for (program, it), value in zip(self.task.outputs(), self.image.values())]
+        listed = " ".join(taken) or "-", " ".join(given) or "-"
+        return f"EVAL {self.message} {self.task.full_name} {pair(self.name)} TAKES {listed[0]} GIVES {listed[1]}"
+
+
+def pair(name):
+    return f"{name[0]}.{name[1]}"
+
+
+class Node:
+    """A resource while events happen: its incarnation, the messages that have reached it since its last restart."""
+
+    def __init__(self, resource):
+        self.resource = resource
+        self.incarnation = 1
+        self.begin()
+
+    def begin(self):
+        """All is forgotten but the incarnation."""
+        self.reached = set()
+        self.own = {}
+
+
+class Run:
+    """All resources of a plant, and the list of evaluations; incarnations begin at 1."""
+
+    def __init__(self, plant, most_numbers=MOST_U32):
+        self.plant, self.most_numbers = plant, most_numbers
+        self.nodes = [Node(resource) for resource in plant.resources]
+        self.log = []
+
+    def happen(self, event):
+        """The line of an event; or it is refused, and nothing changes."""
+        resource = find(self.plant.resources, event.resource)
+        if not resource:
+            raise Refused("NoSuchResource")
+        node = self.nodes[resource.place]
+        if isinstance(event, Evaluate):
+            return self.evaluate(node, event)
+        if isinstance(event, Deliver):
+            return self.deliver(node, event.message)
+        assert isinstance(event, Restart)
+        return self.restart(node)
+
+    # Evaluations.
+
+    def evaluate(self, node, event):
+        task = find(node.resource.tasks, event.task)
+        if not task:
+            raise Refused("NoSuchTask")
+        return self.make(node, task, event.elapsed, event.inputs).line()
+
+    def make(self, node, task, elapsed, inputs):
+        before = node.own.get(task)
+        number = before.name[1] + 1 if before else 1
+        if number > self.most_numbers:
+            raise Refused("NumbersSpent")
+        takes = [(producer, self.latest(node, producer)) for producer in task.producers()]
+        state = before.state if before else {it: State(it.type.declarations) for it in task.programs}
+        fill(task, state, dict(takes), inputs)
+        for program in task.programs:
+            program.type.ladder.scan(state[program], elapsed)
+        image = {(program, words.fold(it.name)): state[program].get(it.name) for program, it in task.outputs()}
+        made = Evaluation(len(self.log) + 1, task, (node.incarnation, number), takes, image, state)
+        self.log.append(made)
+        node.own[task] = made
+        node.reached.add(made.message)
+        return made
+
+    def latest(self, node, producer):
+        """The last in a producer's list of evaluations among those that have reached a node; None where none has."""
+        reached = [it for it in self.log if it.task is producer and it.message in node.reached]
+        return reached[-1] if reached else None
+
+    # Deliveries and restarts.
+
+    def deliver(self, node, message):
+        if not 1 <= message <= len(self.log):
+            raise Refused("NoSuchMessage")
+        producer = self.log[message - 1].task
+        answer = "unused"
+        if producer.resource is not node.resource and takes_from(node.resource, producer):
+            before = self.latest(node, producer)
+            node.reached.add(message)
+            answer = "old" if self.latest(node, producer) is before else "taken"
+        return f"DELIVER {message} {node.resource.name} {answer}"
+
+    def restart(self, node):
+        if node.incarnation == MOST_U32:
+            raise Refused("IncarnationsSpent")
+        node.incarnation += 1
+        node.begin()
+        return f"RESTART {node.resource.name} {node.incarnation}"
+
+
+def takes_from(resource, producer):
+    return any(producer in task.producers() for task in resource.tasks)
+
+
+def fill(task, state, takes, inputs):
+    """Gives each bound input its value: from its address, or from what was taken of its producer."""
+    for program in task.programs:
+        for declared, source in program.binds:
+            state[program].set(declared.name, value_of(source, takes, inputs, declared.kind))
+
+
+def value_of(source, takes, inputs, kind):
+    if isinstance(source, Field):
+        return inputs.get(source.space, source.number)
+    taken = takes[source.program.task]
+    return taken.image[source.program, source.output] if taken else words.first_value(kind)
+
+
+def lines_of_run(run, events):
+    """The line of each event, refused ones counted."""
+    for number, event in enumerate(events, 1):
+        try:
+            yield run.happen(event)
+        except Refused as cause:
+            yield f"REFUSED {number} {cause}"
+
+
+def paced_run(plant, due, inputs):
+    """The evaluations of a plan in its order, each delivered to every other resource right behind it."""
+    run = Run(plant)
+    for _, task in due:
+        made = run.make(run.nodes[task.resource.place], task, task.interval, inputs)
+        for node in run.nodes:
+            run.deliver(node, made.message)
+    return run.log
