@@ -10,8 +10,9 @@ use crate::refusal::Refusal;
 use crate::topic::Topic;
 use crate::unknown_word::{declared_for_a_body, unknown_in_a_drawing, unknown_in_a_plant};
 use plant::PlantFault;
-use power_flow::Declarations;
+use power_flow::{Declarations, Declared, Kind};
 use std::alloc::{AllocError, Global};
+use words::is_plain_name;
 
 /// Writes what is wrong and how it is mended, with a line feed behind it.
 fn push_sentence(help: &mut String, topic: Topic) -> Result<(), AllocError>
@@ -29,6 +30,17 @@ fn push_name(help: &mut String, name: &[u8]) -> Result<(), AllocError> {
     Ok(())
 }
 
+/// Writes names behind what is there, parted by commas, and a line feed.
+fn push_names(help: &mut String, names: &[&[u8]]) -> Result<(), AllocError> {
+    let mut between = " ";
+    for name in names {
+        help.push_str(between)?;
+        push_name(help, name)?;
+        between = ", ";
+    }
+    help.push_str("\n")
+}
+
 /// Which name isn't declared, and the nearest ones that are.
 fn nearest_to(alloc: Global, name: &[u8], declared: &[&[u8]]) -> Result<String, AllocError> {
     let mut near = String::new(alloc);
@@ -38,13 +50,7 @@ fn nearest_to(alloc: Global, name: &[u8], declared: &[&[u8]]) -> Result<String, 
         return Ok(near);
     }
     near.push_str(" isn't declared here; the nearest names that are:")?;
-    let mut between = " ";
-    for other in &nearest_names(alloc, name, declared)? {
-        near.push_str(between)?;
-        push_name(&mut near, other)?;
-        between = ", ";
-    }
-    near.push_str("\n")?;
+    push_names(&mut near, &nearest_names(alloc, name, declared)?)?;
     Ok(near)
 }
 
@@ -77,6 +83,42 @@ fn near_drawing(alloc: Global, text: &str, line: u64) -> Result<String, AllocErr
         Some(name) => nearest_to(alloc, name, &names),
         None => Ok(String::new(alloc)),
     }
+}
+
+fn is_flag(declared: Declared) -> bool {
+    matches!(
+        declared,
+        Declared::Input(Kind::Bool) | Declared::Output(Kind::Bool) | Declared::Local(Kind::Bool)
+    )
+}
+
+/// The BOOL variables of a drawing.
+fn flags_in(alloc: Global, declarations: &Declarations) -> Result<Vec<&[u8]>, AllocError> {
+    let mut names = Vec::new(alloc);
+    for place in 0..declarations.len() {
+        if let Some((name, declared)) = declarations.entry(place) {
+            if is_flag(declared) {
+                names.push(name.as_bytes())?;
+            }
+        }
+    }
+    Ok(names)
+}
+
+/// The BOOL variables of a drawing that are nearest to the name in a word NAME=BITS; nothing where that is no name or no
+/// variable is BOOL.
+pub fn help_with_a_word(alloc: Global, text: &str, word: &str) -> Result<String, AllocError> {
+    let mut near = String::new(alloc);
+    let name = word.split('=').next().unwrap_or(word).as_bytes();
+    let Some(declarations) = names_of_a_drawing(alloc, text) else {
+        return Ok(near);
+    };
+    let flags = flags_in(alloc, &declarations)?;
+    if is_plain_name(name) && !flags.is_empty() {
+        near.push_str("The nearest BOOL variables of the drawing:")?;
+        push_names(&mut near, &nearest_names(alloc, name, &flags)?)?;
+    }
+    Ok(near)
 }
 
 /// The names declared for a program's drawing that are nearest to one that is unknown.

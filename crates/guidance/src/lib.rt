@@ -16,5 +16,5 @@ mod topic;
 mod unknown_word;
 
 pub use explanation::explain;
-pub use help::help_with;
+pub use help::{help_with, help_with_a_word};
 pub use refusal::Refusal;
