@@ -50,12 +50,13 @@ class Node:
 
 
 class Run:
-    """All resources of a plant, and the list of evaluations; incarnations begin at 1."""
+    """All resources of a plant, the list of evaluations, and that of each task; incarnations begin at 1."""
 
     def __init__(self, plant, most_numbers=MOST_U32):
         self.plant, self.most_numbers = plant, most_numbers
         self.nodes = [Node(resource) for resource in plant.resources]
         self.log = []
+        self.lists = {task: [] for task in plant.tasks()}
 
     def happen(self, event):
         """The line of an event; or it is refused, and nothing changes."""
@@ -91,14 +92,14 @@ class Run:
         image = {(program, words.fold(it.name)): state[program].get(it.name) for program, it in task.outputs()}
         made = Evaluation(len(self.log) + 1, task, (node.incarnation, number), takes, image, state)
         self.log.append(made)
+        self.lists[task].append(made)
         node.own[task] = made
         node.reached.add(made.message)
         return made
 
     def latest(self, node, producer):
         """The last in a producer's list of evaluations among those that have reached a node; None where none has."""
-        reached = [it for it in self.log if it.task is producer and it.message in node.reached]
-        return reached[-1] if reached else None
+        return next((it for it in reversed(self.lists[producer]) if it.message in node.reached), None)
 
     # Deliveries and restarts.
 
