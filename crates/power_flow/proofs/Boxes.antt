@@ -5,3 +5,4 @@ pub mod BoxesSources
 pub mod BoxesMeaning
 pub mod BoxesBinding
 pub mod BoxesTable
+pub mod KindsStored

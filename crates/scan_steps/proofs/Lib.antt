@@ -1,3 +1,5 @@
 pub mod KeptKinds
 pub mod PairSteps
 pub mod BoxesStepping
+pub mod Seating
+pub mod SeatsGrowing

@@ -4,3 +4,5 @@ pub mod BoxSteps
 pub mod Contacts
 pub mod Passing
 pub mod Sources
+pub mod Seats
+pub mod Storing

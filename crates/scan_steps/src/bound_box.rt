@@ -2,7 +2,8 @@ ghost use Rattle.std.specs.Prelude.{◌≡◌, slice_get};
 ghost use Rattle.scan_steps.specs.Steps.BoxSteps.{box_inputs, box_result, state_in, read_by};
 ghost use Rattle.std_blocks.specs.declared.block_type.BlockType.{BlockType};
 
-use crate::slot::{Instance, Slot};
+use crate::slot::Instance;
+use crate::slots::Slots;
 use crate::source::Source;
 use std_blocks::{BlockState, BlockType, Field, PinsIn};
 
@@ -31,10 +32,10 @@ pub struct BoundBox {
 }
 
 /// Takes the state of the block at a place. A ladder has a block of that type there.
-fn take_state(slots: &[Slot], place: usize, block: BlockType, state: &mut BlockState)
+fn take_state(slots: &Slots, place: usize, block: BlockType, state: &mut BlockState)
     ensures { state.new ≡ state_in block (slice_get slots.now place) }
 {
-    if let Some(Slot::Block(instance)) = slots.get(place) {
+    if let Some(instance) = slots.block(place) {
         *state = instance.state;
     } else {
         *state = BlockState::initial(block);
@@ -44,7 +45,7 @@ fn take_state(slots: &[Slot], place: usize, block: BlockType, state: &mut BlockS
 impl BoundBox {
     #[tactic(auto, unfolding(crate::specs::Steps::BoxSteps::box_inputs))]
     /// The inputs that a latch reads.
-    fn latch_inputs(&self, slots: &[Slot], bits: &[bool]) -> PinsIn
+    fn latch_inputs(&self, slots: &Slots, bits: &[bool]) -> PinsIn
         ensures { result ≡ read_by BlockType.SR (box_inputs self.now slots.now bits.now) }
     {
         PinsIn {
@@ -61,7 +62,7 @@ impl BoundBox {
 
     #[tactic(auto, unfolding(crate::specs::Steps::BoxSteps::box_inputs))]
     /// The inputs that a counter in one direction reads.
-    fn counter_inputs(&self, slots: &[Slot], bits: &[bool]) -> PinsIn
+    fn counter_inputs(&self, slots: &Slots, bits: &[bool]) -> PinsIn
         ensures { result ≡ read_by BlockType.CTU (box_inputs self.now slots.now bits.now) }
     {
         PinsIn {
@@ -78,7 +79,7 @@ impl BoundBox {
 
     #[tactic(auto, unfolding(crate::specs::Steps::BoxSteps::box_inputs))]
     /// The inputs that a counter in both directions reads.
-    fn up_down_inputs(&self, slots: &[Slot], bits: &[bool]) -> PinsIn
+    fn up_down_inputs(&self, slots: &Slots, bits: &[bool]) -> PinsIn
         ensures { result ≡ read_by BlockType.CTUD (box_inputs self.now slots.now bits.now) }
     {
         PinsIn {
@@ -95,7 +96,7 @@ impl BoundBox {
 
     #[tactic(auto, unfolding(crate::specs::Steps::BoxSteps::box_inputs))]
     /// The inputs that a timer reads.
-    fn timer_inputs(&self, slots: &[Slot], bits: &[bool]) -> PinsIn
+    fn timer_inputs(&self, slots: &Slots, bits: &[bool]) -> PinsIn
         ensures { result ≡ read_by BlockType.TON (box_inputs self.now slots.now bits.now) }
     {
         PinsIn {
@@ -106,7 +107,7 @@ impl BoundBox {
     }
 
     /// The inputs that a block of this type reads.
-    fn inputs(&self, block: BlockType, slots: &[Slot], bits: &[bool]) -> PinsIn
+    fn inputs(&self, block: BlockType, slots: &Slots, bits: &[bool]) -> PinsIn
         ensures { result ≡ read_by block (box_inputs self.now slots.now bits.now) }
     {
         match block {
@@ -118,7 +119,7 @@ impl BoundBox {
     }
 
     /// Makes what a step of its block leaves, dt milliseconds after the one before.
-    pub fn step(&self, slots: &[Slot], bits: &[bool], dt: u32, made: &mut Instance)
+    pub fn step(&self, slots: &Slots, bits: &[bool], dt: u32, made: &mut Instance)
         ensures { made.new ≡ box_result self.now slots.now dt bits.now }
     {
         take_state(slots, self.instance, self.block, &mut made.state);

@@ -6,11 +6,11 @@ ghost use Rattle.scan_steps.specs.Slots.{variable_at};
 ghost use Rattle.scan_steps.specs.Steps.Sources.{slot_output, source_value};
 ghost use Rattle.scan_steps.specs.Steps.Contacts.{contact_source, variable_contact};
 
-use crate::slot::Slot;
+use crate::slots::Slots;
 use crate::source::Source;
 use drawings::ContactKind;
 use std::marker::Model;
-use std_blocks::{Field, Value};
+use std_blocks::Field;
 
 /// What a contact reads at a place of the declarations.
 #[derive(Clone, Copy)]
@@ -82,19 +82,19 @@ pub struct VariableContact {
 }
 
 /// Whether the variable at a place is TRUE.
-pub fn is_variable_on(slots: &[Slot], place: usize) -> bool
+pub fn is_variable_on(slots: &Slots, place: usize) -> bool
     ensures { result ≡ is_true (variable_at slots.now place) }
 {
-    matches!(slots.get(place), Some(Slot::Variable(Value::Bool(true))))
+    slots.is_on(place)
 }
 
 /// Whether a bit of the outputs of the block at a place is ON.
-fn is_bit_on(slots: &[Slot], place: usize, bit: usize) -> bool
+fn is_bit_on(slots: &Slots, place: usize, bit: usize) -> bool
     ensures { result ≡ is_true (option_and_then (slot_output (Field.Bit bit)) (slice_get slots.now place)) }
 {
-    match slots.get(place) {
-        Some(Slot::Block(instance)) => matches!(instance.outputs.bits.get(bit), Some(true)),
-        _ => false,
+    match slots.block(place) {
+        Some(instance) => matches!(instance.outputs.bits.get(bit), Some(true)),
+        None => false,
     }
 }
 
@@ -154,7 +154,7 @@ impl BoundContact {
     }
 
     /// Whether what it reads is TRUE.
-    pub fn is_on(&self, slots: &[Slot]) -> bool
+    pub fn is_on(&self, slots: &Slots) -> bool
         ensures { result ≡ is_true (source_value slots.now self.now.source) }
     {
         if let Reads::Variable = self.reads {

@@ -4,17 +4,19 @@
 mod bound_box;
 mod bound_contact;
 mod passing;
+mod seat;
 mod slot;
 mod slots;
 mod source;
 mod step;
+mod value_lists;
 mod variable_pair;
 
 pub use bound_box::{BoundBox, BoundOutput};
 pub use bound_contact::{BoundContact, VariableContact};
 pub use passing::pass;
 pub use slot::{Instance, Slot};
-pub use slots::{are_same_slots, are_slots_of, first_slots, set_variable, variable};
+pub use slots::Slots;
 pub use source::{Source, output_value};
 pub use step::{BoundCoil, Step};
 pub use variable_pair::{Negated, PairPlaces, PairRows, pair_of};

@@ -7,7 +7,8 @@ ghost use Rattle.scan_steps.specs.Steps.Passing.{IsStepIn, AreJoined, AreMarked,
 
 use crate::bound_box::{BoundBox, BoundOutput};
 use crate::bound_contact::{BoundContact, VariableContact};
-use crate::slot::{Instance, Slot};
+use crate::slot::Instance;
+use crate::slots::Slots;
 use crate::source::is_output_on;
 use crate::step::Step;
 use crate::variable_pair::{read_pair, read_variable};
@@ -229,7 +230,7 @@ fn show_outputs(pins: &[BoundOutput], outputs: &PinsOut, rows: &mut [bool])
 }
 
 /// Steps a box by the states of the rows on its left, and shows its outputs in those on its right.
-fn step_box(bound: &BoundBox, made: &mut Instance, slots: &[Slot], rows: &mut [bool], dt: u32)
+fn step_box(bound: &BoundBox, made: &mut Instance, slots: &Slots, rows: &mut [bool], dt: u32)
     requires { All (λ o. o.row < length rows.old) bound.now.outputs.items }
     ensures made { made.new ≡ box_result bound.now slots.now dt rows.old }
     ensures shown { AreShown bound.now (box_result bound.now slots.now dt rows.old) rows.old rows.new }
@@ -251,7 +252,7 @@ fn read_edge(contact: &BoundContact, on: bool, rows: &mut [bool], memories: &mut
 }
 
 /// Reads a contact: state goes on in its row if it conducts.
-fn read_contact(contact: &BoundContact, slots: &[Slot], rows: &mut [bool], memories: &mut [bool])
+fn read_contact(contact: &BoundContact, slots: &Slots, rows: &mut [bool], memories: &mut [bool])
     requires row { contact.now.row < length rows.old }
     requires memory { contact.now.memory < length memories.old }
     ensures rows { rows.new ≡ read_rows contact.now slots.now rows.old memories.old }
@@ -270,7 +271,7 @@ fn read_contact(contact: &BoundContact, slots: &[Slot], rows: &mut [bool], memor
 }
 
 /// Reads a contact of a variable that follows the left rail: the state of its row is ON if it conducts.
-fn read_at_rail(contact: VariableContact, slots: &[Slot], rows: &mut [bool])
+fn read_at_rail(contact: VariableContact, slots: &Slots, rows: &mut [bool])
     requires { contact.row < length rows.old }
     ensures { IsReadAtRail contact slots.now rows.old rows.new }
 {
@@ -282,7 +283,7 @@ fn read_at_rail(contact: VariableContact, slots: &[Slot], rows: &mut [bool])
 fn obey_box(
     number: usize,
     boxes: &[BoundBox],
-    slots: &[Slot],
+    slots: &Slots,
     rows: &mut [bool],
     results: &mut [Instance],
     dt: u32,
@@ -300,7 +301,7 @@ fn obey_box(
 fn obey(
     step: &Step,
     boxes: &[BoundBox],
-    slots: &[Slot],
+    slots: &Slots,
     rows: &mut [bool],
     memories: &mut [bool],
     links: &mut [bool],
@@ -344,7 +345,7 @@ fn obey(
 pub fn pass(
     steps: &[Step],
     boxes: &[BoundBox],
-    slots: &[Slot],
+    slots: &Slots,
     rows: &mut [bool],
     memories: &mut [bool],
     links: &mut [bool],

@@ -1,7 +1,6 @@
 ghost use Rattle.std.specs.Prelude.{◌≡◌, ◌↔◌, IsTrue};
-ghost use Rattle.scan_steps.specs.First.{slot_first, instance_first};
+ghost use Rattle.scan_steps.specs.First.{instance_first};
 
-use declared_names::{Declared, first_value};
 use std_blocks::{BlockState, BlockType, PinsOut, Value};
 
 /// A block of the drawing: what it keeps, and its stored outputs.
@@ -42,17 +41,6 @@ pub enum Slot {
 }
 
 impl Slot {
-    /// What stands at a declared name before the first scan.
-    pub fn initial(declared: Declared) -> Self
-        ensures { result ≡ slot_first declared }
-    {
-        match declared {
-            Declared::Input(kind) | Declared::Output(kind) | Declared::Local(kind) =>
-                Slot::Variable(first_value(kind)),
-            Declared::Instance(block) => Slot::Block(Instance::initial(block)),
-        }
-    }
-
     /// Whether both are variables with one value, or blocks that keep and show the same.
     pub fn same(&self, other: &Self) -> bool
         ensures { IsTrue result ↔ (self.now ≡ other.now) }

@@ -3,7 +3,7 @@ ghost use Rattle.std_blocks.specs.Pins.{field_value};
 ghost use Rattle.scan_steps.specs.Values.{is_true, int_or_zero, time_or_zero};
 ghost use Rattle.scan_steps.specs.Steps.Sources.{source_value, source_bit};
 
-use crate::slot::Slot;
+use crate::slots::Slots;
 use std_blocks::{Field, PinsOut, Value};
 
 /// Where a scan finds the value of a pin, an operand or a contact.
@@ -44,18 +44,15 @@ pub fn is_output_on(outputs: &PinsOut, field: Field) -> bool
 
 impl Source {
     /// The value that these slots have there; none where the state of a row is read.
-    fn value(&self, slots: &[Slot]) -> Option<Value>
+    fn value(&self, slots: &Slots) -> Option<Value>
         ensures { result ≡ source_value slots.now self.now }
     {
         match self {
             Source::Nothing | Source::Power(_) => None,
-            Source::Variable(place) => match slots.get(*place) {
-                Some(Slot::Variable(value)) => Some(*value),
-                _ => None,
-            },
-            Source::Output(place, field) => match slots.get(*place) {
-                Some(Slot::Block(instance)) => Some(output_value(&instance.outputs, *field)),
-                _ => None,
+            Source::Variable(place) => slots.variable(*place),
+            Source::Output(place, field) => match slots.block(*place) {
+                Some(instance) => Some(output_value(&instance.outputs, *field)),
+                None => None,
             },
             Source::Literal(value) => Some(*value),
         }
@@ -63,14 +60,14 @@ impl Source {
 
     /// Whether the value there is TRUE.
     #[inline(never)]
-    fn is_true(&self, slots: &[Slot]) -> bool
+    fn is_true(&self, slots: &Slots) -> bool
         ensures { result ≡ is_true (source_value slots.now self.now) }
     {
         matches!(self.value(slots), Some(Value::Bool(true)))
     }
 
     /// Whether it is ON, a row of the network by its state.
-    pub fn is_on(&self, slots: &[Slot], rows: &[bool]) -> bool
+    pub fn is_on(&self, slots: &Slots, rows: &[bool]) -> bool
         ensures { result ≡ source_bit slots.now rows.now self.now }
     {
         if let Source::Power(row) = self {
@@ -80,7 +77,7 @@ impl Source {
     }
 
     /// The INT there, or 0.
-    pub fn int(&self, slots: &[Slot]) -> i16
+    pub fn int(&self, slots: &Slots) -> i16
         ensures { result ≡ int_or_zero (source_value slots.now self.now) }
     {
         if let Source::Literal(Value::Int(number)) = self {
@@ -90,7 +87,7 @@ impl Source {
     }
 
     /// The TIME there, or 0.
-    pub fn time(&self, slots: &[Slot]) -> u32
+    pub fn time(&self, slots: &Slots) -> u32
         ensures { result ≡ time_or_zero (source_value slots.now self.now) }
     {
         if let Source::Literal(Value::Time(time)) = self {
@@ -101,7 +98,7 @@ impl Source {
 
     /// The INT there, or 0.
     #[inline(never)]
-    fn stored_int(&self, slots: &[Slot]) -> i16
+    fn stored_int(&self, slots: &Slots) -> i16
         ensures { result ≡ int_or_zero (source_value slots.now self.now) }
     {
         match self.value(slots) {
@@ -112,7 +109,7 @@ impl Source {
 
     /// The TIME there, or 0.
     #[inline(never)]
-    fn stored_time(&self, slots: &[Slot]) -> u32
+    fn stored_time(&self, slots: &Slots) -> u32
         ensures { result ≡ time_or_zero (source_value slots.now self.now) }
     {
         match self.value(slots) {

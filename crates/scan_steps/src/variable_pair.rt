@@ -3,7 +3,7 @@ ghost use Rattle.scan_steps.specs.Steps.Contacts.{is_first_negated, is_second_ne
 ghost use Rattle.scan_steps.specs.Steps.Passing.{IsVariableRead, IsPairRead};
 
 use crate::bound_contact::{BoundContact, is_variable_on};
-use crate::slot::Slot;
+use crate::slots::Slots;
 
 /// Which contacts of a pair are negated.
 #[derive(Clone, Copy)]
@@ -57,7 +57,7 @@ impl Negated {
 }
 
 /// State goes on in a row behind a contact of the variable at a place, if it conducts.
-pub fn read_variable(negated: bool, row: u8, place: u32, slots: &[Slot], rows: &mut [bool])
+pub fn read_variable(negated: bool, row: u8, place: u32, slots: &Slots, rows: &mut [bool])
     requires { row < length rows.old }
     ensures { IsVariableRead negated row place slots.now rows.old rows.new }
 {
@@ -95,7 +95,7 @@ pub fn pair_of(first: &BoundContact, second: &BoundContact) -> Option<(PairRows,
 }
 
 /// State goes on in the row of each contact of a pair that conducts.
-pub fn read_pair(pair: PairRows, places: PairPlaces, slots: &[Slot], rows: &mut [bool])
+pub fn read_pair(pair: PairRows, places: PairPlaces, slots: &Slots, rows: &mut [bool])
     requires first { pair.first < length rows.old }
     requires second { pair.second < length rows.old }
     ensures { IsPairRead pair places slots.now rows.old rows.new }

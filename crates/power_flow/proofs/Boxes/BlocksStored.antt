@@ -1,9 +1,8 @@
 -- Blocks are put back and outputs stored in one walk, since no output is stored where a block stands.
-use Rattle.std.proofs.Common.{◌≡◌, ◌≢◌, ℕ, zero, suc, ◌+◌, ◌<◌, List, [], ◌∷◌, ◌++◌, Option, Some, None, All, length, length-set, slice_get, set, drop, drop-cons, add-one, refl, sym, ap, ◌∙◌, subst, arith}
+use Rattle.std.proofs.Common.{◌≡◌, ◌≢◌, ℕ, zero, suc, ◌+◌, ◌<◌, List, [], ◌∷◌, ◌++◌, Option, Some, None, All, length, length-set, slice_get, set, refl, sym, ap, ◌∙◌, subst, arith}
 use Rattle.std.specs.Option.{option_and_then}
 use Rattle.std.specs.List.{AllByRecursion, AllZip}
-use Rattle.std.proofs.lemmas.List.Elements.{All-head, All-tail, All-drop}
-use Rattle.std.proofs.lemmas.Option.{get_or_from_slice_get}
+use Rattle.std.proofs.lemmas.List.Elements.{All-head, All-tail}
 use Rattle.lists.proofs.Places.{slice_get-set_same, slice_get-set_other, some_same}
 use Rattle.lists.proofs.Members.{all_from_places}
 use Rattle.lists.proofs.Zips.{zip_back}
@@ -25,9 +24,8 @@ use Rattle.scan_steps.specs.declared.slot.Slot.TheVariants.{Variable, Block}
 use Rattle.scan_steps.specs.declared.bound_box.BoundBox.{BoundBox}
 use Rattle.scan_steps.specs.declared.bound_box.BoundOutput.{BoundOutput}
 use Rattle.power_flow.specs.Meaning.{stored}
-use Rattle.power_flow.specs.Steps.BoxStores.{AreApartBoxes, pin_store, pin_stores, output_stores, with_blocks, HasNoBox, AreBlocksKept}
+use Rattle.power_flow.specs.Steps.BoxStores.{AreApartBoxes, pin_store, pin_stores, with_blocks, HasNoBox, AreBlocksKept}
 use Rattle.power_flow.specs.Steps.BoxTable.{IsBoundOutput, IsBoundBox, right_pins, boxes_of}
-use Rattle.power_flow.proofs.Ladders.Stepping.{stored-append}
 use Rattle.power_flow.proofs.Boxes.BoxesBinding.{declared_place}
 use Rattle.power_flow.proofs.Boxes.BoxesSources.{box_in, right_pin_in}
 
@@ -39,15 +37,15 @@ set_apart (x ∷ xs) zero (suc j) a b ne = refl
 set_apart (x ∷ xs) (suc i) zero a b ne = refl
 set_apart (x ∷ xs) (suc i) (suc j) a b ne = ap (λ l. x ∷ l) (set_apart xs i j a b (λ e. ne (ap suc e)))
 
-abbrev IsElsewhere : ℕ → BoundBox → Type 0
+abbrev pub IsElsewhere : ℕ → BoundBox → Type 0
 IsElsewhere k f = f.instance ≢ k
 
 -- the output is stored at no box
-abbrev IsBeside : List BoundBox → BoundOutput → Type 0
+abbrev pub IsBeside : List BoundBox → BoundOutput → Type 0
 IsBeside boxes o = (k : ℕ) → o.store ≡ Some k → HasNoBox boxes k
 
 -- the stores are at no box
-abbrev AreBeside : List BoundBox → List (ℕ × Value) → Type 0
+abbrev pub AreBeside : List BoundBox → List (ℕ × Value) → Type 0
 AreBeside boxes ss = AllByRecursion (λ (s : ℕ × Value). HasNoBox boxes s.0) ss
 
 -- a block may be put back before stores at other places
@@ -64,14 +62,10 @@ beside_first : (e : BoundBox) (boxes : List BoundBox) (ss : List (ℕ × Value))
 beside_first e boxes [] beside = tt
 beside_first e boxes (s ∷ ss) beside = (All-head (IsElsewhere s.0) e boxes beside.0, beside_first e boxes ss beside.1)
 
-beside_rest : (e : BoundBox) (boxes : List BoundBox) (ss : List (ℕ × Value)) → AreBeside (e ∷ boxes) ss
+pub beside_rest : (e : BoundBox) (boxes : List BoundBox) (ss : List (ℕ × Value)) → AreBeside (e ∷ boxes) ss
     → AreBeside boxes ss
 beside_rest e boxes [] beside = tt
 beside_rest e boxes (s ∷ ss) beside = (All-tail (IsElsewhere s.0) e boxes beside.0, beside_rest e boxes ss beside.1)
-
-beside_drop : (n : ℕ) (boxes : List BoundBox) (ss : List (ℕ × Value)) → AreBeside boxes ss → AreBeside (drop n boxes) ss
-beside_drop n boxes [] beside = tt
-beside_drop n boxes (s ∷ ss) beside = (All-drop (IsElsewhere s.0) n boxes beside.0, beside_drop n boxes ss beside.1)
 
 beside_both : (boxes : List BoundBox) (xs ys : List (ℕ × Value)) → AreBeside boxes xs → AreBeside boxes ys
     → AreBeside boxes (xs ++ ys)
@@ -79,7 +73,7 @@ beside_both boxes [] ys first second = second
 beside_both boxes (x ∷ xs) ys first second = (first.0, beside_both boxes xs ys first.1 second)
 
 -- so may all blocks
-blocks_before : (boxes : List BoundBox) (results : List Instance) (slots : List Slot) (ss : List (ℕ × Value))
+pub blocks_before : (boxes : List BoundBox) (results : List Instance) (slots : List Slot) (ss : List (ℕ × Value))
     → AreBeside boxes ss
     → with_blocks boxes results (stored slots ss) ≡ stored (with_blocks boxes results slots) ss
 blocks_before [] results slots ss beside = refl
@@ -89,7 +83,7 @@ blocks_before (e ∷ boxes) (i ∷ results) slots ss beside =
     ∙ blocks_before boxes results (set slots e.instance (Block i)) ss (beside_rest e boxes ss beside)
 
 -- the stores of pins whose operands are no boxes
-pins_beside : (boxes : List BoundBox) (values : PinsOut) (pins : List BoundOutput) → All (IsBeside boxes) pins
+pub pins_beside : (boxes : List BoundBox) (values : PinsOut) (pins : List BoundOutput) → All (IsBeside boxes) pins
     → AreBeside boxes (pin_stores values pins)
 pins_beside boxes values [] kept = tt
 pins_beside boxes values (o ∷ pins) kept =
@@ -99,32 +93,6 @@ pins_beside boxes values (o ∷ pins) kept =
     one : (w : Option ℕ) → o.store ≡ w → AreBeside boxes (pin_store values o w)
     one None is = tt
     one (Some k) is = (All-head (IsBeside boxes) o pins kept k is, tt)
-
--- one more box
-pub box_stored : (boxes : List BoundBox) (results : List Instance) (slots : List Slot) (k : ℕ) (here : BoundBox)
-    (v : Instance)
-    → AreBlocksKept boxes → k < length boxes → k < length results → slice_get boxes k ≡ Some here
-    → slice_get results k ≡ Some v
-    → stored (with_blocks (drop (k + 1) boxes) (drop (k + 1) results)
-    (stored (set slots here.instance (Block v)) (pin_stores v.outputs here.outputs.items)))
-    (output_stores (drop (k + 1) boxes) (drop (k + 1) results))
-    ≡ stored (with_blocks (drop k boxes) (drop k results) slots) (output_stores (drop k boxes) (drop k results))
-box_stored boxes results slots k here v kept lt less box result =
-    let later = drop (k + 1) boxes in
-    let rest = drop (k + 1) results in
-    let front : drop k boxes ≡ here ∷ later = rw add-one
-    (drop-cons boxes k here lt ∙ ap (λ e. e ∷ drop (suc k) boxes) (get_or_from_slice_get boxes k here here box)) in
-    let first : drop k results ≡ v ∷ rest = rw add-one
-    (drop-cons results k v less
-    ∙ ap (λ e. e ∷ drop (suc k) results) (get_or_from_slice_get results k v v result)) in
-    let P : BoundBox → Type 0 = λ e. All (IsBeside boxes) e.outputs.items in
-    let own : P here = subst P (get_or_from_slice_get boxes k here here box) (kept k here lt) in
-    let stores = pin_stores v.outputs here.outputs.items in
-    let beside = beside_drop (k + 1) boxes stores (pins_beside boxes v.outputs here.outputs.items own) in
-    let put = set slots here.instance (Block v) in
-    rw (front, first) (
-    ap (λ l. stored l (output_stores later rest)) (blocks_before later rest put stores beside)
-    ∙ sym (stored-append (with_blocks later rest put) stores (output_stores later rest)))
 
 -- what stands in the slots once the blocks are put back
 pub blocks_length : (boxes : List BoundBox) (results : List Instance) (slots : List Slot)

@@ -147,7 +147,7 @@ stored_memory left memories k (Contact c) = bit_at memories k
 stored_memory left memories k (Coil c) = coil_memory c.kind (left k) (bit_at memories k)
 stored_memory left memories k (Box b) = bit_at memories k
 
-abbrev coils_from : List Declaration → ℕ → List Element → List BoundCoil
+abbrev pub coils_from : List Declaration → ℕ → List Element → List BoundCoil
 coils_from ds n es = filter_map (λ e. bound_coil ds e.0 e.1) (enumerate_from n es)
 
 -- coils after n leave the memories before it
@@ -299,7 +299,7 @@ count_coils ds (Contact p ∷ es) n = count_coils ds es (n + 1)
 count_coils ds (Box p ∷ es) n = count_coils ds es (n + 1)
 count_coils ds (Coil p ∷ es) n = ap suc (count_coils ds es (n + 1))
 
-coils_same : (ds : List Declaration) (es : List Element) → bound_coils ds es ≡ coils_from ds 0 es
+pub coils_same : (ds : List Declaration) (es : List Element) → bound_coils ds es ≡ coils_from ds 0 es
 unfolding bound_coils
 coils_same ds es = refl
 

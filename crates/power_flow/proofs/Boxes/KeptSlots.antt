@@ -53,7 +53,7 @@ use Rattle.power_flow.specs.Meaning.{Moment, moment, NetworkMeaning, BlocksStep,
 use Rattle.power_flow.specs.Scan.{ScanMeaning}
 
 -- what is stored is of the declared kind
-abbrev IsRight : List Declaration → ℕ × Value → Type 0
+abbrev pub IsRight : List Declaration → ℕ × Value → Type 0
 IsRight ds s = (e : Declaration) → slice_get ds s.0 ≡ Some e → IsSlotOf e.declared (Variable s.1)
 
 set_keeps : (ds : List Declaration) (slots : List Slot) (place : ℕ) (v : Value) → IsRight ds (place, v) → AreSlotsOf ds slots → AreSlotsOf ds (set slots place (Variable v))
@@ -77,7 +77,7 @@ stored_keeps : (ds : List Declaration) (slots : List Slot) (ss : List (ℕ × Va
 stored_keeps ds slots [] right h = h
 stored_keeps ds slots (s ∷ ss) right h = stored_keeps ds (set slots s.0 (Variable s.1)) ss right.1 (set_keeps ds slots s.0 s.1 right.0 h)
 
-both : (ds : List Declaration) (xs ys : List (ℕ × Value)) → AllByRecursion (IsRight ds) xs → AllByRecursion (IsRight ds) ys → AllByRecursion (IsRight ds) (xs ++ ys)
+pub both : (ds : List Declaration) (xs ys : List (ℕ × Value)) → AllByRecursion (IsRight ds) xs → AllByRecursion (IsRight ds) ys → AllByRecursion (IsRight ds) (xs ++ ys)
 both ds [] ys h k = k
 both ds (x ∷ xs) ys h k = (h.0, both ds xs ys h.1 k)
 
@@ -89,7 +89,7 @@ kept_kind (Local j) k v is same = same ∙ sym is
 kept_kind (Instance block) k v is same = absurd is
 
 -- a store at a variable of the kind is of the declared kind
-store_right : (ds : List Declaration) (name : List ℕ) (k : Kind) (v : Value) → IsDeclaredVariable ds name k → kind_of v ≡ k → AllByRecursion (IsRight ds) (store (place_of ds name) (Some v))
+pub store_right : (ds : List Declaration) (name : List ℕ) (k : Kind) (v : Value) → IsDeclaredVariable ds name k → kind_of v ≡ k → AllByRecursion (IsRight ds) (store (place_of ds name) (Some v))
 store_right ds name k v (w, at, is) same = by (place_of ds name) place.2
   where
     place : (k : ℕ) × (e : Declaration) × (place_of ds name ≡ Some k) × (slice_get ds k ≡ Some e) × (e.declared ≡ w)
@@ -107,7 +107,7 @@ store_right ds name k v (w, at, is) same = by (place_of ds name) place.2
       tt,
     )
 
-coil_right : (ds : List Declaration) (name : List ℕ) (value : Option Bool) → IsDeclaredVariable ds name kind.Bool → AllByRecursion (IsRight ds) (store (place_of ds name) (option_map BoolValue value))
+pub coil_right : (ds : List Declaration) (name : List ℕ) (value : Option Bool) → IsDeclaredVariable ds name kind.Bool → AllByRecursion (IsRight ds) (store (place_of ds name) (option_map BoolValue value))
 coil_right ds name (Some b) at = store_right ds name kind.Bool (BoolValue b) at refl
 coil_right ds name None at = by (place_of ds name)
   where
@@ -154,7 +154,7 @@ between_keeps ds d dt old between step fits = record { long = step.same_length �
         subst (IsSlotOf e.declared) (sym one) (block_right e.declared i new (block_kept i.state made.0 dt) (fits.each k e (Block i) declared h.4))
     by k e s declared found (inr none) = fits.each k e s declared (sym (step.others k none) ∙ found)
 
-field_value_kind : (out : PinsOut) (field : Field) → kind_of (field_value out field) ≡ field_kind field
+pub field_value_kind : (out : PinsOut) (field : Field) → kind_of (field_value out field) ≡ field_kind field
 field_value_kind out (Bit k) = refl
 field_value_kind out Int = refl
 field_value_kind out Time = refl

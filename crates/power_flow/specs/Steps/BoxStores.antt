@@ -9,6 +9,7 @@ use Rattle.scan_steps.specs.declared.slot.Slot.{Slot}
 use Rattle.scan_steps.specs.declared.slot.Slot.TheVariants.{Block}
 use Rattle.scan_steps.specs.declared.bound_box.BoundBox.{BoundBox}
 use Rattle.scan_steps.specs.declared.bound_box.BoundOutput.{BoundOutput}
+use Rattle.scan_steps.specs.Steps.Storing.{value_put, block_put}
 
 -- no two boxes have one instance
 abbrev pub AreApartBoxes : List BoundBox → Type 0
@@ -34,6 +35,18 @@ abbrev pub with_blocks : List BoundBox → List Instance → List Slot → List 
 with_blocks [] results slots = slots
 with_blocks (e ∷ boxes) [] slots = slots
 with_blocks (e ∷ boxes) (i ∷ results) slots = with_blocks boxes results (slice_set slots e.instance (Block i))
+
+-- the slots after stores, made one after the other; only values of the kinds that stand there are stored
+abbrev pub kinds_stored : List Slot → List (ℕ × Value) → List Slot
+kinds_stored slots [] = slots
+kinds_stored slots (s ∷ rest) = kinds_stored (value_put slots s.0 s.1) rest
+
+-- the slots once each block is put back and its outputs are stored, box after box
+abbrev pub boxes_stored : List BoundBox → List Instance → List Slot → List Slot
+boxes_stored [] results slots = slots
+boxes_stored (e ∷ boxes) [] slots = slots
+boxes_stored (e ∷ boxes) (i ∷ results) slots =
+    boxes_stored boxes results (kinds_stored (block_put slots e.instance i) (pin_stores i.outputs e.outputs.items))
 
 -- no box stands at the place
 abbrev pub HasNoBox : List BoundBox → ℕ → Type 0

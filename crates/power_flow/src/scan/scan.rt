@@ -1,6 +1,7 @@
 ghost use Rattle.std.specs.Prelude.{◌≡◌, ◌<◌, List, All, length, map, sum_by};
 ghost use Rattle.std.specs.List.{AllByRecursion};
-ghost use Rattle.power_flow.specs.Meaning.{coil_value, coil_memory, stored, NetworkMeaning, moment};
+ghost use Rattle.power_flow.specs.Meaning.{coil_value, coil_memory, NetworkMeaning, moment};
+ghost use Rattle.power_flow.specs.Steps.BoxStores.{kinds_stored};
 ghost use Rattle.network.specs.Links.{Diagram};
 ghost use Rattle.declared_names.specs.declared.declarations.Declaration.{Declaration};
 ghost use Rattle.scan_steps.specs.Slots.{AreSlotsOf};
@@ -14,7 +15,7 @@ use crate::state::State;
 use crate::steps::circuit::Circuit;
 use arrayvec::ArrayVec;
 use drawings::CoilKind;
-use scan_steps::{BoundCoil, Instance, Slot, pass};
+use scan_steps::{BoundCoil, Instance, Slots, pass};
 use std_blocks::Value;
 
 fn value_of_coil(kind: CoilKind, link: bool, memory: bool) -> Option<bool>
@@ -40,9 +41,9 @@ fn memory_of_coil(kind: CoilKind, link: bool, memory: bool) -> bool
 }
 
 /// Stores what a coil stores, by its left link and its memory, and then its memory.
-fn store_any_coil(coil: &BoundCoil, link: bool, memories: &mut [bool], slots: &mut [Slot])
+fn store_any_coil(coil: &BoundCoil, link: bool, memories: &mut [bool], slots: &mut Slots)
     requires { coil.now.memory < length memories.old }
-    ensures slots { slots.new ≡ stored slots.old (bound_store coil.now link memories.old) }
+    ensures slots { slots.new ≡ kinds_stored slots.old (bound_store coil.now link memories.old) }
     ensures memories { memories.new ≡ bound_memory coil.now link memories.old }
 {
     let memory = memories[coil.memory];
@@ -53,9 +54,9 @@ fn store_any_coil(coil: &BoundCoil, link: bool, memories: &mut [bool], slots: &m
 }
 
 /// Stores what a coil stores. A plain coil keeps no memory.
-fn store_coil(coil: &BoundCoil, link: bool, memories: &mut [bool], slots: &mut [Slot])
+fn store_coil(coil: &BoundCoil, link: bool, memories: &mut [bool], slots: &mut Slots)
     requires { coil.now.memory < length memories.old }
-    ensures slots { slots.new ≡ stored slots.old (bound_store coil.now link memories.old) }
+    ensures slots { slots.new ≡ kinds_stored slots.old (bound_store coil.now link memories.old) }
     ensures memories { memories.new ≡ bound_memory coil.now link memories.old }
 {
     if let CoilKind::Plain = coil.kind {
@@ -66,10 +67,10 @@ fn store_coil(coil: &BoundCoil, link: bool, memories: &mut [bool], slots: &mut [
 }
 
 /// Stores the coils in their order, and their memories.
-fn store_coils(coils: &[BoundCoil], links: &[bool], memories: &mut [bool], slots: &mut [Slot])
+fn store_coils(coils: &[BoundCoil], links: &[bool], memories: &mut [bool], slots: &mut Slots)
     requires links { length links.now ≡ length coils.now }
     requires memories { All (λ c. c.memory < length memories.old) coils.now }
-    ensures slots { slots.new ≡ stored slots.old (bound_stores coils.now 0 links.now memories.old) }
+    ensures slots { slots.new ≡ kinds_stored slots.old (bound_stores coils.now 0 links.now memories.old) }
     ensures memories { memories.new ≡ bound_memories coils.now 0 links.now memories.old }
 {
     for k in 0..coils.len() {
@@ -80,7 +81,7 @@ fn store_coils(coils: &[BoundCoil], links: &[bool], memories: &mut [bool], slots
 /// One scan of a network, dt milliseconds after the one before.
 fn scan_circuit(
     circuit: &Circuit,
-    slots: &mut [Slot],
+    slots: &mut Slots,
     memories: &mut [bool],
     rows: &mut [bool],
     links: &mut [bool],
@@ -112,7 +113,7 @@ fn scan_circuit(
 /// One scan of the networks, one after the other.
 pub fn scan_circuits(
     circuits: &[Circuit],
-    slots: &mut [Slot],
+    slots: &mut Slots,
     memories: &mut [bool],
     rows: &mut [bool],
     links: &mut [bool],
@@ -153,7 +154,6 @@ impl State {
             → AllAreWide (map (circuit_diagram rails) circuits.now) → AreSlotsOf ds self.old.slots
             → ScanMeaning ds dt (map (circuit_diagram rails) circuits.now)
             self.old.slots self.old.memories self.new.slots self.new.memories }
-        ensures slots { length self.new.slots ≡ length self.old.slots }
         ensures memories { length self.new.memories ≡ length self.old.memories }
         ensures links { self.new.waiting_links ≡ self.old.waiting_links }
         ensures results { self.new.waiting_results ≡ self.old.waiting_results }
@@ -161,7 +161,7 @@ impl State {
         let mut rows = ArrayVec::<bool, 200>::from([false; 200]);
         scan_circuits(
             circuits,
-            self.slots.as_mut_slice(),
+            &mut self.slots,
             self.memories.as_mut_slice(),
             rows.as_mut_slice(),
             self.links.as_mut_slice(),

@@ -3,9 +3,8 @@ use Rattle.std.proofs.lemmas.List.{append-nil}
 use Rattle.std_blocks.specs.declared.pins.PinsOut.{PinsOut}
 use Rattle.scan_steps.specs.declared.bound_box.BoundOutput.{BoundOutput}
 use Rattle.scan_steps.specs.declared.slot.Slot.{Slot}
-use Rattle.power_flow.specs.Meaning.{stored}
-use Rattle.power_flow.specs.Steps.BoxStores.{pin_store, pin_stores}
-use Rattle.power_flow.proofs.Ladders.Stepping.{stored-append}
+use Rattle.power_flow.specs.Steps.BoxStores.{pin_store, pin_stores, kinds_stored}
+use Rattle.power_flow.proofs.Boxes.KindsStored.{kinds_stored-append}
 use Rattle.power_flow.proofs.scan.boxes.store_two.Goals as goal
 
 two_stores : (values : PinsOut) (pins : List BoundOutput) (d : BoundOutput) → length pins ≡ 2
@@ -16,12 +15,12 @@ two_stores values (a ∷ b ∷ []) d two = ap (λ l. pin_store values a a.store 
 two_stores values (a ∷ b ∷ e ∷ rest) d two = cc
 
 two_stored : (values : PinsOut) (pins : List BoundOutput) (d : BoundOutput) (old mid new : List Slot) → length pins ≡ 2
-    → mid ≡ stored old (pin_store values (get_or pins 0 d) (get_or pins 0 d).store) → new ≡ stored mid (pin_store values (get_or pins 1 d) (get_or pins 1 d).store)
-    → new ≡ stored old (pin_stores values pins)
+    → mid ≡ kinds_stored old (pin_store values (get_or pins 0 d) (get_or pins 0 d).store) → new ≡ kinds_stored mid (pin_store values (get_or pins 1 d) (get_or pins 1 d).store)
+    → new ≡ kinds_stored old (pin_stores values pins)
 two_stored values pins d old mid new two first second =
     let one = pin_store values (get_or pins 0 d) (get_or pins 0 d).store in
     let other = pin_store values (get_or pins 1 d) (get_or pins 1 d).store in
-    second ∙ ap (λ s. stored s other) first ∙ sym (stored-append old one other) ∙ ap (stored old) (sym (two_stores values pins d two))
+    second ∙ ap (λ s. kinds_stored s other) first ∙ sym (kinds_stored-append old one other) ∙ ap (kinds_stored old) (sym (two_stores values pins d two))
 
 pub returns : goal.returns
 returns c = two_stored c.args.outputs.now c.args.pins.now _ c.args.slots.now c.store_pin.new.slots c.store_pin-2.new.slots c.requires c.store_pin.ensures c.store_pin-2.ensures

@@ -1,4 +1,4 @@
-use Rattle.std.proofs.Common.{◌≡◌, ◌++◌, ◌∷◌, [], ℕ, ◌+◌, ◌<◌, List, Some, None, length, slice_get, map, take, ◌∙◌, ap, sym, arith}
+use Rattle.std.proofs.Common.{◌≡◌, ◌++◌, ◌∷◌, [], ℕ, ◌+◌, ◌<◌, List, None, Some, length, slice_get, map, take, ◌∙◌, ap, sym, arith}
 use Rattle.std.specs.Option.{option_map}
 use Rattle.std.proofs.lemmas.List.{map_push, take_more}
 use Rattle.std.proofs.lemmas.Option.{get_or_from_slice_get}
@@ -7,8 +7,8 @@ use Rattle.declared_names.specs.declared.declarations.Declared.{Declared}
 use Rattle.scan_steps.specs.declared.slot.Slot.{Slot}
 use Rattle.scan_steps.specs.First.{slot_first}
 use Rattle.scan_steps.proofs.KeptKinds.{declared_there}
-use Rattle.scan_steps.proofs.slots.first_slots.Goals as goal
-use Rattle.scan_steps.proofs.slots.first_slots.Goals.{in-Some+in_ok-push, in_default}
+use Rattle.scan_steps.proofs.slots.Slots.initial.Goals as goal
+use Rattle.scan_steps.proofs.slots.Slots.initial.Goals.{in-Some+in_ok-push_name, in_default}
 
 step : (ds : List Declaration) (k : ℕ) (w : Declared) (done : List Slot) → k < length ds → Some w ≡ option_map (λ (d : Declaration). d.declared) (slice_get ds k)
     → done ≡ map (λ (e : Declaration). slot_first e.declared) (take k ds) → done ++ slot_first w ∷ [] ≡ map (λ (e : Declaration). slot_first e.declared) (take (k + 1) ds)
@@ -25,12 +25,11 @@ step ds k w done lt found is =
 
 pub loop-place-preserved : goal.loop-place-preserved
 loop-place-preserved c = elim c.match-declared_at.branch [
-  | in-Some+in_ok-push w ↦
-      let s = step c.args.declarations.now c.loop-place.place w.in-Some.declared c.loop-place.slots.items (omega arith)
-      w.in-Some.ensures c.loop-place.invariant in
-      let p = w.in_ok-push.ensures.items in
-      let z = w.slots-is in
-      let b = w.initial.ensures in
-      cc
+  | in-Some+in_ok-push_name w ↦
+      rw (w.seats-is, w.lists-is) record {
+        seating = w.in_ok-push_name.ensures.seating;
+        slots = w.in_ok-push_name.ensures.slots
+            ∙ step c.args.declarations.now c.loop-place.place w.in-Some.declared _ (omega arith) w.in-Some.ensures c.loop-place.invariant.slots;
+      }
   | in_default w ↦ absurd (let there = declared_there c.args.declarations.now c.loop-place.place None (omega arith) w.in_default.ensures in let none = there.2 in cc)
 ]
