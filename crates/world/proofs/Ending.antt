@@ -57,7 +57,7 @@ pub ends_well : (plant : PlantValue) (most : ℕ) (text : List ℕ) (L : List (L
     → WritesRun plant most text old now
 ends_well plant most text L w n old now e a = record { events = a.events; spelled = subst (Spell plant a.events) e a.spelled; text = a.text; told = a.told; written = a.written }
 
-abbrev runs_first : (plant : PlantValue) (most : ℕ) (text : List ℕ) (k : ℕ) (L : List (List (List ℕ))) (w : WorldValue) (n : ℕ) (old now : Option (List ℕ)) → L ≡ take k (schedule_lines text) → (a : Stands (from_one plant most) L w n old now)
+abbrev pub runs_first : (plant : PlantValue) (most : ℕ) (text : List ℕ) (k : ℕ) (L : List (List (List ℕ))) (w : WorldValue) (n : ℕ) (old now : Option (List ℕ)) → L ≡ take k (schedule_lines text) → (a : Stands (from_one plant most) L w n old now)
     → RunsFirst plant most text k a.text
 runs_first plant most text k L w n old now e a = record { events = a.events; spelled = subst (Spell plant a.events) e a.spelled; told = a.told }
 

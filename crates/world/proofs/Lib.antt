@@ -5,3 +5,6 @@ pub mod Telling
 pub mod Simulating
 pub mod Ending
 pub mod OneReading
+pub mod LinesRead
+pub mod LiveEnding
+pub mod LiveSteps

@@ -3,3 +3,4 @@
 pub mod ReadingLines
 pub mod Telling
 pub mod Simulating
+pub mod Live

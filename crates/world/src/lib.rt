@@ -6,6 +6,8 @@ mod evaluation_line;
 mod event_line;
 mod line_fault;
 mod lines;
+mod live;
+mod live_fault;
 mod names;
 mod read_line;
 mod schedule_laws;
@@ -18,6 +20,8 @@ pub use exchange::{
     consistency_theorem, holders_agree, keeping_the_greatest_keeps_the_latest, one_run, pairs_rise,
     runs_are_consistent, runs_are_entered, runs_could_be_made, runs_fit, runs_replay,
 };
+pub use live::simulate_lines;
+pub use live_fault::LiveFault;
 pub use schedule_laws::one_reading;
 pub use sim_fault::SimFault;
 pub use simulation::simulate;

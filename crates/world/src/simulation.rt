@@ -28,7 +28,7 @@ fn ones(alloc: Global, resources: usize) -> Result<Vec<u32>, AllocError>
 }
 
 /// A plant before its first event, all first incarnations 1.
-fn open(alloc: Global, plant: Arc<Plant>, max_number: u32) -> Result<World, AllocError>
+pub(crate) fn open(alloc: Global, plant: Arc<Plant>, max_number: u32) -> Result<World, AllocError>
     ensures { IfOk result (λ w. w ≡ record { setting = from_one plant.value max_number; events = []; log = [] }) }
 {
     let first = ones(alloc, plant.resources())?;
@@ -54,15 +54,15 @@ fn bytes_in(schedule: &str) -> usize
 
 /// What stands while a schedule is done: the world, how many events there were, and room for the line of one.
 #[derive(Drop)]
-struct Simulation {
-    world: World,
-    events: u64,
-    line: String,
+pub(crate) struct Simulation {
+    pub(crate) world: World,
+    pub(crate) events: u64,
+    pub(crate) line: String,
 }
 
 impl Simulation {
     /// Does the event that the words of a line spell, and writes its line.
-    fn do_words<W: Write>(
+    pub(crate) fn do_words<W: Write>(
         &mut self,
         alloc: Global,
         words: &[&[u8]],

@@ -1,0 +1,62 @@
+-- What `simulate_lines` leaves: a schedule that a reader gives line by line.
+use Rattle.std.specs.Prelude.{◌≡◌, ℕ, ◌+◌, ◌++◌, ◌⊎◌, List, Option, Some, length, slice_get}
+use Rattle.std.specs.Io.KnownBytes.{Appends, Consumes, IsAtEnd}
+use Rattle.words.specs.Lines.{lines_of}
+use Rattle.plant.specs.PlantValue.{PlantValue}
+use Rattle.line_reader.specs.Lines.{HasNoFeed}
+use Rattle.world.specs.declared.live_fault.LiveFault.{LiveFault}
+use Rattle.world.specs.declared.live_fault.LiveFault.TheVariants.{Syntax, TooLong, Read, Write, Memory}
+use Rattle.world.specs.Simulated.{WritesRun, RunsFirst, StopsAt, WritesBeginning, WritesFirst}
+
+-- all that the reader had left is a schedule, and what was written is the text of its run and nothing else
+pub record WritesLiveRun (plant : PlantValue) (max_number : ℕ) (given left old new : Option (List ℕ)) : Type 0 where
+  pub schedule : List ℕ
+  pub read : Consumes given left schedule
+  pub end : IsAtEnd left
+  pub run : WritesRun plant max_number schedule old new
+
+-- line n of what was read, counted from 1, is the first that is no event, comment or blank; nothing behind it was read,
+-- and what was written is the lines of the events before it
+abbrev pub StopsAtLast : PlantValue → ℕ → List ℕ → ℕ → Option (List ℕ) → Option (List ℕ) → Type 0
+StopsAtLast plant max_number schedule n old new =
+    StopsAt plant max_number schedule n old new × (length (lines_of schedule) ≡ n)
+
+-- line n of what was read, counted from 1, has more than 1,000,000 bytes, of which one more was read; what was written
+-- is the lines of the events before it
+pub record StopsWithin (plant : PlantValue) (max_number : ℕ) (schedule : List ℕ) (n : ℕ)
+    (old new : Option (List ℕ)) : Type 0 where
+  pub before : ℕ
+  pub number_is : n ≡ before + 1
+  pub text : List ℕ
+  pub run : RunsFirst plant max_number schedule before text
+  pub line : List ℕ
+  pub line_is : slice_get (lines_of schedule) before ≡ Some line
+  pub long : length line ≡ 1000001
+  pub only : length (lines_of schedule) ≡ n
+  pub written : Appends old new text
+
+-- the whole lines that were read are a schedule, and what was written is the text of its run; of a further line some was
+-- read perhaps
+pub record StopsBetween (plant : PlantValue) (max_number : ℕ) (schedule : List ℕ)
+    (old new : Option (List ℕ)) : Type 0 where
+  pub whole : List ℕ
+  pub begun : List ℕ
+  pub parted : schedule ≡ whole ++ begun
+  pub no_feed : HasNoFeed begun
+  pub run : WritesRun plant max_number whole old new
+
+-- what each fault means, and what was written before
+abbrev pub StopsLive : PlantValue → ℕ → List ℕ → Option (List ℕ) → Option (List ℕ) → LiveFault → Type 0
+StopsLive plant max_number schedule old new (Syntax line) = StopsAtLast plant max_number schedule line old new
+StopsLive plant max_number schedule old new (TooLong line) = StopsWithin plant max_number schedule line old new
+StopsLive plant max_number schedule old new Read = StopsBetween plant max_number schedule old new
+StopsLive plant max_number schedule old new Write =
+    WritesBeginning plant max_number schedule old new ⊎ WritesFirst plant max_number schedule old new
+StopsLive plant max_number schedule old new Memory = WritesFirst plant max_number schedule old new
+
+-- what was read up to the fault, and what was written for it
+pub record EndsLiveRun (plant : PlantValue) (max_number : ℕ) (given left old new : Option (List ℕ))
+    (fault : LiveFault) : Type 0 where
+  pub schedule : List ℕ
+  pub read : Consumes given left schedule
+  pub stops : StopsLive plant max_number schedule old new fault
