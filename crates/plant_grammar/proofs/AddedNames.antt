@@ -11,7 +11,9 @@ use Rattle.plant_grammar.specs.declared.grammar_fault.GrammarFaultKind.{GrammarF
 use Rattle.plant_grammar.specs.Names.{is_named}
 use Rattle.plant_grammar.specs.NameFaults.{TellsOfName, IsNameTaken}
 use Rattle.plant_grammar.proofs.Apart.{list_any-map, named_back, any_with}
+use Rattle.plant_grammar.specs.Steps.Refusing.{MayBeDeclared}
 use Rattle.plant_grammar.proofs.RefusedNames.{tells_with}
+use Rattle.plant_grammar.proofs.NewNames.{may_be_declared}
 
 split_at : {A : Type 0} (xs : List A) (i : ℕ) (x : A) → i < length xs → x ≡ get_or xs i x → xs ≡ take i xs ++ x ∷ drop (suc i) xs
 split_at [] i x lt is = absurd (omega (arith, lt))
@@ -49,4 +51,20 @@ add_refused k old now d names read i n same grown lt is tells =
       split_at names i n (subst (λ xs. i < length xs) same lt) (subst (λ xs. n ≡ get_or xs i n) same is),
       tells_with k (IsDeclared (old ++ map make before) n) (1000 ≤ length (old ++ map make before)) _ (1000 ≤ length old + length before) (λ twice. declared_apart old d before n twice)
           (λ full. omega (arith, full, length-append old (map make before), length-map before make)) told,
+    )
+
+-- a name at its place of a list that may be declared may be declared there
+pub add_allowed : (old now : List Declaration) (d : Declared) (names read : List (List ℕ)) (i : ℕ) (n : List ℕ) → read ≡ names → now ≡ old ++ map (λ m. record { name = m; declared = d }) (take i names) → i < length read → n ≡ get_or read i n
+    → MayBeDeclared old names → (IsDeclared now n → ⊥) × (length now < 1000)
+add_allowed old now d names read i n same grown lt is may =
+    let make : List ℕ → Declaration = λ m. record { name = m; declared = d } in
+    let before = take i names in
+    let split = split_at names i n (subst (λ xs. i < length xs) same lt) (subst (λ xs. n ≡ get_or xs i n) same is) in
+    let m = may_be_declared old before n (drop (suc i) names) (subst (MayBeDeclared old) split may) in
+    let long : length now ≡ length old + length before = ap length grown ∙ length-append old (map make before) ∙ ap (λ k. length old + k) (length-map before make) in (
+      (λ declared. elim (declared_apart old d before n (subst (λ ds. IsDeclared ds n) grown declared)) [
+        | inl early ↦ m.0 (any_with _ _ old (λ v h. named_back n v.name h) early)
+        | inr late ↦ m.1 late
+      ]),
+      omega (arith, long, m.2),
     )

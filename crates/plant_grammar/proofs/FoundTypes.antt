@@ -1,5 +1,5 @@
 -- Program types that are sought by name.
-use Rattle.std.proofs.Common.{◌≡◌, ℕ, ◌<◌, ◌++◌, length, arith, ◌||◌, ◌↔◌, Bool, true, false, IsTrue, List, [], ◌∷◌, map, cond, Option, Some, is_some, refl, sym, ap, ◌∙◌}
+use Rattle.std.proofs.Common.{◌≡◌, ℕ, ◌<◌, ◌++◌, length, arith, ◌||◌, ◌↔◌, Bool, true, false, suc, subst, IsTrue, List, [], ◌∷◌, map, cond, Option, Some, is_some, refl, sym, ap, ◌∙◌}
 use Rattle.std.proofs.lemmas.List.{map-append}
 use Rattle.std.proofs.lemmas.List.Folds.{Any-from_list_any, list_any-from_Any}
 use Rattle.std.specs.Prelude.{Any}
@@ -31,12 +31,17 @@ found_any_of f p xs =
     let is = found_is (λ x. p (f x)) xs in
     ((λ some. Any-from_list_any p (map f xs) (list_any-map f p xs ∙ sym is ∙ some)), (λ any. is ∙ sym (list_any-map f p xs) ∙ list_any-from_Any p (map f xs) any))
 
--- a type that was found is one of the programs
-pub known_type : (types : List TextValue) (name : List ℕ) (t : TextValue) → find (λ (t : TextValue). is_named name t.program.name) types ≡ Some t → Any (λ p. IsTrue (is_named name p.name)) (map (λ (t : TextValue). t.program) types)
-known_type types name t at =
-    let is : TextValue → Bool = λ t. is_named name t.program.name in
-    Any-from_list_any (λ p. is_named name p.name) (map (λ (t : TextValue). t.program) types)
-    (list_any-map (λ (t : TextValue). t.program) (λ p. is_named name p.name) types ∙ sym (found_is is types) ∙ ap is_some at)
+-- a type that was found is one of the programs, and what holds of it holds of one
+pub found_type : (types : List TextValue) (name : List ℕ) (t : TextValue) (Q : Program → Type 0) → find (λ (t : TextValue). is_named name t.program.name) types ≡ Some t → Q t.program
+    → Any (λ p. IsTrue (is_named name p.name) × Q p) (map (λ (t : TextValue). t.program) types)
+found_type [] name t Q at q = absurd cc
+found_type (x ∷ xs) name t Q at q = go (is_named name x.program.name) refl at (λ e. found_type xs name t Q e q)
+  where
+    go : (b : Bool) → is_named name x.program.name ≡ b → cond b (Some x) (find (λ (t : TextValue). is_named name t.program.name) xs) ≡ Some t
+        → (find (λ (t : TextValue). is_named name t.program.name) xs ≡ Some t → Any (λ p. IsTrue (is_named name p.name) × Q p) (map (λ (t : TextValue). t.program) xs))
+        → Any (λ p. IsTrue (is_named name p.name) × Q p) (x.program ∷ map (λ (t : TextValue). t.program) xs)
+    go true e f later = let same : x ≡ t = cc in (0, x.program, omega arith, refl, (e, subst (λ (y : TextValue). Q y.program) (sym same) q))
+    go false e f later = let r = later f in (suc r.0, r.1, omega (arith, r.2), r.3, r.4)
 
 pub map-grown : {A B : Type 0} (f : A → B) (xs ys : List A) (y : A) → ys ≡ xs ++ y ∷ [] → map f ys ≡ map f xs ++ f y ∷ []
 map-grown f xs ys y e = ap (λ zs. map f zs) e ∙ map-append f xs (y ∷ [])

@@ -7,3 +7,5 @@ pub mod RefusedPlaces
 pub mod AddedNames
 pub mod ProgramVariables
 pub mod WholeTrees
+pub mod PlacedWords
+pub mod NewNames

@@ -20,7 +20,7 @@ use Rattle.plant_grammar.specs.declared.grammar.tree.Item.TheVariants as item
 use Rattle.plant_grammar.specs.declared.grammar.tree.Resource.{Resource}
 use Rattle.plant_grammar.specs.Grammar.{Tree, binds_listed}
 use Rattle.plant_grammar.specs.Names.{is_named, AreNamesApart}
-use Rattle.plant_grammar.specs.Kinds.{items_or_none}
+use Rattle.plant_grammar.specs.Kinds.{items_or_none, IsOfInputKind}
 
 -- what a name of a section is declared as
 abbrev pub declared_as : Section → TypeName → Declared
@@ -86,10 +86,12 @@ uses_of r = flat_map use_of r.items.items
 abbrev pub binds_of : Use → List Bind
 binds_of u = items_or_none (binds_listed u.binds)
 
--- an instance names a task that stands before it and a program type, and binds no input twice
+-- An instance names a task that stands before it and a program type. Each of its binds names an input of that type,
+-- no two the same, and gives it no address of another kind.
 pub record IsUseLawful (tree : Tree) (before : List Item) (u : Use) : Type 0 where
   pub task_is : Any (λ t. IsTrue (is_named u.task t.name)) (flat_map task_of before)
-  pub type_is : Any (λ p. IsTrue (is_named u.program p.name)) tree.programs
+  pub type_is : Any (λ p. IsTrue (is_named u.program p.name) × All (IsOfInputKind (variables p)) (binds_of u))
+      tree.programs
   pub apart : AreNamesApart (map (λ b. b.input) (binds_of u))
 
 -- a resource: at most 16 tasks, none of interval 0, names apart, and lawful instances

@@ -3,3 +3,4 @@ pub mod Declaring
 pub mod Lines
 pub mod ReadParts
 pub mod Reading
+pub mod Refusing

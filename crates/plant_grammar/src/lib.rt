@@ -3,6 +3,7 @@
 
 mod grammar;
 mod grammar_fault;
+mod laws;
 mod names;
 mod spaces;
 
@@ -15,5 +16,6 @@ pub use grammar::tree::{
     VarBlock,
 };
 pub use grammar_fault::{GrammarFault, GrammarFaultKind};
+pub use laws::words_are_in_place;
 pub use names::is_named;
 pub use spaces::kind_of_space;

@@ -12,7 +12,7 @@ use Rattle.plant_grammar.specs.declared.grammar.tree.Resource.{Resource}
 use Rattle.plant_grammar.specs.declared.grammar.tree.SourceName.{SourceName}
 use Rattle.plant_grammar.specs.declared.grammar.tree.SourceName.TheVariants as source
 use Rattle.declared_names.specs.declared.declarations.Kind.{Kind}
-use Rattle.plant_grammar.specs.Kinds.{items_or_none, kind_of_space, input_kind_at}
+use Rattle.plant_grammar.specs.Kinds.{items_or_none, input_kind_at, input_kind_of}
 use Rattle.plant_grammar.specs.declared.grammar.tree.Bind.{Bind}
 use Rattle.plant_text.specs.declared.token.Token.{Token}
 use Rattle.plant_text.specs.declared.token.Punctuation.TheVariants.{Close}
@@ -90,19 +90,6 @@ pub record AreResourcesLawful (tree : Tree) (resources : List Resource) : Type 0
   pub few : length resources ≤ 16
   pub apart : AreNamesApart (map (λ r. r.name) resources)
   pub lawful : All (IsResourceLawful tree) resources
-
--- the kind of the input of this name
-abbrev pub input_kind_of : List Declaration → List ℕ → Option Kind
-input_kind_of ds name = option_and_then (input_kind_at ds) (place_of ds name)
-
--- an address has the kind; what a named output gives is known only when the source is resolved
-abbrev pub HasFieldKind : Kind → SourceName → Type 0
-HasFieldKind kind (source.Field a) = kind_of_space a.space ≡ kind
-HasFieldKind kind (source.Output resource instance output) = Unit
-
--- the bind's input is one of these, and has the kind of its source, if that is an address
-abbrev pub IsOfInputKind : List Declaration → Bind → Type 0
-IsOfInputKind ds b = (kind : Kind) × (input_kind_of ds b.input ≡ Some kind) × HasFieldKind kind b.source
 
 -- the place of the input of this name, with its kind; none where the name is no input's
 abbrev pub FindsInput : List Declaration → List ℕ → Option (ℕ × Kind) → Type 0

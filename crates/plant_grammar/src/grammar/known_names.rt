@@ -6,7 +6,8 @@ ghost use Rattle.plant_grammar.specs.declared.grammar_fault.GrammarFaultKind.The
 ghost use Rattle.std.specs.List.{flat_map, find};
 ghost use Rattle.std.specs.Option.{option_map};
 ghost use Rattle.plant_grammar.specs.NameFaults.{TellsOfName};
-ghost use Rattle.plant_grammar.specs.Steps.ReadParts.{is_task_line, input_kind_of};
+ghost use Rattle.plant_grammar.specs.Kinds.{input_kind_of};
+ghost use Rattle.plant_grammar.specs.Steps.ReadParts.{is_task_line};
 ghost use Rattle.plant_grammar.specs.Steps.Reading.{programs_of};
 ghost use Rattle.plant_grammar.specs.Names.{is_named};
 ghost use Rattle.plant_grammar.specs.Lawful.{variables, task_of, use_of};

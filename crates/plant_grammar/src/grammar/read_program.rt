@@ -1,11 +1,17 @@
 //! The rules of the grammar from names to programs.
 
-ghost use Rattle.std.specs.Prelude.{◌≡◌, ◌∷◌, ◌++◌, ◌+◌, ◌<◌, IfOk, OnOk, OnErr, IsTrue, IsFalse, All, length, IfErr};
+ghost use Rattle.std.specs.Prelude.{◌≡◌, ◌≢◌, ℕ, List, ◌∷◌, ◌++◌, ◌+◌, ◌<◌, IfOk, OnOk, OnErr, IsTrue, IsFalse, All, length, IfErr};
 ghost use Rattle.plant_grammar.specs.WordFaults.{IsGrammarFault};
 ghost use Rattle.std.specs.List.{flat_map};
+ghost use Rattle.plant_text.specs.declared.token.Token.{Token};
 ghost use Rattle.plant_text.specs.declared.token.Token.TheVariants as token;
+ghost use Rattle.declared_names.specs.Names.{IsDeclared};
+ghost use Rattle.plant_grammar.specs.declared.grammar.tree.TypeName.{TypeName};
+ghost use Rattle.plant_grammar.specs.declared.grammar_fault.GrammarFaultKind.TheVariants.{Memory};
 ghost use Rattle.plant_text.specs.declared.token.Keyword.TheVariants as key;
-ghost use Rattle.plant_grammar.specs.Grammar.{key_word, section_word, kind_word, type_word, name_words, list_words, lists_words, block_words, program_words};
+ghost use Rattle.plant_text.specs.declared.token.Punctuation.TheVariants.{Colon};
+ghost use Rattle.plant_grammar.specs.Steps.Refusing.{MayBeDeclared};
+ghost use Rattle.plant_grammar.specs.Grammar.{key_word, mark_word, section_word, kind_word, type_word, name_words, list_words, lists_words, block_words, program_words};
 ghost use Rattle.plant_grammar.specs.Lawful.{list_variables, lists_variables, block_variables, IsTypeLawful, IsListLawful, IsBlockLawful, IsProgramLawful};
 ghost use Rattle.plant_grammar.specs.NameFaults.{TellsOfName, RefusesVariable, RefusesList, RefusesBlock, RefusesBlocks, RefusesProgram, RefusesPrograms};
 ghost use Rattle.plant_grammar.specs.Steps.Declaring.{TellsOfType, TellsOfVariable, BeginRefused};
@@ -38,6 +44,7 @@ impl<'a> Reader<'a> {
     ) -> Result<Name, GrammarFault>
         ensures ok { IfOk result (λ name. self.old.words ≡ token.Name name ∷ self.new.words) }
         ensures bodies { OnOk result (self.new.bodies ≡ self.old.bodies) }
+        ensures other { IfErr result (λ e. e.kind ≢ Memory → (name : List ℕ) (rest : List Token) → self.old.words ≡ token.Name name ∷ rest → (IsDeclared variables.now name → ⊥) → IsNew (λ n. n) before.now name → length variables.now + length before.now < 1000 → ⊥) }
         ensures tells { IfErr result (TellsOfVariable variables.now before.now self.old.words) }
         ensures value { IfErr result IsGrammarFault }
     {
@@ -52,6 +59,8 @@ impl<'a> Reader<'a> {
         ensures ok { IfOk result (λ names. self.old.words ≡ name_words names.items ++ self.new.words) }
         ensures bodies { OnOk result (self.new.bodies ≡ self.old.bodies) }
         ensures some { IfOk result (λ names. 0 < length names.items) }
+        ensures other { IfErr result (λ e. e.kind ≢ Memory → (ns : List (List ℕ)) (rest : List Token) → self.old.words ≡ name_words ns ++ mark_word Colon ∷ rest → 0 < length ns → MayBeDeclared variables.now ns → ⊥) }
+        ensures only { IfOk result (λ names. (ns : List (List ℕ)) (rest : List Token) → self.old.words ≡ name_words ns ++ mark_word Colon ∷ rest → 0 < length ns → (names.items ≡ ns) × (self.new.words ≡ mark_word Colon ∷ rest)) }
         ensures names { IfErr result (BeginRefused (λ k. RefusesVariable k variables.now) self.old.words) }
         ensures value { IfErr result IsGrammarFault }
     {
@@ -68,6 +77,7 @@ impl<'a> Reader<'a> {
     fn kind(&mut self) -> Result<Kind, GrammarFault>
         ensures ok { IfOk result (λ kind. self.old.words ≡ kind_word kind ∷ self.new.words) }
         ensures bodies { OnOk result (self.new.bodies ≡ self.old.bodies) }
+        ensures other { OnErr result (IsNoneNext kind_word self.old.words) }
         ensures tells { IfErr result (λ e. TellsOfName e.kind ⊥ ⊥) }
         ensures value { IfErr result IsGrammarFault }
     {
@@ -88,6 +98,8 @@ impl<'a> Reader<'a> {
         ensures ok { IfOk result (λ t. self.old.words ≡ type_word t ∷ self.new.words) }
         ensures bodies { OnOk result (self.new.bodies ≡ self.old.bodies) }
         ensures lawful { IfOk result (λ t. IsTypeLawful section t) }
+        ensures other { OnErr result ((t : TypeName) (rest : List Token) → self.old.words ≡ type_word t ∷ rest → IsTypeLawful section t → ⊥) }
+        ensures only { OnOk result ((t : TypeName) (rest : List Token) → self.old.words ≡ type_word t ∷ rest → rest ≡ self.new.words) }
         ensures tells { IfErr result (λ e. TellsOfName e.kind ⊥ ⊥) }
         ensures value { IfErr result IsGrammarFault }
     {
@@ -162,6 +174,7 @@ impl<'a> Reader<'a> {
     fn section(&mut self) -> Result<Section, GrammarFault>
         ensures ok { IfOk result (λ s. self.old.words ≡ section_word s ∷ self.new.words) }
         ensures bodies { OnOk result (self.new.bodies ≡ self.old.bodies) }
+        ensures other { OnErr result (IsNoneNext section_word self.old.words) }
         ensures tells { IfErr result (λ e. TellsOfName e.kind ⊥ ⊥) }
         ensures value { IfErr result IsGrammarFault }
     {
@@ -220,6 +233,7 @@ impl<'a> Reader<'a> {
         ensures bodies { OnOk result (self.new.bodies ≡ self.old.bodies) }
         ensures new { IfOk result (λ name. IsNew (λ p. p.name) (programs_of before.now) name) }
         ensures few { OnOk result (length before.now < 64) }
+        ensures other { IfErr result (λ e. e.kind ≢ Memory → (name : List ℕ) (rest : List Token) → self.old.words ≡ token.Name name ∷ rest → IsNew (λ p. p.name) (programs_of before.now) name → length before.now < 64 → ⊥) }
         ensures tells { IfErr result (TellsOfType before.now self.old.words) }
         ensures value { IfErr result IsGrammarFault }
     {
@@ -235,6 +249,7 @@ impl<'a> Reader<'a> {
         ensures bodies { OnOk result (self.new.bodies ≡ self.old.bodies) }
         ensures new { IfOk result (λ name. IsNew (λ p. p.name) (programs_of before.now) name) }
         ensures few { OnOk result (length before.now < 64) }
+        ensures other { IfErr result (λ e. e.kind ≢ Memory → (name : List ℕ) (rest : List Token) → self.old.words ≡ key_word key.Program ∷ token.Name name ∷ rest → IsNew (λ p. p.name) (programs_of before.now) name → length before.now < 64 → ⊥) }
         ensures names { IfErr result (BeginRefused (λ k. RefusesProgram k (programs_of before.now)) self.old.words) }
         ensures value { IfErr result IsGrammarFault }
     {
@@ -246,6 +261,7 @@ impl<'a> Reader<'a> {
     fn program_end(&mut self, alloc: Global) -> Result<Text, GrammarFault>
         ensures ok { IfOk result (λ body. self.old.words ≡ token.Body body ∷ key_word key.EndProgram ∷ self.new.words) }
         ensures bodies { OnOk result (self.old.bodies ≡ next_line self.old ∷ self.new.bodies) }
+        ensures other { IfErr result (λ e. e.kind ≢ Memory → (body : List ℕ) (rest : List Token) → self.old.words ≡ token.Body body ∷ key_word key.EndProgram ∷ rest → ⊥) }
         ensures tells { IfErr result (λ e. TellsOfName e.kind ⊥ ⊥) }
         ensures value { IfErr result IsGrammarFault }
     {

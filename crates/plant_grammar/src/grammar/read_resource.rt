@@ -1,9 +1,17 @@
 //! The rules of the grammar from tasks to resources.
 
-ghost use Rattle.std.specs.Prelude.{◌≡◌, Some, [], ◌∷◌, ◌++◌, ◌+◌, ◌<◌, IfOk, OnOk, Any, map, length, IsTrue, IfErr};
+ghost use Rattle.std.specs.Prelude.{◌≡◌, ◌≢◌, ℕ, List, Some, None, [], ◌∷◌, ◌++◌, ◌+◌, ◌<◌, IfOk, OnOk, OnErr, Any, All, map, length, IsTrue, IfErr};
 ghost use Rattle.plant_grammar.specs.WordFaults.{IsGrammarFault};
 ghost use Rattle.std.specs.List.{find, flat_map};
+ghost use Rattle.plant_text.specs.declared.token.Token.{Token};
 ghost use Rattle.plant_text.specs.declared.token.Token.TheVariants as token;
+ghost use Rattle.plant_text.specs.declared.address.Address.{Address};
+ghost use Rattle.plant_grammar.specs.declared.grammar.tree.Order.{Order};
+ghost use Rattle.plant_grammar.specs.declared.grammar.tree.TaskLine.{TaskLine};
+ghost use Rattle.plant_grammar.specs.declared.grammar.tree.Bind.{Bind};
+ghost use Rattle.plant_grammar.specs.declared.grammar.tree.SourceName.{SourceName};
+ghost use Rattle.plant_grammar.specs.declared.grammar.tree.SourceName.TheVariants as source;
+ghost use Rattle.plant_grammar.specs.declared.grammar_fault.GrammarFaultKind.TheVariants.{Memory};
 ghost use Rattle.plant_text.specs.declared.token.Keyword.TheVariants.{Program, With};
 ghost use Rattle.plant_text.specs.declared.token.Punctuation.TheVariants.{Colon};
 ghost use Rattle.plant_grammar.specs.Grammar.{key_word, mark_word, interval_words, priority_words, settings, task_words, source_words, bind_words, binds_words, binds_listed, use_words, item_words, items_words, resource_words, resources_words};
@@ -11,8 +19,8 @@ ghost use Rattle.plant_grammar.specs.Names.{is_named, AreNamesApart};
 ghost use Rattle.plant_grammar.specs.Lawful.{variables, task_of, use_of, uses_of, IsUseLawful, IsResourceLawful};
 ghost use Rattle.plant_grammar.specs.NameFaults.{TellsOfName, RefusesTask, RefusesBind};
 ghost use Rattle.plant_grammar.specs.Steps.Declaring.{TellsOfTask, TellsOfInstance, TellsOfBind, TellsOfResource, BeginRefused, RefusesFurtherInstance, RefusesItem, RefusesFurtherItems, RefusesFurtherResource, RefusesFurtherResources, RefusesInParentheses};
-ghost use Rattle.plant_grammar.specs.Steps.ReadParts.{types_alone, with_instance, with_binds, tally_with, EndWithBinds, bound_in, input_kind_of, HasFieldKind, IsOfInputKind, IsNew, MayFollow, AreItemsLawful, AreResourcesLawful};
-ghost use Rattle.plant_grammar.specs.Kinds.{kind_of_space};
+ghost use Rattle.plant_grammar.specs.Steps.ReadParts.{types_alone, with_instance, with_binds, tally_with, EndWithBinds, bound_in, IsNew, MayFollow, AreItemsLawful, AreResourcesLawful};
+ghost use Rattle.plant_grammar.specs.Kinds.{kind_of_space, input_kind_of, HasFieldKind, IsOfInputKind};
 ghost use Rattle.declared_names.specs.declared.declarations.Kind.{Kind};
 
 use crate::grammar::known_names::{
@@ -40,6 +48,7 @@ impl<'a> Reader<'a> {
     fn interval(&mut self) -> Result<u32, GrammarFault>
         ensures ok { IfOk result (λ n. self.old.words ≡ interval_words n ++ self.new.words) }
         ensures positive { IfOk result (λ n. 0 < n) }
+        ensures other { OnErr result ((n : ℕ) (rest : List Token) → self.old.words ≡ interval_words n ++ rest → 0 < n → ⊥) }
         ensures tells { IfErr result (λ e. TellsOfName e.kind ⊥ ⊥) }
         ensures value { IfErr result IsGrammarFault }
     {
@@ -57,6 +66,7 @@ impl<'a> Reader<'a> {
     /// A task's priority.
     fn priority(&mut self) -> Result<u16, GrammarFault>
         ensures ok { IfOk result (λ n. self.old.words ≡ priority_words n ++ self.new.words) }
+        ensures other { OnErr result ((n : ℕ) (rest : List Token) → self.old.words ≡ priority_words n ++ rest → ⊥) }
         ensures tells { IfErr result (λ e. TellsOfName e.kind ⊥ ⊥) }
         ensures value { IfErr result IsGrammarFault }
     {
@@ -69,6 +79,8 @@ impl<'a> Reader<'a> {
     fn settings(&mut self) -> Result<(Order, u32, u16), GrammarFault>
         ensures ok { IfOk result (λ s. self.old.words ≡ settings s.0 s.1 s.2 ++ self.new.words) }
         ensures positive { IfOk result (λ s. 0 < s.1) }
+        ensures other { OnErr result ((o : Order) (i n : ℕ) (rest : List Token) → self.old.words ≡ settings o i n ++ rest → 0 < i → ⊥) }
+        ensures only { OnOk result ((o : Order) (i n : ℕ) (rest : List Token) → self.old.words ≡ settings o i n ++ rest → rest ≡ self.new.words) }
         ensures tells { IfErr result (λ e. TellsOfName e.kind ⊥ ⊥) }
         ensures value { IfErr result IsGrammarFault }
     {
@@ -90,6 +102,7 @@ impl<'a> Reader<'a> {
         ensures ok { IfOk result (λ name. self.old.words ≡ token.Name name ∷ self.new.words) }
         ensures new { IfOk result (λ name. IsNew (λ t. t.name) (flat_map task_of before.now) name) }
         ensures few { OnOk result (length (flat_map task_of before.now) < 16) }
+        ensures other { IfErr result (λ e. e.kind ≢ Memory → (name : List ℕ) (rest : List Token) → self.old.words ≡ token.Name name ∷ rest → IsNew (λ t. t.name) (flat_map task_of before.now) name → length (flat_map task_of before.now) < 16 → ⊥) }
         ensures tells { IfErr result (TellsOfTask before.now self.old.words) }
         ensures value { IfErr result IsGrammarFault }
     {
@@ -109,6 +122,8 @@ impl<'a> Reader<'a> {
         ensures new { IfOk result (λ t. IsNew (λ t. t.name) (flat_map task_of before.now) t.name) }
         ensures few { OnOk result (length (flat_map task_of before.now) < 16) }
         ensures positive { IfOk result (λ t. 0 < t.interval) }
+        ensures other { IfErr result (λ e. e.kind ≢ Memory → (t : TaskLine) (rest : List Token) → self.old.words ≡ task_words t ++ rest → IsNew (λ t. t.name) (flat_map task_of before.now) t.name → length (flat_map task_of before.now) < 16 → 0 < t.interval → ⊥) }
+        ensures only { OnOk result ((t : TaskLine) (rest : List Token) → self.old.words ≡ task_words t ++ rest → rest ≡ self.new.words) }
         ensures names { IfErr result (BeginRefused (λ k. RefusesTask k before.now) self.old.words) }
         ensures value { IfErr result IsGrammarFault }
     {
@@ -130,6 +145,7 @@ impl<'a> Reader<'a> {
     fn address_of(&mut self, kind: Kind) -> Result<Address, GrammarFault>
         ensures ok { IfOk result (λ a. self.old.words ≡ token.Address a ∷ self.new.words) }
         ensures kind { IfOk result (λ a. kind_of_space a.space ≡ kind) }
+        ensures other { OnErr result ((a : Address) (rest : List Token) → self.old.words ≡ token.Address a ∷ rest → kind_of_space a.space ≡ kind → ⊥) }
         ensures tells { IfErr result (λ e. TellsOfName e.kind ⊥ ⊥) }
         ensures value { IfErr result IsGrammarFault }
     {
@@ -146,6 +162,7 @@ impl<'a> Reader<'a> {
     fn output(&mut self, alloc: Global) -> Result<SourceName, GrammarFault>
         ensures ok { IfOk result (λ s. self.old.words ≡ source_words s ++ self.new.words) }
         ensures kind { (kind : Kind) → IfOk result (HasFieldKind kind) }
+        ensures other { IfErr result (λ e. e.kind ≢ Memory → (r i o : List ℕ) (rest : List Token) → self.old.words ≡ source_words (source.Output r i o) ++ rest → ⊥) }
         ensures tells { IfErr result (λ e. TellsOfName e.kind ⊥ ⊥) }
         ensures value { IfErr result IsGrammarFault }
     {
@@ -165,6 +182,8 @@ impl<'a> Reader<'a> {
     fn source(&mut self, alloc: Global, kind: Kind) -> Result<SourceName, GrammarFault>
         ensures ok { IfOk result (λ s. self.old.words ≡ source_words s ++ self.new.words) }
         ensures kind { IfOk result (HasFieldKind kind) }
+        ensures other { IfErr result (λ e. e.kind ≢ Memory → (s : SourceName) (rest : List Token) → self.old.words ≡ source_words s ++ rest → HasFieldKind kind s → ⊥) }
+        ensures only { OnOk result ((s : SourceName) (rest : List Token) → self.old.words ≡ source_words s ++ rest → rest ≡ self.new.words) }
         ensures tells { IfErr result (λ e. TellsOfName e.kind ⊥ ⊥) }
         ensures value { IfErr result IsGrammarFault }
     {
@@ -187,6 +206,7 @@ impl<'a> Reader<'a> {
         ensures new { IfOk result (λ i. IsNew (λ b. b.input) before.now i.0) }
         ensures kind { IfOk result (λ i. input_kind_of (variables program.now.program) i.0 ≡ Some i.1) }
         ensures tally { OnOk result (tally.new ≡ with_binds tally.old 1) }
+        ensures other { IfErr result (λ e. e.kind ≢ Memory → (name : List ℕ) (k : Kind) (rest : List Token) → self.old.words ≡ token.Name name ∷ rest → input_kind_of (variables program.now.program) name ≡ Some k → IsNew (λ b. b.input) before.now name → tally.old.binds < 4096 → ⊥) }
         ensures tells { IfErr result (TellsOfBind tally.old.binds self.old.words) }
         ensures value { IfErr result IsGrammarFault }
     {
@@ -214,6 +234,8 @@ impl<'a> Reader<'a> {
         ensures new { IfOk result (λ b. IsNew (λ b. b.input) before.now b.input) }
         ensures kind { IfOk result (IsOfInputKind (variables program.now.program)) }
         ensures tally { OnOk result (tally.new ≡ with_binds tally.old 1) }
+        ensures other { IfErr result (λ e. e.kind ≢ Memory → (b : Bind) (rest : List Token) → self.old.words ≡ bind_words b ++ rest → IsOfInputKind (variables program.now.program) b → IsNew (λ b. b.input) before.now b.input → tally.old.binds < 4096 → ⊥) }
+        ensures only { OnOk result ((b : Bind) (rest : List Token) → self.old.words ≡ bind_words b ++ rest → rest ≡ self.new.words) }
         ensures tells { IfErr result (TellsOfBind tally.old.binds self.old.words) }
         ensures value { IfErr result IsGrammarFault }
     {
@@ -233,6 +255,7 @@ impl<'a> Reader<'a> {
     ) -> Result<Vec<Bind>, GrammarFault>
         ensures ok { IfOk result (λ binds. EndWithBinds binds.items self.old.words self.new.words) }
         ensures apart { IfOk result (λ binds. AreNamesApart (map (λ b. b.input) binds.items)) }
+        ensures kinds { IfOk result (λ binds. All (IsOfInputKind (variables program.now.program)) binds.items) }
         ensures tally { IfOk result (λ binds. tally.new ≡ with_binds tally.old (length binds.items)) }
         ensures names { IfErr result (BeginRefused (λ k. RefusesBind k tally.old.binds) self.old.words) }
         ensures value { IfErr result IsGrammarFault }
@@ -259,6 +282,7 @@ impl<'a> Reader<'a> {
     ) -> Result<Option<Vec<Bind>>, GrammarFault>
         ensures ok { IfOk result (λ binds. self.old.words ≡ binds_words (binds_listed binds) ++ self.new.words) }
         ensures apart { IfOk result (λ binds. AreNamesApart (map (λ b. b.input) (bound_in binds))) }
+        ensures kinds { IfOk result (λ binds. All (IsOfInputKind (variables program.now.program)) (bound_in binds)) }
         ensures tally { IfOk result (λ binds. tally.new ≡ with_binds tally.old (length (bound_in binds))) }
         ensures names { IfErr result (BeginRefused (RefusesInParentheses tally.old.binds) self.old.words) }
         ensures value { IfErr result IsGrammarFault }
@@ -281,6 +305,7 @@ impl<'a> Reader<'a> {
         ensures ok { IfOk result (λ name. self.old.words ≡ token.Name name ∷ self.new.words) }
         ensures new { IfOk result (λ name. IsNew (λ u. u.instance) (flat_map use_of before.now) name) }
         ensures tally { OnOk result (tally.new ≡ with_instance tally.old) }
+        ensures other { IfErr result (λ e. e.kind ≢ Memory → (name : List ℕ) (rest : List Token) → self.old.words ≡ token.Name name ∷ rest → IsNew (λ u. u.instance) (flat_map use_of before.now) name → tally.old.instances < 64 → ⊥) }
         ensures tells { IfErr result (TellsOfInstance before.now tally.old.instances self.old.words) }
         ensures value { IfErr result IsGrammarFault }
     {
@@ -294,6 +319,7 @@ impl<'a> Reader<'a> {
     fn known_task(&mut self, alloc: Global, before: &[Item]) -> Result<Name, GrammarFault>
         ensures ok { IfOk result (λ name. self.old.words ≡ token.Name name ∷ self.new.words) }
         ensures known { IfOk result (λ name. Any (λ t. IsTrue (is_named name t.name)) (flat_map task_of before.now)) }
+        ensures other { IfErr result (λ e. e.kind ≢ Memory → (name : List ℕ) (rest : List Token) → self.old.words ≡ token.Name name ∷ rest → Any (λ t. IsTrue (is_named name t.name)) (flat_map task_of before.now) → ⊥) }
         ensures tells { IfErr result (λ e. TellsOfName e.kind ⊥ ⊥) }
         ensures value { IfErr result IsGrammarFault }
     {
@@ -316,6 +342,7 @@ impl<'a> Reader<'a> {
         ensures ok { IfOk result (λ name. self.old.words ≡ key_word Program ∷ token.Name name ∷ self.new.words) }
         ensures new { IfOk result (λ name. IsNew (λ u. u.instance) (flat_map use_of before.now) name) }
         ensures tally { OnOk result (tally.new ≡ with_instance tally.old) }
+        ensures other { IfErr result (λ e. e.kind ≢ Memory → (name : List ℕ) (rest : List Token) → self.old.words ≡ key_word Program ∷ token.Name name ∷ rest → IsNew (λ u. u.instance) (flat_map use_of before.now) name → tally.old.instances < 64 → ⊥) }
         ensures names { IfErr result (BeginRefused (RefusesFurtherInstance tally.old before.now) self.old.words) }
         ensures value { IfErr result IsGrammarFault }
     {
@@ -327,6 +354,7 @@ impl<'a> Reader<'a> {
     fn task_of_instance(&mut self, alloc: Global, before: &[Item]) -> Result<Name, GrammarFault>
         ensures ok { IfOk result (λ name. self.old.words ≡ key_word With ∷ token.Name name ∷ self.new.words) }
         ensures known { IfOk result (λ name. Any (λ t. IsTrue (is_named name t.name)) (flat_map task_of before.now)) }
+        ensures other { IfErr result (λ e. e.kind ≢ Memory → (name : List ℕ) (rest : List Token) → self.old.words ≡ key_word With ∷ token.Name name ∷ rest → Any (λ t. IsTrue (is_named name t.name)) (flat_map task_of before.now) → ⊥) }
         ensures tells { IfErr result (λ e. TellsOfName e.kind ⊥ ⊥) }
         ensures value { IfErr result IsGrammarFault }
     {
@@ -342,6 +370,7 @@ impl<'a> Reader<'a> {
     ) -> Result<(Name, &'t ProgramText), GrammarFault>
         ensures ok { IfOk result (λ p. self.old.words ≡ mark_word Colon ∷ token.Name p.0 ∷ self.new.words) }
         ensures found { IfOk result (λ p. find (λ t. is_named p.0 t.program.name) types.now ≡ Some p.1.now) }
+        ensures other { IfErr result (λ e. e.kind ≢ Memory → (name : List ℕ) (rest : List Token) → self.old.words ≡ mark_word Colon ∷ token.Name name ∷ rest → find (λ t. is_named name t.program.name) types.now ≢ None → ⊥) }
         ensures tells { IfErr result (λ e. TellsOfName e.kind ⊥ ⊥) }
         ensures value { IfErr result IsGrammarFault }
     {
@@ -432,6 +461,7 @@ impl<'a> Reader<'a> {
         ensures ok { IfOk result (λ name. self.old.words ≡ token.Name name ∷ self.new.words) }
         ensures new { IfOk result (λ name. IsNew (λ r. r.name) before.now name) }
         ensures few { OnOk result (length before.now < 16) }
+        ensures other { IfErr result (λ e. e.kind ≢ Memory → (name : List ℕ) (rest : List Token) → self.old.words ≡ token.Name name ∷ rest → IsNew (λ r. r.name) before.now name → length before.now < 16 → ⊥) }
         ensures tells { IfErr result (TellsOfResource before.now self.old.words) }
         ensures value { IfErr result IsGrammarFault }
     {

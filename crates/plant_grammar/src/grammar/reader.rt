@@ -130,6 +130,7 @@ impl<'a> Reader<'a> {
         ensures ok { IfOk result (λ name. self.old.words ≡ token.Name name ∷ self.new.words) }
         ensures bodies { OnOk result (self.new.bodies ≡ self.old.bodies) }
         ensures err { IfErr result (λ e. e.kind ≢ Memory → e ≡ syntax_at self.old) }
+        ensures other { IfErr result (λ e. e.kind ≢ Memory → IsNoneNext token.Name self.old.words) }
         ensures kept { OnErr result (self.new ≡ self.old) }
         ensures tells { IfErr result (λ e. TellsOfName e.kind ⊥ ⊥) }
         ensures value { IfErr result IsGrammarFault }
@@ -149,6 +150,7 @@ impl<'a> Reader<'a> {
         ensures ok { IfOk result (λ body. self.old.words ≡ token.Body body ∷ self.new.words) }
         ensures bodies { OnOk result (self.old.bodies ≡ next_line self.old ∷ self.new.bodies) }
         ensures err { IfErr result (λ e. e.kind ≢ Memory → e ≡ syntax_at self.old) }
+        ensures other { IfErr result (λ e. e.kind ≢ Memory → IsNoneNext token.Body self.old.words) }
         ensures kept { OnErr result (self.new ≡ self.old) }
         ensures tells { IfErr result (λ e. TellsOfName e.kind ⊥ ⊥) }
         ensures value { IfErr result IsGrammarFault }

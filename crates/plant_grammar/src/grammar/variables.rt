@@ -1,10 +1,12 @@
-ghost use Rattle.std.specs.Prelude.{◌≡◌, ◌↔◌, ◌+◌, ◌<◌, ◌≤◌, ◌++◌, [], ◌∷◌, List, IsTrue, OnOk, length, IfErr};
+ghost use Rattle.std.specs.Prelude.{◌≡◌, ◌≢◌, ◌↔◌, ◌+◌, ◌<◌, ◌≤◌, ◌++◌, [], ◌∷◌, List, IsTrue, OnOk, OnErr, length, IfErr};
 ghost use Rattle.plant_grammar.specs.WordFaults.{IsGrammarFault};
 ghost use Rattle.declared_names.specs.Names.{IsDeclared};
 ghost use Rattle.plant_grammar.specs.Lawful.{declared_as, list_variables};
 ghost use Rattle.plant_grammar.specs.NameFaults.{IsOfName, IsNameTaken};
 ghost use Rattle.plant_grammar.specs.Steps.Declaring.{TellsOfChecked, TellsOfAdded, RefusesOneOf};
 ghost use Rattle.plant_grammar.specs.Steps.ReadParts.{AreVariables, IsNew};
+ghost use Rattle.plant_grammar.specs.Steps.Refusing.{MayBeDeclared};
+ghost use Rattle.plant_grammar.specs.declared.grammar_fault.GrammarFaultKind.TheVariants.{Memory};
 
 use crate::grammar::known_names::check_new;
 use crate::grammar::name::Name;
@@ -87,6 +89,7 @@ impl Variables {
         ensures undeclared { OnOk result (IsDeclared self.now name.now → ⊥) }
         ensures new { OnOk result (IsNew (λ n. n) more.now name.now) }
         ensures few { OnOk result (length self.now + length more.now < 1000) }
+        ensures other { OnErr result ((IsDeclared self.now name.now → ⊥) → IsNew (λ n. n) more.now name.now → length self.now + length more.now < 1000 → ⊥) }
         ensures tells { IfErr result (TellsOfChecked self.now more.now name.now) }
         ensures value { IfErr result IsGrammarFault }
     {
@@ -98,6 +101,7 @@ impl Variables {
     fn add(&mut self, name: &Name, declared: Declared) -> Result<(), GrammarFault>
         ensures ok { OnOk result (self.new ≡ self.old ++ record { name = name.now; declared = declared } ∷ []) }
         ensures tells { IfErr result (TellsOfAdded self.old name.now) }
+        ensures other { IfErr result (λ e. e.kind ≢ Memory → (IsDeclared self.old name.now → ⊥) → length self.old < 1000 → ⊥) }
         ensures value { IfErr result IsGrammarFault }
     {
         if self.declarations.len() >= MOST_NAMES {
@@ -117,6 +121,7 @@ impl Variables {
     #[tactic(auto, using(crate::proofs::RefusedNames::no_name, crate::proofs::RefusedNames::memory_no_name))]
     pub fn add_list(&mut self, section: Section, list: &NameList) -> Result<(), GrammarFault>
         ensures ok { OnOk result (self.new ≡ self.old ++ list_variables section list.now) }
+        ensures other { IfErr result (λ e. e.kind ≢ Memory → MayBeDeclared self.old list.now.names.items → ⊥) }
         ensures names { IfErr result (λ e. IsOfName e.kind → RefusesOneOf list.now.names.items self.old e.kind) }
         ensures value { IfErr result IsGrammarFault }
     {

@@ -1,6 +1,9 @@
 use Rattle.std.proofs.Common.{ap}
-use Rattle.plant_grammar.proofs.FoundTypes.{known_type}
-use Rattle.plant_grammar.specs.Steps.ReadParts.{TallyValue}
+use Rattle.std.specs.Prelude.{All}
+use Rattle.plant_grammar.specs.Kinds.{IsOfInputKind}
+use Rattle.plant_grammar.specs.Lawful.{variables}
+use Rattle.plant_grammar.proofs.FoundTypes.{found_type}
+use Rattle.plant_grammar.specs.Steps.ReadParts.{TallyValue, bound_in}
 use Rattle.plant_grammar.specs.NameFaults.{IsOfName, RefusesInstance}
 use Rattle.plant_grammar.specs.Steps.Declaring.{BeginWith}
 use Rattle.lists.proofs.Results.{kept_fault}
@@ -10,7 +13,7 @@ use Rattle.plant_grammar.proofs.grammar.reader.Reader.instance.Goals as goal
 pub returns-clause-lawful : goal.returns-clause-lawful
 returns-clause-lawful c = record {
   task_is = c.in_ok-task.ensures.known;
-  type_is = known_type c.args.types.now _ _ c.in_ok-program.ensures.found;
+  type_is = found_type c.args.types.now _ _ (λ p. All (IsOfInputKind (variables p)) (bound_in c.in_ok-binds.binds)) c.in_ok-program.ensures.found c.in_ok-binds.ensures.kinds;
   apart = c.in_ok-binds.ensures.apart;
 }
 

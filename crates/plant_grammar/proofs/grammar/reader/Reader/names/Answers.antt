@@ -1,4 +1,10 @@
-use Rattle.std.proofs.Common.{◌∙◌, arith}
+use Rattle.std.proofs.Common.{◌≡◌, ◌≢◌, refl, ◌∙◌, ◌++◌, ◌∷◌, ◌<◌, ℕ, List, length, arith}
+use Rattle.plant_text.specs.declared.token.Token.{Token}
+use Rattle.plant_text.specs.declared.token.Punctuation.TheVariants.{Colon}
+use Rattle.plant_grammar.specs.declared.grammar_fault.GrammarFaultKind.TheVariants.{Memory}
+use Rattle.plant_grammar.specs.Grammar.{mark_word, name_words}
+use Rattle.plant_grammar.specs.Steps.Refusing.{MayBeDeclared}
+use Rattle.plant_grammar.proofs.NewNames.{first_refused, next_refused, all_names}
 use Rattle.plant_grammar.proofs.WordLists.{names_more, grown}
 use Rattle.plant_grammar.specs.NameFaults.{IsOfName, RefusesVariable}
 use Rattle.plant_grammar.specs.Steps.Declaring.{BeginWith}
@@ -26,3 +32,20 @@ returns-in_err-variable-2-clause-names c =
     kept_fault fault (λ f. IsOfName f.kind → BeginWith (RefusesVariable f.kind c.args.variables.now) (c.args.self.now.words)) c.from_residual-in_err-variable-2.result c.from_residual-in_err-variable-2.ensures.1
     (λ of. next_variable fault.kind c.args.variables.now c.names.names.items c.args.self.now.words c.names.self.words c.punctuation.new.self.words c.names.invariant.some c.names.invariant.words c.in_ok-punctuation.ensures.ok
     (rw c.deref-in-names.ensures.value at c.in_err-variable-2.ensures.tells) of)
+
+pub returns-in_err-variable-clause-other : goal.returns-in_err-variable-clause-other
+returns-in_err-variable-clause-other c =
+    let fault = c.in_err-variable.field-0.0 in
+    kept_fault fault (λ f. f.kind ≢ Memory → (ns : List (List ℕ)) (rest : List Token) → c.args.self.now.words ≡ name_words ns ++ mark_word Colon ∷ rest → 0 < length ns → MayBeDeclared c.args.variables.now ns → ⊥) c.from_residual.result c.from_residual.ensures.1
+    (λ known ns rest e some may. first_refused c.args.variables.now ns c.args.self.now.words rest some e may (rw (c.deref.ensures.value ∙ c.new-names.ensures.items) at (c.in_err-variable.ensures.other known)))
+
+pub returns-in_err-variable-2-clause-other : goal.returns-in_err-variable-2-clause-other
+returns-in_err-variable-2-clause-other c =
+    let fault = c.in_err-variable-2.field-0.0 in
+    kept_fault fault (λ f. f.kind ≢ Memory → (ns : List (List ℕ)) (rest : List Token) → c.args.self.now.words ≡ name_words ns ++ mark_word Colon ∷ rest → 0 < length ns → MayBeDeclared c.args.variables.now ns → ⊥) c.from_residual-in_err-variable-2.result c.from_residual-in_err-variable-2.ensures.1
+    (λ known ns rest e some may. next_refused c.args.variables.now c.names.names.items ns c.args.self.now.words c.names.self.words c.punctuation.new.self.words rest c.names.invariant.some some c.names.invariant.words c.in_ok-punctuation.ensures.ok e may
+    (rw c.deref-in-names.ensures.value at (c.in_err-variable-2.ensures.other known)))
+
+pub returns-clause-only : goal.returns-clause-only
+returns-clause-only c = λ ns rest e some.
+    all_names c.names.names.items ns c.args.self.now.words c.names.self.words rest c.names.invariant.some some c.names.invariant.words e (λ mid f. c.names-test.ensures.no refl mid f)

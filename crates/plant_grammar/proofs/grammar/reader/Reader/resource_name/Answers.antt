@@ -1,4 +1,9 @@
-use Rattle.std.proofs.Common.{◌≤◌, length, rules}
+use Rattle.std.proofs.Common.{◌≡◌, ◌≢◌, ◌≤◌, ◌<◌, ◌∷◌, ℕ, List, length, rules}
+use Rattle.plant_text.specs.declared.token.Token.{Token}
+use Rattle.plant_text.specs.declared.token.Token.TheVariants as token
+use Rattle.plant_grammar.specs.declared.grammar_fault.GrammarFaultKind.TheVariants.{Memory}
+use Rattle.plant_grammar.specs.Steps.ReadParts.{IsNew}
+use Rattle.plant_grammar.proofs.NewNames.{new_allowed}
 use Rattle.lists.proofs.Results.{kept_fault}
 use Rattle.plant_grammar.specs.declared.grammar.tree.Resource.{Resource}
 use Rattle.plant_grammar.specs.Steps.Declaring.{TellsOfResource}
@@ -11,3 +16,9 @@ returns-in_err-check_new-clause-tells c =
     kept_fault fault (TellsOfResource c.args.before.now c.args.self.now.words) c.from_residual-in_err-check_new.result c.from_residual-in_err-check_new.ensures.1
     (tells_next fault.kind (λ (x : Resource). x.name) (c.args.before.now) c.in_ok-name.name c.args.self.now.words c.name.new.self.words _ _ (16 ≤ length c.args.before.now) c.in_ok-name.ensures.ok
     c.is_resource.ensures.0 (λ full. search rules) c.in_err-check_new.ensures.tells)
+
+pub returns-in_err-check_new-clause-other : goal.returns-in_err-check_new-clause-other
+returns-in_err-check_new-clause-other c =
+    let fault = c.in_err-check_new.field-0.0 in
+    kept_fault fault (λ f. f.kind ≢ Memory → (name : List ℕ) (rest : List Token) → c.args.self.now.words ≡ token.Name name ∷ rest → IsNew (λ (x : Resource). x.name) (c.args.before.now) name → length c.args.before.now < 16 → ⊥) c.from_residual-in_err-check_new.result c.from_residual-in_err-check_new.ensures.1
+    (λ known name rest e new few. new_allowed (λ (x : Resource). x.name) (c.args.before.now) c.in_ok-name.name name c.args.self.now.words c.name.new.self.words rest 16 (length c.args.before.now) _ _ fault.kind c.in_ok-name.ensures.ok e new few c.is_resource.ensures.0 (λ full. search rules) c.in_err-check_new.ensures.full)

@@ -1,0 +1,17 @@
+use Rattle.std.proofs.Common.{◌≡◌, ◌≢◌, ◌<◌, ◌+◌, ◌∷◌, ℕ, List, length, subst}
+use Rattle.lists.proofs.Results.{kept_fault}
+use Rattle.declared_names.specs.Names.{IsDeclared}
+use Rattle.plant_text.specs.declared.token.Token.{Token}
+use Rattle.plant_text.specs.declared.token.Token.TheVariants as token
+use Rattle.plant_grammar.specs.declared.grammar_fault.GrammarFaultKind.TheVariants.{Memory}
+use Rattle.plant_grammar.specs.Steps.ReadParts.{IsNew}
+use Rattle.plant_grammar.proofs.NewNames.{one_name}
+use Rattle.plant_grammar.proofs.grammar.reader.Reader.variable.Goals as goal
+
+pub returns-in_err-check-clause-other : goal.returns-in_err-check-clause-other
+returns-in_err-check-clause-other c =
+    let fault = c.in_err-check.field-0.0 in
+    kept_fault fault (λ f. f.kind ≢ Memory → (name : List ℕ) (rest : List Token) → c.args.self.now.words ≡ token.Name name ∷ rest → (IsDeclared c.args.variables.now name → ⊥) → IsNew (λ (n : List ℕ). n) c.args.before.now name → length c.args.variables.now + length c.args.before.now < 1000 → ⊥) c.from_residual-in_err-check.result c.from_residual-in_err-check.ensures.1
+    (λ known name rest e apart new few.
+    let same = one_name c.in_ok-name.name name c.args.self.now.words c.name.new.self.words rest c.in_ok-name.ensures.ok e in
+    c.in_err-check.ensures.other (subst (λ n. IsDeclared c.args.variables.now n → ⊥) same apart) (subst (λ n. IsNew (λ (m : List ℕ). m) c.args.before.now n) same new) few)
