@@ -3,18 +3,13 @@
 
 mod free_gate;
 mod gate;
-mod keeper;
-mod keeper_fault;
-mod memory_keeper;
 mod out_of_turns;
 mod paced_gate;
 mod threads;
 
 pub use free_gate::FreeGate;
 pub use gate::Gate;
-pub use keeper::Keeper;
-pub use keeper_fault::KeeperFault;
-pub use memory_keeper::MemoryKeeper;
+pub use keepers::{Keeper, KeeperFault, MemoryKeeper};
 pub use out_of_turns::OutOfTurns;
 pub use paced_gate::PacedGate;
 pub use threads::{Outcome, run_all};

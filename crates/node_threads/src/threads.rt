@@ -21,7 +21,6 @@ ghost use Rattle.node_journals.specs.Journals.{IsLawful};
 ghost use Rattle.node_threads.specs.Steps.Working.{IsWorkerFor};
 
 use crate::gate::Gate;
-use crate::keeper::Keeper;
 use crate::threads::desk::Desk;
 use crate::threads::ended::Ended;
 use crate::threads::inbox::Inbox;
@@ -32,6 +31,7 @@ use crate::threads::starting::start_all;
 use crate::threads::worker::Worker;
 use crossbeam_channel::Receiver;
 use evaluation_book::Book;
+use keepers::Keeper;
 use node_journals::{Command, NodeFault, RunFault};
 pub use outcome::Outcome;
 use plant::Plant;

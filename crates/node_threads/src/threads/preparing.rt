@@ -1,10 +1,10 @@
 ghost use Rattle.std.specs.Prelude.{◌≡◌, All, IfOk};
 ghost use Rattle.node_threads.specs.Steps.Working.{IsWorkerFor};
 
-use crate::keeper::Keeper;
 use crate::threads::inbox::Inbox;
 use crate::threads::worker::Worker;
 use crossbeam_channel::{Receiver, Sender};
+use keepers::Keeper;
 use node_journals::RunFault;
 use plant::Plant;
 use std::alloc::{AllocError, Global};

@@ -1,8 +1,8 @@
 ghost use Rattle.std.specs.Prelude.{◌≡◌};
 ghost use Rattle.node_threads.specs.Steps.Working.{IsWorking};
 
-use crate::keeper::Keeper;
 use crate::threads::worker_state::WorkerState;
+use keepers::Keeper;
 use node_journals::{Cause, Station};
 use std::alloc::Global;
 

@@ -2,7 +2,6 @@ ghost use Rattle.std.specs.Prelude.{◌≡◌};
 ghost use Rattle.node_journals.specs.Journals.{IsLawful};
 
 use crate::gate::Gate;
-use crate::keeper::Keeper;
 use crate::threads::desk::Desk;
 use crate::threads::ended::Ended;
 use crate::threads::inbox::Inbox;
@@ -10,6 +9,7 @@ use crate::threads::noting::note;
 use crate::threads::posting::post;
 use crate::threads::worker::Worker;
 use crossbeam_channel::Receiver;
+use keepers::Keeper;
 use node_journals::{Act, Cause, Command, NodeFault};
 use std::alloc::Global;
 use std::sync::Wait;

@@ -3,7 +3,6 @@ ghost use Rattle.node_journals.specs.Journals.{IsLawful};
 ghost use Rattle.node_threads.specs.Steps.Working.{IsWorkerFor, IsPromisedFor};
 
 use crate::gate::Gate;
-use crate::keeper::Keeper;
 use crate::threads::desk::Desk;
 use crate::threads::ended::Ended;
 use crate::threads::inbox::Inbox;
@@ -11,6 +10,7 @@ use crate::threads::lawful_for::LawfulFor;
 use crate::threads::serving::serve;
 use crate::threads::worker::Worker;
 use crossbeam_channel::Receiver;
+use keepers::Keeper;
 use node_journals::{Command, NodeFault, RunFault};
 use std::alloc::Global;
 use std::sync::Wait;

@@ -1,9 +1,9 @@
-use crate::keeper::Keeper;
 use crate::threads::entering::enter_pending;
 use crate::threads::restarting::restart_station;
 use crate::threads::worker_state::WorkerState;
 use evaluation::{Frame, Inputs};
 use evaluation_book::Book;
+use keepers::Keeper;
 use node_journals::{Cause, Journal, RunFault, Station};
 use plant::Plant;
 use std::alloc::Global;
