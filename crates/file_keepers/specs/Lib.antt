@@ -1,0 +1,3 @@
+pub mod KeptNumbers
+pub mod KnownFiles
+pub mod Steps

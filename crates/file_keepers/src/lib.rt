@@ -1,0 +1,15 @@
+//! Keepers whose incarnations lie in the files of a folder.
+#![tactic(auto)]
+
+mod file_keeper;
+mod folder;
+mod folder_fault;
+mod folder_lock;
+mod number_text;
+mod system_folder;
+
+pub use file_keeper::FileKeeper;
+pub use folder::Folder;
+pub use folder_fault::FolderFault;
+pub use folder_lock::{FolderLock, LockFault};
+pub use system_folder::SystemFolder;
