@@ -1,6 +1,6 @@
 -- What the words of the command line ask for.
 use Rattle.std.specs.Prelude.{◌≡◌, ℕ, ◌^◌, ◌<◌, ◌⊎◌, List, [], Option, Some, None, Bool, true, false, bytes_eq, codes, map, unwrap_or}
-use Rattle.std.specs.Option.{option_map_or}
+use Rattle.std.specs.Option.{option_map, option_map_or}
 use Rattle.std.specs.Str.Parse.{IsNumeral, digits_value}
 use Rattle.clap.specs.Lexer.{usize_max}
 use Rattle.clap.specs.Words.{App, Row, Rule, Text, new_app, new_rule, with_rule, with_subcommand, first_of, all_of}
@@ -24,8 +24,9 @@ drawing_rule = needed_word (codes "DRAWING")
 abbrev pub plant_rule : Rule
 plant_rule = needed_word (codes "PLANT")
 
+-- a word that may be left out
 abbrev pub kind_rule : Rule
-kind_rule = needed_word (codes "KIND")
+kind_rule = record (new_rule (codes "KIND")) { action = Some Set }
 
 abbrev pub dt_rule : Rule
 dt_rule = option_of (codes "dt")
@@ -38,6 +39,10 @@ schedule_rule = needed_word (codes "SCHEDULE")
 
 abbrev pub max_number_rule : Rule
 max_number_rule = option_of (codes "max-number")
+
+-- an option `--state DIR`
+abbrev pub state_rule : Rule
+state_rule = option_of (codes "state")
 
 -- a flag `--paced`
 abbrev pub paced_rule : Rule
@@ -67,12 +72,13 @@ plan_app = with_rule (with_rule (new_app (codes "plan")) plant_rule) until_rule
 abbrev pub sim_app : App
 sim_app = with_rule (with_rule (with_rule (new_app (codes "sim")) plant_rule) schedule_rule) max_number_rule
 
--- `run PLANT --until MS [--paced] [ADDRESS=VALUE]..`
+-- `run PLANT --until MS [--state DIR] [--paced] [ADDRESS=VALUE]..`
 abbrev pub run_app : App
 run_app =
-    with_rule (with_rule (with_rule (with_rule (new_app (codes "run")) plant_rule) until_rule) paced_rule) words_rule
+    let until = with_rule (with_rule (new_app (codes "run")) plant_rule) until_rule in
+    with_rule (with_rule (with_rule until state_rule) paced_rule) words_rule
 
--- `explain KIND`
+-- `explain [KIND]`
 abbrev pub explain_app : App
 explain_app = with_rule (new_app (codes "explain")) kind_rule
 
@@ -159,6 +165,7 @@ AsksRun found (OfText (Plan plant until)) = ⊥
 AsksRun found (Sim sim) = ⊥
 AsksRun found (Run run) =
     (run.plant.now ≡ given_word (codes "PLANT") found) × GivesNumber 0 (first_of (codes "until") found) run.until
+    × (option_map (λ d. d.now) run.state ≡ first_of (codes "state") found)
     × (run.paced ≡ is_given (codes "paced") found) × (map (λ w. w.now) run.words.items ≡ words_given found)
 AsksRun found (Explain kind) = ⊥
 
@@ -166,7 +173,7 @@ abbrev pub AsksExplain : List Row → Request → Type 0
 AsksExplain found (OfText text) = ⊥
 AsksExplain found (Sim sim) = ⊥
 AsksExplain found (Run run) = ⊥
-AsksExplain found (Explain kind) = kind.now ≡ given_word (codes "KIND") found
+AsksExplain found (Explain kind) = option_map (λ k. k.now) kind ≡ first_of (codes "KIND") found
 
 -- the request is what the subcommand asks for, with what was found for its options
 abbrev pub AsksFor : Option (Text × List Row) → Request → Type 0

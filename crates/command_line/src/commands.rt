@@ -1,6 +1,6 @@
 ghost use Rattle.std.specs.Prelude.{◌≡◌, false, IfOk, codes};
 ghost use Rattle.clap.specs.Words.{app_of, new_app, rule_of};
-ghost use Rattle.command_line.specs.CommandLine.{needed_word, option_of, words_rule, plant_rule, until_rule, paced_rule, eval_app, check_app, plan_app, sim_app, run_app, explain_app, versioned, commanded, plc_app, text_app};
+ghost use Rattle.command_line.specs.CommandLine.{needed_word, option_of, words_rule, plant_rule, until_rule, state_rule, paced_rule, kind_rule, eval_app, check_app, plan_app, sim_app, run_app, explain_app, versioned, commanded, plc_app, text_app};
 
 use crate::help::{
     CHECK_HELP, EVAL_HELP, EXPLAIN_HELP, FIRST_STEPS, PLAN_HELP, RUN_HELP, SIM_HELP,
@@ -22,7 +22,7 @@ fn needed_arg<'a>(alloc: Global, id: &'a str, help: &'a str) -> Arg<'a>
         .help(help)
 }
 
-/// An option `--id`, with a number behind it.
+/// An option `--id`, with one word behind it.
 fn number_arg<'a>(alloc: Global, id: &'a str, unit: &'a str, help: &'a str) -> Arg<'a>
     ensures rule { rule_of result ≡ option_of id.entry.now }
     ensures local { result.global ≡ false }
@@ -66,6 +66,18 @@ fn until_arg<'a>(alloc: Global) -> Arg<'a>
     .required(true)
 }
 
+fn state_arg<'a>(alloc: Global) -> Arg<'a>
+    ensures rule { rule_of result ≡ state_rule }
+    ensures local { result.global ≡ false }
+{
+    number_arg(
+        alloc,
+        "state",
+        "DIR",
+        "A folder that keeps the incarnations between runs",
+    )
+}
+
 fn paced_arg<'a>(alloc: Global) -> Arg<'a>
     ensures rule { rule_of result ≡ paced_rule }
     ensures local { result.global ≡ false }
@@ -74,6 +86,15 @@ fn paced_arg<'a>(alloc: Global) -> Arg<'a>
         .long("paced")
         .action(ArgAction::SetTrue)
         .help("Each command waits until the one before it is done")
+}
+
+fn kind_arg<'a>(alloc: Global) -> Arg<'a>
+    ensures rule { rule_of result ≡ kind_rule }
+    ensures local { result.global ≡ false }
+{
+    Arg::new(alloc, "KIND").action(ArgAction::Set).help(
+        "The kind of a fault, as NoSource [default: all kinds are listed]",
+    )
 }
 
 fn eval_command<'a>(alloc: Global) -> Result<Command<'a>, AllocError>
@@ -143,6 +164,7 @@ fn run_command<'a>(alloc: Global) -> Result<Command<'a>, AllocError>
         .after_help(RUN_HELP)
         .arg(plant_arg(alloc))?
         .arg(until_arg(alloc))?
+        .arg(state_arg(alloc))?
         .arg(paced_arg(alloc))?
         .arg(words_arg(
             alloc,
@@ -157,7 +179,7 @@ fn explain_command<'a>(alloc: Global) -> Result<Command<'a>, AllocError>
     Command::new(alloc, "explain")
         .about("Tells what a kind of fault is, and how it is mended")
         .after_help(EXPLAIN_HELP)
-        .arg(needed_arg(alloc, "KIND", "The kind of a fault, as NoSource"))
+        .arg(kind_arg(alloc))
 }
 
 /// The program without its commands, and without a version.

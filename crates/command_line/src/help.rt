@@ -93,7 +93,8 @@ Each resource of the plant runs in a thread of its own, all of them at once. Eac
 plan writes it) is a command to its resource: to evaluate the task, INTERVAL ms after the time before. Each word
 ADDRESS=VALUE gives a field address its value, a bit 0 or 1, a word -32768 to 32767; every other address is 0. A task takes,
 from each task that feeds it, the latest evaluation that has reached its resource; which one that is depends on the threads.
-With --paced each command waits until the one before it is done, and then it is always the same.
+With --paced each command waits until the one before it is done, and then it is always the same. With --state DIR each
+resource counts its incarnations in the file DIR/NAME.inc, one more at each run; without it the incarnation is 1.
 
 A line is written for each evaluation, in an order in which each one takes what was made before it; then UNANSWERED and the
 number of each command that wasn't done, FAULT and the resource, the number of the command and the reason for each thing
@@ -108,13 +109,14 @@ Example:
   REPLAY equal
 
 The exit status is 0; 1 if the text of the plant is refused, with FILE:LINE: Kind on standard error, or if the plan has
-more than 100,000 lines, with plan: TooLong; 2 if a word is refused; 3 if a FAULT was written, the file can't be read, the
-output can't be written, the threads can't be run or there is no memory left.";
+more than 100,000 lines, with plan: TooLong; 2 if a word is refused; 3 if a FAULT was written, a file can't be read or an
+incarnation kept, the output can't be written, the threads can't be run or there is no memory left.";
 
 /// What `plc explain --help` tells behind the words.
 pub const EXPLAIN_HELP: &str = "\
-KIND is the kind of a fault as the first line of a message tells it, in either case: Crossing in drawing.ladder:3:14: Crossing.
-What is wrong and how it is mended is written, with an example. A kind that several texts have is told for each of them.
+KIND is the kind of a fault as the first line of a message tells it, in either case: Crossing in drawing.ladder:3:14: Crossing;
+or that of a line REFUSED or FAULT. What is wrong and how it is mended is written, of a text with an example. A kind that is
+met in several places is told for each of them. Without KIND all kinds are listed, with where they are met.
 
 Example:
 

@@ -53,11 +53,13 @@ pub struct SimRequest<'a> {
 }
 
 /// One thread for each resource of a plant, and a command for each entry of the plan, up to and with `until` (in ms).
-/// If they are paced, each command waits until the one before it is done. The words give the field inputs.
+/// If they are paced, each command waits until the one before it is done. The words give the field inputs. The folder
+/// `state` keeps the incarnation of each resource; without it each is 1.
 #[derive(Drop)]
 pub struct RunRequest<'a> {
     pub plant: &'a str,
     pub until: u32,
+    pub state: Option<&'a str>,
     pub paced: bool,
     pub words: Vec<&'a str>,
 }
@@ -71,6 +73,6 @@ pub enum Request<'a> {
     Sim(SimRequest<'a>),
     /// What the threads of a plant do.
     Run(RunRequest<'a>),
-    /// What is told of the kinds of faults of this name.
-    Explain(&'a str),
+    /// What is told of the kinds of faults of this name; all kinds, where none is named.
+    Explain(Option<&'a str>),
 }

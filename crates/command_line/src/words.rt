@@ -1,4 +1,5 @@
 ghost use Rattle.std.specs.Prelude.{◌≡◌, IfOk, MatchOption, Some, map, string_bytes};
+ghost use Rattle.std.specs.Option.{option_map};
 ghost use Rattle.std.specs.Str.Parse.{digits_value};
 ghost use Rattle.clap.specs.Words.{rows_of, found_of, first_of, subcommand_of};
 ghost use Rattle.command_line.specs.CommandLine.{plc_app, IsNumber, GivesNumber, AsksEval, AsksPlan, AsksSim, AsksRun, AsksFor, given_word, words_given, is_given};
@@ -47,6 +48,13 @@ fn given_word<'a>(matches: &ArgMatches<'a>, id: &str) -> &'a str
         Some(word) => word,
         None => "",
     }
+}
+
+/// The word that stands for an argument that may be left out.
+fn word_of<'a>(matches: &ArgMatches<'a>, id: &str) -> Option<&'a str>
+    ensures { option_map (λ w. w.now) result ≡ first_of id.now (rows_of (found_of matches.now)) }
+{
+    matches.get_str(id)
 }
 
 /// Whether a flag was given.
@@ -123,6 +131,7 @@ fn run_request<'a>(
     Ok(Request::Run(RunRequest {
         plant: given_word(inner, "PLANT"),
         until: number_of(command, inner, "until", 0, UNTIL_REFUSED)?,
+        state: word_of(inner, "state"),
         paced: is_given(inner, "paced"),
         words: words_given(alloc, inner)?,
     }))
@@ -145,7 +154,7 @@ fn request_of<'a>(
         "plan" => plan_request(command, inner),
         "sim" => sim_request(command, inner),
         "run" => run_request(alloc, command, inner),
-        "explain" => Ok(Request::Explain(given_word(inner, "KIND"))),
+        "explain" => Ok(Request::Explain(word_of(inner, "KIND"))),
         _ => Err(command.error(ErrorKind::MissingSubcommand, "a command is missing")?),
     }
 }

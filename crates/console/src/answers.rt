@@ -6,7 +6,7 @@ use crate::faults::{print_failure, print_fault};
 use crate::files::file_text;
 use crate::status::WORD_REFUSED;
 use command_line::TextRequest;
-use guidance::explain;
+use guidance::{explain, kinds};
 use std::alloc::Global;
 use std::io;
 use std::io::Write;
@@ -48,18 +48,33 @@ pub fn answer_text<R: Files + Print + Eprint + AllocGlobal>(
     }
 }
 
-/// Writes what is told of the kinds of faults of this name; the status.
+/// Writes a text; the status.
+fn answer_with<R: Print + Eprint>(rt: &R, text: &str) -> io::Result<u8> {
+    let mut writer = io::writer(rt);
+    match write_text(&mut writer, text) {
+        Ok(()) => Ok(0),
+        Err(_) => print_failure(rt, CommandFault::Write),
+    }
+}
+
+/// Writes what is told of the kinds of this name; the status.
 pub fn answer_kind<R: Print + Eprint + AllocGlobal>(rt: &R, kind: &str) -> io::Result<u8> {
     let Ok(text) = explain(rt.alloc(), kind) else {
         return print_failure(rt, CommandFault::Memory);
     };
     if text.is_empty() {
-        eprintln!(rt; "plc: {kind}: there is no kind of fault of this name")?;
+        eprintln!(rt;
+            "plc: {kind}: there is no kind of fault of this name; plc explain lists all"
+        )?;
         return Ok(WORD_REFUSED);
     }
-    let mut writer = io::writer(rt);
-    match write_text(&mut writer, text.as_str()) {
-        Ok(()) => Ok(0),
-        Err(_) => print_failure(rt, CommandFault::Write),
+    answer_with(rt, text.as_str())
+}
+
+/// Lists all kinds; the status.
+pub fn answer_kinds<R: Print + Eprint + AllocGlobal>(rt: &R) -> io::Result<u8> {
+    match kinds(rt.alloc()) {
+        Ok(text) => answer_with(rt, text.as_str()),
+        Err(_) => print_failure(rt, CommandFault::Memory),
     }
 }

@@ -12,7 +12,7 @@ mod refusal;
 mod schedules;
 mod status;
 
-pub use answers::{answer_kind, answer_text, obey};
+pub use answers::{answer_kind, answer_kinds, answer_text, obey};
 pub use command_fault::CommandFault;
 pub use faults::{print_failure, print_fault};
 pub use field_words::read_field_words;

@@ -3,6 +3,31 @@
 use crate::checks::{equal, must};
 use ladder_text::{Drawing, ReadText};
 use network::Graph;
+use std::alloc::Global;
+use std::process::Abort;
+
+/// So many lines of a + and 239 dashes.
+fn lines_of_dashes(rt: &impl Abort, alloc: Global, count: usize) -> String {
+    let mut line = String::new(alloc);
+    must(rt, line.push_str("+"));
+    for _column in 1..240 {
+        must(rt, line.push_str("-"));
+    }
+    must(rt, line.push_str("\n"));
+    let mut text = String::new(alloc);
+    for _line in 0..count {
+        must(rt, text.push_str(line.as_str()));
+    }
+    text
+}
+
+#[test]
+fn each_line_of_the_largest_drawing_is_a_network(rt: HostRuntime) {
+    let text = lines_of_dashes(&rt, rt.alloc(), 2_000);
+    let drawing = must(&rt, Drawing::read(rt.alloc(), text.as_str(), 1));
+    let graph = must(&rt, Graph::build(rt.alloc(), &drawing));
+    equal(&rt, "networks", &graph.networks().len(), &2_000);
+}
 
 #[test]
 fn tells_its_first_line_and_rails(rt: HostRuntime) {

@@ -8,10 +8,11 @@ ghost use Rattle.plc_main.specs.RunText.{WritesReport, ExplainsRun};
 
 use command_line::{Request, RunRequest, read_words};
 use console::{
-    CommandFault, FAILED, Prepared, answer_kind, answer_schedule, answer_text, given_words,
-    prepare, print_failure, print_fault, print_given_fault, print_usage,
+    CommandFault, FAILED, Prepared, answer_kind, answer_kinds, answer_schedule, answer_text,
+    given_words, prepare, print_failure, print_fault, print_given_fault, print_usage,
 };
-use node::{FreeGate, Gate, Keeper, MemoryKeeper, PacedGate};
+use file_keepers::{FileKeeper, FolderLock, LockFault, SystemFolder};
+use node::{FreeGate, Gate, Keeper, MemoryKeeper, PacedGate, RunFault};
 use plant::Plant;
 use run_command::run_text;
 use std::alloc::{AllocError, Global};
@@ -19,7 +20,7 @@ use std::io;
 use std::io::Write;
 use std::process::ExitCode;
 use std::rt::{Env, Files};
-use std::sync::Wait;
+use std::sync::{Arc, Wait};
 use std::thread::Threads;
 
 /// How often a paced command looks, at most, whether the one before it is done.
@@ -32,6 +33,24 @@ fn memory_keepers(alloc: Global, plant: &Plant) -> Result<Vec<MemoryKeeper>, All
     let mut keepers = Vec::with_capacity(alloc, plant.resources())?;
     for _resource in 0..plant.resources() {
         keepers.push(MemoryKeeper::new(0))?;
+    }
+    Ok(keepers)
+}
+
+/// A keeper for each resource, in a folder of the system.
+fn keepers_in(
+    alloc: Global,
+    host: &HostRuntime,
+    plant: &Plant,
+    folder: &str,
+) -> Result<Vec<FileKeeper<SystemFolder<HostRuntime>>>, AllocError>
+    ensures { IfOk result (λ keepers. vec_len keepers ≡ length plant.now.resources) }
+{
+    let mut keepers = Vec::with_capacity(alloc, plant.resources())?;
+    for resource in 0..plant.resources() {
+        let name = plant.resource_name(resource).unwrap_or("");
+        let folder = SystemFolder::new(host.clone()?, folder)?;
+        keepers.push(FileKeeper::new(alloc, folder, name)?)?;
     }
     Ok(keepers)
 }
@@ -66,57 +85,113 @@ fn obey_run<R: AllocGlobal + Threads + Wait + Sync, K: Keeper, G: Gate, W: Write
     )
 }
 
-/// Runs a plant with these keepers, and writes what its threads did; the status.
-fn run_with<R: Print + Eprint + AllocGlobal + Threads + Wait + Sync, K: Keeper, G: Gate>(
+/// Runs a plant with these keepers, paced or free, and writes what its threads did; whether there was a fault in them.
+fn run_plant<R: Print + AllocGlobal + Threads + Wait + Sync, K: Keeper>(
     rt: &R,
     request: &RunRequest<'_>,
     prepared: Prepared,
     keepers: Vec<K>,
-    gate: &G,
-) -> io::Result<u8>
+) -> Result<bool, CommandFault>
     requires { vec_len keepers ≡ length prepared.plant.value.resources }
 {
     let mut writer = io::writer(rt);
-    match obey_run(rt, request, prepared, keepers, gate, &mut writer) {
+    if request.paced {
+        let gate = PacedGate::new(TURNS);
+        obey_run(rt, request, prepared, keepers, &gate, &mut writer)
+    } else {
+        obey_run(rt, request, prepared, keepers, &FreeGate, &mut writer)
+    }
+}
+
+/// Tells how a run ended; the status.
+fn tell_run<R: Eprint + AllocGlobal>(rt: &R, ran: Result<bool, CommandFault>) -> io::Result<u8> {
+    match ran {
         Ok(false) => Ok(0),
         Ok(true) => Ok(FAILED),
         Err(fault) => print_fault(rt, "", "", &[], fault),
     }
 }
 
-/// Runs a plant with these keepers, paced or free; the status.
-fn run_plant<R: Print + Eprint + AllocGlobal + Threads + Wait + Sync, K: Keeper>(
+/// Runs a plant that begins anew; the status.
+fn run_anew<R: Print + Eprint + AllocGlobal + Threads + Wait + Sync>(
     rt: &R,
     request: &RunRequest<'_>,
     prepared: Prepared,
-    keepers: Vec<K>,
-) -> io::Result<u8>
-    requires { vec_len keepers ≡ length prepared.plant.value.resources }
-{
-    if request.paced {
-        run_with(rt, request, prepared, keepers, &PacedGate::new(TURNS))
-    } else {
-        run_with(rt, request, prepared, keepers, &FreeGate)
+) -> io::Result<u8> {
+    match memory_keepers(rt.alloc(), &prepared.plant) {
+        Ok(keepers) => tell_run(rt, run_plant(rt, request, prepared, keepers)),
+        Err(_) => print_failure(rt, CommandFault::Memory),
     }
 }
 
-/// Runs a plant that begins anew; the status.
-fn run_anew<R: Files + Print + Eprint + AllocGlobal + Threads + Wait + Sync>(
+/// Tells why a folder can't be held; the status.
+fn print_lock_fault<R: Eprint>(rt: &R, folder: &str, fault: LockFault) -> io::Result<u8> {
+    eprintln!(rt; "plc: {folder}: {fault}")?;
+    Ok(FAILED)
+}
+
+/// Tells of which resources an incarnation couldn't be raised.
+fn print_keeper_faults<R: Eprint + AllocGlobal>(
     rt: &R,
+    host: &HostRuntime,
+    plant: &Plant,
+    folder: &str,
+) -> io::Result<()> {
+    let keepers = keepers_in(rt.alloc(), host, plant, folder)?;
+    for (resource, keeper) in keepers.iter().enumerate() {
+        let name = plant.resource_name(resource).unwrap_or("");
+        if let Err(fault) = keeper.next_number() {
+            eprintln!(rt; "plc: {folder}/{name}.inc: {fault}")?;
+        }
+    }
+    Ok(())
+}
+
+/// Runs a plant whose incarnations are kept in a folder, which no other run uses meanwhile; the status.
+fn run_kept<R: Print + Eprint + AllocGlobal + Threads + Wait + Sync>(
+    rt: &R,
+    host: &HostRuntime,
+    request: &RunRequest<'_>,
+    prepared: Prepared,
+    folder: &str,
+) -> io::Result<u8> {
+    let _lock = match FolderLock::take(host, folder) {
+        Ok(lock) => lock,
+        Err(fault) => return print_lock_fault(rt, folder, fault),
+    };
+    let Ok(plant) = Arc::try_clone(&prepared.plant) else {
+        return print_failure(rt, CommandFault::Memory);
+    };
+    let Ok(keepers) = keepers_in(rt.alloc(), host, &prepared.plant, folder) else {
+        return print_failure(rt, CommandFault::Memory);
+    };
+    let ran = run_plant(rt, request, prepared, keepers);
+    let status = tell_run(rt, ran)?;
+    if ran == Err(CommandFault::Run(RunFault::Keeper)) {
+        print_keeper_faults(rt, host, &plant, folder)?;
+    }
+    Ok(status)
+}
+
+/// Reads what a run needs, and runs it; the status.
+fn answer_run<R: Files + Print + Eprint + AllocGlobal + Threads + Wait + Sync>(
+    rt: &R,
+    host: &HostRuntime,
     request: &RunRequest<'_>,
 ) -> io::Result<u8> {
     let prepared = match prepare(rt, request)? {
         Ok(prepared) => prepared,
         Err(status) => return Ok(status),
     };
-    match memory_keepers(rt.alloc(), &prepared.plant) {
-        Ok(keepers) => run_plant(rt, request, prepared, keepers),
-        Err(_) => print_failure(rt, CommandFault::Memory),
+    match request.state {
+        Some(folder) => run_kept(rt, host, request, prepared, folder),
+        None => run_anew(rt, request, prepared),
     }
 }
 
 fn answer<R: Env + Files + Print + Eprint + AllocGlobal + Threads + Wait + Sync>(
     rt: &R,
+    host: &HostRuntime,
 ) -> io::Result<u8> {
     let given = match given_words(rt) {
         Ok(given) => given,
@@ -125,12 +200,13 @@ fn answer<R: Env + Files + Print + Eprint + AllocGlobal + Threads + Wait + Sync>
     match read_words(rt.alloc(), given.as_slice()) {
         Ok(Request::Text(request)) => answer_text(rt, &request),
         Ok(Request::Sim(request)) => answer_schedule(rt, &request),
-        Ok(Request::Run(request)) => run_anew(rt, &request),
-        Ok(Request::Explain(kind)) => answer_kind(rt, kind),
+        Ok(Request::Run(request)) => answer_run(rt, host, &request),
+        Ok(Request::Explain(Some(kind))) => answer_kind(rt, kind),
+        Ok(Request::Explain(None)) => answer_kinds(rt),
         Err(error) => print_usage(rt, &error),
     }
 }
 
 fn main(rt: HostRuntime) -> ExitCode {
-    ExitCode::from(answer(&rt).unwrap_or(FAILED))
+    ExitCode::from(answer(&rt, &rt).unwrap_or(FAILED))
 }

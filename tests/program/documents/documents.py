@@ -35,6 +35,13 @@ PROGRAM I WITH K : P;
 END_RESOURCE
 END_CONFIGURATION
 """
+# What happens: where its kinds are met, and the table of a guide that tells them.
+OCCASIONS = {
+    "in a REFUSED line of plc sim": ("SCHEDULE.md", "When an event is refused"),
+    "in a FAULT line of plc run": ("RUN.md", "Each cause"),
+    "where plc run gives no report": ("RUN.md", "When there is no report"),
+    "in a folder of state": ("RUN.md", "A folder of state"),
+}
 told = []
 
 
@@ -117,6 +124,37 @@ def try_example(kind, text, place, status):
         told.append(f"{kind}: its example is answered by {ran.returncode} {first}:\n{text}")
 
 
+def rows_of(name, title):
+    """The rows of the table in a section of a guide: a kind, and what is said of it; where it is met is no part of that."""
+    lines = re.findall(r"(?m)^\| (.*) \|$", section(name, title))
+    header, *rows = ([it.replace("`", "") for it in line.split(" | ")] for line in lines)
+    for row in rows:
+        yield row[0], [cell for at, cell in zip(header[1:], row[1:]) if at != "At"]
+
+
+def try_occasion(where, name, title, listed, place):
+    """Each kind of a table is explained by what its cells say, and each kind that is listed stands in the table."""
+    rows = dict(rows_of(name, title))
+    for kind in sorted({it for it, at in listed if at == where} ^ set(rows)):
+        told.append(f"{kind} {where}: it is told by plc explain or by docs/{name}, and not by both")
+    for kind, cells in rows.items():
+        explained = run(f"./plc explain {kind}", place).stdout
+        found = re.search(rf"(?m)^{kind} {where}:\n(.*)$", explained)
+        sentence = found[1].lower() if found else ""
+        for cell in cells:
+            if cell.lower() not in sentence:
+                told.append(f"{kind} {where}: plc explain doesn't say: {cell}")
+
+
+def listed_kinds(place):
+    lines = run("./plc explain", place).stdout.splitlines()
+    listed = [tuple(line.split(" ", 1)) for line in lines]
+    wanted = {(kind, where) for where, kinds in KINDS.items() for kind in kinds.split()}
+    for kind, where in sorted(wanted ^ {it for it in listed if it[1] not in OCCASIONS}):
+        told.append(f"{kind} {where}: it is listed by plc explain or told by a guide, and not both")
+    return listed
+
+
 def main():
     documents = ["README.md", "examples/README.md", *(f"docs/{it}" for it in sorted(os.listdir(os.path.join(ROOT, "docs"))))]
     with tempfile.TemporaryDirectory() as place:
@@ -133,6 +171,9 @@ def main():
             name, title = GUIDES[where]
             others = set(re.findall(r"(?m)^### (\w+)$", section(name, title))) - set(kinds.split())
             told.extend(f"docs/{name}: {kind} is no kind of fault {where}" for kind in sorted(others))
+        listed = listed_kinds(place)
+        for where, (name, title) in OCCASIONS.items():
+            try_occasion(where, name, title, listed, place)
     print("\n".join(told) or "the documents agree with the program")
 
 

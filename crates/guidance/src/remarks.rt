@@ -1,0 +1,149 @@
+//! Kinds that are told of no text but of what happens: where each is met, and what it means. The guides in docs/ say the same.
+
+/// Where a kind is met.
+#[derive(Clone, Copy, Debug, PartialEq, Eq)]
+pub enum Occasion {
+    /// An event of a schedule is refused.
+    Event,
+    /// A command of a run isn't done.
+    Command,
+    /// The threads of a run give no report.
+    Run,
+    /// A file of a folder of state isn't raised.
+    State,
+}
+
+/// All of them.
+pub const OCCASIONS: [Occasion; 4] = [
+    Occasion::Event,
+    Occasion::Command,
+    Occasion::Run,
+    Occasion::State,
+];
+
+impl Occasion {
+    /// Where it is met, in words.
+    pub fn text(self) -> &'static str {
+        match self {
+            Occasion::Event => "in a REFUSED line of plc sim",
+            Occasion::Command => "in a FAULT line of plc run",
+            Occasion::Run => "where plc run gives no report",
+            Occasion::State => "in a folder of state",
+        }
+    }
+
+    /// The kinds that are met there.
+    pub fn remarks(self) -> &'static [Remark] {
+        match self {
+            Occasion::Event => &EVENTS,
+            Occasion::Command => &COMMANDS,
+            Occasion::Run => &RUNS,
+            Occasion::State => &STATES,
+        }
+    }
+}
+
+/// What is told of one kind.
+#[derive(Clone, Copy, Debug, PartialEq, Eq)]
+pub struct Remark {
+    /// The kind, as lines and messages name it.
+    pub kind: &'static str,
+    /// What happened, and what helps.
+    pub sentence: &'static str,
+}
+
+const EVENTS: [Remark; 5] = [
+    Remark {
+        kind: "NoSuchResource",
+        sentence: "The plant has no resource of that name.",
+    },
+    Remark {
+        kind: "NoSuchTask",
+        sentence: "The resource has no task of that name.",
+    },
+    Remark {
+        kind: "NoSuchMessage",
+        sentence: "Fewer evaluations were made so far, or the message is 0.",
+    },
+    Remark {
+        kind: "NumbersSpent",
+        sentence: "The task has made as many evaluations in this incarnation as there may be: --max-number, 4294967295 if not given. A restart of its resource begins anew.",
+    },
+    Remark {
+        kind: "IncarnationsSpent",
+        sentence: "The resource is in incarnation 4294967295.",
+    },
+];
+
+const COMMANDS: [Remark; 8] = [
+    Remark {
+        kind: "OutOfTurns",
+        sentence: "With --paced, the command before wasn't done within 10,000,000 turns of waiting. The command isn't given to its resource.",
+    },
+    Remark {
+        kind: "NoSuchTask",
+        sentence: "The resource has no such task. Commands of a plan always have one. The command isn't obeyed.",
+    },
+    Remark {
+        kind: "NumbersSpent",
+        sentence: "The task has made 4294967295 evaluations in this incarnation. The command isn't obeyed.",
+    },
+    Remark {
+        kind: "Memory",
+        sentence: "There was no memory left to note or make the evaluation. The command isn't obeyed. If the evaluation was made and couldn't be entered, the resource obeys no further command.",
+    },
+    Remark {
+        kind: "Misfit",
+        sentence: "The evaluation made doesn't fit the book. It isn't entered, and the resource obeys no further command.",
+    },
+    Remark {
+        kind: "Keeper",
+        sentence: "The incarnation couldn't be raised for a restart. A plan has none. The command isn't obeyed.",
+    },
+    Remark {
+        kind: "NotSent",
+        sentence: "There was no memory left to send the command, or its evaluation to a resource. A command isn't obeyed; an evaluation is in the book, but is lost to a resource that takes from it.",
+    },
+    Remark {
+        kind: "Stopped",
+        sentence: "The resource had stopped obeying, because of an earlier fault. The command isn't obeyed.",
+    },
+];
+
+const RUNS: [Remark; 5] = [
+    Remark {
+        kind: "Spawn",
+        sentence: "A thread couldn't be started. Those started before were stopped and joined.",
+    },
+    Remark {
+        kind: "BookDisagrees",
+        sentence: "What a journal made isn't what the book has of its resource.",
+    },
+    Remark {
+        kind: "Stranger",
+        sentence: "An entry, or a restart, answers no command, or a fault is of no command that can have met it.",
+    },
+    Remark {
+        kind: "Doubled",
+        sentence: "In a journal the tickets don't rise.",
+    },
+    Remark {
+        kind: "Keeper",
+        sentence: "An incarnation couldn't be raised at the start: with --state, a file of the folder is Unreadable, Unwritable or Spent.",
+    },
+];
+
+const STATES: [Remark; 3] = [
+    Remark {
+        kind: "Unreadable",
+        sentence: "NAME.inc can't be read, is no file, or isn't a number from 0 to 4294967295 without leading zeros and a line feed. It is left as it is: write the last incarnation into it, or one above.",
+    },
+    Remark {
+        kind: "Unwritable",
+        sentence: "The folder is missing, or NAME.inc can't be replaced in it. No incarnation is lost: make room or leave to write, and run again.",
+    },
+    Remark {
+        kind: "Spent",
+        sentence: "NAME.inc is 4294967295, and no incarnation is left: begin with an empty folder.",
+    },
+];
