@@ -85,6 +85,6 @@ pub held-set : (core : CoreValue) (p : TaskRef) (x : Evaluated) → IsCore core 
 held-set core p x is may other =
     let place = place-known core p x is may in
     elim (eqb_tells p.resource core.resource) [
-      inl same ↦ absurd (other same.1)
+      | inl same ↦ absurd (other same.1)
       | inr apart ↦ rw apart.0 (cell_same core.table p.resource p.task (Some x) None place.0 place.1)
     ]
