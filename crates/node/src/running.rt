@@ -1,6 +1,6 @@
 ghost use Rattle.std.specs.Prelude.{◌≡◌, IfOk, length, vec_len};
 ghost use Rattle.node_journals.specs.Commands.{AreNumbered, AreForPlant};
-ghost use Rattle.node_reports.specs.Reports.{IsFittingBook, AreJournalsOf, AreInBook, AreAnswers, RunsAgain, AreTold};
+ghost use Rattle.node_reports.specs.Reports.{IsFittingBook, AreJournalsOf, AreInBook, AreAnswers, RunsAgain, CanBeMadeAgain, AreTold};
 
 use node_journals::{Command, RunFault};
 use node_reports::{Report, collect};
@@ -33,6 +33,7 @@ pub fn run_threads<R: Threads + Wait + Sync, K: Keeper, G: Gate>(
     ensures answers { IfOk result (λ r. AreAnswers commands.now r.book.entries r.journals r.unanswered) }
     ensures faults { IfOk result (λ r. AreTold plant.value commands.now r.journals r.unanswered r.node_faults) }
     ensures again { IfOk result (λ r. RunsAgain plant.value max_number r.book r.journals) }
+    ensures made_again { IfOk result (λ r. CanBeMadeAgain plant.value max_number r.book r.journals) }
 {
     let Outcome {
         book,

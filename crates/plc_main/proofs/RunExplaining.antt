@@ -8,16 +8,15 @@ use Rattle.evaluation.specs.declared.field_input.FieldInput.{FieldInput}
 use Rattle.node_journals.specs.declared.command.Command.{Command}
 use Rattle.node_journals.specs.declared.run_fault.RunFault.{RunFault}
 use Rattle.node_reports.specs.declared.report.Report.{Report}
-use Rattle.node_reports.specs.Reports.{IsFittingBook, AreJournalsOf, AreInBook, AreAnswers, RunsAgain, AreTold}
+use Rattle.node_reports.specs.Reports.{IsFittingBook, AreJournalsOf, AreInBook, AreAnswers, RunsAgain, CanBeMadeAgain, AreTold}
 use Rattle.console.specs.declared.command_fault.CommandFault.{CommandFault}
 use Rattle.text_writer.specs.declared.send_fault.SendFault.{SendFault}
 use Rattle.text_writer.specs.declared.send_fault.SendFault.TheVariants as sending
-use Rattle.text_writer.proofs.Sending.{part_of_first}
 use Rattle.text_commands.specs.declared.text_command_fault.TextCommandFault.{TextCommandFault}
 use Rattle.text_commands.specs.declared.text_command_fault.TextCommandFault.TheVariants as text
 use Rattle.text_commands.specs.PlanText.{RefusesPlanOf}
 use Rattle.run_texts.specs.RunCommands.{ArePlanned}
-use Rattle.run_texts.specs.ReportText.{report_lines, TellsPart}
+use Rattle.run_texts.specs.ReportText.{TellsPart}
 use Rattle.text_commands.specs.Giving.{sending_fault}
 use Rattle.console.specs.Giving.{GivenForRun, command_fault}
 use Rattle.plc_main.specs.RunText.{IsReportOf, ExplainsRun}
@@ -36,12 +35,12 @@ run_refused plant until inputs old found r is refused = kept_fault (command_faul
 -- no report
 pub no_report : {T : Type 0} (plant : PlantValue) (until : ℕ) (inputs : List FieldInput) (old : Option (List ℕ)) (found : RunFault) (r : Result T CommandFault) → IsErrAnd r (GivenForRun found) → IfErr r (ExplainsRun plant until inputs old old)
 no_report plant until inputs old found (Ok x) given = tt
-no_report plant until inputs old found (Err fault) given = elim given [ inl w ↦ subst (ExplainsRun plant until inputs old old) (sym w.1) (inl (Keeps-refl old)) | inr w ↦ subst (ExplainsRun plant until inputs old old) (sym w.1) (Keeps-refl old) ]
+no_report plant until inputs old found (Err fault) given = elim given [ inl w ↦ subst (ExplainsRun plant until inputs old old) (sym w.1) (inl (Keeps-refl old)) | inr w ↦ subst (ExplainsRun plant until inputs old old) (sym w.1) (w.0, Keeps-refl old) ]
 
 told_of : (plant : PlantValue) (until : ℕ) (inputs : List FieldInput) (old new : Option (List ℕ)) (report : Report) (found : SendFault) → IsReportOf plant until inputs report → TellsPart plant report old new found
     → ExplainsRun plant until inputs old new (command_fault (sending_fault found))
 told_of plant until inputs old new report sending.Write is part = record { report = report; is_report = is; sent = part }
-told_of plant until inputs old new report sending.Memory is part = inr (record { report = report; is_report = is; sent = part_of_first (report_lines plant report) [] old new part })
+told_of plant until inputs old new report sending.Memory is part = inr (record { report = report; is_report = is; sent = part })
 
 -- the report was told in part
 pub told_partly : {T : Type 0} (plant : PlantValue) (until : ℕ) (inputs : List FieldInput) (old new : Option (List ℕ)) (report : Report) (found : SendFault) (r : Result T CommandFault) → IsErrAnd r (λ fault. fault ≡ command_fault (sending_fault found))
@@ -53,9 +52,9 @@ told_partly plant until inputs old new report found r given is part =
 pub report_of : (plant : PlantValue) (until : ℕ) (inputs : List FieldInput) (commands : List Command) (report : Report) → ArePlanned plant until inputs commands
     → IsFittingBook report.book report.journals → AreJournalsOf plant 4294967295 report.journals → AreInBook report.book.entries report.journals
     → AreAnswers commands report.book.entries report.journals report.unanswered → RunsAgain plant 4294967295 report.book report.journals
-    → AreTold plant commands report.journals report.unanswered report.node_faults → IsReportOf plant until inputs report
-report_of plant until inputs commands report planned fitting journals made answers again faults = record {
+    → CanBeMadeAgain plant 4294967295 report.book report.journals → AreTold plant commands report.journals report.unanswered report.node_faults → IsReportOf plant until inputs report
+report_of plant until inputs commands report planned fitting journals made answers again made_again faults = record {
   commands = commands;
   planned = planned;
-  reported = record { fitting = fitting; journals = journals; made = made; answers = answers; again = again; faults = faults };
+  reported = record { fitting = fitting; journals = journals; made = made; answers = answers; again = again; made_again = made_again; faults = faults };
 }

@@ -5,23 +5,26 @@ use Rattle.plant.specs.PlantValue.{PlantValue}
 use Rattle.evaluation.specs.declared.field_input.FieldInput.{FieldInput}
 use Rattle.node_journals.specs.declared.command.Command.{Command}
 use Rattle.node_reports.specs.declared.report.Report.{Report}
-use Rattle.node_reports.specs.Reports.{IsFittingBook, AreJournalsOf, AreInBook, AreAnswers, RunsAgain, AreTold}
+use Rattle.node_reports.specs.Reports.{IsFittingBook, AreJournalsOf, AreInBook, AreAnswers, RunsAgain, CanBeMadeAgain, AreTold}
 use Rattle.console.specs.declared.command_fault.CommandFault.{CommandFault}
 use Rattle.console.specs.declared.command_fault.CommandFault.TheVariants.{Text, Word, Write, Run, Memory}
-use Rattle.text_writer.specs.Sending.{SendsPart}
+use Rattle.text_writer.specs.Sending.{SendsPart, SendsLess}
+use Rattle.node_journals.specs.declared.run_fault.RunFault.TheVariants as run
 use Rattle.text_commands.specs.declared.text_command_fault.TextCommandFault.TheVariants as text
 use Rattle.text_commands.specs.PlanText.{RefusesPlanOf}
 use Rattle.run_texts.specs.RunCommands.{ArePlanned}
 use Rattle.run_texts.specs.ReportText.{report_lines, replay_line}
 
 -- What a report of threads is: its book fits, its journals are lawful and made the book's entries, the commands are
--- accounted for, the book's entries are a run, and the faults are told of commands that may have met them.
+-- accounted for, the book's entries are a run and could have been made one after the other, and the faults are told of
+-- commands that may have met them.
 pub record IsReport (plant : PlantValue) (commands : List Command) (max_number : ℕ) (r : Report) : Type 0 where
   pub fitting : IsFittingBook r.book r.journals
   pub journals : AreJournalsOf plant max_number r.journals
   pub made : AreInBook r.book.entries r.journals
   pub answers : AreAnswers commands r.book.entries r.journals r.unanswered
   pub again : RunsAgain plant max_number r.book r.journals
+  pub made_again : CanBeMadeAgain plant max_number r.book r.journals
   pub faults : AreTold plant commands r.journals r.unanswered r.node_faults
 
 -- a report of threads that ran the commands for the plan
@@ -39,18 +42,25 @@ pub record WritesReport (plant : PlantValue) (until : ℕ) (inputs : List FieldI
   pub appended : Appends old new (report_lines plant report ++ replay_line true)
   pub faulty_is : IsTrue faulty ↔ (report.node_faults ≢ [])
 
--- no more than a beginning of the lines of such a report was written, and of a last line behind them
-pub record WritesReportPart (plant : PlantValue) (until : ℕ) (inputs : List FieldInput)
-    (last : List ℕ) (old new : Option (List ℕ)) : Type 0 where
+-- a beginning of the text of such a report was written, and not all of it
+pub record WritesReportLess (plant : PlantValue) (until : ℕ) (inputs : List FieldInput)
+    (old new : Option (List ℕ)) : Type 0 where
   pub report : Report
   pub is_report : IsReportOf plant until inputs report
-  pub sent : SendsPart (report_lines plant report ++ last) old new
+  pub sent : SendsLess (report_lines plant report ++ replay_line true) old new
+
+-- no more than a beginning of the lines of such a report was written, and nothing of the last line
+pub record WritesReportPart (plant : PlantValue) (until : ℕ) (inputs : List FieldInput)
+    (old new : Option (List ℕ)) : Type 0 where
+  pub report : Report
+  pub is_report : IsReportOf plant until inputs report
+  pub sent : SendsPart (report_lines plant report) old new
 
 -- why there was a fault, and what was written before: nothing before a plan that is too long and threads that gave no
--- report, and after want of memory no last line
+-- report for another reason than want of memory, and after want of memory no last line
 abbrev pub ExplainsRun : PlantValue → ℕ → List FieldInput → Option (List ℕ) → Option (List ℕ) → CommandFault → Type 0
 ExplainsRun plant until inputs old new (Text fault) = RefusesPlanOf plant until (text.Text fault) × Keeps old new
 ExplainsRun plant until inputs old new (Word fault) = ⊥
-ExplainsRun plant until inputs old new Write = WritesReportPart plant until inputs (replay_line true) old new
-ExplainsRun plant until inputs old new (Run fault) = Keeps old new
-ExplainsRun plant until inputs old new Memory = Keeps old new ⊎ WritesReportPart plant until inputs [] old new
+ExplainsRun plant until inputs old new Write = WritesReportLess plant until inputs old new
+ExplainsRun plant until inputs old new (Run fault) = (fault ≢ run.Memory) × Keeps old new
+ExplainsRun plant until inputs old new Memory = Keeps old new ⊎ WritesReportPart plant until inputs old new

@@ -15,7 +15,7 @@ use std::thread::Threads;
 /// entry, and writes what they did: a line for each evaluation, then for each command that wasn't answered and for each
 /// fault, and last whether one thread makes the same evaluations. It tells whether there was a fault.
 ///
-/// `TooLong` and `Run` come before anything is written. After `Write` and `Memory` what went out is a prefix.
+/// `TooLong` and `Run` come before anything is written. After `Write` and `Memory` what went out is a prefix, and not all.
 pub fn run_text<R: Threads + Wait + Sync, K: Keeper, G: Gate, W: Write>(
     rt: &R,
     alloc: Global,

@@ -1,17 +1,25 @@
 -- A replay in one thread.
-use Rattle.std.proofs.Common.{◌≡◌, true, false, Bool, List, [], ◌∷◌, reverse, refl, sym, ap, ◌∙◌, subst, if◌then◌else◌}
-use Rattle.plant.specs.PlantValue.{PlantValue}
+use Rattle.std.proofs.Common.{◌≡◌, ◌++◌, true, false, Bool, List, [], ◌∷◌, All, Some, reverse, slice_get, refl, sym, ap, ◌∙◌, subst, if◌then◌else◌}
+use Rattle.std.specs.List.{AllByRecursion}
+use Rattle.std.proofs.lemmas.List.{reverse-append, reverse-reverse}
+use Rattle.std.proofs.lemmas.List.Elements.{All-contains}
+use Rattle.std.proofs.lemmas.Option.{same_Some}
+use Rattle.lists.proofs.Each.{Each-at, slice_get-among}
+use Rattle.lists.proofs.Members.{contains_at, all_from_places}
+use Rattle.plant.specs.PlantValue.{PlantValue, code_at}
 use Rattle.evaluation.specs.Meaning.{Evaluated}
 use Rattle.exchange.specs.declared.event.Event.{Event}
-use Rattle.exchange.specs.History.{Setting, is_lawful, after_events, lawful_among}
+use Rattle.exchange.specs.declared.event.Event.TheVariants.{Evaluate, Deliver, Restart}
+use Rattle.exchange.specs.History.{Setting, history_of, is_lawful, after_events, lawful_among}
 use Rattle.exchange.specs.Run.{IsLog, IsRun}
 use Rattle.exchange.specs.World.{WorldValue}
 use Rattle.exchange.specs.Step.{Follows}
 use Rattle.exchange.specs.Laws.{OneRun}
 use Rattle.evaluation_book.specs.Book.{BookValue}
+use Rattle.exchange.specs.Replays.{AllCouldBeMade}
 use Rattle.node_journals.specs.declared.journal.Journal.{Journal}
 use Rattle.node_reports.specs.Reports.{RunsAgain, firsts_of}
-use Rattle.run_texts.specs.Steps.Replaying.{IsReplay}
+use Rattle.run_texts.specs.Steps.Replaying.{IsReplay, AreOfPlant, AreOfOneCode}
 
 -- the lawful events of a list have the history of all of them
 pub lawful_history : (s : Setting) (h : List Event) (es : List Event) → after_events s h (lawful_among s h es) ≡ after_events s h es
@@ -36,3 +44,45 @@ pub replayed_equal : (plant : PlantValue) (book : BookValue) (journals : List Jo
 replayed_equal plant book journals equal one_run again replay =
     let same : replay.log ≡ book.entries = one_run _ replay.schedule replay.log book.entries replay.run (again replay.schedule replay.again) in
     replay.equal_is.1 same
+
+-- an evaluation is by the plant's code
+abbrev IsOfPlant : PlantValue → Evaluated → Type 0
+IsOfPlant plant x = code_at plant x.name.task ≡ Some x.code
+
+-- so is each that events make
+log_of_plant : (s : Setting) (h : List Event) (log : List Evaluated) → IsLog s h log → AllByRecursion (IsOfPlant s.plant) log
+log_of_plant s [] [] made = tt
+log_of_plant s [] (x ∷ older) made = absurd made
+log_of_plant s (Deliver message resource ∷ h) log made = log_of_plant s h log made
+log_of_plant s (Restart resource ∷ h) log made = log_of_plant s h log made
+log_of_plant s (Evaluate ticket task dt inputs ∷ h) [] made = absurd made
+log_of_plant s (Evaluate ticket task dt inputs ∷ h) (x ∷ older) made =
+    let next = made.1 in
+    let of_task : x.name.task ≡ task = ap (λ (e : Evaluated). e.name.task) next.asked.is in
+    (ap (code_at s.plant) of_task ∙ next.found ∙ ap Some (sym (ap (λ (e : Evaluated). e.code) next.asked.is)), log_of_plant s h older made.0)
+
+each-append : {X : Type 0} (P : X → Type 0) (xs ys : List X) → AllByRecursion P xs → AllByRecursion P ys → AllByRecursion P (xs ++ ys)
+each-append P [] ys a b = b
+each-append P (x ∷ xs) ys a b = (a.0, each-append P xs ys a.1 b)
+
+each-turned : {X : Type 0} (P : X → Type 0) (xs : List X) → AllByRecursion P xs → AllByRecursion P (reverse xs)
+each-turned P [] all = tt
+each-turned P (x ∷ xs) all = subst (AllByRecursion P) (sym (reverse-append (x ∷ []) xs)) (each-append P (reverse xs) (x ∷ []) (each-turned P xs all.1) (all.0, tt))
+
+-- evaluations of a run, and others by the plant's codes, are by one code where they are of one task
+pub of_one_code : (s : Setting) (events : List Event) (log entries : List Evaluated) → IsRun s events log → AreOfPlant s.plant entries → AreOfOneCode log entries
+of_one_code s events log entries run of_plant = λ k x y at_x at_y same.
+    let all = subst (AllByRecursion (IsOfPlant s.plant)) (reverse-reverse log) (each-turned (IsOfPlant s.plant) (reverse log) (log_of_plant s (history_of s events) (reverse log) run)) in
+    let made : code_at s.plant x.name.task ≡ Some x.code = Each-at (IsOfPlant s.plant) log x all (slice_get-among log k x at_x) in
+    let entry : code_at s.plant y.name.task ≡ Some y.code = All-contains (IsOfPlant s.plant) entries y of_plant (contains_at entries k y at_y) in
+    same_Some x.code y.code (sym made ∙ ap (code_at s.plant) same ∙ entry)
+
+made_of_plant : (s : Setting) (older : List Evaluated) → AllCouldBeMade s older → AllByRecursion (IsOfPlant s.plant) older
+made_of_plant s [] all = tt
+made_of_plant s (x ∷ older) all = (all.0.found ∙ ap Some (sym all.0.same_code), made_of_plant s older all.1)
+
+-- entries that could have been made are by the plant's codes
+pub entries_of_plant : (s : Setting) (entries : List Evaluated) → AllCouldBeMade s (reverse entries) → AreOfPlant s.plant entries
+entries_of_plant s entries all =
+    let each = subst (AllByRecursion (IsOfPlant s.plant)) (reverse-reverse entries) (each-turned (IsOfPlant s.plant) (reverse entries) (made_of_plant s (reverse entries) all)) in
+    all_from_places (IsOfPlant s.plant) entries (λ k x at. Each-at (IsOfPlant s.plant) entries x each (slice_get-among entries k x at))

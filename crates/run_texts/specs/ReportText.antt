@@ -7,7 +7,7 @@ use Rattle.plant.specs.PlantValue.{PlantValue}
 use Rattle.evaluation.specs.Meaning.{Evaluated}
 use Rattle.text_writer.specs.declared.send_fault.SendFault.{SendFault}
 use Rattle.text_writer.specs.declared.send_fault.SendFault.TheVariants as sending
-use Rattle.text_writer.specs.Sending.{SendsPart}
+use Rattle.text_writer.specs.Sending.{SendsPart, SendsLess}
 use Rattle.line_parts.specs.LineParts.{resource_text}
 use Rattle.world.specs.RunLines.{evaluation_line}
 use Rattle.node_journals.specs.declared.cause.Cause.{Cause}
@@ -62,7 +62,7 @@ pub record TellsReport (plant : PlantValue) (report : Report) (old new : Option 
   pub appended : Appends old new (report_lines plant report ++ replay_line true)
   pub faulty_is : IsTrue faulty ↔ (report.node_faults ≢ [])
 
--- no more than a beginning of that was written, and for want of memory nothing of the last line
+-- a beginning of that was written, and not all of it; for want of memory nothing of the last line
 abbrev pub TellsPart : PlantValue → Report → Option (List ℕ) → Option (List ℕ) → SendFault → Type 0
-TellsPart plant report old new sending.Write = SendsPart (report_lines plant report ++ replay_line true) old new
+TellsPart plant report old new sending.Write = SendsLess (report_lines plant report ++ replay_line true) old new
 TellsPart plant report old new sending.Memory = SendsPart (report_lines plant report) old new

@@ -2,24 +2,26 @@
 
 ghost use Rattle.std.specs.Prelude.{◌≡◌, ◌↔◌, true, length, IfOk, IsTrue};
 ghost use Rattle.node_reports.specs.Reports.{RunsAgain, firsts_of};
-ghost use Rattle.run_texts.specs.Steps.Replaying.{IsReplay};
+ghost use Rattle.run_texts.specs.Steps.Replaying.{IsReplay, AreOfPlant, AreOfOneCode};
 
 use evaluation::Frame;
 use exchange::{Book, Schedule, World, one_run};
 use node_journals::Journal;
-use node_reports::Report;
+use node_reports::{Report, are_equal};
 use plant::Plant;
 use std::alloc::{AllocError, Global};
 use std::sync::Arc;
 
+/// Whether both lists have the same evaluations, which are by the plant's codes.
 fn are_same(frames: &[Frame], others: &[Frame]) -> bool
+    requires { AreOfOneCode frames.now others.now }
     ensures { IsTrue result ↔ (frames.now ≡ others.now) }
 {
     if frames.len() != others.len() {
         return false;
     }
     for i in 0..frames.len() {
-        if !frames[i].same(&others[i]) {
+        if !are_equal(&frames[i], &others[i]) {
             return false;
         }
     }
@@ -44,7 +46,8 @@ fn is_replayed(
     first: &[u32],
     book: &Book,
 ) -> Result<bool, AllocError>
-    requires { length first.now ≡ length plant.value.resources }
+    requires first { length first.now ≡ length plant.value.resources }
+    requires of_plant { AreOfPlant plant.value book.now.entries }
     ensures { IfOk result (IsReplay plant.value first.now book.now) }
 {
     let schedule = book.schedule(alloc)?;
@@ -58,7 +61,8 @@ fn is_replayed(
 /// Runs the schedule of a report's book in one thread, from the journals' first incarnations, and tells whether that
 /// makes the book's entries. It does if the report is one of threads.
 pub(crate) fn replay(alloc: Global, plant: Arc<Plant>, report: &Report) -> Result<bool, AllocError>
-    requires { length report.now.journals ≡ length plant.value.resources }
+    requires journals { length report.now.journals ≡ length plant.value.resources }
+    requires of_plant { AreOfPlant plant.value report.now.book.entries }
     ensures answer { IfOk result (IsReplay plant.value (firsts_of report.now.journals) report.now.book) }
     ensures equal { RunsAgain plant.value 4294967295 report.now.book report.now.journals
         → IfOk result (λ equal. equal ≡ true) }

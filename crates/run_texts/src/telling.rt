@@ -1,5 +1,5 @@
 ghost use Rattle.std.specs.Prelude.{◌≡◌, length, IfOk, IfErr};
-ghost use Rattle.node_reports.specs.Reports.{RunsAgain};
+ghost use Rattle.node_reports.specs.Reports.{RunsAgain, CanBeMadeAgain};
 ghost use Rattle.run_texts.specs.ReportText.{TellsReport, TellsPart};
 
 use crate::replay::replay;
@@ -14,7 +14,7 @@ use text_writer::{SendFault, write_text};
 /// Writes what the threads of a run did: a line for each evaluation, then for each command that wasn't answered and for
 /// each fault, and last whether one thread makes the same evaluations. It tells whether there was a fault.
 ///
-/// After `Write` what went out is a prefix, and after `Memory` there is no last line.
+/// After `Write` what went out is a prefix, and not all, and after `Memory` there is no last line.
 pub fn tell_report<W: Write>(
     alloc: Global,
     plant: Arc<Plant>,
@@ -23,6 +23,7 @@ pub fn tell_report<W: Write>(
 ) -> Result<bool, SendFault>
     requires journals { length report.now.journals ≡ length plant.value.resources }
     requires again { RunsAgain plant.value 4294967295 report.now.book report.now.journals }
+    requires made_again { CanBeMadeAgain plant.value 4294967295 report.now.book report.now.journals }
     ensures ok { IfOk result (TellsReport plant.value report.now (W.contents writer.old) (W.contents writer.new)) }
     ensures fault { IfErr result (TellsPart plant.value report.now (W.contents writer.old) (W.contents writer.new)) }
 {

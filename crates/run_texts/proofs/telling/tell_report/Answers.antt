@@ -5,7 +5,12 @@ use Rattle.lists.proofs.Results.{kept_fault}
 use Rattle.text_writer.specs.declared.send_fault.SendFault.TheVariants.{Write, Memory}
 use Rattle.run_texts.specs.ReportText.{report_lines, replay_line, TellsPart}
 use Rattle.run_texts.proofs.ReportTelling.{lines_partly, lines_alone, last_partly, faulty}
+use Rattle.node_reports.specs.Reports.{setting_of}
+use Rattle.run_texts.proofs.Replaying.{entries_of_plant}
 use Rattle.run_texts.proofs.telling.tell_report.Goals as goal
+
+pub replay-requires-clause-of_plant : goal.replay-requires-clause-of_plant
+replay-requires-clause-of_plant g c = entries_of_plant (setting_of c.args.plant.value 4294967295 c.args.report.now.journals) c.args.report.now.book.entries c.requires.made_again
 
 pub returns-in_err-write_report-clause-fault : goal.returns-in_err-write_report-clause-fault
 returns-in_err-write_report-clause-fault g c =
@@ -26,7 +31,7 @@ returns-in_err-write_text-clause-fault g c =
     let line = c.replay_line.ensures ∙ ap replay_line (c.in_ok-equal.ensures.equal c.requires.again) in
     let part = rw line at c.in_err-write_text.ensures.prefix in
     kept_fault Write (TellsPart plant report _ _) _ c.from_residual-in_err-write_text.ensures.1
-    (last_partly plant _ _ _ report (rw c.deref.ensures at c.in_ok-write_report.ensures.ok) part.0 part.2)
+    (last_partly plant _ _ _ report (rw c.deref.ensures at c.in_ok-write_report.ensures.ok) part)
 
 pub returns-clause-ok : goal.returns-clause-ok
 returns-clause-ok g c =
