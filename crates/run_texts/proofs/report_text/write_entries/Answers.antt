@@ -14,7 +14,7 @@ pub returns-in_err-send_full-clause-part : goal.returns-in_err-send_full-clause-
 returns-in_err-send_full-clause-part g c =
     let told = c.in_ok-push_evaluation.ensures ∙ ap (λ x. string_bytes c.loop-i.lines ++ evaluation_line c.args.plant.now (c.loop-i.i + 1) x) (c.evaluation.ensures ∙ c.index-entries-i.is) in
     let made = more_made _ _ _ _ _ _ _ c.loop-i.invariant told (entry_more c.args.plant.now c.args.entries.now c.loop-i.i c.index-entries-i.result c.loop-i-test.true) in
-    on_err _ (part_left _ _ _ _ _ _ _ (entries_parted c.args.plant.now c.args.entries.now (c.loop-i.i + 1)) made c.in_err-send_full.ensures.part)
+    on_err _ (part_left _ _ _ _ _ _ _ (entries_parted c.args.plant.now c.args.entries.now (c.loop-i.i + 1)) made (part_of_less _ _ _ c.in_err-send_full.ensures.less))
 
 pub loop-i-preserved : goal.loop-i-preserved
 loop-i-preserved g c =

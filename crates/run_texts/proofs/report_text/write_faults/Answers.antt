@@ -11,7 +11,7 @@ returns-in_err-push_fault-clause-part g c = lines_unmade (fault_line c.args.plan
 pub returns-in_err-send_full-clause-part : goal.returns-in_err-send_full-clause-part
 returns-in_err-send_full-clause-part g c =
     let made = line_made (fault_line c.args.plant.now) c.args.faults.now _ _ _ _ _ _ c.loop-fault-test.true c.loop-fault.invariant c.in_ok-push_fault.ensures in
-    lines_unsent (fault_line c.args.plant.now) c.args.faults.now _ _ _ _ _ _ made c.in_err-send_full.ensures.part
+    lines_unsent (fault_line c.args.plant.now) c.args.faults.now _ _ _ _ _ _ made (part_of_less _ _ _ c.in_err-send_full.ensures.less)
 
 pub loop-fault-preserved : goal.loop-fault-preserved
 loop-fault-preserved g c =

@@ -11,7 +11,7 @@ returns-in_err-push_unanswered-clause-part g c = lines_unmade unanswered_line c.
 pub returns-in_err-send_full-clause-part : goal.returns-in_err-send_full-clause-part
 returns-in_err-send_full-clause-part g c =
     let made = line_made unanswered_line c.args.tickets.now _ _ _ _ _ _ c.loop-ticket-test.true c.loop-ticket.invariant c.in_ok-push_unanswered.ensures in
-    lines_unsent unanswered_line c.args.tickets.now _ _ _ _ _ _ made c.in_err-send_full.ensures.part
+    lines_unsent unanswered_line c.args.tickets.now _ _ _ _ _ _ made (part_of_less _ _ _ c.in_err-send_full.ensures.less)
 
 pub loop-ticket-preserved : goal.loop-ticket-preserved
 loop-ticket-preserved g c =
