@@ -2,6 +2,8 @@
 #![tactic(auto)]
 
 #[cfg(test)]
+mod answers;
+#[cfg(test)]
 mod checks;
 #[cfg(test)]
 mod drawn;
@@ -11,8 +13,6 @@ mod free_lists;
 mod gates;
 #[cfg(test)]
 mod journals;
-#[cfg(test)]
-mod keepers;
 #[cfg(test)]
 mod memory;
 #[cfg(test)]
