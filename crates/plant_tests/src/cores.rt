@@ -60,6 +60,8 @@ fn a_refused_evaluation_leaves_no_gap(rt: HostRuntime) {
     equal(&rt, "numbers", &numbers, &(1, 2));
     let (before, after) = (second.evaluation().before(), first.evaluation().after());
     holds(&rt, "from the state after", before.same(after));
+    let other = first_of(&rt, rt.alloc(), PAIR);
+    holds(&rt, "the evaluation of any such core", first.same(&other));
 }
 
 /// The image of another plant's task has other kinds.

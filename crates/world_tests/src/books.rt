@@ -99,7 +99,7 @@ fn frame_of(
     must(rt, Frame::new(alloc, must(rt, made)))
 }
 
-/// Enters a frame. Where it is refused, it comes back. The entries are those before, and this one where it isn't refused.
+/// Enters a frame, once more where memory was refused. Where it is refused, it comes back. The entries are those before, and this one where it isn't refused.
 fn enter(
     rt: &impl Abort,
     book: &mut Book,
@@ -107,18 +107,34 @@ fn enter(
     frame: Frame,
 ) -> Option<Misfit> {
     let share = must(rt, frame.try_clone());
-    let answer = match book.enter(frame) {
+    let answer = match entered(rt, book, entries.as_slice(), frame) {
+        Err((back, Misfit::Memory)) => entered(rt, book, entries.as_slice(), back),
+        answer => answer,
+    };
+    match answer {
         Ok(()) => {
             must(rt, entries.push(share));
+            let are_those = are_same(book.entries(), entries.as_slice());
+            holds(rt, "the entries are those that fit", are_those);
             None
         }
         Err((back, misfit)) => {
             holds(rt, "the frame comes back", back.same(&share));
             Some(misfit)
         }
-    };
-    let are_those = are_same(book.entries(), entries.as_slice());
-    holds(rt, "the entries are those that fit", are_those);
+    }
+}
+
+/// What the book answers to a frame. Where it refuses it, it has these entries as before.
+fn entered(
+    rt: &impl Abort,
+    book: &mut Book,
+    entries: &[Frame],
+    frame: Frame,
+) -> Result<(), (Frame, Misfit)> {
+    let answer = book.enter(frame);
+    let is_kept = answer.is_ok() || are_same(book.entries(), entries);
+    holds(rt, "a refused frame changes nothing", is_kept);
     answer
 }
 
@@ -164,10 +180,18 @@ fn a_book_refuses_what_does_not_fit(rt: HostRuntime) {
     answers(&rt, alloc, LOOP, FAST, &[Act::Evaluate(FAST, false)], OWN);
 }
 
+/// The schedule of a book, asked for again where memory was refused.
+fn schedule_of(rt: &impl Abort, alloc: Global, book: &Book) -> Vec<Event> {
+    match book.schedule(alloc) {
+        Ok(schedule) => schedule,
+        Err(_) => must(rt, book.schedule(alloc)),
+    }
+}
+
 /// The book of what some acts make hands out this schedule.
 fn has_schedule(rt: &impl Abort, alloc: Global, plant: &str, acts: &[Act], wanted: &[Act]) {
     let plant = plant_of(rt, alloc, plant);
-    let schedule = must(rt, book_after(rt, alloc, &plant, acts).schedule(alloc));
+    let schedule = schedule_of(rt, alloc, &book_after(rt, alloc, &plant, acts));
     let wanted = events_of(rt, alloc, wanted);
     let is_so = do_the_same(schedule.as_slice(), wanted.as_slice());
     holds(rt, "the schedule is the wanted one", is_so);

@@ -67,6 +67,11 @@ fn a_schedule_is_written_as_far_as_it_goes(rt: HostRuntime) {
         let first = written.get(..room).unwrap_or_default();
         writes(&rt, alloc, &plant, RESTARTED, out, answer, first);
     }
+    for room in 0..all {
+        let out = must(&rt, Halting::new(alloc, room, all, true));
+        let first = written.get(..room).unwrap_or_default();
+        writes(&rt, alloc, &plant, RESTARTED, out, cut, first);
+    }
     let bad = "DELIVER 99 R2\n# a comment\nEVAL R9.FAST 10\nEVAL R1.FAST\nEVAL R1.FAST 10\n";
     let refusals = b"REFUSED 1 NoSuchMessage\nREFUSED 2 NoSuchResource\n";
     let out = must(&rt, Halting::new(alloc, usize::MAX, usize::MAX, true));
