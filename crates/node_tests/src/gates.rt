@@ -102,6 +102,24 @@ impl Gate for SlowFirst {
     }
 }
 
+/// A gate that never waits, and at which the first command isn't issued.
+#[derive(Clone, Copy)]
+pub struct FirstUnissued;
+
+impl Gate for FirstUnissued {
+    fn issue(&self, ticket: u64) -> Result<(), OutOfTurns> {
+        if ticket == 1 { Err(OutOfTurns) } else { Ok(()) }
+    }
+
+    fn pass(&self, _resource: usize, _ticket: u64) -> Result<(), OutOfTurns> {
+        Ok(())
+    }
+
+    fn sent(&self, _resource: usize, _ticket: u64) -> Result<(), OutOfTurns> {
+        Ok(())
+    }
+}
+
 /// A keeper that keeps nothing any more once it was raised.
 #[derive(Drop)]
 pub struct OnceKeeper {

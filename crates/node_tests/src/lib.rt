@@ -20,4 +20,6 @@ mod paced_lists;
 #[cfg(test)]
 mod runs;
 #[cfg(test)]
+mod senders;
+#[cfg(test)]
 mod threads;
