@@ -115,7 +115,7 @@ fn run_anew<R: Files + Print + Eprint + AllocGlobal + Threads + Wait + Sync>(
     }
 }
 
-fn answer<R: Env + Files + Print + Eprint + AllocGlobal + Threads + Wait + Sync>(
+fn answer<R: Env + Files + Input + Print + Eprint + AllocGlobal + Threads + Wait + Sync>(
     rt: &R,
 ) -> io::Result<u8> {
     let given = match given_words(rt) {
