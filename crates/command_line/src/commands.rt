@@ -145,7 +145,11 @@ fn sim_command<'a>(alloc: Global) -> Result<Command<'a>, AllocError>
         )
         .after_help(SIM_HELP)
         .arg(plant_arg(alloc))?
-        .arg(needed_arg(alloc, "SCHEDULE", "The file of the schedule"))?
+        .arg(needed_arg(
+            alloc,
+            "SCHEDULE",
+            "The file of the schedule, or - for standard input",
+        ))?
         .arg(number_arg(
             alloc,
             "max-number",

@@ -72,6 +72,9 @@ An evaluation takes, from each task that feeds it, the latest evaluation that re
 last; an evaluation that is never delivered is lost, and one may be delivered twice, late or out of order. What names
 nothing that exists changes nothing and is written as REFUSED, with the number of the event and the reason.
 
+Where SCHEDULE is - the events are read from standard input line by line, and each one's line is written before the next
+one is read: another program can drive the plant, as examples/live.py does.
+
 Example:
 
   $ cat examples/one_delivery.schedule

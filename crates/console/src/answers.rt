@@ -4,6 +4,7 @@ ghost use Rattle.console.specs.Answers.{WritesAnswer, ExplainsAnswer};
 use crate::command_fault::CommandFault;
 use crate::faults::{print_failure, print_fault};
 use crate::files::file_text;
+use crate::shown::Shown;
 use crate::status::WORD_REFUSED;
 use command_line::TextRequest;
 use guidance::{explain, kinds};
@@ -63,6 +64,7 @@ pub fn answer_kind<R: Print + Eprint + AllocGlobal>(rt: &R, kind: &str) -> io::R
         return print_failure(rt, CommandFault::Memory);
     };
     if text.is_empty() {
+        let kind = Shown(kind);
         eprintln!(rt;
             "plc: {kind}: there is no kind of fault of this name; plc explain lists all"
         )?;

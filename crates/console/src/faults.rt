@@ -1,11 +1,12 @@
 use crate::command_fault::CommandFault;
 use crate::refusal::refusal_of;
+use crate::shown::Shown;
 use crate::status::{FAILED, TEXT_REFUSED, WORD_REFUSED};
 use evaluation::InputFault;
-use guidance::{Refusal, help_with};
+use guidance::{Refusal, help_with, help_with_a_word};
 use std::io;
-use text_commands::{TextFault, WordFault};
-use world::SimFault;
+use text_commands::{TextFault, WordFault, WordFaultKind};
+use world::{LiveFault, SimFault};
 
 /// Tells what helps to mend a text. The fault was told before: what can't be told here is left out.
 fn print_help<R: Eprint + AllocGlobal>(rt: &R, text: &str, refusal: Refusal) {
@@ -21,6 +22,7 @@ fn print_text_fault<R: Eprint + AllocGlobal>(
     text: &str,
     fault: TextFault,
 ) -> io::Result<u8> {
+    let file = Shown(file);
     match fault {
         TextFault::TooLong => eprintln!(rt; "{fault}")?,
         _ => eprintln!(rt; "{file}:{fault}")?,
@@ -29,10 +31,26 @@ fn print_text_fault<R: Eprint + AllocGlobal>(
     Ok(TEXT_REFUSED)
 }
 
+/// Tells the nearest names of a drawing's variables. What can't be told here is left out.
+fn print_nearest<R: Eprint + AllocGlobal>(rt: &R, text: &str, word: &str) {
+    if let Ok(help) = help_with_a_word(rt.alloc(), text, word) {
+        let _told = rt.eprint(help.as_str());
+    }
+}
+
 /// Tells why a word is refused; the status.
-fn print_word_fault<R: Eprint>(rt: &R, words: &[&str], fault: WordFault) -> io::Result<u8> {
+fn print_word_fault<R: Eprint + AllocGlobal>(
+    rt: &R,
+    text: &str,
+    words: &[&str],
+    fault: WordFault,
+) -> io::Result<u8> {
     let word = words.get(fault.number).copied().unwrap_or("");
-    eprintln!(rt; "plc: {word}: {fault}")?;
+    let shown = Shown(word);
+    eprintln!(rt; "plc: {shown}: {fault}")?;
+    if fault.kind == WordFaultKind::NoVariable {
+        print_nearest(rt, text, word);
+    }
     Ok(WORD_REFUSED)
 }
 
@@ -52,7 +70,7 @@ pub fn print_fault<R: Eprint + AllocGlobal>(
 ) -> io::Result<u8> {
     match fault {
         CommandFault::Text(fault) => print_text_fault(rt, file, text, fault),
-        CommandFault::Word(fault) => print_word_fault(rt, words, fault),
+        CommandFault::Word(fault) => print_word_fault(rt, text, words, fault),
         CommandFault::Write | CommandFault::Run(_) | CommandFault::Memory => {
             print_failure(rt, fault)
         }
@@ -83,11 +101,36 @@ pub(crate) fn print_sim_fault<R: Eprint + AllocGlobal>(
 ) -> io::Result<u8> {
     match fault {
         SimFault::Syntax { line } => {
+            let file = Shown(file);
             eprintln!(rt; "{file}:{fault}")?;
             print_help(rt, schedule, Refusal::Schedule { line });
             Ok(TEXT_REFUSED)
         }
         SimFault::Write => print_failure(rt, CommandFault::Write),
         SimFault::Memory => print_failure(rt, CommandFault::Memory),
+    }
+}
+
+/// Tells why a schedule that is read line by line isn't done to its end; the line is the one that was read last. The
+/// status.
+pub(crate) fn print_live_fault<R: Eprint + AllocGlobal>(
+    rt: &R,
+    file: &str,
+    line: &[u8],
+    fault: LiveFault,
+) -> io::Result<u8> {
+    match fault {
+        LiveFault::Syntax { .. } | LiveFault::TooLong { .. } => {
+            eprintln!(rt; "{file}:{fault}")?;
+            let text = str::from_utf8(line).unwrap_or("");
+            print_help(rt, text, Refusal::Schedule { line: 1 });
+            Ok(TEXT_REFUSED)
+        }
+        LiveFault::Read => {
+            eprintln!(rt; "plc: {file}: standard input can't be read")?;
+            Ok(FAILED)
+        }
+        LiveFault::Write => print_failure(rt, CommandFault::Write),
+        LiveFault::Memory => print_failure(rt, CommandFault::Memory),
     }
 }

@@ -3,7 +3,8 @@ ghost use Rattle.plant.specs.PlantText.{IsPlantText};
 ghost use Rattle.text_commands.specs.CheckText.{GivesNoPlant};
 
 use crate::faults::print_fault;
-use crate::status::FAILED;
+use crate::shown::Shown;
+use crate::status::{FAILED, WORD_REFUSED};
 use plant::Plant;
 use std::alloc::Global;
 use std::rt::Files;
@@ -11,14 +12,24 @@ use std::sync::Arc;
 use std::{fs, io};
 use text_commands::{TextCommandFault, read_plant};
 
-/// The text of a file, or the status after its fault was told.
+/// What stands for standard input in the place of a file's name.
+pub(crate) const STANDARD_INPUT: &str = "-";
+
+/// The text of a file, or the status after its fault was told. A whole text isn't read from standard input.
 pub(crate) fn file_text<R: Files + Eprint + AllocGlobal>(
     rt: &R,
     file: &str,
 ) -> io::Result<Result<String, u8>> {
+    if file == STANDARD_INPUT {
+        eprintln!(rt;
+            "plc: -: only a schedule is read from standard input; a file of this name is ./-"
+        )?;
+        return Ok(Err(WORD_REFUSED));
+    }
     match fs::read_to_string(rt, file) {
         Ok(text) => Ok(Ok(text)),
         Err(error) => {
+            let file = Shown(file);
             eprintln!(rt; "plc: {file}: {error}")?;
             Ok(Err(FAILED))
         }

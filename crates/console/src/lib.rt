@@ -10,6 +10,7 @@ mod given;
 mod prepared;
 mod refusal;
 mod schedules;
+mod shown;
 mod status;
 
 pub use answers::{answer_kind, answer_kinds, answer_text, obey};
@@ -18,5 +19,5 @@ pub use faults::{print_failure, print_fault};
 pub use field_words::read_field_words;
 pub use given::{given_words, print_given_fault, print_usage};
 pub use prepared::{Prepared, prepare};
-pub use schedules::{answer_schedule, obey_schedule};
+pub use schedules::{answer_schedule, obey_lines, obey_schedule};
 pub use status::FAILED;

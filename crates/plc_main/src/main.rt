@@ -189,7 +189,7 @@ fn answer_run<R: Files + Print + Eprint + AllocGlobal + Threads + Wait + Sync>(
     }
 }
 
-fn answer<R: Env + Files + Print + Eprint + AllocGlobal + Threads + Wait + Sync>(
+fn answer<R: Env + Files + Input + Print + Eprint + AllocGlobal + Threads + Wait + Sync>(
     rt: &R,
     host: &HostRuntime,
 ) -> io::Result<u8> {
