@@ -13,7 +13,7 @@ def tell(line):
 
 
 def checks_at_once():
-    """One check a processor, each with 4 GB of memory: none takes more than 3.6."""
+    """One check a processor, each with 4 GB of memory: most take less, and those that take more come last."""
     with open("/proc/meminfo", encoding="ascii") as file:
         kilobytes = int(re.search(r"MemAvailable:\s+(\d+)", file.read())[1])
     return max(1, min(len(os.sched_getaffinity(0)), kilobytes // 4_000_000))

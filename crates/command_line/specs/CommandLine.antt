@@ -8,7 +8,7 @@ use Rattle.clap.specs.declared.builder.action.ArgAction.TheVariants.{Set, Append
 use Rattle.command_line.specs.declared.request.TextRequest.{TextRequest}
 use Rattle.command_line.specs.declared.request.TextRequest.TheVariants.{Eval, Check, Plan}
 use Rattle.command_line.specs.declared.request.Request.{Request}
-use Rattle.command_line.specs.declared.request.Request.TheVariants.{Text as OfText, Sim, Run, Explain}
+use Rattle.command_line.specs.declared.request.Request.TheVariants.{Text as OfText, Verify, Sim, Run, Explain}
 
 -- a word that must be given
 abbrev pub needed_word : Text → Rule
@@ -44,9 +44,27 @@ max_number_rule = option_of (codes "max-number")
 abbrev pub state_rule : Rule
 state_rule = option_of (codes "state")
 
--- a flag `--paced`
+-- a flag `--id`
+abbrev pub flag_of : Text → Rule
+flag_of id = record (new_rule id) { action = Some SetTrue; long = Some id }
+
 abbrev pub paced_rule : Rule
-paced_rule = record (new_rule (codes "paced")) { action = Some SetTrue; long = Some (codes "paced") }
+paced_rule = flag_of (codes "paced")
+
+abbrev pub chart_rule : Rule
+chart_rule = flag_of (codes "chart")
+
+-- an option `--never NAME`, once or more often
+abbrev pub never_rule : Rule
+never_rule = record (new_rule (codes "never")) {
+  action = Some Append;
+  long = Some (codes "never");
+  value_names = 1;
+  required = true;
+}
+
+abbrev pub most_states_rule : Rule
+most_states_rule = option_of (codes "most-states")
 
 -- any number of words
 abbrev pub words_rule : Rule
@@ -56,9 +74,17 @@ words_rule = record (new_rule (codes "words")) {
   value_names = 1;
 }
 
--- `eval DRAWING [--dt MS] [NAME=BITS]..`
+-- `eval DRAWING [--dt MS] [--chart] [NAME=BITS]..`
 abbrev pub eval_app : App
-eval_app = with_rule (with_rule (with_rule (new_app (codes "eval")) drawing_rule) dt_rule) words_rule
+eval_app =
+    let dt = with_rule (with_rule (new_app (codes "eval")) drawing_rule) dt_rule in
+    with_rule (with_rule dt chart_rule) words_rule
+
+-- `verify DRAWING --never NAME [--dt MS] [--most-states N] [NAME=BIT]..`
+abbrev pub verify_app : App
+verify_app =
+    let never = with_rule (with_rule (new_app (codes "verify")) drawing_rule) never_rule in
+    with_rule (with_rule (with_rule never dt_rule) most_states_rule) words_rule
 
 -- `check PLANT`
 abbrev pub check_app : App
@@ -90,13 +116,14 @@ versioned a = record a { top = record a.top { has_version = true } }
 abbrev pub commanded : App → App
 commanded a = record a { top = record a.top { subcommand_required = true } }
 
--- `plc` with the three commands of one text
+-- `plc` with the four commands of one text
 abbrev pub text_app : App
 text_app =
     let plc = commanded (versioned (new_app (codes "plc"))) in
-    with_subcommand (with_subcommand (with_subcommand plc eval_app.top) check_app.top) plan_app.top
+    with_subcommand (with_subcommand (with_subcommand (with_subcommand plc eval_app.top) verify_app.top) check_app.top)
+    plan_app.top
 
--- `plc`, and one of the six
+-- `plc`, and one of the seven
 abbrev pub plc_app : App
 plc_app = with_subcommand (with_subcommand (with_subcommand text_app sim_app.top) run_app.top) explain_app.top
 
@@ -113,45 +140,65 @@ GivesNumber otherwise (Some text) n = IsNumber text × (n ≡ digits_value 10 te
 abbrev pub given_word : Text → List Row → List ℕ
 given_word id found = unwrap_or (first_of id found) []
 
--- the words NAME=BITS or ADDRESS=VALUE in what was found
+-- the words NAME=BITS, NAME==BITS, NAME=BIT or ADDRESS=VALUE in what was found
 abbrev pub words_given : List Row → List Text
 words_given found = unwrap_or (all_of (codes "words") found) []
+
+-- the names behind each `--never`, in order
+abbrev pub claims_given : List Row → List Text
+claims_given found = unwrap_or (all_of (codes "never") found) []
 
 -- a flag was given: what stands for it is `true`
 abbrev pub is_given : Text → List Row → Bool
 is_given id found = option_map_or (λ text. bytes_eq text (codes "true")) (first_of id found) false
 
 abbrev pub AsksEval : List Row → Request → Type 0
-AsksEval found (OfText (Eval drawing dt words)) =
+AsksEval found (OfText (Eval drawing dt chart words)) =
     (drawing.now ≡ given_word (codes "DRAWING") found) × GivesNumber 0 (first_of (codes "dt") found) dt
-    × (map (λ w. w.now) words.items ≡ words_given found)
+    × (chart ≡ is_given (codes "chart") found) × (map (λ w. w.now) words.items ≡ words_given found)
 AsksEval found (OfText (Check plant)) = ⊥
 AsksEval found (OfText (Plan plant until)) = ⊥
+AsksEval found (Verify verify) = ⊥
 AsksEval found (Sim sim) = ⊥
 AsksEval found (Run run) = ⊥
 AsksEval found (Explain kind) = ⊥
 
+abbrev pub AsksVerify : List Row → Request → Type 0
+AsksVerify found (OfText text) = ⊥
+AsksVerify found (Verify verify) =
+    (verify.drawing.now ≡ given_word (codes "DRAWING") found)
+    × (map (λ w. w.now) verify.claims.items ≡ claims_given found)
+    × GivesNumber 0 (first_of (codes "dt") found) verify.dt
+    × GivesNumber 1000000 (first_of (codes "most-states") found) verify.most_states
+    × (map (λ w. w.now) verify.words.items ≡ words_given found)
+AsksVerify found (Sim sim) = ⊥
+AsksVerify found (Run run) = ⊥
+AsksVerify found (Explain kind) = ⊥
+
 abbrev pub AsksCheck : List Row → Request → Type 0
-AsksCheck found (OfText (Eval drawing dt words)) = ⊥
+AsksCheck found (OfText (Eval drawing dt chart words)) = ⊥
 AsksCheck found (OfText (Check plant)) = plant.now ≡ given_word (codes "PLANT") found
 AsksCheck found (OfText (Plan plant until)) = ⊥
+AsksCheck found (Verify verify) = ⊥
 AsksCheck found (Sim sim) = ⊥
 AsksCheck found (Run run) = ⊥
 AsksCheck found (Explain kind) = ⊥
 
 abbrev pub AsksPlan : List Row → Request → Type 0
-AsksPlan found (OfText (Eval drawing dt words)) = ⊥
+AsksPlan found (OfText (Eval drawing dt chart words)) = ⊥
 AsksPlan found (OfText (Check plant)) = ⊥
 AsksPlan found (OfText (Plan plant until)) =
     (plant.now ≡ given_word (codes "PLANT") found) × GivesNumber 0 (first_of (codes "until") found) until
+AsksPlan found (Verify verify) = ⊥
 AsksPlan found (Sim sim) = ⊥
 AsksPlan found (Run run) = ⊥
 AsksPlan found (Explain kind) = ⊥
 
 abbrev pub AsksSim : List Row → Request → Type 0
-AsksSim found (OfText (Eval drawing dt words)) = ⊥
+AsksSim found (OfText (Eval drawing dt chart words)) = ⊥
 AsksSim found (OfText (Check plant)) = ⊥
 AsksSim found (OfText (Plan plant until)) = ⊥
+AsksSim found (Verify verify) = ⊥
 AsksSim found (Sim sim) =
     (sim.plant.now ≡ given_word (codes "PLANT") found) × (sim.schedule.now ≡ given_word (codes "SCHEDULE") found)
     × GivesNumber 4294967295 (first_of (codes "max-number") found) sim.max_number
@@ -159,9 +206,10 @@ AsksSim found (Run run) = ⊥
 AsksSim found (Explain kind) = ⊥
 
 abbrev pub AsksRun : List Row → Request → Type 0
-AsksRun found (OfText (Eval drawing dt words)) = ⊥
+AsksRun found (OfText (Eval drawing dt chart words)) = ⊥
 AsksRun found (OfText (Check plant)) = ⊥
 AsksRun found (OfText (Plan plant until)) = ⊥
+AsksRun found (Verify verify) = ⊥
 AsksRun found (Sim sim) = ⊥
 AsksRun found (Run run) =
     (run.plant.now ≡ given_word (codes "PLANT") found) × GivesNumber 0 (first_of (codes "until") found) run.until
@@ -171,6 +219,7 @@ AsksRun found (Explain kind) = ⊥
 
 abbrev pub AsksExplain : List Row → Request → Type 0
 AsksExplain found (OfText text) = ⊥
+AsksExplain found (Verify verify) = ⊥
 AsksExplain found (Sim sim) = ⊥
 AsksExplain found (Run run) = ⊥
 AsksExplain found (Explain kind) = option_map (λ k. k.now) kind ≡ first_of (codes "KIND") found
@@ -180,20 +229,21 @@ abbrev pub AsksFor : Option (Text × List Row) → Request → Type 0
 AsksFor None request = ⊥
 AsksFor (Some (name, found)) request =
     ((name ≡ codes "eval") × AsksEval found request)
+    ⊎ (((name ≡ codes "verify") × AsksVerify found request)
     ⊎ (((name ≡ codes "check") × AsksCheck found request)
     ⊎ (((name ≡ codes "plan") × AsksPlan found request)
     ⊎ (((name ≡ codes "sim") × AsksSim found request)
     ⊎ (((name ≡ codes "run") × AsksRun found request)
-    ⊎ ((name ≡ codes "explain") × AsksExplain found request)))))
+    ⊎ ((name ≡ codes "explain") × AsksExplain found request))))))
 
 -- the file that is to be read
 abbrev pub file_of : TextRequest → List ℕ
-file_of (Eval drawing dt words) = drawing.now
+file_of (Eval drawing dt chart words) = drawing.now
 file_of (Check plant) = plant.now
 file_of (Plan plant until) = plant.now
 
--- the words NAME=BITS
+-- the words NAME=BITS and NAME==BITS
 abbrev pub words_in : TextRequest → List (List ℕ)
-words_in (Eval drawing dt words) = map (λ w. w.now) words.items
+words_in (Eval drawing dt chart words) = map (λ w. w.now) words.items
 words_in (Check plant) = []
 words_in (Plan plant until) = []

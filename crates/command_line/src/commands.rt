@@ -1,9 +1,9 @@
 ghost use Rattle.std.specs.Prelude.{◌≡◌, false, IfOk, codes};
 ghost use Rattle.clap.specs.Words.{app_of, new_app, rule_of};
-ghost use Rattle.command_line.specs.CommandLine.{needed_word, option_of, words_rule, plant_rule, until_rule, state_rule, paced_rule, kind_rule, eval_app, check_app, plan_app, sim_app, run_app, explain_app, versioned, commanded, plc_app, text_app};
+ghost use Rattle.command_line.specs.CommandLine.{needed_word, option_of, flag_of, words_rule, plant_rule, until_rule, state_rule, paced_rule, chart_rule, kind_rule, never_rule, eval_app, verify_app, check_app, plan_app, sim_app, run_app, explain_app, versioned, commanded, plc_app, text_app};
 
 use crate::help::{
-    CHECK_HELP, EVAL_HELP, EXPLAIN_HELP, FIRST_STEPS, PLAN_HELP, RUN_HELP, SIM_HELP,
+    CHECK_HELP, EVAL_HELP, EXPLAIN_HELP, FIRST_STEPS, PLAN_HELP, RUN_HELP, SIM_HELP, VERIFY_HELP,
 };
 use clap::{Arg, ArgAction, Command};
 use std::alloc::{AllocError, Global};
@@ -78,14 +78,37 @@ fn state_arg<'a>(alloc: Global) -> Arg<'a>
     )
 }
 
+/// A flag `--id`.
+fn flag_arg<'a>(alloc: Global, id: &'a str, help: &'a str) -> Arg<'a>
+    ensures rule { rule_of result ≡ flag_of id.entry.now }
+    ensures local { result.global ≡ false }
+{
+    Arg::new(alloc, id)
+        .long(id)
+        .action(ArgAction::SetTrue)
+        .help(help)
+}
+
 fn paced_arg<'a>(alloc: Global) -> Arg<'a>
     ensures rule { rule_of result ≡ paced_rule }
     ensures local { result.global ≡ false }
 {
-    Arg::new(alloc, "paced")
-        .long("paced")
-        .action(ArgAction::SetTrue)
-        .help("Each command waits until the one before it is done")
+    flag_arg(
+        alloc,
+        "paced",
+        "Each command waits until the one before it is done",
+    )
+}
+
+fn chart_arg<'a>(alloc: Global) -> Arg<'a>
+    ensures rule { rule_of result ≡ chart_rule }
+    ensures local { result.global ≡ false }
+{
+    flag_arg(
+        alloc,
+        "chart",
+        "A line is written for each variable, not for each scan",
+    )
 }
 
 fn kind_arg<'a>(alloc: Global) -> Arg<'a>
@@ -95,6 +118,18 @@ fn kind_arg<'a>(alloc: Global) -> Arg<'a>
     Arg::new(alloc, "KIND").action(ArgAction::Set).help(
         "The kind of a fault, as NoSource [default: all kinds are listed]",
     )
+}
+
+fn never_arg<'a>(alloc: Global) -> Arg<'a>
+    ensures rule { rule_of result ≡ never_rule }
+    ensures local { result.global ≡ false }
+{
+    Arg::new(alloc, "never")
+        .long("never")
+        .value_name("NAME")
+        .required(true)
+        .action(ArgAction::Append)
+        .help("A BOOL variable that is never to be TRUE; may be given several times")
 }
 
 fn eval_command<'a>(alloc: Global) -> Result<Command<'a>, AllocError>
@@ -110,10 +145,38 @@ fn eval_command<'a>(alloc: Global) -> Result<Command<'a>, AllocError>
             "MS",
             "The time between two scans in milliseconds, 0 to 4294967295 [default: 0]",
         ))?
+        .arg(chart_arg(alloc))?
         .arg(words_arg(
             alloc,
             "NAME=BITS",
-            "The values of a variable, a digit for each scan",
+            "The values of a variable, a digit for each scan; NAME==BITS: what they are to be after it",
+        ))
+}
+
+fn verify_command<'a>(alloc: Global) -> Result<Command<'a>, AllocError>
+    ensures { IfOk result (λ c. app_of c ≡ verify_app) }
+{
+    Command::new(alloc, "verify")
+        .about("Proves that variables of a drawing are never TRUE, or tells how they come to be")
+        .after_help(VERIFY_HELP)
+        .arg(needed_arg(alloc, "DRAWING", "The file of the drawing"))?
+        .arg(never_arg(alloc))?
+        .arg(number_arg(
+            alloc,
+            "dt",
+            "MS",
+            "The time between two scans in milliseconds, 0 to 4294967295 [default: 0]",
+        ))?
+        .arg(number_arg(
+            alloc,
+            "most-states",
+            "N",
+            "How many states are looked at before the search is given up, 0 to 4294967295 [default: 1000000]",
+        ))?
+        .arg(words_arg(
+            alloc,
+            "NAME=BIT",
+            "An input that has this value in every scan",
         ))
 }
 
@@ -212,6 +275,7 @@ fn text_commands<'a>(alloc: Global) -> Result<Command<'a>, AllocError>
 {
     plc_command(alloc)?
         .subcommand(eval_command(alloc)?)?
+        .subcommand(verify_command(alloc)?)?
         .subcommand(check_command(alloc)?)?
         .subcommand(plan_command(alloc)?)
 }

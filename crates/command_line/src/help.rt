@@ -12,10 +12,16 @@ command mean, and plc explain KIND what a refused text has wrong.";
 pub const EVAL_HELP: &str = "\
 Each word NAME=BITS gives the BOOL variable NAME its values: BITS is a row of digits 0 and 1, one for each
 scan. Before scan k the variable is set to the k-th digit, or left alone if there is none. There are as many
-scans as the longest row has digits (at most 1,000), and one if there are no words. A name that the drawing
+scans as the longest word has digits (at most 1,000), and one if there are no words. A name that the drawing
 uses is a variable; it is written in either case.
 
-After each scan one line of all variables is written, in the order in which they appear in the drawing.
+After each scan one line of all variables is written, in the order in which they appear in the drawing. With
+--chart one line is written for each variable instead, after the last scan: a BOOL is # where it is on and _
+where it is off, a sign for each scan; a number or time is written after the first scan, and behind a blank
+after each one that changed it.
+
+A word NAME==BITS tells what the BOOL variable NAME is to be after each scan, and behind its last digit nothing.
+The first difference is told on standard error.
 
 Example, for the drawing examples/start_stop.ladder:
 
@@ -23,9 +29,37 @@ Example, for the drawing examples/start_stop.ladder:
   START=1 STOP=0 RUN=1
   START=0 STOP=0 RUN=1
   START=0 STOP=1 RUN=0
+  $ plc eval examples/start_stop.ladder START=100 STOP=001 RUN==110 --chart
+  START #__
+  STOP  __#
+  RUN   ##_
 
 The exit status is 0; 1 if the text of the drawing is refused, with FILE:LINE:COLUMN: Kind on standard error;
-2 if a word is refused; 3 if the file can't be read, the output can't be written or there is no memory left.";
+2 if a word is refused; 3 if the file can't be read, the output can't be written or there is no memory left;
+4 if a variable isn't what a word NAME==BITS tells.";
+
+/// What `plc verify --help` tells behind the words.
+pub const VERIFY_HELP: &str = "\
+Each --never NAME claims that the BOOL variable NAME is never TRUE after a scan, whatever the inputs do and however long
+the drawing runs. The inputs are the BOOL variables that no coil and no output pin stores: each has any value in each scan,
+unless a word NAME=BIT holds it at 0 or 1. At most 20 may be free. A claim is a rung: draw a coil that turns ON where what
+must not happen has happened.
+
+A line is written for each claim, in the order given:
+
+  HOLDS      it is never TRUE; how many states and scans were looked at
+  FAILS      it is TRUE after a run of scans, and after no shorter one; the words for plc eval and the lines that it
+             writes follow (of at most 1,000 scans)
+  UNDECIDED  more than N states were met, and the claim is broken in no run of so many scans or fewer
+
+Example:
+
+  $ plc verify examples/hoist.ladder --never CLASH
+  HOLDS CLASH is never on: 3 states, 24 scans
+
+The exit status is 0 if all claims hold; 4 if one fails; 5 if none fails and one is undecided; 1 if the text of the drawing
+is refused, with FILE:LINE:COLUMN: Kind on standard error; 2 if a word is refused; 3 if the file can't be read, the output
+can't be written or there is no memory left.";
 
 /// What `plc check --help` tells behind the words.
 pub const CHECK_HELP: &str = "\
@@ -67,10 +101,11 @@ by blanks or tabs, and stand in either case; a line that is blank or begins with
   EVAL R1.FAST 10 %IX0=1   task FAST of resource R1 is evaluated, 10 ms after the time before, with these field inputs
   DELIVER 1 R2             the message of the first evaluation reaches resource R2
   RESTART R1               resource R1 restarts: it forgets all, and its incarnation is one more
+  HEAR R1 R2 2             R1 hears that R2 is in incarnation 2: what R1 makes from now on is meant for that
 
-An evaluation takes, from each task that feeds it, the latest evaluation that reached its resource since that restarted
-last; an evaluation that is never delivered is lost, and one may be delivered twice, late or out of order. What names
-nothing that exists changes nothing and is written as REFUSED, with the number of the event and the reason.
+An evaluation takes, from each task that feeds it, the latest evaluation that reached its resource and is meant for its
+present incarnation; one that is never delivered is lost, and one may be delivered twice, late or out of order. What
+names nothing that exists changes nothing and is written as REFUSED, with the number of the event and the reason.
 
 Where SCHEDULE is - the events are read from standard input line by line, and each one's line is written before the next
 one is read: another program can drive the plant, as examples/live.py does.

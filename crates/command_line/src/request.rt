@@ -4,10 +4,12 @@ ghost use Rattle.command_line.specs.CommandLine.{file_of, words_in};
 /// What is done with the text of one file.
 #[derive(Drop)]
 pub enum TextRequest<'a> {
-    /// The scans of a drawing, each `dt` milliseconds after the one before; the words set its variables.
+    /// The scans of a drawing, each `dt` milliseconds after the one before, a line for each scan or a chart. The words set
+    /// its variables, or tell what they are to be.
     Eval {
         drawing: &'a str,
         dt: u32,
+        chart: bool,
         words: Vec<&'a str>,
     },
     /// How many resources, tasks, programs and connections a plant has.
@@ -33,7 +35,7 @@ impl<'a> TextRequest<'a> {
         }
     }
 
-    /// The words NAME=BITS.
+    /// The words NAME=BITS and NAME==BITS.
     pub fn words(&self) -> &[&'a str]
         ensures { map (λ w. w.now) result.now ≡ words_in self.now }
     {
@@ -42,6 +44,17 @@ impl<'a> TextRequest<'a> {
             TextRequest::Check { .. } | TextRequest::Plan { .. } => &[],
         }
     }
+}
+
+/// Whether variables of a drawing are ever TRUE, whatever its inputs do; each scan is `dt` milliseconds after the one
+/// before. The claims name the variables; at most `most_states` states are looked at; the words hold inputs at a value.
+#[derive(Drop)]
+pub struct VerifyRequest<'a> {
+    pub drawing: &'a str,
+    pub claims: Vec<&'a str>,
+    pub dt: u32,
+    pub most_states: u32,
+    pub words: Vec<&'a str>,
 }
 
 /// What each event of a schedule does to a plant; in one incarnation a task is evaluated `max_number` times at most.
@@ -69,6 +82,8 @@ pub struct RunRequest<'a> {
 pub enum Request<'a> {
     /// What is done with the text of one file.
     Text(TextRequest<'a>),
+    /// What can never happen in a drawing.
+    Verify(VerifyRequest<'a>),
     /// What a schedule does to a plant.
     Sim(SimRequest<'a>),
     /// What the threads of a plant do.

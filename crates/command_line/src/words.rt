@@ -2,15 +2,20 @@ ghost use Rattle.std.specs.Prelude.{◌≡◌, IfOk, MatchOption, Some, map, str
 ghost use Rattle.std.specs.Option.{option_map};
 ghost use Rattle.std.specs.Str.Parse.{digits_value};
 ghost use Rattle.clap.specs.Words.{rows_of, found_of, first_of, subcommand_of};
-ghost use Rattle.command_line.specs.CommandLine.{plc_app, IsNumber, GivesNumber, AsksEval, AsksPlan, AsksSim, AsksRun, AsksFor, given_word, words_given, is_given};
+ghost use Rattle.command_line.specs.CommandLine.{plc_app, IsNumber, GivesNumber, AsksEval, AsksVerify, AsksPlan, AsksSim, AsksRun, AsksFor, given_word, words_given, claims_given, is_given};
 
 use crate::commands::commands;
-use crate::request::{Request, RunRequest, SimRequest, TextRequest};
+use crate::request::{Request, RunRequest, SimRequest, TextRequest, VerifyRequest};
 use clap::error::ErrorKind;
 use clap::{ArgMatches, Command, Error};
 use std::alloc::{AllocError, Global};
 
 const UNTIL_REFUSED: &str = "MS of --until is a number from 0 to 4294967295";
+
+const DT_REFUSED: &str = "MS of --dt is a number from 0 to 4294967295";
+
+/// How many states are looked at, unless the words say it.
+const MOST_STATES: u32 = 1_000_000;
 
 /// A number of decimal digits alone, at most 4294967295.
 pub fn number(text: &str) -> Option<u32>
@@ -76,6 +81,15 @@ fn words_given<'a>(alloc: Global, matches: &ArgMatches<'a>) -> Result<Vec<&'a st
     }
 }
 
+fn claims_given<'a>(alloc: Global, matches: &ArgMatches<'a>) -> Result<Vec<&'a str>, AllocError>
+    ensures { IfOk result (λ claims. map (λ w. w.now) claims.items ≡ claims_given (rows_of (found_of matches.now))) }
+{
+    match matches.get_strs("never") {
+        Some(claims) => Vec::from_slice(alloc, claims),
+        None => Ok(Vec::new(alloc)),
+    }
+}
+
 fn eval_request<'a>(
     alloc: Global,
     command: &mut Command<'a>,
@@ -85,12 +99,29 @@ fn eval_request<'a>(
 {
     Ok(Request::Text(TextRequest::Eval {
         drawing: given_word(inner, "DRAWING"),
-        dt: number_of(
+        dt: number_of(command, inner, "dt", 0, DT_REFUSED)?,
+        chart: is_given(inner, "chart"),
+        words: words_given(alloc, inner)?,
+    }))
+}
+
+fn verify_request<'a>(
+    alloc: Global,
+    command: &mut Command<'a>,
+    inner: &ArgMatches<'a>,
+) -> Result<Request<'a>, Error>
+    ensures { IfOk result (AsksVerify (rows_of (found_of inner.now))) }
+{
+    Ok(Request::Verify(VerifyRequest {
+        drawing: given_word(inner, "DRAWING"),
+        claims: claims_given(alloc, inner)?,
+        dt: number_of(command, inner, "dt", 0, DT_REFUSED)?,
+        most_states: number_of(
             command,
             inner,
-            "dt",
-            0,
-            "MS of --dt is a number from 0 to 4294967295",
+            "most-states",
+            MOST_STATES,
+            "N of --most-states is a number from 0 to 4294967295",
         )?,
         words: words_given(alloc, inner)?,
     }))
@@ -148,6 +179,7 @@ fn request_of<'a>(
 {
     match name {
         "eval" => eval_request(alloc, command, inner),
+        "verify" => verify_request(alloc, command, inner),
         "check" => Ok(Request::Text(TextRequest::Check {
             plant: given_word(inner, "PLANT"),
         })),

@@ -1,8 +1,8 @@
-ghost use Rattle.std.specs.Prelude.{OnOk, IfErr};
+ghost use Rattle.std.specs.Prelude.{IfOk, IfErr};
 ghost use Rattle.console.specs.Answers.{WritesAnswer, ExplainsAnswer};
 
 use crate::command_fault::CommandFault;
-use crate::faults::{print_failure, print_fault};
+use crate::faults::{print_difference, print_failure, print_fault};
 use crate::files::file_text;
 use crate::shown::Shown;
 use crate::status::WORD_REFUSED;
@@ -12,23 +12,34 @@ use std::alloc::Global;
 use std::io;
 use std::io::Write;
 use std::rt::Files;
-use text_commands::{TextCommandFault, check, eval, plan_text};
+use text_commands::{Difference, TextCommandFault, check, eval_test, plan_text};
 use text_writer::write_text;
 
-/// Writes what the words ask for of the text of the file.
+/// Writes what the words ask for of the text of the file; the first difference from what they expect, if there is one.
 pub fn obey<W: Write>(
     alloc: Global,
     request: &TextRequest<'_>,
     text: &str,
     writer: &mut W,
-) -> Result<(), TextCommandFault>
-    ensures ok { OnOk result (WritesAnswer request.now text.now (W.contents writer.old) (W.contents writer.new)) }
+) -> Result<Option<Difference>, TextCommandFault>
+    ensures ok { IfOk result (WritesAnswer request.now text.now (W.contents writer.old) (W.contents writer.new)) }
     ensures fault { IfErr result (ExplainsAnswer request.now text.now (W.contents writer.old) (W.contents writer.new)) }
 {
     match request {
-        TextRequest::Eval { dt, words, .. } => eval(alloc, text, words, *dt, writer),
-        TextRequest::Check { .. } => check(alloc, text, writer),
-        TextRequest::Plan { until, .. } => plan_text(alloc, text, *until, writer),
+        TextRequest::Eval {
+            dt,
+            chart,
+            words,
+            ..
+        } => eval_test(alloc, text, words, *dt, *chart, writer),
+        TextRequest::Check { .. } => {
+            check(alloc, text, writer)?;
+            Ok(None)
+        }
+        TextRequest::Plan { until, .. } => {
+            plan_text(alloc, text, *until, writer)?;
+            Ok(None)
+        }
     }
 }
 
@@ -44,7 +55,8 @@ pub fn answer_text<R: Files + Print + Eprint + AllocGlobal>(
     };
     let mut writer = io::writer(rt);
     match obey(rt.alloc(), request, text.as_str(), &mut writer) {
-        Ok(()) => Ok(0),
+        Ok(None) => Ok(0),
+        Ok(Some(difference)) => print_difference(rt, file, &difference),
         Err(fault) => print_fault(rt, file, text.as_str(), request.words(), fault.into()),
     }
 }

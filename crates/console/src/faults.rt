@@ -1,11 +1,11 @@
 use crate::command_fault::CommandFault;
 use crate::refusal::refusal_of;
 use crate::shown::Shown;
-use crate::status::{FAILED, TEXT_REFUSED, WORD_REFUSED};
+use crate::status::{DIFFERS, FAILED, TEXT_REFUSED, WORD_REFUSED};
 use evaluation::InputFault;
 use guidance::{Refusal, help_with, help_with_a_word};
 use std::io;
-use text_commands::{TextFault, WordFault, WordFaultKind};
+use text_commands::{Difference, TextFault, WordFault, WordFaultKind};
 use world::{LiveFault, SimFault};
 
 /// Tells what helps to mend a text. The fault was told before: what can't be told here is left out.
@@ -32,7 +32,7 @@ fn print_text_fault<R: Eprint + AllocGlobal>(
 }
 
 /// Tells the nearest names of a drawing's variables. What can't be told here is left out.
-fn print_nearest<R: Eprint + AllocGlobal>(rt: &R, text: &str, word: &str) {
+pub(crate) fn print_nearest<R: Eprint + AllocGlobal>(rt: &R, text: &str, word: &str) {
     if let Ok(help) = help_with_a_word(rt.alloc(), text, word) {
         let _told = rt.eprint(help.as_str());
     }
@@ -75,6 +75,17 @@ pub fn print_fault<R: Eprint + AllocGlobal>(
             print_failure(rt, fault)
         }
     }
+}
+
+/// Tells what isn't as the words of a drawing expect; the status.
+pub(crate) fn print_difference<R: Eprint>(
+    rt: &R,
+    file: &str,
+    difference: &Difference,
+) -> io::Result<u8> {
+    let file = Shown(file);
+    eprintln!(rt; "{file}: {difference}")?;
+    Ok(DIFFERS)
 }
 
 /// Tells why words of field inputs are refused; the status.

@@ -12,6 +12,7 @@ mod refusal;
 mod schedules;
 mod shown;
 mod status;
+mod verify_answer;
 
 pub use answers::{answer_kind, answer_kinds, answer_text, obey};
 pub use command_fault::CommandFault;
@@ -21,3 +22,4 @@ pub use given::{given_words, print_given_fault, print_usage};
 pub use prepared::{Prepared, prepare};
 pub use schedules::{answer_schedule, obey_lines, obey_schedule};
 pub use status::FAILED;
+pub use verify_answer::{answer_verify, obey_verify};

@@ -7,3 +7,12 @@ pub(crate) const WORD_REFUSED: u8 = 2;
 /// The status after a file can't be read, the output can't be written, the threads can't be run or something went wrong
 /// in them, or memory is refused.
 pub const FAILED: u8 = 3;
+
+/// The status after a variable isn't what a word expects.
+pub(crate) const DIFFERS: u8 = 4;
+
+/// The status after a claim fails.
+pub(crate) const CLAIM_FAILS: u8 = 4;
+
+/// The status after no claim fails, and one is undecided.
+pub(crate) const UNDECIDED: u8 = 5;

@@ -8,6 +8,8 @@ mod declarations;
 #[cfg(test)]
 mod graphs;
 #[cfg(test)]
+mod powers;
+#[cfg(test)]
 mod sames;
 #[cfg(test)]
 mod states;

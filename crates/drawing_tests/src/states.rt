@@ -21,7 +21,7 @@ fn ladder_of(rt: &impl Abort, alloc: Global, drawing: &str, names: &[(&str, Decl
 }
 
 /// The ladder of a drawing, and its state before the first scan.
-fn begun(rt: &impl Abort, alloc: Global, drawing: &str) -> (Ladder, State) {
+pub fn begun(rt: &impl Abort, alloc: Global, drawing: &str) -> (Ladder, State) {
     let ladder = ladder_of(rt, alloc, drawing, &[]);
     let state = must(rt, ladder.initial(alloc));
     (ladder, state)

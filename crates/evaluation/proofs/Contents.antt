@@ -9,7 +9,7 @@ use Rattle.evaluation.proofs.InitialStates.{same_as_itself, states_of_one}
 
 pub equal_contents : (x y : Evaluated) → IsWhole x → IsWhole y → HaveSameContents x y → x ≡ y
 equal_contents x y one other same =
-    rw (same.ticket, same.name, same.dt, same.inputs, same.takes, before, same.outputs, after, same.code) refl
+    rw (same.ticket, same.name, same.heard, same.dt, same.inputs, same.takes, before, same.outputs, after, same.code) refl
   where
     of_x : (states : List StateValue) → AreStatesOf y.code states → AreStatesOf x.code states
     of_x states fit = subst (λ (c : CodeValue). AreStatesOf c states) (sym same.code) fit
@@ -24,6 +24,7 @@ pub own_contents : (x y : Evaluated) → x ≡ y → HaveSameContents x y
 own_contents x y e = subst (HaveSameContents x) e record {
   ticket = refl;
   name = refl;
+  heard = refl;
   dt = refl;
   inputs = refl;
   takes = refl;

@@ -119,13 +119,13 @@ one_meaning one_scan c inputs takes dt before before2 outputs outputs2 after aft
     (somes_same outputs outputs2 (a.outputs_read ∙ outputs_same after after2 left c.outputs ∙ sym b.outputs_read), left)
 
 pub one_evaluation : OneMeaning → OneEvaluation
-one_evaluation one_meaning ticket name dt inputs takes before code x y a b =
-    a.is ∙ ap (λ o. evaluated ticket name dt inputs takes before code o x.after) same.0 ∙ ap (λ s. evaluated ticket name dt inputs takes before code y.outputs s) left ∙ sym b.is
+one_evaluation one_meaning ticket name heard dt inputs takes before code x y a b =
+    a.is ∙ ap (λ o. evaluated ticket name heard dt inputs takes before code o x.after) same.0 ∙ ap (λ s. evaluated ticket name heard dt inputs takes before code y.outputs s) left ∙ sym b.is
   where
-    means : (z : Evaluated) → IsAsked ticket name dt inputs takes before code z → Means code inputs takes dt before z.outputs z.after
+    means : (z : Evaluated) → IsAsked ticket name heard dt inputs takes before code z → Means code inputs takes dt before z.outputs z.after
     means z c = subst IsMeant c.is c.meant
 
-    fits : (z : Evaluated) → IsAsked ticket name dt inputs takes before code z → AreStatesOf code z.after
+    fits : (z : Evaluated) → IsAsked ticket name heard dt inputs takes before code z → AreStatesOf code z.after
     fits z c = subst (λ (k : CodeValue). AreStatesOf k z.after) (ap (λ (e : Evaluated). e.code) c.is) c.whole.after_fits
 
     same : (x.outputs ≡ y.outputs) × AreSame x.after y.after

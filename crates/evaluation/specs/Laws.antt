@@ -21,6 +21,7 @@ OneMeaning =
 -- two evaluations of which the same was asked are equal
 abbrev pub OneEvaluation : Type 0
 OneEvaluation =
-    (ticket : ℕ) (name : Name) (dt : ℕ) (inputs : List FieldInput) (takes : List Take)
+    (ticket : ℕ) (name : Name) (heard : List ℕ) (dt : ℕ) (inputs : List FieldInput) (takes : List Take)
     (before : List StateValue) (code : CodeValue) (x y : Evaluated)
-    → IsAsked ticket name dt inputs takes before code x → IsAsked ticket name dt inputs takes before code y → x ≡ y
+    → IsAsked ticket name heard dt inputs takes before code x
+    → IsAsked ticket name heard dt inputs takes before code y → x ≡ y

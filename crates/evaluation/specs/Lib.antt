@@ -3,6 +3,7 @@ pub mod Inputs
 pub mod Takes
 pub mod States
 pub mod Meaning
+pub mod Heard
 pub mod Last
 pub mod Laws
 pub mod InputTexts

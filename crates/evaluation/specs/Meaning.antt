@@ -21,10 +21,12 @@ use Rattle.evaluation.specs.Inputs.{field_value}
 use Rattle.evaluation.specs.Takes.{AreTakesOf}
 use Rattle.evaluation.specs.States.{AreStatesOf}
 
--- One evaluation: what it was asked, what it took, the state before, what it gave, the state after, and the code.
+-- One evaluation: what it was asked, of which incarnation of each resource its maker had heard, what it took, the state
+-- before, what it gave, the state after, and the code.
 pub record Evaluated : Type 0 where
   pub ticket : ℕ
   pub name : Name
+  pub heard : List ℕ
   pub dt : ℕ
   pub inputs : List FieldInput
   pub takes : List Take
@@ -102,21 +104,23 @@ Means c inputs takes dt before outputs after = IsMeaning c inputs takes dt befor
 abbrev pub IsMeant : Evaluated → Type 0
 IsMeant x = Means x.code x.inputs x.takes x.dt x.before x.outputs x.after
 
--- the evaluation's states are those of its code, its takes are from the code's producers, and its outputs are of the
--- kinds of the code's image
+-- the evaluation's states are those of its code, its takes are from the code's producers, its outputs are of the
+-- kinds of the code's image, and what it has heard of its own resource is its own incarnation
 pub record IsWhole (x : Evaluated) : Type 0 where
   pub before_fits : AreStatesOf x.code x.before
   pub after_fits : AreStatesOf x.code x.after
   pub takes_suit : AreTakesOf x.code x.takes
   pub kinds_are : map kind_of x.outputs ≡ image_kinds x.code
+  pub own_heard : slice_get x.heard x.name.task.resource ≡ Some x.name.incarnation
 
 -- an evaluation with these contents
-abbrev pub evaluated : ℕ → Name → ℕ → List FieldInput → List Take → List StateValue → CodeValue → List Value
+abbrev pub evaluated : ℕ → Name → List ℕ → ℕ → List FieldInput → List Take → List StateValue → CodeValue → List Value
     → List StateValue → Evaluated
-evaluated ticket name dt inputs takes before code outputs after =
+evaluated ticket name heard dt inputs takes before code outputs after =
     record {
       ticket = ticket;
       name = name;
+      heard = heard;
       dt = dt;
       inputs = inputs;
       takes = takes;
@@ -127,8 +131,8 @@ evaluated ticket name dt inputs takes before code outputs after =
     }
 
 -- x has what was asked, and what that means
-pub record IsAsked (ticket : ℕ) (name : Name) (dt : ℕ) (inputs : List FieldInput) (takes : List Take)
+pub record IsAsked (ticket : ℕ) (name : Name) (heard : List ℕ) (dt : ℕ) (inputs : List FieldInput) (takes : List Take)
     (before : List StateValue) (code : CodeValue) (x : Evaluated) : Type 0 where
-  pub is : x ≡ evaluated ticket name dt inputs takes before code x.outputs x.after
+  pub is : x ≡ evaluated ticket name heard dt inputs takes before code x.outputs x.after
   pub meant : IsMeant x
   pub whole : IsWhole x

@@ -16,6 +16,7 @@ use task_codes::TaskCode;
 pub struct Evaluation {
     ticket: u64,
     name: Name,
+    heard: Vec<u32>,
     dt: u32,
     inputs: Inputs,
     takes: Vec<Take>,
@@ -30,19 +31,20 @@ impl Model for Evaluation {
 
     ghost Value = { Evaluated };
 
-    ghost view = { λ e. evaluated e.ticket e.name e.dt e.inputs e.takes.items e.before e.code.value e.outputs e.after };
+    ghost view = { λ e. evaluated e.ticket e.name e.heard.items e.dt e.inputs e.takes.items e.before e.code.value e.outputs e.after };
 
     ghost invariant = { λ e.
-        IsMeant (evaluated e.ticket e.name e.dt e.inputs e.takes.items e.before e.code.value e.outputs e.after)
-        × IsWhole (evaluated e.ticket e.name e.dt e.inputs e.takes.items e.before e.code.value e.outputs e.after) };
+        IsMeant (evaluated e.ticket e.name e.heard.items e.dt e.inputs e.takes.items e.before e.code.value e.outputs e.after)
+        × IsWhole (evaluated e.ticket e.name e.heard.items e.dt e.inputs e.takes.items e.before e.code.value e.outputs e.after) };
 }
 
-ghost use Rattle.std.specs.Prelude.{◌≡◌, ◌↔◌, IsTrue, IfOk, map};
+ghost use Rattle.std.specs.Prelude.{◌≡◌, ◌↔◌, IsTrue, IfOk, Some, map, slice_get};
 ghost use Rattle.declared_names.specs.Kinds.{kind_of};
 ghost use Rattle.task_codes.specs.CodeValue.{image_kinds};
 ghost use Rattle.evaluation.specs.Takes.{AreTakesOf};
 ghost use Rattle.evaluation.specs.States.{AreStatesOf};
 ghost use Rattle.evaluation.specs.Meaning.{Means, IsMeant, IsWhole, IsAsked};
+ghost use Rattle.evaluation.specs.Heard.{is_addressed};
 ghost use Rattle.evaluation.specs.Steps.Contents.{HaveSameContents};
 
 /// The outputs and the state after.
@@ -69,12 +71,20 @@ fn outcome(
     Ok((outputs, after))
 }
 
+/// Whether both have the same numbers in the same order.
+fn are_same_numbers(numbers: &[u32], others: &[u32]) -> bool
+    ensures { IsTrue result ↔ (numbers.now ≡ others.now) }
+{
+    numbers == others
+}
+
 impl Evaluation {
     /// Evaluates a task: its outputs and the state after are computed here, and nowhere else. `dt` is the elapsed time in milliseconds.
     pub fn make(
         alloc: Global,
         ticket: u64,
         name: Name,
+        heard: Vec<u32>,
         dt: u32,
         inputs: Inputs,
         takes: Vec<Take>,
@@ -83,12 +93,14 @@ impl Evaluation {
     ) -> Result<Evaluation, AllocError>
         requires fits { AreStatesOf code.value before }
         requires suits { AreTakesOf code.value takes.items }
-        ensures { IfOk result (λ e. IsAsked ticket name dt inputs takes.items before code.value e) }
+        requires own { slice_get heard.items name.task.resource ≡ Some name.incarnation }
+        ensures { IfOk result (λ e. IsAsked ticket name heard.items dt inputs takes.items before code.value e) }
     {
         let (outputs, after) = outcome(alloc, &code, &inputs, takes.as_slice(), dt, &before)?;
         Ok(Evaluation {
             ticket,
             name,
+            heard,
             dt,
             inputs,
             takes,
@@ -111,6 +123,24 @@ impl Evaluation {
         ensures { result ≡ self.now.name }
     {
         self.name
+    }
+
+    /// Of which incarnation of each resource its maker had heard, one number for each resource. Of the own resource it is the name's.
+    pub fn heard(&self) -> &[u32]
+        ensures value { result.now ≡ self.now.heard }
+        ensures whole { IsWhole self.now }
+    {
+        self.heard.as_slice()
+    }
+
+    /// Whether it is addressed to this incarnation of a resource: whether that is the one of which its maker had heard.
+    pub fn is_addressed(&self, resource: usize, incarnation: u32) -> bool
+        ensures { result ≡ is_addressed self.now resource incarnation }
+    {
+        match self.heard.get(resource) {
+            None => false,
+            Some(heard) => *heard == incarnation,
+        }
     }
 
     /// The time since the evaluation before, in milliseconds.
@@ -182,6 +212,7 @@ impl Evaluation {
     {
         self.ticket == other.ticket
             && self.name.same(&other.name)
+            && are_same_numbers(self.heard.as_slice(), other.heard.as_slice())
             && self.dt == other.dt
             && self.inputs.same(&other.inputs)
             && are_same_takes(self.takes.as_slice(), other.takes.as_slice())

@@ -6,7 +6,7 @@ ghost use Rattle.evaluation.specs.States.{AreStatesOf};
 use crate::take::Take;
 use crate::task_state::TaskState;
 use due_list::TaskRef;
-use power_flow::{Kind, State};
+use power_flow::{Kind, Snapshot};
 use task_codes::TaskCode;
 
 /// Whether a state is one of a task's code: one state for each program, with its variables and their kinds, its blocks, its memories, and the places that a scan works in.
@@ -16,7 +16,7 @@ pub fn fits_state(code: &TaskCode, state: &TaskState) -> bool
     are_states_of(code, state.states())
 }
 
-fn are_states_of(code: &TaskCode, states: &[State]) -> bool
+fn are_states_of(code: &TaskCode, states: &[Snapshot]) -> bool
     ensures { IsTrue result ↔ AreStatesOf code.now states.now }
 {
     if states.len() != code.programs() {
@@ -26,7 +26,7 @@ fn are_states_of(code: &TaskCode, states: &[State]) -> bool
         let Some(ladder) = code.ladder(i) else {
             return false;
         };
-        if !ladder.fits(&states[i]) {
+        if !ladder.fits_snapshot(&states[i]) {
             return false;
         }
     }

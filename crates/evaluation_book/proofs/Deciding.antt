@@ -1,6 +1,6 @@
 -- Each test of a book tells whether its clause holds.
-use Rattle.std.proofs.Common.{◌≡◌, arith, inl, inr, ℕ, ◌+◌, ◌<◌, ◌≤◌, Bool, true, false, cond, ◌&&◌, ◌||◌, List, [], ◌∷◌, length, Option, Some, None, refl, ap, sym, ◌∙◌, subst, eqb, ltb, leb}
-use Rattle.std.specs.Prelude.{not, is_some, slice_index, MatchOption}
+use Rattle.std.proofs.Common.{◌≡◌, arith, inl, inr, ℕ, zero, suc, ◌+◌, ◌<◌, ◌≤◌, Bool, true, false, cond, ◌&&◌, ◌||◌, List, [], ◌∷◌, length, Option, Some, None, refl, ap, sym, ◌∙◌, subst, eqb, ltb, leb}
+use Rattle.std.specs.Prelude.{not, is_some, MatchOption}
 use Rattle.std.specs.Bool.{Decides}
 use Rattle.std.specs.List.{list_all, list_any, find}
 use Rattle.std.proofs.lemmas.Bool.{false≢true}
@@ -19,8 +19,9 @@ use Rattle.evaluation.specs.Meaning.{Evaluated}
 use Rattle.evaluation.specs.Last.{same_task, last_number, from_of}
 use Rattle.std.specs.List.{AllByRecursion}
 use Rattle.lists.specs.Among.{Among}
-use Rattle.evaluation_book.specs.Fits.{last_in, incarnation_in, present_in, name_from, is_below, HasImage, IsNotBackFrom, IsNumbered, IsKnown, IsUntorn, IsNotBack, IsOwnLatest, AllFit}
-use Rattle.evaluation_book.specs.Steps.Deciding.{same_name, is_named, same_value, same_values, same_from, is_of_task, if_of, newest_in, is_numbered, has_named, known_from, is_known, keeps_image, untorn_from, is_untorn, takes_from, keeps_take, keeps_takes, is_not_back, is_own_latest}
+use Rattle.evaluation_book.specs.Fits.{last_in, present_in, name_from, is_below, HasImage, IsNotBackFrom, IsNumbered, IsKnown, IsUntorn, IsNotBack, IsOwnLatest, IsAddressed, IsMeantFor, NoneBelow, HasHeardNoMore, IsWellHeard, AllFit}
+use Rattle.evaluation_book.proofs.Presents.{lows, below_lows}
+use Rattle.evaluation_book.specs.Steps.Deciding.{same_name, is_named, same_value, same_values, same_from, is_of_task, if_of, newest_in, is_numbered, has_named, known_from, is_known, keeps_image, untorn_from, is_untorn, takes_from, keeps_take, keeps_takes, is_not_back, is_own_latest, keeps_address, addressed_from, is_addressed_to, none_below, is_of_resource, keeps_heard, is_well_heard}
 
 -- a test that is true just where this holds
 pub record IsTest (b : Bool) (P : Type 0) : Type 0 where
@@ -144,27 +145,6 @@ names-differ first older x fit = each-map _ _ apart older (last-greatest first o
 abbrev pub IsLow : ℕ → ℕ → Evaluated → Type 0
 IsLow n i y = y.name.task.resource ≡ n → y.name.incarnation ≤ i
 
--- the present incarnation of a resource is the least that isn't below its first one or that of any entry
-test-present : (first : List ℕ) (older : List Evaluated) → AllFit first older → (n i : ℕ)
-    → IsTest (leb (present_in first older n) i) ((slice_index first n ≤ i) × AllByRecursion (λ (y : Evaluated). y.name.task.resource ≡ n → y.name.incarnation ≤ i) older)
-test-present first [] fit n i = record { holds = λ e. (leb-true (slice_index first n) i e, tt); passes = λ h. le-leb (slice_index first n) i h.0 }
-test-present first (x ∷ older) fit n i = by (eqb x.name.task.resource n) (test-same x.name.task.resource n) (test-present first older fit.1 n i) where
-  by : (b : Bool) → IsTest b (x.name.task.resource ≡ n) → IsTest (leb (present_in first older n) i) ((slice_index first n ≤ i) × AllByRecursion (IsLow n i) older)
-      → IsTest (leb (incarnation_in (slice_index first n) (cond b (Some x) (find (λ (y : Evaluated). eqb y.name.task.resource n) older))) i) ((slice_index first n ≤ i) × AllByRecursion (IsLow n i) (x ∷ older))
-  by true d ih = record { holds = λ e. low (leb-true x.name.incarnation i e); passes = λ h. le-leb x.name.incarnation i (h.1.0 (d.holds refl)) } where
-    same : x.name.task.resource ≡ n
-    same = d.holds refl
-
-    first_low : slice_index first n ≤ x.name.incarnation
-    first_low = subst (λ m. slice_index first m ≤ x.name.incarnation) same fit.0.numbered.not_below_first
-
-    lower : x.name.incarnation ≤ i → (y : Evaluated) → (y.name.task.resource ≡ x.name.task.resource → y.name.incarnation ≤ x.name.incarnation) → y.name.task.resource ≡ n → y.name.incarnation ≤ i
-    lower h y below own = let under = below (own ∙ sym same) in omega (arith, h, under)
-
-    low : x.name.incarnation ≤ i → (slice_index first n ≤ i) × AllByRecursion (λ (y : Evaluated). y.name.task.resource ≡ n → y.name.incarnation ≤ i) (x ∷ older)
-    low h = (omega (arith, first_low), (λ _. h, each-map _ _ (lower h) older fit.0.numbered.not_below_latest))
-  by false d ih = record { holds = λ e. ((ih.holds e).0, (λ own. absurd (false≢true (d.passes own)), (ih.holds e).1)); passes = λ h. ih.passes (h.0, h.1.1) }
-
 last_in-none : (t : TaskRef) (i : ℕ) (older : List Evaluated) → AllByRecursion (λ (y : Evaluated). y.name.task ≡ t → y.name.incarnation < i) older → last_in older t i ≡ None
 last_in-none t i [] low = refl
 last_in-none t i (x ∷ older) low =
@@ -185,7 +165,7 @@ newest-last first (x ∷ older) fit t i low = by (same_task x.name.task t) (test
 
     now : (b : Bool) → IsTest b (x.name.incarnation ≡ i) → cond b (Some x) None ≡ cond b (Some x) (last_in older t i)
     now true e = refl
-    now false e = sym (last_in-none t i older (each-map _ _ earlier older fit.0.numbered.not_below_latest)) where
+    now false e = sym (last_in-none t i older (each-map _ _ earlier older (lows first older x.name fit.0.numbered))) where
       earlier : (y : Evaluated) → (y.name.task.resource ≡ x.name.task.resource → y.name.incarnation ≤ x.name.incarnation) → y.name.task ≡ t → y.name.incarnation < i
       earlier y below own =
           let under = below (ap (λ (p : TaskRef). p.resource) own ∙ sym same) in
@@ -197,15 +177,15 @@ newest-last first (x ∷ older) fit t i low = by (same_task x.name.task t) (test
 pub test-numbered : (first : List ℕ) (older : List Evaluated) → AllFit first older → (name : Name) → IsTest (is_numbered first older name) (IsNumbered first older name)
 test-numbered first older fit name =
     record {
-      holds = λ e. record { exists = (all.holds e).0; not_below_first = (all.holds e).1.0.0; not_below_latest = (all.holds e).1.0.1; next = (all.holds e).1.1 };
-      passes = λ n. all.passes (n.exists, ((n.not_below_first, n.not_below_latest), n.next));
+      holds = λ e. let h = all.holds e in record { exists = h.0; not_below_present = h.1.0; next = h.1.1 };
+      passes = λ n. all.passes (n.exists, (n.not_below_present, n.next));
     } where
       next : AllByRecursion (IsLow name.task.resource name.incarnation) older → IsTest (eqb name.number (last_number (newest_in older name.task name.incarnation) + 1)) (name.number ≡ last_number (last_in older name.task name.incarnation) + 1)
       next low = subst (λ l. IsTest (eqb name.number (last_number l + 1)) (name.number ≡ last_number (last_in older name.task name.incarnation) + 1)) (sym (newest-last first older fit name.task name.incarnation low)) (test-same name.number _)
 
-      all : IsTest (is_numbered first older name) ((name.task.resource < length first) × (((slice_index first name.task.resource ≤ name.incarnation)
-          × AllByRecursion (IsLow name.task.resource name.incarnation) older) × (name.number ≡ last_number (last_in older name.task name.incarnation) + 1)))
-      all = test-and _ _ _ _ (test-below _ _) (test-then _ _ _ _ (test-present first older fit name.task.resource name.incarnation) (λ h. next h.1))
+      all : IsTest (is_numbered first older name) ((name.task.resource < length first) × ((present_in first older name.task.resource ≤ name.incarnation)
+          × (name.number ≡ last_number (last_in older name.task name.incarnation) + 1)))
+      all = test-and _ _ _ _ (test-below _ _) (test-then _ _ _ _ (test-most _ _) (λ h. next (below_lows first older name h)))
 
 -- the second clause
 test-named : (name : Name) (older : List Evaluated) → IsTest (has_named older name) ((y : Evaluated) × Among y older × (y.name ≡ name))
@@ -247,13 +227,13 @@ test-untorn first older fit t = by t.from where
   by (Some f) = test-image first older fit (name_from t.producer f) t.image
 
 -- the fourth clause
-below-onward : (q : TaskRef) (e f g : ℕ × ℕ) → is_below q (Some e) (Some f) ≡ false → is_below q (Some f) (Some g) ≡ false → is_below q (Some e) (Some g) ≡ false
-below-onward q e f g h k = grind (arith, nat_tests)
+below-onward : (e f g : ℕ × ℕ) → is_below (Some e) (Some f) ≡ false → is_below (Some f) (Some g) ≡ false → is_below (Some e) (Some g) ≡ false
+below-onward e f g h k = grind (arith, nat_tests)
 
-test-takes : (t : Take) (us : List Take) → IsTest (list_all (keeps_take t) us) (AllByRecursion (λ (u : Take). u.producer ≡ t.producer → is_below t.producer t.from u.from ≡ false) us)
+test-takes : (t : Take) (us : List Take) → IsTest (list_all (keeps_take t) us) (AllByRecursion (λ (u : Take). u.producer ≡ t.producer → is_below t.from u.from ≡ false) us)
 test-takes t us =
-    test-each (keeps_take t) (λ (u : Take). u.producer ≡ t.producer → is_below t.producer t.from u.from ≡ false)
-    (λ u. test-implies _ _ _ _ (test-task u.producer t.producer) (test-not (is_below t.producer t.from u.from))) us
+    test-each (keeps_take t) (λ (u : Take). u.producer ≡ t.producer → is_below t.from u.from ≡ false)
+    (λ u. test-implies _ _ _ _ (test-task u.producer t.producer) (test-not (is_below t.from u.from))) us
 
 -- an entry that takes from a producer
 test-taking : (q : TaskRef) (us : List Take) → IsTest (list_any (λ (u : Take). same_task u.producer q) us) ((u : Take) × Among u us × (u.producer ≡ q))
@@ -287,14 +267,14 @@ test-kept first (x ∷ older) fit name low t other = by (takes_from name.task.re
     apart : taken.1.0.producer.resource ≡ x.name.task.resource → ⊥
     apart e = other (ap (λ (p : TaskRef). p.resource) (sym taken.1.2) ∙ e ∙ taken.0)
 
-    above : list_all (keeps_take t) x.takes ≡ true → is_below t.producer t.from taken.1.0.from ≡ false
+    above : list_all (keeps_take t) x.takes ≡ true → is_below t.from taken.1.0.from ≡ false
     above e = Each-at _ x.takes taken.1.0 ((test-takes t x.takes).holds e) taken.1.1 taken.1.2
 
     later : x.name.incarnation ≡ name.incarnation → (y : Evaluated)
-        → (y.name.task.resource ≡ x.name.task.resource → y.name.incarnation ≡ x.name.incarnation → AllByRecursion (λ (u : Take). u.producer ≡ taken.1.0.producer → is_below taken.1.0.producer taken.1.0.from u.from ≡ false) y.takes)
-        → is_below t.producer t.from taken.1.0.from ≡ false → IsNotBackFrom name t y
+        → (y.name.task.resource ≡ x.name.task.resource → y.name.incarnation ≡ x.name.incarnation → AllByRecursion (λ (u : Take). u.producer ≡ taken.1.0.producer → is_below taken.1.0.from u.from ≡ false) y.takes)
+        → is_below t.from taken.1.0.from ≡ false → IsNotBackFrom name t y
     later same y kept high own at =
-        each-map _ _ (λ u under alike. not_below-onward (is_below t.producer) (λ o. refl) (λ f. refl) (below-onward t.producer) t.from taken.1.0.from u.from high (subst (λ p. is_below p taken.1.0.from u.from ≡ false) taken.1.2 (under (alike ∙ sym taken.1.2)))) y.takes
+        each-map _ _ (λ u under alike. not_below-onward is_below (λ o. refl) (λ f. refl) below-onward t.from taken.1.0.from u.from high (under (alike ∙ sym taken.1.2))) y.takes
         (kept (own ∙ sym taken.0) (at ∙ sym same))
 
     now : (b : Bool) → IsTest b (x.name.incarnation ≡ name.incarnation) → IsTest (not b || list_all (keeps_take t) x.takes) (AllByRecursion (IsNotBackFrom name t) (x ∷ older))
@@ -303,7 +283,7 @@ test-kept first (x ∷ older) fit name low t other = by (takes_from name.task.re
           holds = λ e. (λ _ _. (test-takes t x.takes).holds e, each-map _ _ (λ y kept. later (same.holds refl) y kept (above e)) older (Each-at _ x.takes taken.1.0 fit.0.not_back taken.1.1 apart));
           passes = λ h. (test-takes t x.takes).passes (h.0 taken.0 (same.holds refl));
         }
-    now false differs = record { holds = λ _. (λ own at. absurd (false≢true (differs.passes at)), each-map _ _ earlier older fit.0.numbered.not_below_latest); passes = λ _. refl } where
+    now false differs = record { holds = λ _. (λ own at. absurd (false≢true (differs.passes at)), each-map _ _ earlier older (lows first older x.name fit.0.numbered)); passes = λ _. refl } where
       earlier : (y : Evaluated) → (y.name.task.resource ≡ x.name.task.resource → y.name.incarnation ≤ x.name.incarnation) → IsNotBackFrom name t y
       earlier y below own at =
           let under = below (own ∙ sym taken.0) in
@@ -312,7 +292,7 @@ test-kept first (x ∷ older) fit name low t other = by (takes_from name.task.re
           absurd (omega (arith, under, high, unlike, at))
   by false d ih = record { holds = λ e. (λ own now. none own x.takes (λ u among. among), ih.holds e); passes = λ h. ih.passes h.1 } where
     none : x.name.task.resource ≡ name.task.resource → (us : List Take) → ((u : Take) → Among u us → Among u x.takes)
-        → AllByRecursion (λ (u : Take). u.producer ≡ t.producer → is_below t.producer t.from u.from ≡ false) us
+        → AllByRecursion (λ (u : Take). u.producer ≡ t.producer → is_below t.from u.from ≡ false) us
     none own [] within = tt
     none own (u ∷ us) within = (λ same. absurd (false≢true (d.passes (own, (u, within u (inl refl), same)))), none own us (λ w among. within w (inr among)))
 
@@ -327,3 +307,81 @@ test-own_latest first older fit name low t = test-if _ _ _ _ (test-same t.produc
   latest own =
       subst (λ l. IsTest (same_from t.from (from_of l)) (t.from ≡ from_of (last_in older t.producer name.incarnation)))
       (sym (newest-last first older fit t.producer name.incarnation (subst (λ n. AllByRecursion (IsLow n name.incarnation) older) (sym own) low))) (test-from t.from (from_of (last_in older t.producer name.incarnation)))
+
+test-true : (b : Bool) → IsTest b (b ≡ true)
+test-true b = record { holds = λ e. e; passes = λ e. e }
+
+-- the sixth clause
+test-address : (first : List ℕ) (older : List Evaluated) → AllFit first older → (taken taker : Name)
+    → IsTest (keeps_address taker.task.resource taker.incarnation (find (is_named taken) older)) (AllByRecursion (IsMeantFor taken taker) older)
+test-address first [] fit taken taker = record { holds = λ e. tt; passes = λ h. refl }
+test-address first (x ∷ older) fit taken taker = by (same_name x.name taken) (test-name x.name taken) (test-address first older fit.1 taken taker) where
+  by : (b : Bool) → IsTest b (x.name ≡ taken) → IsTest (keeps_address taker.task.resource taker.incarnation (find (is_named taken) older)) (AllByRecursion (IsMeantFor taken taker) older)
+      → IsTest (keeps_address taker.task.resource taker.incarnation (cond b (Some x) (find (is_named taken) older))) (AllByRecursion (IsMeantFor taken taker) (x ∷ older))
+  by true d ih = record { holds = λ e. (λ _. e, each-map _ _ other older (names-differ first older x fit)); passes = λ h. h.0 (d.holds refl) } where
+    other : (y : Evaluated) → (y.name ≡ x.name → ⊥) → IsMeantFor taken taker y
+    other y apart own = absurd (apart (own ∙ sym (d.holds refl)))
+  by false d ih = record { holds = λ e. (λ own. absurd (false≢true (d.passes own)), ih.holds e); passes = λ h. ih.passes h.1 }
+
+pub test-addressed : (first : List ℕ) (older : List Evaluated) → AllFit first older → (name : Name) (t : Take) → IsTest (is_addressed_to older name t) (IsAddressed older name t)
+test-addressed first older fit name t = test-unless _ _ _ _ (test-same t.producer.resource name.task.resource) (λ _. by t.from) where
+  by : (from : Option (ℕ × ℕ)) → IsTest (addressed_from older name t.producer from) (MatchOption from (Unit {0}) (λ f. AllByRecursion (IsMeantFor (name_from t.producer f) name) older))
+  by None = record { holds = λ e. tt; passes = λ h. refl }
+  by (Some f) = test-address first older fit (name_from t.producer f) name
+
+-- the seventh clause
+pub none-below : (xs ys : List ℕ) → IsTest (none_below xs ys) ((length ys ≡ length xs) × NoneBelow ys xs)
+none-below [] [] = record { holds = λ e. (refl, λ n. omega arith); passes = λ h. refl }
+none-below [] (y ∷ ys) = record { holds = λ e. absurd (false≢true e); passes = λ h. absurd (omega (arith, h.0)) }
+none-below (x ∷ xs) [] = record { holds = λ e. absurd (false≢true e); passes = λ h. absurd (omega (arith, h.0)) }
+none-below (x ∷ xs) (y ∷ ys) = by (test-and _ _ _ _ (test-most x y) (none-below xs ys)) where
+  joined : (x ≤ y) × ((length ys ≡ length xs) × NoneBelow ys xs) → (length (y ∷ ys) ≡ length (x ∷ xs)) × NoneBelow (y ∷ ys) (x ∷ xs)
+  joined h = (ap suc h.1.0, at) where
+    at : NoneBelow (y ∷ ys) (x ∷ xs)
+    at zero = h.0
+    at (suc n) = h.1.1 n
+
+  by : IsTest (none_below (x ∷ xs) (y ∷ ys)) ((x ≤ y) × ((length ys ≡ length xs) × NoneBelow ys xs)) → IsTest (none_below (x ∷ xs) (y ∷ ys)) ((length (y ∷ ys) ≡ length (x ∷ xs)) × NoneBelow (y ∷ ys) (x ∷ xs))
+  by both = record { holds = λ e. joined (both.holds e); passes = λ h. both.passes (h.1 0, (omega (arith, h.0), λ n. h.1 (suc n))) }
+
+-- the newest entry of a resource has heard most
+test-newest : (first : List ℕ) (older : List Evaluated) → AllFit first older → (name : Name) → AllByRecursion (IsLow name.task.resource name.incarnation) older → (heard : List ℕ) → length heard ≡ length first
+    → IsTest (keeps_heard name.incarnation heard (find (is_of_resource name.task.resource) older)) (AllByRecursion (HasHeardNoMore name heard) older)
+test-newest first [] fit name low heard many = record { holds = λ e. tt; passes = λ h. refl }
+test-newest first (x ∷ older) fit name low heard many = by (eqb x.name.task.resource name.task.resource) (test-same x.name.task.resource name.task.resource) (test-newest first older fit.1 name low.1 heard many) where
+  by : (b : Bool) → IsTest b (x.name.task.resource ≡ name.task.resource) → IsTest (keeps_heard name.incarnation heard (find (is_of_resource name.task.resource) older)) (AllByRecursion (HasHeardNoMore name heard) older)
+      → IsTest (keeps_heard name.incarnation heard (cond b (Some x) (find (is_of_resource name.task.resource) older))) (AllByRecursion (HasHeardNoMore name heard) (x ∷ older))
+  by false d ih = record { holds = λ e. (λ own. absurd (false≢true (d.passes own)), ih.holds e); passes = λ h. ih.passes h.1 }
+  by true d ih = now (eqb x.name.incarnation name.incarnation) (test-same x.name.incarnation name.incarnation) where
+    same : x.name.task.resource ≡ name.task.resource
+    same = d.holds refl
+
+    now : (b : Bool) → IsTest b (x.name.incarnation ≡ name.incarnation) → IsTest (not b || none_below x.heard heard) (AllByRecursion (HasHeardNoMore name heard) (x ∷ older))
+    now true at =
+        record {
+          holds = λ e. (
+            λ _ _. ((none-below x.heard heard).holds e).1,
+            each-map _ _ (λ y least own when. λ n.
+                let up = ((none-below x.heard heard).holds e).1 n in
+                let under = least (own ∙ sym same) (when ∙ sym (at.holds refl)) n in
+                omega (arith, up, under)) older fit.0.heard.not_below_earlier,
+          );
+          passes = λ h. (none-below x.heard heard).passes (many ∙ sym fit.0.heard.many, h.0 same (at.holds refl));
+        }
+    now false differs = record { holds = λ _. (λ own at. absurd (false≢true (differs.passes at)), each-map _ _ earlier older (lows first older x.name fit.0.numbered)); passes = λ _. refl } where
+      earlier : (y : Evaluated) → (y.name.task.resource ≡ x.name.task.resource → y.name.incarnation ≤ x.name.incarnation) → HasHeardNoMore name heard y
+      earlier y below own at =
+          let under = below (own ∙ sym same) in
+          let high = low.0 same in
+          let unlike : x.name.incarnation ≡ name.incarnation → ⊥ = λ h. false≢true (differs.passes h) in
+          absurd (omega (arith, under, high, unlike, at))
+
+pub test-heard : (first : List ℕ) (older : List Evaluated) → AllFit first older → (name : Name) → AllByRecursion (IsLow name.task.resource name.incarnation) older → (heard : List ℕ)
+    → IsTest (is_well_heard first older name heard) (IsWellHeard first older name heard)
+test-heard first older fit name low heard =
+    record {
+      holds = λ e. let h = all.holds e in record { many = h.0.0; not_below_first = h.0.1; not_below_earlier = h.1 };
+      passes = λ w. all.passes ((w.many, w.not_below_first), w.not_below_earlier);
+    } where
+      all : IsTest (is_well_heard first older name heard) (((length heard ≡ length first) × NoneBelow heard first) × AllByRecursion (HasHeardNoMore name heard) older)
+      all = test-then _ _ _ _ (none-below first heard) (λ h. test-newest first older fit name low heard h.0)

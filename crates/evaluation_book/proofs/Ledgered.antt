@@ -1,5 +1,5 @@
 -- What the tables of a book tell of its entries.
-use Rattle.std.proofs.Common.{◌≡◌, ℕ, zero, suc, ◌-◌, ◌<◌, ◌≤◌, arith, Bool, true, false, cond, ◌&&◌, ◌||◌, List, [], ◌∷◌, ◌++◌, map, take, drop, length, get_or, Option, Some, None, refl, ap, sym, ◌∙◌, subst, eqb, length-append}
+use Rattle.std.proofs.Common.{◌≡◌, ℕ, zero, suc, ◌-◌, ◌<◌, ◌≤◌, arith, replicate, Bool, true, false, cond, ◌&&◌, ◌||◌, List, [], ◌∷◌, ◌++◌, map, take, drop, length, get_or, Option, Some, None, refl, ap, sym, ◌∙◌, subst, eqb, length-append}
 use Rattle.std.specs.Prelude.{reverse, slice_index, slice_get, slice_set}
 use Rattle.std.specs.Option.{option_map, option_and_then}
 use Rattle.std.specs.Ordering.{nat_cmp, ordering_then}
@@ -7,7 +7,7 @@ use Rattle.std.specs.declared.cmp.Ordering.TheVariants.{Less}
 use Rattle.std.specs.List.{find, list_any}
 use Rattle.std.proofs.lemmas.Bool.{false≢true, eqb-true, eq-eqb}
 use Rattle.std.proofs.lemmas.Bool.Decides.{nat_tests}
-use Rattle.std.proofs.lemmas.List.{reverse-append, reverse-reverse, length-reverse, length-set, get_or-set_same, get_or-set_other}
+use Rattle.std.proofs.lemmas.List.{reverse-append, reverse-reverse, length-reverse, length-replicate, length-set, get_or-set_same, get_or-set_other}
 use Rattle.lists.proofs.Places.{push_here}
 use Rattle.due_list.specs.declared.task_ref.TaskRef.{TaskRef}
 use Rattle.evaluation.specs.declared.name.Name.{Name}
@@ -19,31 +19,40 @@ use Rattle.evaluation_book.specs.declared.book.ledger.place.Place.{Place}
 use Rattle.evaluation_book.specs.declared.book.ledger.task_places.TaskPlaces.{TaskPlaces}
 use Rattle.evaluation_book.specs.declared.book.ledger.taker.Taker.{Taker}
 use Rattle.std.specs.List.{AllByRecursion}
-use Rattle.evaluation_book.specs.Fits.{last_in, incarnation_in, present_in, IsNumbered, AllFit}
-use Rattle.evaluation_book.specs.Steps.Deciding.{is_of_task, is_named, takes_from}
-use Rattle.evaluation_book.specs.Steps.Ledger.{newest_place, presents, place_of, places_of, places_in, last_index, pair_cmp, index_of, AreRising, taker_in, has_row, noted, AreTables, Tells}
+use Rattle.evaluation_book.specs.Fits.{last_in, present_in, IsNumbered, Fits, AllFit}
+use Rattle.evaluation_book.specs.Presents.{ArePresentWith}
+use Rattle.evaluation_book.specs.Steps.Deciding.{is_of_task, is_of_resource, is_named, takes_from}
+use Rattle.evaluation_book.specs.Steps.Ledger.{newest_place, newests, place_of, places_of, places_in, last_index, pair_cmp, index_of, AreRising, taker_in, has_row, noted, AreTables, Tells, TellsOneMore}
+use Rattle.evaluation_book.proofs.Presents.{lows}
 use Rattle.evaluation_book.proofs.Deciding.{test-task, last-greatest}
 use Rattle.evaluation_book.proofs.Ledgers.{taker-noted}
 
-pub length-presents : (first : List ℕ) (older : List Evaluated) → length (presents first older) ≡ length first
-length-presents first [] = refl
-length-presents first (x ∷ older) = length-set (presents first older) x.name.task.resource x.name.incarnation ∙ length-presents first older
+abbrev nowhere : Option ℕ
+nowhere = None
 
-pub presents-at : (first : List ℕ) (older : List Evaluated) (n : ℕ) → n < length first → slice_index (presents first older) n ≡ present_in first older n
-presents-at first [] n within = refl
-presents-at first (x ∷ older) n within = by (eqb x.name.task.resource n) refl (presents-at first older n within) where
-  inside : x.name.task.resource ≡ n → x.name.task.resource < length (presents first older)
-  inside same = let long = length-presents first older in omega (arith, long, same, within)
+pub length-newests : (first : List ℕ) (older : List Evaluated) → length (newests first older) ≡ length first
+length-newests first [] = length-replicate (length first) nowhere
+length-newests first (x ∷ older) = length-set (newests first older) x.name.task.resource (Some (length older)) ∙ length-newests first older
 
-  by : (b : Bool) → eqb x.name.task.resource n ≡ b → slice_index (presents first older) n ≡ present_in first older n
-      → slice_index (slice_set (presents first older) x.name.task.resource x.name.incarnation) n
-      ≡ incarnation_in (slice_index first n) (cond b (Some x) (find (λ (y : Evaluated). eqb y.name.task.resource n) older))
+get-filled : (n k : ℕ) → k < n → get_or (replicate n nowhere) k None ≡ None
+get-filled zero k within = absurd (omega (arith, within))
+get-filled (suc n) zero within = refl
+get-filled (suc n) (suc k) within = get-filled n k (omega (arith, within))
+
+pub newests-at : (first : List ℕ) (older : List Evaluated) (n : ℕ) → n < length first → get_or (newests first older) n None ≡ newest_place (is_of_resource n) older
+newests-at first [] n within = get-filled (length first) n within
+newests-at first (x ∷ older) n within = by (eqb x.name.task.resource n) refl (newests-at first older n within) where
+  inside : x.name.task.resource ≡ n → x.name.task.resource < length (newests first older)
+  inside same = let long = length-newests first older in omega (arith, long, same, within)
+
+  by : (b : Bool) → eqb x.name.task.resource n ≡ b → get_or (newests first older) n None ≡ newest_place (is_of_resource n) older
+      → get_or (slice_set (newests first older) x.name.task.resource (Some (length older))) n None ≡ cond b (Some (length older)) (newest_place (is_of_resource n) older)
   by true e ih =
       let same : x.name.task.resource ≡ n = eqb-true x.name.task.resource n e in
-      subst (λ m. slice_index (slice_set (presents first older) x.name.task.resource x.name.incarnation) m ≡ x.name.incarnation) same
-      (get_or-set_same (presents first older) x.name.task.resource x.name.incarnation 0 (inside same))
+      subst (λ m. get_or (slice_set (newests first older) x.name.task.resource (Some (length older))) m None ≡ Some (length older)) same
+      (get_or-set_same (newests first older) x.name.task.resource (Some (length older)) None (inside same))
   by false e ih =
-      get_or-set_other (presents first older) x.name.task.resource n x.name.incarnation 0 (λ same. false≢true (sym e ∙ eq-eqb x.name.task.resource n (sym same))) ∙ ih
+      get_or-set_other (newests first older) x.name.task.resource n (Some (length older)) None (λ same. false≢true (sym e ∙ eq-eqb x.name.task.resource n (sym same))) ∙ ih
 
 get-front : {X : Type 0} (xs : List X) (x : X) (k : ℕ) → k < length xs → slice_get (xs ++ x ∷ []) k ≡ slice_get xs k
 get-front [] x k within = absurd (omega (arith, within))
@@ -107,7 +116,7 @@ lower a b c e h k = grind (arith, nat_tests)
 below-next : (first : List ℕ) (older : List Evaluated) → AllFit first older → (x : Evaluated) → IsNumbered first older x.name → AllByRecursion (λ (q : Place). pair_cmp x.name.incarnation x.name.number q ≡ Less) (places_of x.name.task older)
 below-next first older fit x numbered =
     each-place (λ (q : Place). pair_cmp x.name.incarnation x.name.number q ≡ Less) x.name.task older
-    (both older numbered.not_below_latest (last-greatest first older fit x.name.task x.name.incarnation)) where
+    (both older (lows first older x.name numbered) (last-greatest first older fit x.name.task x.name.incarnation)) where
       both : (ys : List Evaluated) → AllByRecursion (λ (y : Evaluated). y.name.task.resource ≡ x.name.task.resource → y.name.incarnation ≤ x.name.incarnation) ys
           → AllByRecursion (λ (y : Evaluated). y.name.task ≡ x.name.task → y.name.incarnation ≡ x.name.incarnation → y.name.number ≤ last_number (last_in older x.name.task x.name.incarnation)) ys
           → AllByRecursion (λ (y : Evaluated). y.name.task ≡ x.name.task → (k : ℕ) → pair_cmp x.name.incarnation x.name.number (place_of y k) ≡ Less) ys
@@ -169,13 +178,14 @@ made-at rows n q (u ∷ us) all has = by (same_task u.producer q) refl has (made
   by false e h ih = ih h
 
 -- the tables of one entry more
-pub tables-more : (first : List ℕ) (older : List Evaluated) (present : List ℕ) (tasks tasks_more : List TaskPlaces) (takers takers_made : List Taker) (x : Evaluated) → AreTables first older present tasks takers
+pub tables-more : (first : List ℕ) (older : List Evaluated) (present raised : List ℕ) (newest : List (Option ℕ)) (tasks tasks_more : List TaskPlaces) (takers takers_made : List Taker) (x : Evaluated) → AreTables first older present newest tasks takers → ArePresentWith x present raised
     → ((t : TaskRef) → places_in tasks_more t ≡ cond (same_task x.name.task t) (places_in tasks t ++ place_of x (length older) ∷ []) (places_in tasks t))
     → ((n : ℕ) (q : TaskRef) → taker_in takers_made n q ≡ taker_in takers n q) → AllByRecursion (λ (u : Take). has_row takers_made x.name.task.resource u.producer ≡ true) x.takes
-    → AreTables first (x ∷ older) (slice_set present x.name.task.resource x.name.incarnation) tasks_more (map (noted x.name.task.resource x.takes (length older)) takers_made)
-tables-more first older present tasks tasks_more takers takers_made x tables more same made =
+    → AreTables first (x ∷ older) raised (slice_set newest x.name.task.resource (Some (length older))) tasks_more (map (noted x.name.task.resource x.takes (length older)) takers_made)
+tables-more first older present raised newest tasks tasks_more takers takers_made x tables up more same made =
     record {
-      incarnations = ap (λ ps. slice_set ps x.name.task.resource x.name.incarnation) tables.incarnations;
+      incarnations = up first older tables.incarnations;
+      newest_are = ap (λ ps. slice_set ps x.name.task.resource (Some (length older))) tables.newest_are;
       places = λ t. more t ∙ ap (λ ps. cond (same_task x.name.task t) (ps ++ place_of x (length older) ∷ []) ps) (tables.places t);
       latest = λ n q. taker-noted x.name.task.resource x.takes (length older) takers_made n q ∙ decided n q;
     } where
@@ -210,15 +220,16 @@ get_or-defaults (x ∷ xs) zero d e within = refl
 get_or-defaults (x ∷ xs) (suc k) d e within = get_or-defaults xs k d e (omega (arith, within))
 
 -- the tables after an entry was noted
-pub entered : (first : List ℕ) (older : List Evaluated) (present : List ℕ) (tasks tasks_more : List TaskPlaces) (takers takers_made rows : List Taker) (x : Evaluated) (name : Name) (takes used : List Take) (index : ℕ)
-    → name ≡ x.name → takes ≡ x.takes → used ≡ x.takes → index ≡ length older → AreTables first older present tasks takers
+pub entered : (first : List ℕ) (older : List Evaluated) (present raised : List ℕ) (newest : List (Option ℕ)) (tasks tasks_more : List TaskPlaces) (takers takers_made rows : List Taker) (x : Evaluated) (name : Name) (takes used : List Take) (index : ℕ)
+    → name ≡ x.name → takes ≡ x.takes → used ≡ x.takes → index ≡ length older → AreTables first older present newest tasks takers → ArePresentWith x present raised
     → ((t : TaskRef) → places_in tasks_more t ≡ cond (same_task name.task t) (places_in tasks t ++ record { incarnation = name.incarnation; number = name.number; index = index } ∷ []) (places_in tasks t))
     → ((n : ℕ) (q : TaskRef) → taker_in takers_made n q ≡ taker_in takers n q) → AllByRecursion (λ (u : Take). has_row takers_made name.task.resource u.producer ≡ true) takes → rows ≡ map (noted name.task.resource used index) takers_made
-    → AreTables first (x ∷ older) (slice_set present name.task.resource name.incarnation) tasks_more rows
-entered first older present tasks tasks_more takers takers_made rows x name takes used index named taken again at tables more same made noting =
-    subst (λ n. AreTables first (x ∷ older) (slice_set present n.task.resource n.incarnation) tasks_more rows) (sym named)
-    (subst (λ rs. AreTables first (x ∷ older) (slice_set present x.name.task.resource x.name.incarnation) tasks_more rs) (sym noting_now)
-    (tables-more first older present tasks tasks_more takers takers_made x tables more_now same made_now)) where
+    → AreTables first (x ∷ older) raised (slice_set newest name.task.resource (Some index)) tasks_more rows
+entered first older present raised newest tasks tasks_more takers takers_made rows x name takes used index named taken again at tables up more same made noting =
+    subst (λ (n : Name). AreTables first (x ∷ older) raised (slice_set newest n.task.resource (Some index)) tasks_more rows) (sym named)
+    (subst (λ k. AreTables first (x ∷ older) raised (slice_set newest x.name.task.resource (Some k)) tasks_more rows) (sym at)
+    (subst (λ rs. AreTables first (x ∷ older) raised (slice_set newest x.name.task.resource (Some (length older))) tasks_more rs) (sym noting_now)
+    (tables-more first older present raised newest tasks tasks_more takers takers_made x tables up more_now same made_now))) where
       noting_now : rows ≡ map (noted x.name.task.resource x.takes (length older)) takers_made
       noting_now = noting ∙ ap (λ (n : Name). map (noted n.task.resource used index) takers_made) named ∙ ap (λ us. map (noted x.name.task.resource us index) takers_made) again ∙ ap (λ k. map (noted x.name.task.resource x.takes k) takers_made) at
 
@@ -230,6 +241,13 @@ entered first older present tasks tasks_more takers takers_made rows x name take
 
       made_now : AllByRecursion (λ (u : Take). has_row takers_made x.name.task.resource u.producer ≡ true) x.takes
       made_now = subst (λ us. AllByRecursion (λ (u : Take). has_row takers_made x.name.task.resource u.producer ≡ true) us) taken (subst (λ (n : Name). AllByRecursion (λ (u : Take). has_row takers_made n.task.resource u.producer ≡ true) takes) named made)
+
+-- a book with one entry more that fits
+pub book-more : (first : List ℕ) (entries more : List Evaluated) (old new : Ledger) (x : Evaluated) (index : ℕ) → more ≡ entries ++ x ∷ [] → index ≡ length entries
+    → AllFit first (reverse entries) × Tells first (reverse entries) old → Fits first (reverse entries) x → TellsOneMore old new x index → AllFit first (reverse more) × Tells first (reverse more) new
+book-more first entries more old new x index same at book fits told =
+    subst (λ es. AllFit first (reverse es) × Tells first (reverse es) new) (sym same)
+    (subst (λ es. AllFit first es × Tells first es new) (sym (reverse-append entries (x ∷ []))) ((fits, book.0), told first (reverse entries) (at ∙ sym (length-reverse entries)) book.1))
 
 module _ (first : List ℕ) (entries : List Evaluated) (ledger : Ledger) (told : AllFit first (reverse entries) × Tells first (reverse entries) ledger) where
   pub at-newest : (f : Evaluated → Bool) (index : Option ℕ) → index ≡ newest_place f (reverse entries) → option_and_then (λ k. slice_get entries k) index ≡ find f (reverse entries)
@@ -250,7 +268,13 @@ module _ (first : List ℕ) (entries : List Evaluated) (ledger : Ledger) (told :
   taker-told n q = at-newest (takes_from n q) (taker_in ledger.takers.items n q) (told.1.latest n q)
 
   pub present-long : length ledger.present.items ≡ length first
-  present-long = ap length told.1.incarnations ∙ length-presents first (reverse entries)
+  present-long = told.1.incarnations.sized
 
   pub present-told : (n : ℕ) → n < length first → slice_index ledger.present.items n ≡ present_in first (reverse entries) n
-  present-told n within = ap (λ ps. slice_index ps n) told.1.incarnations ∙ presents-at first (reverse entries) n within
+  present-told n within = told.1.incarnations.each n within
+
+  pub newest-long : length ledger.newest.items ≡ length first
+  newest-long = ap length told.1.newest_are ∙ length-newests first (reverse entries)
+
+  pub newest_entry-told : (n : ℕ) → n < length first → option_and_then (λ k. slice_get entries k) (get_or ledger.newest.items n None) ≡ find (is_of_resource n) (reverse entries)
+  newest_entry-told n within = at-newest (is_of_resource n) (get_or ledger.newest.items n None) (ap (λ ps. get_or ps n None) told.1.newest_are ∙ newests-at first (reverse entries) n within)

@@ -1,5 +1,7 @@
+mod addressed;
 mod entry_at;
 mod fitting;
+mod heard;
 mod last_entry;
 mod ledger;
 mod misfit;
@@ -36,7 +38,7 @@ impl Model for Book {
 }
 
 ghost use Rattle.std.specs.Prelude.{◌≡◌, ◌++◌, ◌∷◌, [], IfOk, IfErr, OnOk, OnErr, reverse};
-ghost use Rattle.evaluation_book.specs.Fits.{Fits, AllFit};
+ghost use Rattle.evaluation_book.specs.Fits.{Fits, AllFit, NeverFall};
 ghost use Rattle.evaluation_book.specs.Book.{IsMisfit};
 
 impl Book {
@@ -58,10 +60,11 @@ impl Book {
         self.first.as_slice()
     }
 
-    /// The entries in their order. Each fits those before it.
+    /// The entries in their order. Each fits those before it, and takes that aren't of nothing never fall, over all incarnations of a resource.
     pub fn entries(&self) -> &[Frame]
         ensures value { result.now ≡ self.now.entries }
         ensures fit { AllFit self.now.first (reverse self.now.entries) }
+        ensures unfallen { NeverFall (reverse self.now.entries) }
     {
         self.entries.as_slice()
     }

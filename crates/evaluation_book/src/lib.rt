@@ -2,5 +2,9 @@
 #![tactic(auto)]
 
 mod book;
+mod laws;
+mod present;
 
 pub use book::{Book, Misfit};
+pub use laws::takes_never_fall;
+pub use present::raise_present;

@@ -2,6 +2,7 @@
 pub mod Tasks
 pub mod Latest
 pub mod Names
+pub mod Heard
 pub mod Steps
 pub mod OneLog
 pub mod Pairs

@@ -11,6 +11,7 @@ use Rattle.exchange.specs.World.{WorldValue}
 use Rattle.evaluation_book.specs.Fits.{AllFit}
 use Rattle.evaluation_book.specs.Book.{IsMisfit}
 use Rattle.exchange.specs.Replays.{AllCouldBeMade, Replays}
+use Rattle.exchange.specs.Schedule.{schedule_of}
 use Rattle.exchange.specs.Consistent.{IsConsistent}
 use Rattle.exchange.specs.Theorem.{HoldersAgreeIn, IsDataConsistent}
 
@@ -49,6 +50,12 @@ RunsReplay =
     (s : Setting) (events again : List Event) (log : List Evaluated) → IsSoundPlant s.plant
     → length s.first ≡ length s.plant.resources → AreIncarnations s.first → IsRun s events log
     → Replays s.first log again → IsRun s again log
+
+-- where each entry fits those before it, the events of these entries make them again
+abbrev pub FittingEntriesReplay : Type 0
+FittingEntriesReplay =
+    (first : List ℕ) (entries : List Evaluated) → AllFit first (reverse entries)
+    → Replays first entries (schedule_of first (reverse entries))
 
 -- Where events make the entries of a book again, the consistency theorem holds of these events and entries,
 -- and the entries are a consistent log.

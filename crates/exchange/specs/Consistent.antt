@@ -1,5 +1,5 @@
 -- When a log is consistent. A log has the newest evaluation first; its message k is the k-th that was made.
-use Rattle.std.specs.Prelude.{◌≡◌, ◌⊎◌, ℕ, ◌<◌, ◌≤◌, List, Option, Some, None, MatchOption, slice_get}
+use Rattle.std.specs.Prelude.{◌≡◌, ◌≢◌, ◌⊎◌, ℕ, ◌<◌, ◌≤◌, List, Option, Some, None, MatchOption, slice_get}
 use Rattle.std.specs.Option.{option_map}
 use Rattle.std_blocks.specs.declared.value.Value.{Value}
 use Rattle.declared_names.specs.Kinds.{value_first}
@@ -81,6 +81,14 @@ NeverGoesBack log =
     → x.name.task.resource ≡ y.name.task.resource → x.name.incarnation ≡ y.name.incarnation
     → AllByRecursion (λ (t : Take). AllByRecursion (StandInOrder log t) y.takes) x.takes
 
+-- Of two evaluations of one resource, in whatever incarnations, the later one takes from no producer, if it takes from it
+-- at all, one that stands before one that the earlier took from it.
+abbrev pub NeverFalls : List Evaluated → Type 0
+NeverFalls log =
+    (i j : ℕ) (x y : Evaluated) → i < j → message log i ≡ Some x → message log j ≡ Some y
+    → x.name.task.resource ≡ y.name.task.resource
+    → AllByRecursion (λ (t : Take). AllByRecursion (λ (u : Take). u.from ≢ None → StandInOrder log t u) y.takes) x.takes
+
 -- a consistent log of a plant
 pub record IsConsistent (plant : PlantValue) (log : List Evaluated) : Type 0 where
   -- for each entry and each of its producers, all inputs bound to that producer have the values of one image,
@@ -89,6 +97,8 @@ pub record IsConsistent (plant : PlantValue) (log : List Evaluated) : Type 0 whe
       → slice_get x.code.producers k ≡ Some p → TakesOneEntry log j x p ⊎ TakesOnly x p None
   -- within one incarnation of a resource, the places taken of one producer never fall
   pub never_back : NeverGoesBack log
+  -- the places of takes that aren't of nothing never fall, over all incarnations of a resource
+  pub never_falls : NeverFalls log
   -- entries of equal name are equal
   pub equal_names : (i j : ℕ) (x y : Evaluated) → message log i ≡ Some x → message log j ≡ Some y
       → x.name ≡ y.name → x ≡ y

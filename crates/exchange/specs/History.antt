@@ -1,10 +1,12 @@
 -- What has happened in a plant: lists of events. A history has the newest event first.
-use Rattle.std.specs.Prelude.{ℕ, ◌+◌, ◌==◌, ◌&&◌, Bool, true, false, nat_lt, nat_le, List, [], ◌∷◌, is_some, slice_index, length, filter, if◌then◌else◌}
+use Rattle.std.specs.Prelude.{ℕ, ◌+◌, ◌==◌, ◌&&◌, Bool, true, false, nat_lt, nat_le, List, [], ◌∷◌, is_some, slice_index, length, filter, Option, Some, None, if◌then◌else◌}
+use Rattle.std.specs.List.{filter_map}
 use Rattle.due_list.specs.declared.task_ref.TaskRef.{TaskRef}
 use Rattle.plant.specs.PlantValue.{PlantValue, code_at}
+use Rattle.evaluation.specs.Heard.{heard_numbers}
 use Rattle.evaluation.specs.Last.{same_task}
 use Rattle.exchange.specs.declared.event.Event.{Event}
-use Rattle.exchange.specs.declared.event.Event.TheVariants.{Evaluate, Deliver, Restart}
+use Rattle.exchange.specs.declared.event.Event.TheVariants.{Evaluate, Deliver, Restart, Hear}
 
 -- What a run is over: the plant, the first incarnation of each resource, and the greatest number of an evaluation.
 pub record Setting : Type 0 where
@@ -21,24 +23,35 @@ abbrev pub is_evaluate : Event → Bool
 is_evaluate (Evaluate ticket task dt inputs) = true
 is_evaluate (Deliver message resource) = false
 is_evaluate (Restart resource) = false
+is_evaluate (Hear resource of incarnation) = false
 
 -- an evaluation of this task
 abbrev pub is_evaluate_of : TaskRef → Event → Bool
 is_evaluate_of t (Evaluate ticket task dt inputs) = same_task task t
 is_evaluate_of t (Deliver message resource) = false
 is_evaluate_of t (Restart resource) = false
+is_evaluate_of t (Hear resource of incarnation) = false
 
 -- a restart of this resource
 abbrev pub is_restart_of : ℕ → Event → Bool
 is_restart_of n (Evaluate ticket task dt inputs) = false
 is_restart_of n (Deliver message resource) = false
 is_restart_of n (Restart resource) = resource == n
+is_restart_of n (Hear resource of incarnation) = false
 
 -- a delivery of message k to resource n
 abbrev pub is_deliver_of : ℕ → ℕ → Event → Bool
 is_deliver_of k n (Evaluate ticket task dt inputs) = false
 is_deliver_of k n (Deliver message resource) = message == k && resource == n
 is_deliver_of k n (Restart resource) = false
+is_deliver_of k n (Hear resource of incarnation) = false
+
+-- the incarnation of m of which resource n hears by an event
+abbrev pub heard_in : ℕ → ℕ → Event → Option ℕ
+heard_in n m (Evaluate ticket task dt inputs) = None
+heard_in n m (Deliver message resource) = None
+heard_in n m (Restart resource) = None
+heard_in n m (Hear resource of incarnation) = if resource == n && of == m then Some incarnation else None
 
 -- the events after the last restart of a resource; all of them where there is none
 abbrev pub since_restart : ℕ → List Event → List Event
@@ -57,8 +70,18 @@ number_of t history = length (filter (is_evaluate_of t) (since_restart t.resourc
 abbrev pub incarnation_of : Setting → ℕ → List Event → ℕ
 incarnation_of s n history = slice_index s.first n + length (filter (is_restart_of n) history)
 
--- An event is lawful after a history: its resource, task or message exists,
--- and its task's numbers or its resource's incarnations aren't spent.
+-- the incarnations of m of which resource n has heard since its last restart
+abbrev pub hearings_of : ℕ → ℕ → List Event → List ℕ
+hearings_of n m history = filter_map (heard_in n m) (since_restart n history)
+
+-- What resource n has heard, one number for each resource: of itself its present incarnation,
+-- and of each other one the greatest of its first incarnation and of those of which it has heard since its last restart.
+abbrev pub heard_by : Setting → ℕ → List Event → List ℕ
+heard_by s n history = heard_numbers s.first n (incarnation_of s n history) (λ m. hearings_of n m history)
+
+-- An event is lawful after a history: its resources, task or message exist,
+-- its task's numbers or its resource's incarnations aren't spent,
+-- and a resource of which is heard has had that incarnation, from its first one to its present one.
 abbrev pub is_lawful : Setting → List Event → Event → Bool
 is_lawful s history (Evaluate ticket task dt inputs) =
     is_some (code_at s.plant task) && nat_lt (number_of task history) s.max_number
@@ -66,6 +89,10 @@ is_lawful s history (Deliver message resource) =
     nat_lt resource (length s.plant.resources) && (nat_le 1 message && nat_le message (made_count history))
 is_lawful s history (Restart resource) =
     nat_lt resource (length s.plant.resources) && nat_lt (incarnation_of s resource history) 4294967295
+is_lawful s history (Hear resource of incarnation) =
+    nat_lt resource (length s.plant.resources)
+    && (nat_lt of (length s.plant.resources)
+    && (nat_le (slice_index s.first of) incarnation && nat_le incarnation (incarnation_of s of history)))
 
 -- the history after these events: each lawful one has happened, every other one has changed nothing
 abbrev pub after_events : Setting → List Event → List Event → List Event

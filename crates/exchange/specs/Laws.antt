@@ -1,12 +1,13 @@
 -- What holds for every list of events.
-use Rattle.std.specs.Prelude.{◌≡◌, ◌≢◌, ℕ, ◌<◌, true, List, ◌∷◌, reverse, Option, Some, None, slice_get, if◌then◌else◌}
+use Rattle.std.specs.Prelude.{◌≡◌, ◌≢◌, ℕ, ◌<◌, true, List, ◌∷◌, reverse, Bool, ◌&&◌, Option, Some, None, slice_get, if◌then◌else◌}
 use Rattle.due_list.specs.declared.task_ref.TaskRef.{TaskRef}
 use Rattle.evaluation.specs.Names.{precedes}
 use Rattle.evaluation.specs.Meaning.{Evaluated}
+use Rattle.evaluation.specs.Heard.{is_addressed}
 use Rattle.evaluation.specs.Last.{same_task}
 use Rattle.exchange.specs.declared.event.Event.{Event}
 use Rattle.exchange.specs.declared.event.Event.TheVariants.{Deliver}
-use Rattle.exchange.specs.History.{Setting, history_of}
+use Rattle.exchange.specs.History.{Setting, incarnation_of, history_of}
 use Rattle.exchange.specs.Run.{IsRun, latest, message}
 
 -- a list of events has one run
@@ -27,16 +28,17 @@ abbrev pub greater : Option Evaluated → Evaluated → Option Evaluated
 greater None x = Some x
 greater (Some y) x = if precedes y.name x.name then Some x else Some y
 
--- what is held of p after a message came
-abbrev pub held_with : TaskRef → Option Evaluated → Option Evaluated → Option Evaluated
-held_with p held None = held
-held_with p held (Some x) = if same_task x.name.task p then greater held x else held
+-- what is held of p after a message came, where this says which messages count
+abbrev pub held_with : TaskRef → (Evaluated → Bool) → Option Evaluated → Option Evaluated → Option Evaluated
+held_with p counts held None = held
+held_with p counts held (Some x) = if same_task x.name.task p && counts x then greater held x else held
 
 -- after any events, a delivery to another resource than p's changes the latest of p there
--- to the greater of it and the message
+-- to the greater of it and the message, if that is addressed to the resource's present incarnation
 abbrev pub KeptIsLatest : Type 0
 KeptIsLatest =
     (s : Setting) (events : List Event) (log : List Evaluated) (n k : ℕ) (p : TaskRef) → IsRun s events log
     → p.resource ≢ n
-    → latest n (Deliver k n ∷ history_of s events) p (reverse log)
-    ≡ held_with p (latest n (history_of s events) p (reverse log)) (message (reverse log) k)
+    → latest s n (Deliver k n ∷ history_of s events) p (reverse log)
+    ≡ held_with p (λ x. is_addressed x n (incarnation_of s n (history_of s events)))
+    (latest s n (history_of s events) p (reverse log)) (message (reverse log) k)

@@ -1,5 +1,5 @@
 -- When the entries of a book can be made again. Entries stand with the newest first, but in the book itself.
-use Rattle.std.specs.Prelude.{◌≡◌, ℕ, ◌≤◌, List, [], ◌∷◌, Some, length, reverse}
+use Rattle.std.specs.Prelude.{◌≡◌, ℕ, ◌≤◌, List, [], ◌∷◌, Some, length, reverse, slice_index}
 use Rattle.plant.specs.PlantValue.{PlantValue, code_at, IsSoundPlant}
 use Rattle.task_codes.specs.CodeValue.{CodeValue}
 use Rattle.evaluation.specs.Meaning.{Evaluated, IsMeant, IsWhole}
@@ -10,6 +10,7 @@ use Rattle.exchange.specs.History.{Setting, setting_over}
 use Rattle.exchange.specs.Run.{IsRun}
 
 -- An entry is one that its resource could have made after those before it: the plant's code, a number within the limit,
+-- incarnations that are numbers of 32 bits,
 -- the state that the task's last entry in this incarnation left, takes from the code's producers
 -- with initial images where nothing was taken, and what all that means.
 pub record CouldBeMade (s : Setting) (older : List Evaluated) (x : Evaluated) : Type 0 where
@@ -17,6 +18,7 @@ pub record CouldBeMade (s : Setting) (older : List Evaluated) (x : Evaluated) : 
   pub found : code_at s.plant x.name.task ≡ Some code
   pub number_left : x.name.number ≤ s.max_number
   pub incarnation_left : x.name.incarnation ≤ 4294967295
+  pub heard_left : (m : ℕ) → slice_index x.heard m ≤ 4294967295
   pub same_code : x.code ≡ code
   pub before : x.before ≡ state_of code (last_in older x.name.task x.name.incarnation)
   pub meant : IsMeant x

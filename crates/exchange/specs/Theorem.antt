@@ -7,10 +7,10 @@ use Rattle.evaluation.specs.Meaning.{Evaluated, IsMeant}
 use Rattle.evaluation.specs.Last.{state_of}
 use Rattle.exchange.specs.declared.event.Event.{Event}
 use Rattle.exchange.specs.declared.event.Event.TheVariants.{Evaluate}
-use Rattle.exchange.specs.History.{Setting, made_count, is_lawful, history_of}
+use Rattle.exchange.specs.History.{Setting, made_count, is_lawful, heard_by, history_of}
 use Rattle.exchange.specs.Run.{IsRun}
 use Rattle.exchange.specs.World.{WorldValue, world_of, latest_at, held_at}
-use Rattle.exchange.specs.Consistent.{TakesOnly, NeverGoesBack}
+use Rattle.exchange.specs.Consistent.{TakesOnly, NeverGoesBack, NeverFalls}
 
 -- the world after the first events of a list whose run this is
 abbrev pub world_after : Setting → List Event → List Evaluated → WorldValue
@@ -27,8 +27,10 @@ pub record IsMade (s : Setting) (events : List Event) (log : List Evaluated) (k 
   pub events_are : events ≡ before ++ Evaluate ticket x.name.task dt inputs ∷ later
   pub lawful : is_lawful s (history_of s before) (Evaluate ticket x.name.task dt inputs) ≡ true
   pub place : k ≡ made_count (history_of s before)
-  -- all that it takes from one producer is of one evaluation of it, the latest that had reached the taker's resource;
-  -- its inputs are initial if none had
+  -- it has heard what its resource had heard
+  pub heard_is : x.heard ≡ heard_by s x.name.task.resource (history_of s before)
+  -- all that it takes from one producer is of one evaluation of it, the latest addressed to the present incarnation of
+  -- the taker's resource that had reached it; its inputs are initial if none had
   pub taken : (p : TaskRef) → TakesOnly x p (latest_at (world_after s before log) x.name.task.resource p)
   -- it started from the stored state: what the task's evaluation before left in this incarnation;
   -- the initial state if there was none
@@ -51,7 +53,9 @@ pub record IsDataConsistent (s : Setting) (events : List Event) (log : List Eval
   -- each evaluation took the latest that had reached its resource, started from the stored state,
   -- and is what that means
   pub made : (k : ℕ) (x : Evaluated) → slice_get log k ≡ Some x → IsMade s events log k x
-  -- evaluations taken never go back within an incarnation
+  -- evaluations taken never go back, also across restarts of the taker
+  pub never_falls : NeverFalls (reverse log)
+  -- within an incarnation of the taker, to take nothing after something is to go back too
   pub never_back : NeverGoesBack (reverse log)
   -- resources that hold one evaluation hold equal values
   pub holders : HoldersAgreeIn (world_of s events log)

@@ -29,7 +29,7 @@ node_takes plant n p = list_any (λ (c : CodeValue). list_any (λ q. same_task q
 
 -- the latest of task p at resource n after all events
 abbrev pub latest_at : WorldValue → ℕ → TaskRef → Option Evaluated
-latest_at w n p = latest n (history_of w.setting w.events) p (reverse w.log)
+latest_at w n p = latest w.setting n (history_of w.setting w.events) p (reverse w.log)
 
 -- what resource n holds of task p: the latest, if p is another resource's and n takes from it; else nothing
 abbrev pub held_at : WorldValue → ℕ → TaskRef → Option Evaluated

@@ -9,4 +9,6 @@ pub enum Done {
     Delivered { accepted: Accepted },
     /// A resource restarted, in this incarnation.
     Restarted { incarnation: u32 },
+    /// A resource heard of an incarnation of another one: whether it is newer than what it had heard of it.
+    Heard { newer: bool },
 }

@@ -20,4 +20,10 @@ pub enum Event {
     Restart {
         resource: usize,
     },
+    /// A resource hears that another one is in an incarnation.
+    Hear {
+        resource: usize,
+        of: usize,
+        incarnation: u32,
+    },
 }

@@ -19,6 +19,6 @@ pub use log_laws::{
     runs_are_entered, runs_fit,
 };
 pub use plant_world::World;
-pub use replay_laws::{runs_could_be_made, runs_replay};
+pub use replay_laws::{fitting_entries_replay, runs_could_be_made, runs_replay};
 pub use schedule::Schedule;
 pub use world_fault::WorldFault;

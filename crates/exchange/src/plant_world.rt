@@ -2,6 +2,7 @@ use crate::done::Done;
 use crate::event::Event;
 use crate::world_fault::WorldFault;
 use evaluation::{Frame, Inputs};
+use evaluation_book::takes_never_fall;
 use exchange_core::{Accepted, Core, CoreFault, EvalFault};
 use plant::{Plant, TaskRef};
 use std::alloc::{AllocError, Global};
@@ -34,14 +35,14 @@ impl Model for World {
 
 ghost use Rattle.std.specs.Prelude.{◌≡◌, ◌∷◌, [], true, IfOk, IfErr, IfSome, OnOk, OnErr, Contains, length, reverse, take};
 ghost use Rattle.std.specs.Option.{option_copied};
-ghost use Rattle.exchange.specs.declared.event.Event.TheVariants.{Evaluate, Deliver, Restart};
+ghost use Rattle.exchange.specs.declared.event.Event.TheVariants.{Evaluate, Deliver, Restart, Hear};
 ghost use Rattle.exchange.specs.History.{incarnation_of};
 ghost use Rattle.exchange.specs.Run.{IsRun};
 ghost use Rattle.exchange.specs.World.{fresh_world, held_at};
 ghost use Rattle.evaluation_book.specs.Fits.{AllFit};
 ghost use Rattle.exchange.specs.Consistent.{IsConsistent};
 ghost use Rattle.exchange.specs.Theorem.{IsDataConsistent};
-ghost use Rattle.exchange.specs.Step.{history_at, is_lawful_at, IsDone, IsEvaluatedNow, IsCause, IsRefusedEvent, IsStep, IsDelivered, IsLawfulAt, Follows};
+ghost use Rattle.exchange.specs.Step.{history_at, is_lawful_at, IsDone, IsEvaluatedNow, IsCause, IsRefusedEvent, IsStep, IsDelivered, is_newer, IsLawfulAt, HaveRun};
 ghost use Rattle.exchange.specs.Steps.Fresh.{AreFreshCores};
 
 /// The cores before the first event.
@@ -57,7 +58,7 @@ fn fresh_cores(
     let mut cores = Vec::with_capacity(alloc, plant.resources())?;
     for resource in 0..plant.resources() {
         let shared = Arc::try_clone(plant)?;
-        let core = match Core::new(alloc, shared, resource, first[resource], max_number) {
+        let core = match Core::new(alloc, shared, resource, first, max_number) {
             Ok(core) => core,
             Err(CoreFault::NoSuchResource) => unreachable!(),
             Err(CoreFault::Memory) => return Err(AllocError),
@@ -118,13 +119,21 @@ impl World {
                 Ok(incarnation) => Ok(Done::Restarted { incarnation }),
                 Err(fault) => Err(fault),
             },
+            Event::Hear {
+                resource,
+                of,
+                incarnation,
+            } => match self.hear(*resource, *of, *incarnation) {
+                Ok(newer) => Ok(Done::Heard { newer }),
+                Err(fault) => Err(fault),
+            },
         }
     }
 
     /// Does these events, but for the unlawful ones. Without memory it tells the place, from 0, of the first lawful one that isn't done; those before it are.
     pub fn run(&mut self, alloc: Global, events: &[Event]) -> Result<(), usize>
-        ensures ok { OnOk result (Follows self.old self.new events.now) }
-        ensures err { IfErr result (λ i. Follows self.old self.new (take i events.now)) }
+        ensures ok { OnOk result (HaveRun self.old self.new events.now) }
+        ensures err { IfErr result (λ i. HaveRun self.old self.new (take i events.now)) }
         ensures stopped { IfErr result (λ i. IsLawfulAt self.new events.now i) }
     {
         for i in 0..events.len() {
@@ -146,6 +155,7 @@ impl World {
         ensures data { IsDataConsistent self.now.setting self.now.events self.now.log }
         ensures firsts { length self.now.setting.first ≡ length self.now.setting.plant.resources }
     {
+        takes_never_fall();
         self.log.as_slice()
     }
 
@@ -176,7 +186,7 @@ impl World {
 
     /// Does one event if it is lawful.
     fn go(&mut self, alloc: Global, event: &Event) -> Result<(), AllocError>
-        ensures ok { OnOk result (Follows self.old self.new (event.now ∷ [])) }
+        ensures ok { OnOk result (HaveRun self.old self.new (event.now ∷ [])) }
         ensures err { OnErr result (self.new ≡ self.old) }
         ensures lawful { OnErr result (is_lawful_at self.old event.now ≡ true) }
     {
@@ -288,7 +298,11 @@ impl World {
         let Ok(plant) = Arc::try_clone(&self.plant) else {
             return Err(WorldFault::Memory);
         };
-        let Ok(core) = Core::new(alloc, plant, resource, incarnation, self.max_number) else {
+        let Ok(mut first) = Vec::from_slice(alloc, self.first.as_slice()) else {
+            return Err(WorldFault::Memory);
+        };
+        first[resource] = incarnation;
+        let Ok(core) = Core::new(alloc, plant, resource, first.as_slice(), self.max_number) else {
             return Err(WorldFault::Memory);
         };
         if self.events.reserve(1).is_err() {
@@ -297,6 +311,40 @@ impl World {
         self.cores[resource] = core;
         match self.events.push(Event::Restart { resource }) {
             Ok(()) => Ok(incarnation),
+            Err(_) => unreachable!(),
+        }
+    }
+
+    /// Lets a resource hear that another one is in an incarnation. It answers whether that is newer than what it had heard of it.
+    fn hear(&mut self, resource: usize, of: usize, incarnation: u32) -> Result<bool, WorldFault>
+        ensures done { OnOk result (IsDone self.old self.new (Hear resource of incarnation) self.old.log) }
+        ensures answer { IfOk result (λ newer. newer ≡ is_newer self.old resource of incarnation) }
+        ensures err { OnErr result (self.new ≡ self.old) }
+        ensures cause { IfErr result (IsCause self.old (Hear resource of incarnation)) }
+    {
+        if resource >= self.cores.len() {
+            return Err(WorldFault::NoSuchResource);
+        }
+        if of >= self.cores.len() {
+            return Err(WorldFault::NoSuchResource);
+        }
+        if incarnation < self.first[of] {
+            return Err(WorldFault::NeverHeld);
+        }
+        if self.cores[of].incarnation() < incarnation {
+            return Err(WorldFault::NeverHeld);
+        }
+        if self.events.reserve(1).is_err() {
+            return Err(WorldFault::Memory);
+        }
+        let core = &mut self.cores[resource];
+        let newer = core.hear(of, incarnation);
+        match self.events.push(Event::Hear {
+            resource,
+            of,
+            incarnation,
+        }) {
+            Ok(()) => Ok(newer),
             Err(_) => unreachable!(),
         }
     }

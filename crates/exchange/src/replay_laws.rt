@@ -1,6 +1,6 @@
-//! What holds of the entries of every run when they are made again.
+//! What holds of entries when they are made again.
 
-ghost use Rattle.exchange.specs.BookLaws.{RunsCouldBeMade, RunsReplay};
+ghost use Rattle.exchange.specs.BookLaws.{RunsCouldBeMade, RunsReplay, FittingEntriesReplay};
 
 /// Each evaluation of a run could have been made after those before it.
 pub fn runs_could_be_made()
@@ -10,4 +10,9 @@ pub fn runs_could_be_made()
 /// Events that make the entries of a run again are events of that run.
 pub fn runs_replay()
     ensures { RunsReplay }
+{}
+
+/// Where each entry fits those before it, the events of these entries make them again.
+pub fn fitting_entries_replay()
+    ensures { FittingEntriesReplay }
 {}

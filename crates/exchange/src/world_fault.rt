@@ -21,4 +21,7 @@ pub enum WorldFault {
     /// There was no memory left.
     #[error("Memory")]
     Memory,
+    /// The resource that is heard of never was in that incarnation. It is looked for after NoSuchResource.
+    #[error("NeverHeld")]
+    NeverHeld,
 }

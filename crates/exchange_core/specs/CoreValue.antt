@@ -1,5 +1,5 @@
 -- What a core is, and what it answers.
-use Rattle.std.specs.Prelude.{◌≡◌, ◌≢◌, ℕ, ◌+◌, ◌<◌, ◌≤◌, ◌==◌, Bool, true, false, List, Option, Some, None, is_some, length, map, slice_get, if◌then◌else◌}
+use Rattle.std.specs.Prelude.{◌≡◌, ◌≢◌, ℕ, ◌+◌, ◌<◌, ◌≤◌, ◌==◌, ◌&&◌, Bool, true, false, not, nat_lt, List, Option, Some, None, is_some, length, map, slice_get, slice_set, slice_index, if◌then◌else◌}
 use Rattle.declared_names.specs.declared.declarations.Kind.{Kind}
 use Rattle.declared_names.specs.Kinds.{kind_of}
 use Rattle.due_list.specs.declared.task_ref.TaskRef.{TaskRef}
@@ -10,31 +10,45 @@ use Rattle.evaluation.specs.declared.name.Name.{Name}
 use Rattle.evaluation.specs.Names.{precedes}
 use Rattle.evaluation.specs.Meaning.{Evaluated, IsAsked}
 use Rattle.exchange_core.specs.declared.accepted.Accepted.{Accepted}
-use Rattle.exchange_core.specs.declared.accepted.Accepted.TheVariants.{Taken, Old, Unused}
+use Rattle.exchange_core.specs.declared.accepted.Accepted.TheVariants.{Taken, Old, Unused, Stray}
 use Rattle.exchange_core.specs.declared.core_fault.CoreFault.{CoreFault}
 use Rattle.exchange_core.specs.declared.core_fault.CoreFault.TheVariants as fault
 use Rattle.exchange_core.specs.declared.eval_fault.EvalFault.{EvalFault}
 use Rattle.exchange_core.specs.declared.eval_fault.EvalFault.TheVariants.{NoSuchTask, NumbersSpent, Memory}
+use Rattle.evaluation.specs.Heard.{is_addressed}
 use Rattle.evaluation.specs.Last.{state_of, takes_of, last_number}
 use Rattle.exchange_core.specs.Held.{Table, known, with_known, empty_for, IsShaped}
 
--- A core: its plant, its resource, its incarnation, the greatest number, and the last evaluation known of each task:
--- of a task of its own resource the last one made in this incarnation, of any other the one held.
+-- A core: its plant, its resource, the first incarnation of each resource, its own incarnation, the incarnation of each
+-- resource of which it has heard, the greatest number, and the last evaluation known of each task: of a task of its own
+-- resource the last one made in this incarnation, of any other the one held.
 pub record CoreValue : Type 0 where
   pub plant : PlantValue
   pub resource : ℕ
+  pub first : List ℕ
   pub incarnation : ℕ
+  pub heard : List ℕ
   pub max_number : ℕ
   pub table : Table
 
 -- the core of these parts
-abbrev pub core_of : PlantValue → ℕ → ℕ → ℕ → Table → CoreValue
-core_of plant resource incarnation max_number table =
-    record { plant = plant; resource = resource; incarnation = incarnation; max_number = max_number; table = table }
+abbrev pub core_of : PlantValue → ℕ → List ℕ → ℕ → List ℕ → ℕ → Table → CoreValue
+core_of plant resource first incarnation heard max_number table =
+    record {
+      plant = plant;
+      resource = resource;
+      first = first;
+      incarnation = incarnation;
+      heard = heard;
+      max_number = max_number;
+      table = table;
+    }
 
--- a core that holds nothing, with all tasks initial
-abbrev pub fresh_core : PlantValue → ℕ → ℕ → ℕ → CoreValue
-fresh_core plant resource incarnation max_number = core_of plant resource incarnation max_number (empty_for plant)
+-- a core in this incarnation that holds nothing, with all tasks initial:
+-- of each other resource it has heard the first incarnation
+abbrev pub fresh_core : PlantValue → ℕ → List ℕ → ℕ → ℕ → CoreValue
+fresh_core plant resource first incarnation max_number =
+    core_of plant resource first incarnation (slice_set first resource incarnation) max_number (empty_for plant)
 
 -- why there is no core; memory is wanting only where there is such a resource
 abbrev pub IsCoreFault : PlantValue → ℕ → CoreFault → Type 0
@@ -65,13 +79,30 @@ abbrev pub is_greater : Option Evaluated → Name → Bool
 is_greater None name = true
 is_greater (Some y) name = precedes y.name name
 
+-- an evaluation is addressed to the core's incarnation
+abbrev pub is_for : CoreValue → Evaluated → Bool
+is_for core x = is_addressed x core.resource core.incarnation
+
 -- what is answered to an evaluation, and the core afterwards: only Taken changes it
 abbrev pub IsAccepted : CoreValue → CoreValue → Evaluated → Accepted → Type 0
 IsAccepted old new x Unused = (IsUsable old x → ⊥) × (new ≡ old)
-IsAccepted old new x Old = IsUsable old x × (is_greater (known old.table x.name.task) x.name ≡ false) × (new ≡ old)
+IsAccepted old new x Stray = IsUsable old x × (is_for old x ≡ false) × (new ≡ old)
+IsAccepted old new x Old =
+    IsUsable old x × (is_for old x ≡ true) × (is_greater (known old.table x.name.task) x.name ≡ false) × (new ≡ old)
 IsAccepted old new x Taken =
-    IsUsable old x × (is_greater (known old.table x.name.task) x.name ≡ true)
+    IsUsable old x × (is_for old x ≡ true) × (is_greater (known old.table x.name.task) x.name ≡ true)
     × (new ≡ record old { table = with_known old.table x.name.task (Some x) })
+
+-- an incarnation is news: it is that of another resource that exists, and greater than the one heard of it
+abbrev pub is_news : CoreValue → ℕ → ℕ → Bool
+is_news core of incarnation =
+    not (of == core.resource)
+    && (nat_lt of (length core.plant.resources) && nat_lt (slice_index core.heard of) incarnation)
+
+-- what is answered when a resource's incarnation is heard, and the core afterwards: only news changes it
+pub record HasHeard (old new : CoreValue) (of incarnation : ℕ) (answer : Bool) : Type 0 where
+  pub answer_is : answer ≡ is_news old of incarnation
+  pub after : new ≡ (if answer then record old { heard = slice_set old.heard of incarnation } else old)
 
 -- what is known of one of its tasks
 abbrev pub own_last : CoreValue → ℕ → Option Evaluated
@@ -82,11 +113,11 @@ abbrev pub next_name_of : CoreValue → ℕ → Name
 next_name_of core task =
     record { task = own_task core task; incarnation = core.incarnation; number = last_number (own_last core task) + 1 }
 
--- x is what this code makes, asked with what is known of each producer
+-- x is what this code makes, asked with what has been heard, what is known of each producer
 -- and the state that the task's last evaluation left
 abbrev pub IsAskedOf : CoreValue → ℕ → Name → ℕ → List FieldInput → CodeValue → Evaluated → Type 0
 IsAskedOf core ticket name dt inputs code x =
-    IsAsked ticket name dt inputs (takes_of (known core.table) code) (state_of code (known core.table name.task)) code x
+    IsAsked ticket name core.heard dt inputs (takes_of (known core.table) code) (state_of code (known core.table name.task)) code x
 
 -- x is the next evaluation of one of its tasks: the plant's code,
 -- asked with what is known of each producer and the state that the task's last evaluation left
@@ -131,4 +162,7 @@ pub record IsKnownOf (core : CoreValue) (p : TaskRef) (x : Evaluated) : Type 0 w
 pub record IsCore (core : CoreValue) : Type 0 where
   pub sound : IsSoundPlant core.plant
   pub shaped : IsShaped core.plant core.table
+  pub firsts : length core.first ≡ length core.plant.resources
+  pub heards : length core.heard ≡ length core.plant.resources
+  pub own_heard : slice_get core.heard core.resource ≡ Some core.incarnation
   pub each : (p : TaskRef) (x : Evaluated) → known core.table p ≡ Some x → IsKnownOf core p x

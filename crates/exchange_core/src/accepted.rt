@@ -7,4 +7,6 @@ pub enum Accepted {
     Old,
     /// It is of a task of this resource, of a task from which no task here takes, or its image hasn't the kinds expected.
     Unused,
+    /// It is of use, but addressed to another incarnation of this resource.
+    Stray,
 }

@@ -16,7 +16,11 @@ use std::sync::Arc;
 pub struct Core {
     plant: Arc<Plant>,
     resource: usize,
+    /// Of each resource the first incarnation.
+    first: Vec<u32>,
     incarnation: u32,
+    /// Of each resource the incarnation heard of; of the own one its incarnation.
+    heard: Vec<u32>,
     max_number: u32,
     table: Known,
 }
@@ -26,63 +30,103 @@ impl Model for Core {
 
     ghost Value = { CoreValue };
 
-    ghost view = { λ c. core_of c.plant.value c.resource c.incarnation c.max_number c.table };
+    ghost view = { λ c. core_of c.plant.value c.resource c.first.items c.incarnation
+        c.heard.items c.max_number c.table };
 
-    ghost invariant = { λ c. IsCore (core_of c.plant.value c.resource c.incarnation c.max_number c.table) };
+    ghost invariant = { λ c. IsCore (core_of c.plant.value c.resource c.first.items c.incarnation
+        c.heard.items c.max_number c.table) };
 }
 
-ghost use Rattle.std.specs.Prelude.{◌≡◌, ◌≢◌, ◌+◌, ◌<◌, ◌↔◌, IfOk, IfErr, OnOk, OnErr, IsTrue, Some, length};
+ghost use Rattle.std.specs.Prelude.{◌≡◌, ◌≢◌, ◌+◌, ◌<◌, ◌↔◌, IfOk, IfErr, OnOk, OnErr, IsTrue, Some, length, slice_set, slice_index};
 ghost use Rattle.std.specs.Option.{option_copied};
 ghost use Rattle.plant.specs.PlantValue.{code_at};
 ghost use Rattle.evaluation.specs.Last.{last_number};
-ghost use Rattle.exchange_core.specs.CoreValue.{fresh_core, IsCoreFault, IsUsable, IsAccepted, IsAskedOf, IsNextOf, IsNext, IsDue, IsEvalFault, held_of, own_last, own_task};
+ghost use Rattle.exchange_core.specs.CoreValue.{fresh_core, IsCoreFault, IsUsable, is_for, IsAccepted, is_news, HasHeard, IsAskedOf, IsNextOf, IsNext, IsDue, IsEvalFault, held_of, own_last, own_task};
 ghost use Rattle.exchange_core.specs.declared.accepted.Accepted.TheVariants.{Taken};
 ghost use Rattle.exchange_core.specs.declared.eval_fault.EvalFault.TheVariants.{Memory};
 
 impl Core {
-    /// A core of a resource in an incarnation. It holds nothing, and all its tasks are initial. The numbers of its evaluations go up to `max_number`.
+    /// A core of a resource in its first incarnation. It holds nothing, all its tasks are initial, and of each other resource it has heard the first incarnation.
+    /// `first` has the first incarnation of each resource. The numbers of its evaluations go up to `max_number`.
     pub fn new(
         alloc: Global,
         plant: Arc<Plant>,
         resource: usize,
-        incarnation: u32,
+        first: &[u32],
         max_number: u32,
     ) -> Result<Core, CoreFault>
-        ensures ok { IfOk result (λ c. c ≡ fresh_core plant.value resource incarnation max_number) }
+        requires { resource < length plant.value.resources → length first.now ≡ length plant.value.resources }
+        ensures ok { IfOk result (λ c. c ≡ fresh_core plant.value resource first.now (slice_index first.now resource) max_number) }
         ensures exists { OnOk result (resource < length plant.value.resources) }
         ensures fault { IfErr result (IsCoreFault plant.value resource) }
     {
         if resource >= plant.resources() {
             return Err(CoreFault::NoSuchResource);
         }
+        let incarnation = first[resource];
+        let heard = Vec::from_slice(alloc, first)?;
+        let first = Vec::from_slice(alloc, first)?;
         let table = Known::empty(alloc, &plant)?;
         Ok(Core {
             plant,
             resource,
+            first,
             incarnation,
+            heard,
             max_number,
             table,
         })
     }
 
-    /// The core of a greater incarnation: it holds nothing, and all its tasks are initial. Without memory the core comes back as it was.
+    /// The core of a greater incarnation: it holds nothing, all its tasks are initial, and of each other resource it has heard the first incarnation. Without memory the core comes back as it was.
     pub fn restart(self, alloc: Global, incarnation: u32) -> Result<Core, (Core, RestartFault)>
         requires { self.incarnation < incarnation }
-        ensures ok { IfOk result (λ c. c ≡ fresh_core self.plant self.resource incarnation self.max_number) }
+        ensures ok { IfOk result (λ c. c ≡ fresh_core self.plant self.resource self.first incarnation self.max_number) }
         ensures err { IfErr result (λ e. e.0 ≡ self) }
     {
         let mut core = self;
+        let Ok(heard) = core.heard_afresh(alloc, incarnation) else {
+            return Err((core, RestartFault::Memory));
+        };
         match Known::empty(alloc, &core.plant) {
             Err(_) => Err((core, RestartFault::Memory)),
             Ok(table) => {
                 core.table = table;
+                core.heard = heard;
                 core.incarnation = incarnation;
                 Ok(core)
             }
         }
     }
 
-    /// Takes in an evaluation of another resource's task, if it is of use here and newer than what is held of that task. Its place was made by `new`.
+    /// What has been heard as an incarnation begins: of each other resource its first one.
+    fn heard_afresh(&self, alloc: Global, incarnation: u32) -> Result<Vec<u32>, AllocError>
+        ensures { IfOk result (λ heard. heard.items ≡ slice_set self.now.first self.now.resource incarnation) }
+    {
+        let mut heard = Vec::from_slice(alloc, self.first.as_slice())?;
+        heard[self.resource] = incarnation;
+        Ok(heard)
+    }
+
+    /// Hears that a resource is in an incarnation. The answer is true, and the incarnation is kept, where it is of another resource that exists and greater than the one heard of before; else nothing changes. No memory is needed.
+    pub fn hear(&mut self, of: usize, incarnation: u32) -> bool
+        ensures { HasHeard self.old self.new of incarnation result }
+    {
+        if !self.is_news(of, incarnation) {
+            return false;
+        }
+        self.heard[of] = incarnation;
+        true
+    }
+
+    /// Whether an incarnation is news of another resource.
+    fn is_news(&self, of: usize, incarnation: u32) -> bool
+        ensures { result ≡ is_news self.now of incarnation }
+    {
+        of != self.resource && of < self.plant.resources() && self.heard[of] < incarnation
+    }
+
+    /// Takes in an evaluation of another resource's task, if it is of use here, addressed to the present incarnation, and newer than what is held of that task. Its place was made by `new`.
     pub fn accept(&mut self, frame: Frame) -> Accepted
         ensures answer { IsAccepted self.old self.new frame result }
         ensures held { result ≡ Taken → held_of self.new frame.name.task ≡ Some frame }
@@ -90,12 +134,24 @@ impl Core {
         if !self.is_usable(&frame) {
             return Accepted::Unused;
         }
+        if !self.is_for(&frame) {
+            return Accepted::Stray;
+        }
         let name = frame.name();
         if !self.table.admits(name) {
             return Accepted::Old;
         }
         self.table.set(name.task, frame);
         Accepted::Taken
+    }
+
+    /// Whether an evaluation is addressed to the present incarnation.
+    fn is_for(&self, frame: &Frame) -> bool
+        ensures { result ≡ is_for self.now frame.now }
+    {
+        frame
+            .evaluation()
+            .is_addressed(self.resource, self.incarnation)
     }
 
     /// Whether an evaluation is of use here.
@@ -193,14 +249,16 @@ impl Core {
         code: &Arc<TaskCode>,
     ) -> Result<Evaluation, AllocError>
         requires own { name.task.resource ≡ self.now.resource }
+        requires incarnation { name.incarnation ≡ self.now.incarnation }
         requires found { code_at self.now.plant name.task ≡ Some code.now.value }
         ensures { IfOk result (IsAskedOf self.now ticket name dt inputs.now code.now.value) }
     {
         let before = self.table.state_of(alloc, name.task, code)?;
         let takes = takes_of(alloc, &self.table, code)?;
         let inputs = inputs.try_copy()?;
+        let heard = Vec::from_slice(alloc, self.heard.as_slice())?;
         let code = Arc::try_clone(code)?;
-        Evaluation::make(alloc, ticket, name, dt, inputs, takes, before, code)
+        Evaluation::make(alloc, ticket, name, heard, dt, inputs, takes, before, code)
     }
 
     /// What is held of a task of another resource.
@@ -211,6 +269,13 @@ impl Core {
             return None;
         }
         self.table.get(task)
+    }
+
+    /// Of which incarnation of each resource it has heard, one number for each resource; of its own its incarnation.
+    pub fn heard(&self) -> &[u32]
+        ensures { result.now ≡ self.now.heard }
+    {
+        self.heard.as_slice()
     }
 
     /// The incarnation.

@@ -52,7 +52,7 @@ pub struct Remark {
     pub sentence: &'static str,
 }
 
-const EVENTS: [Remark; 5] = [
+const EVENTS: [Remark; 6] = [
     Remark {
         kind: "NoSuchResource",
         sentence: "The plant has no resource of that name.",
@@ -72,6 +72,10 @@ const EVENTS: [Remark; 5] = [
     Remark {
         kind: "IncarnationsSpent",
         sentence: "The resource is in incarnation 4294967295.",
+    },
+    Remark {
+        kind: "NeverHeld",
+        sentence: "The resource of which is heard never was in that incarnation.",
     },
 ];
 
@@ -102,7 +106,7 @@ const COMMANDS: [Remark; 8] = [
     },
     Remark {
         kind: "NotSent",
-        sentence: "There was no memory left to send the command, or its evaluation to a resource. A command isn't obeyed; an evaluation is in the book, but is lost to a resource that takes from it.",
+        sentence: "There was no memory left to send the command, or its evaluation or the news of its restart to a resource. A command isn't obeyed; an evaluation is in the book, but is lost to a resource that takes from it; a resource that misses the news goes on to make evaluations for the incarnation before.",
     },
     Remark {
         kind: "Stopped",
@@ -121,7 +125,7 @@ const RUNS: [Remark; 5] = [
     },
     Remark {
         kind: "Stranger",
-        sentence: "An entry, or a restart, answers no command, or a fault is of no command that can have met it.",
+        sentence: "An entry, or a restart, answers no command, an entry has heard of an incarnation that never was, or a fault is of no command that can have met it.",
     },
     Remark {
         kind: "Doubled",

@@ -1,6 +1,7 @@
-ghost use Rattle.std.specs.Prelude.{◌≡◌, IfOk, length, vec_len};
+ghost use Rattle.std.specs.Prelude.{◌≡◌, IfOk, IfErr, length, vec_len};
 ghost use Rattle.node_journals.specs.Commands.{AreNumbered, AreForPlant};
-ghost use Rattle.node_reports.specs.Reports.{IsFittingBook, AreJournalsOf, AreInBook, AreAnswers, RunsAgain, CanBeMadeAgain, AreTold};
+ghost use Rattle.node_journals.specs.Journals.{BeginAbove};
+ghost use Rattle.node_reports.specs.Reports.{IsFittingBook, AreJournalsOf, AreInBook, AreAnswers, RunsAgain, CanBeMadeAgain, AreTold, IsRunFault};
 
 use node_journals::{Command, RunFault};
 use node_reports::{Report, collect};
@@ -34,11 +35,15 @@ pub fn run_threads<R: Threads + Wait + Sync, K: Keeper, G: Gate>(
     ensures faults { IfOk result (λ r. AreTold plant.value commands.now r.journals r.unanswered r.node_faults) }
     ensures again { IfOk result (λ r. RunsAgain plant.value max_number r.book r.journals) }
     ensures made_again { IfOk result (λ r. CanBeMadeAgain plant.value max_number r.book r.journals) }
+    ensures begun { IfOk result (λ r. BeginAbove K.last keepers.items r.journals) }
+    ensures fault { IfErr result (IsRunFault plant.value max_number commands.now) }
 {
     let Outcome {
         book,
         journals,
         faults,
     } = run_all(rt, alloc, &plant, commands, keepers, gate, max_number)?;
+    // The getter hands out that each entry fits those before it.
+    let _entries = book.entries();
     collect(alloc, &plant, max_number, commands, book, journals, faults)
 }

@@ -1,9 +1,12 @@
 -- A core goes on standing where its resource's steps leave it.
-use Rattle.std.proofs.Common.{◌≡◌, ◌+◌, ℕ, Bool, true, false, cond, List, [], ◌∷◌, length, Option, Some, None, refl, ap, sym, ◌∙◌, subst, arith, add-one}
-use Rattle.std.specs.Prelude.{slice_get, ◌≢◌}
-use Rattle.std.proofs.lemmas.Bool.{false≢true}
+use Rattle.std.proofs.Common.{◌≡◌, ◌+◌, ◌<◌, ◌≤◌, ◌&&◌, zero, suc, max, map, eqb, ltb, ℕ, Bool, true, false, cond, List, [], ◌∷◌, length, Option, Some, None, refl, ap, sym, ◌∙◌, subst, arith, add-one}
+use Rattle.std.specs.Prelude.{not, slice_get, slice_set, slice_index, ◌≢◌}
+use Rattle.std.specs.List.{enumerate_from, cons_option}
+use Rattle.std.proofs.lemmas.List.{set-get_or}
+use Rattle.lists.proofs.Places.{element_at, same_by_slice_get, slice_get-set_same, slice_get-set_other}
+use Rattle.std.proofs.lemmas.Bool.{false≢true, eq-eqb, eqb-true, eqb-false, ltb-true, ltb-false}
 use Rattle.std.proofs.lemmas.List.Elements.{All-nil}
-use Rattle.std.proofs.lemmas.Option.{same_Some}
+use Rattle.std.proofs.lemmas.Option.{none-some, same_Some, slice_get_within}
 use Rattle.std.specs.Option.{option_map}
 use Rattle.lists.proofs.Tables.{both_same, both_itself, cell_same, cell_other, cell_filled, cell_place, row_lengths_kept, row_lengths_filled}
 use Rattle.std_blocks.specs.declared.value.Value.{Value}
@@ -18,14 +21,15 @@ use Rattle.evaluation.specs.declared.name.Name.{Name}
 use Rattle.evaluation.specs.declared.take.Take.{Take}
 use Rattle.evaluation.specs.Meaning.{Evaluated, IsAsked, evaluated}
 use Rattle.exchange_core.specs.declared.accepted.Accepted.{Accepted}
-use Rattle.exchange_core.specs.declared.accepted.Accepted.TheVariants.{Taken, Old, Unused}
+use Rattle.exchange_core.specs.declared.accepted.Accepted.TheVariants.{Taken, Old, Unused, Stray}
+use Rattle.evaluation.specs.Heard.{is_addressed, greatest, heard_numbers}
 use Rattle.evaluation.specs.Last.{same_task, last_number, takes_of, state_of}
 use Rattle.exchange_core.specs.Held.{known, with_known, empty_for}
-use Rattle.exchange_core.specs.CoreValue.{CoreValue, fresh_core, own_task, is_greater, IsUsable, IsAccepted, IsNext, IsNextOf}
+use Rattle.exchange_core.specs.CoreValue.{CoreValue, fresh_core, own_task, is_greater, is_for, HasHeard, IsUsable, IsAccepted, IsNext, IsNextOf}
 use Rattle.exchange_core.specs.Steps.Knowing.{has_place}
 use Rattle.node_journals.specs.declared.step.Step.{Step}
-use Rattle.node_journals.specs.declared.step.Step.TheVariants.{Took, Made, Restarted}
-use Rattle.node_journals.specs.Journals.{since_restarted, received, newest, made_of, last_made, ComesFrom, IsGreatest, IsNextMade}
+use Rattle.node_journals.specs.declared.step.Step.TheVariants.{Took, Made, Restarted, Heard}
+use Rattle.node_journals.specs.Journals.{incarnation_after, since_restarted, received, newest, heard_after, hearings_of, made_of, last_made, ComesTo, IsGreatest, IsNextMade}
 use Rattle.node_journals.specs.Steps.Standing.{Stands}
 use Rattle.node_journals.proofs.Greatest.{greatest-other, greatest-old, greatest-taken}
 
@@ -62,53 +66,64 @@ module _ (resource first : ℕ) (before : List Step) (core : CoreValue) (x : Eva
     pub at : slice_get code.producers k ≡ Some p
     pub away : p.resource ≢ resource
 
-  before_it : (t p : TaskRef) (code : CodeValue) (k : ℕ) → Taking t p code k → IsGreatest (ComesFrom p (expected_at code k)) (received (since_restarted before)) (known core.table p)
+  before_it : (t p : TaskRef) (code : CodeValue) (k : ℕ) → Taking t p code k → IsGreatest (ComesTo resource (incarnation_after first before) p (expected_at code k)) (received (since_restarted before)) (known core.table p)
   before_it t p code k w = stands.others t code k p w.here w.found w.at w.away
 
   -- what comes from a producer with the kinds expected is of use
-  of_use : (t p : TaskRef) (code : CodeValue) (k : ℕ) → Taking t p code k → ComesFrom p (expected_at code k) x → IsUsable core x
+  of_use : (t p : TaskRef) (code : CodeValue) (k : ℕ) → Taking t p code k → ComesTo resource (incarnation_after first before) p (expected_at code k) x → IsUsable core x
   of_use t p code k w from =
       let same : t ≡ record { resource = core.resource; task = t.task } = same_ref_of t core.resource (w.here ∙ sym stands.resource_is) in
       record {
-        another = λ e. w.away (sym (ap (λ (r : TaskRef). r.resource) from.0) ∙ e ∙ stands.resource_is);
+        another = λ e. w.away (sym (ap (λ (r : TaskRef). r.resource) from.task_is) ∙ e ∙ stands.resource_is);
         expected = record {
           task = t.task;
           code = code;
           place = k;
           found = subst (λ r. code_at core.plant r ≡ Some code) same w.found;
-          producer_is = w.at ∙ ap (λ r. Some r) (sym from.0);
-          kinds_are = sym from.1;
+          producer_is = w.at ∙ ap (λ r. Some r) (sym from.task_is);
+          kinds_are = sym from.kinds_are;
         };
       }
 
-  -- and what is of use comes from its task with the kinds expected
-  comes_from : (t p : TaskRef) (code : CodeValue) (k : ℕ) → Taking t p code k → IsUsable core x → x.name.task ≡ p → ComesFrom p (expected_at code k) x
-  comes_from t p code k w usable e =
-      let here : TaskRef = record { resource = core.resource; task = usable.expected.task } in (
-        e,
-        sym usable.expected.kinds_are
-            ∙ same_kinds core.plant here t p usable.expected.code code usable.expected.place k stands.sound usable.expected.found w.found (usable.expected.producer_is ∙ ap (λ r. Some r) e) w.at,
-      )
+  -- the core sees to whom it is addressed
+  for-core : (b : Bool) → is_for core x ≡ b → is_addressed x resource (incarnation_after first before) ≡ b
+  for-core b e = subst (λ i. is_addressed x resource i ≡ b) stands.incarnation_is (subst (λ r. is_addressed x r core.incarnation ≡ b) stands.resource_is e)
 
-  another_task : (p : TaskRef) (kinds : List Kind) → same_task x.name.task p ≡ false → ComesFrom p kinds x → ⊥
-  another_task p kinds other from = false≢true (sym other ∙ subst (λ r. same_task x.name.task r ≡ true) from.0 (both_itself x.name.task.resource x.name.task.task))
+  -- and what is of use and addressed to the incarnation comes from its task with the kinds expected
+  comes_from : (t p : TaskRef) (code : CodeValue) (k : ℕ) → Taking t p code k → IsUsable core x → is_for core x ≡ true → x.name.task ≡ p → ComesTo resource (incarnation_after first before) p (expected_at code k) x
+  comes_from t p code k w usable counts e =
+      let here : TaskRef = record { resource = core.resource; task = usable.expected.task } in
+      record {
+        task_is = e;
+        kinds_are = sym usable.expected.kinds_are
+            ∙ same_kinds core.plant here t p usable.expected.code code usable.expected.place k stands.sound usable.expected.found w.found (usable.expected.producer_is ∙ ap (λ r. Some r) e) w.at;
+        addressed = for-core true counts;
+      }
+
+  another_task : (p : TaskRef) (kinds : List Kind) → same_task x.name.task p ≡ false → ComesTo resource (incarnation_after first before) p kinds x → ⊥
+  another_task p kinds other from = false≢true (sym other ∙ subst (λ r. same_task x.name.task r ≡ true) from.task_is (both_itself x.name.task.resource x.name.task.task))
 
   unused : (t p : TaskRef) (code : CodeValue) (k : ℕ) → (IsUsable core x → ⊥) → Taking t p code k
-      → IsGreatest (ComesFrom p (expected_at code k)) (x ∷ received (since_restarted before)) (known core.table p)
+      → IsGreatest (ComesTo resource (incarnation_after first before) p (expected_at code k)) (x ∷ received (since_restarted before)) (known core.table p)
   unused t p code k useless w =
-      greatest-other (ComesFrom p (expected_at code k)) (received (since_restarted before)) (known core.table p) x (λ from. useless (of_use t p code k w from)) (before_it t p code k w)
+      greatest-other (ComesTo resource (incarnation_after first before) p (expected_at code k)) (received (since_restarted before)) (known core.table p) x (λ from. useless (of_use t p code k w from)) (before_it t p code k w)
+
+  stray_one : (t p : TaskRef) (code : CodeValue) (k : ℕ) → is_for core x ≡ false → Taking t p code k
+      → IsGreatest (ComesTo resource (incarnation_after first before) p (expected_at code k)) (x ∷ received (since_restarted before)) (known core.table p)
+  stray_one t p code k off w =
+      greatest-other (ComesTo resource (incarnation_after first before) p (expected_at code k)) (received (since_restarted before)) (known core.table p) x (λ from. false≢true (sym (for-core false off) ∙ from.addressed)) (before_it t p code k w)
 
   old_one : (t p : TaskRef) (code : CodeValue) (k : ℕ) → is_greater (known core.table x.name.task) x.name ≡ false → Taking t p code k
-      → IsGreatest (ComesFrom p (expected_at code k)) (x ∷ received (since_restarted before)) (known core.table p)
+      → IsGreatest (ComesTo resource (incarnation_after first before) p (expected_at code k)) (x ∷ received (since_restarted before)) (known core.table p)
   old_one t p code k old w = by (same_task x.name.task p) refl where
     P : Evaluated → Type 0
-    P = ComesFrom p (expected_at code k)
+    P = ComesTo resource (incarnation_after first before) p (expected_at code k)
 
     by : (b : Bool) → same_task x.name.task p ≡ b → IsGreatest P (x ∷ received (since_restarted before)) (known core.table p)
     by true e = greatest-old P (received (since_restarted before)) (known core.table p) x (subst (λ r. is_greater (known core.table r) x.name ≡ false) (named x p e) old) (before_it t p code k w)
     by false e = greatest-other P (received (since_restarted before)) (known core.table p) x (another_task p (expected_at code k) e) (before_it t p code k w)
 
-  module _ (usable : IsUsable core x) (greater : is_greater (known core.table x.name.task) x.name ≡ true) where
+  module _ (usable : IsUsable core x) (counts : is_for core x ≡ true) (greater : is_greater (known core.table x.name.task) x.name ≡ true) where
     place : has_place core.table x.name.task
     place =
         let taker = usable.expected in
@@ -116,17 +131,17 @@ module _ (resource first : ℕ) (before : List Step) (core : CoreValue) (x : Eva
         cell_place codes_in core.plant.resources core.table x.name.task.resource x.name.task.task giver.0 refl stands.shaped giver.1
 
     taken_one : (t p : TaskRef) (code : CodeValue) (k : ℕ) → Taking t p code k
-        → IsGreatest (ComesFrom p (expected_at code k)) (x ∷ received (since_restarted before)) (known (with_known core.table x.name.task (Some x)) p)
+        → IsGreatest (ComesTo resource (incarnation_after first before) p (expected_at code k)) (x ∷ received (since_restarted before)) (known (with_known core.table x.name.task (Some x)) p)
     taken_one t p code k w = by (same_task x.name.task p) refl where
       P : Evaluated → Type 0
-      P = ComesFrom p (expected_at code k)
+      P = ComesTo resource (incarnation_after first before) p (expected_at code k)
 
       by : (b : Bool) → same_task x.name.task p ≡ b → IsGreatest P (x ∷ received (since_restarted before)) (known (with_known core.table x.name.task (Some x)) p)
       by true e =
           let same : x.name.task ≡ p = named x p e in
           let now : known (with_known core.table x.name.task (Some x)) p ≡ Some x = subst (λ r. known (with_known core.table x.name.task (Some x)) r ≡ Some x) same (cell_same core.table x.name.task.resource x.name.task.task (Some x) None place.0 place.1) in
           subst (IsGreatest P (x ∷ received (since_restarted before))) (sym now)
-          (greatest-taken P (received (since_restarted before)) (known core.table p) x (comes_from t p code k w usable same) (subst (λ r. is_greater (known core.table r) x.name ≡ true) same greater) (before_it t p code k w))
+          (greatest-taken P (received (since_restarted before)) (known core.table p) x (comes_from t p code k w usable counts same) (subst (λ r. is_greater (known core.table r) x.name ≡ true) same greater) (before_it t p code k w))
       by false e =
           subst (IsGreatest P (x ∷ received (since_restarted before))) (sym (cell_other core.table x.name.task.resource x.name.task.task p.resource p.task (Some x) None place.0 e))
           (greatest-other P (received (since_restarted before)) (known core.table p) x (another_task p (expected_at code k) e) (before_it t p code k w))
@@ -144,33 +159,50 @@ module _ (resource first : ℕ) (before : List Step) (core : CoreValue) (x : Eva
     shaped = stands.shaped;
     resource_is = stands.resource_is;
     incarnation_is = stands.incarnation_is;
+    firsts = stands.firsts;
+    heard_is = stands.heard_is;
     own = stands.own;
     counted = stands.counted;
     others = λ t code k p here found at away. unused t p code k done.0 (record { here = here; found = found; at = at; away = away });
   })
-  stands-took new Old done = subst (Stands resource first (Took x ∷ before)) (sym done.2) (record {
+  stands-took new Stray done = subst (Stands resource first (Took x ∷ before)) (sym done.2) (record {
     sound = stands.sound;
     shaped = stands.shaped;
     resource_is = stands.resource_is;
     incarnation_is = stands.incarnation_is;
+    firsts = stands.firsts;
+    heard_is = stands.heard_is;
     own = stands.own;
     counted = stands.counted;
-    others = λ t code k p here found at away. old_one t p code k done.1 (record { here = here; found = found; at = at; away = away });
+    others = λ t code k p here found at away. stray_one t p code k done.1 (record { here = here; found = found; at = at; away = away });
   })
-  stands-took new Taken done = subst (Stands resource first (Took x ∷ before)) (sym done.2) (record {
+  stands-took new Old done = subst (Stands resource first (Took x ∷ before)) (sym done.3) (record {
+    sound = stands.sound;
+    shaped = stands.shaped;
+    resource_is = stands.resource_is;
+    incarnation_is = stands.incarnation_is;
+    firsts = stands.firsts;
+    heard_is = stands.heard_is;
+    own = stands.own;
+    counted = stands.counted;
+    others = λ t code k p here found at away. old_one t p code k done.2 (record { here = here; found = found; at = at; away = away });
+  })
+  stands-took new Taken done = subst (Stands resource first (Took x ∷ before)) (sym done.3) (record {
     sound = stands.sound;
     shaped = row_lengths_kept core.table x.name.task.resource x.name.task.task (Some x) ∙ stands.shaped;
     resource_is = stands.resource_is;
     incarnation_is = stands.incarnation_is;
-    own = own_stays done.0 done.1;
+    firsts = stands.firsts;
+    heard_is = stands.heard_is;
+    own = own_stays done.0 done.1 done.2;
     counted = stands.counted;
-    others = λ t code k p here found at away. taken_one done.0 done.1 t p code k (record { here = here; found = found; at = at; away = away });
+    others = λ t code k p here found at away. taken_one done.0 done.1 done.2 t p code k (record { here = here; found = found; at = at; away = away });
   })
 
 -- evaluations of which the same was asked
-same_asked : {a a2 : ℕ} {b b2 : Name} {c c2 : ℕ} {d d2 : List FieldInput} {e e2 : List StateValue} {takes : List Take} {code : CodeValue} {outputs : List Value} {after : List StateValue}
-    → a2 ≡ a → b2 ≡ b → c2 ≡ c → d2 ≡ d → e2 ≡ e → evaluated a b c d takes e code outputs after ≡ evaluated a2 b2 c2 d2 takes e2 code outputs after
-same_asked f g h i j = rw (f, g, h, i, j) refl
+same_asked : {a a2 : ℕ} {b b2 : Name} {l l2 : List ℕ} {c c2 : ℕ} {d d2 : List FieldInput} {e e2 : List StateValue} {takes : List Take} {code : CodeValue} {outputs : List Value} {after : List StateValue}
+    → a2 ≡ a → b2 ≡ b → l2 ≡ l → c2 ≡ c → d2 ≡ d → e2 ≡ e → evaluated a b l c d takes e code outputs after ≡ evaluated a2 b2 l2 c2 d2 takes e2 code outputs after
+same_asked f g l h i j = rw (f, g, l, h, i, j) refl
 
 -- one more evaluation made
 module _ (resource first : ℕ) (before : List Step) (core new : CoreValue) (ticket task dt : ℕ) (inputs : List FieldInput) (x : Evaluated) (stands : Stands resource first before core) (done : IsNext core new ticket task dt inputs x) where
@@ -222,11 +254,11 @@ module _ (resource first : ℕ) (before : List Step) (core new : CoreValue) (tic
     by false e = ap (λ xs. last_number (newest xs)) (made_other p e) ∙ stands.counted p here ∙ sym (ap length (made_other p e))
 
   others_after : (t : TaskRef) (code : CodeValue) (k : ℕ) (p : TaskRef) → t.resource ≡ resource → code_at core.plant t ≡ Some code → slice_get code.producers k ≡ Some p → p.resource ≢ resource
-      → IsGreatest (ComesFrom p (expected_at code k)) (received (since_restarted before)) (known (with_known core.table own_ref (Some x)) p)
+      → IsGreatest (ComesTo resource (incarnation_after first before) p (expected_at code k)) (received (since_restarted before)) (known (with_known core.table own_ref (Some x)) p)
   others_after t code k p here found at away = by (same_task x.name.task p) refl where
-    by : (b : Bool) → same_task x.name.task p ≡ b → IsGreatest (ComesFrom p (expected_at code k)) (received (since_restarted before)) (known (with_known core.table own_ref (Some x)) p)
+    by : (b : Bool) → same_task x.name.task p ≡ b → IsGreatest (ComesTo resource (incarnation_after first before) p (expected_at code k)) (received (since_restarted before)) (known (with_known core.table own_ref (Some x)) p)
     by true e = absurd (away (sym (ap (λ (r : TaskRef). r.resource) (sym task_is ∙ named x p e)) ∙ stands.resource_is))
-    by false e = subst (IsGreatest (ComesFrom p (expected_at code k)) (received (since_restarted before))) (sym (after_table p e)) (stands.others t code k p here found at away)
+    by false e = subst (IsGreatest (ComesTo resource (incarnation_after first before) p (expected_at code k)) (received (since_restarted before))) (sym (after_table p e)) (stands.others t code k p here found at away)
 
   -- the core goes on standing where the steps have left it
   pub stands-made : Stands resource first (Made x ∷ before) new
@@ -235,14 +267,16 @@ module _ (resource first : ℕ) (before : List Step) (core new : CoreValue) (tic
     shaped = row_lengths_kept core.table own_ref.resource own_ref.task (Some x) ∙ stands.shaped;
     resource_is = stands.resource_is;
     incarnation_is = stands.incarnation_is;
+    firsts = stands.firsts;
+    heard_is = stands.heard_is;
     own = own_after;
     counted = counted_after;
     others = others_after;
   })
 
-  asked_so : IsAsked x.ticket x.name x.dt x.inputs (takes_of (known core.table) next.code) (state_of next.code (last_made x.name.task before)) next.code x
+  asked_so : IsAsked x.ticket x.name (heard_after core.first resource first before) x.dt x.inputs (takes_of (known core.table) next.code) (state_of next.code (last_made x.name.task before)) next.code x
   asked_so = record {
-    is = next.asked.is ∙ same_asked (ap (λ (y : Evaluated). y.ticket) next.asked.is) (ap (λ (y : Evaluated). y.name) next.asked.is) (ap (λ (y : Evaluated). y.dt) next.asked.is) (ap (λ (y : Evaluated). y.inputs) next.asked.is) state_is;
+    is = next.asked.is ∙ same_asked (ap (λ (y : Evaluated). y.ticket) next.asked.is) (ap (λ (y : Evaluated). y.name) next.asked.is) (sym stands.heard_is) (ap (λ (y : Evaluated). y.dt) next.asked.is) (ap (λ (y : Evaluated). y.inputs) next.asked.is) state_is;
     meant = next.asked.meant;
     whole = next.asked.whole;
   } where
@@ -250,7 +284,7 @@ module _ (resource first : ℕ) (before : List Step) (core new : CoreValue) (tic
     state_is = ap (state_of next.code) (ap (λ t. last_made t before) task_is ∙ sym (stands.own own_ref stands.resource_is))
 
   -- it is one that the resource could make after these steps
-  pub follows-made : IsNextMade core.plant core.max_number resource first before x
+  pub follows-made : IsNextMade core.plant core.first core.max_number resource first before x
   follows-made = record {
     code = next.code;
     last = known core.table;
@@ -272,29 +306,164 @@ codes_long r = length r.codes
 abbrev none_known : Option Evaluated
 none_known = None
 
+-- what is heard, place by place
+mapped : (f : ℕ × ℕ → ℕ) (xs : List ℕ) (k m : ℕ) → slice_get (map f (enumerate_from k xs)) m ≡ option_map (λ x. f (k + m, x)) (slice_get xs m)
+mapped f [] k m = refl
+mapped f (x ∷ xs) k zero = ap (λ j. Some (f (j, x))) (omega arith)
+mapped f (x ∷ xs) k (suc m) = mapped f xs (k + 1) m ∙ ap (λ j. option_map (λ x. f (j, x)) (slice_get xs m)) (omega arith)
+
+heard-get : (firsts : List ℕ) (n i : ℕ) (told : ℕ → List ℕ) (m : ℕ) → slice_get (heard_numbers firsts n i told) m ≡ option_map (λ x. cond (eqb m n) i (greatest x (told m))) (slice_get firsts m)
+heard-get firsts n i told m =
+    mapped (λ e. cond (eqb e.0 n) i (greatest e.1 (told e.0))) firsts 0 m
+    ∙ (let from : 0 + m ≡ m = omega arith in ap (λ j. option_map (λ x. cond (eqb j n) i (greatest x (told j))) (slice_get firsts m)) from)
+
+option-same : (f g : ℕ → ℕ) (o : Option ℕ) → ((x : ℕ) → f x ≡ g x) → option_map f o ≡ option_map g o
+option-same f g None same = refl
+option-same f g (Some x) same = ap (λ (y : ℕ). Some y) (same x)
+
+-- what is heard as an incarnation begins
+heard-begins : (firsts : List ℕ) (n i : ℕ) → heard_numbers firsts n i (λ m. []) ≡ slice_set firsts n i
+heard-begins firsts n i = same_by_slice_get (heard_numbers firsts n i (λ m. [])) (slice_set firsts n i) (λ m. heard-get firsts n i (λ m. []) m ∙ by m (eqb m n) refl (slice_get firsts m) refl) where
+  none-set : (xs : List ℕ) (n m x : ℕ) → slice_get xs m ≡ None → slice_get (slice_set xs n x) m ≡ None
+  none-set [] n m x e = refl
+  none-set (y ∷ ys) zero zero x e = absurd (none-some y (sym e))
+  none-set (y ∷ ys) zero (suc m) x e = e
+  none-set (y ∷ ys) (suc n) zero x e = absurd (none-some y (sym e))
+  none-set (y ∷ ys) (suc n) (suc m) x e = none-set ys n m x e
+
+  by : (m : ℕ) (b : Bool) → eqb m n ≡ b → (o : Option ℕ) → slice_get firsts m ≡ o → option_map (λ x. cond b i x) o ≡ slice_get (slice_set firsts n i) m
+  by m b e None f = sym (none-set firsts n m i f)
+  by m true e (Some x) f =
+      sym (subst (λ k. slice_get (slice_set firsts n i) k ≡ Some i) (sym (eqb-true m n e)) (slice_get-set_same firsts n i (subst (λ k. k < length firsts) (eqb-true m n e) (slice_get_within firsts m x f))))
+  by m false e (Some x) f = sym f ∙ sym (slice_get-set_other firsts n m i (eqb-false m n e))
+
 -- a core that holds nothing stands where nothing was done yet, and where the last step is a restart
-module _ (plant : PlantValue) (resource incarnation max_number : ℕ) (sound : IsSoundPlant plant) where
+module _ (plant : PlantValue) (resource : ℕ) (firsts : List ℕ) (incarnation max_number : ℕ) (sound : IsSoundPlant plant) (many : length firsts ≡ length plant.resources) where
   nothing_known : (p : TaskRef) → known (empty_for plant) p ≡ None
   nothing_known p = cell_filled codes_long none_known plant.resources p.resource p.task
 
-  pub stands-fresh : Stands resource incarnation [] (fresh_core plant resource incarnation max_number)
+  pub stands-fresh : Stands resource incarnation [] (fresh_core plant resource firsts incarnation max_number)
   stands-fresh = record {
     sound = sound;
     shaped = row_lengths_filled codes_long none_known plant.resources;
     resource_is = refl;
     incarnation_is = refl;
+    firsts = many;
+    heard_is = sym (heard-begins firsts resource incarnation);
     own = λ p here. nothing_known p;
     counted = λ p here. refl;
-    others = λ t code k p here found at away. subst (IsGreatest (ComesFrom p (expected_at code k)) []) (sym (nothing_known p)) (All-nil (λ y. ComesFrom p (expected_at code k) y → ⊥));
+    others = λ t code k p here found at away. subst (IsGreatest (ComesTo resource incarnation p (expected_at code k)) []) (sym (nothing_known p)) (All-nil (λ y. ComesTo resource incarnation p (expected_at code k) y → ⊥));
   }
 
-  pub stands-restarted : (first ticket : ℕ) (before : List Step) → Stands resource first (Restarted ticket incarnation ∷ before) (fresh_core plant resource incarnation max_number)
+  pub stands-restarted : (first ticket : ℕ) (before : List Step) → Stands resource first (Restarted ticket incarnation ∷ before) (fresh_core plant resource firsts incarnation max_number)
   stands-restarted first ticket before = record {
     sound = sound;
     shaped = row_lengths_filled codes_long none_known plant.resources;
     resource_is = refl;
     incarnation_is = refl;
+    firsts = many;
+    heard_is = sym (heard-begins firsts resource incarnation);
     own = λ p here. nothing_known p;
     counted = λ p here. refl;
-    others = λ t code k p here found at away. subst (IsGreatest (ComesFrom p (expected_at code k)) []) (sym (nothing_known p)) (All-nil (λ y. ComesFrom p (expected_at code k) y → ⊥));
+    others = λ t code k p here found at away. subst (IsGreatest (ComesTo resource incarnation p (expected_at code k)) []) (sym (nothing_known p)) (All-nil (λ y. ComesTo resource incarnation p (expected_at code k) y → ⊥));
   }
+
+-- a resource was heard of
+module _ (resource first : ℕ) (before : List Step) (core new : CoreValue) (of incarnation : ℕ) (answer : Bool) (stands : Stands resource first before core) (done : HasHeard core new of incarnation answer) where
+  abbrev now : ℕ
+  now = incarnation_after first before
+
+  abbrev told : ℕ → List ℕ
+  told m = hearings_of m before
+
+  abbrev told_more : ℕ → List ℕ
+  told_more m = cons_option (cond (eqb of m) (Some incarnation) None) (told m)
+
+  -- it changes what is told of that resource alone
+  unchanged : (m : ℕ) → (eqb of m ≡ true → eqb m resource ≡ true) → (x : ℕ) → cond (eqb m resource) now (greatest x (told_more m)) ≡ cond (eqb m resource) now (greatest x (told m))
+  unchanged m other x = by (eqb of m) refl (eqb m resource) refl where
+    by : (a : Bool) → eqb of m ≡ a → (b : Bool) → eqb m resource ≡ b → cond b now (greatest x (cons_option (cond a (Some incarnation) None) (told m))) ≡ cond b now (greatest x (told m))
+    by a e true f = refl
+    by true e false f = absurd (false≢true (sym f ∙ other e))
+    by false e false f = refl
+
+  all_same : ((m : ℕ) → eqb of m ≡ true → eqb m resource ≡ true) → heard_numbers core.first resource now told_more ≡ heard_numbers core.first resource now told
+  all_same other =
+      same_by_slice_get (heard_numbers core.first resource now told_more) (heard_numbers core.first resource now told)
+      (λ m. heard-get core.first resource now told_more m ∙ option-same _ _ (slice_get core.first m) (unchanged m (other m)) ∙ sym (heard-get core.first resource now told m))
+
+  -- of a resource that doesn't exist nothing is heard
+  absent : length core.first ≤ of → heard_numbers core.first resource now told_more ≡ heard_numbers core.first resource now told
+  absent far =
+      same_by_slice_get (heard_numbers core.first resource now told_more) (heard_numbers core.first resource now told)
+      (λ m. heard-get core.first resource now told_more m ∙ by m (eqb of m) refl (slice_get core.first m) refl ∙ sym (heard-get core.first resource now told m)) where
+        by : (m : ℕ) (a : Bool) → eqb of m ≡ a → (o : Option ℕ) → slice_get core.first m ≡ o
+            → option_map (λ x. cond (eqb m resource) now (greatest x (told_more m))) (slice_get core.first m) ≡ option_map (λ x. cond (eqb m resource) now (greatest x (told m))) (slice_get core.first m)
+        by m true e None f = ap (option_map (λ x. cond (eqb m resource) now (greatest x (told_more m)))) f ∙ sym (ap (option_map (λ x. cond (eqb m resource) now (greatest x (told m)))) f)
+        by m true e (Some x) f = let lt = slice_get_within core.first m x f in let at = eqb-true of m e in absurd (omega (arith, lt, at, far))
+        by m false e o f = option-same _ _ (slice_get core.first m) (unchanged m (λ g. absurd (false≢true (sym e ∙ g))))
+
+  get-index : (xs : List ℕ) (m x : ℕ) → slice_get xs m ≡ Some x → slice_index xs m ≡ x
+  get-index [] m x e = absurd (none-some x e)
+  get-index (y ∷ ys) zero x e = same_Some y x e
+  get-index (y ∷ ys) (suc m) x e = get-index ys m x e
+
+  abbrev old : List ℕ
+  old = heard_numbers core.first resource now told
+
+  -- of another resource that exists the greater number
+  grown : eqb of resource ≡ false → (x : ℕ) → slice_get core.first of ≡ Some x → heard_numbers core.first resource now told_more ≡ slice_set old of (max incarnation (slice_index old of))
+  grown other x first_is =
+      same_by_slice_get (heard_numbers core.first resource now told_more) (slice_set old of (max incarnation (slice_index old of)))
+      (λ m. heard-get core.first resource now told_more m ∙ by m (eqb of m) refl) where
+        was : slice_get old of ≡ Some (greatest x (told of))
+        was =
+            heard-get core.first resource now told of ∙ ap (option_map (λ y. cond (eqb of resource) now (greatest y (told of)))) first_is
+            ∙ ap (λ b. Some (cond b now (greatest x (told of)))) other
+
+        by : (m : ℕ) (a : Bool) → eqb of m ≡ a → option_map (λ y. cond (eqb m resource) now (greatest y (told_more m))) (slice_get core.first m) ≡ slice_get (slice_set old of (max incarnation (slice_index old of))) m
+        by m true e =
+            subst (λ k. option_map (λ y. cond (eqb k resource) now (greatest y (told_more k))) (slice_get core.first k) ≡ slice_get (slice_set old of (max incarnation (slice_index old of))) k) (eqb-true of m e)
+            (ap (option_map (λ y. cond (eqb of resource) now (greatest y (told_more of)))) first_is
+            ∙ ap (λ b. Some (cond b now (greatest x (told_more of)))) other
+            ∙ ap (λ b. Some (greatest x (cons_option (cond b (Some incarnation) None) (told of)))) (eq-eqb of of refl)
+            ∙ ap (λ n. Some (max incarnation n)) (sym (get-index old of (greatest x (told of)) was))
+            ∙ sym (slice_get-set_same old of (max incarnation (slice_index old of)) (slice_get_within old of (greatest x (told of)) was)))
+        by m false e =
+            option-same _ _ (slice_get core.first m) (unchanged m (λ g. absurd (false≢true (sym e ∙ g))))
+            ∙ sym (heard-get core.first resource now told m)
+            ∙ sym (slice_get-set_other old of m (max incarnation (slice_index old of)) (λ f. false≢true (sym e ∙ eq-eqb of m (sym f))))
+
+  heard-more : cond answer (slice_set core.heard of incarnation) core.heard ≡ heard_numbers core.first resource now told_more
+  heard-more = by (eqb of core.resource) refl (ltb of (length core.plant.resources)) refl (ltb (slice_index core.heard of) incarnation) refl where
+    here : (b : Bool) → eqb of core.resource ≡ b → eqb of resource ≡ b
+    here b e = subst (λ r. eqb of r ≡ b) stands.resource_is e
+
+    answered : (a b c : Bool) → eqb of core.resource ≡ a → ltb of (length core.plant.resources) ≡ b → ltb (slice_index core.heard of) incarnation ≡ c → answer ≡ (not a && (b && c))
+    answered a b c e f g = done.answer_is ∙ ap (λ x. not x && (ltb of (length core.plant.resources) && ltb (slice_index core.heard of) incarnation)) e ∙ ap (λ x. not a && (x && ltb (slice_index core.heard of) incarnation)) f ∙ ap (λ x. not a && (b && x)) g
+
+    by : (a : Bool) → eqb of core.resource ≡ a → (b : Bool) → ltb of (length core.plant.resources) ≡ b → (c : Bool) → ltb (slice_index core.heard of) incarnation ≡ c
+        → cond answer (slice_set core.heard of incarnation) core.heard ≡ heard_numbers core.first resource now told_more
+    by true e b f c g =
+        ap (λ x. cond x (slice_set core.heard of incarnation) core.heard) (answered true b c e f g) ∙ stands.heard_is
+        ∙ sym (all_same (λ m h. subst (λ k. eqb k resource ≡ true) (eqb-true of m h) (here true e)))
+    by false e false f c g =
+        ap (λ x. cond x (slice_set core.heard of incarnation) core.heard) (answered false false c e f g) ∙ stands.heard_is
+        ∙ sym (absent (let high = ltb-false of (length core.plant.resources) f in let many = stands.firsts in omega (arith, high, many)))
+    by false e true f c g =
+        ap (λ x. cond x (slice_set core.heard of incarnation) core.heard) (answered false true c e f g)
+        ∙ set c g ∙ ap (λ (l : List ℕ). slice_set l of (max incarnation (slice_index l of))) stands.heard_is
+        ∙ sym (grown (here false e) begins.0 begins.1) where
+          begins : (x : ℕ) × (slice_get core.first of ≡ Some x)
+          begins = element_at core.first of (let low = ltb-true of (length core.plant.resources) f in let many = stands.firsts in omega (arith, low, many))
+
+          set : (c : Bool) → ltb (slice_index core.heard of) incarnation ≡ c → cond c (slice_set core.heard of incarnation) core.heard ≡ slice_set core.heard of (max incarnation (slice_index core.heard of))
+          set true g = let low = ltb-true (slice_index core.heard of) incarnation g in ap (slice_set core.heard of) (omega (arith, low))
+          set false g = let high = ltb-false (slice_index core.heard of) incarnation g in sym (set-get_or core.heard of 0) ∙ ap (slice_set core.heard of) (omega (arith, high))
+
+  pub stands-heard : Stands resource first (Heard of incarnation ∷ before) new
+  stands-heard = subst (Stands resource first (Heard of incarnation ∷ before)) (sym done.after) (by answer heard-more) where
+    by : (b : Bool) → cond b (slice_set core.heard of incarnation) core.heard ≡ heard_numbers core.first resource now told_more
+        → Stands resource first (Heard of incarnation ∷ before) (cond b (record core { heard = slice_set core.heard of incarnation }) core)
+    by true e = record { sound = stands.sound; shaped = stands.shaped; resource_is = stands.resource_is; incarnation_is = stands.incarnation_is; firsts = stands.firsts; heard_is = e; own = stands.own; counted = stands.counted; others = stands.others }
+    by false e = record { sound = stands.sound; shaped = stands.shaped; resource_is = stands.resource_is; incarnation_is = stands.incarnation_is; firsts = stands.firsts; heard_is = e; own = stands.own; counted = stands.counted; others = stands.others }

@@ -1,4 +1,6 @@
 pub mod Causes
+pub mod Codes
 pub mod Commands
 pub mod Journals
+pub mod RunFaults
 pub mod Steps

@@ -1,6 +1,6 @@
 ghost use Rattle.std.specs.Prelude.{◌≡◌, IfOk, OnOk, OnErr};
-ghost use Rattle.exchange_core.specs.CoreValue.{IsAccepted};
-ghost use Rattle.node_journals.specs.declared.step.Step.TheVariants.{Took};
+ghost use Rattle.exchange_core.specs.CoreValue.{IsAccepted, HasHeard};
+ghost use Rattle.node_journals.specs.declared.step.Step.TheVariants.{Took, Heard};
 ghost use Rattle.node_journals.specs.Journals.{fresh_journal, with_step};
 
 use crate::step::Step;
@@ -38,5 +38,18 @@ impl Journal {
         let copy = frame.try_clone()?;
         self.steps.push(Step::Took(copy))?;
         Ok(core.accept(frame))
+    }
+
+    /// Notes that a resource was heard to be in an incarnation, tells the core, and answers what the core answers. Without memory the journal and the core stay, and the news is lost.
+    pub fn hear(&mut self, core: &mut Core, of: usize, incarnation: u32) -> Result<bool, AllocError>
+        ensures core { IfOk result (λ answer. HasHeard core.old core.new of incarnation answer) }
+        ensures journal { OnOk result (self.new ≡ with_step self.old (Heard of incarnation)) }
+        ensures err { OnErr result ((core.new ≡ core.old) × (self.new ≡ self.old)) }
+    {
+        self.steps.push(Step::Heard {
+            resource: of,
+            incarnation,
+        })?;
+        Ok(core.hear(of, incarnation))
     }
 }

@@ -28,10 +28,10 @@ impl Model for Station {
     ghost invariant = { λ s. IsStation s.core s.journal };
 }
 
-ghost use Rattle.std.specs.Prelude.{◌≡◌, ◌<◌, IfOk, IfErr, OnErr};
+ghost use Rattle.std.specs.Prelude.{◌≡◌, ◌<◌, IfOk, IfErr, OnErr, length};
 ghost use Rattle.exchange_core.specs.CoreValue.{IsCoreFault, IsEvalFault};
 ghost use Rattle.node_journals.specs.Journals.{IsLawful};
-ghost use Rattle.node_journals.specs.Steps.Stations.{fresh_station, IsReceived, IsPending, IsRestarted};
+ghost use Rattle.node_journals.specs.Steps.Stations.{fresh_station, IsReceived, IsTold, IsPending, IsRestarted};
 ghost use Rattle.node_journals.specs.Steps.Standing.{IsStation};
 
 impl Station {
@@ -40,10 +40,11 @@ impl Station {
         alloc: Global,
         plant: Arc<Plant>,
         resource: usize,
-        first: u32,
+        first: &[u32],
         max_number: u32,
     ) -> Result<Station, CoreFault>
-        ensures ok { IfOk result (λ s. s ≡ fresh_station plant.value resource first max_number) }
+        requires { resource < length plant.value.resources → length first.now ≡ length plant.value.resources }
+        ensures ok { IfOk result (λ s. s ≡ fresh_station plant.value resource first.now max_number) }
         ensures fault { IfErr result (IsCoreFault plant.value resource) }
     {
         // The getter hands out that the plant is sound.
@@ -51,7 +52,7 @@ impl Station {
         let core = Core::new(alloc, plant, resource, first, max_number)?;
         Ok(Station {
             core,
-            journal: Journal::new(alloc, resource, first),
+            journal: Journal::new(alloc, resource, first[resource]),
         })
     }
 
@@ -69,6 +70,28 @@ impl Station {
         ensures err { OnErr result (self.new ≡ self.old) }
     {
         self.journal.take(&mut self.core, frame)
+    }
+
+    /// Hears that a resource is in an incarnation. Without memory the news is lost, and the resource is as before.
+    pub fn hear(&mut self, of: usize, incarnation: u32) -> Result<bool, AllocError>
+        ensures ok { IfOk result (λ answer. IsTold self.old self.new of incarnation answer) }
+        ensures err { OnErr result (self.new ≡ self.old) }
+    {
+        self.journal.hear(&mut self.core, of, incarnation)
+    }
+
+    /// The resource.
+    pub fn resource(&self) -> usize
+        ensures { result ≡ self.now.journal.resource }
+    {
+        self.journal.resource
+    }
+
+    /// The present incarnation.
+    pub fn incarnation(&self) -> u32
+        ensures { result ≡ self.now.core.incarnation }
+    {
+        self.core.incarnation()
     }
 
     /// Evaluates a task, `dt` milliseconds after its evaluation before. The journal has room for it, but hasn't got it yet. After a fault the resource is as before.
@@ -137,7 +160,7 @@ impl Station {
     /// The journal, which is lawful.
     pub fn into_journal(self) -> Journal
         ensures same { result ≡ self.journal }
-        ensures lawful { IsLawful self.core.plant self.core.max_number result }
+        ensures lawful { IsLawful self.core.plant self.core.first self.core.max_number result }
     {
         let Station { core: _, journal } = self;
         journal

@@ -9,4 +9,6 @@ pub enum Step {
     Made(Frame),
     /// It restarted in this incarnation, by the command of this ticket.
     Restarted { ticket: u64, incarnation: u32 },
+    /// It heard that this resource is in this incarnation, and told its core.
+    Heard { resource: usize, incarnation: u32 },
 }

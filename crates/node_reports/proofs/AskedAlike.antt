@@ -34,7 +34,7 @@ states_of_one c a b one other same = same_by_each a b same.many (λ k s t at fou
 
 pub equal_if_asked_alike : OneEvaluation → (x y : Evaluated) → IsMeant x → IsWhole x → IsMeant y → IsWhole y → (x.name.task ≡ y.name.task → x.code ≡ y.code) → AreAskedAlike x y → x ≡ y
 equal_if_asked_alike one x y meant whole meant_y whole_y one_code same =
-    one x.ticket x.name x.dt x.inputs x.takes x.before x.code x y (record { is = refl; meant = meant; whole = whole }) (record { is = is; meant = meant_y; whole = whole_y })
+    one x.ticket x.name x.heard x.dt x.inputs x.takes x.before x.code x y (record { is = refl; meant = meant; whole = whole }) (record { is = is; meant = meant_y; whole = whole_y })
   where
     code : x.code ≡ y.code
     code = one_code (ap (λ n. n.task) same.name)
@@ -42,13 +42,14 @@ equal_if_asked_alike one x y meant whole meant_y whole_y one_code same =
     before : x.before ≡ y.before
     before = states_of_one x.code x.before y.before whole.before_fits (subst (λ (c : CodeValue). AreStatesOf c y.before) (sym code) whole_y.before_fits) same.before
 
-    is : y ≡ evaluated x.ticket x.name x.dt x.inputs x.takes x.before x.code y.outputs y.after
-    is = rw (same.ticket, same.name, same.dt, same.inputs, same.takes, before, code) refl
+    is : y ≡ evaluated x.ticket x.name x.heard x.dt x.inputs x.takes x.before x.code y.outputs y.after
+    is = rw (same.ticket, same.name, same.heard, same.dt, same.inputs, same.takes, before, code) refl
 
 pub asked_alike_if_equal : (x y : Evaluated) → x ≡ y → AreAskedAlike x y
 asked_alike_if_equal x y e = subst (AreAskedAlike x) e record {
   ticket = refl;
   name = refl;
+  heard = refl;
   dt = refl;
   inputs = refl;
   takes = refl;

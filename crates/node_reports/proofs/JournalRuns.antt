@@ -11,18 +11,19 @@ use Rattle.evaluation.specs.Last.{same_task}
 use Rattle.std.specs.List.{AllByRecursion}
 use Rattle.evaluation_book.specs.Fits.{last_in}
 use Rattle.node_journals.specs.declared.step.Step.{Step}
-use Rattle.node_journals.specs.declared.step.Step.TheVariants.{Took, Made, Restarted}
-use Rattle.node_journals.specs.Journals.{incarnation_of, made, newest, made_of, last_made, IsNextMade, Follows, EachAfter}
+use Rattle.node_journals.specs.declared.step.Step.TheVariants.{Took, Made, Restarted, Heard}
+use Rattle.node_journals.specs.Journals.{incarnation_after, made, newest, made_of, last_made, IsNextMade, Follows, EachAfter}
 use Rattle.node_reports.specs.Reports.{entries_of}
 
 -- no evaluation of a lawful journal is of a later incarnation than the present one
-pub below_present : (plant : PlantValue) (max_number resource first : ℕ) (steps : List Step) → EachAfter (Follows plant max_number resource first) steps
-    → AllByRecursion (λ (y : Evaluated). y.name.incarnation ≤ incarnation_of first steps) (made steps)
-below_present plant max_number resource first [] lawful = tt
-below_present plant max_number resource first (Took x ∷ steps) lawful = below_present plant max_number resource first steps lawful.1
-below_present plant max_number resource first (Made x ∷ steps) lawful = (let is = lawful.0.incarnation_is in omega arith, below_present plant max_number resource first steps lawful.1)
-below_present plant max_number resource first (Restarted ticket incarnation ∷ steps) lawful = by (made steps) (below_present plant max_number resource first steps lawful.1) where
-  by : (ys : List Evaluated) → AllByRecursion (λ (y : Evaluated). y.name.incarnation ≤ incarnation_of first steps) ys → AllByRecursion (λ (y : Evaluated). y.name.incarnation ≤ incarnation) ys
+pub below_present : (plant : PlantValue) (firsts : List ℕ) (max_number resource first : ℕ) (steps : List Step) → EachAfter (Follows plant firsts max_number resource first) steps
+    → AllByRecursion (λ (y : Evaluated). y.name.incarnation ≤ incarnation_after first steps) (made steps)
+below_present plant firsts max_number resource first [] lawful = tt
+below_present plant firsts max_number resource first (Took x ∷ steps) lawful = below_present plant firsts max_number resource first steps lawful.1
+below_present plant firsts max_number resource first (Heard of heard ∷ steps) lawful = below_present plant firsts max_number resource first steps lawful.1
+below_present plant firsts max_number resource first (Made x ∷ steps) lawful = (let is = lawful.0.incarnation_is in omega arith, below_present plant firsts max_number resource first steps lawful.1)
+below_present plant firsts max_number resource first (Restarted ticket incarnation ∷ steps) lawful = by (made steps) (below_present plant firsts max_number resource first steps lawful.1) where
+  by : (ys : List Evaluated) → AllByRecursion (λ (y : Evaluated). y.name.incarnation ≤ incarnation_after first steps) ys → AllByRecursion (λ (y : Evaluated). y.name.incarnation ≤ incarnation) ys
   by [] low = tt
   by (y ∷ ys) low = (let here = low.0 in let raised = lawful.0 in omega arith, by ys low.1)
 
@@ -41,45 +42,48 @@ last_above t most incarnation above (y ∷ ys) below =
     ∙ last_above t most incarnation above ys below.1
 
 -- what a lawful journal made last of a task since its last restart is the last one in the present incarnation
-pub last_made_is : (plant : PlantValue) (max_number resource first : ℕ) (t : TaskRef) (steps : List Step) → EachAfter (Follows plant max_number resource first) steps
-    → last_made t steps ≡ last_in (made steps) t (incarnation_of first steps)
-last_made_is plant max_number resource first t [] lawful = refl
-last_made_is plant max_number resource first t (Took x ∷ steps) lawful = last_made_is plant max_number resource first t steps lawful.1
-last_made_is plant max_number resource first t (Made x ∷ steps) lawful =
-    by (same_task x.name.task t) (eqb x.name.incarnation (incarnation_of first steps)) (eq-eqb x.name.incarnation (incarnation_of first steps) lawful.0.incarnation_is)
-    (last_made_is plant max_number resource first t steps lawful.1)
+pub last_made_is : (plant : PlantValue) (firsts : List ℕ) (max_number resource first : ℕ) (t : TaskRef) (steps : List Step) → EachAfter (Follows plant firsts max_number resource first) steps
+    → last_made t steps ≡ last_in (made steps) t (incarnation_after first steps)
+last_made_is plant firsts max_number resource first t [] lawful = refl
+last_made_is plant firsts max_number resource first t (Took x ∷ steps) lawful = last_made_is plant firsts max_number resource first t steps lawful.1
+last_made_is plant firsts max_number resource first t (Heard of heard ∷ steps) lawful = last_made_is plant firsts max_number resource first t steps lawful.1
+last_made_is plant firsts max_number resource first t (Made x ∷ steps) lawful =
+    by (same_task x.name.task t) (eqb x.name.incarnation (incarnation_after first steps)) (eq-eqb x.name.incarnation (incarnation_after first steps) lawful.0.incarnation_is)
+    (last_made_is plant firsts max_number resource first t steps lawful.1)
   where
-    by : (b c : Bool) → c ≡ true → last_made t steps ≡ last_in (made steps) t (incarnation_of first steps)
-        → newest (cond b (x ∷ made_of t steps) (made_of t steps)) ≡ cond (b && c) (Some x) (last_in (made steps) t (incarnation_of first steps))
+    by : (b c : Bool) → c ≡ true → last_made t steps ≡ last_in (made steps) t (incarnation_after first steps)
+        → newest (cond b (x ∷ made_of t steps) (made_of t steps)) ≡ cond (b && c) (Some x) (last_in (made steps) t (incarnation_after first steps))
     by true c now before = rw now refl
     by false c now before = before
-last_made_is plant max_number resource first t (Restarted ticket incarnation ∷ steps) lawful =
-    sym (last_above t (incarnation_of first steps) incarnation lawful.0 (made steps) (below_present plant max_number resource first steps lawful.1))
+last_made_is plant firsts max_number resource first t (Restarted ticket incarnation ∷ steps) lawful =
+    sym (last_above t (incarnation_after first steps) incarnation lawful.0 (made steps) (below_present plant firsts max_number resource first steps lawful.1))
 
 -- An evaluation of a lawful journal, in front of older ones: it is the next one after the steps that made those.
-pub record IsMadeAfter (plant : PlantValue) (max_number resource first : ℕ) (x : Evaluated) (older : List Evaluated) : Type 0 where
+pub record IsMadeAfter (plant : PlantValue) (firsts : List ℕ) (max_number resource first : ℕ) (x : Evaluated) (older : List Evaluated) : Type 0 where
   pub before : List Step
-  pub next : IsNextMade plant max_number resource first before x
-  pub lawful : EachAfter (Follows plant max_number resource first) before
+  pub next : IsNextMade plant firsts max_number resource first before x
+  pub lawful : EachAfter (Follows plant firsts max_number resource first) before
   pub made_is : made before ≡ older
 
-pub made_after : (plant : PlantValue) (max_number resource first : ℕ) (x : Evaluated) (older : List Evaluated) (steps : List Step) (newer : List Evaluated)
-    → EachAfter (Follows plant max_number resource first) steps → made steps ≡ newer ++ x ∷ older → IsMadeAfter plant max_number resource first x older
-made_after plant max_number resource first x older [] [] lawful is = absurd cc
-made_after plant max_number resource first x older [] (y ∷ newer) lawful is = absurd cc
-made_after plant max_number resource first x older (Took z ∷ steps) newer lawful is = made_after plant max_number resource first x older steps newer lawful.1 is
-made_after plant max_number resource first x older (Restarted ticket incarnation ∷ steps) newer lawful is = made_after plant max_number resource first x older steps newer lawful.1 is
-made_after plant max_number resource first x older (Made z ∷ steps) [] lawful is =
+pub made_after : (plant : PlantValue) (firsts : List ℕ) (max_number resource first : ℕ) (x : Evaluated) (older : List Evaluated) (steps : List Step) (newer : List Evaluated)
+    → EachAfter (Follows plant firsts max_number resource first) steps → made steps ≡ newer ++ x ∷ older → IsMadeAfter plant firsts max_number resource first x older
+made_after plant firsts max_number resource first x older [] [] lawful is = absurd cc
+made_after plant firsts max_number resource first x older [] (y ∷ newer) lawful is = absurd cc
+made_after plant firsts max_number resource first x older (Took z ∷ steps) newer lawful is = made_after plant firsts max_number resource first x older steps newer lawful.1 is
+made_after plant firsts max_number resource first x older (Heard of heard ∷ steps) newer lawful is = made_after plant firsts max_number resource first x older steps newer lawful.1 is
+made_after plant firsts max_number resource first x older (Restarted ticket incarnation ∷ steps) newer lawful is = made_after plant firsts max_number resource first x older steps newer lawful.1 is
+made_after plant firsts max_number resource first x older (Made z ∷ steps) [] lawful is =
     let same : z ≡ x = cc in
     let rest : made steps ≡ older = cc in
-    record { before = steps; next = subst (IsNextMade plant max_number resource first steps) same lawful.0; lawful = lawful.1; made_is = rest }
-made_after plant max_number resource first x older (Made z ∷ steps) (y ∷ newer) lawful is =
+    record { before = steps; next = subst (IsNextMade plant firsts max_number resource first steps) same lawful.0; lawful = lawful.1; made_is = rest }
+made_after plant firsts max_number resource first x older (Made z ∷ steps) (y ∷ newer) lawful is =
     let rest : made steps ≡ newer ++ x ∷ older = cc in
-    made_after plant max_number resource first x older steps newer lawful.1 rest
+    made_after plant firsts max_number resource first x older steps newer lawful.1 rest
 
 made-append : (a b : List Step) → made (a ++ b) ≡ made a ++ made b
 made-append [] b = refl
 made-append (Took x ∷ a) b = made-append a b
+made-append (Heard of heard ∷ a) b = made-append a b
 made-append (Made x ∷ a) b = ap (λ xs. x ∷ xs) (made-append a b)
 made-append (Restarted ticket incarnation ∷ a) b = made-append a b
 
@@ -87,6 +91,8 @@ pub made-reverse : (steps : List Step) → made (reverse steps) ≡ reverse (mad
 made-reverse [] = refl
 made-reverse (Took x ∷ steps) =
     ap made (reverse-append (Took x ∷ []) steps) ∙ made-append (reverse steps) (Took x ∷ []) ∙ append-nil (made (reverse steps)) ∙ made-reverse steps
+made-reverse (Heard of heard ∷ steps) =
+    ap made (reverse-append (Heard of heard ∷ []) steps) ∙ made-append (reverse steps) (Heard of heard ∷ []) ∙ append-nil (made (reverse steps)) ∙ made-reverse steps
 made-reverse (Made x ∷ steps) =
     ap made (reverse-append (Made x ∷ []) steps) ∙ made-append (reverse steps) (Made x ∷ []) ∙ ap (λ xs. xs ++ x ∷ []) (made-reverse steps) ∙ sym (reverse-append (x ∷ []) (made steps))
 made-reverse (Restarted ticket incarnation ∷ steps) =

@@ -6,3 +6,6 @@ pub mod Reporting
 pub mod Faults
 pub mod Stopping
 pub mod Walking
+pub mod Numbered
+pub mod Telling
+pub mod Hearing

@@ -1,5 +1,5 @@
 -- The entries of a book that agrees with lawful journals could have been made, so events that make them again have them as their run.
-use Rattle.std.proofs.Common.{◌≡◌, ℕ, ◌<◌, ◌≤◌, ◌++◌, List, [], ◌∷◌, length, reverse, All, Some, slice_get, refl, ap, sym, ◌∙◌, subst, arith}
+use Rattle.std.proofs.Common.{◌≡◌, ℕ, ◌<◌, ◌≤◌, ◌++◌, List, [], ◌∷◌, length, reverse, All, Some, slice_get, slice_index, refl, ap, sym, ◌∙◌, subst, arith}
 use Rattle.std.proofs.lemmas.List.{append_assoc, reverse-append, length-map}
 use Rattle.std.proofs.lemmas.List.Elements.{All-head, All-tail}
 use Rattle.std.proofs.lemmas.Option.{get_or_from_slice_get}
@@ -13,25 +13,25 @@ use Rattle.evaluation_book.specs.Fits.{Fits, AllFit, last_in}
 use Rattle.evaluation_book.specs.Book.{BookValue}
 use Rattle.exchange.specs.Replays.{CouldBeMade, AllCouldBeMade}
 use Rattle.node_journals.specs.declared.journal.Journal.{Journal}
-use Rattle.node_journals.specs.Journals.{made, last_made, IsLawful}
+use Rattle.node_journals.specs.Journals.{made, last_made, firsts_of, IsLawful}
 use Rattle.node_reports.specs.Reports.{entries_of, IsFittingBook, AreJournalsOf, AreInBook, RunsAgain}
 use Rattle.node_reports.proofs.JournalRuns.{IsMadeAfter, made_after, last_made_is, made-reverse, entries-reverse, entries-part, last_in-entries}
 
--- an incarnation is a number of 32 bits
+-- incarnations, its own and those that were heard, are numbers of 32 bits
 abbrev pub HasIncarnation : Evaluated → Type 0
-HasIncarnation x = x.name.incarnation ≤ 4294967295
+HasIncarnation x = (x.name.incarnation ≤ 4294967295) × ((m : ℕ) → slice_index x.heard m ≤ 4294967295)
 
 each-append : {X : Type 0} (P : X → Type 0) (xs ys : List X) → AllByRecursion P xs → AllByRecursion P ys → AllByRecursion P (xs ++ ys)
 each-append P [] ys a b = b
 each-append P (x ∷ xs) ys a b = (a.0, each-append P xs ys a.1 b)
 
-each-reverse : {X : Type 0} (P : X → Type 0) (xs : List X) → All P xs → AllByRecursion P (reverse xs)
+pub each-reverse : {X : Type 0} (P : X → Type 0) (xs : List X) → All P xs → AllByRecursion P (reverse xs)
 each-reverse P [] all = tt
 each-reverse P (x ∷ xs) all =
     subst (AllByRecursion P) (sym (reverse-append (x ∷ []) xs)) (each-append P (reverse xs) (x ∷ []) (each-reverse P xs (All-tail P x xs all)) (All-head P x xs all, tt))
 
 -- what holds of each holds of the one at a place
-holds_at : {X : Type 0} (P : X → Type 0) (xs : List X) (k : ℕ) (x : X) → k < length xs → slice_get xs k ≡ Some x → All P xs → P x
+pub holds_at : {X : Type 0} (P : X → Type 0) (xs : List X) (k : ℕ) (x : X) → k < length xs → slice_get xs k ≡ Some x → All P xs → P x
 holds_at P xs k x lt at all = subst P (get_or_from_slice_get xs k x x at) (all k x lt)
 
 -- an entry could have been made after those before it
@@ -42,7 +42,8 @@ entry_made plant max_number first journals entries newer older x long js in_book
   code = after.next.code;
   found = after.next.found;
   number_left = after.next.number_left;
-  incarnation_left = bound;
+  incarnation_left = bound.0;
+  heard_left = bound.1;
   same_code = ap (λ (e : Evaluated). e.code) after.next.asked.is;
   before = ap (λ (e : Evaluated). e.before) after.next.asked.is ∙ ap (state_of after.next.code) last;
   meant = after.next.asked.meant;
@@ -64,13 +65,13 @@ entry_made plant max_number first journals entries newer older x long js in_book
         ∙ ap (entries_of x.name.task.resource) is
         ∙ entries-part newer older x
 
-    after : IsMadeAfter plant max_number journal.0.resource journal.0.first x (entries_of x.name.task.resource older)
-    after = made_after plant max_number journal.0.resource journal.0.first x (entries_of x.name.task.resource older) (reverse journal.0.steps) (entries_of x.name.task.resource newer)
-        (holds_at (IsLawful plant max_number) journals x.name.task.resource journal.0 lt journal.1 js.lawful).follows made_is
+    after : IsMadeAfter plant (firsts_of journals) max_number journal.0.resource journal.0.first x (entries_of x.name.task.resource older)
+    after = made_after plant (firsts_of journals) max_number journal.0.resource journal.0.first x (entries_of x.name.task.resource older) (reverse journal.0.steps) (entries_of x.name.task.resource newer)
+        (holds_at (IsLawful plant (firsts_of journals) max_number) journals x.name.task.resource journal.0 lt journal.1 js.lawful).follows made_is
 
     last : last_made x.name.task after.before ≡ last_in older x.name.task x.name.incarnation
     last =
-        last_made_is plant max_number journal.0.resource journal.0.first x.name.task after.before after.lawful
+        last_made_is plant (firsts_of journals) max_number journal.0.resource journal.0.first x.name.task after.before after.lawful
         ∙ ap (last_in (made after.before) x.name.task) (sym after.next.incarnation_is)
         ∙ ap (λ l. last_in l x.name.task x.name.incarnation) after.made_is
         ∙ last_in-entries x.name.task x.name.incarnation older

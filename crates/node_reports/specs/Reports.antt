@@ -1,6 +1,6 @@
 -- What a report of the threads has to be: the book fits, the journals are lawful, they made the book's entries,
 -- the commands are accounted for, and the book's entries are a run.
-use Rattle.std.specs.Prelude.{◌≡◌, ℕ, ◌<◌, ◌≤◌, ◌==◌, ◌&&◌, Bool, true, false, not, List, Option, Some, None, All, Contains, length, map, filter, find, reverse, take, slice_get}
+use Rattle.std.specs.Prelude.{◌≡◌, ◌⊎◌, ◌∷◌, ℕ, ◌<◌, ◌≤◌, ◌==◌, ◌&&◌, Bool, true, false, not, List, Option, Some, None, All, Contains, length, map, filter, find, reverse, take, slice_get}
 use Rattle.std.specs.List.{filter_map, list_any}
 use Rattle.std.specs.List.Sorted.{IsStrictlyIncreasing}
 use Rattle.plant.specs.PlantValue.{PlantValue, tasks_at}
@@ -15,16 +15,14 @@ use Rattle.node_journals.specs.declared.command.Command.{Command}
 use Rattle.node_journals.specs.declared.act.Act.{Act}
 use Rattle.node_journals.specs.declared.act.Act.TheVariants.{Evaluate, Restart}
 use Rattle.node_journals.specs.declared.step.Step.{Step}
-use Rattle.node_journals.specs.declared.step.Step.TheVariants.{Took, Made, Restarted}
+use Rattle.node_journals.specs.declared.step.Step.TheVariants.{Took, Made, Restarted, Heard}
 use Rattle.node_journals.specs.declared.journal.Journal.{Journal}
 use Rattle.node_journals.specs.declared.cause.Cause.{Cause}
 use Rattle.node_journals.specs.declared.cause.Cause.TheVariants.{OutOfTurns, NoSuchTask, NumbersSpent, Memory, Misfit, Keeper, NotSent, Stopped}
 use Rattle.node_journals.specs.declared.node_fault.NodeFault.{NodeFault}
-use Rattle.node_journals.specs.Journals.{made, IsLawful}
-
--- the first incarnations of the journals, in order
-abbrev pub firsts_of : List Journal → List ℕ
-firsts_of journals = map (λ (j : Journal). j.first) journals
+use Rattle.node_journals.specs.declared.run_fault.RunFault.{RunFault}
+use Rattle.node_journals.specs.declared.run_fault.RunFault.TheVariants as run
+use Rattle.node_journals.specs.Journals.{made, firsts_of, IsLawful}
 
 -- the entries of one resource, in order
 abbrev pub entries_of : ℕ → List Evaluated → List Evaluated
@@ -35,11 +33,12 @@ pub record IsFittingBook (book : BookValue) (journals : List Journal) : Type 0 w
   pub fit : AllFit book.first (reverse book.entries)
   pub first_is : book.first ≡ firsts_of journals
 
--- Second. There is one journal for each resource of the plant, in the plant's order, and each is lawful.
+-- Second. There is one journal for each resource of the plant, in the plant's order, and each is lawful,
+-- with the journals' first incarnations.
 pub record AreJournalsOf (plant : PlantValue) (max_number : ℕ) (journals : List Journal) : Type 0 where
   pub many : length journals ≡ length plant.resources
   pub in_order : (k : ℕ) (j : Journal) → slice_get journals k ≡ Some j → j.resource ≡ k
-  pub lawful : All (IsLawful plant max_number) journals
+  pub lawful : All (IsLawful plant (firsts_of journals) max_number) journals
 
 -- Third. What each journal made are, in order, the book's entries of its resource.
 abbrev pub AreInBook : List Evaluated → List Journal → Type 0
@@ -54,6 +53,7 @@ command_of x =
 abbrev pub IsCommanded : List Command → ℕ → Step → Type 0
 IsCommanded commands resource (Took x) = Unit {0}
 IsCommanded commands resource (Made x) = Unit {0}
+IsCommanded commands resource (Heard of heard) = Unit {0}
 IsCommanded commands resource (Restarted ticket incarnation) =
     Contains commands (record { ticket = ticket; resource = resource; act = Restart })
 
@@ -61,11 +61,29 @@ IsCommanded commands resource (Restarted ticket incarnation) =
 abbrev pub ticket_of : Step → Option ℕ
 ticket_of (Took x) = None
 ticket_of (Made x) = Some x.ticket
+ticket_of (Heard of heard) = None
 ticket_of (Restarted ticket incarnation) = Some ticket
 
 -- the tickets of the evaluations made and of the restarts, in order
 abbrev pub tickets_of : List Step → List ℕ
 tickets_of steps = filter_map ticket_of steps
+
+-- the incarnation of a restart
+abbrev pub restarted_in : Step → Option ℕ
+restarted_in (Took x) = None
+restarted_in (Made x) = None
+restarted_in (Restarted ticket incarnation) = Some incarnation
+restarted_in (Heard of heard) = None
+
+-- the incarnations in which a resource was, as its journal tells: the first one, and those of its restarts
+abbrev pub incarnations_of : Journal → List ℕ
+incarnations_of j = j.first ∷ filter_map restarted_in j.steps
+
+-- each number that an evaluation has heard is an incarnation in which the resource at its place was
+abbrev pub HasHeardTruly : List Journal → Evaluated → Type 0
+HasHeardTruly journals x =
+    (m i : ℕ) (j : Journal) → slice_get x.heard m ≡ Some i → slice_get journals m ≡ Some j
+    → Contains (incarnations_of j) i
 
 -- all restarts of a journal are commanded, and its tickets rise
 pub record IsObedient (commands : List Command) (j : Journal) : Type 0 where
@@ -86,17 +104,19 @@ unanswered_of commands entries = map (λ (c : Command). c.ticket) (filter (is_un
 
 -- Fourth. Each entry answers an Evaluate command of its ticket with its contents,
 -- each restart answers a Restart command of its resource, the tickets rise in each journal,
--- and the Evaluate commands that no entry answers are listed.
+-- what entries have heard is true, and the Evaluate commands that no entry answers are listed.
 pub record AreAnswers (commands : List Command) (entries : List Evaluated) (journals : List Journal)
     (unanswered : List ℕ) : Type 0 where
   pub commanded : All (λ (x : Evaluated). Contains commands (command_of x)) entries
   pub obedient : All (IsObedient commands) journals
+  pub heard : All (HasHeardTruly journals) entries
   pub unanswered_are : unanswered ≡ unanswered_of commands entries
 
 -- a step is the restart of a ticket
 abbrev pub is_restart_of : ℕ → Step → Bool
 is_restart_of ticket (Took x) = false
 is_restart_of ticket (Made x) = false
+is_restart_of ticket (Heard of heard) = false
 is_restart_of ticket (Restarted own incarnation) = own == ticket
 
 -- a command wasn't obeyed: one to evaluate is among the unanswered, and of one to restart no journal has the restart
@@ -124,7 +144,7 @@ LacksTask plant c = by c.act
     by Restart = ⊥
 
 -- A command may have met a cause, where this says that it wasn't obeyed.
--- One may be out of turns also when it is done with, and an evaluation made may not be sent;
+-- One may be out of turns also when it is done with, and an evaluation made, or the news of a restart, may not be sent;
 -- after any other cause the command isn't obeyed.
 -- Only a task that isn't there is no such task, only one that is there spends its numbers or is a misfit,
 -- and only for a restart a keeper is asked.
@@ -135,7 +155,7 @@ MayMeet plant c Unobeyed NumbersSpent = HasTask plant c × Unobeyed
 MayMeet plant c Unobeyed Memory = Unobeyed
 MayMeet plant c Unobeyed Misfit = HasTask plant c × Unobeyed
 MayMeet plant c Unobeyed Keeper = (c.act ≡ Restart) × Unobeyed
-MayMeet plant c Unobeyed NotSent = c.act ≡ Restart → Unobeyed
+MayMeet plant c Unobeyed NotSent = Unit {0}
 MayMeet plant c Unobeyed Stopped = Unobeyed
 
 -- a fault is told of a command, by its ticket and resource, and of a cause that the command may have met
@@ -206,3 +226,71 @@ RunsAgain plant max_number book journals =
 abbrev pub CanBeMadeAgain : PlantValue → ℕ → BookValue → List Journal → Type 0
 CanBeMadeAgain plant max_number book journals =
     AllCouldBeMade (setting_of plant max_number journals) (reverse book.entries)
+
+-- The journals agree with the book: there is one for each resource of the plant, in the plant's order,
+-- each begins in the book's first incarnation of its resource, and what each made are, in order,
+-- the book's entries of its resource.
+pub record Agree (plant : PlantValue) (book : BookValue) (journals : List Journal) : Type 0 where
+  pub many : length journals ≡ length plant.resources
+  pub in_order : (k : ℕ) (j : Journal) → slice_get journals k ≡ Some j → j.resource ≡ k
+  pub first_is : book.first ≡ firsts_of journals
+  pub in_book : AreInBook book.entries journals
+
+-- each entry answers an Evaluate command of its ticket with its contents,
+-- each restart a Restart command of its resource, and what entries have heard is true
+pub record AreCommanded (commands : List Command) (entries : List Evaluated) (journals : List Journal) : Type 0 where
+  pub evaluations : All (λ (x : Evaluated). Contains commands (command_of x)) entries
+  pub restarts : All (λ (j : Journal). All (IsCommanded commands j.resource) j.steps) journals
+  pub heard : All (HasHeardTruly journals) entries
+
+-- the tickets of the evaluations made and of the restarts rise in each journal
+abbrev pub AreRising : List Journal → Type 0
+AreRising journals = All (λ (j : Journal). IsStrictlyIncreasing (tickets_of j.steps)) journals
+
+-- of the faults noted the first of each ticket are listed, and this holds of that list
+pub record AreListed (P : List NodeFault → Type 0) (noted : List NodeFault) : Type 0 where
+  pub listed : List NodeFault
+  pub by_ticket : AreByTicket noted listed
+  pub holds : P listed
+
+-- of the commands, the entries and the journals, these faults are told of commands that may have met them
+abbrev pub AreToldOf : PlantValue → List Command → List Evaluated → List Journal → List NodeFault → Type 0
+AreToldOf plant commands entries journals faults =
+    AreTold plant commands journals (unanswered_of commands entries) faults
+
+-- Why no report is collected of a book, of journals and of the faults noted. The journals don't agree with the book.
+-- Or they agree, and an entry or a restart answers no command of its own, an entry has heard of an incarnation that
+-- never was, or a fault is told of no command that may have met it. Or all that is so, and only the tickets of a journal
+-- don't rise.
+-- Want of memory may stand in the place of each, and there is no other fault.
+abbrev pub IsCollectFault : PlantValue → List Command → BookValue → List Journal → List NodeFault → RunFault → Type 0
+IsCollectFault plant commands book journals noted run.Memory = Unit {0}
+IsCollectFault plant commands book journals noted run.Spawn = ⊥
+IsCollectFault plant commands book journals noted run.BookDisagrees = ¬ (Agree plant book journals)
+IsCollectFault plant commands book journals noted run.Stranger =
+    Agree plant book journals
+    × (¬ (AreCommanded commands book.entries journals)
+    ⊎ AreListed (λ fs. ¬ (AreToldOf plant commands book.entries journals fs)) noted)
+IsCollectFault plant commands book journals noted run.Doubled =
+    Agree plant book journals × AreCommanded commands book.entries journals
+    × AreListed (AreToldOf plant commands book.entries journals) noted × ¬ (AreRising journals)
+IsCollectFault plant commands book journals noted run.Keeper = ⊥
+
+-- threads left a book whose entries fit, lawful journals, and faults, of which no report is collected for this reason
+pub record LeavesFault (plant : PlantValue) (max_number : ℕ) (commands : List Command) (fault : RunFault) : Type 0 where
+  pub book : BookValue
+  pub journals : List Journal
+  pub noted : List NodeFault
+  pub fit : AllFit book.first (reverse book.entries)
+  pub lawful : All (IsLawful plant (firsts_of journals) max_number) journals
+  pub found : IsCollectFault plant commands book journals noted fault
+
+-- Why a run of threads gives no report: memory was wanting, a thread wasn't started or a keeper didn't raise its
+-- incarnation before the start; else no report is collected of what the threads left.
+abbrev pub IsRunFault : PlantValue → ℕ → List Command → RunFault → Type 0
+IsRunFault plant max_number commands run.Memory = Unit {0}
+IsRunFault plant max_number commands run.Spawn = Unit {0}
+IsRunFault plant max_number commands run.BookDisagrees = LeavesFault plant max_number commands run.BookDisagrees
+IsRunFault plant max_number commands run.Stranger = LeavesFault plant max_number commands run.Stranger
+IsRunFault plant max_number commands run.Doubled = LeavesFault plant max_number commands run.Doubled
+IsRunFault plant max_number commands run.Keeper = Unit {0}

@@ -1,16 +1,17 @@
 mod agreement;
+mod hearings;
 mod obedience;
 mod stops;
 mod told;
 mod unanswered;
 
-ghost use Rattle.std.specs.Prelude.{IsTrue, IfOk, All};
-ghost use Rattle.node_journals.specs.Commands.{AreNumbered};
-ghost use Rattle.node_journals.specs.Journals.{IsLawful};
-ghost use Rattle.node_reports.specs.Reports.{IsFittingBook, AreJournalsOf, AreInBook, AreAnswers, RunsAgain, CanBeMadeAgain, AreTold, AreByTicket};
-ghost use Rattle.node_reports.specs.Steps.Collecting.{Agrees};
+ghost use Rattle.std.specs.Prelude.{◌≡◌, ◌↔◌, IsTrue, IfOk, IfErr, All};
+ghost use Rattle.node_journals.specs.Commands.{AreNumbered, AreForPlant};
+ghost use Rattle.node_journals.specs.Journals.{firsts_of, IsLawful};
+ghost use Rattle.node_reports.specs.Reports.{IsFittingBook, AreJournalsOf, AreInBook, AreAnswers, RunsAgain, CanBeMadeAgain, AreTold, AreByTicket, Agree, IsCollectFault};
 
 use crate::collector::agreement::{all_begin, all_made};
+use crate::collector::hearings::have_heard_truly;
 use crate::collector::obedience::{all_commanded, all_rising, are_answers};
 use crate::collector::told::told_faults;
 use crate::collector::unanswered::unanswered_tickets;
@@ -28,18 +29,15 @@ fn agrees(
     plant: &Plant,
     journals: &[Journal],
 ) -> Result<bool, AllocError>
-    ensures { IfOk result (λ agree. IsTrue agree → Agrees plant.now book.now journals.now) }
+    ensures { IfOk result (λ agree. IsTrue agree ↔ Agree plant.now book.now journals.now) }
 {
     if journals.len() != plant.resources() {
-        return Ok(false);
-    }
-    if journals.len() != book.first().len() {
         return Ok(false);
     }
     if !all_begin(book.first(), journals) {
         return Ok(false);
     }
-    // The getter hands out that each entry fits those before it.
+    // The getter hands out that each entry fits those before it, so its resource has a journal.
     all_made(alloc, book.entries(), journals)
 }
 
@@ -54,7 +52,8 @@ pub fn collect(
     faults: Vec<NodeFault>,
 ) -> Result<Report, RunFault>
     requires numbered { AreNumbered commands.now }
-    requires lawful { All (IsLawful plant.now max_number) journals.items }
+    requires resources { AreForPlant plant.now commands.now }
+    requires lawful { All (IsLawful plant.now (firsts_of journals.items) max_number) journals.items }
     ensures fitting { IfOk result (λ r. IsFittingBook r.book r.journals) }
     ensures journals { IfOk result (λ r. AreJournalsOf plant.now max_number r.journals) }
     ensures made { IfOk result (λ r. AreInBook r.book.entries r.journals) }
@@ -63,7 +62,11 @@ pub fn collect(
     ensures noted { IfOk result (λ r. AreByTicket faults.items r.node_faults) }
     ensures again { IfOk result (λ r. RunsAgain plant.now max_number r.book r.journals) }
     ensures made_again { IfOk result (λ r. CanBeMadeAgain plant.now max_number r.book r.journals) }
+    ensures kept { IfOk result (λ r. (r.book ≡ book) × (r.journals ≡ journals.items)) }
+    ensures fault { IfErr result (IsCollectFault plant.now commands.now book journals.items faults.items) }
 {
+    // The getter hands out that the plant is sound.
+    let _resources = plant.resources();
     let agree = agrees(alloc, &book, plant, journals.as_slice())?;
     if !agree {
         return Err(RunFault::BookDisagrees);
@@ -74,8 +77,9 @@ pub fn collect(
     if !all_commanded(commands, journals.as_slice()) {
         return Err(RunFault::Stranger);
     }
-    if !all_rising(journals.as_slice()) {
-        return Err(RunFault::Doubled);
+    let heard = have_heard_truly(alloc, journals.as_slice(), book.entries())?;
+    if !heard {
+        return Err(RunFault::Stranger);
     }
     let unanswered = unanswered_tickets(alloc, commands, book.entries())?;
     let node_faults = told_faults(
@@ -86,6 +90,9 @@ pub fn collect(
         unanswered.as_slice(),
         faults,
     )?;
+    if !all_rising(journals.as_slice()) {
+        return Err(RunFault::Doubled);
+    }
     Ok(Report {
         book,
         journals: Journals::of(journals),

@@ -19,12 +19,20 @@ fn are_same_takes(takes: &[Take], others: &[Take]) -> bool
     true
 }
 
+/// Whether both have the same numbers in the same order.
+fn are_same_numbers(numbers: &[u32], others: &[u32]) -> bool
+    ensures { IsTrue result ↔ (numbers.now ≡ others.now) }
+{
+    numbers == others
+}
+
 /// Whether the same was asked of both, of the same state before.
 fn are_asked_alike(evaluation: &Evaluation, other: &Evaluation) -> bool
     ensures { IsTrue result ↔ AreAskedAlike evaluation.now other.now }
 {
     evaluation.ticket() == other.ticket()
         && evaluation.name().same(&other.name())
+        && are_same_numbers(evaluation.heard(), other.heard())
         && evaluation.dt() == other.dt()
         && evaluation.inputs().same(other.inputs())
         && are_same_takes(evaluation.takes(), other.takes())

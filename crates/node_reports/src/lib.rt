@@ -3,6 +3,7 @@
 
 mod collector;
 mod comparing;
+mod incarnations;
 mod journals;
 mod node_faults;
 mod report;

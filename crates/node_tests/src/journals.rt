@@ -13,7 +13,7 @@ use std::sync::Arc;
 fn took(step: &Step, frame: &Frame) -> bool {
     match step {
         Step::Took(taken) => taken.same(frame),
-        Step::Made(_) | Step::Restarted { .. } => false,
+        Step::Made(_) | Step::Restarted { .. } | Step::Heard { .. } => false,
     }
 }
 
@@ -44,9 +44,19 @@ fn a_frame_is_taken_once_and_noted_each_time(rt: HostRuntime) {
     let plant = pair(&rt, alloc);
     let inputs = must(&rt, Inputs::read(alloc, "%IX0=1"));
     let shared = must(&rt, Arc::try_clone(&plant));
-    let mut counter = must(&rt, Core::new(alloc, shared, 0, 1, 9));
+    let first = must(&rt, vec![in alloc; 1u32; plant.resources()]);
+    let first = first.as_slice();
+    assert!(rt;
+        first.len() == shared.resources(),
+        "a number for each resource"
+    );
+    let mut counter = must(&rt, Core::new(alloc, shared, 0, first, 9));
     let frame = must(&rt, counter.evaluate(alloc, 1, 0, 10, &inputs));
-    let mut core = must(&rt, Core::new(alloc, plant, 1, 1, 9));
+    assert!(rt;
+        first.len() == plant.resources(),
+        "a number for each resource"
+    );
+    let mut core = must(&rt, Core::new(alloc, plant, 1, first, 9));
     let mut journal = Journal::new(alloc, 1, 1);
     for &answer in &[Accepted::Taken, Accepted::Old] {
         let found = taken(&rt, &mut journal, &mut core, &frame);

@@ -149,6 +149,7 @@ fn letter_of(event: &Event) -> char {
         Event::Evaluate { .. } => 'E',
         Event::Deliver { .. } => 'D',
         Event::Restart { .. } => 'R',
+        Event::Hear { .. } => 'H',
     }
 }
 

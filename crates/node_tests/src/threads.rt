@@ -37,6 +37,53 @@ const RESTARTED: Told = Told {
     kinds: "ERE",
 };
 
+const ZERO: Option<Value> = Some(Value::Int(0));
+
+/// The watcher restarts between its evaluations.
+const WATCHER_RESTARTS: &[Ask] = &[
+    Ask::Evaluate(0, 0, true),
+    Ask::Evaluate(1, 0, false),
+    Ask::Restart(1),
+    Ask::Evaluate(1, 0, false),
+    Ask::Evaluate(0, 0, false),
+    Ask::Evaluate(1, 0, false),
+];
+
+/// It takes nothing until the counter has heard of that.
+const HEARD_OF: Told = Told {
+    entries: &[
+        (0, (1, 1), None, ONE),
+        (1, (1, 1), Some((1, 1)), ONE),
+        (1, (2, 1), None, ZERO),
+        (0, (1, 2), None, ONE),
+        (1, (2, 2), Some((1, 2)), ONE),
+    ],
+    unanswered: &[],
+    faults: &[],
+    kinds: "EDEREHEDE",
+};
+
+/// The watcher restarts, and then the counter, which forgets what it heard.
+const BOTH_RESTART: &[Ask] = &[
+    Ask::Restart(1),
+    Ask::Restart(0),
+    Ask::Evaluate(1, 0, false),
+    Ask::Evaluate(0, 0, false),
+    Ask::Evaluate(1, 0, false),
+];
+
+/// The watcher answers the counter, so each has heard of the other.
+const ANSWERED: Told = Told {
+    entries: &[
+        (1, (2, 1), None, ZERO),
+        (0, (2, 1), None, ZERO),
+        (1, (2, 2), Some((2, 1)), ZERO),
+    ],
+    unanswered: &[],
+    faults: &[],
+    kinds: "RRHEHEDE",
+};
+
 /// A task that isn't there is not evaluated.
 const NO_TASK: Told = Told {
     entries: &[],
@@ -104,6 +151,31 @@ fn paced_runs_are_told(rt: HostRuntime) {
         let gate = PacedGate::new(turns);
         let report = run(&rt, alloc, asks, keepers, &gate, max_number);
         has_told(&rt, alloc, &report, max_number, &told);
+    }
+}
+
+/// Commands, what is told, and what each entry has heard.
+const HEARINGS: &[(&[Ask], Told, &[[u32; 2]])] = &[
+    (
+        WATCHER_RESTARTS,
+        HEARD_OF,
+        &[[1, 1], [1, 1], [1, 2], [1, 2], [1, 2]],
+    ),
+    (BOTH_RESTART, ANSWERED, &[[2, 2], [2, 2], [2, 2]]),
+];
+
+#[test]
+fn restarts_are_heard_of(rt: HostRuntime) {
+    let alloc = rt.alloc();
+    for &(asks, told, heard) in HEARINGS {
+        let keepers = keepers_of(&rt, alloc, 2, 0);
+        let gate = PacedGate::new(TURNS);
+        let report = run(&rt, alloc, asks, keepers, &gate, u32::MAX);
+        has_told(&rt, alloc, &report, u32::MAX, &told);
+        for (frame, wanted) in report.book.entries().iter().zip(heard) {
+            let found = frame.evaluation().heard();
+            equal(&rt, "heard", &found, &wanted.as_slice());
+        }
     }
 }
 

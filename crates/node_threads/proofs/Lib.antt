@@ -1,1 +1,3 @@
 pub mod Alls
+pub mod Firsts
+pub mod Refusing

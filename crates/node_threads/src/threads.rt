@@ -1,6 +1,7 @@
 mod desk;
 mod ended;
 mod entering;
+mod hello;
 mod inbox;
 mod issuing;
 mod joining;
@@ -15,10 +16,11 @@ mod starting;
 mod worker;
 mod worker_state;
 
-ghost use Rattle.std.specs.Prelude.{All, IfOk};
+ghost use Rattle.std.specs.Prelude.{◌≡◌, All, IfOk, IfErr, length};
 ghost use Rattle.node_threads.specs.declared.threads.ended.Ended.{Ended};
-ghost use Rattle.node_journals.specs.Journals.{IsLawful};
-ghost use Rattle.node_threads.specs.Steps.Working.{IsWorkerFor};
+ghost use Rattle.node_journals.specs.Journals.{firsts_of, IsLawful, BeginAbove};
+ghost use Rattle.node_journals.specs.RunFaults.{IsStartFault, IsThreadsFault};
+ghost use Rattle.node_threads.specs.Steps.Working.{IsWorkerFor, firsts_of_workers, firsts_of_ended};
 
 use crate::gate::Gate;
 use crate::threads::desk::Desk;
@@ -26,7 +28,7 @@ use crate::threads::ended::Ended;
 use crate::threads::inbox::Inbox;
 use crate::threads::issuing::{issue_all, stop_all};
 use crate::threads::joining::part;
-use crate::threads::preparing::{make_inboxes, make_workers};
+use crate::threads::preparing::{make_inboxes, make_workers, raise_all};
 use crate::threads::starting::start_all;
 use crate::threads::worker::Worker;
 use crossbeam_channel::Receiver;
@@ -54,8 +56,10 @@ fn run_in<'s, E, R: Threads + Wait + Sync, K: Keeper, G: Gate>(
 ) -> Result<Vec<Ended>, RunFault>
 where
     K: 's,
-    requires { All (IsWorkerFor desk.plant.now max_number) workers.items }
-    ensures { IfOk result (λ es. All (λ e. IsLawful desk.entry.plant.now max_number e.journal) es.items) }
+    requires { All (IsWorkerFor desk.plant.now desk.firsts.now max_number) workers.items }
+    ensures lawful { IfOk result (λ es. All (λ e. IsLawful desk.entry.plant.now desk.entry.firsts.now max_number e.journal) es.items) }
+    ensures firsts { IfOk result (λ es. firsts_of_ended es.items ≡ firsts_of_workers workers.items) }
+    ensures fault { IfErr result IsStartFault }
 {
     let started = start_all(
         scope, rt, alloc, desk, inboxes, workers, max_number, commands,
@@ -87,15 +91,19 @@ fn run_scoped<R: Threads + Wait + Sync, K: Keeper, G: Gate>(
     commands: &[Command],
     faults: &mut Vec<NodeFault>,
 ) -> Result<Vec<Ended>, RunFault>
-    requires { All (IsWorkerFor desk.plant.now max_number) workers.items }
-    ensures { IfOk result (λ es. All (λ e. IsLawful desk.entry.plant.now max_number e.journal) es.items) }
+    requires { All (IsWorkerFor desk.plant.now desk.firsts.now max_number) workers.items }
+    ensures lawful { IfOk result (λ es. All (λ e. IsLawful desk.entry.plant.now desk.entry.firsts.now max_number e.journal) es.items) }
+    ensures firsts { IfOk result (λ es. firsts_of_ended es.items ≡ firsts_of_workers workers.items) }
+    ensures fault { IfErr result IsStartFault }
 {
     thread::scope(
         thread::scope_env(),
         rt,
         |scope| -> Result<Vec<Ended>, RunFault>
-            requires { All (IsWorkerFor desk.plant.now max_number) workers.items }
-            ensures { IfOk result (λ es. All (λ e. IsLawful desk.entry.plant.now max_number e.journal) es.items) }
+            requires { All (IsWorkerFor desk.plant.now desk.firsts.now max_number) workers.items }
+            ensures lawful { IfOk result (λ es. All (λ e. IsLawful desk.entry.plant.now desk.entry.firsts.now max_number e.journal) es.items) }
+            ensures firsts { IfOk result (λ es. firsts_of_ended es.items ≡ firsts_of_workers workers.items) }
+            ensures fault { IfErr result IsStartFault }
         {
             run_in(
                 scope, rt, alloc, desk, inboxes, workers, max_number, commands, faults,
@@ -104,7 +112,7 @@ fn run_scoped<R: Threads + Wait + Sync, K: Keeper, G: Gate>(
     )
 }
 
-/// Runs the commands in one thread for each resource, and joins the threads. Each journal is lawful for the plant and the limit.
+/// Runs the commands in one thread for each resource, and joins the threads. Each journal is lawful for the plant, the journals' first incarnations and the limit, and begins above what its keeper held.
 pub fn run_all<R: Threads + Wait + Sync, K: Keeper, G: Gate>(
     rt: &R,
     alloc: Global,
@@ -114,14 +122,19 @@ pub fn run_all<R: Threads + Wait + Sync, K: Keeper, G: Gate>(
     gate: &G,
     max_number: u32,
 ) -> Result<Outcome, RunFault>
-    ensures { IfOk result (λ o. All (IsLawful plant.now.value max_number) o.journals.items) }
+    requires { length keepers.items ≡ length plant.now.value.resources }
+    ensures lawful { IfOk result (λ o. All (IsLawful plant.now.value (firsts_of o.journals.items) max_number) o.journals.items) }
+    ensures begun { IfOk result (λ o. BeginAbove K.last keepers.items o.journals.items) }
+    ensures fault { IfErr result IsThreadsFault }
 {
-    let (workers, first) = make_workers(alloc, plant, keepers, max_number)?;
+    let (keepers, firsts) = raise_all(alloc, keepers)?;
+    let workers = make_workers(alloc, plant, keepers, firsts.as_slice(), max_number)?;
     let (doors, inboxes) = make_inboxes(alloc, plant.resources())?;
-    let book = Mutex::new(Book::new(alloc, first.as_slice())?);
+    let book = Mutex::new(Book::new(alloc, firsts.as_slice())?);
     let mut faults = Vec::with_capacity(alloc, commands.len())?;
     let desk = Desk {
         plant: &**plant,
+        firsts: firsts.as_slice(),
         book: &book,
         gate,
         doors: doors.as_slice(),

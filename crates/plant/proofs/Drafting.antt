@@ -35,7 +35,7 @@ runs_more p items i x olds news lt is e f =
     rw (flat, filter-append p (flat_map use_of (take i items)) (use_of x)) (f ∙ ap (λ l. l ++ filter p (use_of x)) e)
 
 -- what is found stands somewhere, and passes
-found_place : {A : Type 0} (p : A → Bool) (xs : List A) (x : A) → find p xs ≡ Some x → (k : ℕ) × (slice_get xs k ≡ Some x) × IsTrue (p x)
+pub found_place : {A : Type 0} (p : A → Bool) (xs : List A) (x : A) → find p xs ≡ Some x → (k : ℕ) × (slice_get xs k ≡ Some x) × IsTrue (p x)
 found_place p [] x e = absurd cc
 found_place {A = A} p (y ∷ ys) x e = by_first (p y) refl e (found_place p ys x)
   where

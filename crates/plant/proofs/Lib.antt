@@ -13,3 +13,6 @@ pub mod BodyCounts
 mod DueTasks
 pub mod WordFaults
 pub mod DrawnTrees
+pub mod Members
+pub mod Sourcing
+pub mod SameTrees

@@ -38,14 +38,14 @@ zip_from R (x ∷ xs) [] e h = absurd (omega arith)
 zip_from R (x ∷ xs) (y ∷ ys) e h = (h 0 x y refl refl, zip_from R xs ys (omega arith) (λ k x' y' at at'. h (suc k) x' y' at at'))
 
 -- where a task stands in a plant
-code_found : (plant : PlantValue) (t : TaskRef) (c : CodeValue) → code_at plant t ≡ Some c → (r : ResourceValue) × (slice_get plant.resources t.resource ≡ Some r) × (slice_get r.codes t.task ≡ Some c)
+pub code_found : (plant : PlantValue) (t : TaskRef) (c : CodeValue) → code_at plant t ≡ Some c → (r : ResourceValue) × (slice_get plant.resources t.resource ≡ Some r) × (slice_get r.codes t.task ≡ Some c)
 code_found plant t c at = go (slice_get plant.resources t.resource) refl
   where
     go : (o : Option ResourceValue) → slice_get plant.resources t.resource ≡ o → (r : ResourceValue) × (slice_get plant.resources t.resource ≡ Some r) × (slice_get r.codes t.task ≡ Some c)
     go None e = let none : slice_get {X = CodeValue} [] t.task ≡ Some c = rw e at at in cc
     go (Some r) e = (r, e, rw e at at)
 
-code_stands : (plant : PlantValue) (t : TaskRef) (r : ResourceValue) (c : CodeValue) → slice_get plant.resources t.resource ≡ Some r → slice_get r.codes t.task ≡ Some c → code_at plant t ≡ Some c
+pub code_stands : (plant : PlantValue) (t : TaskRef) (r : ResourceValue) (c : CodeValue) → slice_get plant.resources t.resource ≡ Some r → slice_get r.codes t.task ≡ Some c → code_at plant t ≡ Some c
 code_stands plant t r c e f = rw e f
 
 module _ (programs : List Program) (name : List ℕ) (rs : List Resource) (ds vs : List ResourceValue) (known : AllZip (IsResourceDraft programs) rs ds) (many : length vs ≡ length rs)
@@ -174,7 +174,7 @@ module _ (programs : List Program) (name : List ℕ) (rs : List Resource) (ds vs
   }
 
 -- what holds of each use by its line holds of the uses
-uses_all : (P : Use → Type 0) (xs : List Item) → ((k : ℕ) (u : Use) → slice_get xs k ≡ Some (item.Use u) → P u) → All P (flat_map use_of xs)
+pub uses_all : (P : Use → Type 0) (xs : List Item) → ((k : ℕ) (u : Use) → slice_get xs k ≡ Some (item.Use u) → P u) → All P (flat_map use_of xs)
 uses_all P [] h = All-nil P
 uses_all P (item.Task t ∷ xs) h = uses_all P xs (λ k u at. h (suc k) u at)
 uses_all P (item.Use u ∷ xs) h = All-cons P u (flat_map use_of xs) (h 0 u refl) (uses_all P xs (λ k v at. h (suc k) v at))

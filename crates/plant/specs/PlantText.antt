@@ -21,6 +21,10 @@ pub record IsPlantText (text : List ℕ) (plant : PlantValue) : Type 0 where
   pub faultless : IsTreeFaultless tree
   pub stands : IsPlantOf tree plant
 
+-- The text, but for a carriage return at its end, spells no tree without fault.
+abbrev pub IsNoPlant : List ℕ → Type 0
+IsNoPlant text = (tree : Tree) → Spells (without_last 13 text) (words_of tree) → IsTreeFaultless tree → ⊥
+
 -- The text begins with these programs, their bodies on their first lines, and the fault is that of the first of them
 -- whose body is refused.
 pub record IsBodyFaultIn (text : List ℕ) (fault : PlantFault) : Type 0 where

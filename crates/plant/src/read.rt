@@ -1,11 +1,12 @@
-ghost use Rattle.std.specs.Prelude.{IfOk, IfErr};
+ghost use Rattle.std.specs.Prelude.{◌≢◌, IfOk, IfErr};
 ghost use Rattle.program_bodies.specs.Faults.{IsPlantFault, IsOfBody, IsOfDeclaredName};
-ghost use Rattle.plant.specs.PlantText.{IsPlantText, IsBodyFaultIn, IsNameFaultIn};
+ghost use Rattle.program_bodies.specs.declared.plant_fault.PlantFaultKind.TheVariants.{Memory};
+ghost use Rattle.plant.specs.PlantText.{IsPlantText, IsNoPlant, IsBodyFaultIn, IsNameFaultIn};
 
 use crate::plant::Plant;
 use crate::sources::reading::Reading;
 use crate::sources::resolve::resolve;
-use plant_grammar::{Reader, read_tree};
+use plant_grammar::{Reader, programs_are_the_first, read_tree, words_are_in_place};
 use plant_text::read_words;
 use program_bodies::{PlantFault, draw_all};
 use std::alloc::Global;
@@ -13,13 +14,18 @@ use std::alloc::Global;
 impl Plant {
     /// Reads the text of a plant. The first fault met from top to bottom is answered, with its line; a word that the grammar doesn't have there, or that is no word,
     /// is met where it stands, a program's drawing at its END_PROGRAM, and the sources of bound inputs at END_CONFIGURATION.
+    ///
+    /// A text without a fault is refused only where there is no memory left.
     #[tactic(auto, using(crate::proofs::WordFaults::memory_no_name, crate::proofs::WordFaults::memory_no_body))]
     pub fn read(alloc: Global, text: &str) -> Result<Plant, PlantFault>
         ensures ok { IfOk result (λ p. IsPlantText text.now p) }
+        ensures refused { IfErr result (λ fault. fault.kind ≢ Memory → IsNoPlant text.now) }
         ensures value { IfErr result IsPlantFault }
         ensures body { IfErr result (λ fault. IsOfBody fault.kind → IsBodyFaultIn text.now fault) }
         ensures name { IfErr result (λ fault. IsOfDeclaredName fault.kind → IsNameFaultIn text.now fault) }
     {
+        words_are_in_place();
+        programs_are_the_first();
         let words = read_words(alloc, text)?;
         let mut reader = Reader::new(words.words(), words.last());
         let mut texts = Vec::new(alloc);

@@ -9,3 +9,7 @@ pub mod ProgramVariables
 pub mod WholeTrees
 pub mod PlacedWords
 pub mod NewNames
+pub mod OneTree
+pub mod LawfulPrograms
+pub mod LawfulResources
+pub mod LawfulTrees

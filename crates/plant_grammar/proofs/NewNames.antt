@@ -20,7 +20,7 @@ use Rattle.plant_grammar.specs.Steps.Refusing.{MayBeDeclared}
 use Rattle.plant_grammar.proofs.Apart.{named_back}
 
 -- a name behind others is none of them
-behind_others : (front : List (List ℕ)) (n : List ℕ) (more : List (List ℕ)) → AreNamesApart (front ++ n ∷ more) → (i : ℕ) (x : List ℕ) → i < length front → get_or front i x ≡ x → IsTrue (is_named n x) → ⊥
+pub behind_others : (front : List (List ℕ)) (n : List ℕ) (more : List (List ℕ)) → AreNamesApart (front ++ n ∷ more) → (i : ℕ) (x : List ℕ) → i < length front → get_or front i x ≡ x → IsTrue (is_named n x) → ⊥
 behind_others front n more apart i x lt at named =
     let long = length-append front (n ∷ more) in
     let here : get_or (front ++ n ∷ more) i x ≡ x = get_or_append_left front (n ∷ more) x i lt ∙ at in

@@ -1,5 +1,5 @@
 -- Words up to a name that is refused, with more read in front of them.
-use Rattle.std.proofs.Common.{◌≡◌, inl, inr, ℕ, ◌<◌, List, [], ◌∷◌, ◌++◌, length, Result, Ok, Err, IfErr, refl, sym, ap, subst, ◌∙◌, append_assoc, arith}
+use Rattle.std.proofs.Common.{◌≡◌, ◌≢◌, inl, inr, ℕ, ◌<◌, List, [], ◌∷◌, ◌++◌, length, Result, Ok, Err, IfErr, refl, sym, ap, subst, ◌∙◌, append_assoc, arith}
 use Rattle.std.specs.List.{flat_map}
 use Rattle.std.specs.Result.{IsErrAnd}
 use Rattle.std.proofs.lemmas.List.Concat.{flat_map-cons}
@@ -105,6 +105,11 @@ binds_and_commas (b ∷ c ∷ bs) rest some =
 pub memory_result : {T : Type 0} (P : GrammarFault → Type 0) (r : Result T GrammarFault) → IsErrAnd r (λ fault. (fault.kind ≡ kind.Memory) × IsGrammarFault fault) → IfErr r (λ f. IsOfName f.kind → P f)
 memory_result P (Ok x) h = tt
 memory_result P (Err fault) h = λ of. absurd (memory_no_name fault h.0 of)
+
+-- want of memory is no refusal
+pub memory_excused : {T : Type 0} (Q : GrammarFault → Type 0) (r : Result T GrammarFault) → IsErrAnd r (λ fault. (fault.kind ≡ kind.Memory) × IsGrammarFault fault) → IfErr r (λ f. f.kind ≢ kind.Memory → Q f)
+memory_excused Q (Ok x) h = tt
+memory_excused Q (Err fault) h = λ known. absurd (known h.0)
 
 -- more that each of the two kinds tells
 pub tells_with : (k : GrammarFaultKind) (twice full twice_too full_too : Type 0) → (twice → twice_too) → (full → full_too) → TellsOfName k twice full → TellsOfName k twice_too full_too

@@ -18,7 +18,13 @@ const FAST: TaskRef = TaskRef {
 fn core(rt: &impl Abort, alloc: Global, plant: &str, resource: usize) -> Result<Core, CoreFault> {
     let plant = must(rt, Plant::read(alloc, plant));
     let plant = must(rt, Arc::new(alloc, plant));
-    Core::new(alloc, plant, resource, 1, u32::MAX)
+    let first = must(rt, vec![in alloc; 1u32; plant.resources()]);
+    let first = first.as_slice();
+    assert!(rt;
+        first.len() == plant.resources(),
+        "a number for each resource"
+    );
+    Core::new(alloc, plant, resource, first, u32::MAX)
 }
 
 /// The next evaluation of the first task, its input on, asked again where memory was refused: then the same call gives what it would have given.
@@ -78,6 +84,30 @@ fn a_core_takes_what_it_can_use(rt: HostRuntime) {
         equal(&rt, "accepted", &watcher.accept(frame), &accepted);
     }
     equal(&rt, "held", &held(&watcher), &Some((1, 1)));
+}
+
+/// Only news is heard, and only what is addressed to the core's incarnation is taken.
+#[test]
+fn a_core_hears_of_restarts(rt: HostRuntime) {
+    let mut counter = must(&rt, core(&rt, rt.alloc(), PAIR, 0));
+    for &(of, incarnation, newer) in &[
+        (1, 2, true),
+        (1, 2, false),
+        (1, 1, false),
+        (0, 9, false),
+        (7, 2, false),
+    ] {
+        equal(&rt, "newer", &counter.hear(of, incarnation), &newer);
+    }
+    equal(&rt, "heard", &counter.heard(), &[1, 2].as_slice());
+    let frame = evaluated(&rt, rt.alloc(), &mut counter);
+    let heard = frame.evaluation().heard();
+    equal(&rt, "heard by its maker", &heard, &[1, 2].as_slice());
+    let mut watcher = must(&rt, core(&rt, rt.alloc(), PAIR, 1));
+    let share = must(&rt, frame.try_clone());
+    equal(&rt, "accepted", &watcher.accept(share), &Accepted::Stray);
+    let mut watcher = restarted(&rt, rt.alloc(), restarted(&rt, rt.alloc(), watcher));
+    equal(&rt, "accepted", &watcher.accept(frame), &Accepted::Taken);
 }
 
 /// A core after a restart, or as it came back.

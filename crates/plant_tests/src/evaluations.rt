@@ -89,9 +89,12 @@ fn evaluated(
     let inputs = must(rt, Inputs::read(alloc, inputs));
     let takes = Vec::new(alloc);
     let code = must(rt, Arc::try_clone(code));
+    let heard = must(rt, vec![in alloc; 1u32; 2]);
     assert!(rt; fits_state(&code, &before));
     assert!(rt; suits_takes(&code, takes.as_slice()));
-    let made = Evaluation::make(alloc, ticket, name, 10, inputs, takes, before, code);
+    assert!(rt; task.resource < heard.len());
+    assert!(rt; heard[task.resource] == name.incarnation);
+    let made = Evaluation::make(alloc, ticket, name, heard, 10, inputs, takes, before, code);
     must(rt, Frame::new(alloc, must(rt, made)))
 }
 

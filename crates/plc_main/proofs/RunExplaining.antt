@@ -8,7 +8,7 @@ use Rattle.evaluation.specs.declared.field_input.FieldInput.{FieldInput}
 use Rattle.node_journals.specs.declared.command.Command.{Command}
 use Rattle.node_journals.specs.declared.run_fault.RunFault.{RunFault}
 use Rattle.node_reports.specs.declared.report.Report.{Report}
-use Rattle.node_reports.specs.Reports.{IsFittingBook, AreJournalsOf, AreInBook, AreAnswers, RunsAgain, CanBeMadeAgain, AreTold}
+use Rattle.node_reports.specs.Reports.{IsFittingBook, AreJournalsOf, AreInBook, AreAnswers, RunsAgain, CanBeMadeAgain, AreTold, IsRunFault}
 use Rattle.console.specs.declared.command_fault.CommandFault.{CommandFault}
 use Rattle.text_writer.specs.declared.send_fault.SendFault.{SendFault}
 use Rattle.text_writer.specs.declared.send_fault.SendFault.TheVariants as sending
@@ -33,9 +33,13 @@ pub run_refused : {T : Type 0} (plant : PlantValue) (until : ℕ) (inputs : List
 run_refused plant until inputs old found r is refused = kept_fault (command_fault found) (ExplainsRun plant until inputs old old) r is (no_plan plant until inputs old found refused)
 
 -- no report
-pub no_report : {T : Type 0} (plant : PlantValue) (until : ℕ) (inputs : List FieldInput) (old : Option (List ℕ)) (found : RunFault) (r : Result T CommandFault) → IsErrAnd r (GivenForRun found) → IfErr r (ExplainsRun plant until inputs old old)
-no_report plant until inputs old found (Ok x) given = tt
-no_report plant until inputs old found (Err fault) given = elim given [ inl w ↦ subst (ExplainsRun plant until inputs old old) (sym w.1) (inl (Keeps-refl old)) | inr w ↦ subst (ExplainsRun plant until inputs old old) (sym w.1) (w.0, Keeps-refl old) ]
+pub no_report : {T : Type 0} (plant : PlantValue) (until : ℕ) (inputs : List FieldInput) (commands : List Command) (old : Option (List ℕ)) (found : RunFault) (r : Result T CommandFault) → ArePlanned plant until inputs commands
+    → IsRunFault plant 4294967295 commands found → IsErrAnd r (GivenForRun found) → IfErr r (ExplainsRun plant until inputs old old)
+no_report plant until inputs commands old found (Ok x) planned refused given = tt
+no_report plant until inputs commands old found (Err fault) planned refused given = elim given [
+  | inl w ↦ subst (ExplainsRun plant until inputs old old) (sym w.1) (inl (Keeps-refl old))
+  | inr w ↦ subst (ExplainsRun plant until inputs old old) (sym w.1) (record { commands = commands; planned = planned; refused = refused; not_memory = w.0 }, Keeps-refl old)
+]
 
 told_of : (plant : PlantValue) (until : ℕ) (inputs : List FieldInput) (old new : Option (List ℕ)) (report : Report) (found : SendFault) → IsReportOf plant until inputs report → TellsPart plant report old new found
     → ExplainsRun plant until inputs old new (command_fault (sending_fault found))

@@ -5,10 +5,11 @@ use Rattle.plant.specs.PlantValue.{PlantValue}
 use Rattle.evaluation.specs.declared.field_input.FieldInput.{FieldInput}
 use Rattle.node_journals.specs.declared.command.Command.{Command}
 use Rattle.node_reports.specs.declared.report.Report.{Report}
-use Rattle.node_reports.specs.Reports.{IsFittingBook, AreJournalsOf, AreInBook, AreAnswers, RunsAgain, CanBeMadeAgain, AreTold}
+use Rattle.node_reports.specs.Reports.{IsFittingBook, AreJournalsOf, AreInBook, AreAnswers, RunsAgain, CanBeMadeAgain, AreTold, IsRunFault}
 use Rattle.console.specs.declared.command_fault.CommandFault.{CommandFault}
 use Rattle.console.specs.declared.command_fault.CommandFault.TheVariants.{Text, Word, Write, Run, Memory}
 use Rattle.text_writer.specs.Sending.{SendsPart, SendsLess}
+use Rattle.node_journals.specs.declared.run_fault.RunFault.{RunFault}
 use Rattle.node_journals.specs.declared.run_fault.RunFault.TheVariants as run
 use Rattle.text_commands.specs.declared.text_command_fault.TextCommandFault.TheVariants as text
 use Rattle.text_commands.specs.PlanText.{RefusesPlanOf}
@@ -56,11 +57,18 @@ pub record WritesReportPart (plant : PlantValue) (until : ℕ) (inputs : List Fi
   pub is_report : IsReportOf plant until inputs report
   pub sent : SendsPart (report_lines plant report) old new
 
+-- threads that ran the commands for the plan gave no report, for this reason, which isn't want of memory
+pub record RefusesRun (plant : PlantValue) (until : ℕ) (inputs : List FieldInput) (fault : RunFault) : Type 0 where
+  pub commands : List Command
+  pub planned : ArePlanned plant until inputs commands
+  pub refused : IsRunFault plant 4294967295 commands fault
+  pub not_memory : fault ≢ run.Memory
+
 -- why there was a fault, and what was written before: nothing before a plan that is too long and threads that gave no
 -- report for another reason than want of memory, and after want of memory no last line
 abbrev pub ExplainsRun : PlantValue → ℕ → List FieldInput → Option (List ℕ) → Option (List ℕ) → CommandFault → Type 0
 ExplainsRun plant until inputs old new (Text fault) = RefusesPlanOf plant until (text.Text fault) × Keeps old new
 ExplainsRun plant until inputs old new (Word fault) = ⊥
 ExplainsRun plant until inputs old new Write = WritesReportLess plant until inputs old new
-ExplainsRun plant until inputs old new (Run fault) = (fault ≢ run.Memory) × Keeps old new
+ExplainsRun plant until inputs old new (Run fault) = RefusesRun plant until inputs fault × Keeps old new
 ExplainsRun plant until inputs old new Memory = Keeps old new ⊎ WritesReportPart plant until inputs old new

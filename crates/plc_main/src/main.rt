@@ -9,7 +9,8 @@ ghost use Rattle.plc_main.specs.RunText.{WritesReport, ExplainsRun};
 use command_line::{Request, RunRequest, read_words};
 use console::{
     CommandFault, FAILED, Prepared, answer_kind, answer_kinds, answer_schedule, answer_text,
-    given_words, prepare, print_failure, print_fault, print_given_fault, print_usage,
+    answer_verify, given_words, prepare, print_failure, print_fault, print_given_fault,
+    print_usage,
 };
 use file_keepers::{FileKeeper, FolderLock, LockFault, SystemFolder};
 use node::{FreeGate, Gate, Keeper, MemoryKeeper, PacedGate, RunFault};
@@ -199,6 +200,7 @@ fn answer<R: Env + Files + Input + Print + Eprint + AllocGlobal + Threads + Wait
     };
     match read_words(rt.alloc(), given.as_slice()) {
         Ok(Request::Text(request)) => answer_text(rt, &request),
+        Ok(Request::Verify(request)) => answer_verify(rt, &request),
         Ok(Request::Sim(request)) => answer_schedule(rt, &request),
         Ok(Request::Run(request)) => answer_run(rt, host, &request),
         Ok(Request::Explain(Some(kind))) => answer_kind(rt, kind),

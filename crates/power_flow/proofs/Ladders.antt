@@ -6,3 +6,4 @@ pub mod Determinism
 pub mod Binds
 pub mod OneLadder
 pub mod FittingStates
+pub mod Snapshots

@@ -5,4 +5,5 @@ pub mod LadderValue
 pub mod Waiting
 pub mod Values
 pub mod Scan
+pub mod Shown
 pub mod Steps

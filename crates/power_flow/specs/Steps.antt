@@ -6,6 +6,8 @@ pub mod BoxTable
 pub mod Circuit
 pub mod CoilStores
 pub mod Columns
+pub mod Comings
 pub mod Fused
 pub mod NameSources
 pub mod RowEnds
+pub mod Snapshots

@@ -5,12 +5,15 @@ mod binding;
 mod ladder;
 mod laws;
 mod scan;
+mod showing;
+mod snapshot;
 mod state;
 mod steps;
 
 pub use ladder::Ladder;
 pub use laws::{fitting_states_are_equal, one_ladder, one_scan};
 pub use scan_steps::{Instance, Slot};
+pub use snapshot::Snapshot;
 pub use state::State;
 pub use variable_binding::{
     BindFault, BindKind, Declaration, Declarations, DeclareFault, Declared, Guess, Kind,

@@ -1,2 +1,3 @@
 pub mod RefusedBodies
 pub mod DrawnTypes
+pub mod OneLadder

@@ -1,7 +1,7 @@
-ghost use Rattle.std.specs.Prelude.{◌≡◌, ◌≢◌, IfOk, IfErr};
+ghost use Rattle.std.specs.Prelude.{◌≡◌, ◌≢◌, All, IfOk, IfErr};
 ghost use Rattle.program_bodies.specs.Faults.{IsPlantFault};
 ghost use Rattle.program_bodies.specs.declared.plant_fault.PlantFaultKind.TheVariants.{Memory};
-ghost use Rattle.program_bodies.specs.Ladders.{IsLadderOf};
+ghost use Rattle.program_bodies.specs.Ladders.{IsLadderOf, HasLadder};
 ghost use Rattle.program_bodies.specs.BodyFaults.{IsBodyFault, IsFirstBodyFault};
 ghost use Rattle.program_bodies.specs.ProgramTypes.{AreDrawn};
 
@@ -32,10 +32,11 @@ fn draw(alloc: Global, text: ProgramText) -> Result<ProgramType, PlantFault>
     Ok(ProgramType::new(program, Arc::new(alloc, ladder)?))
 }
 
-/// The types of these programs. The first fault is answered.
+/// The types of these programs. The first fault is answered, and none where each body has a ladder.
 pub fn draw_all(alloc: Global, texts: Vec<ProgramText>) -> Result<Vec<ProgramType>, PlantFault>
     ensures ok { IfOk result (λ types. AreDrawn texts.items types.items) }
     ensures fault { IfErr result (λ fault. fault.kind ≢ Memory → IsFirstBodyFault texts.items fault) }
+    ensures refused { IfErr result (λ fault. fault.kind ≢ Memory → All (λ t. HasLadder t.program) texts.items → ⊥) }
     ensures value { IfErr result IsPlantFault }
 {
     let mut types = Vec::new(alloc);

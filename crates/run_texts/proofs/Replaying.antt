@@ -9,16 +9,17 @@ use Rattle.lists.proofs.Members.{contains_at, all_from_places}
 use Rattle.plant.specs.PlantValue.{PlantValue, code_at}
 use Rattle.evaluation.specs.Meaning.{Evaluated}
 use Rattle.exchange.specs.declared.event.Event.{Event}
-use Rattle.exchange.specs.declared.event.Event.TheVariants.{Evaluate, Deliver, Restart}
+use Rattle.exchange.specs.declared.event.Event.TheVariants.{Evaluate, Deliver, Restart, Hear}
 use Rattle.exchange.specs.History.{Setting, history_of, is_lawful, after_events, lawful_among}
 use Rattle.exchange.specs.Run.{IsLog, IsRun}
 use Rattle.exchange.specs.World.{WorldValue}
-use Rattle.exchange.specs.Step.{Follows}
+use Rattle.exchange.specs.Step.{HaveRun}
 use Rattle.exchange.specs.Laws.{OneRun}
 use Rattle.evaluation_book.specs.Book.{BookValue}
 use Rattle.exchange.specs.Replays.{AllCouldBeMade}
 use Rattle.node_journals.specs.declared.journal.Journal.{Journal}
-use Rattle.node_reports.specs.Reports.{RunsAgain, firsts_of}
+use Rattle.node_journals.specs.Journals.{firsts_of}
+use Rattle.node_reports.specs.Reports.{RunsAgain}
 use Rattle.run_texts.specs.Steps.Replaying.{IsReplay, AreOfPlant, AreOfOneCode}
 
 -- the lawful events of a list have the history of all of them
@@ -31,9 +32,9 @@ lawful_history s h (e ∷ es) = by (is_lawful s h e) refl (lawful_history s (e �
   by false is first rest = rest
 
 -- a world that did these events has their run
-pub run_of : (s : Setting) (old new : WorldValue) (es : List Event) (log : List Evaluated) → old ≡ record { setting = s; events = []; log = [] } → Follows old new es → IsRun new.setting new.events new.log → log ≡ new.log → IsRun s es log
+pub run_of : (s : Setting) (old new : WorldValue) (es : List Event) (log : List Evaluated) → old ≡ record { setting = s; events = []; log = [] } → HaveRun old new es → IsRun new.setting new.events new.log → log ≡ new.log → IsRun s es log
 run_of s old new es log is follows run same =
-    let f = subst (λ (w : WorldValue). Follows w new es) is follows in
+    let f = subst (λ (w : WorldValue). HaveRun w new es) is follows in
     let placed = subst (λ (t : Setting). IsRun t new.events new.log) f.setting run in
     let done = subst (λ (done : List Event). IsRun s done new.log) f.events placed in
     let of_all = subst (λ (h : List Event). IsLog s h (reverse new.log)) (lawful_history s [] es) done in
@@ -55,6 +56,7 @@ log_of_plant s [] [] made = tt
 log_of_plant s [] (x ∷ older) made = absurd made
 log_of_plant s (Deliver message resource ∷ h) log made = log_of_plant s h log made
 log_of_plant s (Restart resource ∷ h) log made = log_of_plant s h log made
+log_of_plant s (Hear resource of incarnation ∷ h) log made = log_of_plant s h log made
 log_of_plant s (Evaluate ticket task dt inputs ∷ h) [] made = absurd made
 log_of_plant s (Evaluate ticket task dt inputs ∷ h) (x ∷ older) made =
     let next = made.1 in

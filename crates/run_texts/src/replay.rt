@@ -1,7 +1,8 @@
 //! Whether what the threads made is made again by one thread.
 
 ghost use Rattle.std.specs.Prelude.{◌≡◌, ◌↔◌, true, length, IfOk, IsTrue};
-ghost use Rattle.node_reports.specs.Reports.{RunsAgain, firsts_of};
+ghost use Rattle.node_journals.specs.Journals.{firsts_of};
+ghost use Rattle.node_reports.specs.Reports.{RunsAgain};
 ghost use Rattle.run_texts.specs.Steps.Replaying.{IsReplay, AreOfPlant, AreOfOneCode};
 
 use evaluation::Frame;

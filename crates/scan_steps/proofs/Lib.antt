@@ -3,3 +3,4 @@ pub mod PairSteps
 pub mod BoxesStepping
 pub mod Seating
 pub mod SeatsGrowing
+pub mod SameBools

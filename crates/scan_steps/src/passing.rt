@@ -3,10 +3,11 @@ ghost use Rattle.scan_steps.specs.Conducting.{bit_at, contact_conducts, contact_
 ghost use Rattle.std_blocks.specs.Pins.{field_value};
 ghost use Rattle.scan_steps.specs.Values.{is_true};
 ghost use Rattle.scan_steps.specs.Steps.BoxSteps.{HasOutput, box_result};
-ghost use Rattle.scan_steps.specs.Steps.Passing.{IsStepIn, AreJoined, AreMarked, ArePinsShown, AreShown, IsBoxObeyed, IsObeyed, ArePassed, IsReadAtRail, pass_of, rows_behind, memories_behind, read_rows, read_memories};
+ghost use Rattle.scan_steps.specs.Steps.Passing.{IsStepIn, AreJoined, AreMarked, ArePinsShown, AreShown, IsBoxObeyed, IsObeyed, ArePassed, IsReadAtRail, behind_all, pass_of, rows_behind, memories_behind, read_rows, read_memories};
 
 use crate::bound_box::{BoundBox, BoundOutput};
 use crate::bound_contact::{BoundContact, VariableContact};
+use crate::series::Series;
 use crate::slot::Instance;
 use crate::slots::Slots;
 use crate::source::is_output_on;
@@ -279,6 +280,24 @@ fn read_at_rail(contact: VariableContact, slots: &Slots, rows: &mut [bool])
     read_variable(contact.negated, contact.row, contact.place, slots, rows);
 }
 
+/// Reads the contacts of a rung: the state behind them is that of its row, and the left link of its coil.
+fn read_rung(
+    row: u8,
+    coil: u32,
+    contacts: &Series,
+    slots: &Slots,
+    rows: &mut [bool],
+    links: &mut [bool],
+)
+    requires row { row < length rows.old }
+    requires coil { coil < length links.old }
+    ensures rows { rows.new ≡ slice_set rows.old row (behind_all slots.now true contacts.now) }
+    ensures links { links.new ≡ slice_set links.old coil (bit_at (slice_set rows.old row (behind_all slots.now true contacts.now)) row) }
+{
+    rows[row as usize] = contacts.is_on(slots);
+    links[coil as usize] = rows[row as usize];
+}
+
 /// Steps the box with this number.
 fn obey_box(
     number: usize,
@@ -331,6 +350,7 @@ fn obey(
             join_rows(rows, pair.first as usize, pair.second as usize);
             read_pair(*pair, *places, slots, rows)
         }
+        Step::Rung(row, coil, contacts) => read_rung(*row, *coil, contacts, slots, rows, links),
         Step::Coil(row, number) => links[*number as usize] = rows[*row as usize],
         Step::Box(number) | Step::BoxCoil(number, _, _) => {
             obey_box(*number as usize, boxes, slots, rows, results, dt);

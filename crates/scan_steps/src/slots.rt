@@ -129,7 +129,7 @@ fn is_slot_of(declared: Declared, slot: &Slot) -> bool
 }
 
 impl Slots {
-    ghost use Rattle.std.specs.Prelude.{◌≡◌, ◌↔◌, List, Some, IsTrue, IfOk, MatchOption, map, length, slice_get, slice_set};
+    ghost use Rattle.std.specs.Prelude.{◌≡◌, ◌↔◌, ℕ, List, Some, IsTrue, IfOk, MatchOption, map, length, slice_get, slice_set};
     ghost use Rattle.std.specs.Bool.{OnTrue, OnFalse};
     ghost use Rattle.std.specs.Option.{option_map};
     ghost use Rattle.declared_names.specs.declared.declarations.Declaration.{Declaration};
@@ -138,6 +138,7 @@ impl Slots {
     ghost use Rattle.scan_steps.specs.Values.{is_true};
     ghost use Rattle.scan_steps.specs.Slots.{variable_at, IsKindAt, AreSlotsOf};
     ghost use Rattle.scan_steps.specs.Steps.Storing.{block_at, block_put, value_put};
+    ghost use Rattle.scan_steps.specs.Steps.Seats.{AreBools};
 
     /// What stands at each declared name before the first scan.
     pub fn initial(alloc: Global, declarations: &Declarations) -> Result<Slots, AllocError>
@@ -254,12 +255,31 @@ impl Slots {
         }
     }
 
-    /// Whether the same stands at each place.
+    /// Whether there are as many names, and at the same of them stands a BOOL that is TRUE.
+    fn has_same_bools(&self, other: &Self) -> bool
+        ensures many { IsTrue result → length self.now ≡ length other.now }
+        ensures bools { IsTrue result → (k : ℕ) → is_true (variable_at self.now k) ≡ is_true (variable_at other.now k) }
+        ensures same { self.now ≡ other.now → IsTrue result }
+    {
+        self.lists.has_same_bits(&other.lists)
+    }
+
+    /// Whether a BOOL stands at each place.
+    fn has_bools_alone(&self) -> bool
+        ensures { IsTrue result → AreBools self.now }
+    {
+        self.lists.has_bits_alone()
+    }
+
+    /// Whether the same stands at each place. Mostly the BOOLs tell.
     pub fn same(&self, other: &Self) -> bool
         ensures { IsTrue result ↔ (self.now ≡ other.now) }
     {
-        if self.len() != other.len() {
+        if !self.has_same_bools(other) {
             return false;
+        }
+        if self.has_bools_alone() && other.has_bools_alone() {
+            return true;
         }
         for place in 0..self.len() {
             if !self.is_same_at(other, place) {

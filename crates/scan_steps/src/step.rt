@@ -1,6 +1,7 @@
 ghost use Rattle.std.specs.Prelude.{◌≡◌};
 
 use crate::bound_contact::{BoundContact, VariableContact};
+use crate::series::Series;
 use crate::variable_pair::{PairPlaces, PairRows};
 use drawings::CoilKind;
 
@@ -37,6 +38,8 @@ pub enum Step {
     Pair(PairRows, PairPlaces),
     /// The rows from the first to the second contact of a pair are joined, and then state goes on behind each that conducts.
     JoinedPair(PairRows, PairPlaces),
+    /// A contact follows the left rail in this row, and the others one behind the other; the state behind them is the left link of the coil with this number.
+    Rung(u8, u32, Series),
     /// The state of this row is the left link of the coil with this number.
     Coil(u8, u32),
     /// The box with this number is stepped, once the states on its left are known.

@@ -1,4 +1,4 @@
-ghost use Rattle.std.specs.Prelude.{◌≡◌, IfOk, length, slice_get, slice_set, slice_index_or, pos};
+ghost use Rattle.std.specs.Prelude.{◌≡◌, ◌↔◌, IsTrue, IfOk, length, slice_get, slice_set, slice_index_or, pos};
 ghost use Rattle.std.specs.Option.{option_map};
 ghost use Rattle.std_blocks.specs.declared.block_type.BlockType.TheVariants.{SR};
 ghost use Rattle.scan_steps.specs.First.{instance_first};
@@ -33,8 +33,21 @@ impl Model for Lists {
     } };
 }
 
+/// The same items once more, by one copy of memory.
+fn copy_of<T: Copy>(items: &Vec<T>) -> Result<Vec<T>, AllocError>
+    ensures { IfOk result (λ copy. copy.items ≡ items.now.items) }
+{
+    Vec::from_slice(*items.allocator(), items)
+}
+
+fn are_same_bits(bits: &[bool], others: &[bool]) -> bool
+    ensures { IsTrue result ↔ (bits.now ≡ others.now) }
+{
+    bits == others
+}
+
 impl Lists {
-    ghost use Rattle.std.specs.Prelude.{◌≡◌, [], ◌++◌, ◌∷◌, true, false, IfOk, OnOk, length, slice_get, slice_set, slice_index_or, pos};
+    ghost use Rattle.std.specs.Prelude.{◌≡◌, ◌↔◌, [], ◌++◌, ◌∷◌, true, false, IsTrue, IfOk, OnOk, length, slice_get, slice_set, slice_index_or, pos};
     ghost use Rattle.scan_steps.specs.Steps.Seats.{no_lists, is_kind_of, lists_put, block_in, lists_put_block};
     ghost use Rattle.scan_steps.specs.Slots.{variable_of};
 
@@ -93,18 +106,35 @@ impl Lists {
         ensures { IfOk result (λ copy. copy ≡ self.now) }
     {
         Ok(Lists {
-            bits: self.bits.clone()?,
-            ints: self.ints.clone()?,
-            times: self.times.clone()?,
-            blocks: self.blocks.clone()?,
+            bits: copy_of(&self.bits)?,
+            ints: copy_of(&self.ints)?,
+            times: copy_of(&self.times)?,
+            blocks: copy_of(&self.blocks)?,
         })
+    }
+
+    /// Whether the same BOOLs are TRUE.
+    pub fn has_same_bits(&self, other: &Self) -> bool
+        ensures { IsTrue result ↔ (self.now.bits ≡ other.now.bits) }
+    {
+        are_same_bits(&self.bits, &other.bits)
+    }
+
+    /// Whether there are BOOLs alone.
+    pub fn has_bits_alone(&self) -> bool
+        ensures { IsTrue result → (length self.now.ints ≡ 0) × (length self.now.times ≡ 0) × (length self.now.blocks ≡ 0) }
+    {
+        self.ints.len() == 0 && self.times.len() == 0 && self.blocks.len() == 0
     }
 
     /// Whether the BOOL at a place is TRUE.
     pub fn is_on(&self, place: usize) -> bool
         ensures { result ≡ bit_at self.now.bits place }
     {
-        matches!(self.bits.get(place), Some(true))
+        match self.bits.get(place) {
+            Some(on) => *on,
+            None => false,
+        }
     }
 
     /// The INT of this number.

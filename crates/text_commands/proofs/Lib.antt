@@ -7,3 +7,8 @@ pub mod Counting
 pub mod PlantBounds
 pub mod PlanExplaining
 pub mod PlantRefusing
+pub mod Tracing
+pub mod Charting
+pub mod Expecting
+pub mod TestReading
+pub mod TestAnswers

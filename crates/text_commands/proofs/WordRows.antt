@@ -13,7 +13,7 @@ use Rattle.text_commands.specs.declared.word_fault.WordFaultKind.{WordFaultKind}
 use Rattle.text_commands.specs.declared.word_fault.WordFaultKind.TheVariants.{NoVariable, BadDigits, Twice}
 use Rattle.text_commands.specs.Rows.{RowValue, IsRow, SpellRows, AreOfDistinctVariables, IsBoolAt, IsRefusedFor, IsFirstRefused, texts}
 
-zip_at : {X Y : Type 0} (R : X → Y → Type 0) (xs : List X) (ys : List Y) (i : ℕ) (d : X) (e : Y) → AllZip R xs ys → i < length ys → R (get_or xs i d) (get_or ys i e)
+pub zip_at : {X Y : Type 0} (R : X → Y → Type 0) (xs : List X) (ys : List Y) (i : ℕ) (d : X) (e : Y) → AllZip R xs ys → i < length ys → R (get_or xs i d) (get_or ys i e)
 zip_at R [] [] i d e each lt = absurd (omega arith)
 zip_at R [] (y ∷ ys) i d e each lt = absurd each
 zip_at R (x ∷ xs) [] i d e each lt = absurd each
@@ -21,7 +21,7 @@ zip_at R (x ∷ xs) (y ∷ ys) zero d e each lt = each.0
 zip_at R (x ∷ xs) (y ∷ ys) (suc i) d e each lt = zip_at R xs ys i d e each.1 (omega arith)
 
 -- the text of a word
-word_at : (words : List (Bor (List ℕ))) (i : ℕ) (d : Bor (List ℕ)) → i < length words → get_or (texts words) i [] ≡ (get_or words i d).now
+pub word_at : (words : List (Bor (List ℕ))) (i : ℕ) (d : Bor (List ℕ)) → i < length words → get_or (texts words) i [] ≡ (get_or words i d).now
 word_at words i d lt = get_or-map (λ (w : Bor (List ℕ)). w.now) words i d [] lt
 
 same_place : (ds : List Declaration) (word : List ℕ) (r s : RowValue) → IsRow ds word r → IsRow ds word s → r.place ≡ s.place
@@ -54,7 +54,7 @@ refuse_twice ds words n d before row lt each is (j, s, within, at, same) rows ar
     omega arith
 
 -- what is wrong with a word by itself is wrong with it behind other rows
-refused_behind : (ds : List Declaration) (rows : List RowValue) (word : List ℕ) (kind : WordFaultKind) → IsRefusedFor ds [] word kind → IsRefusedFor ds rows word kind
+pub refused_behind : (ds : List Declaration) (rows : List RowValue) (word : List ℕ) (kind : WordFaultKind) → IsRefusedFor ds [] word kind → IsRefusedFor ds rows word kind
 refused_behind ds rows word NoVariable refused = refused
 refused_behind ds rows word BadDigits refused = refused
 refused_behind ds rows word Twice (row, is, (j, other, within, at, same)) = absurd (omega arith)

@@ -4,8 +4,8 @@ use Rattle.std.specs.Fmt.{decimal}
 use Rattle.std.specs.Io.KnownBytes.{Appends, Keeps}
 use Rattle.plant.specs.PlantValue.{ResourceValue, PlantValue}
 use Rattle.task_codes.specs.CodeValue.{CodeValue}
-use Rattle.program_bodies.specs.Faults.{IsPlantFault, IsOfBody}
-use Rattle.plant.specs.PlantText.{IsPlantText, IsBodyFaultIn}
+use Rattle.program_bodies.specs.Faults.{IsPlantFault, IsOfBody, IsOfDeclaredName}
+use Rattle.plant.specs.PlantText.{IsPlantText, IsNoPlant, IsBodyFaultIn, IsNameFaultIn}
 use Rattle.program_bodies.specs.declared.plant_fault.PlantFault.{PlantFault}
 use Rattle.program_bodies.specs.declared.plant_fault.PlantFaultKind.TheVariants as plant
 use Rattle.text_writer.specs.Sending.{SendsLess}
@@ -50,12 +50,15 @@ WritesCheck text old new = (plant : PlantValue) × IsPlantText text plant × App
 abbrev pub WritesCheckPart : List ℕ → Option (List ℕ) → Option (List ℕ) → Type 0
 WritesCheckPart text old new = (plant : PlantValue) × IsPlantText text plant × SendsLess (check_lines plant) old new
 
--- a refusal of the text of a plant: not want of memory, with what belongs to its kind; the fault of a body is that of
--- the first body that is refused
+-- a refusal of the text of a plant: not want of memory, with what belongs to its kind, and of no faultless text; the
+-- fault of a body is that of the first body that is refused, and that of a name one that its space has already or has
+-- no room for
 pub record IsRefusal (text : List ℕ) (fault : PlantFault) : Type 0 where
   pub not_memory : fault.kind ≢ plant.Memory
   pub value : IsPlantFault fault
+  pub no_plant : IsNoPlant text
   pub body : IsOfBody fault.kind → IsBodyFaultIn text fault
+  pub name : IsOfDeclaredName fault.kind → IsNameFaultIn text fault
 
 -- only the reader of plants refuses a text here
 abbrev pub RefusesPlantText : List ℕ → TextFault → Type 0

@@ -3,5 +3,9 @@ pub mod Lines
 pub mod EvalText
 pub mod CheckText
 pub mod PlanText
+pub mod Expectations
+pub mod Trace
+pub mod Chart
+pub mod TestText
 pub mod Giving
 pub mod Steps

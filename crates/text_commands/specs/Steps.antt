@@ -3,3 +3,4 @@ pub mod Counting
 pub mod Refusing
 pub mod Joining
 pub mod Rows
+pub mod Testing

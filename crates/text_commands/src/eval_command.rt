@@ -18,7 +18,7 @@ use std_blocks::Value;
 use text_writer::{SendFault, write_text};
 
 /// The ladder of a drawing, its names declared by their use.
-fn read_ladder(alloc: Global, drawing: &str) -> Result<Ladder, TextCommandFault>
+pub fn read_ladder(alloc: Global, drawing: &str) -> Result<Ladder, TextCommandFault>
     ensures ok { IfOk result (λ ladder. IsLadderOfDrawing drawing.now ladder.declarations ladder.networks) }
     ensures err { IfErr result (RefusesLadder drawing.now) }
 {
@@ -41,7 +41,7 @@ fn set_row(row: &Row<'_>, k: usize, state: &mut State)
 }
 
 /// Sets the variable of each row to its digit for scan k, counted from 0, if it has one.
-fn set_rows(rows: &[Row<'_>], k: usize, state: &mut State)
+pub fn set_rows(rows: &[Row<'_>], k: usize, state: &mut State)
     requires { (ds : List Declaration) × AreSlotsOf ds state.old.slots × All (λ row. IsBoolAt ds row.place) rows.now }
     ensures slots { state.new ≡ record state.old { slots = set_before rows.now k state.old.slots } }
     ensures declared { (ds : List Declaration) → AreSlotsOf ds state.old.slots → AreSlotsOf ds state.new.slots }
@@ -52,7 +52,7 @@ fn set_rows(rows: &[Row<'_>], k: usize, state: &mut State)
 }
 
 /// Makes the scans that the rows ask for, and writes a line after each.
-fn write_scans<W: Write>(
+pub fn write_scans<W: Write>(
     alloc: Global,
     ladder: &Ladder,
     rows: &[Row<'_>],

@@ -1,20 +1,30 @@
 //! The commands that need one text alone: `eval` a drawing, `check` a plant, tell its plan.
 #![tactic(auto)]
 
+mod chart;
 mod check_command;
+mod difference;
 mod eval_command;
+mod expectations;
 mod line;
 mod plan_command;
 mod plant_counts;
 mod row;
 mod rows;
+mod test_command;
+mod test_words;
 mod text_command_fault;
 mod text_fault;
 mod word_fault;
 
 pub use check_command::{check, read_plant};
+pub use difference::Difference;
 pub use eval_command::eval;
+pub use line::state_line;
 pub use plan_command::{plan_of, plan_text};
+pub use row::Row;
+pub use rows::read_rows;
+pub use test_command::eval_test;
 pub use text_command_fault::TextCommandFault;
 pub use text_fault::TextFault;
 pub use word_fault::{WordFault, WordFaultKind};

@@ -1,6 +1,7 @@
 ghost use Rattle.std.specs.Prelude.{◌≡◌, ◌↔◌, IfOk, IfErr, OnErr, IsTrue, MatchOption, ℕ, [], Any, Some, slice_get};
 ghost use Rattle.declared_names.specs.Names.{place_of};
-ghost use Rattle.text_commands.specs.Rows.{RowValue, IsRow, IsBoolAt, IsRefusedFor, AreDigits, is_bool, is_zero_or_one};
+ghost use Rattle.text_commands.specs.Rows.{RowValue, IsRow, IsBoolAt, IsRefusedFor, AreDigits, digits_in, is_bool, is_zero_or_one, name_in};
+ghost use Rattle.text_commands.specs.Expectations.{IsExpected, IsRefusedExpectation};
 
 use crate::word_fault::WordFaultKind;
 use power_flow::{Declarations, Declared, Kind};
@@ -76,6 +77,36 @@ fn are_digits(text: &str) -> bool
 {
     let most = MOST_DIGITS;
     0 < text.len() && text.len() <= most && text.bytes().all(|c| c == b'0' || c == b'1')
+}
+
+/// What stands before the first `=`, and what behind it; all and nothing, where there is none.
+pub fn split_at_equals(text: &str) -> (&str, &str)
+    ensures before { result.0.now ≡ name_in text.now }
+    ensures behind { result.1.now ≡ digits_in text.now }
+{
+    match text.split_once('=') {
+        Some(parts) => parts,
+        None => (text, ""),
+    }
+}
+
+/// Reads a word NAME==BITS as what is expected of a declared BOOL variable.
+pub fn read_expectation<'a>(
+    declarations: &Declarations,
+    word: &'a str,
+) -> Result<Row<'a>, WordFaultKind>
+    ensures ok { IfOk result (IsExpected declarations.now word.now) }
+    ensures kind { IfErr result (IsRefusedExpectation declarations.now [] word.now) }
+{
+    let (name, behind) = split_at_equals(word);
+    let (_, digits) = split_at_equals(behind);
+    let Some(place) = bool_place(declarations, name) else {
+        return Err(WordFaultKind::NoVariable);
+    };
+    if !are_digits(digits) {
+        return Err(WordFaultKind::BadDigits);
+    }
+    Ok(Row { place, digits })
 }
 
 /// Reads a word as the row of a declared BOOL variable.

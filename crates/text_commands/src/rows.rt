@@ -8,7 +8,8 @@ use crate::word_fault::{WordFault, WordFaultKind};
 use power_flow::Declarations;
 use std::alloc::Global;
 
-fn has_place(rows: &[Row<'_>], place: usize) -> bool
+/// Whether a row is of the variable at a place.
+pub fn has_place(rows: &[Row<'_>], place: usize) -> bool
     ensures { IsTrue result ↔ Any (λ row. row.place ≡ place) rows.now }
 {
     rows.iter().any(|row| row.place() == place)

@@ -6,11 +6,11 @@ use Rattle.due_list.specs.declared.task_ref.TaskRef.{TaskRef}
 use Rattle.plant.specs.PlantValue.{PlantValue}
 use Rattle.evaluation.specs.declared.field_input.FieldInput.{FieldInput}
 use Rattle.exchange.specs.declared.event.Event.{Event}
-use Rattle.exchange.specs.declared.event.Event.TheVariants.{Evaluate, Deliver, Restart}
-use Rattle.world.specs.ScheduleText.{is_idle, task_in, IsTaskWord, SpellsEvaluate, SpellsDeliver, SpellsRestart, SpellsEvent, SpellEvents, schedule_lines}
+use Rattle.exchange.specs.declared.event.Event.TheVariants.{Evaluate, Deliver, Restart, Hear}
+use Rattle.world.specs.ScheduleText.{is_idle, task_in, IsTaskWord, SpellsEvaluate, SpellsDeliver, SpellsRestart, SpellsHear, SpellsEvent, SpellEvents, schedule_lines}
 use Rattle.world.specs.ScheduleLaws.{OneReading}
 use Rattle.world.proofs.ScheduleWords.{cut_at, task_parts}
-use Rattle.world.proofs.ScheduleReading.{one_inputs, eval_word, deliver_word, restart_word}
+use Rattle.world.proofs.ScheduleReading.{one_inputs, eval_word, deliver_word, restart_word, hear_word}
 
 pub one_task : (plant : PlantValue) (word : List ℕ) (s t : TaskRef) → IsTaskWord plant word s → IsTaskWord plant word t → s ≡ t
 one_task plant word s t g h =
@@ -40,18 +40,33 @@ one_restart plant r s [] g h = absurd g
 one_restart plant r s (x ∷ []) g h = ap (λ k. Restart k) (g.resource_is ∙ sym h.resource_is)
 one_restart plant r s (x ∷ y ∷ more) g h = absurd g
 
+one_hear : (plant : PlantValue) (r s m n i j : ℕ) (words : List (List ℕ)) → SpellsHear plant r m i words → SpellsHear plant s n j words → Hear r m i ≡ Hear s n j
+one_hear plant r s m n i j [] g h = absurd g
+one_hear plant r s m n i j (x ∷ []) g h = absurd g
+one_hear plant r s m n i j (x ∷ y ∷ []) g h = absurd g
+one_hear plant r s m n i j (x ∷ y ∷ z ∷ []) g h =
+    ap (λ k. Hear k m i) (g.0.resource_is ∙ sym h.0.resource_is) ∙ ap (λ k. Hear s k i) (g.1.resource_is ∙ sym h.1.resource_is) ∙ ap (λ k. Hear s n k) (same_Some i j (sym g.2 ∙ h.2))
+one_hear plant r s m n i j (x ∷ y ∷ z ∷ w ∷ more) g h = absurd g
+
 -- a line spells one event
 pub one_event : (plant : PlantValue) (n : ℕ) (a b : Event) (words : List (List ℕ)) → SpellsEvent plant n a words → SpellsEvent plant n b words → a ≡ b
 one_event plant n a b [] g h = absurd g
 one_event plant n (Evaluate j s m i) (Evaluate k t d l) (w ∷ words) g h = ap (λ x. Evaluate x s m i) (g.1 ∙ sym h.1) ∙ one_evaluate plant s t m d i l k words g.2 h.2
 one_event plant n (Deliver m r) (Deliver k s) (w ∷ words) g h = one_deliver plant m k r s words g.1 h.1
 one_event plant n (Restart r) (Restart s) (w ∷ words) g h = one_restart plant r s words g.1 h.1
+one_event plant n (Hear r m i) (Hear s k j) (w ∷ words) g h = one_hear plant r s m k i j words g.1 h.1
 one_event plant n (Evaluate j s m i) (Deliver k r) (w ∷ words) g h = absurd (let e = sym (eval_word w g.0) ∙ deliver_word w h.0 in cc)
 one_event plant n (Evaluate j s m i) (Restart r) (w ∷ words) g h = absurd (let e = sym (eval_word w g.0) ∙ restart_word w h.0 in cc)
 one_event plant n (Deliver m r) (Evaluate j s d i) (w ∷ words) g h = absurd (let e = sym (deliver_word w g.0) ∙ eval_word w h.0 in cc)
 one_event plant n (Deliver m r) (Restart s) (w ∷ words) g h = absurd (let e = sym (deliver_word w g.0) ∙ restart_word w h.0 in cc)
 one_event plant n (Restart r) (Evaluate j s d i) (w ∷ words) g h = absurd (let e = sym (restart_word w g.0) ∙ eval_word w h.0 in cc)
 one_event plant n (Restart r) (Deliver m s) (w ∷ words) g h = absurd (let e = sym (restart_word w g.0) ∙ deliver_word w h.0 in cc)
+one_event plant n (Evaluate j s m i) (Hear r k l) (w ∷ words) g h = absurd (let e = sym (eval_word w g.0) ∙ hear_word w h.0 in cc)
+one_event plant n (Deliver m r) (Hear s k l) (w ∷ words) g h = absurd (let e = sym (deliver_word w g.0) ∙ hear_word w h.0 in cc)
+one_event plant n (Restart r) (Hear s k l) (w ∷ words) g h = absurd (let e = sym (restart_word w g.0) ∙ hear_word w h.0 in cc)
+one_event plant n (Hear r k l) (Evaluate j s d i) (w ∷ words) g h = absurd (let e = sym (hear_word w g.0) ∙ eval_word w h.0 in cc)
+one_event plant n (Hear r k l) (Deliver m s) (w ∷ words) g h = absurd (let e = sym (hear_word w g.0) ∙ deliver_word w h.0 in cc)
+one_event plant n (Hear r k l) (Restart s) (w ∷ words) g h = absurd (let e = sym (hear_word w g.0) ∙ restart_word w h.0 in cc)
 
 one_list : (plant : PlantValue) (n : ℕ) (xs ys : List Event) (lines : List (List (List ℕ))) → SpellEvents plant n xs lines → SpellEvents plant n ys lines → xs ≡ ys
 one_list plant n [] [] [] g h = refl

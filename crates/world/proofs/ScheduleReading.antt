@@ -15,10 +15,10 @@ use Rattle.evaluation.specs.declared.input_fault.InputFault.{InputFault}
 use Rattle.evaluation.specs.declared.input_fault.InputFault.TheVariants as input
 use Rattle.evaluation.specs.InputTexts.{input_of, AreInputs, AreApart, HasBadWord, HasAddressTwice, IsFaultOfWords}
 use Rattle.exchange.specs.declared.event.Event.{Event}
-use Rattle.exchange.specs.declared.event.Event.TheVariants.{Evaluate, Deliver, Restart}
+use Rattle.exchange.specs.declared.event.Event.TheVariants.{Evaluate, Deliver, Restart, Hear}
 use Rattle.world.specs.declared.read_line.Keyword.{Keyword}
 use Rattle.world.specs.declared.read_line.Keyword.TheVariants as key
-use Rattle.world.specs.ScheduleText.{IsTaskWord, SpellsEvaluate, SpellsDeliver, SpellsRestart, SpellsEvent}
+use Rattle.world.specs.ScheduleText.{IsResourceWord, IsTaskWord, SpellsEvaluate, SpellsDeliver, SpellsRestart, SpellsHear, SpellsEvent}
 use Rattle.world.specs.Steps.ReadingLines.{texts, keyword_of}
 use Rattle.world.proofs.ScheduleLists.{to_the_end}
 
@@ -58,6 +58,15 @@ evaluate_at plant task dt inputs [] h = absurd h
 evaluate_at plant task dt inputs (x ∷ []) h = absurd h
 evaluate_at plant task dt inputs (x ∷ y ∷ more) h = (h.0, h.1, subst (λ l. AreInputs l inputs) (sym (behind_is 2 (x ∷ y ∷ more))) h.2)
 
+-- the words of a hearing, one by one
+pub hear_at : (plant : PlantValue) (resource of incarnation : ℕ) (ws : List (Bor (List ℕ))) → SpellsHear plant resource of incarnation (texts ws)
+    → IsResourceWord plant (get_or ws 0 no_word).now resource × IsResourceWord plant (get_or ws 1 no_word).now of × (number_up_to 4294967295 (get_or ws 2 no_word).now ≡ Some incarnation)
+hear_at plant resource of incarnation [] h = absurd h
+hear_at plant resource of incarnation (x ∷ []) h = absurd h
+hear_at plant resource of incarnation (x ∷ y ∷ []) h = absurd h
+hear_at plant resource of incarnation (x ∷ y ∷ z ∷ []) h = h
+hear_at plant resource of incarnation (x ∷ y ∷ z ∷ w ∷ more) h = absurd h
+
 pub err_and : {T E : Type 0} (r : Result T E) (P Q : E → Type 0) → IsErrAnd r P → ((e : E) → P e → Q e) → IfErr r Q
 err_and (Ok x) P Q h f = absurd h
 err_and (Err e) P Q h f = f e h
@@ -90,33 +99,52 @@ restart_word w e =
     let nor : same_word w (codes "DELIVER") ≡ false = ap (λ l. bytes_eq l (str_to_ascii_lowercase (codes "DELIVER"))) (same_small w (codes "RESTART") e) in
     rw (no, nor, e) refl
 
--- the test of a keyword
-abbrev IsKey : Bool → Bool → Bool → Keyword → Type 0
-IsKey a b c key.Evaluate = a ≡ true
-IsKey a b c key.Deliver = b ≡ true
-IsKey a b c key.Restart = c ≡ true
-
-first_of : (a b c : Bool) (k : Keyword) → first_that ((a, key.Evaluate) ∷ (b, key.Deliver) ∷ (c, key.Restart) ∷ []) ≡ Some k → IsKey a b c k
-first_of true b c key.Evaluate e = refl
-first_of true b c key.Deliver e = absurd cc
-first_of true b c key.Restart e = absurd cc
-first_of false true c key.Evaluate e = absurd cc
-first_of false true c key.Deliver e = refl
-first_of false true c key.Restart e = absurd cc
-first_of false false true key.Evaluate e = absurd cc
-first_of false false true key.Deliver e = absurd cc
-first_of false false true key.Restart e = refl
-first_of false false false k e = absurd cc
-
-keyword_is : (w : List ℕ) (k : Keyword) → keyword_of w ≡ Some k → IsKey (same_word w (codes "EVAL")) (same_word w (codes "DELIVER")) (same_word w (codes "RESTART")) k
+pub hear_word : (w : List ℕ) → IsTrue (same_word w (codes "HEAR")) → keyword_of w ≡ Some key.Hear
 unfolding keyword_of
-keyword_is w k e = first_of (same_word w (codes "EVAL")) (same_word w (codes "DELIVER")) (same_word w (codes "RESTART")) k e
+hear_word w e =
+    let small = same_small w (codes "HEAR") e in
+    let no : same_word w (codes "EVAL") ≡ false = ap (λ l. bytes_eq l (str_to_ascii_lowercase (codes "EVAL"))) small in
+    let nor : same_word w (codes "DELIVER") ≡ false = ap (λ l. bytes_eq l (str_to_ascii_lowercase (codes "DELIVER"))) small in
+    let none : same_word w (codes "RESTART") ≡ false = ap (λ l. bytes_eq l (str_to_ascii_lowercase (codes "RESTART"))) small in
+    rw (no, nor, none, e) refl
+
+-- the test of a keyword
+abbrev IsKey : Bool → Bool → Bool → Bool → Keyword → Type 0
+IsKey a b c d key.Evaluate = a ≡ true
+IsKey a b c d key.Deliver = b ≡ true
+IsKey a b c d key.Restart = c ≡ true
+IsKey a b c d key.Hear = d ≡ true
+
+first_of : (a b c d : Bool) (k : Keyword) → first_that ((a, key.Evaluate) ∷ (b, key.Deliver) ∷ (c, key.Restart) ∷ (d, key.Hear) ∷ []) ≡ Some k → IsKey a b c d k
+first_of true b c d key.Evaluate e = refl
+first_of true b c d key.Deliver e = absurd cc
+first_of true b c d key.Restart e = absurd cc
+first_of true b c d key.Hear e = absurd cc
+first_of false true c d key.Evaluate e = absurd cc
+first_of false true c d key.Deliver e = refl
+first_of false true c d key.Restart e = absurd cc
+first_of false true c d key.Hear e = absurd cc
+first_of false false true d key.Evaluate e = absurd cc
+first_of false false true d key.Deliver e = absurd cc
+first_of false false true d key.Restart e = refl
+first_of false false true d key.Hear e = absurd cc
+first_of false false false true key.Evaluate e = absurd cc
+first_of false false false true key.Deliver e = absurd cc
+first_of false false false true key.Restart e = absurd cc
+first_of false false false true key.Hear e = refl
+first_of false false false false k e = absurd cc
+
+keyword_is : (w : List ℕ) (k : Keyword) → keyword_of w ≡ Some k
+    → IsKey (same_word w (codes "EVAL")) (same_word w (codes "DELIVER")) (same_word w (codes "RESTART")) (same_word w (codes "HEAR")) k
+unfolding keyword_of
+keyword_is w k e = first_of (same_word w (codes "EVAL")) (same_word w (codes "DELIVER")) (same_word w (codes "RESTART")) (same_word w (codes "HEAR")) k e
 
 -- the keyword of an event
 abbrev key_of_event : Event → Keyword
 key_of_event (Evaluate ticket task dt inputs) = key.Evaluate
 key_of_event (Deliver message resource) = key.Deliver
 key_of_event (Restart resource) = key.Restart
+key_of_event (Hear resource of incarnation) = key.Hear
 
 -- the line of an event begins with its keyword
 keyed : (plant : PlantValue) (n : ℕ) (e : Event) (ws : List (Bor (List ℕ))) → SpellsEvent plant n e (texts ws) → keyword_of (get_or ws 0 no_word).now ≡ Some (key_of_event e)
@@ -126,6 +154,8 @@ keyed plant n (Deliver message resource) [] h = absurd h
 keyed plant n (Deliver message resource) (w ∷ ws) h = deliver_word w.now h.0
 keyed plant n (Restart resource) [] h = absurd h
 keyed plant n (Restart resource) (w ∷ ws) h = restart_word w.now h.0
+keyed plant n (Hear resource of incarnation) [] h = absurd h
+keyed plant n (Hear resource of incarnation) (w ∷ ws) h = hear_word w.now h.0
 
 pub no_key : (plant : PlantValue) (n : ℕ) (ws : List (Bor (List ℕ))) → keyword_of (get_or ws 0 no_word).now ≡ None → (e : Event) → SpellsEvent plant n e (texts ws) → ⊥
 no_key plant n ws none e h = let k = sym none ∙ keyed plant n e ws h in cc
@@ -146,6 +176,11 @@ pub restart_line : (plant : PlantValue) (n resource : ℕ) (ws : List (Bor (List
 restart_line plant n resource [] le k h = absurd (omega (arith, le))
 restart_line plant n resource (w ∷ ws) le k h = (keyword_is w.now key.Restart k, subst (SpellsRestart plant resource) (behind_is 1 (w ∷ ws)) h)
 
+pub hear_line : (plant : PlantValue) (n resource of incarnation : ℕ) (ws : List (Bor (List ℕ))) → 1 ≤ length ws → keyword_of (get_or ws 0 no_word).now ≡ Some key.Hear
+    → SpellsHear plant resource of incarnation (behind 1 ws) → SpellsEvent plant n (Hear resource of incarnation) (texts ws)
+hear_line plant n resource of incarnation [] le k h = absurd (omega (arith, le))
+hear_line plant n resource of incarnation (w ∷ ws) le k h = (keyword_is w.now key.Hear k, subst (SpellsHear plant resource of incarnation) (behind_is 1 (w ∷ ws)) h)
+
 -- a line that is no event of its keyword is none
 pub no_evaluate : (plant : PlantValue) (n : ℕ) (ws : List (Bor (List ℕ))) → keyword_of (get_or ws 0 no_word).now ≡ Some key.Evaluate
     → ((task : TaskRef) (dt : ℕ) (inputs : List FieldInput) → SpellsEvaluate plant task dt inputs (behind 1 ws) → ⊥) → (e : Event) → SpellsEvent plant n e (texts ws) → ⊥
@@ -153,6 +188,7 @@ no_evaluate plant n [] k none (Evaluate ticket task dt inputs) h = h
 no_evaluate plant n (w ∷ ws) k none (Evaluate ticket task dt inputs) h = none task dt inputs (subst (SpellsEvaluate plant task dt inputs) (sym (behind_is 1 (w ∷ ws))) h.2)
 no_evaluate plant n ws k none (Deliver message resource) h = let other = sym k ∙ keyed plant n (Deliver message resource) ws h in cc
 no_evaluate plant n ws k none (Restart resource) h = let other = sym k ∙ keyed plant n (Restart resource) ws h in cc
+no_evaluate plant n ws k none (Hear resource of incarnation) h = let other = sym k ∙ keyed plant n (Hear resource of incarnation) ws h in cc
 
 pub no_deliver : (plant : PlantValue) (n : ℕ) (ws : List (Bor (List ℕ))) → keyword_of (get_or ws 0 no_word).now ≡ Some key.Deliver
     → ((message resource : ℕ) → SpellsDeliver plant message resource (behind 1 ws) → ⊥) → (e : Event) → SpellsEvent plant n e (texts ws) → ⊥
@@ -160,6 +196,7 @@ no_deliver plant n [] k none (Deliver message resource) h = h
 no_deliver plant n (w ∷ ws) k none (Deliver message resource) h = none message resource (subst (SpellsDeliver plant message resource) (sym (behind_is 1 (w ∷ ws))) h.1)
 no_deliver plant n ws k none (Evaluate ticket task dt inputs) h = let other = sym k ∙ keyed plant n (Evaluate ticket task dt inputs) ws h in cc
 no_deliver plant n ws k none (Restart resource) h = let other = sym k ∙ keyed plant n (Restart resource) ws h in cc
+no_deliver plant n ws k none (Hear resource of incarnation) h = let other = sym k ∙ keyed plant n (Hear resource of incarnation) ws h in cc
 
 pub no_restart : (plant : PlantValue) (n : ℕ) (ws : List (Bor (List ℕ))) → keyword_of (get_or ws 0 no_word).now ≡ Some key.Restart
     → ((resource : ℕ) → SpellsRestart plant resource (behind 1 ws) → ⊥) → (e : Event) → SpellsEvent plant n e (texts ws) → ⊥
@@ -167,3 +204,12 @@ no_restart plant n [] k none (Restart resource) h = h
 no_restart plant n (w ∷ ws) k none (Restart resource) h = none resource (subst (SpellsRestart plant resource) (sym (behind_is 1 (w ∷ ws))) h.1)
 no_restart plant n ws k none (Evaluate ticket task dt inputs) h = let other = sym k ∙ keyed plant n (Evaluate ticket task dt inputs) ws h in cc
 no_restart plant n ws k none (Deliver message resource) h = let other = sym k ∙ keyed plant n (Deliver message resource) ws h in cc
+no_restart plant n ws k none (Hear resource of incarnation) h = let other = sym k ∙ keyed plant n (Hear resource of incarnation) ws h in cc
+
+pub no_hear : (plant : PlantValue) (n : ℕ) (ws : List (Bor (List ℕ))) → keyword_of (get_or ws 0 no_word).now ≡ Some key.Hear
+    → ((resource of incarnation : ℕ) → SpellsHear plant resource of incarnation (behind 1 ws) → ⊥) → (e : Event) → SpellsEvent plant n e (texts ws) → ⊥
+no_hear plant n [] k none (Hear resource of incarnation) h = h
+no_hear plant n (w ∷ ws) k none (Hear resource of incarnation) h = none resource of incarnation (subst (SpellsHear plant resource of incarnation) (sym (behind_is 1 (w ∷ ws))) h.1)
+no_hear plant n ws k none (Evaluate ticket task dt inputs) h = let other = sym k ∙ keyed plant n (Evaluate ticket task dt inputs) ws h in cc
+no_hear plant n ws k none (Deliver message resource) h = let other = sym k ∙ keyed plant n (Deliver message resource) ws h in cc
+no_hear plant n ws k none (Restart resource) h = let other = sym k ∙ keyed plant n (Restart resource) ws h in cc

@@ -1,6 +1,6 @@
 -- A schedule is done line by line.
-use Rattle.std.proofs.Common.{◌≡◌, ◌≢◌, ◌⊎◌, inl, inr, ℕ, zero, suc, ◌+◌, ◌<◌, ◌≤◌, Bool, true, false, cond, not, List, [], ◌∷◌, ◌++◌, length, take, Option, Some, None, slice_get, refl, sym, ap, ◌∙◌, subst, arith}
-use Rattle.std.specs.Prelude.{reverse}
+use Rattle.std.proofs.Common.{◌≡◌, ◌≢◌, ◌⊎◌, inl, inr, ℕ, zero, suc, ◌+◌, ◌<◌, ◌≤◌, Bool, true, false, cond, not, List, [], ◌∷◌, ◌++◌, length, take, Option, Some, None, slice_get, refl, sym, ap, ◌∙◌, subst, arith, ltb}
+use Rattle.std.specs.Prelude.{reverse, slice_index}
 use Rattle.std.specs.List.{filter, flat_map}
 use Rattle.std.specs.Io.KnownBytes.{Appends, Keeps}
 use Rattle.std.proofs.KnownBytes.{Appends-trans, Appends-nil}
@@ -13,17 +13,19 @@ use Rattle.std.proofs.lemmas.Option.{slice_get_within, same_Some}
 use Rattle.lists.proofs.Places.{push_here}
 use Rattle.due_list.specs.declared.task_ref.TaskRef.{TaskRef}
 use Rattle.plant.specs.PlantValue.{PlantValue}
+use Rattle.evaluation.specs.Meaning.{Evaluated}
+use Rattle.evaluation.specs.Heard.{is_addressed}
 use Rattle.exchange_core.specs.declared.accepted.Accepted.{Accepted}
-use Rattle.exchange_core.specs.declared.accepted.Accepted.TheVariants.{Taken, Old, Unused}
+use Rattle.exchange_core.specs.declared.accepted.Accepted.TheVariants.{Taken, Old, Unused, Stray}
 use Rattle.exchange.specs.declared.event.Event.{Event}
-use Rattle.exchange.specs.declared.event.Event.TheVariants.{Evaluate, Deliver, Restart}
+use Rattle.exchange.specs.declared.event.Event.TheVariants.{Evaluate, Deliver, Restart, Hear}
 use Rattle.exchange.specs.declared.world_fault.WorldFault.{WorldFault}
-use Rattle.exchange.specs.declared.world_fault.WorldFault.TheVariants.{NoSuchResource, NoSuchTask, NoSuchMessage, NumbersSpent, IncarnationsSpent, Memory}
-use Rattle.exchange.specs.History.{Setting, history_of, after_events, is_lawful, incarnation_of, number_of, made_count}
+use Rattle.exchange.specs.declared.world_fault.WorldFault.TheVariants.{NoSuchResource, NoSuchTask, NoSuchMessage, NumbersSpent, IncarnationsSpent, Memory, NeverHeld}
+use Rattle.exchange.specs.History.{Setting, history_of, after_events, is_lawful, incarnation_of, heard_by, number_of, made_count}
 use Rattle.exchange.specs.Run.{IsLog, latest}
 use Rattle.exchange.specs.World.{WorldValue}
-use Rattle.exchange.specs.Step.{history_at, IsCause, Answers}
-use Rattle.world.specs.RunText.{IsDoneLine, TellsEvent, IsLineAfter, IsRunText, restart_line}
+use Rattle.exchange.specs.Step.{history_at, IsCause, Answers, is_newer}
+use Rattle.world.specs.RunText.{IsDoneLine, TellsEvent, IsLineAfter, IsRunText, restart_line, hear_line}
 use Rattle.world.specs.ScheduleText.{is_idle, SpellsEvent, SpellEvents, Spell}
 use Rattle.world.specs.Steps.Telling.{IsTold}
 use Rattle.world.specs.Steps.Simulating.{HasTold, HasRested, HasWritten, HasDone}
@@ -33,19 +35,29 @@ use Rattle.world.proofs.Telling.{length-one_more, one_more}
 pub history_with : (s : Setting) (es fs : List Event) (e : Event) → history_of s es ≡ history_of s fs → history_of s (es ++ e ∷ []) ≡ history_of s (fs ++ e ∷ [])
 history_with s es fs e same = one_more s es e ∙ ap (λ h. after_events s h (e ∷ [])) same ∙ sym (one_more s fs e)
 
-answers_moved : (w : WorldValue) (events : List Event) (k n : ℕ) (p : TaskRef) (a : Accepted) → history_at w ≡ history_of w.setting events → Answers w k n p a → Answers (record w { events = events }) k n p a
-answers_moved w events k n p Unused same h = h
-answers_moved w events k n p Taken same h =
-    (h.0, h.1, subst (λ (l : List Event). latest n (Deliver k n ∷ l) p (reverse w.log) ≡ latest n l p (reverse w.log) → ⊥) same h.2)
-answers_moved w events k n p Old same h =
-    (h.0, h.1, subst (λ (l : List Event). latest n (Deliver k n ∷ l) p (reverse w.log) ≡ latest n l p (reverse w.log)) same h.2)
+answers_moved : (w : WorldValue) (events : List Event) (k n : ℕ) (x : Evaluated) (p : TaskRef) (a : Accepted) → history_at w ≡ history_of w.setting events → Answers w k n x p a → Answers (record w { events = events }) k n x p a
+answers_moved w events k n x p Unused same h = h
+answers_moved w events k n x p Stray same h = (h.0, h.1, subst (λ (l : List Event). is_addressed x n (incarnation_of w.setting n l) ≡ false) same h.2)
+answers_moved w events k n x p Taken same h = (
+  h.0,
+  h.1,
+  subst (λ (l : List Event). is_addressed x n (incarnation_of w.setting n l) ≡ true) same h.2,
+  subst (λ (l : List Event). latest w.setting n (Deliver k n ∷ l) p (reverse w.log) ≡ latest w.setting n l p (reverse w.log) → ⊥) same h.3,
+)
+answers_moved w events k n x p Old same h = (
+  h.0,
+  h.1,
+  subst (λ (l : List Event). is_addressed x n (incarnation_of w.setting n l) ≡ true) same h.2,
+  subst (λ (l : List Event). latest w.setting n (Deliver k n ∷ l) p (reverse w.log) ≡ latest w.setting n l p (reverse w.log)) same h.3,
+)
 
 -- what an event does hangs on the history alone
 done_moved : (w : WorldValue) (events : List Event) (e : Event) (line : List ℕ) → history_at w ≡ history_of w.setting events → IsDoneLine w e line → IsDoneLine (record w { events = events }) e line
 done_moved w events (Evaluate ticket task dt inputs) line same h =
     (h.0, subst (λ l. IsLog w.setting l (reverse (w.log ++ h.0 ∷ []))) (history_with w.setting w.events events (Evaluate ticket task dt inputs) same) h.1, h.2)
-done_moved w events (Deliver k n) line same h = (h.0, (h.1.0, h.1.1, answers_moved w events k n h.1.0.name.task h.0 same h.1.2), h.2)
+done_moved w events (Deliver k n) line same h = (h.0, (h.1.0, h.1.1, answers_moved w events k n h.1.0 h.1.0.name.task h.0 same h.1.2), h.2)
 done_moved w events (Restart n) line same h = h ∙ ap (λ (l : List Event). restart_line w.setting.plant n (incarnation_of w.setting n l)) (history_with w.setting w.events events (Restart n) same)
+done_moved w events (Hear n m i) line same h = h ∙ ap (λ (l : List Event). hear_line w.setting.plant n m i (ltb (slice_index (heard_by w.setting n l) m) i)) same
 
 cause_moved : (w : WorldValue) (events : List Event) (e : Event) (f : WorldFault) → history_at w ≡ history_of w.setting events → IsCause w e f → IsCause (record w { events = events }) e f
 cause_moved w events (Evaluate ticket task dt inputs) NoSuchResource same h = h
@@ -53,19 +65,30 @@ cause_moved w events (Evaluate ticket task dt inputs) NoSuchTask same h = h
 cause_moved w events (Evaluate ticket task dt inputs) NumbersSpent same h = (h.0, subst (λ (l : List Event). w.setting.max_number ≤ number_of task l) same h.1)
 cause_moved w events (Evaluate ticket task dt inputs) NoSuchMessage same h = h
 cause_moved w events (Evaluate ticket task dt inputs) IncarnationsSpent same h = h
+cause_moved w events (Evaluate ticket task dt inputs) NeverHeld same h = h
 cause_moved w events (Evaluate ticket task dt inputs) Memory same h = subst (λ (l : List Event). is_lawful w.setting l (Evaluate ticket task dt inputs) ≡ true) same h
 cause_moved w events (Deliver k n) NoSuchResource same h = h
 cause_moved w events (Deliver k n) NoSuchMessage same h = (h.0, subst (λ (l : List Event). (k ≡ 0) ⊎ (made_count l < k)) same h.1)
 cause_moved w events (Deliver k n) NoSuchTask same h = h
 cause_moved w events (Deliver k n) NumbersSpent same h = h
 cause_moved w events (Deliver k n) IncarnationsSpent same h = h
+cause_moved w events (Deliver k n) NeverHeld same h = h
 cause_moved w events (Deliver k n) Memory same h = subst (λ (l : List Event). is_lawful w.setting l (Deliver k n) ≡ true) same h
 cause_moved w events (Restart n) NoSuchResource same h = h
 cause_moved w events (Restart n) IncarnationsSpent same h = (h.0, subst (λ (l : List Event). 4294967295 ≤ incarnation_of w.setting n l) same h.1)
 cause_moved w events (Restart n) NoSuchTask same h = h
 cause_moved w events (Restart n) NoSuchMessage same h = h
 cause_moved w events (Restart n) NumbersSpent same h = h
+cause_moved w events (Restart n) NeverHeld same h = h
 cause_moved w events (Restart n) Memory same h = subst (λ (l : List Event). is_lawful w.setting l (Restart n) ≡ true) same h
+cause_moved w events (Hear n m i) NoSuchResource same h = h
+cause_moved w events (Hear n m i) NeverHeld same h =
+    (h.0, h.1, subst (λ (l : List Event). (i < slice_index w.setting.first m) ⊎ (incarnation_of w.setting m l < i)) same h.2)
+cause_moved w events (Hear n m i) NoSuchTask same h = h
+cause_moved w events (Hear n m i) NoSuchMessage same h = h
+cause_moved w events (Hear n m i) NumbersSpent same h = h
+cause_moved w events (Hear n m i) IncarnationsSpent same h = h
+cause_moved w events (Hear n m i) Memory same h = subst (λ (l : List Event). is_lawful w.setting l (Hear n m i) ≡ true) same h
 
 tells_moved : (w : WorldValue) (events : List Event) (n : ℕ) (e : Event) (line : List ℕ) → history_at w ≡ history_of w.setting events → TellsEvent w n e line → TellsEvent (record w { events = events }) n e line
 tells_moved w events n e line same (inl h) = inl (subst (λ (l : List Event). is_lawful w.setting l e ≡ true) same h.0, done_moved w events e line same h.1)

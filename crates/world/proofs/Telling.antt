@@ -5,9 +5,9 @@ use Rattle.std.proofs.lemmas.List.{reverse-append}
 use Rattle.lists.proofs.Places.{push_here}
 use Rattle.evaluation.specs.Meaning.{Evaluated}
 use Rattle.exchange.specs.declared.event.Event.{Event}
-use Rattle.exchange.specs.declared.event.Event.TheVariants.{Evaluate, Deliver, Restart}
+use Rattle.exchange.specs.declared.event.Event.TheVariants.{Evaluate, Deliver, Restart, Hear}
 use Rattle.exchange.specs.declared.done.Done.{Done}
-use Rattle.exchange.specs.declared.done.Done.TheVariants.{Evaluated as MadeOne, Delivered, Restarted}
+use Rattle.exchange.specs.declared.done.Done.TheVariants.{Evaluated as MadeOne, Delivered, Restarted, Heard}
 use Rattle.exchange.specs.declared.world_fault.WorldFault.{WorldFault}
 use Rattle.exchange.specs.declared.world_fault.WorldFault.TheVariants.{Memory}
 use Rattle.exchange.specs.History.{Setting, history_of, after_events, is_lawful, incarnation_of}
@@ -15,7 +15,7 @@ use Rattle.exchange.specs.Run.{IsRun, IsLog}
 use Rattle.exchange.specs.World.{WorldValue}
 use Rattle.exchange.specs.Step.{history_at, IsDone, IsStep, IsCause}
 use Rattle.world.specs.RunLines.{evaluation_line}
-use Rattle.world.specs.RunText.{TellsEvent, refused_line, delivery_line, restart_line}
+use Rattle.world.specs.RunText.{TellsEvent, refused_line, delivery_line, restart_line, hear_line}
 use Rattle.world.specs.Steps.Telling.{made_line, done_line, IsTold}
 
 pub length-one_more : {X : Type 0} (xs : List X) (y : X) → length (xs ++ y ∷ []) ≡ length xs + 1
@@ -47,6 +47,13 @@ step_done old new (Deliver k n) (MadeOne m) h = absurd h
 step_done old new (Deliver k n) (Restarted i) h = absurd h
 step_done old new (Restart n) (MadeOne m) h = absurd h
 step_done old new (Restart n) (Delivered a) h = absurd h
+step_done old new (Hear n m i) (Heard newer) h = (_, h.0)
+step_done old new (Evaluate ticket task dt inputs) (Heard newer) h = absurd h
+step_done old new (Deliver k n) (Heard newer) h = absurd h
+step_done old new (Restart n) (Heard newer) h = absurd h
+step_done old new (Hear n m i) (MadeOne k) h = absurd h
+step_done old new (Hear n m i) (Delivered a) h = absurd h
+step_done old new (Hear n m i) (Restarted j) h = absurd h
 
 -- the run before an event
 run_before : (old new : WorldValue) (e : Event) (d : Done) → IsStep old new e d → IsRun new.setting new.events new.log → IsRun old.setting old.events old.log
@@ -71,6 +78,16 @@ run_before old new (Restart n) (Restarted i) h run =
     subst (λ es. IsLog old.setting es (reverse old.log)) (lawful_more old e h.0.lawful) whole
 run_before old new (Restart n) (MadeOne m) h run = absurd h
 run_before old new (Restart n) (Delivered a) h run = absurd h
+run_before old new (Hear n m i) (Heard newer) h run =
+    let e = Hear n m i in
+    let whole : IsRun old.setting (old.events ++ e ∷ []) old.log = subst (λ (w : WorldValue). IsRun w.setting w.events w.log) h.0.is run in
+    subst (λ es. IsLog old.setting es (reverse old.log)) (lawful_more old e h.0.lawful) whole
+run_before old new (Evaluate ticket task dt inputs) (Heard newer) h run = absurd h
+run_before old new (Deliver k n) (Heard newer) h run = absurd h
+run_before old new (Restart n) (Heard newer) h run = absurd h
+run_before old new (Hear n m i) (MadeOne k) h run = absurd h
+run_before old new (Hear n m i) (Delivered a) h run = absurd h
+run_before old new (Hear n m i) (Restarted j) h run = absurd h
 
 -- the line of an event that was done
 done_tells : (old new : WorldValue) (n : ℕ) (e : Event) (d : Done) (line : List ℕ) → IsStep old new e d → IsRun new.setting new.events new.log → line ≡ done_line new.setting.plant new.log e d → TellsEvent old n e line
@@ -96,6 +113,14 @@ done_tells old new n (Restart r) (Restarted i) line h run is =
     )
 done_tells old new n (Restart r) (MadeOne m) line h run is = absurd h
 done_tells old new n (Restart r) (Delivered a) line h run is = absurd h
+done_tells old new n (Hear r m i) (Heard newer) line h run is =
+    inl (h.0.lawful, is ∙ ap (λ (w : WorldValue). hear_line w.setting.plant r m i newer) h.0.is ∙ ap (hear_line old.setting.plant r m i) h.1)
+done_tells old new n (Evaluate ticket task dt inputs) (Heard newer) line h run is = absurd h
+done_tells old new n (Deliver k r) (Heard newer) line h run is = absurd h
+done_tells old new n (Restart r) (Heard newer) line h run is = absurd h
+done_tells old new n (Hear r m i) (MadeOne k) line h run is = absurd h
+done_tells old new n (Hear r m i) (Delivered a) line h run is = absurd h
+done_tells old new n (Hear r m i) (Restarted j) line h run is = absurd h
 
 pub told_done : (old new : WorldValue) (n : ℕ) (e : Event) (d : Done) (line : List ℕ) → IsStep old new e d → IsRun new.setting new.events new.log → line ≡ done_line new.setting.plant new.log e d → IsTold old new n e line
 told_done old new n e d line h run is =

@@ -9,7 +9,7 @@ use Rattle.plant.specs.PlantValue.{PlantValue, ResourceValue, TaskValue, tasks_a
 use Rattle.evaluation.specs.declared.field_input.FieldInput.{FieldInput}
 use Rattle.evaluation.specs.InputTexts.{words_of, AreInputs}
 use Rattle.exchange.specs.declared.event.Event.{Event}
-use Rattle.exchange.specs.declared.event.Event.TheVariants.{Evaluate, Deliver, Restart}
+use Rattle.exchange.specs.declared.event.Event.TheVariants.{Evaluate, Deliver, Restart, Hear}
 
 -- the place of the resource of a name, in either case; without one the number of resources, where none stands
 abbrev pub resource_named : PlantValue → List ℕ → ℕ
@@ -54,6 +54,16 @@ SpellsRestart plant resource [] = ⊥
 SpellsRestart plant resource (first ∷ []) = IsResourceWord plant first resource
 SpellsRestart plant resource (first ∷ second ∷ more) = ⊥
 
+-- the words behind HEAR: a resource, the one of which it hears, and an incarnation
+abbrev pub SpellsHear : PlantValue → ℕ → ℕ → ℕ → List (List ℕ) → Type 0
+SpellsHear plant resource of incarnation [] = ⊥
+SpellsHear plant resource of incarnation (first ∷ []) = ⊥
+SpellsHear plant resource of incarnation (first ∷ second ∷ []) = ⊥
+SpellsHear plant resource of incarnation (first ∷ second ∷ third ∷ []) =
+    IsResourceWord plant first resource × IsResourceWord plant second of
+    × (number_up_to 4294967295 third ≡ Some incarnation)
+SpellsHear plant resource of incarnation (first ∷ second ∷ third ∷ fourth ∷ more) = ⊥
+
 -- the words of a line spell the event of this number, which is an evaluation's ticket; keywords stand in either case
 abbrev pub SpellsEvent : PlantValue → ℕ → Event → List (List ℕ) → Type 0
 SpellsEvent plant number e [] = ⊥
@@ -63,6 +73,8 @@ SpellsEvent plant number (Deliver message resource) (keyword ∷ more) =
     IsTrue (same_word keyword (codes "DELIVER")) × SpellsDeliver plant message resource more
 SpellsEvent plant number (Restart resource) (keyword ∷ more) =
     IsTrue (same_word keyword (codes "RESTART")) × SpellsRestart plant resource more
+SpellsEvent plant number (Hear resource of incarnation) (keyword ∷ more) =
+    IsTrue (same_word keyword (codes "HEAR")) × SpellsHear plant resource of incarnation more
 
 -- they spell no event
 abbrev pub SpellsNoEvent : PlantValue → ℕ → List (List ℕ) → Type 0

@@ -3,7 +3,7 @@
 ghost use Rattle.std.specs.Prelude.{OnOk, string_bytes};
 ghost use Rattle.std.specs.Option.{option_map};
 ghost use Rattle.text_writer.specs.Growing.{GrowsBy};
-ghost use Rattle.world.specs.RunText.{accepted_text, refusal_text, delivery_line, restart_line, refused_line};
+ghost use Rattle.world.specs.RunText.{accepted_text, refusal_text, delivery_line, restart_line, hear_line, refused_line};
 ghost use Rattle.world.specs.Steps.Telling.{made_line, done_line, IsTold};
 
 use crate::evaluation_line::push_evaluation;
@@ -22,6 +22,7 @@ fn push_accepted(line: &mut String, accepted: Accepted) -> Result<(), AllocError
         Accepted::Taken => line.push_str("taken"),
         Accepted::Old => line.push_str("old"),
         Accepted::Unused => line.push_str("unused"),
+        Accepted::Stray => line.push_str("stray"),
     }
 }
 
@@ -35,6 +36,7 @@ fn push_cause(line: &mut String, cause: WorldFault) -> Result<(), AllocError>
         WorldFault::NumbersSpent => line.push_str("NumbersSpent"),
         WorldFault::IncarnationsSpent => line.push_str("IncarnationsSpent"),
         WorldFault::Memory => line.push_str("Memory"),
+        WorldFault::NeverHeld => line.push_str("NeverHeld"),
     }
 }
 
@@ -67,6 +69,26 @@ fn push_restart(
     line.push_str("RESTART ")?;
     push_resource(line, plant, resource)?;
     write!(line, " {incarnation}\n")
+}
+
+/// Writes `HEAR R S i new` behind a line; `old` where what was heard isn't newer.
+fn push_hearing(
+    line: &mut String,
+    plant: &Plant,
+    resource: usize,
+    of: usize,
+    incarnation: u32,
+    newer: bool,
+) -> Result<(), AllocError>
+    ensures { OnOk result (GrowsBy line.old line.new (hear_line plant.now resource of incarnation newer)) }
+{
+    line.push_str("HEAR ")?;
+    push_resource(line, plant, resource)?;
+    line.push_str(" ")?;
+    push_resource(line, plant, of)?;
+    write!(line, " {incarnation} ")?;
+    line.push_str(if newer { "new" } else { "old" })?;
+    line.push_str("\n")
 }
 
 /// Writes `REFUSED e Kind` behind a line.
@@ -116,6 +138,16 @@ fn push_done(
         },
         Event::Restart { resource } => match done {
             Done::Restarted { incarnation } => push_restart(line, plant, *resource, incarnation),
+            _ => Ok(()),
+        },
+        Event::Hear {
+            resource,
+            of,
+            incarnation,
+        } => match done {
+            Done::Heard { newer } => {
+                push_hearing(line, plant, *resource, *of, *incarnation, newer)
+            }
             _ => Ok(()),
         },
     }

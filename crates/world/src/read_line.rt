@@ -3,7 +3,7 @@
 ghost use Rattle.std.specs.Prelude.{◌≡◌, ◌≢◌, ℕ, IfOk, IfErr};
 ghost use Rattle.plant.specs.Find.{Finds};
 ghost use Rattle.world.specs.declared.line_fault.LineFault.TheVariants.{Syntax, Write};
-ghost use Rattle.world.specs.ScheduleText.{SpellsEvaluate, SpellsDeliver, SpellsRestart, SpellsEvent, SpellsNoEvent};
+ghost use Rattle.world.specs.ScheduleText.{SpellsEvaluate, SpellsDeliver, SpellsRestart, SpellsHear, SpellsEvent, SpellsNoEvent};
 ghost use Rattle.world.specs.Steps.ReadingLines.{texts, keyword_of, SpellsNoEvaluate};
 
 use crate::line_fault::LineFault;
@@ -20,6 +20,7 @@ enum Keyword {
     Evaluate,
     Deliver,
     Restart,
+    Hear,
 }
 
 /// The keyword that a word is, in either case.
@@ -33,6 +34,8 @@ fn keyword_of(word: &[u8]) -> Option<Keyword>
         Some(Keyword::Deliver)
     } else if word.eq_ignore_ascii_case(b"RESTART") {
         Some(Keyword::Restart)
+    } else if word.eq_ignore_ascii_case(b"HEAR") {
+        Some(Keyword::Hear)
     } else {
         None
     }
@@ -83,6 +86,19 @@ fn read_restart(plant: &Plant, words: &[&[u8]]) -> Option<usize>
     resource_of(plant, resource)
 }
 
+/// The resource, the one of which it hears, and the incarnation that the words behind `HEAR` spell.
+fn read_hear(plant: &Plant, words: &[&[u8]]) -> Option<(usize, usize, u32)>
+    ensures { Finds (λ (h : ℕ × ℕ × ℕ). SpellsHear plant.now h.0 h.1 h.2 (texts words.now)) result }
+{
+    let [resource, of, incarnation] = words else {
+        return None;
+    };
+    let resource = resource_of(plant, resource)?;
+    let of = resource_of(plant, of)?;
+    let incarnation = number_up_to(incarnation, 4_294_967_295)?;
+    Some((resource, of, incarnation as u32))
+}
+
 /// The event that the words of a line spell; an evaluation has this ticket.
 pub fn read_event(
     alloc: Global,
@@ -114,6 +130,14 @@ pub fn read_event(
         },
         Some(Keyword::Restart) => match read_restart(plant, behind) {
             Some(resource) => Ok(Event::Restart { resource }),
+            None => Err(LineFault::Syntax),
+        },
+        Some(Keyword::Hear) => match read_hear(plant, behind) {
+            Some((resource, of, incarnation)) => Ok(Event::Hear {
+                resource,
+                of,
+                incarnation,
+            }),
             None => Err(LineFault::Syntax),
         },
     }

@@ -27,6 +27,8 @@ pub enum Act {
     Deliver(u64, usize),
     /// This resource restarts.
     Restart(usize),
+    /// This resource hears that another one is in this incarnation.
+    Hear(usize, usize, u32),
 }
 
 /// The event of an act, under this ticket where it is an evaluation.
@@ -40,6 +42,11 @@ fn event_of(rt: &impl Abort, alloc: Global, ticket: u64, act: Act) -> Event {
         },
         Act::Deliver(message, resource) => Event::Deliver { message, resource },
         Act::Restart(resource) => Event::Restart { resource },
+        Act::Hear(resource, of, incarnation) => Event::Hear {
+            resource,
+            of,
+            incarnation,
+        },
     }
 }
 
@@ -58,7 +65,7 @@ fn next(seed: &mut u32) -> u32 {
     *seed >> 8
 }
 
-/// 4 to 19 events drawn by lot for a plant of so many resources: half of them evaluations, one in eight a restart. Some are not lawful.
+/// 4 to 19 events drawn by lot for a plant of so many resources: half of them evaluations, one in eight a restart, one in eight a hearing of an incarnation from 2 to 7. Some are not lawful.
 pub fn drawn_events(
     rt: &impl Abort,
     alloc: Global,
@@ -70,7 +77,11 @@ pub fn drawn_events(
         let resource = (next(seed) as usize).checked_rem(resources).unwrap_or(0);
         let act = match next(seed) % 8 {
             0 => Act::Restart(resource),
-            1..=3 => Act::Deliver(1 + u64::from(next(seed) % 9), resource),
+            1 => {
+                let of = (next(seed) as usize).checked_rem(resources).unwrap_or(0);
+                Act::Hear(resource, of, 2 + next(seed) % 6)
+            }
+            2..=3 => Act::Deliver(1 + u64::from(next(seed) % 9), resource),
             _ => Act::Evaluate(TaskRef { resource, task: 0 }, next(seed) % 2 == 1),
         };
         must(rt, events.push(event_of(rt, alloc, u64::from(ticket), act)));
@@ -105,6 +116,18 @@ fn is_same(event: &Event, other: &Event) -> bool {
             },
         ) => (message, resource) == (other_message, other_resource),
         (Event::Restart { resource }, Event::Restart { resource: other }) => resource == other,
+        (
+            Event::Hear {
+                resource,
+                of,
+                incarnation,
+            },
+            Event::Hear {
+                resource: other_resource,
+                of: other_of,
+                incarnation: other_incarnation,
+            },
+        ) => (resource, of, incarnation) == (other_resource, other_of, other_incarnation),
         _ => false,
     }
 }

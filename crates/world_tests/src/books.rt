@@ -14,9 +14,10 @@ use std_blocks::Value;
 use worked_texts::{LOOP, PAIR};
 use world::{Book, Event, Misfit, Schedule};
 
-/// A frame to be entered, and what the book answers: resource, incarnation and number, what was taken of the counter and its values there.
+/// A frame to be entered, and what the book answers: resource, incarnation and number, what was heard, what was taken of the counter and its values there.
 type Row = (
     (usize, u32, u32),
+    &'static [u32],
     Option<(u32, u32)>,
     &'static [Value],
     Option<Misfit>,
@@ -31,34 +32,105 @@ const TWO: &[Value] = &[Value::Int(2), Value::Bool(false)];
 
 /// Numbers and takes, where the counter has one entry.
 const TAKES: &[Row] = &[
-    ((1, 1, 2), Some((1, 1)), ONE, Some(Misfit::WrongNumber)),
-    ((1, 1, 1), Some((1, 2)), ONE, Some(Misfit::UnknownTake)),
-    ((1, 1, 1), Some((1, 1)), TWO, Some(Misfit::Torn)),
-    ((1, 1, 1), Some((1, 1)), ONE, None),
-    ((1, 1, 2), None, NONE, Some(Misfit::Back)),
+    (
+        (1, 1, 2),
+        &[1, 1],
+        Some((1, 1)),
+        ONE,
+        Some(Misfit::WrongNumber),
+    ),
+    (
+        (1, 1, 1),
+        &[1, 1],
+        Some((1, 2)),
+        ONE,
+        Some(Misfit::UnknownTake),
+    ),
+    ((1, 1, 1), &[1, 1], Some((1, 1)), TWO, Some(Misfit::Torn)),
+    ((1, 1, 1), &[1, 1], Some((1, 1)), ONE, None),
+    ((1, 1, 2), &[1, 1], None, NONE, Some(Misfit::Back)),
 ];
+
+/// What a resource hears that isn't there.
+const EIGHT: &[u32] = &[1, 1, 1, 1, 1, 1, 1, 1];
 
 /// A name goes on from the last one of its resource.
 const NAMES: &[Row] = &[
-    ((7, 1, 1), Some((1, 1)), ONE, Some(Misfit::WrongNumber)),
-    ((1, 0, 1), Some((1, 1)), ONE, Some(Misfit::WrongNumber)),
-    ((1, 1, 0), Some((1, 1)), ONE, Some(Misfit::WrongNumber)),
-    ((1, 4, 2), Some((1, 1)), ONE, Some(Misfit::WrongNumber)),
-    ((1, 4, 1), Some((1, 1)), ONE, None),
-    ((1, 3, 1), Some((1, 1)), ONE, Some(Misfit::WrongNumber)),
-    ((1, 4, 1), Some((1, 1)), ONE, Some(Misfit::WrongNumber)),
-    ((1, 4, 3), Some((1, 1)), ONE, Some(Misfit::WrongNumber)),
-    ((1, 4, 2), Some((1, 1)), ONE, None),
+    ((7, 1, 1), EIGHT, None, NONE, Some(Misfit::WrongNumber)),
+    ((1, 0, 1), &[1, 0], None, NONE, Some(Misfit::WrongNumber)),
+    ((1, 1, 0), &[1, 1], None, NONE, Some(Misfit::WrongNumber)),
+    ((1, 4, 2), &[1, 4], None, NONE, Some(Misfit::WrongNumber)),
+    ((1, 4, 1), &[1, 4], None, NONE, None),
+    ((1, 3, 1), &[1, 3], None, NONE, Some(Misfit::WrongNumber)),
+    ((1, 4, 1), &[1, 4], None, NONE, Some(Misfit::WrongNumber)),
+    ((1, 4, 3), &[1, 4], None, NONE, Some(Misfit::WrongNumber)),
+    ((1, 4, 2), &[1, 4], None, NONE, None),
 ];
 
-/// The counter has two entries. What was taken before a restart does not bind what is taken after it.
+/// The counter has two entries. After a restart nothing is taken that is addressed to the incarnation before.
 const BACK: &[Row] = &[
-    ((1, 1, 1), Some((1, 2)), ONE, None),
-    ((1, 1, 2), Some((1, 1)), ONE, Some(Misfit::Back)),
-    ((1, 1, 2), Some((1, 2)), ONE, None),
-    ((1, 2, 1), Some((1, 1)), ONE, None),
-    ((1, 2, 2), Some((1, 2)), ONE, None),
-    ((1, 2, 3), Some((1, 1)), ONE, Some(Misfit::Back)),
+    ((1, 1, 1), &[1, 1], Some((1, 2)), ONE, None),
+    ((1, 1, 2), &[1, 1], Some((1, 1)), ONE, Some(Misfit::Back)),
+    ((1, 1, 2), &[1, 1], Some((1, 2)), ONE, None),
+    (
+        (1, 2, 1),
+        &[1, 2],
+        Some((1, 1)),
+        ONE,
+        Some(Misfit::NotAddressed),
+    ),
+    (
+        (1, 2, 1),
+        &[1, 2],
+        Some((1, 2)),
+        ONE,
+        Some(Misfit::NotAddressed),
+    ),
+    ((1, 2, 1), &[1, 2], None, NONE, None),
+];
+
+/// The counter has one entry. One number is heard of each resource; none falls before a restart, and none is below the first one.
+/// What is heard of a resource raises its incarnation.
+const HEARD: &[Row] = &[
+    (
+        (1, 2, 1),
+        &[1, 2],
+        Some((1, 1)),
+        ONE,
+        Some(Misfit::NotAddressed),
+    ),
+    ((0, 1, 2), &[1], Some((1, 1)), ONE, Some(Misfit::Misheard)),
+    (
+        (0, 1, 2),
+        &[1, 1, 1],
+        Some((1, 1)),
+        ONE,
+        Some(Misfit::Misheard),
+    ),
+    (
+        (0, 1, 2),
+        &[1, 0],
+        Some((1, 1)),
+        ONE,
+        Some(Misfit::Misheard),
+    ),
+    ((0, 1, 2), &[1, 3], Some((1, 1)), ONE, None),
+    (
+        (1, 1, 1),
+        &[1, 1],
+        Some((1, 1)),
+        ONE,
+        Some(Misfit::WrongNumber),
+    ),
+    (
+        (0, 1, 3),
+        &[1, 2],
+        Some((1, 2)),
+        ONE,
+        Some(Misfit::Misheard),
+    ),
+    ((1, 3, 1), &[1, 3], Some((1, 2)), ONE, None),
+    ((0, 2, 1), &[2, 1], None, NONE, None),
 ];
 
 const OFF: &[Value] = &[Value::Bool(false)];
@@ -67,20 +139,27 @@ const ON: &[Value] = &[Value::Bool(true)];
 
 /// A task that takes its own output takes its last.
 const OWN: &[Row] = &[
-    ((0, 1, 2), None, OFF, Some(Misfit::NotOwnLatest)),
-    ((0, 1, 2), Some((1, 1)), ON, None),
-    ((0, 1, 3), None, OFF, Some(Misfit::NotOwnLatest)),
-    ((0, 1, 3), Some((1, 1)), ON, Some(Misfit::NotOwnLatest)),
-    ((0, 1, 3), Some((1, 2)), ON, Some(Misfit::Torn)),
-    ((0, 1, 3), Some((1, 2)), OFF, None),
+    ((0, 1, 2), &[1], None, OFF, Some(Misfit::NotOwnLatest)),
+    ((0, 1, 2), &[1], Some((1, 1)), ON, None),
+    ((0, 1, 3), &[1], None, OFF, Some(Misfit::NotOwnLatest)),
+    (
+        (0, 1, 3),
+        &[1],
+        Some((1, 1)),
+        ON,
+        Some(Misfit::NotOwnLatest),
+    ),
+    ((0, 1, 3), &[1], Some((1, 2)), ON, Some(Misfit::Torn)),
+    ((0, 1, 3), &[1], Some((1, 2)), OFF, None),
 ];
 
-/// A frame of this name, from the first state of the code, that took these values from there.
+/// A frame of this name, from the first state of the code, that had heard this and took these values from there.
 fn frame_of(
     rt: &impl Abort,
     alloc: Global,
     code: &Arc<TaskCode>,
     name: Name,
+    heard: &[u32],
     from: Option<(u32, u32)>,
     values: &[Value],
 ) -> Frame {
@@ -93,9 +172,13 @@ fn frame_of(
     let before = must(rt, TaskState::initial(alloc, code));
     let inputs = must(rt, Inputs::read(alloc, ""));
     let code = must(rt, Arc::try_clone(code));
+    let heard = must(rt, Vec::from_slice(alloc, heard));
+    let resource = name.task.resource;
     assert!(rt; fits_state(&code, &before));
     assert!(rt; suits_takes(&code, takes.as_slice()));
-    let made = Evaluation::make(alloc, 9, name, 10, inputs, takes, before, code);
+    assert!(rt; resource < heard.len());
+    assert!(rt; heard[resource] == name.incarnation);
+    let made = Evaluation::make(alloc, 9, name, heard, 10, inputs, takes, before, code);
     must(rt, Frame::new(alloc, must(rt, made)))
 }
 
@@ -147,13 +230,13 @@ fn answers(rt: &impl Abort, alloc: Global, text: &str, task: TaskRef, acts: &[Ac
     for frame in book.entries() {
         must(rt, entries.push(must(rt, frame.try_clone())));
     }
-    for &((resource, incarnation, number), from, values, misfit) in rows {
+    for &((resource, incarnation, number), heard, from, values, misfit) in rows {
         let name = Name {
             task: TaskRef { resource, task: 0 },
             incarnation,
             number,
         };
-        let frame = frame_of(rt, alloc, code, name, from, values);
+        let frame = frame_of(rt, alloc, code, name, heard, from, values);
         let answer = enter(rt, &mut book, &mut entries, frame);
         equal(rt, "answer", &answer, &misfit);
     }
@@ -177,6 +260,7 @@ fn a_book_refuses_what_does_not_fit(rt: HostRuntime) {
     answers(&rt, alloc, PAIR, SLOW, &once, TAKES);
     answers(&rt, alloc, PAIR, SLOW, &once, NAMES);
     answers(&rt, alloc, PAIR, SLOW, &twice, BACK);
+    answers(&rt, alloc, PAIR, SLOW, &once, HEARD);
     answers(&rt, alloc, LOOP, FAST, &[Act::Evaluate(FAST, false)], OWN);
 }
 
@@ -197,19 +281,34 @@ fn has_schedule(rt: &impl Abort, alloc: Global, plant: &str, acts: &[Act], wante
     holds(rt, "the schedule is the wanted one", is_so);
 }
 
-/// What is made restarts as often as the incarnation rose.
+/// What is made, or heard of, restarts as often as the incarnation rose.
 const RESTARTS: &[Act] = &[
     Act::Evaluate(FAST, true),
     Act::Restart(1),
     Act::Restart(1),
     Act::Restart(1),
-    Act::Deliver(1, 1),
+    Act::Hear(0, 1, 4),
+    Act::Evaluate(FAST, false),
+    Act::Deliver(2, 1),
     Act::Evaluate(SLOW, false),
     Act::Restart(0),
     Act::Evaluate(FAST, false),
 ];
 
-/// The first message comes behind the second one, and again after a restart. What is taken is delivered once.
+/// The watcher restarts, and takes again once the counter has heard of it.
+const HEARINGS: &[Act] = &[
+    Act::Evaluate(FAST, true),
+    Act::Deliver(1, 1),
+    Act::Evaluate(SLOW, false),
+    Act::Restart(1),
+    Act::Evaluate(SLOW, false),
+    Act::Hear(0, 1, 2),
+    Act::Evaluate(FAST, false),
+    Act::Deliver(4, 1),
+    Act::Evaluate(SLOW, false),
+];
+
+/// The first message comes behind the second one, and after a restart, too late for its reader. What is taken is delivered once.
 const LATE: &[Act] = &[
     Act::Evaluate(FAST, false),
     Act::Evaluate(FAST, true),
@@ -232,7 +331,6 @@ const LATE_AGAIN: &[Act] = &[
     Act::Evaluate(SLOW, false),
     Act::Restart(1),
     Act::Restart(1),
-    Act::Deliver(1, 1),
     Act::Evaluate(SLOW, false),
 ];
 
@@ -256,6 +354,7 @@ const OWN_AGAIN: &[Act] = &[
 fn a_schedule_has_what_the_entries_need(rt: HostRuntime) {
     let alloc = rt.alloc();
     has_schedule(&rt, alloc, PAIR, RESTARTS, RESTARTS);
+    has_schedule(&rt, alloc, PAIR, HEARINGS, HEARINGS);
     has_schedule(&rt, alloc, PAIR, LATE, LATE_AGAIN);
     has_schedule(&rt, alloc, LOOP, OWN_MESSAGE, OWN_AGAIN);
 }

@@ -12,9 +12,11 @@ use std_blocks::Value;
 use worked_texts::PAIR;
 use world::{Done, Event, World, WorldFault};
 
-/// A producer that restarts, and a delivery of an evaluation of before. What isn't lawful stands between.
-const ACTS: [Act; 12] = [
+/// A producer that restarts, of which is heard late, and a delivery of an evaluation of before. What isn't lawful stands between.
+const ACTS: [Act; 15] = [
     Act::Deliver(99, 1),
+    Act::Hear(0, 7, 1),
+    Act::Hear(1, 0, 2),
     Act::Evaluate(
         TaskRef {
             resource: 8,
@@ -38,10 +40,13 @@ const ACTS: [Act; 12] = [
     Act::Evaluate(SLOW, false),
     Act::Deliver(2, 1),
     Act::Evaluate(SLOW, false),
+    Act::Hear(1, 0, 2),
 ];
 
-const ANSWERS: [Result<Done, WorldFault>; 12] = [
+const ANSWERS: [Result<Done, WorldFault>; 15] = [
     Err(WorldFault::NoSuchMessage),
+    Err(WorldFault::NoSuchResource),
+    Err(WorldFault::NeverHeld),
     Err(WorldFault::NoSuchResource),
     Err(WorldFault::NoSuchTask),
     Ok(Done::Evaluated { message: 1 }),
@@ -59,6 +64,7 @@ const ANSWERS: [Result<Done, WorldFault>; 12] = [
         accepted: Accepted::Old,
     }),
     Ok(Done::Evaluated { message: 5 }),
+    Ok(Done::Heard { newer: true }),
 ];
 
 fn pair_of(name: Name) -> (u32, u32) {
@@ -83,7 +89,7 @@ fn has_counts(rt: &impl Abort, world: &World, evaluations: usize, events: usize)
 
 /// All is done that is lawful.
 fn has_restarted(rt: &impl Abort, world: &World) {
-    has_counts(rt, world, 5, 9);
+    has_counts(rt, world, 5, 10);
     let names = [(1, 1), (1, 2), (2, 1), (1, 1), (1, 2)];
     for (frame, name) in world.log().iter().zip(&names) {
         equal(rt, "name", &pair_of(frame.name()), name);
@@ -187,7 +193,7 @@ fn a_run_does_the_lawful_events(rt: HostRuntime) {
     let has_run = run_on(alloc, &mut world, events.as_slice());
     holds(&rt, "all events have run", has_run);
     has_restarted(&rt, &world);
-    let lawful = events.get(3..).unwrap_or_default();
+    let lawful = events.get(5..).unwrap_or_default();
     holds(
         &rt,
         "the lawful events are kept",

@@ -267,4 +267,7 @@ def drawing(chance):
     words = ["eval", "it.ladder"] + ["--dt", str(chance.choice([0, 1, 5, 5, 10, 10, 25, 1000, 4294967295]))] * (chance.random() < 0.8)
     for name in chance.sample(bits, min(len(bits), chance.randint(2, 6))):
         words.append(f"{cased(chance, name)}={digits(chance, chance.randint(1, scans))}")
+    for name in chance.sample(bits, min(len(bits), chance.choice([0, 0, 1, 2]))):
+        words.append(f"{cased(chance, name)}=={digits(chance, chance.randint(1, min(scans, 4)))}")
+    words += ["--chart"] * (chance.random() < 0.3)
     return {"it.ladder": text}, words

@@ -1,4 +1,4 @@
-"""Schedules for plants: evaluations, deliveries in any order, losses, repeats, restarts, and lines that aren't lawful."""
+"""Schedules for plants: evaluations, deliveries in any order, losses, repeats, restarts, hearings, and lines that aren't lawful."""
 from .drawings import cased
 from .plants import PlantMaker, inputs
 
@@ -7,11 +7,13 @@ class ScheduleMaker:
     def __init__(self, chance, plant):
         self.chance, self.plant = chance, plant
         self.made = 0
+        self.incarnations = {it: 1 for it in plant.resources}
         # How often something happens, in this schedule.
         self.share = {
             self.evaluation: 10,
             self.delivery: chance.choice([3, 12, 25]),
             self.restart: chance.choice([0, 1, 3]),
+            self.hearing: chance.choice([0, 1, 4]),
             self.unlawful: chance.choice([0, 0, 1]),
             self.empty: chance.choice([0, 1]),
         }
@@ -46,12 +48,24 @@ class ScheduleMaker:
         yield f"{self.keyword('DELIVER')} {message} {cased(self.chance, self.resource())}"
 
     def restart(self):
-        yield f"{self.keyword('RESTART')} {cased(self.chance, self.resource())}"
+        """A restart; now and then all hear of it at once."""
+        resource = self.resource()
+        self.incarnations[resource] += 1
+        yield f"{self.keyword('RESTART')} {cased(self.chance, resource)}"
+        if self.chance.random() < 0.5:
+            yield from (f"HEAR {it} {resource} {self.incarnations[resource]}" for it in self.plant.resources if self.chance.random() < 0.8)
+
+    def hearing(self):
+        """Mostly of the present incarnation; of an earlier one, or of one that never was, now and then."""
+        of = self.resource()
+        present = self.incarnations[of]
+        incarnation = self.chance.choice([present] * 6 + [self.chance.randint(0, present + 1)])
+        yield f"{self.keyword('HEAR')} {cased(self.chance, self.resource())} {cased(self.chance, of)} {incarnation}"
 
     def unlawful(self):
         resource = self.resource()
         yield self.chance.choice(
-            [f"DELIVER 0 {resource}", "DELIVER 0 R9", f"DELIVER 18446744073709551615 {resource}", "RESTART R9", "EVAL R9.T1 10", f"EVAL {resource}.T9 0 %IX0=1"]
+            [f"DELIVER 0 {resource}", "DELIVER 0 R9", f"DELIVER 18446744073709551615 {resource}", "RESTART R9", "EVAL R9.T1 10", f"EVAL {resource}.T9 0 %IX0=1", f"HEAR R9 {resource} 1", f"HEAR {resource} R9 1", f"HEAR {resource} {resource} 0"]
         )
 
     def empty(self):
@@ -61,7 +75,7 @@ class ScheduleMaker:
         return cased(self.chance, word)
 
 
-NO_EVENTS = ["EVAL R1.T1", "DELIVER R1 1", "RESTART R1 R1", "EVAL R1 10", "EVAL R1.T1 10 %IX0=2", "EVAL R1.T1 10 %IX0=1 %ix00=0", "HEAR", "RESTART ON", "x"]
+NO_EVENTS = ["EVAL R1.T1", "DELIVER R1 1", "RESTART R1 R1", "EVAL R1 10", "EVAL R1.T1 10 %IX0=2", "EVAL R1.T1 10 %IX0=1 %ix00=0", "HEAR", "HEAR R1 R2", "HEAR R1 R2 4294967296", "HEAR R1 R2 1 1", "HEAR R1.T1 R2 1", "RESTART ON", "x"]
 
 
 def schedule(chance):

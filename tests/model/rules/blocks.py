@@ -33,6 +33,11 @@ class Instance:
         self.before = {}
         self.is_running = False
 
+    def copied(self):
+        copy = Instance(self.block)
+        copy.outputs, copy.before, copy.is_running = dict(self.outputs), dict(self.before), self.is_running
+        return copy
+
     def step(self, pins, elapsed):
         getattr(self, f"step_{self.block.lower()}")(pins, elapsed)
         self.before = dict(pins)

@@ -14,8 +14,10 @@ from .refusal import Refusal
 from .run import Run, lines_of_run, paced_run
 from .scan import Ladder, State
 from .schedule import MOST_U32, events_of
+from .verify import MOST_INPUTS, Search, line_of, stored_names, verdict_lines
 
-REFUSED_TEXT, REFUSED_WORDS, NO_FILE = 1, 2, 3
+REFUSED_TEXT, REFUSED_WORDS, NO_FILE, DIFFERS, UNDECIDED = 1, 2, 3, 4, 5
+CLAIM_FAILS = DIFFERS
 MOST_DIGITS = 1000
 
 
@@ -38,17 +40,20 @@ class Refused(Exception):
 
 @dataclass
 class Shape:
-    """The words that a command has: its files, its options with a number, its flags, and whether further words follow."""
+    """The words that a command has: its files, its options with a number, its flags, its options that may stand several
+    times, and whether further words follow."""
 
     files: int
     numbers: tuple = ()
     flags: tuple = ()
+    lists: tuple = ()
     needed: tuple = ()
     has_more: bool = False
 
 
 SHAPES = {
-    "eval": Shape(1, numbers=("--dt",), has_more=True),
+    "eval": Shape(1, numbers=("--dt",), flags=("--chart",), has_more=True),
+    "verify": Shape(1, numbers=("--dt", "--most-states"), lists=("--never",), needed=("--never",), has_more=True),
     "check": Shape(1),
     "plan": Shape(1, numbers=("--until",), needed=("--until",)),
     "sim": Shape(2, numbers=("--max-number",)),
@@ -81,10 +86,14 @@ def read_words(shape, given):
             is_behind = True
         else:
             option, equals, value = word.partition("=")
-            if option in options or option not in (*shape.numbers, *shape.flags):
+            takes_word = option not in shape.flags and not equals
+            if option in shape.lists:
+                options.setdefault(option, []).append(name_given(value if equals else "".join(ahead[:1])))
+            elif option in options or option not in (*shape.numbers, *shape.flags):
                 raise Refused(REFUSED_WORDS)
-            options[option] = flag(equals) if option in shape.flags else number(value if equals else "".join(ahead[:1]))
-            del ahead[: option in shape.numbers and not equals]
+            else:
+                options[option] = flag(equals) if option in shape.flags else number(value if equals else "".join(ahead[:1]))
+            del ahead[:takes_word]
     if len(plain) < shape.files or (len(plain) > shape.files and not shape.has_more) or not set(shape.needed) <= set(options):
         raise Refused(REFUSED_WORDS)
     return plain[: shape.files], options, plain[shape.files :]
@@ -94,6 +103,12 @@ def flag(equals):
     if equals:
         raise Refused(REFUSED_WORDS)
     return True
+
+
+def name_given(word):
+    if not word or word.startswith("-"):
+        raise Refused(REFUSED_WORDS)
+    return word
 
 
 def number(word):
@@ -137,27 +152,81 @@ class Files:
 def evaluate(write, files, paths, options, more):
     ladder = files.ladder(paths[0])
     variables = [it for it in ladder.declarations if it.role != "Instance"]
-    rows = rows_of(more, [it for it in variables if it.kind == "BOOL"])
-    state = State(ladder.declarations)
-    for scan in range(max(map(len, rows.values()), default=1)):
+    rows, expected = rows_of(more, [it for it in variables if it.kind == "BOOL"])
+    state, traced = State(ladder.declarations), []
+    for scan in range(max(map(len, [*rows.values(), *expected.values()]), default=1)):
         for name, digits in rows.items():
             if scan < len(digits):
                 state.set(name, digits[scan] == "1")
         ladder.scan(state, options.get("--dt", 0))
-        write(" ".join(f"{it.name}={words.shown(state.get(it.name))}" for it in variables))
+        traced.append({words.fold(it.name): state.get(it.name) for it in variables})
+    for line in chart_of(variables, traced) if "--chart" in options else lines_of_scans(variables, traced):
+        write(line)
+    tell_difference(paths[0], variables, expected, traced)
+
+
+def lines_of_scans(variables, traced):
+    for values in traced:
+        yield " ".join(f"{it.name}={words.shown(values[words.fold(it.name)])}" for it in variables)
+
+
+def chart_of(variables, traced):
+    """A line for each variable: the name in a column of its own, and behind it what it was."""
+    width = max((len(it.name) for it in variables), default=0)
+    for it in variables:
+        values = [values[words.fold(it.name)] for values in traced]
+        if it.kind == "BOOL":
+            shown = "".join("#" if on else "_" for on in values)
+        else:
+            shown = " ".join(words.shown(value) for k, value in enumerate(values) if k == 0 or value != values[k - 1])
+        yield f"{it.name:{width}} {shown}"
+
+
+def tell_difference(path, variables, expected, traced):
+    """The first one by scan, and then by word."""
+    declared = {words.fold(it.name): it.name for it in variables}
+    for scan, values in enumerate(traced):
+        for name, digits in expected.items():
+            if scan < len(digits) and values[name] != (digits[scan] == "1"):
+                told = f"{declared[name]} is {words.shown(values[name])} after scan {scan + 1}, expected {digits[scan]}"
+                raise Refused(DIFFERS, f"{path}: {told}")
 
 
 def rows_of(given, variables):
-    """The digits of each variable that is named by a word NAME=BITS."""
-    rows = {}
+    """The digits of each variable that is named by a word NAME=BITS, and of each by a word NAME==BITS."""
+    rows, expected = {}, {}
     for word in given:
         name, _, digits = word.partition("=")
         name = words.fold(name)
+        of_kind = expected if digits.startswith("=") else rows
+        digits = digits.removeprefix("=")
         is_known = any(words.fold(it.name) == name for it in variables)
-        if not is_known or name in rows or not digits or digits.strip("01") or len(digits) > MOST_DIGITS:
+        if not is_known or name in of_kind or not digits or digits.strip("01") or len(digits) > MOST_DIGITS:
             raise Refused(REFUSED_WORDS)
-        rows[name] = digits
-    return rows
+        of_kind[name] = digits
+    return rows, expected
+
+
+def verify(write, files, paths, options, more):
+    ladder = files.ladder(paths[0])
+    bits = [words.fold(it.name) for it in ladder.declarations if it.role != "Instance" and it.kind == "BOOL"]
+    stored = stored_names(ladder.drawing)
+    rows, expected = rows_of(more, [it for it in ladder.declarations if words.fold(it.name) in bits])
+    claims = [words.fold(it) for it in options["--never"]]
+    free = [it for it in bits if it not in stored and it not in rows]
+    is_held = not expected and all(len(digits) == 1 and name not in stored for name, digits in rows.items())
+    if not is_held or not set(claims) <= stored & set(bits) or len(free) > MOST_INPUTS:
+        raise Refused(REFUSED_WORDS)
+    held = {name: digits == "1" for name, digits in rows.items()}
+    found = Search(ladder, options.get("--dt", 0), free, held, claims, options.get("--most-states", 1_000_000))
+    found.search()
+    for name in options["--never"]:
+        for line in verdict_lines(found, name, paths[0]):
+            write(line)
+    if found.runs:
+        raise Refused(CLAIM_FAILS)
+    if found.depth is not None:
+        raise Refused(UNDECIDED)
 
 
 def check(write, files, paths, _options, _more):
@@ -205,4 +274,4 @@ def run_paced(write, files, paths, options, more):
     write("REPLAY equal")
 
 
-COMMANDS = {"eval": evaluate, "check": check, "plan": plan, "sim": simulate, "run": run_paced}
+COMMANDS = {"eval": evaluate, "verify": verify, "check": check, "plan": plan, "sim": simulate, "run": run_paced}

@@ -5,7 +5,7 @@ from . import words
 from .plant import Field
 from .plant_text import find
 from .scan import State
-from .schedule import MOST_U32, Deliver, Evaluate, Restart
+from .schedule import MOST_U32, Deliver, Evaluate, Hear, Restart
 
 
 class Refused(Exception):
@@ -14,11 +14,15 @@ class Refused(Exception):
 
 @dataclass(eq=False)
 class Evaluation:
-    """A message: an evaluation of a task, named by incarnation and number, with what it took and gave."""
+    """A message: an evaluation of a task, named by incarnation and number, with what it took and gave.
+
+    It is addressed to one incarnation of each resource: to the one of which its maker had heard.
+    """
 
     message: int
     task: object
     name: tuple
+    heard: list
     takes: list
     image: dict
     state: dict
@@ -36,17 +40,23 @@ def pair(name):
 
 
 class Node:
-    """A resource while events happen: its incarnation, the messages that have reached it since its last restart."""
+    """A resource while events happen: its incarnation, the messages that were delivered to it or made there, and of which
+    incarnation of each resource it has heard since its last restart."""
 
-    def __init__(self, resource):
-        self.resource = resource
+    def __init__(self, resource, resources):
+        self.resource, self.resources = resource, resources
         self.incarnation = 1
+        self.delivered = set()
         self.begin()
 
     def begin(self):
         """All is forgotten but the incarnation."""
-        self.reached = set()
         self.own = {}
+        self.heard = [1] * self.resources
+        self.heard[self.resource.place] = self.incarnation
+
+    def has_reached(self, message):
+        return message.message in self.delivered and message.heard[self.resource.place] == self.incarnation
 
 
 class Run:
@@ -54,7 +64,7 @@ class Run:
 
     def __init__(self, plant, most_numbers=MOST_U32):
         self.plant, self.most_numbers = plant, most_numbers
-        self.nodes = [Node(resource) for resource in plant.resources]
+        self.nodes = [Node(resource, len(plant.resources)) for resource in plant.resources]
         self.log = []
         self.lists = {task: [] for task in plant.tasks()}
 
@@ -68,6 +78,8 @@ class Run:
             return self.evaluate(node, event)
         if isinstance(event, Deliver):
             return self.deliver(node, event.message)
+        if isinstance(event, Hear):
+            return self.hear(node, event)
         assert isinstance(event, Restart)
         return self.restart(node)
 
@@ -90,28 +102,31 @@ class Run:
         for program in task.programs:
             program.type.ladder.scan(state[program], elapsed)
         image = {(program, words.fold(it.name)): state[program].get(it.name) for program, it in task.outputs()}
-        made = Evaluation(len(self.log) + 1, task, (node.incarnation, number), takes, image, state)
+        made = Evaluation(len(self.log) + 1, task, (node.incarnation, number), list(node.heard), takes, image, state)
         self.log.append(made)
         self.lists[task].append(made)
         node.own[task] = made
-        node.reached.add(made.message)
+        node.delivered.add(made.message)
         return made
 
     def latest(self, node, producer):
         """The last in a producer's list of evaluations among those that have reached a node; None where none has."""
-        return next((it for it in reversed(self.lists[producer]) if it.message in node.reached), None)
+        return next((it for it in reversed(self.lists[producer]) if node.has_reached(it)), None)
 
-    # Deliveries and restarts.
+    # Deliveries, restarts and hearings.
 
     def deliver(self, node, message):
         if not 1 <= message <= len(self.log):
             raise Refused("NoSuchMessage")
-        producer = self.log[message - 1].task
-        answer = "unused"
-        if producer.resource is not node.resource and takes_from(node.resource, producer):
-            before = self.latest(node, producer)
-            node.reached.add(message)
-            answer = "old" if self.latest(node, producer) is before else "taken"
+        made = self.log[message - 1]
+        before = self.latest(node, made.task)
+        node.delivered.add(message)
+        if made.task.resource is node.resource or not takes_from(node.resource, made.task):
+            answer = "unused"
+        elif made.heard[node.resource.place] != node.incarnation:
+            answer = "stray"
+        else:
+            answer = "old" if self.latest(node, made.task) is before else "taken"
         return f"DELIVER {message} {node.resource.name} {answer}"
 
     def restart(self, node):
@@ -120,6 +135,17 @@ class Run:
         node.incarnation += 1
         node.begin()
         return f"RESTART {node.resource.name} {node.incarnation}"
+
+    def hear(self, node, event):
+        of = find(self.plant.resources, event.of)
+        if not of:
+            raise Refused("NoSuchResource")
+        if not 1 <= event.incarnation <= self.nodes[of.place].incarnation:
+            raise Refused("NeverHeld")
+        newer = event.incarnation > node.heard[of.place]
+        if newer:
+            node.heard[of.place] = event.incarnation
+        return f"HEAR {node.resource.name} {of.name} {event.incarnation} {'new' if newer else 'old'}"
 
 
 def takes_from(resource, producer):

@@ -27,6 +27,13 @@ class Restart:
     resource: str
 
 
+@dataclass
+class Hear:
+    resource: str
+    of: str
+    incarnation: int
+
+
 def events_of(lines):
     """The events one after the other; the first line that is none, nor blank nor a comment, is refused when it is met."""
     for number, line in enumerate(lines, 1):
@@ -48,6 +55,9 @@ def event_of(parts):
         return None if message is None else Deliver(message, rest[1])
     if keyword == "RESTART" and len(rest) == 1 and words.is_plain_name(rest[0]):
         return Restart(rest[0])
+    if keyword == "HEAR" and len(rest) == 3 and words.is_plain_name(rest[0]) and words.is_plain_name(rest[1]):
+        incarnation = number_up_to(rest[2], MOST_U32)
+        return None if incarnation is None else Hear(rest[0], rest[1], incarnation)
     return None
 
 

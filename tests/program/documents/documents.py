@@ -76,7 +76,7 @@ def try_commands(name, place):
 
 def try_schedule(name, place):
     text = read("examples", name)
-    wanted = re.findall(r"(?m)^# ((?:EVAL|DELIVER|RESTART|REFUSED) .*)", text)
+    wanted = re.findall(r"(?m)^# ((?:EVAL|DELIVER|RESTART|HEAR|REFUSED) .*)", text)
     command = re.search(r"(?m)^#   (\./plc sim .*)$", text)
     if wanted and run(command[1], place).stdout.splitlines() != wanted:
         told.append(f"examples/{name}: its comments aren't what is written")

@@ -10,9 +10,10 @@ use Rattle.due_list.specs.declared.task_ref.TaskRef.{TaskRef}
 use Rattle.evaluation.specs.declared.name.Name.{Name}
 use Rattle.evaluation.specs.declared.take.Take.{Take}
 use Rattle.evaluation.specs.Meaning.{Evaluated}
+use Rattle.evaluation.specs.Heard.{is_addressed}
 use Rattle.evaluation.specs.Last.{same_task, last_number, from_of}
 use Rattle.evaluation_book.specs.declared.book.misfit.Misfit.{Misfit}
-use Rattle.evaluation_book.specs.declared.book.misfit.Misfit.TheVariants.{WrongNumber, UnknownTake, Torn, Back, NotOwnLatest}
+use Rattle.evaluation_book.specs.declared.book.misfit.Misfit.TheVariants.{WrongNumber, UnknownTake, Torn, Back, NotOwnLatest, NotAddressed, Misheard}
 use Rattle.evaluation_book.specs.Fits.{present_in, name_from, is_below, Fits}
 use Rattle.evaluation_book.specs.Book.{BookValue, IsMisfit}
 
@@ -97,7 +98,7 @@ is_untorn older t = untorn_from older t.producer t.image t.from
 
 -- a take is from another producer, or this one isn't below it
 abbrev pub keeps_take : Take → Take → Bool
-keeps_take t u = not (same_task u.producer t.producer) || not (is_below t.producer t.from u.from)
+keeps_take t u = not (same_task u.producer t.producer) || not (is_below t.from u.from)
 
 -- an entry is of this resource and takes from this producer
 abbrev pub takes_from : ℕ → TaskRef → Evaluated → Bool
@@ -122,14 +123,49 @@ is_own_latest older name t =
     not (t.producer.resource == name.task.resource)
     || same_from t.from (from_of (newest_in older t.producer name.incarnation))
 
+-- an entry, if there is one, is addressed to this incarnation of a resource
+abbrev pub keeps_address : ℕ → ℕ → Option Evaluated → Bool
+keeps_address n i None = true
+keeps_address n i (Some y) = is_addressed y n i
+
+abbrev pub addressed_from : List Evaluated → Name → TaskRef → Option (ℕ × ℕ) → Bool
+addressed_from older name p None = true
+addressed_from older name p (Some f) =
+    keeps_address name.task.resource name.incarnation (find (is_named (name_from p f)) older)
+
+-- the sixth clause, for one take
+abbrev pub is_addressed_to : List Evaluated → Name → Take → Bool
+is_addressed_to older name t =
+    t.producer.resource == name.task.resource || addressed_from older name t.producer t.from
+
+-- as many numbers, and none below the one at its place of the first ones
+abbrev pub none_below : List ℕ → List ℕ → Bool
+none_below = pointwise nat_le
+
+-- an entry is of this resource
+abbrev pub is_of_resource : ℕ → Evaluated → Bool
+is_of_resource n y = y.name.task.resource == n
+
+-- an entry, if there is one, is of another incarnation, or none of these numbers is below what it has heard
+abbrev pub keeps_heard : ℕ → List ℕ → Option Evaluated → Bool
+keeps_heard i heard None = true
+keeps_heard i heard (Some y) = not (y.name.incarnation == i) || none_below y.heard heard
+
+-- the seventh clause
+abbrev pub is_well_heard : List ℕ → List Evaluated → Name → List ℕ → Bool
+is_well_heard first older name heard =
+    none_below first heard && keeps_heard name.incarnation heard (find (is_of_resource name.task.resource) older)
+
 -- the first clause that fails, if one does
-abbrev pub first_failed : List ℕ → List Evaluated → Name → List Take → Option Misfit
-first_failed first older name takes =
+abbrev pub first_failed : List ℕ → List Evaluated → Name → List ℕ → List Take → Option Misfit
+first_failed first older name heard takes =
     if not (is_numbered first older name) then Some WrongNumber
     else if not (list_all (is_known older) takes) then Some UnknownTake
     else if not (list_all (is_untorn older) takes) then Some Torn
     else if not (list_all (is_not_back older name) takes) then Some Back
     else if not (list_all (is_own_latest older name) takes) then Some NotOwnLatest
+    else if not (list_all (is_addressed_to older name) takes) then Some NotAddressed
+    else if not (is_well_heard first older name heard) then Some Misheard
     else None
 
 -- What is decided of an evaluation: no misfit if it fits a book's entries, else the first clause that fails.

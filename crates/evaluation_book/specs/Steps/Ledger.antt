@@ -1,5 +1,5 @@
 -- Steps of the proofs: the tables of a book. Entries stand with the newest first.
-use Rattle.std.specs.Prelude.{◌≡◌, ℕ, ◌-◌, Bool, if◌then◌else◌, ◌==◌, ◌&&◌, List, [], ◌∷◌, ◌++◌, Option, Some, None, length, reverse, slice_set, slice_get, is_some}
+use Rattle.std.specs.Prelude.{◌≡◌, ℕ, ◌-◌, Bool, if◌then◌else◌, ◌==◌, ◌&&◌, List, [], ◌∷◌, ◌++◌, Option, Some, None, length, replicate, reverse, slice_set, slice_get, is_some}
 use Rattle.std.specs.Option.{option_map}
 use Rattle.std.specs.Ordering.{nat_cmp, ordering_then}
 use Rattle.std.specs.declared.cmp.Ordering.{Ordering}
@@ -15,6 +15,7 @@ use Rattle.evaluation_book.specs.declared.book.ledger.task_places.TaskPlaces.{Ta
 use Rattle.evaluation_book.specs.declared.book.ledger.taker.Taker.{Taker}
 use Rattle.std.specs.List.{AllByRecursion}
 use Rattle.evaluation_book.specs.Fits.{AllFit}
+use Rattle.evaluation_book.specs.Presents.{ArePresent}
 use Rattle.evaluation_book.specs.Steps.Deciding.{is_of_task, takes_from}
 
 -- where the newest entry that passes stands among all, counted from the oldest
@@ -22,10 +23,10 @@ abbrev pub newest_place : (Evaluated → Bool) → List Evaluated → Option ℕ
 newest_place passes [] = None
 newest_place passes (x ∷ older) = if passes x then Some (length older) else newest_place passes older
 
--- the present incarnations of all resources
-abbrev pub presents : List ℕ → List Evaluated → List ℕ
-presents first [] = first
-presents first (x ∷ older) = slice_set (presents first older) x.name.task.resource x.name.incarnation
+-- where the newest entries of the resources stand
+abbrev pub newests : List ℕ → List Evaluated → List (Option ℕ)
+newests first [] = replicate (length first) None
+newests first (x ∷ older) = slice_set (newests first older) x.name.task.resource (Some (length older))
 
 -- an entry's place
 abbrev pub place_of : Evaluated → ℕ → Place
@@ -110,15 +111,17 @@ noted n takes index row =
     if n == row.resource && take_from row.producer takes then record row { index = Some index } else row
 
 -- The tables tell of these entries.
-pub record AreTables (first : List ℕ) (older : List Evaluated) (present : List ℕ) (tasks : List TaskPlaces)
-    (takers : List Taker) : Type 0 where
-  pub incarnations : present ≡ presents first older
+pub record AreTables (first : List ℕ) (older : List Evaluated) (present : List ℕ) (newest : List (Option ℕ))
+    (tasks : List TaskPlaces) (takers : List Taker) : Type 0 where
+  pub incarnations : ArePresent first older present
+  pub newest_are : newest ≡ newests first older
   pub places : (t : TaskRef) → places_in tasks t ≡ places_of t older
   pub latest : (n : ℕ) (q : TaskRef) → taker_in takers n q ≡ newest_place (takes_from n q) older
 
 -- The ledger tells of these entries.
 abbrev pub Tells : List ℕ → List Evaluated → Ledger → Type 0
-Tells first older ledger = AreTables first older ledger.present.items ledger.tasks.items ledger.takers.items
+Tells first older ledger = AreTables first older ledger.present.items ledger.newest.items ledger.tasks.items
+    ledger.takers.items
 
 -- whatever entries the old ledger tells of, the new one tells of them and of x, which stands at this index
 abbrev pub TellsOneMore : Ledger → Ledger → Evaluated → ℕ → Type 0

@@ -3,6 +3,8 @@ ghost use Rattle.evaluation_book.specs.Fits.{AllFit};
 ghost use Rattle.evaluation_book.specs.Steps.Deciding.{first_failed, IsDecided};
 
 use crate::book::Book;
+use crate::book::addressed::are_addressed;
+use crate::book::heard::is_well_heard;
 use crate::book::misfit::Misfit;
 use crate::book::not_back::are_not_back;
 use crate::book::numbered::is_numbered;
@@ -14,11 +16,16 @@ use evaluation::{Evaluation, Name, Take};
 pub fn find_misfit(book: &Book, evaluation: &Evaluation) -> Option<Misfit>
     ensures { IsDecided book.now evaluation.now result }
 {
-    first_failed(book, evaluation.name(), evaluation.takes())
+    first_failed(
+        book,
+        evaluation.name(),
+        evaluation.heard(),
+        evaluation.takes(),
+    )
 }
 
-fn first_failed(book: &Book, name: Name, takes: &[Take]) -> Option<Misfit>
-    ensures value { result ≡ first_failed book.now.first (reverse book.now.entries) name takes.now }
+fn first_failed(book: &Book, name: Name, heard: &[u32], takes: &[Take]) -> Option<Misfit>
+    ensures value { result ≡ first_failed book.now.first (reverse book.now.entries) name heard.now takes.now }
     ensures fit { AllFit book.now.first (reverse book.now.entries) }
 {
     if !is_numbered(book, name) {
@@ -35,6 +42,12 @@ fn first_failed(book: &Book, name: Name, takes: &[Take]) -> Option<Misfit>
     }
     if !are_own_latest(book, name, takes) {
         return Some(Misfit::NotOwnLatest);
+    }
+    if !are_addressed(book, name, takes) {
+        return Some(Misfit::NotAddressed);
+    }
+    if !is_well_heard(book, name, heard) {
+        return Some(Misfit::Misheard);
     }
     None
 }

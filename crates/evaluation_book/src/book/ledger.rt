@@ -9,6 +9,7 @@ mod task_places;
 
 use crate::book::ledger::places::add_place;
 use crate::book::ledger::takers::{make_rows, note_takes};
+use crate::present::raise_present;
 use evaluation::Evaluation;
 pub use place::Place;
 pub use places::{find_place, last_place, places_of};
@@ -22,6 +23,8 @@ pub use task_places::TaskPlaces;
 pub struct Ledger {
     /// The present incarnation of each resource.
     pub present: Vec<u32>,
+    /// For each resource the place of its newest entry.
+    pub newest: Vec<Option<usize>>,
     /// For each task the places of its entries.
     pub tasks: Vec<TaskPlaces>,
     /// For each resource and producer the newest entry that takes.
@@ -35,6 +38,7 @@ impl Ledger {
     {
         Ok(Ledger {
             present: Vec::from_slice(alloc, first)?,
+            newest: vec![in alloc; None; first.len()]?,
             tasks: Vec::new(alloc),
             takers: Vec::new(alloc),
         })
@@ -42,7 +46,8 @@ impl Ledger {
 
     /// Notes one entry more, which stands at this index. All growths come first; without memory the ledger tells the same as before.
     pub fn enter(&mut self, evaluation: &Evaluation, index: usize) -> Result<(), AllocError>
-        requires { evaluation.now.name.task.resource < length self.old.present.items }
+        requires present { evaluation.now.name.task.resource < length self.old.present.items }
+        requires newest { evaluation.now.name.task.resource < length self.old.newest.items }
         ensures ok { OnOk result (TellsOneMore self.old self.new evaluation.now index) }
         ensures err { OnErr result (TellsAsBefore self.old self.new) }
     {
@@ -61,7 +66,8 @@ impl Ledger {
             evaluation.takes(),
             index,
         );
-        self.present[resource] = name.incarnation;
+        self.newest[resource] = Some(index);
+        raise_present(&mut self.present, evaluation);
         Ok(())
     }
 }

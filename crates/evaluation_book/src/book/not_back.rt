@@ -63,7 +63,7 @@ fn keeps_take(take: &Take, other: &Take) -> bool
 
 /// Whether a take is below another one: in the pair order, where nothing is below every pair.
 fn is_below(take: &Take, other: &Take) -> bool
-    ensures { result ≡ is_below take.now.producer take.now.from other.now.from }
+    ensures { result ≡ is_below take.now.from other.now.from }
 {
     match other.from {
         None => false,

@@ -73,7 +73,8 @@ fn is_image_of(book: &Book, name: Name, image: &Image) -> bool
     }
 }
 
-fn find_named(book: &Book, name: Name) -> Option<&Frame>
+/// The entry of a name, if there is one.
+pub fn find_named(book: &Book, name: Name) -> Option<&Frame>
     ensures { option_copied result ≡ find (is_named name) (reverse book.now.entries) }
 {
     let places = places_of(book.ledger.tasks.as_slice(), name.task);

@@ -11,7 +11,7 @@ use Rattle.exchange.specs.Run.{has_reached}
 use Rattle.exchange.specs.World.{WorldValue, node_takes, latest_at, held_at}
 use Rattle.lists.specs.Among.{Among}
 use Rattle.evaluation_book.specs.declared.book.misfit.Misfit.{Misfit}
-use Rattle.evaluation_book.specs.declared.book.misfit.Misfit.TheVariants.{WrongNumber, UnknownTake, Torn, Back, NotOwnLatest, Memory}
+use Rattle.evaluation_book.specs.declared.book.misfit.Misfit.TheVariants.{WrongNumber, UnknownTake, Torn, Back, NotOwnLatest, Memory, NotAddressed, Misheard}
 use Rattle.evaluation_book.specs.Fits.{Fits, AllFit}
 use Rattle.evaluation_book.specs.Book.{IsMisfit}
 use Rattle.exchange.specs.BookLaws.{RunsFit, RunsAreEntered, HoldersAgree}
@@ -22,7 +22,7 @@ use Rattle.exchange.proofs.Consistency.AllFits.{one_name, log-fits}
 
 -- each evaluation of a run fits those before it
 pub run-fits : RunsFit
-run-fits s events log firsts is = log-fits s (history_of s events) (reverse log) firsts (AllLawful-after s [] events tt) is
+run-fits s events log firsts is = log-fits s (history_of s events) (reverse log) (AllLawful-after s [] events tt) is
 
 -- what stands behind an item
 split-at : (log : List Evaluated) (k : ℕ) (x : Evaluated) → slice_get log k ≡ Some x → (rest : List Evaluated) × (log ≡ take k log ++ x ∷ rest)
@@ -45,11 +45,13 @@ fits-at first log k x all e =
 
 -- what fits is refused for want of memory alone
 only-memory : (first : List ℕ) (older : List Evaluated) (x : Evaluated) (misfit : Misfit) → Fits first older x → IsMisfit first older x misfit → misfit ≡ Memory
-only-memory first older x WrongNumber fits is = absurd (is fits.numbered)
-only-memory first older x UnknownTake fits is = absurd (is.1 fits.known)
-only-memory first older x Torn fits is = absurd (is.2 fits.untorn)
-only-memory first older x Back fits is = absurd (is.3 fits.not_back)
-only-memory first older x NotOwnLatest fits is = absurd (is.4 fits.own_latest)
+only-memory first older x WrongNumber fits is = absurd (is.fails fits.numbered)
+only-memory first older x UnknownTake fits is = absurd (is.fails fits.known)
+only-memory first older x Torn fits is = absurd (is.fails fits.untorn)
+only-memory first older x Back fits is = absurd (is.fails fits.not_back)
+only-memory first older x NotOwnLatest fits is = absurd (is.fails fits.own_latest)
+only-memory first older x NotAddressed fits is = absurd (is.fails fits.addressed)
+only-memory first older x Misheard fits is = absurd (is.fails fits.heard)
 only-memory first older x Memory fits is = refl
 
 pub runs-entered : RunsAreEntered
@@ -64,7 +66,7 @@ held-among w n p x e = by (eqb p.resource n) (node_takes w.setting.plant n p) e 
   by false false f = absurd (none-some x f)
   by false true f =
       (subst (λ (o : Option Evaluated). MatchOption o (Unit {0}) (λ z. Among z (reverse w.log) × (same_task z.name.task p ≡ true))) f
-      (last_among-entry p (has_reached n (history_of w.setting w.events)) (reverse w.log))).0
+      (last_among-entry p (has_reached w.setting n (history_of w.setting w.events)) (reverse w.log))).0
 
 pub holders-agree : HoldersAgree
 holders-agree w is n m p q x y first second same =

@@ -12,12 +12,14 @@ use Rattle.evaluation.specs.declared.field_input.FieldInput.{FieldInput}
 use Rattle.evaluation.specs.Meaning.{Evaluated}
 use Rattle.evaluation.specs.Last.{state_of}
 use Rattle.exchange.specs.declared.event.Event.{Event}
-use Rattle.exchange.specs.declared.event.Event.TheVariants.{Evaluate, Deliver, Restart}
-use Rattle.exchange.specs.History.{Setting, made_count, is_lawful, after_events, history_of}
+use Rattle.exchange.specs.declared.event.Event.TheVariants.{Evaluate, Deliver, Restart, Hear}
+use Rattle.exchange.specs.History.{Setting, heard_by, made_count, is_lawful, after_events, history_of}
 use Rattle.exchange.specs.Run.{IsLog, IsRun, IsNextEvaluation, latest, message}
 use Rattle.exchange.specs.Consistent.{TakesOnly}
 use Rattle.exchange.specs.BookLaws.{BooksAreConsistent}
+use Rattle.evaluation_book.specs.Laws.{TakesNeverFall}
 use Rattle.exchange.specs.Theorem.{IsMade, ConsistencyTheorem}
+use Rattle.exchange.proofs.Histories.Heard.{heard-is}
 use Rattle.exchange.proofs.Histories.Names.{length-log, named}
 use Rattle.exchange.proofs.Worlds.Moves.{run-message}
 use Rattle.exchange.proofs.Consistency.Places.{next-code, takes-latest, run-consistent}
@@ -82,6 +84,7 @@ made-in s [] [] is k x at = absurd (none-some x at)
 made-in s [] (y ∷ older) is k x at = absurd is
 made-in s (Deliver m n ∷ h) log is k x at = later-event s (Deliver m n) h log k x (made-in s h log is k x at)
 made-in s (Restart n ∷ h) log is k x at = later-event s (Restart n) h log k x (made-in s h log is k x at)
+made-in s (Hear n o i ∷ h) log is k x at = later-event s (Hear n o i) h log k x (made-in s h log is k x at)
 made-in s (Evaluate ticket task dt inputs ∷ h) [] is k x at = absurd is
 made-in s (Evaluate ticket task dt inputs ∷ h) (y ∷ older) is k x at = by (eqb (suc k) (suc (length older))) refl at (made-in s h older is.0 k x) where
   here : k ≡ length older → y ≡ x → MadeIn s (Evaluate ticket task dt inputs ∷ h) (y ∷ older) k x
@@ -172,7 +175,8 @@ made-of s events log k x m =
       events_are = subst (λ t. events ≡ found.before ++ Evaluate m.ticket t m.dt m.inputs ∷ found.later) (sym own) found.events_are;
       lawful = subst (λ t. is_lawful s (history_of s found.before) (Evaluate m.ticket t m.dt m.inputs) ≡ true) (sym own) (subst (λ h. is_lawful s h (Evaluate m.ticket m.task m.dt m.inputs) ≡ true) (sym found.history_is) found.lawful);
       place = sym m.place ∙ many;
-      taken = λ p. subst (TakesOnly x p) (seen p) (subst (λ t. TakesOnly x p (latest t.resource m.h p m.older)) (sym own) (takes-latest s m.h m.older m.ticket m.task m.dt m.inputs x p m.next));
+      heard_is = subst (λ t. x.heard ≡ heard_by s t.resource (history_of s found.before)) (sym own) (heard-is s m.h m.older m.ticket m.task m.dt m.inputs x m.next ∙ ap (heard_by s m.task.resource) (sym found.history_is));
+      taken = λ p. subst (TakesOnly x p) (seen p) (subst (λ t. TakesOnly x p (latest s t.resource m.h p m.older)) (sym own) (takes-latest s m.h m.older m.ticket m.task m.dt m.inputs x p m.next));
       code_is = subst (λ t. code_at s.plant t ≡ Some x.code) (sym own) (m.next.found ∙ ap (λ (c : CodeValue). Some c) (sym code));
       stored = stored (ap (λ (y : Evaluated). y.before) m.next.asked.is);
       ticket_is = ap (λ (y : Evaluated). y.ticket) m.next.asked.is;
@@ -195,25 +199,26 @@ made-of s events log k x m =
       older : reverse (take (made_count (history_of s found.before)) log) ≡ m.older
       older = subst (λ n. reverse (take n log) ≡ m.older) many (older-is log m.rest m.older x m.log_is)
 
-      seen : (p : TaskRef) → latest x.name.task.resource m.h p m.older ≡ latest x.name.task.resource (history_of s found.before) p (reverse (take (made_count (history_of s found.before)) log))
-      seen p = ap (λ h. latest x.name.task.resource h p m.older) (sym found.history_is) ∙ ap (λ l. latest x.name.task.resource (history_of s found.before) p l) (sym older)
+      seen : (p : TaskRef) → latest s x.name.task.resource m.h p m.older ≡ latest s x.name.task.resource (history_of s found.before) p (reverse (take (made_count (history_of s found.before)) log))
+      seen p = ap (λ h. latest s x.name.task.resource h p m.older) (sym found.history_is) ∙ ap (λ l. latest s x.name.task.resource (history_of s found.before) p l) (sym older)
 
-      stored : x.before ≡ state_of m.next.code (latest m.task.resource m.h m.task m.older)
-          → x.before ≡ state_of x.code (latest x.name.task.resource (history_of s found.before) x.name.task (reverse (take (made_count (history_of s found.before)) log)))
+      stored : x.before ≡ state_of m.next.code (latest s m.task.resource m.h m.task m.older)
+          → x.before ≡ state_of x.code (latest s x.name.task.resource (history_of s found.before) x.name.task (reverse (take (made_count (history_of s found.before)) log)))
       stored e =
-          subst (λ t. x.before ≡ state_of m.next.code (latest t.resource m.h t m.older)) (sym own) e
-          ∙ ap (λ c. state_of c (latest x.name.task.resource m.h x.name.task m.older)) (sym code)
+          subst (λ t. x.before ≡ state_of m.next.code (latest s t.resource m.h t m.older)) (sym own) e
+          ∙ ap (λ c. state_of c (latest s x.name.task.resource m.h x.name.task m.older)) (sym code)
           ∙ ap (state_of x.code) (seen x.name.task)
 
-pub consistency-theorem : ConsistencyTheorem
-consistency-theorem s events log is =
+pub consistency-theorem : TakesNeverFall → ConsistencyTheorem
+consistency-theorem takes_never_fall s events log is =
     record {
       made = λ k x at. made-of s events log k x (made-in s (history_of s events) (reverse log) is k x (sym (run-message (reverse log) k) ∙ ap (λ l. slice_get l k) (reverse-reverse log) ∙ at));
-      never_back = (run-consistent s events log is).never_back;
+      never_falls = (run-consistent takes_never_fall s events log is).never_falls;
+      never_back = (run-consistent takes_never_fall s events log is).never_back;
       holders = holders-agree (record { setting = s; events = events; log = log }) is;
     }
 
-pub books-consistent : BooksAreConsistent
-books-consistent s entries events sound firsts could again =
+pub books-consistent : TakesNeverFall → BooksAreConsistent
+books-consistent takes_never_fall s entries events sound firsts could again =
     let is : IsRun s events entries = again s.plant s.max_number sound firsts could in
-    (consistency-theorem s events entries is, run-consistent s events entries is)
+    (consistency-theorem takes_never_fall s events entries is, run-consistent takes_never_fall s events entries is)

@@ -19,12 +19,13 @@ use Rattle.evaluation.specs.Takes.{initial_image, IsTakeOf}
 use Rattle.evaluation.specs.Meaning.{Evaluated, IsMeant, IsWhole, given}
 use Rattle.evaluation.specs.Last.{same_task, from_of, image_of, takes_of}
 use Rattle.exchange.specs.declared.event.Event.{Event}
-use Rattle.exchange.specs.declared.event.Event.TheVariants.{Evaluate, Deliver, Restart}
+use Rattle.exchange.specs.declared.event.Event.TheVariants.{Evaluate, Deliver, Restart, Hear}
 use Rattle.exchange.specs.History.{Setting, history_of}
 use Rattle.exchange.specs.Run.{IsLog, IsRun, IsNextEvaluation, next_name, latest, message, has_reached}
 use Rattle.std.specs.List.{AllByRecursion}
 use Rattle.lists.specs.Among.{Among}
-use Rattle.evaluation_book.specs.Fits.{name_from, is_below}
+use Rattle.evaluation_book.specs.Fits.{name_from, is_below, IsNotFallenFrom, IsNotFallen, NeverFall}
+use Rattle.evaluation_book.specs.Laws.{TakesNeverFall}
 use Rattle.exchange.specs.Consistent.{IsBoundTo, HaveValuesOf, AreInitial, AreTakenFrom, TakesOnly, TakesOneEntry, IsPlace, IsConsistent}
 use Rattle.exchange.proofs.Histories.Tasks.{same_task-true, same_task-itself}
 use Rattle.exchange.proofs.Histories.Latest.{Rises}
@@ -33,7 +34,7 @@ use Rattle.exchange.proofs.Histories.Pairs.{message-within, rises-messages}
 use Rattle.lists.proofs.Each.{Each-at, Each-from, slice_get-among}
 use Rattle.exchange.proofs.Consistency.Fitting.{taken, last_among-entry}
 use Rattle.exchange.proofs.Consistency.NotBack.{takes-reach, takes-each}
-use Rattle.exchange.proofs.Consistency.AllFits.{one_name}
+use Rattle.exchange.proofs.Consistency.AllFits.{one_name, log-fits}
 
 -- a take is of the last evaluation of its producer
 abbrev IsOfLast : (TaskRef → Option Evaluated) → Take → Type 0
@@ -99,13 +100,13 @@ pub next-code : (s : Setting) (h : List Event) (log : List Evaluated) (k : ℕ) 
 next-code s h log k t dt inputs x next = ap (λ (y : Evaluated). y.code) next.asked.is
 
 pub next-takes : (s : Setting) (h : List Event) (log : List Evaluated) (k : ℕ) (t : TaskRef) (dt : ℕ) (inputs : List FieldInput) (x : Evaluated) → IsNextEvaluation s h log k t dt inputs x
-    → x.takes ≡ takes_of (λ p. latest t.resource h p log) x.code
-next-takes s h log k t dt inputs x next = taken s h log k t dt inputs x next ∙ ap (takes_of (λ p. latest t.resource h p log)) (sym (next-code s h log k t dt inputs x next))
+    → x.takes ≡ takes_of (λ p. latest s t.resource h p log) x.code
+next-takes s h log k t dt inputs x next = taken s h log k t dt inputs x next ∙ ap (takes_of (λ p. latest s t.resource h p log)) (sym (next-code s h log k t dt inputs x next))
 
 -- all that is taken from a producer is of the latest of it
 pub takes-latest : (s : Setting) (h : List Event) (log : List Evaluated) (k : ℕ) (t : TaskRef) (dt : ℕ) (inputs : List FieldInput) (x : Evaluated) (p : TaskRef) → IsNextEvaluation s h log k t dt inputs x
-    → TakesOnly x p (latest t.resource h p log)
-takes-latest s h log k t dt inputs x p next = takes-only_last x (λ q. latest t.resource h q log) next.asked.whole (next-takes s h log k t dt inputs x next) p
+    → TakesOnly x p (latest s t.resource h p log)
+takes-latest s h log k t dt inputs x p next = takes-only_last x (λ q. latest s t.resource h q log) next.asked.whole (next-takes s h log k t dt inputs x next) p
 
 -- what an evaluation takes from p is an older entry of p, or nothing
 abbrev pub IsOld : List Evaluated → TaskRef → Option Evaluated → Type 0
@@ -114,7 +115,7 @@ IsOld older p o = MatchOption o (Unit {0}) (λ z. Among z older × (same_task z.
 -- a take is not below an older one of this resource and incarnation from that producer, whose ever it is
 abbrev pub IsKept : List Evaluated → Name → Take → Type 0
 IsKept older name t =
-    AllByRecursion (λ (y : Evaluated). y.name.task.resource ≡ name.task.resource → y.name.incarnation ≡ name.incarnation → AllByRecursion (λ (u : Take). u.producer ≡ t.producer → is_below t.producer t.from u.from ≡ false) y.takes) older
+    AllByRecursion (λ (y : Evaluated). y.name.task.resource ≡ name.task.resource → y.name.incarnation ≡ name.incarnation → AllByRecursion (λ (u : Take). u.producer ≡ t.producer → is_below t.from u.from ≡ false) y.takes) older
 
 -- an evaluation agrees with those before it
 pub record Agrees (plant : PlantValue) (older : List Evaluated) (x : Evaluated) : Type 0 where
@@ -133,12 +134,12 @@ AllAgree plant (x ∷ older) = Agrees plant older x × AllAgree plant older
 next-agrees : (s : Setting) (h : List Event) (log : List Evaluated) (k : ℕ) (t : TaskRef) (dt : ℕ) (inputs : List FieldInput) (x : Evaluated) → AllLawful s h → IsLog s h log → IsNextEvaluation s h log k t dt inputs x → Agrees s.plant log x
 next-agrees s h log k t dt inputs x all is next =
     record {
-      taken_of = λ p. latest t.resource h p log;
-      olds = λ p. last_among-entry p (has_reached t.resource h) log;
+      taken_of = λ p. latest s t.resource h p log;
+      olds = λ p. last_among-entry p (has_reached s t.resource h) log;
       only = λ p. takes-latest s h log k t dt inputs x p next;
       kept = subst (λ n. AllByRecursion (IsKept log n) x.takes) (sym (named s h log k t dt inputs x next))
           (subst (AllByRecursion (IsKept log (next_name s t h))) (sym (taken s h log k t dt inputs x next))
-          (takes-each (IsKept log (next_name s t h)) (λ p. latest t.resource h p log) (λ q kinds. takes-reach s t.resource q h log all is) next.code));
+          (takes-each (IsKept log (next_name s t h)) (λ p. latest s t.resource h p log) (λ q kinds. takes-reach s t.resource q h log all is) next.code));
       coded = subst (λ n. code_at s.plant n.task ≡ Some x.code) (sym (named s h log k t dt inputs x next)) (next.found ∙ ap (λ (c : CodeValue). Some c) (sym (next-code s h log k t dt inputs x next)));
       whole = next.asked.whole;
       meant = next.asked.meant;
@@ -149,6 +150,7 @@ log-agrees s [] [] all is = tt
 log-agrees s [] (x ∷ older) all is = absurd is
 log-agrees s (Deliver k n ∷ h) log all is = log-agrees s h log all.1 is
 log-agrees s (Restart n ∷ h) log all is = log-agrees s h log all.1 is
+log-agrees s (Hear n of incarnation ∷ h) log all is = log-agrees s h log all.1 is
 log-agrees s (Evaluate k t dt inputs ∷ h) [] all is = absurd is
 log-agrees s (Evaluate k t dt inputs ∷ h) (x ∷ older) all is = (next-agrees s h older k t dt inputs x all.1 is.0 is.1, log-agrees s h older all.1 is.0)
 
@@ -214,9 +216,9 @@ image-at plant log j x p a = by (a.agrees.taken_of p) (a.agrees.olds p) (a.agree
       inl (record { place = found.0; entry = z; earlier = omega (arith, high, a.size); made = a.wider found.0 z found.1; task_is = same_task-true z.name.task p old.1; only = only })
 
 -- a take that isn't below another one of its producer doesn't stand before it
-places : (log : List Evaluated) (t u : Take) → Rises u.producer log → t.producer ≡ u.producer → is_below u.producer u.from t.from ≡ false → (a b : ℕ) → IsPlace log t a → IsPlace log u b → a ≤ b
+places : (log : List Evaluated) (t u : Take) → Rises u.producer log → t.producer ≡ u.producer → is_below u.from t.from ≡ false → (a b : ℕ) → IsPlace log t a → IsPlace log u b → a ≤ b
 places log t u rises same = by t.from u.from where
-  by : (o r : Option (ℕ × ℕ)) → is_below u.producer r o ≡ false → (a b : ℕ) → MatchOption o (a ≡ 0) (λ f. (y : Evaluated) × (message log a ≡ Some y) × (y.name ≡ name_from t.producer f))
+  by : (o r : Option (ℕ × ℕ)) → is_below r o ≡ false → (a b : ℕ) → MatchOption o (a ≡ 0) (λ f. (y : Evaluated) × (message log a ≡ Some y) × (y.name ≡ name_from t.producer f))
       → MatchOption r (b ≡ 0) (λ f. (y : Evaluated) × (message log b ≡ Some y) × (y.name ≡ name_from u.producer f)) → a ≤ b
   by None r k a b first second = omega (arith, first)
   by (Some f) None k a b first second = absurd (false≢true (sym k))
@@ -236,29 +238,55 @@ places log t u rises same = by t.from u.from where
 
 -- a take of an earlier entry against one of a later entry of this resource and incarnation
 kept-at : (plant : PlantValue) (log : List Evaluated) (i j : ℕ) (x y : Evaluated) (t u : Take) → At plant log j y → i < j → message log i ≡ Some x → x.name.task.resource ≡ y.name.task.resource → x.name.incarnation ≡ y.name.incarnation
-    → Among t x.takes → Among u y.takes → t.producer ≡ u.producer → is_below u.producer u.from t.from ≡ false
+    → Among t x.takes → Among u y.takes → t.producer ≡ u.producer → is_below u.from t.from ≡ false
 kept-at plant log i j x y t u a low e here now in_x in_y =
-    Each-at (λ (v : Take). v.producer ≡ u.producer → is_below u.producer u.from v.from ≡ false) x.takes t
-    (Each-at (λ (z : Evaluated). z.name.task.resource ≡ y.name.task.resource → z.name.incarnation ≡ y.name.incarnation → AllByRecursion (λ (v : Take). v.producer ≡ u.producer → is_below u.producer u.from v.from ≡ false) z.takes) a.older x
+    Each-at (λ (v : Take). v.producer ≡ u.producer → is_below u.from v.from ≡ false) x.takes t
+    (Each-at (λ (z : Evaluated). z.name.task.resource ≡ y.name.task.resource → z.name.incarnation ≡ y.name.incarnation → AllByRecursion (λ (v : Take). v.producer ≡ u.producer → is_below u.from v.from ≡ false) z.takes) a.older x
     (Each-at (IsKept a.older y.name) y.takes u a.agrees.kept in_y) (message-among a.older i x (a.narrower i x low e)) here now)
     in_x
 
 -- entries that agree with those before them, with rising pairs, are consistent
-pub agreed : (plant : PlantValue) (log : List Evaluated) → ((p : TaskRef) → Rises p log) → AllAgree plant log → IsConsistent plant log
-agreed plant log rises all =
+-- a take of an entry and one of an earlier entry of this resource
+fallen-at : (log : List Evaluated) → NeverFall log → (i j : ℕ) (x y : Evaluated) → i < j → message log i ≡ Some x → message log j ≡ Some y → x.name.task.resource ≡ y.name.task.resource
+    → (t u : Take) → Among t x.takes → Among u y.takes → (u.from ≡ None → ⊥) → t.producer ≡ u.producer → is_below u.from t.from ≡ false
+fallen-at [] falls i j x y low e f here t u in_t in_u some same = absurd (none-some x e)
+fallen-at (z ∷ older) falls i j x y low e f here t u in_t in_u some same = by (eqb j (suc (length older))) refl f (fallen-at older falls.1 i j x y low) where
+  high : j ≤ suc (length older)
+  high = message-within (z ∷ older) j y f
+
+  earlier : message older i ≡ Some x
+  earlier = sym (message-older z older i (omega (arith, low, high))) ∙ e
+
+  by : (b : Bool) → eqb j (suc (length older)) ≡ b → cond b (Some z) (message older j) ≡ Some y
+      → (message older i ≡ Some x → message older j ≡ Some y → x.name.task.resource ≡ y.name.task.resource → (t u : Take) → Among t x.takes → Among u y.takes → (u.from ≡ None → ⊥) → t.producer ≡ u.producer → is_below u.from t.from ≡ false)
+      → is_below u.from t.from ≡ false
+  by false g h ih = ih earlier h here t u in_t in_u some same
+  by true g h ih =
+      Each-at (λ (v : Take). v.producer ≡ u.producer → is_below u.from v.from ≡ false) x.takes t
+      (Each-at (IsNotFallenFrom y.name.task.resource u) older x
+      (Each-at (IsNotFallen older y.name.task.resource) y.takes u (subst (λ (v : Evaluated). AllByRecursion (IsNotFallen older v.name.task.resource) v.takes) (same_Some z y h) falls.0) in_u some)
+      (message-among older i x earlier) here)
+      in_t same
+
+pub agreed : (plant : PlantValue) (log : List Evaluated) → ((p : TaskRef) → Rises p log) → AllAgree plant log → NeverFall log → IsConsistent plant log
+agreed plant log rises all falls =
     record {
       one_image = λ j k x p e _. image-at plant log j x p (entry-at plant log all j x e);
       never_back = λ i j x y low e f here now.
           Each-from _ x.takes (λ t in_x. Each-from _ y.takes (λ u in_y. λ same.
           places log t u (rises u.producer) same (kept-at plant log i j x y t u (entry-at plant log all j y f) low e here now in_x in_y same)));
+      never_falls = λ i j x y low e f here.
+          Each-from _ x.takes (λ t in_x. Each-from _ y.takes (λ u in_y. λ some same.
+          places log t u (rises u.producer) same (fallen-at log falls i j x y low e f here t u in_x in_y some same)));
       equal_names = λ i j x y e f same. one_name x.name.task log x y (rises x.name.task) (message-among log i x e) (message-among log j y f) (same_task-itself x.name.task) same;
       coded = λ j x e. (entry-at plant log all j x e).agrees.coded;
       whole = λ j x e. (entry-at plant log all j x e).agrees.whole;
       meant = λ j x e. (entry-at plant log all j x e).agrees.meant;
     }
 
-pub consistent : (s : Setting) (h : List Event) (log : List Evaluated) → AllLawful s h → IsLog s h log → IsConsistent s.plant log
-consistent s h log all is = agreed s.plant log (λ p. log-rises s p h log is) (log-agrees s h log all is)
+-- each entry fits those before it, and so takes never fall, as the book promises
+pub consistent : TakesNeverFall → (s : Setting) (h : List Event) (log : List Evaluated) → AllLawful s h → IsLog s h log → IsConsistent s.plant log
+consistent takes_never_fall s h log all is = agreed s.plant log (λ p. log-rises s p h log is) (log-agrees s h log all is) (takes_never_fall s.first log (log-fits s h log all is))
 
-pub run-consistent : (s : Setting) (events : List Event) (entries : List Evaluated) → IsRun s events entries → IsConsistent s.plant (reverse entries)
-run-consistent s events entries is = consistent s (history_of s events) (reverse entries) (AllLawful-after s [] events tt) is
+pub run-consistent : TakesNeverFall → (s : Setting) (events : List Event) (entries : List Evaluated) → IsRun s events entries → IsConsistent s.plant (reverse entries)
+run-consistent takes_never_fall s events entries is = consistent takes_never_fall s (history_of s events) (reverse entries) (AllLawful-after s [] events tt) is

@@ -1,5 +1,5 @@
 -- Keeping the greatest pair keeps the latest.
-use Rattle.std.proofs.Common.{◌≡◌, ℕ, suc, ◌≤◌, Bool, true, false, cond, ◌&&◌, ◌||◌, List, [], ◌∷◌, length, Some, None, refl, sym, arith, eqb}
+use Rattle.std.proofs.Common.{◌≡◌, inl, inr, ap, ◌∙◌, ℕ, suc, ◌≤◌, Bool, true, false, cond, ◌&&◌, ◌||◌, List, [], ◌∷◌, length, Some, None, refl, sym, arith, eqb}
 use Rattle.std.proofs.lemmas.Bool.{ne_eqb, eqb-true}
 use Rattle.std.proofs.lemmas.Bool.Decides.{nat_tests}
 use Rattle.due_list.specs.declared.task_ref.TaskRef.{TaskRef}
@@ -9,6 +9,7 @@ use Rattle.evaluation.specs.Meaning.{Evaluated}
 use Rattle.evaluation.specs.Last.{same_task}
 use Rattle.exchange.specs.Run.{message, last_among}
 use Rattle.exchange.specs.Laws.{greater, held_with}
+use Rattle.lists.specs.Among.{Among}
 
 -- each evaluation of p in the log has a smaller pair than this name
 abbrev pub AllBefore : TaskRef → Name → List Evaluated → Type 0
@@ -37,16 +38,17 @@ greater-newest p r x (y ∷ ys) all =
       by ih true e true = rw (all.0 e)
 
 -- a message that isn't newer leaves the newest one
-held-newest : (p : TaskRef) (x : Evaluated) (older : List Evaluated) (k : ℕ) → AllBefore p x.name older → held_with p (Some x) (message older k) ≡ Some x
-held-newest p x [] k all = refl
-held-newest p x (y ∷ ys) k all =
-    by (held-newest p x ys k all.1) (eqb k (suc (length ys))) where
-      known : (t : Bool) → same_task y.name.task p ≡ t → cond t (greater (Some x) y) (Some x) ≡ Some x
-      known false e = refl
-      known true e = rw (precedes-irreflexive y.name x.name (all.0 e))
+held-newest : (p : TaskRef) (c : Evaluated → Bool) (x : Evaluated) (older : List Evaluated) (k : ℕ) → AllBefore p x.name older → held_with p c (Some x) (message older k) ≡ Some x
+held-newest p c x [] k all = refl
+held-newest p c x (y ∷ ys) k all =
+    by (held-newest p c x ys k all.1) (eqb k (suc (length ys))) where
+      known : (t : Bool) → same_task y.name.task p ≡ t → (a : Bool) → cond (t && a) (greater (Some x) y) (Some x) ≡ Some x
+      known false e a = refl
+      known true e false = refl
+      known true e true = rw (precedes-irreflexive y.name x.name (all.0 e))
 
-      by : held_with p (Some x) (message ys k) ≡ Some x → (b : Bool) → held_with p (Some x) (cond b (Some y) (message ys k)) ≡ Some x
-      by ih true = known (same_task y.name.task p) refl
+      by : held_with p c (Some x) (message ys k) ≡ Some x → (b : Bool) → held_with p c (Some x) (cond b (Some y) (message ys k)) ≡ Some x
+      by ih true = known (same_task y.name.task p) refl (c y)
       by ih false = ih
 
 -- only p's messages of the log count
@@ -66,14 +68,30 @@ last_among-none p (x ∷ older) = by (last_among-none p older) (same_task x.name
   by ih true = ih
   by ih false = ih
 
--- one message more has arrived: the last one is the greater of the last one before and that message
-pub last_among-arrival : (p : TaskRef) (r : ℕ → Evaluated → Bool) (k : ℕ) (log : List Evaluated) → Rises p log
-    → last_among p (λ j y. eqb k j || r j y) log ≡ held_with p (last_among p r log) (message log k)
-last_among-arrival p r k [] rises = refl
-last_among-arrival p r k (x ∷ older) rises =
-    by (last_among-arrival p r k older rises.1) (same_task x.name.task p) refl (eqb k (suc (length older))) refl (r (suc (length older)) x) where
-      is_older : eqb k (suc (length older)) ≡ true → last_among p (λ j y. eqb k j || r j y) older ≡ last_among p r older
-      is_older e = last_among-agree p (λ j y. eqb k j || r j y) r older (λ j y _ h. rw (ne_eqb k j (λ same. let at : k ≡ suc (length older) = eqb-true _ _ e in omega arith)))
+-- none passes where none of the log does
+pub last_among-missing : (p : TaskRef) (r : ℕ → Evaluated → Bool) (log : List Evaluated) → ((k : ℕ) (y : Evaluated) → Among y log → r k y ≡ false) → last_among p r log ≡ None
+last_among-missing p r [] none = refl
+last_among-missing p r (x ∷ older) none = by (last_among-missing p r older (λ k y among. none k y (inr among))) (same_task x.name.task p) where
+  by : last_among p r older ≡ None → (t : Bool) → cond (t && r (suc (length older)) x) (Some x) (last_among p r older) ≡ None
+  by ih true = rw (none (suc (length older)) x (inl refl)) ih
+  by ih false = ih
+
+-- one message more has arrived, which counts or not: the last one is the greater of the last one before and that message
+pub last_among-arrival : (p : TaskRef) (c : Evaluated → Bool) (r : ℕ → Evaluated → Bool) (k : ℕ) (log : List Evaluated) → Rises p log
+    → last_among p (λ j y. (c y && eqb k j) || r j y) log ≡ held_with p c (last_among p r log) (message log k)
+last_among-arrival p c r k [] rises = refl
+last_among-arrival p c r k (x ∷ older) rises =
+    by (last_among-arrival p c r k older rises.1) (same_task x.name.task p) refl (eqb k (suc (length older))) refl (c x) refl (r (suc (length older)) x) where
+      off : (a : Bool) → (a && false) ≡ false
+      off true = refl
+      off false = refl
+
+      is_older : eqb k (suc (length older)) ≡ true → last_among p (λ j y. (c y && eqb k j) || r j y) older ≡ last_among p r older
+      is_older e =
+          last_among-agree p (λ j y. (c y && eqb k j) || r j y) r older
+          (λ j y _ h.
+          let apart : eqb k j ≡ false = ne_eqb k j (λ same. let at : k ≡ suc (length older) = eqb-true _ _ e in omega arith) in
+          ap (λ b. (c y && b) || r j y) apart ∙ ap (λ b. b || r j y) (off (c y)))
 
       at_new : same_task x.name.task p ≡ true → (a : Bool) → Some x ≡ greater (cond a (Some x) (last_among p r older)) x
       at_new e true = by_self (precedes x.name x.name) where
@@ -82,12 +100,16 @@ last_among-arrival p r k (x ∷ older) rises =
         by_self false = refl
       at_new e false = sym (greater-newest p r x older (rises.0 e))
 
-      by : last_among p (λ j y. eqb k j || r j y) older ≡ held_with p (last_among p r older) (message older k)
-          → (t : Bool) → same_task x.name.task p ≡ t → (b : Bool) → eqb k (suc (length older)) ≡ b → (a : Bool)
-          → cond (t && (b || a)) (Some x) (last_among p (λ j y. eqb k j || r j y) older)
-          ≡ held_with p (cond (t && a) (Some x) (last_among p r older)) (cond b (Some x) (message older k))
-      by ih true e true f a = rw e (at_new e a)
-      by ih true e false f true = sym (held-newest p x older k (rises.0 e))
-      by ih true e false f false = ih
-      by ih false e true f a = rw e (is_older f)
-      by ih false e false f a = ih
+      by : last_among p (λ j y. (c y && eqb k j) || r j y) older ≡ held_with p c (last_among p r older) (message older k)
+          → (t : Bool) → same_task x.name.task p ≡ t → (b : Bool) → eqb k (suc (length older)) ≡ b → (m : Bool) → c x ≡ m → (a : Bool)
+          → cond (t && ((m && b) || a)) (Some x) (last_among p (λ j y. (c y && eqb k j) || r j y) older)
+          ≡ held_with p c (cond (t && a) (Some x) (last_among p r older)) (cond b (Some x) (message older k))
+      by ih true e true f true g a = rw (e, g) (at_new e a)
+      by ih true e true f false g true = rw (e, g) refl
+      by ih true e true f false g false = rw (e, g) (is_older f)
+      by ih true e false f true g true = sym (held-newest p c x older k (rises.0 e))
+      by ih true e false f true g false = ih
+      by ih true e false f false g true = sym (held-newest p c x older k (rises.0 e))
+      by ih true e false f false g false = ih
+      by ih false e true f m g a = rw e (is_older f)
+      by ih false e false f m g a = ih

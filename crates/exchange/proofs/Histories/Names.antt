@@ -1,5 +1,5 @@
 -- In a lawful history the pairs of each task rise strictly.
-use Rattle.std.proofs.Common.{◌≡◌, ℕ, suc, ◌+◌, Bool, true, false, cond, List, [], ◌∷◌, ◌++◌, length, refl, ap, sym, ◌∙◌, subst, arith, eqb, add-suc, add-one, zero-add}
+use Rattle.std.proofs.Common.{◌≡◌, inl, inr, ℕ, suc, ◌+◌, ◌≤◌, Bool, true, false, cond, List, [], ◌∷◌, ◌++◌, length, refl, ap, sym, ◌∙◌, subst, arith, eqb, add-suc, add-one, zero-add}
 use Rattle.std.proofs.lemmas.Bool.{false≢true}
 use Rattle.std.proofs.lemmas.Bool.Decides.{nat_tests}
 use Rattle.due_list.specs.declared.task_ref.TaskRef.{TaskRef}
@@ -9,10 +9,11 @@ use Rattle.evaluation.specs.Names.{precedes}
 use Rattle.evaluation.specs.Meaning.{Evaluated}
 use Rattle.evaluation.specs.Last.{same_task}
 use Rattle.exchange.specs.declared.event.Event.{Event}
-use Rattle.exchange.specs.declared.event.Event.TheVariants.{Evaluate, Deliver, Restart}
+use Rattle.exchange.specs.declared.event.Event.TheVariants.{Evaluate, Deliver, Restart, Hear}
 use Rattle.exchange.specs.History.{Setting, made_count, number_of, incarnation_of, is_lawful, after_events}
 use Rattle.exchange.specs.Run.{IsLog, IsNextEvaluation, next_name}
-use Rattle.exchange.proofs.Histories.Tasks.{same_task-true}
+use Rattle.lists.specs.Among.{Among}
+use Rattle.exchange.proofs.Histories.Tasks.{same_task-true, same_task-itself}
 use Rattle.exchange.proofs.Histories.Latest.{AllBefore, Rises}
 
 -- each event of the history was lawful when it happened
@@ -43,6 +44,7 @@ length-log s (Evaluate k t dt inputs ∷ h) [] is = absurd is
 length-log s (Evaluate k t dt inputs ∷ h) (x ∷ older) is = rw (length-log s h older is.0)
 length-log s (Deliver k n ∷ h) log is = length-log s h log is
 length-log s (Restart n ∷ h) log is = length-log s h log is
+length-log s (Hear n of incarnation ∷ h) log is = length-log s h log is
 
 AllBefore-later : (p : TaskRef) (a b : Name) → ((y : Name) → precedes y a ≡ true → precedes y b ≡ true) → (log : List Evaluated) → AllBefore p a log → AllBefore p b log
 AllBefore-later p a b later [] all = tt
@@ -79,6 +81,7 @@ pub before_next : (s : Setting) (p : TaskRef) (h : List Event) (log : List Evalu
 before_next s p [] [] is = tt
 before_next s p [] (x ∷ older) is = absurd is
 before_next s p (Deliver k n ∷ h) log is = before_next s p h log is
+before_next s p (Hear n of incarnation ∷ h) log is = before_next s p h log is
 before_next s p (Restart n ∷ h) log is = by (before_next s p h log is) (eqb n p.resource) refl where
   by : AllBefore p (next_name s p h) log → (b : Bool) → eqb n p.resource ≡ b → AllBefore p (next_name s p (Restart n ∷ h)) log
   by ih true e = AllBefore-same p _ _ log (next-restart s p n h e) (AllBefore-later p (next_name s p h) (record { task = p; incarnation = suc (incarnation_of s p.resource h); number = 1 }) (restarted (incarnation_of s p.resource h) (number_of p h + 1) 1 p) log ih)
@@ -106,9 +109,24 @@ log-rises s p [] [] is = tt
 log-rises s p [] (x ∷ older) is = absurd is
 log-rises s p (Deliver k n ∷ h) log is = log-rises s p h log is
 log-rises s p (Restart n ∷ h) log is = log-rises s p h log is
+log-rises s p (Hear n of incarnation ∷ h) log is = log-rises s p h log is
 log-rises s p (Evaluate k t dt inputs ∷ h) [] is = absurd is
 log-rises s p (Evaluate k t dt inputs ∷ h) (x ∷ older) is =
     let at : x.name ≡ next_name s t h = named s h older k t dt inputs x is.1 in (
       (λ e. subst (λ n. AllBefore p n older) (sym (at ∙ ap (λ u. next_name s u h) (same_task-true t p (subst (λ n. same_task n.task p ≡ true) at e)))) (before_next s p h older is.0)),
       log-rises s p h older is.0,
     )
+
+-- each entry of a task has a smaller pair than a name that all of them precede
+pub AllBefore-entry : (p : TaskRef) (name : Name) (log : List Evaluated) (y : Evaluated) → AllBefore p name log → Among y log → same_task y.name.task p ≡ true → precedes y.name name ≡ true
+AllBefore-entry p name [] y all among e = elim among [ ]
+AllBefore-entry p name (x ∷ older) y all (inl same) e = rw (← same) (all.0 (rw same e))
+AllBefore-entry p name (x ∷ older) y all (inr among) e = AllBefore-entry p name older y all.1 among e
+
+not_above : (a b : Name) → precedes a b ≡ true → a.incarnation ≤ b.incarnation
+not_above a b h = grind (arith, nat_tests)
+
+-- no entry of a resource has a greater incarnation than its present one
+pub incarnation-low : (s : Setting) (h : List Event) (log : List Evaluated) → IsLog s h log → (y : Evaluated) → Among y log → y.name.incarnation ≤ incarnation_of s y.name.task.resource h
+incarnation-low s h log is y among =
+    not_above y.name (next_name s y.name.task h) (AllBefore-entry y.name.task (next_name s y.name.task h) log y (before_next s y.name.task h log is) among (same_task-itself y.name.task))

@@ -7,16 +7,16 @@ use Rattle.evaluation.specs.Meaning.{Evaluated, IsAsked}
 use Rattle.evaluation.specs.Laws.{OneEvaluation}
 use Rattle.evaluation.specs.Last.{state_of, takes_of}
 use Rattle.exchange.specs.declared.event.Event.{Event}
-use Rattle.exchange.specs.declared.event.Event.TheVariants.{Evaluate, Deliver, Restart}
-use Rattle.exchange.specs.History.{Setting}
+use Rattle.exchange.specs.declared.event.Event.TheVariants.{Evaluate, Deliver, Restart, Hear}
+use Rattle.exchange.specs.History.{Setting, heard_by}
 use Rattle.exchange.specs.Run.{IsLog, IsNextEvaluation, next_name, latest}
 
 -- the next evaluation is one
 pub one_next : OneEvaluation → (s : Setting) (h : List Event) (log : List Evaluated) (k : ℕ) (t : TaskRef) (dt : ℕ) (inputs : List FieldInput) (x y : Evaluated)
     → IsNextEvaluation s h log k t dt inputs x → IsNextEvaluation s h log k t dt inputs y → x ≡ y
 one_next one_evaluation s h log k t dt inputs x y a b =
-    one_evaluation k (next_name s t h) dt inputs (takes_of (λ p. latest t.resource h p log) a.code) (state_of a.code (latest t.resource h t log)) a.code x y a.asked
-    (subst (λ c. IsAsked k (next_name s t h) dt inputs (takes_of (λ p. latest t.resource h p log) c) (state_of c (latest t.resource h t log)) c y)
+    one_evaluation k (next_name s t h) (heard_by s t.resource h) dt inputs (takes_of (λ p. latest s t.resource h p log) a.code) (state_of a.code (latest s t.resource h t log)) a.code x y a.asked
+    (subst (λ c. IsAsked k (next_name s t h) (heard_by s t.resource h) dt inputs (takes_of (λ p. latest s t.resource h p log) c) (state_of c (latest s t.resource h t log)) c y)
     (same_Some b.code a.code (sym b.found ∙ a.found)) b.asked)
 
 pub one_log : OneEvaluation → (s : Setting) (h : List Event) (log log2 : List Evaluated) → IsLog s h log → IsLog s h log2 → log ≡ log2
@@ -25,6 +25,7 @@ one_log one s [] (x ∷ older) log2 a b = absurd a
 one_log one s [] [] (y ∷ older) a b = absurd b
 one_log one s (Deliver k n ∷ h) log log2 a b = one_log one s h log log2 a b
 one_log one s (Restart n ∷ h) log log2 a b = one_log one s h log log2 a b
+one_log one s (Hear n of incarnation ∷ h) log log2 a b = one_log one s h log log2 a b
 one_log one s (Evaluate k t dt inputs ∷ h) [] log2 a b = absurd a
 one_log one s (Evaluate k t dt inputs ∷ h) (x ∷ older) [] a b = absurd b
 one_log one s (Evaluate k t dt inputs ∷ h) (x ∷ older) (y ∷ older2) a b =

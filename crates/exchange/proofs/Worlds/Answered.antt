@@ -1,5 +1,5 @@
 -- What a delivery answers.
-use Rattle.std.proofs.Common.{◌≡◌, ◌≢◌, ◌⊎◌, inl, inr, ℕ, suc, ◌<◌, ◌≤◌, ◌-◌, get_or, Bool, true, false, List, ◌∷◌, length, Option, Some, None, refl, ap, sym, ◌∙◌, subst, arith}
+use Rattle.std.proofs.Common.{cond, ◌&&◌, ◌≡◌, ◌≢◌, ◌⊎◌, inl, inr, ℕ, suc, ◌<◌, ◌≤◌, ◌-◌, get_or, Bool, true, false, List, ◌∷◌, length, Option, Some, None, refl, ap, sym, ◌∙◌, subst, arith}
 use Rattle.std.specs.Prelude.{slice_get, reverse}
 use Rattle.std.proofs.lemmas.Bool.{ne_eqb, false≢true, cases_eq}
 use Rattle.std.proofs.lemmas.List.{reverse-reverse}
@@ -8,7 +8,7 @@ use Rattle.plant.specs.PlantValue.{IsSoundPlant}
 use Rattle.evaluation.specs.Names.{precedes}
 use Rattle.evaluation.specs.Meaning.{Evaluated}
 use Rattle.exchange_core.specs.declared.accepted.Accepted.{Accepted}
-use Rattle.exchange_core.specs.declared.accepted.Accepted.TheVariants.{Taken, Old, Unused}
+use Rattle.exchange_core.specs.declared.accepted.Accepted.TheVariants.{Taken, Old, Unused, Stray}
 use Rattle.exchange_core.specs.Held.{known}
 use Rattle.exchange_core.specs.CoreValue.{CoreValue, IsAccepted, is_greater}
 use Rattle.exchange.specs.declared.event.Event.{Event}
@@ -22,12 +22,13 @@ use Rattle.exchange.specs.Steps.Nodes.{IsNode, IsWorld}
 use Rattle.exchange.proofs.Histories.Tasks.{same_task-itself}
 use Rattle.exchange.proofs.Histories.Latest.{not_itself}
 use Rattle.exchange.proofs.Histories.Names.{log-rises}
-use Rattle.exchange.proofs.Histories.Steps.{latest-deliver}
+use Rattle.exchange.proofs.Histories.Steps.{is_for, latest-deliver}
+use Rattle.evaluation.specs.Heard.{is_addressed}
 use Rattle.exchange.proofs.Worlds.Takes.{usable-takes}
 use Rattle.exchange.proofs.Worlds.Moves.{message-usable, stays, grows, run-message}
 
-same : (x : Evaluated) (o : Option Evaluated) → held_with x.name.task o (Some x) ≡ greater o x
-same x o = rw (same_task-itself x.name.task) refl
+same : (counts : Evaluated → Bool) (x : Evaluated) (o : Option Evaluated) → counts x ≡ true → held_with x.name.task counts o (Some x) ≡ greater o x
+same counts x o e = ap (λ b. cond (b && counts x) (greater o x) o) (same_task-itself x.name.task) ∙ ap (λ b. cond b (greater o x) o) e
 
 moved : (x : Evaluated) (o : Option Evaluated) → is_greater o x.name ≡ true → Some x ≢ o
 moved x None e = λ f. none-some x (sym f)
@@ -41,13 +42,13 @@ delivered s events log n k core new x a sound is node came done = (x, came, by a
   h = history_of s events
 
   now : Option Evaluated
-  now = latest n h x.name.task (reverse log)
+  now = latest s n h x.name.task (reverse log)
 
-  after : x.name.task.resource ≢ n → latest n (Deliver k n ∷ h) x.name.task (reverse log) ≡ greater now x
-  after away =
-      latest-deliver n k h x.name.task (reverse log) (ne_eqb x.name.task.resource n away) (log-rises s x.name.task h (reverse log) is)
-      ∙ ap (held_with x.name.task now) came
-      ∙ same x now
+  after : x.name.task.resource ≢ n → is_for s n h x ≡ true → latest s n (Deliver k n ∷ h) x.name.task (reverse log) ≡ greater now x
+  after away counts =
+      latest-deliver s n k h x.name.task (reverse log) (ne_eqb x.name.task.resource n away) (log-rises s x.name.task h (reverse log) is)
+      ∙ ap (held_with x.name.task (is_for s n h) now) came
+      ∙ same (is_for s n h) x now counts
 
   keeps : x.name.task.resource ≢ n → node_takes s.plant n x.name.task ≡ true → known core.table x.name.task ≡ now
   keeps away takes = node.keeps x.name.task ∙ rw (ne_eqb x.name.task.resource n away, takes)
@@ -58,16 +59,22 @@ delivered s events log n k core new x a sound is node came done = (x, came, by a
   unused none (inr away) false e = inr e
   unused none (inr away) true e = absurd (none away e)
 
-  by : (a : Accepted) → IsAccepted core new x a → Answers (world_of s events log) k n x.name.task a
+  for-core : (b : Bool) → is_addressed x core.resource core.incarnation ≡ b → is_for s n h x ≡ b
+  for-core b e = subst (λ i. is_addressed x n i ≡ b) node.incarnation (subst (λ r. is_addressed x r core.incarnation ≡ b) node.resource e)
+
+  by : (a : Accepted) → IsAccepted core new x a → Answers (world_of s events log) k n x x.name.task a
   by Unused d = unused (λ away takes. d.0 (message-usable s h (reverse log) n k core x sound is node came away takes)) (cases_eq x.name.task.resource n) (node_takes s.plant n x.name.task) refl
   by Taken d =
       let parts = usable-takes s h (reverse log) n core x node d.0 in
-      let g : is_greater now x.name ≡ true = subst (λ o. is_greater o x.name ≡ true) (keeps parts.0 parts.1) d.1 in
-      (parts.0, parts.1, (λ e. moved x now g (sym (after parts.0 ∙ grows x now g) ∙ e)))
+      let g : is_greater now x.name ≡ true = subst (λ o. is_greater o x.name ≡ true) (keeps parts.0 parts.1) d.2 in
+      let counts = for-core true d.1 in
+      (parts.0, parts.1, counts, (λ e. moved x now g (sym (after parts.0 counts ∙ grows x now g) ∙ e)))
+  by Stray d = let parts = usable-takes s h (reverse log) n core x node d.0 in (parts.0, parts.1, for-core false d.1)
   by Old d =
       let parts = usable-takes s h (reverse log) n core x node d.0 in
-      let g : is_greater now x.name ≡ false = subst (λ o. is_greater o x.name ≡ false) (keeps parts.0 parts.1) d.1 in
-      (parts.0, parts.1, after parts.0 ∙ stays x now g)
+      let g : is_greater now x.name ≡ false = subst (λ o. is_greater o x.name ≡ false) (keeps parts.0 parts.1) d.2 in
+      let counts = for-core true d.1 in
+      (parts.0, parts.1, counts, after parts.0 counts ∙ stays x now g)
 
 pub delivered_at : (old : WorldValue) (s : Setting) (events : List Event) (log : List Evaluated) (cores : List CoreValue) (m n : ℕ) (core new : CoreValue) (x : Evaluated) (a : Accepted) → world_of s events log ≡ old
     → IsWorld s events log cores → n < length cores → core ≡ get_or cores n core → 1 ≤ m → m ≤ length log → x ≡ get_or log (m - 1) x → IsAccepted core new x a → IsDelivered old m n a

@@ -1,27 +1,31 @@
 -- A world follows its events.
-use Rattle.std.proofs.Common.{◌≡◌, ◌⊎◌, inl, inr, ℕ, ◌+◌, ◌<◌, ◌≤◌, get_or, Bool, true, cond, ◌||◌, List, [], ◌∷◌, ◌++◌, length, Option, Some, None, refl, ap, sym, ◌∙◌, subst, arith, eqb}
-use Rattle.std.specs.Prelude.{is_some, slice_get, slice_set, reverse}
-use Rattle.std.proofs.lemmas.Bool.{eq-eqb, ne_eqb, lt-ltb}
+use Rattle.std.proofs.Common.{slice_index, slice_set, ltb, ◌&&◌, false, ◌≡◌, ◌⊎◌, inl, inr, ℕ, ◌+◌, ◌<◌, ◌≤◌, get_or, Bool, true, cond, ◌||◌, List, [], ◌∷◌, ◌++◌, length, Option, Some, None, refl, ap, sym, ◌∙◌, subst, arith, eqb}
+use Rattle.std.specs.Option.{option_map}
+use Rattle.std.specs.Prelude.{is_some, not, slice_get, slice_set, reverse}
+use Rattle.std.proofs.lemmas.Bool.{eq-eqb, ne_eqb, eqb-true, lt-ltb, le-ltb, le-leb}
+use Rattle.lists.proofs.Places.{element_at}
+use Rattle.evaluation.specs.Heard.{greatest}
 use Rattle.std.proofs.lemmas.List.{length-set, reverse-append}
 use Rattle.std.proofs.lemmas.Option.{slice_get_within, slice_get_read}
 use Rattle.power_flow.specs.StateValue.{StateValue}
 use Rattle.due_list.specs.declared.task_ref.TaskRef.{TaskRef}
-use Rattle.plant.specs.PlantValue.{code_at}
+use Rattle.plant.specs.PlantValue.{PlantValue, code_at}
 use Rattle.task_codes.specs.CodeValue.{CodeValue}
 use Rattle.evaluation.specs.declared.field_input.FieldInput.{FieldInput}
 use Rattle.evaluation.specs.declared.name.Name.{Name}
 use Rattle.evaluation.specs.Meaning.{Evaluated, IsAsked}
 use Rattle.evaluation.specs.Last.{state_of, takes_of, last_number}
 use Rattle.exchange_core.specs.Held.{known, with_known}
-use Rattle.exchange_core.specs.CoreValue.{CoreValue, IsNext, IsNextOf, IsDue, next_name_of, own_task, fresh_core}
+use Rattle.exchange_core.specs.CoreValue.{CoreValue, is_news, IsNext, IsNextOf, IsDue, next_name_of, own_task, fresh_core}
 use Rattle.exchange.specs.declared.event.Event.{Event}
-use Rattle.exchange.specs.declared.event.Event.TheVariants.{Evaluate, Restart}
-use Rattle.exchange.specs.History.{Setting, is_lawful, history_of, incarnation_of, number_of}
+use Rattle.exchange.specs.declared.event.Event.TheVariants.{Evaluate, Restart, Hear}
+use Rattle.exchange.specs.History.{Setting, heard_by, hearings_of, is_lawful, history_of, incarnation_of, number_of}
 use Rattle.exchange.specs.Run.{IsLog, IsNextEvaluation, next_name, latest}
 use Rattle.exchange.specs.World.{WorldValue, world_of, node_takes}
 use Rattle.exchange.specs.Step.{IsDone, IsEvaluatedNow}
 use Rattle.exchange.specs.Steps.Nodes.{IsNode, IsWorld}
 use Rattle.exchange.proofs.Histories.Names.{AllLawful, AllLawful-after}
+use Rattle.exchange.proofs.Histories.Heard.{heard_of, heard-get, get-index}
 use Rattle.exchange.proofs.Histories.Steps.{incarnation-restart, number-latest}
 use Rattle.exchange.proofs.Worlds.Takes.{node-takes}
 use Rattle.exchange.proofs.Worlds.Moves.{history-one_more, set-found, node-restart, node-other_restart, node-evaluate, node-other_evaluate}
@@ -33,8 +37,8 @@ module _ (s : Setting) (h : List Event) (log : List Evaluated) (core : CoreValue
   own : own_task core t.task ≡ t
   own = rw node.resource refl
 
-  known-own : known core.table (own_task core t.task) ≡ latest t.resource h t log
-  known-own = ap (known core.table) own ∙ node.keeps t ∙ ap (λ w. cond w (latest t.resource h t log) None) (on (node_takes s.plant t.resource t)) where
+  known-own : known core.table (own_task core t.task) ≡ latest s t.resource h t log
+  known-own = ap (known core.table) own ∙ node.keeps t ∙ ap (λ w. cond w (latest s t.resource h t log) None) (on (node_takes s.plant t.resource t)) where
     on : (b : Bool) → (eqb t.resource t.resource || b) ≡ true
     on b = rw (eq-eqb t.resource t.resource refl)
 
@@ -51,14 +55,15 @@ module _ (s : Setting) (h : List Event) (log : List Evaluated) (core : CoreValue
       let found : code_at s.plant t ≡ Some code = found-own (Some code) next.found in
       let before : List StateValue = state_of code (known core.table (own_task core t.task)) in
       let named : next_name_of core t.task ≡ next_name s t h = same_name _ _ _ _ _ _ own node.incarnation (ap (λ n. n + 1) number-own) in
-      let takes : takes_of (known core.table) code ≡ takes_of (λ p. latest t.resource h p log) code = node-takes s h log t core code node found in
+      let takes : takes_of (known core.table) code ≡ takes_of (λ p. latest s t.resource h p log) code = node-takes s h log t core code node found in
       record {
         code = code;
         found = found;
         asked =
-            subst (λ o. IsAsked k (next_name s t h) dt inputs (takes_of (λ p. latest t.resource h p log) code) (state_of code o) code x) known-own
-            (subst (λ ts. IsAsked k (next_name s t h) dt inputs ts before code x) takes
-            (subst (λ n. IsAsked k n dt inputs (takes_of (known core.table) code) before code x) named next.asked));
+            subst (λ o. IsAsked k (next_name s t h) (heard_by s t.resource h) dt inputs (takes_of (λ p. latest s t.resource h p log) code) (state_of code o) code x) known-own
+            (subst (λ ts. IsAsked k (next_name s t h) (heard_by s t.resource h) dt inputs ts before code x) takes
+            (subst (λ l. IsAsked k (next_name s t h) l dt inputs (takes_of (known core.table) code) before code x) node.heard
+            (subst (λ n. IsAsked k n core.heard dt inputs (takes_of (known core.table) code) before code x) named next.asked)));
       }
 
   pub evaluate-lawful : (x : Evaluated) → IsNextOf core k t.task dt inputs x → is_lawful s h (Evaluate k t dt inputs) ≡ true
@@ -67,9 +72,9 @@ module _ (s : Setting) (h : List Event) (log : List Evaluated) (core : CoreValue
       let low : number_of t h < s.max_number = omega (arith, number-own, next.below, node.max_number) in
       rw (found, lt-ltb (number_of t h) s.max_number low)
 
--- the core in its next incarnation
-abbrev pub restarted : Setting → ℕ → CoreValue → CoreValue
-restarted s n core = fresh_core s.plant n (core.incarnation + 1) s.max_number
+-- the core in its next incarnation, with these first ones
+abbrev pub restarted : Setting → ℕ → List ℕ → ℕ → CoreValue
+restarted s n first i = fresh_core s.plant n first i s.max_number
 
 -- the world's step at an Evaluate
 pub world-evaluate : (s : Setting) (events : List Event) (log : List Evaluated) (cores : List CoreValue) (k : ℕ) (t : TaskRef) (dt : ℕ) (inputs : List FieldInput) (core : CoreValue) (x : Evaluated)
@@ -110,16 +115,16 @@ world-evaluate s events log cores k t dt inputs core x world at next =
       by m c (inr p) = node-other_evaluate s (history_of s events) (reverse log) m c k t dt inputs x all world.logged nexts (world.nodes m c p.1) (ne_eqb t.resource m p.0)
 
 -- the world's step at a Restart
-pub world-restart : (s : Setting) (events : List Event) (log : List Evaluated) (cores : List CoreValue) (n : ℕ) (core : CoreValue)
-    → IsWorld s events log cores → slice_get cores n ≡ Some core → is_lawful s (history_of s events) (Restart n) ≡ true
-    → IsWorld s (events ++ Restart n ∷ []) log (slice_set cores n (fresh_core s.plant n (core.incarnation + 1) s.max_number))
-world-restart s events log cores n core world at lawful =
+pub world-restart : (s : Setting) (events : List Event) (log : List Evaluated) (cores : List CoreValue) (n : ℕ) (first : List ℕ) (i : ℕ) (core : CoreValue)
+    → IsWorld s events log cores → slice_get cores n ≡ Some core → is_lawful s (history_of s events) (Restart n) ≡ true → first ≡ slice_set s.first n (core.incarnation + 1) → i ≡ core.incarnation + 1
+    → IsWorld s (events ++ Restart n ∷ []) log (slice_set cores n (fresh_core s.plant n first i s.max_number))
+world-restart s events log cores n first i core world at lawful first_is now =
     record {
       planned = world.planned;
       logged = subst (λ g. IsLog s g (reverse log)) (sym more) world.logged;
       firsts = world.firsts;
-      sized = length-set cores n (restarted s n core) ∙ world.sized;
-      nodes = λ m c found. subst (λ g. IsNode s g (reverse log) m c) (sym more) (by m c (set-found cores n m (restarted s n core) c (slice_get_within cores n core at) found));
+      sized = length-set cores n (restarted s n first i) ∙ world.sized;
+      nodes = λ m c found. subst (λ g. IsNode s g (reverse log) m c) (sym more) (by m c (set-found cores n m (restarted s n first i) c (slice_get_within cores n core at) found));
     } where
       node : IsNode s (history_of s events) (reverse log) n core
       node = world.nodes n core at
@@ -127,14 +132,11 @@ world-restart s events log cores n core world at lawful =
       more : history_of s (events ++ Restart n ∷ []) ≡ Restart n ∷ history_of s events
       more = history-one_more s events (Restart n) lawful
 
-      same : fresh_core core.plant core.resource (core.incarnation + 1) core.max_number ≡ restarted s n core
-      same = rw (node.plant, node.resource, node.max_number) refl
+      here : IsNode s (Restart n ∷ history_of s events) (reverse log) n (restarted s n first i)
+      here = node-restart s (history_of s events) (reverse log) n first i (AllLawful-after s [] events tt) world.logged (first_is ∙ ap (λ j. slice_set s.first n (j + 1)) node.incarnation) (now ∙ ap (λ j. j + 1) node.incarnation)
 
-      here : IsNode s (Restart n ∷ history_of s events) (reverse log) n (restarted s n core)
-      here = subst (IsNode s (Restart n ∷ history_of s events) (reverse log) n) same (node-restart s (history_of s events) (reverse log) n core world.logged node)
-
-      by : (m : ℕ) (c : CoreValue) → ((m ≡ n) × (restarted s n core ≡ c)) ⊎ ((n ≡ m → ⊥) × (slice_get cores m ≡ Some c)) → IsNode s (Restart n ∷ history_of s events) (reverse log) m c
-      by m c (inl p) = subst (λ d. IsNode s (Restart n ∷ history_of s events) (reverse log) m d) p.1 (subst (λ r. IsNode s (Restart n ∷ history_of s events) (reverse log) r (restarted s n core)) (sym p.0) here)
+      by : (m : ℕ) (c : CoreValue) → ((m ≡ n) × (restarted s n first i ≡ c)) ⊎ ((n ≡ m → ⊥) × (slice_get cores m ≡ Some c)) → IsNode s (Restart n ∷ history_of s events) (reverse log) m c
+      by m c (inl p) = subst (λ d. IsNode s (Restart n ∷ history_of s events) (reverse log) m d) p.1 (subst (λ r. IsNode s (Restart n ∷ history_of s events) (reverse log) r (restarted s n first i)) (sym p.0) here)
       by m c (inr p) = node-other_restart s (history_of s events) (reverse log) m n c (world.nodes m c p.1) (ne_eqb n m p.0)
 
 -- the same steps, as the bodies meet them
@@ -192,11 +194,55 @@ module _ (s : Setting) (events : List Event) (log : List Evaluated) (cores : Lis
       let under : incarnation_of s n (history_of s events) < 4294967295 = subst (λ i. i < 4294967295) (was ∙ node.incarnation) low in
       rw (lt-ltb n (length s.plant.resources) there, lt-ltb (incarnation_of s n (history_of s events)) 4294967295 under)
 
-  pub world-restart_at : (n last : ℕ) (core : CoreValue) → n < length cores → core ≡ get_or cores n core → last ≡ core.incarnation → last < 4294967295
-      → IsWorld s (events ++ Restart n ∷ []) log (slice_set cores n (fresh_core s.plant n (last + 1) s.max_number))
-  world-restart_at n last core inside at was low =
-      subst (λ i. IsWorld s (events ++ Restart n ∷ []) log (slice_set cores n (fresh_core s.plant n (i + 1) s.max_number))) (sym was)
-      (world-restart s events log cores n core world (slice_get_read cores (length cores) n core refl inside at) (restart-lawful_at n last core inside at was low))
+  pub world-restart_at : (n last : ℕ) (first : List ℕ) (i : ℕ) (core : CoreValue) → n < length cores → core ≡ get_or cores n core → last ≡ core.incarnation → last < 4294967295 → first ≡ slice_set s.first n (last + 1) → i ≡ last + 1
+      → IsWorld s (events ++ Restart n ∷ []) log (slice_set cores n (fresh_core s.plant n first i s.max_number))
+  world-restart_at n last first i core inside at was low first_is now =
+      world-restart s events log cores n first i core world (slice_get_read cores (length cores) n core refl inside at) (restart-lawful_at n last core inside at was low)
+      (first_is ∙ ap (λ j. slice_set s.first n (j + 1)) was) (now ∙ ap (λ j. j + 1) was)
+
+  module _ (n o i low had : ℕ) (core : CoreValue) (inside : n < length cores) (there : o < length cores) (at : core ≡ get_or cores o core) (was : had ≡ core.incarnation) where
+    node_of : IsNode s (history_of s events) (reverse log) o core
+    node_of = world.nodes o core (slice_get_read cores (length cores) o core refl there at)
+
+    -- an incarnation above the present one was never had
+    pub never_at : had < i → (n < length s.plant.resources) × (o < length s.plant.resources) × ((i < slice_index s.first o) ⊎ (incarnation_of s o (history_of s events) < i))
+    never_at high =
+        let sized = world.sized in
+        let up = node_of.incarnation in
+        (omega (arith, inside, sized), omega (arith, there, sized), inr (omega (arith, high, was, up)))
+
+    -- one that was had is lawful to hear of
+    pub hear-lawful_at : low ≡ get_or s.first o low → low ≤ i → i ≤ had → is_lawful s (history_of s events) (Hear n o i) ≡ true
+    hear-lawful_at first least most =
+        let sized = world.sized in
+        let firsts = world.firsts in
+        let up = node_of.incarnation in
+        let begins = get-index s.first o low (slice_get_read s.first (length s.first) o low refl (omega (arith, there, sized, firsts)) first) in
+        rw (lt-ltb n (length s.plant.resources) (omega (arith, inside, sized)), lt-ltb o (length s.plant.resources) (omega (arith, there, sized)), le-leb (slice_index s.first o) i (omega (arith, begins, least)), le-leb i (incarnation_of s o (history_of s events)) (omega (arith, most, was, up))) refl
+
+    -- what is news to the core is newer than what its resource has heard
+    pub newer_at : (hearer : CoreValue) → hearer ≡ get_or cores n hearer → i ≤ had → is_news hearer o i ≡ ltb (slice_index (heard_by s n (history_of s events)) o) i
+    newer_at hearer here most = by (eqb o hearer.resource) refl where
+      node : IsNode s (history_of s events) (reverse log) n hearer
+      node = world.nodes n hearer (slice_get_read cores (length cores) n hearer refl inside here)
+
+      exists : o < length hearer.plant.resources
+      exists = let same = ap (λ (p : PlantValue). length p.resources) node.plant in let sized = world.sized in omega (arith, there, same, sized)
+
+      by : (b : Bool) → eqb o hearer.resource ≡ b → is_news hearer o i ≡ ltb (slice_index (heard_by s n (history_of s events)) o) i
+      by false e =
+          ap (λ c. not c && (ltb o (length hearer.plant.resources) && ltb (slice_index hearer.heard o) i)) e
+          ∙ ap (λ c. c && ltb (slice_index hearer.heard o) i) (lt-ltb o (length hearer.plant.resources) exists)
+          ∙ ap (λ (l : List ℕ). ltb (slice_index l o) i) node.heard
+      by true e =
+          let own : o ≡ n = eqb-true o hearer.resource e ∙ node.resource in
+          let first = element_at s.first o (let sized = world.sized in let firsts = world.firsts in omega (arith, there, sized, firsts)) in
+          let heard : slice_index (heard_by s n (history_of s events)) o ≡ heard_of s n o (history_of s events) =
+          get-index (heard_by s n (history_of s events)) o (heard_of s n o (history_of s events)) (heard-get s n o (history_of s events) ∙ ap (option_map (λ _. heard_of s n o (history_of s events))) first.1) in
+          let is : heard_of s n o (history_of s events) ≡ incarnation_of s n (history_of s events) = ap (λ b. cond b (incarnation_of s n (history_of s events)) (greatest (slice_index s.first o) (hearings_of n o (history_of s events)))) (eq-eqb o n own) in
+          let up : core.incarnation ≡ incarnation_of s n (history_of s events) = node_of.incarnation ∙ ap (λ r. incarnation_of s r (history_of s events)) own in
+          ap (λ c. not c && (ltb o (length hearer.plant.resources) && ltb (slice_index hearer.heard o) i)) e
+          ∙ sym (le-ltb (slice_index (heard_by s n (history_of s events)) o) i (omega (arith, heard, is, up, was, most)))
 
   pub restarted_at : (n last : ℕ) (core : CoreValue) → n < length cores → core ≡ get_or cores n core → last ≡ core.incarnation → last < 4294967295
       → last + 1 ≡ incarnation_of s n (history_of s (events ++ Restart n ∷ []))

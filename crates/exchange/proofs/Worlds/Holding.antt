@@ -58,7 +58,7 @@ held-entry w n p x e = by (eqb p.resource n) (node_takes w.setting.plant n p) e 
   by : (b t : Bool) → cond b None (cond t (latest_at w n p) None) ≡ Some x → Contains w.log x
   by true t f = absurd (none-some x f)
   by false false f = absurd (none-some x f)
-  by false true f = subst (λ l. Contains l x) (reverse-reverse w.log) (last_in-log p (has_reached n (history_of w.setting w.events)) (reverse w.log) x f)
+  by false true f = subst (λ l. Contains l x) (reverse-reverse w.log) (last_in-log p (has_reached w.setting n (history_of w.setting w.events)) (reverse w.log) x f)
 
 -- so is what a call hands out
 pub entry-given : {B : Type 0} (given : B → Evaluated) (o : Option B) (w : WorldValue) (n : ℕ) (p : TaskRef) → option_map given o ≡ held_at w n p → IfSome o (λ b. Contains w.log (given b))

@@ -1,9 +1,9 @@
 -- A core follows the history.
-use Rattle.std.proofs.Common.{◌≡◌, ◌≢◌, ◌⊎◌, inl, inr, ℕ, zero, suc, ◌+◌, ◌<◌, ◌≤◌, ◌-◌, get_or, Bool, true, false, cond, ◌&&◌, ◌||◌, List, [], ◌∷◌, ◌++◌, length, Option, Some, None, refl, ap, sym, ◌∙◌, subst, arith, eqb}
-use Rattle.std.specs.Prelude.{map, slice_get, slice_set, reverse}
-use Rattle.std.proofs.lemmas.Bool.{eq-eqb, ne_eqb, eqb-false, false≢true, lt-ltb, le-leb}
+use Rattle.std.proofs.Common.{◌≡◌, ◌≢◌, ◌⊎◌, inl, inr, ℕ, zero, suc, ◌+◌, ◌<◌, ◌≤◌, ◌-◌, get_or, ltb, Bool, true, false, cond, ◌&&◌, ◌||◌, List, [], ◌∷◌, ◌++◌, length, Option, Some, None, refl, ap, sym, ◌∙◌, subst, arith, eqb}
+use Rattle.std.specs.Prelude.{map, not, slice_get, slice_set, slice_index, reverse}
+use Rattle.std.proofs.lemmas.Bool.{eq-eqb, ne_eqb, eqb-true, eqb-false, false≢true, lt-ltb, le-leb, ltb-true, ltb-false}
 use Rattle.std.proofs.lemmas.Bool.Decides.{nat_tests}
-use Rattle.std.proofs.lemmas.List.{length-set, reverse-append, reverse-reverse, length-reverse}
+use Rattle.std.proofs.lemmas.List.{length-set, set-set, set-get_or, reverse-append, reverse-reverse, length-reverse}
 use Rattle.std.proofs.lemmas.Option.{none-some, same_Some, slice_get_within, slice_get_read}
 use Rattle.lists.proofs.Tables.{cell_same, cell_other, cell_filled, cell_place, row_lengths_kept, row_lengths_filled}
 use Rattle.declared_names.specs.Kinds.{kind_of}
@@ -13,21 +13,23 @@ use Rattle.task_codes.specs.CodeValue.{CodeValue, image_kinds}
 use Rattle.evaluation.specs.declared.field_input.FieldInput.{FieldInput}
 use Rattle.evaluation.specs.Meaning.{Evaluated}
 use Rattle.exchange_core.specs.declared.accepted.Accepted.{Accepted}
-use Rattle.exchange_core.specs.declared.accepted.Accepted.TheVariants.{Taken, Old, Unused}
+use Rattle.exchange_core.specs.declared.accepted.Accepted.TheVariants.{Taken, Old, Unused, Stray}
+use Rattle.evaluation.specs.Heard.{is_addressed}
 use Rattle.evaluation.specs.Last.{same_task}
 use Rattle.exchange_core.specs.Held.{known, with_known, empty_for, IsShaped}
 use Rattle.exchange_core.specs.Steps.Knowing.{has_place}
-use Rattle.exchange_core.specs.CoreValue.{CoreValue, IsUsable, IsAccepted, is_greater, fresh_core}
+use Rattle.exchange_core.specs.CoreValue.{CoreValue, IsUsable, IsAccepted, is_greater, is_news, HasHeard, fresh_core}
 use Rattle.exchange.specs.declared.event.Event.{Event}
-use Rattle.exchange.specs.declared.event.Event.TheVariants.{Evaluate, Deliver, Restart}
-use Rattle.exchange.specs.History.{Setting, made_count, is_lawful, history_of, after_events}
+use Rattle.exchange.specs.declared.event.Event.TheVariants.{Evaluate, Deliver, Restart, Hear}
+use Rattle.exchange.specs.History.{Setting, made_count, is_lawful, incarnation_of, heard_by, history_of, after_events}
 use Rattle.exchange.specs.Run.{IsLog, IsNextEvaluation, next_name, latest, message}
 use Rattle.exchange.specs.World.{node_takes}
 use Rattle.exchange.specs.Laws.{greater, held_with}
 use Rattle.exchange.specs.Steps.Nodes.{kept_of, IsNode, IsWorld}
 use Rattle.exchange.proofs.Histories.Tasks.{same_task-true, codes_in}
 use Rattle.exchange.proofs.Histories.Names.{AllLawful, length-log, log-rises, named}
-use Rattle.exchange.proofs.Histories.Steps.{latest-deliver, latest-own_deliver, latest-other_deliver, latest-restart, latest-other_restart, latest-evaluate, latest-other_evaluate, incarnation-restart}
+use Rattle.exchange.proofs.Histories.Heard.{with_heard, heard-restart, heard-other_restart, heard-hear, heard-own_hear, heard-other_hear}
+use Rattle.exchange.proofs.Histories.Steps.{is_for, latest-deliver, latest-own_deliver, latest-other_deliver, latest-restart, latest-other_restart, latest-evaluate, latest-other_evaluate, incarnation-restart}
 use Rattle.exchange.proofs.Worlds.Takes.{usable-takes, takes-usable}
 
 -- one more lawful event is the newest of the history
@@ -55,29 +57,31 @@ message-of_plant s [] [] is k x at = absurd (none-some x at)
 message-of_plant s [] (y ∷ older) is k x at = absurd is
 message-of_plant s (Deliver j n ∷ h) log is k x at = message-of_plant s h log is k x at
 message-of_plant s (Restart n ∷ h) log is k x at = message-of_plant s h log is k x at
+message-of_plant s (Hear n of incarnation ∷ h) log is k x at = message-of_plant s h log is k x at
 message-of_plant s (Evaluate j t dt inputs ∷ h) [] is k x at = absurd is
 message-of_plant s (Evaluate j t dt inputs ∷ h) (y ∷ older) is k x at = by (message-of_plant s h older is.0 k x) (eqb k (suc (length older))) at where
   by : (message older k ≡ Some x → IsOfPlant s x) → (b : Bool) → cond b (Some y) (message older k) ≡ Some x → IsOfPlant s x
   by ih true e = subst (IsOfPlant s) (same_Some y x e) (next-of_plant s h older j t dt inputs y is.1)
   by ih false e = ih e
 
--- what is kept of a task after a delivery, by whether the message is of it
+-- what is kept of a task after a delivery, by whether the message is of it and addressed
 same-kept : (s : Setting) (h : List Event) (log : List Evaluated) (n k : ℕ) (p : TaskRef) (x : Evaluated) → IsLog s h log → message log k ≡ Some x
-    → ((p.resource ≡ n → ⊥) → node_takes s.plant n p ≡ true → same_task x.name.task p ≡ true → greater (latest n h p log) x ≡ latest n h p log)
+    → ((p.resource ≡ n → ⊥) → node_takes s.plant n p ≡ true → same_task x.name.task p ≡ true → is_for s n h x ≡ true → greater (latest s n h p log) x ≡ latest s n h p log)
     → kept_of s n (Deliver k n ∷ h) log p ≡ kept_of s n h log p
 same-kept s h log n k p x is came unmoved = by (eqb p.resource n) refl (node_takes s.plant n p) refl where
-  elsewhere : eqb p.resource n ≡ false → node_takes s.plant n p ≡ true → (t : Bool) → same_task x.name.task p ≡ t → cond t (greater (latest n h p log) x) (latest n h p log) ≡ latest n h p log
-  elsewhere e f true g = unmoved (eqb-false _ _ e) f g
-  elsewhere e f false g = refl
+  elsewhere : eqb p.resource n ≡ false → node_takes s.plant n p ≡ true → (t : Bool) → same_task x.name.task p ≡ t → (c : Bool) → is_for s n h x ≡ c → cond (t && c) (greater (latest s n h p log) x) (latest s n h p log) ≡ latest s n h p log
+  elsewhere e f true g true c = unmoved (eqb-false _ _ e) f g c
+  elsewhere e f true g false c = refl
+  elsewhere e f false g m c = refl
 
   by : (b : Bool) → eqb p.resource n ≡ b → (w : Bool) → node_takes s.plant n p ≡ w
-      → cond (b || w) (latest n (Deliver k n ∷ h) p log) None ≡ cond (b || w) (latest n h p log) None
-  by true e w f = latest-own_deliver n k n h p log e
+      → cond (b || w) (latest s n (Deliver k n ∷ h) p log) None ≡ cond (b || w) (latest s n h p log) None
+  by true e w f = latest-own_deliver s n k n h p log e
   by false e false f = refl
   by false e true f =
-      latest-deliver n k h p log e (log-rises s p h log is)
-      ∙ ap (held_with p (latest n h p log)) came
-      ∙ elsewhere e f (same_task x.name.task p) refl
+      latest-deliver s n k h p log e (log-rises s p h log is)
+      ∙ ap (held_with p (is_for s n h) (latest s n h p log)) came
+      ∙ elsewhere e f (same_task x.name.task p) refl (is_for s n h x) refl
 
 pub stays : (x : Evaluated) (o : Option Evaluated) → is_greater o x.name ≡ false → greater o x ≡ o
 stays x None e = absurd (false≢true (sym e))
@@ -97,37 +101,44 @@ module _ (s : Setting) (h : List Event) (log : List Evaluated) (n k : ℕ) (core
       let e : p ≡ x.name.task = sym (same_task-true x.name.task p same) in
       message-usable (subst (λ r. r.resource ≢ n) e away) (subst (λ r. node_takes s.plant n r ≡ true) e takes)
 
-  known_at : (p : TaskRef) → p.resource ≢ n → node_takes s.plant n p ≡ true → known core.table p ≡ latest n h p log
+  known_at : (p : TaskRef) → p.resource ≢ n → node_takes s.plant n p ≡ true → known core.table p ≡ latest s n h p log
   known_at p away wanted = node.keeps p ∙ rw (ne_eqb p.resource n away, wanted)
 
+  -- the core sees to whom the message is addressed
+  for-core : (b : Bool) → is_addressed x core.resource core.incarnation ≡ b → is_for s n h x ≡ b
+  for-core b e = subst (λ i. is_addressed x n i ≡ b) node.incarnation (subst (λ r. is_addressed x r core.incarnation ≡ b) node.resource e)
+
+  keeps-stray : is_addressed x core.resource core.incarnation ≡ false → (p : TaskRef) → known core.table p ≡ kept_of s n (Deliver k n ∷ h) log p
+  keeps-stray off p = node.keeps p ∙ sym (same-kept s h log n k p x is came (λ away wanted same counts. absurd (false≢true (sym (for-core false off) ∙ counts))))
+
   keeps-unused : (IsUsable core x → ⊥) → (p : TaskRef) → known core.table p ≡ kept_of s n (Deliver k n ∷ h) log p
-  keeps-unused none p = node.keeps p ∙ sym (same-kept s h log n k p x is came (λ away wanted same. absurd (none (usable_at p same away wanted))))
+  keeps-unused none p = node.keeps p ∙ sym (same-kept s h log n k p x is came (λ away wanted same counts. absurd (none (usable_at p same away wanted))))
 
   keeps-old : is_greater (known core.table x.name.task) x.name ≡ false → (p : TaskRef) → known core.table p ≡ kept_of s n (Deliver k n ∷ h) log p
   keeps-old f p =
       node.keeps p
       ∙ sym (same-kept s h log n k p x is came
-      (λ away wanted same.
-      let here : is_greater (latest n h p log) x.name ≡ false = subst (λ o. is_greater o x.name ≡ false) (known_at p away wanted) (subst (λ r. is_greater (known core.table r) x.name ≡ false) (same_task-true x.name.task p same) f) in
-      stays x (latest n h p log) here))
+      (λ away wanted same counts.
+      let here : is_greater (latest s n h p log) x.name ≡ false = subst (λ o. is_greater o x.name ≡ false) (known_at p away wanted) (subst (λ r. is_greater (known core.table r) x.name ≡ false) (same_task-true x.name.task p same) f) in
+      stays x (latest s n h p log) here))
 
-  taken-same : IsUsable core x → is_greater (known core.table x.name.task) x.name ≡ true → (p : TaskRef) → same_task x.name.task p ≡ true → Some x ≡ kept_of s n (Deliver k n ∷ h) log p
-  taken-same usable f p same =
+  taken-same : IsUsable core x → is_addressed x core.resource core.incarnation ≡ true → is_greater (known core.table x.name.task) x.name ≡ true → (p : TaskRef) → same_task x.name.task p ≡ true → Some x ≡ kept_of s n (Deliver k n ∷ h) log p
+  taken-same usable on_it f p same =
       let e : x.name.task ≡ p = same_task-true x.name.task p same in
       let parts = usable-takes s h log n core x node usable in
       let away : p.resource ≢ n = subst (λ r. r.resource ≢ n) e parts.0 in
       let wanted : node_takes s.plant n p ≡ true = subst (λ r. node_takes s.plant n r ≡ true) e parts.1 in
       let other : eqb p.resource n ≡ false = ne_eqb p.resource n away in
-      let here : is_greater (latest n h p log) x.name ≡ true = subst (λ o. is_greater o x.name ≡ true) (known_at p away wanted) (subst (λ r. is_greater (known core.table r) x.name ≡ true) e f) in
+      let here : is_greater (latest s n h p log) x.name ≡ true = subst (λ o. is_greater o x.name ≡ true) (known_at p away wanted) (subst (λ r. is_greater (known core.table r) x.name ≡ true) e f) in
       let on : (eqb p.resource n || node_takes s.plant n p) ≡ true = rw (other, wanted) in
-      let newest : held_with p (latest n h p log) (Some x) ≡ Some x = rw same (grows x (latest n h p log) here) in
-      sym (ap (λ w. cond w (latest n (Deliver k n ∷ h) p log) None) on
-      ∙ latest-deliver n k h p log other (log-rises s p h log is)
-      ∙ ap (held_with p (latest n h p log)) came
+      let newest : held_with p (is_for s n h) (latest s n h p log) (Some x) ≡ Some x = ap (λ b. cond (b && is_for s n h x) (greater (latest s n h p log) x) (latest s n h p log)) same ∙ ap (λ b. cond b (greater (latest s n h p log) x) (latest s n h p log)) (for-core true on_it) ∙ grows x (latest s n h p log) here in
+      sym (ap (λ w. cond w (latest s n (Deliver k n ∷ h) p log) None) on
+      ∙ latest-deliver s n k h p log other (log-rises s p h log is)
+      ∙ ap (held_with p (is_for s n h) (latest s n h p log)) came
       ∙ newest)
 
-  keeps-taken : IsUsable core x → is_greater (known core.table x.name.task) x.name ≡ true → (p : TaskRef) → known (with_known core.table x.name.task (Some x)) p ≡ kept_of s n (Deliver k n ∷ h) log p
-  keeps-taken usable f p = by (same_task x.name.task p) refl where
+  keeps-taken : IsUsable core x → is_addressed x core.resource core.incarnation ≡ true → is_greater (known core.table x.name.task) x.name ≡ true → (p : TaskRef) → known (with_known core.table x.name.task (Some x)) p ≡ kept_of s n (Deliver k n ∷ h) log p
+  keeps-taken usable on_it f p = by (same_task x.name.task p) refl where
     place : has_place core.table x.name.task
     place = let made = message-of_plant s h log is k x came in
         cell_place codes_in core.plant.resources core.table x.name.task.resource x.name.task.task made.0 refl node.shaped (subst (λ w. code_at w x.name.task ≡ Some made.0) (sym node.plant) made.1)
@@ -135,34 +146,46 @@ module _ (s : Setting) (h : List Event) (log : List Evaluated) (n k : ℕ) (core
     by : (b : Bool) → same_task x.name.task p ≡ b → known (with_known core.table x.name.task (Some x)) p ≡ kept_of s n (Deliver k n ∷ h) log p
     by true same =
         subst (λ r. known (with_known core.table x.name.task (Some x)) r ≡ Some x) (same_task-true x.name.task p same) (cell_same core.table x.name.task.resource x.name.task.task (Some x) None place.0 place.1)
-        ∙ taken-same usable f p same
+        ∙ taken-same usable on_it f p same
     by false other =
         cell_other core.table x.name.task.resource x.name.task.task p.resource p.task (Some x) None place.0 other
         ∙ node.keeps p
-        ∙ sym (same-kept s h log n k p x is came (λ away wanted same. absurd (false≢true (sym other ∙ same))))
+        ∙ sym (same-kept s h log n k p x is came (λ away wanted same counts. absurd (false≢true (sym other ∙ same))))
 
   -- a core to which a message is delivered
   pub node-deliver : (new : CoreValue) (a : Accepted) → IsAccepted core new x a → IsNode s (Deliver k n ∷ h) log n new
-  node-deliver new Taken done = subst (IsNode s (Deliver k n ∷ h) log n) (sym done.2) (record {
+  node-deliver new Taken done = subst (IsNode s (Deliver k n ∷ h) log n) (sym done.3) (record {
     plant = node.plant;
     resource = node.resource;
     incarnation = node.incarnation;
+    heard = node.heard;
     max_number = node.max_number;
     shaped = row_lengths_kept core.table x.name.task.resource x.name.task.task (Some x) ∙ node.shaped;
-    keeps = keeps-taken done.0 done.1;
+    keeps = keeps-taken done.0 done.1 done.2;
   })
-  node-deliver new Old done = subst (IsNode s (Deliver k n ∷ h) log n) (sym done.2) (record {
+  node-deliver new Old done = subst (IsNode s (Deliver k n ∷ h) log n) (sym done.3) (record {
     plant = node.plant;
     resource = node.resource;
     incarnation = node.incarnation;
+    heard = node.heard;
     max_number = node.max_number;
     shaped = node.shaped;
-    keeps = keeps-old done.1;
+    keeps = keeps-old done.2;
+  })
+  node-deliver new Stray done = subst (IsNode s (Deliver k n ∷ h) log n) (sym done.2) (record {
+    plant = node.plant;
+    resource = node.resource;
+    incarnation = node.incarnation;
+    heard = node.heard;
+    max_number = node.max_number;
+    shaped = node.shaped;
+    keeps = keeps-stray done.1;
   })
   node-deliver new Unused done = subst (IsNode s (Deliver k n ∷ h) log n) (sym done.1) (record {
     plant = node.plant;
     resource = node.resource;
     incarnation = node.incarnation;
+    heard = node.heard;
     max_number = node.max_number;
     shaped = node.shaped;
     keeps = keeps-unused done.0;
@@ -175,9 +198,10 @@ node-other_deliver s h log n m k core node other =
       plant = node.plant;
       resource = node.resource;
       incarnation = node.incarnation;
+      heard = node.heard;
       max_number = node.max_number;
       shaped = node.shaped;
-      keeps = λ p. node.keeps p ∙ ap (λ o. cond (eqb p.resource n || node_takes s.plant n p) o None) (sym (latest-other_deliver n k m h p log other));
+      keeps = λ p. node.keeps p ∙ ap (λ o. cond (eqb p.resource n || node_takes s.plant n p) o None) (sym (latest-other_deliver s n k m h p log other));
     }
 
 pub set-found : {X : Type 0} (xs : List X) (n m : ℕ) (v c : X) → n < length xs → slice_get (slice_set xs n v) m ≡ Some c → ((m ≡ n) × (v ≡ c)) ⊎ ((n ≡ m → ⊥) × (slice_get xs m ≡ Some c))
@@ -274,20 +298,79 @@ pub fresh_known : (plant : PlantValue) (p : TaskRef) → known (empty_for plant)
 fresh_known plant p = cell_filled codes_long none_known plant.resources p.resource p.task
 
 -- a core that restarts
-pub node-restart : (s : Setting) (h : List Event) (log : List Evaluated) (n : ℕ) (core : CoreValue) → IsLog s h log → IsNode s h log n core
-    → IsNode s (Restart n ∷ h) log n (fresh_core core.plant core.resource (core.incarnation + 1) core.max_number)
-node-restart s h log n core is node =
+pub node-restart : (s : Setting) (h : List Event) (log : List Evaluated) (n : ℕ) (first : List ℕ) (i : ℕ) → AllLawful s h → IsLog s h log → first ≡ slice_set s.first n (incarnation_of s n h + 1) → i ≡ incarnation_of s n h + 1
+    → IsNode s (Restart n ∷ h) log n (fresh_core s.plant n first i s.max_number)
+node-restart s h log n first i all is first_is now =
     record {
-      plant = node.plant;
-      resource = node.resource;
-      max_number = node.max_number;
-      incarnation = ap (λ i. i + 1) node.incarnation ∙ sym (incarnation-restart s n h);
-      shaped = fresh_shape core.plant;
-      keeps = λ p. fresh_known core.plant p ∙ sym (ap (λ o. cond (eqb p.resource n || node_takes s.plant n p) o None) (latest-restart n h p log (length-log s h log is)) ∙ cond-same (eqb p.resource n || node_takes s.plant n p));
+      plant = refl;
+      resource = refl;
+      max_number = refl;
+      incarnation = now ∙ sym (incarnation-restart s n h);
+      heard = ap (λ f. slice_set f n i) first_is ∙ ap (slice_set (slice_set s.first n (incarnation_of s n h + 1)) n) now ∙ set-set s.first n (incarnation_of s n h + 1) (incarnation_of s n h + 1) ∙ sym (heard-restart s n h);
+      shaped = fresh_shape s.plant;
+      keeps = λ p. fresh_known s.plant p ∙ sym (ap (λ o. cond (eqb p.resource n || node_takes s.plant n p) o None) (latest-restart s n h p log all is) ∙ cond-same (eqb p.resource n || node_takes s.plant n p));
     } where
       cond-same : (b : Bool) → ◌≡◌ {A = Option Evaluated} (cond b None None) None
       cond-same true = refl
       cond-same false = refl
+
+-- what a core has heard after a hearing is what its resource has heard
+heard-now : (s : Setting) (h : List Event) (n o i : ℕ) (core : CoreValue) → core.resource ≡ n → core.heard ≡ heard_by s n h → o < length core.plant.resources
+    → (b : Bool) → is_news core o i ≡ b → cond b (slice_set core.heard o i) core.heard ≡ heard_by s n (Hear n o i ∷ h)
+heard-now s h n o i core own heard there = by (eqb o core.resource) refl where
+  at : (b : Bool) → eqb o core.resource ≡ b → eqb o n ≡ b
+  at b e = subst (λ r. eqb o r ≡ b) own e
+
+  by : (a : Bool) → eqb o core.resource ≡ a → (b : Bool) → is_news core o i ≡ b → cond b (slice_set core.heard o i) core.heard ≡ heard_by s n (Hear n o i ∷ h)
+  by true e true f = absurd (false≢true (sym (ap (λ c. not c && (ltb o (length core.plant.resources) && ltb (slice_index core.heard o) i)) e) ∙ f))
+  by true e false f = heard ∙ sym (heard-own_hear s n i h) ∙ ap (λ k. heard_by s n (Hear n k i ∷ h)) (sym (eqb-true o n (at true e)))
+  by false e b f = now b (sym (ap (λ c. not c && (ltb o (length core.plant.resources) && ltb (slice_index core.heard o) i)) e ∙ ap (λ c. c && ltb (slice_index core.heard o) i) (lt-ltb o (length core.plant.resources) there)) ∙ f) where
+    now : (b : Bool) → ltb (slice_index core.heard o) i ≡ b → cond b (slice_set core.heard o i) core.heard ≡ heard_by s n (Hear n o i ∷ h)
+    now true g =
+        ap (slice_set core.heard o) (let low = ltb-true (slice_index core.heard o) i g in omega (arith, low))
+        ∙ ap (λ l. with_heard l o i) heard ∙ sym (heard-hear s n o i h (at false e))
+    now false g =
+        sym (set-get_or core.heard o 0) ∙ ap (slice_set core.heard o) (let high = ltb-false (slice_index core.heard o) i g in omega (arith, high))
+        ∙ ap (λ l. with_heard l o i) heard ∙ sym (heard-hear s n o i h (at false e))
+
+-- a core that hears of another resource
+pub node-hear : (s : Setting) (h : List Event) (log : List Evaluated) (n o i : ℕ) (core new : CoreValue) (answer : Bool) → o < length s.plant.resources → IsNode s h log n core → HasHeard core new o i answer → IsNode s (Hear n o i ∷ h) log n new
+node-hear s h log n o i core new answer there node done = subst (IsNode s (Hear n o i ∷ h) log n) (sym done.after) (by answer (sym done.answer_is)) where
+  inside : o < length core.plant.resources
+  inside = subst (λ (p : PlantValue). o < length p.resources) (sym node.plant) there
+
+  by : (b : Bool) → is_news core o i ≡ b → IsNode s (Hear n o i ∷ h) log n (cond b (record core { heard = slice_set core.heard o i }) core)
+  by true e = record {
+    plant = node.plant;
+    resource = node.resource;
+    max_number = node.max_number;
+    incarnation = node.incarnation;
+    heard = heard-now s h n o i core node.resource node.heard inside true e;
+    shaped = node.shaped;
+    keeps = node.keeps;
+  }
+  by false e = record {
+    plant = node.plant;
+    resource = node.resource;
+    max_number = node.max_number;
+    incarnation = node.incarnation;
+    heard = heard-now s h n o i core node.resource node.heard inside false e;
+    shaped = node.shaped;
+    keeps = node.keeps;
+  }
+
+-- a core, when another one hears
+pub node-other_hear : (s : Setting) (h : List Event) (log : List Evaluated) (n m o i : ℕ) (core : CoreValue) → IsNode s h log n core → eqb m n ≡ false → IsNode s (Hear m o i ∷ h) log n core
+node-other_hear s h log n m o i core node other =
+    record {
+      plant = node.plant;
+      resource = node.resource;
+      max_number = node.max_number;
+      incarnation = node.incarnation;
+      heard = node.heard ∙ sym (heard-other_hear s n m o i h other);
+      shaped = node.shaped;
+      keeps = node.keeps;
+    }
 
 -- a core, when another one restarts
 pub node-other_restart : (s : Setting) (h : List Event) (log : List Evaluated) (n m : ℕ) (core : CoreValue) → IsNode s h log n core → eqb m n ≡ false → IsNode s (Restart m ∷ h) log n core
@@ -298,7 +381,8 @@ node-other_restart s h log n m core node other =
       max_number = node.max_number;
       shaped = node.shaped;
       incarnation = node.incarnation ∙ rw other;
-      keeps = λ p. node.keeps p ∙ ap (λ o. cond (eqb p.resource n || node_takes s.plant n p) o None) (sym (latest-other_restart n m h p log other));
+      heard = node.heard ∙ sym (heard-other_restart s n m h other);
+      keeps = λ p. node.keeps p ∙ ap (λ o. cond (eqb p.resource n || node_takes s.plant n p) o None) (sym (latest-other_restart s n m h p log other));
     }
 
 -- a core that evaluates one of its tasks
@@ -311,6 +395,7 @@ node-evaluate s h log core k t dt inputs x all is next node =
       resource = node.resource;
       max_number = node.max_number;
       incarnation = node.incarnation;
+      heard = node.heard;
       shaped = row_lengths_kept core.table t.resource t.task (Some x) ∙ node.shaped;
       keeps = λ p. by p (same_task t p) refl;
     } where
@@ -323,8 +408,8 @@ node-evaluate s h log core k t dt inputs x all is next node =
       own : kept_of s t.resource (Evaluate k t dt inputs ∷ h) (x ∷ log) t ≡ Some x
       own =
           let on : (eqb t.resource t.resource || node_takes s.plant t.resource t) ≡ true = rw (eq-eqb t.resource t.resource refl) in
-          ap (λ w. cond w (latest t.resource (Evaluate k t dt inputs ∷ h) t (x ∷ log)) None) on
-          ∙ latest-evaluate k t dt inputs h x log (ap (λ n. n.task) at) (length-log s h log is)
+          ap (λ w. cond w (latest s t.resource (Evaluate k t dt inputs ∷ h) t (x ∷ log)) None) on
+          ∙ latest-evaluate s k t dt inputs h x log next
 
       by : (p : TaskRef) (b : Bool) → same_task t p ≡ b → known (with_known core.table t (Some x)) p ≡ kept_of s t.resource (Evaluate k t dt inputs ∷ h) (x ∷ log) p
       by p true e =
@@ -345,9 +430,33 @@ node-other_evaluate s h log n core k t dt inputs x all is next node other =
       resource = node.resource;
       max_number = node.max_number;
       incarnation = node.incarnation;
+      heard = node.heard;
       shaped = node.shaped;
       keeps = λ p. node.keeps p ∙ ap (λ o. cond (eqb p.resource n || node_takes s.plant n p) o None) (sym (latest-other_evaluate s n k t dt inputs h p x log all (length-log s h log is) (apart p (same_task t p) refl)));
     } where
       apart : (p : TaskRef) (b : Bool) → same_task t p ≡ b → (same_task x.name.task p && eqb p.resource n) ≡ false
       apart p true e = rw (named s h log k t dt inputs x next, e) (subst (λ r. eqb r.resource n ≡ false) (same_task-true t p e) other)
       apart p false e = rw (named s h log k t dt inputs x next, e)
+
+-- the world's step at a Hear
+pub world-hear : (s : Setting) (events : List Event) (log : List Evaluated) (cores : List CoreValue) (n o i : ℕ) (core new : CoreValue) (answer : Bool)
+    → IsWorld s events log cores → n < length cores → o < length cores → core ≡ get_or cores n core → HasHeard core new o i answer → is_lawful s (history_of s events) (Hear n o i) ≡ true
+    → IsWorld s (events ++ Hear n o i ∷ []) log (slice_set cores n new)
+world-hear s events log cores n o i core new answer world inside there read done lawful =
+    let more : history_of s (events ++ Hear n o i ∷ []) ≡ Hear n o i ∷ history_of s events = history-one_more s events (Hear n o i) lawful in
+    record {
+      planned = world.planned;
+      logged = subst (λ g. IsLog s g (reverse log)) (sym more) world.logged;
+      firsts = world.firsts;
+      sized = length-set cores n new ∙ world.sized;
+      nodes = λ m c found. subst (λ g. IsNode s g (reverse log) m c) (sym more) (by m c (set-found cores n m new c inside found));
+    } where
+      at : slice_get cores n ≡ Some core
+      at = slice_get_read cores (length cores) n core refl inside read
+
+      by : (m : ℕ) (c : CoreValue) → ((m ≡ n) × (new ≡ c)) ⊎ ((n ≡ m → ⊥) × (slice_get cores m ≡ Some c)) → IsNode s (Hear n o i ∷ history_of s events) (reverse log) m c
+      by m c (inl p) =
+          subst (λ d. IsNode s (Hear n o i ∷ history_of s events) (reverse log) m d) p.1
+          (subst (λ r. IsNode s (Hear n o i ∷ history_of s events) (reverse log) r new) (sym p.0)
+          (node-hear s (history_of s events) (reverse log) n o i core new answer (let sized = world.sized in omega (arith, there, sized)) (world.nodes n core at) done))
+      by m c (inr p) = node-other_hear s (history_of s events) (reverse log) m n o i c (world.nodes m c p.1) (ne_eqb n m p.0)

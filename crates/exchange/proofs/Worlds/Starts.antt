@@ -10,21 +10,23 @@ use Rattle.task_codes.specs.CodeValue.{CodeValue}
 use Rattle.evaluation.specs.Meaning.{Evaluated}
 use Rattle.exchange_core.specs.CoreValue.{CoreValue, fresh_core}
 use Rattle.exchange.specs.declared.event.Event.{Event}
-use Rattle.exchange.specs.declared.event.Event.TheVariants.{Evaluate, Deliver, Restart}
+use Rattle.exchange.specs.declared.event.Event.TheVariants.{Evaluate, Deliver, Restart, Hear}
 use Rattle.exchange.specs.declared.world_fault.WorldFault.{WorldFault}
-use Rattle.exchange.specs.declared.world_fault.WorldFault.TheVariants.{NoSuchResource, NoSuchTask, NoSuchMessage, NumbersSpent, IncarnationsSpent, Memory}
-use Rattle.exchange.specs.History.{Setting, history_of, after_events, is_lawful, number_of, lawful_among}
+use Rattle.exchange.specs.declared.world_fault.WorldFault.TheVariants.{NoSuchResource, NoSuchTask, NoSuchMessage, NumbersSpent, IncarnationsSpent, Memory, NeverHeld}
+use Rattle.exchange.specs.History.{incarnation_of, Setting, history_of, after_events, is_lawful, number_of, lawful_among}
 use Rattle.exchange.specs.World.{WorldValue, node_takes}
-use Rattle.exchange.specs.Step.{IsDone, IsCause, IsLawfulAt, Follows}
+use Rattle.exchange.specs.Step.{IsDone, IsCause, IsLawfulAt, HaveRun}
 use Rattle.exchange.specs.Steps.Nodes.{IsNode, IsWorld}
 use Rattle.exchange.specs.Steps.Fresh.{AreFresh}
 use Rattle.exchange.proofs.Histories.Tasks.{resource_exists}
+use Rattle.exchange.proofs.Histories.Heard.{heard-fresh}
+use Rattle.std.proofs.lemmas.List.{set-get_or}
 use Rattle.exchange.proofs.Worlds.Moves.{slice_get-push, history-one_more, fresh_shape, fresh_known}
 
 pub fresh-none : (plant : PlantValue) (first : List ℕ) (max_number : ℕ) → AreFresh plant first max_number 0 []
 fresh-none plant first max_number = record { sized = refl; fresh = λ n core e. absurd (none-some core e) }
 
-pub fresh-more : (plant : PlantValue) (first : List ℕ) (max_number count : ℕ) (cores : List CoreValue) (core : CoreValue) → AreFresh plant first max_number count cores → core ≡ fresh_core plant count (slice_index first count) max_number
+pub fresh-more : (plant : PlantValue) (first : List ℕ) (max_number count : ℕ) (cores : List CoreValue) (core : CoreValue) → AreFresh plant first max_number count cores → core ≡ fresh_core plant count first (slice_index first count) max_number
     → AreFresh plant first max_number (count + 1) (cores ++ core ∷ [])
 fresh-more plant first max_number count cores core all new =
     record { sized = length-push cores ∙ ap (λ n. n + 1) all.sized; fresh = λ n c e. by n c (eqb (suc n) (suc (length cores))) refl (sym (slice_get-push cores core n) ∙ e) } where
@@ -32,11 +34,11 @@ fresh-more plant first max_number count cores core all new =
       length-push [] = refl
       length-push (x ∷ xs) = rw (length-push xs) (omega arith)
 
-      by : (n : ℕ) (c : CoreValue) (b : Bool) → eqb (suc n) (suc (length cores)) ≡ b → cond b (Some core) (slice_get cores n) ≡ Some c → c ≡ fresh_core plant n (slice_index first n) max_number
+      by : (n : ℕ) (c : CoreValue) (b : Bool) → eqb (suc n) (suc (length cores)) ≡ b → cond b (Some core) (slice_get cores n) ≡ Some c → c ≡ fresh_core plant n first (slice_index first n) max_number
       by n c false e f = all.fresh n c f
       by n c true e f =
           let at : count ≡ n = omega (arith, all.sized, eqb-true (suc n) (suc (length cores)) e) in
-          sym (same_Some core c f) ∙ new ∙ ap (λ m. fresh_core plant m (slice_index first m) max_number) at
+          sym (same_Some core c f) ∙ new ∙ ap (λ m. fresh_core plant m first (slice_index first m) max_number) at
 
 -- the world of no events
 pub world-new : (s : Setting) (cores : List CoreValue) → IsSoundPlant s.plant → length s.first ≡ length s.plant.resources → AreFresh s.plant s.first s.max_number (length s.plant.resources) cores → IsWorld s [] [] cores
@@ -46,12 +48,13 @@ world-new s cores planned firsts all =
       nothing true = refl
       nothing false = refl
 
-      node : (n : ℕ) → IsNode s [] [] n (fresh_core s.plant n (slice_index s.first n) s.max_number)
+      node : (n : ℕ) → IsNode s [] [] n (fresh_core s.plant n s.first (slice_index s.first n) s.max_number)
       node n = record {
         plant = refl;
         resource = refl;
         max_number = refl;
         incarnation = omega arith;
+        heard = set-get_or s.first n 0 ∙ sym (heard-fresh s n);
         shaped = fresh_shape s.plant;
         keeps = λ p. fresh_known s.plant p ∙ sym (nothing (eqb p.resource n || node_takes s.plant n p));
       }
@@ -80,10 +83,10 @@ lawful-more s h (x ∷ xs) ys = by (lawful-more s (x ∷ h) xs ys) (lawful-more 
   by a b true = ap (λ l. x ∷ l) a
   by a b false = b
 
-pub follows-none : (w : WorldValue) → Follows w w []
+pub follows-none : (w : WorldValue) → HaveRun w w []
 follows-none w = record { setting = refl; events = sym (append-nil w.events) }
 
-pub follows-more : (a b c : WorldValue) (xs ys : List Event) → Follows a b xs → Follows b c ys → Follows a c (xs ++ ys)
+pub follows-more : (a b c : WorldValue) (xs ys : List Event) → HaveRun a b xs → HaveRun b c ys → HaveRun a c (xs ++ ys)
 follows-more a b c xs ys f g =
     record {
       setting = g.setting ∙ f.setting;
@@ -98,15 +101,19 @@ follows-more a b c xs ys f g =
       h : List Event
       h = history_of a.setting a.events
 
-pub follows-done : (a b : WorldValue) (e : Event) (log : List Evaluated) → IsDone a b e log → Follows a b (e ∷ [])
+pub follows-done : (a b : WorldValue) (e : Event) (log : List Evaluated) → IsDone a b e log → HaveRun a b (e ∷ [])
 follows-done a b e log done = record { setting = ap (λ w. w.setting) done.is; events = ap (λ w. w.events) done.is ∙ rw done.lawful }
 
-pub follows-refused : (a b : WorldValue) (e : Event) → b ≡ a → is_lawful a.setting (history_of a.setting a.events) e ≡ false → Follows a b (e ∷ [])
+pub follows-refused : (a b : WorldValue) (e : Event) → b ≡ a → is_lawful a.setting (history_of a.setting a.events) e ≡ false → HaveRun a b (e ∷ [])
 follows-refused a b e same refused = record { setting = ap (λ w. w.setting) same; events = ap (λ w. w.events) same ∙ sym (append-nil a.events) ∙ rw refused }
 
 unmade : (m made : ℕ) → (m ≡ 0) ⊎ (made < m) → (leb 1 m && leb m made) ≡ false
 unmade m made (inl e) = grind (arith, nat_tests)
 unmade m made (inr e) = grind (arith, nat_tests)
+
+never : (low i high : ℕ) → (i < low) ⊎ (high < i) → (leb low i && leb i high) ≡ false
+never low i high (inl e) = grind (arith, nat_tests)
+never low i high (inr e) = grind (arith, nat_tests)
 
 -- what is refused for another cause than memory is unlawful
 pub unlawful : (w : WorldValue) (e : Event) (f : WorldFault) → (f ≡ Memory → ⊥) → IsCause w e f → is_lawful w.setting (history_of w.setting w.events) e ≡ false
@@ -131,16 +138,31 @@ unlawful w (Restart n) NoSuchTask ne c = absurd c
 unlawful w (Restart n) NoSuchMessage ne c = absurd c
 unlawful w (Restart n) NumbersSpent ne c = absurd c
 unlawful w (Restart n) Memory ne c = absurd (ne refl)
+unlawful w (Evaluate k t dt inputs) NeverHeld ne c = absurd c
+unlawful w (Deliver m n) NeverHeld ne c = absurd c
+unlawful w (Restart n) NeverHeld ne c = absurd c
+unlawful w (Hear n o i) NoSuchResource ne (inl c) = rw (le-ltb n (length w.setting.plant.resources) c) refl
+unlawful w (Hear n o i) NoSuchResource ne (inr c) = by (ltb n (length w.setting.plant.resources)) where
+  by : (b : Bool) → (b && (ltb o (length w.setting.plant.resources) && (leb (slice_index w.setting.first o) i && leb i (incarnation_of w.setting o (history_of w.setting w.events))))) ≡ false
+  by true = rw (le-ltb o (length w.setting.plant.resources) c) refl
+  by false = refl
+unlawful w (Hear n o i) NeverHeld ne c = rw (lt-ltb n (length w.setting.plant.resources) c.0, lt-ltb o (length w.setting.plant.resources) c.1) (never (slice_index w.setting.first o) i (incarnation_of w.setting o (history_of w.setting w.events)) c.2)
+unlawful w (Hear n o i) NoSuchTask ne c = absurd c
+unlawful w (Hear n o i) NoSuchMessage ne c = absurd c
+unlawful w (Hear n o i) NumbersSpent ne c = absurd c
+unlawful w (Hear n o i) IncarnationsSpent ne c = absurd c
+unlawful w (Hear n o i) Memory ne c = absurd (ne refl)
 
-pub follows-next : (a b c : WorldValue) (es : List Event) (i : ℕ) (e : Event) → i < length es → e ≡ get_or es i e → Follows a b (take i es) → Follows b c (e ∷ []) → Follows a c (take (i + 1) es)
+pub follows-next : (a b c : WorldValue) (es : List Event) (i : ℕ) (e : Event) → i < length es → e ≡ get_or es i e → HaveRun a b (take i es) → HaveRun b c (e ∷ []) → HaveRun a c (take (i + 1) es)
 follows-next a b c es i e inside at f g =
-    subst (Follows a c) (ap (λ x. take i es ++ x ∷ []) at ∙ sym (take_more es i e inside)) (follows-more a b c (take i es) (e ∷ []) f g)
+    subst (HaveRun a c) (ap (λ x. take i es ++ x ∷ []) at ∙ sym (take_more es i e inside)) (follows-more a b c (take i es) (e ∷ []) f g)
 
 -- memory is wanting only for a lawful event
 pub memory-lawful : (w : WorldValue) (e : Event) → IsCause w e Memory → is_lawful w.setting (history_of w.setting w.events) e ≡ true
 memory-lawful w (Evaluate k t dt inputs) h = h
 memory-lawful w (Deliver m n) h = h
 memory-lawful w (Restart n) h = h
+memory-lawful w (Hear n o i) h = h
 
 pub stopped-at : (a b : WorldValue) (es : List Event) (i : ℕ) (e : Event) → i < length es → e ≡ get_or es i e → b ≡ a → is_lawful a.setting (history_of a.setting a.events) e ≡ true → IsLawfulAt b es i
 stopped-at a b es i e inside at same lawful =

@@ -45,10 +45,10 @@ takes-same f g code same = by code.producers code.expected same where
 
 -- a core's takes are the run's
 pub node-takes : (s : Setting) (h : List Event) (log : List Evaluated) (t : TaskRef) (core : CoreValue) (code : CodeValue) → IsNode s h log t.resource core → code_at s.plant t ≡ Some code
-    → takes_of (known core.table) code ≡ takes_of (λ p. latest t.resource h p log) code
+    → takes_of (known core.table) code ≡ takes_of (λ p. latest s t.resource h p log) code
 node-takes s h log t core code node found =
-    takes-same (known core.table) (λ p. latest t.resource h p log) code
-    (λ k q at. node.keeps q ∙ ap (λ w. cond w (latest t.resource h q log) None) (or_right (eqb q.resource t.resource) (node_takes s.plant t.resource q) (takes-from s.plant t code k q found at)))
+    takes-same (known core.table) (λ p. latest s t.resource h p log) code
+    (λ k q at. node.keeps q ∙ ap (λ w. cond w (latest s t.resource h q log) None) (or_right (eqb q.resource t.resource) (node_takes s.plant t.resource q) (takes-from s.plant t code k q found at)))
 
 -- what is of use is of another resource's task, from which a task here takes
 pub usable-takes : (s : Setting) (h : List Event) (log : List Evaluated) (n : ℕ) (core : CoreValue) (x : Evaluated) → IsNode s h log n core → IsUsable core x

@@ -7,7 +7,7 @@ use Rattle.exchange_core.specs.CoreValue.{CoreValue, fresh_core}
 pub record AreFresh (plant : PlantValue) (first : List ℕ) (max_number count : ℕ) (cores : List CoreValue) : Type 0 where
   pub sized : length cores ≡ count
   pub fresh : (n : ℕ) (core : CoreValue) → slice_get cores n ≡ Some core
-      → core ≡ fresh_core plant n (slice_index first n) max_number
+      → core ≡ fresh_core plant n first (slice_index first n) max_number
 
 -- the cores of all resources of a plant
 abbrev pub AreFreshCores : PlantValue → List ℕ → ℕ → List CoreValue → Type 0

@@ -4,7 +4,7 @@ ghost use Rattle.std.specs.Prelude.{◌≡◌, reverse};
 ghost use Rattle.std.specs.List.{list_any, find};
 ghost use Rattle.std.specs.Option.{option_copied};
 ghost use Rattle.evaluation.specs.Last.{same_task};
-ghost use Rattle.exchange.specs.Schedule.{takes_from, taken_in, last_taken};
+ghost use Rattle.exchange.specs.Schedule.{has_taken_from, taken_in, last_taken};
 
 use evaluation::{Frame, Name, Take};
 use plant::TaskRef;
@@ -17,8 +17,8 @@ fn take_from(takes: &[Take], producer: TaskRef) -> bool
 }
 
 /// Whether an entry is of this name's resource and incarnation, and took from this producer.
-fn takes_from(name: Name, producer: TaskRef, y: &Frame) -> bool
-    ensures { result ≡ takes_from name producer y.now }
+fn has_taken_from(name: Name, producer: TaskRef, y: &Frame) -> bool
+    ensures { result ≡ has_taken_from name producer y.now }
 {
     let at = y.name();
     at.task.resource == name.task.resource
@@ -28,9 +28,12 @@ fn takes_from(name: Name, producer: TaskRef, y: &Frame) -> bool
 
 /// The newest entry of this name's resource and incarnation that took from this producer.
 fn last_taker(older: &[Frame], name: Name, producer: TaskRef) -> Option<&Frame>
-    ensures { option_copied result ≡ find (takes_from name producer) (reverse older.now) }
+    ensures { option_copied result ≡ find (has_taken_from name producer) (reverse older.now) }
 {
-    older.iter().rev().find(|y| takes_from(name, producer, y))
+    older
+        .iter()
+        .rev()
+        .find(|y| has_taken_from(name, producer, y))
 }
 
 /// The first of these takes from this producer.

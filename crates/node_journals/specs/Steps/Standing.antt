@@ -10,27 +10,29 @@ use Rattle.exchange_core.specs.CoreValue.{CoreValue}
 use Rattle.node_journals.specs.declared.step.Step.{Step}
 use Rattle.node_journals.specs.declared.step.Step.TheVariants.{Made}
 use Rattle.node_journals.specs.declared.journal.Journal.{Journal}
-use Rattle.node_journals.specs.Journals.{incarnation_of, made_of, last_made, ComesFrom, IsGreatestReceived, IsLawful, with_step}
+use Rattle.node_journals.specs.Journals.{incarnation_after, heard_after, made_of, last_made, ComesTo, IsGreatestReceived, IsLawful, with_step}
 
--- the incarnation is the present one, of each task of the resource the last evaluation is known,
--- and of each task from which one takes the greatest received
+-- the incarnation is the present one, what was heard is what the steps tell, of each task of the resource the last evaluation is known,
+-- and of each task from which one takes the greatest received that is addressed to the incarnation
 pub record Stands (resource first : ℕ) (before : List Step) (core : CoreValue) : Type 0 where
   pub sound : IsSoundPlant core.plant
   pub shaped : IsShaped core.plant core.table
   pub resource_is : core.resource ≡ resource
-  pub incarnation_is : core.incarnation ≡ incarnation_of first before
+  pub incarnation_is : core.incarnation ≡ incarnation_after first before
+  pub firsts : length core.first ≡ length core.plant.resources
+  pub heard_is : core.heard ≡ heard_after core.first resource first before
   pub own : (p : TaskRef) → p.resource ≡ resource → known core.table p ≡ last_made p before
   pub counted : (p : TaskRef) → p.resource ≡ resource → last_number (last_made p before) ≡ length (made_of p before)
   pub others : (t : TaskRef) (code : CodeValue) (k : ℕ) (p : TaskRef) → t.resource ≡ resource
       → code_at core.plant t ≡ Some code → slice_get code.producers k ≡ Some p → p.resource ≢ resource
-      → IsGreatestReceived before (ComesFrom p (expected_at code k)) (known core.table p)
+      → IsGreatestReceived before (ComesTo resource (incarnation_after first before) p (expected_at code k)) (known core.table p)
 
 -- a lawful journal, and the core where it has come to
 pub record IsStation (core : CoreValue) (j : Journal) : Type 0 where
-  pub lawful : IsLawful core.plant core.max_number j
+  pub lawful : IsLawful core.plant core.first core.max_number j
   pub stands : Stands j.resource j.first (reverse j.steps) core
 
 -- a lawful journal, which with one more evaluation made is still lawful, and the core where it has then come to
 pub record IsAhead (core : CoreValue) (j : Journal) (made : Evaluated) : Type 0 where
-  pub lawful : IsLawful core.plant core.max_number j
+  pub lawful : IsLawful core.plant core.first core.max_number j
   pub ahead : IsStation core (with_step j (Made made))

@@ -1,11 +1,11 @@
 -- What a resource is while it runs: its core, and the journal that has come to where the core stands.
-use Rattle.std.specs.Prelude.{◌≡◌, ℕ, List}
+use Rattle.std.specs.Prelude.{◌≡◌, ℕ, Bool, List, slice_index}
 use Rattle.plant.specs.PlantValue.{PlantValue}
 use Rattle.evaluation.specs.declared.field_input.FieldInput.{FieldInput}
 use Rattle.evaluation.specs.Meaning.{Evaluated}
 use Rattle.exchange_core.specs.declared.accepted.Accepted.{Accepted}
-use Rattle.exchange_core.specs.CoreValue.{CoreValue, fresh_core, IsAccepted, IsNext}
-use Rattle.node_journals.specs.declared.step.Step.TheVariants.{Took, Made, Restarted}
+use Rattle.exchange_core.specs.CoreValue.{CoreValue, fresh_core, IsAccepted, HasHeard, IsNext}
+use Rattle.node_journals.specs.declared.step.Step.TheVariants.{Took, Made, Restarted, Heard}
 use Rattle.node_journals.specs.declared.journal.Journal.{Journal}
 use Rattle.node_journals.specs.Journals.{fresh_journal, with_step}
 
@@ -21,14 +21,22 @@ pub record PendingValue : Type 0 where
   pub made : Evaluated
 
 -- a resource in its first incarnation: nothing is held, all tasks are initial, and the journal has no steps
-abbrev pub fresh_station : PlantValue → ℕ → ℕ → ℕ → StationValue
-fresh_station plant resource first max_number =
-    record { core = fresh_core plant resource first max_number; journal = fresh_journal resource first }
+abbrev pub fresh_station : PlantValue → ℕ → List ℕ → ℕ → StationValue
+fresh_station plant resource firsts max_number =
+    record {
+      core = fresh_core plant resource firsts (slice_index firsts resource) max_number;
+      journal = fresh_journal resource (slice_index firsts resource);
+    }
 
 -- x was received: the journal has it as its last step, and the core has answered
 pub record IsReceived (old new : StationValue) (x : Evaluated) (answer : Accepted) : Type 0 where
   pub accepted : IsAccepted old.core new.core x answer
   pub noted : new.journal ≡ with_step old.journal (Took x)
+
+-- it was heard that a resource is in an incarnation: the journal has it as its last step, and the core has answered
+pub record IsTold (old new : StationValue) (of heard : ℕ) (answer : Bool) : Type 0 where
+  pub heard_is : HasHeard old.core new.core of heard answer
+  pub noted : new.journal ≡ with_step old.journal (Heard of heard)
 
 -- the core has made its next evaluation, and the journal is as it was
 pub record IsPending (old : StationValue) (new : PendingValue) (ticket task dt : ℕ) (inputs : List FieldInput)
@@ -43,5 +51,5 @@ pub record IsNoted (old : PendingValue) (new : StationValue) : Type 0 where
 
 -- the core is that of the greater incarnation, which the journal has as its last step
 pub record IsRestarted (old new : StationValue) (ticket incarnation : ℕ) : Type 0 where
-  pub core : new.core ≡ fresh_core old.core.plant old.core.resource incarnation old.core.max_number
+  pub core : new.core ≡ fresh_core old.core.plant old.core.resource old.core.first incarnation old.core.max_number
   pub noted : new.journal ≡ with_step old.journal (Restarted ticket incarnation)

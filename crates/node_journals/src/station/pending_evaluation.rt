@@ -25,6 +25,7 @@ impl Model for PendingEvaluation {
 }
 
 ghost use Rattle.std.specs.Prelude.{◌≡◌, IfOk, IfErr};
+ghost use Rattle.node_journals.specs.Codes.{IsOfPlant};
 ghost use Rattle.node_journals.specs.Journals.{IsLawful};
 ghost use Rattle.node_journals.specs.Steps.Stations.{IsNoted};
 ghost use Rattle.node_journals.specs.Steps.Standing.{IsAhead};
@@ -44,7 +45,8 @@ impl PendingEvaluation {
 
     /// The evaluation that was made.
     pub fn frame(&self) -> &Frame
-        ensures { result.now ≡ self.now.made }
+        ensures value { result.now ≡ self.now.made }
+        ensures of_plant { IsOfPlant self.now.core.plant self.now.made }
     {
         &self.made
     }
@@ -53,7 +55,7 @@ impl PendingEvaluation {
     pub fn note(self) -> Result<Station, Journal>
         ensures noted { IfOk result (λ s. IsNoted self s) }
         ensures same { IfErr result (λ j. j ≡ self.journal) }
-        ensures lawful { IfErr result (λ j. IsLawful self.core.plant self.core.max_number j) }
+        ensures lawful { IfErr result (λ j. IsLawful self.core.plant self.core.first self.core.max_number j) }
     {
         let PendingEvaluation {
             core,
@@ -69,7 +71,7 @@ impl PendingEvaluation {
     /// The journal without the evaluation. It is lawful, but the resource can't go on.
     pub fn give_up(self) -> Journal
         ensures same { result ≡ self.journal }
-        ensures lawful { IsLawful self.core.plant self.core.max_number result }
+        ensures lawful { IsLawful self.core.plant self.core.first self.core.max_number result }
     {
         let PendingEvaluation {
             core: _,

@@ -7,6 +7,7 @@ use Rattle.evaluation.specs.Meaning.{Evaluated}
 pub record AreAskedAlike (x y : Evaluated) : Type 0 where
   pub ticket : x.ticket ≡ y.ticket
   pub name : x.name ≡ y.name
+  pub heard : x.heard ≡ y.heard
   pub dt : x.dt ≡ y.dt
   pub inputs : x.inputs ≡ y.inputs
   pub takes : x.takes ≡ y.takes

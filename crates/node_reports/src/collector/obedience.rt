@@ -1,15 +1,18 @@
-ghost use Rattle.std.specs.Prelude.{◌≡◌, ◌↔◌, ◌≤◌, IsTrue, IfSome, All, Contains};
+ghost use Rattle.std.specs.Prelude.{◌≡◌, ◌↔◌, ◌≤◌, ℕ, slice_index, IsTrue, MatchOption, All, Contains};
 ghost use Rattle.std.specs.List.Sorted.{IsStrictlyIncreasing};
 ghost use Rattle.node_journals.specs.declared.act.Act.TheVariants.{Restart};
+ghost use Rattle.node_journals.specs.Commands.{AreNumbered};
 ghost use Rattle.node_reports.specs.Reports.{command_of, IsCommanded, ticket_of, tickets_of};
+ghost use Rattle.node_reports.specs.Steps.Collecting.{IsNoTicket, IsOfTicket};
 
 use crate::tickets::is_above;
 use evaluation::{Evaluation, Frame};
 use node_journals::{Act, Command, Journal, Step};
 
-/// The command at the place of a ticket.
+/// The command of a ticket.
 pub(crate) fn find_command(commands: &[Command], ticket: u64) -> Option<&Command>
-    ensures { IfSome result (λ c. Contains commands.now c.now) }
+    requires { AreNumbered commands.now }
+    ensures { MatchOption result (IsNoTicket commands.now ticket) (λ c. IsOfTicket commands.now ticket c.now) }
 {
     if ticket == 0 {
         return None;
@@ -37,13 +40,24 @@ fn asks_for(command: &Command, evaluation: &Evaluation) -> bool
     }
 }
 
+/// What was heard are numbers of 32 bits.
+fn heard_of(heard: &[u32]) -> &[u32]
+    ensures same { result.now ≡ heard.now }
+    ensures bound { (m : ℕ) → slice_index heard.now m ≤ 4294967295 }
+{
+    heard
+}
+
 /// Whether an entry answers a command.
 fn is_answer(commands: &[Command], frame: &Frame) -> bool
-    ensures commanded { IsTrue result → Contains commands.now (command_of frame.now) }
+    requires { AreNumbered commands.now }
+    ensures commanded { IsTrue result ↔ Contains commands.now (command_of frame.now) }
     ensures fits { frame.now.name.incarnation ≤ 4294967295 }
+    ensures heard { (m : ℕ) → slice_index frame.now.heard m ≤ 4294967295 }
 {
     let evaluation = frame.evaluation();
     let _incarnation = evaluation.name().incarnation;
+    let _heard = heard_of(evaluation.heard());
     match find_command(commands, evaluation.ticket()) {
         Some(command) => asks_for(command, evaluation),
         None => false,
@@ -52,8 +66,9 @@ fn is_answer(commands: &[Command], frame: &Frame) -> bool
 
 /// Whether each entry answers a command.
 pub(crate) fn are_answers(commands: &[Command], entries: &[Frame]) -> bool
-    ensures commanded { IsTrue result → All (λ x. Contains commands.now (command_of x)) entries.now }
-    ensures fit { IsTrue result → All (λ x. x.name.incarnation ≤ 4294967295) entries.now }
+    requires { AreNumbered commands.now }
+    ensures commanded { IsTrue result ↔ All (λ x. Contains commands.now (command_of x)) entries.now }
+    ensures fit { IsTrue result → All (λ x. (x.name.incarnation ≤ 4294967295) × ((m : ℕ) → slice_index x.heard m ≤ 4294967295)) entries.now }
 {
     for k in 0..entries.len() {
         if !is_answer(commands, &entries[k]) {
@@ -75,11 +90,11 @@ fn asks_to_restart(command: &Command, ticket: u64, resource: usize) -> bool
 
 /// Whether a step, where it is a restart, answers a command.
 fn is_commanded(commands: &[Command], resource: usize, step: &Step) -> bool
-    ensures { IsTrue result → IsCommanded commands.now resource step.now }
+    requires { AreNumbered commands.now }
+    ensures { IsTrue result ↔ IsCommanded commands.now resource step.now }
 {
     match step {
-        Step::Took(_) => true,
-        Step::Made(_) => true,
+        Step::Took(_) | Step::Made(_) | Step::Heard { .. } => true,
         Step::Restarted { ticket, .. } => match find_command(commands, *ticket) {
             Some(command) => asks_to_restart(command, *ticket, resource),
             None => false,
@@ -89,7 +104,8 @@ fn is_commanded(commands: &[Command], resource: usize, step: &Step) -> bool
 
 /// Whether each restart answers a command.
 fn are_commanded(commands: &[Command], resource: usize, steps: &[Step]) -> bool
-    ensures { IsTrue result → All (IsCommanded commands.now resource) steps.now }
+    requires { AreNumbered commands.now }
+    ensures { IsTrue result ↔ All (IsCommanded commands.now resource) steps.now }
 {
     for k in 0..steps.len() {
         if !is_commanded(commands, resource, &steps[k]) {
@@ -101,7 +117,8 @@ fn are_commanded(commands: &[Command], resource: usize, steps: &[Step]) -> bool
 
 /// Whether each restart of each journal answers a command of its resource.
 pub(crate) fn all_commanded(commands: &[Command], journals: &[Journal]) -> bool
-    ensures { IsTrue result → All (λ j. All (IsCommanded commands.now j.resource) j.steps) journals.now }
+    requires { AreNumbered commands.now }
+    ensures { IsTrue result ↔ All (λ j. All (IsCommanded commands.now j.resource) j.steps) journals.now }
 {
     for k in 0..journals.len() {
         let journal = &journals[k];
@@ -117,7 +134,7 @@ fn ticket(step: &Step) -> Option<u64>
     ensures { result ≡ ticket_of step.now }
 {
     match step {
-        Step::Took(_) => None,
+        Step::Took(_) | Step::Heard { .. } => None,
         Step::Made(frame) => Some(frame.evaluation().ticket()),
         Step::Restarted { ticket, .. } => Some(*ticket),
     }
@@ -125,7 +142,7 @@ fn ticket(step: &Step) -> Option<u64>
 
 /// Whether the tickets rise.
 fn is_rising(steps: &[Step]) -> bool
-    ensures { IsTrue result → IsStrictlyIncreasing (tickets_of steps.now) }
+    ensures { IsTrue result ↔ IsStrictlyIncreasing (tickets_of steps.now) }
 {
     let mut last = None;
     for k in 0..steps.len() {
@@ -144,7 +161,7 @@ fn is_rising(steps: &[Step]) -> bool
 
 /// Whether the tickets of each journal rise.
 pub(crate) fn all_rising(journals: &[Journal]) -> bool
-    ensures { IsTrue result → All (λ j. IsStrictlyIncreasing (tickets_of j.steps)) journals.now }
+    ensures { IsTrue result ↔ All (λ j. IsStrictlyIncreasing (tickets_of j.steps)) journals.now }
 {
     for k in 0..journals.len() {
         if !is_rising(journals[k].steps.as_slice()) {

@@ -1,6 +1,6 @@
-ghost use Rattle.std.specs.Prelude.{◌≡◌, [], IsTrue, IfOk, length};
+ghost use Rattle.std.specs.Prelude.{◌≡◌, ◌↔◌, ◌<◌, [], IsTrue, IfOk, length};
 ghost use Rattle.node_reports.specs.Reports.{may_stop};
-ghost use Rattle.node_reports.specs.Steps.Collecting.{MarksNoOther, IsMarkedIfStopped, AreStopMarks, AreStopsTold};
+ghost use Rattle.node_reports.specs.Steps.Collecting.{AreMarkedBy, IsMarkedIfStopped, AreStopMarks, AreWithin, AreStopsTold};
 
 use node_journals::{Cause, NodeFault};
 use std::alloc::{AllocError, Global};
@@ -17,12 +17,10 @@ fn may_stop(cause: Cause) -> bool
 
 /// Whether a resource that has stopped is marked. One that a fault may have stopped is marked from then on.
 fn follows(marks: &mut [bool], fault: &NodeFault) -> bool
-    ensures marked { MarksNoOther marks.old marks.new fault.now }
-    ensures stopped { IsTrue result → IsMarkedIfStopped marks.old fault.now }
+    requires { fault.now.resource < length marks.old }
+    ensures marked { AreMarkedBy marks.old marks.new fault.now }
+    ensures stopped { IsTrue result ↔ IsMarkedIfStopped marks.old fault.now }
 {
-    if fault.resource >= marks.len() {
-        return false;
-    }
     if may_stop(fault.cause) {
         marks[fault.resource] = true;
         return true;
@@ -32,7 +30,8 @@ fn follows(marks: &mut [bool], fault: &NodeFault) -> bool
 
 /// Whether each resource that has stopped is marked, or an earlier fault may have stopped it.
 fn all_follow(marks: &mut [bool], faults: &[NodeFault]) -> bool
-    ensures { IsTrue result → AreStopMarks [] marks.old → AreStopsTold (length faults.now) faults.now }
+    requires { AreWithin (length marks.old) faults.now }
+    ensures { AreStopMarks [] marks.old → (IsTrue result ↔ AreStopsTold (length faults.now) faults.now) }
 {
     for k in 0..faults.len() {
         if !follows(marks, &faults[k]) {
@@ -48,7 +47,8 @@ pub(crate) fn are_stops_told(
     count: usize,
     faults: &[NodeFault],
 ) -> Result<bool, AllocError>
-    ensures { IfOk result (λ told. IsTrue told → AreStopsTold (length faults.now) faults.now) }
+    requires { AreWithin count faults.now }
+    ensures { IfOk result (λ told. IsTrue told ↔ AreStopsTold (length faults.now) faults.now) }
 {
     let mut marks = vec![in alloc; false; count]?;
     Ok(all_follow(marks.as_mut_slice(), faults))

@@ -1,8 +1,10 @@
-ghost use Rattle.std.specs.Prelude.{◌≡◌, ◌↔◌, IsTrue, IfOk, Contains};
+ghost use Rattle.std.specs.Prelude.{◌≡◌, ◌↔◌, ◌-◌, false, length, slice_index_or, IsTrue, IfOk, IfErr, Contains};
 ghost use Rattle.std.specs.List.{list_any};
+ghost use Rattle.std.specs.List.Sorted.{IsStrictlyIncreasing};
 ghost use Rattle.node_journals.specs.declared.act.Act.TheVariants.{Restart};
+ghost use Rattle.node_journals.specs.Commands.{AreNumbered, AreForPlant};
 ghost use Rattle.node_reports.specs.Reports.{is_restart_of, HasTask, LacksTask, MayMeet, AllTold, AreTold, AreByTicket};
-ghost use Rattle.node_reports.specs.Steps.Collecting.{AreMarkedAlso, AreRestartMarks, IsUnmarked, TellsUnobeyed, TellsTold};
+ghost use Rattle.node_reports.specs.Steps.Collecting.{AreMarkedAlso, AreRestartMarks, HasMark, TellsUnobeyed, TellsTold, IsToldFault};
 
 use crate::collector::obedience::find_command;
 use crate::collector::stops::are_stops_told;
@@ -17,8 +19,7 @@ fn mark_restart(marks: &mut [bool], step: &Step)
     ensures { AreMarkedAlso (λ n. is_restart_of n step.now) marks.old marks.new }
 {
     match step {
-        Step::Took(_) => {}
-        Step::Made(_) => {}
+        Step::Took(_) | Step::Made(_) | Step::Heard { .. } => {}
         Step::Restarted { ticket, .. } => mark(marks, *ticket),
     }
 }
@@ -34,7 +35,8 @@ fn mark_restarts(marks: &mut [bool], steps: &[Step])
 
 /// For each place, whether a journal has a restart of its ticket. The ticket of a place is one more than the place.
 fn restart_marks(alloc: Global, count: usize, journals: &[Journal]) -> Result<Vec<bool>, AllocError>
-    ensures { IfOk result (λ v. AreRestartMarks journals.now v.items) }
+    ensures marks { IfOk result (λ v. AreRestartMarks journals.now v.items) }
+    ensures many { IfOk result (λ v. length v.items ≡ count) }
 {
     let mut marks = vec![in alloc; false; count]?;
     for i in 0..journals.len() {
@@ -45,26 +47,24 @@ fn restart_marks(alloc: Global, count: usize, journals: &[Journal]) -> Result<Ve
 
 /// Whether no mark stands at the place of a ticket.
 fn is_unmarked(marks: &[bool], ticket: u64) -> bool
-    ensures { IsTrue result → IsUnmarked marks.now ticket }
+    requires { HasMark marks.now ticket }
+    ensures { IsTrue result ↔ (slice_index_or marks.now (ticket - 1) false ≡ false) }
 {
-    if ticket == 0 {
-        return false;
-    }
-    match usize::try_from(ticket - 1) {
-        Ok(place) => place < marks.len() && !marks[place],
-        Err(_) => false,
-    }
+    !marks[(ticket - 1) as usize]
 }
 
 /// Whether a ticket is among these, which rise.
 fn is_among(tickets: &[u64], ticket: u64) -> bool
-    ensures { IsTrue result → Contains tickets.now ticket }
+    requires { IsStrictlyIncreasing tickets.now }
+    ensures { IsTrue result ↔ Contains tickets.now ticket }
 {
     tickets.binary_search(&ticket).is_ok()
 }
 
 /// Whether a command wasn't obeyed.
 fn is_unobeyed(command: &Command, unanswered: &[u64], restarts: &[bool]) -> bool
+    requires rising { IsStrictlyIncreasing unanswered.now }
+    requires place { HasMark restarts.now command.now.ticket }
     ensures { TellsUnobeyed restarts.now unanswered.now command.now result }
 {
     match &command.act {
@@ -75,7 +75,7 @@ fn is_unobeyed(command: &Command, unanswered: &[u64], restarts: &[bool]) -> bool
 
 /// Whether a command asks to evaluate a task that its resource has.
 fn has_task(plant: &Plant, command: &Command) -> bool
-    ensures { IsTrue result → HasTask plant.now command.now }
+    ensures { IsTrue result ↔ HasTask plant.now command.now }
 {
     match &command.act {
         Act::Evaluate { task, .. } => *task < plant.tasks(command.resource).len(),
@@ -85,7 +85,7 @@ fn has_task(plant: &Plant, command: &Command) -> bool
 
 /// Whether a command asks to evaluate a task that its resource hasn't.
 fn lacks_task(plant: &Plant, command: &Command) -> bool
-    ensures { IsTrue result → LacksTask plant.now command.now }
+    ensures { IsTrue result ↔ LacksTask plant.now command.now }
 {
     match &command.act {
         Act::Evaluate { task, .. } => *task >= plant.tasks(command.resource).len(),
@@ -105,7 +105,7 @@ fn is_restart(command: &Command) -> bool
 
 /// Whether a command may have met a cause, if this tells that it wasn't obeyed.
 fn may_meet(plant: &Plant, command: &Command, is_unobeyed: bool, cause: Cause) -> bool
-    ensures { IsTrue result → MayMeet plant.now command.now (IsTrue is_unobeyed) cause }
+    ensures { IsTrue result ↔ MayMeet plant.now command.now (IsTrue is_unobeyed) cause }
 {
     match cause {
         Cause::OutOfTurns => true,
@@ -113,8 +113,16 @@ fn may_meet(plant: &Plant, command: &Command, is_unobeyed: bool, cause: Cause) -
         Cause::NumbersSpent | Cause::Misfit => is_unobeyed && has_task(plant, command),
         Cause::Memory | Cause::Stopped => is_unobeyed,
         Cause::Keeper => is_unobeyed && is_restart(command),
-        Cause::NotSent => is_unobeyed || !is_restart(command),
+        Cause::NotSent => true,
     }
+}
+
+/// Whether a command is of a fault's resource, and may have met its cause, if this tells that it wasn't obeyed.
+fn may_meet_there(plant: &Plant, command: &Command, is_unobeyed: bool, fault: &NodeFault) -> bool
+    ensures { IsTrue result
+        ↔ ((command.now.resource ≡ fault.now.resource) × MayMeet plant.now command.now (IsTrue is_unobeyed) fault.now.cause) }
+{
+    command.resource == fault.resource && may_meet(plant, command, is_unobeyed, fault.cause)
 }
 
 /// Whether a fault is told of a command.
@@ -125,14 +133,15 @@ fn is_told(
     restarts: &[bool],
     fault: &NodeFault,
 ) -> bool
+    requires numbered { AreNumbered commands.now }
+    requires rising { IsStrictlyIncreasing unanswered.now }
+    requires marks { length restarts.now ≡ length commands.now }
     ensures { TellsTold restarts.now plant.now commands.now unanswered.now fault.now result }
 {
     match find_command(commands, fault.ticket) {
         Some(command) => {
             let is_unobeyed = is_unobeyed(command, unanswered, restarts);
-            command.ticket == fault.ticket
-                && command.resource == fault.resource
-                && may_meet(plant, command, is_unobeyed, fault.cause)
+            may_meet_there(plant, command, is_unobeyed, fault)
         }
         None => false,
     }
@@ -147,7 +156,9 @@ fn are_told(
     unanswered: &[u64],
     faults: &[NodeFault],
 ) -> Result<bool, AllocError>
-    ensures { IfOk result (λ all. IsTrue all → AllTold plant.now commands.now journals.now unanswered.now faults.now) }
+    requires numbered { AreNumbered commands.now }
+    requires rising { IsStrictlyIncreasing unanswered.now }
+    ensures { IfOk result (λ all. IsTrue all ↔ AllTold plant.now commands.now journals.now unanswered.now faults.now) }
 {
     if faults.is_empty() {
         return Ok(true);
@@ -170,21 +181,27 @@ pub(crate) fn told_faults(
     unanswered: &[u64],
     noted: Vec<NodeFault>,
 ) -> Result<NodeFaults, RunFault>
+    requires numbered { AreNumbered commands.now }
+    requires resources { AreForPlant plant.now commands.now }
+    requires rising { IsStrictlyIncreasing unanswered.now }
     ensures told { IfOk result (λ faults. AreTold plant.now commands.now journals.now unanswered.now faults) }
     ensures noted { IfOk result (λ faults. AreByTicket noted.items faults) }
+    ensures fault { IfErr result (IsToldFault plant.now commands.now journals.now unanswered.now noted.items) }
 {
     let faults = NodeFaults::of(alloc, noted)?;
-    if !are_told(
+    let told = are_told(
         alloc,
         plant,
         commands,
         journals,
         unanswered,
         faults.as_slice(),
-    )? {
+    )?;
+    if !told {
         return Err(RunFault::Stranger);
     }
-    if !are_stops_told(alloc, plant.resources(), faults.as_slice())? {
+    let stops_told = are_stops_told(alloc, plant.resources(), faults.as_slice())?;
+    if !stops_told {
         return Err(RunFault::Stranger);
     }
     Ok(faults)

@@ -1,4 +1,5 @@
 ghost use Rattle.std.specs.Prelude.{◌≡◌, ◌==◌, ◌&&◌, ◌<◌, false, not, IfOk};
+ghost use Rattle.std.specs.List.Sorted.{IsStrictlyIncreasing};
 ghost use Rattle.node_journals.specs.Commands.{AreNumbered};
 ghost use Rattle.node_reports.specs.Reports.{unanswered_of, is_evaluate};
 ghost use Rattle.node_reports.specs.Steps.Collecting.{AreMarkedAlso, AreMarks};
@@ -50,7 +51,8 @@ pub(crate) fn unanswered_tickets(
     entries: &[Frame],
 ) -> Result<Tickets, AllocError>
     requires { AreNumbered commands.now }
-    ensures { IfOk result (λ tickets. tickets ≡ unanswered_of commands.now entries.now) }
+    ensures are { IfOk result (λ tickets. tickets ≡ unanswered_of commands.now entries.now) }
+    ensures rising { IfOk result IsStrictlyIncreasing }
 {
     let answered = marks(alloc, commands.len(), entries)?;
     let mut tickets = Tickets::new(alloc);

@@ -9,6 +9,8 @@ use std::sync::Mutex;
 #[derive_where(Clone, Copy)]
 pub(crate) struct Desk<'a, G: Gate> {
     pub plant: &'a Plant,
+    /// Of each resource the first incarnation.
+    pub firsts: &'a [u32],
     pub book: &'a Mutex<Book>,
     pub gate: &'a G,
     /// One for each resource, in order.

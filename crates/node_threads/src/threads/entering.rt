@@ -1,4 +1,5 @@
-ghost use Rattle.node_threads.specs.Steps.Working.{IsWorking};
+ghost use Rattle.std.specs.Prelude.{◌≡◌};
+ghost use Rattle.node_threads.specs.Steps.Working.{IsWorking, journal_of};
 
 use crate::threads::worker_state::WorkerState;
 use evaluation::Frame;
@@ -25,7 +26,8 @@ pub(crate) fn enter_pending<R: Wait>(
     book: &Mutex<Book>,
     pending: PendingEvaluation,
 ) -> (WorkerState, Result<Frame, Cause>)
-    ensures { IsWorking pending.core.plant pending.core.max_number pending.core.incarnation result.0 }
+    ensures working { IsWorking pending.core.plant pending.core.first pending.core.max_number pending.core.incarnation result.0 }
+    ensures first { (journal_of result.0).first ≡ pending.journal.first }
 {
     if let Err(cause) = enter(rt, book, pending.frame()) {
         return (WorkerState::Stopped(pending.give_up()), Err(cause));

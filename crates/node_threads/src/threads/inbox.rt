@@ -1,3 +1,4 @@
+use crate::threads::hello::Hello;
 use evaluation::Frame;
 use node_journals::Command;
 
@@ -6,6 +7,8 @@ use node_journals::Command;
 pub(crate) enum Inbox {
     /// An evaluation of another resource's task.
     Frame(Frame),
+    /// Another resource's incarnation.
+    Hello(Hello),
     /// What the resource is asked to do.
     Command(Command),
     /// Nothing else comes that counts.

@@ -1,4 +1,5 @@
-ghost use Rattle.std.specs.Prelude.{◌≡◌, IfOk, map};
+ghost use Rattle.std.specs.Prelude.{◌≡◌, IfOk, IfErr, map};
+ghost use Rattle.node_journals.specs.RunFaults.{IsStartFault};
 ghost use Rattle.node_threads.specs.declared.threads.ended.Ended.{Ended};
 
 use crate::threads::ended::Ended;
@@ -6,7 +7,9 @@ use node_journals::{Journal, NodeFault, RunFault};
 use std::alloc::Global;
 
 /// Appends faults.
-fn append(faults: &mut Vec<NodeFault>, more: &[NodeFault]) -> Result<(), RunFault> {
+fn append(faults: &mut Vec<NodeFault>, more: &[NodeFault]) -> Result<(), RunFault>
+    ensures { IfErr result IsStartFault }
+{
     for fault in more {
         faults.push(*fault)?;
     }
@@ -19,7 +22,8 @@ pub(crate) fn part(
     ended: Vec<Ended>,
     faults: &mut Vec<NodeFault>,
 ) -> Result<Vec<Journal>, RunFault>
-    ensures { IfOk result (λ journals. journals.items ≡ map (λ (e : Ended). e.journal) ended.items) }
+    ensures journals { IfOk result (λ journals. journals.items ≡ map (λ (e : Ended). e.journal) ended.items) }
+    ensures fault { IfErr result IsStartFault }
 {
     let mut journals = Vec::new(alloc);
     for one in ended {

@@ -1,5 +1,6 @@
 use crate::gate::Gate;
 use crate::threads::desk::Desk;
+use crate::threads::hello::Hello;
 use crate::threads::inbox::Inbox;
 use crossbeam_channel::Sender;
 use evaluation::Frame;
@@ -38,4 +39,44 @@ pub(crate) fn post<R: Wait, G: Gate>(rt: &R, desk: &Desk<'_, G>, frame: &Frame) 
         }
     }
     all
+}
+
+/// Whether some task of a resource takes from a task of another one.
+fn takes_from(plant: &Plant, resource: usize, other: usize) -> bool {
+    for place in 0..plant.tasks(resource).len() {
+        let task = TaskRef {
+            resource,
+            task: place,
+        };
+        for producer in plant.producers(task) {
+            if producer.resource == other {
+                return true;
+            }
+        }
+    }
+    false
+}
+
+/// Tells each other resource from which one takes, or that takes from it, in which incarnation it is. It answers whether each was told.
+pub(crate) fn greet<R: Wait, G: Gate>(rt: &R, desk: &Desk<'_, G>, hello: Hello) -> bool {
+    let mut all = true;
+    for (resource, door) in desk.doors.iter().enumerate() {
+        let is_told = takes_from(desk.plant, resource, hello.resource)
+            || takes_from(desk.plant, hello.resource, resource);
+        if resource != hello.resource && is_told {
+            if door.send(rt, Inbox::Hello(hello)).is_err() {
+                all = false;
+            }
+        }
+    }
+    all
+}
+
+/// Answers a resource from which one takes by one's own incarnation. An answer that isn't sent is lost.
+pub(crate) fn greet_back<R: Wait, G: Gate>(rt: &R, desk: &Desk<'_, G>, hello: Hello, to: usize) {
+    if takes_from(desk.plant, hello.resource, to) {
+        if let Some(door) = desk.doors.get(to) {
+            let _sent = door.send(rt, Inbox::Hello(hello));
+        }
+    }
 }

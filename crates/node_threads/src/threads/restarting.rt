@@ -1,5 +1,5 @@
 ghost use Rattle.std.specs.Prelude.{◌≡◌};
-ghost use Rattle.node_threads.specs.Steps.Working.{IsWorking};
+ghost use Rattle.node_threads.specs.Steps.Working.{IsWorking, journal_of};
 
 use crate::threads::worker_state::WorkerState;
 use keepers::Keeper;
@@ -14,7 +14,8 @@ pub(crate) fn restart_station<K: Keeper>(
     ticket: u64,
 ) -> (WorkerState, Result<(), Cause>)
     requires { K.last keeper.old ≡ station.core.incarnation }
-    ensures { IsWorking station.core.plant station.core.max_number (K.last keeper.new) result.0 }
+    ensures working { IsWorking station.core.plant station.core.first station.core.max_number (K.last keeper.new) result.0 }
+    ensures first { (journal_of result.0).first ≡ station.journal.first }
 {
     let mut station = station;
     if station.make_room().is_err() {

@@ -4,9 +4,10 @@ ghost use Rattle.node_journals.specs.Journals.{IsLawful};
 use crate::gate::Gate;
 use crate::threads::desk::Desk;
 use crate::threads::ended::Ended;
+use crate::threads::hello::Hello;
 use crate::threads::inbox::Inbox;
 use crate::threads::noting::note;
-use crate::threads::posting::post;
+use crate::threads::posting::{greet, greet_back, post};
 use crate::threads::worker::Worker;
 use crossbeam_channel::Receiver;
 use keepers::Keeper;
@@ -23,13 +24,15 @@ pub(crate) fn serve<R: Wait, K: Keeper, G: Gate>(
     worker: Worker<K>,
     faults: Vec<NodeFault>,
 ) -> Ended
-    ensures { IsLawful worker.plant worker.max_number result.journal }
+    ensures lawful { IsLawful worker.plant worker.firsts worker.max_number result.journal }
+    ensures first { result.journal.first ≡ worker.first }
 {
     let mut worker = worker;
     let mut faults = faults;
     for _ in rt.forever() {
         match inbox.recv(rt) {
             Ok(Inbox::Frame(frame)) => worker = worker.receive(frame),
+            Ok(Inbox::Hello(hello)) => worker = hear(rt, &desk, worker, hello),
             Ok(Inbox::Command(command)) => {
                 worker = answer(rt, alloc, &desk, worker, &mut faults, &command);
             }
@@ -40,6 +43,24 @@ pub(crate) fn serve<R: Wait, K: Keeper, G: Gate>(
         journal: worker.into_journal(),
         faults,
     }
+}
+
+/// Hears in which incarnation another resource is. Where that is news of one from which it takes, it says in which it is itself.
+fn hear<R: Wait, K: Keeper, G: Gate>(
+    rt: &R,
+    desk: &Desk<'_, G>,
+    worker: Worker<K>,
+    hello: Hello,
+) -> Worker<K>
+    ensures { result ≡ worker }
+{
+    let (worker, is_news) = worker.hear(hello);
+    if is_news {
+        if let Some(own) = worker.hello() {
+            greet_back(rt, desk, own, hello.resource);
+        }
+    }
+    worker
 }
 
 /// Obeys a command if the resource isn't stopped, and says that it is done with.
@@ -69,7 +90,25 @@ fn answer<R: Wait, K: Keeper, G: Gate>(
     worker
 }
 
-/// Obeys a command. An evaluation that was made is sent once it is entered.
+/// Tells those who have to know that the resource restarted.
+fn tell_restart<R: Wait, K: Keeper, G: Gate>(
+    rt: &R,
+    desk: &Desk<'_, G>,
+    worker: &Worker<K>,
+) -> Result<(), Cause> {
+    match worker.hello() {
+        Some(hello) => {
+            if greet(rt, desk, hello) {
+                Ok(())
+            } else {
+                Err(Cause::NotSent)
+            }
+        }
+        None => Ok(()),
+    }
+}
+
+/// Obeys a command. An evaluation that was made is sent once it is entered, and a restart is told.
 fn obey<R: Wait, K: Keeper, G: Gate>(
     rt: &R,
     alloc: Global,
@@ -80,7 +119,14 @@ fn obey<R: Wait, K: Keeper, G: Gate>(
     ensures { result.0 ≡ worker }
 {
     match &command.act {
-        Act::Restart => worker.restart(alloc, command.ticket),
+        Act::Restart => {
+            let (worker, restarted) = worker.restart(alloc, command.ticket);
+            let outcome = match restarted {
+                Ok(()) => tell_restart(rt, desk, &worker),
+                Err(cause) => Err(cause),
+            };
+            (worker, outcome)
+        }
         Act::Evaluate { task, dt, inputs } => {
             let (worker, made) = worker.evaluate(
                 rt,

@@ -1,6 +1,10 @@
-ghost use Rattle.std.specs.Prelude.{◌≡◌, All, IfOk};
+ghost use Rattle.std.specs.Prelude.{◌≡◌, All, IfOk, IfErr, map};
+ghost use Rattle.std.specs.declared.thread.PromisedHandle.{PromisedHandle};
 ghost use Rattle.node_journals.specs.Journals.{IsLawful};
-ghost use Rattle.node_threads.specs.Steps.Working.{IsWorkerFor, IsPromisedFor};
+ghost use Rattle.node_journals.specs.RunFaults.{IsStartFault};
+ghost use Rattle.node_threads.specs.declared.threads.ended.Ended.{Ended};
+ghost use Rattle.node_threads.specs.declared.threads.lawful_for.LawfulFor.{LawfulFor};
+ghost use Rattle.node_threads.specs.Steps.Working.{IsWorkerFor, IsPromisedFor, firsts_of_workers};
 
 use crate::gate::Gate;
 use crate::threads::desk::Desk;
@@ -37,15 +41,20 @@ fn start_one<'s, E, R: Threads + Wait + Sync, K: Keeper, G: Gate>(
 ) -> Result<PromisedHandle<Ended, LawfulFor<'s>>, RunFault>
 where
     K: 's,
-    requires { (worker.plant ≡ desk.plant.now) × (worker.max_number ≡ max_number) }
-    ensures { IfOk result (λ h. IsPromisedFor desk.entry.plant.now max_number h.promise) }
+    requires { IsWorkerFor desk.plant.now desk.firsts.now max_number worker }
+    ensures promised { IfOk result (λ h. IsPromisedFor desk.entry.plant.now desk.entry.firsts.now max_number h.promise) }
+    ensures first { IfOk result (λ h. h.promise.first ≡ worker.first) }
+    ensures fault { IfErr result IsStartFault }
 {
     let promise = LawfulFor {
         plant: desk.plant,
+        firsts: desk.firsts,
         max_number,
+        first: worker.first(),
     };
     let served = move || -> Ended
-        ensures { IsLawful worker.plant worker.max_number result.journal }
+        ensures lawful { IsLawful worker.plant worker.firsts worker.max_number result.journal }
+        ensures first { result.journal.first ≡ worker.first }
     { serve(rt, alloc, desk, inbox, worker, faults) };
     match scope.spawn_with(promise, served) {
         Ok(handle) => Ok(handle),
@@ -66,8 +75,10 @@ pub(crate) fn start_all<'s, E, R: Threads + Wait + Sync, K: Keeper, G: Gate>(
 ) -> Result<Vec<PromisedHandle<Ended, LawfulFor<'s>>>, RunFault>
 where
     K: 's,
-    requires { All (IsWorkerFor desk.plant.now max_number) workers.items }
-    ensures { IfOk result (λ hs. All (λ h. IsPromisedFor desk.entry.plant.now max_number h.promise) hs.items) }
+    requires { All (IsWorkerFor desk.plant.now desk.firsts.now max_number) workers.items }
+    ensures promised { IfOk result (λ hs. All (λ h. IsPromisedFor desk.entry.plant.now desk.entry.firsts.now max_number h.promise) hs.items) }
+    ensures firsts { IfOk result (λ hs. map (λ (h : PromisedHandle Ended LawfulFor). h.promise.first) hs.items ≡ firsts_of_workers workers.items) }
+    ensures fault { IfErr result IsStartFault }
 {
     let mut handles = Vec::new(alloc);
     for worker in workers {

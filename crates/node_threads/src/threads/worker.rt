@@ -1,4 +1,5 @@
 use crate::threads::entering::enter_pending;
+use crate::threads::hello::Hello;
 use crate::threads::restarting::restart_station;
 use crate::threads::worker_state::WorkerState;
 use evaluation::{Frame, Inputs};
@@ -14,48 +15,66 @@ use std::sync::{Arc, Mutex, Wait};
 #[derive(Drop)]
 pub(crate) struct Worker<K: Keeper> {
     plant: Arc<Plant>,
+    /// Of each resource the first incarnation.
+    firsts: Vec<u32>,
     max_number: u32,
+    first: u32,
     keeper: K,
     state: WorkerState,
 }
 
 impl<K: Keeper> Model for Worker<K> {
-    ghost use Rattle.node_threads.specs.Steps.Working.{WorkerValue, IsWorking};
+    ghost use Rattle.std.specs.Prelude.{◌≡◌};
+    ghost use Rattle.node_threads.specs.Steps.Working.{WorkerValue, IsWorking, journal_of};
 
     ghost Value = { WorkerValue };
 
-    ghost view = { λ w. record { plant = w.plant.value; max_number = w.max_number } };
+    ghost view = { λ w. record { plant = w.plant.value; firsts = w.firsts.items; max_number = w.max_number; first = w.first } };
 
-    ghost invariant = { λ w. IsWorking w.plant.value w.max_number (K.last w.keeper) w.state };
+    ghost invariant = { λ w. IsWorking w.plant.value w.firsts.items w.max_number (K.last w.keeper) w.state
+        × ((journal_of w.state).first ≡ w.first) };
 }
 
-ghost use Rattle.std.specs.Prelude.{◌≡◌, IfOk};
+ghost use Rattle.std.specs.Prelude.{◌≡◌, ◌<◌, IfOk, IfErr, length, slice_index};
+ghost use Rattle.node_journals.specs.declared.run_fault.RunFault.TheVariants.{Memory};
 ghost use Rattle.node_journals.specs.Journals.{IsLawful};
 
 impl<K: Keeper> Worker<K> {
-    /// A resource in its first incarnation, which its keeper has just raised.
+    /// A resource in its first incarnation, which its keeper has just raised. `firsts` has the first incarnation of each resource.
     pub fn new(
         alloc: Global,
         plant: &Arc<Plant>,
         resource: usize,
         keeper: K,
-        first: u32,
+        firsts: &[u32],
         max_number: u32,
     ) -> Result<Worker<K>, RunFault>
-        requires { K.last keeper ≡ first }
-        ensures { IfOk result (λ w. (w.plant ≡ plant.now.value) × (w.max_number ≡ max_number)) }
+        requires many { length firsts.now ≡ length plant.now.value.resources }
+        requires exists { resource < length firsts.now }
+        requires raised { K.last keeper ≡ slice_index firsts.now resource }
+        ensures fault { IfErr result (λ fault. fault ≡ Memory) }
+        ensures made { IfOk result (λ w. w ≡ record { plant = plant.now.value; firsts = firsts.now; max_number = max_number; first = slice_index firsts.now resource }) }
     {
         let shared = Arc::try_clone(plant)?;
-        // There is a keeper only for a resource that exists, so what is wanting is memory.
-        let Ok(station) = Station::new(alloc, shared, resource, first, max_number) else {
+        // The resource exists, so what is wanting is memory.
+        let Ok(station) = Station::new(alloc, shared, resource, firsts, max_number) else {
             return Err(RunFault::Memory);
         };
         Ok(Worker {
             plant: Arc::try_clone(plant)?,
+            firsts: Vec::from_slice(alloc, firsts)?,
             max_number,
+            first: firsts[resource],
             keeper,
             state: WorkerState::Running(station),
         })
+    }
+
+    /// Its first incarnation.
+    pub fn first(&self) -> u32
+        ensures { result ≡ self.now.first }
+    {
+        self.first
     }
 
     /// Whether it obeys no more.
@@ -72,7 +91,9 @@ impl<K: Keeper> Worker<K> {
     {
         let Worker {
             plant,
+            firsts,
             max_number,
+            first,
             keeper,
             state,
         } = self;
@@ -85,9 +106,52 @@ impl<K: Keeper> Worker<K> {
         };
         Worker {
             plant,
+            firsts,
             max_number,
+            first,
             keeper,
             state,
+        }
+    }
+
+    /// Hears in which incarnation another resource is, and answers whether that is news. Without memory it is lost, and once the resource is stopped too.
+    pub fn hear(self, hello: Hello) -> (Worker<K>, bool)
+        ensures { result.0 ≡ self }
+    {
+        let Worker {
+            plant,
+            firsts,
+            max_number,
+            first,
+            keeper,
+            state,
+        } = self;
+        let (state, is_news) = match state {
+            WorkerState::Running(mut station) => {
+                let answer = station.hear(hello.resource, hello.incarnation);
+                (WorkerState::Running(station), answer.unwrap_or(false))
+            }
+            WorkerState::Stopped(journal) => (WorkerState::Stopped(journal), false),
+        };
+        let worker = Worker {
+            plant,
+            firsts,
+            max_number,
+            first,
+            keeper,
+            state,
+        };
+        (worker, is_news)
+    }
+
+    /// What it tells of itself, unless it is stopped.
+    pub fn hello(&self) -> Option<Hello> {
+        match &self.state {
+            WorkerState::Running(station) => Some(Hello {
+                resource: station.resource(),
+                incarnation: station.incarnation(),
+            }),
+            WorkerState::Stopped(_) => None,
         }
     }
 
@@ -106,7 +170,9 @@ impl<K: Keeper> Worker<K> {
     {
         let Worker {
             plant,
+            firsts,
             max_number,
+            first,
             keeper,
             state,
         } = self;
@@ -124,7 +190,9 @@ impl<K: Keeper> Worker<K> {
         };
         let worker = Worker {
             plant,
+            firsts,
             max_number,
+            first,
             keeper,
             state,
         };
@@ -137,7 +205,9 @@ impl<K: Keeper> Worker<K> {
     {
         let Worker {
             plant,
+            firsts,
             max_number,
+            first,
             mut keeper,
             state,
         } = self;
@@ -147,7 +217,9 @@ impl<K: Keeper> Worker<K> {
         };
         let worker = Worker {
             plant,
+            firsts,
             max_number,
+            first,
             keeper,
             state,
         };
@@ -156,11 +228,14 @@ impl<K: Keeper> Worker<K> {
 
     /// What the resource did.
     pub fn into_journal(self) -> Journal
-        ensures { IsLawful self.plant self.max_number result }
+        ensures lawful { IsLawful self.plant self.firsts self.max_number result }
+        ensures first { result.first ≡ self.first }
     {
         let Worker {
             plant: _,
+            firsts: _,
             max_number: _,
+            first: _,
             keeper: _,
             state,
         } = self;

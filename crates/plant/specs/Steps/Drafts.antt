@@ -1,5 +1,5 @@
 -- What is known of a plant while its sources are resolved. Its codes have programs and outputs, and no bindings yet.
-use Rattle.std.specs.Prelude.{◌≡◌, ℕ, ◌<◌, List, [], ◌∷◌, ◌++◌, map, slice_get, length, Some, All, Contains}
+use Rattle.std.specs.Prelude.{◌≡◌, ℕ, ◌<◌, List, [], ◌∷◌, ◌++◌, map, slice_get, length, Some, All, Any, Contains, IsTrue}
 use Rattle.std.specs.Borrow.{Bor}
 use Rattle.std.specs.Global.{Global, Vec}
 use Rattle.std.specs.declared.sync.Arc.{Arc}
@@ -125,6 +125,14 @@ IsOriginOf plant (named.Field a) (origin.Output t k) kind = ⊥
 IsOriginOf plant (named.Output r i o) (origin.Field b) kind = ⊥
 IsOriginOf plant (named.Output r i o) (origin.Output t k) kind = IsValue plant r i o (t, k, kind)
 
+-- the names mean no value
+abbrev pub HasNoValue : PlantValue → List ℕ → List ℕ → List ℕ → Type 0
+HasNoValue plant resource instance output = (x : TaskRef × ℕ × Kind) → IsValue plant resource instance output x → ⊥
+
+-- a source gives no values
+abbrev pub HasNoOrigin : PlantValue → SourceName → Type 0
+HasNoOrigin plant source = (o : Origin) (kind : Kind) → IsOriginOf plant source o kind → ⊥
+
 -- a bind by its names: the input's place, its kind, and a source of that kind
 pub record IsFeedOf (plant : PlantValue) (ds : List Declaration) (b : Bind) (f : Feed) : Type 0 where
   pub input_is : place_of ds b.input ≡ Some f.place
@@ -134,6 +142,24 @@ pub record IsFeedOf (plant : PlantValue) (ds : List Declaration) (b : Bind) (f :
 -- a bind has an input, and a source of its kind
 abbrev pub HasFeed : PlantValue → List Declaration → Bind → Type 0
 HasFeed plant ds b = (f : Feed) × IsFeedOf plant ds b f
+
+-- the outputs of a code are those of its programs, and no program has two variables of one name
+pub record IsCodeApart (c : CodeValue) : Type 0 where
+  pub outputs_are : c.outputs ≡ outputs_of c.programs
+  pub variables : (j : ℕ) (p : ProgramValue) → slice_get c.programs j ≡ Some p
+      → AreNamesApart (map (λ v. v.name) p.ladder.declarations)
+
+-- one place at most has the instance of a name, among the codes of a resource
+abbrev pub AreInstancesOnce : List CodeValue → Type 0
+AreInstancesOnce codes = (name : List ℕ) (i j m n : ℕ) → IsInstanceAt codes name i j → IsInstanceAt codes name m n
+    → (i ≡ m) × (j ≡ n)
+
+-- a name means one thing at most: resources are apart, in each of them its instances, and in these their variables
+pub record AreDraftsApart (drafts : List ResourceValue) : Type 0 where
+  pub resources : AreNamesApart (map (λ r. r.name) drafts)
+  pub instances : (k : ℕ) (r : ResourceValue) → slice_get drafts k ≡ Some r → AreInstancesOnce r.codes
+  pub codes : (k : ℕ) (r : ResourceValue) (i : ℕ) (c : CodeValue) → slice_get drafts k ≡ Some r
+      → slice_get r.codes i ≡ Some c → IsCodeApart c
 
 -- each bind of an instance has an input of the instance's type, and a source of that input's kind
 pub record IsUseResolved (plant : PlantValue) (types : List TypeValue) (u : Use) : Type 0 where
@@ -154,6 +180,29 @@ AreFeedsOf plant u p fs = AllZip (IsFeedOf plant p.ladder.declarations) (binds_o
 -- the binds of each instance are resolved, by the variables of its program
 abbrev pub AreAllFeeds : PlantValue → List (Bor Use) → List ProgramValue → List (Vec Feed) → Type 0
 AreAllFeeds plant runs programs feeds = Triples (AreFeedsOf plant) (seen runs) programs (lists_of feeds)
+
+-- each bind of an instance has an input of its program, and a source of that input's kind
+abbrev pub IsRunFed : PlantValue → Use → ProgramValue → Type 0
+IsRunFed plant u p = All (HasFeed plant p.ladder.declarations) (binds_of u)
+
+-- so it is with each of the instances that programs are made of
+abbrev pub AreRunsFed : PlantValue → List Use → List ProgramValue → Type 0
+AreRunsFed plant us ps = (i : ℕ) (u : Use) (p : ProgramValue) → slice_get us i ≡ Some u → slice_get ps i ≡ Some p
+    → IsRunFed plant u p
+
+-- and with the instances of each task of a resource
+abbrev pub AreTasksFed : PlantValue → Resource → List TaskLine → List CodeValue → Type 0
+AreTasksFed plant r ts cs = (i : ℕ) (t : TaskLine) (c : CodeValue) → slice_get ts i ≡ Some t → slice_get cs i ≡ Some c
+    → AreRunsFed plant (runs_in r t) c.programs
+
+-- and with the tasks of each resource
+abbrev pub AreResourcesFed : PlantValue → List Resource → List ResourceValue → Type 0
+AreResourcesFed plant rs ds = (i : ℕ) (r : Resource) (d : ResourceValue) → slice_get rs i ≡ Some r
+    → slice_get ds i ≡ Some d → AreTasksFed plant r (tasks_of r) d.codes
+
+-- the type of an instance is one of these
+abbrev pub IsTypeKnown : List TypeValue → Use → Type 0
+IsTypeKnown types u = Any (λ t. IsTrue (is_named u.program t.program.name)) types
 
 -- the task from which a bound input takes
 abbrev pub tasks_taken : Feed → List TaskRef

@@ -1,12 +1,13 @@
 //! What a plant runs, before its sources are resolved: the programs of each task, and their outputs.
 
-ghost use Rattle.std.specs.Prelude.{◌≡◌, ◌++◌, IfOk, OnOk, IfErr};
+ghost use Rattle.std.specs.Prelude.{◌≡◌, ◌≢◌, ◌++◌, All, IfOk, OnOk, IfErr};
 ghost use Rattle.plant_grammar.specs.NameFaults.{TellsOfName};
 ghost use Rattle.plant_grammar.specs.WordFaults.{IsGrammarFault};
-ghost use Rattle.std.specs.List.{AllZip};
-ghost use Rattle.plant_grammar.specs.Lawful.{tasks_of, task_of};
+ghost use Rattle.std.specs.List.{AllZip, flat_map};
+ghost use Rattle.plant_grammar.specs.Lawful.{tasks_of, task_of, uses_of};
+ghost use Rattle.plant_grammar.specs.declared.grammar_fault.GrammarFaultKind.TheVariants.{Memory};
 ghost use Rattle.plant.specs.StandsFor.{runs_in};
-ghost use Rattle.plant.specs.Steps.Drafts.{seen, runs_at, programs_in, IsProgramOf, IsDraftOf, IsResourceDraft};
+ghost use Rattle.plant.specs.Steps.Drafts.{seen, runs_at, programs_in, IsProgramOf, IsDraftOf, IsResourceDraft, IsTypeKnown};
 
 use crate::sources::resource_draft::ResourceDraft;
 use crate::sources::task_draft::TaskDraft;
@@ -75,6 +76,7 @@ fn draft_program(
     run: &Use,
 ) -> Result<ProgramInstance, GrammarFault>
     ensures ok { IfOk result (λ p. IsProgramOf (programs_in types.now) run.now p) }
+    ensures refused { IfErr result (λ e. e.kind ≢ Memory → IsTypeKnown types.now run.now → ⊥) }
     ensures tells { IfErr result (λ e. TellsOfName e.kind ⊥ ⊥) }
     ensures value { IfErr result IsGrammarFault }
 {
@@ -93,6 +95,7 @@ fn draft_programs(
     runs: &[&Use],
 ) -> Result<Vec<ProgramInstance>, GrammarFault>
     ensures ok { IfOk result (λ ps. AllZip (IsProgramOf (programs_in types.now)) (seen runs.now) ps.items) }
+    ensures refused { IfErr result (λ e. e.kind ≢ Memory → All (IsTypeKnown types.now) (seen runs.now) → ⊥) }
     ensures tells { IfErr result (λ e. TellsOfName e.kind ⊥ ⊥) }
     ensures value { IfErr result IsGrammarFault }
 {
@@ -112,6 +115,7 @@ fn draft_task(
     task: &TaskLine,
 ) -> Result<TaskDraft, GrammarFault>
     ensures ok { IfOk result (λ d. IsDraftOf (programs_in types.now) resource.now task.now d) }
+    ensures refused { IfErr result (λ e. e.kind ≢ Memory → All (IsTypeKnown types.now) (uses_of resource.now) → ⊥) }
     ensures tells { IfErr result (λ e. TellsOfName e.kind ⊥ ⊥) }
     ensures value { IfErr result IsGrammarFault }
 {
@@ -129,6 +133,7 @@ fn draft_tasks(
     tasks: &[&TaskLine],
 ) -> Result<Vec<TaskDraft>, GrammarFault>
     ensures ok { IfOk result (λ ds. AllZip (IsDraftOf (programs_in types.now) resource.now) (seen tasks.now) ds.items) }
+    ensures refused { IfErr result (λ e. e.kind ≢ Memory → All (IsTypeKnown types.now) (uses_of resource.now) → ⊥) }
     ensures tells { IfErr result (λ e. TellsOfName e.kind ⊥ ⊥) }
     ensures value { IfErr result IsGrammarFault }
 {
@@ -147,6 +152,7 @@ fn draft_resource(
     resource: &Resource,
 ) -> Result<ResourceDraft, GrammarFault>
     ensures ok { IfOk result (λ d. IsResourceDraft (programs_in types.now) resource.now d) }
+    ensures refused { IfErr result (λ e. e.kind ≢ Memory → All (IsTypeKnown types.now) (uses_of resource.now) → ⊥) }
     ensures tells { IfErr result (λ e. TellsOfName e.kind ⊥ ⊥) }
     ensures value { IfErr result IsGrammarFault }
 {
@@ -163,6 +169,7 @@ pub fn draft_resources(
     resources: &[Resource],
 ) -> Result<Vec<ResourceDraft>, GrammarFault>
     ensures ok { IfOk result (λ ds. AllZip (IsResourceDraft (programs_in types.now)) resources.now ds.items) }
+    ensures refused { IfErr result (λ e. e.kind ≢ Memory → All (IsTypeKnown types.now) (flat_map uses_of resources.now) → ⊥) }
     ensures tells { IfErr result (λ e. TellsOfName e.kind ⊥ ⊥) }
     ensures value { IfErr result IsGrammarFault }
 {

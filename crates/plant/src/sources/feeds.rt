@@ -1,12 +1,13 @@
 //! The binds of instances, each with its input and its source found by name.
 
-ghost use Rattle.std.specs.Prelude.{◌≡◌, All, IfOk, OnOk, length, IfErr};
+ghost use Rattle.std.specs.Prelude.{◌≡◌, ◌≢◌, All, IfOk, OnOk, OnErr, length, IfErr};
 ghost use Rattle.plant_grammar.specs.NameFaults.{TellsOfName};
 ghost use Rattle.plant_grammar.specs.WordFaults.{IsGrammarFault};
+ghost use Rattle.plant_grammar.specs.declared.grammar_fault.GrammarFaultKind.TheVariants.{Memory};
 ghost use Rattle.std.specs.List.{AllZip, flat_map};
 ghost use Rattle.plant_grammar.specs.Lawful.{binds_of, use_of, uses_of};
 ghost use Rattle.plant_grammar.specs.Steps.ReadParts.{FindsInput};
-ghost use Rattle.plant.specs.Steps.Drafts.{drafted, IsValue, IsOriginOf, IsFeedOf, HasFeed, AreAllFeeds, IsUseResolved};
+ghost use Rattle.plant.specs.Steps.Drafts.{seen, drafted, IsValue, HasNoValue, IsOriginOf, HasNoOrigin, IsFeedOf, HasFeed, AreAllFeeds, AreRunsFed, IsUseResolved, AreDraftsApart};
 
 use crate::named::find_named;
 use crate::sources::feed::{Feed, Origin};
@@ -37,6 +38,7 @@ fn find_value(
     output: &Name,
 ) -> Result<(TaskRef, usize, Kind), GrammarFault>
     ensures ok { IfOk result (IsValue (drafted drafts.now) resource.now instance.now output.now) }
+    ensures refused { OnErr result (AreDraftsApart drafts.now → HasNoValue (drafted drafts.now) resource.now instance.now output.now) }
     ensures tells { IfErr result (λ e. TellsOfName e.kind ⊥ ⊥) }
     ensures value { IfErr result IsGrammarFault }
 {
@@ -63,6 +65,7 @@ fn find_origin(
     source: &SourceName,
 ) -> Result<(Origin, Kind), GrammarFault>
     ensures ok { IfOk result (λ x. IsOriginOf (drafted drafts.now) source.now x.0 x.1) }
+    ensures refused { OnErr result (AreDraftsApart drafts.now → HasNoOrigin (drafted drafts.now) source.now) }
     ensures tells { IfErr result (λ e. TellsOfName e.kind ⊥ ⊥) }
     ensures value { IfErr result IsGrammarFault }
 {
@@ -105,6 +108,7 @@ fn feed(
     bind: &Bind,
 ) -> Result<Feed, GrammarFault>
     ensures ok { IfOk result (λ f. IsFeedOf (drafted drafts.now) declarations.now bind.now f) }
+    ensures refused { OnErr result (AreDraftsApart drafts.now → HasFeed (drafted drafts.now) declarations.now bind.now → ⊥) }
     ensures tells { IfErr result (λ e. TellsOfName e.kind ⊥ ⊥) }
     ensures value { IfErr result IsGrammarFault }
 {
@@ -140,6 +144,7 @@ fn feeds(
     binds: &[Bind],
 ) -> Result<Vec<Feed>, GrammarFault>
     ensures ok { IfOk result (λ fs. AllZip (IsFeedOf (drafted drafts.now) declarations.now) binds.now fs.items) }
+    ensures refused { IfErr result (λ e. e.kind ≢ Memory → AreDraftsApart drafts.now → All (HasFeed (drafted drafts.now) declarations.now) binds.now → ⊥) }
     ensures tells { IfErr result (λ e. TellsOfName e.kind ⊥ ⊥) }
     ensures value { IfErr result IsGrammarFault }
 {
@@ -161,6 +166,7 @@ pub fn feeds_of(
     requires { length runs.now ≡ length programs.now }
     ensures many { IfOk result (λ fs. length fs.items ≡ length programs.now) }
     ensures each { IfOk result (λ fs. AreAllFeeds (drafted drafts.now) runs.now programs.now fs.items) }
+    ensures refused { IfErr result (λ e. e.kind ≢ Memory → AreDraftsApart drafts.now → AreRunsFed (drafted drafts.now) (seen runs.now) programs.now → ⊥) }
     ensures tells { IfErr result (λ e. TellsOfName e.kind ⊥ ⊥) }
     ensures value { IfErr result IsGrammarFault }
 {
@@ -180,6 +186,7 @@ fn check_binds(
     binds: &[Bind],
 ) -> Result<(), GrammarFault>
     ensures ok { OnOk result (All (HasFeed (drafted drafts.now) declarations.now) binds.now) }
+    ensures refused { OnErr result (AreDraftsApart drafts.now → All (HasFeed (drafted drafts.now) declarations.now) binds.now → ⊥) }
     ensures tells { IfErr result (λ e. TellsOfName e.kind ⊥ ⊥) }
     ensures value { IfErr result IsGrammarFault }
 {
@@ -192,6 +199,7 @@ fn check_binds(
 /// Answers the first fault among the binds of an instance.
 fn check_use(drafts: &[ResourceDraft], types: &[ProgramType], run: &Use) -> Result<(), GrammarFault>
     ensures ok { OnOk result (IsUseResolved (drafted drafts.now) types.now run.now) }
+    ensures refused { OnErr result (AreDraftsApart drafts.now → IsUseResolved (drafted drafts.now) types.now run.now → ⊥) }
     ensures tells { IfErr result (λ e. TellsOfName e.kind ⊥ ⊥) }
     ensures value { IfErr result IsGrammarFault }
 {
@@ -208,6 +216,7 @@ fn check_item(
     item: &Item,
 ) -> Result<(), GrammarFault>
     ensures ok { OnOk result (All (IsUseResolved (drafted drafts.now) types.now) (use_of item.now)) }
+    ensures refused { OnErr result (AreDraftsApart drafts.now → All (IsUseResolved (drafted drafts.now) types.now) (use_of item.now) → ⊥) }
     ensures tells { IfErr result (λ e. TellsOfName e.kind ⊥ ⊥) }
     ensures value { IfErr result IsGrammarFault }
 {
@@ -224,6 +233,7 @@ fn check_resource(
     resource: &Resource,
 ) -> Result<(), GrammarFault>
     ensures ok { OnOk result (All (IsUseResolved (drafted drafts.now) types.now) (uses_of resource.now)) }
+    ensures refused { OnErr result (AreDraftsApart drafts.now → All (IsUseResolved (drafted drafts.now) types.now) (uses_of resource.now) → ⊥) }
     ensures tells { IfErr result (λ e. TellsOfName e.kind ⊥ ⊥) }
     ensures value { IfErr result IsGrammarFault }
 {
@@ -240,6 +250,7 @@ pub fn check_sources(
     resources: &[Resource],
 ) -> Result<(), GrammarFault>
     ensures ok { OnOk result (All (IsUseResolved (drafted drafts.now) types.now) (flat_map uses_of resources.now)) }
+    ensures refused { OnErr result (AreDraftsApart drafts.now → All (IsUseResolved (drafted drafts.now) types.now) (flat_map uses_of resources.now) → ⊥) }
     ensures tells { IfErr result (λ e. TellsOfName e.kind ⊥ ⊥) }
     ensures value { IfErr result IsGrammarFault }
 {

@@ -1,13 +1,14 @@
 //! The codes of tasks: their drafts with each source resolved.
 
-ghost use Rattle.std.specs.Prelude.{◌≡◌, ◌<◌, List, IfOk, All, length, map, IfErr};
+ghost use Rattle.std.specs.Prelude.{◌≡◌, ◌≢◌, ◌<◌, List, IfOk, All, length, map, IfErr};
 ghost use Rattle.plant_grammar.specs.NameFaults.{TellsOfName};
 ghost use Rattle.plant_grammar.specs.WordFaults.{IsGrammarFault};
+ghost use Rattle.plant_grammar.specs.declared.grammar_fault.GrammarFaultKind.TheVariants.{Memory};
 ghost use Rattle.std.specs.List.{AllZip};
 ghost use Rattle.plant_grammar.specs.declared.grammar.tree.Program.{Program};
-ghost use Rattle.plant_grammar.specs.Lawful.{uses_of};
+ghost use Rattle.plant_grammar.specs.Lawful.{tasks_of, uses_of};
 ghost use Rattle.plant.specs.StandsFor.{runs_in, task_value};
-ghost use Rattle.plant.specs.Steps.Drafts.{seen, drafted, AreDrafts, IsResourceDraft, IsReady, IsOnceBound, IsCodeLinked, IsTaskLinked, AreTasksLinked, IsResourceLinked, AreResourcesLinked};
+ghost use Rattle.plant.specs.Steps.Drafts.{seen, drafted, AreDrafts, IsResourceDraft, IsReady, IsOnceBound, IsCodeLinked, IsTaskLinked, AreTasksLinked, IsResourceLinked, AreResourcesLinked, AreDraftsApart, AreRunsFed, AreTasksFed, AreResourcesFed};
 
 use crate::plant_resource::PlantResource;
 use crate::sources::draft::{runs_in, tasks_of};
@@ -43,6 +44,7 @@ fn link_runs(
     requires many { length runs.now ≡ length draft.now.programs }
     requires once { All IsOnceBound (seen runs.now) }
     ensures ok { IfOk result (IsCodeLinked (drafted drafts.now) (seen runs.now) draft.now) }
+    ensures refused { IfErr result (λ e. e.kind ≢ Memory → AreDraftsApart drafts.now → AreRunsFed (drafted drafts.now) (seen runs.now) draft.now.programs → ⊥) }
     ensures tells { IfErr result (λ e. TellsOfName e.kind ⊥ ⊥) }
     ensures value { IfErr result IsGrammarFault }
 {
@@ -66,6 +68,7 @@ fn link_task(
     requires many { length (runs_in resource.now task.now) ≡ length draft.now.programs }
     requires once { All IsOnceBound (runs_in resource.now task.now) }
     ensures ok { IfOk result (λ c. IsTaskLinked drafts.now resource.now task.now draft.now c.value) }
+    ensures refused { IfErr result (λ e. e.kind ≢ Memory → AreDraftsApart drafts.now → AreRunsFed (drafted drafts.now) (runs_in resource.now task.now) draft.now.programs → ⊥) }
     ensures tells { IfErr result (λ e. TellsOfName e.kind ⊥ ⊥) }
     ensures value { IfErr result IsGrammarFault }
 {
@@ -87,6 +90,7 @@ fn link_tasks(
     requires once { All IsOnceBound (uses_of resource.now) }
     ensures many { IfOk result (λ cs. length cs.items ≡ length tasks.now) }
     ensures each { IfOk result (λ cs. AreTasksLinked drafts.now resource.now tasks.now task_drafts.now cs.items) }
+    ensures refused { IfErr result (λ e. e.kind ≢ Memory → AreDraftsApart drafts.now → AreTasksFed (drafted drafts.now) resource.now (seen tasks.now) task_drafts.now → ⊥) }
     ensures tells { IfErr result (λ e. TellsOfName e.kind ⊥ ⊥) }
     ensures value { IfErr result IsGrammarFault }
 {
@@ -121,6 +125,7 @@ fn link_resource(
     requires known { (programs : List Program) × IsResourceDraft programs resource.now draft.now }
     requires ready { IsReady resource.now }
     ensures ok { IfOk result (λ v. IsResourceLinked (drafted drafts.now) resource.now draft.now v) }
+    ensures refused { IfErr result (λ e. e.kind ≢ Memory → AreDraftsApart drafts.now → AreTasksFed (drafted drafts.now) resource.now (tasks_of resource.now) draft.now.codes → ⊥) }
     ensures tells { IfErr result (λ e. TellsOfName e.kind ⊥ ⊥) }
     ensures value { IfErr result IsGrammarFault }
 {
@@ -141,6 +146,7 @@ pub fn link_resources(
     requires ready { All IsReady resources.now }
     ensures many { IfOk result (λ vs. length vs.items ≡ length resources.now) }
     ensures each { IfOk result (λ vs. AreResourcesLinked drafts.now resources.now vs.items) }
+    ensures refused { IfErr result (λ e. e.kind ≢ Memory → AreDraftsApart drafts.now → AreResourcesFed (drafted drafts.now) resources.now drafts.now → ⊥) }
     ensures tells { IfErr result (λ e. TellsOfName e.kind ⊥ ⊥) }
     ensures value { IfErr result IsGrammarFault }
 {

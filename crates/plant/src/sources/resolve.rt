@@ -1,9 +1,12 @@
-ghost use Rattle.std.specs.Prelude.{ℕ, List, IfOk, IfErr};
+ghost use Rattle.std.specs.Prelude.{◌≢◌, ℕ, List, All, IfOk, OnOk, IfErr};
 ghost use Rattle.plant_grammar.specs.NameFaults.{TellsOfName};
 ghost use Rattle.plant_grammar.specs.WordFaults.{IsGrammarFault};
-ghost use Rattle.plant_grammar.specs.Lawful.{IsTreeLawful};
+ghost use Rattle.plant_grammar.specs.declared.grammar_fault.GrammarFaultKind.TheVariants.{Memory};
+ghost use Rattle.plant_grammar.specs.Lawful.{all_uses, IsTreeLawful};
+ghost use Rattle.program_bodies.specs.Ladders.{IsLadderOf};
 ghost use Rattle.plant.specs.Steps.Reading.{tree_of};
 ghost use Rattle.plant.specs.StandsFor.{IsPlantOf};
+ghost use Rattle.plant.specs.Faultless.{AreBindsFed};
 
 use crate::plant::Plant;
 use crate::sources::draft::draft_resources;
@@ -13,10 +16,13 @@ use crate::sources::reading::Reading;
 use plant_grammar::GrammarFault;
 use std::alloc::Global;
 
-/// The plant that is read, with each source resolved. The first source with a fault is answered, in order of the text.
+/// The plant that is read, with each source resolved. The first source with a fault is answered, in order of the text, and none where each bind has an input and a source of its kind.
 pub fn resolve(alloc: Global, reading: &Reading) -> Result<Plant, GrammarFault>
-    requires { (name : List ℕ) × IsTreeLawful (tree_of name reading.now) }
+    requires lawful { (name : List ℕ) × IsTreeLawful (tree_of name reading.now) }
+    requires drawn { All (λ t. IsLadderOf t.program t.ladder) reading.now.types }
     ensures ok { IfOk result (λ p. (name : List ℕ) → IsPlantOf (tree_of name reading.now) p) }
+    ensures sources { OnOk result ((name : List ℕ) → All (AreBindsFed (tree_of name reading.now)) (all_uses (tree_of name reading.now))) }
+    ensures refused { IfErr result (λ e. e.kind ≢ Memory → (name : List ℕ) → All (AreBindsFed (tree_of name reading.now)) (all_uses (tree_of name reading.now)) → ⊥) }
     ensures tells { IfErr result (λ e. TellsOfName e.kind ⊥ ⊥) }
     ensures value { IfErr result IsGrammarFault }
 {

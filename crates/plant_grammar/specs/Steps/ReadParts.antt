@@ -1,5 +1,5 @@
 -- What is known of the parts of a plant's text while it is read.
-use Rattle.std.specs.Prelude.{◌≡◌, ℕ, ◌+◌, ◌<◌, ◌≤◌, ◌++◌, ◌∷◌, Bool, true, false, List, [], length, map, take, slice_get, Option, None, Some, MatchOption, All, option_and_then}
+use Rattle.std.specs.Prelude.{◌≡◌, ℕ, ◌+◌, ◌<◌, ◌≤◌, ◌++◌, ◌∷◌, Bool, true, false, List, [], length, map, take, slice_get, Option, None, Some, MatchOption, All}
 use Rattle.declared_names.specs.Names.{place_of}
 use Rattle.std.specs.List.{flat_map}
 use Rattle.std.specs.Global.{Vec}
@@ -9,8 +9,6 @@ use Rattle.plant_grammar.specs.declared.grammar.tree.Program.{Program}
 use Rattle.plant_grammar.specs.declared.grammar.tree.Item.{Item}
 use Rattle.plant_grammar.specs.declared.grammar.tree.Item.TheVariants as item
 use Rattle.plant_grammar.specs.declared.grammar.tree.Resource.{Resource}
-use Rattle.plant_grammar.specs.declared.grammar.tree.SourceName.{SourceName}
-use Rattle.plant_grammar.specs.declared.grammar.tree.SourceName.TheVariants as source
 use Rattle.declared_names.specs.declared.declarations.Kind.{Kind}
 use Rattle.plant_grammar.specs.Kinds.{items_or_none, input_kind_at, input_kind_of}
 use Rattle.plant_grammar.specs.declared.grammar.tree.Bind.{Bind}

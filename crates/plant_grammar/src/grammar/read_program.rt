@@ -6,17 +6,21 @@ ghost use Rattle.std.specs.List.{flat_map};
 ghost use Rattle.plant_text.specs.declared.token.Token.{Token};
 ghost use Rattle.plant_text.specs.declared.token.Token.TheVariants as token;
 ghost use Rattle.declared_names.specs.Names.{IsDeclared};
+ghost use Rattle.plant_grammar.specs.declared.grammar.tree.Section.{Section};
 ghost use Rattle.plant_grammar.specs.declared.grammar.tree.TypeName.{TypeName};
+ghost use Rattle.plant_grammar.specs.declared.grammar.tree.NameList.{NameList};
+ghost use Rattle.plant_grammar.specs.declared.grammar.tree.VarBlock.{VarBlock};
+ghost use Rattle.plant_grammar.specs.declared.grammar.tree.Program.{Program};
 ghost use Rattle.plant_grammar.specs.declared.grammar_fault.GrammarFaultKind.TheVariants.{Memory};
 ghost use Rattle.plant_text.specs.declared.token.Keyword.TheVariants as key;
-ghost use Rattle.plant_text.specs.declared.token.Punctuation.TheVariants.{Colon};
+ghost use Rattle.plant_text.specs.declared.token.Punctuation.TheVariants.{Colon, Semicolon};
 ghost use Rattle.plant_grammar.specs.Steps.Refusing.{MayBeDeclared};
 ghost use Rattle.plant_grammar.specs.Grammar.{key_word, mark_word, section_word, kind_word, type_word, name_words, list_words, lists_words, block_words, program_words};
 ghost use Rattle.plant_grammar.specs.Lawful.{list_variables, lists_variables, block_variables, IsTypeLawful, IsListLawful, IsBlockLawful, IsProgramLawful};
 ghost use Rattle.plant_grammar.specs.NameFaults.{TellsOfName, RefusesVariable, RefusesList, RefusesBlock, RefusesBlocks, RefusesProgram, RefusesPrograms};
 ghost use Rattle.plant_grammar.specs.Steps.Declaring.{TellsOfType, TellsOfVariable, BeginRefused};
-ghost use Rattle.plant_grammar.specs.Steps.Lines.{next_line, IsOneNext, IsNoneNext};
-ghost use Rattle.plant_grammar.specs.Steps.ReadParts.{IsNew, AreProgramsDeclared};
+ghost use Rattle.plant_grammar.specs.Steps.Lines.{next_line, IsNotNext, IsOneNext, IsNoneNext};
+ghost use Rattle.plant_grammar.specs.Steps.ReadParts.{IsNew, AreVariables, AreProgramsDeclared};
 ghost use Rattle.plant_grammar.specs.Steps.Reading.{programs_of, all_words, AreSameWords, AreSameLines, BeginWithWordsOf, BeginWithLinesOf};
 
 use crate::grammar::known_names::{check_new, is_program};
@@ -124,6 +128,7 @@ impl<'a> Reader<'a> {
         ensures bodies { OnOk result (self.new.bodies ≡ self.old.bodies) }
         ensures declared { IfOk result (λ l. variables.new ≡ variables.old ++ list_variables section l) }
         ensures lawful { IfOk result (λ l. IsListLawful section l) }
+        ensures other { IfErr result (λ e. e.kind ≢ Memory → (ns : List (List ℕ)) (t : TypeName) (rest : List Token) → self.old.words ≡ name_words ns ++ mark_word Colon ∷ type_word t ∷ mark_word Semicolon ∷ rest → 0 < length ns → IsTypeLawful section t → MayBeDeclared variables.old ns → ⊥) }
         ensures names { IfErr result (BeginRefused (λ k. RefusesVariable k variables.old) self.old.words) }
         ensures value { IfErr result IsGrammarFault }
     {
@@ -148,6 +153,7 @@ impl<'a> Reader<'a> {
         ensures bodies { OnOk result (self.new.bodies ≡ self.old.bodies) }
         ensures declared { IfOk result (λ ls. variables.new ≡ variables.old ++ lists_variables section ls.items) }
         ensures lawful { IfOk result (λ ls. All (IsListLawful section) ls.items) }
+        ensures other { IfErr result (λ e. e.kind ≢ Memory → (ls : List NameList) (rest : List Token) → self.old.words ≡ lists_words ls ++ rest → All (IsListLawful section) ls → AreVariables (variables.old ++ lists_variables section ls) → ⊥) }
         ensures names { IfErr result (BeginRefused (λ k. RefusesList k section variables.old) self.old.words) }
         ensures value { IfErr result IsGrammarFault }
     {
@@ -197,6 +203,7 @@ impl<'a> Reader<'a> {
         ensures bodies { OnOk result (self.new.bodies ≡ self.old.bodies) }
         ensures declared { IfOk result (λ b. variables.new ≡ variables.old ++ block_variables b) }
         ensures lawful { IfOk result (λ b. IsBlockLawful b) }
+        ensures other { IfErr result (λ e. e.kind ≢ Memory → (s : Section) (ls : List NameList) (rest : List Token) → self.old.words ≡ section_word s ∷ (lists_words ls ++ rest) → All (IsListLawful s) ls → AreVariables (variables.old ++ lists_variables s ls) → ⊥) }
         ensures names { IfErr result (BeginRefused (λ k. RefusesBlock k variables.old) self.old.words) }
         ensures value { IfErr result IsGrammarFault }
     {
@@ -216,6 +223,8 @@ impl<'a> Reader<'a> {
         ensures bodies { OnOk result (self.new.bodies ≡ self.old.bodies) }
         ensures declared { IfOk result (λ bs. variables.new ≡ variables.old ++ flat_map block_variables bs.items) }
         ensures lawful { IfOk result (λ bs. All IsBlockLawful bs.items) }
+        ensures none { OnOk result (IsNoneNext section_word self.new.words) }
+        ensures other { IfErr result (λ e. e.kind ≢ Memory → (bs : List VarBlock) (rest : List Token) → self.old.words ≡ flat_map block_words bs ++ rest → IsNoneNext section_word rest → All IsBlockLawful bs → AreVariables (variables.old ++ flat_map block_variables bs) → ⊥) }
         ensures names { IfErr result (BeginRefused (λ k. RefusesBlocks k variables.old) self.old.words) }
         ensures value { IfErr result IsGrammarFault }
     {
@@ -282,6 +291,7 @@ impl<'a> Reader<'a> {
         ensures new { IfOk result (λ p. IsNew (λ p. p.name) (programs_of before.now) p.program.name) }
         ensures few { OnOk result (length before.now < 64) }
         ensures declared { IfOk result (λ p. IsProgramLawful p.program) }
+        ensures other { IfErr result (λ e. e.kind ≢ Memory → (p : Program) (rest : List Token) → self.old.words ≡ program_words p ++ rest → IsNew (λ p. p.name) (programs_of before.now) p.name → length before.now < 64 → IsProgramLawful p → ⊥) }
         ensures names { IfErr result (BeginRefused (λ k. RefusesProgram k (programs_of before.now)) self.old.words) }
         ensures value { IfErr result IsGrammarFault }
     {
@@ -307,6 +317,8 @@ impl<'a> Reader<'a> {
         ensures lines { OnOk result (AreSameLines texts.old.items self.old.bodies texts.new.items self.new.bodies) }
         ensures err_lines { OnErr result (BeginWithLinesOf texts.old.items self.old.bodies texts.new.items) }
         ensures declared { AreProgramsDeclared (programs_of texts.new.items) }
+        ensures none { OnOk result (IsNotNext (key_word key.Program) self.new.words) }
+        ensures other { IfErr result (λ e. e.kind ≢ Memory → (ps : List Program) (rest : List Token) → all_words texts.old.items self.old.words ≡ flat_map program_words ps ++ rest → IsNotNext (key_word key.Program) rest → AreProgramsDeclared ps → ⊥) }
         ensures names { IfErr result (BeginRefused RefusesPrograms (all_words texts.old.items self.old.words)) }
         ensures value { IfErr result IsGrammarFault }
     {

@@ -1,6 +1,6 @@
 //! The rules of the grammar from tasks to resources.
 
-ghost use Rattle.std.specs.Prelude.{◌≡◌, ◌≢◌, ℕ, List, Some, None, [], ◌∷◌, ◌++◌, ◌+◌, ◌<◌, IfOk, OnOk, OnErr, Any, All, map, length, IsTrue, IfErr};
+ghost use Rattle.std.specs.Prelude.{◌≡◌, ◌≢◌, ℕ, List, Some, None, [], ◌∷◌, ◌++◌, ◌+◌, ◌<◌, ◌≤◌, Option, IfOk, OnOk, OnErr, Any, All, map, length, IsTrue, IfErr};
 ghost use Rattle.plant_grammar.specs.WordFaults.{IsGrammarFault};
 ghost use Rattle.std.specs.List.{find, flat_map};
 ghost use Rattle.plant_text.specs.declared.token.Token.{Token};
@@ -9,18 +9,22 @@ ghost use Rattle.plant_text.specs.declared.address.Address.{Address};
 ghost use Rattle.plant_grammar.specs.declared.grammar.tree.Order.{Order};
 ghost use Rattle.plant_grammar.specs.declared.grammar.tree.TaskLine.{TaskLine};
 ghost use Rattle.plant_grammar.specs.declared.grammar.tree.Bind.{Bind};
+ghost use Rattle.plant_grammar.specs.declared.grammar.tree.Use.{Use};
+ghost use Rattle.plant_grammar.specs.declared.grammar.tree.Item.{Item};
+ghost use Rattle.plant_grammar.specs.declared.grammar.tree.Resource.{Resource};
 ghost use Rattle.plant_grammar.specs.declared.grammar.tree.SourceName.{SourceName};
 ghost use Rattle.plant_grammar.specs.declared.grammar.tree.SourceName.TheVariants as source;
 ghost use Rattle.plant_grammar.specs.declared.grammar_fault.GrammarFaultKind.TheVariants.{Memory};
 ghost use Rattle.plant_text.specs.declared.token.Keyword.TheVariants.{Program, With};
-ghost use Rattle.plant_text.specs.declared.token.Punctuation.TheVariants.{Colon};
+ghost use Rattle.plant_text.specs.declared.token.Punctuation.TheVariants.{Colon, Semicolon};
 ghost use Rattle.plant_grammar.specs.Grammar.{key_word, mark_word, interval_words, priority_words, settings, task_words, source_words, bind_words, binds_words, binds_listed, use_words, item_words, items_words, resource_words, resources_words};
 ghost use Rattle.plant_grammar.specs.Names.{is_named, AreNamesApart};
 ghost use Rattle.plant_grammar.specs.Lawful.{variables, task_of, use_of, uses_of, IsUseLawful, IsResourceLawful};
 ghost use Rattle.plant_grammar.specs.NameFaults.{TellsOfName, RefusesTask, RefusesBind};
 ghost use Rattle.plant_grammar.specs.Steps.Declaring.{TellsOfTask, TellsOfInstance, TellsOfBind, TellsOfResource, BeginRefused, RefusesFurtherInstance, RefusesItem, RefusesFurtherItems, RefusesFurtherResource, RefusesFurtherResources, RefusesInParentheses};
 ghost use Rattle.plant_grammar.specs.Steps.ReadParts.{types_alone, with_instance, with_binds, tally_with, EndWithBinds, bound_in, IsNew, MayFollow, AreItemsLawful, AreResourcesLawful};
-ghost use Rattle.plant_grammar.specs.Kinds.{kind_of_space, input_kind_of, HasFieldKind, IsOfInputKind};
+ghost use Rattle.plant_grammar.specs.Steps.Refusing.{HasRoomFor, AreTypesApart};
+ghost use Rattle.plant_grammar.specs.Kinds.{items_or_none, kind_of_space, input_kind_of, HasFieldKind, IsOfInputKind};
 ghost use Rattle.declared_names.specs.declared.declarations.Kind.{Kind};
 
 use crate::grammar::known_names::{
@@ -123,7 +127,6 @@ impl<'a> Reader<'a> {
         ensures few { OnOk result (length (flat_map task_of before.now) < 16) }
         ensures positive { IfOk result (λ t. 0 < t.interval) }
         ensures other { IfErr result (λ e. e.kind ≢ Memory → (t : TaskLine) (rest : List Token) → self.old.words ≡ task_words t ++ rest → IsNew (λ t. t.name) (flat_map task_of before.now) t.name → length (flat_map task_of before.now) < 16 → 0 < t.interval → ⊥) }
-        ensures only { OnOk result ((t : TaskLine) (rest : List Token) → self.old.words ≡ task_words t ++ rest → rest ≡ self.new.words) }
         ensures names { IfErr result (BeginRefused (λ k. RefusesTask k before.now) self.old.words) }
         ensures value { IfErr result IsGrammarFault }
     {
@@ -183,7 +186,6 @@ impl<'a> Reader<'a> {
         ensures ok { IfOk result (λ s. self.old.words ≡ source_words s ++ self.new.words) }
         ensures kind { IfOk result (HasFieldKind kind) }
         ensures other { IfErr result (λ e. e.kind ≢ Memory → (s : SourceName) (rest : List Token) → self.old.words ≡ source_words s ++ rest → HasFieldKind kind s → ⊥) }
-        ensures only { OnOk result ((s : SourceName) (rest : List Token) → self.old.words ≡ source_words s ++ rest → rest ≡ self.new.words) }
         ensures tells { IfErr result (λ e. TellsOfName e.kind ⊥ ⊥) }
         ensures value { IfErr result IsGrammarFault }
     {
@@ -235,7 +237,6 @@ impl<'a> Reader<'a> {
         ensures kind { IfOk result (IsOfInputKind (variables program.now.program)) }
         ensures tally { OnOk result (tally.new ≡ with_binds tally.old 1) }
         ensures other { IfErr result (λ e. e.kind ≢ Memory → (b : Bind) (rest : List Token) → self.old.words ≡ bind_words b ++ rest → IsOfInputKind (variables program.now.program) b → IsNew (λ b. b.input) before.now b.input → tally.old.binds < 4096 → ⊥) }
-        ensures only { OnOk result ((b : Bind) (rest : List Token) → self.old.words ≡ bind_words b ++ rest → rest ≡ self.new.words) }
         ensures tells { IfErr result (TellsOfBind tally.old.binds self.old.words) }
         ensures value { IfErr result IsGrammarFault }
     {
@@ -257,6 +258,7 @@ impl<'a> Reader<'a> {
         ensures apart { IfOk result (λ binds. AreNamesApart (map (λ b. b.input) binds.items)) }
         ensures kinds { IfOk result (λ binds. All (IsOfInputKind (variables program.now.program)) binds.items) }
         ensures tally { IfOk result (λ binds. tally.new ≡ with_binds tally.old (length binds.items)) }
+        ensures other { IfErr result (λ e. e.kind ≢ Memory → (bs : List Bind) (rest : List Token) → EndWithBinds bs self.old.words rest → AreNamesApart (map (λ b. b.input) bs) → All (IsOfInputKind (variables program.now.program)) bs → tally.old.binds + length bs ≤ 4096 → ⊥) }
         ensures names { IfErr result (BeginRefused (λ k. RefusesBind k tally.old.binds) self.old.words) }
         ensures value { IfErr result IsGrammarFault }
     {
@@ -284,6 +286,8 @@ impl<'a> Reader<'a> {
         ensures apart { IfOk result (λ binds. AreNamesApart (map (λ b. b.input) (bound_in binds))) }
         ensures kinds { IfOk result (λ binds. All (IsOfInputKind (variables program.now.program)) (bound_in binds)) }
         ensures tally { IfOk result (λ binds. tally.new ≡ with_binds tally.old (length (bound_in binds))) }
+        ensures other { IfErr result (λ e. e.kind ≢ Memory → (bs : Option (List Bind)) (rest : List Token) → self.old.words ≡ binds_words bs ++ mark_word Semicolon ∷ rest → AreNamesApart (map (λ b. b.input) (items_or_none bs)) → All (IsOfInputKind (variables program.now.program)) (items_or_none bs) → tally.old.binds + length (items_or_none bs) ≤ 4096 → ⊥) }
+        ensures only { OnOk result ((bs : Option (List Bind)) (rest : List Token) → self.old.words ≡ binds_words bs ++ mark_word Semicolon ∷ rest → self.new.words ≡ mark_word Semicolon ∷ rest) }
         ensures names { IfErr result (BeginRefused (RefusesInParentheses tally.old.binds) self.old.words) }
         ensures value { IfErr result IsGrammarFault }
     {
@@ -395,6 +399,7 @@ impl<'a> Reader<'a> {
         ensures new { IfOk result (λ u. IsNew (λ u. u.instance) (flat_map use_of before.now) u.instance) }
         ensures lawful { IfOk result (λ u. IsUseLawful (types_alone types.now) before.now u) }
         ensures tally { IfOk result (λ u. tally.new ≡ tally_with tally.old (u ∷ [])) }
+        ensures other { IfErr result (λ e. e.kind ≢ Memory → (u : Use) (rest : List Token) → self.old.words ≡ use_words u ++ rest → AreTypesApart types.now → IsNew (λ u. u.instance) (flat_map use_of before.now) u.instance → IsUseLawful (types_alone types.now) before.now u → HasRoomFor tally.old (u ∷ []) → ⊥) }
         ensures names { IfErr result (BeginRefused (RefusesFurtherInstance tally.old before.now) self.old.words) }
         ensures value { IfErr result IsGrammarFault }
     {
@@ -423,6 +428,7 @@ impl<'a> Reader<'a> {
         ensures ok { IfOk result (λ x. self.old.words ≡ item_words x ++ self.new.words) }
         ensures lawful { IfOk result (λ x. MayFollow (types_alone types.now) before.now x) }
         ensures tally { IfOk result (λ x. tally.new ≡ tally_with tally.old (use_of x)) }
+        ensures other { IfErr result (λ e. e.kind ≢ Memory → (x : Item) (rest : List Token) → self.old.words ≡ item_words x ++ rest → AreTypesApart types.now → MayFollow (types_alone types.now) before.now x → HasRoomFor tally.old (use_of x) → ⊥) }
         ensures names { IfErr result (BeginRefused (RefusesItem tally.old before.now) self.old.words) }
         ensures value { IfErr result IsGrammarFault }
     {
@@ -444,6 +450,7 @@ impl<'a> Reader<'a> {
         ensures ok { IfOk result (λ xs. self.old.words ≡ items_words xs.items ++ self.new.words) }
         ensures lawful { IfOk result (λ xs. AreItemsLawful (types_alone types.now) xs.items) }
         ensures tally { IfOk result (λ xs. tally.new ≡ tally_with tally.old (flat_map use_of xs.items)) }
+        ensures other { IfErr result (λ e. e.kind ≢ Memory → (xs : List Item) (rest : List Token) → self.old.words ≡ items_words xs ++ rest → AreTypesApart types.now → AreItemsLawful (types_alone types.now) xs → HasRoomFor tally.old (flat_map use_of xs) → ⊥) }
         ensures names { IfErr result (BeginRefused (RefusesFurtherItems tally.old) self.old.words) }
         ensures value { IfErr result IsGrammarFault }
     {
@@ -488,6 +495,7 @@ impl<'a> Reader<'a> {
         ensures few { OnOk result (length before.now < 16) }
         ensures lawful { IfOk result (λ r. IsResourceLawful (types_alone types.now) r) }
         ensures tally { IfOk result (λ r. tally.new ≡ tally_with tally.old (uses_of r)) }
+        ensures other { IfErr result (λ e. e.kind ≢ Memory → (r : Resource) (rest : List Token) → self.old.words ≡ resource_words r ++ rest → AreTypesApart types.now → IsNew (λ r. r.name) before.now r.name → length before.now < 16 → IsResourceLawful (types_alone types.now) r → HasRoomFor tally.old (uses_of r) → ⊥) }
         ensures names { IfErr result (BeginRefused (RefusesFurtherResource tally.old before.now) self.old.words) }
         ensures value { IfErr result IsGrammarFault }
     {
@@ -511,6 +519,7 @@ impl<'a> Reader<'a> {
         ensures some { IfOk result (λ rs. 0 < length rs.items) }
         ensures lawful { IfOk result (λ rs. AreResourcesLawful (types_alone types.now) rs.items) }
         ensures tally { IfOk result (λ rs. tally.new ≡ tally_with tally.old (flat_map uses_of rs.items)) }
+        ensures other { IfErr result (λ e. e.kind ≢ Memory → (rs : List Resource) (rest : List Token) → self.old.words ≡ resources_words rs ++ rest → 0 < length rs → AreTypesApart types.now → AreResourcesLawful (types_alone types.now) rs → HasRoomFor tally.old (flat_map uses_of rs) → ⊥) }
         ensures names { IfErr result (BeginRefused (RefusesFurtherResources tally.old) self.old.words) }
         ensures value { IfErr result IsGrammarFault }
     {

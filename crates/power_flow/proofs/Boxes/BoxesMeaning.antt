@@ -357,7 +357,7 @@ module _ (ds : List Declaration) (d : Diagram) (circuit : Circuit) (dt : ℕ) (s
       let pin = any_found (λ w. (w.side ≡ Right) × (w.row ≡ p.row) × IsTrue (is_true (value_at ds between b.instance w.name))) b.pins out.1 in
       (b, refl, (out.0, any_at (λ w. (w.side ≡ Right) × (w.row ≡ p.row)) b.pins pin.0 pin.1 pin.2 (pin.3.0, pin.3.1)))
 
-  no_source : (k : ℕ) (e : Element) (p : Place) → slice_get d.elements k ≡ Some e → IsStop e p → Starts p → ⊥
+  pub no_source : (k : ℕ) (e : Element) (p : Place) → slice_get d.elements k ≡ Some e → IsStop e p → Starts p → ⊥
   no_source k e p at stop (inl rail) = is.sound.apart.rails e p (contains_at d.elements k e at) (has_of e p stop) rail
   no_source k e p at stop (inr any) =
       let found = any_found (λ f. IsOutputOn ds between f p) d.elements any in
@@ -375,16 +375,16 @@ module _ (ds : List Declaration) (d : Diagram) (circuit : Circuit) (dt : ℕ) (s
       no_stop b wide right (inr (inl takes)) = let left = takes.0 in omega arith
       no_stop b wide right (inr (inr stands)) = stands
 
-  rail_source : (p : Place) → Contains d.rails p → Starts p
+  pub rail_source : (p : Place) → Contains d.rails p → Starts p
   rail_source p rail = inl rail
 
-  reads : (k : ℕ) (c : DrawnContact) → slice_get d.elements k ≡ Some (Contact c) → lets_through k ≡ contact_conducts c.kind (is_true (source_value slots (name_source ds c.name))) (bit_at old k)
+  pub reads : (k : ℕ) (c : DrawnContact) → slice_get d.elements k ≡ Some (Contact c) → lets_through k ≡ contact_conducts c.kind (is_true (source_value slots (name_source ds c.name))) (bit_at old k)
   unfolding conducts
   reads k c at =
       ap (λ o. option_map_or (element_conducts ds before' k) o true) at
       ∙ ap (λ v. contact_conducts c.kind (is_true v) (bit_at old k)) (name_value ds slots c.name fits)
 
-  lets_coil : (k : ℕ) (c : DrawnCoil) → slice_get d.elements k ≡ Some (Coil c) → lets_through k ≡ true
+  pub lets_coil : (k : ℕ) (c : DrawnCoil) → slice_get d.elements k ≡ Some (Coil c) → lets_through k ≡ true
   unfolding conducts
   lets_coil k c at = ap (λ o. option_map_or (element_conducts ds before' k) o true) at
 
@@ -398,7 +398,7 @@ module _ (ds : List Declaration) (d : Diagram) (circuit : Circuit) (dt : ℕ) (s
       subst P (some_same (sym found.1 ∙ at')) found.2
 
   -- the rows right of a box show where walks begin
-  shown : (k : ℕ) (b : DrawnBox) → slice_get d.elements k ≡ Some (Box b) → (e : BoundBox) (rows : List Bool) → slice_get boxes (box_number k) ≡ Some e → slice_get m.results (box_number k) ≡ Some (box_result e slots dt rows)
+  pub shown : (k : ℕ) (b : DrawnBox) → slice_get d.elements k ≡ Some (Box b) → (e : BoundBox) (rows : List Bool) → slice_get boxes (box_number k) ≡ Some e → slice_get m.results (box_number k) ≡ Some (box_result e slots dt rows)
       → (q : Place) → Gives (Box b) q → IsMarked e.outputs.items (box_result e slots dt rows).outputs (q.row - is.top) ↔ Starts q
   shown k b at e rows at' has q gives = (there, back)
     where
@@ -450,7 +450,7 @@ module _ (ds : List Declaration) (d : Diagram) (circuit : Circuit) (dt : ℕ) (s
   abbrev Seen : ℕ → Pass → Type 0
   Seen n w = steps.Seen ds d is.top circuit.rows circuit.boxes.items slots dt lets_through Starts is.sound is.rows no_source rail_source old n w
 
-  start : Seen 0 a
+  pub start : Seen 0 a
   start = record {
     known = sweeping.nothing_known d is.top circuit.rows lets_through Starts is.sound is.rows no_source rail_source a.rows rows_long;
     memory = λ k e lt at. absurd (omega arith);
@@ -525,7 +525,7 @@ module _ (ds : List Declaration) (d : Diagram) (circuit : Circuit) (dt : ℕ) (s
       ap (λ o. made (state_in e.block o)) stands
 
   -- the slots with the results put in are a step of the blocks
-  blocks_step : BlocksStep ds d dt before' between
+  pub blocks_step : BlocksStep ds d dt before' between
   blocks_step = record { same_length = same_length; stepped = one; others = none }
     where
       one : (b : DrawnBox) (k : ℕ) (i : Instance) → Contains d.elements (Box b) → place_of ds b.instance ≡ Some k → slice_get slots k ≡ Some (Block i)

@@ -81,7 +81,7 @@ module _ (ds : List Declaration) (d : Diagram) (top rows : ℕ) where
       go Right begins lt later zip = later begins zip
 
   module _ (are : AreRows d.elements top rows) where
-    part_in : (k : ℕ) (e : Element) (part : List Step) → slice_get d.elements k ≡ Some e → AreStepsOf ds d top k e part → All In part
+    pub part_in : (k : ℕ) (e : Element) (part : List Step) → slice_get d.elements k ≡ Some e → AreStepsOf ds d top k e part → All In part
     part_in k (Wire p) part at h = begins_in p (in_rows d.elements top rows are k (Wire p) p at (inl refl)).1 h
     part_in k (Join p) part at (begin, end, begins, joins, is) =
         let lt = (in_rows d.elements top rows are k (Join p) p at (inl refl)).1 in

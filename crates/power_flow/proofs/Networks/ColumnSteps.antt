@@ -159,7 +159,7 @@ module _ (ds : List Declaration) (d : Diagram) (top count : ℕ) (boxes : List B
   off_begun : (p : Place) (a b : Pass) → top ≤ p.row → p.row < top + count → length a.rows ≡ count → b ≡ record a { rows = set a.rows (p.row - top) false } → (Coming p → ⊥) → IsBegun p a b
   off_begun p a b ge lt long is none = set_begun p a b false ge lt long is ((λ e. absurd cc), (λ comes. absurd (none comes)))
 
-  rail_lets : (r : Place) → Contains d.rails r → Lets d conducts r
+  pub rail_lets : (r : Place) → Contains d.rails r → Lets d conducts r
   rail_lets r rail k ends = absurd (sound.apart.rails ends.0 r (contains_at d.elements k ends.0 ends.1) (ends_has ends.0 r ends.2) rail)
 
   -- how a row begins where an element takes state
@@ -660,7 +660,7 @@ module _ (ds : List Declaration) (d : Diagram) (top count : ℕ) (boxes : List B
       ∙ ap (λ w. slice_get w k) (pins_results x (left_pins x.pins) steps.0 steps.1 a parts.0 parts.1)
 
   -- the steps from the element n on leave the results of earlier boxes
-  later_results : (ps : List (List Step)) (n : ℕ) → length ps + n ≡ length d.elements
+  pub later_results : (ps : List (List Step)) (n : ℕ) → length ps + n ≡ length d.elements
       → ((k : ℕ) (e : Element) (part : List Step) → slice_get d.elements (n + k) ≡ Some e → slice_get ps k ≡ Some part → AreStepsOf ds d top (n + k) e part)
       → (a b : Pass) → ArePassed boxes slots dt (joined ps) a b → (k : ℕ) (x : DrawnBox) → k < n → slice_get d.elements k ≡ Some (Box x) → slice_get b.results (box_number k) ≡ slice_get a.results (box_number k)
   later_results [] n long each a b passed k x lt at = ap (λ (w : Pass). slice_get w.results (box_number k)) passed
@@ -684,7 +684,7 @@ module _ (ds : List Declaration) (d : Diagram) (top count : ℕ) (boxes : List B
       (lets_coil : (k : ℕ) (c : DrawnCoil) → slice_get d.elements k ≡ Some (Coil c) → conducts k ≡ true)
       (shown : (k : ℕ) (b : DrawnBox) → slice_get d.elements k ≡ Some (Box b) → (e : BoundBox) (rows : List Bool) → slice_get boxes (box_number k) ≡ Some e → slice_get results (box_number k) ≡ Some (box_result e slots dt rows)
       → (q : Place) → Gives (Box b) q → IsMarked e.outputs.items (box_result e slots dt rows).outputs (q.row - top) ↔ IsSource q) where
-    seen_more : (n : ℕ) (f : Element) (part : List Step) (a b : Pass) → slice_get d.elements n ≡ Some f → Seen old n a → AreStepsOf ds d top n f part → ArePassed boxes slots dt part a b
+    pub seen_more : (n : ℕ) (f : Element) (part : List Step) (a b : Pass) → slice_get d.elements n ≡ Some f → Seen old n a → AreStepsOf ds d top n f part → ArePassed boxes slots dt part a b
         → ((x : DrawnBox) → f ≡ Box x → slice_get results (box_number n) ≡ slice_get b.results (box_number n)) → Seen old (n + 1) b
     seen_more n (Wire p) part a b at seen steps passed kept = seen_wire old n p part a b at seen steps passed
     seen_more n (Join p) part a b at seen steps passed kept = seen_join old n p part a b at seen steps passed

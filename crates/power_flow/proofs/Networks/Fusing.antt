@@ -1,14 +1,18 @@
 -- A step that stands for two does what both do.
-use Rattle.std.proofs.Common.{◌≡◌, ℕ, ◌+◌, List, [], ◌∷◌, ◌++◌, All, append_assoc, false, true, slice_set, arith, refl, sym, ap, ◌∙◌, subst}
-use Rattle.std.proofs.lemmas.List.{append-nil}
-use Rattle.std.proofs.lemmas.List.Elements.{All-cons, All-head, All-tail}
+use Rattle.std.proofs.Common.{◌≡◌, ℕ, zero, suc, ◌+◌, ◌<◌, List, [], ◌∷◌, ◌++◌, Bool, ◌&&◌, All, append_assoc, false, true, set, slice_set, arith, refl, sym, ap, ◌∙◌, subst}
+use Rattle.std.proofs.lemmas.List.{append-nil, set-get_or}
+use Rattle.std.proofs.lemmas.List.Elements.{All-nil, All-cons, All-head, All-tail}
 use Rattle.scan_steps.specs.declared.bound_box.BoundBox.{BoundBox}
 use Rattle.scan_steps.specs.declared.slot.Slot.{Slot}
 use Rattle.scan_steps.specs.declared.step.Step.{Step}
 use Rattle.scan_steps.specs.declared.step.Step.TheVariants as step
-use Rattle.scan_steps.specs.Steps.Passing.{IsStepIn}
-use Rattle.scan_steps.specs.Steps.Contacts.{contact_of, first_of, second_of}
-use Rattle.power_flow.specs.Steps.Fused.{single, singles}
+use Rattle.scan_steps.specs.declared.bound_contact.VariableContact.{VariableContact}
+use Rattle.scan_steps.specs.Conducting.{bit_at, contact_conducts, contact_memory}
+use Rattle.scan_steps.specs.Values.{is_true}
+use Rattle.scan_steps.specs.Slots.{variable_at}
+use Rattle.scan_steps.specs.Steps.Passing.{IsStepIn, behind_all, is_conducting, after_contact, after_rung}
+use Rattle.scan_steps.specs.Steps.Contacts.{contact_of, first_of, second_of, in_row, plain_kind}
+use Rattle.power_flow.specs.Steps.Fused.{contacts_in, single, singles}
 use Rattle.scan_steps.specs.Steps.Passing.{Pass, IsObeyed, ArePassed, read_rows, read_memories}
 
 -- one more step
@@ -16,7 +20,82 @@ pub singles_push : (xs : List Step) (s : Step) → singles (xs ++ s ∷ []) ≡ 
 singles_push [] s = append-nil (single s)
 singles_push (x ∷ xs) s = ap (λ rest. single x ++ rest) (singles_push xs s) ∙ sym (append_assoc (single x) (singles xs) (single s))
 
+-- one more contact of a rung
+contacts_push : (row : ℕ) (xs : List VariableContact) (v : VariableContact) → contacts_in row (xs ++ v ∷ []) ≡ contacts_in row xs ++ step.Contact (in_row row v) ∷ []
+contacts_push row [] v = refl
+contacts_push row (x ∷ xs) v = ap (λ l. step.Contact (in_row row x) ∷ l) (contacts_push row xs v)
+
+pub contacts_more : (row : ℕ) (xs : List VariableContact) (v : VariableContact) (s : Step) (steps : List Step) → contacts_in row xs ≡ singles steps → s ≡ step.Contact (contact_of v) → v.row ≡ row
+    → contacts_in row (xs ++ v ∷ []) ≡ singles (steps ++ s ∷ [])
+contacts_more row xs v s steps are is same =
+    contacts_push row xs v ∙ ap (λ l. l ++ step.Contact (in_row row v) ∷ []) are
+    ∙ ap (λ r. singles steps ++ step.Contact (in_row r v) ∷ []) (sym same)
+    ∙ ap (λ x. singles steps ++ single x) (sym is) ∙ sym (singles_push steps s)
+
+-- the rail, the contacts and the coil of a rung
+rung_stands : (row coil : ℕ) (contacts : List VariableContact) (between : List Step) → contacts_in row contacts ≡ singles between
+    → single (step.Rung row coil contacts) ≡ singles (step.Rail row ∷ (between ++ step.Coil row coil ∷ []))
+rung_stands row coil contacts between are =
+    ap (λ l. step.Rail row ∷ l) (ap (λ l. l ++ step.Coil row coil ∷ []) are ∙ sym (singles_push between (step.Coil row coil)))
+
+pub rung_is : (steps behind between : List Step) (first last : Step) (row other coil : ℕ) (contacts : List VariableContact) → steps ≡ first ∷ behind → behind ≡ between ++ last ∷ [] → first ≡ step.Rail row
+    → last ≡ step.Coil other coil → other ≡ row → contacts_in row contacts ≡ singles between → single (step.Rung row coil contacts) ≡ singles steps
+rung_is steps behind between first last row other coil contacts parts ends rail link same are =
+    let whole : steps ≡ step.Rail row ∷ (between ++ step.Coil row coil ∷ []) =
+    parts ∙ ap (λ s. s ∷ behind) rail ∙ ap (λ l. step.Rail row ∷ l) (ends ∙ ap (λ s. between ++ s ∷ []) (link ∙ ap (λ r. step.Coil r coil) same)) in
+    rung_stands row coil contacts between are ∙ ap singles (sym whole)
+
+-- a contact that keeps no memory conducts whatever a memory is, and changes none
+plain_conducts : (negated on memory : Bool) → contact_conducts (plain_kind negated) on memory ≡ contact_conducts (plain_kind negated) on false
+plain_conducts false on memory = refl
+plain_conducts true on memory = refl
+
+plain_kept : (negated on : Bool) (ms : List Bool) (k : ℕ) → set ms k (contact_memory (plain_kind negated) on (bit_at ms k)) ≡ ms
+plain_kept false on ms k = set-get_or ms k false
+plain_kept true on ms k = set-get_or ms k false
+
+-- a row that was given a state goes on from it
+set_again : (rows : List Bool) (row : ℕ) (on more : Bool) → set (set rows row on) row (bit_at (set rows row on) row && more) ≡ set rows row (on && more)
+set_again [] row on more = refl
+set_again (r ∷ rows) zero on more = refl
+set_again (r ∷ rows) (suc row) on more = ap (λ l. r ∷ l) (set_again rows row on more)
+
+-- the pass once a row is given a state
+abbrev with_row : ℕ → Pass → Bool → Pass
+with_row row a on = record a { rows = slice_set a.rows row on }
+
+-- the pass once the coil has the state of its row
+abbrev with_link : ℕ → ℕ → Pass → Pass
+with_link row coil a = record a { links = slice_set a.links coil (bit_at a.rows row) }
+
+-- one contact of a rung
+one_behind : (slots : List Slot) (row : ℕ) (v : VariableContact) (a w : Pass) (on : Bool) → w ≡ with_row row a on
+    → after_contact (in_row row v) slots w.rows w ≡ with_row row a (on && is_conducting slots v)
+one_behind slots row v a w on is =
+    let here = is_true (variable_at slots v.place) in
+    let conducts = plain_conducts v.negated here (bit_at a.memories v.memory) in
+    let rows = ap (λ c. set (set a.rows row on) row (bit_at (set a.rows row on) row && c)) conducts ∙ set_again a.rows row on (is_conducting slots v) in
+    let memories = plain_kept v.negated here a.memories v.memory in
+    ap (λ (x : Pass). after_contact (in_row row v) slots x.rows x) is
+    ∙ ap (λ (l : List Bool). record a { rows = l; memories = read_memories (in_row row v) slots a.memories }) rows
+    ∙ ap (λ (l : List Bool). record a { rows = slice_set a.rows row (on && is_conducting slots v); memories = l }) memories
+
 module _ (boxes : List BoundBox) (slots : List Slot) (dt : ℕ) where
+  -- what a rung leaves is what its steps leave
+  rung_passed : (row coil : ℕ) (contacts : List VariableContact) (rest : List Step) (a w b : Pass) (on : Bool) → w ≡ with_row row a on
+      → ArePassed boxes slots dt rest (with_link row coil (with_row row a (behind_all slots on contacts))) b
+      → ArePassed boxes slots dt ((contacts_in row contacts ++ (step.Coil row coil ∷ [])) ++ rest) w b
+  rung_passed row coil [] rest a w b on is p = (with_link row coil w, refl, subst (λ (x : Pass). ArePassed boxes slots dt rest (with_link row coil x) b) (sym is) p)
+  rung_passed row coil (v ∷ contacts) rest a w b on is p =
+      (after_contact (in_row row v) slots w.rows w, refl, rung_passed row coil contacts rest a (after_contact (in_row row v) slots w.rows w) b (on && is_conducting slots v) (one_behind slots row v a w on is) p)
+
+  rung_back : (row coil : ℕ) (contacts : List VariableContact) (rest : List Step) (a w b : Pass) (on : Bool) → w ≡ with_row row a on
+      → ArePassed boxes slots dt ((contacts_in row contacts ++ (step.Coil row coil ∷ [])) ++ rest) w b
+      → ArePassed boxes slots dt rest (with_link row coil (with_row row a (behind_all slots on contacts))) b
+  rung_back row coil [] rest a w b on is p = subst (λ (x : Pass). ArePassed boxes slots dt rest x b) (p.1 ∙ ap (with_link row coil) is) p.2
+  rung_back row coil (v ∷ contacts) rest a w b on is p =
+      rung_back row coil contacts rest a p.0 b (on && is_conducting slots v) (p.1 ∙ one_behind slots row v a w on is) p.2
+
   first_passed : (s : Step) (rest : List Step) (a b : Pass) → (mid : Pass) × IsObeyed boxes slots dt s a mid × ArePassed boxes slots dt rest mid b → ArePassed boxes slots dt (single s ++ rest) a b
   first_passed (step.Rail row) rest a b p = p
   first_passed (step.Off row) rest a b p = p
@@ -31,6 +110,8 @@ module _ (boxes : List BoundBox) (slots : List Slot) (dt : ℕ) where
   first_passed (step.JoinedPair pair places) rest a b p =
       let mid = p.1.0 in
       (mid, p.1.1, (record mid { rows = read_rows (first_of pair places) slots mid.rows mid.memories; memories = read_memories (first_of pair places) slots mid.memories }, refl, (p.0, p.1.2, p.2)))
+  first_passed (step.Rung row k contacts) rest a b p =
+      (with_row row a true, refl, rung_passed row k contacts rest a (with_row row a true) b true refl (subst (λ (x : Pass). ArePassed boxes slots dt rest x b) p.1 p.2))
   first_passed (step.Coil row k) rest a b p = p
   first_passed (step.Box k) rest a b p = p
   first_passed (step.BoxCoil k row coil) rest a b p = (p.1.0, p.1.1, (p.0, p.1.2, p.2))
@@ -60,6 +141,7 @@ module _ (boxes : List BoundBox) (slots : List Slot) (dt : ℕ) where
       let read = p.2 in
       let later = read.2 in
       (later.0, (p.0, p.1, later.1 ∙ ap second read.1), later.2)
+  first_back (step.Rung row k contacts) rest a b p = (after_rung slots row k contacts a, refl, rung_back row k contacts rest a p.0 b true p.1 p.2)
   first_back (step.Coil row k) rest a b p = p
   first_back (step.Box k) rest a b p = p
   first_back (step.BoxCoil k row coil) rest a b p = (p.2.0, (p.0, p.1, p.2.1), p.2.2)
@@ -82,6 +164,24 @@ module _ (rows memories coils boxes : ℕ) where
   abbrev In : Step → Type 0
   In s = IsStepIn rows memories coils boxes s
 
+  contacts_first : (row coil : ℕ) (contacts : List VariableContact) (rest : List Step) → row < rows → coil < coils → All (λ (v : VariableContact). v.memory < memories) contacts → All In rest
+      → All In ((contacts_in row contacts ++ (step.Coil row coil ∷ [])) ++ rest)
+  contacts_first row coil [] rest low few all later = All-cons In (step.Coil row coil) rest (low, few) later
+  contacts_first row coil (v ∷ contacts) rest low few all later =
+      All-cons In (step.Contact (in_row row v)) ((contacts_in row contacts ++ (step.Coil row coil ∷ [])) ++ rest) (low, All-head (λ (x : VariableContact). x.memory < memories) v contacts all)
+      (contacts_first row coil contacts rest low few (All-tail (λ (x : VariableContact). x.memory < memories) v contacts all) later)
+
+  contacts_back : (row coil : ℕ) (contacts : List VariableContact) (rest : List Step) → All In ((contacts_in row contacts ++ (step.Coil row coil ∷ [])) ++ rest)
+      → All (λ (v : VariableContact). v.memory < memories) contacts × (coil < coils) × All In rest
+  contacts_back row coil [] rest h =
+      let here = All-head In (step.Coil row coil) rest h in
+      (All-nil (λ (v : VariableContact). v.memory < memories), here.1, All-tail In (step.Coil row coil) rest h)
+  contacts_back row coil (v ∷ contacts) rest h =
+      let more = (contacts_in row contacts ++ (step.Coil row coil ∷ [])) ++ rest in
+      let here = All-head In (step.Contact (in_row row v)) more h in
+      let later = contacts_back row coil contacts rest (All-tail In (step.Contact (in_row row v)) more h) in
+      (All-cons (λ (x : VariableContact). x.memory < memories) v contacts here.1 later.0, later.1, later.2)
+
   first_in : (s : Step) (rest : List Step) → In s → All In rest → All In (single s ++ rest)
   first_in (step.Rail row) rest here later = All-cons In (step.Rail row) rest here later
   first_in (step.Off row) rest here later = All-cons In (step.Off row) rest here later
@@ -101,6 +201,8 @@ module _ (rows memories coils boxes : ℕ) where
       let two = All-cons In (step.Contact (second_of pair places)) rest (here.2, here.3) later in
       let one = All-cons In (step.Contact (first_of pair places)) (step.Contact (second_of pair places) ∷ rest) (here.0, here.1) two in
       All-cons In (step.Upright pair.first pair.second) (step.Contact (first_of pair places) ∷ step.Contact (second_of pair places) ∷ rest) here.2 one
+  first_in (step.Rung row k contacts) rest here later =
+      All-cons In (step.Rail row) ((contacts_in row contacts ++ (step.Coil row k ∷ [])) ++ rest) here.0 (contacts_first row k contacts rest here.0 here.2 here.1 later)
   first_in (step.Coil row k) rest here later = All-cons In (step.Coil row k) rest here later
   first_in (step.Box k) rest here later = All-cons In (step.Box k) rest here later
   first_in (step.BoxCoil k row coil) rest here later =
@@ -134,6 +236,10 @@ module _ (rows memories coils boxes : ℕ) where
       let one = All-head In (step.Contact (first_of pair places)) (step.Contact (second_of pair places) ∷ rest) contacts in
       let two = All-head In (step.Contact (second_of pair places)) rest later in
       ((one.0, one.1, two.0, two.1), All-tail In (step.Contact (second_of pair places)) rest later)
+  here_in (step.Rung row k contacts) rest h =
+      let more = (contacts_in row contacts ++ (step.Coil row k ∷ [])) ++ rest in
+      let parts = contacts_back row k contacts rest (All-tail In (step.Rail row) more h) in
+      ((All-head In (step.Rail row) more h, parts.0, parts.1), parts.2)
   here_in (step.Coil row k) rest h = (All-head In (step.Coil row k) rest h, All-tail In (step.Coil row k) rest h)
   here_in (step.Box k) rest h = (All-head In (step.Box k) rest h, All-tail In (step.Box k) rest h)
   here_in (step.BoxCoil k row coil) rest h =

@@ -79,7 +79,7 @@ fn store_coils(coils: &[BoundCoil], links: &[bool], memories: &mut [bool], slots
 }
 
 /// One scan of a network, dt milliseconds after the one before.
-fn scan_circuit(
+pub fn scan_circuit(
     circuit: &Circuit,
     slots: &mut Slots,
     memories: &mut [bool],

@@ -1,7 +1,7 @@
 ghost use Rattle.std.specs.Prelude.{◌≡◌, ◌++◌, IfOk, IfSome, OnOk};
-ghost use Rattle.power_flow.specs.Steps.Fused.{single, singles};
+ghost use Rattle.power_flow.specs.Steps.Fused.{contacts_in, single, singles};
 
-use scan_steps::{BoundContact, PairPlaces, PairRows, Step, pair_of};
+use scan_steps::{BoundContact, PairPlaces, PairRows, Series, Step, VariableContact, pair_of};
 use std::alloc::{AllocError, Global};
 
 /// A row that is turned off, and then rows that are joined.
@@ -102,10 +102,93 @@ fn fewer(alloc: Global, steps: Vec<Step>) -> Result<Vec<Step>, AllocError>
     Ok(fewer)
 }
 
+/// The contacts of these steps, if they are contacts of variables in one row.
+fn contacts_of(
+    alloc: Global,
+    steps: &[Step],
+    row: u8,
+) -> Result<Option<Vec<VariableContact>>, AllocError>
+    ensures { IfOk result (λ found. IfSome found (λ contacts. contacts_in row contacts.items ≡ singles steps.now)) }
+{
+    let mut contacts = Vec::with_capacity(alloc, steps.len())?;
+    for step in steps {
+        let Step::Contact(contact) = step else {
+            return Ok(None);
+        };
+        let Some(variable) = contact.as_variable() else {
+            return Ok(None);
+        };
+        if row != variable.row {
+            return Ok(None);
+        }
+        contacts.push(variable)?;
+    }
+    Ok(Some(contacts))
+}
+
+/// The row of a step at the left rail.
+fn rail_row(step: &Step) -> Option<u8>
+    ensures { IfSome result (λ row. step.now ≡ Step.Rail row) }
+{
+    match step {
+        Step::Rail(row) => Some(*row),
+        _ => None,
+    }
+}
+
+/// The row and the number of a coil.
+fn coil_link(step: &Step) -> Option<(u8, u32)>
+    ensures { IfSome result (λ link. step.now ≡ Step.Coil link.0 link.1) }
+{
+    match step {
+        Step::Coil(row, number) => Some((*row, *number)),
+        _ => None,
+    }
+}
+
+/// One step in place of all, if these are those of a rung.
+fn rung_of(alloc: Global, steps: &[Step]) -> Result<Option<Step>, AllocError>
+    ensures { IfOk result (λ found. IfSome found (λ rung. single rung ≡ singles steps.now)) }
+{
+    let Some((first, behind)) = steps.split_first() else {
+        return Ok(None);
+    };
+    let Some((last, between)) = behind.split_last() else {
+        return Ok(None);
+    };
+    let Some(row) = rail_row(first) else {
+        return Ok(None);
+    };
+    let Some(link) = coil_link(last) else {
+        return Ok(None);
+    };
+    if link.0 != row {
+        return Ok(None);
+    }
+    match contacts_of(alloc, between, row)? {
+        Some(contacts) => Ok(Some(Step::Rung(row, link.1, Series::new(alloc, contacts)?))),
+        None => Ok(None),
+    }
+}
+
 /// These steps, with one step in place of two where it stands for both, and once more where such a step and the one before have one.
-pub fn fused(alloc: Global, steps: Vec<Step>) -> Result<Vec<Step>, AllocError>
+fn fused_twice(alloc: Global, steps: Vec<Step>) -> Result<Vec<Step>, AllocError>
     ensures { IfOk result (λ fewer. singles fewer.items ≡ singles steps.items) }
 {
     let once = fewer(alloc, steps)?;
     fewer(alloc, once)
+}
+
+/// One step in place of several, where it stands for them.
+pub fn fused(alloc: Global, steps: Vec<Step>) -> Result<Vec<Step>, AllocError>
+    ensures { IfOk result (λ fewer. singles fewer.items ≡ singles steps.items) }
+{
+    match rung_of(alloc, &steps)? {
+        Some(rung) => {
+            let mut fewer = Vec::with_capacity(alloc, 1)?;
+            fewer.push(rung)?;
+            Ok(fewer)
+        }
+        None => fused_twice(alloc, steps),
+    }
 }

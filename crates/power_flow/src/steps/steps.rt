@@ -23,7 +23,7 @@ use std::alloc::{AllocError, Global};
 use variable_binding::Declarations;
 
 /// Whether the left rail stands on the left of a place.
-fn is_at_rail(rails: &Rails, at: Place) -> bool
+pub fn is_at_rail(rails: &Rails, at: Place) -> bool
     ensures { (elements : List Element) → IsTrue result ↔ IsAtRail (diagram rails.now elements) at }
 {
     let left = Place {
@@ -60,7 +60,7 @@ fn beginning(rails: &Rails, ends: &[usize], top: usize, at: Place) -> Option<Ste
 }
 
 /// Whether the element with this number is an upright at a place.
-fn stands_at(elements: &[Element], k: usize, at: Place) -> bool
+pub fn stands_at(elements: &[Element], k: usize, at: Place) -> bool
     ensures { IsTrue result ↔ (e : Element) × (slice_get elements.now k ≡ Some e) × Stands e at }
 {
     match elements.get(k) {
@@ -172,14 +172,14 @@ fn push_pins(
 
 /// How many coils and boxes come before an element.
 #[derive(Clone, Copy)]
-struct Numbers {
-    coils: usize,
-    boxes: usize,
+pub struct Numbers {
+    pub coils: usize,
+    pub boxes: usize,
 }
 
 impl Numbers {
     /// How many come before the next element.
-    fn after(self, element: &Element) -> Numbers
+    pub fn after(self, element: &Element) -> Numbers
         requires coils { self.coils + 1 < 2 ^ 64 }
         requires boxes { self.boxes + 1 < 2 ^ 64 }
         ensures coils { result.coils ≡ self.coils + length (coils_of (element.now ∷ [])) }
@@ -217,7 +217,7 @@ fn contact_step(
 }
 
 /// Adds the steps at the element with the number k.
-fn push_element(
+pub fn push_element(
     steps: &mut Vec<Step>,
     rails: &Rails,
     declarations: &Declarations,

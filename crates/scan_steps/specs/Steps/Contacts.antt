@@ -51,6 +51,10 @@ abbrev pub variable_contact : Bool → ℕ → ℕ → ℕ → ContactValue
 variable_contact negated row place memory =
     record { kind = plain_kind negated; row = row; source = source.Variable place; memory = memory }
 
+-- the same contact as any other, in this row
+abbrev pub in_row : ℕ → VariableContact → ContactValue
+in_row row v = variable_contact v.negated row v.place v.memory
+
 -- the same contact as any other
 abbrev pub contact_of : VariableContact → ContactValue
 contact_of v = variable_contact v.negated v.row v.place v.memory

@@ -1,5 +1,5 @@
 -- What a scan does at the steps of a network, one after the other.
-use Rattle.std.specs.Prelude.{◌≡◌, ℕ, ◌+◌, ◌<◌, ◌≤◌, ◌⊎◌, ◌↔◌, List, [], ◌∷◌, Bool, true, false, ◌&&◌, Some, slice_get, slice_set, length}
+use Rattle.std.specs.Prelude.{◌≡◌, ℕ, ◌+◌, ◌<◌, ◌≤◌, ◌⊎◌, ◌↔◌, List, [], ◌∷◌, Bool, true, false, ◌&&◌, Some, All, slice_get, slice_set, length}
 use Rattle.scan_steps.specs.declared.slot.Instance.{Instance}
 use Rattle.scan_steps.specs.declared.slot.Slot.{Slot}
 use Rattle.std_blocks.specs.declared.pins.PinsOut.{PinsOut}
@@ -97,6 +97,21 @@ after_pair slots rows places a =
       memories = read_memories second slots (read_memories first slots a.memories);
     }
 
+-- whether a contact of a variable conducts; it keeps no memory
+abbrev pub is_conducting : List Slot → VariableContact → Bool
+is_conducting slots v = contact_conducts (plain_kind v.negated) (is_true (variable_at slots v.place)) false
+
+-- the state behind contacts of variables, one behind the other, by the state before them
+abbrev pub behind_all : List Slot → Bool → List VariableContact → Bool
+behind_all slots on [] = on
+behind_all slots on (v ∷ contacts) = behind_all slots (on && is_conducting slots v) contacts
+
+-- what a rung leaves: the state behind its contacts, in its row and at its coil
+abbrev pub after_rung : List Slot → ℕ → ℕ → List VariableContact → Pass → Pass
+after_rung slots row coil contacts a =
+    let rows = slice_set a.rows row (behind_all slots true contacts) in
+    record a { rows = rows; links = slice_set a.links coil (bit_at rows row) }
+
 -- the rows from first to last of the first list are joined, and all else stays
 abbrev pub AreRowsJoined : ℕ → ℕ → List Bool → Pass → Pass → Type 0
 AreRowsJoined first last rows a b = AreJoined first last rows b.rows × (b.memories ≡ a.memories) × (b.links ≡ a.links)
@@ -125,6 +140,7 @@ IsObeyed boxes slots dt (step.RailContact v) a b =
 IsObeyed boxes slots dt (step.Pair rows places) a b = b ≡ after_pair slots rows places a
 IsObeyed boxes slots dt (step.JoinedPair rows places) a b = (mid : Pass)
     × AreRowsJoined rows.first rows.second a.rows a mid × (b ≡ after_pair slots rows places mid)
+IsObeyed boxes slots dt (step.Rung r k contacts) a b = b ≡ after_rung slots r k contacts a
 IsObeyed boxes slots dt (step.Coil r k) a b = b ≡ record a { links = slice_set a.links k (bit_at a.rows r) }
 IsObeyed boxes slots dt (step.Box k) a b = IsBoxObeyed boxes slots dt k a b
 IsObeyed boxes slots dt (step.BoxCoil k r coil) a b = (mid : Pass) × IsBoxObeyed boxes slots dt k a mid
@@ -150,6 +166,8 @@ IsStepIn rows memories coils boxes (step.Pair pair places) =
     (pair.first < rows) × (places.memory < memories) × (pair.second < rows) × (places.memory + 1 < memories)
 IsStepIn rows memories coils boxes (step.JoinedPair pair places) =
     (pair.first < rows) × (places.memory < memories) × (pair.second < rows) × (places.memory + 1 < memories)
+IsStepIn rows memories coils boxes (step.Rung row k contacts) =
+    (row < rows) × All (λ (v : VariableContact). v.memory < memories) contacts × (k < coils)
 IsStepIn rows memories coils boxes (step.Coil row k) = (row < rows) × (k < coils)
 IsStepIn rows memories coils boxes (step.Box k) = k < boxes
 IsStepIn rows memories coils boxes (step.BoxCoil k row coil) = (k < boxes) × (row < rows) × (coil < coils)

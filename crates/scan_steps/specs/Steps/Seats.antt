@@ -86,3 +86,7 @@ pub record IsSeating (seats : List Seat) (v : ListsValue) : Type 0 where
   pub within : (k : ℕ) (s : Seat) → slice_get seats k ≡ Some s → IsInLists v k s
   pub apart : (j k : ℕ) (s : Seat) → slice_get seats j ≡ Some s → slice_get seats k ≡ Some s
       → (s ≡ seat.Bool) ⊎ (j ≡ k)
+
+-- a BOOL stands at each place
+abbrev pub AreBools : List Slot → Type 0
+AreBools slots = (k : ℕ) (s : Slot) → slice_get slots k ≡ Some s → (on : Bool) × (s ≡ Variable (value.Bool on))

@@ -17,7 +17,7 @@ texts words = map (λ w. w.now) words
 unfoldable pub keyword_of : List ℕ → Option Keyword
 keyword_of w = first_that (
     (same_word w (codes "EVAL"), key.Evaluate) ∷ (same_word w (codes "DELIVER"), key.Deliver)
-    ∷ (same_word w (codes "RESTART"), key.Restart) ∷ [])
+    ∷ (same_word w (codes "RESTART"), key.Restart) ∷ (same_word w (codes "HEAR"), key.Hear) ∷ [])
 
 -- the words behind EVAL spell no evaluation
 abbrev pub SpellsNoEvaluate : PlantValue → List (List ℕ) → Type 0

@@ -3,14 +3,14 @@ use Rattle.std.specs.Prelude.{◌≡◌, ℕ, ◌-◌, ◌==◌, if◌then◌els
 use Rattle.plant.specs.PlantValue.{PlantValue}
 use Rattle.evaluation.specs.Meaning.{Evaluated}
 use Rattle.exchange.specs.declared.event.Event.{Event}
-use Rattle.exchange.specs.declared.event.Event.TheVariants.{Evaluate, Deliver, Restart}
+use Rattle.exchange.specs.declared.event.Event.TheVariants.{Evaluate, Deliver, Restart, Hear}
 use Rattle.exchange.specs.declared.done.Done.{Done}
-use Rattle.exchange.specs.declared.done.Done.TheVariants.{Evaluated as MadeOne, Delivered, Restarted}
+use Rattle.exchange.specs.declared.done.Done.TheVariants.{Evaluated as MadeOne, Delivered, Restarted, Heard}
 use Rattle.exchange.specs.History.{history_of, after_events}
 use Rattle.exchange.specs.Run.{IsRun}
 use Rattle.exchange.specs.World.{WorldValue}
 use Rattle.world.specs.RunLines.{evaluation_line}
-use Rattle.world.specs.RunText.{delivery_line, restart_line, TellsEvent}
+use Rattle.world.specs.RunText.{delivery_line, restart_line, hear_line, TellsEvent}
 
 -- what stands before item k of a list
 abbrev pub gap_before : ℕ → List ℕ
@@ -26,6 +26,7 @@ abbrev pub done_line : PlantValue → List Evaluated → Event → Done → List
 done_line plant log (Evaluate ticket task dt inputs) (MadeOne m) = made_line plant m (slice_get log (length log - 1))
 done_line plant log (Deliver k n) (Delivered a) = delivery_line plant k n a
 done_line plant log (Restart n) (Restarted incarnation) = restart_line plant n incarnation
+done_line plant log (Hear n m incarnation) (Heard newer) = hear_line plant n m incarnation newer
 done_line plant log e done = []
 
 -- an event was done or refused, and this line tells it

@@ -10,4 +10,5 @@ returns c =
     let top = ap app_of_fields c.after_help.ensures ∙ ap app_of_fields c.about.ensures ∙ c.new.ensures.app in
     let one = c.in_ok-arg.ensures.shape c.needed_arg.ensures.local ∙ ap₂ with_rule top c.needed_arg.ensures.rule in
     let two = c.in_ok-arg-2.ensures.shape c.number_arg.ensures.local ∙ ap₂ with_rule one c.number_arg.ensures.rule in
-    IfOk-weaker c.arg-3.result _ _ (λ new added. added.shape c.words_arg.ensures.local ∙ ap₂ with_rule two c.words_arg.ensures.rule) c.arg-3.ensures
+    let three = c.in_ok-arg-3.ensures.shape c.chart_arg.ensures.local ∙ ap₂ with_rule two c.chart_arg.ensures.rule in
+    IfOk-weaker c.arg-4.result _ _ (λ new added. added.shape c.words_arg.ensures.local ∙ ap₂ with_rule three c.words_arg.ensures.rule) c.arg-4.ensures

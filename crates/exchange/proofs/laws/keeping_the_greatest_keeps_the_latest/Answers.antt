@@ -6,4 +6,4 @@ use Rattle.exchange.proofs.Histories.Steps.{latest-deliver}
 use Rattle.exchange.proofs.laws.keeping_the_greatest_keeps_the_latest.Goals as goal
 
 pub returns : goal.returns
-returns c = λ s events log n k p is away. latest-deliver n k (history_of s events) p (reverse log) (ne_eqb p.resource n away) (log-rises s p (history_of s events) (reverse log) is)
+returns c = λ s events log n k p is away. latest-deliver s n k (history_of s events) p (reverse log) (ne_eqb p.resource n away) (log-rises s p (history_of s events) (reverse log) is)

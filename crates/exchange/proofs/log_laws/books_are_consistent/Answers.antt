@@ -3,4 +3,4 @@ use Rattle.exchange.proofs.Consistency.Makings.{books-consistent}
 use Rattle.exchange.proofs.log_laws.books_are_consistent.Goals as goal
 
 pub returns : goal.returns
-returns c = books-consistent
+returns c = books-consistent c.takes_never_fall.ensures

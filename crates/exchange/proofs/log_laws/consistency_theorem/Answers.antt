@@ -3,4 +3,4 @@ use Rattle.exchange.proofs.Consistency.Makings.{consistency-theorem}
 use Rattle.exchange.proofs.log_laws.consistency_theorem.Goals as goal
 
 pub returns : goal.returns
-returns c = consistency-theorem
+returns c = consistency-theorem c.takes_never_fall.ensures

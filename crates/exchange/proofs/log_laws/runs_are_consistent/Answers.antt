@@ -3,4 +3,4 @@ use Rattle.exchange.proofs.Consistency.Places.{run-consistent}
 use Rattle.exchange.proofs.log_laws.runs_are_consistent.Goals as goal
 
 pub returns : goal.returns
-returns c = run-consistent
+returns c = run-consistent c.takes_never_fall.ensures

@@ -1,8 +1,10 @@
 -- The commands are numbered and for the plant; the report is told whole or in part.
-use Rattle.std.proofs.Common.{sym, subst}
+use Rattle.std.proofs.Common.{List, sym, subst}
 use Rattle.plant.specs.PlantValue.{PlantValue}
 use Rattle.node_journals.specs.Commands.{AreNumbered, AreForPlant}
-use Rattle.plc_main.proofs.RunExplaining.{run_refused, report_of, told_partly}
+use Rattle.node_journals.specs.declared.command.Command.{Command}
+use Rattle.node_reports.specs.Reports.{IsRunFault}
+use Rattle.plc_main.proofs.RunExplaining.{run_refused, no_report, report_of, told_partly}
 use Rattle.plc_main.proofs.run_command.run_text.Goals as goal
 
 pub run_threads-requires-clause-numbered : goal.run_threads-requires-clause-numbered
@@ -16,6 +18,14 @@ run_threads-requires-clause-resources g c κs within =
 pub returns-in_err-commands-clause-fault : goal.returns-in_err-commands-clause-fault
 returns-in_err-commands-clause-fault g c =
     run_refused c.args.plant.value c.args.until c.args.inputs _ c.in_err-commands.field-0.0 _ c.from_residual.ensures.1 (rw c.deref.ensures at c.in_err-commands.ensures.fault)
+
+pub returns-in_err-report-clause-fault : goal.returns-in_err-report-clause-fault
+returns-in_err-report-clause-fault g c =
+    let found = c.in_err-report.field-0.0 in
+    let refused : IsRunFault c.args.plant.value 4294967295 c.in_ok-commands.commands.items found =
+    subst (λ (plant : PlantValue). IsRunFault plant 4294967295 c.in_ok-commands.commands.items found) c.in_ok-shared.ensures
+    (subst (λ (commands : List Command). IsRunFault c.in_ok-shared.shared.value 4294967295 commands found) c.deref-2.ensures.value c.in_err-report.ensures.fault) in
+    no_report c.args.plant.value c.args.until c.args.inputs c.in_ok-commands.commands.items _ found _ (rw c.deref.ensures at c.in_ok-commands.ensures.ok) refused c.from_residual-in_err-report.ensures.1
 
 pub tell_report-requires-clause-again : goal.tell_report-requires-clause-again
 tell_report-requires-clause-again g c = rw c.in_ok-shared.ensures at c.in_ok-report.ensures.again

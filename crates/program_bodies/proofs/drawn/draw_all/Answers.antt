@@ -1,8 +1,11 @@
-use Rattle.std.proofs.Common.{◌≢◌, ◌++◌, ◌∷◌, []}
+use Rattle.std.proofs.Common.{◌≢◌, ◌++◌, ◌∷◌, [], All}
 use Rattle.program_bodies.specs.declared.plant_fault.PlantFaultKind.TheVariants.{Memory}
 use Rattle.program_bodies.specs.BodyFaults.{IsFirstBodyFault}
 use Rattle.lists.proofs.Results.{kept_fault}
+use Rattle.plant_grammar.specs.Grammar.{TextValue}
+use Rattle.program_bodies.specs.Ladders.{HasLadder}
 use Rattle.program_bodies.proofs.DrawnTypes.{drawn_more, passed_more, first_refused}
+use Rattle.program_bodies.proofs.OneLadder.{first_without}
 use Rattle.program_bodies.proofs.drawn.draw_all.Goals as goal
 
 pub loop-text-preserved : goal.loop-text-preserved
@@ -18,3 +21,11 @@ returns-in_err-draw-clause-fault c =
     kept_fault c.in_err-draw.field-0.0 (λ fault. fault.kind ≢ Memory → IsFirstBodyFault c.args.texts.items fault) c.from_residual.result c.from_residual.ensures.1
     (λ other. first_refused c.args.texts.items c.loop-text.invariant.0 c.loop-text.types.items c.in-Some.text c.loop-text.text-iterator.rest.items c.next.new.self.rest.items c.in_err-draw.field-0.0
     c.in-Some.ensures.steps.0 c.loop-text.invariant.1 c.loop-text.invariant.2 (c.in_err-draw.ensures.fault other))
+
+pub returns-in_err-draw-clause-refused : goal.returns-in_err-draw-clause-refused
+returns-in_err-draw-clause-refused c =
+    let fault = c.in_err-draw.field-0.0 in
+    kept_fault fault (λ fault. fault.kind ≢ Memory → All (λ (t : TextValue). HasLadder t.program) c.args.texts.items → ⊥) c.from_residual.result c.from_residual.ensures.1
+    (λ other. first_without c.args.texts.items fault
+    (first_refused c.args.texts.items c.loop-text.invariant.0 c.loop-text.types.items c.in-Some.text c.loop-text.text-iterator.rest.items c.next.new.self.rest.items fault
+    c.in-Some.ensures.steps.0 c.loop-text.invariant.1 c.loop-text.invariant.2 (c.in_err-draw.ensures.fault other)))

@@ -1,5 +1,5 @@
 use Rattle.std.proofs.Common.{◌≡◌, Some, sym, ap, ◌∙◌}
-use Rattle.world.proofs.ScheduleReading.{err_and, no_key, evaluate_line, deliver_line, restart_line, no_evaluate, no_deliver, no_restart}
+use Rattle.world.proofs.ScheduleReading.{err_and, no_key, evaluate_line, deliver_line, restart_line, hear_line, no_evaluate, no_deliver, no_restart, no_hear}
 use Rattle.world.proofs.read_line.read_event.Goals as goal
 
 pub returns-in_err-task-in-Some-Evaluate-clause-fault : goal.returns-in_err-task-in-Some-Evaluate-clause-fault
@@ -35,3 +35,13 @@ returns-in-Some-read_restart-clause-ok c =
 pub returns-in-None-read_restart-clause-fault : goal.returns-in-None-read_restart-clause-fault
 returns-in-None-read_restart-clause-fault c =
     λ _. no_restart c.args.plant.now c.args.ticket c.args.words.now (sym c.in-Some-Restart.ensures ∙ ap (λ k. Some k) c.in-Some-Restart.field-0-is) c.in-None-read_restart.ensures
+
+pub returns-in-Some-read_hear-clause-ok : goal.returns-in-Some-read_hear-clause-ok
+returns-in-Some-read_hear-clause-ok c =
+    hear_line c.args.plant.now c.args.ticket c.in-Some-read_hear.resource c.in-Some-read_hear.of c.in-Some-read_hear.incarnation c.args.words.now c.in-len1-up.len_at_least
+    (sym c.in-Some-Hear.ensures ∙ ap (λ k. Some k) c.in-Some-Hear.field-0-is) c.in-Some-read_hear.ensures
+
+pub returns-in-None-read_hear-clause-fault : goal.returns-in-None-read_hear-clause-fault
+returns-in-None-read_hear-clause-fault c =
+    λ _. no_hear c.args.plant.now c.args.ticket c.args.words.now (sym c.in-Some-Hear.ensures ∙ ap (λ k. Some k) c.in-Some-Hear.field-0-is)
+    (λ resource of incarnation. c.in-None-read_hear.ensures (resource, of, incarnation))

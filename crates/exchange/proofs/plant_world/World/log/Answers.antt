@@ -14,7 +14,7 @@ pub returns-clause-consistent : goal.returns-clause-consistent
 returns-clause-consistent c =
     let s : Setting = record { plant = c.self.inside.plant.value; first = c.self.inside.first.items; max_number = c.self.inside.max_number } in
     subst (λ (w : WorldValue). IsConsistent w.setting.plant (reverse w.log)) c.self.view_is
-    (run-consistent s c.self.inside.events.items c.self.inside.log.items c.self.invariant.logged)
+    (run-consistent c.takes_never_fall.ensures s c.self.inside.events.items c.self.inside.log.items c.self.invariant.logged)
 
 pub returns-clause-fit : goal.returns-clause-fit
 returns-clause-fit c =
@@ -26,4 +26,4 @@ pub returns-clause-data : goal.returns-clause-data
 returns-clause-data c =
     let s : Setting = record { plant = c.self.inside.plant.value; first = c.self.inside.first.items; max_number = c.self.inside.max_number } in
     subst (λ (w : WorldValue). IsDataConsistent w.setting w.events w.log) c.self.view_is
-    (consistency-theorem s c.self.inside.events.items c.self.inside.log.items c.self.invariant.logged)
+    (consistency-theorem c.takes_never_fall.ensures s c.self.inside.events.items c.self.inside.log.items c.self.invariant.logged)

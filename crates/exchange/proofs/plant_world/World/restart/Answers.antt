@@ -1,4 +1,6 @@
-use Rattle.std.proofs.Common.{◌<◌, ◌≤◌, arith, length, ◌≡◌, true, ◌∙◌, subst}
+use Rattle.std.proofs.Common.{ℕ, ◌+◌, List, ap, ◌<◌, ◌≤◌, arith, length, ◌≡◌, true, ◌∙◌, subst}
+use Rattle.std.specs.Prelude.{slice_set, slice_index}
+use Rattle.std.proofs.lemmas.List.{get_or-set_same}
 use Rattle.exchange.specs.declared.event.Event.TheVariants.{Restart}
 use Rattle.exchange.specs.History.{history_of, incarnation_of, is_lawful}
 use Rattle.exchange.specs.World.{WorldValue}
@@ -12,8 +14,12 @@ returns-then-last-clause-cause c =
 
 pub invariant_of-self-2 : goal.invariant_of-self-2
 invariant_of-self-2 c =
+    let copied : c.in-Ok-from_slice.first.items ≡ c.self.inside.first.items = c.in-Ok-from_slice.ensures.items ∙ c.as_slice.ensures.value in
+    let first : c.as_slice-2.result.now ≡ slice_set c.self.inside.first.items c.args.resource (c.incarnation-last.result + 1) = c.as_slice-2.ensures.value ∙ ap (λ (l : List ℕ). slice_set l c.args.resource (c.incarnation-last.result + 1)) copied in
+    let within : c.args.resource < length c.self.inside.first.items = (let firsts = c.self.invariant.firsts in let sized = c.self.invariant.sized in omega (arith, firsts, sized, c.self.inside.cores.ok.0)) in
     rw (c.in-Ok-push.ensures.items, c.reserve.ensures.items, c.in-Ok-new.ensures.ok, c.in-Ok.ensures)
-    (world-restart_at _ c.self.inside.events.items c.self.inside.log.items c.self.inside.cores.items c.self.invariant c.args.resource c.incarnation-last.result c.index.result.now (omega (arith, c.self.inside.cores.ok.0)) c.index.ensures c.incarnation-last.ensures (omega arith))
+    (world-restart_at _ c.self.inside.events.items c.self.inside.log.items c.self.inside.cores.items c.self.invariant c.args.resource c.incarnation-last.result c.as_slice-2.result.now (slice_index c.as_slice-2.result.now c.args.resource) c.index.result.now (omega (arith, c.self.inside.cores.ok.0)) c.index.ensures c.incarnation-last.ensures (omega arith) first
+    (ap (λ (l : List ℕ). slice_index l c.args.resource) first ∙ get_or-set_same c.self.inside.first.items c.args.resource (c.incarnation-last.result + 1) 0 within))
 
 pub returns-clause-done : goal.returns-clause-done
 returns-clause-done c =
@@ -28,6 +34,11 @@ returns-clause-answer c =
 
 pub returns-in_default-clause-cause : goal.returns-in_default-clause-cause
 returns-in_default-clause-cause c =
+    subst (λ (w : WorldValue). is_lawful w.setting (history_of w.setting w.events) (Restart c.args.resource) ≡ true) c.self.view_is
+    (restart-lawful_at _ c.self.inside.events.items c.self.inside.log.items c.self.inside.cores.items c.self.invariant c.args.resource c.incarnation-last.result c.index.result.now (omega (arith, c.self.inside.cores.ok.0)) c.index.ensures c.incarnation-last.ensures (omega arith))
+
+pub returns-in_default-from_slice-clause-cause : goal.returns-in_default-from_slice-clause-cause
+returns-in_default-from_slice-clause-cause c =
     subst (λ (w : WorldValue). is_lawful w.setting (history_of w.setting w.events) (Restart c.args.resource) ≡ true) c.self.view_is
     (restart-lawful_at _ c.self.inside.events.items c.self.inside.log.items c.self.inside.cores.items c.self.invariant c.args.resource c.incarnation-last.result c.index.result.now (omega (arith, c.self.inside.cores.ok.0)) c.index.ensures c.incarnation-last.ensures (omega arith))
 

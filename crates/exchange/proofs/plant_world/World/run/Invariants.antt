@@ -1,6 +1,6 @@
 use Rattle.std.proofs.Common.{take}
-use Rattle.exchange.specs.Step.{Follows}
+use Rattle.exchange.specs.Step.{HaveRun}
 use Rattle.exchange.proofs.plant_world.World.run.Given as goal
 
 abbrev pub invariant-loop-i : goal.invariant-loop-i
-invariant-loop-i l = Follows l.fn.self l.self (take l.i l.events)
+invariant-loop-i l = HaveRun l.fn.self l.self (take l.i l.events)

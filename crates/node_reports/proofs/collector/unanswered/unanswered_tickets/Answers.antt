@@ -1,9 +1,12 @@
 -- One more command is listed where it asks to evaluate and its place isn't marked.
-use Rattle.std.proofs.Common.{◌≡◌, ◌<◌, ◌++◌, true, false, get_or, [], ◌∷◌, Some, take, slice_get, length, refl, ap, sym, ◌∙◌, arith}
-use Rattle.std.proofs.lemmas.List.{append-nil, get_or_read}
+use Rattle.std.proofs.Common.{◌≡◌, ◌<◌, ◌++◌, true, false, get_or, List, [], ◌∷◌, Some, take, slice_get, length, refl, ap, sym, ◌∙◌, subst, arith}
+use Rattle.std.proofs.lemmas.List.{append-nil, get_or_read, take_all}
 use Rattle.std.proofs.lemmas.Option.{slice_get_read}
 use Rattle.node_reports.specs.Reports.{is_unanswered, unanswered_of}
+use Rattle.std.specs.List.Sorted.{IsStrictlyIncreasing}
+use Rattle.node_journals.specs.declared.command.Command.{Command}
 use Rattle.node_reports.proofs.Collecting.{unanswered_is, unanswered-more}
+use Rattle.node_reports.proofs.Numbered.{unanswered_rise}
 use Rattle.node_reports.proofs.collector.unanswered.unanswered_tickets.Goals as goal
 use Rattle.node_reports.proofs.collector.unanswered.unanswered_tickets.Goals.{then-is_left+in_ok-push, else-is_left}
 
@@ -26,3 +29,8 @@ loop-k-preserved c =
           w.tickets-is ∙ c.loop-k.invariant ∙ sym (append-nil (unanswered_of (take c.loop-k.k c.args.commands.now) c.args.entries.now))
           ∙ sym (unanswered-more c.args.commands.now c.args.entries.now c.loop-k.k x false at (left ∙ w.if-is_left.false))
     ]
+
+pub returns-clause-rising : goal.returns-clause-rising
+returns-clause-rising c =
+    let all : take c.loop-k.k c.args.commands.now ≡ c.args.commands.now = take_all _ _ (omega arith) in
+    subst IsStrictlyIncreasing (sym (c.loop-k.invariant ∙ ap (λ (cs : List Command). unanswered_of cs c.args.entries.now) all)) (unanswered_rise c.args.commands.now c.args.entries.now c.requires)

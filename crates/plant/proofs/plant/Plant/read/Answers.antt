@@ -1,4 +1,4 @@
-use Rattle.std.proofs.Common.{◌≡◌, ◌≢◌, List, ◌++◌, All, map, ap, refl, sym, subst, ◌∙◌}
+use Rattle.std.proofs.Common.{◌≡◌, ◌≢◌, List, [], ◌++◌, All, map, ap, refl, sym, subst, ◌∙◌}
 use Rattle.std.proofs.lemmas.List.{append-nil}
 use Rattle.words.specs.Lines.{without_last}
 use Rattle.plant_text.specs.declared.token.Token.{Token}
@@ -6,14 +6,20 @@ use Rattle.plant_text.specs.declared.token.Token.TheVariants as token
 use Rattle.plant_text.specs.Spelling.{Spells}
 use Rattle.plant_text.specs.Lines.{WordValue, body_lines}
 use Rattle.plant_grammar.specs.Grammar.{Tree, words_of}
-use Rattle.plant_grammar.specs.Lawful.{IsTreeLawful}
+use Rattle.plant_grammar.specs.Lawful.{all_uses, IsTreeLawful}
 use Rattle.plant_grammar.specs.Steps.Lines.{ReaderValue}
 use Rattle.plant_grammar.specs.Steps.Reading.{tree_written}
 use Rattle.lists.proofs.Results.{kept_fault}
-use Rattle.program_bodies.specs.Faults.{IsPlantFault, IsOfBody, IsOfDeclaredName, fault_of_word}
-use Rattle.plant.specs.PlantText.{IsBodyFaultIn, IsNameFaultIn}
+use Rattle.program_bodies.specs.Faults.{IsPlantFault, IsOfBody, IsOfDeclaredName, kind_of_word, fault_of_word}
+use Rattle.program_bodies.specs.Ladders.{IsLadderOf}
+use Rattle.program_bodies.specs.ProgramTypes.{TypeValue}
+use Rattle.plant.specs.Faultless.{AreBindsFed}
+use Rattle.program_bodies.specs.declared.plant_fault.PlantFaultKind.TheVariants.{Memory}
+use Rattle.plant_grammar.specs.Steps.Reading.{programs_of}
+use Rattle.plant.specs.PlantText.{IsNoPlant, IsBodyFaultIn, IsNameFaultIn}
+use Rattle.plant.proofs.SameTrees.{ladders_same, sources_same}
 use Rattle.plant.specs.StandsFor.{IsPlantOf}
-use Rattle.plant.specs.Steps.Reading.{tree_of}
+use Rattle.plant.specs.Steps.Reading.{ReadingValue, tree_of}
 use Rattle.plant.proofs.BodyCounts.{begun_by_programs}
 use Rattle.plant.proofs.DrawnTrees.{drawn_tree, drawn_have_ladders}
 use Rattle.plant.proofs.WordFaults.{plant_of_word, no_body, of_name, no_name, memory_no_body, memory_no_name, body_no_name}
@@ -21,11 +27,14 @@ use Rattle.plant.proofs.KnownWords.{words_known}
 use Rattle.plant.proofs.RefusedKnown.{begun_by_refused}
 use Rattle.plant.proofs.plant.Plant.read.Goals as goal
 
-pub resolve-requires : goal.resolve-requires
-resolve-requires c =
+pub resolve-requires-clause-lawful : goal.resolve-requires-clause-lawful
+resolve-requires-clause-lawful c =
     let read = c.in_ok-resources.ensures.ok in
     let same = ap (tree_of read.name) c.new-reading.ensures ∙ drawn_tree read.name c.read_tree-tree.new.texts.items c.in_ok-types.types.items c.in_ok-resources.resources.items c.in_ok-types.ensures.ok in
     (read.name, subst IsTreeLawful (sym same) read.lawful)
+
+pub resolve-requires-clause-drawn : goal.resolve-requires-clause-drawn
+resolve-requires-clause-drawn c = subst (λ (types : List TypeValue). All (λ (t : TypeValue). IsLadderOf t.program t.ladder) types) (sym (ap (λ (r : ReadingValue). r.types) c.new-reading.ensures)) c.in_ok-types.ensures.ok.ladders
 
 pub returns-clause-ok : goal.returns-clause-ok
 returns-clause-ok c =
@@ -43,7 +52,11 @@ returns-clause-ok c =
     record {
       tree = tree;
       spelled = subst (λ (ws : List Token). Spells (without_last 13 c.args.text.now) ws) words (c.in_ok-words.ensures.spelled known);
-      faultless = record { lawful = read.lawful; drawn = drawn_have_ladders texts types drawn };
+      faultless = record {
+        lawful = read.lawful;
+        drawn = drawn_have_ladders texts types drawn;
+        sources = subst (λ (t : Tree). All (AreBindsFed t) (all_uses t)) same (c.in_ok-plant.ensures.sources read.name);
+      };
       stands = subst (λ (t : Tree). IsPlantOf t c.in_ok-plant.plant) same (c.in_ok-plant.ensures.ok read.name);
     }
 
@@ -130,3 +143,52 @@ returns-in_err-end-clause-name c =
     let word = c.in_err-end.field-0.0 in
     kept_fault (fault_of_word word) (λ f. IsOfDeclaredName f.kind → IsNameFaultIn c.args.text.now f) c.from_residual-in_err-end.result c.from_residual-in_err-end.ensures.1
     (λ of. absurd (no_name word.kind c.in_err-end.ensures.tells of))
+
+pub returns-in_err-types-clause-refused : goal.returns-in_err-types-clause-refused
+returns-in_err-types-clause-refused c =
+    let fault = c.in_err-types.field-0.0 in
+    let ws = c.in_ok-words.words in
+    let words : map (λ (w : WordValue). w.token) ws ≡ c.new-reader.result.words = ap (λ (ws : List WordValue). map (λ (w : WordValue). w.token) ws) (sym c.words-2.ensures) ∙ ap (λ (r : ReaderValue). r.words) (sym c.new-reader.ensures) in
+    let texts = c.read_tree-tree.new.texts.items in
+    let met = c.read_tree-tree.ensures.texts in
+    kept_fault fault (λ f. f.kind ≢ Memory → IsNoPlant c.args.text.now) c.from_residual-in_err-types.result c.from_residual-in_err-types.ensures.1
+    (λ other tree spelled faultless.
+    let start : c.new-reader.result.words ≡ words_of tree ++ [] = sym words ∙ c.in_ok-words.ensures.every (words_of tree) (c.words_are_in_place.ensures tree faultless.lawful.few_types) spelled ∙ sym (append-nil (words_of tree)) in
+    let first = c.programs_are_the_first.ensures (programs_of texts) tree met.rest [] (sym met.written ∙ start) in
+    c.in_err-types.ensures.refused other (ladders_same texts tree.programs first.0 first.1 faultless.drawn))
+
+pub returns-in_err-resources-clause-refused : goal.returns-in_err-resources-clause-refused
+returns-in_err-resources-clause-refused c =
+    let word = c.in_err-resources.field-0.0 in
+    let ws = c.in_ok-words.words in
+    let words : map (λ (w : WordValue). w.token) ws ≡ c.new-reader.result.words = ap (λ (ws : List WordValue). map (λ (w : WordValue). w.token) ws) (sym c.words-2.ensures) ∙ ap (λ (r : ReaderValue). r.words) (sym c.new-reader.ensures) in
+    kept_fault (fault_of_word word) (λ f. f.kind ≢ Memory → IsNoPlant c.args.text.now) c.from_residual-in_err-resources.result c.from_residual-in_err-resources.ensures.1
+    (λ other tree spelled faultless.
+    let start : c.new-reader.result.words ≡ words_of tree ++ [] = sym words ∙ c.in_ok-words.ensures.every (words_of tree) (c.words_are_in_place.ensures tree faultless.lawful.few_types) spelled ∙ sym (append-nil (words_of tree)) in
+    c.in_err-resources.ensures.refused (λ memory. other (ap kind_of_word memory)) tree [] start faultless.lawful)
+
+pub returns-in_err-plant-clause-refused : goal.returns-in_err-plant-clause-refused
+returns-in_err-plant-clause-refused c =
+    let word = c.in_err-plant.field-0.0 in
+    let ws = c.in_ok-words.words in
+    let words : map (λ (w : WordValue). w.token) ws ≡ c.new-reader.result.words = ap (λ (ws : List WordValue). map (λ (w : WordValue). w.token) ws) (sym c.words-2.ensures) ∙ ap (λ (r : ReaderValue). r.words) (sym c.new-reader.ensures) in
+    let texts = c.read_tree-tree.new.texts.items in
+    let types = c.in_ok-types.types.items in
+    let rs = c.in_ok-resources.resources.items in
+    kept_fault (fault_of_word word) (λ f. f.kind ≢ Memory → IsNoPlant c.args.text.now) c.from_residual-in_err-plant.result c.from_residual-in_err-plant.ensures.1
+    (λ other tree spelled faultless.
+    let start : c.new-reader.result.words ≡ words_of tree ++ [] = sym words ∙ c.in_ok-words.ensures.every (words_of tree) (c.words_are_in_place.ensures tree faultless.lawful.few_types) spelled ∙ sym (append-nil (words_of tree)) in
+    let only = c.in_ok-resources.ensures.only tree [] start in
+    let same = ap (tree_of tree.name) c.new-reading.ensures ∙ drawn_tree tree.name texts types rs c.in_ok-types.ensures.ok in
+    c.in_err-plant.ensures.refused (λ memory. other (ap kind_of_word memory)) tree.name
+    (subst (λ (t : Tree). All (AreBindsFed t) (all_uses t)) (sym same) (sources_same tree (tree_written tree.name texts rs) only.1 faultless.sources)))
+
+pub returns-in_err-end-clause-refused : goal.returns-in_err-end-clause-refused
+returns-in_err-end-clause-refused c =
+    let word = c.in_err-end.field-0.0 in
+    let ws = c.in_ok-words.words in
+    let words : map (λ (w : WordValue). w.token) ws ≡ c.new-reader.result.words = ap (λ (ws : List WordValue). map (λ (w : WordValue). w.token) ws) (sym c.words-2.ensures) ∙ ap (λ (r : ReaderValue). r.words) (sym c.new-reader.ensures) in
+    kept_fault (fault_of_word word) (λ f. f.kind ≢ Memory → IsNoPlant c.args.text.now) c.from_residual-in_err-end.result c.from_residual-in_err-end.ensures.1
+    (λ other tree spelled faultless.
+    let start : c.new-reader.result.words ≡ words_of tree ++ [] = sym words ∙ c.in_ok-words.ensures.every (words_of tree) (c.words_are_in_place.ensures tree faultless.lawful.few_types) spelled ∙ sym (append-nil (words_of tree)) in
+    c.in_err-end.ensures.err.1 (c.in_ok-resources.ensures.only tree [] start).0)

@@ -1,3 +1,5 @@
+use Rattle.plant.proofs.Members.{type_found}
+use Rattle.std.proofs.Common.{None}
 use Rattle.std.proofs.Common.{rules, ◌≡◌, ◌∙◌, ap, Some}
 use Rattle.std.specs.List.{find}
 use Rattle.plant_grammar.specs.Names.{is_named}
@@ -11,3 +13,8 @@ returns-clause-ok c =
     let found : find (λ (t : TypeValue). is_named c.args.run.now.program t.program.name) c.args.types.now ≡ Some c.in-Some.found.now = search rules in
     let kept : c.new.result.ladder ≡ c.in-Some.found.now.ladder = ap (λ (p : ProgramValue). p.ladder) c.new.ensures ∙ c.in_ok-ladder.ensures ∙ c.ladder.ensures.ladder in
     program_made c.args.types.now c.args.run.now c.in-Some.found.now c.new.result found c.ladder.ensures.drawn (ap (λ (p : ProgramValue). p.name) c.new.ensures ∙ c.in_ok-name.ensures) kept
+
+pub returns-in_default-clause-refused : goal.returns-in_default-clause-refused
+returns-in_default-clause-refused c = λ other known.
+    let none : find (λ (t : TypeValue). is_named c.args.run.now.program t.program.name) c.args.types.now ≡ None = search rules in
+    type_found c.args.types.now c.args.run.now known none

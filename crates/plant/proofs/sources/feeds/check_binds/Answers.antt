@@ -1,3 +1,6 @@
+use Rattle.plant.proofs.Members.{one_of}
+use Rattle.plant.specs.Steps.Drafts.{AreDraftsApart}
+use Rattle.lists.proofs.Results.{kept_fault}
 use Rattle.std.proofs.Common.{subst}
 use Rattle.std.specs.Prelude.{All}
 use Rattle.std.proofs.lemmas.List.{take_all}
@@ -12,3 +15,9 @@ loop-bind-preserved c =
 
 pub returns-clause-ok : goal.returns-clause-ok
 returns-clause-ok c = subst (All (HasFeed (drafted c.args.drafts.now) c.args.declarations.now)) (take_all c.loop-bind.bind-index c.args.binds.now c.loop-bind-test.false) c.loop-bind.invariant
+
+pub returns-in_err-feed-clause-refused : goal.returns-in_err-feed-clause-refused
+returns-in_err-feed-clause-refused c =
+    let Fed = HasFeed (drafted c.args.drafts.now) c.args.declarations.now in
+    kept_fault c.in_err-feed.field-0.0 (λ _. AreDraftsApart c.args.drafts.now → All Fed c.args.binds.now → ⊥) c.from_residual.result c.from_residual.ensures.1
+    (λ apart each. c.in_err-feed.ensures.refused apart (one_of Fed c.args.binds.now c.loop-bind.bind-index c.bind-item.result c.loop-bind-test.true c.bind-item.is each))

@@ -1,3 +1,6 @@
+use Rattle.plant.proofs.Members.{part_of}
+use Rattle.plant.specs.Steps.Drafts.{AreDraftsApart}
+use Rattle.lists.proofs.Results.{kept_fault}
 use Rattle.std.proofs.Common.{subst}
 use Rattle.std.specs.Prelude.{All}
 use Rattle.std.specs.List.{flat_map}
@@ -15,3 +18,9 @@ loop-resource-preserved c =
 pub returns-clause-ok : goal.returns-clause-ok
 returns-clause-ok c =
     subst (λ rs. All (IsUseResolved (drafted c.args.drafts.now) c.args.types.now) (flat_map uses_of rs)) (take_all c.loop-resource.resource-index c.args.resources.now c.loop-resource-test.false) c.loop-resource.invariant
+
+pub returns-in_err-check_resource-clause-refused : goal.returns-in_err-check_resource-clause-refused
+returns-in_err-check_resource-clause-refused c =
+    let Resolved = IsUseResolved (drafted c.args.drafts.now) c.args.types.now in
+    kept_fault c.in_err-check_resource.field-0.0 (λ _. AreDraftsApart c.args.drafts.now → All Resolved (flat_map uses_of c.args.resources.now) → ⊥) c.from_residual.result c.from_residual.ensures.1
+    (λ apart each. c.in_err-check_resource.ensures.refused apart (part_of Resolved uses_of c.args.resources.now c.loop-resource.resource-index c.resource-item.result c.loop-resource-test.true c.resource-item.is each))

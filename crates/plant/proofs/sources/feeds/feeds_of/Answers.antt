@@ -1,3 +1,9 @@
+use Rattle.plant.proofs.Zips.{ref_at}
+use Rattle.plant.specs.Steps.Drafts.{seen, AreRunsFed}
+use Rattle.plant.specs.Steps.Drafts.{AreDraftsApart}
+use Rattle.std.proofs.Common.{◌≢◌}
+use Rattle.lists.proofs.Results.{kept_fault}
+use Rattle.plant_grammar.specs.declared.grammar_fault.GrammarFaultKind.TheVariants.{Memory}
 use Rattle.std.proofs.Common.{◌≡◌, ◌<◌, ◌∙◌, ap, Vec, Some, length, map, refl, arith, slice_get}
 use Rattle.std.specs.Borrow.{Bor}
 use Rattle.std.specs.Global.{Global}
@@ -28,3 +34,16 @@ loop-i-preserved c =
       each = triples_more (AreFeedsOf (drafted c.args.drafts.now)) (λ (f : Vec Feed Global). f.items) (map (λ (u : Bor Use). u.now) runs) c.args.programs.now c.loop-i.all.items c.push.new.self.items i
           run.now program c.in_ok-found.found c.loop-i.invariant.many at at' c.loop-i.invariant.each found c.in_ok-push.ensures.items;
     }
+
+pub returns-in_err-found-clause-refused : goal.returns-in_err-found-clause-refused
+returns-in_err-found-clause-refused c =
+    let i = c.loop-i.i in
+    let runs = c.args.runs.now in
+    let programs = c.args.programs.now in
+    let drafts = c.args.drafts.now in
+    let run = c.index-runs-i.result in
+    let program = c.index-programs-i.result in
+    let here : i < length runs = omega arith in
+    let at' : slice_get programs i ≡ Some program = slice_get_read programs (length programs) i program refl c.loop-i-test.true c.index-programs-i.is in
+    kept_fault c.in_err-found.field-0.0 (λ e. e.kind ≢ Memory → AreDraftsApart drafts → AreRunsFed (drafted drafts) (seen runs) programs → ⊥) c.from_residual.result c.from_residual.ensures.1
+    (λ other apart each. (rw (c.binds_of.ensures, c.declarations-declarations.ensures.list, c.ladder.ensures) at (c.in_err-found.ensures.refused other apart)) (each i run.now program (ref_at runs i run here c.index-runs-i.is) at'))

@@ -1,3 +1,8 @@
+use Rattle.plant.specs.Steps.Drafts.{AreResourcesFed}
+use Rattle.plant.specs.Steps.Drafts.{AreDraftsApart}
+use Rattle.std.proofs.Common.{◌≢◌}
+use Rattle.lists.proofs.Results.{kept_fault}
+use Rattle.plant_grammar.specs.declared.grammar_fault.GrammarFaultKind.TheVariants.{Memory}
 use Rattle.std.proofs.Common.{◌≡◌, ◌∙◌, ◌<◌, ap, sym, subst, Some, length, refl, arith, slice_get}
 use Rattle.std.proofs.lemmas.List.{length_push}
 use Rattle.std.proofs.lemmas.Option.{slice_get_read}
@@ -59,3 +64,15 @@ returns-clause-many c =
     let same = zip_length (IsResourceDraft c.requires.known.0) c.args.resources.now c.args.drafts.now c.requires.known.1 in
     let end = c.loop-i.auto.i-end in
     omega arith
+
+pub returns-in_err-resource-clause-refused : goal.returns-in_err-resource-clause-refused
+returns-in_err-resource-clause-refused c =
+    let resources = c.args.resources.now in
+    let drafts = c.args.drafts.now in
+    let i = c.loop-i.i in
+    let resource = c.index-resources-i.result in
+    let draft = c.index-drafts-i.result in
+    let same = zip_length (IsResourceDraft c.requires.known.0) resources drafts c.requires.known.1 in
+    let here : i < length resources = omega arith in
+    kept_fault c.in_err-resource.field-0.0 (λ e. e.kind ≢ Memory → AreDraftsApart drafts → AreResourcesFed (drafted drafts) resources drafts → ⊥) c.from_residual.result c.from_residual.ensures.1
+    (λ other apart each. c.in_err-resource.ensures.refused other apart (each i resource draft (slice_get_read resources (length resources) i resource refl here c.index-resources-i.is) (slice_get_read drafts (length drafts) i draft refl c.loop-i-test.true c.index-drafts-i.is)))

@@ -1,3 +1,8 @@
+use Rattle.plant.specs.Steps.Drafts.{seen, AreRunsFed}
+use Rattle.plant.specs.Steps.Drafts.{AreDraftsApart}
+use Rattle.std.proofs.Common.{◌≢◌}
+use Rattle.lists.proofs.Results.{kept_fault}
+use Rattle.plant_grammar.specs.declared.grammar_fault.GrammarFaultKind.TheVariants.{Memory}
 use Rattle.std.proofs.Common.{◌≡◌, ◌∙◌, ap, sym, subst, length, map, Vec}
 use Rattle.std.specs.Borrow.{Bor}
 use Rattle.std.specs.Global.{Global}
@@ -69,3 +74,9 @@ returns-clause-ok c =
     let outputs : c.in_ok-outputs.outputs.items ≡ draft.outputs = c.in_ok-outputs.ensures.items ∙ c.outputs.ensures in
     let is = linked_copy plant us draft fs ps es bs c.programs.ensures.outputs many c.requires.once fed feeds producers kinds placed c.in_ok-programs.programs.items c.in_ok-outputs.outputs.items programs outputs in
     subst (IsCodeLinked plant us draft) (sym c.new.ensures) is
+
+pub returns-in_err-feeds-clause-refused : goal.returns-in_err-feeds-clause-refused
+returns-in_err-feeds-clause-refused c =
+    let drafts = c.args.drafts.now in
+    kept_fault c.in_err-feeds.field-0.0 (λ e. e.kind ≢ Memory → AreDraftsApart drafts → AreRunsFed (drafted drafts) (seen c.args.runs.now) c.args.draft.now.programs → ⊥) c.from_residual.result c.from_residual.ensures.1
+    (λ other apart. rw c.programs.ensures.list at (c.in_err-feeds.ensures.refused other apart))

@@ -1,3 +1,8 @@
+use Rattle.plant.specs.Steps.Drafts.{seen, AreTasksFed}
+use Rattle.plant.specs.Steps.Drafts.{AreDraftsApart}
+use Rattle.std.proofs.Common.{◌≢◌}
+use Rattle.lists.proofs.Results.{kept_fault}
+use Rattle.plant_grammar.specs.declared.grammar_fault.GrammarFaultKind.TheVariants.{Memory}
 use Rattle.std.proofs.Common.{◌≡◌, ◌<◌, ap, length, map, refl, arith}
 use Rattle.std.specs.Borrow.{Bor}
 use Rattle.std.specs.Global.{Global}
@@ -72,3 +77,18 @@ returns-clause-many c =
     let same : length lines ≡ length drafts = zip_length (IsDraftOf c.requires.known.0 c.args.resource.now) lines drafts c.requires.known.1 in
     let end = c.loop-i.auto.i-end in
     omega arith
+
+pub returns-in_err-code-clause-refused : goal.returns-in_err-code-clause-refused
+returns-in_err-code-clause-refused c =
+    let tasks = c.args.tasks.now in
+    let drafts = c.args.task_drafts.now in
+    let r = c.args.resource.now in
+    let i = c.loop-i.i in
+    let task = c.index-tasks-i.result in
+    let draft = c.index-task_drafts-i.result in
+    let lines = map (λ (t : Bor TaskLine). t.now) tasks in
+    let long = length-map tasks (λ (t : Bor TaskLine). t.now) in
+    let same : length lines ≡ length drafts = zip_length (IsDraftOf c.requires.known.0 r) lines drafts c.requires.known.1 in
+    let here : i < length tasks = omega arith in
+    kept_fault c.in_err-code.field-0.0 (λ e. e.kind ≢ Memory → AreDraftsApart c.args.drafts.now → AreTasksFed (drafted c.args.drafts.now) r (seen tasks) drafts → ⊥) c.from_residual.result c.from_residual.ensures.1
+    (λ other apart each. c.in_err-code.ensures.refused other apart (each i task.now draft (ref_at tasks i task here c.index-tasks-i.is) (slice_get_read drafts (length drafts) i draft refl c.loop-i-test.true c.index-task_drafts-i.is)))

@@ -1,7 +1,7 @@
-use Rattle.std.proofs.Common.{List, ◌∙◌, ap, subst}
+use Rattle.std.proofs.Common.{◌≡◌, ◌≢◌, ◌++◌, List, ◌∙◌, ap, subst}
 use Rattle.std.specs.List.{flat_map}
 use Rattle.lists.proofs.Results.{kept_fault}
-use Rattle.plant_grammar.specs.Grammar.{TextValue}
+use Rattle.plant_grammar.specs.Grammar.{Tree, TextValue, words_of}
 use Rattle.plant_grammar.specs.Lawful.{uses_of}
 use Rattle.plant_grammar.specs.NameFaults.{IsOfName, RefusesPrograms, RefusesConfiguration}
 use Rattle.plant_grammar.specs.Steps.Declaring.{BeginWith, RefusesPlantWords}
@@ -9,6 +9,10 @@ use Rattle.plant_grammar.specs.Steps.ReadParts.{tally_with, types_alone, AreReso
 use Rattle.plant_grammar.specs.Steps.Reading.{programs_of, all_words}
 use Rattle.plant_grammar.proofs.RefusedPlaces.{begin_left, begin_right, in_configuration}
 use Rattle.plant_grammar.proofs.WholeTrees.{tree_is, begun_words, begin_with_texts}
+use Rattle.plant_text.specs.declared.token.Token.{Token}
+use Rattle.plant_grammar.specs.declared.grammar_fault.GrammarFaultKind.TheVariants.{Memory}
+use Rattle.plant_grammar.specs.Lawful.{IsTreeLawful}
+use Rattle.plant_grammar.proofs.LawfulTrees.{programs_allowed, behind_programs, behind_name, name_follows, resources_allowed, read_alone}
 use Rattle.plant_grammar.proofs.grammar.read_tree.read_tree.Goals as goal
 
 pub returns-clause-ok : goal.returns-clause-ok
@@ -52,3 +56,39 @@ returns-in_err-resources-clause-name c =
     kept_fault fault (λ f. IsOfName f.kind → BeginWith (RefusesPlantWords f.kind) start) c.from_residual-in_err-resources.result c.from_residual-in_err-resources.ensures.1
     (λ of. begin_right (RefusesPrograms fault.kind) (RefusesConfiguration fault.kind) start
     (in_configuration fault.kind (programs_of texts) c.in_ok-_name._name c.new-tally.result start one c.keyword.new.self.words c.name.new.self.words written c.in_ok-keyword.ensures.ok c.in_ok-_name.ensures.ok c.new-tally.ensures (c.in_err-resources.ensures.names of)))
+
+pub returns-in_err-programs-clause-refused : goal.returns-in_err-programs-clause-refused
+returns-in_err-programs-clause-refused c =
+    let fault = c.in_err-programs.field-0.0 in
+    kept_fault fault (λ f. f.kind ≢ Memory → (tree : Tree) (rest : List Token) → c.args.reader.now.words ≡ words_of tree ++ rest → IsTreeLawful tree → ⊥) c.from_residual.result c.from_residual.ensures.1
+    (λ known tree rest e lawful. programs_allowed c.args.texts.now.items tree c.args.reader.now.words rest c.requires e lawful (c.in_err-programs.ensures.other known))
+
+pub returns-in_err-keyword-clause-refused : goal.returns-in_err-keyword-clause-refused
+returns-in_err-keyword-clause-refused c =
+    let fault = c.in_err-keyword.field-0.0 in
+    kept_fault fault (λ f. f.kind ≢ Memory → (tree : Tree) (rest : List Token) → c.args.reader.now.words ≡ words_of tree ++ rest → IsTreeLawful tree → ⊥) c.from_residual-in_err-keyword.result c.from_residual-in_err-keyword.ensures.1
+    (λ known tree rest e lawful.
+    let one = behind_programs c.args.texts.now.items c.programs.new.texts.items tree c.args.reader.now.words c.programs.new.self.words rest c.requires c.in_ok-programs.ensures.ok c.in_ok-programs.ensures.none e in
+    c.in_err-keyword.ensures.other _ one.1)
+
+pub returns-in_err-_name-clause-refused : goal.returns-in_err-_name-clause-refused
+returns-in_err-_name-clause-refused c =
+    let fault = c.in_err-_name.field-0.0 in
+    kept_fault fault (λ f. f.kind ≢ Memory → (tree : Tree) (rest : List Token) → c.args.reader.now.words ≡ words_of tree ++ rest → IsTreeLawful tree → ⊥) c.from_residual-in_err-_name.result c.from_residual-in_err-_name.ensures.1
+    (λ known tree rest e lawful.
+    let one = behind_programs c.args.texts.now.items c.programs.new.texts.items tree c.args.reader.now.words c.programs.new.self.words rest c.requires c.in_ok-programs.ensures.ok c.in_ok-programs.ensures.none e in
+    c.in_err-_name.ensures.other known tree.name _ (name_follows tree c.programs.new.self.words c.keyword.new.self.words rest one.1 c.in_ok-keyword.ensures.ok))
+
+pub returns-in_err-resources-clause-refused : goal.returns-in_err-resources-clause-refused
+returns-in_err-resources-clause-refused c =
+    let fault = c.in_err-resources.field-0.0 in
+    kept_fault fault (λ f. f.kind ≢ Memory → (tree : Tree) (rest : List Token) → c.args.reader.now.words ≡ words_of tree ++ rest → IsTreeLawful tree → ⊥) c.from_residual-in_err-resources.result c.from_residual-in_err-resources.ensures.1
+    (λ known tree rest e lawful.
+    let one = behind_programs c.args.texts.now.items c.programs.new.texts.items tree c.args.reader.now.words c.programs.new.self.words rest c.requires c.in_ok-programs.ensures.ok c.in_ok-programs.ensures.none e in
+    resources_allowed tree c.programs.new.texts.items c.as_slice.result.now c.new-tally.result c.name.new.self.words rest c.as_slice.ensures.value c.programs.ensures.declared one.0 c.new-tally.ensures
+    (behind_name tree c.in_ok-_name._name c.programs.new.self.words c.keyword.new.self.words c.name.new.self.words rest one.1 c.in_ok-keyword.ensures.ok c.in_ok-_name.ensures.ok) lawful
+    (c.in_err-resources.ensures.other known))
+
+pub returns-clause-only : goal.returns-clause-only
+returns-clause-only c = λ tree rest e.
+    read_alone tree c.programs.new.texts.items c.in_ok-resources.resources.items c.args.reader.now.words c.resources.new.self.words rest (returns-clause-ok c) e

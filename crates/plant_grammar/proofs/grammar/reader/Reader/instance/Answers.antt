@@ -1,13 +1,21 @@
-use Rattle.std.proofs.Common.{ap}
+use Rattle.std.proofs.Common.{◌≡◌, ◌≢◌, ◌++◌, ◌∷◌, [], List, ap}
 use Rattle.std.specs.Prelude.{All}
 use Rattle.plant_grammar.specs.Kinds.{IsOfInputKind}
-use Rattle.plant_grammar.specs.Lawful.{variables}
+use Rattle.plant_grammar.specs.Lawful.{variables, use_of, binds_of, IsUseLawful}
 use Rattle.plant_grammar.proofs.FoundTypes.{found_type}
-use Rattle.plant_grammar.specs.Steps.ReadParts.{TallyValue, bound_in}
+use Rattle.plant_grammar.specs.Steps.ReadParts.{TallyValue, bound_in, types_alone, IsNew}
 use Rattle.plant_grammar.specs.NameFaults.{IsOfName, RefusesInstance}
 use Rattle.plant_grammar.specs.Steps.Declaring.{BeginWith}
 use Rattle.lists.proofs.Results.{kept_fault}
 use Rattle.plant_grammar.proofs.RefusedPlaces.{in_instance}
+use Rattle.plant_text.specs.declared.token.Token.{Token}
+use Rattle.plant_grammar.specs.declared.grammar_fault.GrammarFaultKind.TheVariants.{Memory}
+use Rattle.plant_grammar.specs.declared.grammar.tree.Program.{Program}
+use Rattle.plant_grammar.specs.declared.grammar.tree.Use.{Use}
+use Rattle.std.specs.List.{flat_map}
+use Rattle.plant_grammar.specs.Grammar.{use_words, binds_listed}
+use Rattle.plant_grammar.specs.Steps.Refusing.{HasRoomFor, AreTypesApart}
+use Rattle.plant_grammar.proofs.LawfulResources.{some_type, use_tasked, use_typed, room_for_binds, kinds_of_type}
 use Rattle.plant_grammar.proofs.grammar.reader.Reader.instance.Goals as goal
 
 pub returns-clause-lawful : goal.returns-clause-lawful
@@ -25,3 +33,28 @@ returns-in_err-binds-clause-names c =
     c.args.self.now.words c.instance_start.new.self.words c.task_of_instance.new.self.words c.type_of_instance.new.self.words
     c.in_ok-instance.ensures.ok c.in_ok-task.ensures.ok c.in_ok-program.ensures.ok
     (ap (λ (t : TallyValue). t.binds) c.in_ok-instance.ensures.tally) (c.in_err-binds.ensures.names of))
+
+pub returns-in_err-program-clause-other : goal.returns-in_err-program-clause-other
+returns-in_err-program-clause-other c =
+    let fault = c.in_err-program.field-0.0 in
+    kept_fault fault (λ f. f.kind ≢ Memory → (u : Use) (rest : List Token) → c.args.self.now.words ≡ use_words u ++ rest → AreTypesApart c.args.types.now → IsNew (λ (u : Use). u.instance) (flat_map use_of c.args.before.now) u.instance → IsUseLawful (types_alone c.args.types.now) c.args.before.now u → HasRoomFor c.args.tally.now (u ∷ []) → ⊥) c.from_residual-in_err-program.result c.from_residual-in_err-program.ensures.1
+    (λ known u rest e apart new lawful room.
+    let words = use_tasked u c.in_ok-instance.instance c.in_ok-task.task c.args.self.now.words c.instance_start.new.self.words c.task_of_instance.new.self.words rest c.in_ok-instance.ensures.ok c.in_ok-task.ensures.ok e in
+    c.in_err-program.ensures.other known u.program _ words (some_type c.args.types.now u.program (λ (p : Program). All (IsOfInputKind (variables p)) (binds_of u)) lawful.type_is))
+
+pub returns-in_err-binds-clause-other : goal.returns-in_err-binds-clause-other
+returns-in_err-binds-clause-other c =
+    let fault = c.in_err-binds.field-0.0 in
+    kept_fault fault (λ f. f.kind ≢ Memory → (u : Use) (rest : List Token) → c.args.self.now.words ≡ use_words u ++ rest → AreTypesApart c.args.types.now → IsNew (λ (u : Use). u.instance) (flat_map use_of c.args.before.now) u.instance → IsUseLawful (types_alone c.args.types.now) c.args.before.now u → HasRoomFor c.args.tally.now (u ∷ []) → ⊥) c.from_residual-in_err-binds.result c.from_residual-in_err-binds.ensures.1
+    (λ known u rest e apart new lawful room.
+    let typed = use_typed u c.in_ok-instance.instance c.in_ok-task.task _ c.args.self.now.words c.instance_start.new.self.words c.task_of_instance.new.self.words c.type_of_instance.new.self.words rest c.in_ok-instance.ensures.ok c.in_ok-task.ensures.ok c.in_ok-program.ensures.ok e in
+    c.in_err-binds.ensures.other known (binds_listed u.binds) rest typed.1 lawful.apart (kinds_of_type c.args.types.now u _ _ apart c.in_ok-program.ensures.found typed.0 lawful.type_is)
+    (room_for_binds c.args.tally.now c.instance_start.new.tally u c.in_ok-instance.ensures.tally room))
+
+pub returns-in_err-punctuation-clause-other : goal.returns-in_err-punctuation-clause-other
+returns-in_err-punctuation-clause-other c =
+    let fault = c.in_err-punctuation.field-0.0 in
+    kept_fault fault (λ f. f.kind ≢ Memory → (u : Use) (rest : List Token) → c.args.self.now.words ≡ use_words u ++ rest → AreTypesApart c.args.types.now → IsNew (λ (u : Use). u.instance) (flat_map use_of c.args.before.now) u.instance → IsUseLawful (types_alone c.args.types.now) c.args.before.now u → HasRoomFor c.args.tally.now (u ∷ []) → ⊥) c.from_residual-in_err-punctuation.result c.from_residual-in_err-punctuation.ensures.1
+    (λ known u rest e apart new lawful room.
+    let typed = use_typed u c.in_ok-instance.instance c.in_ok-task.task _ c.args.self.now.words c.instance_start.new.self.words c.task_of_instance.new.self.words c.type_of_instance.new.self.words rest c.in_ok-instance.ensures.ok c.in_ok-task.ensures.ok c.in_ok-program.ensures.ok e in
+    c.in_err-punctuation.ensures.other rest (c.in_ok-binds.ensures.only (binds_listed u.binds) rest typed.1))

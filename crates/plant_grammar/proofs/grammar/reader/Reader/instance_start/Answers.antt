@@ -1,4 +1,3 @@
-use Rattle.std.proofs.Common.{IfErr}
 use Rattle.std.proofs.lemmas.Result.{IfErr-weaker}
 use Rattle.plant_grammar.proofs.RefusedPlaces.{instance_named}
 use Rattle.plant_grammar.proofs.grammar.reader.Reader.instance_start.Goals as goal

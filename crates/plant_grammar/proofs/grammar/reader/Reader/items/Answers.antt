@@ -1,7 +1,7 @@
-use Rattle.std.proofs.Common.{List, subst}
+use Rattle.std.proofs.Common.{◌≡◌, ◌≢◌, ◌++◌, List, refl, sym, subst}
 use Rattle.plant_grammar.specs.Lawful.{use_of}
-use Rattle.plant_grammar.specs.Grammar.{item_words}
-use Rattle.plant_grammar.specs.Steps.ReadParts.{types_alone, MayFollow}
+use Rattle.plant_grammar.specs.Grammar.{item_words, items_words}
+use Rattle.plant_grammar.specs.Steps.ReadParts.{types_alone, MayFollow, AreItemsLawful}
 use Rattle.plant_grammar.proofs.WordLists.{words_more, items_done}
 use Rattle.plant_grammar.proofs.ResourceLines.{items_more, tally_more}
 use Rattle.plant_grammar.specs.declared.grammar.tree.Item.{Item}
@@ -9,6 +9,11 @@ use Rattle.plant_grammar.specs.NameFaults.{IsOfName, RefusesItems}
 use Rattle.plant_grammar.specs.Steps.Declaring.{BeginWith, RefusesItem}
 use Rattle.lists.proofs.Results.{kept_fault}
 use Rattle.plant_grammar.proofs.RefusedPlaces.{item_refused}
+use Rattle.plant_text.specs.declared.token.Token.{Token}
+use Rattle.plant_grammar.specs.declared.grammar_fault.GrammarFaultKind.TheVariants.{Memory}
+use Rattle.std.specs.List.{flat_map}
+use Rattle.plant_grammar.specs.Steps.Refusing.{HasRoomFor, AreTypesApart}
+use Rattle.plant_grammar.proofs.LawfulResources.{item_allowed}
 use Rattle.plant_grammar.proofs.grammar.reader.Reader.items.Goals as goal
 
 pub items-preserved : goal.items-preserved
@@ -24,6 +29,7 @@ returns c = record {
   ok = items_done c.items.items.items c.args.self.now.words c.items.self.words c.keyword.new.self.words c.items.invariant.words c.in_ok-keyword.ensures.ok;
   lawful = c.items.invariant.lawful;
   tally = c.items.invariant.tally;
+  other = tt;
   names = tt;
   value = tt;
 }
@@ -34,3 +40,10 @@ returns-in_err-item-clause-names c =
     kept_fault fault (λ f. IsOfName f.kind → BeginWith (RefusesItems f.kind c.args.tally.now.instances c.args.tally.now.binds) (c.args.self.now.words)) c.from_residual.result c.from_residual.ensures.1
     (λ of. item_refused fault.kind c.args.tally.now c.items.tally c.items.items.items c.args.self.now.words c.items.self.words c.items.invariant.words c.items.invariant.tally
     (subst (λ (xs : List Item). BeginWith (RefusesItem c.items.tally xs fault.kind) c.items.self.words) c.deref.ensures.value (c.in_err-item.ensures.names of)))
+
+pub returns-in_err-item-clause-other : goal.returns-in_err-item-clause-other
+returns-in_err-item-clause-other c =
+    let fault = c.in_err-item.field-0.0 in
+    kept_fault fault (λ f. f.kind ≢ Memory → (xs : List Item) (rest : List Token) → c.args.self.now.words ≡ items_words xs ++ rest → AreTypesApart c.args.types.now → AreItemsLawful (types_alone c.args.types.now) xs → HasRoomFor c.args.tally.now (flat_map use_of xs) → ⊥) c.from_residual.result c.from_residual.ensures.1
+    (λ known xs rest e apart lawful room. item_allowed (types_alone c.args.types.now) c.args.tally.now c.items.tally c.items.items.items xs c.args.self.now.words c.items.self.words rest c.items.invariant.words c.items.invariant.tally (c.items-test.ensures.no refl) e lawful room
+    (λ x after h may left. c.in_err-item.ensures.other known x after h apart (subst (λ (ys : List Item). MayFollow (types_alone c.args.types.now) ys x) (sym c.deref.ensures.value) may) left))

@@ -1,11 +1,16 @@
-use Rattle.std.proofs.Common.{◌∙◌}
-use Rattle.plant_grammar.specs.Lawful.{list_variables, IsListLawful}
-use Rattle.plant_grammar.specs.Grammar.{list_words}
+use Rattle.std.proofs.Common.{◌≡◌, ◌≢◌, ◌++◌, List, All, refl, ◌∙◌}
+use Rattle.plant_grammar.specs.Lawful.{list_variables, lists_variables, IsListLawful}
+use Rattle.plant_grammar.specs.Grammar.{list_words, lists_words}
 use Rattle.plant_grammar.proofs.WordLists.{words_more, declared_more, all_more, lists_done}
 use Rattle.plant_grammar.specs.NameFaults.{IsOfName, RefusesList}
 use Rattle.plant_grammar.specs.Steps.Declaring.{BeginWith}
 use Rattle.lists.proofs.Results.{kept_fault}
 use Rattle.plant_grammar.proofs.RefusedPlaces.{list_refused}
+use Rattle.plant_text.specs.declared.token.Token.{Token}
+use Rattle.plant_grammar.specs.declared.grammar_fault.GrammarFaultKind.TheVariants.{Memory}
+use Rattle.plant_grammar.specs.declared.grammar.tree.NameList.{NameList}
+use Rattle.plant_grammar.specs.Steps.ReadParts.{AreVariables}
+use Rattle.plant_grammar.proofs.LawfulPrograms.{list_allowed}
 use Rattle.plant_grammar.proofs.grammar.reader.Reader.lists.Goals as goal
 
 pub lists-preserved : goal.lists-preserved
@@ -22,6 +27,7 @@ returns c = record {
   bodies = c.in_ok-keyword.ensures.bodies ∙ c.lists.invariant.bodies;
   declared = c.lists.invariant.declared;
   lawful = c.lists.invariant.lawful;
+  other = tt;
   names = tt;
   value = tt;
 }
@@ -31,3 +37,10 @@ returns-in_err-list-clause-names c =
     let fault = c.in_err-list.field-0.0 in
     kept_fault fault (λ f. IsOfName f.kind → BeginWith (RefusesList f.kind c.args.section c.args.variables.now) (c.args.self.now.words)) c.from_residual.result c.from_residual.ensures.1
     (λ of. list_refused fault.kind c.args.section c.args.variables.now c.lists.variables c.lists.lists.items c.args.self.now.words c.lists.self.words c.lists.invariant.words c.lists.invariant.declared (c.in_err-list.ensures.names of))
+
+pub returns-in_err-list-clause-other : goal.returns-in_err-list-clause-other
+returns-in_err-list-clause-other c =
+    let fault = c.in_err-list.field-0.0 in
+    kept_fault fault (λ f. f.kind ≢ Memory → (ls : List NameList) (rest : List Token) → c.args.self.now.words ≡ lists_words ls ++ rest → All (IsListLawful c.args.section) ls → AreVariables (c.args.variables.now ++ lists_variables c.args.section ls) → ⊥) c.from_residual.result c.from_residual.ensures.1
+    (λ known ls rest e lawful are. list_allowed c.args.section c.args.variables.now c.lists.variables c.lists.lists.items ls c.args.self.now.words c.lists.self.words rest c.lists.invariant.words c.lists.invariant.declared (c.lists-test.ensures.no refl) e lawful are
+    (c.in_err-list.ensures.other known))

@@ -1,18 +1,23 @@
-use Rattle.std.proofs.Common.{rules, ◌≡◌, ◌++◌, ◌∷◌, [], ◌∙◌, ◌<◌, ℕ, List, append_assoc, length, ap, sym, subst, arith}
+use Rattle.std.proofs.Common.{rules, ◌≡◌, ◌≢◌, refl, ◌++◌, ◌∷◌, [], ◌∙◌, ◌<◌, ℕ, List, append_assoc, length, ap, sym, subst, arith}
 use Rattle.std.proofs.lemmas.List.{length-map}
 use Rattle.std.specs.List.{flat_map}
-use Rattle.plant_grammar.specs.Grammar.{TextValue, program_words}
+use Rattle.plant_grammar.specs.Grammar.{TextValue, key_word, program_words}
 use Rattle.plant_text.specs.declared.token.Token.{Token}
 use Rattle.plant_grammar.specs.declared.grammar.tree.Program.{Program}
-use Rattle.plant_grammar.specs.Steps.ReadParts.{IsNew}
-use Rattle.plant_grammar.specs.Steps.Reading.{programs_of, lines_of}
+use Rattle.plant_grammar.specs.Steps.ReadParts.{IsNew, AreProgramsDeclared}
+use Rattle.plant_grammar.specs.Steps.Reading.{programs_of, lines_of, all_words}
 use Rattle.plant_grammar.proofs.FoundTypes.{programs_more, map-grown}
 use Rattle.plant_grammar.proofs.WordLists.{words_more}
 use Rattle.plant_grammar.specs.NameFaults.{IsOfName, RefusesProgram, RefusesPrograms}
 use Rattle.plant_grammar.specs.Steps.Declaring.{BeginWith}
 use Rattle.lists.proofs.Results.{kept_fault}
 use Rattle.plant_grammar.proofs.RefusedPlaces.{program_refused}
-use Rattle.plant_grammar.proofs.RefusedNames.{memory_result}
+use Rattle.plant_grammar.proofs.RefusedNames.{memory_result, memory_excused}
+use Rattle.plant_grammar.specs.declared.grammar_fault.GrammarFaultKind.TheVariants.{Memory}
+use Rattle.plant_text.specs.declared.token.Keyword.TheVariants as key
+use Rattle.plant_grammar.specs.declared.grammar_fault.GrammarFault.{GrammarFault}
+use Rattle.plant_grammar.specs.Steps.Lines.{IsNotNext}
+use Rattle.plant_grammar.proofs.LawfulPrograms.{program_allowed}
 use Rattle.plant_grammar.proofs.grammar.reader.Reader.programs.Goals as goal
 
 pub programs-preserved : goal.programs-preserved
@@ -54,3 +59,19 @@ returns-in_err-text-clause-names c =
 
 pub returns-in_err-push-clause-names : goal.returns-in_err-push-clause-names
 returns-in_err-push-clause-names c = memory_result (λ f. BeginWith (RefusesPrograms f.kind) (flat_map program_words (programs_of c.args.texts.now.items) ++ c.args.self.now.words)) c.from_residual-in_err-push.result c.from_residual-in_err-push.ensures.1
+
+pub returns-in_err-text-clause-other : goal.returns-in_err-text-clause-other
+returns-in_err-text-clause-other c =
+    let fault = c.in_err-text.field-0.0 in
+    let start = all_words c.args.texts.now.items c.args.self.now.words in
+    let before = c.programs.texts.items in
+    kept_fault fault (λ f. f.kind ≢ Memory → (ps : List Program) (rest : List Token) → all_words c.args.texts.now.items c.args.self.now.words ≡ flat_map program_words ps ++ rest → IsNotNext (key_word key.Program) rest → AreProgramsDeclared ps → ⊥) c.from_residual.result c.from_residual.ensures.1
+    (λ known ps rest e none declared.
+    let next = c.programs-test.ensures.yes refl in
+    program_allowed (programs_of before) ps start c.programs.self.words rest c.programs.invariant.words next.0 next.1 e none declared
+    (λ p more h new few lawful. c.in_err-text.ensures.other known p more h (subst (λ (ts : List TextValue). IsNew (λ (x : Program). x.name) (programs_of ts) p.name) (sym c.as_slice.ensures.value) new)
+    (subst (λ (ts : List TextValue). length ts < 64) (sym c.as_slice.ensures.value) (omega (arith, few, length-map before (λ (t : TextValue). t.program)))) lawful))
+
+pub returns-in_err-push-clause-other : goal.returns-in_err-push-clause-other
+returns-in_err-push-clause-other c =
+    memory_excused (λ (f : GrammarFault). (ps : List Program) (rest : List Token) → all_words c.args.texts.now.items c.args.self.now.words ≡ flat_map program_words ps ++ rest → IsNotNext (key_word key.Program) rest → AreProgramsDeclared ps → ⊥) c.from_residual-in_err-push.result c.from_residual-in_err-push.ensures.1

@@ -2,6 +2,15 @@ use Rattle.plant_grammar.specs.NameFaults.{RefusesResource}
 use Rattle.plant_grammar.specs.Steps.Declaring.{BeginRefused}
 use Rattle.lists.proofs.Results.{kept_fault}
 use Rattle.plant_grammar.proofs.RefusedPlaces.{resource_named, in_resource}
+use Rattle.std.proofs.Common.{◌≡◌, ◌≢◌, ◌<◌, ◌++◌, List, length}
+use Rattle.plant_text.specs.declared.token.Token.{Token}
+use Rattle.plant_grammar.specs.declared.grammar_fault.GrammarFaultKind.TheVariants.{Memory}
+use Rattle.plant_grammar.specs.declared.grammar.tree.Resource.{Resource}
+use Rattle.plant_grammar.specs.Grammar.{resource_words}
+use Rattle.plant_grammar.specs.Lawful.{uses_of, IsResourceLawful}
+use Rattle.plant_grammar.specs.Steps.ReadParts.{types_alone, IsNew}
+use Rattle.plant_grammar.specs.Steps.Refusing.{HasRoomFor, AreTypesApart}
+use Rattle.plant_grammar.proofs.LawfulResources.{items_of_resource, resource_started}
 use Rattle.plant_grammar.proofs.grammar.reader.Reader.resource.Goals as goal
 
 pub returns-in_err-name-clause-names : goal.returns-in_err-name-clause-names
@@ -19,3 +28,12 @@ returns-in_err-items-clause-names c =
     (λ of. in_resource fault.kind tally.instances tally.binds c.args.before.now c.in_ok-name.name c.in_ok-node.node
     c.args.self.now.words c.keyword.new.self.words c.resource_name.new.self.words c.keyword-2.new.self.words c.name-2.new.self.words
     c.in_ok-keyword.ensures.ok c.in_ok-name.ensures.ok c.in_ok-keyword-2.ensures.ok c.in_ok-node.ensures.ok (c.in_err-items.ensures.names of))
+
+pub returns-in_err-items-clause-other : goal.returns-in_err-items-clause-other
+returns-in_err-items-clause-other c =
+    let fault = c.in_err-items.field-0.0 in
+    kept_fault fault (λ f. f.kind ≢ Memory → (r : Resource) (rest : List Token) → c.args.self.now.words ≡ resource_words r ++ rest → AreTypesApart c.args.types.now → IsNew (λ (r : Resource). r.name) c.args.before.now r.name → length c.args.before.now < 16 → IsResourceLawful (types_alone c.args.types.now) r → HasRoomFor c.args.tally.now (uses_of r) → ⊥) c.from_residual-in_err-items.result c.from_residual-in_err-items.ensures.1
+    (λ known r rest e apart new few lawful room.
+    let words = resource_started r c.in_ok-name.name c.in_ok-node.node c.args.self.now.words c.keyword.new.self.words c.resource_name.new.self.words c.keyword-2.new.self.words c.name-2.new.self.words rest
+    c.in_ok-keyword.ensures.ok c.in_ok-name.ensures.ok c.in_ok-keyword-2.ensures.ok c.in_ok-node.ensures.ok e in
+    c.in_err-items.ensures.other known r.items.items rest words apart (items_of_resource (types_alone c.args.types.now) r lawful) room)

@@ -1,15 +1,21 @@
-use Rattle.std.proofs.Common.{◌<◌, length, subst, List}
+use Rattle.std.proofs.Common.{rules, ◌≡◌, ◌≢◌, ◌<◌, ◌++◌, length, refl, sym, subst, List}
 use Rattle.plant_grammar.specs.declared.grammar.tree.Resource.{Resource}
 use Rattle.plant_grammar.specs.Lawful.{uses_of}
-use Rattle.plant_grammar.specs.Grammar.{resource_words}
-use Rattle.plant_grammar.specs.Steps.ReadParts.{types_alone, IsNew}
+use Rattle.plant_grammar.specs.Grammar.{resource_words, resources_words}
+use Rattle.plant_grammar.specs.Steps.ReadParts.{types_alone, IsNew, AreResourcesLawful}
 use Rattle.plant_grammar.proofs.WordLists.{words_more, resources_done}
 use Rattle.plant_grammar.proofs.ResourceLines.{resources_more, tally_more}
 use Rattle.plant_grammar.specs.NameFaults.{IsOfName, RefusesResource, RefusesResources}
 use Rattle.plant_grammar.specs.Steps.Declaring.{BeginWith}
 use Rattle.lists.proofs.Results.{kept_fault}
 use Rattle.plant_grammar.proofs.RefusedPlaces.{resource_refused}
+use Rattle.plant_text.specs.declared.token.Token.{Token}
+use Rattle.plant_grammar.specs.declared.grammar_fault.GrammarFaultKind.TheVariants.{Memory}
+use Rattle.std.specs.List.{flat_map}
+use Rattle.plant_grammar.specs.Steps.Refusing.{HasRoomFor, AreTypesApart}
+use Rattle.plant_grammar.proofs.LawfulResources.{resource_allowed, first_resource}
 use Rattle.plant_grammar.proofs.grammar.reader.Reader.resources.Goals as goal
+use Rattle.plant_grammar.proofs.grammar.reader.Reader.resources.Goals.{then-is_empty, else-is_empty+then-not-sees_keyword}
 
 pub resources-preserved : goal.resources-preserved
 resources-preserved c = record {
@@ -28,3 +34,14 @@ returns-in_err-resource-clause-names c =
     kept_fault fault (λ f. IsOfName f.kind → BeginWith (RefusesResources f.kind c.args.tally.now.instances c.args.tally.now.binds) (c.args.self.now.words)) c.from_residual.result c.from_residual.ensures.1
     (λ of. resource_refused fault.kind c.args.tally.now c.resources.tally c.resources.resources.items c.args.self.now.words c.resources.self.words c.resources.invariant.words c.resources.invariant.tally
     (subst (λ (rs : List Resource). BeginWith (RefusesResource fault.kind c.resources.tally.instances c.resources.tally.binds rs) c.resources.self.words) c.deref.ensures.value (c.in_err-resource.ensures.names of)))
+
+pub returns-in_err-resource-clause-other : goal.returns-in_err-resource-clause-other
+returns-in_err-resource-clause-other c =
+    let fault = c.in_err-resource.field-0.0 in
+    kept_fault fault (λ f. f.kind ≢ Memory → (rs : List Resource) (rest : List Token) → c.args.self.now.words ≡ resources_words rs ++ rest → 0 < length rs → AreTypesApart c.args.types.now → AreResourcesLawful (types_alone c.args.types.now) rs → HasRoomFor c.args.tally.now (flat_map uses_of rs) → ⊥) c.from_residual.result c.from_residual.ensures.1
+    (λ known rs rest e some apart lawful room. resource_allowed (types_alone c.args.types.now) c.args.tally.now c.resources.tally c.resources.resources.items rs c.args.self.now.words c.resources.self.words rest c.resources.invariant.words c.resources.invariant.tally
+    (λ i. elim c.if-is_empty.branch [
+      | then-is_empty w ↦ first_resource rs c.resources.resources.items c.args.self.now.words c.resources.self.words rest rest some (search rules) c.resources.invariant.words e i
+      | else-is_empty+then-not-sees_keyword w ↦ w.if-not-sees_keyword.ensures.no refl rest i
+    ]) e lawful room
+    (λ r after h new few known_r left. c.in_err-resource.ensures.other known r after h apart (subst (λ (ys : List Resource). IsNew (λ (r : Resource). r.name) ys r.name) (sym c.deref.ensures.value) new) (subst (λ (ys : List Resource). length ys < 16) (sym c.deref.ensures.value) few) known_r left))

@@ -1,9 +1,18 @@
-use Rattle.plant_text.specs.declared.token.Punctuation.TheVariants.{Open}
-use Rattle.plant_grammar.specs.Grammar.{mark_word}
+use Rattle.plant_text.specs.declared.token.Punctuation.TheVariants.{Open, Semicolon}
+use Rattle.plant_grammar.specs.Grammar.{mark_word, binds_words}
 use Rattle.plant_grammar.specs.NameFaults.{IsOfName, IsAfter, RefusesBind}
 use Rattle.plant_grammar.specs.Steps.Declaring.{BeginWith}
 use Rattle.lists.proofs.Results.{kept_fault}
 use Rattle.plant_grammar.proofs.RefusedPlaces.{in_binds}
+use Rattle.std.proofs.Common.{◌≡◌, ◌≢◌, ◌+◌, ◌≤◌, ◌++◌, ◌∷◌, List, Option, length, map}
+use Rattle.std.specs.Prelude.{All}
+use Rattle.plant_text.specs.declared.token.Token.{Token}
+use Rattle.plant_grammar.specs.declared.grammar_fault.GrammarFaultKind.TheVariants.{Memory}
+use Rattle.plant_grammar.specs.declared.grammar.tree.Bind.{Bind}
+use Rattle.plant_grammar.specs.Kinds.{items_or_none, IsOfInputKind}
+use Rattle.plant_grammar.specs.Names.{AreNamesApart}
+use Rattle.plant_grammar.specs.Lawful.{variables}
+use Rattle.plant_grammar.proofs.LawfulResources.{listed_allowed, behind_binds}
 use Rattle.plant_grammar.proofs.grammar.reader.Reader.some_binds.Goals as goal
 
 pub returns-in_err-binds-clause-names : goal.returns-in_err-binds-clause-names
@@ -11,3 +20,13 @@ returns-in_err-binds-clause-names c =
     let fault = c.in_err-binds.field-0.0 in
     kept_fault fault (λ f. IsOfName f.kind → BeginWith (IsAfter (mark_word Open) (RefusesBind f.kind c.args.tally.now.binds)) (c.args.self.now.words)) c.from_residual-in_err-binds.result c.from_residual-in_err-binds.ensures.1
     (λ of. in_binds fault.kind c.args.tally.now.binds c.args.self.now.words c.punctuation.new.self.words c.in_ok-punctuation.ensures.ok (c.in_err-binds.ensures.names of))
+
+pub returns-in_err-binds-clause-other : goal.returns-in_err-binds-clause-other
+returns-in_err-binds-clause-other c =
+    let fault = c.in_err-binds.field-0.0 in
+    kept_fault fault (λ f. f.kind ≢ Memory → (bs : Option (List Bind)) (rest : List Token) → c.args.self.now.words ≡ binds_words bs ++ mark_word Semicolon ∷ rest → AreNamesApart (map (λ (b : Bind). b.input) (items_or_none bs)) → All (IsOfInputKind (variables c.args.program.now.program)) (items_or_none bs) → c.args.tally.now.binds + length (items_or_none bs) ≤ 4096 → ⊥) c.from_residual-in_err-binds.result c.from_residual-in_err-binds.ensures.1
+    (λ known bs rest e apart kinds few. listed_allowed (variables c.args.program.now.program) c.args.tally.now.binds bs c.args.self.now.words c.punctuation.new.self.words rest c.in_ok-punctuation.ensures.ok e apart kinds few (c.in_err-binds.ensures.other known))
+
+pub returns-in_ok-binds-clause-only : goal.returns-in_ok-binds-clause-only
+returns-in_ok-binds-clause-only c = λ bs rest e.
+    behind_binds bs c.in_ok-binds.field-0.items c.args.self.now.words c.punctuation.new.self.words c.binds.new.self.words rest c.in_ok-punctuation.ensures.ok c.in_ok-binds.ensures.ok e

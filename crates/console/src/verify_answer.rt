@@ -1,0 +1,117 @@
+ghost use Rattle.std.specs.Prelude.{IfOk, IfErr};
+ghost use Rattle.verify_texts.specs.VerifyText.{ExplainsAnswer, WritesAnswer};
+ghost use Rattle.console.specs.Verifying.{asked_question};
+
+use crate::command_fault::CommandFault;
+use crate::faults::{print_failure, print_fault, print_nearest};
+use crate::files::file_text;
+use crate::shown::Shown;
+use crate::status::{CLAIM_FAILS, UNDECIDED, WORD_REFUSED};
+use command_line::VerifyRequest;
+use std::alloc::Global;
+use std::io;
+use std::io::Write;
+use std::rt::Files;
+use verify_texts::{
+    ClaimFault, ClaimFaultKind, HeldFault, Question, Summary, VerifyFault, verify_text,
+};
+
+/// Writes what is true of the claims about the drawing in the text. The file is what stands for it before the words for
+/// `plc eval`.
+pub fn obey_verify<W: Write>(
+    alloc: Global,
+    request: &VerifyRequest<'_>,
+    file: &str,
+    text: &str,
+    writer: &mut W,
+) -> Result<Summary, VerifyFault>
+    ensures ok { IfOk result (WritesAnswer text.now (asked_question file.now request.now) (W.contents writer.old) (W.contents writer.new)) }
+    ensures fault { IfErr result (ExplainsAnswer text.now (asked_question file.now request.now) (W.contents writer.old) (W.contents writer.new)) }
+{
+    let question = Question {
+        file,
+        claims: &request.claims,
+        words: &request.words,
+        dt: request.dt,
+        most_states: request.most_states as usize,
+    };
+    verify_text(alloc, text, &question, writer)
+}
+
+/// The status after all claims were answered.
+fn status_of(summary: Summary) -> u8 {
+    match summary {
+        Summary::AllHold => 0,
+        Summary::OneFails => CLAIM_FAILS,
+        Summary::OneUndecided => UNDECIDED,
+    }
+}
+
+/// Tells why a name is no claim; the status.
+fn print_claim_fault<R: Eprint + AllocGlobal>(
+    rt: &R,
+    text: &str,
+    names: &[&str],
+    fault: ClaimFault,
+) -> io::Result<u8> {
+    let name = names.get(fault.number).copied().unwrap_or("");
+    let shown = Shown(name);
+    eprintln!(rt; "plc: {shown}: {fault}")?;
+    if fault.kind == ClaimFaultKind::NoVariable {
+        print_nearest(rt, text, name);
+    }
+    Ok(WORD_REFUSED)
+}
+
+/// Tells why a word holds no input; the status.
+fn print_held_fault<R: Eprint>(rt: &R, words: &[&str], fault: HeldFault) -> io::Result<u8> {
+    let word = Shown(words.get(fault.number).copied().unwrap_or(""));
+    eprintln!(rt; "plc: {word}: {fault}")?;
+    Ok(WORD_REFUSED)
+}
+
+/// Tells why there is no answer; the status.
+fn print_verify_fault<R: Eprint + AllocGlobal>(
+    rt: &R,
+    request: &VerifyRequest<'_>,
+    text: &str,
+    fault: VerifyFault,
+) -> io::Result<u8> {
+    match fault {
+        VerifyFault::Command(fault) => {
+            print_fault(rt, request.drawing, text, &request.words, fault.into())
+        }
+        VerifyFault::Claim(fault) => print_claim_fault(rt, text, &request.claims, fault),
+        VerifyFault::Held(fault) => print_held_fault(rt, &request.words, fault),
+        VerifyFault::TooManyInputs(_) => {
+            eprintln!(rt; "plc: {fault}")?;
+            Ok(WORD_REFUSED)
+        }
+    }
+}
+
+/// Reads a drawing, and writes what is true of the claims about it; the status.
+pub fn answer_verify<R: Files + Print + Eprint + AllocGlobal>(
+    rt: &R,
+    request: &VerifyRequest<'_>,
+) -> io::Result<u8> {
+    let text = match file_text(rt, request.drawing)? {
+        Ok(text) => text,
+        Err(status) => return Ok(status),
+    };
+    let shown = Shown(request.drawing);
+    let Ok(file) = format!(in rt.alloc(); "{shown}") else {
+        return print_failure(rt, CommandFault::Memory);
+    };
+    let mut writer = io::writer(rt);
+    match obey_verify(
+        rt.alloc(),
+        request,
+        file.as_str(),
+        text.as_str(),
+        &mut writer,
+    ) {
+        Ok(summary) => Ok(status_of(summary)),
+        Err(fault) => print_verify_fault(rt, request, text.as_str(), fault),
+    }
+}

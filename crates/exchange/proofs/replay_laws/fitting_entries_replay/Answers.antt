@@ -1,0 +1,5 @@
+use Rattle.exchange.proofs.Schedules.Replaying.{replays}
+use Rattle.exchange.proofs.replay_laws.fitting_entries_replay.Goals as goal
+
+pub returns : goal.returns
+returns c = replays

@@ -1,0 +1,120 @@
+-- What `plc eval` writes and tells, be it a chart or not, with words NAME==BITS or without.
+use Rattle.std.specs.Prelude.{◌≡◌, ℕ, ◌+◌, ◌<◌, ◌==◌, ◌⊎◌, if◌then◌else◌, List, Bool, true, false, Option, Some, None, IsTrue, All, take, length, slice_get, string_bytes}
+use Rattle.std.specs.List.{flat_map}
+use Rattle.std.specs.Io.KnownBytes.{Appends, Keeps}
+use Rattle.network.specs.Links.{Diagram}
+use Rattle.std_blocks.specs.declared.value.Value.{Value}
+use Rattle.std_blocks.specs.declared.value.Value.TheVariants.{Bool as BoolValue, Int as IntValue, Time as TimeValue}
+use Rattle.declared_names.specs.declared.declarations.Declaration.{Declaration}
+use Rattle.scan_steps.specs.declared.slot.Slot.{Slot}
+use Rattle.scan_steps.specs.Slots.{variable_at}
+use Rattle.text_writer.specs.Sending.{Stops}
+use Rattle.text_writer.specs.declared.send_fault.SendFault.{SendFault}
+use Rattle.text_writer.specs.declared.send_fault.SendFault.TheVariants as sending
+use Rattle.text_commands.specs.declared.word_fault.WordFault.{WordFault}
+use Rattle.text_commands.specs.declared.text_command_fault.TextCommandFault.{TextCommandFault}
+use Rattle.text_commands.specs.declared.text_command_fault.TextCommandFault.TheVariants.{Text, Word, Write, Memory}
+use Rattle.text_commands.specs.declared.difference.Difference.{Difference}
+use Rattle.text_commands.specs.Rows.{RowValue}
+use Rattle.text_commands.specs.Lines.{line_of}
+use Rattle.text_commands.specs.Chart.{chart_of}
+use Rattle.text_commands.specs.Trace.{SomeTrace}
+use Rattle.text_commands.specs.Expectations.{SpellTest, IsFirstRefusedOf, test_scans}
+use Rattle.text_commands.specs.EvalText.{IsLadderOfDrawing, RefusesDrawing}
+
+-- what a BOOL is, where a digit asks for the other value
+abbrev pub other_than : Option ℕ → Option Value → Option Bool
+other_than None value = None
+other_than (Some digit) None = None
+other_than (Some digit) (Some (BoolValue true)) = if digit == 49 then None else Some true
+other_than (Some digit) (Some (BoolValue false)) = if digit == 49 then Some false else None
+other_than (Some digit) (Some (IntValue n)) = None
+other_than (Some digit) (Some (TimeValue t)) = None
+
+-- what the variable of a row is after scan k, counted from 0, where the row expects the other value of it; behind its last
+-- digit a row expects nothing
+abbrev pub other_value : ℕ → List Slot → RowValue → Option Bool
+other_value k slots row = other_than (slice_get row.digits k) (variable_at slots row.place)
+
+-- after scan k all is as expected
+abbrev pub AgreesAt : List RowValue → ℕ → List Slot → Type 0
+AgreesAt expected k slots = All (λ row. other_value k slots row ≡ None) expected
+
+-- after each of the first so many scans all is as expected
+abbrev pub AgreesBefore : List RowValue → List (List Slot) → ℕ → Type 0
+AgreesBefore expected states scans =
+    (k : ℕ) (slots : List Slot) → k < scans → slice_get states k ≡ Some slots → AgreesAt expected k slots
+
+-- the first row, in the order of the words, that expects another value after scan k than there is
+pub record IsFirstOther (expected : List RowValue) (k : ℕ) (slots : List Slot) (place : ℕ) (value : Bool) : Type 0 where
+  pub number : ℕ
+  pub row : RowValue
+  pub at : slice_get expected number ≡ Some row
+  pub place_is : place ≡ row.place
+  pub other : other_value k slots row ≡ Some value
+  pub before : AgreesAt (take number expected) k slots
+
+-- The first difference: by scan, and then by the order of the words. Its name is that of the declaration; scans count
+-- from 1.
+pub record IsFirstDifference (ds : List Declaration) (expected : List RowValue) (states : List (List Slot))
+    (found : Difference) : Type 0 where
+  pub k : ℕ
+  pub slots : List Slot
+  pub at : slice_get states k ≡ Some slots
+  pub declaration : Declaration
+  pub place : ℕ
+  pub declared : slice_get ds place ≡ Some declaration
+  pub first : IsFirstOther expected k slots place found.value
+  pub before : AgreesBefore expected states k
+  pub name : string_bytes found.name ≡ declaration.name
+  pub scan : found.scan ≡ k + 1
+
+-- all is as expected, or this is the first difference
+abbrev pub IsOutcome : List Declaration → List RowValue → List (List Slot) → Option Difference → Type 0
+IsOutcome ds expected states None = AgreesBefore expected states (length states)
+IsOutcome ds expected states (Some found) = IsFirstDifference ds expected states found
+
+-- a line for each variable, or a line for each scan
+abbrev pub trace_text : Bool → List Declaration → List (List Slot) → List ℕ
+trace_text chart ds states = if chart then chart_of ds states else flat_map (line_of ds) states
+
+-- the ladder of the drawing, and what the words are for it
+pub record AskedTest (drawing : List ℕ) (words : List (List ℕ)) : Type 0 where
+  pub declarations : List Declaration
+  pub networks : List Diagram
+  pub ladder : IsLadderOfDrawing drawing declarations networks
+  pub rows : List RowValue
+  pub expected : List RowValue
+  pub read : SpellTest declarations words rows expected
+
+-- all scans were made, their text was written, and this is what came of what was expected
+pub record WritesTest (drawing : List ℕ) (words : List (List ℕ)) (dt : ℕ) (chart : Bool) (old new : Option (List ℕ))
+    (found : Option Difference) : Type 0 where
+  pub asked : AskedTest drawing words
+  pub made : SomeTrace asked.declarations asked.networks dt asked.rows (test_scans asked.rows asked.expected)
+  pub all : length made.states ≡ test_scans asked.rows asked.expected
+  pub appended : Appends old new (trace_text chart asked.declarations made.states)
+  pub outcome : IsOutcome asked.declarations asked.expected made.states found
+
+-- the text of some of the scans, of a chart that of all, didn't go out whole
+pub record StopsTest (fault : SendFault) (drawing : List ℕ) (words : List (List ℕ)) (dt : ℕ) (chart : Bool)
+    (old new : Option (List ℕ)) : Type 0 where
+  pub asked : AskedTest drawing words
+  pub made : SomeTrace asked.declarations asked.networks dt asked.rows (test_scans asked.rows asked.expected)
+  pub all : IsTrue chart → length made.states ≡ test_scans asked.rows asked.expected
+  pub stopped : Stops fault (trace_text chart asked.declarations made.states) old new
+
+-- the words are no test of the drawing's ladder, and this is the first fault
+pub record RefusesTestWords (drawing : List ℕ) (words : List (List ℕ)) (fault : WordFault) : Type 0 where
+  pub declarations : List Declaration
+  pub networks : List Diagram
+  pub ladder : IsLadderOfDrawing drawing declarations networks
+  pub first : IsFirstRefusedOf declarations words fault
+
+-- why there was a fault, and what was written before: nothing before a fault of the text or of the words
+abbrev pub ExplainsTest : List ℕ → List (List ℕ) → ℕ → Bool → Option (List ℕ) → Option (List ℕ) → TextCommandFault → Type 0
+ExplainsTest drawing words dt chart old new (Text fault) = RefusesDrawing drawing fault × Keeps old new
+ExplainsTest drawing words dt chart old new (Word fault) = RefusesTestWords drawing words fault × Keeps old new
+ExplainsTest drawing words dt chart old new Write = StopsTest sending.Write drawing words dt chart old new
+ExplainsTest drawing words dt chart old new Memory =
+    Keeps old new ⊎ StopsTest sending.Memory drawing words dt chart old new

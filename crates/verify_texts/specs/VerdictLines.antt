@@ -1,0 +1,99 @@
+-- How verdicts are written.
+use Rattle.std.specs.Prelude.{◌≡◌, ℕ, ◌≤◌, ◌==◌, ◌++◌, if◌then◌else◌, List, [], ◌∷◌, Bool, codes, length, map, slice_get, slice_index_or, false, nat_lt, ◌||◌, ◌&&◌, not}
+use Rattle.std.specs.Fmt.{decimal}
+use Rattle.std.specs.List.{enumerate_from, flat_map}
+use Rattle.std.specs.Option.{option_map_or}
+use Rattle.declared_names.specs.declared.declarations.Declaration.{Declaration}
+use Rattle.power_flow.specs.Meaning.{Moment}
+use Rattle.text_commands.specs.Lines.{line_of}
+use Rattle.verifying.specs.declared.setup.Setting.{Setting}
+use Rattle.verifying.specs.declared.verdict.Verdict.{Verdict}
+use Rattle.verifying.specs.declared.verdict.Verdict.TheVariants.{Holds, Fails, Undecided}
+use Rattle.verifying.specs.Runs.{SetupValue, ScansWith, first}
+
+-- a number of things: `1 scan`, `2 scans`
+abbrev pub counted : ℕ → List ℕ → List ℕ
+counted count what = decimal count ++ codes " " ++ what ++ (if count == 1 then [] else codes "s")
+
+-- how much was looked at
+abbrev pub looked_at : ℕ → ℕ → List ℕ
+looked_at states scans = codes ": " ++ counted states (codes "state") ++ codes ", " ++ counted scans (codes "scan") ++ codes "\n"
+
+abbrev pub holds_line : List ℕ → ℕ → ℕ → List ℕ
+holds_line name states scans = codes "HOLDS " ++ name ++ codes " is never on" ++ looked_at states scans
+
+abbrev pub undecided_line : List ℕ → ℕ → ℕ → ℕ → List ℕ
+undecided_line name depth states scans =
+    codes "UNDECIDED " ++ name ++ codes " is not on within " ++ counted depth (codes "scan") ++ looked_at states scans
+
+abbrev pub fails_line : List ℕ → ℕ → List ℕ
+fails_line name scans = codes "FAILS " ++ name ++ codes " is on after " ++ counted scans (codes "scan") ++ codes "\n"
+
+-- a digit for a value
+abbrev pub digit_of : Bool → ℕ
+digit_of on = if on then 49 else 48
+
+-- the name that is declared at a place
+abbrev pub name_at : List Declaration → ℕ → List ℕ
+name_at ds place = option_map_or (λ (d : Declaration). d.name) (slice_get ds place) []
+
+-- a word NAME=DIGITS behind a blank
+abbrev pub input_word : List ℕ → List ℕ → List ℕ
+input_word name digits = codes " " ++ name ++ codes "=" ++ digits
+
+-- the digits of a free input, by its number: its value in each row
+abbrev pub digits_of_free : List (List Bool) → ℕ → List ℕ
+digits_of_free rows input = map (λ (row : List Bool). digit_of (slice_index_or row input false)) rows
+
+-- the digits of a held input: its value for each row
+abbrev pub digits_of_held : List (List Bool) → Bool → List ℕ
+digits_of_held rows value = map (λ (row : List Bool). digit_of value) rows
+
+abbrev pub free_words : List Declaration → List ℕ → List (List Bool) → List ℕ
+free_words ds free rows =
+    flat_map (λ (e : ℕ × ℕ). input_word (name_at ds e.1) (digits_of_free rows e.0)) (enumerate_from 0 free)
+
+abbrev pub held_words : List Declaration → List Setting → List (List Bool) → List ℕ
+held_words ds held rows =
+    flat_map (λ (s : Setting). input_word (name_at ds s.place) (digits_of_held rows s.value)) held
+
+-- the option of `plc eval`, where it isn't what it is without
+abbrev pub dt_words : ℕ → List ℕ
+dt_words dt = if dt == 0 then [] else codes " --dt " ++ decimal dt
+
+-- the words that have `plc eval` make a run
+abbrev pub eval_line : SetupValue → List ℕ → List (List Bool) → List ℕ
+eval_line u file rows =
+    codes "plc eval " ++ file ++ dt_words u.dt ++ free_words u.ladder.declarations u.free rows
+    ++ held_words u.ladder.declarations u.held rows ++ codes "\n"
+
+-- what `plc eval` can make: a run of 1,000 scans at most, and of one where there is no input
+abbrev pub can_be_words : SetupValue → ℕ → Bool
+can_be_words u scans = not (nat_lt 1000 scans) && (scans == 1 || not (length u.free == 0 && length u.held == 0))
+
+-- A run, the state that it leads to, and its lines: one of the variables after each scan, as `plc eval` writes it.
+pub data RunLines (u : SetupValue) : List (List Bool) → Moment → List ℕ → Type 0 where
+  begun : RunLines u [] (first u) []
+  after : (rows : List (List Bool)) (row : List Bool) (s t : Moment) (text : List ℕ) → RunLines u rows s text
+      → ScansWith u row s t → RunLines u (rows ++ row ∷ []) t (text ++ line_of u.ladder.declarations t.slots)
+
+-- the text of a run that breaks a claim
+pub record IsFailText (u : SetupValue) (file name : List ℕ) (rows : List (List Bool)) (text : List ℕ) : Type 0 where
+  pub last : Moment
+  pub lines : List ℕ
+  pub run : RunLines u rows last lines
+  pub is : text ≡ fails_line name (length rows)
+      ++ (if can_be_words u (length rows) then eval_line u file rows else []) ++ lines
+
+-- the text of a verdict
+abbrev pub IsVerdictText : SetupValue → List ℕ → ℕ → ℕ → List ℕ → Verdict → List ℕ → Type 0
+IsVerdictText u file states scans name Holds text = text ≡ holds_line name states scans
+IsVerdictText u file states scans name (Fails rows) text = IsFailText u file name rows.items text
+IsVerdictText u file states scans name (Undecided depth) text = text ≡ undecided_line name depth states scans
+
+-- the texts of verdicts, one behind the other
+pub data AreTexts (u : SetupValue) (file : List ℕ) (states scans : ℕ) : List (List ℕ) → List Verdict → List ℕ → Type 0 where
+  none : AreTexts u file states scans [] [] []
+  more : (names : List (List ℕ)) (name : List ℕ) (verdicts : List Verdict) (verdict : Verdict) (text lines : List ℕ)
+      → AreTexts u file states scans names verdicts text → IsVerdictText u file states scans name verdict lines
+      → AreTexts u file states scans (names ++ name ∷ []) (verdicts ++ verdict ∷ []) (text ++ lines)

@@ -1,0 +1,57 @@
+use text_commands::TextCommandFault;
+use thiserror::Error;
+
+/// Why a name behind `--never` is no claim.
+#[derive(Clone, Copy, Debug, PartialEq, Eq, Error)]
+pub enum ClaimFaultKind {
+    /// The drawing has no BOOL variable of this name.
+    #[error("the drawing has no BOOL variable of this name")]
+    NoVariable,
+    /// No coil and no output pin stores at it, so a scan can't change it.
+    #[error("no coil and no output pin stores at this variable: it is an input")]
+    NeverStored,
+}
+
+/// Why the claim with a number, counted from 0, is refused.
+#[derive(Clone, Copy, Debug, PartialEq, Eq, Error)]
+#[error("{kind}")]
+pub struct ClaimFault {
+    pub number: usize,
+    pub kind: ClaimFaultKind,
+}
+
+/// Why a word NAME=BIT holds no input.
+#[derive(Clone, Copy, Debug, PartialEq, Eq, Error)]
+pub enum HeldFaultKind {
+    /// It gives more than one digit.
+    #[error("an input is held by one digit, 0 or 1")]
+    NotOneDigit,
+    /// A coil or an output pin stores at the variable.
+    #[error("a coil or an output pin stores at this variable: it is no input")]
+    NoInput,
+}
+
+/// Why the word with a number, counted from 0, is refused.
+#[derive(Clone, Copy, Debug, PartialEq, Eq, Error)]
+#[error("{kind}")]
+pub struct HeldFault {
+    pub number: usize,
+    pub kind: HeldFaultKind,
+}
+
+/// Why a question about a drawing has no answer.
+#[derive(Clone, Copy, Debug, PartialEq, Eq, Error)]
+pub enum VerifyFault {
+    /// As in other commands: the text or a word is refused, the output can't be written, or there is no memory left.
+    #[error(transparent)]
+    Command(TextCommandFault),
+    /// A name behind `--never` is no claim.
+    #[error(transparent)]
+    Claim(ClaimFault),
+    /// A word holds no input.
+    #[error(transparent)]
+    Held(HeldFault),
+    /// So many inputs are free, more than 20.
+    #[error("{0} inputs are free, and at most 20 may be: hold some by words NAME=BIT")]
+    TooManyInputs(usize),
+}
