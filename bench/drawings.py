@@ -122,3 +122,32 @@ def path_up(rows):
     made[-1] = "|  A " + made[-1][5:]
     above = "|".ljust(5 + rows + 3) + "Y"
     return "\n".join([above] + made + ["+--| |+"]) + "\n"
+
+
+def interlock():
+    """Two drives of six inputs each, of which one waits for the other to be off, and the claim that both never run."""
+    made = []
+    for drive, other, first in (("LIFT", "LOWER", 0), ("LOWER", "LIFT", 6)):
+        names = [f"A{first + number:02}" for number in range(6)]
+        made += [
+            "|  " + "".join(name.ljust(7) for name in [*names, other, drive]),
+            "+--| |-+" + "--| |--" * 5 + "--|/|----( )",
+            f"|  {drive.ljust(5)}|",
+            "+--| |-+",
+        ]
+    return "\n".join([*made, "|  LIFT   LOWER  CLASH", "+--| |----| |----( )"]) + "\n"
+
+
+def waiting(time):
+    """A timer of so many milliseconds whose elapsed time no variable shows, and a claim on its output that holds."""
+    made = [
+        "|             T1",
+        "|         +-------+",
+        "|  GO     |  TON  |   Y",
+        "+--| |----|IN    Q|---( )",
+        f"|T#{time}ms".ljust(10, "-") + "|PT     |",
+        "|         +-------+",
+        "|  Y    Y    NEVER",
+        "+--| |--|/|--( )",
+    ]
+    return "\n".join(made) + "\n"

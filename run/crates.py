@@ -68,7 +68,7 @@ def lines_of(crate):
 
 def is_proved(crate):
     """Whether a crate's library is there, and newer than what it is made of."""
-    library = f"{ROOT}/crates/{crate}/out/rlib"
-    if crate == PROGRAM or not os.path.isdir(library):
+    library = f"{ROOT}/crates/{crate}/out/rlib/stamp"
+    if crate == PROGRAM or not os.path.isfile(library):
         return False
     return all(os.path.getmtime(path) <= os.path.getmtime(library) for path in files_of(crate))

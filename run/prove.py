@@ -41,7 +41,7 @@ class Proof:
         self.room = Room(self.crate, place)
         with open(self.log, "wb") as log:
             how = {"cwd": self.room.folder, "env": around, "stdin": subprocess.DEVNULL}
-            self.process = subprocess.Popen(["rt", *words], stdout=log, stderr=subprocess.STDOUT, **how)
+            self.process = subprocess.Popen([sys.executable, f"{ROOT}/run/rt.py", *words], stdout=log, stderr=subprocess.STDOUT, **how)
         self.jobs = jobs
 
     def end(self):

@@ -7,6 +7,10 @@ use Rattle.clap.specs.Words.{App, Row, Rule, Text, new_app, new_rule, with_rule,
 use Rattle.clap.specs.declared.builder.action.ArgAction.TheVariants.{Set, Append, SetTrue}
 use Rattle.command_line.specs.declared.request.TextRequest.{TextRequest}
 use Rattle.command_line.specs.declared.request.TextRequest.TheVariants.{Eval, Check, Plan}
+use Rattle.command_line.specs.declared.request.View.{View}
+use Rattle.command_line.specs.declared.request.View.TheVariants.{Rows, Drawings, Chart}
+use Rattle.command_line.specs.declared.request.Color.{Color}
+use Rattle.command_line.specs.declared.request.Color.TheVariants.{Always, Auto, Never}
 use Rattle.command_line.specs.declared.request.Request.{Request}
 use Rattle.command_line.specs.declared.request.Request.TheVariants.{Text as OfText, Verify, Sim, Run, Explain}
 
@@ -54,6 +58,13 @@ paced_rule = flag_of (codes "paced")
 abbrev pub chart_rule : Rule
 chart_rule = flag_of (codes "chart")
 
+abbrev pub show_rule : Rule
+show_rule = flag_of (codes "show")
+
+-- an option `--color WHEN`
+abbrev pub color_rule : Rule
+color_rule = option_of (codes "color")
+
 -- an option `--never NAME`, once or more often
 abbrev pub never_rule : Rule
 never_rule = record (new_rule (codes "never")) {
@@ -74,11 +85,11 @@ words_rule = record (new_rule (codes "words")) {
   value_names = 1;
 }
 
--- `eval DRAWING [--dt MS] [--chart] [NAME=BITS]..`
+-- `eval DRAWING [--dt MS] [--show] [--chart] [--color WHEN] [NAME=BITS]..`
 abbrev pub eval_app : App
 eval_app =
     let dt = with_rule (with_rule (new_app (codes "eval")) drawing_rule) dt_rule in
-    with_rule (with_rule dt chart_rule) words_rule
+    with_rule (with_rule (with_rule (with_rule dt show_rule) chart_rule) color_rule) words_rule
 
 -- `verify DRAWING --never NAME [--dt MS] [--most-states N] [NAME=BIT]..`
 abbrev pub verify_app : App
@@ -152,10 +163,23 @@ claims_given found = unwrap_or (all_of (codes "never") found) []
 abbrev pub is_given : Text → List Row → Bool
 is_given id found = option_map_or (λ text. bytes_eq text (codes "true")) (first_of id found) false
 
+-- `--show` asks for drawings, and `--chart` for a chart; nothing asks for both
+abbrev pub GivesView : Bool → Bool → View → Type 0
+GivesView show chart Rows = (show ≡ false) × (chart ≡ false)
+GivesView show chart Drawings = (show ≡ true) × (chart ≡ false)
+GivesView show chart Chart = (show ≡ false) × (chart ≡ true)
+
+-- the word behind `--color`; where there is none it is `auto`
+abbrev pub GivesColor : Option (List ℕ) → Color → Type 0
+GivesColor word Always = word ≡ Some (codes "always")
+GivesColor word Auto = (word ≡ None) ⊎ (word ≡ Some (codes "auto"))
+GivesColor word Never = word ≡ Some (codes "never")
+
 abbrev pub AsksEval : List Row → Request → Type 0
-AsksEval found (OfText (Eval drawing dt chart words)) =
+AsksEval found (OfText (Eval drawing dt view color words)) =
     (drawing.now ≡ given_word (codes "DRAWING") found) × GivesNumber 0 (first_of (codes "dt") found) dt
-    × (chart ≡ is_given (codes "chart") found) × (map (λ w. w.now) words.items ≡ words_given found)
+    × GivesView (is_given (codes "show") found) (is_given (codes "chart") found) view
+    × GivesColor (first_of (codes "color") found) color × (map (λ w. w.now) words.items ≡ words_given found)
 AsksEval found (OfText (Check plant)) = ⊥
 AsksEval found (OfText (Plan plant until)) = ⊥
 AsksEval found (Verify verify) = ⊥
@@ -176,7 +200,7 @@ AsksVerify found (Run run) = ⊥
 AsksVerify found (Explain kind) = ⊥
 
 abbrev pub AsksCheck : List Row → Request → Type 0
-AsksCheck found (OfText (Eval drawing dt chart words)) = ⊥
+AsksCheck found (OfText (Eval drawing dt view color words)) = ⊥
 AsksCheck found (OfText (Check plant)) = plant.now ≡ given_word (codes "PLANT") found
 AsksCheck found (OfText (Plan plant until)) = ⊥
 AsksCheck found (Verify verify) = ⊥
@@ -185,7 +209,7 @@ AsksCheck found (Run run) = ⊥
 AsksCheck found (Explain kind) = ⊥
 
 abbrev pub AsksPlan : List Row → Request → Type 0
-AsksPlan found (OfText (Eval drawing dt chart words)) = ⊥
+AsksPlan found (OfText (Eval drawing dt view color words)) = ⊥
 AsksPlan found (OfText (Check plant)) = ⊥
 AsksPlan found (OfText (Plan plant until)) =
     (plant.now ≡ given_word (codes "PLANT") found) × GivesNumber 0 (first_of (codes "until") found) until
@@ -195,7 +219,7 @@ AsksPlan found (Run run) = ⊥
 AsksPlan found (Explain kind) = ⊥
 
 abbrev pub AsksSim : List Row → Request → Type 0
-AsksSim found (OfText (Eval drawing dt chart words)) = ⊥
+AsksSim found (OfText (Eval drawing dt view color words)) = ⊥
 AsksSim found (OfText (Check plant)) = ⊥
 AsksSim found (OfText (Plan plant until)) = ⊥
 AsksSim found (Verify verify) = ⊥
@@ -206,7 +230,7 @@ AsksSim found (Run run) = ⊥
 AsksSim found (Explain kind) = ⊥
 
 abbrev pub AsksRun : List Row → Request → Type 0
-AsksRun found (OfText (Eval drawing dt chart words)) = ⊥
+AsksRun found (OfText (Eval drawing dt view color words)) = ⊥
 AsksRun found (OfText (Check plant)) = ⊥
 AsksRun found (OfText (Plan plant until)) = ⊥
 AsksRun found (Verify verify) = ⊥
@@ -238,12 +262,12 @@ AsksFor (Some (name, found)) request =
 
 -- the file that is to be read
 abbrev pub file_of : TextRequest → List ℕ
-file_of (Eval drawing dt chart words) = drawing.now
+file_of (Eval drawing dt view color words) = drawing.now
 file_of (Check plant) = plant.now
 file_of (Plan plant until) = plant.now
 
 -- the words NAME=BITS and NAME==BITS
 abbrev pub words_in : TextRequest → List (List ℕ)
-words_in (Eval drawing dt chart words) = map (λ w. w.now) words.items
+words_in (Eval drawing dt view color words) = map (λ w. w.now) words.items
 words_in (Check plant) = []
 words_in (Plan plant until) = []

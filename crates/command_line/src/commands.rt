@@ -1,6 +1,6 @@
 ghost use Rattle.std.specs.Prelude.{◌≡◌, false, IfOk, codes};
 ghost use Rattle.clap.specs.Words.{app_of, new_app, rule_of};
-ghost use Rattle.command_line.specs.CommandLine.{needed_word, option_of, flag_of, words_rule, plant_rule, until_rule, state_rule, paced_rule, chart_rule, kind_rule, never_rule, eval_app, verify_app, check_app, plan_app, sim_app, run_app, explain_app, versioned, commanded, plc_app, text_app};
+ghost use Rattle.command_line.specs.CommandLine.{needed_word, option_of, flag_of, words_rule, plant_rule, until_rule, state_rule, paced_rule, show_rule, chart_rule, color_rule, kind_rule, never_rule, eval_app, verify_app, check_app, plan_app, sim_app, run_app, explain_app, versioned, commanded, plc_app, text_app};
 
 use crate::help::{
     CHECK_HELP, EVAL_HELP, EXPLAIN_HELP, FIRST_STEPS, PLAN_HELP, RUN_HELP, SIM_HELP, VERIFY_HELP,
@@ -74,7 +74,7 @@ fn state_arg<'a>(alloc: Global) -> Arg<'a>
         alloc,
         "state",
         "DIR",
-        "A folder that keeps the incarnations between runs",
+        "A folder that keeps incarnations and retained variables between runs",
     )
 }
 
@@ -108,6 +108,29 @@ fn chart_arg<'a>(alloc: Global) -> Arg<'a>
         alloc,
         "chart",
         "A line is written for each variable, not for each scan",
+    )
+}
+
+fn show_arg<'a>(alloc: Global) -> Arg<'a>
+    ensures rule { rule_of result ≡ show_rule }
+    ensures local { result.global ≡ false }
+{
+    flag_arg(
+        alloc,
+        "show",
+        "Behind the line of each scan the drawing is written, with what has power in it",
+    )
+}
+
+fn color_arg<'a>(alloc: Global) -> Arg<'a>
+    ensures rule { rule_of result ≡ color_rule }
+    ensures local { result.global ≡ false }
+{
+    number_arg(
+        alloc,
+        "color",
+        "WHEN",
+        "When --show writes what has power in bold green: always, auto (on a terminal) or never [default: auto]",
     )
 }
 
@@ -145,7 +168,9 @@ fn eval_command<'a>(alloc: Global) -> Result<Command<'a>, AllocError>
             "MS",
             "The time between two scans in milliseconds, 0 to 4294967295 [default: 0]",
         ))?
+        .arg(show_arg(alloc))?
         .arg(chart_arg(alloc))?
+        .arg(color_arg(alloc))?
         .arg(words_arg(
             alloc,
             "NAME=BITS",

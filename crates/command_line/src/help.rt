@@ -16,9 +16,11 @@ scans as the longest word has digits (at most 1,000), and one if there are no wo
 uses is a variable; it is written in either case.
 
 After each scan one line of all variables is written, in the order in which they appear in the drawing. With
---chart one line is written for each variable instead, after the last scan: a BOOL is # where it is on and _
-where it is off, a sign for each scan; a number or time is written after the first scan, and behind a blank
-after each one that changed it.
+--show the drawing follows each of these lines as it stands in the file, with = for a - that has power in this
+scan, and # for a + or | of an upright that has it; --color always writes these in bold green, and auto does
+where standard output is a terminal. With --chart one line is written for each variable instead, after the
+last scan: a BOOL is # where it is on and _ where it is off, a sign for each scan; a number or time is written
+after the first scan, and behind a blank after each one that changed it.
 
 A word NAME==BITS tells what the BOOL variable NAME is to be after each scan, and behind its last digit nothing.
 The first difference is told on standard error.
@@ -29,6 +31,12 @@ Example, for the drawing examples/start_stop.ladder:
   START=1 STOP=0 RUN=1
   START=0 STOP=0 RUN=1
   START=0 STOP=1 RUN=0
+  $ plc eval examples/start_stop.ladder START=1 --show
+  START=1 STOP=0 RUN=1
+  |  START      STOP     RUN
+  +==| |====#===|/|======( )
+  |  RUN    #
+  +==| |----#
   $ plc eval examples/start_stop.ladder START=100 STOP=001 RUN==110 --chart
   START #__
   STOP  __#
@@ -100,7 +108,7 @@ by blanks or tabs, and stand in either case; a line that is blank or begins with
 
   EVAL R1.FAST 10 %IX0=1   task FAST of resource R1 is evaluated, 10 ms after the time before, with these field inputs
   DELIVER 1 R2             the message of the first evaluation reaches resource R2
-  RESTART R1               resource R1 restarts: it forgets all, and its incarnation is one more
+  RESTART R1               resource R1 restarts: it forgets all but retained variables, and its incarnation is one more
   HEAR R1 R2 2             R1 hears that R2 is in incarnation 2: what R1 makes from now on is meant for that
 
 An evaluation takes, from each task that feeds it, the latest evaluation that reached its resource and is meant for its
@@ -132,7 +140,8 @@ plan writes it) is a command to its resource: to evaluate the task, INTERVAL ms 
 ADDRESS=VALUE gives a field address its value, a bit 0 or 1, a word -32768 to 32767; every other address is 0. A task takes,
 from each task that feeds it, the latest evaluation that has reached its resource; which one that is depends on the threads.
 With --paced each command waits until the one before it is done, and then it is always the same. With --state DIR each
-resource counts its incarnations in the file DIR/NAME.inc, one more at each run; without it the incarnation is 1.
+resource counts its incarnations in the file DIR/NAME.inc, one more at each run, and its task K keeps what stands in VAR
+RETAIN in DIR/NAME.K.ret; without it the incarnation is 1, and nothing is kept.
 
 A line is written for each evaluation, in an order in which each one takes what was made before it; then UNANSWERED and the
 number of each command that wasn't done, FAULT and the resource, the number of the command and the reason for each thing

@@ -7,5 +7,5 @@ mod request;
 mod words;
 
 pub use help::FIRST_STEPS;
-pub use request::{Request, RunRequest, SimRequest, TextRequest, VerifyRequest};
+pub use request::{Color, Request, RunRequest, SimRequest, TextRequest, VerifyRequest, View};
 pub use words::read_words;

@@ -1,15 +1,36 @@
 ghost use Rattle.std.specs.Prelude.{◌≡◌, map};
 ghost use Rattle.command_line.specs.CommandLine.{file_of, words_in};
 
+/// What is written of the scans of a drawing.
+#[derive(Clone, Copy, Debug, PartialEq, Eq)]
+pub enum View {
+    /// A line for each scan.
+    Rows,
+    /// A line for each scan, and behind it the drawing with what has power in it.
+    Drawings,
+    /// A line for each variable.
+    Chart,
+}
+
+/// When what has power is written in color.
+#[derive(Clone, Copy, Debug, PartialEq, Eq)]
+pub enum Color {
+    Always,
+    /// Where standard output is a terminal.
+    Auto,
+    Never,
+}
+
 /// What is done with the text of one file.
 #[derive(Drop)]
 pub enum TextRequest<'a> {
-    /// The scans of a drawing, each `dt` milliseconds after the one before, a line for each scan or a chart. The words set
-    /// its variables, or tell what they are to be.
+    /// The scans of a drawing, each `dt` milliseconds after the one before. The words set its variables, or tell what they
+    /// are to be.
     Eval {
         drawing: &'a str,
         dt: u32,
-        chart: bool,
+        view: View,
+        color: Color,
         words: Vec<&'a str>,
     },
     /// How many resources, tasks, programs and connections a plant has.

@@ -2,10 +2,10 @@ ghost use Rattle.std.specs.Prelude.{◌≡◌, IfOk, MatchOption, Some, map, str
 ghost use Rattle.std.specs.Option.{option_map};
 ghost use Rattle.std.specs.Str.Parse.{digits_value};
 ghost use Rattle.clap.specs.Words.{rows_of, found_of, first_of, subcommand_of};
-ghost use Rattle.command_line.specs.CommandLine.{plc_app, IsNumber, GivesNumber, AsksEval, AsksVerify, AsksPlan, AsksSim, AsksRun, AsksFor, given_word, words_given, claims_given, is_given};
+ghost use Rattle.command_line.specs.CommandLine.{plc_app, IsNumber, GivesNumber, AsksEval, AsksVerify, AsksPlan, AsksSim, AsksRun, AsksFor, given_word, words_given, claims_given, is_given, GivesView, GivesColor};
 
 use crate::commands::commands;
-use crate::request::{Request, RunRequest, SimRequest, TextRequest, VerifyRequest};
+use crate::request::{Color, Request, RunRequest, SimRequest, TextRequest, VerifyRequest, View};
 use clap::error::ErrorKind;
 use clap::{ArgMatches, Command, Error};
 use std::alloc::{AllocError, Global};
@@ -90,6 +90,40 @@ fn claims_given<'a>(alloc: Global, matches: &ArgMatches<'a>) -> Result<Vec<&'a s
     }
 }
 
+/// What is written of the scans, by the flags that were given.
+fn view_of<'a>(command: &mut Command<'a>, show: bool, chart: bool) -> Result<View, Error>
+    ensures { IfOk result (GivesView show chart) }
+{
+    match (show, chart) {
+        (false, false) => Ok(View::Rows),
+        (true, false) => Ok(View::Drawings),
+        (false, true) => Ok(View::Chart),
+        (true, true) => {
+            Err(command.error(
+                ErrorKind::ArgumentConflict,
+                "--show and --chart can't be given both",
+            )?)
+        }
+    }
+}
+
+/// When there is color, by the word behind `--color`.
+fn color_of<'a>(command: &mut Command<'a>, word: Option<&'a str>) -> Result<Color, Error>
+    ensures { IfOk result (GivesColor (option_map (λ w. w.now) word.entry)) }
+{
+    match word {
+        None | Some("auto") => Ok(Color::Auto),
+        Some("always") => Ok(Color::Always),
+        Some("never") => Ok(Color::Never),
+        Some(_) => {
+            Err(command.error(
+                ErrorKind::InvalidValue,
+                "WHEN of --color is always, auto or never",
+            )?)
+        }
+    }
+}
+
 fn eval_request<'a>(
     alloc: Global,
     command: &mut Command<'a>,
@@ -100,7 +134,8 @@ fn eval_request<'a>(
     Ok(Request::Text(TextRequest::Eval {
         drawing: given_word(inner, "DRAWING"),
         dt: number_of(command, inner, "dt", 0, DT_REFUSED)?,
-        chart: is_given(inner, "chart"),
+        view: view_of(command, is_given(inner, "show"), is_given(inner, "chart"))?,
+        color: color_of(command, word_of(inner, "color"))?,
         words: words_given(alloc, inner)?,
     }))
 }

@@ -1,37 +1,69 @@
-ghost use Rattle.std.specs.Prelude.{IfOk, IfErr};
-ghost use Rattle.console.specs.Answers.{WritesAnswer, ExplainsAnswer};
+ghost use Rattle.std.specs.Prelude.{◌≡◌, IfOk, IfErr};
+ghost use Rattle.console.specs.Answers.{WritesAnswer, ExplainsAnswer, form_of, is_colored};
 
 use crate::command_fault::CommandFault;
 use crate::faults::{print_difference, print_failure, print_fault};
 use crate::files::file_text;
 use crate::shown::Shown;
 use crate::status::WORD_REFUSED;
-use command_line::TextRequest;
+use command_line::{Color, TextRequest, View};
 use guidance::{explain, kinds};
 use std::alloc::Global;
 use std::io;
 use std::io::Write;
 use std::rt::Files;
-use text_commands::{Difference, TextCommandFault, check, eval_test, plan_text};
+use text_commands::{Difference, Form, TextCommandFault, check, eval_test, plan_text};
 use text_writer::write_text;
 
+/// Whether there is color.
+fn is_colored(color: Color, terminal: bool) -> bool
+    ensures { result ≡ is_colored color terminal }
+{
+    match color {
+        Color::Always => true,
+        Color::Auto => terminal,
+        Color::Never => false,
+    }
+}
+
+/// What is written of the scans.
+fn form_of(view: View, color: Color, terminal: bool) -> Form
+    ensures { result ≡ form_of view color terminal }
+{
+    match view {
+        View::Rows => Form::Rows,
+        View::Drawings => Form::Drawings {
+            color: is_colored(color, terminal),
+        },
+        View::Chart => Form::Chart,
+    }
+}
+
 /// Writes what the words ask for of the text of the file; the first difference from what they expect, if there is one.
+/// `terminal` is whether standard output is one.
 pub fn obey<W: Write>(
     alloc: Global,
+    terminal: bool,
     request: &TextRequest<'_>,
     text: &str,
     writer: &mut W,
 ) -> Result<Option<Difference>, TextCommandFault>
-    ensures ok { IfOk result (WritesAnswer request.now text.now (W.contents writer.old) (W.contents writer.new)) }
-    ensures fault { IfErr result (ExplainsAnswer request.now text.now (W.contents writer.old) (W.contents writer.new)) }
+    ensures ok { IfOk result
+        (WritesAnswer terminal request.now text.now (W.contents writer.old) (W.contents writer.new)) }
+    ensures fault { IfErr result
+        (ExplainsAnswer terminal request.now text.now (W.contents writer.old) (W.contents writer.new)) }
 {
     match request {
         TextRequest::Eval {
             dt,
-            chart,
+            view,
+            color,
             words,
             ..
-        } => eval_test(alloc, text, words, *dt, *chart, writer),
+        } => {
+            let form = form_of(*view, *color, terminal);
+            eval_test(alloc, text, words, *dt, form, writer)
+        }
         TextRequest::Check { .. } => {
             check(alloc, text, writer)?;
             Ok(None)
@@ -43,9 +75,10 @@ pub fn obey<W: Write>(
     }
 }
 
-/// Reads a file, and writes what is asked for of its text; the status.
+/// Reads a file, and writes what is asked for of its text; the status. `terminal` is whether standard output is one.
 pub fn answer_text<R: Files + Print + Eprint + AllocGlobal>(
     rt: &R,
+    terminal: bool,
     request: &TextRequest<'_>,
 ) -> io::Result<u8> {
     let file = request.file();
@@ -54,7 +87,7 @@ pub fn answer_text<R: Files + Print + Eprint + AllocGlobal>(
         Err(status) => return Ok(status),
     };
     let mut writer = io::writer(rt);
-    match obey(rt.alloc(), request, text.as_str(), &mut writer) {
+    match obey(rt.alloc(), terminal, request, text.as_str(), &mut writer) {
         Ok(None) => Ok(0),
         Ok(Some(difference)) => print_difference(rt, file, &difference),
         Err(fault) => print_fault(rt, file, text.as_str(), request.words(), fault.into()),

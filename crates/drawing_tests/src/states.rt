@@ -3,7 +3,7 @@
 use crate::checks::{equal, holds, must};
 use ladder_text::{Drawing, ReadText};
 use network::Graph;
-use power_flow::{Declarations, Declared, Guess, Kind, Ladder, State};
+use power_flow::{Declarations, Declared, Guess, Kind, Ladder, Snapshot, State};
 use std::alloc::Global;
 use std::process::Abort;
 use std_blocks::{BlockType, Value};
@@ -44,6 +44,12 @@ fn has_values(rt: &impl Abort, state: &State, values: &[Option<Value>]) {
     }
 }
 
+/// The digest of a state, once it is kept.
+fn digest(rt: &impl Abort, alloc: Global, state: &State) -> u64 {
+    let copy = must(rt, state.try_copy());
+    must(rt, Snapshot::of(alloc, copy)).digest()
+}
+
 #[test]
 fn variables_are_read_and_written_by_place(rt: HostRuntime) {
     let names = [
@@ -77,10 +83,14 @@ fn a_copy_is_the_same_until_something_changes(rt: HostRuntime) {
     scan_with(&rt, &ladder, &mut state, &[("START", true)]);
     let mut copy = must(&rt, state.try_copy());
     holds(&rt, "a copy is the same", copy.same(&state));
+    let kept = digest(&rt, rt.alloc(), &state);
+    equal(&rt, "digest", &digest(&rt, rt.alloc(), &copy), &kept);
     let (on, off) = (Some(Value::Bool(true)), Some(Value::Bool(false)));
     has_values(&rt, &copy, &[on, off, on, None]);
     holds(&rt, "STOP is set", copy.set(1, Value::Bool(true)));
     holds(&rt, "the copy differs", !copy.same(&state));
+    let changed = digest(&rt, rt.alloc(), &copy);
+    holds(&rt, "so does its digest", changed != kept);
 }
 
 /// The last scan was without power, or with power up to STOP.
@@ -119,6 +129,8 @@ fn what_no_variable_shows_counts(rt: HostRuntime) {
             equal(&rt, "value", &state.get(place), &first.get(place));
         }
         holds(&rt, name, !state.same(&first));
+        let before = digest(&rt, rt.alloc(), &first);
+        holds(&rt, name, digest(&rt, rt.alloc(), &state) != before);
     }
 }
 

@@ -8,17 +8,24 @@ use Rattle.due_list.specs.declared.task_ref.TaskRef.{TaskRef}
 use Rattle.task_codes.specs.CodeValue.{CodeValue}
 use Rattle.evaluation.specs.declared.take.Take.{Take}
 use Rattle.evaluation.specs.Takes.{initial_image}
-use Rattle.evaluation.specs.States.{initial_state}
+use Rattle.evaluation.specs.Retained.{retained_values, warm_state}
 use Rattle.evaluation.specs.Meaning.{Evaluated}
 
 -- two references to one task
 abbrev pub same_task : TaskRef → TaskRef → Bool
 same_task a b = a.resource == b.resource && a.task == b.task
 
--- the state before the next evaluation of a task: the state after its last one, or the initial one
-abbrev pub state_of : CodeValue → Option Evaluated → List StateValue
-state_of code None = initial_state code
-state_of code (Some x) = x.after
+-- what outlives a restart of a task: what its last evaluation left in the retained variables;
+-- where there is none, what was kept before
+abbrev pub left_by : List Value → Option Evaluated → List Value
+left_by kept None = kept
+left_by kept (Some x) = retained_values x.code x.after
+
+-- the state before the next evaluation of a task: the one that its last evaluation left;
+-- where there is none, the initial one, but for the retained variables, which have what was kept
+abbrev pub state_from : CodeValue → List Value → Option Evaluated → List StateValue
+state_from code kept None = warm_state code kept
+state_from code kept (Some x) = x.after
 
 -- the number of a task's last evaluation, or 0
 abbrev pub last_number : Option Evaluated → ℕ

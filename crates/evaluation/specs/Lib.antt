@@ -2,6 +2,7 @@ pub mod Names
 pub mod Inputs
 pub mod Takes
 pub mod States
+pub mod Retained
 pub mod Meaning
 pub mod Heard
 pub mod Last

@@ -2,3 +2,4 @@
 pub mod Contents
 pub mod Filling
 pub mod InputWords
+pub mod Warming

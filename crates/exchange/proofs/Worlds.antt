@@ -1,5 +1,6 @@
 -- Cores and worlds follow the history.
 pub mod Takes
+pub mod Leaving
 pub mod Moves
 pub mod Events
 pub mod Starts

@@ -1,22 +1,49 @@
 -- What has happened in a plant: lists of events. A history has the newest event first.
-use Rattle.std.specs.Prelude.{ℕ, ◌+◌, ◌==◌, ◌&&◌, Bool, true, false, nat_lt, nat_le, List, [], ◌∷◌, is_some, slice_index, length, filter, Option, Some, None, if◌then◌else◌}
+use Rattle.std.specs.Prelude.{◌≡◌, ℕ, ◌+◌, ◌==◌, ◌&&◌, Bool, true, false, nat_lt, nat_le, List, [], ◌∷◌, is_some, slice_index, slice_index_or, length, map, filter, Option, Some, None, if◌then◌else◌}
 use Rattle.std.specs.List.{filter_map}
+use Rattle.std_blocks.specs.declared.value.Value.{Value}
 use Rattle.due_list.specs.declared.task_ref.TaskRef.{TaskRef}
-use Rattle.plant.specs.PlantValue.{PlantValue, code_at}
+use Rattle.plant.specs.PlantValue.{PlantValue, ResourceValue, code_at}
 use Rattle.evaluation.specs.Heard.{heard_numbers}
 use Rattle.evaluation.specs.Last.{same_task}
+use Rattle.evaluation.specs.Retained.{initial_retained}
+use Rattle.exchange_core.specs.CoreValue.{AreOpeningOf}
 use Rattle.exchange.specs.declared.event.Event.{Event}
 use Rattle.exchange.specs.declared.event.Event.TheVariants.{Evaluate, Deliver, Restart, Hear}
 
--- What a run is over: the plant, the first incarnation of each resource, and the greatest number of an evaluation.
+-- for each resource and each of its tasks the values with which the task's retained variables open
+abbrev pub Openings : Type 0
+Openings = List (List (List Value))
+
+-- What a run is over: the plant, the first incarnation of each resource, the openings of its tasks,
+-- and the greatest number of an evaluation.
 pub record Setting : Type 0 where
   pub plant : PlantValue
   pub first : List ℕ
+  pub opening : Openings
   pub max_number : ℕ
 
--- the setting of this plant, these first incarnations and this greatest number
-abbrev pub setting_over : PlantValue → List ℕ → ℕ → Setting
-setting_over plant first max_number = record { plant = plant; first = first; max_number = max_number }
+-- the setting of this plant, these first incarnations, these openings and this greatest number
+abbrev pub setting_over : PlantValue → List ℕ → Openings → ℕ → Setting
+setting_over plant first opening max_number =
+    record { plant = plant; first = first; opening = opening; max_number = max_number }
+
+-- the openings of a resource's tasks
+abbrev pub openings_at : Openings → ℕ → List (List Value)
+openings_at opening n = slice_index_or opening n []
+
+-- the opening of a task
+abbrev pub opening_of : Setting → TaskRef → List Value
+opening_of s t = slice_index_or (openings_at s.opening t.resource) t.task []
+
+-- the openings of a plant of which nothing was kept: FALSE, 0 or T#0ms for each retained variable
+abbrev pub initial_openings : PlantValue → Openings
+initial_openings plant = map (λ (r : ResourceValue). map initial_retained r.codes) plant.resources
+
+-- an opening for each task of each resource, of the kinds of the task's retained variables
+pub record AreOpenings (plant : PlantValue) (opening : Openings) : Type 0 where
+  pub many : length opening ≡ length plant.resources
+  pub each : (n : ℕ) → AreOpeningOf plant n (openings_at opening n)
 
 -- an evaluation
 abbrev pub is_evaluate : Event → Bool

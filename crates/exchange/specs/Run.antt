@@ -1,6 +1,7 @@
 -- The run of a list of events: the evaluations that it makes. A log has the newest evaluation first.
 use Rattle.std.specs.Prelude.{◌≡◌, ℕ, ◌+◌, suc, ◌==◌, ◌&&◌, ◌||◌, Bool, List, [], ◌∷◌, reverse, Option, Some, None, length, if◌then◌else◌}
-use Rattle.std.specs.List.{list_any}
+use Rattle.std.specs.List.{list_any, find}
+use Rattle.power_flow.specs.StateValue.{StateValue}
 use Rattle.due_list.specs.declared.task_ref.TaskRef.{TaskRef}
 use Rattle.plant.specs.PlantValue.{code_at}
 use Rattle.task_codes.specs.CodeValue.{CodeValue}
@@ -8,10 +9,10 @@ use Rattle.evaluation.specs.declared.field_input.FieldInput.{FieldInput}
 use Rattle.evaluation.specs.declared.name.Name.{Name}
 use Rattle.evaluation.specs.Meaning.{Evaluated, IsAsked}
 use Rattle.evaluation.specs.Heard.{is_addressed}
-use Rattle.evaluation.specs.Last.{same_task, state_of, takes_of}
+use Rattle.evaluation.specs.Last.{same_task, left_by, state_from, takes_of}
 use Rattle.exchange.specs.declared.event.Event.{Event}
 use Rattle.exchange.specs.declared.event.Event.TheVariants.{Evaluate, Deliver, Restart, Hear}
-use Rattle.exchange.specs.History.{Setting, is_deliver_of, incarnation_of, number_of, heard_by, history_of}
+use Rattle.exchange.specs.History.{Setting, opening_of, is_deliver_of, incarnation_of, number_of, heard_by, history_of}
 
 -- Message k, this evaluation, has reached resource n: it is addressed to the present incarnation of n,
 -- and it was made there or was delivered there.
@@ -41,16 +42,25 @@ abbrev pub next_name : Setting → TaskRef → List Event → Name
 next_name s t history =
     record { task = t; incarnation = incarnation_of s t.resource history; number = number_of t history + 1 }
 
+-- the last evaluation of a task, in whatever incarnation
+abbrev pub last_of : TaskRef → List Evaluated → Option Evaluated
+last_of t log = find (λ (x : Evaluated). same_task x.name.task t) log
+
+-- The state before the next evaluation of a task, whose last one since the restart is this: the state that it left.
+-- Where there is none, the initial state with the retained variables as the task's last evaluation in any incarnation
+-- left them; before the first one of all, with its opening.
+abbrev pub state_before : Setting → CodeValue → TaskRef → List Evaluated → Option Evaluated → List StateValue
+state_before s code t log last = state_from code (left_by (opening_of s t) (last_of t log)) last
+
 -- x is the next evaluation of a task after a history and its log:
--- the plant's code, asked with what the resource has heard, the latest of each producer
--- and the state that the task's latest left
+-- the plant's code, asked with what the resource has heard, the latest of each producer and the state before
 pub record IsNextEvaluation (s : Setting) (history : List Event) (log : List Evaluated) (ticket : ℕ) (task : TaskRef)
     (dt : ℕ) (inputs : List FieldInput) (x : Evaluated) : Type 0 where
   pub code : CodeValue
   pub found : code_at s.plant task ≡ Some code
   pub asked : IsAsked ticket (next_name s task history) (heard_by s task.resource history) dt inputs
       (takes_of (λ p. latest s task.resource history p log) code)
-      (state_of code (latest s task.resource history task log)) code x
+      (state_before s code task log (latest s task.resource history task log)) code x
 
 -- These are the evaluations made in a history of lawful events:
 -- an Evaluate has made one, put in front of those before; no other event makes any.

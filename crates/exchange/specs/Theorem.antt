@@ -4,11 +4,10 @@ use Rattle.due_list.specs.declared.task_ref.TaskRef.{TaskRef}
 use Rattle.plant.specs.PlantValue.{code_at}
 use Rattle.evaluation.specs.declared.field_input.FieldInput.{FieldInput}
 use Rattle.evaluation.specs.Meaning.{Evaluated, IsMeant}
-use Rattle.evaluation.specs.Last.{state_of}
 use Rattle.exchange.specs.declared.event.Event.{Event}
 use Rattle.exchange.specs.declared.event.Event.TheVariants.{Evaluate}
 use Rattle.exchange.specs.History.{Setting, made_count, is_lawful, heard_by, history_of}
-use Rattle.exchange.specs.Run.{IsRun}
+use Rattle.exchange.specs.Run.{IsRun, state_before}
 use Rattle.exchange.specs.World.{WorldValue, world_of, latest_at, held_at}
 use Rattle.exchange.specs.Consistent.{TakesOnly, NeverGoesBack, NeverFalls}
 
@@ -32,10 +31,12 @@ pub record IsMade (s : Setting) (events : List Event) (log : List Evaluated) (k 
   -- all that it takes from one producer is of one evaluation of it, the latest addressed to the present incarnation of
   -- the taker's resource that had reached it; its inputs are initial if none had
   pub taken : (p : TaskRef) → TakesOnly x p (latest_at (world_after s before log) x.name.task.resource p)
-  -- it started from the stored state: what the task's evaluation before left in this incarnation;
-  -- the initial state if there was none
+  -- it started from the stored state: what the task's evaluation before left in this incarnation; if there was none,
+  -- the initial state with the retained variables as the task's last evaluation of all left them, or as they open
   pub code_is : code_at s.plant x.name.task ≡ Some x.code
-  pub stored : x.before ≡ state_of x.code (latest_at (world_after s before log) x.name.task.resource x.name.task)
+  pub stored : x.before
+      ≡ state_before s x.code x.name.task (reverse (world_after s before log).log)
+      (latest_at (world_after s before log) x.name.task.resource x.name.task)
   -- with the event's ticket, elapsed time and field inputs, its outputs and the state after are the meaning of that
   pub ticket_is : x.ticket ≡ ticket
   pub dt_is : x.dt ≡ dt

@@ -7,7 +7,7 @@ use Rattle.task_codes.specs.CodeValue.{CodeValue}
 use Rattle.evaluation.specs.Meaning.{Evaluated}
 use Rattle.evaluation.specs.Last.{same_task}
 use Rattle.exchange.specs.declared.event.Event.{Event}
-use Rattle.exchange.specs.History.{Setting, setting_over, history_of}
+use Rattle.exchange.specs.History.{Setting, Openings, setting_over, history_of}
 use Rattle.exchange.specs.Run.{latest}
 
 pub record WorldValue : Type 0 where
@@ -20,8 +20,8 @@ abbrev pub world_of : Setting → List Event → List Evaluated → WorldValue
 world_of s events log = record { setting = s; events = events; log = log }
 
 -- a world before its first event
-abbrev pub fresh_world : PlantValue → List ℕ → ℕ → WorldValue
-fresh_world plant first max_number = world_of (setting_over plant first max_number) [] []
+abbrev pub fresh_world : PlantValue → List ℕ → Openings → ℕ → WorldValue
+fresh_world plant first opening max_number = world_of (setting_over plant first opening max_number) [] []
 
 -- whether some task of resource n takes from task p
 abbrev pub node_takes : PlantValue → ℕ → TaskRef → Bool

@@ -5,6 +5,7 @@ mod done;
 mod event;
 mod laws;
 mod log_laws;
+mod openings;
 mod plant_world;
 mod replay_laws;
 mod schedule;
@@ -18,6 +19,7 @@ pub use log_laws::{
     books_are_consistent, consistency_theorem, holders_agree, runs_are_consistent,
     runs_are_entered, runs_fit,
 };
+pub use openings::{are_openings, initial_openings};
 pub use plant_world::World;
 pub use replay_laws::{fitting_entries_replay, runs_could_be_made, runs_replay};
 pub use schedule::Schedule;

@@ -1,7 +1,8 @@
 use crate::done::Done;
 use crate::event::Event;
+use crate::openings::copy_of_openings;
 use crate::world_fault::WorldFault;
-use evaluation::{Frame, Inputs};
+use evaluation::{Frame, Inputs, Retained};
 use evaluation_book::takes_never_fall;
 use exchange_core::{Accepted, Core, CoreFault, EvalFault};
 use plant::{Plant, TaskRef};
@@ -14,6 +15,8 @@ use std::sync::Arc;
 pub struct World {
     plant: Arc<Plant>,
     first: Vec<u32>,
+    /// For each resource what each of its tasks opens with.
+    opening: Vec<Vec<Retained>>,
     max_number: u32,
     cores: Vec<Core>,
     log: Vec<Frame>,
@@ -21,22 +24,25 @@ pub struct World {
 }
 
 impl Model for World {
+    ghost use Rattle.task_codes.specs.CodeValue.{lists_of};
     ghost use Rattle.exchange.specs.History.{setting_over};
     ghost use Rattle.exchange.specs.World.{WorldValue, world_of};
     ghost use Rattle.exchange.specs.Steps.Nodes.{IsWorldOf};
 
     ghost Value = { WorldValue };
 
-    ghost view = { λ w. world_of (setting_over w.plant.value w.first.items w.max_number) w.events.items w.log.items };
+    ghost view = { λ w. world_of (setting_over w.plant.value w.first.items (lists_of w.opening.items) w.max_number) w.events.items w.log.items };
 
-    ghost invariant = { λ w. IsWorldOf w.plant.value w.first.items w.max_number
+    ghost invariant = { λ w. IsWorldOf w.plant.value w.first.items (lists_of w.opening.items) w.max_number
         w.events.items w.log.items w.cores.items };
 }
 
-ghost use Rattle.std.specs.Prelude.{◌≡◌, ◌∷◌, [], true, IfOk, IfErr, IfSome, OnOk, OnErr, Contains, length, reverse, take};
+ghost use Rattle.std.specs.Prelude.{◌≡◌, ◌∷◌, [], true, IfOk, IfErr, IfSome, OnOk, OnErr, Contains, length, reverse, take, ◌<◌, slice_index};
 ghost use Rattle.std.specs.Option.{option_copied};
 ghost use Rattle.exchange.specs.declared.event.Event.TheVariants.{Evaluate, Deliver, Restart, Hear};
-ghost use Rattle.exchange.specs.History.{incarnation_of};
+ghost use Rattle.task_codes.specs.CodeValue.{lists_of};
+ghost use Rattle.exchange_core.specs.CoreValue.{fresh_core};
+ghost use Rattle.exchange.specs.History.{incarnation_of, AreOpenings, openings_at};
 ghost use Rattle.exchange.specs.Run.{IsRun};
 ghost use Rattle.exchange.specs.World.{fresh_world, held_at};
 ghost use Rattle.evaluation_book.specs.Fits.{AllFit};
@@ -45,47 +51,72 @@ ghost use Rattle.exchange.specs.Theorem.{IsDataConsistent};
 ghost use Rattle.exchange.specs.Step.{history_at, is_lawful_at, IsDone, IsEvaluatedNow, IsCause, IsRefusedEvent, IsStep, IsDelivered, is_newer, IsLawfulAt, HaveRun};
 ghost use Rattle.exchange.specs.Steps.Fresh.{AreFreshCores};
 
+/// The core of a resource before the first event.
+fn fresh_core(
+    alloc: Global,
+    plant: &Arc<Plant>,
+    resource: usize,
+    first: &[u32],
+    opening: &[Vec<Retained>],
+    max_number: u32,
+) -> Result<Core, AllocError>
+    requires first { length first.now ≡ length plant.now.value.resources }
+    requires opening { AreOpenings plant.now.value (lists_of opening.now) }
+    requires exists { resource < length plant.now.value.resources }
+    ensures { IfOk result (λ c. c ≡ fresh_core plant.now.value resource first.now (slice_index first.now resource)
+        (openings_at (lists_of opening.now) resource) max_number) }
+{
+    let shared = Arc::try_clone(plant)?;
+    let tasks = opening[resource].as_slice();
+    match Core::new(alloc, shared, resource, first, tasks, max_number) {
+        Ok(core) => Ok(core),
+        Err(CoreFault::NoSuchResource) => unreachable!(),
+        Err(CoreFault::Memory) => Err(AllocError),
+    }
+}
+
 /// The cores before the first event.
 fn fresh_cores(
     alloc: Global,
     plant: &Arc<Plant>,
     first: &[u32],
+    opening: &[Vec<Retained>],
     max_number: u32,
 ) -> Result<Vec<Core>, AllocError>
-    requires { length first.now ≡ length plant.now.value.resources }
-    ensures { IfOk result (λ cores. AreFreshCores plant.now.value first.now max_number cores.items) }
+    requires first { length first.now ≡ length plant.now.value.resources }
+    requires opening { AreOpenings plant.now.value (lists_of opening.now) }
+    ensures { IfOk result (λ cores. AreFreshCores plant.now.value first.now (lists_of opening.now) max_number cores.items) }
 {
     let mut cores = Vec::with_capacity(alloc, plant.resources())?;
     for resource in 0..plant.resources() {
-        let shared = Arc::try_clone(plant)?;
-        let core = match Core::new(alloc, shared, resource, first, max_number) {
-            Ok(core) => core,
-            Err(CoreFault::NoSuchResource) => unreachable!(),
-            Err(CoreFault::Memory) => return Err(AllocError),
-        };
-        cores.push(core)?;
+        cores.push(fresh_core(alloc, plant, resource, first, opening, max_number)?)?;
     }
     Ok(cores)
 }
 
 impl World {
-    /// A plant before the first event. Each resource is in its first incarnation; the numbers of evaluations go up to `max_number`.
+    /// A plant before the first event. Each resource is in its first incarnation; `opening` has for each resource and each of its tasks the values with which the task's retained variables open.
+    /// The numbers of evaluations go up to `max_number`.
     pub fn new(
         alloc: Global,
         plant: Arc<Plant>,
         first: &[u32],
+        opening: &[Vec<Retained>],
         max_number: u32,
     ) -> Result<World, AllocError>
-        requires { length first.now ≡ length plant.value.resources }
-        ensures { IfOk result (λ w. w ≡ fresh_world plant.value first.now max_number) }
+        requires first { length first.now ≡ length plant.value.resources }
+        requires opening { AreOpenings plant.value (lists_of opening.now) }
+        ensures { IfOk result (λ w. w ≡ fresh_world plant.value first.now (lists_of opening.now) max_number) }
     {
         let resources = plant.resources();
         prove!(resources == first.len());
-        let cores = fresh_cores(alloc, &plant, first, max_number)?;
+        let cores = fresh_cores(alloc, &plant, first, opening, max_number)?;
         let first = Vec::from_slice(alloc, first)?;
+        let opening = copy_of_openings(alloc, opening)?;
         Ok(World {
             plant,
             first,
+            opening,
             max_number,
             cores,
             log: Vec::new(alloc),
@@ -280,7 +311,7 @@ impl World {
         }
     }
 
-    /// Restarts a resource, in its next incarnation.
+    /// Restarts a resource, in its next incarnation. Of its tasks the retained variables stay as they are, and nothing else.
     fn restart(&mut self, alloc: Global, resource: usize) -> Result<u32, WorldFault>
         ensures done { OnOk result (IsDone self.old self.new (Restart resource) self.old.log) }
         ensures answer { IfOk result (λ i. i ≡ incarnation_of self.new.setting resource (history_at self.new)) }
@@ -290,19 +321,13 @@ impl World {
         if resource >= self.cores.len() {
             return Err(WorldFault::NoSuchResource);
         }
-        let last = self.cores[resource].incarnation();
+        let present = &self.cores[resource];
+        let last = present.incarnation();
         if last == u32::MAX {
             return Err(WorldFault::IncarnationsSpent);
         }
         let incarnation = last + 1;
-        let Ok(plant) = Arc::try_clone(&self.plant) else {
-            return Err(WorldFault::Memory);
-        };
-        let Ok(mut first) = Vec::from_slice(alloc, self.first.as_slice()) else {
-            return Err(WorldFault::Memory);
-        };
-        first[resource] = incarnation;
-        let Ok(core) = Core::new(alloc, plant, resource, first.as_slice(), self.max_number) else {
+        let Ok(core) = present.restarted(alloc, incarnation) else {
             return Err(WorldFault::Memory);
         };
         if self.events.reserve(1).is_err() {

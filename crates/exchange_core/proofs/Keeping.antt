@@ -1,20 +1,24 @@
 -- The parts of a core go on suiting each other.
-use Rattle.std.proofs.Common.{◌≡◌, ◌≢◌, ◌<◌, arith, eqb, get_or, ℕ, Bool, true, false, List, Option, Some, None, inl, inr, length, refl, ap, sym, ◌∙◌, subst}
+use Rattle.std.proofs.Common.{◌≡◌, ◌≢◌, ◌<◌, ◌+◌, ◌⊎◌, ◌++◌, arith, eqb, get_or, ℕ, Bool, true, false, List, [], ◌∷◌, Option, Some, None, inl, inr, length, refl, ap, sym, ◌∙◌, subst}
 use Rattle.std.specs.Prelude.{slice_get, slice_set}
 use Rattle.std.proofs.lemmas.Bool.{false≢true, eq-eqb}
 use Rattle.std.proofs.lemmas.Bool.Decides.{eqb_tells}
 use Rattle.std.proofs.lemmas.List.{length-set, set-get_or, get_or-set_same, get_or-set_other}
 use Rattle.std.proofs.lemmas.Option.{none-some, same_Some, slice_get_within, slice_get-get_or}
+use Rattle.lists.proofs.Places.{push_cases}
 use Rattle.lists.proofs.Tables.{both_same, cell_same, cell_other, cell_filled, row_lengths_kept, row_lengths_filled}
 use Rattle.due_list.specs.declared.task_ref.TaskRef.{TaskRef}
 use Rattle.plant_grammar.specs.Kinds.{items_or_none}
-use Rattle.plant.specs.PlantValue.{ResourceValue, PlantValue, code_at, IsSoundPlant}
+use Rattle.plant.specs.PlantValue.{ResourceValue, PlantValue, code_at, codes_at, IsSoundPlant}
 use Rattle.task_codes.specs.CodeValue.{CodeValue, image_kinds}
 use Rattle.evaluation.specs.declared.field_input.FieldInput.{FieldInput}
 use Rattle.evaluation.specs.Meaning.{Evaluated}
-use Rattle.evaluation.specs.Last.{same_task}
+use Rattle.std_blocks.specs.declared.value.Value.{Value}
+use Rattle.evaluation.specs.Last.{same_task, left_by}
+use Rattle.evaluation.specs.Retained.{Suits}
 use Rattle.exchange_core.specs.Held.{known, with_known, empty_for}
-use Rattle.exchange_core.specs.CoreValue.{CoreValue, core_of, fresh_core, held_of, own_task, IsUsable, IsNextOf, IsCore, IsKnownOf}
+use Rattle.exchange_core.specs.CoreValue.{CoreValue, core_of, fresh_core, kept_at, own_last, AreOpeningOf, held_of, own_task, IsUsable, IsNextOf, IsCore, IsKnownOf}
+use Rattle.exchange_core.specs.Steps.Outliving.{AreLeft}
 use Rattle.exchange_core.specs.Steps.Knowing.{has_place, FitsLast}
 use Rattle.exchange_core.proofs.Tables.{place_of_code}
 
@@ -36,7 +40,7 @@ core_with core p x = record core { table = with_known core.table p (Some x) }
 -- a core with one more evaluation of a task that it may know
 pub core-with : (core : CoreValue) (p : TaskRef) (x : Evaluated) → IsCore core → IsKnownOf core p x → IsCore (record core { table = with_known core.table p (Some x) })
 core-with core p x is may =
-    record { sound = is.sound; shaped = row_lengths_kept core.table p.resource p.task (Some x) ∙ is.shaped; firsts = is.firsts; heards = is.heards; own_heard = is.own_heard; each = λ q y at. by q y (same_task p q) refl at } where
+    record { sound = is.sound; shaped = row_lengths_kept core.table p.resource p.task (Some x) ∙ is.shaped; firsts = is.firsts; heards = is.heards; own_heard = is.own_heard; kept_suit = is.kept_suit; each = λ q y at. by q y (same_task p q) refl at } where
       place : has_place core.table p
       place = place_of_code core.plant core.table p may.code is.shaped may.found
 
@@ -68,9 +72,9 @@ next-known core ticket task dt inputs x next =
     let code : x.code ≡ next.code = ap (λ (y : Evaluated). y.code) next.asked.is in
     record { code = next.code; found = next.found; kinds_are = next.asked.whole.kinds_are ∙ ap image_kinds code; own = λ _. code }
 
-pub core-fresh : (plant : PlantValue) (resource : ℕ) (first : List ℕ) (incarnation max_number : ℕ) → IsSoundPlant plant → length first ≡ length plant.resources → resource < length plant.resources
-    → IsCore (fresh_core plant resource first incarnation max_number)
-core-fresh plant resource first incarnation max_number sound firsts exists =
+pub core-fresh : (plant : PlantValue) (resource : ℕ) (first : List ℕ) (incarnation : ℕ) (opening : List (List Value)) (max_number : ℕ) → IsSoundPlant plant → length first ≡ length plant.resources → resource < length plant.resources
+    → AreOpeningOf plant resource opening → IsCore (fresh_core plant resource first incarnation opening max_number)
+core-fresh plant resource first incarnation opening max_number sound firsts exists suits =
     record {
       sound = sound;
       shaped = row_lengths_filled codes_long no_evaluation plant.resources;
@@ -79,15 +83,16 @@ core-fresh plant resource first incarnation max_number sound firsts exists =
       own_heard =
           slice_get-get_or (slice_set first resource incarnation) resource 0 (omega (arith, exists, firsts, length-set first resource incarnation))
           ∙ ap (λ n. Some n) (get_or-set_same first resource incarnation 0 (omega (arith, exists, firsts)));
+      kept_suit = suits;
       each = λ p x at. absurd (none-some x (sym (cell_filled codes_long no_evaluation plant.resources p.resource p.task) ∙ at));
     }
 
 -- the first incarnations are what a core has heard in its first one
-pub core-first : (plant : PlantValue) (resource : ℕ) (first heard : List ℕ) (max_number : ℕ) → IsSoundPlant plant → length first ≡ length plant.resources → resource < length plant.resources → heard ≡ first
-    → IsCore (core_of plant resource first (get_or first resource 0) heard max_number (empty_for plant))
-core-first plant resource first heard max_number sound firsts exists same =
-    subst (λ l. IsCore (core_of plant resource first (get_or first resource 0) l max_number (empty_for plant))) (set-get_or first resource 0 ∙ sym same)
-    (core-fresh plant resource first (get_or first resource 0) max_number sound firsts exists)
+pub core-first : (plant : PlantValue) (resource : ℕ) (first heard : List ℕ) (opening : List (List Value)) (max_number : ℕ) → IsSoundPlant plant → length first ≡ length plant.resources → resource < length plant.resources
+    → AreOpeningOf plant resource opening → heard ≡ first → IsCore (core_of plant resource first (get_or first resource 0) heard max_number opening (empty_for plant))
+core-first plant resource first heard opening max_number sound firsts exists suits same =
+    subst (λ l. IsCore (core_of plant resource first (get_or first resource 0) l max_number opening (empty_for plant))) (set-get_or first resource 0 ∙ sym same)
+    (core-fresh plant resource first (get_or first resource 0) opening max_number sound firsts exists suits)
 
 -- the core's resource exists
 pub resource-exists : (core : CoreValue) → IsCore core → core.resource < length core.plant.resources
@@ -102,6 +107,7 @@ core-heard core of incarnation is other =
       firsts = is.firsts;
       heards = length-set core.heard of incarnation ∙ is.heards;
       own_heard = own;
+      kept_suit = is.kept_suit;
       each = λ q y at. let k = is.each q y at in record { code = k.code; found = k.found; kinds_are = k.kinds_are; own = k.own };
     } where
       lt : core.resource < length core.heard
@@ -132,3 +138,71 @@ held-set core p x is may other =
       | inl same ↦ absurd (other same.1)
       | inr apart ↦ rw apart.0 (cell_same core.table p.resource p.task (Some x) None place.0 place.1)
     ]
+
+-- the first tasks' retained values are those that outlive a restart, and they suit the codes
+pub record IsLeft (core : CoreValue) (n : ℕ) (new : List (List Value)) : Type 0 where
+  pub many : length new ≡ n
+  pub each : (k : ℕ) (kept left : List Value) → slice_get core.kept k ≡ Some kept → slice_get new k ≡ Some left → left ≡ left_by kept (own_last core k)
+  pub suit : (k : ℕ) (left : List Value) (code : CodeValue) → slice_get new k ≡ Some left → slice_get (codes_at core.plant core.resource) k ≡ Some code → Suits code left
+
+pub left-all : (core : CoreValue) (new : List (List Value)) → IsLeft core (length core.kept) new → AreLeft core new
+left-all core new is = record {
+  long = is.many;
+  each = λ task lt.
+      let many = is.many in
+      let was = slice_get-get_or core.kept task [] lt in
+      let now = slice_get-get_or new task [] (omega arith) in
+      is.each task (get_or core.kept task []) (get_or new task []) was now;
+}
+
+pub left-suit : (core : CoreValue) (new : List (List Value)) → AreOpeningOf core.plant core.resource core.kept → IsLeft core (length core.kept) new → AreOpeningOf core.plant core.resource new
+left-suit core new suits is = record { many = is.many ∙ suits.many; each = λ task code values found at. is.suit task values code at found }
+
+pub left-more : (core : CoreValue) (n : ℕ) (old : List (List Value)) (kept left : List Value) → IsLeft core n old → slice_get core.kept n ≡ Some kept → left ≡ left_by kept (own_last core n)
+    → ((code : CodeValue) → slice_get (codes_at core.plant core.resource) n ≡ Some code → Suits code left) → IsLeft core (n + 1) (old ++ left ∷ [])
+left-more core n old kept left is at value suits = record {
+  many = length-push old ∙ ap (λ m. m + 1) is.many;
+  each = λ k o l here found. each k o l here (push_cases old left k l found);
+  suit = λ k l code found of. suit k l code of (push_cases old left k l found);
+}
+  where
+    length-push : (xs : List (List Value)) → length (xs ++ left ∷ []) ≡ length xs + 1
+    length-push [] = refl
+    length-push (x ∷ xs) = rw (length-push xs) (omega arith)
+
+    each : (k : ℕ) (o l : List Value) → slice_get core.kept k ≡ Some o → (slice_get old k ≡ Some l) ⊎ ((k ≡ length old) × (l ≡ left)) → l ≡ left_by o (own_last core k)
+    each k o l here (inl found) = is.each k o l here found
+    each k o l here (inr p) =
+        let same : k ≡ n = p.0 ∙ is.many in
+        let old_is : kept ≡ o = same_Some kept o (sym at ∙ ap (slice_get core.kept) (sym same) ∙ here) in
+        p.1 ∙ value ∙ ap (λ v. left_by v (own_last core n)) old_is ∙ ap (λ i. left_by o (own_last core i)) (sym same)
+
+    suit : (k : ℕ) (l : List Value) (code : CodeValue) → slice_get (codes_at core.plant core.resource) k ≡ Some code → (slice_get old k ≡ Some l) ⊎ ((k ≡ length old) × (l ≡ left)) → Suits code l
+    suit k l code of (inl found) = is.suit k l code found of
+    suit k l code of (inr p) =
+        let same : k ≡ n = p.0 ∙ is.many in
+        subst (Suits code) (sym p.1) (suits code (ap (slice_get (codes_at core.plant core.resource)) (sym same) ∙ of))
+
+pub left-none : (core : CoreValue) → IsLeft core 0 []
+left-none core = record { many = refl; each = λ k o l here found. absurd (none-some l found); suit = λ k l code found of. absurd (none-some l found) }
+
+-- the last evaluation of a task of the resource was made by the task's code
+pub last-code : (core : CoreValue) (task : ℕ) (x : Evaluated) (code : CodeValue) → IsCore core → own_last core task ≡ Some x → code_at core.plant (own_task core task) ≡ Some code → x.code ≡ code
+last-code core task x code is at found = let entry = is.each (own_task core task) x at in entry.own refl ∙ same_Some entry.code code (sym entry.found ∙ found)
+
+-- a task of the resource began with values that suit its code
+pub began-within : (core : CoreValue) (t : TaskRef) (code : CodeValue) → IsCore core → t.resource ≡ core.resource → code_at core.plant t ≡ Some code → t.task < length core.kept
+began-within core t code is own found =
+    let here : slice_get (codes_at core.plant core.resource) t.task ≡ Some code = subst (λ r. slice_get (codes_at core.plant r) t.task ≡ Some code) own found in
+    let lt = slice_get_within (codes_at core.plant core.resource) t.task code here in
+    let many = is.kept_suit.many in omega arith
+
+pub began-suits : (core : CoreValue) (t : TaskRef) (code : CodeValue) → IsCore core → t.resource ≡ core.resource → code_at core.plant t ≡ Some code → Suits code (kept_at core t.task)
+began-suits core t code is own found =
+    let here : slice_get (codes_at core.plant core.resource) t.task ≡ Some code = subst (λ r. slice_get (codes_at core.plant r) t.task ≡ Some code) own found in
+    let at : slice_get core.kept t.task ≡ Some (kept_at core t.task) = slice_get-get_or core.kept t.task [] (began-within core t code is own found) in
+    is.kept_suit.each t.task code (kept_at core t.task) here at
+
+-- a task of the resource, by its place
+pub own-is : (core : CoreValue) (t : TaskRef) → t.resource ≡ core.resource → own_task core t.task ≡ t
+own-is core t e = rw (sym e) refl

@@ -1,9 +1,10 @@
 -- What a core is, and what it answers.
-use Rattle.std.specs.Prelude.{◌≡◌, ◌≢◌, ℕ, ◌+◌, ◌<◌, ◌≤◌, ◌==◌, ◌&&◌, Bool, true, false, not, nat_lt, List, Option, Some, None, is_some, length, map, slice_get, slice_set, slice_index, if◌then◌else◌}
+use Rattle.std.specs.Prelude.{◌≡◌, ◌≢◌, ℕ, ◌+◌, ◌<◌, ◌≤◌, ◌==◌, ◌&&◌, Bool, true, false, not, nat_lt, List, [], Option, Some, None, is_some, length, map, slice_get, slice_set, slice_index, slice_index_or, if◌then◌else◌}
+use Rattle.std_blocks.specs.declared.value.Value.{Value}
 use Rattle.declared_names.specs.declared.declarations.Kind.{Kind}
 use Rattle.declared_names.specs.Kinds.{kind_of}
 use Rattle.due_list.specs.declared.task_ref.TaskRef.{TaskRef}
-use Rattle.plant.specs.PlantValue.{PlantValue, code_at, IsSoundPlant}
+use Rattle.plant.specs.PlantValue.{PlantValue, code_at, codes_at, IsSoundPlant}
 use Rattle.task_codes.specs.CodeValue.{CodeValue, expected_at, image_kinds}
 use Rattle.evaluation.specs.declared.field_input.FieldInput.{FieldInput}
 use Rattle.evaluation.specs.declared.name.Name.{Name}
@@ -16,12 +17,14 @@ use Rattle.exchange_core.specs.declared.core_fault.CoreFault.TheVariants as faul
 use Rattle.exchange_core.specs.declared.eval_fault.EvalFault.{EvalFault}
 use Rattle.exchange_core.specs.declared.eval_fault.EvalFault.TheVariants.{NoSuchTask, NumbersSpent, Memory}
 use Rattle.evaluation.specs.Heard.{is_addressed}
-use Rattle.evaluation.specs.Last.{state_of, takes_of, last_number}
+use Rattle.evaluation.specs.Last.{state_from, left_by, takes_of, last_number}
+use Rattle.evaluation.specs.Retained.{Suits, initial_retained}
 use Rattle.exchange_core.specs.Held.{Table, known, with_known, empty_for, IsShaped}
 
 -- A core: its plant, its resource, the first incarnation of each resource, its own incarnation, the incarnation of each
--- resource of which it has heard, the greatest number, and the last evaluation known of each task: of a task of its own
--- resource the last one made in this incarnation, of any other the one held.
+-- resource of which it has heard, the greatest number, for each task of its resource the retained values with which it
+-- began this incarnation, and the last evaluation known of each task: of a task of its own resource the last one made in
+-- this incarnation, of any other the one held.
 pub record CoreValue : Type 0 where
   pub plant : PlantValue
   pub resource : ℕ
@@ -29,11 +32,12 @@ pub record CoreValue : Type 0 where
   pub incarnation : ℕ
   pub heard : List ℕ
   pub max_number : ℕ
+  pub kept : List (List Value)
   pub table : Table
 
 -- the core of these parts
-abbrev pub core_of : PlantValue → ℕ → List ℕ → ℕ → List ℕ → ℕ → Table → CoreValue
-core_of plant resource first incarnation heard max_number table =
+abbrev pub core_of : PlantValue → ℕ → List ℕ → ℕ → List ℕ → ℕ → List (List Value) → Table → CoreValue
+core_of plant resource first incarnation heard max_number kept table =
     record {
       plant = plant;
       resource = resource;
@@ -41,14 +45,26 @@ core_of plant resource first incarnation heard max_number table =
       incarnation = incarnation;
       heard = heard;
       max_number = max_number;
+      kept = kept;
       table = table;
     }
 
--- a core in this incarnation that holds nothing, with all tasks initial:
+-- a core in this incarnation that holds nothing, whose tasks begin with these retained values:
 -- of each other resource it has heard the first incarnation
-abbrev pub fresh_core : PlantValue → ℕ → List ℕ → ℕ → ℕ → CoreValue
-fresh_core plant resource first incarnation max_number =
-    core_of plant resource first incarnation (slice_set first resource incarnation) max_number (empty_for plant)
+abbrev pub fresh_core : PlantValue → ℕ → List ℕ → ℕ → List (List Value) → ℕ → CoreValue
+fresh_core plant resource first incarnation opening max_number =
+    core_of plant resource first incarnation (slice_set first resource incarnation) max_number opening (empty_for plant)
+
+-- retained values for each task of a resource, of the kinds of its retained variables
+pub record AreOpeningOf (plant : PlantValue) (resource : ℕ) (opening : List (List Value)) : Type 0 where
+  pub many : length opening ≡ length (codes_at plant resource)
+  pub each : (task : ℕ) (code : CodeValue) (values : List Value)
+      → code_at plant (record { resource = resource; task = task }) ≡ Some code
+      → slice_get opening task ≡ Some values → Suits code values
+
+-- what the tasks of a resource begin with where nothing was kept
+abbrev pub initial_opening : PlantValue → ℕ → List (List Value)
+initial_opening plant resource = map initial_retained (codes_at plant resource)
 
 -- why there is no core; memory is wanting only where there is such a resource
 abbrev pub IsCoreFault : PlantValue → ℕ → CoreFault → Type 0
@@ -113,14 +129,19 @@ abbrev pub next_name_of : CoreValue → ℕ → Name
 next_name_of core task =
     record { task = own_task core task; incarnation = core.incarnation; number = last_number (own_last core task) + 1 }
 
--- x is what this code makes, asked with what has been heard, what is known of each producer
--- and the state that the task's last evaluation left
+-- the retained values with which one of its tasks began this incarnation
+abbrev pub kept_at : CoreValue → ℕ → List Value
+kept_at core task = slice_index_or core.kept task []
+
+-- x is what this code makes, asked with what has been heard, what is known of each producer and the task's state:
+-- the one that its last evaluation left, or the warm state of what it began with
 abbrev pub IsAskedOf : CoreValue → ℕ → Name → ℕ → List FieldInput → CodeValue → Evaluated → Type 0
 IsAskedOf core ticket name dt inputs code x =
-    IsAsked ticket name core.heard dt inputs (takes_of (known core.table) code) (state_of code (known core.table name.task)) code x
+    IsAsked ticket name core.heard dt inputs (takes_of (known core.table) code)
+    (state_from code (kept_at core name.task.task) (known core.table name.task)) code x
 
 -- x is the next evaluation of one of its tasks: the plant's code,
--- asked with what is known of each producer and the state that the task's last evaluation left
+-- asked with what is known of each producer and the task's state
 pub record IsNextOf (core : CoreValue) (ticket task dt : ℕ) (inputs : List FieldInput) (x : Evaluated) : Type 0 where
   pub code : CodeValue
   pub found : code_at core.plant (own_task core task) ≡ Some code
@@ -131,6 +152,14 @@ pub record IsNextOf (core : CoreValue) (ticket task dt : ℕ) (inputs : List Fie
 pub record IsNext (old new : CoreValue) (ticket task dt : ℕ) (inputs : List FieldInput) (x : Evaluated) : Type 0 where
   pub next : IsNextOf old ticket task dt inputs x
   pub after : new ≡ record old { table = with_known old.table (own_task old task) (Some x) }
+
+-- A core after a restart in this incarnation: it holds nothing, and of each other resource it has heard the first
+-- incarnation. Of each of its tasks the retained variables outlive the restart: as the task's last evaluation left them,
+-- or as it began with them, where it hasn't been evaluated since.
+pub record IsRestartOf (old new : CoreValue) (incarnation : ℕ) : Type 0 where
+  pub is : new ≡ fresh_core old.plant old.resource old.first incarnation new.kept old.max_number
+  pub long : length new.kept ≡ length old.kept
+  pub kept : (task : ℕ) → task < length old.kept → kept_at new task ≡ left_by (kept_at old task) (own_last old task)
 
 -- the core's resource has a task
 abbrev pub HasOwnTask : CoreValue → ℕ → Type 0
@@ -165,4 +194,5 @@ pub record IsCore (core : CoreValue) : Type 0 where
   pub firsts : length core.first ≡ length core.plant.resources
   pub heards : length core.heard ≡ length core.plant.resources
   pub own_heard : slice_get core.heard core.resource ≡ Some core.incarnation
+  pub kept_suit : AreOpeningOf core.plant core.resource core.kept
   pub each : (p : TaskRef) (x : Evaluated) → known core.table p ≡ Some x → IsKnownOf core p x

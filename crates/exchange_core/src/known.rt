@@ -1,4 +1,4 @@
-use evaluation::{Frame, Name, TaskState};
+use evaluation::{Frame, Name, Retained, TaskState};
 use plant::{Plant, TaskCode, TaskRef};
 use std::alloc::{AllocError, Global};
 use std::marker::Model;
@@ -20,8 +20,9 @@ impl Model for Known {
 
 ghost use Rattle.std.specs.Prelude.{◌≡◌, IfOk, None, Some, replicate};
 ghost use Rattle.std.specs.Option.{option_copied};
+ghost use Rattle.evaluation.specs.Retained.{Suits};
 ghost use Rattle.evaluation.specs.States.{AreStatesOf};
-ghost use Rattle.evaluation.specs.Last.{state_of, last_number};
+ghost use Rattle.evaluation.specs.Last.{state_from, last_number};
 ghost use Rattle.exchange_core.specs.Held.{known, with_known, empty_for};
 ghost use Rattle.exchange_core.specs.CoreValue.{is_greater};
 ghost use Rattle.exchange_core.specs.Steps.Knowing.{has_place, FitsLast};
@@ -71,19 +72,21 @@ impl Known {
         }
     }
 
-    /// The state after a task's last evaluation, or the initial one.
-    pub fn state_of(
+    /// The state after a task's last evaluation, or the warm state of what was kept.
+    pub fn state_from(
         &self,
         alloc: Global,
         task: TaskRef,
         code: &TaskCode,
+        kept: &Retained,
     ) -> Result<TaskState, AllocError>
-        requires { FitsLast code.now (known self.now task) }
-        ensures value { IfOk result (λ s. s ≡ state_of code.now (known self.now task)) }
+        requires fits { FitsLast code.now (known self.now task) }
+        requires suits { Suits code.now kept.now }
+        ensures value { IfOk result (λ s. s ≡ state_from code.now kept.now (known self.now task)) }
         ensures fits { IfOk result (λ s. AreStatesOf code.now s) }
     {
         match self.get(task) {
-            None => TaskState::initial(alloc, code),
+            None => TaskState::warm(alloc, code, kept),
             Some(last) => last.evaluation().after().try_copy(),
         }
     }

@@ -5,7 +5,7 @@ use crate::known::Known;
 use crate::restart_fault::RestartFault;
 use crate::takes::takes_of;
 use crate::usable::expects;
-use evaluation::{Evaluation, Frame, Inputs, Name};
+use evaluation::{Evaluation, Frame, Inputs, Name, Retained};
 use plant::{Plant, TaskCode, TaskRef};
 use std::alloc::{AllocError, Global};
 use std::marker::Model;
@@ -22,6 +22,8 @@ pub struct Core {
     /// Of each resource the incarnation heard of; of the own one its incarnation.
     heard: Vec<u32>,
     max_number: u32,
+    /// For each task of the resource, what it began this incarnation with.
+    kept: Vec<Retained>,
     table: Known,
 }
 
@@ -31,32 +33,48 @@ impl Model for Core {
     ghost Value = { CoreValue };
 
     ghost view = { λ c. core_of c.plant.value c.resource c.first.items c.incarnation
-        c.heard.items c.max_number c.table };
+        c.heard.items c.max_number c.kept.items c.table };
 
     ghost invariant = { λ c. IsCore (core_of c.plant.value c.resource c.first.items c.incarnation
-        c.heard.items c.max_number c.table) };
+        c.heard.items c.max_number c.kept.items c.table) };
 }
 
 ghost use Rattle.std.specs.Prelude.{◌≡◌, ◌≢◌, ◌+◌, ◌<◌, ◌↔◌, IfOk, IfErr, OnOk, OnErr, IsTrue, Some, length, slice_set, slice_index};
 ghost use Rattle.std.specs.Option.{option_copied};
 ghost use Rattle.plant.specs.PlantValue.{code_at};
-ghost use Rattle.evaluation.specs.Last.{last_number};
-ghost use Rattle.exchange_core.specs.CoreValue.{fresh_core, IsCoreFault, IsUsable, is_for, IsAccepted, is_news, HasHeard, IsAskedOf, IsNextOf, IsNext, IsDue, IsEvalFault, held_of, own_last, own_task};
+ghost use Rattle.task_codes.specs.CodeValue.{CodeValue};
+ghost use Rattle.evaluation.specs.Last.{last_number, left_by};
+ghost use Rattle.evaluation.specs.Retained.{Suits};
+ghost use Rattle.exchange_core.specs.CoreValue.{fresh_core, AreOpeningOf, IsRestartOf, kept_at, HasOwnTask, IsCoreFault, IsUsable, is_for, IsAccepted, is_news, HasHeard, IsAskedOf, IsNextOf, IsNext, IsDue, IsEvalFault, held_of, own_last, own_task};
+ghost use Rattle.exchange_core.specs.Steps.Outliving.{AreLeft};
 ghost use Rattle.exchange_core.specs.declared.accepted.Accepted.TheVariants.{Taken};
 ghost use Rattle.exchange_core.specs.declared.eval_fault.EvalFault.TheVariants.{Memory};
 
+/// Equal values.
+fn copies(alloc: Global, opening: &[Retained]) -> Result<Vec<Retained>, AllocError>
+    ensures { IfOk result (λ kept. kept.items ≡ opening.now) }
+{
+    let mut kept = Vec::with_capacity(alloc, opening.len())?;
+    for retained in opening {
+        kept.push(retained.try_copy()?)?;
+    }
+    Ok(kept)
+}
+
 impl Core {
-    /// A core of a resource in its first incarnation. It holds nothing, all its tasks are initial, and of each other resource it has heard the first incarnation.
-    /// `first` has the first incarnation of each resource. The numbers of its evaluations go up to `max_number`.
+    /// A core of a resource in its first incarnation. It holds nothing, each of its tasks begins with its opening, and of each other resource it has heard the first incarnation.
+    /// `first` has the first incarnation of each resource, `opening` what each task of this one begins with. The numbers of its evaluations go up to `max_number`.
     pub fn new(
         alloc: Global,
         plant: Arc<Plant>,
         resource: usize,
         first: &[u32],
+        opening: &[Retained],
         max_number: u32,
     ) -> Result<Core, CoreFault>
-        requires { resource < length plant.value.resources → length first.now ≡ length plant.value.resources }
-        ensures ok { IfOk result (λ c. c ≡ fresh_core plant.value resource first.now (slice_index first.now resource) max_number) }
+        requires first { resource < length plant.value.resources → length first.now ≡ length plant.value.resources }
+        requires opening { resource < length plant.value.resources → AreOpeningOf plant.value resource opening.now }
+        ensures ok { IfOk result (λ c. c ≡ fresh_core plant.value resource first.now (slice_index first.now resource) opening.now max_number) }
         ensures exists { OnOk result (resource < length plant.value.resources) }
         ensures fault { IfErr result (IsCoreFault plant.value resource) }
     {
@@ -66,6 +84,7 @@ impl Core {
         let incarnation = first[resource];
         let heard = Vec::from_slice(alloc, first)?;
         let first = Vec::from_slice(alloc, first)?;
+        let kept = copies(alloc, opening)?;
         let table = Known::empty(alloc, &plant)?;
         Ok(Core {
             plant,
@@ -74,29 +93,79 @@ impl Core {
             incarnation,
             heard,
             max_number,
+            kept,
             table,
         })
     }
 
-    /// The core of a greater incarnation: it holds nothing, all its tasks are initial, and of each other resource it has heard the first incarnation. Without memory the core comes back as it was.
+    /// The core of a greater incarnation: it holds nothing, of each of its tasks the retained variables alone are as they were, and of each other resource it has heard the first incarnation.
+    /// Without memory the core comes back as it was.
     pub fn restart(self, alloc: Global, incarnation: u32) -> Result<Core, (Core, RestartFault)>
         requires { self.incarnation < incarnation }
-        ensures ok { IfOk result (λ c. c ≡ fresh_core self.plant self.resource self.first incarnation self.max_number) }
+        ensures ok { IfOk result (λ c. IsRestartOf self c incarnation) }
         ensures err { IfErr result (λ e. e.0 ≡ self) }
     {
-        let mut core = self;
-        let Ok(heard) = core.heard_afresh(alloc, incarnation) else {
-            return Err((core, RestartFault::Memory));
-        };
-        match Known::empty(alloc, &core.plant) {
-            Err(_) => Err((core, RestartFault::Memory)),
-            Ok(table) => {
-                core.table = table;
-                core.heard = heard;
-                core.incarnation = incarnation;
-                Ok(core)
+        match self.restarted(alloc, incarnation) {
+            Ok(core) => Ok(core),
+            Err(_) => Err((self, RestartFault::Memory)),
+        }
+    }
+
+    /// The core that this one becomes by a restart in that incarnation. This one stays as it is.
+    pub fn restarted(&self, alloc: Global, incarnation: u32) -> Result<Core, AllocError>
+        ensures { IfOk result (λ c. IsRestartOf self.now c incarnation) }
+    {
+        let plant = Arc::try_clone(&self.plant)?;
+        let first = Vec::from_slice(alloc, self.first.as_slice())?;
+        let heard = self.heard_afresh(alloc, incarnation)?;
+        let kept = self.kept_now(alloc)?;
+        let table = Known::empty(alloc, &self.plant)?;
+        Ok(Core {
+            plant,
+            resource: self.resource,
+            first,
+            incarnation,
+            heard,
+            max_number: self.max_number,
+            kept,
+            table,
+        })
+    }
+
+    /// What one of its tasks began this incarnation with.
+    fn began(&self, task: usize) -> &Retained
+        requires { HasOwnTask self.now task }
+        ensures kept { result.now ≡ kept_at self.now task }
+        ensures suits { (code : CodeValue) → code_at self.now.plant (own_task self.now task) ≡ Some code → Suits code result.now }
+    {
+        &self.kept[task]
+    }
+
+    /// What outlives a restart of one of its tasks, which began with this.
+    fn left(&self, alloc: Global, task: usize, kept: &Retained) -> Result<Retained, AllocError>
+        ensures value { IfOk result (λ r. r ≡ left_by kept.now (own_last self.now task)) }
+        ensures suits { (code : CodeValue) → code_at self.now.plant (own_task self.now task) ≡ Some code
+            → Suits code kept.now → IfOk result (Suits code) }
+    {
+        match self.table.get(self.own(task)) {
+            None => kept.try_copy(),
+            Some(last) => {
+                let evaluation = last.evaluation();
+                Retained::of(alloc, evaluation.code(), evaluation.after())
             }
         }
+    }
+
+    /// What outlives a restart of each of its tasks.
+    fn kept_now(&self, alloc: Global) -> Result<Vec<Retained>, AllocError>
+        ensures left { IfOk result (λ kept. AreLeft self.now kept.items) }
+        ensures suit { IfOk result (λ kept. AreOpeningOf self.now.plant self.now.resource kept.items) }
+    {
+        let mut kept = Vec::with_capacity(alloc, self.kept.len())?;
+        for (task, began) in self.kept.iter().enumerate() {
+            kept.push(self.left(alloc, task, began)?)?;
+        }
+        Ok(kept)
     }
 
     /// What has been heard as an incarnation begins: of each other resource its first one.
@@ -253,7 +322,8 @@ impl Core {
         requires found { code_at self.now.plant name.task ≡ Some code.now.value }
         ensures { IfOk result (IsAskedOf self.now ticket name dt inputs.now code.now.value) }
     {
-        let before = self.table.state_of(alloc, name.task, code)?;
+        let began = self.began(name.task.task);
+        let before = self.table.state_from(alloc, name.task, code, began)?;
         let takes = takes_of(alloc, &self.table, code)?;
         let inputs = inputs.try_copy()?;
         let heard = Vec::from_slice(alloc, self.heard.as_slice())?;

@@ -1,14 +1,16 @@
 -- Which number a file keeps.
-use Rattle.std.proofs.Common.{arith, ◌≡◌, ℕ, ◌<◌, ◌^◌, Option, Some, None, Ok, sym, ◌∙◌}
-use Rattle.std.specs.Prelude.{MatchOption}
+use Rattle.std.proofs.Common.{arith, ◌≡◌, ℕ, ◌<◌, ◌^◌, Option, Some, None, Result, Ok, Err, sym, subst, ◌∙◌}
+use Rattle.std.specs.Prelude.{MatchOption, IsErrAnd}
 use Rattle.std.specs.Global.{Vec}
 use Rattle.std.specs.Option.{ok_or}
 use Rattle.std.proofs.lemmas.Option.{none-some}
-use Rattle.keepers.specs.declared.keeper_fault.KeeperFault.TheVariants.{Unreadable}
+use Rattle.keepers.specs.declared.keeper_fault.KeeperFault.{KeeperFault}
+use Rattle.keepers.specs.declared.keeper_fault.KeeperFault.TheVariants.{Unreadable, Unwritable, Spent, Memory}
+use Rattle.file_keepers.specs.declared.folder_fault.FolderFault.TheVariants.{Failed}
 use Rattle.file_keepers.specs.KnownFiles.{KnownFile, IsRead}
 use Rattle.file_keepers.specs.KnownFiles.KnownFile.{Unknown, Missing, Holding, Broken}
 use Rattle.file_keepers.specs.KeptNumbers.{KeepsNumber, KeepsNoneFrom, number_text}
-use Rattle.file_keepers.specs.Steps.Raising.{IsFound}
+use Rattle.file_keepers.specs.Steps.Raising.{IsFound, IsReadOf}
 use Rattle.file_keepers.proofs.NumberTexts.{whole_text, same_number, text_read}
 
 -- a file that keeps a number below another one keeps none from that one on
@@ -41,3 +43,20 @@ pub found_read : (file : KnownFile) (bytes : Vec ℕ) (found : Option ℕ) → I
     → IsFound file (ok_or found Unreadable)
 found_read file bytes None read is small = keeps_none_read file bytes read is
 found_read file bytes (Some n) read is small = keeps_read file bytes n small read is
+
+-- a file that can't be read keeps no number
+none_failed : (file : KnownFile) → IsRead file 12 (Err Failed) → KeepsNoneFrom file 0
+none_failed Unknown read = tt
+none_failed Missing read = absurd read
+none_failed (Holding held) read = absurd read
+none_failed Broken read = tt
+
+fault_found : (file : KnownFile) (e : KeeperFault) → IsReadOf file 12 (Err e) → IsFound file (Err e)
+fault_found file Unreadable read = none_failed file read
+fault_found file Unwritable read = absurd read
+fault_found file Spent read = absurd read
+fault_found file Memory read = tt
+
+pub found_failed : (file : KnownFile) (e : KeeperFault) (r : Result ℕ KeeperFault) → IsErrAnd r (λ f. f ≡ e) → IsReadOf file 12 (Err e) → IsFound file r
+found_failed file e (Ok n) is read = absurd is
+found_failed file e (Err f) is read = subst (λ (g : KeeperFault). IsFound file (Err g)) (sym is) (fault_found file e read)

@@ -1,6 +1,8 @@
 -- What is known of the files of a folder, and what reading and replacing one of them does.
 use Rattle.std.specs.Prelude.{◌≡◌, ◌≢◌, ℕ, ◌⊎◌, List, Option, Some, None, Result, Ok, Err, take}
 use Rattle.std.specs.Global.{Vec}
+use Rattle.keepers.specs.declared.keeper_fault.KeeperFault.{KeeperFault}
+use Rattle.keepers.specs.declared.keeper_fault.KeeperFault.TheVariants as keeper
 use Rattle.file_keepers.specs.declared.folder_fault.FolderFault.{FolderFault}
 use Rattle.file_keepers.specs.declared.folder_fault.FolderFault.TheVariants as fault
 
@@ -52,3 +54,13 @@ IsKeptOrReplaced old new name temporary bytes = IsKept old new name temporary �
 abbrev pub IsReplacing : (List ℕ → KnownFile) → (List ℕ → KnownFile) → List ℕ → List ℕ → List ℕ → Result (Unit {0}) FolderFault → Type 0
 IsReplacing old new name temporary bytes (Ok done) = IsReplaced old new name temporary bytes
 IsReplacing old new name temporary bytes (Err fault) = IsKeptOrReplaced old new name temporary bytes
+
+-- What keeping bytes in a file leaves: after Ok they are kept. Where the folder can't, or memory is wanting, these are or
+-- what was there.
+abbrev pub IsStored : (List ℕ → KnownFile) → (List ℕ → KnownFile) → List ℕ → List ℕ → List ℕ → Result (Unit {0}) KeeperFault → Type 0
+IsStored old new name temporary bytes (Ok done) = IsReplaced old new name temporary bytes
+IsStored old new name temporary bytes (Err keeper.Unreadable) = ⊥
+IsStored old new name temporary bytes (Err keeper.Unwritable) = IsKeptOrReplaced old new name temporary bytes
+IsStored old new name temporary bytes (Err keeper.Spent) = ⊥
+IsStored old new name temporary bytes (Err keeper.Memory) =
+    (new ≡ old) ⊎ IsKeptOrReplaced old new name temporary bytes

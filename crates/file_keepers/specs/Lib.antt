@@ -1,3 +1,4 @@
 pub mod KeptNumbers
+pub mod KeptRetained
 pub mod KnownFiles
 pub mod Steps

@@ -1,1 +1,2 @@
 pub mod Raising
+pub mod Reading

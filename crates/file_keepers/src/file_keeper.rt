@@ -1,16 +1,24 @@
 ghost use Rattle.std.specs.Prelude.{◌≡◌, IfOk, string_bytes};
+ghost use Rattle.evaluation.specs.Retained.{Suits};
 ghost use Rattle.keepers.specs.Keepers.{Raises};
-ghost use Rattle.file_keepers.specs.KeptNumbers.{IsNext, IsRaisedIn, number_file};
-ghost use Rattle.file_keepers.specs.Steps.Raising.{IsFound, IsStored};
+ghost use Rattle.file_keepers.specs.KnownFiles.{IsStored};
+ghost use Rattle.file_keepers.specs.KeptNumbers.{IsNext, IsRaisedIn, number_file, number_text, temporary_file};
+ghost use Rattle.file_keepers.specs.KeptRetained.{IsToldOf, retained_file, retained_text};
+ghost use Rattle.file_keepers.specs.Steps.Raising.{IsFound, IsReadOf};
 
+use crate::bad_line::BadLine;
 use crate::folder::Folder;
 use crate::folder_fault::FolderFault;
 use crate::number_text::{MOST_BYTES, number_in, number_text};
+use crate::retained_text::{ReadFault, most_bytes, read_values, retained_text};
+use evaluation::Retained;
 use keepers::{Keeper, KeeperFault};
 use std::alloc::{AllocError, Global};
+use task_codes::TaskCode;
 
 /// Keeps the incarnation of one resource in the file `NAME.inc` of a folder: a decimal number and a line feed. No file
-/// is 0.
+/// is 0. It keeps the retained variables of task K, counted from 0, in `NAME.K.ret`: a line `PROGRAM.VARIABLE=VALUE` for
+/// each in order, names as they were declared, TRUE as 1. No file is the initial values.
 #[derive(Drop)]
 pub struct FileKeeper<F: Folder> {
     alloc: Global,
@@ -32,16 +40,43 @@ impl<F: Folder> FileKeeper<F> {
         })
     }
 
+    /// The first bytes of a file; None where there is none. Unreadable: the folder can't read it.
+    fn read(&self, name: &str, most: usize) -> Result<Option<Vec<u8>>, KeeperFault>
+        ensures { IsReadOf (F.file self.now.folder name.now) most result }
+    {
+        match self.folder.read(name, most) {
+            Ok(found) => Ok(found),
+            Err(FolderFault::Failed) => Err(KeeperFault::Unreadable),
+            Err(FolderFault::Memory) => Err(KeeperFault::Memory),
+        }
+    }
+
+    /// Keeps a text in a file. Unwritable: the folder can't replace it.
+    fn store(&mut self, name: &str, text: &str) -> Result<(), KeeperFault>
+        ensures stored { IsStored (F.file self.old.folder) (F.file self.new.folder)
+            name.now (temporary_file (string_bytes self.old.resource)) text.now result }
+        ensures last { self.new.last ≡ self.old.last }
+        ensures resource { self.new.resource ≡ self.old.resource }
+    {
+        let temporary = format!(in self.alloc; "{}.tmp", self.resource)?;
+        match self
+            .folder
+            .replace(name, temporary.as_str(), text.as_bytes())
+        {
+            Ok(()) => Ok(()),
+            Err(FolderFault::Failed) => Err(KeeperFault::Unwritable),
+            Err(FolderFault::Memory) => Err(KeeperFault::Memory),
+        }
+    }
+
     /// The number that is kept; 0 where there is no file. Unreadable: no incarnation is kept.
+    #[tactic(auto, using(crate::proofs::KeptFiles::found_failed))]
     fn kept_number(&self) -> Result<u32, KeeperFault>
         ensures { IsFound (F.file self.now.folder (number_file (string_bytes self.now.resource))) result }
     {
         let name = format!(in self.alloc; "{}.inc", self.resource)?;
-        let bytes = match self.folder.read(name.as_str(), MOST_BYTES) {
-            Ok(Some(bytes)) => bytes,
-            Ok(None) => return Ok(0),
-            Err(FolderFault::Failed) => return Err(KeeperFault::Unreadable),
-            Err(FolderFault::Memory) => return Err(KeeperFault::Memory),
+        let Some(bytes) = self.read(name.as_str(), MOST_BYTES)? else {
+            return Ok(0);
         };
         number_in(self.alloc, bytes.as_slice())?.ok_or(KeeperFault::Unreadable)
     }
@@ -63,20 +98,54 @@ impl<F: Folder> FileKeeper<F> {
 
     /// Keeps a number. Unwritable: the folder couldn't.
     fn keep_number(&mut self, number: u32) -> Result<(), KeeperFault>
-        ensures stored { IsStored (F.file self.old.folder) (F.file self.new.folder) (string_bytes self.old.resource) number result }
+        ensures stored { IsStored (F.file self.old.folder) (F.file self.new.folder)
+            (number_file (string_bytes self.old.resource)) (temporary_file (string_bytes self.old.resource)) (number_text number) result }
         ensures last { self.new.last ≡ self.old.last }
         ensures resource { self.new.resource ≡ self.old.resource }
     {
         let name = format!(in self.alloc; "{}.inc", self.resource)?;
-        let temporary = format!(in self.alloc; "{}.tmp", self.resource)?;
         let text = number_text(self.alloc, number)?;
-        match self
-            .folder
-            .replace(name.as_str(), temporary.as_str(), text.as_bytes())
-        {
-            Ok(()) => Ok(()),
-            Err(FolderFault::Failed) => Err(KeeperFault::Unwritable),
-            Err(FolderFault::Memory) => Err(KeeperFault::Memory),
+        self.store(name.as_str(), text.as_str())
+    }
+
+    /// The name of a task's file.
+    fn retained_name(&self, task: usize) -> Result<String, AllocError>
+        ensures { IfOk result (λ name. string_bytes name ≡ retained_file (string_bytes self.now.resource) task) }
+    {
+        format!(in self.alloc; "{}.{task}.ret", self.resource)
+    }
+
+    /// The retained variables that a task's file has; the initial ones where there is no file. Unreadable: the file can't
+    /// be read, or isn't what is kept of this code.
+    #[tactic(auto, using(crate::proofs::KeptTexts::keeps_values, crate::proofs::KeptTexts::keeps_no_values, crate::proofs::KeptTexts::keeps_none_read, crate::proofs::KeptTexts::told_failed))]
+    fn told_values(&self, task: usize, code: &TaskCode) -> Result<Retained, KeeperFault>
+        ensures told { IsToldOf (F.file self.now.folder (retained_file (string_bytes self.now.resource) task)) code.now result }
+        ensures suits { IfOk result (Suits code.now) }
+    {
+        let name = self.retained_name(task)?;
+        let most = most_bytes(self.alloc, code)?;
+        let Some(bytes) = self.read(name.as_str(), most)? else {
+            return Ok(Retained::initial(self.alloc, code)?);
+        };
+        match read_values(self.alloc, code, bytes.as_slice()) {
+            Ok(values) => Ok(Retained::from_values(values)),
+            Err(ReadFault::Departs(_)) => Err(KeeperFault::Unreadable),
+            Err(ReadFault::Memory) => Err(KeeperFault::Memory),
+        }
+    }
+
+    /// The first line of a task's file that isn't what is kept of this code; None where all are, and where there is no
+    /// file. Unreadable: the file can't be read.
+    pub fn bad_line(&self, task: usize, code: &TaskCode) -> Result<Option<BadLine>, KeeperFault> {
+        let name = self.retained_name(task)?;
+        let most = most_bytes(self.alloc, code)?;
+        let Some(bytes) = self.read(name.as_str(), most)? else {
+            return Ok(None);
+        };
+        match read_values(self.alloc, code, bytes.as_slice()) {
+            Ok(_) => Ok(None),
+            Err(ReadFault::Departs(place)) => Ok(Some(BadLine::at(self.alloc, code, place)?)),
+            Err(ReadFault::Memory) => Err(KeeperFault::Memory),
         }
     }
 }
@@ -96,5 +165,30 @@ impl<F: Folder + Send> Keeper for FileKeeper<F> {
         self.keep_number(next)?;
         self.last = next;
         Ok(next)
+    }
+
+    /// Keeps these in the task's file. Unwritable: the file can't be replaced.
+    fn keep(&mut self, task: usize, code: &TaskCode, retained: &Retained) -> Result<(), KeeperFault>
+        requires { Suits code.now retained.now }
+        ensures last { self.new.last ≡ self.old.last }
+        ensures kept { IsStored (F.file self.old.folder) (F.file self.new.folder)
+            (retained_file (string_bytes self.old.resource) task) (temporary_file (string_bytes self.old.resource))
+            (retained_text code.now retained.now) result }
+        ensures resource { self.new.resource ≡ self.old.resource }
+    {
+        let name = self.retained_name(task)?;
+        let text = retained_text(self.alloc, code, retained.values())?;
+        self.store(name.as_str(), text.as_str())
+    }
+
+    /// What the task's file has; the initial ones where there is no file. Unreadable: the file can't be read, or isn't
+    /// what is kept of this code, and then it stays as it is.
+    fn kept(&mut self, task: usize, code: &TaskCode) -> Result<Retained, KeeperFault>
+        ensures suits { IfOk result (Suits code.now) }
+        ensures last { self.new.last ≡ self.old.last }
+        ensures told { IsToldOf (F.file self.old.folder (retained_file (string_bytes self.old.resource) task)) code.now result }
+        ensures same { self.new ≡ self.old }
+    {
+        self.told_values(task, code)
     }
 }

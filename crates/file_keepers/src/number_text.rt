@@ -14,14 +14,14 @@ pub(crate) fn number_text(alloc: Global, number: u32) -> Result<String, AllocErr
     format!(in alloc; "{number}\n")
 }
 
-fn are_same(bytes: &[u8], others: &[u8]) -> bool
+pub(crate) fn are_same(bytes: &[u8], others: &[u8]) -> bool
     ensures { IsTrue result ↔ (bytes.now ≡ others.now) }
 {
     bytes == others
 }
 
 /// The number that digits write, also with a plus or zeros before it.
-fn number_of(digits: &[u8]) -> Option<u32>
+pub(crate) fn number_of(digits: &[u8]) -> Option<u32>
     ensures { (n : ℕ) → n < 2 ^ 32 → digits.now ≡ decimal n → result ≡ Some n }
 {
     match std::str::from_utf8(digits) {

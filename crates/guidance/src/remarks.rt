@@ -94,7 +94,7 @@ const COMMANDS: [Remark; 8] = [
     },
     Remark {
         kind: "Memory",
-        sentence: "There was no memory left to note or make the evaluation. The command isn't obeyed. If the evaluation was made and couldn't be entered, the resource obeys no further command.",
+        sentence: "There was no memory left to note or make the evaluation. The command isn't obeyed. If the evaluation was made and couldn't be entered, the resource obeys no further command; if only what it retains couldn't be copied, it stands.",
     },
     Remark {
         kind: "Misfit",
@@ -102,7 +102,7 @@ const COMMANDS: [Remark; 8] = [
     },
     Remark {
         kind: "Keeper",
-        sentence: "The incarnation couldn't be raised for a restart. A plan has none. The command isn't obeyed.",
+        sentence: "The incarnation couldn't be raised for a restart, of which a plan has none, or what a task retains couldn't be kept. A restart isn't obeyed; an evaluation stands.",
     },
     Remark {
         kind: "NotSent",
@@ -133,14 +133,14 @@ const RUNS: [Remark; 5] = [
     },
     Remark {
         kind: "Keeper",
-        sentence: "An incarnation couldn't be raised at the start: with --state, a file of the folder is Unreadable, Unwritable or Spent.",
+        sentence: "What is kept couldn't be read or raised at the start: with --state, a file of the folder is Unreadable, Unwritable or Spent.",
     },
 ];
 
 const STATES: [Remark; 3] = [
     Remark {
         kind: "Unreadable",
-        sentence: "NAME.inc can't be read, is no file, or isn't a number from 0 to 4294967295 without leading zeros and a line feed. It is left as it is: write the last incarnation into it, or one above.",
+        sentence: "NAME.inc can't be read, is no file, or isn't a number from 0 to 4294967295 without leading zeros and a line feed, or NAME.K.ret doesn't hold just the variables that the task retains. It is left as it is: write the last incarnation into the first, or one above, and a line for each variable into the second.",
     },
     Remark {
         kind: "Unwritable",

@@ -17,15 +17,25 @@ pub fn keeper_on(rt: &impl Abort, files: &DiskFiles) -> FileKeeper<SystemFolder<
     must(rt, FileKeeper::new(files.alloc(), folder, "R1"))
 }
 
-/// A disk on which the file has this content; none where there is no file.
-pub fn disk_with(rt: &impl Abort, alloc: Global, content: Option<&str>) -> DiskFiles {
+/// A disk on which a file has this content; none where there is no file.
+pub fn disk_holding(
+    rt: &impl Abort,
+    alloc: Global,
+    file: &str,
+    content: Option<&str>,
+) -> DiskFiles {
     let files = must(rt, DiskFiles::new(alloc));
     if let Some(content) = content {
         let mut disk = must(rt, files.disk());
-        must(rt, disk.fill(FILE, content));
+        must(rt, disk.fill(file, content));
         disk.fail(None);
     }
     files
+}
+
+/// A disk on which the file of the incarnation has this content.
+pub fn disk_with(rt: &impl Abort, alloc: Global, content: Option<&str>) -> DiskFiles {
+    disk_holding(rt, alloc, FILE, content)
 }
 
 /// The file holds these bytes.

@@ -11,3 +11,7 @@ mod disk_files;
 mod failing_disks;
 #[cfg(test)]
 mod file_contents;
+#[cfg(test)]
+mod retained;
+#[cfg(test)]
+mod retained_files;

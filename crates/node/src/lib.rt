@@ -4,7 +4,8 @@
 mod running;
 
 pub use node_journals::{
-    Act, Cause, Command, Journal, NodeFault, RunFault, Step, Steps, are_for_plant, are_numbered,
+    Act, Cause, Command, Journal, NodeFault, Opening, RunFault, Step, Steps, are_for_plant,
+    are_numbered,
 };
 pub use node_reports::{Journals, NodeFaults, Report, Tickets};
 pub use node_threads::{FreeGate, Gate, Keeper, KeeperFault, MemoryKeeper, OutOfTurns, PacedGate};

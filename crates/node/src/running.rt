@@ -13,8 +13,8 @@ use std::thread::Threads;
 
 /// Runs commands on a plant, one thread for each resource, and reports what was done. The command of ticket k stands at the k-th place.
 ///
-/// Each keeper, one for each resource in order, is raised once before the threads start, and once more for each Restart. `max_number` is the greatest number of an evaluation in one incarnation.
-/// The caller's thread asks the gate about each command in order, and sends it to its resource; each resource obeys what comes to it, enters what it makes into one book, and sends it to each other
+/// Each keeper, one for each resource in order, is raised once before the threads start, and then asked what it has kept of each task, which begins with that; it is raised once more for each Restart. `max_number` is the greatest number of an evaluation in one incarnation.
+/// The caller's thread asks the gate about each command in order, and sends it to its resource; each resource obeys what comes to it, enters what it makes into one book, has its keeper keep the task's retained variables, if there are any, and sends the evaluation to each other
 /// resource that takes from the task. Then all threads are stopped and joined. What one command met is a fault in the report; a run without a report is a fault of the run.
 pub fn run_threads<R: Threads + Wait + Sync, K: Keeper, G: Gate>(
     rt: &R,

@@ -1,6 +1,6 @@
 -- A core goes on standing where its resource's steps leave it.
 use Rattle.std.proofs.Common.{◌≡◌, ◌+◌, ◌<◌, ◌≤◌, ◌&&◌, zero, suc, max, map, eqb, ltb, ℕ, Bool, true, false, cond, List, [], ◌∷◌, length, Option, Some, None, refl, ap, sym, ◌∙◌, subst, arith, add-one}
-use Rattle.std.specs.Prelude.{not, slice_get, slice_set, slice_index, ◌≢◌}
+use Rattle.std.specs.Prelude.{not, slice_get, slice_set, slice_index, ◌≢◌, filter}
 use Rattle.std.specs.List.{enumerate_from, cons_option}
 use Rattle.std.proofs.lemmas.List.{set-get_or}
 use Rattle.lists.proofs.Places.{element_at, same_by_slice_get, slice_get-set_same, slice_get-set_other}
@@ -14,7 +14,7 @@ use Rattle.declared_names.specs.declared.declarations.Kind.{Kind}
 use Rattle.power_flow.specs.StateValue.{StateValue}
 use Rattle.due_list.specs.declared.task_ref.TaskRef.{TaskRef}
 use Rattle.plant_grammar.specs.Kinds.{items_or_none}
-use Rattle.plant.specs.PlantValue.{ResourceValue, PlantValue, code_at, IsSoundPlant}
+use Rattle.plant.specs.PlantValue.{ResourceValue, PlantValue, code_at, codes_at, IsSoundPlant}
 use Rattle.task_codes.specs.CodeValue.{CodeValue, expected_at, image_kinds}
 use Rattle.evaluation.specs.declared.field_input.FieldInput.{FieldInput}
 use Rattle.evaluation.specs.declared.name.Name.{Name}
@@ -23,13 +23,13 @@ use Rattle.evaluation.specs.Meaning.{Evaluated, IsAsked, evaluated}
 use Rattle.exchange_core.specs.declared.accepted.Accepted.{Accepted}
 use Rattle.exchange_core.specs.declared.accepted.Accepted.TheVariants.{Taken, Old, Unused, Stray}
 use Rattle.evaluation.specs.Heard.{is_addressed, greatest, heard_numbers}
-use Rattle.evaluation.specs.Last.{same_task, last_number, takes_of, state_of}
+use Rattle.evaluation.specs.Last.{same_task, left_by, last_number, takes_of, state_from}
 use Rattle.exchange_core.specs.Held.{known, with_known, empty_for}
-use Rattle.exchange_core.specs.CoreValue.{CoreValue, fresh_core, own_task, is_greater, is_for, HasHeard, IsUsable, IsAccepted, IsNext, IsNextOf}
+use Rattle.exchange_core.specs.CoreValue.{CoreValue, fresh_core, own_task, kept_at, AreOpeningOf, IsRestartOf, is_greater, is_for, HasHeard, IsUsable, IsAccepted, IsNext, IsNextOf}
 use Rattle.exchange_core.specs.Steps.Knowing.{has_place}
 use Rattle.node_journals.specs.declared.step.Step.{Step}
 use Rattle.node_journals.specs.declared.step.Step.TheVariants.{Took, Made, Restarted, Heard}
-use Rattle.node_journals.specs.Journals.{incarnation_after, since_restarted, received, newest, heard_after, hearings_of, made_of, last_made, ComesTo, IsGreatest, IsNextMade}
+use Rattle.node_journals.specs.Journals.{incarnation_after, since_restarted, received, newest, made, heard_after, hearings_of, made_of, last_made, last_of, opening_at, state_before, ComesTo, IsGreatest, IsNextMade}
 use Rattle.node_journals.specs.Steps.Standing.{Stands}
 use Rattle.node_journals.proofs.Greatest.{greatest-other, greatest-old, greatest-taken}
 
@@ -58,7 +58,7 @@ same_ref_of : (t : TaskRef) (r : ℕ) → t.resource ≡ r → t ≡ record { re
 same_ref_of t r e = rw e refl
 
 -- one more evaluation received
-module _ (resource first : ℕ) (before : List Step) (core : CoreValue) (x : Evaluated) (stands : Stands resource first before core) where
+module _ (resource first : ℕ) (opening : List (List Value)) (before : List Step) (core : CoreValue) (x : Evaluated) (stands : Stands resource first opening before core) where
   -- a task of the resource, and one of another resource from which it takes
   record Taking (t p : TaskRef) (code : CodeValue) (k : ℕ) : Type 0 where
     pub here : t.resource ≡ resource
@@ -153,8 +153,8 @@ module _ (resource first : ℕ) (before : List Step) (core : CoreValue) (x : Eva
       by false e = cell_other core.table x.name.task.resource x.name.task.task p.resource p.task (Some x) None place.0 e ∙ stands.own p here
 
   -- the core goes on standing where the steps have left it
-  pub stands-took : (new : CoreValue) (answer : Accepted) → IsAccepted core new x answer → Stands resource first (Took x ∷ before) new
-  stands-took new Unused done = subst (Stands resource first (Took x ∷ before)) (sym done.1) (record {
+  pub stands-took : (new : CoreValue) (answer : Accepted) → IsAccepted core new x answer → Stands resource first opening (Took x ∷ before) new
+  stands-took new Unused done = subst (Stands resource first opening (Took x ∷ before)) (sym done.1) (record {
     sound = stands.sound;
     shaped = stands.shaped;
     resource_is = stands.resource_is;
@@ -163,9 +163,11 @@ module _ (resource first : ℕ) (before : List Step) (core : CoreValue) (x : Eva
     heard_is = stands.heard_is;
     own = stands.own;
     counted = stands.counted;
+    long = stands.long;
+    left = stands.left;
     others = λ t code k p here found at away. unused t p code k done.0 (record { here = here; found = found; at = at; away = away });
   })
-  stands-took new Stray done = subst (Stands resource first (Took x ∷ before)) (sym done.2) (record {
+  stands-took new Stray done = subst (Stands resource first opening (Took x ∷ before)) (sym done.2) (record {
     sound = stands.sound;
     shaped = stands.shaped;
     resource_is = stands.resource_is;
@@ -174,9 +176,11 @@ module _ (resource first : ℕ) (before : List Step) (core : CoreValue) (x : Eva
     heard_is = stands.heard_is;
     own = stands.own;
     counted = stands.counted;
+    long = stands.long;
+    left = stands.left;
     others = λ t code k p here found at away. stray_one t p code k done.1 (record { here = here; found = found; at = at; away = away });
   })
-  stands-took new Old done = subst (Stands resource first (Took x ∷ before)) (sym done.3) (record {
+  stands-took new Old done = subst (Stands resource first opening (Took x ∷ before)) (sym done.3) (record {
     sound = stands.sound;
     shaped = stands.shaped;
     resource_is = stands.resource_is;
@@ -185,9 +189,11 @@ module _ (resource first : ℕ) (before : List Step) (core : CoreValue) (x : Eva
     heard_is = stands.heard_is;
     own = stands.own;
     counted = stands.counted;
+    long = stands.long;
+    left = stands.left;
     others = λ t code k p here found at away. old_one t p code k done.2 (record { here = here; found = found; at = at; away = away });
   })
-  stands-took new Taken done = subst (Stands resource first (Took x ∷ before)) (sym done.3) (record {
+  stands-took new Taken done = subst (Stands resource first opening (Took x ∷ before)) (sym done.3) (record {
     sound = stands.sound;
     shaped = row_lengths_kept core.table x.name.task.resource x.name.task.task (Some x) ∙ stands.shaped;
     resource_is = stands.resource_is;
@@ -196,6 +202,8 @@ module _ (resource first : ℕ) (before : List Step) (core : CoreValue) (x : Eva
     heard_is = stands.heard_is;
     own = own_stays done.0 done.1 done.2;
     counted = stands.counted;
+    long = stands.long;
+    left = λ p here lt. ap (left_by (kept_at core p.task)) (own_stays done.0 done.1 done.2 p here ∙ sym (stands.own p here)) ∙ stands.left p here lt;
     others = λ t code k p here found at away. taken_one done.0 done.1 done.2 t p code k (record { here = here; found = found; at = at; away = away });
   })
 
@@ -204,8 +212,13 @@ same_asked : {a a2 : ℕ} {b b2 : Name} {l l2 : List ℕ} {c c2 : ℕ} {d d2 : L
     → a2 ≡ a → b2 ≡ b → l2 ≡ l → c2 ≡ c → d2 ≡ d → e2 ≡ e → evaluated a b l c d takes e code outputs after ≡ evaluated a2 b2 l2 c2 d2 takes e2 code outputs after
 same_asked f g l h i j = rw (f, g, l, h, i, j) refl
 
+-- the state of a task, by what a restart would leave of it
+state-left : (code : CodeValue) (kept left : List Value) (o : Option Evaluated) → left_by kept o ≡ left → state_from code kept o ≡ state_from code left o
+state-left code kept left None e = ap (λ v. state_from code v None) e
+state-left code kept left (Some x) e = refl
+
 -- one more evaluation made
-module _ (resource first : ℕ) (before : List Step) (core new : CoreValue) (ticket task dt : ℕ) (inputs : List FieldInput) (x : Evaluated) (stands : Stands resource first before core) (done : IsNext core new ticket task dt inputs x) where
+module _ (resource first : ℕ) (opening : List (List Value)) (before : List Step) (core new : CoreValue) (ticket task dt : ℕ) (inputs : List FieldInput) (x : Evaluated) (stands : Stands resource first opening before core) (done : IsNext core new ticket task dt inputs x) where
   abbrev own_ref : TaskRef
   own_ref = own_task core task
 
@@ -253,6 +266,20 @@ module _ (resource first : ℕ) (before : List Step) (core new : CoreValue) (tic
         ∙ sym (ap length (made_now p e))
     by false e = ap (λ xs. last_number (newest xs)) (made_other p e) ∙ stands.counted p here ∙ sym (ap length (made_other p e))
 
+  abbrev all_of : TaskRef → List Evaluated
+  all_of p = filter (λ (y : Evaluated). same_task y.name.task p) (made before)
+
+  left_after : (p : TaskRef) → p.resource ≡ resource → p.task < length core.kept
+      → left_by (kept_at core p.task) (known (with_known core.table own_ref (Some x)) p) ≡ left_by (opening_at opening p) (last_of p (Made x ∷ before))
+  left_after p here lt = by (same_task x.name.task p) refl where
+    by : (b : Bool) → same_task x.name.task p ≡ b → left_by (kept_at core p.task) (known (with_known core.table own_ref (Some x)) p) ≡ left_by (opening_at opening p) (last_of p (Made x ∷ before))
+    by true e =
+        ap (left_by (kept_at core p.task)) (subst (λ r. known (with_known core.table own_ref (Some x)) r ≡ Some x) (sym task_is ∙ named x p e) (cell_same core.table own_ref.resource own_ref.task (Some x) None place_of.0 place_of.1))
+        ∙ ap (left_by (opening_at opening p)) (sym (ap (λ b. newest (cond b (x ∷ all_of p) (all_of p))) e))
+    by false e =
+        ap (left_by (kept_at core p.task)) (after_table p e) ∙ stands.left p here lt
+        ∙ ap (left_by (opening_at opening p)) (sym (ap (λ b. newest (cond b (x ∷ all_of p) (all_of p))) e))
+
   others_after : (t : TaskRef) (code : CodeValue) (k : ℕ) (p : TaskRef) → t.resource ≡ resource → code_at core.plant t ≡ Some code → slice_get code.producers k ≡ Some p → p.resource ≢ resource
       → IsGreatest (ComesTo resource (incarnation_after first before) p (expected_at code k)) (received (since_restarted before)) (known (with_known core.table own_ref (Some x)) p)
   others_after t code k p here found at away = by (same_task x.name.task p) refl where
@@ -261,8 +288,8 @@ module _ (resource first : ℕ) (before : List Step) (core new : CoreValue) (tic
     by false e = subst (IsGreatest (ComesTo resource (incarnation_after first before) p (expected_at code k)) (received (since_restarted before))) (sym (after_table p e)) (stands.others t code k p here found at away)
 
   -- the core goes on standing where the steps have left it
-  pub stands-made : Stands resource first (Made x ∷ before) new
-  stands-made = subst (Stands resource first (Made x ∷ before)) (sym done.after) (record {
+  pub stands-made : Stands resource first opening (Made x ∷ before) new
+  stands-made = subst (Stands resource first opening (Made x ∷ before)) (sym done.after) (record {
     sound = stands.sound;
     shaped = row_lengths_kept core.table own_ref.resource own_ref.task (Some x) ∙ stands.shaped;
     resource_is = stands.resource_is;
@@ -271,20 +298,31 @@ module _ (resource first : ℕ) (before : List Step) (core new : CoreValue) (tic
     heard_is = stands.heard_is;
     own = own_after;
     counted = counted_after;
+    long = stands.long;
+    left = left_after;
     others = others_after;
   })
 
-  asked_so : IsAsked x.ticket x.name (heard_after core.first resource first before) x.dt x.inputs (takes_of (known core.table) next.code) (state_of next.code (last_made x.name.task before)) next.code x
+  within : task < length core.kept
+  within =
+      let here : slice_get (codes_at core.plant resource) task ≡ Some next.code = subst (λ r. slice_get (codes_at core.plant r) task ≡ Some next.code) stands.resource_is next.found in
+      let lt = slice_get_within (codes_at core.plant resource) task next.code here in
+      omega (arith, lt, stands.long)
+
+  asked_so : IsAsked x.ticket x.name (heard_after core.first resource first before) x.dt x.inputs (takes_of (known core.table) next.code) (state_before next.code opening x.name.task before) next.code x
   asked_so = record {
     is = next.asked.is ∙ same_asked (ap (λ (y : Evaluated). y.ticket) next.asked.is) (ap (λ (y : Evaluated). y.name) next.asked.is) (sym stands.heard_is) (ap (λ (y : Evaluated). y.dt) next.asked.is) (ap (λ (y : Evaluated). y.inputs) next.asked.is) state_is;
     meant = next.asked.meant;
     whole = next.asked.whole;
   } where
-    state_is : state_of next.code (last_made x.name.task before) ≡ state_of next.code (known core.table own_ref)
-    state_is = ap (state_of next.code) (ap (λ t. last_made t before) task_is ∙ sym (stands.own own_ref stands.resource_is))
+    state_is : state_before next.code opening x.name.task before ≡ state_from next.code (kept_at core task) (known core.table own_ref)
+    state_is =
+        ap (λ t. state_before next.code opening t before) task_is
+        ∙ ap (state_from next.code (left_by (opening_at opening own_ref) (last_of own_ref before))) (sym (stands.own own_ref stands.resource_is))
+        ∙ sym (state-left next.code (kept_at core task) (left_by (opening_at opening own_ref) (last_of own_ref before)) (known core.table own_ref) (stands.left own_ref stands.resource_is within))
 
   -- it is one that the resource could make after these steps
-  pub follows-made : IsNextMade core.plant core.first core.max_number resource first before x
+  pub follows-made : IsNextMade core.plant core.first core.max_number resource first opening before x
   follows-made = record {
     code = next.code;
     last = known core.table;
@@ -338,38 +376,53 @@ heard-begins firsts n i = same_by_slice_get (heard_numbers firsts n i (λ m. [])
   by m false e (Some x) f = sym f ∙ sym (slice_get-set_other firsts n m i (eqb-false m n e))
 
 -- a core that holds nothing stands where nothing was done yet, and where the last step is a restart
-module _ (plant : PlantValue) (resource : ℕ) (firsts : List ℕ) (incarnation max_number : ℕ) (sound : IsSoundPlant plant) (many : length firsts ≡ length plant.resources) where
-  nothing_known : (p : TaskRef) → known (empty_for plant) p ≡ None
-  nothing_known p = cell_filled codes_long none_known plant.resources p.resource p.task
+nothing_known : (plant : PlantValue) (p : TaskRef) → known (empty_for plant) p ≡ None
+nothing_known plant p = cell_filled codes_long none_known plant.resources p.resource p.task
 
-  pub stands-fresh : Stands resource incarnation [] (fresh_core plant resource firsts incarnation max_number)
-  stands-fresh = record {
-    sound = sound;
-    shaped = row_lengths_filled codes_long none_known plant.resources;
-    resource_is = refl;
-    incarnation_is = refl;
-    firsts = many;
-    heard_is = sym (heard-begins firsts resource incarnation);
-    own = λ p here. nothing_known p;
-    counted = λ p here. refl;
-    others = λ t code k p here found at away. subst (IsGreatest (ComesTo resource incarnation p (expected_at code k)) []) (sym (nothing_known p)) (All-nil (λ y. ComesTo resource incarnation p (expected_at code k) y → ⊥));
-  }
+none_received : (plant : PlantValue) (resource incarnation : ℕ) (p : TaskRef) (kinds : List Kind) → IsGreatest (ComesTo resource incarnation p kinds) [] (known (empty_for plant) p)
+none_received plant resource incarnation p kinds =
+    subst (IsGreatest (ComesTo resource incarnation p kinds) []) (sym (nothing_known plant p)) (All-nil (λ y. ComesTo resource incarnation p kinds y → ⊥))
 
-  pub stands-restarted : (first ticket : ℕ) (before : List Step) → Stands resource first (Restarted ticket incarnation ∷ before) (fresh_core plant resource firsts incarnation max_number)
-  stands-restarted first ticket before = record {
-    sound = sound;
-    shaped = row_lengths_filled codes_long none_known plant.resources;
-    resource_is = refl;
-    incarnation_is = refl;
-    firsts = many;
-    heard_is = sym (heard-begins firsts resource incarnation);
-    own = λ p here. nothing_known p;
-    counted = λ p here. refl;
-    others = λ t code k p here found at away. subst (IsGreatest (ComesTo resource incarnation p (expected_at code k)) []) (sym (nothing_known p)) (All-nil (λ y. ComesTo resource incarnation p (expected_at code k) y → ⊥));
-  }
+pub stands-fresh : (plant : PlantValue) (resource : ℕ) (firsts : List ℕ) (incarnation : ℕ) (opening : List (List Value)) (max_number : ℕ) → IsSoundPlant plant → length firsts ≡ length plant.resources
+    → AreOpeningOf plant resource opening → Stands resource incarnation opening [] (fresh_core plant resource firsts incarnation opening max_number)
+stands-fresh plant resource firsts incarnation opening max_number sound many opened = record {
+  sound = sound;
+  shaped = row_lengths_filled codes_long none_known plant.resources;
+  resource_is = refl;
+  incarnation_is = refl;
+  firsts = many;
+  heard_is = sym (heard-begins firsts resource incarnation);
+  own = λ p here. nothing_known plant p;
+  counted = λ p here. refl;
+  long = opened.many;
+  left = λ p here lt. ap (left_by (opening_at opening p)) (nothing_known plant p);
+  others = λ t code k p here found at away. none_received plant resource incarnation p (expected_at code k);
+}
+
+pub stands-restarted : (resource first : ℕ) (opening : List (List Value)) (before : List Step) (core new : CoreValue) (ticket incarnation : ℕ) → Stands resource first opening before core → IsRestartOf core new incarnation
+    → Stands resource first opening (Restarted ticket incarnation ∷ before) new
+stands-restarted resource first opening before core new ticket incarnation stands after = subst (Stands resource first opening (Restarted ticket incarnation ∷ before)) (sym after.is) (record {
+  sound = stands.sound;
+  shaped = row_lengths_filled codes_long none_known core.plant.resources;
+  resource_is = stands.resource_is;
+  incarnation_is = refl;
+  firsts = stands.firsts;
+  heard_is = ap (λ r. slice_set core.first r incarnation) stands.resource_is ∙ sym (heard-begins core.first resource incarnation);
+  own = λ p here. nothing_known core.plant p;
+  counted = λ p here. refl;
+  long = after.long ∙ stands.long;
+  left = λ p here lt.
+      let within : p.task < length core.kept = omega (arith, after.long) in
+      let it : own_task core p.task ≡ p = rw (stands.resource_is, ← here) refl in
+      ap (left_by (kept_at new p.task)) (nothing_known core.plant p)
+      ∙ after.kept p.task within
+      ∙ ap (λ r. left_by (kept_at core p.task) (known core.table r)) it
+      ∙ stands.left p here within;
+  others = λ t code k p here found at away. none_received core.plant resource incarnation p (expected_at code k);
+})
 
 -- a resource was heard of
-module _ (resource first : ℕ) (before : List Step) (core new : CoreValue) (of incarnation : ℕ) (answer : Bool) (stands : Stands resource first before core) (done : HasHeard core new of incarnation answer) where
+module _ (resource first : ℕ) (opening : List (List Value)) (before : List Step) (core new : CoreValue) (of incarnation : ℕ) (answer : Bool) (stands : Stands resource first opening before core) (done : HasHeard core new of incarnation answer) where
   abbrev now : ℕ
   now = incarnation_after first before
 
@@ -461,9 +514,9 @@ module _ (resource first : ℕ) (before : List Step) (core new : CoreValue) (of 
           set true g = let low = ltb-true (slice_index core.heard of) incarnation g in ap (slice_set core.heard of) (omega (arith, low))
           set false g = let high = ltb-false (slice_index core.heard of) incarnation g in sym (set-get_or core.heard of 0) ∙ ap (slice_set core.heard of) (omega (arith, high))
 
-  pub stands-heard : Stands resource first (Heard of incarnation ∷ before) new
-  stands-heard = subst (Stands resource first (Heard of incarnation ∷ before)) (sym done.after) (by answer heard-more) where
+  pub stands-heard : Stands resource first opening (Heard of incarnation ∷ before) new
+  stands-heard = subst (Stands resource first opening (Heard of incarnation ∷ before)) (sym done.after) (by answer heard-more) where
     by : (b : Bool) → cond b (slice_set core.heard of incarnation) core.heard ≡ heard_numbers core.first resource now told_more
-        → Stands resource first (Heard of incarnation ∷ before) (cond b (record core { heard = slice_set core.heard of incarnation }) core)
-    by true e = record { sound = stands.sound; shaped = stands.shaped; resource_is = stands.resource_is; incarnation_is = stands.incarnation_is; firsts = stands.firsts; heard_is = e; own = stands.own; counted = stands.counted; others = stands.others }
-    by false e = record { sound = stands.sound; shaped = stands.shaped; resource_is = stands.resource_is; incarnation_is = stands.incarnation_is; firsts = stands.firsts; heard_is = e; own = stands.own; counted = stands.counted; others = stands.others }
+        → Stands resource first opening (Heard of incarnation ∷ before) (cond b (record core { heard = slice_set core.heard of incarnation }) core)
+    by true e = record { sound = stands.sound; shaped = stands.shaped; resource_is = stands.resource_is; incarnation_is = stands.incarnation_is; firsts = stands.firsts; heard_is = e; own = stands.own; long = stands.long; left = stands.left; counted = stands.counted; others = stands.others }
+    by false e = record { sound = stands.sound; shaped = stands.shaped; resource_is = stands.resource_is; incarnation_is = stands.incarnation_is; firsts = stands.firsts; heard_is = e; own = stands.own; long = stands.long; left = stands.left; counted = stands.counted; others = stands.others }

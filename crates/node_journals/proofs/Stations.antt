@@ -1,18 +1,19 @@
 -- A station's journal stays lawful, and its core goes on standing where the journal has come to.
-use Rattle.std.proofs.Common.{◌≡◌, ◌<◌, ℕ, Bool, true, false, cond, length, Some, List, [], ◌∷◌, ◌++◌, Result, Ok, Err, IfOk, OnOk, OnErr, refl, ap, sym, subst}
+use Rattle.std.proofs.Common.{◌≡◌, ◌<◌, ℕ, Bool, true, false, cond, length, Some, List, [], ◌∷◌, ◌++◌, Result, Ok, Err, IfOk, OnOk, OnErr, ap, sym, subst}
 use Rattle.std.specs.Prelude.{reverse, slice_index, slice_set}
 use Rattle.std.proofs.lemmas.List.{reverse-append}
+use Rattle.std_blocks.specs.declared.value.Value.{Value}
 use Rattle.plant.specs.PlantValue.{PlantValue, IsSoundPlant}
 use Rattle.evaluation.specs.declared.field_input.FieldInput.{FieldInput}
 use Rattle.evaluation.specs.Meaning.{Evaluated}
 use Rattle.exchange_core.specs.declared.accepted.Accepted.{Accepted}
 use Rattle.exchange_core.specs.declared.accepted.Accepted.TheVariants.{Taken, Old, Unused, Stray}
-use Rattle.exchange_core.specs.CoreValue.{CoreValue, fresh_core, HasHeard, IsAccepted, IsNext}
+use Rattle.exchange_core.specs.CoreValue.{CoreValue, fresh_core, AreOpeningOf, IsRestartOf, HasHeard, IsAccepted, IsNext}
 use Rattle.exchange_core.specs.Held.{Table, with_known}
 use Rattle.node_journals.specs.declared.step.Step.{Step}
 use Rattle.node_journals.specs.declared.step.Step.TheVariants.{Took, Made, Restarted, Heard}
 use Rattle.node_journals.specs.declared.journal.Journal.{Journal}
-use Rattle.node_journals.specs.Journals.{Follows, EachAfter, IsLawful, with_step}
+use Rattle.node_journals.specs.Journals.{Follows, EachAfter, IsLawful, fresh_journal, with_step}
 use Rattle.node_journals.specs.Steps.Standing.{Stands, IsStation, IsAhead}
 use Rattle.node_journals.proofs.Standing.{stands-took, stands-made, stands-heard, follows-made, stands-fresh, stands-restarted}
 
@@ -33,13 +34,14 @@ moved P core new same h =
 
 -- one more step, after which the core stands where it should
 station-with : (core new : CoreValue) (j : Journal) (s : Step) → Alike core new → IsLawful core.plant core.first core.max_number j
-    → Follows core.plant core.first core.max_number j.resource j.first (reverse j.steps) s → Stands j.resource j.first (s ∷ reverse j.steps) new → IsStation new (with_step j s)
+    → Follows core.plant core.first core.max_number j.resource j.first j.opening (reverse j.steps) s → Stands j.resource j.first j.opening (s ∷ reverse j.steps) new → IsStation new (with_step j s)
 station-with core new j s same lawful follows stands = record {
   lawful = record {
-    follows = subst (EachAfter (Follows new.plant new.first new.max_number j.resource j.first)) (sym (turned j s))
-        (moved (λ p f m. Follows p f m j.resource j.first (reverse j.steps) s) core new same follows, (moved (λ p f m. IsLawful p f m j) core new same lawful).follows);
+    opened = subst (λ p. AreOpeningOf p j.resource j.opening) (sym same.plant) lawful.opened;
+    follows = subst (EachAfter (Follows new.plant new.first new.max_number j.resource j.first j.opening)) (sym (turned j s))
+        (moved (λ p f m. Follows p f m j.resource j.first j.opening (reverse j.steps) s) core new same follows, (moved (λ p f m. IsLawful p f m j) core new same lawful).follows);
   };
-  stands = subst (λ before. Stands j.resource j.first before new) (sym (turned j s)) stands;
+  stands = subst (λ before. Stands j.resource j.first j.opening before new) (sym (turned j s)) stands;
 }
 
 with_table : (core new : CoreValue) (table : Table) → new ≡ record core { table = table } → Alike core new
@@ -60,7 +62,7 @@ pub station-took : {E : Type 0} (core new : CoreValue) (j k : Journal) (x : Eval
 station-took core new j k x (Ok answer) accepted noted lost is =
     subst (IsStation new) (sym noted)
     (station-with core new j (Took x) (accepted-alike core new x answer accepted) is.lawful tt
-    (stands-took j.resource j.first (reverse j.steps) core x is.stands new answer accepted))
+    (stands-took j.resource j.first j.opening (reverse j.steps) core x is.stands new answer accepted))
 station-took core new j k x (Err e) accepted noted lost is = subst (IsStation new) (sym lost.1) (subst (λ c. IsStation c j) (sym lost.0) is)
 
 -- after a resource was heard of, or the news was lost
@@ -68,7 +70,7 @@ pub station-heard : {E : Type 0} (core new : CoreValue) (j k : Journal) (of inca
     → IfOk r (λ answer. HasHeard core new of incarnation answer) → OnOk r (k ≡ with_step j (Heard of incarnation)) → OnErr r ((new ≡ core) × (k ≡ j)) → IsStation core j → IsStation new k
 station-heard core new j k of incarnation (Ok answer) heard noted lost is =
     subst (IsStation new) (sym noted)
-    (station-with core new j (Heard of incarnation) (alike answer heard.after) is.lawful tt (stands-heard j.resource j.first (reverse j.steps) core new of incarnation answer is.stands heard)) where
+    (station-with core new j (Heard of incarnation) (alike answer heard.after) is.lawful tt (stands-heard j.resource j.first j.opening (reverse j.steps) core new of incarnation answer is.stands heard)) where
       alike : (b : Bool) → new ≡ cond b (record core { heard = slice_set core.heard of incarnation }) core → Alike core new
       alike true e = record { plant = ap (λ (c : CoreValue). c.plant) e; first = ap (λ (c : CoreValue). c.first) e; max_number = ap (λ (c : CoreValue). c.max_number) e }
       alike false e = unchanged core new e
@@ -81,24 +83,23 @@ station-made core new j ticket task dt inputs x done is =
     record {
       lawful = moved (λ p f m. IsLawful p f m j) core new same is.lawful;
       ahead = station-with core new j (Made x) same is.lawful
-          (follows-made j.resource j.first (reverse j.steps) core new ticket task dt inputs x is.stands done)
-          (stands-made j.resource j.first (reverse j.steps) core new ticket task dt inputs x is.stands done);
+          (follows-made j.resource j.first j.opening (reverse j.steps) core new ticket task dt inputs x is.stands done)
+          (stands-made j.resource j.first j.opening (reverse j.steps) core new ticket task dt inputs x is.stands done);
     }
 
 -- at the beginning
-pub station-fresh : (plant : PlantValue) (resource : ℕ) (firsts : List ℕ) (max_number : ℕ) (core : CoreValue) (j : Journal) → IsSoundPlant plant → length firsts ≡ length plant.resources
-    → core ≡ fresh_core plant resource firsts (slice_index firsts resource) max_number → j ≡ record { resource = resource; first = slice_index firsts resource; steps = [] } → IsStation core j
-station-fresh plant resource firsts max_number core j sound many core_is journal_is =
+pub station-fresh : (plant : PlantValue) (resource : ℕ) (firsts : List ℕ) (opening : List (List Value)) (max_number : ℕ) (core : CoreValue) (j : Journal) → IsSoundPlant plant → length firsts ≡ length plant.resources
+    → AreOpeningOf plant resource opening → core ≡ fresh_core plant resource firsts (slice_index firsts resource) opening max_number → j ≡ fresh_journal resource (slice_index firsts resource) opening → IsStation core j
+station-fresh plant resource firsts opening max_number core j sound many opened core_is journal_is =
     subst (IsStation core) (sym journal_is)
-    (subst (λ c. IsStation c (record { resource = resource; first = slice_index firsts resource; steps = [] })) (sym core_is)
-    (record { lawful = record { follows = tt }; stands = stands-fresh plant resource firsts (slice_index firsts resource) max_number sound many }))
+    (subst (λ c. IsStation c (fresh_journal resource (slice_index firsts resource) opening)) (sym core_is)
+    (record { lawful = record { opened = opened; follows = tt }; stands = stands-fresh plant resource firsts (slice_index firsts resource) opening max_number sound many opened }))
 
 -- after a restart
-pub station-restarted : (core new : CoreValue) (j : Journal) (ticket incarnation : ℕ) → core.incarnation < incarnation → new ≡ fresh_core core.plant core.resource core.first incarnation core.max_number → IsStation core j
+pub station-restarted : (core new : CoreValue) (j : Journal) (ticket incarnation : ℕ) → core.incarnation < incarnation → IsRestartOf core new incarnation → IsStation core j
     → IsStation new (with_step j (Restarted ticket incarnation))
-station-restarted core new j ticket incarnation raised is_fresh is =
-    subst (λ c. IsStation c (with_step j (Restarted ticket incarnation))) (sym is_fresh)
-    (station-with core (fresh_core core.plant core.resource core.first incarnation core.max_number) j (Restarted ticket incarnation) (record { plant = refl; first = refl; max_number = refl }) is.lawful
+station-restarted core new j ticket incarnation raised after is =
+    let same : Alike core new = record { plant = ap (λ (c : CoreValue). c.plant) after.is; first = ap (λ (c : CoreValue). c.first) after.is; max_number = ap (λ (c : CoreValue). c.max_number) after.is } in
+    station-with core new j (Restarted ticket incarnation) same is.lawful
     (subst (λ i. i < incarnation) is.stands.incarnation_is raised)
-    (subst (λ r. Stands j.resource j.first (Restarted ticket incarnation ∷ reverse j.steps) (fresh_core core.plant r core.first incarnation core.max_number)) (sym is.stands.resource_is)
-    (stands-restarted core.plant j.resource core.first incarnation core.max_number is.stands.sound is.stands.firsts j.first ticket (reverse j.steps))))
+    (stands-restarted j.resource j.first j.opening (reverse j.steps) core new ticket incarnation is.stands after)

@@ -1,16 +1,19 @@
 -- When the journal of a resource is lawful: each step is one that the resource could do after the steps before it.
 -- The steps before stand with the newest first.
-use Rattle.std.specs.Prelude.{◌≡◌, ◌≢◌, ◌==◌, if◌then◌else◌, ℕ, ◌+◌, ◌<◌, ◌≤◌, true, false, List, [], ◌∷◌, ◌++◌, Option, Some, None, All, length, map, filter, reverse, slice_get}
+use Rattle.std.specs.Prelude.{◌≡◌, ◌≢◌, ◌==◌, if◌then◌else◌, ℕ, ◌+◌, ◌<◌, ◌≤◌, true, false, List, [], ◌∷◌, ◌++◌, Option, Some, None, All, length, map, filter, reverse, slice_get, slice_index_or}
 use Rattle.std.specs.List.{filter_map}
+use Rattle.std_blocks.specs.declared.value.Value.{Value}
 use Rattle.declared_names.specs.declared.declarations.Kind.{Kind}
 use Rattle.declared_names.specs.Kinds.{kind_of}
+use Rattle.power_flow.specs.StateValue.{StateValue}
 use Rattle.due_list.specs.declared.task_ref.TaskRef.{TaskRef}
 use Rattle.plant.specs.PlantValue.{PlantValue, code_at}
 use Rattle.task_codes.specs.CodeValue.{CodeValue, expected_at}
 use Rattle.evaluation.specs.Names.{precedes}
 use Rattle.evaluation.specs.Meaning.{Evaluated, IsAsked}
 use Rattle.evaluation.specs.Heard.{is_addressed, heard_numbers}
-use Rattle.evaluation.specs.Last.{same_task, state_of, takes_of}
+use Rattle.evaluation.specs.Last.{same_task, left_by, state_from, takes_of}
+use Rattle.exchange_core.specs.CoreValue.{AreOpeningOf}
 use Rattle.node_journals.specs.declared.step.Step.{Step}
 use Rattle.node_journals.specs.declared.step.Step.TheVariants.{Took, Made, Restarted, Heard}
 use Rattle.node_journals.specs.declared.journal.Journal.{Journal}
@@ -59,6 +62,21 @@ made_of t before = filter (λ x. same_task x.name.task t) (made (since_restarted
 -- the last of them
 abbrev pub last_made : TaskRef → List Step → Option Evaluated
 last_made t before = newest (made_of t before)
+
+-- the last evaluation of a task that was made, in whatever incarnation
+abbrev pub last_of : TaskRef → List Step → Option Evaluated
+last_of t before = newest (filter (λ x. same_task x.name.task t) (made before))
+
+-- the retained values with which a task of the resource opens
+abbrev pub opening_at : List (List Value) → TaskRef → List Value
+opening_at opening t = slice_index_or opening t.task []
+
+-- The state before the next evaluation of a task: the one that its last evaluation since the last Restarted left. Where
+-- there is none, the initial one with the retained variables as its last evaluation of all left them; as they open, if
+-- it is the first.
+abbrev pub state_before : CodeValue → List (List Value) → TaskRef → List Step → List StateValue
+state_before code opening t before =
+    state_from code (left_by (opening_at opening t) (last_of t before)) (last_made t before)
 
 -- the incarnation of resource m of which is heard by a step
 abbrev pub heard_in : ℕ → Step → Option ℕ
@@ -113,9 +131,9 @@ pub record IsLast (resource incarnation : ℕ) (before : List Step) (code : Code
 
 -- An evaluation is one that the resource could make after these steps:
 -- of a task of its own, in the present incarnation, with the next number, which is within the limit,
--- and by the plant's code, asked with what was heard, the takes just said and the state that the task's last evaluation left.
-pub record IsNextMade (plant : PlantValue) (firsts : List ℕ) (max_number resource first : ℕ) (before : List Step)
-    (x : Evaluated) : Type 0 where
+-- and by the plant's code, asked with what was heard, the takes and the state just said.
+pub record IsNextMade (plant : PlantValue) (firsts : List ℕ) (max_number resource first : ℕ)
+    (opening : List (List Value)) (before : List Step) (x : Evaluated) : Type 0 where
   pub code : CodeValue
   pub last : TaskRef → Option Evaluated
   pub resource_is : x.name.task.resource ≡ resource
@@ -125,17 +143,17 @@ pub record IsNextMade (plant : PlantValue) (firsts : List ℕ) (max_number resou
   pub number_left : x.name.number ≤ max_number
   pub taken : IsLast resource (incarnation_after first before) before code last
   pub asked : IsAsked x.ticket x.name (heard_after firsts resource first before) x.dt x.inputs
-      (takes_of last code) (state_of code (last_made x.name.task before)) code x
+      (takes_of last code) (state_before code opening x.name.task before) code x
 
 -- A step is one that the resource could do after these steps:
 -- it may receive and hear anything, it makes what it could make, and a restart raises the incarnation.
-abbrev pub Follows : PlantValue → List ℕ → ℕ → ℕ → ℕ → List Step → Step → Type 0
-Follows plant firsts max_number resource first before (Took x) = Unit {0}
-Follows plant firsts max_number resource first before (Made x) =
-    IsNextMade plant firsts max_number resource first before x
-Follows plant firsts max_number resource first before (Restarted ticket incarnation) =
+abbrev pub Follows : PlantValue → List ℕ → ℕ → ℕ → ℕ → List (List Value) → List Step → Step → Type 0
+Follows plant firsts max_number resource first opening before (Took x) = Unit {0}
+Follows plant firsts max_number resource first opening before (Made x) =
+    IsNextMade plant firsts max_number resource first opening before x
+Follows plant firsts max_number resource first opening before (Restarted ticket incarnation) =
     incarnation_after first before < incarnation
-Follows plant firsts max_number resource first before (Heard of heard) = Unit {0}
+Follows plant firsts max_number resource first opening before (Heard of heard) = Unit {0}
 
 -- each of a list has R to those before it; the newest stands first
 abbrev pub EachAfter : {X : Type 0} → (List X → X → Type 0) → List X → Type 0
@@ -143,17 +161,23 @@ EachAfter R [] = Unit {0}
 EachAfter R (x ∷ before) = R before x × EachAfter R before
 
 -- a journal is lawful for a plant, the first incarnations of its resources and a limit of numbers:
--- each step could follow those before it
+-- its opening suits the tasks of its resource, and each step could follow those before it
 pub record IsLawful (plant : PlantValue) (firsts : List ℕ) (max_number : ℕ) (j : Journal) : Type 0 where
-  pub follows : EachAfter (Follows plant firsts max_number j.resource j.first) (reverse j.steps)
+  pub opened : AreOpeningOf plant j.resource j.opening
+  pub follows : EachAfter (Follows plant firsts max_number j.resource j.first j.opening) (reverse j.steps)
 
 -- the first incarnations of journals, in order
 abbrev pub firsts_of : List Journal → List ℕ
 firsts_of journals = map (λ (j : Journal). j.first) journals
 
+-- the retained values with which the tasks of each resource open, in order
+abbrev pub openings_of : List Journal → List (List (List Value))
+openings_of journals = map (λ (j : Journal). j.opening) journals
+
 -- the journal of a resource that has done nothing since its first incarnation began
-abbrev pub fresh_journal : ℕ → ℕ → Journal
-fresh_journal resource first = record { resource = resource; first = first; steps = [] }
+abbrev pub fresh_journal : ℕ → ℕ → List (List Value) → Journal
+fresh_journal resource first opening =
+    record { resource = resource; first = first; opening = opening; steps = [] }
 
 -- the journal with one more step
 abbrev pub with_step : Journal → Step → Journal

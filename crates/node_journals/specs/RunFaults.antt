@@ -2,7 +2,7 @@
 use Rattle.node_journals.specs.declared.run_fault.RunFault.{RunFault}
 use Rattle.node_journals.specs.declared.run_fault.RunFault.TheVariants.{Memory, Spawn, BookDisagrees, Stranger, Doubled, Keeper}
 
--- memory is wanting, or a keeper doesn't raise its incarnation
+-- memory is wanting, or a keeper doesn't raise its incarnation or tell what it kept
 abbrev pub IsRaiseFault : RunFault → Type 0
 IsRaiseFault Memory = Unit {0}
 IsRaiseFault Spawn = ⊥
@@ -20,7 +20,7 @@ IsStartFault Stranger = ⊥
 IsStartFault Doubled = ⊥
 IsStartFault Keeper = ⊥
 
--- one of these: keepers are raised, then threads are started
+-- one of these: keepers are asked, then threads are started
 abbrev pub IsThreadsFault : RunFault → Type 0
 IsThreadsFault Memory = Unit {0}
 IsThreadsFault Spawn = Unit {0}

@@ -1,7 +1,7 @@
 use exchange_core::EvalFault;
 use thiserror::Error;
 
-/// Why a resource didn't obey a command, or a message of it wasn't sent.
+/// Why a resource didn't obey a command, or a message of it wasn't sent, or its retained variables weren't kept.
 #[derive(Clone, Copy, Debug, PartialEq, Eq, Error)]
 pub enum Cause {
     /// The gate's turns were over.
@@ -13,13 +13,13 @@ pub enum Cause {
     /// The task's last evaluation in this incarnation has the greatest number.
     #[error("NumbersSpent")]
     NumbersSpent,
-    /// There was no memory left.
+    /// There was no memory left; or the evaluation stands, and there was none for its retained variables.
     #[error("Memory")]
     Memory,
     /// The evaluation made didn't fit the book.
     #[error("Misfit")]
     Misfit,
-    /// The incarnation wasn't raised.
+    /// The incarnation wasn't raised; or the evaluation stands, and the retained variables weren't kept.
     #[error("Keeper")]
     Keeper,
     /// The command, or the evaluation made by it, wasn't sent, or not to each resource.

@@ -3,6 +3,7 @@ ghost use Rattle.exchange_core.specs.CoreValue.{IsAccepted, HasHeard};
 ghost use Rattle.node_journals.specs.declared.step.Step.TheVariants.{Took, Heard};
 ghost use Rattle.node_journals.specs.Journals.{fresh_journal, with_step};
 
+use crate::opening::Opening;
 use crate::step::Step;
 use crate::steps::Steps;
 use evaluation::Frame;
@@ -14,17 +15,20 @@ use std::alloc::{AllocError, Global};
 pub struct Journal {
     pub resource: usize,
     pub first: u32,
+    /// What its tasks began with.
+    pub opening: Opening,
     pub steps: Steps,
 }
 
 impl Journal {
     /// A journal without steps.
-    pub fn new(alloc: Global, resource: usize, first: u32) -> Journal
-        ensures { result ≡ fresh_journal resource first }
+    pub fn new(alloc: Global, resource: usize, first: u32, opening: Opening) -> Journal
+        ensures { result ≡ fresh_journal resource first opening }
     {
         Journal {
             resource,
             first,
+            opening,
             steps: Steps::new(alloc),
         }
     }

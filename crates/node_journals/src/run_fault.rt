@@ -19,7 +19,7 @@ pub enum RunFault {
     /// In a journal the ticket of an evaluation made or of a restart isn't above that of the one before.
     #[error("Doubled")]
     Doubled,
-    /// A keeper could not raise its incarnation before the start.
+    /// A keeper could not raise its incarnation, or tell the retained variables that it kept, before the start.
     #[error("Keeper")]
     Keeper,
 }

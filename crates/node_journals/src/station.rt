@@ -1,6 +1,7 @@
 mod pending_evaluation;
 
 use crate::journal::Journal;
+use crate::opening::Opening;
 use crate::step::Step;
 use evaluation::{Frame, Inputs};
 use exchange_core::{Accepted, Core, CoreFault, EvalFault, RestartFault};
@@ -29,30 +30,39 @@ impl Model for Station {
 }
 
 ghost use Rattle.std.specs.Prelude.{◌≡◌, ◌<◌, IfOk, IfErr, OnErr, length};
-ghost use Rattle.exchange_core.specs.CoreValue.{IsCoreFault, IsEvalFault};
+ghost use Rattle.exchange_core.specs.CoreValue.{AreOpeningOf, IsCoreFault, IsEvalFault};
 ghost use Rattle.node_journals.specs.Journals.{IsLawful};
 ghost use Rattle.node_journals.specs.Steps.Stations.{fresh_station, IsReceived, IsTold, IsPending, IsRestarted};
 ghost use Rattle.node_journals.specs.Steps.Standing.{IsStation};
 
 impl Station {
-    /// A resource in its first incarnation. It holds nothing, all its tasks are initial, and its journal has no steps. The numbers of its evaluations go up to `max_number`.
+    /// A resource in its first incarnation. It holds nothing, each of its tasks begins with its part of the opening, and its journal has no steps. The numbers of its evaluations go up to `max_number`.
     pub fn new(
         alloc: Global,
         plant: Arc<Plant>,
         resource: usize,
         first: &[u32],
+        opening: Opening,
         max_number: u32,
     ) -> Result<Station, CoreFault>
-        requires { resource < length plant.value.resources → length first.now ≡ length plant.value.resources }
-        ensures ok { IfOk result (λ s. s ≡ fresh_station plant.value resource first.now max_number) }
+        requires first { resource < length plant.value.resources → length first.now ≡ length plant.value.resources }
+        requires opening { resource < length plant.value.resources → AreOpeningOf plant.value resource opening }
+        ensures ok { IfOk result (λ s. s ≡ fresh_station plant.value resource first.now opening max_number) }
         ensures fault { IfErr result (IsCoreFault plant.value resource) }
     {
         // The getter hands out that the plant is sound.
         let _resources = plant.resources();
-        let core = Core::new(alloc, plant, resource, first, max_number)?;
+        let core = Core::new(
+            alloc,
+            plant,
+            resource,
+            first,
+            opening.as_slice(),
+            max_number,
+        )?;
         Ok(Station {
             core,
-            journal: Journal::new(alloc, resource, first[resource]),
+            journal: Journal::new(alloc, resource, first[resource], opening),
         })
     }
 
@@ -128,7 +138,7 @@ impl Station {
         self.journal.steps.make_room()
     }
 
-    /// The resource in a greater incarnation: it holds nothing, and all its tasks are initial. Without memory it comes back as it was.
+    /// The resource in a greater incarnation: it holds nothing, and of each of its tasks the retained variables alone are as they were. Without memory it comes back as it was.
     pub fn restart(
         self,
         alloc: Global,

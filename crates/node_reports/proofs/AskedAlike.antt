@@ -1,5 +1,5 @@
 -- Evaluations by one code, of which the same was asked, are equal.
-use Rattle.std.proofs.Common.{◌≡◌, List, refl, ap, sym, ◌∙◌, subst, slice_get, arith}
+use Rattle.std.proofs.Common.{◌≡◌, List, refl, ap, sym, ◌∙◌, subst, arith}
 use Rattle.std.proofs.lemmas.Option.{same_Some, slice_get_within}
 use Rattle.lists.proofs.Places.{element_at, same_by_each}
 use Rattle.power_flow.specs.StateValue.{StateValue}

@@ -4,25 +4,27 @@ use Rattle.std.proofs.lemmas.Bool.{eq-eqb}
 use Rattle.std.proofs.lemmas.Bool.Decides.{nat_tests}
 use Rattle.std.proofs.lemmas.List.{append-nil, reverse-append}
 use Rattle.std.proofs.lemmas.List.Elements.{filter-append}
+use Rattle.std_blocks.specs.declared.value.Value.{Value}
 use Rattle.due_list.specs.declared.task_ref.TaskRef.{TaskRef}
 use Rattle.plant.specs.PlantValue.{PlantValue}
 use Rattle.evaluation.specs.Meaning.{Evaluated}
 use Rattle.evaluation.specs.Last.{same_task}
-use Rattle.std.specs.List.{AllByRecursion}
+use Rattle.std.specs.List.{AllByRecursion, filter}
 use Rattle.evaluation_book.specs.Fits.{last_in}
 use Rattle.node_journals.specs.declared.step.Step.{Step}
 use Rattle.node_journals.specs.declared.step.Step.TheVariants.{Took, Made, Restarted, Heard}
 use Rattle.node_journals.specs.Journals.{incarnation_after, made, newest, made_of, last_made, IsNextMade, Follows, EachAfter}
+use Rattle.exchange.specs.Run.{last_of}
 use Rattle.node_reports.specs.Reports.{entries_of}
 
 -- no evaluation of a lawful journal is of a later incarnation than the present one
-pub below_present : (plant : PlantValue) (firsts : List ℕ) (max_number resource first : ℕ) (steps : List Step) → EachAfter (Follows plant firsts max_number resource first) steps
+pub below_present : (plant : PlantValue) (firsts : List ℕ) (max_number resource first : ℕ) (opening : List (List Value)) (steps : List Step) → EachAfter (Follows plant firsts max_number resource first opening) steps
     → AllByRecursion (λ (y : Evaluated). y.name.incarnation ≤ incarnation_after first steps) (made steps)
-below_present plant firsts max_number resource first [] lawful = tt
-below_present plant firsts max_number resource first (Took x ∷ steps) lawful = below_present plant firsts max_number resource first steps lawful.1
-below_present plant firsts max_number resource first (Heard of heard ∷ steps) lawful = below_present plant firsts max_number resource first steps lawful.1
-below_present plant firsts max_number resource first (Made x ∷ steps) lawful = (let is = lawful.0.incarnation_is in omega arith, below_present plant firsts max_number resource first steps lawful.1)
-below_present plant firsts max_number resource first (Restarted ticket incarnation ∷ steps) lawful = by (made steps) (below_present plant firsts max_number resource first steps lawful.1) where
+below_present plant firsts max_number resource first opening [] lawful = tt
+below_present plant firsts max_number resource first opening (Took x ∷ steps) lawful = below_present plant firsts max_number resource first opening steps lawful.1
+below_present plant firsts max_number resource first opening (Heard of heard ∷ steps) lawful = below_present plant firsts max_number resource first opening steps lawful.1
+below_present plant firsts max_number resource first opening (Made x ∷ steps) lawful = (let is = lawful.0.incarnation_is in omega arith, below_present plant firsts max_number resource first opening steps lawful.1)
+below_present plant firsts max_number resource first opening (Restarted ticket incarnation ∷ steps) lawful = by (made steps) (below_present plant firsts max_number resource first opening steps lawful.1) where
   by : (ys : List Evaluated) → AllByRecursion (λ (y : Evaluated). y.name.incarnation ≤ incarnation_after first steps) ys → AllByRecursion (λ (y : Evaluated). y.name.incarnation ≤ incarnation) ys
   by [] low = tt
   by (y ∷ ys) low = (let here = low.0 in let raised = lawful.0 in omega arith, by ys low.1)
@@ -42,43 +44,43 @@ last_above t most incarnation above (y ∷ ys) below =
     ∙ last_above t most incarnation above ys below.1
 
 -- what a lawful journal made last of a task since its last restart is the last one in the present incarnation
-pub last_made_is : (plant : PlantValue) (firsts : List ℕ) (max_number resource first : ℕ) (t : TaskRef) (steps : List Step) → EachAfter (Follows plant firsts max_number resource first) steps
+pub last_made_is : (plant : PlantValue) (firsts : List ℕ) (max_number resource first : ℕ) (opening : List (List Value)) (t : TaskRef) (steps : List Step) → EachAfter (Follows plant firsts max_number resource first opening) steps
     → last_made t steps ≡ last_in (made steps) t (incarnation_after first steps)
-last_made_is plant firsts max_number resource first t [] lawful = refl
-last_made_is plant firsts max_number resource first t (Took x ∷ steps) lawful = last_made_is plant firsts max_number resource first t steps lawful.1
-last_made_is plant firsts max_number resource first t (Heard of heard ∷ steps) lawful = last_made_is plant firsts max_number resource first t steps lawful.1
-last_made_is plant firsts max_number resource first t (Made x ∷ steps) lawful =
+last_made_is plant firsts max_number resource first opening t [] lawful = refl
+last_made_is plant firsts max_number resource first opening t (Took x ∷ steps) lawful = last_made_is plant firsts max_number resource first opening t steps lawful.1
+last_made_is plant firsts max_number resource first opening t (Heard of heard ∷ steps) lawful = last_made_is plant firsts max_number resource first opening t steps lawful.1
+last_made_is plant firsts max_number resource first opening t (Made x ∷ steps) lawful =
     by (same_task x.name.task t) (eqb x.name.incarnation (incarnation_after first steps)) (eq-eqb x.name.incarnation (incarnation_after first steps) lawful.0.incarnation_is)
-    (last_made_is plant firsts max_number resource first t steps lawful.1)
+    (last_made_is plant firsts max_number resource first opening t steps lawful.1)
   where
     by : (b c : Bool) → c ≡ true → last_made t steps ≡ last_in (made steps) t (incarnation_after first steps)
         → newest (cond b (x ∷ made_of t steps) (made_of t steps)) ≡ cond (b && c) (Some x) (last_in (made steps) t (incarnation_after first steps))
     by true c now before = rw now refl
     by false c now before = before
-last_made_is plant firsts max_number resource first t (Restarted ticket incarnation ∷ steps) lawful =
-    sym (last_above t (incarnation_after first steps) incarnation lawful.0 (made steps) (below_present plant firsts max_number resource first steps lawful.1))
+last_made_is plant firsts max_number resource first opening t (Restarted ticket incarnation ∷ steps) lawful =
+    sym (last_above t (incarnation_after first steps) incarnation lawful.0 (made steps) (below_present plant firsts max_number resource first opening steps lawful.1))
 
 -- An evaluation of a lawful journal, in front of older ones: it is the next one after the steps that made those.
-pub record IsMadeAfter (plant : PlantValue) (firsts : List ℕ) (max_number resource first : ℕ) (x : Evaluated) (older : List Evaluated) : Type 0 where
+pub record IsMadeAfter (plant : PlantValue) (firsts : List ℕ) (max_number resource first : ℕ) (opening : List (List Value)) (x : Evaluated) (older : List Evaluated) : Type 0 where
   pub before : List Step
-  pub next : IsNextMade plant firsts max_number resource first before x
-  pub lawful : EachAfter (Follows plant firsts max_number resource first) before
+  pub next : IsNextMade plant firsts max_number resource first opening before x
+  pub lawful : EachAfter (Follows plant firsts max_number resource first opening) before
   pub made_is : made before ≡ older
 
-pub made_after : (plant : PlantValue) (firsts : List ℕ) (max_number resource first : ℕ) (x : Evaluated) (older : List Evaluated) (steps : List Step) (newer : List Evaluated)
-    → EachAfter (Follows plant firsts max_number resource first) steps → made steps ≡ newer ++ x ∷ older → IsMadeAfter plant firsts max_number resource first x older
-made_after plant firsts max_number resource first x older [] [] lawful is = absurd cc
-made_after plant firsts max_number resource first x older [] (y ∷ newer) lawful is = absurd cc
-made_after plant firsts max_number resource first x older (Took z ∷ steps) newer lawful is = made_after plant firsts max_number resource first x older steps newer lawful.1 is
-made_after plant firsts max_number resource first x older (Heard of heard ∷ steps) newer lawful is = made_after plant firsts max_number resource first x older steps newer lawful.1 is
-made_after plant firsts max_number resource first x older (Restarted ticket incarnation ∷ steps) newer lawful is = made_after plant firsts max_number resource first x older steps newer lawful.1 is
-made_after plant firsts max_number resource first x older (Made z ∷ steps) [] lawful is =
+pub made_after : (plant : PlantValue) (firsts : List ℕ) (max_number resource first : ℕ) (opening : List (List Value)) (x : Evaluated) (older : List Evaluated) (steps : List Step) (newer : List Evaluated)
+    → EachAfter (Follows plant firsts max_number resource first opening) steps → made steps ≡ newer ++ x ∷ older → IsMadeAfter plant firsts max_number resource first opening x older
+made_after plant firsts max_number resource first opening x older [] [] lawful is = absurd cc
+made_after plant firsts max_number resource first opening x older [] (y ∷ newer) lawful is = absurd cc
+made_after plant firsts max_number resource first opening x older (Took z ∷ steps) newer lawful is = made_after plant firsts max_number resource first opening x older steps newer lawful.1 is
+made_after plant firsts max_number resource first opening x older (Heard of heard ∷ steps) newer lawful is = made_after plant firsts max_number resource first opening x older steps newer lawful.1 is
+made_after plant firsts max_number resource first opening x older (Restarted ticket incarnation ∷ steps) newer lawful is = made_after plant firsts max_number resource first opening x older steps newer lawful.1 is
+made_after plant firsts max_number resource first opening x older (Made z ∷ steps) [] lawful is =
     let same : z ≡ x = cc in
     let rest : made steps ≡ older = cc in
-    record { before = steps; next = subst (IsNextMade plant firsts max_number resource first steps) same lawful.0; lawful = lawful.1; made_is = rest }
-made_after plant firsts max_number resource first x older (Made z ∷ steps) (y ∷ newer) lawful is =
+    record { before = steps; next = subst (IsNextMade plant firsts max_number resource first opening steps) same lawful.0; lawful = lawful.1; made_is = rest }
+made_after plant firsts max_number resource first opening x older (Made z ∷ steps) (y ∷ newer) lawful is =
     let rest : made steps ≡ newer ++ x ∷ older = cc in
-    made_after plant firsts max_number resource first x older steps newer lawful.1 rest
+    made_after plant firsts max_number resource first opening x older steps newer lawful.1 rest
 
 made-append : (a b : List Step) → made (a ++ b) ≡ made a ++ made b
 made-append [] b = refl
@@ -127,3 +129,21 @@ last_in-entries t incarnation (y ∷ ys) = by (eqb y.name.task.resource t.resour
         → last_in (cond b (y ∷ entries_of t.resource ys) (entries_of t.resource ys)) t incarnation ≡ last_in (y ∷ ys) t incarnation
     by true e rest = ap (λ o. cond (same_task y.name.task t && eqb y.name.incarnation incarnation) (Some y) o) rest
     by false e rest = rest ∙ sym (ap (λ b. cond ((b && eqb y.name.task.task t.task) && eqb y.name.incarnation incarnation) (Some y) (last_in ys t incarnation)) e)
+
+-- the last one of a task, in whatever incarnation, stands among the entries of its resource
+pub last_of-entries : (t : TaskRef) (ys : List Evaluated) → newest (filter (λ (y : Evaluated). same_task y.name.task t) (entries_of t.resource ys)) ≡ last_of t ys
+last_of-entries t [] = refl
+last_of-entries t (y ∷ ys) = by (eqb y.name.task.resource t.resource) refl (last_of-entries t ys)
+  where
+    passing : List Evaluated → List Evaluated
+    passing zs = filter (λ (z : Evaluated). same_task z.name.task t) zs
+
+    of : (b : Bool) → same_task y.name.task t ≡ b → newest (passing (entries_of t.resource ys)) ≡ last_of t ys
+        → newest (cond b (y ∷ passing (entries_of t.resource ys)) (passing (entries_of t.resource ys))) ≡ cond b (Some y) (last_of t ys)
+    of true e rest = refl
+    of false e rest = rest
+
+    by : (b : Bool) → eqb y.name.task.resource t.resource ≡ b → newest (passing (entries_of t.resource ys)) ≡ last_of t ys
+        → newest (passing (cond b (y ∷ entries_of t.resource ys) (entries_of t.resource ys))) ≡ last_of t (y ∷ ys)
+    by true e rest = of (same_task y.name.task t) refl rest
+    by false e rest = rest ∙ sym (ap (λ b. cond (b && eqb y.name.task.task t.task) (Some y) (last_of t ys)) e)

@@ -1,5 +1,5 @@
 -- What is known where the book and the journals agree.
-use Rattle.std.proofs.Common.{◌≡◌, ◌⊎◌, inl, inr, ℕ, ◌<◌, List, [], ◌∷◌, All, length, reverse, Some, slice_get, sym, ap, ◌∙◌, subst}
+use Rattle.std.proofs.Common.{◌≡◌, inl, inr, ℕ, ◌<◌, List, [], ◌∷◌, All, length, reverse, slice_get, sym, ap, ◌∙◌, subst}
 use Rattle.std.specs.List.{AllByRecursion}
 use Rattle.std.specs.Option.{option_map}
 use Rattle.std.proofs.lemmas.List.{length-map, reverse-reverse}
@@ -10,14 +10,15 @@ use Rattle.plant.specs.PlantValue.{PlantValue, IsSoundPlant}
 use Rattle.evaluation.specs.Meaning.{Evaluated}
 use Rattle.evaluation_book.specs.Book.{BookValue}
 use Rattle.evaluation_book.specs.Fits.{AllFit}
+use Rattle.exchange.specs.History.{setting_over}
 use Rattle.exchange.specs.Replays.{AllCouldBeMade}
 use Rattle.node_journals.specs.declared.command.Command.{Command}
 use Rattle.node_journals.specs.declared.journal.Journal.{Journal}
 use Rattle.node_journals.specs.declared.node_fault.NodeFault.{NodeFault}
 use Rattle.node_journals.specs.declared.run_fault.RunFault.{RunFault}
-use Rattle.node_journals.specs.Journals.{made, firsts_of, IsLawful}
+use Rattle.node_journals.specs.Journals.{made, firsts_of, openings_of, IsLawful}
 use Rattle.node_reports.specs.Reports.{entries_of, IsFittingBook, AreJournalsOf, RunsAgain, CanBeMadeAgain, Agree, unanswered_of, IsCollectFault}
-use Rattle.node_reports.specs.Steps.Collecting.{BeginsAt, AllBegin, HaveJournals, AllMade, IsToldFault}
+use Rattle.node_reports.specs.Steps.Collecting.{AllBegin, HaveJournals, AllMade, IsToldFault}
 use Rattle.node_reports.proofs.Collecting.{firsts_are}
 use Rattle.node_reports.proofs.Remaking.{HasIncarnation, holds_at, each-reverse, could_be_made, runs_again}
 
@@ -72,7 +73,7 @@ again plant max_number book journals sound fit agree lawful bounds =
 pub made_again : (plant : PlantValue) (max_number : ℕ) (book : BookValue) (journals : List Journal) → AllFit book.first (reverse book.entries) → Agree plant book journals
     → All (IsLawful plant (firsts_of journals) max_number) journals → All HasIncarnation book.entries → CanBeMadeAgain plant max_number book journals
 made_again plant max_number book journals fit agree lawful bounds =
-    subst (λ (first : List ℕ). AllCouldBeMade (record { plant = plant; first = first; max_number = max_number }) (reverse book.entries)) agree.first_is
+    subst (λ (first : List ℕ). AllCouldBeMade (setting_over plant first (openings_of journals) max_number) (reverse book.entries)) agree.first_is
     (could_be_made plant max_number book journals (fitting_book plant book journals fit agree) (journals_of plant max_number book journals agree lawful) agree.in_book bounds)
 
 -- where the faults noted aren't told, no report is collected

@@ -1,5 +1,5 @@
 -- Which faults are told of commands, and of which resources they are.
-use Rattle.std.proofs.Common.{◌≡◌, ◌⊎◌, ◌↔◌, inl, inr, ℕ, ◌+◌, ◌-◌, ◌<◌, ◌≤◌, Bool, true, false, IsTrue, List, length, get_or, All, Contains, Result, Ok, Err, MatchResult, is_ok, refl, ap, sym, ◌∙◌, subst, arith}
+use Rattle.std.proofs.Common.{◌≡◌, ◌⊎◌, ◌↔◌, inl, inr, ℕ, ◌+◌, ◌-◌, ◌<◌, ◌≤◌, Bool, false, IsTrue, List, length, get_or, All, Contains, Result, Ok, Err, MatchResult, is_ok, refl, ap, sym, ◌∙◌, subst, arith}
 use Rattle.std.specs.List.{list_any}
 use Rattle.std.specs.List.Sorted.{IsStrictlyIncreasing, IsBinarySearchResult}
 use Rattle.std.specs.Ordering.{nat_cmp}
@@ -73,16 +73,18 @@ unobeyed_if_unmarked marks journals unanswered c answer has are restart tells = 
         subst (λ (n : ℕ). get_or marks (c.ticket - 1) false ≡ list_any (λ (j : Journal). list_any (is_restart_of n) j.steps) journals) place
         (are (c.ticket - 1) (let low = has.0 in let high = has.1 in omega (arith, low, high)))
 
--- what a command may have met, it may have met where it is known to be unobeyed
-pub may_meet_where : (plant : PlantValue) (c : Command) (A B : Type 0) (cause : Cause) → (A → B) → MayMeet plant c A cause → MayMeet plant c B cause
-may_meet_where plant c A B OutOfTurns to meets = tt
-may_meet_where plant c A B NoSuchTask to meets = (meets.0, to meets.1)
-may_meet_where plant c A B NumbersSpent to meets = (meets.0, to meets.1)
-may_meet_where plant c A B Memory to meets = to meets
-may_meet_where plant c A B Misfit to meets = (meets.0, to meets.1)
-may_meet_where plant c A B Keeper to meets = (meets.0, to meets.1)
-may_meet_where plant c A B NotSent to meets = tt
-may_meet_where plant c A B Stopped to meets = to meets
+-- what a command may have met is told as well by what says the same of its being unobeyed
+pub may_meet_where : (plant : PlantValue) (c : Command) (A B : Type 0) (cause : Cause) → (A ↔ B) → MayMeet plant c A cause → MayMeet plant c B cause
+may_meet_where plant c A B OutOfTurns same meets = tt
+may_meet_where plant c A B NoSuchTask same meets = (meets.0, same.0 meets.1)
+may_meet_where plant c A B NumbersSpent same meets = (meets.0, same.0 meets.1)
+may_meet_where plant c A B Memory same (inl unobeyed) = inl (same.0 unobeyed)
+may_meet_where plant c A B Memory same (inr keeps) = inr keeps
+may_meet_where plant c A B Misfit same meets = (meets.0, same.0 meets.1)
+may_meet_where plant c A B Keeper same (inl restart) = inl (restart.0, same.0 restart.1)
+may_meet_where plant c A B Keeper same (inr keeps) = inr (keeps.0, λ unobeyed. keeps.1 (same.1 unobeyed))
+may_meet_where plant c A B NotSent same meets = tt
+may_meet_where plant c A B Stopped same meets = same.0 meets
 
 -- a fault is told of the command of its ticket, if that is of its resource and may have met its cause
 pub told_of_one : (plant : PlantValue) (commands : List Command) (journals : List Journal) (unanswered : List ℕ) (f : NodeFault) (c : Command) (unobeyed answer : Bool)
@@ -94,13 +96,13 @@ told_of_one plant commands journals unanswered f c unobeyed answer one obeys mee
     listed = one.listed;
     ticket_is = one.ticket_is;
     resource_is = (meets.0 yes).0;
-    may_meet = may_meet_where plant c (IsTrue unobeyed) (IsUnobeyed unanswered journals c) f.cause obeys.0 (meets.0 yes).1;
+    may_meet = may_meet_where plant c (IsTrue unobeyed) (IsUnobeyed unanswered journals c) f.cause obeys (meets.0 yes).1;
   },
   λ told.
       let same : told.command ≡ c = one.only told.command told.listed told.ticket_is in
       meets.1 (
         ap (λ (d : Command). d.resource) (sym same) ∙ told.resource_is,
-        may_meet_where plant c (IsUnobeyed unanswered journals c) (IsTrue unobeyed) f.cause obeys.1
+        may_meet_where plant c (IsUnobeyed unanswered journals c) (IsTrue unobeyed) f.cause (obeys.1, obeys.0)
             (subst (λ (d : Command). MayMeet plant d (IsUnobeyed unanswered journals d) f.cause) same told.may_meet),
       ),
 )

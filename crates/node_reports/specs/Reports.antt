@@ -1,9 +1,9 @@
 -- What a report of the threads has to be: the book fits, the journals are lawful, they made the book's entries,
 -- the commands are accounted for, and the book's entries are a run.
-use Rattle.std.specs.Prelude.{◌≡◌, ◌⊎◌, ◌∷◌, ℕ, ◌<◌, ◌≤◌, ◌==◌, ◌&&◌, Bool, true, false, not, List, Option, Some, None, All, Contains, length, map, filter, find, reverse, take, slice_get}
+use Rattle.std.specs.Prelude.{◌≡◌, ◌≢◌, ◌⊎◌, [], ◌∷◌, ℕ, ◌<◌, ◌≤◌, ◌==◌, ◌&&◌, Bool, true, false, not, List, Option, Some, None, MatchOption, All, Contains, length, map, filter, find, reverse, take, slice_get}
 use Rattle.std.specs.List.{filter_map, list_any}
 use Rattle.std.specs.List.Sorted.{IsStrictlyIncreasing}
-use Rattle.plant.specs.PlantValue.{PlantValue, tasks_at}
+use Rattle.plant.specs.PlantValue.{PlantValue, tasks_at, code_at}
 use Rattle.evaluation.specs.Meaning.{Evaluated}
 use Rattle.exchange.specs.declared.event.Event.{Event}
 use Rattle.exchange.specs.History.{Setting, setting_over}
@@ -22,7 +22,7 @@ use Rattle.node_journals.specs.declared.cause.Cause.TheVariants.{OutOfTurns, NoS
 use Rattle.node_journals.specs.declared.node_fault.NodeFault.{NodeFault}
 use Rattle.node_journals.specs.declared.run_fault.RunFault.{RunFault}
 use Rattle.node_journals.specs.declared.run_fault.RunFault.TheVariants as run
-use Rattle.node_journals.specs.Journals.{made, firsts_of, IsLawful}
+use Rattle.node_journals.specs.Journals.{made, firsts_of, openings_of, IsLawful}
 
 -- the entries of one resource, in order
 abbrev pub entries_of : ℕ → List Evaluated → List Evaluated
@@ -143,18 +143,28 @@ LacksTask plant c = by c.act
     by (Evaluate task dt inputs) = length (tasks_at plant c.resource) ≤ task
     by Restart = ⊥
 
+-- a command asks to evaluate a task that has retained variables
+abbrev pub KeepsRetained : PlantValue → Command → Type 0
+KeepsRetained plant c = by c.act
+  where
+    by : Act → Type 0
+    by (Evaluate task dt inputs) = MatchOption (code_at plant (record { resource = c.resource; task = task })) ⊥
+        (λ code. code.retained ≢ [])
+    by Restart = ⊥
+
 -- A command may have met a cause, where this says that it wasn't obeyed.
--- One may be out of turns also when it is done with, and an evaluation made, or the news of a restart, may not be sent;
--- after any other cause the command isn't obeyed.
--- Only a task that isn't there is no such task, only one that is there spends its numbers or is a misfit,
--- and only for a restart a keeper is asked.
+-- One may be out of turns also when it is done with, and an evaluation made, or the news of a restart, may not be sent.
+-- A keeper is asked for a restart, which isn't obeyed where it refuses; and it is handed the retained variables of a
+-- task once its evaluation stands, which stays so where it refuses, or where memory is wanting for them.
+-- After any other cause the command isn't obeyed.
+-- Only a task that isn't there is no such task, and only one that is there spends its numbers or is a misfit.
 abbrev pub MayMeet : PlantValue → Command → Type 0 → Cause → Type 0
 MayMeet plant c Unobeyed OutOfTurns = Unit {0}
 MayMeet plant c Unobeyed NoSuchTask = LacksTask plant c × Unobeyed
 MayMeet plant c Unobeyed NumbersSpent = HasTask plant c × Unobeyed
-MayMeet plant c Unobeyed Memory = Unobeyed
+MayMeet plant c Unobeyed Memory = Unobeyed ⊎ KeepsRetained plant c
 MayMeet plant c Unobeyed Misfit = HasTask plant c × Unobeyed
-MayMeet plant c Unobeyed Keeper = (c.act ≡ Restart) × Unobeyed
+MayMeet plant c Unobeyed Keeper = ((c.act ≡ Restart) × Unobeyed) ⊎ (KeepsRetained plant c × ¬ Unobeyed)
 MayMeet plant c Unobeyed NotSent = Unit {0}
 MayMeet plant c Unobeyed Stopped = Unobeyed
 
@@ -210,12 +220,12 @@ pub record AreByTicket (noted listed : List NodeFault) : Type 0 where
   pub first : All (λ (f : NodeFault). first_of_ticket f.ticket noted ≡ Some f) listed
   pub told : All (λ (f : NodeFault). Contains (fault_tickets listed) f.ticket) noted
 
--- the setting in which the threads ran: the plant, the journals' first incarnations, and the limit
+-- the setting in which the threads ran: the plant, the journals' first incarnations and openings, and the limit
 abbrev pub setting_of : PlantValue → ℕ → List Journal → Setting
-setting_of plant max_number journals = setting_over plant (firsts_of journals) max_number
+setting_of plant max_number journals = setting_over plant (firsts_of journals) (openings_of journals) max_number
 
 -- Fifth. Events that make the book's entries again, such as the book's schedule,
--- have just these entries as their run, over the plant, the journals' first incarnations and the limit.
+-- have just these entries as their run, over the plant, the journals' first incarnations and openings, and the limit.
 abbrev pub RunsAgain : PlantValue → ℕ → BookValue → List Journal → Type 0
 RunsAgain plant max_number book journals =
     (events : List Event) → Replays book.first book.entries events
@@ -286,7 +296,7 @@ pub record LeavesFault (plant : PlantValue) (max_number : ℕ) (commands : List 
   pub found : IsCollectFault plant commands book journals noted fault
 
 -- Why a run of threads gives no report: memory was wanting, a thread wasn't started or a keeper didn't raise its
--- incarnation before the start; else no report is collected of what the threads left.
+-- incarnation, or didn't tell what it kept, before the start; else no report is collected of what the threads left.
 abbrev pub IsRunFault : PlantValue → ℕ → List Command → RunFault → Type 0
 IsRunFault plant max_number commands run.Memory = Unit {0}
 IsRunFault plant max_number commands run.Spawn = Unit {0}

@@ -5,11 +5,11 @@ use node::{FreeGate, Gate, Keeper, KeeperFault, MemoryKeeper, OutOfTurns, PacedG
 
 #[test]
 fn keepers_and_gates_answer_by_themselves(rt: HostRuntime) {
-    let mut keeper = MemoryKeeper::new(0);
+    let mut keeper = MemoryKeeper::new(rt.alloc(), 0);
     for &answer in &[Ok(1), Ok(2)] {
         equal(&rt, "the next", &keeper.raise(), &answer);
     }
-    let mut keeper = MemoryKeeper::new(4_294_967_294);
+    let mut keeper = MemoryKeeper::new(rt.alloc(), 4_294_967_294);
     let spent = Err(KeeperFault::Spent);
     for &answer in &[Ok(4_294_967_295), spent, spent] {
         equal(&rt, "the last", &keeper.raise(), &answer);

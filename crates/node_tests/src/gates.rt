@@ -1,7 +1,9 @@
-//! Gates and keepers that tests choose.
+//! Gates that tests choose.
 
-use node::{Gate, Keeper, KeeperFault, OutOfTurns, PacedGate};
-use std::sync::atomic::{AtomicBool, Ordering};
+use crate::test_keepers::Meeting;
+use node::{Gate, OutOfTurns, PacedGate};
+use std::sync::Arc;
+use std::sync::atomic::{AtomicBool, AtomicU64, Ordering};
 use std::thread;
 
 /// Each of two resources waits in `pass` until the other one is there.
@@ -21,7 +23,7 @@ impl PairGate {
 }
 
 /// Looks for a flag, for a number of turns.
-fn wait_for(flag: &AtomicBool) -> Result<(), OutOfTurns> {
+pub fn wait_for(flag: &AtomicBool) -> Result<(), OutOfTurns> {
     for _turn in 0..10_000_000 {
         if flag.load(Ordering::SeqCst) {
             return Ok(());
@@ -120,26 +122,68 @@ impl Gate for FirstUnissued {
     }
 }
 
-/// A keeper that keeps nothing any more once it was raised.
+/// A paced gate that counts how often it is told that a command is done with: in the digit of the command's ticket, of a number to the base 16.
 #[derive(Drop)]
-pub struct OnceKeeper {
-    last: u32,
+pub struct CountingGate {
+    paced: PacedGate,
+    told: AtomicU64,
 }
 
-impl OnceKeeper {
-    pub fn new() -> OnceKeeper {
-        OnceKeeper { last: 0 }
+impl CountingGate {
+    pub fn new(turns: u64) -> CountingGate {
+        CountingGate {
+            paced: PacedGate::new(turns),
+            told: AtomicU64::new(0),
+        }
+    }
+
+    pub fn told(&self) -> u64 {
+        self.told.load(Ordering::SeqCst)
     }
 }
 
-impl Keeper for OnceKeeper {
-    ghost last = { λ k. k.last };
+impl Gate for CountingGate {
+    fn issue(&self, ticket: u64) -> Result<(), OutOfTurns> {
+        self.paced.issue(ticket)
+    }
 
-    fn raise(&mut self) -> Result<u32, KeeperFault> {
-        if self.last > 0 {
-            return Err(KeeperFault::Unwritable);
+    fn pass(&self, resource: usize, ticket: u64) -> Result<(), OutOfTurns> {
+        self.paced.pass(resource, ticket)
+    }
+
+    fn sent(&self, resource: usize, ticket: u64) -> Result<(), OutOfTurns> {
+        let mut digit = 1_u64;
+        for _place in 0..ticket {
+            digit = digit.wrapping_mul(16);
         }
-        self.last = 1;
-        Ok(1)
+        self.told.fetch_add(digit, Ordering::SeqCst);
+        self.paced.sent(resource, ticket)
+    }
+}
+
+/// A gate at which the second command is issued once the first one's evaluation is being kept, and that tells when the second is done with.
+#[derive(Drop)]
+pub struct MeetingGate {
+    pub meeting: Arc<Meeting>,
+}
+
+impl Gate for MeetingGate {
+    fn issue(&self, ticket: u64) -> Result<(), OutOfTurns> {
+        if ticket == 2 {
+            wait_for(&self.meeting.is_keeping)
+        } else {
+            Ok(())
+        }
+    }
+
+    fn pass(&self, _resource: usize, _ticket: u64) -> Result<(), OutOfTurns> {
+        Ok(())
+    }
+
+    fn sent(&self, _resource: usize, ticket: u64) -> Result<(), OutOfTurns> {
+        if ticket == 2 {
+            self.meeting.is_second_done.store(true, Ordering::SeqCst);
+        }
+        Ok(())
     }
 }

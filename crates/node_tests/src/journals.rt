@@ -3,8 +3,8 @@
 use crate::checks::{equal, holds, must};
 use crate::runs::pair;
 use evaluation::{Frame, Inputs};
-use exchange_core::{Accepted, Core};
-use node::{Journal, Step};
+use exchange_core::{Accepted, Core, initial_opening, is_opening};
+use node::{Journal, Opening, Step};
 use plant::TaskRef;
 use std::process::Abort;
 use std::sync::Arc;
@@ -50,14 +50,20 @@ fn a_frame_is_taken_once_and_noted_each_time(rt: HostRuntime) {
         first.len() == shared.resources(),
         "a number for each resource"
     );
-    let mut counter = must(&rt, Core::new(alloc, shared, 0, first, 9));
+    let opening = must(&rt, initial_opening(alloc, &shared, 0));
+    assert!(rt; is_opening(&shared, 0, &opening));
+    let made = Core::new(alloc, shared, 0, first, opening.as_slice(), 9);
+    let mut counter = must(&rt, made);
     let frame = must(&rt, counter.evaluate(alloc, 1, 0, 10, &inputs));
     assert!(rt;
         first.len() == plant.resources(),
         "a number for each resource"
     );
-    let mut core = must(&rt, Core::new(alloc, plant, 1, first, 9));
-    let mut journal = Journal::new(alloc, 1, 1);
+    let opening = must(&rt, initial_opening(alloc, &plant, 1));
+    assert!(rt; is_opening(&plant, 1, &opening));
+    let made = Core::new(alloc, plant, 1, first, opening.as_slice(), 9);
+    let mut core = must(&rt, made);
+    let mut journal = Journal::new(alloc, 1, 1, Opening::of(opening));
     for &answer in &[Accepted::Taken, Accepted::Old] {
         let found = taken(&rt, &mut journal, &mut core, &frame);
         equal(&rt, "answer", &found, &answer);

@@ -18,8 +18,12 @@ mod memory;
 #[cfg(test)]
 mod paced_lists;
 #[cfg(test)]
+mod retained;
+#[cfg(test)]
 mod runs;
 #[cfg(test)]
 mod senders;
+#[cfg(test)]
+mod test_keepers;
 #[cfg(test)]
 mod threads;

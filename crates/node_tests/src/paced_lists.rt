@@ -3,7 +3,7 @@
 use crate::checks::{equal, holds, must};
 use crate::drawn::{drawn_asks, ring};
 use crate::runs::{commands_of, keepers_of, plant_of, run_on, world_of};
-use exchange::{Event, World};
+use exchange::{Event, World, initial_openings};
 use node::{Act, Command, PacedGate};
 use plant::{Plant, TaskRef};
 use std::alloc::Global;
@@ -48,12 +48,14 @@ fn events_of(rt: &impl Abort, alloc: Global, commands: &[Command], resources: us
 /// The world after these commands, obeyed one after the other.
 fn world_after(rt: &impl Abort, alloc: Global, plant: &Arc<Plant>, commands: &[Command]) -> World {
     let first = must(rt, vec![in alloc; 1; plant.resources()]);
+    let opening = must(rt, initial_openings(alloc, plant));
     let events = events_of(rt, alloc, commands, plant.resources());
     world_of(
         rt,
         alloc,
         plant,
         first.as_slice(),
+        opening.as_slice(),
         u32::MAX,
         events.as_slice(),
     )

@@ -1,8 +1,8 @@
 //! Runs of threads, most of them on a counter and its watcher, and what their reports have.
 
 use crate::checks::{equal, holds, must};
-use evaluation::{Frame, Inputs};
-use exchange::{Event, Schedule, World};
+use evaluation::{Frame, Inputs, Retained};
+use exchange::{Event, Schedule, World, are_openings};
 use node::{
     Act, Cause, Command, Gate, Keeper, MemoryKeeper, Report, are_for_plant, are_numbered,
     run_threads,
@@ -48,7 +48,7 @@ pub fn pair(rt: &impl Abort, alloc: Global) -> Arc<Plant> {
 pub fn keepers_of(rt: &impl Abort, alloc: Global, count: usize, last: u32) -> Vec<MemoryKeeper> {
     let mut keepers = Vec::new(alloc);
     for _resource in 0..count {
-        must(rt, keepers.push(MemoryKeeper::new(last)));
+        must(rt, keepers.push(MemoryKeeper::new(alloc, last)));
     }
     keepers
 }
@@ -118,12 +118,15 @@ pub fn world_of(
     alloc: Global,
     plant: &Arc<Plant>,
     first: &[u32],
+    opening: &[Vec<Retained>],
     max_number: u32,
     events: &[Event],
 ) -> World {
     let shared = must(rt, Arc::try_clone(plant));
     assert!(rt; first.len() == shared.resources());
-    let mut world = must(rt, World::new(alloc, shared, first, max_number));
+    assert!(rt; are_openings(&shared, opening));
+    let made = World::new(alloc, shared, first, opening, max_number);
+    let mut world = must(rt, made);
     holds(
         rt,
         "there is memory for the run",
@@ -162,6 +165,19 @@ fn first_of(rt: &impl Abort, alloc: Global, report: &Report) -> Vec<u32> {
     first
 }
 
+/// What the tasks of each resource began with.
+fn opening_of(rt: &impl Abort, alloc: Global, report: &Report) -> Vec<Vec<Retained>> {
+    let mut opening = Vec::new(alloc);
+    for journal in report.journals.as_slice() {
+        let mut tasks = Vec::new(alloc);
+        for retained in journal.opening.as_slice() {
+            must(rt, tasks.push(must(rt, retained.try_copy())));
+        }
+        must(rt, opening.push(tasks));
+    }
+    opening
+}
+
 /// One thread that does the events of the book's schedule makes the book's entries. These are the events.
 pub fn is_made_again(
     rt: &impl Abort,
@@ -172,8 +188,16 @@ pub fn is_made_again(
 ) -> Vec<Event> {
     let first = first_of(rt, alloc, report);
     let events = must(rt, report.book.schedule(alloc));
-    let first = first.as_slice();
-    let world = world_of(rt, alloc, plant, first, max_number, events.as_slice());
+    let opening = opening_of(rt, alloc, report);
+    let world = world_of(
+        rt,
+        alloc,
+        plant,
+        first.as_slice(),
+        opening.as_slice(),
+        max_number,
+        events.as_slice(),
+    );
     let entries = report.book.entries();
     let how_many = world.log().len();
     equal(rt, "how many evaluations", &how_many, &entries.len());
@@ -185,6 +209,18 @@ pub fn is_made_again(
 
 /// Just this is told of a run on the pair, and the run of the book's schedule makes the book's entries.
 pub fn has_told(rt: &impl Abort, alloc: Global, report: &Report, max_number: u32, told: &Told) {
+    has_told_on(rt, alloc, &pair(rt, alloc), report, max_number, told);
+}
+
+/// Just this is told of a run on a plant, and the run of the book's schedule makes the book's entries.
+pub fn has_told_on(
+    rt: &impl Abort,
+    alloc: Global,
+    plant: &Arc<Plant>,
+    report: &Report,
+    max_number: u32,
+    told: &Told,
+) {
     let entries = report.book.entries();
     equal(rt, "how many entries", &entries.len(), &told.entries.len());
     for (frame, entry) in entries.iter().zip(told.entries) {
@@ -198,9 +234,8 @@ pub fn has_told(rt: &impl Abort, alloc: Global, report: &Report, max_number: u32
         let found = (fault.resource, fault.ticket, fault.cause);
         equal(rt, "fault", &found, wanted);
     }
-    let plant = pair(rt, alloc);
     let mut kinds = String::new(alloc);
-    for event in &is_made_again(rt, alloc, &plant, report, max_number) {
+    for event in &is_made_again(rt, alloc, plant, report, max_number) {
         must(rt, kinds.push(letter_of(event)));
     }
     equal(rt, "kinds of events", &kinds.as_str(), &told.kinds);

@@ -1,8 +1,9 @@
 //! What a run of threads reports.
 
 use crate::checks::{equal, must};
-use crate::gates::{ClosedToFirst, OnceKeeper, PairGate};
+use crate::gates::{ClosedToFirst, PairGate};
 use crate::runs::{Ask, Told, has_told, keepers_of, pair, run};
+use crate::test_keepers::OnceKeeper;
 use node::{Cause, FreeGate, PacedGate, RunFault, run_threads};
 use std_blocks::Value;
 
@@ -214,7 +215,7 @@ fn a_resource_whose_keeper_fails_goes_on(rt: HostRuntime) {
     ];
     let mut keepers = Vec::new(alloc);
     for _resource in 0..2 {
-        must(&rt, keepers.push(OnceKeeper::new()));
+        must(&rt, keepers.push(OnceKeeper::new(alloc)));
     }
     let gate = PacedGate::new(TURNS);
     let report = run(&rt, alloc, &asks, keepers, &gate, u32::MAX);

@@ -1,3 +1,4 @@
 pub mod Alls
 pub mod Firsts
+pub mod Opened
 pub mod Refusing

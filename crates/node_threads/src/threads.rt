@@ -1,15 +1,18 @@
 mod desk;
 mod ended;
+mod entered;
 mod entering;
 mod hello;
 mod inbox;
 mod issuing;
 mod joining;
+mod keeping;
 mod lawful_for;
 mod noting;
 mod outcome;
 mod posting;
 mod preparing;
+mod raised;
 mod restarting;
 mod serving;
 mod starting;
@@ -112,7 +115,7 @@ fn run_scoped<R: Threads + Wait + Sync, K: Keeper, G: Gate>(
     )
 }
 
-/// Runs the commands in one thread for each resource, and joins the threads. Each journal is lawful for the plant, the journals' first incarnations and the limit, and begins above what its keeper held.
+/// Runs the commands in one thread for each resource, whose tasks begin with what its keeper has kept, and joins the threads. Each journal is lawful for the plant, the journals' first incarnations and the limit, and begins above what its keeper held.
 pub fn run_all<R: Threads + Wait + Sync, K: Keeper, G: Gate>(
     rt: &R,
     alloc: Global,
@@ -127,8 +130,8 @@ pub fn run_all<R: Threads + Wait + Sync, K: Keeper, G: Gate>(
     ensures begun { IfOk result (λ o. BeginAbove K.last keepers.items o.journals.items) }
     ensures fault { IfErr result IsThreadsFault }
 {
-    let (keepers, firsts) = raise_all(alloc, keepers)?;
-    let workers = make_workers(alloc, plant, keepers, firsts.as_slice(), max_number)?;
+    let (raised, firsts) = raise_all(alloc, plant, keepers)?;
+    let workers = make_workers(alloc, plant, raised, firsts.as_slice(), max_number)?;
     let (doors, inboxes) = make_inboxes(alloc, plant.resources())?;
     let book = Mutex::new(Book::new(alloc, firsts.as_slice())?);
     let mut faults = Vec::with_capacity(alloc, commands.len())?;

@@ -16,7 +16,7 @@ use Rattle.plant_grammar.specs.declared.grammar.tree.TypeName.TheVariants.{Eleme
 use Rattle.plant_grammar.specs.declared.grammar.tree.NameList.{NameList}
 use Rattle.plant_grammar.specs.declared.grammar.tree.VarBlock.{VarBlock}
 use Rattle.plant_grammar.specs.declared.grammar.tree.Program.{Program}
-use Rattle.plant_grammar.specs.Grammar.{key_word, mark_word, section_word, type_word, name_words, list_words, lists_words, block_words, program_words, TextValue}
+use Rattle.plant_grammar.specs.Grammar.{key_word, mark_word, section_words, type_word, name_words, list_words, lists_words, block_words, program_words, TextValue}
 use Rattle.plant_text.specs.Spelling.{BeginsWith}
 use Rattle.plant_text.specs.Lines.{WordValue, body_line, body_lines, IsBegunBy}
 use Rattle.plant_grammar.specs.Steps.Reading.{programs_of, lines_of}
@@ -34,10 +34,11 @@ count_both : (ts us : List Token) → count_bodies (ts ++ us) ≡ count_bodies t
 count_both [] us = omega arith
 count_both (t ∷ ts) us = let more = count_both ts us in omega (arith, more)
 
-section_none : (s : Section) → one_body (section_word s) ≡ 0
+section_none : (s : Section) → count_bodies (section_words s) ≡ 0
 section_none section.Input = refl
 section_none section.Output = refl
 section_none section.Local = refl
+section_none section.Retained = refl
 
 type_none : (t : TypeName) → one_body (type_word t) ≡ 0
 type_none (Elementary kind.Bool) = refl
@@ -63,7 +64,7 @@ lists_none (l ∷ ls) = omega (arith, list_none l, lists_none ls, count_both (li
 
 block_none : (b : VarBlock) → count_bodies (block_words b) ≡ 0
 unfolding block_words
-block_none b = omega (arith, section_none b.section, lists_none b.lists.items)
+block_none b = omega (arith, section_none b.section, lists_none b.lists.items, count_both (section_words b.section) (lists_words b.lists.items))
 
 blocks_none : (bs : List VarBlock) → count_bodies (flat_map block_words bs) ≡ 0
 blocks_none [] = refl

@@ -1,9 +1,13 @@
 -- Lists of what a resource declares, one item more at a time, and what is found in a draft.
-use Rattle.std.proofs.Common.{◌≡◌, ℕ, ◌+◌, ◌<◌, List, [], ◌∷◌, ◌++◌, Bool, true, false, cond, suc, subst, Option, Some, None, IsTrue, length, map, take, get_or, refl, sym, ap, ◌∙◌}
+use Rattle.std.proofs.Common.{◌≡◌, ◌≢◌, Result, Ok, Err, IfErr, ℕ, ◌+◌, ◌<◌, List, [], ◌∷◌, ◌++◌, Bool, true, false, cond, suc, subst, Option, Some, None, IsTrue, length, map, take, get_or, refl, sym, ap, ◌∙◌}
 use Rattle.std.specs.Borrow.{Bor}
 use Rattle.std.specs.Prelude.{slice_get, MatchOption}
 use Rattle.std.specs.List.{flat_map, filter, find}
 use Rattle.std.specs.Option.{option_map}
+use Rattle.std.specs.Result.{IsErrAnd}
+use Rattle.plant_grammar.specs.declared.grammar_fault.GrammarFault.{GrammarFault}
+use Rattle.plant_grammar.specs.declared.grammar_fault.GrammarFaultKind.TheVariants.{Memory}
+use Rattle.plant_grammar.specs.WordFaults.{IsGrammarFault}
 use Rattle.std.proofs.lemmas.Option.{slice_get-map}
 use Rattle.std.proofs.lemmas.List.{take_more, map-append, flat_map_more}
 use Rattle.std.proofs.lemmas.List.Elements.{filter-append}
@@ -15,6 +19,7 @@ use Rattle.plant_grammar.specs.declared.grammar.tree.Item.{Item}
 use Rattle.plant_grammar.specs.declared.grammar.tree.Item.TheVariants as item
 use Rattle.plant_grammar.specs.Names.{is_named}
 use Rattle.plant_grammar.specs.Lawful.{use_of}
+use Rattle.plant_grammar.specs.Retained.{retained_places}
 use Rattle.program_bodies.specs.Ladders.{IsLadderOf}
 use Rattle.program_bodies.specs.ProgramTypes.{TypeValue}
 use Rattle.task_codes.specs.CodeValue.{ProgramValue, CodeValue}
@@ -46,8 +51,8 @@ found_place {A = A} p (y ∷ ys) x e = by_first (p y) refl e (found_place p ys x
 
 -- a program of a type that was found
 pub program_made : (types : List TypeValue) (u : Use) (t : TypeValue) (p : ProgramValue) → find (λ (t : TypeValue). is_named u.program t.program.name) types ≡ Some t → IsLadderOf t.program t.ladder
-    → p.name ≡ u.instance → p.ladder ≡ t.ladder → IsProgramOf (programs_in types) u p
-program_made types u t p found drawn named same =
+    → p.name ≡ u.instance → p.ladder ≡ t.ladder → p.retained ≡ retained_places t.program → IsProgramOf (programs_in types) u p
+program_made types u t p found drawn named same retained =
     let at = found_place (λ (t : TypeValue). is_named u.program t.program.name) types t found in
     record {
       name_is = named;
@@ -55,6 +60,7 @@ program_made types u t p found drawn named same =
       type = t.program;
       type_is = record { stands = slice_get-map (λ (t : TypeValue). t.program) types at.0 ∙ ap (option_map (λ (t : TypeValue). t.program)) at.1; named = at.2 };
       ladder_is = rw same drawn;
+      retained_is = retained;
     }
 
 -- an output that was found by its place, or not
@@ -68,3 +74,8 @@ output_found c program name owner place None own at given = λ k kind is.
 output_found c program name owner place (Some x) own at given =
     let v = at_place owner.ladder.declarations name place at in
     record { owner = owner; place = place; variable = v.0; owner_is = own; place_is = at; variable_is = v.1; given_is = given }
+
+-- want of memory is no refusal
+pub memory_excused : {T : Type 0} (Q : GrammarFault → Type 0) (r : Result T GrammarFault) → IsErrAnd r (λ fault. (fault.kind ≡ Memory) × IsGrammarFault fault) → IfErr r (λ f. f.kind ≢ Memory → Q f)
+memory_excused Q (Ok x) h = tt
+memory_excused Q (Err fault) h = λ known. absurd (known h.0)

@@ -27,7 +27,7 @@ use Rattle.plant_grammar.specs.declared.grammar.tree.Use.{Use}
 use Rattle.plant_grammar.specs.declared.grammar.tree.Item.{Item}
 use Rattle.plant_grammar.specs.declared.grammar.tree.Item.TheVariants as item
 use Rattle.plant_grammar.specs.declared.grammar.tree.Resource.{Resource}
-use Rattle.plant_grammar.specs.Grammar.{Tree, key_word, mark_word, section_word, type_word, name_words, list_words, lists_words, block_words, program_words, interval_words, priority_words, settings, task_words, source_words, bind_words, with_commas, binds_words, binds_listed, use_words, item_words, items_words, resource_words, resources_words, words_of}
+use Rattle.plant_grammar.specs.Grammar.{Tree, key_word, mark_word, section_words, type_word, name_words, list_words, lists_words, block_words, program_words, interval_words, priority_words, settings, task_words, source_words, bind_words, with_commas, binds_words, binds_listed, use_words, item_words, items_words, resource_words, resources_words, words_of}
 
 abbrev pub IsKnown : Token → Type 0
 IsKnown t = t ≢ token.Unknown
@@ -57,10 +57,11 @@ pub all_of : {X : Type 0} (f : X → List Token) → ((x : X) → AreKnown (f x)
 all_of f each [] = nothing
 all_of f each (x ∷ xs) = subst AreKnown (sym (flat_map-cons f x xs)) (both (f x) (flat_map f xs) (each x) (all_of f each xs))
 
-pub section_is : (s : Section) → IsKnown (section_word s)
-section_is section.Input e = absurd cc
-section_is section.Output e = absurd cc
-section_is section.Local e = absurd cc
+pub section_is : (s : Section) → AreKnown (section_words s)
+section_is section.Input = behind (key_word key.VarInput) [] (key_is key.VarInput) nothing
+section_is section.Output = behind (key_word key.VarOutput) [] (key_is key.VarOutput) nothing
+section_is section.Local = behind (key_word key.Var) [] (key_is key.Var) nothing
+section_is section.Retained = behind (key_word key.Var) (key_word key.Retain ∷ []) (key_is key.Var) (behind (key_word key.Retain) [] (key_is key.Retain) nothing)
 
 type_is : (t : TypeName) → IsKnown (type_word t)
 type_is (Elementary kind.Bool) e = absurd cc
@@ -84,7 +85,7 @@ lists_are (l ∷ ls) = both (list_words l) (lists_words ls) (list_is l) (lists_a
 
 pub block_is : (b : VarBlock) → AreKnown (block_words b)
 unfolding block_words
-block_is b = behind (section_word b.section) (lists_words b.lists.items) (section_is b.section) (lists_are b.lists.items)
+block_is b = both (section_words b.section) (lists_words b.lists.items) (section_is b.section) (lists_are b.lists.items)
 
 body_is : (b : List ℕ) → IsKnown (token.Body b)
 body_is b e = absurd cc

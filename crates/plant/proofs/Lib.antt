@@ -1,4 +1,5 @@
 pub mod ProgramOutputs
+pub mod RetainedVariables
 pub mod OutputOrder
 pub mod FoldedNames
 pub mod Zips

@@ -16,6 +16,7 @@ use Rattle.task_codes.specs.declared.binding.Source.TheVariants as source
 use Rattle.task_codes.specs.declared.binding.Binding.{Binding}
 use Rattle.due_list.specs.declared.task_ref.TaskRef.{TaskRef}
 use Rattle.task_codes.specs.declared.task_output.TaskOutput.{TaskOutput}
+use Rattle.task_codes.specs.declared.retained_variable.RetainedVariable.{RetainedVariable}
 use Rattle.plant_grammar.specs.declared.grammar.tree.SourceName.{SourceName}
 use Rattle.plant_grammar.specs.declared.grammar.tree.SourceName.TheVariants as named
 use Rattle.plant_grammar.specs.declared.grammar.tree.Bind.{Bind}
@@ -27,11 +28,12 @@ use Rattle.plant_grammar.specs.Names.{is_named, AreNamesApart}
 use Rattle.plant_grammar.specs.Lawful.{binds_of}
 use Rattle.plant_grammar.specs.Kinds.{input_kind_at, kind_of_space, items_or_none}
 use Rattle.plant.specs.PlantValue.{PlantValue}
-use Rattle.task_codes.specs.CodeValue.{ProgramValue, CodeValue, image_kinds, outputs_of, source_kind, expected_at, AreOnce, AreDistinct, IsBindingSound, IsSoundCode}
+use Rattle.task_codes.specs.CodeValue.{ProgramValue, CodeValue, image_kinds, outputs_of, retained_of, source_kind, expected_at, AreOnce, AreDistinct, IsBindingSound, IsSoundCode}
 use Rattle.plant.specs.StandsFor.{IsOrigin, IsSourceOf, firsts, mention}
 use Rattle.plant.specs.Steps.Drafts.{IsOriginOf, AreKindsOf, IsFeedOf, AreFeedsOf, IsPlacedBinding, IsPlacedSource, IsBindingBy, IsCodeLinked, IsOnceBound, Triples, tasks_taken, all_taken, IsTakenFrom, IsTaskOf}
 use Rattle.plant.proofs.FoldedNames.{one_name}
 use Rattle.plant.proofs.ProgramOutputs.{outputs_placed}
+use Rattle.plant.proofs.RetainedVariables.{retained_placed}
 use Rattle.plant.proofs.FirstMentions.{firsts_all, firsts_hold, firsts_distinct, all_flat, flat_all}
 use Rattle.plant.proofs.Zips.{item_at, all_at}
 
@@ -138,7 +140,7 @@ module _ (plant : PlantValue) (us : List Use) (draft : CodeValue) (fs : List (Li
     (fed : length fs ≡ length draft.programs) (feeds : Triples (AreFeedsOf plant) us draft.programs fs) (producers-are : ps ≡ firsts (all_taken fs))
     (kinds : AllZip (AreKindsOf plant) ps es) (placed : AllZip (AllZip (IsPlacedBinding ps)) fs bs) where
   abbrev pub code : CodeValue
-  code = record { programs = draft.programs; bindings = bs; producers = ps; expected = es; outputs = draft.outputs }
+  code = record { programs = draft.programs; bindings = bs; producers = ps; expected = es; outputs = draft.outputs; retained = retained_of draft.programs }
 
   -- the bindings of each program
   pub bound_at : (i : ℕ) (u : Use) (p : ProgramValue) → slice_get us i ≡ Some u → slice_get draft.programs i ≡ Some p
@@ -177,6 +179,8 @@ module _ (plant : PlantValue) (us : List Use) (draft : CodeValue) (fs : List (Li
     sound = sound_at;
     once = λ i. once_at i (slice_get bs i) refl;
     distinct = subst AreDistinct (sym producers-are) (firsts_distinct (all_taken fs));
+    retained_are = refl;
+    each_retained = retained_placed code refl;
   }
 
   pub linked : IsCodeLinked plant us draft code
@@ -189,6 +193,6 @@ module _ (plant : PlantValue) (us : List Use) (draft : CodeValue) (fs : List (Li
   }
 
   -- the same of copies of the programs and outputs
-  pub linked_copy : (qs : List ProgramValue) (os : List TaskOutput) → qs ≡ draft.programs → os ≡ draft.outputs
-      → IsCodeLinked plant us draft (record { programs = qs; bindings = bs; producers = ps; expected = es; outputs = os })
-  linked_copy qs os e f = rw (e, f) linked
+  pub linked_copy : (qs : List ProgramValue) (os : List TaskOutput) (vs : List RetainedVariable) → qs ≡ draft.programs → os ≡ draft.outputs → vs ≡ retained_of draft.programs
+      → IsCodeLinked plant us draft (record { programs = qs; bindings = bs; producers = ps; expected = es; outputs = os; retained = vs })
+  linked_copy qs os vs e f g = rw (e, f, g) linked

@@ -136,6 +136,7 @@ module _ (programs : List Program) (name : List ℕ) (rs : List Resource) (ds vs
               type = of_program.type;
               type_is = of_program.type_is;
               ladder_is = of_program.ladder_is;
+              retained_is = of_program.retained_is;
               bound = zip_imply (IsBindingBy draft c p.ladder.declarations) (IsBindingOf plant c of_program.type) (binding_later c of_program.type p of_program.ladder_is) (binds_of u) (bindings_at c i)
                   (is.bound i u p at at');
             };

@@ -17,7 +17,7 @@ use Rattle.task_codes.specs.CodeValue.{ProgramValue, CodeValue, IsOutputOf, outp
 use Rattle.plant.specs.Steps.Outputs.{output_if}
 
 -- one more number of a list that is counted
-one_more : {X A : Type 0} (f : ℕ × X → List A) (xs : List X) (n : ℕ) (x : X) → n < length xs → x ≡ get_or xs n x
+pub one_more : {X A : Type 0} (f : ℕ × X → List A) (xs : List X) (n : ℕ) (x : X) → n < length xs → x ≡ get_or xs n x
     → flat_map f (take (n + 1) (enumerate_from 0 xs)) ≡ flat_map f (take n (enumerate_from 0 xs)) ++ f (n, x)
 one_more f xs n x lt is =
     let counted = enumerate_from 0 xs in
@@ -28,7 +28,7 @@ one_more f xs n x lt is =
     ap (flat_map f) more ∙ flat_map-append f (take n counted) ((n, x) ∷ []) ∙ ap (λ y. flat_map f (take n counted) ++ y) (append-nil (f (n, x)))
 
 -- all of a list that is counted
-all_counted : {X : Type 0} (xs : List X) (n : ℕ) → length xs ≤ n → take n (enumerate_from 0 xs) ≡ enumerate_from 0 xs
+pub all_counted : {X : Type 0} (xs : List X) (n : ℕ) → length xs ≤ n → take n (enumerate_from 0 xs) ≡ enumerate_from 0 xs
 all_counted xs n le = let long : length (enumerate_from 0 xs) ≤ n = rw (length-enumerate_from 0 xs) le in take_all n (enumerate_from 0 xs) long
 
 pub outputs_start : (os : List TaskOutput) → os ≡ os ++ []

@@ -14,9 +14,9 @@ use Rattle.plant_grammar.specs.declared.grammar.tree.Program.{Program}
 use Rattle.plant_grammar.specs.declared.grammar.tree.Bind.{Bind}
 use Rattle.plant_grammar.specs.declared.grammar.tree.Item.{Item}
 use Rattle.plant_grammar.specs.declared.grammar.tree.Resource.{Resource}
-use Rattle.plant_grammar.specs.Grammar.{key_word, mark_word, section_word, bind_words, list_words, block_words, program_words, item_words, resource_words}
+use Rattle.plant_grammar.specs.Grammar.{key_word, mark_word, section_words, bind_words, list_words, block_words, program_words, item_words, resource_words}
 use Rattle.plant_text.specs.Spelling.{BeginsWith}
-use Rattle.plant_grammar.specs.NameFaults.{IsRefused, IsAfter, IsAfterName, IsAfterWhole, name_and_comma, bind_and_comma, RefusesVariable, RefusesList, RefusesBlock, RefusesBlocks, RefusesProgram, RefusesPrograms, RefusesTask, RefusesBind, RefusesBinds, RefusesInstance, RefusesItems, RefusesResource, RefusesResources, RefusesConfiguration}
+use Rattle.plant_grammar.specs.NameFaults.{IsRefused, IsAfter, IsAfterAll, IsAfterName, IsAfterWhole, name_and_comma, bind_and_comma, RefusesVariable, RefusesList, RefusesBlock, RefusesBlocks, RefusesProgram, RefusesPrograms, RefusesTask, RefusesBind, RefusesBinds, RefusesInstance, RefusesItems, RefusesResource, RefusesResources, RefusesConfiguration}
 use Rattle.plant_grammar.specs.Steps.Declaring.{BeginWith, RefusesPlantWords}
 use Rattle.plant_text.specs.Lines.{WordValue, body_lines, IsBegunBy}
 use Rattle.plant.proofs.KnownWords.{IsKnown, AreKnown, nothing, key_is, mark_is, name_is, behind, both, all_of, section_is, list_is, block_is, program_is, bind_is, item_is, resource_is}
@@ -27,6 +27,9 @@ refused_known k Taken full words h = subst AreKnown (sym h.alone) (behind (token
 
 after_known : (t : Token) (P : List Token → Type 0) (words : List Token) → IsKnown t → ((w : List Token) → P w → AreKnown w) → IsAfter t P words → AreKnown words
 after_known t P words one more h = subst AreKnown (sym h.parts) (behind t h.more one (more h.more h.holds))
+
+after_all_known : (ts : List Token) (P : List Token → Type 0) (words : List Token) → AreKnown ts → ((w : List Token) → P w → AreKnown w) → IsAfterAll ts P words → AreKnown words
+after_all_known ts P words front more h = subst AreKnown (sym h.parts) (both ts h.more front (more h.more h.holds))
 
 after_name_known : (P : List Token → Type 0) (words : List Token) → ((w : List Token) → P w → AreKnown w) → IsAfterName P words → AreKnown words
 after_name_known P words more h = after_known (token.Name h.name) P words (name_is h.name) more h.after
@@ -54,7 +57,7 @@ list_known k s before words h = behind_known list_words _ words list_is (λ ls w
 
 block_known : (k : GrammarFaultKind) (before : List Declaration) (words : List Token) → RefusesBlock k before words → AreKnown words
 unfolding RefusesBlock
-block_known k before words (s, h) = after_known (section_word s) (RefusesList k s before) words (section_is s) (λ w r. list_known k s before w r) h
+block_known k before words (s, h) = after_all_known (section_words s) (RefusesList k s before) words (section_is s) (λ w r. list_known k s before w r) h
 
 blocks_known : (k : GrammarFaultKind) (before : List Declaration) (words : List Token) → RefusesBlocks k before words → AreKnown words
 unfolding RefusesBlocks

@@ -19,6 +19,7 @@ use Rattle.plant_grammar.specs.declared.grammar.tree.Resource.{Resource}
 use Rattle.plant_grammar.specs.Grammar.{Tree}
 use Rattle.plant_grammar.specs.Names.{is_named, IsAt}
 use Rattle.plant_grammar.specs.Lawful.{variables, tasks_of, uses_of, binds_of}
+use Rattle.plant_grammar.specs.Retained.{retained_places}
 use Rattle.program_bodies.specs.Ladders.{IsLadderOf}
 use Rattle.plant_grammar.specs.Kinds.{input_kind_at}
 use Rattle.plant.specs.PlantValue.{TaskValue, ResourceValue, PlantValue, AreProducersOf}
@@ -57,7 +58,7 @@ pub record IsBindingOf (plant : PlantValue) (c : CodeValue) (type : Program) (b 
   pub input_kind_is : input_kind_at (variables type) found.place ≡ Some kind
   pub source_kind_is : source_kind c found.source ≡ Some kind
 
--- an instance: its name, the ladder of its type, and its bound inputs
+-- an instance: its name, the ladder of its type, the places of its retained variables, and its bound inputs
 pub record IsInstanceOf (tree : Tree) (plant : PlantValue) (c : CodeValue)
     (u : Use) (p : ProgramValue) (bindings : List Binding) : Type 0 where
   pub name_is : p.name ≡ u.instance
@@ -65,6 +66,7 @@ pub record IsInstanceOf (tree : Tree) (plant : PlantValue) (c : CodeValue)
   pub type : Program
   pub type_is : IsAt (λ (t : Program). t.name) tree.programs u.program place type
   pub ladder_is : IsLadderOf type p.ladder
+  pub retained_is : p.retained ≡ retained_places type
   pub bound : AllZip (IsBindingOf plant c type) (binds_of u) bindings
 
 abbrev pub one_or_none : {A : Type 0} → Option A → List A

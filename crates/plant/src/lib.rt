@@ -17,4 +17,4 @@ pub use plant_grammar::kind_of_space;
 pub use plant_text::{Address, Space};
 pub use program_bodies::{BodyFault, PlantFault, PlantFaultKind};
 pub use task::Task;
-pub use task_codes::{Binding, Source, TaskCode, TaskOutput};
+pub use task_codes::{Binding, RetainedVariable, Source, TaskCode, TaskOutput};

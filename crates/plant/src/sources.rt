@@ -10,4 +10,5 @@ pub mod producers;
 pub mod reading;
 pub mod resolve;
 pub mod resource_draft;
+pub mod retained;
 pub mod task_draft;

@@ -18,16 +18,16 @@ use Rattle.plant_grammar.specs.declared.grammar.tree.TypeName.{TypeName}
 use Rattle.plant_grammar.specs.declared.grammar.tree.NameList.{NameList}
 use Rattle.plant_grammar.specs.declared.grammar.tree.VarBlock.{VarBlock}
 use Rattle.plant_grammar.specs.declared.grammar.tree.Program.{Program}
-use Rattle.plant_grammar.specs.Grammar.{key_word, mark_word, section_word, type_word, name_words, list_words, lists_words, block_words, program_words}
+use Rattle.plant_grammar.specs.Grammar.{key_word, mark_word, section_words, type_word, name_words, list_words, lists_words, block_words, program_words}
 use Rattle.plant_grammar.specs.Names.{is_named, AreNamesApart}
 use Rattle.plant_grammar.specs.Lawful.{declared_as, list_variables, lists_variables, block_variables, IsTypeLawful, IsListLawful, IsBlockLawful, IsProgramLawful}
 use Rattle.plant_grammar.specs.Parts.{ProgramParts, program_parts}
 use Rattle.plant_grammar.specs.Steps.Lines.{IsNotNext, IsOneNext, IsNoneNext}
-use Rattle.plant_grammar.specs.Steps.ReadParts.{AreVariables, AreProgramsDeclared, IsNew}
+use Rattle.plant_grammar.specs.Steps.ReadParts.{section_start, IsSectionWhole, AreVariables, AreProgramsDeclared, IsNew}
 use Rattle.plant_grammar.specs.Steps.Refusing.{MayBeDeclared}
 use Rattle.plant_grammar.proofs.Apart.{list_any-map}
 use Rattle.plant_grammar.proofs.NewNames.{behind_others, list_parts}
-use Rattle.plant_grammar.proofs.OneTree.{flat_map_same, next_read, all_read, one_list, list_stops, lists_parts, one_section, one_block, block_stops, body_no_section, program_parts_of, one_program, program_stops}
+use Rattle.plant_grammar.proofs.OneTree.{flat_map_same, next_read, all_read, one_list, list_stops, lists_parts, lists_whole, one_section, block_parts_of, one_block, block_stops, body_no_section, program_parts_of, one_program, program_stops}
 
 -- what stands in the middle of a list holds what all of it holds
 pub all_at : {A : Type 0} (P : A → Type 0) (all front : List A) (x : A) (more : List A) → all ≡ front ++ x ∷ more → All P all → P x
@@ -88,22 +88,16 @@ list_allowed s vs now_vs read ls start now rest e d goes_on h lawful are refuses
     refuses l.names.items l.type_name (flat_map list_words n.2 ++ key_word key.EndVar ∷ rest) (list_parts l now (flat_map list_words n.2 ++ key_word key.EndVar ∷ rest) n.5) this.some this.type_is (may_declare s now_vs l with_this)
 
 -- the lists of a block are refused wrongly
-pub lists_allowed : (read s : Section) (vs : List Declaration) (ls : List NameList) (start now rest : List Token) → start ≡ section_word read ∷ now → start ≡ section_word s ∷ (lists_words ls ++ rest) → All (IsListLawful s) ls → AreVariables (vs ++ lists_variables s ls)
+pub lists_allowed : (read s : Section) (vs : List Declaration) (ls : List NameList) (start now rest : List Token) → start ≡ section_words read ++ now → IsSectionWhole read now → start ≡ section_words s ++ (lists_words ls ++ rest) → All (IsListLawful s) ls → AreVariables (vs ++ lists_variables s ls)
     → ((ms : List NameList) (after : List Token) → now ≡ lists_words ms ++ after → All (IsListLawful read) ms → AreVariables (vs ++ lists_variables read ms) → ⊥) → ⊥
-lists_allowed read s vs ls start now rest e h lawful are refuses =
-    let word : section_word s ≡ section_word read = cc in
-    let left : now ≡ lists_words ls ++ rest = cc in
-    let same = one_section s read word in
-    refuses ls rest left (subst (λ (t : Section). All (IsListLawful t) ls) same lawful) (subst (λ (t : Section). AreVariables (vs ++ lists_variables t ls)) same are)
-
-block_parts_of : (b : VarBlock) (rest : List Token) → block_words b ++ rest ≡ section_word b.section ∷ (lists_words b.lists.items ++ rest)
-unfolding block_words
-block_parts_of b rest = refl
+lists_allowed read s vs ls start now rest e whole h lawful are refuses =
+    let same = one_section s read (lists_words ls ++ rest) now (lists_whole s ls rest) whole (sym h ∙ e) in
+    refuses ls rest (sym same.1) (subst (λ (t : Section). All (IsListLawful t) ls) same.0 lawful) (subst (λ (t : Section). AreVariables (vs ++ lists_variables t ls)) same.0 are)
 
 -- a block behind others of its program is refused wrongly
-pub block_allowed : (vs now_vs : List Declaration) (read bs : List VarBlock) (start now rest : List Token) → start ≡ flat_map block_words read ++ now → now_vs ≡ vs ++ flat_map block_variables read → IsOneNext section_word now
-    → start ≡ flat_map block_words bs ++ rest → IsNoneNext section_word rest → All IsBlockLawful bs → AreVariables (vs ++ flat_map block_variables bs)
-    → ((s : Section) (ls : List NameList) (after : List Token) → now ≡ section_word s ∷ (lists_words ls ++ after) → All (IsListLawful s) ls → AreVariables (now_vs ++ lists_variables s ls) → ⊥) → ⊥
+pub block_allowed : (vs now_vs : List Declaration) (read bs : List VarBlock) (start now rest : List Token) → start ≡ flat_map block_words read ++ now → now_vs ≡ vs ++ flat_map block_variables read → IsOneNext section_start now
+    → start ≡ flat_map block_words bs ++ rest → IsNoneNext section_start rest → All IsBlockLawful bs → AreVariables (vs ++ flat_map block_variables bs)
+    → ((s : Section) (ls : List NameList) (after : List Token) → now ≡ section_words s ++ (lists_words ls ++ after) → All (IsListLawful s) ls → AreVariables (now_vs ++ lists_variables s ls) → ⊥) → ⊥
 block_allowed vs now_vs read bs start now rest e d next h none lawful are refuses =
     let n = next_read block_words block_variables one_block read bs start now rest (λ i. none next.0 next.1 (sym i ∙ next.2)) (block_stops rest none) e h in
     let b = n.1 in
@@ -116,14 +110,14 @@ started p n start now rest e h = let parts = h ∙ program_parts_of p rest in cc
 
 -- the blocks of a program are refused wrongly
 pub blocks_allowed : (p : Program) (n : List ℕ) (vs : List Declaration) (start now rest : List Token) → start ≡ key_word key.Program ∷ token.Name n ∷ now → vs ≡ [] → start ≡ program_words p ++ rest → IsProgramLawful p
-    → ((bs : List VarBlock) (after : List Token) → now ≡ flat_map block_words bs ++ after → IsNoneNext section_word after → All IsBlockLawful bs → AreVariables (vs ++ flat_map block_variables bs) → ⊥) → ⊥
+    → ((bs : List VarBlock) (after : List Token) → now ≡ flat_map block_words bs ++ after → IsNoneNext section_start after → All IsBlockLawful bs → AreVariables (vs ++ flat_map block_variables bs) → ⊥) → ⊥
 blocks_allowed p n vs start now rest e none h lawful refuses =
     let behind = token.Body p.body ∷ key_word key.EndProgram ∷ rest in
     let are : AreVariables ([] ++ flat_map block_variables p.blocks.items) = record { apart = lawful.apart; few = lawful.few } in
     refuses p.blocks.items behind (started p n start now rest e h) (body_no_section p.body (key_word key.EndProgram ∷ rest)) lawful.blocks_are (subst (λ (ws : List Declaration). AreVariables (ws ++ flat_map block_variables p.blocks.items)) (sym none) are)
 
 -- the end of a program is refused wrongly
-pub end_allowed : (p : Program) (n : List ℕ) (read : List VarBlock) (start now left rest : List Token) → start ≡ key_word key.Program ∷ token.Name n ∷ now → now ≡ flat_map block_words read ++ left → IsNoneNext section_word left → start ≡ program_words p ++ rest
+pub end_allowed : (p : Program) (n : List ℕ) (read : List VarBlock) (start now left rest : List Token) → start ≡ key_word key.Program ∷ token.Name n ∷ now → now ≡ flat_map block_words read ++ left → IsNoneNext section_start left → start ≡ program_words p ++ rest
     → ((body : List ℕ) (after : List Token) → left ≡ token.Body body ∷ key_word key.EndProgram ∷ after → ⊥) → ⊥
 end_allowed p n read start now left rest e b none h refuses =
     let behind = token.Body p.body ∷ key_word key.EndProgram ∷ rest in

@@ -10,6 +10,7 @@ pub mod WholeTrees
 pub mod PlacedWords
 pub mod NewNames
 pub mod OneTree
+pub mod RetainedPlaces
 pub mod LawfulPrograms
 pub mod LawfulResources
 pub mod LawfulTrees

@@ -1,9 +1,10 @@
 -- Words have one tree: what stands behind a part of the grammar, and what the part says, follow from the words.
 use Rattle.std.proofs.Common.{◌≡◌, ℕ, ◌<◌, List, [], ◌∷◌, ◌++◌, Option, None, Some, suc, length, map, take, refl, sym, ap, ◌∙◌, append_assoc, arith}
-use Rattle.std.specs.List.{flat_map}
+use Rattle.std.specs.List.{flat_map, enumerate_from}
 use Rattle.std.proofs.lemmas.List.{map-append}
 use Rattle.std.proofs.lemmas.List.Concat.{flat_map-cons}
 use Rattle.declared_names.specs.declared.declarations.Kind.TheVariants as kind
+use Rattle.declared_names.specs.declared.declarations.Declaration.{Declaration}
 use Rattle.plant_text.specs.declared.token.Token.{Token}
 use Rattle.plant_text.specs.declared.token.Token.TheVariants as token
 use Rattle.plant_text.specs.declared.token.Keyword.TheVariants as key
@@ -26,10 +27,12 @@ use Rattle.plant_grammar.specs.declared.grammar.tree.Item.{Item}
 use Rattle.plant_grammar.specs.declared.grammar.tree.Item.TheVariants as item
 use Rattle.plant_grammar.specs.declared.grammar.tree.Resource.{Resource}
 use Rattle.plant_grammar.specs.Kinds.{items_or_none}
-use Rattle.plant_grammar.specs.Grammar.{Tree, key_word, mark_word, section_word, type_word, name_words, list_words, lists_words, block_words, program_words, settings, task_words, source_words, bind_words, with_commas, binds_words, binds_listed, use_words, item_words, items_words, resource_words, resources_words, words_of}
+use Rattle.plant_grammar.specs.Grammar.{Tree, key_word, mark_word, section_words, type_word, name_words, list_words, lists_words, block_words, program_words, settings, task_words, source_words, bind_words, with_commas, binds_words, binds_listed, use_words, item_words, items_words, resource_words, resources_words, words_of}
 use Rattle.plant_grammar.specs.Lawful.{declared_as, list_variables, lists_variables, block_variables, variables, task_of, use_of, binds_of, tasks_of, uses_of}
+use Rattle.plant_grammar.specs.Retained.{block_sections, sections, place_if_retained, retained_places}
 use Rattle.plant_grammar.specs.Parts.{UseParts, program_parts, use_parts, resource_parts, IsSameTree}
 use Rattle.plant_grammar.specs.Steps.Lines.{IsNoneNext}
+use Rattle.plant_grammar.specs.Steps.ReadParts.{section_start, IsSectionWhole}
 use Rattle.plant_grammar.proofs.NewNames.{list_parts}
 use Rattle.plant_grammar.proofs.WordLists.{lists_done, items_done, resources_done}
 
@@ -152,34 +155,88 @@ one_lists s ls ms r q e =
     let rest : r ≡ q = cc (a.1) in
     (flat_map_same (list_variables s) ls ms a.0, rest)
 
-pub one_section : (s t : Section) → section_word s ≡ section_word t → s ≡ t
-one_section section.Input section.Input e = refl
-one_section section.Input section.Output e = absurd cc
-one_section section.Input section.Local e = absurd cc
-one_section section.Output section.Input e = absurd cc
-one_section section.Output section.Output e = refl
-one_section section.Output section.Local e = absurd cc
-one_section section.Local section.Input e = absurd cc
-one_section section.Local section.Output e = absurd cc
-one_section section.Local section.Local e = refl
+-- lists begin with no RETAIN
+lists_no_retain : (ls : List NameList) (rest q : List Token) → lists_words ls ++ rest ≡ key_word key.Retain ∷ q → ⊥
+lists_no_retain [] rest q e = cc
+lists_no_retain (l ∷ ls) rest q e = go l.names.items (sym (list_parts l (key_word key.Retain ∷ q) (lists_words ls ++ rest) (sym e ∙ append_assoc (list_words l) (lists_words ls) rest)))
+  where
+    go : (ns : List (List ℕ)) → name_words ns ++ mark_word Colon ∷ (type_word l.type_name ∷ mark_word Semicolon ∷ (lists_words ls ++ rest)) ≡ key_word key.Retain ∷ q → ⊥
+    go [] h = cc
+    go (n ∷ []) h = cc
+    go (n ∷ m ∷ ns) h = cc
+
+pub lists_whole : (s : Section) (ls : List NameList) (rest : List Token) → IsSectionWhole s (lists_words ls ++ rest)
+lists_whole section.Input ls rest = tt
+lists_whole section.Output ls rest = tt
+lists_whole section.Local ls rest = lists_no_retain ls rest
+lists_whole section.Retained ls rest = tt
+
+-- words begin with those of one section
+pub one_section : (s t : Section) (r q : List Token) → IsSectionWhole s r → IsSectionWhole t q → section_words s ++ r ≡ section_words t ++ q → (s ≡ t) × (r ≡ q)
+one_section section.Input section.Input r q h k e = let rest : r ≡ q = cc in (refl, rest)
+one_section section.Input section.Output r q h k e = absurd cc
+one_section section.Input section.Local r q h k e = absurd cc
+one_section section.Input section.Retained r q h k e = absurd cc
+one_section section.Output section.Input r q h k e = absurd cc
+one_section section.Output section.Output r q h k e = let rest : r ≡ q = cc in (refl, rest)
+one_section section.Output section.Local r q h k e = absurd cc
+one_section section.Output section.Retained r q h k e = absurd cc
+one_section section.Local section.Input r q h k e = absurd cc
+one_section section.Local section.Output r q h k e = absurd cc
+one_section section.Local section.Local r q h k e = let rest : r ≡ q = cc in (refl, rest)
+one_section section.Local section.Retained r q h k e = let rest : r ≡ key_word key.Retain ∷ q = cc in absurd (h q rest)
+one_section section.Retained section.Input r q h k e = absurd cc
+one_section section.Retained section.Output r q h k e = absurd cc
+one_section section.Retained section.Local r q h k e = let rest : q ≡ key_word key.Retain ∷ r = cc in absurd (k r rest)
+one_section section.Retained section.Retained r q h k e = let rest : r ≡ q = cc in (refl, rest)
+
+pub block_parts_of : (b : VarBlock) (rest : List Token) → block_words b ++ rest ≡ section_words b.section ++ (lists_words b.lists.items ++ rest)
+unfolding block_words
+block_parts_of b rest = append_assoc (section_words b.section) (lists_words b.lists.items) rest
+
+-- what a block says: its section, and its variables
+abbrev block_parts : VarBlock → Section × List Declaration
+block_parts b = (b.section, block_variables b)
+
+one_block_whole : (b c : VarBlock) (r q : List Token) → block_words b ++ r ≡ block_words c ++ q → (block_parts b ≡ block_parts c) × (r ≡ q)
+one_block_whole b c r q e =
+    let words : section_words b.section ++ (lists_words b.lists.items ++ r) ≡ section_words c.section ++ (lists_words c.lists.items ++ q) = sym (block_parts_of b r) ∙ e ∙ block_parts_of c q in
+    let s = one_section b.section c.section (lists_words b.lists.items ++ r) (lists_words c.lists.items ++ q) (lists_whole b.section b.lists.items r) (lists_whole c.section c.lists.items q) words in
+    let l = one_lists b.section b.lists.items c.lists.items r q s.1 in
+    let declared : block_variables b ≡ block_variables c = l.0 ∙ ap (λ (t : Section). lists_variables t c.lists.items) s.0 in
+    ((λ i. (s.0 i, declared i)), l.1)
 
 pub one_block : (b c : VarBlock) (r q : List Token) → block_words b ++ r ≡ block_words c ++ q → (block_variables b ≡ block_variables c) × (r ≡ q)
-unfolding block_words
-one_block b c r q e =
-    let first : section_word b.section ≡ section_word c.section = cc in
-    let rest : lists_words b.lists.items ++ r ≡ lists_words c.lists.items ++ q = cc in
-    let l = one_lists b.section b.lists.items c.lists.items r q rest in
-    (l.0 ∙ ap (λ (s : Section). lists_variables s c.lists.items) (one_section b.section c.section first), l.1)
+one_block b c r q e = let both = one_block_whole b c r q e in (ap (λ (p : Section × List Declaration). p.1) both.0, both.1)
+
+-- the first word of a section
+pub section_starts : (s : Section) (rest : List Token) → (more : List Token) × (section_words s ++ rest ≡ section_start s ∷ more)
+section_starts section.Input rest = (rest, refl)
+section_starts section.Output rest = (rest, refl)
+section_starts section.Local rest = (rest, refl)
+section_starts section.Retained rest = (key_word key.Retain ∷ rest, refl)
 
 -- no block stands where no section begins
-pub block_stops : (tail : List Token) → IsNoneNext section_word tail → (b : VarBlock) (q : List Token) → tail ≡ block_words b ++ q → ⊥
-unfolding block_words
-block_stops tail none b q e = none b.section (lists_words b.lists.items ++ q) e
+pub block_stops : (tail : List Token) → IsNoneNext section_start tail → (b : VarBlock) (q : List Token) → tail ≡ block_words b ++ q → ⊥
+block_stops tail none b q e =
+    let first = section_starts b.section (lists_words b.lists.items ++ q) in
+    none b.section first.0 (e ∙ block_parts_of b q ∙ first.1)
 
-pub body_no_section : (body : List ℕ) (rest : List Token) → IsNoneNext section_word (token.Body body ∷ rest)
+pub body_no_section : (body : List ℕ) (rest : List Token) → IsNoneNext section_start (token.Body body ∷ rest)
 body_no_section body rest section.Input q e = cc
 body_no_section body rest section.Output q e = cc
 body_no_section body rest section.Local q e = cc
+body_no_section body rest section.Retained q e = cc
+
+-- what follows from what two lists say is the same
+same_further : {A B C : Type 0} (f : A → B) (g : B → C) (xs ys : List A) → map f xs ≡ map f ys → map (λ (x : A). g (f x)) xs ≡ map (λ (x : A). g (f x)) ys
+same_further f g [] [] e = refl
+same_further f g [] (y ∷ ys) e = absurd cc
+same_further f g (x ∷ xs) [] e = absurd cc
+same_further {A} {B} {C} f g (x ∷ xs) (y ∷ ys) e =
+    let first : f x ≡ f y = cc in
+    let rest : map f xs ≡ map f ys = cc in
+    ap (λ (c : C). c ∷ map (λ (a : A). g (f a)) xs) (ap g first) ∙ ap (λ zs. g (f y) ∷ zs) (same_further f g xs ys rest)
 
 pub program_parts_of : (p : Program) (rest : List Token) → program_words p ++ rest ≡ key_word key.Program ∷ token.Name p.name ∷ (flat_map block_words p.blocks.items ++ token.Body p.body ∷ key_word key.EndProgram ∷ rest)
 unfolding program_words
@@ -190,12 +247,14 @@ one_program p w r q e =
     let h = sym (program_parts_of p r) ∙ e ∙ program_parts_of w q in
     let name : p.name ≡ w.name = cc (h) in
     let blocks : flat_map block_words p.blocks.items ++ token.Body p.body ∷ key_word key.EndProgram ∷ r ≡ flat_map block_words w.blocks.items ++ token.Body w.body ∷ key_word key.EndProgram ∷ q = cc (h) in
-    let a = all_read block_words block_variables one_block p.blocks.items w.blocks.items (flat_map block_words p.blocks.items ++ token.Body p.body ∷ key_word key.EndProgram ∷ r) (token.Body p.body ∷ key_word key.EndProgram ∷ r) (token.Body w.body ∷ key_word key.EndProgram ∷ q)
+    let a = all_read block_words block_parts one_block_whole p.blocks.items w.blocks.items (flat_map block_words p.blocks.items ++ token.Body p.body ∷ key_word key.EndProgram ∷ r) (token.Body p.body ∷ key_word key.EndProgram ∷ r) (token.Body w.body ∷ key_word key.EndProgram ∷ q)
     (block_stops (token.Body p.body ∷ key_word key.EndProgram ∷ r) (body_no_section p.body (key_word key.EndProgram ∷ r))) (block_stops (token.Body w.body ∷ key_word key.EndProgram ∷ q) (body_no_section w.body (key_word key.EndProgram ∷ q))) refl blocks in
-    let declarations : variables p ≡ variables w = flat_map_same block_variables p.blocks.items w.blocks.items a.0 in
+    let declarations : variables p ≡ variables w = flat_map_same block_variables p.blocks.items w.blocks.items (same_further block_parts (λ x. x.1) p.blocks.items w.blocks.items a.0) in
+    let marked : sections p ≡ sections w = flat_map_same block_sections p.blocks.items w.blocks.items (same_further block_parts (λ x. map (λ (v : Declaration). x.0) x.1) p.blocks.items w.blocks.items a.0) in
+    let retained : retained_places p ≡ retained_places w = ap (λ (ss : List Section). flat_map (λ (e : ℕ × Section). place_if_retained e.0 e.1) (enumerate_from 0 ss)) marked in
     let body : p.body ≡ w.body = cc (a.1) in
     let rest : r ≡ q = cc (a.1) in
-    ((λ i. record { name = name i; declarations = declarations i; body = body i }), rest)
+    ((λ i. record { name = name i; declarations = declarations i; retained = retained i; body = body i }), rest)
 
 -- no program stands where PROGRAM doesn't
 pub program_stops : (tail : List Token) → ((q : List Token) → tail ≡ key_word key.Program ∷ q → ⊥) → (p : Program) (q : List Token) → tail ≡ program_words p ++ q → ⊥

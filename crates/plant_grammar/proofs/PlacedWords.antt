@@ -27,7 +27,7 @@ use Rattle.plant_grammar.specs.declared.grammar.tree.Use.{Use}
 use Rattle.plant_grammar.specs.declared.grammar.tree.Item.{Item}
 use Rattle.plant_grammar.specs.declared.grammar.tree.Item.TheVariants as item
 use Rattle.plant_grammar.specs.declared.grammar.tree.Resource.{Resource}
-use Rattle.plant_grammar.specs.Grammar.{Tree, key_word, mark_word, section_word, type_word, name_words, list_words, lists_words, block_words, program_words, settings, task_words, source_words, bind_words, with_commas, binds_words, binds_listed, use_words, item_words, items_words, resource_words, resources_words, words_of}
+use Rattle.plant_grammar.specs.Grammar.{Tree, key_word, mark_word, section_words, type_word, name_words, list_words, lists_words, block_words, program_words, settings, task_words, source_words, bind_words, with_commas, binds_words, binds_listed, use_words, item_words, items_words, resource_words, resources_words, words_of}
 
 -- a word, and no body
 abbrev is_plain : Token → Bool
@@ -127,10 +127,11 @@ block_placed : (b : VarBlock) (rest : List Token) (n : ℕ) → n ≤ 64 → Are
 unfolding block_words
 block_placed b rest n few a = go b.section
   where
-    go : (s : Section) → AreInPlace stage.BodyDue n (section_word s ∷ (lists_words b.lists.items ++ rest))
+    go : (s : Section) → AreInPlace stage.BodyDue n ((section_words s ++ lists_words b.lists.items) ++ rest)
     go section.Input = ((λ e. cc, λ d. (refl, few)), lists_placed b.lists.items rest n a)
     go section.Output = ((λ e. cc, λ d. (refl, few)), lists_placed b.lists.items rest n a)
     go section.Local = ((λ e. cc, λ d. (refl, few)), lists_placed b.lists.items rest n a)
+    go section.Retained = ((λ e. cc, λ d. (refl, few)), ((λ e. cc, λ d. absurd cc), lists_placed b.lists.items rest n a))
 
 blocks_placed : (bs : List VarBlock) (rest : List Token) (n : ℕ) → n ≤ 64 → AreInPlace stage.BodyDue n rest → AreInPlace stage.BodyDue n (flat_map block_words bs ++ rest)
 blocks_placed [] rest n few a = a

@@ -12,7 +12,7 @@ use Rattle.plant_text.specs.declared.token.Punctuation.TheVariants.{Comma}
 use Rattle.plant_grammar.specs.declared.grammar.tree.Bind.{Bind}
 use Rattle.plant_grammar.specs.Grammar.{mark_word, name_words, bind_words, with_commas}
 use Rattle.plant_grammar.specs.WordFaults.{IsGrammarFault}
-use Rattle.plant_grammar.specs.NameFaults.{IsOfName, TellsOfName, IsNameTaken, IsRefused, IsAfter, IsAfterName, IsAfterWhole, name_and_comma, bind_and_comma}
+use Rattle.plant_grammar.specs.NameFaults.{IsOfName, TellsOfName, IsNameTaken, IsRefused, IsAfter, IsAfterAll, IsAfterName, IsAfterWhole, name_and_comma, bind_and_comma}
 use Rattle.plant_grammar.specs.Steps.Declaring.{RepeatsName, IsNameNext, BeginWith}
 
 -- a fault that tells of no name
@@ -62,6 +62,15 @@ begin_after t P start now e b = record {
   front = t ∷ b.front;
   rest = b.rest;
   parts = e ∙ ap (λ r. t ∷ r) b.parts;
+  holds = record { more = b.front; parts = refl; holds = b.holds };
+}
+
+-- words were read before
+pub begin_after_all : (ts : List Token) (P : List Token → Type 0) (start now : List Token) → start ≡ ts ++ now → BeginWith P now → BeginWith (IsAfterAll ts P) start
+begin_after_all ts P start now e b = record {
+  front = ts ++ b.front;
+  rest = b.rest;
+  parts = e ∙ ap (λ r. ts ++ r) b.parts ∙ sym (append_assoc ts b.front b.rest);
   holds = record { more = b.front; parts = refl; holds = b.holds };
 }
 

@@ -16,12 +16,12 @@ use Rattle.plant_grammar.specs.declared.grammar.tree.Bind.{Bind}
 use Rattle.plant_grammar.specs.declared.grammar.tree.Use.{Use}
 use Rattle.plant_grammar.specs.declared.grammar.tree.Item.{Item}
 use Rattle.plant_grammar.specs.declared.grammar.tree.Resource.{Resource}
-use Rattle.plant_grammar.specs.Grammar.{key_word, mark_word, section_word, name_words, list_words, block_words, program_words, with_commas, item_words, resource_words}
+use Rattle.plant_grammar.specs.Grammar.{key_word, mark_word, section_words, name_words, list_words, block_words, program_words, with_commas, item_words, resource_words}
 use Rattle.plant_grammar.specs.Lawful.{list_variables, block_variables, task_of, use_of, uses_of}
-use Rattle.plant_grammar.specs.NameFaults.{IsOfName, TellsOfName, IsNameTaken, IsRefused, IsAfter, IsAfterName, name_and_comma, bind_and_comma, RefusesVariable, RefusesList, RefusesBlock, RefusesBlocks, RefusesProgramName, RefusesProgram, RefusesPrograms, RefusesTask, RefusesBind, RefusesBinds, RefusesInstanceName, RefusesInstance, RefusesItems, RefusesResourceName, RefusesResource, RefusesResources, RefusesConfiguration}
+use Rattle.plant_grammar.specs.NameFaults.{IsOfName, TellsOfName, IsNameTaken, IsRefused, IsAfter, IsAfterAll, IsAfterName, name_and_comma, bind_and_comma, RefusesVariable, RefusesList, RefusesBlock, RefusesBlocks, RefusesProgramName, RefusesProgram, RefusesPrograms, RefusesTask, RefusesBind, RefusesBinds, RefusesInstanceName, RefusesInstance, RefusesItems, RefusesResourceName, RefusesResource, RefusesResources, RefusesConfiguration}
 use Rattle.plant_grammar.specs.Steps.Declaring.{RepeatsName, IsNameNext, BeginWith, RefusesItem}
 use Rattle.plant_grammar.specs.Steps.ReadParts.{TallyValue, tally_with}
-use Rattle.plant_grammar.proofs.RefusedNames.{name_next, name_repeated, begin_with, begin_after, begin_after_name, begin_behind, names_and_commas, names_split, binds_and_commas}
+use Rattle.plant_grammar.proofs.RefusedNames.{name_next, name_repeated, begin_with, begin_after, begin_after_all, begin_after_name, begin_behind, names_and_commas, names_split, binds_and_commas}
 
 -- either of two holds of the front
 pub begin_left : (P Q : List Token → Type 0) (words : List Token) → BeginWith P words → BeginWith (λ w. P w ⊎ Q w) words
@@ -74,10 +74,10 @@ list_refused k s before now_declared lists start now e declared b =
     begin_behind list_words (λ (ls : List NameList) more. RefusesVariable k (before ++ flat_map (list_variables s) ls) more) lists start now e (subst (λ ds. BeginWith (RefusesVariable k ds) now) declared b)
 
 -- a block up to a name refused
-pub in_block : (k : GrammarFaultKind) (s : Section) (before : List Declaration) (start now : List Token) → start ≡ section_word s ∷ now → BeginWith (RefusesList k s before) now → BeginWith (RefusesBlock k before) start
+pub in_block : (k : GrammarFaultKind) (s : Section) (before : List Declaration) (start now : List Token) → start ≡ section_words s ++ now → BeginWith (RefusesList k s before) now → BeginWith (RefusesBlock k before) start
 unfolding RefusesBlock
 in_block k s before start now e b =
-    begin_with (IsAfter (section_word s) (RefusesList k s before)) (λ w. (t : Section) × IsAfter (section_word t) (RefusesList k t before) w) start (λ front h. (s, h)) (begin_after (section_word s) (RefusesList k s before) start now e b)
+    begin_with (IsAfterAll (section_words s) (RefusesList k s before)) (λ w. (t : Section) × IsAfterAll (section_words t) (RefusesList k t before) w) start (λ front h. (s, h)) (begin_after_all (section_words s) (RefusesList k s before) start now e b)
 
 -- a block behind others of its program
 pub block_refused : (k : GrammarFaultKind) (before now_declared : List Declaration) (blocks : List VarBlock) (start now : List Token) → start ≡ flat_map block_words blocks ++ now → now_declared ≡ before ++ flat_map block_variables blocks

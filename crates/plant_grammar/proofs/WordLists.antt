@@ -15,11 +15,13 @@ use Rattle.plant_grammar.specs.declared.grammar.tree.Item.TheVariants as item
 use Rattle.plant_grammar.specs.declared.grammar.tree.TaskLine.{TaskLine}
 use Rattle.plant_grammar.specs.declared.grammar.tree.Use.{Use}
 use Rattle.plant_grammar.specs.declared.grammar.tree.Resource.{Resource}
+use Rattle.plant_grammar.specs.declared.grammar.tree.Section.{Section}
+use Rattle.plant_grammar.specs.declared.grammar.tree.Section.TheVariants as section
 use Rattle.plant_grammar.specs.declared.grammar.tree.NameList.{NameList}
 use Rattle.plant_grammar.specs.declared.grammar.tree.VarBlock.{VarBlock}
 use Rattle.plant_grammar.specs.declared.grammar.tree.Program.{Program}
 use Rattle.plant_text.specs.Lines.{WordValue}
-use Rattle.plant_grammar.specs.Grammar.{mark_word, key_word, bind_words, with_commas, item_words, items_words, task_words, use_words, resource_words, resources_words, name_words, list_words, lists_words, type_word, block_words, program_words}
+use Rattle.plant_grammar.specs.Grammar.{mark_word, key_word, bind_words, with_commas, item_words, items_words, task_words, use_words, resource_words, resources_words, name_words, list_words, lists_words, type_word, section_words, block_words, program_words}
 
 pub flat_map-push : {A B : Type 0} (f : A → List B) (xs : List A) (y : A) → flat_map f (xs ++ y ∷ []) ≡ flat_map f xs ++ f y
 flat_map-push f xs y = sym (flat_map_more f [] xs y)
@@ -116,9 +118,17 @@ list_has_words l rest =
     let marks = mark_word Colon ∷ type_word l.type_name ∷ mark_word Semicolon ∷ [] in
     omega (arith, length-append (list_words l) rest, length-append (name_words l.names.items) marks)
 
+section_has_words : (s : Section) → 0 < length (section_words s)
+section_has_words section.Input = omega arith
+section_has_words section.Output = omega arith
+section_has_words section.Local = omega arith
+section_has_words section.Retained = omega arith
+
 pub block_has_words : (b : VarBlock) (rest : List Token) → length rest < length (block_words b ++ rest)
 unfolding block_words
-block_has_words b rest = omega (arith, length-append (block_words b) rest)
+block_has_words b rest =
+    let lists = lists_words b.lists.items in
+    omega (arith, section_has_words b.section, length-append (section_words b.section ++ lists) rest, length-append (section_words b.section) lists)
 
 pub program_has_words : (p : Program) (rest : List Token) → length rest < length (program_words p ++ rest)
 unfolding program_words

@@ -47,11 +47,12 @@ key_word k = token.Keyword k
 abbrev pub mark_word : Punctuation → Token
 mark_word p = token.Punctuation p
 
--- VAR_INPUT, VAR_OUTPUT or VAR
-abbrev pub section_word : Section → Token
-section_word section.Input = key_word key.VarInput
-section_word section.Output = key_word key.VarOutput
-section_word section.Local = key_word key.Var
+-- VAR_INPUT, VAR_OUTPUT, VAR or VAR RETAIN
+abbrev pub section_words : Section → List Token
+section_words section.Input = key_word key.VarInput ∷ []
+section_words section.Output = key_word key.VarOutput ∷ []
+section_words section.Local = key_word key.Var ∷ []
+section_words section.Retained = key_word key.Var ∷ key_word key.Retain ∷ []
 
 abbrev pub kind_word : Kind → Token
 kind_word kind.Bool = key_word key.Bool
@@ -79,7 +80,7 @@ lists_words [] = key_word key.EndVar ∷ []
 lists_words (l ∷ ls) = list_words l ++ lists_words ls
 
 unfoldable pub block_words : VarBlock → List Token
-block_words b = section_word b.section ∷ lists_words b.lists.items
+block_words b = section_words b.section ++ lists_words b.lists.items
 
 -- PROGRAM, its name, its blocks, its body, END_PROGRAM
 unfoldable pub program_words : Program → List Token

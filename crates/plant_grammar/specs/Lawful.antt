@@ -27,9 +27,11 @@ abbrev pub declared_as : Section → TypeName → Declared
 declared_as section.Input (Elementary k) = Input k
 declared_as section.Output (Elementary k) = Output k
 declared_as section.Local (Elementary k) = Local k
+declared_as section.Retained (Elementary k) = Local k
 declared_as section.Input (Block b) = Instance b
 declared_as section.Output (Block b) = Instance b
 declared_as section.Local (Block b) = Instance b
+declared_as section.Retained (Block b) = Instance b
 
 abbrev pub list_variables : Section → NameList → List Declaration
 list_variables s l = map (λ n. record { name = n; declared = declared_as s l.type_name }) l.names.items
@@ -44,12 +46,13 @@ block_variables b = lists_variables b.section b.lists.items
 abbrev pub variables : Program → List Declaration
 variables p = flat_map block_variables p.blocks.items
 
--- blocks are declared in VAR alone
+-- blocks are declared in VAR alone, without RETAIN
 abbrev pub IsTypeLawful : Section → TypeName → Type 0
 IsTypeLawful s (Elementary k) = Unit {0}
 IsTypeLawful section.Local (Block b) = Unit {0}
 IsTypeLawful section.Input (Block b) = ⊥
 IsTypeLawful section.Output (Block b) = ⊥
+IsTypeLawful section.Retained (Block b) = ⊥
 
 -- a list has a name, and a type that its section may have
 pub record IsListLawful (s : Section) (l : NameList) : Type 0 where

@@ -17,7 +17,7 @@ use Rattle.plant_grammar.specs.declared.grammar.tree.Bind.{Bind}
 use Rattle.plant_grammar.specs.declared.grammar.tree.Use.{Use}
 use Rattle.plant_grammar.specs.declared.grammar.tree.Item.{Item}
 use Rattle.plant_grammar.specs.declared.grammar.tree.Resource.{Resource}
-use Rattle.plant_grammar.specs.Grammar.{key_word, mark_word, section_word, list_words, block_words, program_words, bind_words, item_words, resource_words}
+use Rattle.plant_grammar.specs.Grammar.{key_word, mark_word, section_words, list_words, block_words, program_words, bind_words, item_words, resource_words}
 use Rattle.plant_grammar.specs.Names.{is_named}
 use Rattle.plant_grammar.specs.Lawful.{list_variables, block_variables, task_of, use_of, uses_of, binds_of}
 
@@ -51,6 +51,12 @@ pub record IsRefused (k : GrammarFaultKind) (Taken : List ℕ → Type 0) (full 
 pub record IsAfter (t : Token) (P : List Token → Type 0) (words : List Token) : Type 0 where
   pub more : List Token
   pub parts : words ≡ t ∷ more
+  pub holds : P more
+
+-- these words, and behind them words of which this holds
+pub record IsAfterAll (front : List Token) (P : List Token → Type 0) (words : List Token) : Type 0 where
+  pub more : List Token
+  pub parts : words ≡ front ++ more
   pub holds : P more
 
 -- any name, and behind it words of which this holds
@@ -89,9 +95,9 @@ RefusesList k s before words =
     IsAfterWhole list_words
     (λ (lists : List NameList) more. RefusesVariable k (before ++ flat_map (list_variables s) lists) more) words
 
--- the word of a section, and its lists up to a name refused
+-- the words of a section, and its lists up to a name refused
 unfoldable pub RefusesBlock : GrammarFaultKind → List Declaration → List Token → Type 0
-RefusesBlock k before words = (s : Section) × IsAfter (section_word s) (RefusesList k s before) words
+RefusesBlock k before words = (s : Section) × IsAfterAll (section_words s) (RefusesList k s before) words
 
 -- the blocks of a program up to a name refused, behind these variables of the program
 unfoldable pub RefusesBlocks : GrammarFaultKind → List Declaration → List Token → Type 0

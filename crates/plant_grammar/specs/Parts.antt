@@ -8,11 +8,13 @@ use Rattle.plant_grammar.specs.declared.grammar.tree.Use.{Use}
 use Rattle.plant_grammar.specs.declared.grammar.tree.Resource.{Resource}
 use Rattle.plant_grammar.specs.Grammar.{Tree}
 use Rattle.plant_grammar.specs.Lawful.{variables, binds_of, tasks_of, uses_of}
+use Rattle.plant_grammar.specs.Retained.{retained_places}
 
--- a program type: its name, its variables in order of declaration, and its body
+-- a program type: its name, its variables in order of declaration, the places of those that are retained, and its body
 pub record ProgramParts : Type 0 where
   pub name : List ℕ
   pub declarations : List Declaration
+  pub retained : List ℕ
   pub body : List ℕ
 
 -- an instance: its names, and its binds in order
@@ -30,7 +32,8 @@ pub record ResourceParts : Type 0 where
   pub uses : List UseParts
 
 abbrev pub program_parts : Program → ProgramParts
-program_parts p = record { name = p.name; declarations = variables p; body = p.body }
+program_parts p =
+    record { name = p.name; declarations = variables p; retained = retained_places p; body = p.body }
 
 abbrev pub use_parts : Use → UseParts
 use_parts u = record { instance = u.instance; task = u.task; program = u.program; binds = binds_of u }

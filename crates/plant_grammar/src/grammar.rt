@@ -7,6 +7,7 @@ pub mod read_program;
 pub mod read_resource;
 pub mod read_tree;
 pub mod reader;
+pub mod retained_places;
 pub mod tally;
 pub mod tree;
 pub mod variables;

@@ -11,7 +11,7 @@ pub enum GrammarFaultKind {
     NameTwice,
     /// A name that isn't declared where it is sought.
     UnknownName,
-    /// A source of another kind than its input, or a block type outside VAR.
+    /// A source of another kind than its input, or a block type outside VAR or behind RETAIN.
     WrongKind,
     /// An input that is bound already.
     InputBoundTwice,

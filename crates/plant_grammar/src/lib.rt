@@ -11,6 +11,7 @@ pub use grammar::name::Name;
 pub use grammar::program_text::ProgramText;
 pub use grammar::read_tree::read_tree;
 pub use grammar::reader::Reader;
+pub use grammar::retained_places::retained_places;
 pub use grammar::tree::{
     Bind, Item, NameList, Order, Program, Resource, Section, SourceName, TaskLine, TypeName, Use,
     VarBlock,

@@ -65,14 +65,14 @@ const SLOW: TaskRef = TaskRef {
 };
 
 /// The code of a task of a plant.
-fn code_of(rt: &impl Abort, alloc: Global, plant: &str, task: TaskRef) -> Arc<TaskCode> {
+pub fn code_of(rt: &impl Abort, alloc: Global, plant: &str, task: TaskRef) -> Arc<TaskCode> {
     let plant = must(rt, Plant::read(alloc, plant));
     let code = must(rt, plant.code(task).ok_or("no task"));
     must(rt, Arc::try_clone(code))
 }
 
 /// The frame of an evaluation of a task that takes nothing, from a state, under a ticket.
-fn evaluated(
+pub fn evaluated(
     rt: &impl Abort,
     alloc: Global,
     ticket: u64,

@@ -10,5 +10,7 @@ mod evaluations;
 mod no_ladder;
 #[cfg(test)]
 mod plants;
+#[cfg(test)]
+mod retained;
 
 pub use no_ladder::have_no_ladder;

@@ -78,9 +78,12 @@ program_letters w k h = elim (cases_of_cond (same_word w (codes "PROGRAM")) _ _ 
         | inl e ↦ same_word_letters w (codes "VAR_INPUT") e.0 refl (omega arith)
         | inr e ↦ elim (cases_of_cond (same_word w (codes "VAR_OUTPUT")) _ _ _ e.1) [
           | inl e ↦ same_word_letters w (codes "VAR_OUTPUT") e.0 refl (omega arith)
-          | inr e ↦ elim (cases_of_cond (same_word w (codes "END_VAR")) _ _ _ e.1) [
-            | inl e ↦ same_word_letters w (codes "END_VAR") e.0 refl (omega arith)
-            | inr e ↦ absurd cc
+          | inr e ↦ elim (cases_of_cond (same_word w (codes "RETAIN")) _ _ _ e.1) [
+            | inl e ↦ same_word_letters w (codes "RETAIN") e.0 refl (omega arith)
+            | inr e ↦ elim (cases_of_cond (same_word w (codes "END_VAR")) _ _ _ e.1) [
+              | inl e ↦ same_word_letters w (codes "END_VAR") e.0 refl (omega arith)
+              | inr e ↦ absurd cc
+            ]
           ]
         ]
       ]

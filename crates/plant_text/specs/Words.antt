@@ -27,7 +27,8 @@ unfoldable pub program_keyword : List ℕ → Option Keyword
 program_keyword w = first_that (
     (same_word w (codes "PROGRAM"), key.Program) ∷ (same_word w (codes "END_PROGRAM"), key.EndProgram)
     ∷ (same_word w (codes "VAR"), key.Var) ∷ (same_word w (codes "VAR_INPUT"), key.VarInput)
-    ∷ (same_word w (codes "VAR_OUTPUT"), key.VarOutput) ∷ (same_word w (codes "END_VAR"), key.EndVar) ∷ [])
+    ∷ (same_word w (codes "VAR_OUTPUT"), key.VarOutput) ∷ (same_word w (codes "RETAIN"), key.Retain)
+    ∷ (same_word w (codes "END_VAR"), key.EndVar) ∷ [])
 
 -- the keywords of a configuration
 unfoldable pub configuration_keyword : List ℕ → Option Keyword

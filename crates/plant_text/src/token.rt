@@ -10,6 +10,7 @@ pub enum Keyword {
     Var,
     VarInput,
     VarOutput,
+    Retain,
     EndVar,
     Configuration,
     EndConfiguration,

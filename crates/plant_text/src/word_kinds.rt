@@ -25,6 +25,8 @@ fn program_keyword(word: &[u8]) -> Option<Keyword>
         Some(Keyword::VarInput)
     } else if word.eq_ignore_ascii_case(b"VAR_OUTPUT") {
         Some(Keyword::VarOutput)
+    } else if word.eq_ignore_ascii_case(b"RETAIN") {
+        Some(Keyword::Retain)
     } else if word.eq_ignore_ascii_case(b"END_VAR") {
         Some(Keyword::EndVar)
     } else {

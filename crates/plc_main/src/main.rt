@@ -12,13 +12,14 @@ use console::{
     answer_verify, given_words, prepare, print_failure, print_fault, print_given_fault,
     print_usage,
 };
-use file_keepers::{FileKeeper, FolderLock, LockFault, SystemFolder};
+use file_keepers::{BadLine, FileKeeper, FolderLock, LockFault, SystemFolder};
+use keepers::KeeperFault;
 use node::{FreeGate, Gate, Keeper, MemoryKeeper, PacedGate, RunFault};
-use plant::Plant;
+use plant::{Plant, TaskRef};
 use run_command::run_text;
 use std::alloc::{AllocError, Global};
 use std::io;
-use std::io::Write;
+use std::io::{IsTerminal, Write};
 use std::process::ExitCode;
 use std::rt::{Env, Files};
 use std::sync::{Arc, Wait};
@@ -27,13 +28,13 @@ use std::thread::Threads;
 /// How often a paced command looks, at most, whether the one before it is done.
 const TURNS: u64 = 10_000_000;
 
-/// A keeper for each resource, in memory. The first incarnations are 1.
+/// A keeper for each resource, in memory. The first incarnations are 1, and no retained variables are kept yet.
 fn memory_keepers(alloc: Global, plant: &Plant) -> Result<Vec<MemoryKeeper>, AllocError>
     ensures { IfOk result (λ keepers. vec_len keepers ≡ length plant.now.resources) }
 {
     let mut keepers = Vec::with_capacity(alloc, plant.resources())?;
     for _resource in 0..plant.resources() {
-        keepers.push(MemoryKeeper::new(0))?;
+        keepers.push(MemoryKeeper::new(alloc, 0))?;
     }
     Ok(keepers)
 }
@@ -131,7 +132,40 @@ fn print_lock_fault<R: Eprint>(rt: &R, folder: &str, fault: LockFault) -> io::Re
     Ok(FAILED)
 }
 
-/// Tells of which resources an incarnation couldn't be raised.
+/// Tells of a task's file where it isn't what is kept of its retained variables.
+fn print_task_fault<R: Eprint>(
+    rt: &R,
+    file: &str,
+    found: Result<Option<BadLine>, KeeperFault>,
+) -> io::Result<()> {
+    match found {
+        Ok(None) => Ok(()),
+        Ok(Some(bad)) => {
+            let BadLine { line, expected } = bad;
+            eprintln!(rt; "plc: {file}:{line}: Unreadable: expected {expected}")
+        }
+        Err(fault) => eprintln!(rt; "plc: {file}: {fault}"),
+    }
+}
+
+/// Tells of which tasks of a resource the retained variables couldn't be told.
+fn print_task_faults<R: Eprint + AllocGlobal>(
+    rt: &R,
+    plant: &Plant,
+    resource: usize,
+    path: &str,
+    keeper: &FileKeeper<SystemFolder<HostRuntime>>,
+) -> io::Result<()> {
+    for task in 0..plant.tasks(resource).len() {
+        if let Some(code) = plant.code(TaskRef { resource, task }) {
+            let file = format!(in rt.alloc(); "{path}.{task}.ret")?;
+            print_task_fault(rt, file.as_str(), keeper.bad_line(task, code))?;
+        }
+    }
+    Ok(())
+}
+
+/// Tells of which resources an incarnation couldn't be raised, or retained variables couldn't be told.
 fn print_keeper_faults<R: Eprint + AllocGlobal>(
     rt: &R,
     host: &HostRuntime,
@@ -141,14 +175,16 @@ fn print_keeper_faults<R: Eprint + AllocGlobal>(
     let keepers = keepers_in(rt.alloc(), host, plant, folder)?;
     for (resource, keeper) in keepers.iter().enumerate() {
         let name = plant.resource_name(resource).unwrap_or("");
+        let path = format!(in rt.alloc(); "{folder}/{name}")?;
         if let Err(fault) = keeper.next_number() {
-            eprintln!(rt; "plc: {folder}/{name}.inc: {fault}")?;
+            eprintln!(rt; "plc: {path}.inc: {fault}")?;
         }
+        print_task_faults(rt, plant, resource, path.as_str(), keeper)?;
     }
     Ok(())
 }
 
-/// Runs a plant whose incarnations are kept in a folder, which no other run uses meanwhile; the status.
+/// Runs a plant whose incarnations and retained variables are kept in a folder, which no other run uses meanwhile; the status.
 fn run_kept<R: Print + Eprint + AllocGlobal + Threads + Wait + Sync>(
     rt: &R,
     host: &HostRuntime,
@@ -199,7 +235,7 @@ fn answer<R: Env + Files + Input + Print + Eprint + AllocGlobal + Threads + Wait
         Err(error) => return print_given_fault(rt, &error),
     };
     match read_words(rt.alloc(), given.as_slice()) {
-        Ok(Request::Text(request)) => answer_text(rt, &request),
+        Ok(Request::Text(request)) => answer_text(rt, host.stdout().is_terminal(), &request),
         Ok(Request::Verify(request)) => answer_verify(rt, &request),
         Ok(Request::Sim(request)) => answer_schedule(rt, &request),
         Ok(Request::Run(request)) => answer_run(rt, host, &request),

@@ -1,6 +1,7 @@
 pub mod Power
 pub mod Meaning
 pub mod StateValue
+pub mod Digests
 pub mod LadderValue
 pub mod Waiting
 pub mod Values

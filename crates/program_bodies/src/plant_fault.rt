@@ -24,7 +24,7 @@ pub enum PlantFaultKind {
     NameTwice,
     /// A name that isn't declared where it is sought.
     UnknownName,
-    /// A source of another kind than its input, or a block type outside VAR.
+    /// A source of another kind than its input, or a block type outside VAR or behind RETAIN.
     WrongKind,
     /// An input that is bound already.
     InputBoundTwice,

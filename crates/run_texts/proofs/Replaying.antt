@@ -1,16 +1,21 @@
 -- A replay in one thread.
-use Rattle.std.proofs.Common.{◌≡◌, ◌++◌, true, false, Bool, List, [], ◌∷◌, All, Some, reverse, slice_get, refl, sym, ap, ◌∙◌, subst, if◌then◌else◌}
+use Rattle.std.proofs.Common.{◌≡◌, ℕ, ◌<◌, ◌≤◌, ◌⊎◌, inl, inr, ◌++◌, true, false, Bool, List, [], ◌∷◌, All, Some, length, reverse, slice_get, refl, sym, ap, ◌∙◌, subst, arith, if◌then◌else◌}
 use Rattle.std.specs.List.{AllByRecursion}
-use Rattle.std.proofs.lemmas.List.{reverse-append, reverse-reverse}
+use Rattle.std.proofs.lemmas.List.{length-map, get_or_past, reverse-append, reverse-reverse}
 use Rattle.std.proofs.lemmas.List.Elements.{All-contains}
-use Rattle.std.proofs.lemmas.Option.{same_Some}
+use Rattle.std.proofs.lemmas.Bool.{cases_lt}
+use Rattle.std.proofs.lemmas.Option.{same_Some, none-some, get_or_from_slice_get, slice_get-map, slice_get_past, slice_get_within}
+use Rattle.std.specs.Option.{option_map}
 use Rattle.lists.proofs.Each.{Each-at, slice_get-among}
 use Rattle.lists.proofs.Members.{contains_at, all_from_places}
-use Rattle.plant.specs.PlantValue.{PlantValue, code_at}
+use Rattle.lists.proofs.Places.{element_at}
+use Rattle.plant_grammar.specs.Kinds.{items_or_none}
+use Rattle.plant.specs.PlantValue.{PlantValue, ResourceValue, code_at, codes_at}
 use Rattle.evaluation.specs.Meaning.{Evaluated}
 use Rattle.exchange.specs.declared.event.Event.{Event}
 use Rattle.exchange.specs.declared.event.Event.TheVariants.{Evaluate, Deliver, Restart, Hear}
-use Rattle.exchange.specs.History.{Setting, history_of, is_lawful, after_events, lawful_among}
+use Rattle.exchange_core.specs.CoreValue.{AreOpeningOf}
+use Rattle.exchange.specs.History.{Setting, AreOpenings, openings_at, history_of, is_lawful, after_events, lawful_among}
 use Rattle.exchange.specs.Run.{IsLog, IsRun}
 use Rattle.exchange.specs.World.{WorldValue}
 use Rattle.exchange.specs.Step.{HaveRun}
@@ -18,8 +23,8 @@ use Rattle.exchange.specs.Laws.{OneRun}
 use Rattle.evaluation_book.specs.Book.{BookValue}
 use Rattle.exchange.specs.Replays.{AllCouldBeMade}
 use Rattle.node_journals.specs.declared.journal.Journal.{Journal}
-use Rattle.node_journals.specs.Journals.{firsts_of}
-use Rattle.node_reports.specs.Reports.{RunsAgain}
+use Rattle.node_journals.specs.Journals.{firsts_of, openings_of, IsLawful}
+use Rattle.node_reports.specs.Reports.{AreJournalsOf, RunsAgain}
 use Rattle.run_texts.specs.Steps.Replaying.{IsReplay, AreOfPlant, AreOfOneCode}
 
 -- the lawful events of a list have the history of all of them
@@ -41,7 +46,7 @@ run_of s old new es log is follows run same =
     subst (IsRun s es) (sym same) of_all
 
 -- where the entries are the run of each schedule that makes them again, a replay is equal
-pub replayed_equal : (plant : PlantValue) (book : BookValue) (journals : List Journal) (equal : Bool) → OneRun → RunsAgain plant 4294967295 book journals → IsReplay plant (firsts_of journals) book equal → equal ≡ true
+pub replayed_equal : (plant : PlantValue) (book : BookValue) (journals : List Journal) (equal : Bool) → OneRun → RunsAgain plant 4294967295 book journals → IsReplay plant (firsts_of journals) (openings_of journals) book equal → equal ≡ true
 replayed_equal plant book journals equal one_run again replay =
     let same : replay.log ≡ book.entries = one_run _ replay.schedule replay.log book.entries replay.run (again replay.schedule replay.again) in
     replay.equal_is.1 same
@@ -88,3 +93,29 @@ pub entries_of_plant : (s : Setting) (entries : List Evaluated) → AllCouldBeMa
 entries_of_plant s entries all =
     let each = subst (AllByRecursion (IsOfPlant s.plant)) (reverse-reverse entries) (each-turned (IsOfPlant s.plant) (reverse entries) (made_of_plant s (reverse entries) all)) in
     all_from_places (IsOfPlant s.plant) entries (λ k x at. Each-at (IsOfPlant s.plant) entries x each (slice_get-among entries k x at))
+
+All-at : {X : Type 0} (P : X → Type 0) (xs : List X) (k : ℕ) (x : X) → slice_get xs k ≡ Some x → All P xs → P x
+All-at P xs k x at all = subst P (get_or_from_slice_get xs k x x at) (all k x (slice_get_within xs k x at))
+
+-- the openings of lawful journals, one for each resource, are openings of the plant
+pub openings_suit : (plant : PlantValue) (max_number : ℕ) (journals : List Journal) → AreJournalsOf plant max_number journals → AreOpenings plant (openings_of journals)
+openings_suit plant max_number journals js = record { many = many; each = λ n. by n (cases_lt n (length journals)) }
+  where
+    many : length (openings_of journals) ≡ length plant.resources
+    many = length-map journals (λ (j : Journal). j.opening) ∙ js.many
+
+    by : (n : ℕ) → (n < length journals) ⊎ (length journals ≤ n) → AreOpeningOf plant n (openings_at (openings_of journals) n)
+    by n (inl lt) =
+        let found = element_at journals n lt in
+        let j = found.0 in
+        let opened = (All-at (IsLawful plant (firsts_of journals) max_number) journals n j found.1 js.lawful).opened in
+        let at : openings_at (openings_of journals) n ≡ j.opening = get_or_from_slice_get (openings_of journals) n j.opening []
+        (slice_get-map (λ (i : Journal). i.opening) journals n ∙ ap (option_map (λ (i : Journal). i.opening)) found.1) in
+        subst (AreOpeningOf plant n) (sym at) (subst (λ (r : ℕ). AreOpeningOf plant r j.opening) (js.in_order n j found.1) opened)
+    by n (inr past) =
+        let none : openings_at (openings_of journals) n ≡ [] = get_or_past (openings_of journals) n [] (omega (arith, many, js.many)) in
+        let no_codes : codes_at plant n ≡ [] = ap (λ o. items_or_none (option_map (λ (r : ResourceValue). r.codes) o)) (slice_get_past plant.resources n (omega (arith, js.many))) in
+        subst (AreOpeningOf plant n) (sym none) (record {
+          many = sym (ap length no_codes);
+          each = λ task code values found at. absurd (none-some values at);
+        })

@@ -1,11 +1,13 @@
 //! Whether what the threads made is made again by one thread.
 
 ghost use Rattle.std.specs.Prelude.{◌≡◌, ◌↔◌, true, length, IfOk, IsTrue};
-ghost use Rattle.node_journals.specs.Journals.{firsts_of};
-ghost use Rattle.node_reports.specs.Reports.{RunsAgain};
+ghost use Rattle.task_codes.specs.CodeValue.{lists_of};
+ghost use Rattle.exchange.specs.History.{AreOpenings};
+ghost use Rattle.node_journals.specs.Journals.{firsts_of, openings_of};
+ghost use Rattle.node_reports.specs.Reports.{AreJournalsOf, RunsAgain};
 ghost use Rattle.run_texts.specs.Steps.Replaying.{IsReplay, AreOfPlant, AreOfOneCode};
 
-use evaluation::Frame;
+use evaluation::{Frame, Retained};
 use exchange::{Book, Schedule, World, one_run};
 use node_journals::Journal;
 use node_reports::{Report, are_equal};
@@ -29,6 +31,7 @@ fn are_same(frames: &[Frame], others: &[Frame]) -> bool
     true
 }
 
+/// The first incarnation of each resource.
 fn first_incarnations(alloc: Global, journals: &[Journal]) -> Result<Vec<u32>, AllocError>
     ensures { IfOk result (λ first. first.items ≡ firsts_of journals.now) }
 {
@@ -39,36 +42,63 @@ fn first_incarnations(alloc: Global, journals: &[Journal]) -> Result<Vec<u32>, A
     Ok(first)
 }
 
-/// Runs the schedule of a book in one thread, from these first incarnations, and tells whether that makes the book's
-/// entries.
+/// Equal openings of one resource.
+fn copy_of_opening(alloc: Global, opening: &[Retained]) -> Result<Vec<Retained>, AllocError>
+    ensures { IfOk result (λ copy. copy.items ≡ opening.now) }
+{
+    let mut copy = Vec::with_capacity(alloc, opening.len())?;
+    for retained in opening {
+        copy.push(retained.try_copy()?)?;
+    }
+    Ok(copy)
+}
+
+/// The retained values with which the tasks of each resource open.
+fn openings(alloc: Global, journals: &[Journal]) -> Result<Vec<Vec<Retained>>, AllocError>
+    ensures { IfOk result (λ openings. lists_of openings.items ≡ openings_of journals.now) }
+{
+    let mut openings = Vec::with_capacity(alloc, journals.len())?;
+    for journal in journals {
+        openings.push(copy_of_opening(alloc, journal.opening.as_slice())?)?;
+    }
+    Ok(openings)
+}
+
+/// Runs the schedule of a book in one thread, from these first incarnations and openings, and tells whether that makes
+/// the book's entries.
 fn is_replayed(
     alloc: Global,
     plant: Arc<Plant>,
     first: &[u32],
+    opening: &[Vec<Retained>],
     book: &Book,
 ) -> Result<bool, AllocError>
     requires first { length first.now ≡ length plant.value.resources }
+    requires opening { AreOpenings plant.value (lists_of opening.now) }
     requires of_plant { AreOfPlant plant.value book.now.entries }
-    ensures { IfOk result (IsReplay plant.value first.now book.now) }
+    ensures { IfOk result (IsReplay plant.value first.now (lists_of opening.now) book.now) }
 {
     let schedule = book.schedule(alloc)?;
-    let mut world = World::new(alloc, plant, first, u32::MAX)?;
+    let mut world = World::new(alloc, plant, first, opening, u32::MAX)?;
     match world.run(alloc, &schedule) {
         Ok(()) => Ok(are_same(world.log(), book.entries())),
         Err(_) => Err(AllocError),
     }
 }
 
-/// Runs the schedule of a report's book in one thread, from the journals' first incarnations, and tells whether that
-/// makes the book's entries. It does if the report is one of threads.
+/// Runs the schedule of a report's book in one thread, from the journals' first incarnations and openings, and tells
+/// whether that makes the book's entries. It does if the report is one of threads.
 pub(crate) fn replay(alloc: Global, plant: Arc<Plant>, report: &Report) -> Result<bool, AllocError>
-    requires journals { length report.now.journals ≡ length plant.value.resources }
+    requires journals { AreJournalsOf plant.value 4294967295 report.now.journals }
     requires of_plant { AreOfPlant plant.value report.now.book.entries }
-    ensures answer { IfOk result (IsReplay plant.value (firsts_of report.now.journals) report.now.book) }
+    ensures answer { IfOk result
+        (IsReplay plant.value (firsts_of report.now.journals) (openings_of report.now.journals) report.now.book) }
     ensures equal { RunsAgain plant.value 4294967295 report.now.book report.now.journals
         → IfOk result (λ equal. equal ≡ true) }
 {
     one_run();
-    let first = first_incarnations(alloc, report.journals.as_slice())?;
-    is_replayed(alloc, plant, &first, &report.book)
+    let journals = report.journals.as_slice();
+    let first = first_incarnations(alloc, journals)?;
+    let opening = openings(alloc, journals)?;
+    is_replayed(alloc, plant, &first, &opening, &report.book)
 }

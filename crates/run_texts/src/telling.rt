@@ -1,5 +1,5 @@
-ghost use Rattle.std.specs.Prelude.{◌≡◌, length, IfOk, IfErr};
-ghost use Rattle.node_reports.specs.Reports.{RunsAgain, CanBeMadeAgain};
+ghost use Rattle.std.specs.Prelude.{IfOk, IfErr};
+ghost use Rattle.node_reports.specs.Reports.{AreJournalsOf, RunsAgain, CanBeMadeAgain};
 ghost use Rattle.run_texts.specs.ReportText.{TellsReport, TellsPart};
 
 use crate::replay::replay;
@@ -21,7 +21,7 @@ pub fn tell_report<W: Write>(
     report: &Report,
     writer: &mut W,
 ) -> Result<bool, SendFault>
-    requires journals { length report.now.journals ≡ length plant.value.resources }
+    requires journals { AreJournalsOf plant.value 4294967295 report.now.journals }
     requires again { RunsAgain plant.value 4294967295 report.now.book report.now.journals }
     requires made_again { CanBeMadeAgain plant.value 4294967295 report.now.book report.now.journals }
     ensures ok { IfOk result (TellsReport plant.value report.now (W.contents writer.old) (W.contents writer.new)) }

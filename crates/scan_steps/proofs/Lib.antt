@@ -4,3 +4,4 @@ pub mod BoxesStepping
 pub mod Seating
 pub mod SeatsGrowing
 pub mod SameBools
+pub mod Digesting

@@ -3,6 +3,7 @@
 
 mod bound_box;
 mod bound_contact;
+mod digests;
 mod passing;
 mod seat;
 mod series;
@@ -15,6 +16,7 @@ mod variable_pair;
 
 pub use bound_box::{BoundBox, BoundOutput};
 pub use bound_contact::{BoundContact, VariableContact};
+pub use digests::mix;
 pub use passing::pass;
 pub use series::Series;
 pub use slot::{Instance, Slot};

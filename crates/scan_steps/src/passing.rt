@@ -299,6 +299,7 @@ fn read_rung(
 }
 
 /// Steps the box with this number.
+#[inline(always)]
 fn obey_box(
     number: usize,
     boxes: &[BoundBox],

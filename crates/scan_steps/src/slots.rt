@@ -6,6 +6,7 @@ ghost use Rattle.scan_steps.specs.declared.slot.Slot.TheVariants.{Variable, Bloc
 ghost use Rattle.scan_steps.specs.Slots.{IsSlotOf};
 ghost use Rattle.scan_steps.specs.Steps.Seats.{IsSeating, slots_from};
 
+use crate::digests::mix_slot;
 use crate::seat::Seat;
 use crate::slot::{Instance, Slot};
 use crate::value_lists::Lists;
@@ -137,6 +138,7 @@ impl Slots {
     ghost use Rattle.scan_steps.specs.First.{slot_first};
     ghost use Rattle.scan_steps.specs.Values.{is_true};
     ghost use Rattle.scan_steps.specs.Slots.{variable_at, IsKindAt, AreSlotsOf};
+    ghost use Rattle.scan_steps.specs.Digests.{slots_mixed};
     ghost use Rattle.scan_steps.specs.Steps.Storing.{block_at, block_put, value_put};
     ghost use Rattle.scan_steps.specs.Steps.Seats.{AreBools};
 
@@ -287,6 +289,19 @@ impl Slots {
             }
         }
         true
+    }
+
+    /// A number that is the same where the same stands at each name, and mostly another one elsewhere.
+    pub fn digest(&self) -> u64
+        ensures { result ≡ slots_mixed 0 self.now }
+    {
+        let mut digest = 0u64;
+        for place in 0..self.len() {
+            if let Some(slot) = self.slot(place) {
+                digest = mix_slot(digest, &slot);
+            }
+        }
+        digest
     }
 
     /// Whether what is declared stands at a place.

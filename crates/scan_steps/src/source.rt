@@ -73,6 +73,12 @@ impl Source {
         if let Source::Power(row) = self {
             return matches!(rows.get(*row), Some(true));
         }
+        if let Source::Nothing = self {
+            return false;
+        }
+        if let Source::Variable(place) = self {
+            return slots.is_on(*place);
+        }
         self.is_true(slots)
     }
 

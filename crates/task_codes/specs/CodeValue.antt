@@ -2,7 +2,7 @@
 use Rattle.std.specs.Prelude.{◌≡◌, ℕ, ◌<◌, List, [], ◌∷◌, Option, Some, None, length, map, slice_get, slice_index_or, All}
 use Rattle.std.specs.Global.{Vec}
 use Rattle.std.specs.List.{flat_map, enumerate_from}
-use Rattle.std.specs.Option.{option_map}
+use Rattle.std.specs.Option.{option_map, option_and_then}
 use Rattle.declared_names.specs.declared.declarations.Kind.{Kind}
 use Rattle.declared_names.specs.declared.declarations.Declared.{Declared}
 use Rattle.declared_names.specs.declared.declarations.Declared.TheVariants.{Input, Output, Local, Instance}
@@ -14,34 +14,39 @@ use Rattle.task_codes.specs.declared.binding.Source.TheVariants.{Field, Given}
 use Rattle.task_codes.specs.declared.binding.Binding.{Binding}
 use Rattle.due_list.specs.declared.task_ref.TaskRef.{TaskRef}
 use Rattle.task_codes.specs.declared.task_output.TaskOutput.{TaskOutput}
+use Rattle.task_codes.specs.declared.retained_variable.RetainedVariable.{RetainedVariable}
 
--- a program of a task: the instance's name, and its ladder
+-- a program of a task: the instance's name, its ladder, and the places of its retained variables
 pub record ProgramValue : Type 0 where
   pub name : List ℕ
   pub ladder : LadderValue
+  pub retained : List ℕ
 
 -- The code of a task: its programs in order, the bound inputs of each, the tasks from which it takes, the kinds
--- expected of the image of each, and its own outputs.
+-- expected of the image of each, its own outputs, and its retained variables.
 pub record CodeValue : Type 0 where
   pub programs : List ProgramValue
   pub bindings : List (List Binding)
   pub producers : List TaskRef
   pub expected : List (List Kind)
   pub outputs : List TaskOutput
+  pub retained : List RetainedVariable
 
 -- the items of several lists
 abbrev pub lists_of : {A : Type 0} → List (Vec A) → List (List A)
 lists_of xs = map (λ x. x.items) xs
 
 -- the code of these parts
-abbrev pub code_with : Vec ProgramValue → Vec (Vec Binding) → Vec TaskRef → Vec (Vec Kind) → Vec TaskOutput → CodeValue
-code_with programs bindings producers expected outputs =
+abbrev pub code_with : Vec ProgramValue → Vec (Vec Binding) → Vec TaskRef → Vec (Vec Kind) → Vec TaskOutput
+    → Vec RetainedVariable → CodeValue
+code_with programs bindings producers expected outputs retained =
     record {
       programs = programs.items;
       bindings = lists_of bindings.items;
       producers = producers.items;
       expected = lists_of expected.items;
       outputs = outputs.items;
+      retained = retained.items;
     }
 
 -- the kind of a variable that is an output
@@ -99,12 +104,45 @@ pub record IsOutputOf (c : CodeValue) (o : TaskOutput) : Type 0 where
   pub declared : slice_get program.ladder.declarations o.place ≡ Some variable
   pub kind_is : output_kind variable.declared ≡ Some o.kind
 
+-- the kind of a variable of the ladder alone
+abbrev pub local_kind : Declared → Option Kind
+local_kind (Input k) = None
+local_kind (Output k) = None
+local_kind (Local k) = Some k
+local_kind (Instance b) = None
+
+-- the variable of program i that is retained at a place, if it is a local of the ladder
+abbrev pub retained_at : ℕ → List Declaration → ℕ → List RetainedVariable
+retained_at i ds place =
+    items_or_none (option_map (λ kind. (record { program = i; place = place; kind = kind }) ∷ [])
+    (option_and_then (λ (d : Declaration). local_kind d.declared) (slice_get ds place)))
+
+-- the retained variables of program i, in the order of its places
+abbrev pub retained_in : ℕ → ProgramValue → List RetainedVariable
+retained_in i p = flat_map (retained_at i p.ladder.declarations) p.retained
+
+-- the retained variables of a task: those of each of its programs in turn
+abbrev pub retained_of : List ProgramValue → List RetainedVariable
+retained_of ps = flat_map (λ (e : ℕ × ProgramValue). retained_in e.0 e.1) (enumerate_from 0 ps)
+
+-- the retained variable is a VAR of one of the programs, and no block
+pub record IsRetainedOf (c : CodeValue) (v : RetainedVariable) : Type 0 where
+  pub program : ProgramValue
+  pub variable : Declaration
+  pub run : slice_get c.programs v.program ≡ Some program
+  pub declared : slice_get program.ladder.declarations v.place ≡ Some variable
+  pub kind_is : local_kind variable.declared ≡ Some v.kind
+
+-- the kinds of the values of a task's retained variables
+abbrev pub retained_kinds : CodeValue → List Kind
+retained_kinds c = map (λ (v : RetainedVariable). v.kind) c.retained
+
 -- no task stands twice among them
 abbrev pub AreDistinct : List TaskRef → Type 0
 AreDistinct ts = (j k : ℕ) (t : TaskRef) → slice_get ts j ≡ Some t → slice_get ts k ≡ Some t → j ≡ k
 
 -- A code by itself: each program has its bindings, each producer its kinds, no task is a producer twice, and the
--- outputs are those of the programs.
+-- outputs and the retained variables are those of the programs.
 pub record IsSoundCode (c : CodeValue) : Type 0 where
   pub each_bound : length c.bindings ≡ length c.programs
   pub each_expected : length c.expected ≡ length c.producers
@@ -113,3 +151,5 @@ pub record IsSoundCode (c : CodeValue) : Type 0 where
   pub sound : (i : ℕ) (p : ProgramValue) → slice_get c.programs i ≡ Some p → All (IsBindingSound c p) (bindings_at c i)
   pub once : (i : ℕ) → AreOnce (bindings_at c i)
   pub distinct : AreDistinct c.producers
+  pub retained_are : c.retained ≡ retained_of c.programs
+  pub each_retained : (k : ℕ) (v : RetainedVariable) → slice_get c.retained k ≡ Some v → IsRetainedOf c v

@@ -6,11 +6,12 @@ use std::marker::Model;
 use std::sync::Arc;
 use words::Text;
 
-/// A program of a task: the instance's name, and the ladder, which instances of one type share.
+/// A program of a task: the instance's name, the ladder, which instances of one type share, and the places of the variables that outlive a restart.
 #[derive(Drop)]
 pub struct ProgramInstance {
     name: Text,
     ladder: Arc<Ladder>,
+    retained: Vec<usize>,
 }
 
 impl Model for ProgramInstance {
@@ -18,15 +19,19 @@ impl Model for ProgramInstance {
 
     ghost Value = { ProgramValue };
 
-    ghost view = { λ p. record { name = p.name; ladder = p.ladder.value } };
+    ghost view = { λ p. record { name = p.name; ladder = p.ladder.value; retained = p.retained.items } };
 }
 
 impl ProgramInstance {
-    /// An instance of a ladder.
-    pub fn new(name: Text, ladder: Arc<Ladder>) -> ProgramInstance
-        ensures { result ≡ record { name = name; ladder = ladder.value } }
+    /// An instance of a ladder, of which the variables at these places outlive a restart.
+    pub fn new(name: Text, ladder: Arc<Ladder>, retained: Vec<usize>) -> ProgramInstance
+        ensures { result ≡ record { name = name; ladder = ladder.value; retained = retained.items } }
     {
-        ProgramInstance { name, ladder }
+        ProgramInstance {
+            name,
+            ladder,
+            retained,
+        }
     }
 
     /// An instance of the same name, which shares the ladder.
@@ -35,7 +40,12 @@ impl ProgramInstance {
     {
         let name = self.name.try_copy(alloc)?;
         let ladder = Arc::try_clone(&self.ladder)?;
-        Ok(ProgramInstance { name, ladder })
+        let retained = self.retained.clone()?;
+        Ok(ProgramInstance {
+            name,
+            ladder,
+            retained,
+        })
     }
 
     /// The instance's name.
@@ -50,5 +60,12 @@ impl ProgramInstance {
         ensures { result.now ≡ self.now.ladder }
     {
         &self.ladder
+    }
+
+    /// The places of the variables that outlive a restart, in order of declaration.
+    pub fn retained(&self) -> &[usize]
+        ensures { result.now ≡ self.now.retained }
+    {
+        self.retained.as_slice()
     }
 }

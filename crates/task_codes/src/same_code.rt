@@ -45,12 +45,23 @@ fn are_same_ladders(ladder: Option<&Ladder>, other: Option<&Ladder>) -> bool
     }
 }
 
+fn are_same_places(places: Option<&[usize]>, other: Option<&[usize]>) -> bool
+    ensures { IsTrue result ↔ (option_map (λ l. l.now) places.entry ≡ option_map (λ l. l.now) other.entry) }
+{
+    match (places, other) {
+        (Some(places), Some(other)) => places == other,
+        (None, None) => true,
+        _ => false,
+    }
+}
+
 /// Whether both run the same program at a position, or none.
 fn have_same_program(code: &TaskCode, other: &TaskCode, i: usize) -> bool
     ensures { IsTrue result ↔ (slice_get code.now.programs i ≡ slice_get other.now.programs i) }
 {
     are_same_names(code.program_name(i), other.program_name(i))
         && are_same_ladders(code.ladder(i), other.ladder(i))
+        && are_same_places(code.retained_places(i), other.retained_places(i))
 }
 
 fn have_same_programs(code: &TaskCode, other: &TaskCode) -> bool
@@ -100,7 +111,7 @@ fn have_same_expected(code: &TaskCode, other: &TaskCode) -> bool
 }
 
 impl TaskCode {
-    /// Whether both run the same programs with the same bound inputs, and take from the same tasks the same kinds.
+    /// Whether both run the same programs with the same bound inputs and retained variables, and take from the same tasks the same kinds.
     pub fn same(&self, other: &Self) -> bool
         ensures { IsTrue result ↔ (self.now ≡ other.now) }
     {

@@ -1,12 +1,13 @@
 use crate::binding::Binding;
 use crate::program_instance::ProgramInstance;
+use crate::retained_variable::RetainedVariable;
 use crate::task_output::TaskOutput;
 use due_list::TaskRef;
 use power_flow::{Kind, Ladder};
 use std::marker::Model;
 
 /// The code of a task: its programs in order of declaration, the bound inputs of each, the tasks from which it takes in order of first mention,
-/// the kinds expected of the image of each, and the task's own outputs.
+/// the kinds expected of the image of each, the task's own outputs, and its retained variables.
 #[derive(Drop)]
 pub struct TaskCode {
     programs: Vec<ProgramInstance>,
@@ -14,6 +15,7 @@ pub struct TaskCode {
     producers: Vec<TaskRef>,
     expected: Vec<Vec<Kind>>,
     outputs: Vec<TaskOutput>,
+    retained: Vec<RetainedVariable>,
 }
 
 impl Model for TaskCode {
@@ -21,9 +23,9 @@ impl Model for TaskCode {
 
     ghost Value = { CodeValue };
 
-    ghost view = { λ c. code_with c.programs c.bindings c.producers c.expected c.outputs };
+    ghost view = { λ c. code_with c.programs c.bindings c.producers c.expected c.outputs c.retained };
 
-    ghost invariant = { λ c. IsSoundCode (code_with c.programs c.bindings c.producers c.expected c.outputs) };
+    ghost invariant = { λ c. IsSoundCode (code_with c.programs c.bindings c.producers c.expected c.outputs c.retained) };
 }
 
 impl TaskCode {
@@ -40,9 +42,10 @@ impl TaskCode {
         producers: Vec<TaskRef>,
         expected: Vec<Vec<Kind>>,
         outputs: Vec<TaskOutput>,
+        retained: Vec<RetainedVariable>,
     ) -> TaskCode
-        requires { IsSoundCode (code_with programs bindings producers expected outputs) }
-        ensures { result ≡ code_with programs bindings producers expected outputs }
+        requires { IsSoundCode (code_with programs bindings producers expected outputs retained) }
+        ensures { result ≡ code_with programs bindings producers expected outputs retained }
     {
         TaskCode {
             programs,
@@ -50,6 +53,7 @@ impl TaskCode {
             producers,
             expected,
             outputs,
+            retained,
         }
     }
 
@@ -77,6 +81,16 @@ impl TaskCode {
     {
         match self.programs.get(i) {
             Some(program) => Some(program.ladder()),
+            None => None,
+        }
+    }
+
+    /// The places of the retained variables of the program at a position.
+    pub(crate) fn retained_places(&self, i: usize) -> Option<&[usize]>
+        ensures { option_map (λ l. l.now) result ≡ option_map (λ p. p.retained) (slice_get self.now.programs i) }
+    {
+        match self.programs.get(i) {
+            Some(program) => Some(program.retained()),
             None => None,
         }
     }
@@ -113,6 +127,14 @@ impl TaskCode {
         ensures { result ≡ length self.now.outputs }
     {
         self.outputs.len()
+    }
+
+    /// The variables that outlive a restart, programs and variables in order of declaration.
+    pub fn retained(&self) -> &[RetainedVariable]
+        ensures list { result.now ≡ self.now.retained }
+        ensures sound { IsSoundCode self.now }
+    {
+        self.retained.as_slice()
     }
 
     /// The output at a position: its program, the place of the variable there, and its kind.

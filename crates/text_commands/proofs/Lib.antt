@@ -8,6 +8,8 @@ pub mod PlantBounds
 pub mod PlanExplaining
 pub mod PlantRefusing
 pub mod Tracing
+pub mod Drawing
+pub mod Showing
 pub mod Charting
 pub mod Expecting
 pub mod TestReading

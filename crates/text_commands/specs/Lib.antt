@@ -6,6 +6,8 @@ pub mod PlanText
 pub mod Expectations
 pub mod Trace
 pub mod Chart
+pub mod LiveDrawing
+pub mod Shown
 pub mod TestText
 pub mod Giving
 pub mod Steps

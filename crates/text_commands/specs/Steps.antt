@@ -4,3 +4,4 @@ pub mod Refusing
 pub mod Joining
 pub mod Rows
 pub mod Testing
+pub mod Showing

@@ -1,4 +1,4 @@
--- What `plc eval` writes and tells, be it a chart or not, with words NAME==BITS or without.
+-- What `plc eval` writes and tells, in each form, with words NAME==BITS or without.
 use Rattle.std.specs.Prelude.{◌≡◌, ℕ, ◌+◌, ◌<◌, ◌==◌, ◌⊎◌, if◌then◌else◌, List, Bool, true, false, Option, Some, None, IsTrue, All, take, length, slice_get, string_bytes}
 use Rattle.std.specs.List.{flat_map}
 use Rattle.std.specs.Io.KnownBytes.{Appends, Keeps}
@@ -15,9 +15,12 @@ use Rattle.text_commands.specs.declared.word_fault.WordFault.{WordFault}
 use Rattle.text_commands.specs.declared.text_command_fault.TextCommandFault.{TextCommandFault}
 use Rattle.text_commands.specs.declared.text_command_fault.TextCommandFault.TheVariants.{Text, Word, Write, Memory}
 use Rattle.text_commands.specs.declared.difference.Difference.{Difference}
+use Rattle.text_commands.specs.declared.form.Form.{Form}
+use Rattle.text_commands.specs.declared.form.Form.TheVariants.{Rows, Drawings, Chart}
 use Rattle.text_commands.specs.Rows.{RowValue}
 use Rattle.text_commands.specs.Lines.{line_of}
 use Rattle.text_commands.specs.Chart.{chart_of}
+use Rattle.text_commands.specs.Shown.{IsShown}
 use Rattle.text_commands.specs.Trace.{SomeTrace}
 use Rattle.text_commands.specs.Expectations.{SpellTest, IsFirstRefusedOf, test_scans}
 use Rattle.text_commands.specs.EvalText.{IsLadderOfDrawing, RefusesDrawing}
@@ -74,9 +77,20 @@ abbrev pub IsOutcome : List Declaration → List RowValue → List (List Slot) �
 IsOutcome ds expected states None = AgreesBefore expected states (length states)
 IsOutcome ds expected states (Some found) = IsFirstDifference ds expected states found
 
--- a line for each variable, or a line for each scan
-abbrev pub trace_text : Bool → List Declaration → List (List Slot) → List ℕ
-trace_text chart ds states = if chart then chart_of ds states else flat_map (line_of ds) states
+-- a line is written for each variable
+abbrev pub is_chart : Form → Bool
+is_chart Rows = false
+is_chart (Drawings color) = false
+is_chart Chart = true
+
+-- what is written of the scans of a trace: a line for each scan; the same, with the drawing behind each line; or a line for
+-- each variable
+abbrev pub IsTextOf : Form → List ℕ → {ds : List Declaration} → {networks : List Diagram} → {dt : ℕ} → {rows : List RowValue}
+    → {most : ℕ} → SomeTrace ds networks dt rows most → List ℕ → Type 0
+IsTextOf Rows drawing {ds} made text = text ≡ flat_map (line_of ds) made.states
+IsTextOf (Drawings color) drawing {ds} {networks} {dt} {rows} made text =
+    IsShown drawing color ds networks dt rows made.states made.slots made.memories text
+IsTextOf Chart drawing {ds} made text = text ≡ chart_of ds made.states
 
 -- the ladder of the drawing, and what the words are for it
 pub record AskedTest (drawing : List ℕ) (words : List (List ℕ)) : Type 0 where
@@ -88,21 +102,25 @@ pub record AskedTest (drawing : List ℕ) (words : List (List ℕ)) : Type 0 whe
   pub read : SpellTest declarations words rows expected
 
 -- all scans were made, their text was written, and this is what came of what was expected
-pub record WritesTest (drawing : List ℕ) (words : List (List ℕ)) (dt : ℕ) (chart : Bool) (old new : Option (List ℕ))
+pub record WritesTest (drawing : List ℕ) (words : List (List ℕ)) (dt : ℕ) (form : Form) (old new : Option (List ℕ))
     (found : Option Difference) : Type 0 where
   pub asked : AskedTest drawing words
   pub made : SomeTrace asked.declarations asked.networks dt asked.rows (test_scans asked.rows asked.expected)
   pub all : length made.states ≡ test_scans asked.rows asked.expected
-  pub appended : Appends old new (trace_text chart asked.declarations made.states)
+  pub text : List ℕ
+  pub text_is : IsTextOf form drawing made text
+  pub appended : Appends old new text
   pub outcome : IsOutcome asked.declarations asked.expected made.states found
 
 -- the text of some of the scans, of a chart that of all, didn't go out whole
-pub record StopsTest (fault : SendFault) (drawing : List ℕ) (words : List (List ℕ)) (dt : ℕ) (chart : Bool)
+pub record StopsTest (fault : SendFault) (drawing : List ℕ) (words : List (List ℕ)) (dt : ℕ) (form : Form)
     (old new : Option (List ℕ)) : Type 0 where
   pub asked : AskedTest drawing words
   pub made : SomeTrace asked.declarations asked.networks dt asked.rows (test_scans asked.rows asked.expected)
-  pub all : IsTrue chart → length made.states ≡ test_scans asked.rows asked.expected
-  pub stopped : Stops fault (trace_text chart asked.declarations made.states) old new
+  pub all : IsTrue (is_chart form) → length made.states ≡ test_scans asked.rows asked.expected
+  pub text : List ℕ
+  pub text_is : IsTextOf form drawing made text
+  pub stopped : Stops fault text old new
 
 -- the words are no test of the drawing's ladder, and this is the first fault
 pub record RefusesTestWords (drawing : List ℕ) (words : List (List ℕ)) (fault : WordFault) : Type 0 where
@@ -112,9 +130,9 @@ pub record RefusesTestWords (drawing : List ℕ) (words : List (List ℕ)) (faul
   pub first : IsFirstRefusedOf declarations words fault
 
 -- why there was a fault, and what was written before: nothing before a fault of the text or of the words
-abbrev pub ExplainsTest : List ℕ → List (List ℕ) → ℕ → Bool → Option (List ℕ) → Option (List ℕ) → TextCommandFault → Type 0
-ExplainsTest drawing words dt chart old new (Text fault) = RefusesDrawing drawing fault × Keeps old new
-ExplainsTest drawing words dt chart old new (Word fault) = RefusesTestWords drawing words fault × Keeps old new
-ExplainsTest drawing words dt chart old new Write = StopsTest sending.Write drawing words dt chart old new
-ExplainsTest drawing words dt chart old new Memory =
-    Keeps old new ⊎ StopsTest sending.Memory drawing words dt chart old new
+abbrev pub ExplainsTest : List ℕ → List (List ℕ) → ℕ → Form → Option (List ℕ) → Option (List ℕ) → TextCommandFault → Type 0
+ExplainsTest drawing words dt form old new (Text fault) = RefusesDrawing drawing fault × Keeps old new
+ExplainsTest drawing words dt form old new (Word fault) = RefusesTestWords drawing words fault × Keeps old new
+ExplainsTest drawing words dt form old new Write = StopsTest sending.Write drawing words dt form old new
+ExplainsTest drawing words dt form old new Memory =
+    Keeps old new ⊎ StopsTest sending.Memory drawing words dt form old new

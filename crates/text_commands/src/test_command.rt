@@ -1,16 +1,21 @@
 ghost use Rattle.std.specs.Prelude.{◌≡◌, IfOk, IfErr, All, string_bytes};
+ghost use Rattle.std.specs.List.{flat_map};
 ghost use Rattle.text_commands.specs.Rows.{IsBoolAt, texts};
-ghost use Rattle.text_commands.specs.TestText.{WritesTest, ExplainsTest, trace_text};
-ghost use Rattle.text_commands.specs.Steps.Testing.{IsTestTrace, IsTraceOf, slots_of};
+ghost use Rattle.text_commands.specs.Lines.{line_of};
+ghost use Rattle.text_commands.specs.Chart.{chart_of};
+ghost use Rattle.text_commands.specs.TestText.{WritesTest, ExplainsTest};
+ghost use Rattle.text_commands.specs.Steps.Testing.{IsFormTrace, IsTestTrace, IsTraceOf, slots_of};
 
 use crate::chart::{chart_text, rows_text};
 use crate::difference::Difference;
 use crate::eval_command::{read_ladder, set_rows, write_scans};
 use crate::expectations::first_difference;
+use crate::form::Form;
 use crate::row::Row;
+use crate::shown_scans::{trace_drawings, write_drawings};
 use crate::test_words::{TestWords, read_test_words, test_scan_count};
 use crate::text_command_fault::TextCommandFault;
-use power_flow::{Declarations, Ladder, State};
+use power_flow::{Ladder, State};
 use std::alloc::{AllocError, Global};
 use std::io::Write;
 use text_writer::write_text;
@@ -37,20 +42,60 @@ fn trace_scans(
     Ok(states)
 }
 
-/// The chart of the states, or a line for each of them.
-fn trace_text(
+/// The states after each of so many scans, and a line for each.
+fn trace_rows(
     alloc: Global,
-    declarations: &Declarations,
-    states: &[State],
-    chart: bool,
-) -> Result<String, AllocError>
-    ensures { IfOk result
-        (λ text. string_bytes text ≡ trace_text chart declarations.now (slots_of states.now)) }
+    ladder: &Ladder,
+    rows: &[Row<'_>],
+    scans: usize,
+    dt: u32,
+) -> Result<(Vec<State>, String), AllocError>
+    requires { All (λ row. IsBoolAt ladder.now.declarations row.place) rows.now }
+    ensures { IfOk result (λ made. IsTraceOf ladder.now.declarations ladder.now.networks dt rows.now scans made.0.items
+        × (string_bytes made.1 ≡ flat_map (line_of ladder.now.declarations) (slots_of made.0.items))) }
 {
-    if chart {
-        chart_text(alloc, declarations, states)
-    } else {
-        rows_text(alloc, declarations, states)
+    let states = trace_scans(alloc, ladder, rows, scans, dt)?;
+    let text = rows_text(alloc, ladder.declarations(), &states)?;
+    Ok((states, text))
+}
+
+/// The states after each of so many scans, and their chart.
+fn trace_chart(
+    alloc: Global,
+    ladder: &Ladder,
+    rows: &[Row<'_>],
+    scans: usize,
+    dt: u32,
+) -> Result<(Vec<State>, String), AllocError>
+    requires { All (λ row. IsBoolAt ladder.now.declarations row.place) rows.now }
+    ensures { IfOk result (λ made. IsTraceOf ladder.now.declarations ladder.now.networks dt rows.now scans made.0.items
+        × (string_bytes made.1 ≡ chart_of ladder.now.declarations (slots_of made.0.items))) }
+{
+    let states = trace_scans(alloc, ladder, rows, scans, dt)?;
+    let text = chart_text(alloc, ladder.declarations(), &states)?;
+    Ok((states, text))
+}
+
+/// The states after each of so many scans, and what is written of them.
+fn trace_form(
+    alloc: Global,
+    ladder: &Ladder,
+    drawing: &str,
+    rows: &[Row<'_>],
+    scans: usize,
+    dt: u32,
+    form: Form,
+) -> Result<(Vec<State>, String), AllocError>
+    requires { All (λ row. IsBoolAt ladder.now.declarations row.place) rows.now }
+    ensures { IfOk result (λ made. IsFormTrace form drawing.now ladder.now.declarations ladder.now.networks dt rows.now
+        scans made.0.items (string_bytes made.1)) }
+{
+    match form {
+        Form::Rows => trace_rows(alloc, ladder, rows, scans, dt),
+        Form::Drawings { color } => {
+            trace_drawings(alloc, ladder, drawing, rows, scans, dt, color)
+        }
+        Form::Chart => trace_chart(alloc, ladder, rows, scans, dt),
     }
 }
 
@@ -58,19 +103,19 @@ fn trace_text(
 fn trace_test(
     alloc: Global,
     ladder: &Ladder,
+    drawing: &str,
     test: &TestWords<'_>,
     dt: u32,
-    chart: bool,
+    form: Form,
 ) -> Result<(String, Option<Difference>), AllocError>
     requires rows { All (λ row. IsBoolAt ladder.now.declarations row.place) test.now.rows.items }
     requires expected { All (λ row. IsBoolAt ladder.now.declarations row.place) test.now.expected.items }
-    ensures { IfOk result (λ made. IsTestTrace ladder.now.declarations ladder.now.networks dt chart
+    ensures { IfOk result (λ made. IsTestTrace drawing.now ladder.now.declarations ladder.now.networks dt form
         test.now.rows.items test.now.expected.items (string_bytes made.0) made.1) }
 {
-    let declarations = ladder.declarations();
-    let states = trace_scans(alloc, ladder, &test.rows, test_scan_count(test), dt)?;
-    let text = trace_text(alloc, declarations, &states, chart)?;
-    let found = first_difference(alloc, declarations, &test.expected, &states)?;
+    let scans = test_scan_count(test);
+    let (states, text) = trace_form(alloc, ladder, drawing, &test.rows, scans, dt, form)?;
+    let found = first_difference(alloc, ladder.declarations(), &test.expected, &states)?;
     Ok((text, found))
 }
 
@@ -78,9 +123,8 @@ fn trace_test(
 ///
 /// A word NAME=BITS sets its variable before scan k to the k-th digit, and a word NAME==BITS tells what it is to be after
 /// it; behind the last digit nothing is set, and nothing expected. There are as many scans as the longest of all words has
-/// digits, and one without words. `dt` is the time between two scans in milliseconds. A line is written for each variable,
-/// if a chart is asked for, else for each scan. Where a chart is asked for or something is expected, nothing is written
-/// before the last scan.
+/// digits, and one without words. `dt` is the time between two scans in milliseconds. The form says what is written of the
+/// scans. Where a chart is asked for or something is expected, nothing is written before the last scan.
 ///
 /// `Text` and `Word` come before anything is written. After `Write` what went out is a prefix and not all, after `Memory`
 /// a prefix.
@@ -89,21 +133,30 @@ pub fn eval_test<W: Write>(
     drawing: &str,
     words: &[&str],
     dt: u32,
-    chart: bool,
+    form: Form,
     writer: &mut W,
 ) -> Result<Option<Difference>, TextCommandFault>
     ensures ok { IfOk result
-        (WritesTest drawing.now (texts words.now) dt chart (W.contents writer.old) (W.contents writer.new)) }
+        (WritesTest drawing.now (texts words.now) dt form (W.contents writer.old) (W.contents writer.new)) }
     ensures fault { IfErr result
-        (ExplainsTest drawing.now (texts words.now) dt chart (W.contents writer.old) (W.contents writer.new)) }
+        (ExplainsTest drawing.now (texts words.now) dt form (W.contents writer.old) (W.contents writer.new)) }
 {
     let ladder = read_ladder(alloc, drawing)?;
     let test = read_test_words(alloc, ladder.declarations(), words)?;
-    if !chart && test.expected.is_empty() {
-        write_scans(alloc, &ladder, &test.rows, dt, writer)?;
-        return Ok(None);
+    if test.expected.is_empty() {
+        match form {
+            Form::Rows => {
+                write_scans(alloc, &ladder, &test.rows, dt, writer)?;
+                return Ok(None);
+            }
+            Form::Drawings { color } => {
+                write_drawings(alloc, &ladder, drawing, &test.rows, dt, color, writer)?;
+                return Ok(None);
+            }
+            Form::Chart => {}
+        }
     }
-    let (text, found) = trace_test(alloc, &ladder, &test, dt, chart)?;
+    let (text, found) = trace_test(alloc, &ladder, drawing, &test, dt, form)?;
     write_text(writer, text.as_str())?;
     Ok(found)
 }

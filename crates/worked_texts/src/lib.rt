@@ -63,6 +63,28 @@ CONFIGURATION PAIR
 END_CONFIGURATION
 ";
 
+/// A task with a retained variable and one that isn't retained; its input sets both.
+pub const HOLD: &str = "\
+PROGRAM HOLD
+VAR_INPUT GO : BOOL; END_VAR
+VAR_OUTPUT Q, L : BOOL; END_VAR
+VAR RETAIN M : BOOL; END_VAR
+VAR K : BOOL; END_VAR
+|  GO    M     K
++--| |---(S)---(S)
+|  M     Q
++--| |---( )
+|  K     L
++--| |---( )
+END_PROGRAM
+CONFIGURATION C
+  RESOURCE R1 ON NODE
+    TASK TICK(INTERVAL := T#10ms, PRIORITY := 0);
+    PROGRAM H WITH TICK : HOLD(GO := %IX0);
+  END_RESOURCE
+END_CONFIGURATION
+";
+
 /// A task that takes its own output.
 pub const LOOP: &str = "\
 PROGRAM FLIP

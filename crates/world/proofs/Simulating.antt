@@ -24,7 +24,7 @@ use Rattle.exchange.specs.declared.world_fault.WorldFault.TheVariants.{NoSuchRes
 use Rattle.exchange.specs.History.{Setting, history_of, after_events, is_lawful, incarnation_of, heard_by, number_of, made_count}
 use Rattle.exchange.specs.Run.{IsLog, latest}
 use Rattle.exchange.specs.World.{WorldValue}
-use Rattle.exchange.specs.Step.{history_at, IsCause, Answers, is_newer}
+use Rattle.exchange.specs.Step.{history_at, IsCause, Answers}
 use Rattle.world.specs.RunText.{IsDoneLine, TellsEvent, IsLineAfter, IsRunText, restart_line, hear_line}
 use Rattle.world.specs.ScheduleText.{is_idle, SpellsEvent, SpellEvents, Spell}
 use Rattle.world.specs.Steps.Telling.{IsTold}

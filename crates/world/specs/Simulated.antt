@@ -3,19 +3,16 @@ use Rattle.std.specs.Prelude.{◌≡◌, ℕ, ◌+◌, ◌<◌, List, Option, So
 use Rattle.std.specs.Io.KnownBytes.{Appends}
 use Rattle.plant.specs.PlantValue.{PlantValue}
 use Rattle.exchange.specs.declared.event.Event.{Event}
-use Rattle.exchange.specs.History.{Setting}
+use Rattle.exchange.specs.History.{Setting, setting_over, initial_openings}
 use Rattle.world.specs.declared.sim_fault.SimFault.{SimFault}
 use Rattle.world.specs.declared.sim_fault.SimFault.TheVariants.{Syntax, Write, Memory}
 use Rattle.world.specs.RunText.{IsRunText}
 use Rattle.world.specs.ScheduleText.{Spell, IsSchedule, IsBadLine, schedule_lines}
 
--- all first incarnations are 1
+-- all first incarnations are 1, and nothing was kept of any task
 abbrev pub from_one : PlantValue → ℕ → Setting
-from_one plant max_number = record {
-  plant = plant;
-  first = replicate (length plant.resources) 1;
-  max_number = max_number;
-}
+from_one plant max_number =
+    setting_over plant (replicate (length plant.resources) 1) (initial_openings plant) max_number
 
 -- the schedule spells these events, and what was written is the text of their run and nothing else
 pub record WritesRun (plant : PlantValue) (max_number : ℕ) (schedule : List ℕ)

@@ -16,8 +16,8 @@ mod simulation;
 
 pub use evaluation_line::push_evaluation;
 pub use exchange::{
-    Book, Done, Event, Misfit, Schedule, World, WorldFault, books_are_consistent,
-    consistency_theorem, fitting_entries_replay, holders_agree,
+    Book, Done, Event, Misfit, Schedule, World, WorldFault, are_openings, books_are_consistent,
+    consistency_theorem, fitting_entries_replay, holders_agree, initial_openings,
     keeping_the_greatest_keeps_the_latest, one_run, pairs_rise, runs_are_consistent,
     runs_are_entered, runs_could_be_made, runs_fit, runs_replay,
 };

@@ -13,7 +13,7 @@ use crate::lines::{is_idle, without_last};
 use crate::read_line::read_event;
 use crate::sim_fault::SimFault;
 use evaluation::push_words;
-use exchange::World;
+use exchange::{World, initial_openings};
 use plant::Plant;
 use std::alloc::{AllocError, Global};
 use std::io::Write;
@@ -27,12 +27,19 @@ fn ones(alloc: Global, resources: usize) -> Result<Vec<u32>, AllocError>
     vec![in alloc; 1u32; resources]
 }
 
-/// A plant before its first event, all first incarnations 1.
+/// A plant before its first event, all first incarnations 1, of which nothing was kept.
 pub(crate) fn open(alloc: Global, plant: Arc<Plant>, max_number: u32) -> Result<World, AllocError>
     ensures { IfOk result (λ w. w ≡ record { setting = from_one plant.value max_number; events = []; log = [] }) }
 {
     let first = ones(alloc, plant.resources())?;
-    World::new(alloc, plant, first.as_slice(), max_number)
+    let opening = initial_openings(alloc, &plant)?;
+    World::new(
+        alloc,
+        plant,
+        first.as_slice(),
+        opening.as_slice(),
+        max_number,
+    )
 }
 
 /// The text without the line feed at its end, which begins no further line.
@@ -110,8 +117,9 @@ impl Simulation {
 }
 
 /// Does the events of a schedule one after the other and writes a line for each, before it reads the next one. All
-/// first incarnations are 1, and an event's ticket is its number, from 1; refused events count, blank lines and
-/// comments don't. Each task makes evaluations of numbers up to `max_number` in an incarnation.
+/// first incarnations are 1, all retained variables open with FALSE, 0 or T#0ms, and an event's ticket is its number,
+/// from 1; refused events count, blank lines and comments don't. Each task makes evaluations of numbers up to
+/// `max_number` in an incarnation.
 ///
 /// `Syntax` is the first line, counted from 1, that is no event, comment or blank; the lines of the events before it
 /// are written. After `Write` what went out is a beginning of the text, after `Memory` the lines of some first events.

@@ -11,7 +11,7 @@ use std::alloc::Global;
 use std::process::Abort;
 use std::sync::Arc;
 use std_blocks::Value;
-use worked_texts::{LOOP, PAIR};
+use worked_texts::{HOLD, LOOP, PAIR};
 use world::{Book, Event, Misfit, Schedule};
 
 /// A frame to be entered, and what the book answers: resource, incarnation and number, what was heard, what was taken of the counter and its values there.
@@ -376,11 +376,15 @@ fn made_again(
     book.entries().len()
 }
 
-/// 500 lists of events drawn by lot for each of two plants are made again by the schedules of their books. They have 1,000 evaluations at least.
+/// 500 lists of events drawn by lot for each of three plants are made again by the schedules of their books. They have 1,000 evaluations at least.
 #[test]
 fn drawn_logs_are_made_again(rt: HostRuntime) {
     let alloc = rt.alloc();
-    for &(text, first) in &[(PAIR, [2, 5].as_slice()), (LOOP, [3].as_slice())] {
+    for &(text, first) in &[
+        (PAIR, [2, 5].as_slice()),
+        (LOOP, [3].as_slice()),
+        (HOLD, [1].as_slice()),
+    ] {
         let plant = plant_of(&rt, alloc, text);
         let mut seed = 1;
         let mut entries: usize = 0;

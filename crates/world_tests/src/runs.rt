@@ -1,23 +1,36 @@
 //! What many tests do with events: a world after them, and the book of its log.
 
 use crate::checks::{holds, must};
-use evaluation::Frame;
+use evaluation::{Frame, Retained};
 use plant::Plant;
 use std::alloc::Global;
 use std::process::Abort;
 use std::sync::Arc;
-use world::{Book, Event, World};
+use world::{Book, Event, World, are_openings, initial_openings};
 
 pub fn plant_of(rt: &impl Abort, alloc: Global, text: &str) -> Arc<Plant> {
     let plant = must(rt, Plant::read(alloc, text));
     must(rt, Arc::new(alloc, plant))
 }
 
-/// A world before any event.
+/// A world before any event, of which nothing was kept.
 pub fn fresh_world(rt: &impl Abort, alloc: Global, plant: &Arc<Plant>, first: &[u32]) -> World {
+    let opening = must(rt, initial_openings(alloc, plant));
+    opened_world(rt, alloc, plant, first, opening.as_slice())
+}
+
+/// A world before any event, with these openings.
+pub fn opened_world(
+    rt: &impl Abort,
+    alloc: Global,
+    plant: &Arc<Plant>,
+    first: &[u32],
+    opening: &[Vec<Retained>],
+) -> World {
     let plant = must(rt, Arc::try_clone(plant));
     assert!(rt; first.len() == plant.resources());
-    must(rt, World::new(alloc, plant, first, u32::MAX))
+    assert!(rt; are_openings(&plant, opening));
+    must(rt, World::new(alloc, plant, first, opening, u32::MAX))
 }
 
 /// A world after these events.

@@ -7,7 +7,7 @@ use plant::Plant;
 use std::alloc::Global;
 use std::process::Abort;
 use std::sync::Arc;
-use worked_texts::PAIR;
+use worked_texts::{HOLD, PAIR};
 use world::{SimFault, simulate};
 
 /// A producer restarts, and its message reaches the watcher.
@@ -77,4 +77,28 @@ fn a_schedule_is_written_as_far_as_it_goes(rt: HostRuntime) {
     let out = must(&rt, Halting::new(alloc, usize::MAX, usize::MAX, true));
     let answer = Err(SimFault::Syntax { line: 4 });
     writes(&rt, alloc, &plant, bad, out, answer, refusals.as_slice());
+}
+
+/// What a task retains outlives one restart and the next; what it doesn't is FALSE again.
+#[test]
+fn a_retained_variable_outlives_restarts(rt: HostRuntime) {
+    let alloc = rt.alloc();
+    let plant = plant_of(&rt, alloc, HOLD);
+    let schedule = "EVAL R1.TICK 10 %IX0=1\nRESTART R1\nRESTART R1\nEVAL R1.TICK 10\n";
+    let written = b"\
+EVAL 1 R1.TICK 1.1 TAKES - GIVES H.Q=1 H.L=1
+RESTART R1 2
+RESTART R1 3
+EVAL 2 R1.TICK 3.1 TAKES - GIVES H.Q=1 H.L=0
+";
+    let out = must(&rt, Halting::new(alloc, usize::MAX, usize::MAX, true));
+    writes(
+        &rt,
+        alloc,
+        &plant,
+        schedule,
+        out,
+        Ok(()),
+        written.as_slice(),
+    );
 }

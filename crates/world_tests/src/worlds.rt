@@ -2,15 +2,15 @@
 
 use crate::acts::{Act, FAST, SLOW, do_the_same, events_of};
 use crate::checks::{equal, holds, must};
-use crate::runs::{fresh_world, plant_of};
-use evaluation::Name;
+use crate::runs::{fresh_world, opened_world, plant_of};
+use evaluation::{Name, Retained};
 use exchange_core::Accepted;
 use plant::TaskRef;
 use std::alloc::Global;
 use std::process::Abort;
 use std_blocks::Value;
-use worked_texts::PAIR;
-use world::{Done, Event, World, WorldFault};
+use worked_texts::{HOLD, PAIR};
+use world::{Done, Event, World, WorldFault, are_openings};
 
 /// A producer that restarts, of which is heard late, and a delivery of an evaluation of before. What isn't lawful stands between.
 const ACTS: [Act; 15] = [
@@ -199,4 +199,50 @@ fn a_run_does_the_lawful_events(rt: HostRuntime) {
         "the lawful events are kept",
         do_the_same(world.events(), lawful),
     );
+}
+
+/// An opening of one resource with one task, whose retained variables have these values.
+fn opening_of(rt: &impl Abort, alloc: Global, values: &[Value]) -> Vec<Vec<Retained>> {
+    let values = must(rt, Vec::from_slice(alloc, values));
+    let tasks = must(rt, vec![in alloc; Retained::from_values(values)]);
+    must(rt, vec![in alloc; tasks])
+}
+
+/// The task of HOLD gives what was kept, also after a restart, and FALSE for what isn't retained.
+#[test]
+fn a_world_opens_with_what_was_kept(rt: HostRuntime) {
+    let alloc = rt.alloc();
+    let plant = plant_of(&rt, alloc, HOLD);
+    let opening = opening_of(&rt, alloc, &[Value::Bool(true)]);
+    let mut world = opened_world(&rt, alloc, &plant, &[1], opening.as_slice());
+    let acts = [
+        Act::Restart(0),
+        Act::Evaluate(FAST, false),
+        Act::Restart(0),
+        Act::Evaluate(FAST, false),
+    ];
+    let events = events_of(&rt, alloc, &acts);
+    let has_run = run_on(alloc, &mut world, events.as_slice());
+    holds(&rt, "all events have run", has_run);
+    let kept = [Value::Bool(true), Value::Bool(false)];
+    for made in world.log() {
+        equal(&rt, "image", &made.outputs().values(), &kept.as_slice());
+    }
+    has_counts(&rt, &world, 2, 4);
+}
+
+#[test]
+fn an_opening_has_a_value_for_each_retained_variable(rt: HostRuntime) {
+    let alloc = rt.alloc();
+    let plant = plant_of(&rt, alloc, HOLD);
+    for values in &[
+        [].as_slice(),
+        &[Value::Int(0)],
+        &[Value::Bool(true), Value::Bool(true)],
+    ] {
+        let opening = opening_of(&rt, alloc, values);
+        let suits = are_openings(&plant, opening.as_slice());
+        holds(&rt, "it is no opening", !suits);
+    }
+    holds(&rt, "a resource has one", !are_openings(&plant, &[]));
 }

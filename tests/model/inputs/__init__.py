@@ -1,1 +1,1 @@
-"""Inputs for the program, drawn by a seed: drawings, plants, schedules, and texts with a slip."""
+"""Inputs for the program, drawn by a seed: drawings, plants, runs over a folder of state, schedules, and texts with a slip."""

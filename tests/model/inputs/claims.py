@@ -39,4 +39,4 @@ def claims(chance):
     for name in chance.sample(stored, min(len(stored), chance.randint(1, 3))):
         given += ["--never", cased(chance, name)]
     held = chance.sample(inputs, max(0, len(inputs) - chance.randint(0, MOST_FREE)))
-    return files, given + [f"{cased(chance, name)}={chance.randint(0, 1)}" for name in held]
+    return files, [given + [f"{cased(chance, name)}={chance.randint(0, 1)}" for name in held]]

@@ -45,11 +45,11 @@ class Drawer:
     def __init__(self, chance, names):
         self.chance, self.names = chance, names
 
-    def drawing(self, rungs):
-        """The rows of so many rungs between the rails."""
+    def drawing(self, rungs, first=()):
+        """The rows of so many rungs between the rails, below rows that come first."""
         chance = self.chance
         is_long_rail = chance.random() < 0.8
-        rows = []
+        rows = list(first)
         for _ in range(rungs):
             rows += self.any_rung(is_long_rail)
             rows += ["|" if is_long_rail else ""] * chance.choice([0, 0, 0, 1])
@@ -270,4 +270,11 @@ def drawing(chance):
     for name in chance.sample(bits, min(len(bits), chance.choice([0, 0, 1, 2]))):
         words.append(f"{cased(chance, name)}=={digits(chance, chance.randint(1, min(scans, 4)))}")
     words += ["--chart"] * (chance.random() < 0.3)
-    return {"it.ladder": text}, words
+    return {"it.ladder": text}, [words]
+
+
+def shown(chance):
+    """A drawing that is shown after each scan."""
+    files, [words] = drawing(chance)
+    words = [it for it in words if it != "--chart"] + ["--show"]
+    return files, [words + chance.choice([[], [], [], ["--color", "always"], ["--color=never"]])]

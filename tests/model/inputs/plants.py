@@ -4,6 +4,7 @@ from dataclasses import dataclass
 from rules.words import BLOCK_TYPES
 
 from .drawings import Drawer, Names, cased
+from .retained import blocks_of, boxes_of, outputs_of, rows_of
 
 KINDS = ("BOOL", "BOOL", "BOOL", "INT", "INT", "TIME")
 INTERVALS = {10: "T#10ms", 15: "T#15ms", 20: "t#20MS", 25: "TIME#0s_25ms", 40: "T#40ms", 50: "T#0s50ms"}
@@ -15,19 +16,34 @@ class Variables:
 
     inputs: dict
     outputs: dict
+    retained: dict
     locals: dict
     boxes: dict
 
     def names(self):
-        """What a body may read and store; only what is no input is stored."""
-        stores = {**self.outputs, **self.locals}
-        reads = {**self.inputs, **stores}
-        boxes = list(self.boxes.items())
-        return Names(of_kinds(reads), of_kinds(stores), boxes)
+        """What a body may read and store, what is retained more often than the rest; only what is no input is stored."""
+        stores = [*self.outputs.items(), *self.locals.items(), *self.retained.items(), *self.retained.items()]
+        reads = [*self.inputs.items(), *stores]
+        return Names(of_kinds(reads), of_kinds(stores), list(self.boxes.items()))
+
+    def sections(self, chance):
+        """The blocks of variables, now and then in another order. What is retained is shown by outputs."""
+        sections = [
+            ("VAR_INPUT", self.inputs),
+            ("VAR_OUTPUT", self.all_outputs()),
+            ("VAR", self.locals | self.boxes | boxes_of(self.retained)),
+            *blocks_of(chance, self.retained),
+        ]
+        if chance.random() < 0.5:
+            chance.shuffle(sections)
+        return sections
+
+    def all_outputs(self):
+        return self.outputs | outputs_of(self.retained)
 
 
 def of_kinds(variables):
-    return {kind: [it for it, own in variables.items() if own == kind] for kind in ("BOOL", "INT", "TIME")}
+    return {kind: [it for it, own in variables if own == kind] for kind in ("BOOL", "INT", "TIME")}
 
 
 class PlantMaker:
@@ -46,6 +62,7 @@ class PlantMaker:
         return Variables(
             {f"U{k}": chance.choice(KINDS) for k in range(chance.randint(1, 5))},
             {**{f"Y{k}": chance.choice(KINDS) for k in range(chance.randint(0, 3))}, "Q": "BOOL"},
+            {f"{chance.choice(['M', 'm_'])}{k}": chance.choice(KINDS) for k in range(chance.choice([0, 1, 2, 3]))},
             {f"L{k}": chance.choice(KINDS) for k in range(chance.randint(0, 2))},
             {f"X{k}": chance.choice(BLOCK_TYPES) for k in range(chance.randint(0, 3))},
         )
@@ -59,11 +76,11 @@ class PlantMaker:
 
     def program_type(self, name, variables):
         yield f"{self.keyword('PROGRAM')} {name}"
-        for section, declared in (("VAR_INPUT", variables.inputs), ("VAR_OUTPUT", variables.outputs), ("VAR", variables.locals | variables.boxes)):
+        for section, declared in variables.sections(self.chance):
             if declared or self.chance.random() < 0.1:
                 listed = " ".join(f"{it} : {cased(self.chance, kind)};" for it, kind in declared.items())
                 yield f"{self.keyword(section)} {listed} {self.keyword('END_VAR')}{self.comment()}"
-        yield from Drawer(self.chance, variables.names()).drawing(self.chance.randint(1, 4))
+        yield from Drawer(self.chance, variables.names()).drawing(self.chance.randint(1, 4), rows_of(variables.retained))
         yield self.keyword("END_PROGRAM")
 
     def resource(self, resource):
@@ -87,7 +104,7 @@ class PlantMaker:
         outputs = [
             f"{resource}.{name}.{output}"
             for resource, name, _, type_name in self.programs
-            for output, it in self.types[type_name].outputs.items()
+            for output, it in self.types[type_name].all_outputs().items()
             if it == kind
         ]
         choice = self.chance.random()
@@ -116,4 +133,4 @@ def inputs(chance):
 def plant(chance):
     """A plant, with words for a run in turns."""
     until = str(chance.choice([0, 40, 100, 100, 160, 200]))
-    return {"it.plant": PlantMaker(chance).text()}, ["run", "it.plant", "--until", until, "--paced", *inputs(chance)]
+    return {"it.plant": PlantMaker(chance).text()}, [["run", "it.plant", "--until", until, "--paced", *inputs(chance)]]

@@ -28,15 +28,15 @@ class ScheduleMaker:
     def resource(self):
         return self.chance.choice(self.plant.resources)
 
-    def task(self):
-        resource = self.resource()
+    def task(self, resource=None):
+        resource = resource or self.resource()
         return f"{resource}.{self.chance.choice(self.plant.tasks[resource])}"
 
-    def evaluation(self):
+    def evaluation(self, resource=None):
         """An evaluation; now and then its message goes to all at once."""
         self.made += 1
         elapsed = self.chance.choice([0, 5, 10, 10, 20, 1000, 4294967295])
-        line = [self.keyword("EVAL"), cased(self.chance, self.task()), str(elapsed), *inputs(self.chance)]
+        line = [self.keyword("EVAL"), cased(self.chance, self.task(resource)), str(elapsed), *inputs(self.chance)]
         yield self.chance.choice([" ", " ", " ", "  ", "\t"]).join(line)
         if self.chance.random() < 0.4:
             yield from (f"DELIVER {self.made} {it}" for it in self.plant.resources if self.chance.random() < 0.8)
@@ -48,12 +48,15 @@ class ScheduleMaker:
         yield f"{self.keyword('DELIVER')} {message} {cased(self.chance, self.resource())}"
 
     def restart(self):
-        """A restart; now and then all hear of it at once."""
+        """A restart, or two; now and then all hear of it at once, or the resource goes on at once."""
         resource = self.resource()
-        self.incarnations[resource] += 1
-        yield f"{self.keyword('RESTART')} {cased(self.chance, resource)}"
+        for _ in range(self.chance.choice([1, 1, 1, 2])):
+            self.incarnations[resource] += 1
+            yield f"{self.keyword('RESTART')} {cased(self.chance, resource)}"
         if self.chance.random() < 0.5:
             yield from (f"HEAR {it} {resource} {self.incarnations[resource]}" for it in self.plant.resources if self.chance.random() < 0.8)
+        for _ in range(self.chance.choice([0, 1, 2])):
+            yield from self.evaluation(resource)
 
     def hearing(self):
         """Mostly of the present incarnation; of an earlier one, or of one that never was, now and then."""
@@ -84,4 +87,4 @@ def schedule(chance):
     lines = ScheduleMaker(chance, plant).lines(chance.choice([5, 20, 60]))
     most = ["--max-number", str(chance.choice([0, 1, 2, 3, 5]))] if chance.random() < 0.15 else []
     files = {"it.plant": plant.text(), "it.schedule": "".join(f"{line}\n" for line in lines)}
-    return files, ["sim", "it.plant", "it.schedule", *most]
+    return files, [["sim", "it.plant", "it.schedule", *most]]

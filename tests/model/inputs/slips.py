@@ -72,6 +72,15 @@ def without_word(chance, text):
     return text[: old.start()] + " " * len(old.group()) + text[old.end() :]
 
 
+def with_retain(chance, text):
+    """RETAIN behind the first word of a block of variables."""
+    found = list(re.finditer(r"\bVAR(_INPUT|_OUTPUT)?\b", text, re.IGNORECASE))
+    if not found:
+        return text
+    at = chance.choice(found).end()
+    return text[:at] + chance.choice([" RETAIN", " retain", "\nRETAIN", " (**)RETAIN ", "_RETAIN"]) + text[at:]
+
+
 SLIPS = {
     with_sign_left_out: 2,
     with_sign_put_in: 2,
@@ -82,22 +91,23 @@ SLIPS = {
     cut: 1,
     with_other_word: 9,
     without_word: 4,
+    with_retain: 1,
 }
 
 
 def counted_or_planned(chance):
     files, _ = plant(chance)
-    return files, chance.choice([["check", "it.plant"], ["plan", "it.plant", "--until", "100"]])
+    return files, [chance.choice([["check", "it.plant"], ["plan", "it.plant", "--until", "100"]])]
 
 
 TEXTS = {(drawing, "it.ladder"): 9, (plant, "it.plant"): 6, (counted_or_planned, "it.plant"): 3, (schedule, "it.schedule"): 2}
 
 
 def slip(chance):
-    """Words and files of a text with one slip or a few."""
+    """Files and words of a text with one slip or a few."""
     make, name = chance.choices(list(TEXTS), weights=list(TEXTS.values()))[0]
-    files, words = make(chance)
+    files, runs = make(chance)
     for _ in range(chance.choice([1, 1, 1, 2, 3])):
         change = chance.choices(list(SLIPS), weights=list(SLIPS.values()))[0]
         files[name] = change(chance, files[name] or " ")
-    return files, words
+    return files, runs

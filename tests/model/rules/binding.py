@@ -11,7 +11,7 @@ FAULTS = ("UnknownName", "WrongKind", "WritesInput", "UnknownPin", "PinMissing",
 
 @dataclass
 class Declared:
-    """A name as it was declared: an input, output or local of a kind, or an instance of a block type."""
+    """A name as it was declared: an input, an output, a local (maybe a retained one) of a kind, or an instance of a block type."""
 
     name: str
     role: str

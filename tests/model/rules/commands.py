@@ -6,12 +6,13 @@ from . import words
 from .binding import guessed, refuse_names
 from .drawing_faults import read_drawing
 from .inputs import BadInput, Inputs, parts_of
+from .kept_files import BadFile, KeptFiles
 from .lines import lines_of
 from .networks import networks_of
 from .plan import plan_of
 from .plant_text import read_plant
 from .refusal import Refusal
-from .run import Run, lines_of_run, paced_run
+from .run import Run, do_in_turns, lines_of_run
 from .scan import Ladder, State
 from .schedule import MOST_U32, events_of
 from .verify import MOST_INPUTS, Search, line_of, stored_names, verdict_lines
@@ -40,24 +41,28 @@ class Refused(Exception):
 
 @dataclass
 class Shape:
-    """The words that a command has: its files, its options with a number, its flags, its options that may stand several
-    times, and whether further words follow."""
+    """The words that a command has: its files, its options with a number, with one of a few words or with a name of a folder,
+    its flags, its options that may stand several times, and whether further words follow."""
 
     files: int
     numbers: tuple = ()
+    choices: dict = field(default_factory=dict)
+    names: tuple = ()
     flags: tuple = ()
     lists: tuple = ()
     needed: tuple = ()
     has_more: bool = False
 
 
+COLORS = ("always", "auto", "never")
+
 SHAPES = {
-    "eval": Shape(1, numbers=("--dt",), flags=("--chart",), has_more=True),
+    "eval": Shape(1, numbers=("--dt",), choices={"--color": COLORS}, flags=("--show", "--chart"), has_more=True),
     "verify": Shape(1, numbers=("--dt", "--most-states"), lists=("--never",), needed=("--never",), has_more=True),
     "check": Shape(1),
     "plan": Shape(1, numbers=("--until",), needed=("--until",)),
     "sim": Shape(2, numbers=("--max-number",)),
-    "run": Shape(1, numbers=("--until",), flags=("--paced",), needed=("--until",), has_more=True),
+    "run": Shape(1, numbers=("--until",), names=("--state",), flags=("--paced",), needed=("--until",), has_more=True),
 }
 
 
@@ -86,17 +91,32 @@ def read_words(shape, given):
             is_behind = True
         else:
             option, equals, value = word.partition("=")
-            takes_word = option not in shape.flags and not equals
-            if option in shape.lists:
-                options.setdefault(option, []).append(name_given(value if equals else "".join(ahead[:1])))
-            elif option in options or option not in (*shape.numbers, *shape.flags):
+            if option in options and option not in shape.lists:
                 raise Refused(REFUSED_WORDS)
+            if option not in shape.flags and not equals:
+                value = word_behind(ahead)
+            if option in shape.lists:
+                options.setdefault(option, []).append(name_given(value))
+            elif option in shape.flags:
+                options[option] = flag(equals)
+            elif option in shape.numbers:
+                options[option] = number(value)
+            elif option in shape.choices:
+                options[option] = one_of(shape.choices[option], value)
+            elif option in shape.names:
+                options[option] = value
             else:
-                options[option] = flag(equals) if option in shape.flags else number(value if equals else "".join(ahead[:1]))
-            del ahead[:takes_word]
+                raise Refused(REFUSED_WORDS)
     if len(plain) < shape.files or (len(plain) > shape.files and not shape.has_more) or not set(shape.needed) <= set(options):
         raise Refused(REFUSED_WORDS)
     return plain[: shape.files], options, plain[shape.files :]
+
+
+def word_behind(ahead):
+    """The word behind an option; one that begins with a sign is an option of its own."""
+    if not ahead or ahead[0].startswith("-"):
+        raise Refused(REFUSED_WORDS)
+    return ahead.pop(0)
 
 
 def flag(equals):
@@ -107,6 +127,12 @@ def flag(equals):
 
 def name_given(word):
     if not word or word.startswith("-"):
+        raise Refused(REFUSED_WORDS)
+    return word
+
+
+def one_of(choices, word):
+    if word not in choices:
         raise Refused(REFUSED_WORDS)
     return word
 
@@ -150,17 +176,26 @@ class Files:
 
 
 def evaluate(write, files, paths, options, more):
+    if {"--show", "--chart"} <= set(options):
+        raise Refused(REFUSED_WORDS)
     ladder = files.ladder(paths[0])
     variables = [it for it in ladder.declarations if it.role != "Instance"]
     rows, expected = rows_of(more, [it for it in variables if it.kind == "BOOL"])
-    state, traced = State(ladder.declarations), []
+    state, traced, live = State(ladder.declarations), [], []
     for scan in range(max(map(len, [*rows.values(), *expected.values()]), default=1)):
         for name, digits in rows.items():
             if scan < len(digits):
                 state.set(name, digits[scan] == "1")
         ladder.scan(state, options.get("--dt", 0))
         traced.append({words.fold(it.name): state.get(it.name) for it in variables})
-    for line in chart_of(variables, traced) if "--chart" in options else lines_of_scans(variables, traced):
+        live.append(ladder.live_signs(state))
+    if "--chart" in options:
+        lines = chart_of(variables, traced)
+    elif "--show" in options:
+        lines = shown_scans(lines_of_scans(variables, traced), files.text(paths[0]), live, options.get("--color") == "always")
+    else:
+        lines = lines_of_scans(variables, traced)
+    for line in lines:
         write(line)
     tell_difference(paths[0], variables, expected, traced)
 
@@ -168,6 +203,17 @@ def evaluate(write, files, paths, options, more):
 def lines_of_scans(variables, traced):
     for values in traced:
         yield " ".join(f"{it.name}={words.shown(values[words.fold(it.name)])}" for it in variables)
+
+
+def shown_scans(rows, text, live, is_colored):
+    """The line of each scan, and behind it the drawing as it stands in the file, but for what has power."""
+    drawn = text.removesuffix("\n").split("\n")
+    for row, signs in zip(rows, live):
+        yield row
+        if is_colored:
+            signs = {place: f"\x1b[1;32m{sign}\x1b[0m" for place, sign in signs.items()}
+        for number, line in enumerate(drawn, 1):
+            yield "".join(signs.get((number, column), sign) for column, sign in enumerate(line, 1))
 
 
 def chart_of(variables, traced):
@@ -269,7 +315,16 @@ def run_paced(write, files, paths, options, more):
     except BadInput:
         raise Refused(REFUSED_WORDS) from None
     plant = files.plant(paths[0])
-    for made in paced_run(plant, due_of(plant, options["--until"]), inputs):
+    due = due_of(plant, options["--until"])
+    kept = KeptFiles(files.folder, options["--state"]) if "--state" in options else None
+    try:
+        run = kept.opened(plant) if kept else Run(plant)
+        do_in_turns(run, due, inputs)
+        if kept:
+            kept.keep(run)
+    except (BadFile, OSError):
+        raise Refused(NO_FILE) from None
+    for made in run.log:
         write(made.line())
     write("REPLAY equal")
 

@@ -69,7 +69,14 @@ class Task:
 
     def outputs(self):
         """The program and the name of each output, in order of declaration."""
-        return [(program, it) for program in self.programs for it in program.type.declarations.of_role("Output")]
+        return self.variables("Output")
+
+    def retained(self):
+        """The program and the name of each variable that outlives a restart, in order of declaration."""
+        return self.variables("Retained")
+
+    def variables(self, role):
+        return [(program, it) for program in self.programs for it in program.type.declarations.of_role(role)]
 
 
 @dataclass(eq=False)

@@ -7,7 +7,7 @@ from .refusal import Refusal
 MOST_TYPES, MOST_NAMES, MOST_RESOURCES, MOST_TASKS, MOST_PROGRAMS, MOST_CONNECTIONS = 64, 1000, 16, 16, 64, 4096
 MOST_PRIORITY = MOST_ADDRESS = 65535
 FIELD_KINDS = {"%IX": "BOOL", "%IW": "INT"}
-ROLES = {"VAR_INPUT": "Input", "VAR_OUTPUT": "Output", "VAR": "Local"}
+ROLES = {"VAR_INPUT": "Input", "VAR_OUTPUT": "Output", "VAR": "Local", "VAR RETAIN": "Retained"}
 
 
 def read_plant(text):
@@ -80,6 +80,8 @@ class PlantText:
 
     def block(self, declarations):
         section = self.expect(*SECTIONS)
+        if section == "VAR" and self.words.sees("RETAIN"):
+            section += " " + self.expect("RETAIN")
         while not self.words.sees("END_VAR"):
             self.variables(declarations, section)
         self.expect("END_VAR")

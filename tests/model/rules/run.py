@@ -41,18 +41,18 @@ def pair(name):
 
 class Node:
     """A resource while events happen: its incarnation, the messages that were delivered to it or made there, and of which
-    incarnation of each resource it has heard since its last restart."""
+    incarnation of each resource it has heard since its last restart. In `first` is the first incarnation of each resource."""
 
-    def __init__(self, resource, resources):
-        self.resource, self.resources = resource, resources
-        self.incarnation = 1
+    def __init__(self, resource, first):
+        self.resource, self.first = resource, first
+        self.incarnation = first[resource.place]
         self.delivered = set()
         self.begin()
 
     def begin(self):
         """All is forgotten but the incarnation."""
         self.own = {}
-        self.heard = [1] * self.resources
+        self.heard = list(self.first)
         self.heard[self.resource.place] = self.incarnation
 
     def has_reached(self, message):
@@ -60,11 +60,15 @@ class Node:
 
 
 class Run:
-    """All resources of a plant, the list of evaluations, and that of each task; incarnations begin at 1."""
+    """All resources of a plant, the list of evaluations, and that of each task.
 
-    def __init__(self, plant, most_numbers=MOST_U32):
-        self.plant, self.most_numbers = plant, most_numbers
-        self.nodes = [Node(resource, len(plant.resources)) for resource in plant.resources]
+    Incarnations begin at 1, and retained variables at their initial values, unless others are given.
+    """
+
+    def __init__(self, plant, most_numbers=MOST_U32, first=None, opening=None):
+        self.plant, self.most_numbers, self.opening = plant, most_numbers, opening or {}
+        first = first or [1] * len(plant.resources)
+        self.nodes = [Node(resource, first) for resource in plant.resources]
         self.log = []
         self.lists = {task: [] for task in plant.tasks()}
 
@@ -97,7 +101,7 @@ class Run:
         if number > self.most_numbers:
             raise Refused("NumbersSpent")
         takes = [(producer, self.latest(node, producer)) for producer in task.producers()]
-        state = before.state if before else {it: State(it.type.declarations) for it in task.programs}
+        state = before.state if before else self.warm_state(task)
         fill(task, state, dict(takes), inputs)
         for program in task.programs:
             program.type.ladder.scan(state[program], elapsed)
@@ -108,6 +112,20 @@ class Run:
         node.own[task] = made
         node.delivered.add(made.message)
         return made
+
+    def warm_state(self, task):
+        """The initial state, with the retained variables as they are kept."""
+        state = {it: State(it.type.declarations) for it in task.programs}
+        for (program, it), value in zip(task.retained(), self.kept(task)):
+            state[program].set(it.name, value)
+        return state
+
+    def kept(self, task):
+        """The retained variables as the task's last evaluation left them, in whatever incarnation; without one the opening ones."""
+        if self.lists[task]:
+            state = self.lists[task][-1].state
+            return [state[program].get(it.name) for program, it in task.retained()]
+        return self.opening.get(task) or [words.first_value(it.kind) for _, it in task.retained()]
 
     def latest(self, node, producer):
         """The last in a producer's list of evaluations among those that have reached a node; None where none has."""
@@ -140,7 +158,7 @@ class Run:
         of = find(self.plant.resources, event.of)
         if not of:
             raise Refused("NoSuchResource")
-        if not 1 <= event.incarnation <= self.nodes[of.place].incarnation:
+        if not node.first[of.place] <= event.incarnation <= self.nodes[of.place].incarnation:
             raise Refused("NeverHeld")
         newer = event.incarnation > node.heard[of.place]
         if newer:
@@ -175,11 +193,9 @@ def lines_of_run(run, events):
             yield f"REFUSED {number} {cause}"
 
 
-def paced_run(plant, due, inputs):
+def do_in_turns(run, due, inputs):
     """The evaluations of a plan in its order, each delivered to every other resource right behind it."""
-    run = Run(plant)
     for _, task in due:
         made = run.make(run.nodes[task.resource.place], task, task.interval, inputs)
         for node in run.nodes:
             run.deliver(node, made.message)
-    return run.log

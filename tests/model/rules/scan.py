@@ -2,7 +2,9 @@
 from . import words
 from .binding import kind_of_pin
 from .blocks import Instance, inputs_of
-from .drawing import right_of
+from .drawing import Mark, right_of
+
+LIVE = {Mark.WIRE: "=", Mark.JOIN: "#", Mark.UPRIGHT: "#"}
 
 
 class Ladder:
@@ -12,15 +14,23 @@ class Ladder:
         self.drawing, self.networks, self.declarations = drawing, networks, declarations
 
     def scan(self, state, elapsed):
+        state.live = set()
         for network in self.networks:
             NetworkScan(self.drawing, network, state, elapsed).run()
 
+    def live_signs(self, state):
+        """By its place the sign of each wire, join and upright that had power in the last scan."""
+        return {it: LIVE[self.drawing.mark(it)] for it in state.live if self.drawing.mark(it) in LIVE}
+
 
 class State:
-    """The values of variables, the memories of edge contacts and coils by their places, the blocks; names are folded."""
+    """The values of variables, the memories of edge contacts and coils by their places, the blocks; names are folded.
+
+    Of the last scan the places that had power are kept.
+    """
 
     def __init__(self, declarations):
-        self.values, self.blocks, self.memories = {}, {}, {}
+        self.values, self.blocks, self.memories, self.live = {}, {}, {}, set()
         for it in declarations:
             if it.role == "Instance":
                 self.blocks[words.fold(it.name)] = Instance(it.kind)
@@ -58,6 +68,7 @@ class NetworkScan:
                     inputs[box][words.fold(pin.name)] = pin.place in power
             live.update(self.step(box, inputs[box]))
         power = self.power(live)
+        self.state.live |= power
         for coil in sorted(self.network.symbols, key=lambda it: (it.column, it.row)):
             if coil.is_coil:
                 self.store(coil, coil.place in power)

@@ -12,11 +12,11 @@ use Rattle.evaluation.specs.declared.name.Name.{Name}
 use Rattle.evaluation.specs.Heard.{greatest, is_addressed}
 use Rattle.evaluation.specs.Names.{precedes}
 use Rattle.evaluation.specs.Meaning.{Evaluated, evaluated}
-use Rattle.evaluation.specs.Last.{same_task, last_number, from_of, take_of, takes_of, state_of}
+use Rattle.evaluation.specs.Last.{same_task, last_number, from_of, take_of, takes_of}
 use Rattle.exchange.specs.declared.event.Event.{Event}
 use Rattle.exchange.specs.declared.event.Event.TheVariants.{Evaluate, Deliver, Restart, Hear}
 use Rattle.exchange.specs.History.{Setting, is_deliver_of, heard_by, incarnation_of, number_of}
-use Rattle.exchange.specs.Run.{IsLog, IsNextEvaluation, next_name, latest, has_reached}
+use Rattle.exchange.specs.Run.{IsLog, IsNextEvaluation, next_name, latest, state_before, has_reached}
 use Rattle.lists.specs.Among.{Among}
 use Rattle.evaluation_book.specs.Fits.{last_in, told_of, present_in, name_from, IsKnown, IsUntorn, IsNotBack, IsOwnLatest, IsAddressed, IsMeantFor, NoneBelow, Fits, AllFit}
 use Rattle.exchange.proofs.Histories.Tasks.{same_task-true}
@@ -145,7 +145,7 @@ pub next-fits : (s : Setting) (h : List Event) (log : List Evaluated) (k : ℕ) 
 next-fits s h log k t dt inputs x all is next =
     let n : ℕ = t.resource in
     let last : TaskRef → Option Evaluated = λ p. latest s t.resource h p log in
-    let fits : Fits s.first log (evaluated k (next_name s t h) (heard_by s t.resource h) dt inputs (takes_of last next.code) (state_of next.code (last t)) next.code x.outputs x.after) = record {
+    let fits : Fits s.first log (evaluated k (next_name s t h) (heard_by s t.resource h) dt inputs (takes_of last next.code) (state_before s next.code t log (last t)) next.code x.outputs x.after) = record {
       numbered = record {
         exists = next-exists s h log k t dt inputs x next;
         not_below_present = present-low s n h log all is;

@@ -10,11 +10,10 @@ use Rattle.plant.specs.PlantValue.{code_at}
 use Rattle.task_codes.specs.CodeValue.{CodeValue}
 use Rattle.evaluation.specs.declared.field_input.FieldInput.{FieldInput}
 use Rattle.evaluation.specs.Meaning.{Evaluated}
-use Rattle.evaluation.specs.Last.{state_of}
 use Rattle.exchange.specs.declared.event.Event.{Event}
 use Rattle.exchange.specs.declared.event.Event.TheVariants.{Evaluate, Deliver, Restart, Hear}
 use Rattle.exchange.specs.History.{Setting, heard_by, made_count, is_lawful, after_events, history_of}
-use Rattle.exchange.specs.Run.{IsLog, IsRun, IsNextEvaluation, latest, message}
+use Rattle.exchange.specs.Run.{IsLog, IsRun, IsNextEvaluation, latest, state_before, message}
 use Rattle.exchange.specs.Consistent.{TakesOnly}
 use Rattle.exchange.specs.BookLaws.{BooksAreConsistent}
 use Rattle.evaluation_book.specs.Laws.{TakesNeverFall}
@@ -202,12 +201,13 @@ made-of s events log k x m =
       seen : (p : TaskRef) → latest s x.name.task.resource m.h p m.older ≡ latest s x.name.task.resource (history_of s found.before) p (reverse (take (made_count (history_of s found.before)) log))
       seen p = ap (λ h. latest s x.name.task.resource h p m.older) (sym found.history_is) ∙ ap (λ l. latest s x.name.task.resource (history_of s found.before) p l) (sym older)
 
-      stored : x.before ≡ state_of m.next.code (latest s m.task.resource m.h m.task m.older)
-          → x.before ≡ state_of x.code (latest s x.name.task.resource (history_of s found.before) x.name.task (reverse (take (made_count (history_of s found.before)) log)))
+      stored : x.before ≡ state_before s m.next.code m.task m.older (latest s m.task.resource m.h m.task m.older)
+          → x.before ≡ state_before s x.code x.name.task (reverse (take (made_count (history_of s found.before)) log)) (latest s x.name.task.resource (history_of s found.before) x.name.task (reverse (take (made_count (history_of s found.before)) log)))
       stored e =
-          subst (λ t. x.before ≡ state_of m.next.code (latest s t.resource m.h t m.older)) (sym own) e
-          ∙ ap (λ c. state_of c (latest s x.name.task.resource m.h x.name.task m.older)) (sym code)
-          ∙ ap (state_of x.code) (seen x.name.task)
+          subst (λ t. x.before ≡ state_before s m.next.code t m.older (latest s t.resource m.h t m.older)) (sym own) e
+          ∙ ap (λ c. state_before s c x.name.task m.older (latest s x.name.task.resource m.h x.name.task m.older)) (sym code)
+          ∙ ap (state_before s x.code x.name.task m.older) (seen x.name.task)
+          ∙ ap (λ l. state_before s x.code x.name.task l (latest s x.name.task.resource (history_of s found.before) x.name.task (reverse (take (made_count (history_of s found.before)) log)))) (sym older)
 
 pub consistency-theorem : TakesNeverFall → ConsistencyTheorem
 consistency-theorem takes_never_fall s events log is =
@@ -220,5 +220,5 @@ consistency-theorem takes_never_fall s events log is =
 
 pub books-consistent : TakesNeverFall → BooksAreConsistent
 books-consistent takes_never_fall s entries events sound firsts could again =
-    let is : IsRun s events entries = again s.plant s.max_number sound firsts could in
+    let is : IsRun s events entries = again s.plant s.opening s.max_number sound firsts could in
     (consistency-theorem takes_never_fall s events entries is, run-consistent takes_never_fall s events entries is)

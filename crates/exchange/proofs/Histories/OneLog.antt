@@ -5,18 +5,18 @@ use Rattle.due_list.specs.declared.task_ref.TaskRef.{TaskRef}
 use Rattle.evaluation.specs.declared.field_input.FieldInput.{FieldInput}
 use Rattle.evaluation.specs.Meaning.{Evaluated, IsAsked}
 use Rattle.evaluation.specs.Laws.{OneEvaluation}
-use Rattle.evaluation.specs.Last.{state_of, takes_of}
+use Rattle.evaluation.specs.Last.{takes_of}
 use Rattle.exchange.specs.declared.event.Event.{Event}
 use Rattle.exchange.specs.declared.event.Event.TheVariants.{Evaluate, Deliver, Restart, Hear}
 use Rattle.exchange.specs.History.{Setting, heard_by}
-use Rattle.exchange.specs.Run.{IsLog, IsNextEvaluation, next_name, latest}
+use Rattle.exchange.specs.Run.{IsLog, IsNextEvaluation, next_name, latest, state_before}
 
 -- the next evaluation is one
 pub one_next : OneEvaluation → (s : Setting) (h : List Event) (log : List Evaluated) (k : ℕ) (t : TaskRef) (dt : ℕ) (inputs : List FieldInput) (x y : Evaluated)
     → IsNextEvaluation s h log k t dt inputs x → IsNextEvaluation s h log k t dt inputs y → x ≡ y
 one_next one_evaluation s h log k t dt inputs x y a b =
-    one_evaluation k (next_name s t h) (heard_by s t.resource h) dt inputs (takes_of (λ p. latest s t.resource h p log) a.code) (state_of a.code (latest s t.resource h t log)) a.code x y a.asked
-    (subst (λ c. IsAsked k (next_name s t h) (heard_by s t.resource h) dt inputs (takes_of (λ p. latest s t.resource h p log) c) (state_of c (latest s t.resource h t log)) c y)
+    one_evaluation k (next_name s t h) (heard_by s t.resource h) dt inputs (takes_of (λ p. latest s t.resource h p log) a.code) (state_before s a.code t log (latest s t.resource h t log)) a.code x y a.asked
+    (subst (λ c. IsAsked k (next_name s t h) (heard_by s t.resource h) dt inputs (takes_of (λ p. latest s t.resource h p log) c) (state_before s c t log (latest s t.resource h t log)) c y)
     (same_Some b.code a.code (sym b.found ∙ a.found)) b.asked)
 
 pub one_log : OneEvaluation → (s : Setting) (h : List Event) (log log2 : List Evaluated) → IsLog s h log → IsLog s h log2 → log ≡ log2

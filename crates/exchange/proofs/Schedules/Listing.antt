@@ -1,5 +1,5 @@
 -- The events of an entry, as they are listed one after the other.
-use Rattle.std.proofs.Common.{◌≡◌, zero, suc, Some, reverse, ℕ, ◌+◌, ◌-◌, Bool, true, false, cond, List, [], ◌∷◌, ◌++◌, replicate, take, ap, sym, ◌∙◌, arith, eqb, ltb}
+use Rattle.std.proofs.Common.{◌≡◌, zero, suc, Some, reverse, ℕ, ◌+◌, true, false, cond, List, [], ◌∷◌, ◌++◌, take, ap, sym, ◌∙◌, arith, eqb}
 use Rattle.std.specs.Prelude.{slice_get}
 use Rattle.std.specs.List.{flat_map, enumerate_from}
 use Rattle.std.proofs.lemmas.List.{append-nil, append_assoc, take_more, reverse-append}

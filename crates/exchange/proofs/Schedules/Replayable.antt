@@ -7,11 +7,10 @@ use Rattle.due_list.specs.declared.task_ref.TaskRef.{TaskRef}
 use Rattle.plant.specs.PlantValue.{code_at}
 use Rattle.evaluation.specs.declared.field_input.FieldInput.{FieldInput}
 use Rattle.evaluation.specs.Meaning.{Evaluated}
-use Rattle.evaluation.specs.Last.{state_of}
 use Rattle.exchange.specs.declared.event.Event.{Event}
 use Rattle.exchange.specs.declared.event.Event.TheVariants.{Evaluate, Deliver, Restart, Hear}
 use Rattle.exchange.specs.History.{Setting, incarnation_of, number_of, heard_by, is_lawful, history_of}
-use Rattle.exchange.specs.Run.{IsLog, IsNextEvaluation, next_name}
+use Rattle.exchange.specs.Run.{IsLog, IsNextEvaluation, next_name, state_before}
 use Rattle.evaluation_book.specs.Fits.{last_in}
 use Rattle.exchange.specs.Replays.{CouldBeMade, AllCouldBeMade}
 use Rattle.exchange.specs.BookLaws.{AreIncarnations, RunsCouldBeMade, RunsReplay}
@@ -56,7 +55,7 @@ next-could_be_made s h log k t dt inputs x low all lawful is next =
       incarnation_left = subst (λ n. n.incarnation ≤ 4294967295) (sym at) (incarnation-fits s low t.resource h all);
       heard_left = λ m. subst (λ l. slice_index l m ≤ 4294967295) (sym (heard-is s h log k t dt inputs x next)) (heard-fits s low t.resource h all m);
       same_code = ap (λ y. y.code) next.asked.is;
-      before = ap (λ y. y.before) next.asked.is ∙ ap (state_of next.code) (own-latest s t h log all is ∙ ap (λ n. last_in log n.task n.incarnation) (sym at));
+      before = ap (λ y. y.before) next.asked.is ∙ ap (state_before s next.code t log) (own-latest s t h log all is) ∙ ap (λ n. state_before s next.code n.task log (last_in log n.task n.incarnation)) (sym at);
       meant = next.asked.meant;
       whole = next.asked.whole;
     } where
@@ -78,4 +77,4 @@ could_be_made s events log sound firsts low is = log-could_be_made s (history_of
 
 -- the entries of a run could have been made, so events that make them again do so
 pub run_again : RunsReplay
-run_again s events again log sound firsts low is replays = replays s.plant s.max_number sound firsts (could_be_made s events log sound firsts low is)
+run_again s events again log sound firsts low is replays = replays s.plant s.opening s.max_number sound firsts (could_be_made s events log sound firsts low is)

@@ -16,11 +16,11 @@ use Rattle.evaluation.specs.declared.name.Name.{Name}
 use Rattle.evaluation.specs.declared.take.Take.{Take}
 use Rattle.evaluation.specs.Takes.{initial_image, AreTakesOf}
 use Rattle.evaluation.specs.Meaning.{Evaluated, evaluated}
-use Rattle.evaluation.specs.Last.{same_task, from_of, last_number, state_of, take_of, takes_of}
+use Rattle.evaluation.specs.Last.{same_task, from_of, last_number, take_of, takes_of}
 use Rattle.exchange.specs.declared.event.Event.{Event}
 use Rattle.exchange.specs.declared.event.Event.TheVariants.{Evaluate}
 use Rattle.exchange.specs.History.{Setting, is_lawful, after_events, history_of, incarnation_of, number_of, hearings_of, heard_by}
-use Rattle.exchange.specs.Run.{IsNextEvaluation, next_name, latest, has_reached}
+use Rattle.exchange.specs.Run.{IsNextEvaluation, next_name, latest, state_before, has_reached}
 use Rattle.std.specs.List.{AllByRecursion}
 use Rattle.lists.specs.Among.{Among}
 use Rattle.evaluation_book.specs.Fits.{last_in, told_of, present_in, name_from, is_below, IsUntorn, IsNotBack, IsOwnLatest, Fits, AllFit}
@@ -145,11 +145,11 @@ module _ (s : Setting) (g : List Event) (log : List Evaluated) (x : Evaluated) (
         found = r.found;
         asked = record {
           is =
-              entry-same x (next_name s x.name.task g) (heard_by s x.name.task.resource g) (takes_of (λ p. latest s x.name.task.resource g p log) r.code) (state_of r.code (latest s x.name.task.resource g x.name.task log)) r.code
+              entry-same x (next_name s x.name.task g) (heard_by s x.name.task.resource g) (takes_of (λ p. latest s x.name.task.resource g p log) r.code) (state_before s r.code x.name.task log (latest s x.name.task.resource g x.name.task log)) r.code
               (name-same x.name (incarnation_of s x.name.task.resource g) (number_of x.name.task g + 1) (sym at) number-is) told
               (takes-same s x.name.task.resource g log r.code.producers r.code.expected x.takes (suited r)
               (λ t among. (Each-at (IsUntorn log) x.takes t fits.untorn among, take-latest s g log x held at t among fits (single r.code.producers r.code.expected x.takes (sound.distinct x.name.task r.code r.found) (suited r)) up)))
-              (r.before ∙ ap (state_of r.code) (sym last-is)) r.same_code;
+              (r.before ∙ ap (state_before s r.code x.name.task log) (sym last-is)) r.same_code;
           meant = r.meant;
           whole = r.whole;
         };
@@ -312,5 +312,5 @@ replay s (x ∷ older) sound firsts fit all =
 
 -- the schedule of entries that fit makes them again
 pub replays : (first : List ℕ) (entries : List Evaluated) → AllFit first (reverse entries) → Replays first entries (schedule_of first (reverse entries))
-replays first entries fit = λ plant max_number sound firsts all.
-    (replay (record { plant = plant; first = first; max_number = max_number }) (reverse entries) sound firsts fit all).held.logged
+replays first entries fit = λ plant opening max_number sound firsts all.
+    (replay (record { plant = plant; first = first; opening = opening; max_number = max_number }) (reverse entries) sound firsts fit all).held.logged

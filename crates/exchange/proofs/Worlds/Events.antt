@@ -9,18 +9,18 @@ use Rattle.std.proofs.lemmas.List.{length-set, reverse-append}
 use Rattle.std.proofs.lemmas.Option.{slice_get_within, slice_get_read}
 use Rattle.power_flow.specs.StateValue.{StateValue}
 use Rattle.due_list.specs.declared.task_ref.TaskRef.{TaskRef}
-use Rattle.plant.specs.PlantValue.{PlantValue, code_at}
+use Rattle.plant.specs.PlantValue.{PlantValue, code_at, codes_at}
 use Rattle.task_codes.specs.CodeValue.{CodeValue}
 use Rattle.evaluation.specs.declared.field_input.FieldInput.{FieldInput}
 use Rattle.evaluation.specs.declared.name.Name.{Name}
 use Rattle.evaluation.specs.Meaning.{Evaluated, IsAsked}
-use Rattle.evaluation.specs.Last.{state_of, takes_of, last_number}
+use Rattle.evaluation.specs.Last.{left_by, state_from, takes_of, last_number}
 use Rattle.exchange_core.specs.Held.{known, with_known}
-use Rattle.exchange_core.specs.CoreValue.{CoreValue, is_news, IsNext, IsNextOf, IsDue, next_name_of, own_task, fresh_core}
+use Rattle.exchange_core.specs.CoreValue.{CoreValue, is_news, IsNext, IsNextOf, IsDue, next_name_of, own_task, kept_at, IsRestartOf}
 use Rattle.exchange.specs.declared.event.Event.{Event}
 use Rattle.exchange.specs.declared.event.Event.TheVariants.{Evaluate, Restart, Hear}
-use Rattle.exchange.specs.History.{Setting, heard_by, hearings_of, is_lawful, history_of, incarnation_of, number_of}
-use Rattle.exchange.specs.Run.{IsLog, IsNextEvaluation, next_name, latest}
+use Rattle.exchange.specs.History.{Setting, opening_of, heard_by, hearings_of, is_lawful, history_of, incarnation_of, number_of}
+use Rattle.exchange.specs.Run.{IsLog, IsNextEvaluation, next_name, latest, last_of, state_before}
 use Rattle.exchange.specs.World.{WorldValue, world_of, node_takes}
 use Rattle.exchange.specs.Step.{IsDone, IsEvaluatedNow}
 use Rattle.exchange.specs.Steps.Nodes.{IsNode, IsWorld}
@@ -28,6 +28,7 @@ use Rattle.exchange.proofs.Histories.Names.{AllLawful, AllLawful-after}
 use Rattle.exchange.proofs.Histories.Heard.{heard_of, heard-get, get-index}
 use Rattle.exchange.proofs.Histories.Steps.{incarnation-restart, number-latest}
 use Rattle.exchange.proofs.Worlds.Takes.{node-takes}
+use Rattle.exchange.proofs.Worlds.Leaving.{state-left}
 use Rattle.exchange.proofs.Worlds.Moves.{history-one_more, set-found, node-restart, node-other_restart, node-evaluate, node-other_evaluate}
 
 same_name : (a b : TaskRef) (i j m n : ℕ) → a ≡ b → i ≡ j → m ≡ n → ◌≡◌ {A = Name} (record { task = a; incarnation = i; number = m }) (record { task = b; incarnation = j; number = n })
@@ -53,14 +54,18 @@ module _ (s : Setting) (h : List Event) (log : List Evaluated) (core : CoreValue
   next-own x next =
       let code : CodeValue = next.code in
       let found : code_at s.plant t ≡ Some code = found-own (Some code) next.found in
-      let before : List StateValue = state_of code (known core.table (own_task core t.task)) in
+      let before : List StateValue = state_from code (kept_at core t.task) (known core.table (own_task core t.task)) in
       let named : next_name_of core t.task ≡ next_name s t h = same_name _ _ _ _ _ _ own node.incarnation (ap (λ n. n + 1) number-own) in
       let takes : takes_of (known core.table) code ≡ takes_of (λ p. latest s t.resource h p log) code = node-takes s h log t core code node found in
+      let within : t.task < length core.kept = omega (arith, node.long, slice_get_within (codes_at s.plant t.resource) t.task code found) in
+      let stored : before ≡ state_before s code t log (latest s t.resource h t log) =
+      state-left code (kept_at core t.task) (left_by (opening_of s t) (last_of t log)) (known core.table (own_task core t.task)) (ap (λ r. left_by (kept_at core t.task) (known core.table r)) own ∙ node.left t refl within)
+      ∙ ap (state_from code (left_by (opening_of s t) (last_of t log))) known-own in
       record {
         code = code;
         found = found;
         asked =
-            subst (λ o. IsAsked k (next_name s t h) (heard_by s t.resource h) dt inputs (takes_of (λ p. latest s t.resource h p log) code) (state_of code o) code x) known-own
+            subst (λ b. IsAsked k (next_name s t h) (heard_by s t.resource h) dt inputs (takes_of (λ p. latest s t.resource h p log) code) b code x) stored
             (subst (λ ts. IsAsked k (next_name s t h) (heard_by s t.resource h) dt inputs ts before code x) takes
             (subst (λ l. IsAsked k (next_name s t h) l dt inputs (takes_of (known core.table) code) before code x) node.heard
             (subst (λ n. IsAsked k n core.heard dt inputs (takes_of (known core.table) code) before code x) named next.asked)));
@@ -71,10 +76,6 @@ module _ (s : Setting) (h : List Event) (log : List Evaluated) (core : CoreValue
       let found : code_at s.plant t ≡ Some next.code = found-own (Some next.code) next.found in
       let low : number_of t h < s.max_number = omega (arith, number-own, next.below, node.max_number) in
       rw (found, lt-ltb (number_of t h) s.max_number low)
-
--- the core in its next incarnation, with these first ones
-abbrev pub restarted : Setting → ℕ → List ℕ → ℕ → CoreValue
-restarted s n first i = fresh_core s.plant n first i s.max_number
 
 -- the world's step at an Evaluate
 pub world-evaluate : (s : Setting) (events : List Event) (log : List Evaluated) (cores : List CoreValue) (k : ℕ) (t : TaskRef) (dt : ℕ) (inputs : List FieldInput) (core : CoreValue) (x : Evaluated)
@@ -115,16 +116,16 @@ world-evaluate s events log cores k t dt inputs core x world at next =
       by m c (inr p) = node-other_evaluate s (history_of s events) (reverse log) m c k t dt inputs x all world.logged nexts (world.nodes m c p.1) (ne_eqb t.resource m p.0)
 
 -- the world's step at a Restart
-pub world-restart : (s : Setting) (events : List Event) (log : List Evaluated) (cores : List CoreValue) (n : ℕ) (first : List ℕ) (i : ℕ) (core : CoreValue)
-    → IsWorld s events log cores → slice_get cores n ≡ Some core → is_lawful s (history_of s events) (Restart n) ≡ true → first ≡ slice_set s.first n (core.incarnation + 1) → i ≡ core.incarnation + 1
-    → IsWorld s (events ++ Restart n ∷ []) log (slice_set cores n (fresh_core s.plant n first i s.max_number))
-world-restart s events log cores n first i core world at lawful first_is now =
+pub world-restart : (s : Setting) (events : List Event) (log : List Evaluated) (cores : List CoreValue) (n : ℕ) (core new : CoreValue)
+    → IsWorld s events log cores → slice_get cores n ≡ Some core → is_lawful s (history_of s events) (Restart n) ≡ true → IsRestartOf core new (core.incarnation + 1)
+    → IsWorld s (events ++ Restart n ∷ []) log (slice_set cores n new)
+world-restart s events log cores n core new world at lawful after =
     record {
       planned = world.planned;
       logged = subst (λ g. IsLog s g (reverse log)) (sym more) world.logged;
       firsts = world.firsts;
-      sized = length-set cores n (restarted s n first i) ∙ world.sized;
-      nodes = λ m c found. subst (λ g. IsNode s g (reverse log) m c) (sym more) (by m c (set-found cores n m (restarted s n first i) c (slice_get_within cores n core at) found));
+      sized = length-set cores n new ∙ world.sized;
+      nodes = λ m c found. subst (λ g. IsNode s g (reverse log) m c) (sym more) (by m c (set-found cores n m new c (slice_get_within cores n core at) found));
     } where
       node : IsNode s (history_of s events) (reverse log) n core
       node = world.nodes n core at
@@ -132,11 +133,11 @@ world-restart s events log cores n first i core world at lawful first_is now =
       more : history_of s (events ++ Restart n ∷ []) ≡ Restart n ∷ history_of s events
       more = history-one_more s events (Restart n) lawful
 
-      here : IsNode s (Restart n ∷ history_of s events) (reverse log) n (restarted s n first i)
-      here = node-restart s (history_of s events) (reverse log) n first i (AllLawful-after s [] events tt) world.logged (first_is ∙ ap (λ j. slice_set s.first n (j + 1)) node.incarnation) (now ∙ ap (λ j. j + 1) node.incarnation)
+      here : IsNode s (Restart n ∷ history_of s events) (reverse log) n new
+      here = node-restart s (history_of s events) (reverse log) n core new (AllLawful-after s [] events tt) world.logged node after
 
-      by : (m : ℕ) (c : CoreValue) → ((m ≡ n) × (restarted s n first i ≡ c)) ⊎ ((n ≡ m → ⊥) × (slice_get cores m ≡ Some c)) → IsNode s (Restart n ∷ history_of s events) (reverse log) m c
-      by m c (inl p) = subst (λ d. IsNode s (Restart n ∷ history_of s events) (reverse log) m d) p.1 (subst (λ r. IsNode s (Restart n ∷ history_of s events) (reverse log) r (restarted s n first i)) (sym p.0) here)
+      by : (m : ℕ) (c : CoreValue) → ((m ≡ n) × (new ≡ c)) ⊎ ((n ≡ m → ⊥) × (slice_get cores m ≡ Some c)) → IsNode s (Restart n ∷ history_of s events) (reverse log) m c
+      by m c (inl p) = subst (λ d. IsNode s (Restart n ∷ history_of s events) (reverse log) m d) p.1 (subst (λ r. IsNode s (Restart n ∷ history_of s events) (reverse log) r new) (sym p.0) here)
       by m c (inr p) = node-other_restart s (history_of s events) (reverse log) m n c (world.nodes m c p.1) (ne_eqb n m p.0)
 
 -- the same steps, as the bodies meet them
@@ -194,11 +195,11 @@ module _ (s : Setting) (events : List Event) (log : List Evaluated) (cores : Lis
       let under : incarnation_of s n (history_of s events) < 4294967295 = subst (λ i. i < 4294967295) (was ∙ node.incarnation) low in
       rw (lt-ltb n (length s.plant.resources) there, lt-ltb (incarnation_of s n (history_of s events)) 4294967295 under)
 
-  pub world-restart_at : (n last : ℕ) (first : List ℕ) (i : ℕ) (core : CoreValue) → n < length cores → core ≡ get_or cores n core → last ≡ core.incarnation → last < 4294967295 → first ≡ slice_set s.first n (last + 1) → i ≡ last + 1
-      → IsWorld s (events ++ Restart n ∷ []) log (slice_set cores n (fresh_core s.plant n first i s.max_number))
-  world-restart_at n last first i core inside at was low first_is now =
-      world-restart s events log cores n first i core world (slice_get_read cores (length cores) n core refl inside at) (restart-lawful_at n last core inside at was low)
-      (first_is ∙ ap (λ j. slice_set s.first n (j + 1)) was) (now ∙ ap (λ j. j + 1) was)
+  pub world-restart_at : (n last : ℕ) (core new : CoreValue) → n < length cores → core ≡ get_or cores n core → last ≡ core.incarnation → last < 4294967295 → IsRestartOf core new (last + 1)
+      → IsWorld s (events ++ Restart n ∷ []) log (slice_set cores n new)
+  world-restart_at n last core new inside at was low after =
+      world-restart s events log cores n core new world (slice_get_read cores (length cores) n core refl inside at) (restart-lawful_at n last core inside at was low)
+      (subst (λ i. IsRestartOf core new (i + 1)) was after)
 
   module _ (n o i low had : ℕ) (core : CoreValue) (inside : n < length cores) (there : o < length cores) (at : core ≡ get_or cores o core) (was : had ≡ core.incarnation) where
     node_of : IsNode s (history_of s events) (reverse log) o core

@@ -3,7 +3,7 @@ use Rattle.std.proofs.Common.{◌≡◌, ◌≢◌, ◌⊎◌, inl, inr, ℕ, ze
 use Rattle.std.specs.Prelude.{map, not, slice_get, slice_set, slice_index, reverse}
 use Rattle.std.proofs.lemmas.Bool.{eq-eqb, ne_eqb, eqb-true, eqb-false, false≢true, lt-ltb, le-leb, ltb-true, ltb-false}
 use Rattle.std.proofs.lemmas.Bool.Decides.{nat_tests}
-use Rattle.std.proofs.lemmas.List.{length-set, set-set, set-get_or, reverse-append, reverse-reverse, length-reverse}
+use Rattle.std.proofs.lemmas.List.{length-set, set-get_or, reverse-append, reverse-reverse, length-reverse}
 use Rattle.std.proofs.lemmas.Option.{none-some, same_Some, slice_get_within, slice_get_read}
 use Rattle.lists.proofs.Tables.{cell_same, cell_other, cell_filled, cell_place, row_lengths_kept, row_lengths_filled}
 use Rattle.declared_names.specs.Kinds.{kind_of}
@@ -15,14 +15,14 @@ use Rattle.evaluation.specs.Meaning.{Evaluated}
 use Rattle.exchange_core.specs.declared.accepted.Accepted.{Accepted}
 use Rattle.exchange_core.specs.declared.accepted.Accepted.TheVariants.{Taken, Old, Unused, Stray}
 use Rattle.evaluation.specs.Heard.{is_addressed}
-use Rattle.evaluation.specs.Last.{same_task}
+use Rattle.evaluation.specs.Last.{same_task, left_by}
 use Rattle.exchange_core.specs.Held.{known, with_known, empty_for, IsShaped}
 use Rattle.exchange_core.specs.Steps.Knowing.{has_place}
-use Rattle.exchange_core.specs.CoreValue.{CoreValue, IsUsable, IsAccepted, is_greater, is_news, HasHeard, fresh_core}
+use Rattle.exchange_core.specs.CoreValue.{CoreValue, IsUsable, IsAccepted, is_greater, is_news, HasHeard, own_task, kept_at, IsRestartOf}
 use Rattle.exchange.specs.declared.event.Event.{Event}
 use Rattle.exchange.specs.declared.event.Event.TheVariants.{Evaluate, Deliver, Restart, Hear}
-use Rattle.exchange.specs.History.{Setting, made_count, is_lawful, incarnation_of, heard_by, history_of, after_events}
-use Rattle.exchange.specs.Run.{IsLog, IsNextEvaluation, next_name, latest, message}
+use Rattle.exchange.specs.History.{Setting, opening_of, made_count, is_lawful, heard_by, history_of, after_events}
+use Rattle.exchange.specs.Run.{IsLog, IsNextEvaluation, next_name, latest, last_of, message}
 use Rattle.exchange.specs.World.{node_takes}
 use Rattle.exchange.specs.Laws.{greater, held_with}
 use Rattle.exchange.specs.Steps.Nodes.{kept_of, IsNode, IsWorld}
@@ -31,6 +31,7 @@ use Rattle.exchange.proofs.Histories.Names.{AllLawful, length-log, log-rises, na
 use Rattle.exchange.proofs.Histories.Heard.{with_heard, heard-restart, heard-other_restart, heard-hear, heard-own_hear, heard-other_hear}
 use Rattle.exchange.proofs.Histories.Steps.{is_for, latest-deliver, latest-own_deliver, latest-other_deliver, latest-restart, latest-other_restart, latest-evaluate, latest-other_evaluate, incarnation-restart}
 use Rattle.exchange.proofs.Worlds.Takes.{usable-takes, takes-usable}
+use Rattle.exchange.proofs.Worlds.Leaving.{last-same, last-other}
 
 -- one more lawful event is the newest of the history
 pub after-one_more : (s : Setting) (h es : List Event) (e : Event) → is_lawful s (after_events s h es) e ≡ true → after_events s h (es ++ e ∷ []) ≡ e ∷ after_events s h es
@@ -152,43 +153,59 @@ module _ (s : Setting) (h : List Event) (log : List Evaluated) (n k : ℕ) (core
         ∙ node.keeps p
         ∙ sym (same-kept s h log n k p x is came (λ away wanted same counts. absurd (false≢true (sym other ∙ same))))
 
+  -- a delivery changes nothing of an own task
+  kept-own : (t : TaskRef) → t.resource ≡ n → kept_of s n (Deliver k n ∷ h) log t ≡ kept_of s n h log t
+  kept-own t own = ap (λ o. cond (eqb t.resource n || node_takes s.plant n t) o None) (latest-own_deliver s n k n h t log (eq-eqb t.resource n own))
+
   -- a core to which a message is delivered
   pub node-deliver : (new : CoreValue) (a : Accepted) → IsAccepted core new x a → IsNode s (Deliver k n ∷ h) log n new
   node-deliver new Taken done = subst (IsNode s (Deliver k n ∷ h) log n) (sym done.3) (record {
     plant = node.plant;
     resource = node.resource;
+    firsts = node.firsts;
     incarnation = node.incarnation;
     heard = node.heard;
     max_number = node.max_number;
     shaped = row_lengths_kept core.table x.name.task.resource x.name.task.task (Some x) ∙ node.shaped;
     keeps = keeps-taken done.0 done.1 done.2;
+    long = node.long;
+    left = λ t own lt. ap (left_by (kept_at core t.task)) (keeps-taken done.0 done.1 done.2 t ∙ kept-own t own ∙ sym (node.keeps t)) ∙ node.left t own lt;
   })
   node-deliver new Old done = subst (IsNode s (Deliver k n ∷ h) log n) (sym done.3) (record {
     plant = node.plant;
     resource = node.resource;
+    firsts = node.firsts;
     incarnation = node.incarnation;
     heard = node.heard;
     max_number = node.max_number;
     shaped = node.shaped;
     keeps = keeps-old done.2;
+    long = node.long;
+    left = node.left;
   })
   node-deliver new Stray done = subst (IsNode s (Deliver k n ∷ h) log n) (sym done.2) (record {
     plant = node.plant;
     resource = node.resource;
+    firsts = node.firsts;
     incarnation = node.incarnation;
     heard = node.heard;
     max_number = node.max_number;
     shaped = node.shaped;
     keeps = keeps-stray done.1;
+    long = node.long;
+    left = node.left;
   })
   node-deliver new Unused done = subst (IsNode s (Deliver k n ∷ h) log n) (sym done.1) (record {
     plant = node.plant;
     resource = node.resource;
+    firsts = node.firsts;
     incarnation = node.incarnation;
     heard = node.heard;
     max_number = node.max_number;
     shaped = node.shaped;
     keeps = keeps-unused done.0;
+    long = node.long;
+    left = node.left;
   })
 
 -- a core to which none is
@@ -197,11 +214,14 @@ node-other_deliver s h log n m k core node other =
     record {
       plant = node.plant;
       resource = node.resource;
+      firsts = node.firsts;
       incarnation = node.incarnation;
       heard = node.heard;
       max_number = node.max_number;
       shaped = node.shaped;
       keeps = λ p. node.keeps p ∙ ap (λ o. cond (eqb p.resource n || node_takes s.plant n p) o None) (sym (latest-other_deliver s n k m h p log other));
+      long = node.long;
+      left = node.left;
     }
 
 pub set-found : {X : Type 0} (xs : List X) (n m : ℕ) (v c : X) → n < length xs → slice_get (slice_set xs n v) m ≡ Some c → ((m ≡ n) × (v ≡ c)) ⊎ ((n ≡ m → ⊥) × (slice_get xs m ≡ Some c))
@@ -298,21 +318,33 @@ pub fresh_known : (plant : PlantValue) (p : TaskRef) → known (empty_for plant)
 fresh_known plant p = cell_filled codes_long none_known plant.resources p.resource p.task
 
 -- a core that restarts
-pub node-restart : (s : Setting) (h : List Event) (log : List Evaluated) (n : ℕ) (first : List ℕ) (i : ℕ) → AllLawful s h → IsLog s h log → first ≡ slice_set s.first n (incarnation_of s n h + 1) → i ≡ incarnation_of s n h + 1
-    → IsNode s (Restart n ∷ h) log n (fresh_core s.plant n first i s.max_number)
-node-restart s h log n first i all is first_is now =
-    record {
-      plant = refl;
-      resource = refl;
-      max_number = refl;
-      incarnation = now ∙ sym (incarnation-restart s n h);
-      heard = ap (λ f. slice_set f n i) first_is ∙ ap (slice_set (slice_set s.first n (incarnation_of s n h + 1)) n) now ∙ set-set s.first n (incarnation_of s n h + 1) (incarnation_of s n h + 1) ∙ sym (heard-restart s n h);
-      shaped = fresh_shape s.plant;
-      keeps = λ p. fresh_known s.plant p ∙ sym (ap (λ o. cond (eqb p.resource n || node_takes s.plant n p) o None) (latest-restart s n h p log all is) ∙ cond-same (eqb p.resource n || node_takes s.plant n p));
-    } where
-      cond-same : (b : Bool) → ◌≡◌ {A = Option Evaluated} (cond b None None) None
-      cond-same true = refl
-      cond-same false = refl
+pub node-restart : (s : Setting) (h : List Event) (log : List Evaluated) (n : ℕ) (core new : CoreValue) → AllLawful s h → IsLog s h log → IsNode s h log n core → IsRestartOf core new (core.incarnation + 1)
+    → IsNode s (Restart n ∷ h) log n new
+node-restart s h log n core new all is node after = subst (IsNode s (Restart n ∷ h) log n) (sym after.is) (record {
+  plant = node.plant;
+  resource = node.resource;
+  firsts = node.firsts;
+  max_number = node.max_number;
+  incarnation = ap (λ i. i + 1) node.incarnation ∙ sym (incarnation-restart s n h);
+  heard =
+      ap (λ l. slice_set l core.resource (core.incarnation + 1)) node.firsts
+      ∙ ap (λ r. slice_set s.first r (core.incarnation + 1)) node.resource
+      ∙ ap (λ i. slice_set s.first n (i + 1)) node.incarnation
+      ∙ sym (heard-restart s n h);
+  shaped = fresh_shape core.plant;
+  keeps = λ p. fresh_known core.plant p ∙ sym (ap (λ o. cond (eqb p.resource n || node_takes s.plant n p) o None) (latest-restart s n h p log all is) ∙ cond-same (eqb p.resource n || node_takes s.plant n p));
+  long = after.long ∙ node.long;
+  left = λ t own lt.
+      let within : t.task < length core.kept = omega (arith, after.long) in
+      let it : own_task core t.task ≡ t = rw (node.resource, ← own) refl in
+      ap (left_by (kept_at new t.task)) (fresh_known core.plant t)
+      ∙ after.kept t.task within
+      ∙ ap (λ r. left_by (kept_at core t.task) (known core.table r)) it
+      ∙ node.left t own within;
+}) where
+  cond-same : (b : Bool) → ◌≡◌ {A = Option Evaluated} (cond b None None) None
+  cond-same true = refl
+  cond-same false = refl
 
 -- what a core has heard after a hearing is what its resource has heard
 heard-now : (s : Setting) (h : List Event) (n o i : ℕ) (core : CoreValue) → core.resource ≡ n → core.heard ≡ heard_by s n h → o < length core.plant.resources
@@ -343,20 +375,26 @@ node-hear s h log n o i core new answer there node done = subst (IsNode s (Hear 
   by true e = record {
     plant = node.plant;
     resource = node.resource;
+    firsts = node.firsts;
     max_number = node.max_number;
     incarnation = node.incarnation;
     heard = heard-now s h n o i core node.resource node.heard inside true e;
     shaped = node.shaped;
     keeps = node.keeps;
+    long = node.long;
+    left = node.left;
   }
   by false e = record {
     plant = node.plant;
     resource = node.resource;
+    firsts = node.firsts;
     max_number = node.max_number;
     incarnation = node.incarnation;
     heard = heard-now s h n o i core node.resource node.heard inside false e;
     shaped = node.shaped;
     keeps = node.keeps;
+    long = node.long;
+    left = node.left;
   }
 
 -- a core, when another one hears
@@ -365,11 +403,14 @@ node-other_hear s h log n m o i core node other =
     record {
       plant = node.plant;
       resource = node.resource;
+      firsts = node.firsts;
       max_number = node.max_number;
       incarnation = node.incarnation;
       heard = node.heard ∙ sym (heard-other_hear s n m o i h other);
       shaped = node.shaped;
       keeps = node.keeps;
+      long = node.long;
+      left = node.left;
     }
 
 -- a core, when another one restarts
@@ -378,11 +419,14 @@ node-other_restart s h log n m core node other =
     record {
       plant = node.plant;
       resource = node.resource;
+      firsts = node.firsts;
       max_number = node.max_number;
       shaped = node.shaped;
       incarnation = node.incarnation ∙ rw other;
       heard = node.heard ∙ sym (heard-other_restart s n m h other);
       keeps = λ p. node.keeps p ∙ ap (λ o. cond (eqb p.resource n || node_takes s.plant n p) o None) (sym (latest-other_restart s n m h p log other));
+      long = node.long;
+      left = node.left;
     }
 
 -- a core that evaluates one of its tasks
@@ -393,11 +437,14 @@ node-evaluate s h log core k t dt inputs x all is next node =
     record {
       plant = node.plant;
       resource = node.resource;
+      firsts = node.firsts;
       max_number = node.max_number;
       incarnation = node.incarnation;
       heard = node.heard;
       shaped = row_lengths_kept core.table t.resource t.task (Some x) ∙ node.shaped;
       keeps = λ p. by p (same_task t p) refl;
+      long = node.long;
+      left = λ p own lt. leaves p own lt (same_task t p) refl;
     } where
       at : x.name ≡ next_name s t h
       at = named s h log k t dt inputs x next
@@ -410,6 +457,16 @@ node-evaluate s h log core k t dt inputs x all is next node =
           let on : (eqb t.resource t.resource || node_takes s.plant t.resource t) ≡ true = rw (eq-eqb t.resource t.resource refl) in
           ap (λ w. cond w (latest s t.resource (Evaluate k t dt inputs ∷ h) t (x ∷ log)) None) on
           ∙ latest-evaluate s k t dt inputs h x log next
+
+      leaves : (p : TaskRef) → p.resource ≡ t.resource → p.task < length core.kept → (b : Bool) → same_task t p ≡ b
+          → left_by (kept_at core p.task) (known (with_known core.table t (Some x)) p) ≡ left_by (opening_of s p) (last_of p (x ∷ log))
+      leaves p own lt true e =
+          let same : t ≡ p = same_task-true t p e in
+          let here : known (with_known core.table t (Some x)) p ≡ Some x = ap (known (with_known core.table t (Some x))) (sym same) ∙ cell_same core.table t.resource t.task (Some x) None place.0 place.1 in
+          ap (left_by (kept_at core p.task)) here ∙ ap (left_by (opening_of s p)) (sym (last-same p x log (rw at e)))
+      leaves p own lt false e =
+          ap (left_by (kept_at core p.task)) (cell_other core.table t.resource t.task p.resource p.task (Some x) None place.0 e)
+          ∙ node.left p own lt ∙ ap (left_by (opening_of s p)) (sym (last-other p x log (rw at e)))
 
       by : (p : TaskRef) (b : Bool) → same_task t p ≡ b → known (with_known core.table t (Some x)) p ≡ kept_of s t.resource (Evaluate k t dt inputs ∷ h) (x ∷ log) p
       by p true e =
@@ -428,12 +485,19 @@ node-other_evaluate s h log n core k t dt inputs x all is next node other =
     record {
       plant = node.plant;
       resource = node.resource;
+      firsts = node.firsts;
       max_number = node.max_number;
       incarnation = node.incarnation;
       heard = node.heard;
       shaped = node.shaped;
       keeps = λ p. node.keeps p ∙ ap (λ o. cond (eqb p.resource n || node_takes s.plant n p) o None) (sym (latest-other_evaluate s n k t dt inputs h p x log all (length-log s h log is) (apart p (same_task t p) refl)));
+      long = node.long;
+      left = λ p own lt. node.left p own lt ∙ ap (left_by (opening_of s p)) (sym (last-other p x log (away p own (same_task t p) refl)));
     } where
+      away : (p : TaskRef) → p.resource ≡ n → (b : Bool) → same_task t p ≡ b → same_task x.name.task p ≡ false
+      away p own true e = absurd (false≢true (sym other ∙ eq-eqb t.resource n (ap (λ (r : TaskRef). r.resource) (same_task-true t p e) ∙ own)))
+      away p own false e = rw (named s h log k t dt inputs x next) e
+
       apart : (p : TaskRef) (b : Bool) → same_task t p ≡ b → (same_task x.name.task p && eqb p.resource n) ≡ false
       apart p true e = rw (named s h log k t dt inputs x next, e) (subst (λ r. eqb r.resource n ≡ false) (same_task-true t p e) other)
       apart p false e = rw (named s h log k t dt inputs x next, e)

@@ -1,6 +1,6 @@
 -- A world before its first event, and after a list of events.
 use Rattle.std.proofs.Common.{◌≡◌, ◌⊎◌, inl, inr, ℕ, suc, ◌+◌, ◌<◌, get_or, Bool, true, false, cond, ◌&&◌, ◌||◌, List, [], ◌∷◌, ◌++◌, length, Option, Some, None, refl, ap, sym, ◌∙◌, subst, arith, eqb, ltb, leb, take}
-use Rattle.std.specs.Prelude.{is_some, slice_get, slice_index}
+use Rattle.std.specs.Prelude.{is_some, slice_get, slice_index, slice_index_or}
 use Rattle.std.proofs.lemmas.Bool.{eqb-true, lt-ltb, le-ltb}
 use Rattle.std.proofs.lemmas.Bool.Decides.{nat_tests}
 use Rattle.std.proofs.lemmas.List.{append_assoc, append-nil, take_more}
@@ -8,12 +8,13 @@ use Rattle.std.proofs.lemmas.Option.{none-some, same_Some, slice_get_read}
 use Rattle.plant.specs.PlantValue.{PlantValue, code_at, IsSoundPlant}
 use Rattle.task_codes.specs.CodeValue.{CodeValue}
 use Rattle.evaluation.specs.Meaning.{Evaluated}
+use Rattle.evaluation.specs.Last.{left_by}
 use Rattle.exchange_core.specs.CoreValue.{CoreValue, fresh_core}
 use Rattle.exchange.specs.declared.event.Event.{Event}
 use Rattle.exchange.specs.declared.event.Event.TheVariants.{Evaluate, Deliver, Restart, Hear}
 use Rattle.exchange.specs.declared.world_fault.WorldFault.{WorldFault}
 use Rattle.exchange.specs.declared.world_fault.WorldFault.TheVariants.{NoSuchResource, NoSuchTask, NoSuchMessage, NumbersSpent, IncarnationsSpent, Memory, NeverHeld}
-use Rattle.exchange.specs.History.{incarnation_of, Setting, history_of, after_events, is_lawful, number_of, lawful_among}
+use Rattle.exchange.specs.History.{incarnation_of, Setting, Openings, AreOpenings, openings_at, history_of, after_events, is_lawful, number_of, lawful_among}
 use Rattle.exchange.specs.World.{WorldValue, node_takes}
 use Rattle.exchange.specs.Step.{IsDone, IsCause, IsLawfulAt, HaveRun}
 use Rattle.exchange.specs.Steps.Nodes.{IsNode, IsWorld}
@@ -23,40 +24,43 @@ use Rattle.exchange.proofs.Histories.Heard.{heard-fresh}
 use Rattle.std.proofs.lemmas.List.{set-get_or}
 use Rattle.exchange.proofs.Worlds.Moves.{slice_get-push, history-one_more, fresh_shape, fresh_known}
 
-pub fresh-none : (plant : PlantValue) (first : List ℕ) (max_number : ℕ) → AreFresh plant first max_number 0 []
-fresh-none plant first max_number = record { sized = refl; fresh = λ n core e. absurd (none-some core e) }
+pub fresh-none : (plant : PlantValue) (first : List ℕ) (opening : Openings) (max_number : ℕ) → AreFresh plant first opening max_number 0 []
+fresh-none plant first opening max_number = record { sized = refl; fresh = λ n core e. absurd (none-some core e) }
 
-pub fresh-more : (plant : PlantValue) (first : List ℕ) (max_number count : ℕ) (cores : List CoreValue) (core : CoreValue) → AreFresh plant first max_number count cores → core ≡ fresh_core plant count first (slice_index first count) max_number
-    → AreFresh plant first max_number (count + 1) (cores ++ core ∷ [])
-fresh-more plant first max_number count cores core all new =
+pub fresh-more : (plant : PlantValue) (first : List ℕ) (opening : Openings) (max_number count : ℕ) (cores : List CoreValue) (core : CoreValue) → AreFresh plant first opening max_number count cores
+    → core ≡ fresh_core plant count first (slice_index first count) (openings_at opening count) max_number → AreFresh plant first opening max_number (count + 1) (cores ++ core ∷ [])
+fresh-more plant first opening max_number count cores core all new =
     record { sized = length-push cores ∙ ap (λ n. n + 1) all.sized; fresh = λ n c e. by n c (eqb (suc n) (suc (length cores))) refl (sym (slice_get-push cores core n) ∙ e) } where
       length-push : (xs : List CoreValue) → length (xs ++ core ∷ []) ≡ length xs + 1
       length-push [] = refl
       length-push (x ∷ xs) = rw (length-push xs) (omega arith)
 
-      by : (n : ℕ) (c : CoreValue) (b : Bool) → eqb (suc n) (suc (length cores)) ≡ b → cond b (Some core) (slice_get cores n) ≡ Some c → c ≡ fresh_core plant n first (slice_index first n) max_number
+      by : (n : ℕ) (c : CoreValue) (b : Bool) → eqb (suc n) (suc (length cores)) ≡ b → cond b (Some core) (slice_get cores n) ≡ Some c → c ≡ fresh_core plant n first (slice_index first n) (openings_at opening n) max_number
       by n c false e f = all.fresh n c f
       by n c true e f =
           let at : count ≡ n = omega (arith, all.sized, eqb-true (suc n) (suc (length cores)) e) in
-          sym (same_Some core c f) ∙ new ∙ ap (λ m. fresh_core plant m first (slice_index first m) max_number) at
+          sym (same_Some core c f) ∙ new ∙ ap (λ m. fresh_core plant m first (slice_index first m) (openings_at opening m) max_number) at
 
 -- the world of no events
-pub world-new : (s : Setting) (cores : List CoreValue) → IsSoundPlant s.plant → length s.first ≡ length s.plant.resources → AreFresh s.plant s.first s.max_number (length s.plant.resources) cores → IsWorld s [] [] cores
-world-new s cores planned firsts all =
+pub world-new : (s : Setting) (cores : List CoreValue) → IsSoundPlant s.plant → length s.first ≡ length s.plant.resources → AreOpenings s.plant s.opening → AreFresh s.plant s.first s.opening s.max_number (length s.plant.resources) cores → IsWorld s [] [] cores
+world-new s cores planned firsts openings all =
     record { planned = planned; logged = tt; firsts = firsts; sized = all.sized; nodes = λ n core e. subst (IsNode s [] [] n) (sym (all.fresh n core e)) (node n) } where
       nothing : (b : Bool) → ◌≡◌ {A = Option Evaluated} (cond b None None) None
       nothing true = refl
       nothing false = refl
 
-      node : (n : ℕ) → IsNode s [] [] n (fresh_core s.plant n s.first (slice_index s.first n) s.max_number)
+      node : (n : ℕ) → IsNode s [] [] n (fresh_core s.plant n s.first (slice_index s.first n) (openings_at s.opening n) s.max_number)
       node n = record {
         plant = refl;
         resource = refl;
+        firsts = refl;
         max_number = refl;
         incarnation = omega arith;
         heard = set-get_or s.first n 0 ∙ sym (heard-fresh s n);
         shaped = fresh_shape s.plant;
         keeps = λ p. fresh_known s.plant p ∙ sym (nothing (eqb p.resource n || node_takes s.plant n p));
+        long = (openings.each n).many;
+        left = λ t own lt. ap (left_by (slice_index_or (openings_at s.opening n) t.task [])) (fresh_known s.plant t) ∙ ap (λ m. slice_index_or (openings_at s.opening m) t.task []) (sym own);
       }
 
 -- the history after the lawful ones of some events

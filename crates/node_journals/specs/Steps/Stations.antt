@@ -1,10 +1,11 @@
 -- What a resource is while it runs: its core, and the journal that has come to where the core stands.
 use Rattle.std.specs.Prelude.{◌≡◌, ℕ, Bool, List, slice_index}
+use Rattle.std_blocks.specs.declared.value.Value.{Value}
 use Rattle.plant.specs.PlantValue.{PlantValue}
 use Rattle.evaluation.specs.declared.field_input.FieldInput.{FieldInput}
 use Rattle.evaluation.specs.Meaning.{Evaluated}
 use Rattle.exchange_core.specs.declared.accepted.Accepted.{Accepted}
-use Rattle.exchange_core.specs.CoreValue.{CoreValue, fresh_core, IsAccepted, HasHeard, IsNext}
+use Rattle.exchange_core.specs.CoreValue.{CoreValue, fresh_core, IsRestartOf, IsAccepted, HasHeard, IsNext}
 use Rattle.node_journals.specs.declared.step.Step.TheVariants.{Took, Made, Restarted, Heard}
 use Rattle.node_journals.specs.declared.journal.Journal.{Journal}
 use Rattle.node_journals.specs.Journals.{fresh_journal, with_step}
@@ -20,12 +21,12 @@ pub record PendingValue : Type 0 where
   pub journal : Journal
   pub made : Evaluated
 
--- a resource in its first incarnation: nothing is held, all tasks are initial, and the journal has no steps
-abbrev pub fresh_station : PlantValue → ℕ → List ℕ → ℕ → StationValue
-fresh_station plant resource firsts max_number =
+-- a resource in its first incarnation: nothing is held, the tasks begin with this opening, and the journal has no steps
+abbrev pub fresh_station : PlantValue → ℕ → List ℕ → List (List Value) → ℕ → StationValue
+fresh_station plant resource firsts opening max_number =
     record {
-      core = fresh_core plant resource firsts (slice_index firsts resource) max_number;
-      journal = fresh_journal resource (slice_index firsts resource);
+      core = fresh_core plant resource firsts (slice_index firsts resource) opening max_number;
+      journal = fresh_journal resource (slice_index firsts resource) opening;
     }
 
 -- x was received: the journal has it as its last step, and the core has answered
@@ -51,5 +52,5 @@ pub record IsNoted (old : PendingValue) (new : StationValue) : Type 0 where
 
 -- the core is that of the greater incarnation, which the journal has as its last step
 pub record IsRestarted (old new : StationValue) (ticket incarnation : ℕ) : Type 0 where
-  pub core : new.core ≡ fresh_core old.core.plant old.core.resource old.core.first incarnation old.core.max_number
+  pub core : IsRestartOf old.core new.core incarnation
   pub noted : new.journal ≡ with_step old.journal (Restarted ticket incarnation)

@@ -2,8 +2,9 @@ ghost use Rattle.std.specs.Prelude.{◌≡◌, ◌↔◌, ◌-◌, false, length
 ghost use Rattle.std.specs.List.{list_any};
 ghost use Rattle.std.specs.List.Sorted.{IsStrictlyIncreasing};
 ghost use Rattle.node_journals.specs.declared.act.Act.TheVariants.{Restart};
+ghost use Rattle.node_journals.specs.declared.cause.Cause.TheVariants.{Keeper};
 ghost use Rattle.node_journals.specs.Commands.{AreNumbered, AreForPlant};
-ghost use Rattle.node_reports.specs.Reports.{is_restart_of, HasTask, LacksTask, MayMeet, AllTold, AreTold, AreByTicket};
+ghost use Rattle.node_reports.specs.Reports.{is_restart_of, HasTask, LacksTask, KeepsRetained, MayMeet, AllTold, AreTold, AreByTicket};
 ghost use Rattle.node_reports.specs.Steps.Collecting.{AreMarkedAlso, AreRestartMarks, HasMark, TellsUnobeyed, TellsTold, IsToldFault};
 
 use crate::collector::obedience::find_command;
@@ -11,7 +12,7 @@ use crate::collector::stops::are_stops_told;
 use crate::collector::unanswered::mark;
 use crate::node_faults::NodeFaults;
 use node_journals::{Act, Cause, Command, Journal, NodeFault, RunFault, Step};
-use plant::Plant;
+use plant::{Plant, TaskRef};
 use std::alloc::{AllocError, Global};
 
 /// Marks the place of the ticket of a restart.
@@ -93,6 +94,37 @@ fn lacks_task(plant: &Plant, command: &Command) -> bool
     }
 }
 
+/// Whether a command asks to evaluate a task that has retained variables.
+fn keeps_retained(plant: &Plant, command: &Command) -> bool
+    ensures { IsTrue result ↔ KeepsRetained plant.now command.now }
+{
+    match &command.act {
+        Act::Evaluate { task, .. } => {
+            let task = TaskRef {
+                resource: command.resource,
+                task: *task,
+            };
+            match plant.code(task) {
+                Some(code) => !code.retained().is_empty(),
+                None => false,
+            }
+        }
+        Act::Restart => false,
+    }
+}
+
+/// Whether a keeper may refuse a command: a restart that wasn't obeyed, or an evaluation that stands and has something
+/// to keep.
+fn may_be_unkept(plant: &Plant, command: &Command, is_unobeyed: bool) -> bool
+    ensures { IsTrue result ↔ MayMeet plant.now command.now (IsTrue is_unobeyed) Keeper }
+{
+    if is_unobeyed {
+        is_restart(command)
+    } else {
+        keeps_retained(plant, command)
+    }
+}
+
 /// Whether a command asks to restart.
 fn is_restart(command: &Command) -> bool
     ensures { IsTrue result ↔ (command.now.act ≡ Restart) }
@@ -111,8 +143,9 @@ fn may_meet(plant: &Plant, command: &Command, is_unobeyed: bool, cause: Cause) -
         Cause::OutOfTurns => true,
         Cause::NoSuchTask => is_unobeyed && lacks_task(plant, command),
         Cause::NumbersSpent | Cause::Misfit => is_unobeyed && has_task(plant, command),
-        Cause::Memory | Cause::Stopped => is_unobeyed,
-        Cause::Keeper => is_unobeyed && is_restart(command),
+        Cause::Memory => is_unobeyed || keeps_retained(plant, command),
+        Cause::Keeper => may_be_unkept(plant, command, is_unobeyed),
+        Cause::Stopped => is_unobeyed,
         Cause::NotSent => true,
     }
 }

@@ -1,12 +1,13 @@
 -- What doesn't change of a resource in its thread, and what its states keep.
-use Rattle.std.specs.Prelude.{◌≡◌, ℕ, ◌<◌, List, map}
+use Rattle.std.specs.Prelude.{◌≡◌, ℕ, ◌+◌, ◌<◌, List, [], ◌∷◌, map}
 use Rattle.std.specs.List.{AllZip}
 use Rattle.plant.specs.PlantValue.{PlantValue}
 use Rattle.node_threads.specs.declared.threads.lawful_for.LawfulFor.{LawfulFor}
+use Rattle.node_threads.specs.declared.threads.raised.Raised.{Raised}
 use Rattle.node_threads.specs.declared.threads.worker_state.WorkerState.{WorkerState}
 use Rattle.node_threads.specs.declared.threads.worker_state.WorkerState.TheVariants.{Running, Stopped}
 use Rattle.node_threads.specs.declared.threads.ended.Ended.{Ended}
-use Rattle.exchange_core.specs.CoreValue.{CoreValue}
+use Rattle.exchange_core.specs.CoreValue.{CoreValue, AreOpeningOf}
 use Rattle.node_journals.specs.declared.journal.Journal.{Journal}
 use Rattle.node_journals.specs.Journals.{IsLawful}
 
@@ -54,3 +55,12 @@ firsts_of_ended ended = map (λ (e : Ended). e.journal.first) ended
 -- each of these first incarnations is above the number that the keeper at its place held last
 abbrev pub AreAbove : {K : Type 0} → (K → ℕ) → List K → List ℕ → Type 0
 AreAbove last keepers firsts = AllZip (λ held first. held < first) (map last keepers) firsts
+
+-- the numbers that raised keepers held last
+abbrev pub lasts_of : {K : Type 0} → (K → ℕ) → List (Raised K) → List ℕ
+lasts_of last raised = map (λ r. last r.keeper) raised
+
+-- the raised keepers are those of the resources from this one on, and what each has kept suits its resource's tasks
+abbrev pub AreOpened : {K : Type 0} → PlantValue → ℕ → List (Raised K) → Type 0
+AreOpened plant resource [] = Unit {0}
+AreOpened plant resource (r ∷ raised) = AreOpeningOf plant resource r.opening × AreOpened plant (resource + 1) raised

@@ -4,6 +4,7 @@ ghost use Rattle.node_journals.specs.Journals.{IsLawful};
 use crate::gate::Gate;
 use crate::threads::desk::Desk;
 use crate::threads::ended::Ended;
+use crate::threads::entered::Entered;
 use crate::threads::hello::Hello;
 use crate::threads::inbox::Inbox;
 use crate::threads::noting::note;
@@ -108,6 +109,16 @@ fn tell_restart<R: Wait, K: Keeper, G: Gate>(
     }
 }
 
+/// Sends an evaluation that was entered, also where its task's retained variables aren't kept. It answers the first of the two faults.
+fn send<R: Wait, G: Gate>(rt: &R, desk: &Desk<'_, G>, entered: Entered) -> Result<(), Cause> {
+    let is_sent = match &entered.frame {
+        Some(frame) => post(rt, desk, frame),
+        None => false,
+    };
+    entered.kept?;
+    if is_sent { Ok(()) } else { Err(Cause::NotSent) }
+}
+
 /// Obeys a command. An evaluation that was made is sent once it is entered, and a restart is told.
 fn obey<R: Wait, K: Keeper, G: Gate>(
     rt: &R,
@@ -138,13 +149,7 @@ fn obey<R: Wait, K: Keeper, G: Gate>(
                 inputs,
             );
             let outcome = match made {
-                Ok(frame) => {
-                    if post(rt, desk, &frame) {
-                        Ok(())
-                    } else {
-                        Err(Cause::NotSent)
-                    }
-                }
+                Ok(entered) => send(rt, desk, entered),
                 Err(cause) => Err(cause),
             };
             (worker, outcome)

@@ -1,5 +1,7 @@
+use crate::threads::entered::Entered;
 use crate::threads::entering::enter_pending;
 use crate::threads::hello::Hello;
+use crate::threads::raised::Raised;
 use crate::threads::restarting::restart_station;
 use crate::threads::worker_state::WorkerState;
 use evaluation::{Frame, Inputs};
@@ -37,27 +39,30 @@ impl<K: Keeper> Model for Worker<K> {
 
 ghost use Rattle.std.specs.Prelude.{◌≡◌, ◌<◌, IfOk, IfErr, length, slice_index};
 ghost use Rattle.node_journals.specs.declared.run_fault.RunFault.TheVariants.{Memory};
+ghost use Rattle.exchange_core.specs.CoreValue.{AreOpeningOf};
 ghost use Rattle.node_journals.specs.Journals.{IsLawful};
 
 impl<K: Keeper> Worker<K> {
-    /// A resource in its first incarnation, which its keeper has just raised. `firsts` has the first incarnation of each resource.
+    /// A resource in its first incarnation, which its keeper has just raised, with what was kept of its tasks. `firsts` has the first incarnation of each resource.
     pub fn new(
         alloc: Global,
         plant: &Arc<Plant>,
         resource: usize,
-        keeper: K,
+        raised: Raised<K>,
         firsts: &[u32],
         max_number: u32,
     ) -> Result<Worker<K>, RunFault>
         requires many { length firsts.now ≡ length plant.now.value.resources }
         requires exists { resource < length firsts.now }
-        requires raised { K.last keeper ≡ slice_index firsts.now resource }
+        requires raised { K.last raised.keeper ≡ slice_index firsts.now resource }
+        requires opened { AreOpeningOf plant.now.value resource raised.opening }
         ensures fault { IfErr result (λ fault. fault ≡ Memory) }
         ensures made { IfOk result (λ w. w ≡ record { plant = plant.now.value; firsts = firsts.now; max_number = max_number; first = slice_index firsts.now resource }) }
     {
+        let Raised { keeper, opening } = raised;
         let shared = Arc::try_clone(plant)?;
         // The resource exists, so what is wanting is memory.
-        let Ok(station) = Station::new(alloc, shared, resource, firsts, max_number) else {
+        let Ok(station) = Station::new(alloc, shared, resource, firsts, opening, max_number) else {
             return Err(RunFault::Memory);
         };
         Ok(Worker {
@@ -155,7 +160,7 @@ impl<K: Keeper> Worker<K> {
         }
     }
 
-    /// Evaluates a task, and enters the evaluation. Where it is refused, the resource is stopped.
+    /// Evaluates a task, enters the evaluation, and keeps the task's retained variables. Where it isn't entered, the resource is stopped.
     pub fn evaluate<R: Wait>(
         self,
         rt: &R,
@@ -165,7 +170,7 @@ impl<K: Keeper> Worker<K> {
         task: usize,
         dt: u32,
         inputs: &Inputs,
-    ) -> (Worker<K>, Result<Frame, Cause>)
+    ) -> (Worker<K>, Result<Entered, Cause>)
         ensures { result.0 ≡ self }
     {
         let Worker {
@@ -173,14 +178,14 @@ impl<K: Keeper> Worker<K> {
             firsts,
             max_number,
             first,
-            keeper,
+            mut keeper,
             state,
         } = self;
         let (state, answer) = match state {
             WorkerState::Stopped(journal) => (WorkerState::Stopped(journal), Err(Cause::Stopped)),
             WorkerState::Running(station) => {
                 match station.evaluate(alloc, ticket, task, dt, inputs) {
-                    Ok(pending) => enter_pending(rt, book, pending),
+                    Ok(pending) => enter_pending(rt, alloc, book, &mut keeper, pending),
                     Err((station, fault)) => (
                         WorkerState::Running(station),
                         Err(Cause::from(fault)),

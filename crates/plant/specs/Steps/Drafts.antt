@@ -25,6 +25,7 @@ use Rattle.plant.specs.declared.sources.feed.Origin.{Origin}
 use Rattle.plant.specs.declared.sources.feed.Origin.TheVariants as origin
 use Rattle.plant.specs.declared.sources.feed.Feed.{Feed}
 use Rattle.plant_grammar.specs.Names.{is_named, IsAt, AreNamesApart}
+use Rattle.plant_grammar.specs.Retained.{retained_places}
 use Rattle.program_bodies.specs.Ladders.{IsLadderOf}
 use Rattle.plant_grammar.specs.Lawful.{use_of, tasks_of, uses_of, binds_of}
 use Rattle.program_bodies.specs.ProgramTypes.{TypeValue}
@@ -44,19 +45,20 @@ drafted rs = record { resources = rs }
 -- a code of these programs and outputs, nothing bound yet
 abbrev pub unbound_code : List ProgramValue → List TaskOutput → CodeValue
 unbound_code programs outputs =
-    record { programs = programs; bindings = []; producers = []; expected = []; outputs = outputs }
+    record { programs = programs; bindings = []; producers = []; expected = []; outputs = outputs; retained = [] }
 
 -- the programs of types
 abbrev pub programs_in : List TypeValue → List Program
 programs_in types = map (λ (t : TypeValue). t.program) types
 
--- an instance's name, and the ladder of its type
+-- an instance's name, the ladder of its type, and the places of its retained variables
 pub record IsProgramOf (programs : List Program) (u : Use) (p : ProgramValue) : Type 0 where
   pub name_is : p.name ≡ u.instance
   pub place : ℕ
   pub type : Program
   pub type_is : IsAt (λ (t : Program). t.name) programs u.program place type
   pub ladder_is : IsLadderOf type p.ladder
+  pub retained_is : p.retained ≡ retained_places type
 
 -- a task's instances in order, and their outputs
 pub record IsDraftOf (programs : List Program) (r : Resource) (t : TaskLine) (c : CodeValue) : Type 0 where

@@ -11,7 +11,9 @@ ghost use Rattle.plant.specs.Steps.Drafts.{seen, runs_at, programs_in, IsProgram
 
 use crate::sources::resource_draft::ResourceDraft;
 use crate::sources::task_draft::TaskDraft;
-use plant_grammar::{GrammarFault, GrammarFaultKind, Item, Name, Resource, TaskLine, Use};
+use plant_grammar::{
+    GrammarFault, GrammarFaultKind, Item, Name, Resource, TaskLine, Use, retained_places,
+};
 use program_bodies::{ProgramType, type_named};
 use std::alloc::{AllocError, Global};
 use std::sync::Arc;
@@ -85,7 +87,8 @@ fn draft_program(
     };
     let name = run.instance.try_text(alloc)?;
     let ladder = Arc::try_clone(found.ladder())?;
-    Ok(ProgramInstance::new(name, ladder))
+    let retained = retained_places(alloc, found.program())?;
+    Ok(ProgramInstance::new(name, ladder, retained))
 }
 
 /// The programs that instances run.

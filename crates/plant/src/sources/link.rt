@@ -15,6 +15,7 @@ use crate::sources::draft::{runs_in, tasks_of};
 use crate::sources::feeds::feeds_of;
 use crate::sources::producers::{bindings_of, expected_of, producers_of};
 use crate::sources::resource_draft::ResourceDraft;
+use crate::sources::retained::retained_of;
 use crate::sources::task_draft::TaskDraft;
 use crate::task::Task;
 use plant_grammar::{GrammarFault, Resource, TaskLine, Use};
@@ -54,7 +55,8 @@ fn link_runs(
     let bindings = bindings_of(alloc, producers.as_slice(), feeds.as_slice())?;
     let programs = copies(alloc, draft.programs())?;
     let outputs = Vec::from_slice(alloc, draft.outputs())?;
-    Ok(TaskCode::new(programs, bindings, producers, expected, outputs))
+    let retained = retained_of(alloc, draft.programs())?;
+    Ok(TaskCode::new(programs, bindings, producers, expected, outputs, retained))
 }
 
 /// The code of a task of a resource.

@@ -13,12 +13,30 @@ use Rattle.declared_names.specs.declared.declarations.Kind.{Kind}
 use Rattle.plant_grammar.specs.Kinds.{items_or_none, input_kind_at, input_kind_of}
 use Rattle.plant_grammar.specs.declared.grammar.tree.Bind.{Bind}
 use Rattle.plant_text.specs.declared.token.Token.{Token}
+use Rattle.plant_text.specs.declared.token.Keyword.TheVariants as key
 use Rattle.plant_text.specs.declared.token.Punctuation.TheVariants.{Close}
-use Rattle.plant_grammar.specs.Grammar.{Tree, TextValue, mark_word, with_commas, binds_listed}
+use Rattle.plant_grammar.specs.declared.grammar.tree.Section.{Section}
+use Rattle.plant_grammar.specs.declared.grammar.tree.Section.TheVariants as section
+use Rattle.plant_grammar.specs.Grammar.{Tree, TextValue, key_word, mark_word, with_commas, binds_listed}
 use Rattle.plant_grammar.specs.Names.{AreNamesApart}
 use Rattle.plant_grammar.specs.NameFaults.{IsNameTaken}
 use Rattle.plant_grammar.specs.Lawful.{task_of, use_of, binds_of, IsProgramLawful, IsUseLawful, IsResourceLawful}
+use Rattle.plant_grammar.specs.Steps.Lines.{IsNotNext}
 use Rattle.plant_grammar.specs.Steps.Reading.{programs_of}
+
+-- the word that a block of a section begins with
+abbrev pub section_start : Section → Token
+section_start section.Input = key_word key.VarInput
+section_start section.Output = key_word key.VarOutput
+section_start section.Local = key_word key.Var
+section_start section.Retained = key_word key.Var
+
+-- behind the words of VAR stands no RETAIN
+abbrev pub IsSectionWhole : Section → List Token → Type 0
+IsSectionWhole section.Input behind = Unit {0}
+IsSectionWhole section.Output behind = Unit {0}
+IsSectionWhole section.Local behind = IsNotNext (key_word key.Retain) behind
+IsSectionWhole section.Retained behind = Unit {0}
 
 -- how many instances and binds were read
 pub record TallyValue : Type 0 where

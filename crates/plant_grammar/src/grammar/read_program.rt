@@ -15,12 +15,12 @@ ghost use Rattle.plant_grammar.specs.declared.grammar_fault.GrammarFaultKind.The
 ghost use Rattle.plant_text.specs.declared.token.Keyword.TheVariants as key;
 ghost use Rattle.plant_text.specs.declared.token.Punctuation.TheVariants.{Colon, Semicolon};
 ghost use Rattle.plant_grammar.specs.Steps.Refusing.{MayBeDeclared};
-ghost use Rattle.plant_grammar.specs.Grammar.{key_word, mark_word, section_word, kind_word, type_word, name_words, list_words, lists_words, block_words, program_words};
+ghost use Rattle.plant_grammar.specs.Grammar.{key_word, mark_word, section_words, kind_word, type_word, name_words, list_words, lists_words, block_words, program_words};
 ghost use Rattle.plant_grammar.specs.Lawful.{list_variables, lists_variables, block_variables, IsTypeLawful, IsListLawful, IsBlockLawful, IsProgramLawful};
 ghost use Rattle.plant_grammar.specs.NameFaults.{TellsOfName, RefusesVariable, RefusesList, RefusesBlock, RefusesBlocks, RefusesProgram, RefusesPrograms};
 ghost use Rattle.plant_grammar.specs.Steps.Declaring.{TellsOfType, TellsOfVariable, BeginRefused};
 ghost use Rattle.plant_grammar.specs.Steps.Lines.{next_line, IsNotNext, IsOneNext, IsNoneNext};
-ghost use Rattle.plant_grammar.specs.Steps.ReadParts.{IsNew, AreVariables, AreProgramsDeclared};
+ghost use Rattle.plant_grammar.specs.Steps.ReadParts.{section_start, IsSectionWhole, IsNew, AreVariables, AreProgramsDeclared};
 ghost use Rattle.plant_grammar.specs.Steps.Reading.{programs_of, all_words, AreSameWords, AreSameLines, BeginWithWordsOf, BeginWithLinesOf};
 
 use crate::grammar::known_names::{check_new, is_program};
@@ -168,32 +168,37 @@ impl<'a> Reader<'a> {
 
     /// Whether a block begins.
     fn sees_section(&self) -> bool
-        ensures yes { IsTrue result → IsOneNext section_word self.now.words }
-        ensures no { IsFalse result → IsNoneNext section_word self.now.words }
+        ensures yes { IsTrue result → IsOneNext section_start self.now.words }
+        ensures no { IsFalse result → IsNoneNext section_start self.now.words }
     {
         self.sees_keyword(Keyword::VarInput)
             || self.sees_keyword(Keyword::VarOutput)
             || self.sees_keyword(Keyword::Var)
     }
 
-    /// VAR_INPUT, VAR_OUTPUT or VAR.
+    /// VAR_INPUT, VAR_OUTPUT, VAR or VAR RETAIN.
     fn section(&mut self) -> Result<Section, GrammarFault>
-        ensures ok { IfOk result (λ s. self.old.words ≡ section_word s ∷ self.new.words) }
+        ensures ok { IfOk result (λ s. self.old.words ≡ section_words s ++ self.new.words) }
+        ensures whole { IfOk result (λ s. IsSectionWhole s self.new.words) }
         ensures bodies { OnOk result (self.new.bodies ≡ self.old.bodies) }
-        ensures other { OnErr result (IsNoneNext section_word self.old.words) }
+        ensures other { OnErr result (IsNoneNext section_start self.old.words) }
         ensures tells { IfErr result (λ e. TellsOfName e.kind ⊥ ⊥) }
         ensures value { IfErr result IsGrammarFault }
     {
         if self.sees_keyword(Keyword::VarInput) {
             self.keyword(Keyword::VarInput)?;
-            Ok(Section::Input)
-        } else if self.sees_keyword(Keyword::VarOutput) {
-            self.keyword(Keyword::VarOutput)?;
-            Ok(Section::Output)
-        } else {
-            self.keyword(Keyword::Var)?;
-            Ok(Section::Local)
+            return Ok(Section::Input);
         }
+        if self.sees_keyword(Keyword::VarOutput) {
+            self.keyword(Keyword::VarOutput)?;
+            return Ok(Section::Output);
+        }
+        self.keyword(Keyword::Var)?;
+        if self.sees_keyword(Keyword::Retain) {
+            self.keyword(Keyword::Retain)?;
+            return Ok(Section::Retained);
+        }
+        Ok(Section::Local)
     }
 
     /// A block. Its names are declared.
@@ -203,7 +208,7 @@ impl<'a> Reader<'a> {
         ensures bodies { OnOk result (self.new.bodies ≡ self.old.bodies) }
         ensures declared { IfOk result (λ b. variables.new ≡ variables.old ++ block_variables b) }
         ensures lawful { IfOk result (λ b. IsBlockLawful b) }
-        ensures other { IfErr result (λ e. e.kind ≢ Memory → (s : Section) (ls : List NameList) (rest : List Token) → self.old.words ≡ section_word s ∷ (lists_words ls ++ rest) → All (IsListLawful s) ls → AreVariables (variables.old ++ lists_variables s ls) → ⊥) }
+        ensures other { IfErr result (λ e. e.kind ≢ Memory → (s : Section) (ls : List NameList) (rest : List Token) → self.old.words ≡ section_words s ++ (lists_words ls ++ rest) → All (IsListLawful s) ls → AreVariables (variables.old ++ lists_variables s ls) → ⊥) }
         ensures names { IfErr result (BeginRefused (λ k. RefusesBlock k variables.old) self.old.words) }
         ensures value { IfErr result IsGrammarFault }
     {
@@ -223,8 +228,8 @@ impl<'a> Reader<'a> {
         ensures bodies { OnOk result (self.new.bodies ≡ self.old.bodies) }
         ensures declared { IfOk result (λ bs. variables.new ≡ variables.old ++ flat_map block_variables bs.items) }
         ensures lawful { IfOk result (λ bs. All IsBlockLawful bs.items) }
-        ensures none { OnOk result (IsNoneNext section_word self.new.words) }
-        ensures other { IfErr result (λ e. e.kind ≢ Memory → (bs : List VarBlock) (rest : List Token) → self.old.words ≡ flat_map block_words bs ++ rest → IsNoneNext section_word rest → All IsBlockLawful bs → AreVariables (variables.old ++ flat_map block_variables bs) → ⊥) }
+        ensures none { OnOk result (IsNoneNext section_start self.new.words) }
+        ensures other { IfErr result (λ e. e.kind ≢ Memory → (bs : List VarBlock) (rest : List Token) → self.old.words ≡ flat_map block_words bs ++ rest → IsNoneNext section_start rest → All IsBlockLawful bs → AreVariables (variables.old ++ flat_map block_variables bs) → ⊥) }
         ensures names { IfErr result (BeginRefused (λ k. RefusesBlocks k variables.old) self.old.words) }
         ensures value { IfErr result IsGrammarFault }
     {

@@ -15,6 +15,8 @@ pub enum Section {
     Output,
     /// VAR.
     Local,
+    /// VAR RETAIN: locals that outlive a restart.
+    Retained,
 }
 
 /// What stands behind the colon of a declaration.
@@ -31,7 +33,7 @@ pub struct NameList {
     pub type_name: TypeName,
 }
 
-/// A block of declarations, from VAR, VAR_INPUT or VAR_OUTPUT to END_VAR.
+/// A block of declarations, from VAR_INPUT, VAR_OUTPUT, VAR or VAR RETAIN to END_VAR.
 #[derive(Drop)]
 pub struct VarBlock {
     pub section: Section,

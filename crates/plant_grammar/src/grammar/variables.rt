@@ -52,7 +52,7 @@ fn declared_as(section: Section, type_name: TypeName) -> Declared
         (_, TypeName::Block(block)) => Declared::Instance(block),
         (Section::Input, TypeName::Elementary(kind)) => Declared::Input(kind),
         (Section::Output, TypeName::Elementary(kind)) => Declared::Output(kind),
-        (Section::Local, TypeName::Elementary(kind)) => Declared::Local(kind),
+        (Section::Local | Section::Retained, TypeName::Elementary(kind)) => Declared::Local(kind),
     }
 }
 

@@ -3,21 +3,22 @@ use Rattle.std.specs.Prelude.{◌≡◌, ◌↔◌, ℕ, Bool, IsTrue, List, Som
 use Rattle.plant.specs.PlantValue.{PlantValue, code_at}
 use Rattle.evaluation.specs.Meaning.{Evaluated}
 use Rattle.exchange.specs.declared.event.Event.{Event}
-use Rattle.exchange.specs.History.{Setting}
+use Rattle.exchange.specs.History.{Setting, Openings, setting_over}
 use Rattle.exchange.specs.Run.{IsRun}
 use Rattle.evaluation_book.specs.Book.{BookValue}
 use Rattle.exchange.specs.Replays.{Replays}
 
--- the plant, from these first incarnations, with numbers up to the greatest of 32 bits
-abbrev pub replayed_in : PlantValue → List ℕ → Setting
-replayed_in plant first = record { plant = plant; first = first; max_number = 4294967295 }
+-- the plant, from these first incarnations and openings, with numbers up to the greatest of 32 bits
+abbrev pub replayed_in : PlantValue → List ℕ → Openings → Setting
+replayed_in plant first opening = setting_over plant first opening 4294967295
 
 -- Events that make the book's entries again were run in one thread, and this tells whether their run is those entries.
-pub record IsReplay (plant : PlantValue) (first : List ℕ) (book : BookValue) (equal : Bool) : Type 0 where
+pub record IsReplay (plant : PlantValue) (first : List ℕ) (opening : Openings) (book : BookValue) (equal : Bool)
+    : Type 0 where
   pub schedule : List Event
   pub again : Replays book.first book.entries schedule
   pub log : List Evaluated
-  pub run : IsRun (replayed_in plant first) schedule log
+  pub run : IsRun (replayed_in plant first opening) schedule log
   pub equal_is : IsTrue equal ↔ (log ≡ book.entries)
 
 -- each evaluation is by the plant's code of its task

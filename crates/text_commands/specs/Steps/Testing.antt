@@ -10,7 +10,8 @@ use Rattle.text_commands.specs.declared.text_command_fault.TextCommandFault.TheV
 use Rattle.text_commands.specs.Rows.{RowValue, IsRow}
 use Rattle.text_commands.specs.Expectations.{IsExpected, IsFirstRefusedOf, IsRefusedBehind, is_expectation, test_scans}
 use Rattle.text_commands.specs.Trace.{SomeTrace}
-use Rattle.text_commands.specs.TestText.{IsOutcome, trace_text}
+use Rattle.text_commands.specs.declared.form.Form.{Form}
+use Rattle.text_commands.specs.TestText.{IsOutcome, IsTextOf}
 use Rattle.text_commands.specs.declared.difference.Difference.{Difference}
 
 -- what stands at the names after each scan
@@ -53,10 +54,16 @@ abbrev pub IsTraceOf : List Declaration → List Diagram → ℕ → List RowVal
 IsTraceOf ds networks dt rows scans states =
     (made : SomeTrace ds networks dt rows scans) × (made.states ≡ slots_of states) × (length states ≡ scans)
 
+-- these are the states after each of so many scans, and this is what is written of them
+abbrev pub IsFormTrace : Form → List ℕ → List Declaration → List Diagram → ℕ → List RowValue → ℕ → List StateValue → List ℕ
+    → Type 0
+IsFormTrace form drawing ds networks dt rows scans states text =
+    (traced : IsTraceOf ds networks dt rows scans states) × IsTextOf form drawing traced.0 text
+
 -- the text of all scans, and what came of what was expected
-pub record IsTestTrace (ds : List Declaration) (networks : List Diagram) (dt : ℕ) (chart : Bool)
+pub record IsTestTrace (drawing : List ℕ) (ds : List Declaration) (networks : List Diagram) (dt : ℕ) (form : Form)
     (rows expected : List RowValue) (text : List ℕ) (found : Option Difference) : Type 0 where
   pub made : SomeTrace ds networks dt rows (test_scans rows expected)
   pub all : length made.states ≡ test_scans rows expected
-  pub text_is : text ≡ trace_text chart ds made.states
+  pub text_is : IsTextOf form drawing made text
   pub outcome : IsOutcome ds expected made.states found

@@ -18,7 +18,7 @@ use Rattle.node_threads.proofs.threads.run_all.Goals as goal
 pub make_workers-requires-clause-many : goal.make_workers-requires-clause-many
 make_workers-requires-clause-many g c _ _ =
     ap (λ (l : List ℕ). length l) c.as_slice.ensures.value
-    ∙ zip_long (λ (held first : ℕ). held < first) (map g.K.Keeper.last c.args.keepers.items) c.in_ok-keepers.firsts.items c.in_ok-keepers.ensures.above
+    ∙ zip_long (λ (held first : ℕ). held < first) (map g.K.Keeper.last c.args.keepers.items) c.in_ok-raised.firsts.items c.in_ok-raised.ensures.above
     ∙ length-map c.args.keepers.items g.K.Keeper.last
     ∙ c.requires
 
@@ -30,19 +30,19 @@ returns-clause-lawful g c =
     let journals : List Journal = c.in_ok-journals.journals.items in
     let begun : c.as_slice-3.result.now ≡ firsts_of journals =
     c.as_slice-3.ensures.value ∙ sym c.as_slice.ensures.value ∙ sym c.in_ok-workers.ensures.firsts ∙ sym c.in_ok-ended.ensures.firsts ∙ sym (firsts_parted ended) ∙ sym (ap firsts_of c.in_ok-journals.ensures.journals) in
-    let of_plant = subst (λ (p : PlantValue). All (λ (e : Ended). IsLawful p c.as_slice-3.result.now max_number e.journal) ended) c.deref-2.ensures c.in_ok-ended.ensures.lawful in
+    let of_plant = subst (λ (p : PlantValue). All (λ (e : Ended). IsLawful p c.as_slice-3.result.now max_number e.journal) ended) c.deref-3.ensures c.in_ok-ended.ensures.lawful in
     let promised = subst (λ (firsts : List ℕ). All (λ (e : Ended). IsLawful plant firsts max_number e.journal) ended) begun of_plant in
     subst (All (IsLawful plant (firsts_of journals) max_number)) (sym c.in_ok-journals.ensures.journals) (All-map (IsLawful plant (firsts_of journals) max_number) (λ (e : Ended). e.journal) ended promised)
 
 pub returns-clause-begun : goal.returns-clause-begun
 returns-clause-begun g c =
     begin_above g.K.Keeper.last c.args.keepers.items c.in_ok-workers.workers.items c.in_ok-ended.ended.items c.in_ok-journals.journals.items
-    (subst (AreAbove g.K.Keeper.last c.args.keepers.items) (sym (c.in_ok-workers.ensures.firsts ∙ c.as_slice.ensures.value)) c.in_ok-keepers.ensures.above)
+    (subst (AreAbove g.K.Keeper.last c.args.keepers.items) (sym (c.in_ok-workers.ensures.firsts ∙ c.as_slice.ensures.value)) c.in_ok-raised.ensures.above)
     c.in_ok-ended.ensures.firsts c.in_ok-journals.ensures.journals
 
-pub returns-in_err-keepers-clause-fault : goal.returns-in_err-keepers-clause-fault
-returns-in_err-keepers-clause-fault g c =
-    kept_fault c.in_err-keepers.field-0.0 IsThreadsFault _ c.from_residual.ensures.1 (raise_fault c.in_err-keepers.field-0.0 c.in_err-keepers.ensures.fault)
+pub returns-in_err-raised-clause-fault : goal.returns-in_err-raised-clause-fault
+returns-in_err-raised-clause-fault g c =
+    kept_fault c.in_err-raised.field-0.0 IsThreadsFault _ c.from_residual.ensures.1 (raise_fault c.in_err-raised.field-0.0 c.in_err-raised.ensures.fault)
 
 pub returns-in_err-workers-clause-fault : goal.returns-in_err-workers-clause-fault
 returns-in_err-workers-clause-fault g c =

@@ -1,6 +1,4 @@
-use Rattle.std.proofs.Common.{ℕ, ◌+◌, List, ap, ◌<◌, ◌≤◌, arith, length, ◌≡◌, true, ◌∙◌, subst}
-use Rattle.std.specs.Prelude.{slice_set, slice_index}
-use Rattle.std.proofs.lemmas.List.{get_or-set_same}
+use Rattle.std.proofs.Common.{◌<◌, ◌≤◌, arith, length, ◌≡◌, true, ◌∙◌, subst}
 use Rattle.exchange.specs.declared.event.Event.TheVariants.{Restart}
 use Rattle.exchange.specs.History.{history_of, incarnation_of, is_lawful}
 use Rattle.exchange.specs.World.{WorldValue}
@@ -10,44 +8,30 @@ use Rattle.exchange.proofs.plant_world.World.restart.Goals as goal
 pub returns-then-last-clause-cause : goal.returns-then-last-clause-cause
 returns-then-last-clause-cause c =
     subst (λ (w : WorldValue). (c.args.resource < length w.setting.plant.resources) × (4294967295 ≤ incarnation_of w.setting c.args.resource (history_of w.setting w.events))) c.self.view_is
-    (incarnation_at _ c.self.inside.events.items c.self.inside.log.items c.self.inside.cores.items c.self.invariant c.args.resource c.incarnation-last.result c.index.result.now (omega (arith, c.self.inside.cores.ok.0)) c.index.ensures c.incarnation-last.ensures (omega arith))
+    (incarnation_at _ c.self.inside.events.items c.self.inside.log.items c.self.inside.cores.items c.self.invariant c.args.resource c.incarnation-last.result c.index-present.result.now (omega (arith, c.self.inside.cores.ok.0)) c.index-present.ensures c.incarnation-last.ensures (omega arith))
 
 pub invariant_of-self-2 : goal.invariant_of-self-2
 invariant_of-self-2 c =
-    let copied : c.in-Ok-from_slice.first.items ≡ c.self.inside.first.items = c.in-Ok-from_slice.ensures.items ∙ c.as_slice.ensures.value in
-    let first : c.as_slice-2.result.now ≡ slice_set c.self.inside.first.items c.args.resource (c.incarnation-last.result + 1) = c.as_slice-2.ensures.value ∙ ap (λ (l : List ℕ). slice_set l c.args.resource (c.incarnation-last.result + 1)) copied in
-    let within : c.args.resource < length c.self.inside.first.items = (let firsts = c.self.invariant.firsts in let sized = c.self.invariant.sized in omega (arith, firsts, sized, c.self.inside.cores.ok.0)) in
-    rw (c.in-Ok-push.ensures.items, c.reserve.ensures.items, c.in-Ok-new.ensures.ok, c.in-Ok.ensures)
-    (world-restart_at _ c.self.inside.events.items c.self.inside.log.items c.self.inside.cores.items c.self.invariant c.args.resource c.incarnation-last.result c.as_slice-2.result.now (slice_index c.as_slice-2.result.now c.args.resource) c.index.result.now (omega (arith, c.self.inside.cores.ok.0)) c.index.ensures c.incarnation-last.ensures (omega arith) first
-    (ap (λ (l : List ℕ). slice_index l c.args.resource) first ∙ get_or-set_same c.self.inside.first.items c.args.resource (c.incarnation-last.result + 1) 0 within))
+    rw (c.in-Ok-push.ensures.items, c.reserve.ensures.items)
+    (world-restart_at _ c.self.inside.events.items c.self.inside.log.items c.self.inside.cores.items c.self.invariant c.args.resource c.incarnation-last.result c.index-present.result.now c.in-Ok.core (omega (arith, c.self.inside.cores.ok.0)) c.index-present.ensures c.incarnation-last.ensures (omega arith) c.in-Ok.ensures)
 
 pub returns-clause-done : goal.returns-clause-done
 returns-clause-done c =
     done_same c.args.self.now _ c.self.inside.events.items _ c.self.inside.log.items (Restart c.args.resource) c.self.view_is
-    (restart-lawful_at _ c.self.inside.events.items c.self.inside.log.items c.self.inside.cores.items c.self.invariant c.args.resource c.incarnation-last.result c.index.result.now (omega (arith, c.self.inside.cores.ok.0)) c.index.ensures c.incarnation-last.ensures (omega arith))
+    (restart-lawful_at _ c.self.inside.events.items c.self.inside.log.items c.self.inside.cores.items c.self.invariant c.args.resource c.incarnation-last.result c.index-present.result.now (omega (arith, c.self.inside.cores.ok.0)) c.index-present.ensures c.incarnation-last.ensures (omega arith))
     (c.in-Ok-push.ensures.items ∙ rw c.reserve.ensures.items)
 
 pub returns-clause-answer : goal.returns-clause-answer
 returns-clause-answer c =
     rw (c.in-Ok-push.ensures.items, c.reserve.ensures.items)
-    (restarted_at _ c.self.inside.events.items c.self.inside.log.items c.self.inside.cores.items c.self.invariant c.args.resource c.incarnation-last.result c.index.result.now (omega (arith, c.self.inside.cores.ok.0)) c.index.ensures c.incarnation-last.ensures (omega arith))
+    (restarted_at _ c.self.inside.events.items c.self.inside.log.items c.self.inside.cores.items c.self.invariant c.args.resource c.incarnation-last.result c.index-present.result.now (omega (arith, c.self.inside.cores.ok.0)) c.index-present.ensures c.incarnation-last.ensures (omega arith))
 
 pub returns-in_default-clause-cause : goal.returns-in_default-clause-cause
 returns-in_default-clause-cause c =
     subst (λ (w : WorldValue). is_lawful w.setting (history_of w.setting w.events) (Restart c.args.resource) ≡ true) c.self.view_is
-    (restart-lawful_at _ c.self.inside.events.items c.self.inside.log.items c.self.inside.cores.items c.self.invariant c.args.resource c.incarnation-last.result c.index.result.now (omega (arith, c.self.inside.cores.ok.0)) c.index.ensures c.incarnation-last.ensures (omega arith))
-
-pub returns-in_default-from_slice-clause-cause : goal.returns-in_default-from_slice-clause-cause
-returns-in_default-from_slice-clause-cause c =
-    subst (λ (w : WorldValue). is_lawful w.setting (history_of w.setting w.events) (Restart c.args.resource) ≡ true) c.self.view_is
-    (restart-lawful_at _ c.self.inside.events.items c.self.inside.log.items c.self.inside.cores.items c.self.invariant c.args.resource c.incarnation-last.result c.index.result.now (omega (arith, c.self.inside.cores.ok.0)) c.index.ensures c.incarnation-last.ensures (omega arith))
-
-pub returns-in_default-new-clause-cause : goal.returns-in_default-new-clause-cause
-returns-in_default-new-clause-cause c =
-    subst (λ (w : WorldValue). is_lawful w.setting (history_of w.setting w.events) (Restart c.args.resource) ≡ true) c.self.view_is
-    (restart-lawful_at _ c.self.inside.events.items c.self.inside.log.items c.self.inside.cores.items c.self.invariant c.args.resource c.incarnation-last.result c.index.result.now (omega (arith, c.self.inside.cores.ok.0)) c.index.ensures c.incarnation-last.ensures (omega arith))
+    (restart-lawful_at _ c.self.inside.events.items c.self.inside.log.items c.self.inside.cores.items c.self.invariant c.args.resource c.incarnation-last.result c.index-present.result.now (omega (arith, c.self.inside.cores.ok.0)) c.index-present.ensures c.incarnation-last.ensures (omega arith))
 
 pub returns-then-is_err-clause-cause : goal.returns-then-is_err-clause-cause
 returns-then-is_err-clause-cause c =
     subst (λ (w : WorldValue). is_lawful w.setting (history_of w.setting w.events) (Restart c.args.resource) ≡ true) c.self.view_is
-    (restart-lawful_at _ c.self.inside.events.items c.self.inside.log.items c.self.inside.cores.items c.self.invariant c.args.resource c.incarnation-last.result c.index.result.now (omega (arith, c.self.inside.cores.ok.0)) c.index.ensures c.incarnation-last.ensures (omega arith))
+    (restart-lawful_at _ c.self.inside.events.items c.self.inside.log.items c.self.inside.cores.items c.self.invariant c.args.resource c.incarnation-last.result c.index-present.result.now (omega (arith, c.self.inside.cores.ok.0)) c.index-present.ensures c.incarnation-last.ensures (omega arith))

@@ -1,14 +1,15 @@
 use Rattle.std.proofs.Common.{sym, ◌∙◌, ap, subst, Some}
 use Rattle.plant.specs.PlantValue.{code_at}
+use Rattle.std.specs.Prelude.{is_some}
 use Rattle.task_codes.specs.CodeValue.{CodeValue}
 use Rattle.evaluation.specs.Takes.{AreTakesOf}
 use Rattle.exchange_core.specs.CoreValue.{CoreValue}
-use Rattle.exchange_core.proofs.Keeping.{fits-last}
+use Rattle.exchange_core.proofs.Keeping.{fits-last, own-is}
 use Rattle.exchange_core.proofs.CodeTakes.{takes-suit}
 use Rattle.exchange_core.proofs.resource_core.Core.evaluation.Goals as goal
 
-pub state_of-requires : goal.state_of-requires
-state_of-requires c =
+pub state_from-requires-clause-fits : goal.state_from-requires-clause-fits
+state_from-requires-clause-fits c =
     fits-last _ c.args.name.task c.deref.result.now c.self.invariant
     (c.requires.own ∙ ap (λ (w : CoreValue). w.resource) (sym c.self.view_is))
     (ap (λ (w : CoreValue). code_at w.plant c.args.name.task) c.self.view_is ∙ c.requires.found ∙ ap Some (sym c.deref.ensures))
@@ -19,3 +20,12 @@ make-requires-clause-suits c =
     (takes-suit _ c.args.name.task c.deref-2.result.now c.in_ok-takes.takes.items c.self.invariant c.in_ok-takes.ensures.sound
     (ap (λ (w : CoreValue). code_at w.plant c.args.name.task) c.self.view_is ∙ c.requires.found ∙ ap Some (sym c.deref-2.ensures))
     c.in_ok-takes.ensures.value)
+
+pub began-began-requires : goal.began-began-requires
+began-began-requires c =
+    ap is_some (ap (code_at c.args.self.now.plant) (own-is c.args.self.now c.args.name.task c.requires.own) ∙ c.requires.found)
+
+pub state_from-requires-clause-suits : goal.state_from-requires-clause-suits
+state_from-requires-clause-suits c =
+    rw c.deref.ensures
+    (c.began-began.ensures.suits c.args.code.now.value (ap (code_at c.args.self.now.plant) (own-is c.args.self.now c.args.name.task c.requires.own) ∙ c.requires.found))

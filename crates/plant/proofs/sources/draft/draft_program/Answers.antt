@@ -13,6 +13,7 @@ returns-clause-ok c =
     let found : find (λ (t : TypeValue). is_named c.args.run.now.program t.program.name) c.args.types.now ≡ Some c.in-Some.found.now = search rules in
     let kept : c.new.result.ladder ≡ c.in-Some.found.now.ladder = ap (λ (p : ProgramValue). p.ladder) c.new.ensures ∙ c.in_ok-ladder.ensures ∙ c.ladder.ensures.ladder in
     program_made c.args.types.now c.args.run.now c.in-Some.found.now c.new.result found c.ladder.ensures.drawn (ap (λ (p : ProgramValue). p.name) c.new.ensures ∙ c.in_ok-name.ensures) kept
+    (ap (λ (p : ProgramValue). p.retained) c.new.ensures ∙ rw c.program.ensures at c.in_ok-retained.ensures)
 
 pub returns-in_default-clause-refused : goal.returns-in_default-clause-refused
 returns-in_default-clause-refused c = λ other known.

@@ -11,6 +11,7 @@ use Rattle.declared_names.specs.declared.declarations.Kind.{Kind}
 use Rattle.task_codes.specs.declared.binding.Binding.{Binding}
 use Rattle.plant.specs.declared.sources.feed.Feed.{Feed}
 use Rattle.plant_grammar.specs.declared.grammar.tree.Use.{Use}
+use Rattle.task_codes.specs.CodeValue.{retained_of}
 use Rattle.plant.specs.Steps.Drafts.{drafted, IsCodeLinked}
 use Rattle.plant.proofs.LinkedCodes.{linked_copy, producers_known, taken_known}
 use Rattle.plant.proofs.sources.link.link_runs.Goals as goal
@@ -52,7 +53,8 @@ new-requires c =
     let placed = rw (c.as_slice-3.ensures.value, c.as_slice-4.ensures.value) at c.in_ok-bindings.ensures in
     let programs : c.in_ok-programs.programs.items ≡ draft.programs = c.in_ok-programs.ensures ∙ c.programs-2.ensures.list in
     let outputs : c.in_ok-outputs.outputs.items ≡ draft.outputs = c.in_ok-outputs.ensures.items ∙ c.outputs.ensures in
-    let is = linked_copy plant us draft fs ps es bs c.programs.ensures.outputs many c.requires.once fed feeds producers kinds placed c.in_ok-programs.programs.items c.in_ok-outputs.outputs.items programs outputs in
+    let retained : c.in_ok-retained.retained.items ≡ retained_of draft.programs = c.in_ok-retained.ensures ∙ ap retained_of c.programs-3.ensures.list in
+    let is = linked_copy plant us draft fs ps es bs c.programs.ensures.outputs many c.requires.once fed feeds producers kinds placed c.in_ok-programs.programs.items c.in_ok-outputs.outputs.items c.in_ok-retained.retained.items programs outputs retained in
     is.sound
 
 pub returns-clause-ok : goal.returns-clause-ok
@@ -72,7 +74,8 @@ returns-clause-ok c =
     let placed = rw (c.as_slice-3.ensures.value, c.as_slice-4.ensures.value) at c.in_ok-bindings.ensures in
     let programs : c.in_ok-programs.programs.items ≡ draft.programs = c.in_ok-programs.ensures ∙ c.programs-2.ensures.list in
     let outputs : c.in_ok-outputs.outputs.items ≡ draft.outputs = c.in_ok-outputs.ensures.items ∙ c.outputs.ensures in
-    let is = linked_copy plant us draft fs ps es bs c.programs.ensures.outputs many c.requires.once fed feeds producers kinds placed c.in_ok-programs.programs.items c.in_ok-outputs.outputs.items programs outputs in
+    let retained : c.in_ok-retained.retained.items ≡ retained_of draft.programs = c.in_ok-retained.ensures ∙ ap retained_of c.programs-3.ensures.list in
+    let is = linked_copy plant us draft fs ps es bs c.programs.ensures.outputs many c.requires.once fed feeds producers kinds placed c.in_ok-programs.programs.items c.in_ok-outputs.outputs.items c.in_ok-retained.retained.items programs outputs retained in
     subst (IsCodeLinked plant us draft) (sym c.new.ensures) is
 
 pub returns-in_err-feeds-clause-refused : goal.returns-in_err-feeds-clause-refused

@@ -1,7 +1,17 @@
+use Rattle.std.proofs.Common.{◌≡◌, ◌≢◌, ◌++◌, ◌∙◌, List, All}
+use Rattle.plant_text.specs.declared.token.Token.{Token}
+use Rattle.plant_grammar.specs.declared.grammar_fault.GrammarFaultKind.TheVariants.{Memory}
+use Rattle.plant_grammar.specs.declared.grammar.tree.Section.{Section}
+use Rattle.plant_grammar.specs.declared.grammar.tree.NameList.{NameList}
+use Rattle.plant_grammar.specs.Grammar.{section_words, lists_words}
+use Rattle.plant_grammar.specs.Lawful.{lists_variables, IsListLawful}
+use Rattle.plant_grammar.specs.Steps.ReadParts.{AreVariables}
 use Rattle.plant_grammar.specs.NameFaults.{IsOfName, RefusesBlock}
 use Rattle.plant_grammar.specs.Steps.Declaring.{BeginWith}
 use Rattle.lists.proofs.Results.{kept_fault}
 use Rattle.plant_grammar.proofs.RefusedPlaces.{in_block}
+use Rattle.plant_grammar.proofs.OneTree.{section_starts}
+use Rattle.plant_grammar.proofs.LawfulPrograms.{lists_allowed}
 use Rattle.plant_grammar.proofs.grammar.reader.Reader.block.Goals as goal
 
 pub returns-in_err-lists-clause-names : goal.returns-in_err-lists-clause-names
@@ -9,3 +19,17 @@ returns-in_err-lists-clause-names c =
     let fault = c.in_err-lists.field-0.0 in
     kept_fault fault (λ f. IsOfName f.kind → BeginWith (RefusesBlock f.kind c.args.variables.now) (c.args.self.now.words)) c.from_residual-in_err-lists.result c.from_residual-in_err-lists.ensures.1
     (λ of. in_block fault.kind c.in_ok-section.section c.args.variables.now c.args.self.now.words c.section.new.self.words c.in_ok-section.ensures.ok (c.in_err-lists.ensures.names of))
+
+pub returns-in_err-section-clause-other : goal.returns-in_err-section-clause-other
+returns-in_err-section-clause-other c =
+    let fault = c.in_err-section.field-0.0 in
+    let words = c.args.self.now.words in
+    kept_fault fault (λ f. f.kind ≢ Memory → (s : Section) (ls : List NameList) (rest : List Token) → words ≡ section_words s ++ (lists_words ls ++ rest) → All (IsListLawful s) ls → AreVariables (c.args.variables.now ++ lists_variables s ls) → ⊥) c.from_residual.result c.from_residual.ensures.1
+    (λ known s ls rest e lawful are. let first = section_starts s (lists_words ls ++ rest) in c.in_err-section.ensures.other s first.0 (e ∙ first.1))
+
+pub returns-in_err-lists-clause-other : goal.returns-in_err-lists-clause-other
+returns-in_err-lists-clause-other c =
+    let fault = c.in_err-lists.field-0.0 in
+    let words = c.args.self.now.words in
+    kept_fault fault (λ f. f.kind ≢ Memory → (s : Section) (ls : List NameList) (rest : List Token) → words ≡ section_words s ++ (lists_words ls ++ rest) → All (IsListLawful s) ls → AreVariables (c.args.variables.now ++ lists_variables s ls) → ⊥) c.from_residual-in_err-lists.result c.from_residual-in_err-lists.ensures.1
+    (λ known s ls rest e lawful are. lists_allowed c.in_ok-section.section s c.args.variables.now ls words c.section.new.self.words rest c.in_ok-section.ensures.ok c.in_ok-section.ensures.whole e lawful are (c.in_err-lists.ensures.other known))

@@ -1,6 +1,6 @@
 use Rattle.std.proofs.Common.{◌≡◌, ◌≢◌, ◌++◌, List, All, refl, ◌∙◌}
 use Rattle.plant_grammar.specs.Lawful.{block_variables, IsBlockLawful}
-use Rattle.plant_grammar.specs.Grammar.{section_word, block_words}
+use Rattle.plant_grammar.specs.Grammar.{block_words}
 use Rattle.plant_grammar.proofs.WordLists.{words_more, declared_more, all_more}
 use Rattle.plant_grammar.specs.NameFaults.{IsOfName, RefusesBlocks}
 use Rattle.plant_grammar.specs.Steps.Declaring.{BeginWith}
@@ -11,7 +11,7 @@ use Rattle.plant_grammar.specs.declared.grammar_fault.GrammarFaultKind.TheVarian
 use Rattle.std.specs.List.{flat_map}
 use Rattle.plant_grammar.specs.declared.grammar.tree.VarBlock.{VarBlock}
 use Rattle.plant_grammar.specs.Steps.Lines.{IsNoneNext}
-use Rattle.plant_grammar.specs.Steps.ReadParts.{AreVariables}
+use Rattle.plant_grammar.specs.Steps.ReadParts.{section_start, AreVariables}
 use Rattle.plant_grammar.proofs.LawfulPrograms.{block_allowed}
 use Rattle.plant_grammar.proofs.grammar.reader.Reader.blocks.Goals as goal
 
@@ -32,6 +32,6 @@ returns-in_err-block-clause-names c =
 pub returns-in_err-block-clause-other : goal.returns-in_err-block-clause-other
 returns-in_err-block-clause-other c =
     let fault = c.in_err-block.field-0.0 in
-    kept_fault fault (λ f. f.kind ≢ Memory → (bs : List VarBlock) (rest : List Token) → c.args.self.now.words ≡ flat_map block_words bs ++ rest → IsNoneNext section_word rest → All IsBlockLawful bs → AreVariables (c.args.variables.now ++ flat_map block_variables bs) → ⊥) c.from_residual.result c.from_residual.ensures.1
+    kept_fault fault (λ f. f.kind ≢ Memory → (bs : List VarBlock) (rest : List Token) → c.args.self.now.words ≡ flat_map block_words bs ++ rest → IsNoneNext section_start rest → All IsBlockLawful bs → AreVariables (c.args.variables.now ++ flat_map block_variables bs) → ⊥) c.from_residual.result c.from_residual.ensures.1
     (λ known bs rest e none lawful are. block_allowed c.args.variables.now c.sections.variables c.sections.blocks.items bs c.args.self.now.words c.sections.self.words rest c.sections.invariant.words c.sections.invariant.declared (c.sections-test.ensures.yes refl) e none lawful are
     (c.in_err-block.ensures.other known))

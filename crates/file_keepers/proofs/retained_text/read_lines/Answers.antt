@@ -1,0 +1,18 @@
+-- One more line, or a text that goes on otherwise.
+use Rattle.std.proofs.Common.{arith, rules, List, ℕ, Option, Some, map, subst}
+use Rattle.std.specs.Option.{option_map}
+use Rattle.std_blocks.specs.declared.value.Value.{Value}
+use Rattle.file_keepers.specs.Steps.Reading.{IsLineRead}
+use Rattle.file_keepers.proofs.ReadTexts.{no_variable, read_none, read_more_at, read_departs_at}
+use Rattle.file_keepers.proofs.retained_text.read_lines.Goals as goal
+
+pub loop-k-init : goal.loop-k-init
+loop-k-init c = search (rules, read_none)
+
+pub loop-k-preserved : goal.loop-k-preserved
+loop-k-preserved c =
+    read_more_at c.args.code.now c.args.text.now c.args.variables.now c.loop-k.k c.loop-k.values.items c.push.new.self.items c.loop-k.rest.now c.in-Some.value c.in-Some.behind.now
+    c.requires (omega arith) c.loop-k.invariant (rw c.in-Some.is at c.in_ok-value.ensures) c.in-Ok.ensures.items
+
+pub returns-in_default-clause-fault : goal.returns-in_default-clause-fault
+returns-in_default-clause-fault c = search (rules, read_departs_at)

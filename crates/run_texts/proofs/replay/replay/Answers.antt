@@ -1,0 +1,9 @@
+-- The world opens as the journals did.
+use Rattle.std.proofs.Common.{sym, subst}
+use Rattle.exchange.specs.History.{AreOpenings}
+use Rattle.run_texts.proofs.Replaying.{openings_suit}
+use Rattle.run_texts.proofs.replay.replay.Goals as goal
+
+pub is_replayed-requires-clause-opening : goal.is_replayed-requires-clause-opening
+is_replayed-requires-clause-opening c =
+    rw (c.deref-2.ensures.value, c.in_ok-opening.ensures, c.as_slice-journals.ensures) (openings_suit c.args.plant.value 4294967295 c.args.report.now.journals c.requires.journals)

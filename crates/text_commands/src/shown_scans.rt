@@ -1,0 +1,87 @@
+ghost use Rattle.std.specs.Prelude.{OnOk, IfOk, IfErr, All, string_bytes};
+ghost use Rattle.power_flow.specs.LadderValue.{Fits};
+ghost use Rattle.text_commands.specs.Rows.{IsBoolAt};
+ghost use Rattle.text_commands.specs.Steps.Showing.{IsShownScan, IsShownTrace, StopsShown, WritesShown};
+
+use crate::eval_command::set_rows;
+use crate::line::state_line;
+use crate::live_drawing::push_drawing;
+use crate::row::Row;
+use crate::rows::scan_count;
+use power_flow::{Ladder, State};
+use std::alloc::{AllocError, Global};
+use std::io::Write;
+use text_writer::{SendFault, write_text};
+
+/// Makes a scan; its line, and the drawing with what has power in it.
+fn shown_scan(
+    alloc: Global,
+    ladder: &Ladder,
+    drawing: &str,
+    state: &mut State,
+    dt: u32,
+    color: bool,
+) -> Result<String, AllocError>
+    requires { Fits ladder.now state.old }
+    ensures shown { IfOk result
+        (λ text. IsShownScan drawing.now color ladder.now dt state.old state.new (string_bytes text)) }
+    ensures fits { Fits ladder.now state.new }
+{
+    let shown = ladder.power(alloc, state, dt)?;
+    let mut text = state_line(alloc, ladder.declarations(), state)?;
+    push_drawing(&mut text, alloc, drawing, ladder, &shown, color)?;
+    Ok(text)
+}
+
+/// The states after each of so many scans, and the lines of the scans with their drawings.
+pub fn trace_drawings(
+    alloc: Global,
+    ladder: &Ladder,
+    drawing: &str,
+    rows: &[Row<'_>],
+    scans: usize,
+    dt: u32,
+    color: bool,
+) -> Result<(Vec<State>, String), AllocError>
+    requires { All (λ row. IsBoolAt ladder.now.declarations row.place) rows.now }
+    ensures { IfOk result (λ made. IsShownTrace drawing.now color ladder.now.declarations ladder.now.networks dt rows.now
+        scans made.0.items (string_bytes made.1)) }
+{
+    let mut states = Vec::new(alloc);
+    let mut text = String::new(alloc);
+    let mut state = ladder.initial(alloc)?;
+    for k in 0..scans {
+        set_rows(rows, k, &mut state);
+        let shown = shown_scan(alloc, ladder, drawing, &mut state, dt, color)?;
+        text.push_str(shown.as_str())?;
+        states.push(state.try_copy()?)?;
+    }
+    Ok((states, text))
+}
+
+/// Makes the scans that the rows ask for, and writes after each its line and its drawing.
+pub fn write_drawings<W: Write>(
+    alloc: Global,
+    ladder: &Ladder,
+    drawing: &str,
+    rows: &[Row<'_>],
+    dt: u32,
+    color: bool,
+    writer: &mut W,
+) -> Result<(), SendFault>
+    requires { All (λ row. IsBoolAt ladder.now.declarations row.place) rows.now }
+    ensures ok { OnOk result
+        (WritesShown drawing.now color ladder.now.declarations ladder.now.networks dt rows.now
+        (W.contents writer.old) (W.contents writer.new)) }
+    ensures stopped { IfErr result
+        (λ fault. StopsShown drawing.now color ladder.now.declarations ladder.now.networks dt rows.now fault
+        (W.contents writer.old) (W.contents writer.new)) }
+{
+    let mut state = ladder.initial(alloc)?;
+    for k in 0..scan_count(rows) {
+        set_rows(rows, k, &mut state);
+        let text = shown_scan(alloc, ladder, drawing, &mut state, dt, color)?;
+        write_text(writer, text.as_str())?;
+    }
+    Ok(())
+}

@@ -1,0 +1,55 @@
+"""rt.py WORD..: rt, the command of the Rattle kit, with the sum of each crate made once.
+
+By a sum over a crate and all below it rt tells whether its library still fits. rt makes the sum of a crate anew on each
+way down to it, and from plc_main there are 32,000 ways: 50 seconds each time. Here a sum is made once while that of a crate above
+is made. An rt that is built otherwise runs as it is.
+"""
+import importlib.machinery
+import importlib.util
+import os
+import shutil
+import sys
+
+sys.dont_write_bytecode = True
+
+
+def load(path):
+    """The script at this path as a module."""
+    loader = importlib.machinery.SourceFileLoader("rt", path)
+    module = importlib.util.module_from_spec(importlib.util.spec_from_loader("rt", loader))
+    loader.exec_module(module)
+    return module
+
+
+def each_once(sum_of):
+    """The same sums, each made once while an outer one is made."""
+    made, depth = {}, 0
+
+    def sum_once(crate):
+        nonlocal depth
+        if crate.folder in made:
+            return made[crate.folder]
+        depth += 1
+        try:
+            made[crate.folder] = sum_of(crate)
+            return made[crate.folder]
+        finally:
+            depth -= 1
+            if not depth:
+                made.clear()
+
+    return sum_once
+
+
+def main(words):
+    path = shutil.which("rt")
+    try:
+        rt = load(path)
+        crate = rt.rtlib.Crate
+        crate.stamp = each_once(crate.stamp)
+    except (AttributeError, ImportError, SyntaxError, UnicodeDecodeError):
+        os.execv(path, [path, *words])
+    return rt.main(words)
+
+
+sys.exit(main(sys.argv[1:]))
