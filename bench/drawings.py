@@ -131,21 +131,21 @@ def interlock():
         names = [f"A{first + number:02}" for number in range(6)]
         made += [
             "|  " + "".join(name.ljust(7) for name in [*names, other, drive]),
-            "+--| |-+" + "--| |--" * 5 + "--|/|----( )",
+            "+--| |--+-| |--" + "--| |--" * 4 + "--|/|----( )",
             f"|  {drive.ljust(5)}|",
-            "+--| |-+",
+            "+--| |--+",
         ]
     return "\n".join([*made, "|  LIFT   LOWER  CLASH", "+--| |----| |----( )"]) + "\n"
 
 
-def waiting(time):
-    """A timer of so many milliseconds whose elapsed time no variable shows, and a claim on its output that holds."""
+def waiting(seconds):
+    """A timer of so many seconds whose elapsed time no variable shows, and a claim on its output that holds."""
     made = [
         "|             T1",
         "|         +-------+",
         "|  GO     |  TON  |   Y",
         "+--| |----|IN    Q|---( )",
-        f"|T#{time}ms".ljust(10, "-") + "|PT     |",
+        f"|T#{seconds}s".ljust(10, "-") + "|PT     |",
         "|         +-------+",
         "|  Y    Y    NEVER",
         "+--| |--|/|--( )",
