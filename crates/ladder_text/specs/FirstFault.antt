@@ -1,9 +1,10 @@
 -- The first fault of a text: each kind of fault as a property of a place, and which of all faults is told.
-use Rattle.std.specs.Prelude.{ℕ, ◌+◌, ◌-◌, ◌≡◌, ◌≢◌, ◌<◌, ◌⊎◌, IsTrue, List, length, take, min, slice_get, Bool, Some}
+use Rattle.std.specs.Prelude.{ℕ, ◌≡◌, ◌≢◌, ◌<◌, ◌⊎◌, IsTrue, List, length, take, slice_get, Bool, Some}
 use Rattle.std.specs.List.{Any, list_any}
 use Rattle.ladder_text.specs.declared.draw_fault.DrawFault.{DrawFault}
 use Rattle.ladder_text.specs.declared.draw_fault.DrawFaultKind.{DrawFaultKind}
 use Rattle.ladder_text.specs.declared.draw_fault.DrawFaultKind.TheVariants as kind
+use Rattle.drawings.specs.Lines.{line_of_row}
 use Rattle.drawings.specs.declared.drawn_box.DrawnPin.{DrawnPin}
 use Rattle.drawings.specs.declared.drawn_box.Operand.{Operand}
 use Rattle.ladder_rows.specs.declared.boxes.outline.Outline.{Outline}
@@ -98,11 +99,10 @@ pub record IsFirstDrawFault (d : Rows) (k : DrawFaultKind) (r c : ℕ) : Type 0 
   pub place : IsFirstAt (IsDrawFaultAt d k) r c
   pub before : (earlier : DrawFaultKind) → rank earlier < rank k → (i j : ℕ) → IsDrawFaultAt d earlier i j → ⊥
 
--- The fault of a text is its first one, with the lines counted on from that of its first row
--- (the greatest number, where that is greater).
+-- The fault of a text is its first one, with the lines counted on from that of its first row.
 -- Where there was no memory left, line and column are 0.
 pub record TellsFirstFault (text : List ℕ) (first_line : ℕ) (fault : DrawFault) : Type 0 where
   pub memory : fault.kind ≡ kind.Memory → (fault.line ≡ 0) × (fault.column ≡ 0)
   pub first : fault.kind ≢ kind.Memory
       → (row : ℕ) × IsFirstDrawFault (rows_of text) fault.kind row fault.column
-      × (fault.line ≡ min (first_line + row - 1) 18446744073709551615)
+      × (fault.line ≡ line_of_row first_line row)

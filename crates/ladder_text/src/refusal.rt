@@ -1,6 +1,7 @@
 //! Why a reading ends, before the lines have numbers.
 
-ghost use Rattle.std.specs.Prelude.{◌≡◌, ◌≢◌, ◌≤◌, ◌+◌, ◌-◌, min};
+ghost use Rattle.std.specs.Prelude.{◌≡◌, ◌≢◌};
+ghost use Rattle.drawings.specs.Lines.{line_of_row};
 ghost use Rattle.ladder_text.specs.declared.draw_fault.DrawFaultKind.TheVariants.{Memory};
 
 use crate::draw_fault::{DrawFault, DrawFaultKind};
@@ -28,10 +29,9 @@ impl From<AllocError> for Refusal {
 impl Refusal {
     /// The fault, where the first row has a number.
     pub fn on_lines(self, first_line: u64) -> DrawFault
-        requires { 1 ≤ first_line }
         ensures kind { result.kind ≡ self.kind }
         ensures memory { self.kind ≡ Memory → (result.line ≡ 0) × (result.column ≡ 0) }
-        ensures line { self.kind ≢ Memory → result.line ≡ min (first_line + self.place.row - 1) u64.MAX }
+        ensures line { self.kind ≢ Memory → result.line ≡ line_of_row first_line self.place.row }
         ensures column { self.kind ≢ Memory → result.column ≡ self.place.column }
     {
         if self.kind == DrawFaultKind::Memory {
@@ -43,7 +43,7 @@ impl Refusal {
         }
         DrawFault {
             kind: self.kind,
-            line: (first_line - 1).saturating_add(self.place.row as u64),
+            line: first_line.saturating_add(self.place.row.saturating_sub(1) as u64),
             column: self.place.column,
         }
     }

@@ -1,7 +1,8 @@
 -- The networks of a drawing.
-use Rattle.std.specs.Prelude.{◌≡◌, ◌≢◌, ℕ, ◌+◌, ◌-◌, min, ◌<◌, ◌≤◌, ◌⊎◌, ◌↔◌, List, Some, IsTrue, Contains, slice_get, length}
+use Rattle.std.specs.Prelude.{◌≡◌, ◌≢◌, ℕ, ◌+◌, ◌<◌, ◌≤◌, ◌⊎◌, ◌↔◌, List, Some, IsTrue, Contains, slice_get, length}
 use Rattle.std.specs.Str.{str_eq_ignore_ascii_case}
 use Rattle.drawings.specs.Picture.{Picture, mark_at}
+use Rattle.drawings.specs.Lines.{line_of_row}
 use Rattle.drawings.specs.declared.mark.Mark.TheVariants.{Rail as RailMark, Wire as WireMark, Join as JoinMark, Upright as UprightMark}
 use Rattle.drawings.specs.declared.place.Place.{Place}
 use Rattle.drawings.specs.declared.drawn_box.DrawnBox.{DrawnBox}
@@ -124,10 +125,9 @@ IsFirstGraphFaultAt g InstanceTwice p = HoldsNowhere (IsUnattachedAt g) × Holds
     × IsFirst (IsTwiceAt g) p
 IsFirstGraphFaultAt g Memory p = ⊥
 
--- the fault is at the line and column of p, in a drawing that begins with this line;
--- where no number is as great as that line, at the greatest
+-- the fault is at the line and column of p, in a drawing that begins with this line
 pub record GraphFaultLiesAt (first_line : ℕ) (p : Place) (fault : GraphFault) : Type 0 where
-  pub line : fault.line ≡ min (first_line + (p.row - 1)) 18446744073709551615
+  pub line : fault.line ≡ line_of_row first_line p.row
   pub column : fault.column ≡ p.column
 
 -- a fault other than want of memory is the first one of the drawing's networks, and is told with its place

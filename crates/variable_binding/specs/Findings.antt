@@ -1,4 +1,5 @@
-use Rattle.std.specs.Prelude.{◌≡◌, ℕ, ◌+◌, ◌-◌, min, ◌<◌, ◌≤◌, ◌⊎◌, List, Any}
+use Rattle.std.specs.Prelude.{◌≡◌, ℕ, ◌<◌, ◌≤◌, ◌⊎◌, List, Any}
+use Rattle.drawings.specs.Lines.{line_of_row}
 use Rattle.network.specs.declared.element.Element.{Element}
 use Rattle.network.specs.GraphValue.{GraphValue}
 use Rattle.variable_binding.specs.declared.bind_fault.BindKind.{BindKind}
@@ -28,7 +29,7 @@ ComesNoLater f g = (kind_rank f.kind < kind_rank g.kind)
 abbrev pub bind_fault : ℕ → Finding → BindFault
 bind_fault first_line f = record {
   kind = f.kind;
-  line = min (first_line + f.row) 18446744073709551615 - 1;
+  line = line_of_row first_line f.row;
   column = f.column;
 }
 

@@ -67,9 +67,7 @@ pub fn fault_at(first_line: u64, finding: Finding) -> BindFault
 {
     BindFault {
         kind: finding.kind,
-        line: first_line
-            .saturating_add(finding.row as u64)
-            .saturating_sub(1),
+        line: first_line.saturating_add(finding.row.saturating_sub(1) as u64),
         column: finding.column,
     }
 }
