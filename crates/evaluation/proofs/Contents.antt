@@ -1,16 +1,26 @@
 -- Evaluations with the same contents are equal, since the waiting places of a state are those of its code.
-use Rattle.std.proofs.Common.{◌≡◌, List, refl, sym, subst}
+use Rattle.std.proofs.Common.{◌≡◌, List, refl, sym, subst, ap}
 use Rattle.power_flow.specs.StateValue.{StateValue}
 use Rattle.task_codes.specs.CodeValue.{CodeValue}
 use Rattle.evaluation.specs.States.{AreStatesOf}
 use Rattle.evaluation.specs.Meaning.{Evaluated, IsWhole}
+use Rattle.evaluation.specs.Messages.{MessageValue}
 use Rattle.evaluation.specs.Steps.Contents.{HaveSameContents}
 use Rattle.evaluation.proofs.InitialStates.{same_as_itself, states_of_one}
 
 pub equal_contents : (x y : Evaluated) → IsWhole x → IsWhole y → HaveSameContents x y → x ≡ y
 equal_contents x y one other same =
-    rw (same.ticket, same.name, same.heard, same.dt, same.inputs, same.takes, before, same.outputs, after, same.code) refl
+    rw (same.ticket, name, heard, same.dt, same.inputs, same.takes, before, outputs, after, same.code) refl
   where
+    name : x.name ≡ y.name
+    name = ap (λ (m : MessageValue). m.name) same.message
+
+    heard : x.heard ≡ y.heard
+    heard = ap (λ (m : MessageValue). m.heard) same.message
+
+    outputs : x.outputs ≡ y.outputs
+    outputs = ap (λ (m : MessageValue). m.image) same.message
+
     of_x : (states : List StateValue) → AreStatesOf y.code states → AreStatesOf x.code states
     of_x states fit = subst (λ (c : CodeValue). AreStatesOf c states) (sym same.code) fit
 
@@ -23,13 +33,11 @@ equal_contents x y one other same =
 pub own_contents : (x y : Evaluated) → x ≡ y → HaveSameContents x y
 own_contents x y e = subst (HaveSameContents x) e record {
   ticket = refl;
-  name = refl;
-  heard = refl;
+  message = refl;
   dt = refl;
   inputs = refl;
   takes = refl;
   before = same_as_itself x.before;
-  outputs = refl;
   after = same_as_itself x.after;
   code = refl;
 }

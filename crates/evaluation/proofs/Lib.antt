@@ -6,3 +6,4 @@ pub mod InitialStates
 pub mod RetainedStates
 pub mod Meant
 pub mod FieldInputs
+pub mod TakenAlike

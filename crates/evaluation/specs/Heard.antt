@@ -8,9 +8,13 @@ abbrev pub is_number : ℕ → Option ℕ → Bool
 is_number n None = false
 is_number n (Some m) = m == n
 
+-- These numbers, of which a maker had heard, address an incarnation of resource n: the one of which it had heard.
+abbrev pub addresses : List ℕ → ℕ → ℕ → Bool
+addresses heard n incarnation = is_number incarnation (slice_get heard n)
+
 -- An evaluation is addressed to an incarnation of resource n: to the one of which its maker had heard.
 abbrev pub is_addressed : Evaluated → ℕ → ℕ → Bool
-is_addressed x n incarnation = is_number incarnation (slice_get x.heard n)
+is_addressed x n incarnation = addresses x.heard n incarnation
 
 -- the greatest of a first number and of these
 abbrev pub greatest : ℕ → List ℕ → ℕ

@@ -6,6 +6,7 @@ pub mod Retained
 pub mod Meaning
 pub mod Heard
 pub mod Last
+pub mod Messages
 pub mod Laws
 pub mod InputTexts
 pub mod Steps

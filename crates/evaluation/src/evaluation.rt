@@ -1,6 +1,7 @@
 use crate::fill::fill_programs;
 use crate::image::Image;
 use crate::inputs::Inputs;
+use crate::message::Message;
 use crate::name::Name;
 use crate::outputs::read_outputs;
 use crate::scan::scan_programs;
@@ -15,13 +16,12 @@ use task_codes::TaskCode;
 #[derive(Drop)]
 pub struct Evaluation {
     ticket: u64,
-    name: Name,
-    heard: Vec<u32>,
+    /// Its name, what its maker had heard, and what it gave.
+    message: Message,
     dt: u32,
     inputs: Inputs,
     takes: Vec<Take>,
     before: TaskState,
-    outputs: Image,
     after: TaskState,
     code: Arc<TaskCode>,
 }
@@ -31,11 +31,11 @@ impl Model for Evaluation {
 
     ghost Value = { Evaluated };
 
-    ghost view = { λ e. evaluated e.ticket e.name e.heard.items e.dt e.inputs e.takes.items e.before e.code.value e.outputs e.after };
+    ghost view = { λ e. evaluated e.ticket e.message.name e.message.heard e.dt e.inputs e.takes.items e.before e.code.value e.message.image e.after };
 
     ghost invariant = { λ e.
-        IsMeant (evaluated e.ticket e.name e.heard.items e.dt e.inputs e.takes.items e.before e.code.value e.outputs e.after)
-        × IsWhole (evaluated e.ticket e.name e.heard.items e.dt e.inputs e.takes.items e.before e.code.value e.outputs e.after) };
+        IsMeant (evaluated e.ticket e.message.name e.message.heard e.dt e.inputs e.takes.items e.before e.code.value e.message.image e.after)
+        × IsWhole (evaluated e.ticket e.message.name e.message.heard e.dt e.inputs e.takes.items e.before e.code.value e.message.image e.after) };
 }
 
 ghost use Rattle.std.specs.Prelude.{◌≡◌, ◌↔◌, IsTrue, IfOk, Some, map, slice_get};
@@ -45,6 +45,7 @@ ghost use Rattle.evaluation.specs.Takes.{AreTakesOf};
 ghost use Rattle.evaluation.specs.States.{AreStatesOf};
 ghost use Rattle.evaluation.specs.Meaning.{Means, IsMeant, IsWhole, IsAsked};
 ghost use Rattle.evaluation.specs.Heard.{is_addressed};
+ghost use Rattle.evaluation.specs.Messages.{message_of};
 ghost use Rattle.evaluation.specs.Steps.Contents.{HaveSameContents};
 
 /// The outputs and the state after.
@@ -71,13 +72,6 @@ fn outcome(
     Ok((outputs, after))
 }
 
-/// Whether both have the same numbers in the same order.
-fn are_same_numbers(numbers: &[u32], others: &[u32]) -> bool
-    ensures { IsTrue result ↔ (numbers.now ≡ others.now) }
-{
-    numbers == others
-}
-
 impl Evaluation {
     /// Evaluates a task: its outputs and the state after are computed here, and nowhere else. `dt` is the elapsed time in milliseconds.
     pub fn make(
@@ -97,15 +91,14 @@ impl Evaluation {
         ensures { IfOk result (λ e. IsAsked ticket name heard.items dt inputs takes.items before code.value e) }
     {
         let (outputs, after) = outcome(alloc, &code, &inputs, takes.as_slice(), dt, &before)?;
+        let message = Message::of(alloc, name, heard, outputs)?;
         Ok(Evaluation {
             ticket,
-            name,
-            heard,
+            message,
             dt,
             inputs,
             takes,
             before,
-            outputs,
             after,
             code,
         })
@@ -118,11 +111,18 @@ impl Evaluation {
         self.ticket
     }
 
+    /// What of it goes to other resources.
+    pub fn message(&self) -> &Message
+        ensures { result.now ≡ message_of self.now }
+    {
+        &self.message
+    }
+
     /// Its name.
     pub fn name(&self) -> Name
         ensures { result ≡ self.now.name }
     {
-        self.name
+        self.message.name()
     }
 
     /// Of which incarnation of each resource its maker had heard, one number for each resource. Of the own resource it is the name's.
@@ -130,17 +130,14 @@ impl Evaluation {
         ensures value { result.now ≡ self.now.heard }
         ensures whole { IsWhole self.now }
     {
-        self.heard.as_slice()
+        self.message.heard()
     }
 
     /// Whether it is addressed to this incarnation of a resource: whether that is the one of which its maker had heard.
     pub fn is_addressed(&self, resource: usize, incarnation: u32) -> bool
         ensures { result ≡ is_addressed self.now resource incarnation }
     {
-        match self.heard.get(resource) {
-            None => false,
-            Some(heard) => *heard == incarnation,
-        }
+        self.message.is_addressed(resource, incarnation)
     }
 
     /// The time since the evaluation before, in milliseconds.
@@ -179,7 +176,7 @@ impl Evaluation {
         ensures meant { IsMeant self.now }
         ensures whole { IsWhole self.now }
     {
-        &self.outputs
+        self.message.image()
     }
 
     /// The state after.
@@ -211,13 +208,11 @@ impl Evaluation {
         ensures whole { IsWhole self.now × IsWhole other.now }
     {
         self.ticket == other.ticket
-            && self.name.same(&other.name)
-            && are_same_numbers(self.heard.as_slice(), other.heard.as_slice())
+            && self.message.same(&other.message)
             && self.dt == other.dt
             && self.inputs.same(&other.inputs)
             && are_same_takes(self.takes.as_slice(), other.takes.as_slice())
             && self.before.same(&other.before)
-            && self.outputs.same(&other.outputs)
             && self.after.same(&other.after)
             && self.code.same(&other.code)
     }

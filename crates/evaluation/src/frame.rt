@@ -1,5 +1,6 @@
 use crate::evaluation::Evaluation;
 use crate::image::Image;
+use crate::message::Message;
 use crate::name::Name;
 use std::alloc::{AllocError, Global};
 use std::marker::Model;
@@ -21,6 +22,7 @@ impl Model for Frame {
 
 ghost use Rattle.std.specs.Prelude.{◌≡◌, ◌↔◌, IsTrue, IfOk};
 ghost use Rattle.evaluation.specs.Meaning.{IsMeant, IsWhole};
+ghost use Rattle.evaluation.specs.Messages.{message_of};
 
 impl Frame {
     /// A frame of an evaluation.
@@ -46,6 +48,13 @@ impl Frame {
         ensures { result.now ≡ self.now }
     {
         &*self.shared
+    }
+
+    /// What of the evaluation goes to other resources.
+    pub fn message(&self) -> &Message
+        ensures { result.now ≡ message_of self.now }
+    {
+        self.shared.message()
     }
 
     /// The evaluation's name.
