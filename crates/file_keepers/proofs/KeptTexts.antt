@@ -1,5 +1,5 @@
 -- Which values a file keeps.
-use Rattle.std.proofs.Common.{arith, ◌≡◌, ◌≢◌, ℕ, ◌<◌, List, length, take, Option, Some, None, Result, Ok, Err, sym, ap, subst, ◌∙◌}
+use Rattle.std.proofs.Common.{arith, ◌≡◌, ℕ, ◌<◌, List, length, take, Some, None, Result, Ok, Err, sym, ap, subst, ◌∙◌}
 use Rattle.std.specs.Prelude.{IsErrAnd}
 use Rattle.std.specs.List.{AllByRecursion}
 use Rattle.std.specs.Global.{Vec}
@@ -8,10 +8,11 @@ use Rattle.std.proofs.lemmas.Option.{none-some}
 use Rattle.std_blocks.specs.declared.value.Value.{Value}
 use Rattle.task_codes.specs.CodeValue.{CodeValue}
 use Rattle.evaluation.specs.Retained.{Suits}
+use Rattle.line_parts.specs.ReadParts.{IsInRange}
 use Rattle.file_keepers.specs.declared.folder_fault.FolderFault.TheVariants.{Failed}
 use Rattle.file_keepers.specs.KnownFiles.{KnownFile, IsRead}
 use Rattle.file_keepers.specs.KnownFiles.KnownFile.{Unknown, Missing, Holding, Broken}
-use Rattle.file_keepers.specs.KeptRetained.{KeepsValues, KeepsNoValues, IsToldOf, IsInRange, retained_text, DepartsAt}
+use Rattle.file_keepers.specs.KeptRetained.{KeepsValues, KeepsNoValues, IsToldOf, retained_text, DepartsAt}
 use Rattle.file_keepers.specs.Steps.Reading.{IsLonger}
 use Rattle.keepers.specs.declared.keeper_fault.KeeperFault.{KeeperFault}
 use Rattle.keepers.specs.declared.keeper_fault.KeeperFault.TheVariants as fault

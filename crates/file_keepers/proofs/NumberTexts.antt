@@ -1,14 +1,9 @@
--- The texts of numbers: they are ASCII, shorter than what is read of a file, and differ for different numbers.
+-- The texts of numbers: they are shorter than what is read of a file, and differ for different numbers.
 use Rattle.std.proofs.Common.{arith, ◌≡◌, ℕ, ◌<◌, ◌≤◌, ◌^◌, ◌++◌, ◌∷◌, [], List, length, take, sym, ap, ◌∙◌}
 use Rattle.std.specs.Fmt.{decimal}
-use Rattle.std.specs.Str.{IsUtf8}
-use Rattle.std.proofs.lemmas.Fmt.{IsAscii-decimal, length-decimal-le, decimal_injective}
-use Rattle.std.proofs.lemmas.Str.{IsUtf8-from_ascii}
+use Rattle.std.proofs.lemmas.Fmt.{length-decimal-le, decimal_injective}
 use Rattle.std.proofs.lemmas.List.{length-append, length-take, take_all, append_cancel_right}
 use Rattle.file_keepers.specs.KeptNumbers.{number_text}
-
-pub digits_are_utf8 : (n : ℕ) → n < 2 ^ 32 → IsUtf8 (decimal n)
-digits_are_utf8 n h = IsUtf8-from_ascii (decimal n) (IsAscii-decimal n (omega (arith, h)))
 
 text_is_short : (n : ℕ) → n < 2 ^ 32 → length (number_text n) ≤ 11
 text_is_short n h = omega (arith, length-append (decimal n) (10 ∷ []), length-decimal-le 10 n (omega arith) (omega (arith, h)) (omega (arith, h)))

@@ -1,91 +1,26 @@
 -- Texts of retained variables that are read line by line.
-use Rattle.std.proofs.Common.{arith, ◌≡◌, ◌≢◌, ◌↔◌, IsTrue, ℕ, zero, suc, ◌+◌, ◌-◌, ◌<◌, ◌≤◌, ◌++◌, ◌∷◌, [], List, length, map, take, drop, get_or, slice_get, Option, Some, None, true, false, ℤ, sym, ap, refl, ◌∙◌, subst, append_assoc}
-use Rattle.std.specs.Prelude.{FitsSigned, Bool, ◌==◌, ◌^◌, nat_lt, slice_range}
-use Rattle.std.specs.Int.{w16}
-use Rattle.std.specs.List.{AllByRecursion, flat_map, zip, position, position_or_len}
-use Rattle.std.specs.Fmt.{decimal, signed_decimal}
+use Rattle.std.proofs.Common.{arith, ◌≡◌, ◌≢◌, ℕ, ◌+◌, ◌-◌, ◌<◌, ◌≤◌, ◌++◌, ◌∷◌, [], List, length, map, take, drop, get_or, slice_get, Option, Some, None, true, false, sym, ap, refl, ◌∙◌, subst, append_assoc}
+use Rattle.std.specs.Prelude.{Bool, ◌==◌, nat_lt}
+use Rattle.std.specs.List.{AllByRecursion, flat_map, zip, position_or_len}
 use Rattle.std.specs.Option.{option_map}
 use Rattle.std.proofs.lemmas.Bool.{eqb-true, lt-ltb}
-use Rattle.std.proofs.lemmas.List.{length-append, length-drop, length-map, flat_map_more, length-take, map-append, append-nil, take_all, take_more, drop_more, take-append-drop, append_cancel_left}
+use Rattle.std.proofs.lemmas.List.{length-append, length-drop, length-map, flat_map_more, length-take, map-append, append-nil, take_all, take-append-le, take_more, drop_more, take-append-drop, append_cancel_left}
 use Rattle.std.proofs.lemmas.Slice.Zip.{length-zip, get_or-zip}
 use Rattle.std.proofs.lemmas.List.Quantifiers.{position-Some}
 use Rattle.std.proofs.lemmas.Option.{none-some, same_Some, slice_get_within, get_or_from_slice_get, slice_get-get_or, slice_get-map}
 use Rattle.std_blocks.specs.declared.value.Value.{Value}
-use Rattle.std_blocks.specs.declared.value.Value.TheVariants.{Bool as BoolValue, Int as IntValue, Time as TimeValue}
+use Rattle.std_blocks.specs.declared.value.Value.TheVariants.{Bool as BoolValue}
 use Rattle.declared_names.specs.declared.declarations.Kind.{Kind}
 use Rattle.declared_names.specs.declared.declarations.Kind.TheVariants as kind
 use Rattle.declared_names.specs.Kinds.{kind_of}
 use Rattle.line_parts.specs.LineParts.{value_text}
+use Rattle.line_parts.specs.ReadParts.{IsInRange, IsBehind}
 use Rattle.task_codes.specs.declared.retained_variable.RetainedVariable.{RetainedVariable}
 use Rattle.task_codes.specs.CodeValue.{CodeValue, retained_kinds}
 use Rattle.evaluation.specs.Retained.{Suits}
-use Rattle.file_keepers.specs.KeptRetained.{IsInRange, before_value, line_text, retained_text, BeginsWith, Differs, DepartsAt}
-use Rattle.file_keepers.specs.Steps.Reading.{line_end, IsValueOf, IsBehind, IsLineRead, AreRead}
+use Rattle.file_keepers.specs.KeptRetained.{before_value, line_text, retained_text, BeginsWith, Differs, DepartsAt}
+use Rattle.file_keepers.specs.Steps.Reading.{line_end, IsValueOf, IsLineRead, AreRead}
 use Rattle.file_keepers.proofs.RetainedTexts.{HasNoFeed, no_feed_value, behind_name, lines_of}
-
--- a shorter text doesn't begin so
-pub behind_short : (text beginning : List ℕ) → length text < length beginning → IsBehind text beginning None
-behind_short text beginning short = λ rest e. omega (arith, short, ap (λ l. length l) e, length-append beginning rest)
-
-first_bytes : (xs ys : List ℕ) → take (length xs) (xs ++ ys) ≡ xs
-first_bytes [] ys = refl
-first_bytes (x ∷ xs) ys = ap (λ l. x ∷ l) (first_bytes xs ys)
-
--- a text begins so if its first bytes do
-pub behind_start : (text beginning start rest : List ℕ) → start ≡ take (length beginning) text → rest ≡ drop (length beginning) text → start ≡ beginning → IsBehind text beginning (Some rest)
-behind_start text beginning start rest first last is =
-    sym (take-append-drop (length beginning) text) ∙ ap (λ l. l ++ drop (length beginning) text) (sym first ∙ is) ∙ ap (λ l. beginning ++ l) (sym last)
-
-pub behind_other : (text beginning start : List ℕ) → start ≡ take (length beginning) text → (start ≡ beginning → ⊥) → IsBehind text beginning None
-behind_other text beginning start first other = λ rest e. other (first ∙ ap (take (length beginning)) e ∙ first_bytes beginning rest)
-
--- what stands between two bytes and two
-pub inner_text : (word text : List ℕ) → word ≡ 84 ∷ 35 ∷ (text ++ 109 ∷ 115 ∷ []) → slice_range word 2 (length word - 2) ≡ text
-inner_text word text is = ap (λ (w : List ℕ). slice_range w 2 (length w - 2)) is ∙ of
-  where
-    many : length (84 ∷ 35 ∷ (text ++ 109 ∷ 115 ∷ [])) - 2 - 2 ≡ length text
-    many = omega (arith, length-append text (109 ∷ 115 ∷ []))
-
-    of : slice_range (84 ∷ 35 ∷ (text ++ 109 ∷ 115 ∷ [])) 2 (length (84 ∷ 35 ∷ (text ++ 109 ∷ 115 ∷ [])) - 2) ≡ text
-    of = ap (λ n. take n (text ++ 109 ∷ 115 ∷ [])) many ∙ first_bytes text (109 ∷ 115 ∷ [])
-
-pub inner_long : (word text : List ℕ) → word ≡ 84 ∷ 35 ∷ (text ++ 109 ∷ 115 ∷ []) → length word < 4 → ⊥
-inner_long word text is short = omega (arith, short, ap (λ l. length l) is, length-append text (109 ∷ 115 ∷ []))
-
--- a BOOL is TRUE where its text is 1
-pub value_on : (word : List ℕ) (on : Bool) → (IsTrue on ↔ (word ≡ 49 ∷ [])) → (x : Value) → kind_of x ≡ kind.Bool → IsInRange x → word ≡ value_text x → Some (BoolValue on) ≡ Some x
-value_on word true one (BoolValue true) kind range is = refl
-value_on word true one (BoolValue false) kind range is = let h : 49 ≡ 48 = ap (λ l. get_or l 0 0) (sym (one.0 refl) ∙ is) in absurd (omega (arith, h))
-value_on word false one (BoolValue true) kind range is = let h : false ≡ true = one.1 is in absurd cc
-value_on word false one (BoolValue false) kind range is = refl
-value_on word on one (IntValue n) kind range is = absurd cc
-value_on word on one (TimeValue t) kind range is = absurd cc
-
--- an INT is what its text writes
-pub value_int : (word : List ℕ) (found : Option ℤ) (m : ℤ) → found ≡ Some m → ((n : ℤ) → FitsSigned w16 n → word ≡ signed_decimal n → found ≡ Some n)
-    → (x : Value) → kind_of x ≡ kind.Int → IsInRange x → word ≡ value_text x → Some (IntValue m) ≡ Some x
-value_int word found m at writes (BoolValue b) kind range is = absurd cc
-value_int word found m at writes (IntValue n) kind range is = ap (λ z. Some (IntValue z)) (same_Some m n (sym at ∙ writes n range is))
-value_int word found m at writes (TimeValue t) kind range is = absurd cc
-
-pub no_value_int : (word : List ℕ) (found : Option ℤ) → found ≡ None → ((n : ℤ) → FitsSigned w16 n → word ≡ signed_decimal n → found ≡ Some n)
-    → (x : Value) → kind_of x ≡ kind.Int → IsInRange x → word ≡ value_text x → None ≡ Some x
-no_value_int word found at writes (BoolValue b) kind range is = absurd cc
-no_value_int word found at writes (IntValue n) kind range is = absurd (none-some n (sym at ∙ writes n range is))
-no_value_int word found at writes (TimeValue t) kind range is = absurd cc
-
--- a TIME is what stands in its text
-pub value_time : (word inner : List ℕ) (found : Option ℕ) (m : ℕ) → found ≡ Some m → ((text : List ℕ) → word ≡ 84 ∷ 35 ∷ (text ++ 109 ∷ 115 ∷ []) → inner ≡ text)
-    → ((t : ℕ) → t < 2 ^ 32 → inner ≡ decimal t → found ≡ Some t) → (x : Value) → kind_of x ≡ kind.Time → IsInRange x → word ≡ value_text x → Some (TimeValue m) ≡ Some x
-value_time word inner found m at stands writes (BoolValue b) kind range is = absurd cc
-value_time word inner found m at stands writes (IntValue n) kind range is = absurd cc
-value_time word inner found m at stands writes (TimeValue t) kind range is = ap (λ z. Some (TimeValue z)) (same_Some m t (sym at ∙ writes t range (stands (decimal t) is)))
-
-pub no_value_time : (word inner : List ℕ) (found : Option ℕ) → found ≡ None → ((text : List ℕ) → word ≡ 84 ∷ 35 ∷ (text ++ 109 ∷ 115 ∷ []) → inner ≡ text)
-    → ((t : ℕ) → t < 2 ^ 32 → inner ≡ decimal t → found ≡ Some t) → (x : Value) → kind_of x ≡ kind.Time → IsInRange x → word ≡ value_text x → None ≡ Some x
-no_value_time word inner found at stands writes (BoolValue b) kind range is = absurd cc
-no_value_time word inner found at stands writes (IntValue n) kind range is = absurd cc
-no_value_time word inner found at stands writes (TimeValue t) kind range is = absurd (none-some t (sym at ∙ writes t range (stands (decimal t) is)))
 
 -- the first line feed stands behind a text without one
 end_later : (c : ℕ) (w rest : List ℕ) → c ≢ 10 → position_or_len (λ d. d == 10) (w ++ 10 ∷ rest) ≡ length w → position_or_len (λ d. d == 10) ((c ∷ w) ++ 10 ∷ rest) ≡ length (c ∷ w)
@@ -137,7 +72,7 @@ no_value_there code v text b end is at none =
     λ x rest begins.
     let here = behind_it code v text b x rest is begins in
     let same : end ≡ length (value_text x) = same_Some end (length (value_text x)) (sym at ∙ ap line_end here ∙ line_ends (value_text x) rest (no_feed_value x begins.in_range)) in
-    none x begins.kind_is begins.in_range (ap (take end) here ∙ ap (λ n. take n (value_text x ++ 10 ∷ rest)) same ∙ first_bytes (value_text x) (10 ∷ rest))
+    none x begins.kind_is begins.in_range (ap (take end) here ∙ ap (λ n. take n (value_text x ++ 10 ∷ rest)) same ∙ take-append-le (length (value_text x)) (value_text x) (10 ∷ rest) (omega arith) ∙ take_all (length (value_text x)) (value_text x) (omega arith))
 
 pub one_value_read : (code : CodeValue) (v : RetainedVariable) (text b : List ℕ) (end : ℕ) (x : Value) → IsBehind text (before_value code v) (Some b) → line_end b ≡ Some end
     → IsValueOf v.kind (take end b) (Some x) → BeginsWith code v text x (drop (end + 1) b)

@@ -7,13 +7,13 @@ use Rattle.std.proofs.lemmas.List.{length-append, length-map, length-take, appen
 use Rattle.std_blocks.specs.declared.value.Value.{Value}
 use Rattle.std_blocks.specs.declared.value.Value.TheVariants.{Bool as BoolValue, Int as IntValue, Time as TimeValue}
 use Rattle.declared_names.specs.declared.declarations.Kind.{Kind}
-use Rattle.declared_names.specs.declared.declarations.Kind.TheVariants as kind
 use Rattle.declared_names.specs.Kinds.{kind_of}
 use Rattle.line_parts.specs.LineParts.{value_text}
+use Rattle.line_parts.specs.ReadParts.{IsInRange}
 use Rattle.task_codes.specs.declared.retained_variable.RetainedVariable.{RetainedVariable}
-use Rattle.task_codes.specs.CodeValue.{CodeValue, retained_kinds}
+use Rattle.task_codes.specs.CodeValue.{CodeValue}
 use Rattle.evaluation.specs.Retained.{Suits}
-use Rattle.file_keepers.specs.KeptRetained.{IsInRange, before_value, line_text, retained_text, BeginsWith, Differs, DepartsAt}
+use Rattle.file_keepers.specs.KeptRetained.{before_value, line_text, retained_text, Differs, DepartsAt}
 use Rattle.file_keepers.specs.Steps.Reading.{longest, longest_of, IsLonger}
 
 -- a text without a line feed

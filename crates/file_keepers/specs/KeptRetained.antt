@@ -1,11 +1,9 @@
 -- The file in which a task's retained variables are kept, and what is told of it.
-use Rattle.std.specs.Prelude.{◌≡◌, ◌≢◌, ℕ, ◌<◌, ◌^◌, ◌++◌, FitsSigned, List, [], Option, Some, None, Result, Ok, Err, codes, map, take, slice_get}
+use Rattle.std.specs.Prelude.{◌≡◌, ◌≢◌, ℕ, ◌++◌, List, [], Option, Some, None, Result, Ok, Err, codes, map, take, slice_get}
 use Rattle.std.specs.List.{AllByRecursion, flat_map, zip}
-use Rattle.std.specs.Int.{w16}
 use Rattle.std.specs.Option.{option_map, option_and_then}
 use Rattle.std.specs.Fmt.{decimal}
 use Rattle.std_blocks.specs.declared.value.Value.{Value}
-use Rattle.std_blocks.specs.declared.value.Value.TheVariants.{Bool as BoolValue, Int as IntValue, Time as TimeValue}
 use Rattle.declared_names.specs.declared.declarations.Declaration.{Declaration}
 use Rattle.declared_names.specs.Kinds.{kind_of}
 use Rattle.plant_grammar.specs.Kinds.{items_or_none}
@@ -13,6 +11,7 @@ use Rattle.task_codes.specs.CodeValue.{ProgramValue, CodeValue, retained_kinds}
 use Rattle.task_codes.specs.declared.retained_variable.RetainedVariable.{RetainedVariable}
 use Rattle.evaluation.specs.Retained.{Suits, initial_retained}
 use Rattle.line_parts.specs.LineParts.{value_text}
+use Rattle.line_parts.specs.ReadParts.{IsInRange}
 use Rattle.keepers.specs.declared.keeper_fault.KeeperFault.{KeeperFault}
 use Rattle.keepers.specs.declared.keeper_fault.KeeperFault.TheVariants as fault
 use Rattle.file_keepers.specs.KnownFiles.{KnownFile}
@@ -51,12 +50,6 @@ KeepsValues Unknown code values = Unit {0}
 KeepsValues Missing code values = values ≡ initial_retained code
 KeepsValues (Holding bytes) code values = bytes ≡ retained_text code values
 KeepsValues Broken code values = ⊥
-
--- an INT is of 16 bits with a sign, a TIME of 32 without
-abbrev pub IsInRange : Value → Type 0
-IsInRange (BoolValue on) = Unit {0}
-IsInRange (IntValue n) = FitsSigned w16 n
-IsInRange (TimeValue t) = t < 2 ^ 32
 
 -- If anything is known of a file, it keeps no values of this code.
 abbrev pub KeepsNoValues : KnownFile → CodeValue → Type 0

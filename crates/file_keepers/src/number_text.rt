@@ -1,7 +1,7 @@
-ghost use Rattle.std.specs.Prelude.{◌≡◌, ◌↔◌, IsTrue, ◌<◌, ◌^◌, ℕ, IfOk, MatchOption, Some, string_bytes};
-ghost use Rattle.std.specs.Fmt.{decimal};
+ghost use Rattle.std.specs.Prelude.{◌≡◌, ◌<◌, ◌^◌, ℕ, IfOk, MatchOption, string_bytes};
 ghost use Rattle.file_keepers.specs.KeptNumbers.{number_text};
 
+use line_parts::{are_same, number_of};
 use std::alloc::{AllocError, Global};
 
 /// One more byte than the longest number has in the form in which it is kept.
@@ -12,22 +12,6 @@ pub(crate) fn number_text(alloc: Global, number: u32) -> Result<String, AllocErr
     ensures { IfOk result (λ text. string_bytes text ≡ number_text number) }
 {
     format!(in alloc; "{number}\n")
-}
-
-pub(crate) fn are_same(bytes: &[u8], others: &[u8]) -> bool
-    ensures { IsTrue result ↔ (bytes.now ≡ others.now) }
-{
-    bytes == others
-}
-
-/// The number that digits write, also with a plus or zeros before it.
-pub(crate) fn number_of(digits: &[u8]) -> Option<u32>
-    ensures { (n : ℕ) → n < 2 ^ 32 → digits.now ≡ decimal n → result ≡ Some n }
-{
-    match std::str::from_utf8(digits) {
-        Ok(text) => text.parse::<u32>().ok(),
-        Err(_) => None,
-    }
 }
 
 /// The number of which these bytes are the kept form.

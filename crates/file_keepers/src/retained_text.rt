@@ -1,18 +1,13 @@
-ghost use Rattle.std.specs.Prelude.{◌≡◌, ◌↔◌, ◌++◌, ◌∷◌, [], ℕ, ℤ, FitsSigned, List, IsTrue, IfOk, IfErr, IfSome, OnOk, Some, length, string_bytes};
-ghost use Rattle.std.specs.Int.{w16};
+ghost use Rattle.std.specs.Prelude.{◌≡◌, IfOk, IfErr, OnOk, length, string_bytes};
 ghost use Rattle.std.specs.List.{AllByRecursion, flat_map, zip};
 ghost use Rattle.std.specs.Option.{option_map};
-ghost use Rattle.std.specs.Fmt.{signed_decimal};
 ghost use Rattle.text_writer.specs.Growing.{GrowsBy};
-ghost use Rattle.std_blocks.specs.declared.value.Value.{Value as KeptValue};
-ghost use Rattle.declared_names.specs.Kinds.{kind_of};
-ghost use Rattle.line_parts.specs.LineParts.{value_text};
+ghost use Rattle.line_parts.specs.ReadParts.{IsInRange};
 ghost use Rattle.evaluation.specs.Retained.{Suits};
-ghost use Rattle.file_keepers.specs.KeptRetained.{IsInRange, program_name, variable_name, before_value, line_text, retained_text};
-ghost use Rattle.file_keepers.specs.Steps.Reading.{line_end, longest, longest_of, IsValueOf, IsLonger, IsBehind, IsLineRead, IsReadFault};
+ghost use Rattle.file_keepers.specs.KeptRetained.{program_name, variable_name, before_value, line_text, retained_text};
+ghost use Rattle.file_keepers.specs.Steps.Reading.{line_end, longest, longest_of, IsValueOf, IsLonger, IsLineRead, IsReadFault};
 
-use crate::number_text::{are_same, number_of};
-use line_parts::push_value;
+use line_parts::{are_same, behind, push_value, value_of};
 use power_flow::Kind;
 use std::alloc::{AllocError, Global};
 use std_blocks::Value;
@@ -152,54 +147,6 @@ pub(crate) fn most_bytes(alloc: Global, code: &TaskCode) -> Result<usize, AllocE
     Ok(text.len() + 1)
 }
 
-/// The number that a word writes, also with a plus or zeros before it.
-fn signed_number_of(word: &[u8]) -> Option<i16>
-    ensures { (n : ℤ) → FitsSigned w16 n → word.now ≡ signed_decimal n → result ≡ Some n }
-{
-    match std::str::from_utf8(word) {
-        Ok(text) => text.parse::<i16>().ok(),
-        Err(_) => None,
-    }
-}
-
-/// What stands between the first two and the last two bytes of a word; all, if there are no four.
-#[tactic(auto, using(crate::proofs::ReadTexts::inner_text, crate::proofs::ReadTexts::inner_long))]
-fn inner(word: &[u8]) -> &[u8]
-    ensures { (text : List ℕ) → word.now ≡ 84 ∷ 35 ∷ (text ++ 109 ∷ 115 ∷ []) → result.now ≡ text }
-{
-    if word.len() < 4 {
-        return word;
-    }
-    &word[2..word.len() - 2]
-}
-
-/// Whether a word is 1.
-fn is_one(word: &[u8]) -> bool
-    ensures { IsTrue result ↔ (word.now ≡ 49 ∷ []) }
-{
-    are_same(word, b"1")
-}
-
-/// A value of a kind: the one that the word writes, if it writes one.
-#[tactic(auto, using(crate::proofs::ReadTexts::value_on, crate::proofs::ReadTexts::value_int, crate::proofs::ReadTexts::no_value_int, crate::proofs::ReadTexts::value_time, crate::proofs::ReadTexts::no_value_time))]
-fn value_of(kind: Kind, word: &[u8]) -> Option<Value>
-    ensures kind { IfSome result (λ value. kind_of value ≡ kind) }
-    ensures in_range { IfSome result IsInRange }
-    ensures value { (value : KeptValue) → kind_of value ≡ kind → IsInRange value → word.now ≡ value_text value → result ≡ Some value }
-{
-    match kind {
-        Kind::Bool => Some(Value::Bool(is_one(word))),
-        Kind::Int => match signed_number_of(word) {
-            Some(number) => Some(Value::Int(number)),
-            None => None,
-        },
-        Kind::Time => match number_of(inner(word)) {
-            Some(time) => Some(Value::Time(time)),
-            None => None,
-        },
-    }
-}
-
 /// The value of a kind that a word is the text of.
 fn read_value(alloc: Global, kind: Kind, word: &[u8]) -> Result<Option<Value>, AllocError>
     ensures { IfOk result (IsValueOf kind word.now) }
@@ -221,22 +168,6 @@ fn line_end(text: &[u8]) -> Option<usize>
     ensures { result ≡ line_end text.now }
 {
     text.iter().position(|c| *c == b'\n')
-}
-
-/// What stands behind a text's beginning; None where it begins otherwise.
-#[tactic(auto, using(crate::proofs::ReadTexts::behind_short, crate::proofs::ReadTexts::behind_start, crate::proofs::ReadTexts::behind_other))]
-fn behind<'a>(text: &'a [u8], beginning: &[u8]) -> Option<&'a [u8]>
-    ensures { IsBehind text.now beginning.now (option_map (λ rest. rest.now) result) }
-{
-    if text.len() < beginning.len() {
-        return None;
-    }
-    let (start, rest) = text.split_at(beginning.len());
-    if are_same(start, beginning) {
-        Some(rest)
-    } else {
-        None
-    }
 }
 
 /// The value in the line with which a text begins, if it is that of this variable, and what stands behind the line.

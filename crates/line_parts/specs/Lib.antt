@@ -1,1 +1,4 @@
 pub mod LineParts
+pub mod Lists
+pub mod ReadParts
+pub mod Steps

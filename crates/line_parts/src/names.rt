@@ -5,17 +5,25 @@ ghost use Rattle.line_parts.specs.LineParts.{resource_text, task_name, task_text
 use plant::{Plant, TaskRef};
 use std::alloc::AllocError;
 
+/// A resource's name as it was declared; empty where there is no such resource.
+pub fn resource_name(plant: &Plant, resource: usize) -> &str
+    ensures { result.now ≡ resource_text plant.now resource }
+{
+    match plant.resource_name(resource) {
+        Some(name) => name,
+        None => "",
+    }
+}
+
 /// Writes a resource's name, as it was declared, behind a line.
 pub fn push_resource(line: &mut String, plant: &Plant, resource: usize) -> Result<(), AllocError>
     ensures { OnOk result (GrowsBy line.old line.new (resource_text plant.now resource)) }
 {
-    match plant.resource_name(resource) {
-        Some(name) => line.push_str(name),
-        None => Ok(()),
-    }
+    line.push_str(resource_name(plant, resource))
 }
 
-fn task_name(plant: &Plant, task: TaskRef) -> &str
+/// A task's name as it was declared; empty where there is no such task.
+pub fn task_name(plant: &Plant, task: TaskRef) -> &str
     ensures { result.now ≡ task_name plant.now task }
 {
     match plant.tasks(task.resource).get(task.task) {

@@ -7,21 +7,17 @@ use Rattle.declared_names.specs.declared.declarations.Kind.{Kind}
 use Rattle.declared_names.specs.declared.declarations.Kind.TheVariants as kind
 use Rattle.declared_names.specs.Kinds.{kind_of}
 use Rattle.line_parts.specs.LineParts.{value_text}
+use Rattle.line_parts.specs.ReadParts.{IsInRange}
 use Rattle.task_codes.specs.declared.retained_variable.RetainedVariable.{RetainedVariable}
 use Rattle.task_codes.specs.CodeValue.{CodeValue, retained_kinds}
 use Rattle.evaluation.specs.Retained.{Suits}
 use Rattle.file_keepers.specs.declared.retained_text.ReadFault.{ReadFault}
 use Rattle.file_keepers.specs.declared.retained_text.ReadFault.TheVariants.{Departs, Memory}
-use Rattle.file_keepers.specs.KeptRetained.{IsInRange, retained_text, BeginsWith, DepartsAt}
+use Rattle.file_keepers.specs.KeptRetained.{retained_text, BeginsWith, DepartsAt}
 
 -- where the first line feed of a text stands
 abbrev pub line_end : List ℕ → Option ℕ
 line_end text = position (λ c. c == 10) text
-
--- what stands behind the beginning of a text, if the text begins so
-abbrev pub IsBehind : List ℕ → List ℕ → Option (List ℕ) → Type 0
-IsBehind text beginning None = (rest : List ℕ) → text ≢ beginning ++ rest
-IsBehind text beginning (Some rest) = text ≡ beginning ++ rest
 
 -- the value of a kind that a word is the text of, if it is one
 abbrev pub IsValueOf : Kind → List ℕ → Option Value → Type 0

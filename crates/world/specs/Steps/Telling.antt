@@ -1,5 +1,5 @@
 -- Steps of the proofs: what one event tells.
-use Rattle.std.specs.Prelude.{◌≡◌, ℕ, ◌-◌, ◌==◌, if◌then◌else◌, List, [], ◌∷◌, Option, Some, None, codes, length, slice_get}
+use Rattle.std.specs.Prelude.{◌≡◌, ℕ, ◌-◌, List, [], ◌∷◌, Option, Some, None, length, slice_get}
 use Rattle.plant.specs.PlantValue.{PlantValue}
 use Rattle.evaluation.specs.Meaning.{Evaluated}
 use Rattle.exchange.specs.declared.event.Event.{Event}
@@ -11,10 +11,6 @@ use Rattle.exchange.specs.Run.{IsRun}
 use Rattle.exchange.specs.World.{WorldValue}
 use Rattle.world.specs.RunLines.{evaluation_line}
 use Rattle.world.specs.RunText.{delivery_line, restart_line, hear_line, TellsEvent}
-
--- what stands before item k of a list
-abbrev pub gap_before : ℕ → List ℕ
-gap_before k = if k == 0 then [] else codes " "
 
 -- the line of message m, if it was found
 abbrev pub made_line : PlantValue → ℕ → Option Evaluated → List ℕ

@@ -1,8 +1,9 @@
 -- A text that begins with the variable's name and a line feed, and what that makes of its line.
-use Rattle.std.proofs.Common.{◌≡◌, ◌+◌, ◌∙◌, ℕ, List, Option, Some, None, drop, take, sym, subst}
+use Rattle.std.proofs.Common.{◌≡◌, ◌+◌, ◌∙◌, ℕ, List, Option, Some, take, sym, subst}
 use Rattle.std_blocks.specs.declared.value.Value.{Value}
+use Rattle.line_parts.specs.ReadParts.{IsBehind}
 use Rattle.file_keepers.specs.KeptRetained.{before_value, BeginsWith}
-use Rattle.file_keepers.specs.Steps.Reading.{IsBehind, IsValueOf}
+use Rattle.file_keepers.specs.Steps.Reading.{IsValueOf}
 use Rattle.file_keepers.proofs.ReadTexts.{no_feed, no_value_there, one_value_read, rest_drop}
 use Rattle.file_keepers.proofs.retained_text.read_line.Goals as goal
 

@@ -1,9 +1,6 @@
 -- One more line, or a text that goes on otherwise.
-use Rattle.std.proofs.Common.{arith, rules, List, ℕ, Option, Some, map, subst}
-use Rattle.std.specs.Option.{option_map}
-use Rattle.std_blocks.specs.declared.value.Value.{Value}
-use Rattle.file_keepers.specs.Steps.Reading.{IsLineRead}
-use Rattle.file_keepers.proofs.ReadTexts.{no_variable, read_none, read_more_at, read_departs_at}
+use Rattle.std.proofs.Common.{arith, rules}
+use Rattle.file_keepers.proofs.ReadTexts.{read_none, read_more_at, read_departs_at}
 use Rattle.file_keepers.proofs.retained_text.read_lines.Goals as goal
 
 pub loop-k-init : goal.loop-k-init

@@ -2,10 +2,10 @@ use Rattle.std.proofs.Common.{◌++◌, ◌∙◌, ap, sym, arith, string_bytes,
 use Rattle.std.specs.List.{zip}
 use Rattle.std_blocks.specs.declared.value.Value.TheVariants.{Bool}
 use Rattle.std.proofs.lemmas.Option.{slice_get-get_or}
-use Rattle.world.specs.RunLines.{give_text}
-use Rattle.world.specs.Steps.Telling.{gap_before}
-use Rattle.world.proofs.ScheduleLists.{item_more, all_items, not_empty, length-zip, get_or-zip, no_output}
-use Rattle.world.proofs.evaluation_line.push_gives.Goals as goal
+use Rattle.line_parts.specs.Lists.{give_text}
+use Rattle.line_parts.specs.Steps.Gaps.{gap_before}
+use Rattle.line_parts.proofs.ListTexts.{item_more, all_items, not_empty, length-zip, get_or-zip, no_output}
+use Rattle.line_parts.proofs.gives.push_gives.Goals as goal
 
 pub loop-i-preserved : goal.loop-i-preserved
 loop-i-preserved c =

@@ -1,11 +1,11 @@
-use Rattle.std.proofs.Common.{arith, rules, ◌≡◌, ◌<◌, ◌^◌, ℤ, List, ℕ, subst, sym}
+use Rattle.std.proofs.Common.{arith, rules, ◌≡◌, ℤ, List, ℕ, subst, sym}
 use Rattle.std.specs.Prelude.{FitsSigned}
 use Rattle.std.specs.Int.{w16}
 use Rattle.std.specs.Fmt.{signed_decimal}
 use Rattle.std.specs.Str.{IsUtf8}
 use Rattle.std.proofs.lemmas.Fmt.{IsAscii-signed, parse-signed_decimal}
 use Rattle.std.proofs.lemmas.Str.{IsUtf8-from_ascii}
-use Rattle.file_keepers.proofs.retained_text.signed_number_of.Goals as goal
+use Rattle.line_parts.proofs.read_values.signed_number_of.Goals as goal
 
 pub returns-in-Ok : goal.returns-in-Ok
 returns-in-Ok c n fits is = let f = fits.sfits in search (rules, parse-signed_decimal w16 n c.in-Ok.text.now c.parse.result fits (omega (arith, f)))

@@ -1,8 +1,8 @@
 use Rattle.std.proofs.Common.{◌++◌, ◌∙◌, ap, sym, string_bytes}
-use Rattle.world.specs.RunLines.{take_text}
-use Rattle.world.specs.Steps.Telling.{gap_before}
-use Rattle.world.proofs.ScheduleLists.{item_more, all_items, not_empty}
-use Rattle.world.proofs.evaluation_line.push_takes.Goals as goal
+use Rattle.line_parts.specs.Lists.{take_text}
+use Rattle.line_parts.specs.Steps.Gaps.{gap_before}
+use Rattle.line_parts.proofs.ListTexts.{item_more, all_items, not_empty}
+use Rattle.line_parts.proofs.takes.push_takes.Goals as goal
 
 pub loop-i-preserved : goal.loop-i-preserved
 loop-i-preserved c =

@@ -1,0 +1,3 @@
+pub mod BegunTexts
+pub mod ListTexts
+pub mod ValueTexts
