@@ -3,6 +3,7 @@ pub mod KeptSlots
 pub mod BlocksStored
 pub mod BoxesSources
 pub mod BoxesMeaning
+pub mod CircuitScans
 pub mod BoxesBinding
 pub mod BoxesTable
 pub mod KindsStored

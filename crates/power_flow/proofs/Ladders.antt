@@ -7,3 +7,4 @@ pub mod Binds
 pub mod OneLadder
 pub mod FittingStates
 pub mod Snapshots
+pub mod AllOff

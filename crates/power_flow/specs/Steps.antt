@@ -7,6 +7,7 @@ pub mod Circuit
 pub mod CoilStores
 pub mod Columns
 pub mod Comings
+pub mod Edges
 pub mod Fused
 pub mod NameSources
 pub mod RowEnds

@@ -2,7 +2,9 @@
 
 pub mod circuit;
 pub mod circuits;
+pub mod edges;
 pub mod fused;
+pub mod lone_rung;
 pub mod room;
 pub mod row_ends;
 pub mod rows;

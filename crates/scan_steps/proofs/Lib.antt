@@ -5,3 +5,4 @@ pub mod Seating
 pub mod SeatsGrowing
 pub mod SameBools
 pub mod Digesting
+pub mod BoolSeats

@@ -24,7 +24,7 @@ impl Model for Series {
 }
 
 /// Whether a contact that is plain or negated conducts.
-fn conducts(negated: bool, on: bool) -> bool
+pub fn conducts(negated: bool, on: bool) -> bool
     ensures { result ≡ contact_conducts (plain_kind negated) on false }
 {
     if negated { !on } else { on }
@@ -55,6 +55,13 @@ impl Series {
     {
         let contacts = Box::new(alloc, contacts)?;
         Ok(Series { contacts })
+    }
+
+    /// The contacts in order.
+    pub fn contacts(&self) -> &[VariableContact]
+        ensures { result.now ≡ self.now }
+    {
+        self.contacts.as_slice()
     }
 
     /// Whether all of them conduct.

@@ -130,7 +130,7 @@ fn is_slot_of(declared: Declared, slot: &Slot) -> bool
 }
 
 impl Slots {
-    ghost use Rattle.std.specs.Prelude.{◌≡◌, ◌↔◌, ℕ, List, Some, IsTrue, IfOk, MatchOption, map, length, slice_get, slice_set};
+    ghost use Rattle.std.specs.Prelude.{◌≡◌, ◌↔◌, ◌<◌, ℕ, List, Some, IsTrue, IfOk, MatchOption, map, length, slice_get, slice_set};
     ghost use Rattle.std.specs.Bool.{OnTrue, OnFalse};
     ghost use Rattle.std.specs.Option.{option_map};
     ghost use Rattle.declared_names.specs.declared.declarations.Declaration.{Declaration};
@@ -204,6 +204,14 @@ impl Slots {
         self.lists.is_on(place)
     }
 
+    /// Whether the variable at a place that there is is TRUE.
+    pub fn is_on_within(&self, place: usize) -> bool
+        requires { place < length self.now }
+        ensures { result ≡ is_true (variable_at self.now place) }
+    {
+        self.lists.bit(place)
+    }
+
     /// The block at a place; None where there is no block.
     pub fn block(&self, place: usize) -> Option<&Instance>
         ensures { option_map (λ i. i.now) result ≡ block_at self.now place }
@@ -235,6 +243,14 @@ impl Slots {
         ensures declared { (ds : List Declaration) → AreSlotsOf ds self.old → AreSlotsOf ds self.new }
     {
         self.put(place, value)
+    }
+
+    /// Changes the BOOL at a place.
+    pub fn set_bool(&mut self, place: usize, on: bool)
+        requires { IsKindAt self.old place (value.Bool on) }
+        ensures { self.new ≡ value_put self.old place (value.Bool on) }
+    {
+        self.lists.set_bit(place, on);
     }
 
     /// Puts a block back at a place, if a block stands there.

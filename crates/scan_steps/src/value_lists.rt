@@ -47,7 +47,7 @@ fn are_same_bits(bits: &[bool], others: &[bool]) -> bool
 }
 
 impl Lists {
-    ghost use Rattle.std.specs.Prelude.{◌≡◌, ◌↔◌, [], ◌++◌, ◌∷◌, true, false, IsTrue, IfOk, OnOk, length, slice_get, slice_set, slice_index_or, pos};
+    ghost use Rattle.std.specs.Prelude.{◌≡◌, ◌↔◌, ◌<◌, [], ◌++◌, ◌∷◌, true, false, IsTrue, IfOk, OnOk, length, slice_get, slice_set, slice_index_or, pos};
     ghost use Rattle.scan_steps.specs.Steps.Seats.{no_lists, is_kind_of, lists_put, block_in, lists_put_block};
     ghost use Rattle.scan_steps.specs.Slots.{variable_of};
 
@@ -137,6 +137,14 @@ impl Lists {
         }
     }
 
+    /// Whether the BOOL at a place that there is is TRUE.
+    pub fn bit(&self, place: usize) -> bool
+        requires { place < length self.now.bits }
+        ensures { result ≡ bit_at self.now.bits place }
+    {
+        self.bits[place]
+    }
+
     /// The INT of this number.
     pub fn int(&self, number: usize) -> i16
         ensures { result ≡ slice_index_or self.now.ints number (pos 0) }
@@ -223,6 +231,14 @@ impl Lists {
             self.bits[place] = on;
         }
         true
+    }
+
+    /// Changes the BOOL at a place that there is.
+    pub fn set_bit(&mut self, place: usize, on: bool)
+        requires { place < length self.old.bits }
+        ensures { self.new ≡ record self.old { bits = slice_set self.old.bits place on } }
+    {
+        self.bits[place] = on;
     }
 
     /// Changes the INT of this number.

@@ -1,15 +1,23 @@
-use Rattle.std.specs.Prelude.{◌≡◌, ℕ, ◌+◌, ◌<◌, ◌≤◌, List, Option, Some, None, All, Contains, length, map, slice_get}
+use Rattle.std.specs.Prelude.{◌≡◌, ℕ, ◌+◌, ◌<◌, ◌≤◌, List, [], ◌∷◌, Option, Some, None, IfSome, All, Contains, length, map, slice_get}
 use Rattle.std.specs.List.{filter_map, enumerate_from, AllByRecursion}
 use Rattle.drawings.specs.declared.place.Place.{Place}
+use Rattle.drawings.specs.declared.coil.CoilKind.TheVariants.{Plain}
 use Rattle.network.specs.declared.element.Element.{Element}
 use Rattle.network.specs.declared.element.Element.TheVariants.{Wire, Join, Upright, Contact, Coil, Box}
 use Rattle.network.specs.Links.{Diagram}
 use Rattle.network.specs.Apart.{Has}
 use Rattle.network.specs.GraphValue.{diagram, IsSoundNetwork}
 use Rattle.declared_names.specs.declared.declarations.Declaration.{Declaration}
+use Rattle.declared_names.specs.declared.declarations.Declared.{Declared}
+use Rattle.declared_names.specs.declared.declarations.Declared.TheVariants.{Input, Output, Local, Instance}
+use Rattle.declared_names.specs.declared.declarations.Kind.TheVariants as kind
 use Rattle.power_flow.specs.declared.steps.circuit.Circuit.{Circuit}
+use Rattle.scan_steps.specs.declared.bound_contact.VariableContact.{VariableContact}
 use Rattle.scan_steps.specs.declared.step.Step.{Step}
+use Rattle.scan_steps.specs.declared.step.Step.TheVariants as step
 use Rattle.scan_steps.specs.declared.step.BoundCoil.{BoundCoil}
+use Rattle.scan_steps.specs.declared.bound_box.BoundBox.{BoundBox}
+use Rattle.scan_steps.specs.declared.rung.Rung.{Rung}
 use Rattle.scan_steps.specs.Steps.Passing.{IsStepIn}
 use Rattle.declared_names.specs.Names.{place_of}
 use Rattle.variable_binding.specs.Steps.Named.{AreNamed}
@@ -38,6 +46,33 @@ bound_coil ds k (Box b) = None
 unfoldable pub bound_coils : List Declaration → List Element → List BoundCoil
 bound_coils ds elements = filter_map (λ e. bound_coil ds e.0 e.1) (enumerate_from 0 elements)
 
+-- a BOOL is declared there
+abbrev pub IsBool : Declared → Type 0
+IsBool (Input k) = k ≡ kind.Bool
+IsBool (Output k) = k ≡ kind.Bool
+IsBool (Local k) = k ≡ kind.Bool
+IsBool (Instance b) = ⊥
+
+pub record IsBoolAt (ds : List Declaration) (place : ℕ) : Type 0 where
+  pub entry : Declaration
+  pub at : slice_get ds place ≡ Some entry
+  pub bool : IsBool entry.declared
+
+-- the steps, coils and boxes are those of one rung, with these contacts of declared names and a plain coil of the BOOL
+-- at this place
+pub record IsRung (ds : List Declaration) (steps : List Step) (coils : List BoundCoil) (boxes : List BoundBox)
+    (contacts : List VariableContact) (place : ℕ) : Type 0 where
+  pub row : ℕ
+  pub number : ℕ
+  pub coil : BoundCoil
+  pub steps_are : steps ≡ step.Rung row number contacts ∷ []
+  pub coils_are : coils ≡ coil ∷ []
+  pub no_box : boxes ≡ []
+  pub plain : coil.kind ≡ Plain
+  pub stored : coil.place ≡ Some place
+  pub within : All (λ (v : VariableContact). v.place < length ds) contacts
+  pub bool : IsBoolAt ds place
+
 -- the circuit is made of the diagram, with the names of the declarations
 pub record IsCircuit (ds : List Declaration) (d : Diagram) (c : Circuit) : Type 0 where
   pub elements : d.elements ≡ c.elements.items
@@ -50,6 +85,7 @@ pub record IsCircuit (ds : List Declaration) (d : Diagram) (c : Circuit) : Type 
   pub coils : c.coils.items ≡ bound_coils ds d.elements
   pub boxes : AreBoundBoxes ds d top c.boxes.items
   pub named : AreNamed ds d.elements
+  pub rung : IfSome c.rung (λ (r : Rung). IsRung ds c.steps.items c.coils.items c.boxes.items r.contacts.items r.coil)
 
 -- there is room for a scan of the circuit
 pub record HasRoom (links results : ℕ) (c : Circuit) : Type 0 where

@@ -1,4 +1,4 @@
-ghost use Rattle.std.specs.Prelude.{◌≡◌, ◌<◌, List, All, length, map, sum_by};
+ghost use Rattle.std.specs.Prelude.{◌≡◌, ◌<◌, List, All, true, false, length, map, sum_by};
 ghost use Rattle.std.specs.List.{AllByRecursion};
 ghost use Rattle.power_flow.specs.Meaning.{coil_value, coil_memory, NetworkMeaning, moment};
 ghost use Rattle.power_flow.specs.Steps.BoxStores.{kinds_stored};
@@ -8,6 +8,7 @@ ghost use Rattle.scan_steps.specs.Slots.{AreSlotsOf};
 ghost use Rattle.power_flow.specs.Scan.{AllAreWide, ScanMeaning};
 ghost use Rattle.drawings.specs.declared.place.Place.{Place};
 ghost use Rattle.power_flow.specs.Steps.Circuit.{HasShape, IsCircuit, HasRoom, AreCircuits, circuit_diagram};
+ghost use Rattle.power_flow.specs.Steps.Edges.{AreEdgelessCircuits};
 ghost use Rattle.power_flow.specs.Steps.CoilStores.{bound_store, bound_memory, bound_stores, bound_memories};
 
 use crate::scan::boxes::{store_boxes, store_value};
@@ -78,8 +79,8 @@ fn store_coils(coils: &[BoundCoil], links: &[bool], memories: &mut [bool], slots
     }
 }
 
-/// One scan of a network, dt milliseconds after the one before.
-pub fn scan_circuit(
+/// One scan of a network by its steps, dt milliseconds after the one before.
+fn scan_steps_of(
     circuit: &Circuit,
     slots: &mut Slots,
     memories: &mut [bool],
@@ -110,6 +111,32 @@ pub fn scan_circuit(
     store_coils(&circuit.coils, links, memories, slots);
 }
 
+/// One scan of a network, dt milliseconds after the one before.
+pub fn scan_circuit(
+    circuit: &Circuit,
+    slots: &mut Slots,
+    memories: &mut [bool],
+    rows: &mut [bool],
+    links: &mut [bool],
+    results: &mut [Instance],
+    dt: u32,
+)
+    requires circuit { (ds : List Declaration) × (d : Diagram) × IsCircuit ds d circuit.now × AreSlotsOf ds slots.old }
+    requires shape { HasShape circuit.now }
+    requires memories { length memories.old ≡ length circuit.now.elements.items }
+    requires rows { length rows.old ≡ circuit.now.rows }
+    requires links { length links.old ≡ length circuit.now.coils.items }
+    requires results { length results.old ≡ length circuit.now.boxes.items }
+    ensures { (ds : List Declaration) (d : Diagram) → IsCircuit ds d circuit.now → AreSlotsOf ds slots.old
+        → NetworkMeaning ds d dt (moment slots.old memories.old) (moment slots.new memories.new) }
+{
+    if let Some(rung) = &circuit.rung {
+        rung.scan(slots);
+    } else {
+        scan_steps_of(circuit, slots, memories, rows, links, results, dt);
+    }
+}
+
 /// One scan of the networks, one after the other.
 pub fn scan_circuits(
     circuits: &[Circuit],
@@ -120,6 +147,8 @@ pub fn scan_circuits(
     results: &mut [Instance],
     dt: u32,
 )
+    requires networks { (ds : List Declaration) × (rails : List Place) × AreCircuits ds rails circuits.now
+        × AllAreWide (map (circuit_diagram rails) circuits.now) × AreSlotsOf ds slots.old }
     requires room { AllByRecursion (HasRoom (length links.old) (length results.old)) circuits.now }
     requires rows { length rows.old ≡ 200 }
     requires memories { length memories.old ≡ sum_by (λ c. length c.elements.items) circuits.now }
@@ -145,9 +174,20 @@ pub fn scan_circuits(
     }
 }
 
+/// Whether memories that are all OFF are so after a scan.
+fn still_off(all_off: bool, edges: bool) -> bool
+    ensures off { result ≡ true → all_off ≡ true }
+    ensures edgeless { result ≡ true → edges ≡ false }
+{
+    all_off && !edges
+}
+
 impl State {
-    /// One scan of these networks.
-    pub(crate) fn run(&mut self, circuits: &[Circuit], dt: u32)
+    /// One scan of these networks, of which some may have edges. Without them memories that are all OFF stay so.
+    pub(crate) fn run(&mut self, circuits: &[Circuit], edges: bool, dt: u32)
+        requires edges { edges ≡ false → AreEdgelessCircuits circuits.now }
+        requires networks { (ds : List Declaration) × (rails : List Place) × AreCircuits ds rails circuits.now
+            × AllAreWide (map (circuit_diagram rails) circuits.now) × AreSlotsOf ds self.old.slots }
         requires room { AllByRecursion (HasRoom self.old.waiting_links self.old.waiting_results) circuits.now }
         requires memories { length self.old.memories ≡ sum_by (λ c. length c.elements.items) circuits.now }
         ensures meaning { (ds : List Declaration) (rails : List Place) → AreCircuits ds rails circuits.now
@@ -168,5 +208,6 @@ impl State {
             self.results.as_mut_slice(),
             dt,
         );
+        self.all_off = still_off(self.all_off, edges);
     }
 }

@@ -127,6 +127,7 @@ impl State {
         ensures results { self.new.waiting_results ≡ self.old.waiting_results }
     {
         let mut shown = Vec::with_capacity(alloc, self.memories.len())?;
+        self.all_off = false;
         let mut rows = ArrayVec::<bool, 200>::from([false; 200]);
         show_circuits(
             alloc,

@@ -9,6 +9,7 @@ ghost use Rattle.power_flow.specs.declared.steps.circuit.Circuit.{Circuit};
 use crate::binding::box_binding::bind_boxes;
 use crate::steps::circuit::Circuit;
 use crate::steps::fused::fused;
+use crate::steps::lone_rung::lone_rung;
 use crate::steps::rows::Rows;
 use crate::steps::same_elements::{are_same_elements, are_same_places};
 use crate::steps::steps::steps_of;
@@ -68,8 +69,10 @@ fn circuit_of(
     let boxes = bind_boxes(alloc, declarations, rows.top, &elements)?;
     names_of_one_place_are_one();
     let steps = fused(alloc, plain)?;
+    let rung = lone_rung(alloc, declarations, &steps, &coils, &boxes)?;
     Ok(Circuit {
         elements,
+        rung,
         rows: rows.count,
         steps,
         coils,

@@ -1,4 +1,4 @@
-use Rattle.std.proofs.Common.{◌≡◌, length, refl, ap, ◌∙◌, arith}
+use Rattle.std.proofs.Common.{◌≡◌, None, length, refl, ap, ◌∙◌, arith}
 use Rattle.network.specs.GraphValue.{diagram, IsSoundNetwork}
 use Rattle.scan_steps.specs.Steps.Passing.{Pass, pass_of}
 use Rattle.variable_binding.specs.Steps.Named.{IsNamedBox}
@@ -61,7 +61,7 @@ returns c = λ between step.
     let top = c.of-rows.result.top in
     let count = c.of-rows.result.count in
     let boxes = c.in_ok-boxes.boxes.items in
-    let circuit : Circuit = record old { rows = count; steps = c.read_elements.new.steps; boxes = c.in_ok-boxes.boxes } in
+    let circuit : Circuit = record old { rows = count; steps = c.read_elements.new.steps; boxes = c.in_ok-boxes.boxes; rung = None } in
     let a : Pass = pass_of c.as_mut_slice.result.now c.as_mut_slice-2.result.now c.as_mut_slice-3.result.now c.as_mut_slice-4.result.now in
     let m : Pass = pass_of c.read_elements.new.rows c.read_elements.new.memories c.read_elements.new.links c.read_elements.new.results in
     let results = c.read_elements.new.results in
@@ -80,6 +80,7 @@ returns c = λ between step.
       coils = is.coils;
       boxes = bound_boxes_are rails es is.sound ds top boxes (c.names_of_one_place_are_one.ensures ds) (bound (all_boxes (IsNamedBox ds) es is.named.boxes));
       named = is.named;
+      rung = tt;
     } in
     let count_coils : c.len.result ≡ length old.coils.items = omega (arith, c.len.ensures, old.coils.ok.0) in
     let count_boxes : c.len-2.result ≡ length boxes = omega (arith, c.len-2.ensures, c.in_ok-boxes.boxes.ok.0) in

@@ -3,6 +3,9 @@ use Rattle.power_flow.specs.Steps.Circuit.{circuit_diagram}
 use Rattle.power_flow.proofs.Boxes.KeptSlots.{meaning_keeps}
 use Rattle.power_flow.proofs.showing.scan_power.show_circuit.Goals as goal
 
+pub scan_circuit-requires-clause-circuit : goal.scan_circuit-requires-clause-circuit
+scan_circuit-requires-clause-circuit c = (c.args.declarations.now, circuit_diagram c.args.rails.now c.args.circuit.now, c.requires.circuit, c.requires.slots)
+
 pub returns-clause-slots : goal.returns-clause-slots
 returns-clause-slots c =
     let ds = c.args.declarations.now in

@@ -38,6 +38,7 @@ returns-clause-circuit c = λ named.
       coils = rw (c.deref-3.ensures.value, c.into_elements-elements.ensures) at c.in_ok-coils.ensures;
       boxes = bound_boxes_are c.args.rails.now es c.requires ds c.of-rows.result.top c.in_ok-boxes.boxes.items (c.names_of_one_place_are_one.ensures ds) (boxes (all_boxes (IsNamedBox ds) es named.boxes));
       named = named;
+      rung = rw (c.deref-5.ensures.value, c.deref-6.ensures.value, c.deref-7.ensures.value) at c.in_ok-rung.ensures;
     }
 
 pub returns-clause-shape : goal.returns-clause-shape
