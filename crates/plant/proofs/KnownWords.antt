@@ -63,13 +63,13 @@ section_is section.Output = behind (key_word key.VarOutput) [] (key_is key.VarOu
 section_is section.Local = behind (key_word key.Var) [] (key_is key.Var) nothing
 section_is section.Retained = behind (key_word key.Var) (key_word key.Retain ∷ []) (key_is key.Var) (behind (key_word key.Retain) [] (key_is key.Retain) nothing)
 
-type_is : (t : TypeName) → IsKnown (type_word t)
+pub type_is : (t : TypeName) → IsKnown (type_word t)
 type_is (Elementary kind.Bool) e = absurd cc
 type_is (Elementary kind.Int) e = absurd cc
 type_is (Elementary kind.Time) e = absurd cc
 type_is (Block b) e = absurd cc
 
-names_are : (ns : List (List ℕ)) → AreKnown (name_words ns)
+pub names_are : (ns : List (List ℕ)) → AreKnown (name_words ns)
 names_are [] = nothing
 names_are (n ∷ []) = behind (token.Name n) [] (name_is n) nothing
 names_are (n ∷ m ∷ more) = behind (token.Name n) (mark_word Comma ∷ name_words (m ∷ more)) (name_is n) (behind (mark_word Comma) (name_words (m ∷ more)) (mark_is Comma) (names_are (m ∷ more)))

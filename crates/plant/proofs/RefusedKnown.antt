@@ -5,21 +5,24 @@ use Rattle.std.proofs.lemmas.List.{take-append-drop}
 use Rattle.std.proofs.Math.Seq.{take-append_seam}
 use Rattle.declared_names.specs.declared.declarations.Declaration.{Declaration}
 use Rattle.plant_grammar.specs.declared.grammar_fault.GrammarFaultKind.{GrammarFaultKind}
+use Rattle.plant_text.specs.declared.address.Address.{Address}
 use Rattle.plant_text.specs.declared.token.Token.{Token}
 use Rattle.plant_text.specs.declared.token.Token.TheVariants as token
 use Rattle.plant_text.specs.declared.token.Keyword.TheVariants as key
-use Rattle.plant_text.specs.declared.token.Punctuation.TheVariants.{Open, Colon, Comma}
+use Rattle.plant_text.specs.declared.token.Punctuation.TheVariants.{Open, Colon, Comma, Assign}
 use Rattle.plant_grammar.specs.declared.grammar.tree.Section.{Section}
+use Rattle.plant_grammar.specs.declared.grammar.tree.TypeName.TheVariants.{Block}
 use Rattle.plant_grammar.specs.declared.grammar.tree.Program.{Program}
 use Rattle.plant_grammar.specs.declared.grammar.tree.Bind.{Bind}
 use Rattle.plant_grammar.specs.declared.grammar.tree.Item.{Item}
 use Rattle.plant_grammar.specs.declared.grammar.tree.Resource.{Resource}
-use Rattle.plant_grammar.specs.Grammar.{key_word, mark_word, section_words, bind_words, list_words, block_words, program_words, item_words, resource_words}
+use Rattle.plant_grammar.specs.Lawful.{variables}
+use Rattle.plant_grammar.specs.Grammar.{key_word, mark_word, section_words, name_words, bind_words, list_words, block_words, program_words, item_words, resource_words}
 use Rattle.plant_text.specs.Spelling.{BeginsWith}
-use Rattle.plant_grammar.specs.NameFaults.{IsRefused, IsAfter, IsAfterAll, IsAfterName, IsAfterWhole, name_and_comma, bind_and_comma, RefusesVariable, RefusesList, RefusesBlock, RefusesBlocks, RefusesProgram, RefusesPrograms, RefusesTask, RefusesBind, RefusesBinds, RefusesInstance, RefusesItems, RefusesResource, RefusesResources, RefusesConfiguration}
+use Rattle.plant_grammar.specs.NameFaults.{IsRefused, IsMisused, IsAfter, IsAfterAll, IsAfterName, IsAfterWhole, name_and_comma, bind_and_comma, RefusesVariable, RefusesType, RefusesList, RefusesBlock, RefusesBlocks, RefusesProgram, RefusesPrograms, RefusesTask, RefusesAddress, RefusesBind, RefusesTyped, RefusesBinds, RefusesInstance, RefusesItems, RefusesResource, RefusesResources, RefusesConfiguration}
 use Rattle.plant_grammar.specs.Steps.Declaring.{BeginWith, RefusesPlantWords}
 use Rattle.plant_text.specs.Lines.{WordValue, body_lines, IsBegunBy}
-use Rattle.plant.proofs.KnownWords.{IsKnown, AreKnown, nothing, key_is, mark_is, name_is, behind, both, all_of, section_is, list_is, block_is, program_is, bind_is, item_is, resource_is}
+use Rattle.plant.proofs.KnownWords.{IsKnown, AreKnown, nothing, key_is, mark_is, name_is, type_is, names_are, behind, both, all_of, section_is, list_is, block_is, program_is, bind_is, item_is, resource_is}
 use Rattle.plant.proofs.BodyCounts.{map_take}
 
 refused_known : (k : GrammarFaultKind) (Taken : List ℕ → Type 0) (full : Type 0) (words : List Token) → IsRefused k Taken full words → AreKnown words
@@ -51,9 +54,13 @@ variable_known : (k : GrammarFaultKind) (before : List Declaration) (words : Lis
 unfolding RefusesVariable
 variable_known k before words h = behind_known name_and_comma _ words name_comma_is (λ ns w r. refused_known k _ _ w r) h
 
+type_known : (k : GrammarFaultKind) (s : Section) (words : List Token) → RefusesType k s words → AreKnown words
+type_known k s words h =
+    subst AreKnown (sym h.parts) (both (name_words h.names) (mark_word Colon ∷ token.Block h.block ∷ []) (names_are h.names) (behind (mark_word Colon) (token.Block h.block ∷ []) (mark_is Colon) (behind (token.Block h.block) [] (type_is (Block h.block)) nothing)))
+
 list_known : (k : GrammarFaultKind) (s : Section) (before : List Declaration) (words : List Token) → RefusesList k s before words → AreKnown words
 unfolding RefusesList
-list_known k s before words h = behind_known list_words _ words list_is (λ ls w r. variable_known k _ w r) h
+list_known k s before words h = behind_known list_words _ words list_is (λ ls w r. either_known _ _ w (λ v. variable_known k _ w v) (λ t. type_known k s w t) r) h
 
 block_known : (k : GrammarFaultKind) (before : List Declaration) (words : List Token) → RefusesBlock k before words → AreKnown words
 unfolding RefusesBlock
@@ -72,47 +79,68 @@ task_known : (k : GrammarFaultKind) (before : List Item) (words : List Token) �
 unfolding RefusesTask
 task_known k before words h = after_known (key_word key.Task) _ words (key_is key.Task) (λ w r. refused_known k _ _ w r) h
 
-bind_known : (k : GrammarFaultKind) (n : ℕ) (words : List Token) → RefusesBind k n words → AreKnown words
+misused_known : (k : GrammarFaultKind) (Unknown Bound : List ℕ → Type 0) (full : Type 0) (words : List Token) → IsMisused k Unknown Bound full words → AreKnown words
+misused_known k Unknown Bound full words h = subst AreKnown (sym h.alone) (behind (token.Name h.name) [] (name_is h.name) nothing)
+
+address_is_known : (a : Address) → IsKnown (token.Address a)
+address_is_known a e = absurd cc
+
+address_known : (k : GrammarFaultKind) (ds : List Declaration) (words : List Token) → RefusesAddress k ds words → AreKnown words
+address_known k ds words h =
+    subst AreKnown (sym h.parts) (behind (token.Name h.input) (mark_word Assign ∷ token.Address h.address ∷ []) (name_is h.input) (behind (mark_word Assign) (token.Address h.address ∷ []) (mark_is Assign) (behind (token.Address h.address) [] (address_is_known h.address) nothing)))
+
+bind_known : (k : GrammarFaultKind) (n : ℕ) (ds : List Declaration) (words : List Token) → RefusesBind k n ds words → AreKnown words
 unfolding RefusesBind
-bind_known k n words h = behind_known bind_and_comma _ words bind_comma_is (λ bs w r. refused_known k _ _ w r) h
+bind_known k n ds words h = behind_known bind_and_comma _ words bind_comma_is (λ bs w r. either_known _ _ w (λ m. misused_known k _ _ _ w m) (λ a. address_known k ds w a) r) h
 
-binds_known : (k : GrammarFaultKind) (n : ℕ) (words : List Token) → RefusesBinds k n words → AreKnown words
+typed_known : (k : GrammarFaultKind) (n : ℕ) (programs : List Program) (words : List Token) → RefusesTyped k n programs words → AreKnown words
+unfolding RefusesTyped
+typed_known k n programs words h = either_known _ _ words (λ m. misused_known k _ _ _ words m)
+    (λ t. after_known (token.Name t.name) _ words (name_is t.name) (λ w b. after_known (mark_word Open) _ w (mark_is Open) (λ v r. bind_known k n (variables t.type) v r) b) t.after) h
+
+binds_known : (k : GrammarFaultKind) (n : ℕ) (programs : List Program) (before : List Item) (words : List Token) → RefusesBinds k n programs before words → AreKnown words
 unfolding RefusesBinds
-binds_known k n words h =
-    after_known (key_word key.With) _ words (key_is key.With) (λ w1 h1. after_name_known _ w1 (λ w2 h2. after_known (mark_word Colon) _ w2 (mark_is Colon) (λ w3 h3. after_name_known _ w3 (λ w4 h4. after_known (mark_word Open) _ w4 (mark_is Open) (λ w5 h5. bind_known k n w5 h5) h4) h3) h2) h1) h
+binds_known k n programs before words h =
+    after_known (key_word key.With) _ words (key_is key.With) (λ w r. either_known _ _ w (λ m. misused_known k _ _ _ w m)
+    (λ m. after_name_known _ w (λ w2 h2. after_known (mark_word Colon) _ w2 (mark_is Colon) (λ w3 h3. typed_known k n programs w3 h3) h2) m) r) h
 
-instance_known : (k : GrammarFaultKind) (i n : ℕ) (before : List Item) (words : List Token) → RefusesInstance k i n before words → AreKnown words
+instance_known : (k : GrammarFaultKind) (i n : ℕ) (programs : List Program) (before : List Item) (words : List Token) → RefusesInstance k i n programs before words → AreKnown words
 unfolding RefusesInstance
-instance_known k i n before words h =
-    after_known (key_word key.Program) _ words (key_is key.Program) (λ w r. either_known _ _ w (λ m. refused_known k _ _ w m) (λ m. after_name_known (RefusesBinds k n) w (λ v b. binds_known k n v b) m) r) h
+instance_known k i n programs before words h =
+    after_known (key_word key.Program) _ words (key_is key.Program) (λ w r. either_known _ _ w (λ m. refused_known k _ _ w m) (λ m. after_name_known (RefusesBinds k n programs before) w (λ v b. binds_known k n programs before v b) m) r) h
 
-items_known : (k : GrammarFaultKind) (i n : ℕ) (words : List Token) → RefusesItems k i n words → AreKnown words
+items_known : (k : GrammarFaultKind) (i n : ℕ) (programs : List Program) (words : List Token) → RefusesItems k i n programs words → AreKnown words
 unfolding RefusesItems
-items_known k i n words h = behind_known item_words _ words item_is (λ xs w r. either_known _ _ w (λ t. task_known k xs w t) (λ u. instance_known k _ _ xs w u) r) h
+items_known k i n programs words h = behind_known item_words _ words item_is (λ xs w r. either_known _ _ w (λ t. task_known k xs w t) (λ u. instance_known k _ _ programs xs w u) r) h
 
-resource_known : (k : GrammarFaultKind) (i n : ℕ) (before : List Resource) (words : List Token) → RefusesResource k i n before words → AreKnown words
+resource_known : (k : GrammarFaultKind) (i n : ℕ) (programs : List Program) (before : List Resource) (words : List Token) → RefusesResource k i n programs before words → AreKnown words
 unfolding RefusesResource
-resource_known k i n before words h =
+resource_known k i n programs before words h =
     after_known (key_word key.Resource) _ words (key_is key.Resource) (λ w r. either_known _ _ w (λ m. refused_known k _ _ w m)
-    (λ m. after_name_known _ w (λ w1 h1. after_known (key_word key.On) _ w1 (key_is key.On) (λ w2 h2. after_name_known (RefusesItems k i n) w2 (λ w3 h3. items_known k i n w3 h3) h2) h1) m) r) h
+    (λ m. after_name_known _ w (λ w1 h1. after_known (key_word key.On) _ w1 (key_is key.On) (λ w2 h2. after_name_known (RefusesItems k i n programs) w2 (λ w3 h3. items_known k i n programs w3 h3) h2) h1) m) r) h
 
-resources_known : (k : GrammarFaultKind) (i n : ℕ) (words : List Token) → RefusesResources k i n words → AreKnown words
+resources_known : (k : GrammarFaultKind) (i n : ℕ) (programs : List Program) (words : List Token) → RefusesResources k i n programs words → AreKnown words
 unfolding RefusesResources
-resources_known k i n words h = behind_known resource_words _ words resource_is (λ rs w r. resource_known k _ _ rs w r) h
+resources_known k i n programs words h = behind_known resource_words _ words resource_is (λ rs w r. resource_known k _ _ programs rs w r) h
 
 -- none of the words up to a name refused is unknown
 plant_known : (k : GrammarFaultKind) (words : List Token) → RefusesPlantWords k words → AreKnown words
 unfolding RefusesPrograms RefusesConfiguration
 plant_known k words (inl h) = behind_known program_words _ words program_is (λ ps w r. program_known k ps w r) h
 plant_known k words (inr h) =
-    behind_known program_words _ words program_is (λ ps w r. after_known (key_word key.Configuration) _ w (key_is key.Configuration) (λ w1 h1. after_name_known (RefusesResources k 0 0) w1 (λ w2 h2. resources_known k 0 0 w2 h2) h1) r) h
+    behind_known program_words _ words program_is (λ ps w r. after_known (key_word key.Configuration) _ w (key_is key.Configuration) (λ w1 h1. after_name_known (RefusesResources k 0 0 ps) w1 (λ w2 h2. resources_known k 0 0 ps w2 h2) h1) r) h
 
--- a text that begins with its words, as far as they are words, begins with those up to a name refused
+-- a text that begins with its words, as far as they are words, begins with a front of them
+pub begun_by_front : (text : List ℕ) (ws : List WordValue) (words known rest : List Token) → IsBegunBy text ws → map (λ (w : WordValue). w.token) ws ≡ words → words ≡ known ++ rest → AreKnown known
+    → (lines : List ℕ) × BeginsWith 1 text known lines
+begun_by_front text ws words known rest begun is parted are =
+    let front = take (length known) ws in
+    let back = drop (length known) ws in
+    let parts : ws ≡ front ++ back = sym (take-append-drop (length known) ws) in
+    let tokens : map (λ (w : WordValue). w.token) front ≡ known = map_take (λ (w : WordValue). w.token) ws (length known) ∙ ap (λ x. take (length known) x) (is ∙ parted) ∙ take-append_seam known rest in
+    (body_lines front, subst (λ (ts : List Token). BeginsWith 1 text ts (body_lines front)) tokens (begun front back parts (subst AreKnown (sym tokens) are)))
+
+-- so it does with those up to a word refused
 pub begun_by_refused : (text : List ℕ) (ws : List WordValue) (k : GrammarFaultKind) (words : List Token) → IsBegunBy text ws → map (λ (w : WordValue). w.token) ws ≡ words → (b : BeginWith (RefusesPlantWords k) words)
     → (lines : List ℕ) × BeginsWith 1 text b.front lines
-begun_by_refused text ws k words begun is b =
-    let front = take (length b.front) ws in
-    let back = drop (length b.front) ws in
-    let parts : ws ≡ front ++ back = sym (take-append-drop (length b.front) ws) in
-    let tokens : map (λ (w : WordValue). w.token) front ≡ b.front = map_take (λ (w : WordValue). w.token) ws (length b.front) ∙ ap (λ x. take (length b.front) x) (is ∙ b.parts) ∙ take-append_seam b.front b.rest in
-    (body_lines front, subst (λ (ts : List Token). BeginsWith 1 text ts (body_lines front)) tokens (begun front back parts (subst AreKnown (sym tokens) (plant_known k b.front b.holds))))
+begun_by_refused text ws k words begun is b = begun_by_front text ws words b.front b.rest begun is b.parts (plant_known k b.front b.holds)

@@ -1,5 +1,5 @@
 -- The fault of a word is one of a plant's text, and no body's; and one that tells of no name is no name's.
-use Rattle.std.proofs.Common.{◌≡◌, inl, inr, ℕ, None, refl, subst}
+use Rattle.std.proofs.Common.{◌≡◌, ◌⊎◌, inl, inr, ℕ, None, refl, subst}
 use Rattle.plant_grammar.specs.declared.grammar_fault.GrammarFault.{GrammarFault}
 use Rattle.plant_grammar.specs.declared.grammar_fault.GrammarFaultKind.{GrammarFaultKind}
 use Rattle.plant_grammar.specs.declared.grammar_fault.GrammarFaultKind.TheVariants as word
@@ -12,6 +12,7 @@ use Rattle.program_bodies.specs.BodyFaults.{kind_of_body}
 use Rattle.program_bodies.specs.declared.plant_fault.PlantFault.{PlantFault}
 use Rattle.program_bodies.specs.declared.plant_fault.PlantFaultKind.{PlantFaultKind}
 use Rattle.program_bodies.specs.declared.plant_fault.PlantFaultKind.TheVariants as kind
+use Rattle.plant.specs.Steps.Found.{TellsOfSource}
 use Rattle.program_bodies.specs.Faults.{IsOfKind, IsPlantFault, IsOfBody, IsOfDeclaredName, kind_of_word, fault_of_word}
 
 of_word : (k : GrammarFaultKind) (line : ℕ) → IsOfWord k line → IsOfKind (kind_of_word k) line None
@@ -33,22 +34,32 @@ no_body w is (inr (inr e)) = subst (λ k. IsOfKind k w.line None) e (plant_of_wo
 
 -- a fault of a name, among those of words
 pub of_name : (k : GrammarFaultKind) → IsOfDeclaredName (kind_of_word k) → names.IsOfName k
-of_name word.Syntax (inl e) = absurd cc
-of_name word.Syntax (inr e) = absurd cc
-of_name word.NameTwice of = inl refl
-of_name word.UnknownName (inl e) = absurd cc
-of_name word.UnknownName (inr e) = absurd cc
-of_name word.WrongKind (inl e) = absurd cc
-of_name word.WrongKind (inr e) = absurd cc
-of_name word.InputBoundTwice (inl e) = absurd cc
-of_name word.InputBoundTwice (inr e) = absurd cc
-of_name word.TooMany of = inr refl
-of_name word.Memory (inl e) = absurd cc
-of_name word.Memory (inr e) = absurd cc
+of_name word.Syntax of = of
+of_name word.NameTwice of = of
+of_name word.UnknownName of = of
+of_name word.WrongKind of = of
+of_name word.InputBoundTwice of = of
+of_name word.TooMany of = of
+of_name word.Memory of = of
 
 tells_no_name : (k : GrammarFaultKind) → TellsOfName k ⊥ ⊥ → names.IsOfName k → ⊥
-tells_no_name k tells (inl e) = subst (λ k. TellsOfName k ⊥ ⊥) e tells
-tells_no_name k tells (inr e) = subst (λ k. TellsOfName k ⊥ ⊥) e tells
+tells_no_name word.Syntax tells of = of
+tells_no_name word.NameTwice tells of = tells
+tells_no_name word.UnknownName tells of = tells
+tells_no_name word.WrongKind tells of = tells
+tells_no_name word.InputBoundTwice tells of = tells
+tells_no_name word.TooMany tells of = tells
+tells_no_name word.Memory tells of = of
+
+-- what the fault of a source is of
+pub source_kind : (k : GrammarFaultKind) → TellsOfSource k → IsOfDeclaredName (kind_of_word k) → (kind_of_word k ≡ kind.UnknownName) ⊎ (kind_of_word k ≡ kind.WrongKind)
+source_kind word.Syntax tells of = absurd of
+source_kind word.NameTwice tells of = absurd tells
+source_kind word.UnknownName tells of = inl refl
+source_kind word.WrongKind tells of = inr refl
+source_kind word.InputBoundTwice tells of = absurd tells
+source_kind word.TooMany tells of = absurd tells
+source_kind word.Memory tells of = absurd of
 
 -- a fault that tells of no name
 pub no_name : (k : GrammarFaultKind) → TellsOfName k ⊥ ⊥ → IsOfDeclaredName (kind_of_word k) → ⊥
@@ -56,8 +67,7 @@ no_name k tells of = tells_no_name k tells (of_name k of)
 
 -- want of memory tells of no name, and of no body
 pub memory_no_name : (fault : PlantFault) → fault.kind ≡ kind.Memory → IsOfDeclaredName fault.kind → ⊥
-memory_no_name fault m (inl e) = cc
-memory_no_name fault m (inr e) = cc
+memory_no_name fault m of = subst IsOfDeclaredName m of
 
 pub memory_no_body : (fault : PlantFault) → fault.kind ≡ kind.Memory → IsOfBody fault.kind → ⊥
 memory_no_body fault m (inl e) = cc
@@ -66,9 +76,6 @@ memory_no_body fault m (inr (inr e)) = cc
 
 -- the fault of a body is no name's
 pub body_no_name : (k : PlantFaultKind) (why : BodyFault) → k ≡ kind_of_body why → IsOfDeclaredName k → ⊥
-body_no_name k (body.Drawing d) e (inl is) = cc
-body_no_name k (body.Drawing d) e (inr is) = cc
-body_no_name k (body.Graph g) e (inl is) = cc
-body_no_name k (body.Graph g) e (inr is) = cc
-body_no_name k (body.Bind b) e (inl is) = cc
-body_no_name k (body.Bind b) e (inr is) = cc
+body_no_name k (body.Drawing d) e of = subst IsOfDeclaredName e of
+body_no_name k (body.Graph g) e of = subst IsOfDeclaredName e of
+body_no_name k (body.Bind b) e of = subst IsOfDeclaredName e of

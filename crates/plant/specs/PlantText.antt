@@ -1,5 +1,5 @@
 -- The plant that a text is.
-use Rattle.std.specs.Prelude.{◌≡◌, ◌⊎◌, ℕ, List, map}
+use Rattle.std.specs.Prelude.{◌≡◌, ◌⊎◌, ◌≤◌, ℕ, List, length, map, All}
 use Rattle.std.specs.List.{flat_map}
 use Rattle.words.specs.Lines.{without_last}
 use Rattle.plant_text.specs.declared.token.Token.{Token}
@@ -7,10 +7,13 @@ use Rattle.plant_grammar.specs.declared.grammar_fault.GrammarFaultKind.{GrammarF
 use Rattle.plant_grammar.specs.NameFaults.{RefusesPrograms, RefusesConfiguration}
 use Rattle.program_bodies.specs.Faults.{kind_of_word}
 use Rattle.program_bodies.specs.declared.plant_fault.PlantFault.{PlantFault}
+use Rattle.program_bodies.specs.declared.plant_fault.PlantFaultKind.TheVariants.{UnknownName, WrongKind}
 use Rattle.plant_grammar.specs.Grammar.{TextValue, Tree, program_words, words_of}
+use Rattle.plant_grammar.specs.Lawful.{all_uses, IsTreeLawful}
+use Rattle.plant_grammar.specs.Parts.{IsSameTree}
 use Rattle.program_bodies.specs.BodyFaults.{IsFirstBodyFault}
 use Rattle.plant_text.specs.Spelling.{Spells, BeginsWith}
-use Rattle.plant.specs.Faultless.{IsTreeFaultless}
+use Rattle.plant.specs.Faultless.{AreBindsFed, IsTreeFaultless}
 use Rattle.plant.specs.PlantValue.{PlantValue}
 use Rattle.plant.specs.StandsFor.{IsPlantOf}
 
@@ -25,6 +28,12 @@ pub record IsPlantText (text : List ℕ) (plant : PlantValue) : Type 0 where
 abbrev pub IsNoPlant : List ℕ → Type 0
 IsNoPlant text = (tree : Tree) → Spells (without_last 13 text) (words_of tree) → IsTreeFaultless tree → ⊥
 
+-- Trees of at most 64 program types that the text, but for a carriage return at its end, spells say the same.
+abbrev pub SpellsOneTree : List ℕ → Type 0
+SpellsOneTree text =
+    (t u : Tree) → length t.programs ≤ 64 → length u.programs ≤ 64 → Spells (without_last 13 text) (words_of t)
+    → Spells (without_last 13 text) (words_of u) → IsSameTree t u
+
 -- The text begins with these programs, their bodies on their first lines, and the fault is that of the first of them
 -- whose body is refused.
 pub record IsBodyFaultIn (text : List ℕ) (fault : PlantFault) : Type 0 where
@@ -33,12 +42,25 @@ pub record IsBodyFaultIn (text : List ℕ) (fault : PlantFault) : Type 0 where
       (flat_map program_words (map (λ (t : TextValue). t.program) texts)) (map (λ (t : TextValue). t.first_line) texts)
   pub first : IsFirstBodyFault texts fault
 
--- The text begins with these words, the last of which is the name of the fault: what stands before it is as the grammar
--- has it, and its space has the name already or is full.
-pub record IsNameFaultIn (text : List ℕ) (fault : PlantFault) : Type 0 where
+-- The text begins with these words, of which the last is at fault: what stands before it is as the grammar has it, and
+-- the kind tells what is wrong with it.
+pub record IsWordFaultIn (text : List ℕ) (fault : PlantFault) : Type 0 where
   pub kind : GrammarFaultKind
   pub kind_is : fault.kind ≡ kind_of_word kind
   pub words : List Token
   pub lines : List ℕ
   pub begun : BeginsWith 1 (without_last 13 text) words lines
   pub refused : RefusesPrograms kind words ⊎ RefusesConfiguration kind words
+
+-- The text begins with a tree whose words are lawful, and a bind of it has no source, or one of another kind.
+pub record IsSourceFaultIn (text : List ℕ) (fault : PlantFault) : Type 0 where
+  pub kind_is : (fault.kind ≡ UnknownName) ⊎ (fault.kind ≡ WrongKind)
+  pub tree : Tree
+  pub lines : List ℕ
+  pub begun : BeginsWith 1 (without_last 13 text) (words_of tree) lines
+  pub lawful : IsTreeLawful tree
+  pub refused : All (AreBindsFed tree) (all_uses tree) → ⊥
+
+-- a word of the text is at fault, or the source of a bind
+abbrev pub IsNameFaultIn : List ℕ → PlantFault → Type 0
+IsNameFaultIn text fault = IsWordFaultIn text fault ⊎ IsSourceFaultIn text fault

@@ -1,12 +1,14 @@
-ghost use Rattle.std.specs.Prelude.{◌≢◌, IfOk, IfErr};
+ghost use Rattle.std.specs.Prelude.{◌≢◌, IfOk, OnOk, IfErr};
 ghost use Rattle.program_bodies.specs.Faults.{IsPlantFault, IsOfBody, IsOfDeclaredName};
 ghost use Rattle.program_bodies.specs.declared.plant_fault.PlantFaultKind.TheVariants.{Memory};
-ghost use Rattle.plant.specs.PlantText.{IsPlantText, IsNoPlant, IsBodyFaultIn, IsNameFaultIn};
+ghost use Rattle.plant.specs.PlantText.{IsPlantText, SpellsOneTree, IsNoPlant, IsBodyFaultIn, IsNameFaultIn};
 
 use crate::plant::Plant;
 use crate::sources::reading::Reading;
 use crate::sources::resolve::resolve;
-use plant_grammar::{Reader, programs_are_the_first, read_tree, words_are_in_place};
+use plant_grammar::{
+    Reader, programs_are_the_first, read_tree, words_are_in_place, words_have_one_tree,
+};
 use plant_text::read_words;
 use program_bodies::{PlantFault, draw_all};
 use std::alloc::Global;
@@ -19,12 +21,14 @@ impl Plant {
     #[tactic(auto, using(crate::proofs::WordFaults::memory_no_name, crate::proofs::WordFaults::memory_no_body))]
     pub fn read(alloc: Global, text: &str) -> Result<Plant, PlantFault>
         ensures ok { IfOk result (λ p. IsPlantText text.now p) }
+        ensures tree { OnOk result (SpellsOneTree text.now) }
         ensures refused { IfErr result (λ fault. fault.kind ≢ Memory → IsNoPlant text.now) }
         ensures value { IfErr result IsPlantFault }
         ensures body { IfErr result (λ fault. IsOfBody fault.kind → IsBodyFaultIn text.now fault) }
         ensures name { IfErr result (λ fault. IsOfDeclaredName fault.kind → IsNameFaultIn text.now fault) }
     {
         words_are_in_place();
+        words_have_one_tree();
         programs_are_the_first();
         let words = read_words(alloc, text)?;
         let mut reader = Reader::new(words.words(), words.last());

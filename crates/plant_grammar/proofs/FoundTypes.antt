@@ -1,5 +1,5 @@
 -- Program types that are sought by name.
-use Rattle.std.proofs.Common.{◌≡◌, ℕ, ◌<◌, ◌++◌, length, arith, ◌||◌, ◌↔◌, Bool, true, false, suc, subst, IsTrue, List, [], ◌∷◌, map, cond, Option, Some, is_some, refl, sym, ap, ◌∙◌}
+use Rattle.std.proofs.Common.{◌≡◌, ℕ, ◌<◌, ◌++◌, length, arith, ◌||◌, ◌↔◌, Bool, true, false, suc, subst, IsTrue, List, [], ◌∷◌, map, cond, Option, Some, None, is_some, refl, sym, ap, ◌∙◌}
 use Rattle.std.proofs.lemmas.List.{map-append}
 use Rattle.std.proofs.lemmas.List.Folds.{Any-from_list_any, list_any-from_Any}
 use Rattle.std.specs.Prelude.{Any}
@@ -30,6 +30,16 @@ pub found_any_of : {A B : Type 0} (f : A → B) (p : B → Bool) (xs : List A) �
 found_any_of f p xs =
     let is = found_is (λ x. p (f x)) xs in
     ((λ some. Any-from_list_any p (map f xs) (list_any-map f p xs ∙ sym is ∙ some)), (λ any. is ∙ sym (list_any-map f p xs) ∙ list_any-from_Any p (map f xs) any))
+
+none_found : {A : Type 0} (r : Option A) → r ≡ None → IsTrue (is_some r) → ⊥
+none_found None e some = absurd cc
+none_found (Some x) e some = absurd cc
+
+-- where no type was found, none of the programs has the name
+pub missed_type : (types : List TextValue) (name : List ℕ) → find (λ (t : TextValue). is_named name t.program.name) types ≡ None
+    → Any (λ (p : Program). IsTrue (is_named name p.name)) (map (λ (t : TextValue). t.program) types) → ⊥
+missed_type types name none any =
+    none_found (find (λ (t : TextValue). is_named name t.program.name) types) none ((found_any_of (λ (t : TextValue). t.program) (λ (p : Program). is_named name p.name) types).1 any)
 
 -- a type that was found is one of the programs, and what holds of it holds of one
 pub found_type : (types : List TextValue) (name : List ℕ) (t : TextValue) (Q : Program → Type 0) → find (λ (t : TextValue). is_named name t.program.name) types ≡ Some t → Q t.program

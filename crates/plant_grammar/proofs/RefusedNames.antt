@@ -1,5 +1,5 @@
 -- Words up to a name that is refused, with more read in front of them.
-use Rattle.std.proofs.Common.{◌≡◌, ◌≢◌, inl, inr, ℕ, ◌<◌, List, [], ◌∷◌, ◌++◌, length, Result, Ok, Err, IfErr, refl, sym, ap, subst, ◌∙◌, append_assoc, arith}
+use Rattle.std.proofs.Common.{◌≡◌, ◌≢◌, ℕ, ◌<◌, List, [], ◌∷◌, ◌++◌, length, Result, Ok, Err, IfErr, refl, sym, ap, subst, ◌∙◌, append_assoc, arith}
 use Rattle.std.specs.List.{flat_map}
 use Rattle.std.specs.Result.{IsErrAnd}
 use Rattle.std.proofs.lemmas.List.Concat.{flat_map-cons}
@@ -12,40 +12,85 @@ use Rattle.plant_text.specs.declared.token.Punctuation.TheVariants.{Comma}
 use Rattle.plant_grammar.specs.declared.grammar.tree.Bind.{Bind}
 use Rattle.plant_grammar.specs.Grammar.{mark_word, name_words, bind_words, with_commas}
 use Rattle.plant_grammar.specs.WordFaults.{IsGrammarFault}
-use Rattle.plant_grammar.specs.NameFaults.{IsOfName, TellsOfName, IsNameTaken, IsRefused, IsAfter, IsAfterAll, IsAfterName, IsAfterWhole, name_and_comma, bind_and_comma}
-use Rattle.plant_grammar.specs.Steps.Declaring.{RepeatsName, IsNameNext, BeginWith}
+use Rattle.plant_grammar.specs.NameFaults.{IsOfName, Tells, TellsOfName, IsNameTaken, IsRefused, IsMisused, IsUnknown, IsAfter, IsAfterAll, IsAfterName, IsAfterWhole, name_and_comma, bind_and_comma}
+use Rattle.plant_grammar.specs.Steps.Declaring.{RepeatsName, IsNameNext, MissesName, BeginWith}
+
+-- a kind that tells of no name
+kind_no_name : (k : GrammarFaultKind) → TellsOfName k ⊥ ⊥ → IsOfName k → ⊥
+kind_no_name kind.Syntax tells of = of
+kind_no_name kind.NameTwice tells of = tells
+kind_no_name kind.UnknownName tells of = tells
+kind_no_name kind.WrongKind tells of = tells
+kind_no_name kind.InputBoundTwice tells of = tells
+kind_no_name kind.TooMany tells of = tells
+kind_no_name kind.Memory tells of = of
 
 -- a fault that tells of no name
 pub no_name : (fault : GrammarFault) → TellsOfName fault.kind ⊥ ⊥ → IsOfName fault.kind → ⊥
-no_name fault tells (inl e) = subst (λ k. TellsOfName k ⊥ ⊥) e tells
-no_name fault tells (inr e) = subst (λ k. TellsOfName k ⊥ ⊥) e tells
+no_name fault tells of = kind_no_name fault.kind tells of
 
 -- want of memory tells of no name
 pub memory_no_name : (fault : GrammarFault) → fault.kind ≡ kind.Memory → IsOfName fault.kind → ⊥
-memory_no_name fault m (inl e) = absurd cc
-memory_no_name fault m (inr e) = absurd cc
+memory_no_name fault m of = subst IsOfName m of
 
 -- a name that is refused stands next
 pub name_next : (k : GrammarFaultKind) (words : List Token) (Taken : List ℕ → Type 0) (full : Type 0) (Twice : Type 0)
     → (Twice → (name : List ℕ) × (rest : List Token) × (words ≡ token.Name name ∷ rest) × Taken name)
     → TellsOfName k Twice (IsNameNext words × full) → IsOfName k → BeginWith (IsRefused k Taken full) words
-name_next k words Taken full Twice two tells (inl e) =
-    let found = two (subst (λ j. TellsOfName j Twice (IsNameNext words × full)) e tells) in
-    record {
-      front = token.Name found.0 ∷ [];
-      rest = found.1;
-      parts = found.2;
-      holds = record { name = found.0; alone = refl; told = subst (λ j. TellsOfName j (Taken found.0) full) (sym e) found.3 };
-    }
-name_next k words Taken full Twice two tells (inr e) =
-    let found = subst (λ j. TellsOfName j Twice (IsNameNext words × full)) e tells in
-    let next = found.0 in
-    record {
-      front = token.Name next.0 ∷ [];
-      rest = next.1;
-      parts = next.2;
-      holds = record { name = next.0; alone = refl; told = subst (λ j. TellsOfName j (Taken next.0) full) (sym e) found.1 };
-    }
+name_next kind.Syntax words Taken full Twice two tells of = absurd of
+name_next kind.NameTwice words Taken full Twice two tells of =
+    let found = two tells in
+    record { front = token.Name found.0 ∷ []; rest = found.1; parts = found.2; holds = record { name = found.0; alone = refl; told = found.3 } }
+name_next kind.UnknownName words Taken full Twice two tells of = absurd tells
+name_next kind.WrongKind words Taken full Twice two tells of = absurd tells
+name_next kind.InputBoundTwice words Taken full Twice two tells of = absurd tells
+name_next kind.TooMany words Taken full Twice two tells of =
+    let next = tells.0 in
+    record { front = token.Name next.0 ∷ []; rest = next.1; parts = next.2; holds = record { name = next.0; alone = refl; told = tells.1 } }
+name_next kind.Memory words Taken full Twice two tells of = absurd of
+
+-- a name that isn't declared, that is bound already or is one too many stands next
+pub misused_next : (k : GrammarFaultKind) (words : List Token) (Unknown Bound : List ℕ → Type 0) (full missing bound : Type 0)
+    → (missing → (name : List ℕ) × (rest : List Token) × (words ≡ token.Name name ∷ rest) × Unknown name)
+    → (bound → (name : List ℕ) × (rest : List Token) × (words ≡ token.Name name ∷ rest) × Bound name)
+    → Tells k ⊥ missing ⊥ bound (IsNameNext words × full) → IsOfName k → BeginWith (IsMisused k Unknown Bound full) words
+misused_next kind.Syntax words Unknown Bound full missing bound um bm tells of = absurd of
+misused_next kind.NameTwice words Unknown Bound full missing bound um bm tells of = absurd tells
+misused_next kind.UnknownName words Unknown Bound full missing bound um bm tells of =
+    let found = um tells in
+    record { front = token.Name found.0 ∷ []; rest = found.1; parts = found.2; holds = record { name = found.0; alone = refl; told = found.3 } }
+misused_next kind.WrongKind words Unknown Bound full missing bound um bm tells of = absurd tells
+misused_next kind.InputBoundTwice words Unknown Bound full missing bound um bm tells of =
+    let found = bm tells in
+    record { front = token.Name found.0 ∷ []; rest = found.1; parts = found.2; holds = record { name = found.0; alone = refl; told = found.3 } }
+misused_next kind.TooMany words Unknown Bound full missing bound um bm tells of =
+    let next = tells.0 in
+    record { front = token.Name next.0 ∷ []; rest = next.1; parts = next.2; holds = record { name = next.0; alone = refl; told = tells.1 } }
+misused_next kind.Memory words Unknown Bound full missing bound um bm tells of = absurd of
+
+-- behind a word stands a name that none of these has
+pub unknown_behind : {A : Type 0} (k : GrammarFaultKind) (t : Token) (name_of : A → List ℕ) (xs : List A) (words : List Token)
+    → Tells k ⊥ ((more : List Token) × (words ≡ t ∷ more) × MissesName name_of xs more) ⊥ ⊥ ⊥ → IsOfName k
+    → (more : List Token) × (words ≡ t ∷ more) × BeginWith (IsUnknown k name_of xs) more
+unknown_behind kind.Syntax t name_of xs words tells of = absurd of
+unknown_behind kind.NameTwice t name_of xs words tells of = absurd tells
+unknown_behind kind.UnknownName t name_of xs words (more, e, miss) of =
+    (more, e, record { front = token.Name miss.0 ∷ []; rest = miss.1; parts = miss.2; holds = record { name = miss.0; alone = refl; told = miss.3 } })
+unknown_behind kind.WrongKind t name_of xs words tells of = absurd tells
+unknown_behind kind.InputBoundTwice t name_of xs words tells of = absurd tells
+unknown_behind kind.TooMany t name_of xs words tells of = absurd tells
+unknown_behind kind.Memory t name_of xs words tells of = absurd of
+
+-- a word was read before the name that none of these has
+pub missing_behind : {A : Type 0} (k : GrammarFaultKind) (t : Token) (name_of : A → List ℕ) (xs : List A) (start now : List Token) → start ≡ t ∷ now
+    → Tells k ⊥ (MissesName name_of xs now) ⊥ ⊥ ⊥ → Tells k ⊥ ((more : List Token) × (start ≡ t ∷ more) × MissesName name_of xs more) ⊥ ⊥ ⊥
+missing_behind kind.Syntax t name_of xs start now e tells = tt
+missing_behind kind.NameTwice t name_of xs start now e tells = tells
+missing_behind kind.UnknownName t name_of xs start now e tells = (now, e, tells)
+missing_behind kind.WrongKind t name_of xs start now e tells = tells
+missing_behind kind.InputBoundTwice t name_of xs start now e tells = tells
+missing_behind kind.TooMany t name_of xs start now e tells = tells
+missing_behind kind.Memory t name_of xs start now e tells = tt
 
 -- a name that is refused stands next, and one of these has it
 pub name_repeated : {A : Type 0} (k : GrammarFaultKind) (words : List Token) (name_of : A → List ℕ) (xs : List A) (full : Type 0)
@@ -124,9 +169,9 @@ memory_excused Q (Err fault) h = λ known. absurd (known h.0)
 pub tells_with : (k : GrammarFaultKind) (twice full twice_too full_too : Type 0) → (twice → twice_too) → (full → full_too) → TellsOfName k twice full → TellsOfName k twice_too full_too
 tells_with kind.Syntax a b c d f g h = tt
 tells_with kind.NameTwice a b c d f g h = f h
-tells_with kind.UnknownName a b c d f g h = tt
-tells_with kind.WrongKind a b c d f g h = tt
-tells_with kind.InputBoundTwice a b c d f g h = tt
+tells_with kind.UnknownName a b c d f g h = h
+tells_with kind.WrongKind a b c d f g h = h
+tells_with kind.InputBoundTwice a b c d f g h = h
 tells_with kind.TooMany a b c d f g h = g h
 tells_with kind.Memory a b c d f g h = tt
 

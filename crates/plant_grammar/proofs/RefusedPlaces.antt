@@ -1,13 +1,19 @@
 -- Where a name is refused, with what was read in front of it, rule by rule of the grammar.
-use Rattle.std.proofs.Common.{◌≡◌, ◌⊎◌, inl, inr, ℕ, ◌+◌, ◌<◌, ◌≤◌, List, [], ◌∷◌, ◌++◌, length, refl, sym, ap, subst, ◌∙◌, arith}
+use Rattle.std.proofs.Common.{◌≡◌, ◌≢◌, ◌⊎◌, inl, inr, ℕ, ◌+◌, ◌<◌, ◌≤◌, IsTrue, List, [], ◌∷◌, ◌++◌, length, Some, None, refl, sym, ap, subst, ◌∙◌, append_assoc, arith}
+use Rattle.std.specs.Prelude.{Any}
+use Rattle.std_blocks.specs.declared.block_type.BlockType.{BlockType}
 use Rattle.std.specs.List.{flat_map}
 use Rattle.declared_names.specs.declared.declarations.Declaration.{Declaration}
+use Rattle.declared_names.specs.declared.declarations.Kind.{Kind}
+use Rattle.plant_text.specs.declared.address.Address.{Address}
 use Rattle.plant_grammar.specs.declared.grammar_fault.GrammarFaultKind.{GrammarFaultKind}
+use Rattle.plant_grammar.specs.declared.grammar_fault.GrammarFaultKind.TheVariants as kind
 use Rattle.plant_text.specs.declared.token.Token.{Token}
 use Rattle.plant_text.specs.declared.token.Token.TheVariants as token
 use Rattle.plant_text.specs.declared.token.Keyword.TheVariants as key
-use Rattle.plant_text.specs.declared.token.Punctuation.TheVariants.{Open, Colon, Comma}
+use Rattle.plant_text.specs.declared.token.Punctuation.TheVariants.{Open, Colon, Comma, Assign}
 use Rattle.plant_grammar.specs.declared.grammar.tree.Section.{Section}
+use Rattle.plant_grammar.specs.declared.grammar.tree.TypeName.TheVariants.{Block}
 use Rattle.plant_grammar.specs.declared.grammar.tree.NameList.{NameList}
 use Rattle.plant_grammar.specs.declared.grammar.tree.VarBlock.{VarBlock}
 use Rattle.plant_grammar.specs.declared.grammar.tree.Program.{Program}
@@ -17,11 +23,13 @@ use Rattle.plant_grammar.specs.declared.grammar.tree.Use.{Use}
 use Rattle.plant_grammar.specs.declared.grammar.tree.Item.{Item}
 use Rattle.plant_grammar.specs.declared.grammar.tree.Resource.{Resource}
 use Rattle.plant_grammar.specs.Grammar.{key_word, mark_word, section_words, name_words, list_words, block_words, program_words, with_commas, item_words, resource_words}
-use Rattle.plant_grammar.specs.Lawful.{list_variables, block_variables, task_of, use_of, uses_of}
-use Rattle.plant_grammar.specs.NameFaults.{IsOfName, TellsOfName, IsNameTaken, IsRefused, IsAfter, IsAfterAll, IsAfterName, name_and_comma, bind_and_comma, RefusesVariable, RefusesList, RefusesBlock, RefusesBlocks, RefusesProgramName, RefusesProgram, RefusesPrograms, RefusesTask, RefusesBind, RefusesBinds, RefusesInstanceName, RefusesInstance, RefusesItems, RefusesResourceName, RefusesResource, RefusesResources, RefusesConfiguration}
-use Rattle.plant_grammar.specs.Steps.Declaring.{RepeatsName, IsNameNext, BeginWith, RefusesItem}
+use Rattle.plant_grammar.specs.Kinds.{kind_of_space, input_kind_of}
+use Rattle.plant_grammar.specs.Names.{is_named}
+use Rattle.plant_grammar.specs.Lawful.{list_variables, block_variables, variables, IsTypeLawful, task_of, use_of, uses_of}
+use Rattle.plant_grammar.specs.NameFaults.{IsOfName, Tells, TellsOfName, IsNameTaken, IsRefused, IsUnknown, IsAfter, IsAfterAll, IsAfterName, IsAfterType, name_and_comma, bind_and_comma, RefusesVariable, RefusesType, RefusesOneList, RefusesList, RefusesBlock, RefusesBlocks, RefusesProgramName, RefusesProgram, RefusesPrograms, RefusesTask, RefusesInput, RefusesAddress, RefusesOneBind, RefusesBind, RefusesTyped, RefusesBinds, RefusesInstanceName, RefusesInstance, RefusesItems, RefusesResourceName, RefusesResource, RefusesResources, RefusesConfiguration}
+use Rattle.plant_grammar.specs.Steps.Declaring.{RepeatsName, IsNameNext, MissesName, MissesInput, BeginWith, RefusesItem}
 use Rattle.plant_grammar.specs.Steps.ReadParts.{TallyValue, tally_with}
-use Rattle.plant_grammar.proofs.RefusedNames.{name_next, name_repeated, begin_with, begin_after, begin_after_all, begin_after_name, begin_behind, names_and_commas, names_split, binds_and_commas}
+use Rattle.plant_grammar.proofs.RefusedNames.{name_next, misused_next, unknown_behind, name_repeated, begin_with, begin_after, begin_after_all, begin_after_name, begin_behind, names_and_commas, names_split, binds_and_commas}
 
 -- either of two holds of the front
 pub begin_left : (P Q : List Token → Type 0) (words : List Token) → BeginWith P words → BeginWith (λ w. P w ⊎ Q w) words
@@ -66,12 +74,37 @@ listed_variable k before all names more n start now is e tells =
     begin_behind name_and_comma (λ ns w. IsRefused k (taken_of before ns) (1000 ≤ length before + length ns) w) names start (token.Name n ∷ found.0) words
     (record { front = token.Name n ∷ []; rest = found.0; parts = refl; holds = record { name = n; alone = refl; told = tells } })
 
+-- a list up to the type of a block
+type_next : (k : GrammarFaultKind) (s : Section) (names : List (List ℕ)) (start mid : List Token) → start ≡ name_words names ++ mark_word Colon ∷ mid
+    → Tells k ⊥ ⊥ ((b : BlockType) × (rest : List Token) × (mid ≡ token.Block b ∷ rest) × (IsTypeLawful s (Block b) → ⊥)) ⊥ ⊥ → IsOfName k → BeginWith (RefusesType k s) start
+type_next kind.Syntax s names start mid e tells of = absurd of
+type_next kind.NameTwice s names start mid e tells of = absurd tells
+type_next kind.UnknownName s names start mid e tells of = absurd tells
+type_next kind.WrongKind s names start mid e (b, rest, is, wrong) of = record {
+  front = name_words names ++ mark_word Colon ∷ token.Block b ∷ [];
+  rest = rest;
+  parts = e ∙ ap (λ r. name_words names ++ mark_word Colon ∷ r) is ∙ sym (append_assoc (name_words names) (mark_word Colon ∷ token.Block b ∷ []) rest);
+  holds = record { names = names; block = b; parts = refl; told = wrong };
+}
+type_next kind.InputBoundTwice s names start mid e tells of = absurd tells
+type_next kind.TooMany s names start mid e tells of = absurd tells
+type_next kind.Memory s names start mid e tells of = absurd of
+
+-- a list up to a name of it
+pub name_of_list : (k : GrammarFaultKind) (s : Section) (before : List Declaration) (start : List Token) → BeginWith (RefusesVariable k before) start → BeginWith (RefusesOneList s before k) start
+name_of_list k s before start b = begin_left (RefusesVariable k before) (RefusesType k s) start b
+
+-- a list up to its type
+pub type_of_list : (k : GrammarFaultKind) (s : Section) (before : List Declaration) (names : List (List ℕ)) (start now mid : List Token) → start ≡ name_words names ++ now → now ≡ mark_word Colon ∷ mid
+    → Tells k ⊥ ⊥ ((b : BlockType) × (rest : List Token) × (mid ≡ token.Block b ∷ rest) × (IsTypeLawful s (Block b) → ⊥)) ⊥ ⊥ → IsOfName k → BeginWith (RefusesOneList s before k) start
+type_of_list k s before names start now mid h1 h2 tells of = begin_right (RefusesVariable k before) (RefusesType k s) start (type_next k s names start mid (h1 ∙ ap (λ r. name_words names ++ r) h2) tells of)
+
 -- a list behind others of its block
 pub list_refused : (k : GrammarFaultKind) (s : Section) (before now_declared : List Declaration) (lists : List NameList) (start now : List Token) → start ≡ flat_map list_words lists ++ now → now_declared ≡ before ++ flat_map (list_variables s) lists
-    → BeginWith (RefusesVariable k now_declared) now → BeginWith (RefusesList k s before) start
+    → BeginWith (RefusesOneList s now_declared k) now → BeginWith (RefusesList k s before) start
 unfolding RefusesList
 list_refused k s before now_declared lists start now e declared b =
-    begin_behind list_words (λ (ls : List NameList) more. RefusesVariable k (before ++ flat_map (list_variables s) ls) more) lists start now e (subst (λ ds. BeginWith (RefusesVariable k ds) now) declared b)
+    begin_behind list_words (λ (ls : List NameList) more. RefusesOneList s (before ++ flat_map (list_variables s) ls) k more) lists start now e (subst (λ ds. BeginWith (RefusesOneList s ds k) now) declared b)
 
 -- a block up to a name refused
 pub in_block : (k : GrammarFaultKind) (s : Section) (before : List Declaration) (start now : List Token) → start ≡ section_words s ++ now → BeginWith (RefusesList k s before) now → BeginWith (RefusesBlock k before) start
@@ -114,91 +147,157 @@ unfolding RefusesTask
 task_refused k before start now e tells of = let tasks = flat_map task_of before in
     begin_after (key_word key.Task) (IsRefused k (IsNameTaken (λ (t : TaskLine). t.name) tasks) (16 ≤ length tasks)) start now e (name_repeated k now (λ (t : TaskLine). t.name) tasks (16 ≤ length tasks) tells of)
 
+-- the input of a bind
+pub input_refused : (k : GrammarFaultKind) (n : ℕ) (ds : List Declaration) (before : List Bind) (words : List Token)
+    → Tells k ⊥ (MissesInput ds words) ⊥ (RepeatsName (λ (b : Bind). b.input) before words) (IsNameNext words × (4096 ≤ n)) → IsOfName k → BeginWith (RefusesOneBind n ds before k) words
+input_refused k n ds before words tells of =
+    begin_left (RefusesInput k n ds before) (RefusesAddress k ds) words
+    (misused_next k words (λ name. input_kind_of ds name ≡ None) (IsNameTaken (λ (b : Bind). b.input) before) (4096 ≤ n) (MissesInput ds words) (RepeatsName (λ (b : Bind). b.input) before words) (λ m. m) (λ r. r) tells of)
+
+abbrev wrong_address : Kind → List Token → Type 0
+wrong_address its words = (a : Address) × (rest : List Token) × (words ≡ token.Address a ∷ rest) × (kind_of_space a.space ≢ its)
+
+address_next : (k : GrammarFaultKind) (ds : List Declaration) (name : List ℕ) (its : Kind) (start two : List Token) → start ≡ token.Name name ∷ mark_word Assign ∷ two → input_kind_of ds name ≡ Some its
+    → Tells k ⊥ ⊥ (wrong_address its two) ⊥ ⊥ → IsOfName k → BeginWith (RefusesAddress k ds) start
+address_next kind.Syntax ds name its start two e is tells of = absurd of
+address_next kind.NameTwice ds name its start two e is tells of = absurd tells
+address_next kind.UnknownName ds name its start two e is tells of = absurd tells
+address_next kind.WrongKind ds name its start two e is (a, rest, next, wrong) of = record {
+  front = token.Name name ∷ mark_word Assign ∷ token.Address a ∷ [];
+  rest = rest;
+  parts = e ∙ ap (λ r. token.Name name ∷ mark_word Assign ∷ r) next;
+  holds = record { input = name; address = a; its = its; parts = refl; its_is = is; told = wrong };
+}
+address_next kind.InputBoundTwice ds name its start two e is tells of = absurd tells
+address_next kind.TooMany ds name its start two e is tells of = absurd tells
+address_next kind.Memory ds name its start two e is tells of = absurd of
+
+-- a bind up to its address
+pub address_refused : (k : GrammarFaultKind) (n : ℕ) (ds : List Declaration) (before : List Bind) (name : List ℕ) (its : Kind) (start one two : List Token) → start ≡ token.Name name ∷ one → one ≡ mark_word Assign ∷ two → input_kind_of ds name ≡ Some its
+    → Tells k ⊥ ⊥ (wrong_address its two) ⊥ ⊥ → IsOfName k → BeginWith (RefusesOneBind n ds before k) start
+address_refused k n ds before name its start one two h1 h2 is tells of =
+    begin_right (RefusesInput k n ds before) (RefusesAddress k ds) start (address_next k ds name its start two (h1 ∙ ap (λ r. token.Name name ∷ r) h2) is tells of)
+
 -- a bind behind others of its instance
-bind_refused : (k : GrammarFaultKind) (n m : ℕ) (binds : List Bind) (start now : List Token) → start ≡ flat_map bind_and_comma binds ++ now → n ≡ m + length binds
-    → TellsOfName k ⊥ (IsNameNext now × (4096 ≤ n)) → IsOfName k → BeginWith (RefusesBind k m) start
+bind_refused : (k : GrammarFaultKind) (n m : ℕ) (ds : List Declaration) (binds : List Bind) (start now : List Token) → start ≡ flat_map bind_and_comma binds ++ now → n ≡ m + length binds
+    → BeginWith (RefusesOneBind n ds binds k) now → BeginWith (RefusesBind k m ds) start
 unfolding RefusesBind
-bind_refused k n m binds start now e many tells of =
-    begin_behind bind_and_comma (λ (before : List Bind) more. IsRefused k (λ name. ⊥) (4096 ≤ m + length before) more) binds start now e
-    (name_next k now (λ name. ⊥) (4096 ≤ m + length binds) ⊥ (λ no. absurd no) (subst (λ (j : ℕ). TellsOfName k ⊥ (IsNameNext now × (4096 ≤ j))) many tells) of)
+bind_refused k n m ds binds start now e many b =
+    begin_behind bind_and_comma (λ (before : List Bind) more. RefusesOneBind (m + length before) ds before k more) binds start now e (subst (λ (j : ℕ). BeginWith (RefusesOneBind j ds binds k) now) many b)
 
 -- the first bind of an instance
-pub first_bind : (k : GrammarFaultKind) (m : ℕ) (start : List Token) → TellsOfName k ⊥ (IsNameNext start × (4096 ≤ m)) → IsOfName k → BeginWith (RefusesBind k m) start
-first_bind k m start tells of = bind_refused k m m [] start start refl (omega arith) tells of
+pub first_bind : (k : GrammarFaultKind) (m : ℕ) (ds : List Declaration) (start : List Token) → BeginWith (RefusesOneBind m ds [] k) start → BeginWith (RefusesBind k m ds) start
+first_bind k m ds start b = bind_refused k m m ds [] start start refl (omega arith) b
 
 -- a further bind of an instance
-pub next_bind : (k : GrammarFaultKind) (n m : ℕ) (binds : List Bind) (start now mid : List Token) → 0 < length binds → start ≡ with_commas binds ++ now → now ≡ mark_word Comma ∷ mid → n ≡ m + length binds
-    → TellsOfName k ⊥ (IsNameNext mid × (4096 ≤ n)) → IsOfName k → BeginWith (RefusesBind k m) start
-next_bind k n m binds start now mid some h1 h2 many tells of = bind_refused k n m binds start mid (h1 ∙ ap (λ r. with_commas binds ++ r) h2 ∙ binds_and_commas binds mid some) many tells of
+pub next_bind : (k : GrammarFaultKind) (n m : ℕ) (ds : List Declaration) (binds : List Bind) (start now mid : List Token) → 0 < length binds → start ≡ with_commas binds ++ now → now ≡ mark_word Comma ∷ mid → n ≡ m + length binds
+    → BeginWith (RefusesOneBind n ds binds k) mid → BeginWith (RefusesBind k m ds) start
+next_bind k n m ds binds start now mid some h1 h2 many b = bind_refused k n m ds binds start mid (h1 ∙ ap (λ r. with_commas binds ++ r) h2 ∙ binds_and_commas binds mid some) many b
 
 -- the parenthesis before the binds
-pub in_binds : (k : GrammarFaultKind) (m : ℕ) (start now : List Token) → start ≡ mark_word Open ∷ now → BeginWith (RefusesBind k m) now → BeginWith (IsAfter (mark_word Open) (RefusesBind k m)) start
-in_binds k m start now e b = begin_after (mark_word Open) (RefusesBind k m) start now e b
+pub in_binds : (k : GrammarFaultKind) (m : ℕ) (ds : List Declaration) (start now : List Token) → start ≡ mark_word Open ∷ now → BeginWith (RefusesBind k m ds) now → BeginWith (IsAfter (mark_word Open) (RefusesBind k m ds)) start
+in_binds k m ds start now e b = begin_after (mark_word Open) (RefusesBind k m ds) start now e b
 
 -- an instance up to its name
-pub instance_named : (k : GrammarFaultKind) (i m : ℕ) (before : List Item) (start now : List Token) → start ≡ key_word key.Program ∷ now
-    → TellsOfName k (RepeatsName (λ (u : Use). u.instance) (flat_map use_of before) now) (IsNameNext now × (64 ≤ i)) → IsOfName k → BeginWith (RefusesInstance k i m before) start
+pub instance_named : (k : GrammarFaultKind) (i m : ℕ) (programs : List Program) (before : List Item) (start now : List Token) → start ≡ key_word key.Program ∷ now
+    → TellsOfName k (RepeatsName (λ (u : Use). u.instance) (flat_map use_of before) now) (IsNameNext now × (64 ≤ i)) → IsOfName k → BeginWith (RefusesInstance k i m programs before) start
 unfolding RefusesInstance
-instance_named k i m before start now e tells of =
-    begin_after (key_word key.Program) (λ more. RefusesInstanceName k i before more ⊎ IsAfterName (RefusesBinds k m) more) start now e
-    (begin_left (RefusesInstanceName k i before) (IsAfterName (RefusesBinds k m)) now (name_repeated k now (λ (u : Use). u.instance) (flat_map use_of before) (64 ≤ i) tells of))
+instance_named k i m programs before start now e tells of =
+    begin_after (key_word key.Program) (λ more. RefusesInstanceName k i before more ⊎ IsAfterName (RefusesBinds k m programs before) more) start now e
+    (begin_left (RefusesInstanceName k i before) (IsAfterName (RefusesBinds k m programs before)) now (name_repeated k now (λ (u : Use). u.instance) (flat_map use_of before) (64 ≤ i) tells of))
 
--- an instance up to one of its binds
-pub in_instance : (k : GrammarFaultKind) (i m n : ℕ) (before : List Item) (name task type : List ℕ) (start one two now : List Token)
-    → start ≡ key_word key.Program ∷ token.Name name ∷ one → one ≡ key_word key.With ∷ token.Name task ∷ two → two ≡ mark_word Colon ∷ token.Name type ∷ now → n ≡ m
-    → BeginWith (IsAfter (mark_word Open) (RefusesBind k n)) now → BeginWith (RefusesInstance k i m before) start
-unfolding RefusesInstance RefusesBinds
-in_instance k i m n before name task type start one two now h1 h2 h3 same b =
-    let binds = IsAfter (mark_word Open) (RefusesBind k m) in
-    begin_after (key_word key.Program) (λ more. RefusesInstanceName k i before more ⊎ IsAfterName (RefusesBinds k m) more) start (token.Name name ∷ one) h1
-    (begin_right (RefusesInstanceName k i before) (IsAfterName (RefusesBinds k m)) (token.Name name ∷ one)
-    (begin_after_name name (RefusesBinds k m) (token.Name name ∷ one) one refl
-    (begin_after (key_word key.With) (IsAfterName (IsAfter (mark_word Colon) (IsAfterName binds))) one (token.Name task ∷ two) h2
-    (begin_after_name task (IsAfter (mark_word Colon) (IsAfterName binds)) (token.Name task ∷ two) two refl
-    (begin_after (mark_word Colon) (IsAfterName binds) two (token.Name type ∷ now) h3
-    (begin_after_name type binds (token.Name type ∷ now) now refl (subst (λ (j : ℕ). BeginWith (IsAfter (mark_word Open) (RefusesBind k j)) now) same b)))))))
+-- an instance up to a word behind its name
+pub in_instance : (k : GrammarFaultKind) (i m : ℕ) (programs : List Program) (before : List Item) (name : List ℕ) (start one : List Token) → start ≡ key_word key.Program ∷ token.Name name ∷ one
+    → BeginWith (RefusesBinds k m programs before) one → BeginWith (RefusesInstance k i m programs before) start
+unfolding RefusesInstance
+in_instance k i m programs before name start one e b =
+    begin_after (key_word key.Program) (λ more. RefusesInstanceName k i before more ⊎ IsAfterName (RefusesBinds k m programs before) more) start (token.Name name ∷ one) e
+    (begin_right (RefusesInstanceName k i before) (IsAfterName (RefusesBinds k m programs before)) (token.Name name ∷ one) (begin_after_name name (RefusesBinds k m programs before) (token.Name name ∷ one) one refl b))
+
+-- a task that is none of these lines
+pub task_unknown : (k : GrammarFaultKind) (m : ℕ) (programs : List Program) (before : List Item) (one : List Token)
+    → Tells k ⊥ ((more : List Token) × (one ≡ key_word key.With ∷ more) × MissesName (λ (t : TaskLine). t.name) (flat_map task_of before) more) ⊥ ⊥ ⊥ → IsOfName k → BeginWith (RefusesBinds k m programs before) one
+unfolding RefusesBinds
+task_unknown k m programs before one tells of =
+    let unknown = IsUnknown k (λ (t : TaskLine). t.name) (flat_map task_of before) in
+    let behind = IsAfterName (IsAfter (mark_word Colon) (RefusesTyped k m programs)) in
+    let found = unknown_behind k (key_word key.With) (λ (t : TaskLine). t.name) (flat_map task_of before) one tells of in
+    begin_after (key_word key.With) (λ more. unknown more ⊎ behind more) one found.0 found.1 (begin_left unknown behind found.0 found.2)
+
+behind_task : (k : GrammarFaultKind) (m : ℕ) (programs : List Program) (before : List Item) (task : List ℕ) (one two : List Token) → one ≡ key_word key.With ∷ token.Name task ∷ two
+    → BeginWith (IsAfter (mark_word Colon) (RefusesTyped k m programs)) two → BeginWith (RefusesBinds k m programs before) one
+unfolding RefusesBinds
+behind_task k m programs before task one two e b =
+    let unknown = IsUnknown k (λ (t : TaskLine). t.name) (flat_map task_of before) in
+    let typed = IsAfter (mark_word Colon) (RefusesTyped k m programs) in
+    begin_after (key_word key.With) (λ more. unknown more ⊎ IsAfterName typed more) one (token.Name task ∷ two) e
+    (begin_right unknown (IsAfterName typed) (token.Name task ∷ two) (begin_after_name task typed (token.Name task ∷ two) two refl b))
+
+-- a type that is none of these programs
+pub type_unknown : (k : GrammarFaultKind) (m : ℕ) (programs : List Program) (before : List Item) (task : List ℕ) (one two : List Token) → one ≡ key_word key.With ∷ token.Name task ∷ two
+    → Tells k ⊥ ((more : List Token) × (two ≡ mark_word Colon ∷ more) × MissesName (λ (p : Program). p.name) programs more) ⊥ ⊥ ⊥ → IsOfName k → BeginWith (RefusesBinds k m programs before) one
+unfolding RefusesTyped
+type_unknown k m programs before task one two e tells of =
+    let unknown = IsUnknown k (λ (p : Program). p.name) programs in
+    let bound = IsAfterType programs (λ p more. IsAfter (mark_word Open) (RefusesBind k m (variables p)) more) in
+    let found = unknown_behind k (mark_word Colon) (λ (p : Program). p.name) programs two tells of in
+    behind_task k m programs before task one two e (begin_after (mark_word Colon) (RefusesTyped k m programs) two found.0 found.1 (begin_left unknown bound found.0 found.2))
+
+-- an instance up to a word in its binds
+pub binds_of_type : (k : GrammarFaultKind) (m n : ℕ) (programs : List Program) (before : List Item) (task type : List ℕ) (p : Program) (one two now : List Token) → one ≡ key_word key.With ∷ token.Name task ∷ two → two ≡ mark_word Colon ∷ token.Name type ∷ now
+    → Any (λ (q : Program). IsTrue (is_named type q.name) × (q ≡ p)) programs → n ≡ m → BeginWith (IsAfter (mark_word Open) (RefusesBind k n (variables p))) now → BeginWith (RefusesBinds k m programs before) one
+unfolding RefusesTyped
+binds_of_type k m n programs before task type p one two now h1 h2 known same b =
+    let unknown = IsUnknown k (λ (q : Program). q.name) programs in
+    let bound = IsAfterType programs (λ q more. IsAfter (mark_word Open) (RefusesBind k m (variables q)) more) in
+    let binds = IsAfter (mark_word Open) (RefusesBind k m (variables p)) in
+    behind_task k m programs before task one two h1
+    (begin_after (mark_word Colon) (RefusesTyped k m programs) two (token.Name type ∷ now) h2
+    (begin_right unknown bound (token.Name type ∷ now)
+    (begin_with (IsAfter (token.Name type) binds) bound (token.Name type ∷ now) (λ front h. record { name = type; type = p; known = known; after = h })
+    (begin_after (token.Name type) binds (token.Name type ∷ now) now refl (subst (λ (j : ℕ). BeginWith (IsAfter (mark_word Open) (RefusesBind k j (variables p))) now) same b)))))
 
 -- a line of a resource behind others
-pub item_refused : (k : GrammarFaultKind) (old tally : TallyValue) (items : List Item) (start now : List Token) → start ≡ flat_map item_words items ++ now → tally ≡ tally_with old (flat_map use_of items)
-    → BeginWith (RefusesItem tally items k) now → BeginWith (RefusesItems k old.instances old.binds) start
+pub item_refused : (k : GrammarFaultKind) (old tally : TallyValue) (programs : List Program) (items : List Item) (start now : List Token) → start ≡ flat_map item_words items ++ now → tally ≡ tally_with old (flat_map use_of items)
+    → BeginWith (RefusesItem tally programs items k) now → BeginWith (RefusesItems k old.instances old.binds programs) start
 unfolding RefusesItems
-item_refused k old tally items start now e counted b =
-    begin_behind item_words (λ (xs : List Item) more. RefusesItem (tally_with old (flat_map use_of xs)) xs k more) items start now e (subst (λ t. BeginWith (RefusesItem t items k) now) counted b)
+item_refused k old tally programs items start now e counted b =
+    begin_behind item_words (λ (xs : List Item) more. RefusesItem (tally_with old (flat_map use_of xs)) programs xs k more) items start now e (subst (λ t. BeginWith (RefusesItem t programs items k) now) counted b)
 
 -- a resource up to its name
-pub resource_named : (k : GrammarFaultKind) (i m : ℕ) (before : List Resource) (start now : List Token) → start ≡ key_word key.Resource ∷ now
-    → TellsOfName k (RepeatsName (λ (r : Resource). r.name) before now) (IsNameNext now × (16 ≤ length before)) → IsOfName k → BeginWith (RefusesResource k i m before) start
+pub resource_named : (k : GrammarFaultKind) (i m : ℕ) (programs : List Program) (before : List Resource) (start now : List Token) → start ≡ key_word key.Resource ∷ now
+    → TellsOfName k (RepeatsName (λ (r : Resource). r.name) before now) (IsNameNext now × (16 ≤ length before)) → IsOfName k → BeginWith (RefusesResource k i m programs before) start
 unfolding RefusesResource
-resource_named k i m before start now e tells of =
-    let inside = IsAfterName (IsAfter (key_word key.On) (IsAfterName (RefusesItems k i m))) in
+resource_named k i m programs before start now e tells of =
+    let inside = IsAfterName (IsAfter (key_word key.On) (IsAfterName (RefusesItems k i m programs))) in
     begin_after (key_word key.Resource) (λ more. RefusesResourceName k before more ⊎ inside more) start now e
     (begin_left (RefusesResourceName k before) inside now (name_repeated k now (λ (r : Resource). r.name) before (16 ≤ length before) tells of))
 
 -- a resource up to a name in one of its lines
-pub in_resource : (k : GrammarFaultKind) (i m : ℕ) (before : List Resource) (name node : List ℕ) (start one two three four : List Token)
+pub in_resource : (k : GrammarFaultKind) (i m : ℕ) (programs : List Program) (before : List Resource) (name node : List ℕ) (start one two three four : List Token)
     → start ≡ key_word key.Resource ∷ one → one ≡ token.Name name ∷ two → two ≡ key_word key.On ∷ three → three ≡ token.Name node ∷ four
-    → BeginWith (RefusesItems k i m) four → BeginWith (RefusesResource k i m before) start
+    → BeginWith (RefusesItems k i m programs) four → BeginWith (RefusesResource k i m programs before) start
 unfolding RefusesResource
-in_resource k i m before name node start one two three four h1 h2 h3 h4 b =
-    let items = RefusesItems k i m in
+in_resource k i m programs before name node start one two three four h1 h2 h3 h4 b =
+    let items = RefusesItems k i m programs in
     let inside = IsAfterName (IsAfter (key_word key.On) (IsAfterName items)) in
     begin_after (key_word key.Resource) (λ more. RefusesResourceName k before more ⊎ inside more) start one h1
     (begin_right (RefusesResourceName k before) inside one
     (begin_after_name name (IsAfter (key_word key.On) (IsAfterName items)) one two h2 (begin_after (key_word key.On) (IsAfterName items) two three h3 (begin_after_name node items three four h4 b))))
 
 -- a resource behind others
-pub resource_refused : (k : GrammarFaultKind) (old tally : TallyValue) (rs : List Resource) (start now : List Token) → start ≡ flat_map resource_words rs ++ now → tally ≡ tally_with old (flat_map uses_of rs)
-    → BeginWith (RefusesResource k tally.instances tally.binds rs) now → BeginWith (RefusesResources k old.instances old.binds) start
+pub resource_refused : (k : GrammarFaultKind) (old tally : TallyValue) (programs : List Program) (rs : List Resource) (start now : List Token) → start ≡ flat_map resource_words rs ++ now → tally ≡ tally_with old (flat_map uses_of rs)
+    → BeginWith (RefusesResource k tally.instances tally.binds programs rs) now → BeginWith (RefusesResources k old.instances old.binds programs) start
 unfolding RefusesResources
-resource_refused k old tally rs start now e counted b =
-    begin_behind resource_words (λ (xs : List Resource) more. RefusesResource k (tally_with old (flat_map uses_of xs)).instances (tally_with old (flat_map uses_of xs)).binds xs more) rs start now e
-    (subst (λ (t : TallyValue). BeginWith (RefusesResource k t.instances t.binds rs) now) counted b)
+resource_refused k old tally programs rs start now e counted b =
+    begin_behind resource_words (λ (xs : List Resource) more. RefusesResource k (tally_with old (flat_map uses_of xs)).instances (tally_with old (flat_map uses_of xs)).binds programs xs more) rs start now e
+    (subst (λ (t : TallyValue). BeginWith (RefusesResource k t.instances t.binds programs rs) now) counted b)
 
 -- a configuration up to a name in one of its resources
 pub in_configuration : (k : GrammarFaultKind) (programs : List Program) (name : List ℕ) (tally : TallyValue) (start one two three : List Token) → start ≡ flat_map program_words programs ++ one → one ≡ key_word key.Configuration ∷ two → two ≡ token.Name name ∷ three
-    → tally ≡ record { instances = 0; binds = 0 } → BeginWith (RefusesResources k tally.instances tally.binds) three → BeginWith (RefusesConfiguration k) start
+    → tally ≡ record { instances = 0; binds = 0 } → BeginWith (RefusesResources k tally.instances tally.binds programs) three → BeginWith (RefusesConfiguration k) start
 unfolding RefusesConfiguration
 in_configuration k programs name tally start one two three h1 h2 h3 none b =
-    let resources = RefusesResources k 0 0 in
-    begin_behind program_words (λ (ps : List Program) more. IsAfter (key_word key.Configuration) (IsAfterName resources) more) programs start one h1
-    (begin_after (key_word key.Configuration) (IsAfterName resources) one two h2 (begin_after_name name resources two three h3 (subst (λ (t : TallyValue). BeginWith (RefusesResources k t.instances t.binds) three) none b)))
+    let resources = RefusesResources k 0 0 programs in
+    begin_behind program_words (λ (ps : List Program) more. IsAfter (key_word key.Configuration) (IsAfterName (RefusesResources k 0 0 ps)) more) programs start one h1
+    (begin_after (key_word key.Configuration) (IsAfterName resources) one two h2 (begin_after_name name resources two three h3 (subst (λ (t : TallyValue). BeginWith (RefusesResources k t.instances t.binds programs) three) none b)))

@@ -1,14 +1,19 @@
--- The name at which a plant's text is refused, because its space has it already or is full.
-use Rattle.std.specs.Prelude.{◌≡◌, ◌⊎◌, ℕ, ◌+◌, ◌≤◌, IsTrue, List, [], ◌∷◌, ◌++◌, length, Any}
+-- The word at which a plant's text is refused: a name that its space has already, or that is one too many; a name that
+-- isn't declared where it is sought; an input that is bound already; a type or an address of another kind.
+use Rattle.std.specs.Prelude.{◌≡◌, ◌≢◌, ◌⊎◌, ℕ, ◌+◌, ◌≤◌, IsTrue, List, [], ◌∷◌, ◌++◌, length, Any, Some, None}
 use Rattle.std.specs.List.{flat_map}
+use Rattle.std_blocks.specs.declared.block_type.BlockType.{BlockType}
 use Rattle.declared_names.specs.declared.declarations.Declaration.{Declaration}
+use Rattle.declared_names.specs.declared.declarations.Kind.{Kind}
 use Rattle.plant_grammar.specs.declared.grammar_fault.GrammarFaultKind.{GrammarFaultKind}
 use Rattle.plant_grammar.specs.declared.grammar_fault.GrammarFaultKind.TheVariants as kind
+use Rattle.plant_text.specs.declared.address.Address.{Address}
 use Rattle.plant_text.specs.declared.token.Token.{Token}
 use Rattle.plant_text.specs.declared.token.Token.TheVariants as token
 use Rattle.plant_text.specs.declared.token.Keyword.TheVariants as key
-use Rattle.plant_text.specs.declared.token.Punctuation.TheVariants.{Open, Colon, Comma}
+use Rattle.plant_text.specs.declared.token.Punctuation.TheVariants.{Open, Colon, Comma, Assign}
 use Rattle.plant_grammar.specs.declared.grammar.tree.Section.{Section}
+use Rattle.plant_grammar.specs.declared.grammar.tree.TypeName.TheVariants.{Block}
 use Rattle.plant_grammar.specs.declared.grammar.tree.NameList.{NameList}
 use Rattle.plant_grammar.specs.declared.grammar.tree.VarBlock.{VarBlock}
 use Rattle.plant_grammar.specs.declared.grammar.tree.Program.{Program}
@@ -17,23 +22,34 @@ use Rattle.plant_grammar.specs.declared.grammar.tree.Bind.{Bind}
 use Rattle.plant_grammar.specs.declared.grammar.tree.Use.{Use}
 use Rattle.plant_grammar.specs.declared.grammar.tree.Item.{Item}
 use Rattle.plant_grammar.specs.declared.grammar.tree.Resource.{Resource}
-use Rattle.plant_grammar.specs.Grammar.{key_word, mark_word, section_words, list_words, block_words, program_words, bind_words, item_words, resource_words}
+use Rattle.plant_grammar.specs.Grammar.{key_word, mark_word, section_words, name_words, list_words, block_words, program_words, bind_words, item_words, resource_words}
+use Rattle.plant_grammar.specs.Kinds.{kind_of_space, input_kind_of}
 use Rattle.plant_grammar.specs.Names.{is_named}
-use Rattle.plant_grammar.specs.Lawful.{list_variables, block_variables, task_of, use_of, uses_of, binds_of}
+use Rattle.plant_grammar.specs.Lawful.{list_variables, block_variables, variables, IsTypeLawful, task_of, use_of, uses_of, binds_of}
 
--- one of the kinds of faults of a name that is declared, or of one too many
+-- one of the kinds of faults of a word that stands where the grammar has one like it: all but Syntax and Memory
 abbrev pub IsOfName : GrammarFaultKind → Type 0
-IsOfName k = (k ≡ kind.NameTwice) ⊎ (k ≡ kind.TooMany)
+IsOfName kind.Syntax = ⊥
+IsOfName kind.NameTwice = Unit {0}
+IsOfName kind.UnknownName = Unit {0}
+IsOfName kind.WrongKind = Unit {0}
+IsOfName kind.InputBoundTwice = Unit {0}
+IsOfName kind.TooMany = Unit {0}
+IsOfName kind.Memory = ⊥
 
--- the kind is NameTwice only where the first of these holds, and TooMany only where the second does
+-- the kind is each of the five only where this holds
+abbrev pub Tells : GrammarFaultKind → Type 0 → Type 0 → Type 0 → Type 0 → Type 0 → Type 0
+Tells kind.Syntax twice unknown wrong bound full = Unit {0}
+Tells kind.NameTwice twice unknown wrong bound full = twice
+Tells kind.UnknownName twice unknown wrong bound full = unknown
+Tells kind.WrongKind twice unknown wrong bound full = wrong
+Tells kind.InputBoundTwice twice unknown wrong bound full = bound
+Tells kind.TooMany twice unknown wrong bound full = full
+Tells kind.Memory twice unknown wrong bound full = Unit {0}
+
+-- of these kinds it is NameTwice or TooMany alone, and each only where this holds
 abbrev pub TellsOfName : GrammarFaultKind → Type 0 → Type 0 → Type 0
-TellsOfName kind.Syntax twice full = Unit {0}
-TellsOfName kind.NameTwice twice full = twice
-TellsOfName kind.UnknownName twice full = Unit {0}
-TellsOfName kind.WrongKind twice full = Unit {0}
-TellsOfName kind.InputBoundTwice twice full = Unit {0}
-TellsOfName kind.TooMany twice full = full
-TellsOfName kind.Memory twice full = Unit {0}
+TellsOfName k twice full = Tells k twice ⊥ ⊥ ⊥ full
 
 -- one of these has the name, in whatever case
 abbrev pub IsNameTaken : {A : Type 0} → (A → List ℕ) → List A → List ℕ → Type 0
@@ -46,6 +62,17 @@ pub record IsRefused (k : GrammarFaultKind) (Taken : List ℕ → Type 0) (full 
   pub name : List ℕ
   pub alone : words ≡ token.Name name ∷ []
   pub told : TellsOfName k (Taken name) full
+
+-- The words are a name alone. The kind is UnknownName, InputBoundTwice or TooMany, and each only where this holds.
+pub record IsMisused (k : GrammarFaultKind) (Unknown Bound : List ℕ → Type 0) (full : Type 0)
+    (words : List Token) : Type 0 where
+  pub name : List ℕ
+  pub alone : words ≡ token.Name name ∷ []
+  pub told : Tells k ⊥ (Unknown name) ⊥ (Bound name) full
+
+-- the words are a name alone, and the kind is UnknownName, since none of these has it
+abbrev pub IsUnknown : {A : Type 0} → GrammarFaultKind → (A → List ℕ) → List A → List Token → Type 0
+IsUnknown k name_of xs words = IsMisused k (λ n. IsNameTaken name_of xs n → ⊥) (λ n. ⊥) ⊥ words
 
 -- a word, and behind it words of which this holds
 pub record IsAfter (t : Token) (P : List Token → Type 0) (words : List Token) : Type 0 where
@@ -89,13 +116,24 @@ RefusesVariable k before words =
     (λ n. IsNameTaken (λ (v : Declaration). v.name) before n ⊎ IsNameTaken (λ (m : List ℕ). m) names n)
     (1000 ≤ length before + length names) more) words
 
--- lists of a section up to a name refused, behind these variables of the program
+-- names, a colon, and the type of a block, which the section doesn't have
+pub record RefusesType (k : GrammarFaultKind) (s : Section) (words : List Token) : Type 0 where
+  pub names : List (List ℕ)
+  pub block : BlockType
+  pub parts : words ≡ name_words names ++ mark_word Colon ∷ token.Block block ∷ []
+  pub told : Tells k ⊥ ⊥ (IsTypeLawful s (Block block) → ⊥) ⊥ ⊥
+
+-- a list up to the name or the type refused
+abbrev pub RefusesOneList : Section → List Declaration → GrammarFaultKind → List Token → Type 0
+RefusesOneList s before k words = RefusesVariable k before words ⊎ RefusesType k s words
+
+-- lists of a section up to the word refused, behind these variables of the program
 unfoldable pub RefusesList : GrammarFaultKind → Section → List Declaration → List Token → Type 0
 RefusesList k s before words =
     IsAfterWhole list_words
-    (λ (lists : List NameList) more. RefusesVariable k (before ++ flat_map (list_variables s) lists) more) words
+    (λ (lists : List NameList) more. RefusesOneList s (before ++ flat_map (list_variables s) lists) k more) words
 
--- the words of a section, and its lists up to a name refused
+-- the words of a section, and its lists up to a word refused
 unfoldable pub RefusesBlock : GrammarFaultKind → List Declaration → List Token → Type 0
 RefusesBlock k before words = (s : Section) × IsAfterAll (section_words s) (RefusesList k s before) words
 
@@ -128,38 +166,72 @@ RefusesTask k before words =
     (IsRefused k (IsNameTaken (λ (t : TaskLine). t.name) (flat_map task_of before))
     (16 ≤ length (flat_map task_of before))) words
 
--- binds up to the one too many, behind so many binds of the plant; 4,096 are the most
-unfoldable pub RefusesBind : GrammarFaultKind → ℕ → List Token → Type 0
-RefusesBind k binds words =
-    IsAfterWhole bind_and_comma
-    (λ (before : List Bind) more. IsRefused k (λ n. ⊥) (4096 ≤ binds + length before) more) words
+-- The input of a bind: none of these variables is an input of the name, or one of these binds has it, or the plant has
+-- 4,096 binds.
+abbrev pub RefusesInput : GrammarFaultKind → ℕ → List Declaration → List Bind → List Token → Type 0
+RefusesInput k binds ds before words =
+    IsMisused k (λ n. input_kind_of ds n ≡ None) (IsNameTaken (λ (b : Bind). b.input) before) (4096 ≤ binds) words
 
--- Behind the name of a program instance: WITH, its task, a colon, its program type, and its binds up to the one too
--- many.
-unfoldable pub RefusesBinds : GrammarFaultKind → ℕ → List Token → Type 0
-RefusesBinds k binds words =
+-- a bind up to its address, which is of another kind than the input
+pub record RefusesAddress (k : GrammarFaultKind) (ds : List Declaration) (words : List Token) : Type 0 where
+  pub input : List ℕ
+  pub address : Address
+  pub its : Kind
+  pub parts : words ≡ token.Name input ∷ mark_word Assign ∷ token.Address address ∷ []
+  pub its_is : input_kind_of ds input ≡ Some its
+  pub told : Tells k ⊥ ⊥ (kind_of_space address.space ≢ its) ⊥ ⊥
+
+-- a bind up to the word refused, behind so many binds of the plant and these of its instance
+abbrev pub RefusesOneBind : ℕ → List Declaration → List Bind → GrammarFaultKind → List Token → Type 0
+RefusesOneBind binds ds before k words = RefusesInput k binds ds before words ⊎ RefusesAddress k ds words
+
+-- binds of an instance whose type has these variables, up to the word refused, behind so many binds of the plant
+unfoldable pub RefusesBind : GrammarFaultKind → ℕ → List Declaration → List Token → Type 0
+RefusesBind k binds ds words =
+    IsAfterWhole bind_and_comma
+    (λ (before : List Bind) more. RefusesOneBind (binds + length before) ds before k more) words
+
+-- the name of one of these programs, and behind it words of which this holds of that program
+pub record IsAfterType (programs : List Program) (P : Program → List Token → Type 0) (words : List Token) : Type 0 where
+  pub name : List ℕ
+  pub type : Program
+  pub known : Any (λ (p : Program). IsTrue (is_named name p.name) × (p ≡ type)) programs
+  pub after : IsAfter (token.Name name) (P type) words
+
+-- behind the colon of a program instance: its type, which is none of these programs, or its binds up to a word refused
+unfoldable pub RefusesTyped : GrammarFaultKind → ℕ → List Program → List Token → Type 0
+RefusesTyped k binds programs words =
+    IsUnknown k (λ (p : Program). p.name) programs words
+    ⊎ IsAfterType programs (λ p more. IsAfter (mark_word Open) (RefusesBind k binds (variables p)) more) words
+
+-- Behind the name of a program instance: WITH and its task, which is none of these lines, or its task, a colon, and its
+-- type or its binds up to a word refused.
+unfoldable pub RefusesBinds : GrammarFaultKind → ℕ → List Program → List Item → List Token → Type 0
+RefusesBinds k binds programs before words =
     IsAfter (key_word key.With)
-    (IsAfterName (IsAfter (mark_word Colon) (IsAfterName (IsAfter (mark_word Open) (RefusesBind k binds))))) words
+    (λ more. IsUnknown k (λ (t : TaskLine). t.name) (flat_map task_of before) more
+    ⊎ IsAfterName (IsAfter (mark_word Colon) (RefusesTyped k binds programs)) more) words
 
 -- the name of a program instance, if an instance of these lines of its resource has it or the plant has 64
 abbrev pub RefusesInstanceName : GrammarFaultKind → ℕ → List Item → List Token → Type 0
 RefusesInstanceName k instances before words =
     IsRefused k (IsNameTaken (λ (u : Use). u.instance) (flat_map use_of before)) (64 ≤ instances) words
 
--- A program instance behind so many instances and binds of the plant: up to its name, if an instance of these lines
--- of its resource has it or the plant has 64, or up to the bind that is too many.
-unfoldable pub RefusesInstance : GrammarFaultKind → ℕ → ℕ → List Item → List Token → Type 0
-RefusesInstance k instances binds before words =
+-- A program instance of one of these programs, behind so many instances and binds of the plant and these lines of its
+-- resource: up to its name, if an instance of these lines has it or the plant has 64, or up to a word behind it.
+unfoldable pub RefusesInstance : GrammarFaultKind → ℕ → ℕ → List Program → List Item → List Token → Type 0
+RefusesInstance k instances binds programs before words =
     IsAfter (key_word key.Program)
-    (λ more. RefusesInstanceName k instances before more ⊎ IsAfterName (RefusesBinds k binds) more) words
+    (λ more. RefusesInstanceName k instances before more
+    ⊎ IsAfterName (RefusesBinds k binds programs before) more) words
 
--- the lines of a resource up to a name refused, behind so many instances and binds of the plant
-unfoldable pub RefusesItems : GrammarFaultKind → ℕ → ℕ → List Token → Type 0
-RefusesItems k instances binds words =
+-- the lines of a resource up to a word refused, behind so many instances and binds of the plant
+unfoldable pub RefusesItems : GrammarFaultKind → ℕ → ℕ → List Program → List Token → Type 0
+RefusesItems k instances binds programs words =
     IsAfterWhole item_words
     (λ (items : List Item) more. RefusesTask k items more
     ⊎ RefusesInstance k (instances + length (flat_map use_of items))
-    (binds + length (flat_map binds_of (flat_map use_of items))) items more) words
+    (binds + length (flat_map binds_of (flat_map use_of items))) programs items more) words
 
 -- the name of a resource, if one of these resources has it or they are 16
 abbrev pub RefusesResourceName : GrammarFaultKind → List Resource → List Token → Type 0
@@ -167,23 +239,23 @@ RefusesResourceName k before words =
     IsRefused k (IsNameTaken (λ (r : Resource). r.name) before) (16 ≤ length before) words
 
 -- A resource behind so many instances and binds of the plant: up to its own name, if these resources have it or are
--- 16, or up to a name refused in one of its lines.
-unfoldable pub RefusesResource : GrammarFaultKind → ℕ → ℕ → List Resource → List Token → Type 0
-RefusesResource k instances binds before words =
+-- 16, or up to a word refused in one of its lines.
+unfoldable pub RefusesResource : GrammarFaultKind → ℕ → ℕ → List Program → List Resource → List Token → Type 0
+RefusesResource k instances binds programs before words =
     IsAfter (key_word key.Resource)
     (λ more. RefusesResourceName k before more
-    ⊎ IsAfterName (IsAfter (key_word key.On) (IsAfterName (RefusesItems k instances binds))) more) words
+    ⊎ IsAfterName (IsAfter (key_word key.On) (IsAfterName (RefusesItems k instances binds programs))) more) words
 
--- resources up to a name refused, behind so many instances and binds of the plant
-unfoldable pub RefusesResources : GrammarFaultKind → ℕ → ℕ → List Token → Type 0
-RefusesResources k instances binds words =
+-- resources up to a word refused, behind so many instances and binds of the plant
+unfoldable pub RefusesResources : GrammarFaultKind → ℕ → ℕ → List Program → List Token → Type 0
+RefusesResources k instances binds programs words =
     IsAfterWhole resource_words
     (λ (rs : List Resource) more. RefusesResource k (instances + length (flat_map uses_of rs))
-    (binds + length (flat_map binds_of (flat_map uses_of rs))) rs more) words
+    (binds + length (flat_map binds_of (flat_map uses_of rs))) programs rs more) words
 
--- programs, CONFIGURATION, its name, and the resources up to a name refused
+-- programs, CONFIGURATION, its name, and the resources up to a word refused
 unfoldable pub RefusesConfiguration : GrammarFaultKind → List Token → Type 0
 RefusesConfiguration k words =
     IsAfterWhole program_words
-    (λ (programs : List Program) more. IsAfter (key_word key.Configuration) (IsAfterName (RefusesResources k 0 0)) more)
-    words
+    (λ (programs : List Program) more. IsAfter (key_word key.Configuration)
+    (IsAfterName (RefusesResources k 0 0 programs)) more) words

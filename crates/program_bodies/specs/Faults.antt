@@ -81,9 +81,19 @@ HandsOnNames found fault =
 abbrev pub IsOfBody : PlantFaultKind → Type 0
 IsOfBody k = (k ≡ kind.Drawing) ⊎ ((k ≡ kind.Graph) ⊎ (k ≡ kind.Bind))
 
--- one of the kinds of faults of a name that is declared, or of one too many
+-- one of the kinds of faults of a word that stands where the grammar has one like it: of a name that is declared already
+-- or isn't, of an input that is bound already, of another kind, or of one too many
 abbrev pub IsOfDeclaredName : PlantFaultKind → Type 0
-IsOfDeclaredName k = (k ≡ kind.NameTwice) ⊎ (k ≡ kind.TooMany)
+IsOfDeclaredName kind.Syntax = ⊥
+IsOfDeclaredName kind.Drawing = ⊥
+IsOfDeclaredName kind.Graph = ⊥
+IsOfDeclaredName kind.Bind = ⊥
+IsOfDeclaredName kind.NameTwice = Unit {0}
+IsOfDeclaredName kind.UnknownName = Unit {0}
+IsOfDeclaredName kind.WrongKind = Unit {0}
+IsOfDeclaredName kind.InputBoundTwice = Unit {0}
+IsOfDeclaredName kind.TooMany = Unit {0}
+IsOfDeclaredName kind.Memory = ⊥
 
 -- the kind of a word's fault, as one of a plant's text
 abbrev pub kind_of_word : GrammarFaultKind → PlantFaultKind

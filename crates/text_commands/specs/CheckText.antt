@@ -51,8 +51,8 @@ abbrev pub WritesCheckPart : List ℕ → Option (List ℕ) → Option (List ℕ
 WritesCheckPart text old new = (plant : PlantValue) × IsPlantText text plant × SendsLess (check_lines plant) old new
 
 -- a refusal of the text of a plant: not want of memory, with what belongs to its kind, and of no faultless text; the
--- fault of a body is that of the first body that is refused, and that of a name one that its space has already or has
--- no room for
+-- fault of a body is that of the first body that is refused, and any other but Syntax is of a word or a source of the
+-- text
 pub record IsRefusal (text : List ℕ) (fault : PlantFault) : Type 0 where
   pub not_memory : fault.kind ≢ plant.Memory
   pub value : IsPlantFault fault

@@ -17,7 +17,7 @@ use Rattle.world.specs.declared.live_fault.LiveFault.{LiveFault}
 use Rattle.world.specs.declared.live_fault.LiveFault.TheVariants.{Syntax, TooLong, Read, Write, Memory}
 use Rattle.world.specs.ScheduleText.{schedule_lines}
 use Rattle.world.specs.Simulated.{from_one, WritesRun}
-use Rattle.world.specs.LiveRun.{WritesLiveRun, EndsLiveRun, StopsAtLast}
+use Rattle.world.specs.LiveRun.{HasAnswered, WritesLiveRun, EndsLiveRun, StopsAtLast}
 use Rattle.world.specs.Steps.Live.{line_words, IsLineOf, HasGoneOn, HasDoneNext, HasStoppedNext}
 use Rattle.world.proofs.Simulating.{Stands, stands_first, stands_next, appends_kept}
 use Rattle.world.proofs.Ending.{ends_well, runs_first, stops_at, breaks_off, runs_out, runs_nothing}
@@ -203,3 +203,7 @@ live_unread plant most lines w n given left old now a = record {
     run = ends_whole plant most lines w n old now a.whole a.stands;
   };
 }
+
+-- all that was read is answered
+pub live_answered : (plant : PlantValue) (most : ℕ) (lines : List (List ℕ)) (w : WorldValue) (n : ℕ) (given left old now : Option (List ℕ)) → StandsLive (from_one plant most) lines w n given left old now → HasAnswered plant most given left old now
+live_answered plant most lines w n given left old now a = record { schedule = fed lines; read = a.taken; run = ends_whole plant most lines w n old now a.whole a.stands }

@@ -15,6 +15,12 @@ pub record WritesLiveRun (plant : PlantValue) (max_number : ℕ) (given left old
   pub end : IsAtEnd left
   pub run : WritesRun plant max_number schedule old new
 
+-- what was read so far is a schedule, and what was written is the text of its run and nothing else
+pub record HasAnswered (plant : PlantValue) (max_number : ℕ) (given left old new : Option (List ℕ)) : Type 0 where
+  pub schedule : List ℕ
+  pub read : Consumes given left schedule
+  pub run : WritesRun plant max_number schedule old new
+
 -- line n of what was read, counted from 1, is the first that is no event, comment or blank; nothing behind it was read,
 -- and what was written is the lines of the events before it
 abbrev pub StopsAtLast : PlantValue → ℕ → List ℕ → ℕ → Option (List ℕ) → Option (List ℕ) → Type 0

@@ -5,6 +5,7 @@
 mod evaluation_line;
 mod event_line;
 mod line_fault;
+mod line_source;
 mod lines;
 mod live;
 mod live_fault;
@@ -21,7 +22,8 @@ pub use exchange::{
     keeping_the_greatest_keeps_the_latest, one_run, pairs_rise, runs_are_consistent,
     runs_are_entered, runs_could_be_made, runs_fit, runs_replay,
 };
-pub use live::simulate_lines;
+pub use line_source::LineSource;
+pub use live::{simulate_in_turns, simulate_lines};
 pub use live_fault::LiveFault;
 pub use schedule_laws::one_reading;
 pub use sim_fault::SimFault;

@@ -1,16 +1,17 @@
 //! A schedule is read line by line, and each line is done before the next one is read.
 
-ghost use Rattle.std.specs.Prelude.{◌≡◌, ◌<◌, IfErr, IfOk, OnOk};
-ghost use Rattle.world.specs.LiveRun.{WritesLiveRun, EndsLiveRun};
+ghost use Rattle.std.specs.Prelude.{◌≡◌, ℕ, ◌<◌, List, Option, IfErr, IfOk, OnOk};
+ghost use Rattle.world.specs.LiveRun.{HasAnswered, WritesLiveRun, EndsLiveRun};
 ghost use Rattle.world.specs.Steps.Simulating.{HasDone, HasStopped};
 ghost use Rattle.world.specs.Steps.Live.{line_words, HasFailed, HasDoneNext, HasStoppedNext};
 
 use crate::line_fault::LineFault;
+use crate::line_source::LineSource;
 use crate::lines::without_last;
 use crate::live_fault::LiveFault;
 use crate::simulation::{Simulation, open};
 use evaluation::push_words;
-use line_reader::{Given, ReadFault, next_line};
+use line_reader::{Given, ReadFault};
 use plant::Plant;
 use std::alloc::Global;
 use std::io::{Read, Write};
@@ -65,24 +66,25 @@ impl Simulation {
         }
     }
 
-    /// Reads the next line and does it. Whether more may follow; the line has this number.
-    fn do_next<R: Read, W: Write>(
+    /// Takes the next line and does it. Whether more may follow; the line has this number.
+    fn do_next<L: LineSource, W: Write>(
         &mut self,
         alloc: Global,
         number: u64,
         line: &mut Vec<u8>,
-        input: &mut R,
+        source: &mut L,
         out: &mut W,
     ) -> Result<bool, LiveFault>
-        requires { self.old.events < 18446744073709551615 }
+        requires few { self.old.events < 18446744073709551615 }
+        requires ready { L.is_ready (L.left source.old) (W.contents out.old) }
         ensures ok { IfOk result
             (HasDoneNext self.old.world self.new.world self.old.events self.new.events
-            (R.remaining input.old) (R.remaining input.new) (W.contents out.old) (W.contents out.new)) }
+            (L.left source.old) (L.left source.new) (W.contents out.old) (W.contents out.new)) }
         ensures fault { IfErr result
             (HasStoppedNext self.old.world self.new.world self.old.events
-            (R.remaining input.old) (R.remaining input.new) (W.contents out.old) (W.contents out.new) number) }
+            (L.left source.old) (L.left source.new) (W.contents out.old) (W.contents out.new) number) }
     {
-        match next_line(input, line) {
+        match source.take_line(line, out) {
             Ok(Given::Line) => {
                 self.do_read(alloc, number, line, out)?;
                 Ok(true)
@@ -121,6 +123,29 @@ pub fn simulate_lines<R: Read, W: Write>(
         (EndsLiveRun plant.value max_number (R.remaining input.old) (R.remaining input.new)
         (W.contents out.old) (W.contents out.new)) }
 {
+    simulate_in_turns(alloc, plant, max_number, line, input, out)
+}
+
+/// Does the events of a schedule as `simulate_lines` does, and takes its lines of a source that may say when: the next
+/// line is taken only where what was written is the text of the run of all lines that were taken before.
+pub fn simulate_in_turns<L: LineSource, W: Write>(
+    alloc: Global,
+    plant: Arc<Plant>,
+    max_number: u32,
+    line: &mut Vec<u8>,
+    source: &mut L,
+    out: &mut W,
+) -> Result<(), LiveFault>
+    requires turns { (left written : Option (List ℕ))
+        → HasAnswered plant.value max_number (L.left source.old) left (W.contents out.old) written
+        → L.is_ready left written }
+    ensures ok { OnOk result
+        (WritesLiveRun plant.value max_number (L.left source.old) (L.left source.new)
+        (W.contents out.old) (W.contents out.new)) }
+    ensures fault { IfErr result
+        (EndsLiveRun plant.value max_number (L.left source.old) (L.left source.new)
+        (W.contents out.old) (W.contents out.new)) }
+{
     let Ok(world) = open(alloc, plant, max_number) else {
         return Err(LiveFault::Memory);
     };
@@ -130,7 +155,7 @@ pub fn simulate_lines<R: Read, W: Write>(
         line: String::new(alloc),
     };
     for before in 0..u64::MAX {
-        if !simulation.do_next(alloc, before + 1, line, input, out)? {
+        if !simulation.do_next(alloc, before + 1, line, source, out)? {
             return Ok(());
         }
     }

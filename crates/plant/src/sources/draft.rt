@@ -1,7 +1,7 @@
 //! What a plant runs, before its sources are resolved: the programs of each task, and their outputs.
 
 ghost use Rattle.std.specs.Prelude.{◌≡◌, ◌≢◌, ◌++◌, All, IfOk, OnOk, IfErr};
-ghost use Rattle.plant_grammar.specs.NameFaults.{TellsOfName};
+ghost use Rattle.plant.specs.Steps.Found.{TellsOfSource};
 ghost use Rattle.plant_grammar.specs.WordFaults.{IsGrammarFault};
 ghost use Rattle.std.specs.List.{AllZip, flat_map};
 ghost use Rattle.plant_grammar.specs.Lawful.{tasks_of, task_of, uses_of};
@@ -79,7 +79,7 @@ fn draft_program(
 ) -> Result<ProgramInstance, GrammarFault>
     ensures ok { IfOk result (λ p. IsProgramOf (programs_in types.now) run.now p) }
     ensures refused { IfErr result (λ e. e.kind ≢ Memory → IsTypeKnown types.now run.now → ⊥) }
-    ensures tells { IfErr result (λ e. TellsOfName e.kind ⊥ ⊥) }
+    ensures tells { IfErr result (λ e. TellsOfSource e.kind) }
     ensures value { IfErr result IsGrammarFault }
 {
     let Some(found) = type_named(types, &run.program) else {
@@ -99,7 +99,7 @@ fn draft_programs(
 ) -> Result<Vec<ProgramInstance>, GrammarFault>
     ensures ok { IfOk result (λ ps. AllZip (IsProgramOf (programs_in types.now)) (seen runs.now) ps.items) }
     ensures refused { IfErr result (λ e. e.kind ≢ Memory → All (IsTypeKnown types.now) (seen runs.now) → ⊥) }
-    ensures tells { IfErr result (λ e. TellsOfName e.kind ⊥ ⊥) }
+    ensures tells { IfErr result (λ e. TellsOfSource e.kind) }
     ensures value { IfErr result IsGrammarFault }
 {
     let mut programs = Vec::new(alloc);
@@ -119,7 +119,7 @@ fn draft_task(
 ) -> Result<TaskDraft, GrammarFault>
     ensures ok { IfOk result (λ d. IsDraftOf (programs_in types.now) resource.now task.now d) }
     ensures refused { IfErr result (λ e. e.kind ≢ Memory → All (IsTypeKnown types.now) (uses_of resource.now) → ⊥) }
-    ensures tells { IfErr result (λ e. TellsOfName e.kind ⊥ ⊥) }
+    ensures tells { IfErr result (λ e. TellsOfSource e.kind) }
     ensures value { IfErr result IsGrammarFault }
 {
     let runs = runs_in(alloc, resource, task)?;
@@ -137,7 +137,7 @@ fn draft_tasks(
 ) -> Result<Vec<TaskDraft>, GrammarFault>
     ensures ok { IfOk result (λ ds. AllZip (IsDraftOf (programs_in types.now) resource.now) (seen tasks.now) ds.items) }
     ensures refused { IfErr result (λ e. e.kind ≢ Memory → All (IsTypeKnown types.now) (uses_of resource.now) → ⊥) }
-    ensures tells { IfErr result (λ e. TellsOfName e.kind ⊥ ⊥) }
+    ensures tells { IfErr result (λ e. TellsOfSource e.kind) }
     ensures value { IfErr result IsGrammarFault }
 {
     let mut drafts = Vec::new(alloc);
@@ -156,7 +156,7 @@ fn draft_resource(
 ) -> Result<ResourceDraft, GrammarFault>
     ensures ok { IfOk result (λ d. IsResourceDraft (programs_in types.now) resource.now d) }
     ensures refused { IfErr result (λ e. e.kind ≢ Memory → All (IsTypeKnown types.now) (uses_of resource.now) → ⊥) }
-    ensures tells { IfErr result (λ e. TellsOfName e.kind ⊥ ⊥) }
+    ensures tells { IfErr result (λ e. TellsOfSource e.kind) }
     ensures value { IfErr result IsGrammarFault }
 {
     let tasks = tasks_of(alloc, resource)?;
@@ -173,7 +173,7 @@ pub fn draft_resources(
 ) -> Result<Vec<ResourceDraft>, GrammarFault>
     ensures ok { IfOk result (λ ds. AllZip (IsResourceDraft (programs_in types.now)) resources.now ds.items) }
     ensures refused { IfErr result (λ e. e.kind ≢ Memory → All (IsTypeKnown types.now) (flat_map uses_of resources.now) → ⊥) }
-    ensures tells { IfErr result (λ e. TellsOfName e.kind ⊥ ⊥) }
+    ensures tells { IfErr result (λ e. TellsOfSource e.kind) }
     ensures value { IfErr result IsGrammarFault }
 {
     let mut drafts = Vec::new(alloc);

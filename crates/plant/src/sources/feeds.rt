@@ -1,7 +1,7 @@
 //! The binds of instances, each with its input and its source found by name.
 
 ghost use Rattle.std.specs.Prelude.{◌≡◌, ◌≢◌, All, IfOk, OnOk, OnErr, length, IfErr};
-ghost use Rattle.plant_grammar.specs.NameFaults.{TellsOfName};
+ghost use Rattle.plant.specs.Steps.Found.{TellsOfSource};
 ghost use Rattle.plant_grammar.specs.WordFaults.{IsGrammarFault};
 ghost use Rattle.plant_grammar.specs.declared.grammar_fault.GrammarFaultKind.TheVariants.{Memory};
 ghost use Rattle.std.specs.List.{AllZip, flat_map};
@@ -24,7 +24,7 @@ use task_codes::ProgramInstance;
 
 /// The fault of a name that isn't declared where it is sought.
 fn unknown(name: &Name) -> GrammarFault
-    ensures tells { TellsOfName result.kind ⊥ ⊥ }
+    ensures tells { TellsOfSource result.kind }
     ensures value { IsGrammarFault result }
 {
     GrammarFault::at(GrammarFaultKind::UnknownName, name.line())
@@ -39,7 +39,7 @@ fn find_value(
 ) -> Result<(TaskRef, usize, Kind), GrammarFault>
     ensures ok { IfOk result (IsValue (drafted drafts.now) resource.now instance.now output.now) }
     ensures refused { OnErr result (AreDraftsApart drafts.now → HasNoValue (drafted drafts.now) resource.now instance.now output.now) }
-    ensures tells { IfErr result (λ e. TellsOfName e.kind ⊥ ⊥) }
+    ensures tells { IfErr result (λ e. TellsOfSource e.kind) }
     ensures value { IfErr result IsGrammarFault }
 {
     let Some(position) = find_named(drafts, resource.as_str()) else {
@@ -66,7 +66,7 @@ fn find_origin(
 ) -> Result<(Origin, Kind), GrammarFault>
     ensures ok { IfOk result (λ x. IsOriginOf (drafted drafts.now) source.now x.0 x.1) }
     ensures refused { OnErr result (AreDraftsApart drafts.now → HasNoOrigin (drafted drafts.now) source.now) }
-    ensures tells { IfErr result (λ e. TellsOfName e.kind ⊥ ⊥) }
+    ensures tells { IfErr result (λ e. TellsOfSource e.kind) }
     ensures value { IfErr result IsGrammarFault }
 {
     match source {
@@ -109,7 +109,7 @@ fn feed(
 ) -> Result<Feed, GrammarFault>
     ensures ok { IfOk result (λ f. IsFeedOf (drafted drafts.now) declarations.now bind.now f) }
     ensures refused { OnErr result (AreDraftsApart drafts.now → HasFeed (drafted drafts.now) declarations.now bind.now → ⊥) }
-    ensures tells { IfErr result (λ e. TellsOfName e.kind ⊥ ⊥) }
+    ensures tells { IfErr result (λ e. TellsOfSource e.kind) }
     ensures value { IfErr result IsGrammarFault }
 {
     let Some((place, kind)) = find_input(declarations, bind.input.as_str()) else {
@@ -145,7 +145,7 @@ fn feeds(
 ) -> Result<Vec<Feed>, GrammarFault>
     ensures ok { IfOk result (λ fs. AllZip (IsFeedOf (drafted drafts.now) declarations.now) binds.now fs.items) }
     ensures refused { IfErr result (λ e. e.kind ≢ Memory → AreDraftsApart drafts.now → All (HasFeed (drafted drafts.now) declarations.now) binds.now → ⊥) }
-    ensures tells { IfErr result (λ e. TellsOfName e.kind ⊥ ⊥) }
+    ensures tells { IfErr result (λ e. TellsOfSource e.kind) }
     ensures value { IfErr result IsGrammarFault }
 {
     let mut feeds = Vec::new(alloc);
@@ -167,7 +167,7 @@ pub fn feeds_of(
     ensures many { IfOk result (λ fs. length fs.items ≡ length programs.now) }
     ensures each { IfOk result (λ fs. AreAllFeeds (drafted drafts.now) runs.now programs.now fs.items) }
     ensures refused { IfErr result (λ e. e.kind ≢ Memory → AreDraftsApart drafts.now → AreRunsFed (drafted drafts.now) (seen runs.now) programs.now → ⊥) }
-    ensures tells { IfErr result (λ e. TellsOfName e.kind ⊥ ⊥) }
+    ensures tells { IfErr result (λ e. TellsOfSource e.kind) }
     ensures value { IfErr result IsGrammarFault }
 {
     let mut all = Vec::new(alloc);
@@ -187,7 +187,7 @@ fn check_binds(
 ) -> Result<(), GrammarFault>
     ensures ok { OnOk result (All (HasFeed (drafted drafts.now) declarations.now) binds.now) }
     ensures refused { OnErr result (AreDraftsApart drafts.now → All (HasFeed (drafted drafts.now) declarations.now) binds.now → ⊥) }
-    ensures tells { IfErr result (λ e. TellsOfName e.kind ⊥ ⊥) }
+    ensures tells { IfErr result (λ e. TellsOfSource e.kind) }
     ensures value { IfErr result IsGrammarFault }
 {
     for bind in binds {
@@ -200,7 +200,7 @@ fn check_binds(
 fn check_use(drafts: &[ResourceDraft], types: &[ProgramType], run: &Use) -> Result<(), GrammarFault>
     ensures ok { OnOk result (IsUseResolved (drafted drafts.now) types.now run.now) }
     ensures refused { OnErr result (AreDraftsApart drafts.now → IsUseResolved (drafted drafts.now) types.now run.now → ⊥) }
-    ensures tells { IfErr result (λ e. TellsOfName e.kind ⊥ ⊥) }
+    ensures tells { IfErr result (λ e. TellsOfSource e.kind) }
     ensures value { IfErr result IsGrammarFault }
 {
     let Some(found) = type_named(types, &run.program) else {
@@ -217,7 +217,7 @@ fn check_item(
 ) -> Result<(), GrammarFault>
     ensures ok { OnOk result (All (IsUseResolved (drafted drafts.now) types.now) (use_of item.now)) }
     ensures refused { OnErr result (AreDraftsApart drafts.now → All (IsUseResolved (drafted drafts.now) types.now) (use_of item.now) → ⊥) }
-    ensures tells { IfErr result (λ e. TellsOfName e.kind ⊥ ⊥) }
+    ensures tells { IfErr result (λ e. TellsOfSource e.kind) }
     ensures value { IfErr result IsGrammarFault }
 {
     match item {
@@ -234,7 +234,7 @@ fn check_resource(
 ) -> Result<(), GrammarFault>
     ensures ok { OnOk result (All (IsUseResolved (drafted drafts.now) types.now) (uses_of resource.now)) }
     ensures refused { OnErr result (AreDraftsApart drafts.now → All (IsUseResolved (drafted drafts.now) types.now) (uses_of resource.now) → ⊥) }
-    ensures tells { IfErr result (λ e. TellsOfName e.kind ⊥ ⊥) }
+    ensures tells { IfErr result (λ e. TellsOfSource e.kind) }
     ensures value { IfErr result IsGrammarFault }
 {
     for item in &resource.items {
@@ -251,7 +251,7 @@ pub fn check_sources(
 ) -> Result<(), GrammarFault>
     ensures ok { OnOk result (All (IsUseResolved (drafted drafts.now) types.now) (flat_map uses_of resources.now)) }
     ensures refused { OnErr result (AreDraftsApart drafts.now → All (IsUseResolved (drafted drafts.now) types.now) (flat_map uses_of resources.now) → ⊥) }
-    ensures tells { IfErr result (λ e. TellsOfName e.kind ⊥ ⊥) }
+    ensures tells { IfErr result (λ e. TellsOfSource e.kind) }
     ensures value { IfErr result IsGrammarFault }
 {
     for resource in resources {

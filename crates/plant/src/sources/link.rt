@@ -1,7 +1,7 @@
 //! The codes of tasks: their drafts with each source resolved.
 
 ghost use Rattle.std.specs.Prelude.{◌≡◌, ◌≢◌, ◌<◌, List, IfOk, All, length, map, IfErr};
-ghost use Rattle.plant_grammar.specs.NameFaults.{TellsOfName};
+ghost use Rattle.plant.specs.Steps.Found.{TellsOfSource};
 ghost use Rattle.plant_grammar.specs.WordFaults.{IsGrammarFault};
 ghost use Rattle.plant_grammar.specs.declared.grammar_fault.GrammarFaultKind.TheVariants.{Memory};
 ghost use Rattle.std.specs.List.{AllZip};
@@ -46,7 +46,7 @@ fn link_runs(
     requires once { All IsOnceBound (seen runs.now) }
     ensures ok { IfOk result (IsCodeLinked (drafted drafts.now) (seen runs.now) draft.now) }
     ensures refused { IfErr result (λ e. e.kind ≢ Memory → AreDraftsApart drafts.now → AreRunsFed (drafted drafts.now) (seen runs.now) draft.now.programs → ⊥) }
-    ensures tells { IfErr result (λ e. TellsOfName e.kind ⊥ ⊥) }
+    ensures tells { IfErr result (λ e. TellsOfSource e.kind) }
     ensures value { IfErr result IsGrammarFault }
 {
     let feeds = feeds_of(alloc, drafts, draft.programs(), runs)?;
@@ -71,7 +71,7 @@ fn link_task(
     requires once { All IsOnceBound (runs_in resource.now task.now) }
     ensures ok { IfOk result (λ c. IsTaskLinked drafts.now resource.now task.now draft.now c.value) }
     ensures refused { IfErr result (λ e. e.kind ≢ Memory → AreDraftsApart drafts.now → AreRunsFed (drafted drafts.now) (runs_in resource.now task.now) draft.now.programs → ⊥) }
-    ensures tells { IfErr result (λ e. TellsOfName e.kind ⊥ ⊥) }
+    ensures tells { IfErr result (λ e. TellsOfSource e.kind) }
     ensures value { IfErr result IsGrammarFault }
 {
     let runs = runs_in(alloc, resource, task)?;
@@ -93,7 +93,7 @@ fn link_tasks(
     ensures many { IfOk result (λ cs. length cs.items ≡ length tasks.now) }
     ensures each { IfOk result (λ cs. AreTasksLinked drafts.now resource.now tasks.now task_drafts.now cs.items) }
     ensures refused { IfErr result (λ e. e.kind ≢ Memory → AreDraftsApart drafts.now → AreTasksFed (drafted drafts.now) resource.now (seen tasks.now) task_drafts.now → ⊥) }
-    ensures tells { IfErr result (λ e. TellsOfName e.kind ⊥ ⊥) }
+    ensures tells { IfErr result (λ e. TellsOfSource e.kind) }
     ensures value { IfErr result IsGrammarFault }
 {
     let mut codes = Vec::new(alloc);
@@ -128,7 +128,7 @@ fn link_resource(
     requires ready { IsReady resource.now }
     ensures ok { IfOk result (λ v. IsResourceLinked (drafted drafts.now) resource.now draft.now v) }
     ensures refused { IfErr result (λ e. e.kind ≢ Memory → AreDraftsApart drafts.now → AreTasksFed (drafted drafts.now) resource.now (tasks_of resource.now) draft.now.codes → ⊥) }
-    ensures tells { IfErr result (λ e. TellsOfName e.kind ⊥ ⊥) }
+    ensures tells { IfErr result (λ e. TellsOfSource e.kind) }
     ensures value { IfErr result IsGrammarFault }
 {
     let lines = tasks_of(alloc, resource)?;
@@ -149,7 +149,7 @@ pub fn link_resources(
     ensures many { IfOk result (λ vs. length vs.items ≡ length resources.now) }
     ensures each { IfOk result (λ vs. AreResourcesLinked drafts.now resources.now vs.items) }
     ensures refused { IfErr result (λ e. e.kind ≢ Memory → AreDraftsApart drafts.now → AreResourcesFed (drafted drafts.now) resources.now drafts.now → ⊥) }
-    ensures tells { IfErr result (λ e. TellsOfName e.kind ⊥ ⊥) }
+    ensures tells { IfErr result (λ e. TellsOfSource e.kind) }
     ensures value { IfErr result IsGrammarFault }
 {
     let mut linked = Vec::new(alloc);

@@ -1,5 +1,5 @@
 ghost use Rattle.std.specs.Prelude.{◌≢◌, ℕ, List, All, IfOk, OnOk, IfErr};
-ghost use Rattle.plant_grammar.specs.NameFaults.{TellsOfName};
+ghost use Rattle.plant.specs.Steps.Found.{TellsOfSource};
 ghost use Rattle.plant_grammar.specs.WordFaults.{IsGrammarFault};
 ghost use Rattle.plant_grammar.specs.declared.grammar_fault.GrammarFaultKind.TheVariants.{Memory};
 ghost use Rattle.plant_grammar.specs.Lawful.{all_uses, IsTreeLawful};
@@ -23,7 +23,7 @@ pub fn resolve(alloc: Global, reading: &Reading) -> Result<Plant, GrammarFault>
     ensures ok { IfOk result (λ p. (name : List ℕ) → IsPlantOf (tree_of name reading.now) p) }
     ensures sources { OnOk result ((name : List ℕ) → All (AreBindsFed (tree_of name reading.now)) (all_uses (tree_of name reading.now))) }
     ensures refused { IfErr result (λ e. e.kind ≢ Memory → (name : List ℕ) → All (AreBindsFed (tree_of name reading.now)) (all_uses (tree_of name reading.now)) → ⊥) }
-    ensures tells { IfErr result (λ e. TellsOfName e.kind ⊥ ⊥) }
+    ensures tells { IfErr result (λ e. TellsOfSource e.kind) }
     ensures value { IfErr result IsGrammarFault }
 {
     let types = reading.types();

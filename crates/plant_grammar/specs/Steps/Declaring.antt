@@ -1,21 +1,28 @@
--- What a fault tells of a name that is declared.
-use Rattle.std.specs.Prelude.{◌≡◌, ◌⊎◌, ◌+◌, ◌≤◌, ℕ, List, ◌∷◌, ◌++◌, length}
+-- What a fault tells of the word that it is of.
+use Rattle.std.specs.Prelude.{◌≡◌, ◌≢◌, ◌⊎◌, ◌+◌, ◌≤◌, ℕ, List, ◌∷◌, ◌++◌, length, None}
 use Rattle.std.specs.List.{flat_map}
+use Rattle.std_blocks.specs.declared.block_type.BlockType.{BlockType}
 use Rattle.declared_names.specs.declared.declarations.Declaration.{Declaration}
+use Rattle.declared_names.specs.declared.declarations.Kind.{Kind}
 use Rattle.declared_names.specs.Names.{IsDeclared}
 use Rattle.plant_grammar.specs.declared.grammar_fault.GrammarFault.{GrammarFault}
 use Rattle.plant_grammar.specs.declared.grammar_fault.GrammarFaultKind.{GrammarFaultKind}
+use Rattle.plant_text.specs.declared.address.Address.{Address}
 use Rattle.plant_text.specs.declared.token.Token.{Token}
 use Rattle.plant_text.specs.declared.token.Token.TheVariants as token
+use Rattle.plant_grammar.specs.declared.grammar.tree.Section.{Section}
+use Rattle.plant_grammar.specs.declared.grammar.tree.TypeName.TheVariants.{Block}
 use Rattle.plant_grammar.specs.declared.grammar.tree.Program.{Program}
 use Rattle.plant_grammar.specs.declared.grammar.tree.TaskLine.{TaskLine}
+use Rattle.plant_grammar.specs.declared.grammar.tree.Bind.{Bind}
 use Rattle.plant_grammar.specs.declared.grammar.tree.Use.{Use}
 use Rattle.plant_grammar.specs.declared.grammar.tree.Item.{Item}
 use Rattle.plant_grammar.specs.declared.grammar.tree.Resource.{Resource}
 use Rattle.plant_text.specs.declared.token.Punctuation.TheVariants.{Open}
 use Rattle.plant_grammar.specs.Grammar.{mark_word, TextValue}
-use Rattle.plant_grammar.specs.Lawful.{task_of, use_of}
-use Rattle.plant_grammar.specs.NameFaults.{IsOfName, TellsOfName, IsNameTaken, IsAfter, RefusesPrograms, RefusesTask, RefusesBind, RefusesInstance, RefusesItems, RefusesResource, RefusesResources, RefusesConfiguration}
+use Rattle.plant_grammar.specs.Kinds.{kind_of_space, input_kind_of}
+use Rattle.plant_grammar.specs.Lawful.{IsTypeLawful, task_of, use_of}
+use Rattle.plant_grammar.specs.NameFaults.{IsOfName, Tells, TellsOfName, IsNameTaken, IsAfter, RefusesPrograms, RefusesTask, RefusesBind, RefusesInstance, RefusesItems, RefusesResource, RefusesResources, RefusesConfiguration}
 use Rattle.plant_grammar.specs.Steps.ReadParts.{TallyValue}
 use Rattle.plant_grammar.specs.Steps.Reading.{programs_of}
 
@@ -57,9 +64,44 @@ TellsOfInstance before instances words fault =
     TellsOfName fault.kind (RepeatsName (λ (u : Use). u.instance) (flat_map use_of before) words)
     (IsNameNext words × (64 ≤ instances))
 
--- The fault is never NameTwice. It is TooMany only where the next word is a name, and the plant has 4,096 binds.
-abbrev pub TellsOfBind : ℕ → List Token → GrammarFault → Type 0
-TellsOfBind binds words fault = TellsOfName fault.kind ⊥ (IsNameNext words × (4096 ≤ binds))
+-- the next word is a name, and none of these has the same
+abbrev pub MissesName : {A : Type 0} → (A → List ℕ) → List A → List Token → Type 0
+MissesName name_of xs words =
+    (name : List ℕ) × (rest : List Token) × (words ≡ token.Name name ∷ rest) × (IsNameTaken name_of xs name → ⊥)
+
+-- the fault is of these kinds UnknownName alone, and only where the next word is the name of none of these
+abbrev pub TellsOfMissing : {A : Type 0} → (A → List ℕ) → List A → List Token → GrammarFault → Type 0
+TellsOfMissing name_of xs words fault = Tells fault.kind ⊥ (MissesName name_of xs words) ⊥ ⊥ ⊥
+
+-- so it is with the word behind this one
+abbrev pub TellsOfMissingBehind : {A : Type 0} → Token → (A → List ℕ) → List A → List Token → GrammarFault → Type 0
+TellsOfMissingBehind t name_of xs words fault =
+    Tells fault.kind ⊥ ((more : List Token) × (words ≡ t ∷ more) × MissesName name_of xs more) ⊥ ⊥ ⊥
+
+-- the next word is a name, but none of an input
+abbrev pub MissesInput : List Declaration → List Token → Type 0
+MissesInput ds words =
+    (name : List ℕ) × (rest : List Token) × (words ≡ token.Name name ∷ rest) × (input_kind_of ds name ≡ None)
+
+-- The next word is a name. The fault is UnknownName only where it is none of an input, InputBoundTwice only where one
+-- of these binds has it, and TooMany only where the plant has 4,096 binds.
+abbrev pub TellsOfInput : ℕ → List Declaration → List Bind → List Token → GrammarFault → Type 0
+TellsOfInput binds ds before words fault =
+    Tells fault.kind ⊥ (MissesInput ds words) ⊥ (RepeatsName (λ (b : Bind). b.input) before words)
+    (IsNameNext words × (4096 ≤ binds))
+
+-- the fault is of these kinds WrongKind alone, and only where the next word is an address of another kind
+abbrev pub TellsOfAddress : Kind → List Token → GrammarFault → Type 0
+TellsOfAddress kind words fault =
+    Tells fault.kind ⊥ ⊥
+    ((a : Address) × (rest : List Token) × (words ≡ token.Address a ∷ rest) × (kind_of_space a.space ≢ kind)) ⊥ ⊥
+
+-- the fault is of these kinds WrongKind alone, and only where the next word is the type of a block, which the section
+-- doesn't have
+abbrev pub TellsOfBlock : Section → List Token → GrammarFault → Type 0
+TellsOfBlock s words fault =
+    Tells fault.kind ⊥ ⊥
+    ((b : BlockType) × (rest : List Token) × (words ≡ token.Block b ∷ rest) × (IsTypeLawful s (Block b) → ⊥)) ⊥ ⊥
 
 -- The next word is a name. The fault is NameTwice only where one of these resources has it, and TooMany only where
 -- they are 16.
@@ -99,29 +141,30 @@ pub record BeginWith (P : List Token → Type 0) (words : List Token) : Type 0 w
 abbrev pub BeginRefused : (GrammarFaultKind → List Token → Type 0) → List Token → GrammarFault → Type 0
 BeginRefused Refuses words fault = IsOfName fault.kind → BeginWith (Refuses fault.kind) words
 
--- a line of a resource up to a name refused, behind so many instances and binds of the plant
-abbrev pub RefusesItem : TallyValue → List Item → GrammarFaultKind → List Token → Type 0
-RefusesItem t before k words = RefusesTask k before words ⊎ RefusesInstance k t.instances t.binds before words
+-- a line of a resource up to a word refused, behind so many instances and binds of the plant
+abbrev pub RefusesItem : TallyValue → List Program → List Item → GrammarFaultKind → List Token → Type 0
+RefusesItem t programs before k words =
+    RefusesTask k before words ⊎ RefusesInstance k t.instances t.binds programs before words
 
--- an instance up to a name refused, behind so many instances and binds of the plant
-abbrev pub RefusesFurtherInstance : TallyValue → List Item → GrammarFaultKind → List Token → Type 0
-RefusesFurtherInstance t before k words = RefusesInstance k t.instances t.binds before words
+-- an instance up to a word refused, behind so many instances and binds of the plant
+abbrev pub RefusesFurtherInstance : TallyValue → List Program → List Item → GrammarFaultKind → List Token → Type 0
+RefusesFurtherInstance t programs before k words = RefusesInstance k t.instances t.binds programs before words
 
--- the lines of a resource up to a name refused, behind so many instances and binds of the plant
-abbrev pub RefusesFurtherItems : TallyValue → GrammarFaultKind → List Token → Type 0
-RefusesFurtherItems t k words = RefusesItems k t.instances t.binds words
+-- the lines of a resource up to a word refused, behind so many instances and binds of the plant
+abbrev pub RefusesFurtherItems : TallyValue → List Program → GrammarFaultKind → List Token → Type 0
+RefusesFurtherItems t programs k words = RefusesItems k t.instances t.binds programs words
 
--- a resource up to a name refused, behind so many instances and binds of the plant
-abbrev pub RefusesFurtherResource : TallyValue → List Resource → GrammarFaultKind → List Token → Type 0
-RefusesFurtherResource t before k words = RefusesResource k t.instances t.binds before words
+-- a resource up to a word refused, behind so many instances and binds of the plant
+abbrev pub RefusesFurtherResource : TallyValue → List Program → List Resource → GrammarFaultKind → List Token → Type 0
+RefusesFurtherResource t programs before k words = RefusesResource k t.instances t.binds programs before words
 
--- resources up to a name refused, behind so many instances and binds of the plant
-abbrev pub RefusesFurtherResources : TallyValue → GrammarFaultKind → List Token → Type 0
-RefusesFurtherResources t k words = RefusesResources k t.instances t.binds words
+-- resources up to a word refused, behind so many instances and binds of the plant
+abbrev pub RefusesFurtherResources : TallyValue → List Program → GrammarFaultKind → List Token → Type 0
+RefusesFurtherResources t programs k words = RefusesResources k t.instances t.binds programs words
 
--- binds in parentheses up to the one too many, behind so many binds of the plant
-abbrev pub RefusesInParentheses : ℕ → GrammarFaultKind → List Token → Type 0
-RefusesInParentheses binds k words = IsAfter (mark_word Open) (RefusesBind k binds) words
+-- binds in parentheses up to the word refused, behind so many binds of the plant
+abbrev pub RefusesInParentheses : ℕ → List Declaration → GrammarFaultKind → List Token → Type 0
+RefusesInParentheses binds ds k words = IsAfter (mark_word Open) (RefusesBind k binds ds) words
 
 -- words of a plant up to a name refused
 abbrev pub RefusesPlantWords : GrammarFaultKind → List Token → Type 0

@@ -17,8 +17,8 @@ ghost use Rattle.plant_text.specs.declared.token.Punctuation.TheVariants.{Colon,
 ghost use Rattle.plant_grammar.specs.Steps.Refusing.{MayBeDeclared};
 ghost use Rattle.plant_grammar.specs.Grammar.{key_word, mark_word, section_words, kind_word, type_word, name_words, list_words, lists_words, block_words, program_words};
 ghost use Rattle.plant_grammar.specs.Lawful.{list_variables, lists_variables, block_variables, IsTypeLawful, IsListLawful, IsBlockLawful, IsProgramLawful};
-ghost use Rattle.plant_grammar.specs.NameFaults.{TellsOfName, RefusesVariable, RefusesList, RefusesBlock, RefusesBlocks, RefusesProgram, RefusesPrograms};
-ghost use Rattle.plant_grammar.specs.Steps.Declaring.{TellsOfType, TellsOfVariable, BeginRefused};
+ghost use Rattle.plant_grammar.specs.NameFaults.{TellsOfName, RefusesVariable, RefusesOneList, RefusesList, RefusesBlock, RefusesBlocks, RefusesProgram, RefusesPrograms};
+ghost use Rattle.plant_grammar.specs.Steps.Declaring.{TellsOfType, TellsOfVariable, TellsOfBlock, BeginRefused};
 ghost use Rattle.plant_grammar.specs.Steps.Lines.{next_line, IsNotNext, IsOneNext, IsNoneNext};
 ghost use Rattle.plant_grammar.specs.Steps.ReadParts.{section_start, IsSectionWhole, IsNew, AreVariables, AreProgramsDeclared};
 ghost use Rattle.plant_grammar.specs.Steps.Reading.{programs_of, all_words, AreSameWords, AreSameLines, BeginWithWordsOf, BeginWithLinesOf};
@@ -104,7 +104,7 @@ impl<'a> Reader<'a> {
         ensures lawful { IfOk result (λ t. IsTypeLawful section t) }
         ensures other { OnErr result ((t : TypeName) (rest : List Token) → self.old.words ≡ type_word t ∷ rest → IsTypeLawful section t → ⊥) }
         ensures only { OnOk result ((t : TypeName) (rest : List Token) → self.old.words ≡ type_word t ∷ rest → rest ≡ self.new.words) }
-        ensures tells { IfErr result (λ e. TellsOfName e.kind ⊥ ⊥) }
+        ensures tells { IfErr result (TellsOfBlock section self.old.words) }
         ensures value { IfErr result IsGrammarFault }
     {
         if !self.sees_block_type() {
@@ -129,7 +129,7 @@ impl<'a> Reader<'a> {
         ensures declared { IfOk result (λ l. variables.new ≡ variables.old ++ list_variables section l) }
         ensures lawful { IfOk result (λ l. IsListLawful section l) }
         ensures other { IfErr result (λ e. e.kind ≢ Memory → (ns : List (List ℕ)) (t : TypeName) (rest : List Token) → self.old.words ≡ name_words ns ++ mark_word Colon ∷ type_word t ∷ mark_word Semicolon ∷ rest → 0 < length ns → IsTypeLawful section t → MayBeDeclared variables.old ns → ⊥) }
-        ensures names { IfErr result (BeginRefused (λ k. RefusesVariable k variables.old) self.old.words) }
+        ensures names { IfErr result (BeginRefused (RefusesOneList section variables.old) self.old.words) }
         ensures value { IfErr result IsGrammarFault }
     {
         let names = self.names(alloc, variables)?;

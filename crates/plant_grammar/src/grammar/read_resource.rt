@@ -7,6 +7,7 @@ ghost use Rattle.plant_text.specs.declared.token.Token.{Token};
 ghost use Rattle.plant_text.specs.declared.token.Token.TheVariants as token;
 ghost use Rattle.plant_text.specs.declared.address.Address.{Address};
 ghost use Rattle.plant_grammar.specs.declared.grammar.tree.Order.{Order};
+ghost use Rattle.plant_grammar.specs.declared.grammar.tree.Program.{Program as ProgramTree};
 ghost use Rattle.plant_grammar.specs.declared.grammar.tree.TaskLine.{TaskLine};
 ghost use Rattle.plant_grammar.specs.declared.grammar.tree.Bind.{Bind};
 ghost use Rattle.plant_grammar.specs.declared.grammar.tree.Use.{Use};
@@ -20,9 +21,10 @@ ghost use Rattle.plant_text.specs.declared.token.Punctuation.TheVariants.{Colon,
 ghost use Rattle.plant_grammar.specs.Grammar.{key_word, mark_word, interval_words, priority_words, settings, task_words, source_words, bind_words, binds_words, binds_listed, use_words, item_words, items_words, resource_words, resources_words};
 ghost use Rattle.plant_grammar.specs.Names.{is_named, AreNamesApart};
 ghost use Rattle.plant_grammar.specs.Lawful.{variables, task_of, use_of, uses_of, IsUseLawful, IsResourceLawful};
-ghost use Rattle.plant_grammar.specs.NameFaults.{TellsOfName, RefusesTask, RefusesBind};
-ghost use Rattle.plant_grammar.specs.Steps.Declaring.{TellsOfTask, TellsOfInstance, TellsOfBind, TellsOfResource, BeginRefused, RefusesFurtherInstance, RefusesItem, RefusesFurtherItems, RefusesFurtherResource, RefusesFurtherResources, RefusesInParentheses};
+ghost use Rattle.plant_grammar.specs.NameFaults.{TellsOfName, RefusesTask, RefusesOneBind, RefusesBind};
+ghost use Rattle.plant_grammar.specs.Steps.Declaring.{TellsOfTask, TellsOfInstance, TellsOfMissing, TellsOfMissingBehind, TellsOfInput, TellsOfAddress, TellsOfResource, BeginRefused, RefusesFurtherInstance, RefusesItem, RefusesFurtherItems, RefusesFurtherResource, RefusesFurtherResources, RefusesInParentheses};
 ghost use Rattle.plant_grammar.specs.Steps.ReadParts.{types_alone, with_instance, with_binds, tally_with, EndWithBinds, bound_in, IsNew, MayFollow, AreItemsLawful, AreResourcesLawful};
+ghost use Rattle.plant_grammar.specs.Steps.Reading.{programs_of};
 ghost use Rattle.plant_grammar.specs.Steps.Refusing.{HasRoomFor, AreTypesApart};
 ghost use Rattle.plant_grammar.specs.Kinds.{items_or_none, kind_of_space, input_kind_of, HasFieldKind, IsOfInputKind};
 ghost use Rattle.declared_names.specs.declared.declarations.Kind.{Kind};
@@ -149,7 +151,7 @@ impl<'a> Reader<'a> {
         ensures ok { IfOk result (λ a. self.old.words ≡ token.Address a ∷ self.new.words) }
         ensures kind { IfOk result (λ a. kind_of_space a.space ≡ kind) }
         ensures other { OnErr result ((a : Address) (rest : List Token) → self.old.words ≡ token.Address a ∷ rest → kind_of_space a.space ≡ kind → ⊥) }
-        ensures tells { IfErr result (λ e. TellsOfName e.kind ⊥ ⊥) }
+        ensures tells { IfErr result (TellsOfAddress kind self.old.words) }
         ensures value { IfErr result IsGrammarFault }
     {
         let other = GrammarFault::at(GrammarFaultKind::WrongKind, self.line());
@@ -186,7 +188,7 @@ impl<'a> Reader<'a> {
         ensures ok { IfOk result (λ s. self.old.words ≡ source_words s ++ self.new.words) }
         ensures kind { IfOk result (HasFieldKind kind) }
         ensures other { IfErr result (λ e. e.kind ≢ Memory → (s : SourceName) (rest : List Token) → self.old.words ≡ source_words s ++ rest → HasFieldKind kind s → ⊥) }
-        ensures tells { IfErr result (λ e. TellsOfName e.kind ⊥ ⊥) }
+        ensures tells { IfErr result (TellsOfAddress kind self.old.words) }
         ensures value { IfErr result IsGrammarFault }
     {
         if self.sees_address() {
@@ -209,7 +211,7 @@ impl<'a> Reader<'a> {
         ensures kind { IfOk result (λ i. input_kind_of (variables program.now.program) i.0 ≡ Some i.1) }
         ensures tally { OnOk result (tally.new ≡ with_binds tally.old 1) }
         ensures other { IfErr result (λ e. e.kind ≢ Memory → (name : List ℕ) (k : Kind) (rest : List Token) → self.old.words ≡ token.Name name ∷ rest → input_kind_of (variables program.now.program) name ≡ Some k → IsNew (λ b. b.input) before.now name → tally.old.binds < 4096 → ⊥) }
-        ensures tells { IfErr result (TellsOfBind tally.old.binds self.old.words) }
+        ensures tells { IfErr result (TellsOfInput tally.old.binds (variables program.now.program) before.now self.old.words) }
         ensures value { IfErr result IsGrammarFault }
     {
         let input = self.name(alloc)?;
@@ -224,7 +226,7 @@ impl<'a> Reader<'a> {
     }
 
     /// A bind of an instance of a type, behind these.
-    #[tactic(auto, unfolding(crate::specs::Grammar::bind_words))]
+    #[tactic(auto, using(crate::proofs::RefusedNames::no_name), unfolding(crate::specs::Grammar::bind_words))]
     fn bind(
         &mut self,
         alloc: Global,
@@ -237,7 +239,7 @@ impl<'a> Reader<'a> {
         ensures kind { IfOk result (IsOfInputKind (variables program.now.program)) }
         ensures tally { OnOk result (tally.new ≡ with_binds tally.old 1) }
         ensures other { IfErr result (λ e. e.kind ≢ Memory → (b : Bind) (rest : List Token) → self.old.words ≡ bind_words b ++ rest → IsOfInputKind (variables program.now.program) b → IsNew (λ b. b.input) before.now b.input → tally.old.binds < 4096 → ⊥) }
-        ensures tells { IfErr result (TellsOfBind tally.old.binds self.old.words) }
+        ensures names { IfErr result (BeginRefused (RefusesOneBind tally.old.binds (variables program.now.program) before.now) self.old.words) }
         ensures value { IfErr result IsGrammarFault }
     {
         let (input, kind) = self.bound_input(alloc, program, before, tally)?;
@@ -259,7 +261,7 @@ impl<'a> Reader<'a> {
         ensures kinds { IfOk result (λ binds. All (IsOfInputKind (variables program.now.program)) binds.items) }
         ensures tally { IfOk result (λ binds. tally.new ≡ with_binds tally.old (length binds.items)) }
         ensures other { IfErr result (λ e. e.kind ≢ Memory → (bs : List Bind) (rest : List Token) → EndWithBinds bs self.old.words rest → AreNamesApart (map (λ b. b.input) bs) → All (IsOfInputKind (variables program.now.program)) bs → tally.old.binds + length bs ≤ 4096 → ⊥) }
-        ensures names { IfErr result (BeginRefused (λ k. RefusesBind k tally.old.binds) self.old.words) }
+        ensures names { IfErr result (BeginRefused (λ k. RefusesBind k tally.old.binds (variables program.now.program)) self.old.words) }
         ensures value { IfErr result IsGrammarFault }
     {
         let mut binds = Vec::new(alloc);
@@ -288,7 +290,7 @@ impl<'a> Reader<'a> {
         ensures tally { IfOk result (λ binds. tally.new ≡ with_binds tally.old (length (bound_in binds))) }
         ensures other { IfErr result (λ e. e.kind ≢ Memory → (bs : Option (List Bind)) (rest : List Token) → self.old.words ≡ binds_words bs ++ mark_word Semicolon ∷ rest → AreNamesApart (map (λ b. b.input) (items_or_none bs)) → All (IsOfInputKind (variables program.now.program)) (items_or_none bs) → tally.old.binds + length (items_or_none bs) ≤ 4096 → ⊥) }
         ensures only { OnOk result ((bs : Option (List Bind)) (rest : List Token) → self.old.words ≡ binds_words bs ++ mark_word Semicolon ∷ rest → self.new.words ≡ mark_word Semicolon ∷ rest) }
-        ensures names { IfErr result (BeginRefused (RefusesInParentheses tally.old.binds) self.old.words) }
+        ensures names { IfErr result (BeginRefused (RefusesInParentheses tally.old.binds (variables program.now.program)) self.old.words) }
         ensures value { IfErr result IsGrammarFault }
     {
         if self.sees_punctuation(Punctuation::Open) {
@@ -324,7 +326,7 @@ impl<'a> Reader<'a> {
         ensures ok { IfOk result (λ name. self.old.words ≡ token.Name name ∷ self.new.words) }
         ensures known { IfOk result (λ name. Any (λ t. IsTrue (is_named name t.name)) (flat_map task_of before.now)) }
         ensures other { IfErr result (λ e. e.kind ≢ Memory → (name : List ℕ) (rest : List Token) → self.old.words ≡ token.Name name ∷ rest → Any (λ t. IsTrue (is_named name t.name)) (flat_map task_of before.now) → ⊥) }
-        ensures tells { IfErr result (λ e. TellsOfName e.kind ⊥ ⊥) }
+        ensures tells { IfErr result (TellsOfMissing (λ t. t.name) (flat_map task_of before.now) self.old.words) }
         ensures value { IfErr result IsGrammarFault }
     {
         let name = self.name(alloc)?;
@@ -347,7 +349,7 @@ impl<'a> Reader<'a> {
         ensures new { IfOk result (λ name. IsNew (λ u. u.instance) (flat_map use_of before.now) name) }
         ensures tally { OnOk result (tally.new ≡ with_instance tally.old) }
         ensures other { IfErr result (λ e. e.kind ≢ Memory → (name : List ℕ) (rest : List Token) → self.old.words ≡ key_word Program ∷ token.Name name ∷ rest → IsNew (λ u. u.instance) (flat_map use_of before.now) name → tally.old.instances < 64 → ⊥) }
-        ensures names { IfErr result (BeginRefused (RefusesFurtherInstance tally.old before.now) self.old.words) }
+        ensures names { (programs : List ProgramTree) → IfErr result (BeginRefused (RefusesFurtherInstance tally.old programs before.now) self.old.words) }
         ensures value { IfErr result IsGrammarFault }
     {
         self.keyword(Keyword::Program)?;
@@ -359,7 +361,7 @@ impl<'a> Reader<'a> {
         ensures ok { IfOk result (λ name. self.old.words ≡ key_word With ∷ token.Name name ∷ self.new.words) }
         ensures known { IfOk result (λ name. Any (λ t. IsTrue (is_named name t.name)) (flat_map task_of before.now)) }
         ensures other { IfErr result (λ e. e.kind ≢ Memory → (name : List ℕ) (rest : List Token) → self.old.words ≡ key_word With ∷ token.Name name ∷ rest → Any (λ t. IsTrue (is_named name t.name)) (flat_map task_of before.now) → ⊥) }
-        ensures tells { IfErr result (λ e. TellsOfName e.kind ⊥ ⊥) }
+        ensures tells { IfErr result (TellsOfMissingBehind (key_word With) (λ t. t.name) (flat_map task_of before.now) self.old.words) }
         ensures value { IfErr result IsGrammarFault }
     {
         self.keyword(Keyword::With)?;
@@ -375,7 +377,7 @@ impl<'a> Reader<'a> {
         ensures ok { IfOk result (λ p. self.old.words ≡ mark_word Colon ∷ token.Name p.0 ∷ self.new.words) }
         ensures found { IfOk result (λ p. find (λ t. is_named p.0 t.program.name) types.now ≡ Some p.1.now) }
         ensures other { IfErr result (λ e. e.kind ≢ Memory → (name : List ℕ) (rest : List Token) → self.old.words ≡ mark_word Colon ∷ token.Name name ∷ rest → find (λ t. is_named name t.program.name) types.now ≢ None → ⊥) }
-        ensures tells { IfErr result (λ e. TellsOfName e.kind ⊥ ⊥) }
+        ensures tells { IfErr result (TellsOfMissingBehind (mark_word Colon) (λ p. p.name) (programs_of types.now) self.old.words) }
         ensures value { IfErr result IsGrammarFault }
     {
         self.punctuation(Punctuation::Colon)?;
@@ -400,7 +402,7 @@ impl<'a> Reader<'a> {
         ensures lawful { IfOk result (λ u. IsUseLawful (types_alone types.now) before.now u) }
         ensures tally { IfOk result (λ u. tally.new ≡ tally_with tally.old (u ∷ [])) }
         ensures other { IfErr result (λ e. e.kind ≢ Memory → (u : Use) (rest : List Token) → self.old.words ≡ use_words u ++ rest → AreTypesApart types.now → IsNew (λ u. u.instance) (flat_map use_of before.now) u.instance → IsUseLawful (types_alone types.now) before.now u → HasRoomFor tally.old (u ∷ []) → ⊥) }
-        ensures names { IfErr result (BeginRefused (RefusesFurtherInstance tally.old before.now) self.old.words) }
+        ensures names { IfErr result (BeginRefused (RefusesFurtherInstance tally.old (programs_of types.now) before.now) self.old.words) }
         ensures value { IfErr result IsGrammarFault }
     {
         let instance = self.instance_start(alloc, before, tally)?;
@@ -429,7 +431,7 @@ impl<'a> Reader<'a> {
         ensures lawful { IfOk result (λ x. MayFollow (types_alone types.now) before.now x) }
         ensures tally { IfOk result (λ x. tally.new ≡ tally_with tally.old (use_of x)) }
         ensures other { IfErr result (λ e. e.kind ≢ Memory → (x : Item) (rest : List Token) → self.old.words ≡ item_words x ++ rest → AreTypesApart types.now → MayFollow (types_alone types.now) before.now x → HasRoomFor tally.old (use_of x) → ⊥) }
-        ensures names { IfErr result (BeginRefused (RefusesItem tally.old before.now) self.old.words) }
+        ensures names { IfErr result (BeginRefused (RefusesItem tally.old (programs_of types.now) before.now) self.old.words) }
         ensures value { IfErr result IsGrammarFault }
     {
         if self.sees_keyword(Keyword::Task) {
@@ -451,7 +453,7 @@ impl<'a> Reader<'a> {
         ensures lawful { IfOk result (λ xs. AreItemsLawful (types_alone types.now) xs.items) }
         ensures tally { IfOk result (λ xs. tally.new ≡ tally_with tally.old (flat_map use_of xs.items)) }
         ensures other { IfErr result (λ e. e.kind ≢ Memory → (xs : List Item) (rest : List Token) → self.old.words ≡ items_words xs ++ rest → AreTypesApart types.now → AreItemsLawful (types_alone types.now) xs → HasRoomFor tally.old (flat_map use_of xs) → ⊥) }
-        ensures names { IfErr result (BeginRefused (RefusesFurtherItems tally.old) self.old.words) }
+        ensures names { IfErr result (BeginRefused (RefusesFurtherItems tally.old (programs_of types.now)) self.old.words) }
         ensures value { IfErr result IsGrammarFault }
     {
         let mut items = Vec::new(alloc);
@@ -496,7 +498,7 @@ impl<'a> Reader<'a> {
         ensures lawful { IfOk result (λ r. IsResourceLawful (types_alone types.now) r) }
         ensures tally { IfOk result (λ r. tally.new ≡ tally_with tally.old (uses_of r)) }
         ensures other { IfErr result (λ e. e.kind ≢ Memory → (r : Resource) (rest : List Token) → self.old.words ≡ resource_words r ++ rest → AreTypesApart types.now → IsNew (λ r. r.name) before.now r.name → length before.now < 16 → IsResourceLawful (types_alone types.now) r → HasRoomFor tally.old (uses_of r) → ⊥) }
-        ensures names { IfErr result (BeginRefused (RefusesFurtherResource tally.old before.now) self.old.words) }
+        ensures names { IfErr result (BeginRefused (RefusesFurtherResource tally.old (programs_of types.now) before.now) self.old.words) }
         ensures value { IfErr result IsGrammarFault }
     {
         self.keyword(Keyword::Resource)?;
@@ -520,7 +522,7 @@ impl<'a> Reader<'a> {
         ensures lawful { IfOk result (λ rs. AreResourcesLawful (types_alone types.now) rs.items) }
         ensures tally { IfOk result (λ rs. tally.new ≡ tally_with tally.old (flat_map uses_of rs.items)) }
         ensures other { IfErr result (λ e. e.kind ≢ Memory → (rs : List Resource) (rest : List Token) → self.old.words ≡ resources_words rs ++ rest → 0 < length rs → AreTypesApart types.now → AreResourcesLawful (types_alone types.now) rs → HasRoomFor tally.old (flat_map uses_of rs) → ⊥) }
-        ensures names { IfErr result (BeginRefused (RefusesFurtherResources tally.old) self.old.words) }
+        ensures names { IfErr result (BeginRefused (RefusesFurtherResources tally.old (programs_of types.now)) self.old.words) }
         ensures value { IfErr result IsGrammarFault }
     {
         let mut resources = Vec::new(alloc);

@@ -1,4 +1,4 @@
-use Rattle.std.proofs.Common.{◌≡◌, ◌≢◌, List, [], ◌++◌, All, map, ap, refl, sym, subst, ◌∙◌}
+use Rattle.std.proofs.Common.{◌≡◌, ◌≢◌, inl, inr, List, [], ◌++◌, All, map, ap, refl, sym, subst, ◌∙◌}
 use Rattle.std.proofs.lemmas.List.{append-nil}
 use Rattle.words.specs.Lines.{without_last}
 use Rattle.plant_text.specs.declared.token.Token.{Token}
@@ -6,6 +6,7 @@ use Rattle.plant_text.specs.declared.token.Token.TheVariants as token
 use Rattle.plant_text.specs.Spelling.{Spells}
 use Rattle.plant_text.specs.Lines.{WordValue, body_lines}
 use Rattle.plant_grammar.specs.Grammar.{Tree, words_of}
+use Rattle.plant_grammar.specs.NameFaults as names
 use Rattle.plant_grammar.specs.Lawful.{all_uses, IsTreeLawful}
 use Rattle.plant_grammar.specs.Steps.Lines.{ReaderValue}
 use Rattle.plant_grammar.specs.Steps.Reading.{tree_written}
@@ -22,9 +23,9 @@ use Rattle.plant.specs.StandsFor.{IsPlantOf}
 use Rattle.plant.specs.Steps.Reading.{ReadingValue, tree_of}
 use Rattle.plant.proofs.BodyCounts.{begun_by_programs}
 use Rattle.plant.proofs.DrawnTrees.{drawn_tree, drawn_have_ladders}
-use Rattle.plant.proofs.WordFaults.{plant_of_word, no_body, of_name, no_name, memory_no_body, memory_no_name, body_no_name}
+use Rattle.plant.proofs.WordFaults.{plant_of_word, no_body, of_name, no_name, source_kind, memory_no_body, memory_no_name, body_no_name}
 use Rattle.plant.proofs.KnownWords.{words_known}
-use Rattle.plant.proofs.RefusedKnown.{begun_by_refused}
+use Rattle.plant.proofs.RefusedKnown.{begun_by_front, begun_by_refused}
 use Rattle.plant.proofs.plant.Plant.read.Goals as goal
 
 pub resolve-requires-clause-lawful : goal.resolve-requires-clause-lawful
@@ -101,14 +102,14 @@ returns-in_err-resources-clause-name c =
     (λ of.
     let met = c.in_err-resources.ensures.name (of_name word.kind of) in
     let begun = begun_by_refused (without_last 13 c.args.text.now) ws word.kind c.new-reader.result.words c.in_ok-words.ensures.begun words met in
-    record {
+    inl (record {
       kind = word.kind;
       kind_is = refl;
       words = met.front;
       lines = begun.0;
       begun = begun.1;
       refused = met.holds;
-    })
+    }))
 
 pub returns-in_err-plant-clause-value : goal.returns-in_err-plant-clause-value
 returns-in_err-plant-clause-value c =
@@ -125,7 +126,23 @@ pub returns-in_err-plant-clause-name : goal.returns-in_err-plant-clause-name
 returns-in_err-plant-clause-name c =
     let word = c.in_err-plant.field-0.0 in
     kept_fault (fault_of_word word) (λ f. IsOfDeclaredName f.kind → IsNameFaultIn c.args.text.now f) c.from_residual-in_err-plant.result c.from_residual-in_err-plant.ensures.1
-    (λ of. absurd (no_name word.kind c.in_err-plant.ensures.tells of))
+    (λ of.
+    let read = c.in_ok-resources.ensures.ok in
+    let texts = c.read_tree-tree.new.texts.items in
+    let rs = c.in_ok-resources.resources.items in
+    let tree = tree_written read.name texts rs in
+    let same = ap (tree_of read.name) c.new-reading.ensures ∙ drawn_tree read.name texts c.in_ok-types.types.items rs c.in_ok-types.ensures.ok in
+    let ws = c.in_ok-words.words in
+    let words : map (λ (w : WordValue). w.token) ws ≡ c.new-reader.result.words = ap (λ (ws : List WordValue). map (λ (w : WordValue). w.token) ws) (sym c.words-2.ensures) ∙ ap (λ (r : ReaderValue). r.words) (sym c.new-reader.ensures) in
+    let begun = begun_by_front (without_last 13 c.args.text.now) ws c.new-reader.result.words (words_of tree) c.read_tree-tree.new.reader.words c.in_ok-words.ensures.begun words read.written (words_known tree) in
+    inr (record {
+      kind_is = source_kind word.kind c.in_err-plant.ensures.tells of;
+      tree = tree;
+      lines = begun.0;
+      begun = begun.1;
+      lawful = read.lawful;
+      refused = λ fed. c.in_err-plant.ensures.refused (λ memory. subst names.IsOfName memory (of_name word.kind of)) read.name (subst (λ (t : Tree). All (AreBindsFed t) (all_uses t)) (sym same) fed);
+    }))
 
 pub returns-in_err-end-clause-value : goal.returns-in_err-end-clause-value
 returns-in_err-end-clause-value c =
@@ -192,3 +209,9 @@ returns-in_err-end-clause-refused c =
     (λ other tree spelled faultless.
     let start : c.new-reader.result.words ≡ words_of tree ++ [] = sym words ∙ c.in_ok-words.ensures.every (words_of tree) (c.words_are_in_place.ensures tree faultless.lawful.few_types) spelled ∙ sym (append-nil (words_of tree)) in
     c.in_err-end.ensures.err.1 (c.in_ok-resources.ensures.only tree [] start).0)
+
+pub returns-clause-tree : goal.returns-clause-tree
+returns-clause-tree c = λ t u few_t few_u spelled_t spelled_u.
+    let every = c.in_ok-words.ensures.every in
+    let same : words_of t ≡ words_of u = sym (every (words_of t) (c.words_are_in_place.ensures t few_t) spelled_t) ∙ every (words_of u) (c.words_are_in_place.ensures u few_u) spelled_u in
+    (c.words_have_one_tree.ensures t u [] [] (ap (λ (ws : List Token). ws ++ []) same)).1

@@ -3,7 +3,7 @@ use Rattle.std.specs.List.{flat_map}
 use Rattle.lists.proofs.Results.{kept_fault}
 use Rattle.plant_grammar.specs.Grammar.{Tree, TextValue, words_of}
 use Rattle.plant_grammar.specs.Lawful.{uses_of}
-use Rattle.plant_grammar.specs.NameFaults.{IsOfName, RefusesPrograms, RefusesConfiguration}
+use Rattle.plant_grammar.specs.NameFaults.{IsOfName, RefusesPrograms, RefusesResources, RefusesConfiguration}
 use Rattle.plant_grammar.specs.Steps.Declaring.{BeginWith, RefusesPlantWords}
 use Rattle.plant_grammar.specs.Steps.ReadParts.{tally_with, types_alone, AreResourcesLawful}
 use Rattle.plant_grammar.specs.Steps.Reading.{programs_of, all_words}
@@ -55,7 +55,8 @@ returns-in_err-resources-clause-name c =
     let written = begun_words c.args.texts.now.items texts start one c.requires c.in_ok-programs.ensures.ok in
     kept_fault fault (λ f. IsOfName f.kind → BeginWith (RefusesPlantWords f.kind) start) c.from_residual-in_err-resources.result c.from_residual-in_err-resources.ensures.1
     (λ of. begin_right (RefusesPrograms fault.kind) (RefusesConfiguration fault.kind) start
-    (in_configuration fault.kind (programs_of texts) c.in_ok-_name._name c.new-tally.result start one c.keyword.new.self.words c.name.new.self.words written c.in_ok-keyword.ensures.ok c.in_ok-_name.ensures.ok c.new-tally.ensures (c.in_err-resources.ensures.names of)))
+    (in_configuration fault.kind (programs_of texts) c.in_ok-_name._name c.new-tally.result start one c.keyword.new.self.words c.name.new.self.words written c.in_ok-keyword.ensures.ok c.in_ok-_name.ensures.ok c.new-tally.ensures
+    (subst (λ (ts : List TextValue). BeginWith (RefusesResources fault.kind c.new-tally.result.instances c.new-tally.result.binds (programs_of ts)) c.name.new.self.words) c.as_slice.ensures.value (c.in_err-resources.ensures.names of))))
 
 pub returns-in_err-programs-clause-refused : goal.returns-in_err-programs-clause-refused
 returns-in_err-programs-clause-refused c =

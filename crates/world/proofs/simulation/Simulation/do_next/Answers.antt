@@ -10,11 +10,11 @@ returns-in_err-do_read-in-Ok-Line-clause-fault g c =
     let old = c.args.self.now.world in
     let new = c.do_read.new.self.world in
     let n = c.args.self.now.events in
-    let given = g.R.Read.remaining c.args.input.now in
-    let left = g.R.Read.remaining c.next_line.new.reader in
+    let given = g.L.LineSource.left c.args.source.now in
+    let left = g.L.LineSource.left c.take_line.new.self in
     let from = g.W.Write.contents c.args.out.now in
     let next = g.W.Write.contents c.do_read.new.out in
-    let line = c.next_line.new.line.items in
+    let line = c.take_line.new.line.items in
     let fault = c.in_err-do_read-in-Ok-Line.field-0.0 in
     let gives = subst (Gives given left line) c.in-Ok-Line.field-0-is c.in-Ok-Line.ensures.ok in
     kept_fault fault (HasStoppedNext old new n given left from next c.args.number) c.from_residual.result c.from_residual.ensures.1
@@ -25,11 +25,11 @@ returns-in_err-do_read-in-Ok-LastLine-clause-fault g c =
     let old = c.args.self.now.world in
     let new = c.do_read-in-Ok-LastLine.new.self.world in
     let n = c.args.self.now.events in
-    let given = g.R.Read.remaining c.args.input.now in
-    let left = g.R.Read.remaining c.next_line.new.reader in
+    let given = g.L.LineSource.left c.args.source.now in
+    let left = g.L.LineSource.left c.take_line.new.self in
     let from = g.W.Write.contents c.args.out.now in
     let next = g.W.Write.contents c.do_read-in-Ok-LastLine.new.out in
-    let line = c.next_line.new.line.items in
+    let line = c.take_line.new.line.items in
     let fault = c.in_err-do_read-in-Ok-LastLine.field-0.0 in
     let gives = subst (Gives given left line) c.in-Ok-LastLine.field-0-is c.in-Ok-LastLine.ensures.ok in
     kept_fault fault (HasStoppedNext old new n given left from next c.args.number) c.from_residual-in_err-do_read-in-Ok-LastLine.result c.from_residual-in_err-do_read-in-Ok-LastLine.ensures.1
@@ -37,8 +37,8 @@ returns-in_err-do_read-in-Ok-LastLine-clause-fault g c =
 
 pub returns-in-Ok-TooLong-clause-fault : goal.returns-in-Ok-TooLong-clause-fault
 returns-in-Ok-TooLong-clause-fault g c =
-    let given = g.R.Read.remaining c.args.input.now in
-    let left = g.R.Read.remaining c.next_line.new.reader in
-    let line = c.next_line.new.line.items in
+    let given = g.L.LineSource.left c.args.source.now in
+    let left = g.L.LineSource.left c.take_line.new.self in
+    let line = c.take_line.new.line.items in
     next_too_long c.args.self.now.world c.args.self.now.world c.args.self.now.events given left (g.W.Write.contents c.args.out.now) c.args.number line
     (subst (Gives given left line) c.in-Ok-TooLong.field-0-is c.in-Ok-TooLong.ensures.ok)

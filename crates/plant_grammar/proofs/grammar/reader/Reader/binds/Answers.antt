@@ -6,7 +6,7 @@ use Rattle.plant_grammar.specs.Kinds.{IsOfInputKind}
 use Rattle.plant_grammar.specs.Lawful.{variables}
 use Rattle.plant_grammar.proofs.WordLists.{binds_more, grown, all_more}
 use Rattle.plant_grammar.proofs.ResourceLines.{bind_counted}
-use Rattle.plant_grammar.specs.NameFaults.{IsOfName, RefusesBind}
+use Rattle.plant_grammar.specs.NameFaults.{IsOfName, RefusesOneBind, RefusesBind}
 use Rattle.plant_grammar.specs.Steps.Declaring.{BeginWith}
 use Rattle.lists.proofs.Results.{kept_fault}
 use Rattle.plant_grammar.proofs.RefusedPlaces.{first_bind, next_bind}
@@ -36,15 +36,19 @@ binds-preserved c = record {
 pub returns-in_err-bind-clause-names : goal.returns-in_err-bind-clause-names
 returns-in_err-bind-clause-names c =
     let fault = c.in_err-bind.field-0.0 in
-    kept_fault fault (λ f. IsOfName f.kind → BeginWith (RefusesBind f.kind c.args.tally.now.binds) (c.args.self.now.words)) c.from_residual.result c.from_residual.ensures.1
-    (λ of. first_bind fault.kind c.args.tally.now.binds c.args.self.now.words c.in_err-bind.ensures.tells of)
+    let ds = variables c.args.program.now.program in
+    kept_fault fault (λ f. IsOfName f.kind → BeginWith (RefusesBind f.kind c.args.tally.now.binds ds) c.args.self.now.words) c.from_residual.result c.from_residual.ensures.1
+    (λ of. first_bind fault.kind c.args.tally.now.binds ds c.args.self.now.words
+    (subst (λ (bs : List Bind). BeginWith (RefusesOneBind c.args.tally.now.binds ds bs fault.kind) c.args.self.now.words) (c.deref.ensures.value ∙ c.new-binds.ensures.items) (c.in_err-bind.ensures.names of)))
 
 pub returns-in_err-bind-2-clause-names : goal.returns-in_err-bind-2-clause-names
 returns-in_err-bind-2-clause-names c =
     let fault = c.in_err-bind-2.field-0.0 in
-    kept_fault fault (λ f. IsOfName f.kind → BeginWith (RefusesBind f.kind c.args.tally.now.binds) (c.args.self.now.words)) c.from_residual-in_err-bind-2.result c.from_residual-in_err-bind-2.ensures.1
-    (λ of. next_bind fault.kind c.binds.tally.binds c.args.tally.now.binds c.binds.binds.items c.args.self.now.words c.binds.self.words c.punctuation.new.self.words c.binds.invariant.some c.binds.invariant.words c.in_ok-punctuation.ensures.ok
-    (ap (λ (t : TallyValue). t.binds) c.binds.invariant.tally) c.in_err-bind-2.ensures.tells of)
+    let ds = variables c.args.program.now.program in
+    kept_fault fault (λ f. IsOfName f.kind → BeginWith (RefusesBind f.kind c.args.tally.now.binds ds) c.args.self.now.words) c.from_residual-in_err-bind-2.result c.from_residual-in_err-bind-2.ensures.1
+    (λ of. next_bind fault.kind c.binds.tally.binds c.args.tally.now.binds ds c.binds.binds.items c.args.self.now.words c.binds.self.words c.punctuation.new.self.words c.binds.invariant.some c.binds.invariant.words c.in_ok-punctuation.ensures.ok
+    (ap (λ (t : TallyValue). t.binds) c.binds.invariant.tally)
+    (subst (λ (bs : List Bind). BeginWith (RefusesOneBind c.binds.tally.binds ds bs fault.kind) c.punctuation.new.self.words) c.deref-in-binds.ensures.value (c.in_err-bind-2.ensures.names of)))
 
 pub returns-clause-kinds : goal.returns-clause-kinds
 returns-clause-kinds c = elim c.if-not-sees_punctuation.branch [

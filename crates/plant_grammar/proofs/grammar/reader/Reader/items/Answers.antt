@@ -7,6 +7,7 @@ use Rattle.plant_grammar.proofs.ResourceLines.{items_more, tally_more}
 use Rattle.plant_grammar.specs.declared.grammar.tree.Item.{Item}
 use Rattle.plant_grammar.specs.NameFaults.{IsOfName, RefusesItems}
 use Rattle.plant_grammar.specs.Steps.Declaring.{BeginWith, RefusesItem}
+use Rattle.plant_grammar.specs.Steps.Reading.{programs_of}
 use Rattle.lists.proofs.Results.{kept_fault}
 use Rattle.plant_grammar.proofs.RefusedPlaces.{item_refused}
 use Rattle.plant_text.specs.declared.token.Token.{Token}
@@ -37,9 +38,9 @@ returns c = record {
 pub returns-in_err-item-clause-names : goal.returns-in_err-item-clause-names
 returns-in_err-item-clause-names c =
     let fault = c.in_err-item.field-0.0 in
-    kept_fault fault (λ f. IsOfName f.kind → BeginWith (RefusesItems f.kind c.args.tally.now.instances c.args.tally.now.binds) (c.args.self.now.words)) c.from_residual.result c.from_residual.ensures.1
-    (λ of. item_refused fault.kind c.args.tally.now c.items.tally c.items.items.items c.args.self.now.words c.items.self.words c.items.invariant.words c.items.invariant.tally
-    (subst (λ (xs : List Item). BeginWith (RefusesItem c.items.tally xs fault.kind) c.items.self.words) c.deref.ensures.value (c.in_err-item.ensures.names of)))
+    kept_fault fault (λ f. IsOfName f.kind → BeginWith (RefusesItems f.kind c.args.tally.now.instances c.args.tally.now.binds (programs_of c.args.types.now)) c.args.self.now.words) c.from_residual.result c.from_residual.ensures.1
+    (λ of. item_refused fault.kind c.args.tally.now c.items.tally (programs_of c.args.types.now) c.items.items.items c.args.self.now.words c.items.self.words c.items.invariant.words c.items.invariant.tally
+    (subst (λ (xs : List Item). BeginWith (RefusesItem c.items.tally (programs_of c.args.types.now) xs fault.kind) c.items.self.words) c.deref.ensures.value (c.in_err-item.ensures.names of)))
 
 pub returns-in_err-item-clause-other : goal.returns-in_err-item-clause-other
 returns-in_err-item-clause-other c =

@@ -7,6 +7,7 @@ use Rattle.plant_grammar.proofs.WordLists.{words_more, resources_done}
 use Rattle.plant_grammar.proofs.ResourceLines.{resources_more, tally_more}
 use Rattle.plant_grammar.specs.NameFaults.{IsOfName, RefusesResource, RefusesResources}
 use Rattle.plant_grammar.specs.Steps.Declaring.{BeginWith}
+use Rattle.plant_grammar.specs.Steps.Reading.{programs_of}
 use Rattle.lists.proofs.Results.{kept_fault}
 use Rattle.plant_grammar.proofs.RefusedPlaces.{resource_refused}
 use Rattle.plant_text.specs.declared.token.Token.{Token}
@@ -31,9 +32,9 @@ returns-clause-ok c = resources_done c.resources.resources.items c.args.self.now
 pub returns-in_err-resource-clause-names : goal.returns-in_err-resource-clause-names
 returns-in_err-resource-clause-names c =
     let fault = c.in_err-resource.field-0.0 in
-    kept_fault fault (λ f. IsOfName f.kind → BeginWith (RefusesResources f.kind c.args.tally.now.instances c.args.tally.now.binds) (c.args.self.now.words)) c.from_residual.result c.from_residual.ensures.1
-    (λ of. resource_refused fault.kind c.args.tally.now c.resources.tally c.resources.resources.items c.args.self.now.words c.resources.self.words c.resources.invariant.words c.resources.invariant.tally
-    (subst (λ (rs : List Resource). BeginWith (RefusesResource fault.kind c.resources.tally.instances c.resources.tally.binds rs) c.resources.self.words) c.deref.ensures.value (c.in_err-resource.ensures.names of)))
+    kept_fault fault (λ f. IsOfName f.kind → BeginWith (RefusesResources f.kind c.args.tally.now.instances c.args.tally.now.binds (programs_of c.args.types.now)) c.args.self.now.words) c.from_residual.result c.from_residual.ensures.1
+    (λ of. resource_refused fault.kind c.args.tally.now c.resources.tally (programs_of c.args.types.now) c.resources.resources.items c.args.self.now.words c.resources.self.words c.resources.invariant.words c.resources.invariant.tally
+    (subst (λ (rs : List Resource). BeginWith (RefusesResource fault.kind c.resources.tally.instances c.resources.tally.binds (programs_of c.args.types.now) rs) c.resources.self.words) c.deref.ensures.value (c.in_err-resource.ensures.names of)))
 
 pub returns-in_err-resource-clause-other : goal.returns-in_err-resource-clause-other
 returns-in_err-resource-clause-other c =

@@ -18,8 +18,9 @@ use Rattle.plant_grammar.proofs.grammar.reader.Reader.some_binds.Goals as goal
 pub returns-in_err-binds-clause-names : goal.returns-in_err-binds-clause-names
 returns-in_err-binds-clause-names c =
     let fault = c.in_err-binds.field-0.0 in
-    kept_fault fault (λ f. IsOfName f.kind → BeginWith (IsAfter (mark_word Open) (RefusesBind f.kind c.args.tally.now.binds)) (c.args.self.now.words)) c.from_residual-in_err-binds.result c.from_residual-in_err-binds.ensures.1
-    (λ of. in_binds fault.kind c.args.tally.now.binds c.args.self.now.words c.punctuation.new.self.words c.in_ok-punctuation.ensures.ok (c.in_err-binds.ensures.names of))
+    let ds = variables c.args.program.now.program in
+    kept_fault fault (λ f. IsOfName f.kind → BeginWith (IsAfter (mark_word Open) (RefusesBind f.kind c.args.tally.now.binds ds)) c.args.self.now.words) c.from_residual-in_err-binds.result c.from_residual-in_err-binds.ensures.1
+    (λ of. in_binds fault.kind c.args.tally.now.binds ds c.args.self.now.words c.punctuation.new.self.words c.in_ok-punctuation.ensures.ok (c.in_err-binds.ensures.names of))
 
 pub returns-in_err-binds-clause-other : goal.returns-in_err-binds-clause-other
 returns-in_err-binds-clause-other c =

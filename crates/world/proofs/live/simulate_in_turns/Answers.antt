@@ -3,21 +3,21 @@ use Rattle.lists.proofs.Results.{kept_fault}
 use Rattle.world.specs.Simulated.{from_one}
 use Rattle.world.specs.LiveRun.{EndsLiveRun}
 use Rattle.world.specs.Steps.Live.{HasDoneNext}
-use Rattle.world.proofs.LiveEnding.{live_first, live_next, live_ends, live_stops, live_nothing, live_unread}
-use Rattle.world.proofs.live.simulate_lines.Goals as goal
+use Rattle.world.proofs.LiveEnding.{live_first, live_next, live_ends, live_stops, live_nothing, live_unread, live_answered}
+use Rattle.world.proofs.live.simulate_in_turns.Goals as goal
 
 pub returns-in_default-clause-fault : goal.returns-in_default-clause-fault
-returns-in_default-clause-fault g c = live_nothing c.args.plant.value c.args.max_number (g.R.Read.remaining c.args.input.now) (g.W.Write.contents c.args.out.now)
+returns-in_default-clause-fault g c = live_nothing c.args.plant.value c.args.max_number (g.L.LineSource.left c.args.source.now) (g.W.Write.contents c.args.out.now)
 
 pub loop-before-init : goal.loop-before-init
 loop-before-init g c =
-    ([], refl, live_first (from_one c.args.plant.value c.args.max_number) c.in-Ok.world (g.R.Read.remaining c.args.input.now) (g.W.Write.contents c.args.out.now) c.in-Ok.ensures)
+    ([], refl, live_first (from_one c.args.plant.value c.args.max_number) c.in-Ok.world (g.L.LineSource.left c.args.source.now) (g.W.Write.contents c.args.out.now) c.in-Ok.ensures)
 
 pub returns-in_err-do_next-clause-fault : goal.returns-in_err-do_next-clause-fault
 returns-in_err-do_next-clause-fault g c =
-    let given = g.R.Read.remaining c.args.input.now in
-    let left = g.R.Read.remaining c.loop-before.input in
-    let later = g.R.Read.remaining c.do_next.new.input in
+    let given = g.L.LineSource.left c.args.source.now in
+    let left = g.L.LineSource.left c.loop-before.source in
+    let later = g.L.LineSource.left c.do_next.new.source in
     let old = g.W.Write.contents c.args.out.now in
     let now = g.W.Write.contents c.loop-before.out in
     let next = g.W.Write.contents c.do_next.new.out in
@@ -34,9 +34,9 @@ returns-then-not-branch-clause-ok g c =
     let new = c.do_next.new.self.world in
     let n = c.loop-before.simulation.events in
     let m = c.do_next.new.self.events in
-    let given = g.R.Read.remaining c.args.input.now in
-    let left = g.R.Read.remaining c.loop-before.input in
-    let later = g.R.Read.remaining c.do_next.new.input in
+    let given = g.L.LineSource.left c.args.source.now in
+    let left = g.L.LineSource.left c.loop-before.source in
+    let later = g.L.LineSource.left c.do_next.new.source in
     let old = g.W.Write.contents c.args.out.now in
     let now = g.W.Write.contents c.loop-before.out in
     let next = g.W.Write.contents c.do_next.new.out in
@@ -50,9 +50,9 @@ loop-before-preserved g c =
     let new = c.do_next.new.self.world in
     let n = c.loop-before.simulation.events in
     let m = c.do_next.new.self.events in
-    let given = g.R.Read.remaining c.args.input.now in
-    let left = g.R.Read.remaining c.loop-before.input in
-    let later = g.R.Read.remaining c.do_next.new.input in
+    let given = g.L.LineSource.left c.args.source.now in
+    let left = g.L.LineSource.left c.loop-before.source in
+    let later = g.L.LineSource.left c.do_next.new.source in
     let old = g.W.Write.contents c.args.out.now in
     let now = g.W.Write.contents c.loop-before.out in
     let next = g.W.Write.contents c.do_next.new.out in
@@ -66,4 +66,10 @@ loop-before-preserved g c =
 pub returns-clause-fault : goal.returns-clause-fault
 returns-clause-fault g c =
     let so_far = c.loop-before.invariant in
-    live_unread c.args.plant.value c.args.max_number so_far.0 c.loop-before.simulation.world c.loop-before.simulation.events (g.R.Read.remaining c.args.input.now) (g.R.Read.remaining c.loop-before.input) (g.W.Write.contents c.args.out.now) (g.W.Write.contents c.loop-before.out) so_far.2
+    live_unread c.args.plant.value c.args.max_number so_far.0 c.loop-before.simulation.world c.loop-before.simulation.events (g.L.LineSource.left c.args.source.now) (g.L.LineSource.left c.loop-before.source) (g.W.Write.contents c.args.out.now) (g.W.Write.contents c.loop-before.out) so_far.2
+
+pub do_next-requires-clause-ready : goal.do_next-requires-clause-ready
+do_next-requires-clause-ready g c =
+    let so_far = c.loop-before.invariant in
+    c.requires.turns (g.L.LineSource.left c.loop-before.source) (g.W.Write.contents c.loop-before.out)
+    (live_answered c.args.plant.value c.args.max_number so_far.0 c.loop-before.simulation.world c.loop-before.simulation.events (g.L.LineSource.left c.args.source.now) (g.L.LineSource.left c.loop-before.source) (g.W.Write.contents c.args.out.now) (g.W.Write.contents c.loop-before.out) so_far.2)
