@@ -88,8 +88,8 @@ def rung(number):
     return f"|{above}\n+{'-----'.join('--' + mark for mark in marks)}"
 
 
-def working(count, rungs):
-    """So many resources of one task, each with a program of so many rungs of three contacts and a coil, due each millisecond."""
+def working(count, rungs, instances=1):
+    """So many resources of one task, each with so many programs of so many rungs of three contacts and a coil, due each millisecond."""
     coils = [f"V{it:03}" for it in range(rungs)]
     text = ["PROGRAM WORK", "VAR_INPUT A, B : BOOL; END_VAR", f"VAR_OUTPUT {coils[-1]} : BOOL; END_VAR"]
     text.append(f"VAR {', '.join(coils[:-1])} : BOOL; END_VAR")
@@ -97,6 +97,7 @@ def working(count, rungs):
     for number in range(count):
         text.append(f"  RESOURCE R{number} ON NODE")
         text.append("    TASK T(INTERVAL := T#1ms, PRIORITY := 0);")
-        text.append("    PROGRAM P WITH T : WORK(A := %IX0, B := %IX1);")
+        names = ["P"] if instances == 1 else [f"P{it}" for it in range(instances)]
+        text += [f"    PROGRAM {name} WITH T : WORK(A := %IX0, B := %IX1);" for name in names]
         text.append("  END_RESOURCE")
     return "\n".join(text + ["END_CONFIGURATION"]) + "\n"

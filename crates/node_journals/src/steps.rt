@@ -17,7 +17,15 @@ impl Model for Steps {
     ghost view = { λ s. s.listed.items };
 }
 
-ghost use Rattle.std.specs.Prelude.{◌≡◌, [], ◌∷◌, ◌++◌, OnOk, OnErr, length, take};
+ghost use Rattle.std.specs.Prelude.{◌≡◌, ◌+◌, ◌≤◌, [], ◌∷◌, ◌++◌, OnOk, OnErr, length, take, vec_len, vec_capacity};
+
+/// Makes room for one more step.
+fn make_room(listed: &mut Vec<Step>) -> Result<(), AllocError>
+    ensures same { listed.new.items ≡ listed.old.items }
+    ensures room { OnOk result (vec_len listed.new + 1 ≤ vec_capacity listed.new) }
+{
+    listed.reserve(1)
+}
 
 impl Steps {
     /// No steps.
@@ -40,7 +48,7 @@ impl Steps {
     pub(crate) fn make_room(&mut self) -> Result<(), AllocError>
         ensures { self.new ≡ self.old }
     {
-        self.listed.reserve(1)
+        make_room(&mut self.listed)
     }
 
     /// Appends a step.

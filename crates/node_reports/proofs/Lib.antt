@@ -9,3 +9,4 @@ pub mod Walking
 pub mod Numbered
 pub mod Telling
 pub mod Hearing
+pub mod ByPlant

@@ -6,9 +6,11 @@ mod told;
 mod unanswered;
 
 ghost use Rattle.std.specs.Prelude.{◌≡◌, ◌↔◌, IsTrue, IfOk, IfErr, All};
+ghost use Rattle.node_journals.specs.Codes.{AreOfPlant};
 ghost use Rattle.node_journals.specs.Commands.{AreNumbered, AreForPlant};
 ghost use Rattle.node_journals.specs.Journals.{firsts_of, IsLawful};
 ghost use Rattle.node_reports.specs.Reports.{IsFittingBook, AreJournalsOf, AreInBook, AreAnswers, RunsAgain, CanBeMadeAgain, AreTold, AreByTicket, Agree, IsCollectFault};
+ghost use Rattle.node_reports.specs.Steps.Comparing.{MadeOfPlant};
 
 use crate::collector::agreement::{all_begin, all_made};
 use crate::collector::hearings::have_heard_truly;
@@ -29,6 +31,8 @@ fn agrees(
     plant: &Plant,
     journals: &[Journal],
 ) -> Result<bool, AllocError>
+    requires book { AreOfPlant plant.now book.now.entries }
+    requires journals { MadeOfPlant plant.now journals.now }
     ensures { IfOk result (λ agree. IsTrue agree ↔ Agree plant.now book.now journals.now) }
 {
     if journals.len() != plant.resources() {
@@ -54,6 +58,7 @@ pub fn collect(
     requires numbered { AreNumbered commands.now }
     requires resources { AreForPlant plant.now commands.now }
     requires lawful { All (IsLawful plant.now (firsts_of journals.items) max_number) journals.items }
+    requires of_plant { AreOfPlant plant.now book.entries }
     ensures fitting { IfOk result (λ r. IsFittingBook r.book r.journals) }
     ensures journals { IfOk result (λ r. AreJournalsOf plant.now max_number r.journals) }
     ensures made { IfOk result (λ r. AreInBook r.book.entries r.journals) }

@@ -25,7 +25,8 @@ use Rattle.exchange.specs.Replays.{AllCouldBeMade}
 use Rattle.node_journals.specs.declared.journal.Journal.{Journal}
 use Rattle.node_journals.specs.Journals.{firsts_of, openings_of, IsLawful}
 use Rattle.node_reports.specs.Reports.{AreJournalsOf, RunsAgain}
-use Rattle.run_texts.specs.Steps.Replaying.{IsReplay, AreOfPlant, AreOfOneCode}
+use Rattle.node_journals.specs.Codes.{IsOfPlant, AreOfPlant}
+use Rattle.run_texts.specs.Steps.Replaying.{IsReplay, AreOfOneCode}
 
 -- the lawful events of a list have the history of all of them
 pub lawful_history : (s : Setting) (h : List Event) (es : List Event) → after_events s h (lawful_among s h es) ≡ after_events s h es
@@ -51,11 +52,7 @@ replayed_equal plant book journals equal one_run again replay =
     let same : replay.log ≡ book.entries = one_run _ replay.schedule replay.log book.entries replay.run (again replay.schedule replay.again) in
     replay.equal_is.1 same
 
--- an evaluation is by the plant's code
-abbrev IsOfPlant : PlantValue → Evaluated → Type 0
-IsOfPlant plant x = code_at plant x.name.task ≡ Some x.code
-
--- so is each that events make
+-- each evaluation that events make is by the plant's code
 log_of_plant : (s : Setting) (h : List Event) (log : List Evaluated) → IsLog s h log → AllByRecursion (IsOfPlant s.plant) log
 log_of_plant s [] [] made = tt
 log_of_plant s [] (x ∷ older) made = absurd made

@@ -3,9 +3,10 @@
 ghost use Rattle.std.specs.Prelude.{◌≡◌, ◌↔◌, true, length, IfOk, IsTrue};
 ghost use Rattle.task_codes.specs.CodeValue.{lists_of};
 ghost use Rattle.exchange.specs.History.{AreOpenings};
+ghost use Rattle.node_journals.specs.Codes.{AreOfPlant};
 ghost use Rattle.node_journals.specs.Journals.{firsts_of, openings_of};
 ghost use Rattle.node_reports.specs.Reports.{AreJournalsOf, RunsAgain};
-ghost use Rattle.run_texts.specs.Steps.Replaying.{IsReplay, AreOfPlant, AreOfOneCode};
+ghost use Rattle.run_texts.specs.Steps.Replaying.{IsReplay, AreOfOneCode};
 
 use evaluation::{Frame, Retained};
 use exchange::{Book, Schedule, World, one_run};

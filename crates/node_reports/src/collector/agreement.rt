@@ -1,8 +1,10 @@
-ghost use Rattle.std.specs.Prelude.{◌≡◌, ◌↔◌, ◌+◌, ◌<◌, [], ◌∷◌, IsTrue, MatchOption, MatchBool, IfOk, List, drop, length};
+ghost use Rattle.std.specs.Prelude.{◌≡◌, ◌↔◌, ◌+◌, ◌<◌, [], ◌∷◌, IsTrue, MatchOption, MatchBool, IfOk, List, All, drop, length};
 ghost use Rattle.evaluation.specs.Meaning.{Evaluated};
 ghost use Rattle.node_journals.specs.Journals.{made};
 ghost use Rattle.node_reports.specs.Steps.Collecting.{BeginsAt, AllBegin, HaveJournals, HaveCome, HaveGoneOn, CantGoOn, AreAtEnd, AllMade};
+ghost use Rattle.node_reports.specs.Steps.Comparing.{AreByCodeOf, MadeByCodeOf};
 
+use crate::comparing::are_equal;
 use evaluation::Frame;
 use node_journals::{Journal, Step};
 use std::alloc::{AllocError, Global};
@@ -22,11 +24,18 @@ fn next_made(steps: &[Step], from: usize) -> Option<(usize, &Frame)>
 
 /// The place behind the next evaluation made, from a place on, if that is this one.
 fn behind(steps: &[Step], from: usize, entry: &Frame) -> Option<usize>
+    requires { AreByCodeOf entry.now (made (drop from steps.now)) }
     ensures { MatchOption result ((rest : List Evaluated) → made (drop from steps.now) ≡ entry.now ∷ rest → ⊥)
         (λ to. made (drop from steps.now) ≡ entry.now ∷ made (drop to steps.now)) }
 {
     match next_made(steps, from) {
-        Some((to, frame)) => { if entry.same(frame) { Some(to) } else { None } }
+        Some((to, frame)) => {
+            if are_equal(frame, entry) {
+                Some(to)
+            } else {
+                None
+            }
+        }
         None => None,
     }
 }
@@ -35,6 +44,7 @@ fn behind(steps: &[Step], from: usize, entry: &Frame) -> Option<usize>
 fn advance(journals: &[Journal], at: &mut [usize], entry: &Frame) -> bool
     requires journal { entry.now.name.task.resource < length journals.now }
     requires many { length at.old ≡ length journals.now }
+    requires by_code { MadeByCodeOf journals.now entry.now }
     ensures { MatchBool result (HaveGoneOn journals.now at.old at.new entry.now) (CantGoOn journals.now at.old entry.now) }
 {
     let resource = entry.name().task.resource;
@@ -65,6 +75,7 @@ fn are_at_end(journals: &[Journal], at: &[usize]) -> bool
 fn walk(journals: &[Journal], at: &mut [usize], entries: &[Frame]) -> bool
     requires journals { HaveJournals entries.now journals.now }
     requires many { length at.old ≡ length journals.now }
+    requires by_code { All (MadeByCodeOf journals.now) entries.now }
     ensures { HaveCome [] journals.now at.old → (IsTrue result ↔ AllMade entries.now journals.now) }
 {
     for k in 0..entries.len() {
@@ -81,7 +92,8 @@ pub(crate) fn all_made(
     entries: &[Frame],
     journals: &[Journal],
 ) -> Result<bool, AllocError>
-    requires { HaveJournals entries.now journals.now }
+    requires journals { HaveJournals entries.now journals.now }
+    requires by_code { All (MadeByCodeOf journals.now) entries.now }
     ensures { IfOk result (λ all. IsTrue all ↔ AllMade entries.now journals.now) }
 {
     let mut at = vec![in alloc; 0_usize; journals.len()]?;

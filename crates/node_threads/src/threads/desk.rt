@@ -1,17 +1,18 @@
 use crate::gate::Gate;
 use crate::threads::inbox::Inbox;
+use crate::threads::of_plant::OfPlant;
+use crate::threads::plant_book::PlantBook;
 use crossbeam_channel::Sender;
-use evaluation_book::Book;
 use plant::Plant;
 use std::sync::Mutex;
 
 /// What all threads of a run share.
 #[derive_where(Clone, Copy)]
-pub(crate) struct Desk<'a, G: Gate> {
+pub(crate) struct Desk<'a, G: Gate, P: OfPlant> {
     pub plant: &'a Plant,
     /// Of each resource the first incarnation.
     pub firsts: &'a [u32],
-    pub book: &'a Mutex<Book>,
+    pub book: &'a Mutex<PlantBook<P>>,
     pub gate: &'a G,
     /// One for each resource, in order.
     pub doors: &'a [Sender<Inbox>],

@@ -1,46 +1,43 @@
-ghost use Rattle.std.specs.Prelude.{◌≡◌, IfErr};
-ghost use Rattle.node_threads.specs.Steps.Entering.{IsNotEntered};
+ghost use Rattle.std.specs.Prelude.{◌≡◌};
+ghost use Rattle.node_journals.specs.Codes.{IsOfPlant};
 ghost use Rattle.node_threads.specs.Steps.Working.{IsWorking, journal_of};
 
 use crate::threads::entered::Entered;
 use crate::threads::keeping::keep_after;
+use crate::threads::of_plant::OfPlant;
+use crate::threads::plant_book::PlantBook;
 use crate::threads::worker_state::WorkerState;
 use evaluation::Frame;
-use evaluation_book::{Book, Misfit};
 use keepers::Keeper;
 use node_journals::{Cause, PendingEvaluation};
 use std::alloc::Global;
 use std::sync::{Mutex, Wait};
 
-/// Enters an evaluation. Misfit: it doesn't fit the book's entries. Memory: it does, and there was no room for it.
-fn enter_in(book: &mut Book, frame: Frame) -> Result<(), Cause>
-    ensures { IfErr result (IsNotEntered book.old frame) }
-{
-    match book.enter(frame) {
-        Ok(()) => Ok(()),
-        Err((_, Misfit::Memory)) => Err(Cause::Memory),
-        Err(_) => Err(Cause::Misfit),
-    }
-}
-
 /// Enters a copy of an evaluation. The lock is held for that alone.
-fn enter<R: Wait>(rt: &R, book: &Mutex<Book>, frame: &Frame) -> Result<(), Cause> {
+fn enter<R: Wait, P: OfPlant>(
+    rt: &R,
+    shared: &Mutex<PlantBook<P>>,
+    frame: &Frame,
+) -> Result<(), Cause>
+    requires { IsOfPlant P.plant frame.now }
+{
     let Ok(copy) = frame.try_clone() else {
         return Err(Cause::Memory);
     };
-    enter_in(&mut book.lock(rt), copy)
+    shared.lock(rt).enter(copy)
 }
 
 /// Enters the evaluation that a resource has made, keeps its task's retained variables, and then notes it. Where it isn't
 /// entered or noted, the resource is stopped.
-pub(crate) fn enter_pending<R: Wait, K: Keeper>(
+pub(crate) fn enter_pending<R: Wait, K: Keeper, P: OfPlant>(
     rt: &R,
     alloc: Global,
-    book: &Mutex<Book>,
+    book: &Mutex<PlantBook<P>>,
     keeper: &mut K,
     pending: PendingEvaluation,
 ) -> (WorkerState, Result<Entered, Cause>)
-    requires { K.last keeper.old ≡ pending.core.incarnation }
+    requires kept { K.last keeper.old ≡ pending.core.incarnation }
+    requires plant { pending.core.plant ≡ P.plant }
     ensures working { IsWorking pending.core.plant pending.core.first pending.core.max_number (K.last keeper.new) result.0 }
     ensures first { (journal_of result.0).first ≡ pending.journal.first }
 {

@@ -2,6 +2,7 @@ use crate::gate::Gate;
 use crate::threads::desk::Desk;
 use crate::threads::inbox::Inbox;
 use crate::threads::noting::note;
+use crate::threads::of_plant::OfPlant;
 use crossbeam_channel::Sender;
 use node_journals::{Cause, Command, NodeFault};
 use std::sync::Wait;
@@ -19,7 +20,11 @@ fn send_command<R: Wait>(rt: &R, doors: &[Sender<Inbox>], command: &Command) -> 
 }
 
 /// Issues a command.
-fn issue<R: Wait, G: Gate>(rt: &R, desk: &Desk<'_, G>, command: &Command) -> Result<(), Cause> {
+fn issue<R: Wait, G: Gate, P: OfPlant>(
+    rt: &R,
+    desk: &Desk<'_, G, P>,
+    command: &Command,
+) -> Result<(), Cause> {
     if desk.gate.issue(command.ticket).is_err() {
         return Err(Cause::OutOfTurns);
     }
@@ -31,9 +36,9 @@ fn issue<R: Wait, G: Gate>(rt: &R, desk: &Desk<'_, G>, command: &Command) -> Res
 }
 
 /// Issues the commands in their order. A command that isn't sent is done with.
-pub(crate) fn issue_all<R: Wait, G: Gate>(
+pub(crate) fn issue_all<R: Wait, G: Gate, P: OfPlant>(
     rt: &R,
-    desk: &Desk<'_, G>,
+    desk: &Desk<'_, G, P>,
     commands: &[Command],
     faults: &mut Vec<NodeFault>,
 ) {

@@ -2,6 +2,7 @@ use crate::gate::Gate;
 use crate::threads::desk::Desk;
 use crate::threads::hello::Hello;
 use crate::threads::inbox::Inbox;
+use crate::threads::of_plant::OfPlant;
 use crossbeam_channel::Sender;
 use evaluation::Frame;
 use plant::{Plant, TaskRef};
@@ -28,7 +29,11 @@ fn send_copy<R: Wait>(rt: &R, door: &Sender<Inbox>, frame: &Frame) -> bool {
 }
 
 /// Sends an evaluation to each other resource that takes from its task. It answers whether each was sent it.
-pub(crate) fn post<R: Wait, G: Gate>(rt: &R, desk: &Desk<'_, G>, frame: &Frame) -> bool {
+pub(crate) fn post<R: Wait, G: Gate, P: OfPlant>(
+    rt: &R,
+    desk: &Desk<'_, G, P>,
+    frame: &Frame,
+) -> bool {
     let task = frame.name().task;
     let mut all = true;
     for (resource, door) in desk.doors.iter().enumerate() {
@@ -58,7 +63,11 @@ fn takes_from(plant: &Plant, resource: usize, other: usize) -> bool {
 }
 
 /// Tells each other resource from which one takes, or that takes from it, in which incarnation it is. It answers whether each was told.
-pub(crate) fn greet<R: Wait, G: Gate>(rt: &R, desk: &Desk<'_, G>, hello: Hello) -> bool {
+pub(crate) fn greet<R: Wait, G: Gate, P: OfPlant>(
+    rt: &R,
+    desk: &Desk<'_, G, P>,
+    hello: Hello,
+) -> bool {
     let mut all = true;
     for (resource, door) in desk.doors.iter().enumerate() {
         let is_told = takes_from(desk.plant, resource, hello.resource)
@@ -73,7 +82,12 @@ pub(crate) fn greet<R: Wait, G: Gate>(rt: &R, desk: &Desk<'_, G>, hello: Hello) 
 }
 
 /// Answers a resource from which one takes by one's own incarnation. An answer that isn't sent is lost.
-pub(crate) fn greet_back<R: Wait, G: Gate>(rt: &R, desk: &Desk<'_, G>, hello: Hello, to: usize) {
+pub(crate) fn greet_back<R: Wait, G: Gate, P: OfPlant>(
+    rt: &R,
+    desk: &Desk<'_, G, P>,
+    hello: Hello,
+    to: usize,
+) {
     if takes_from(desk.plant, hello.resource, to) {
         if let Some(door) = desk.doors.get(to) {
             let _sent = door.send(rt, Inbox::Hello(hello));

@@ -8,6 +8,7 @@ use crate::threads::entered::Entered;
 use crate::threads::hello::Hello;
 use crate::threads::inbox::Inbox;
 use crate::threads::noting::note;
+use crate::threads::of_plant::OfPlant;
 use crate::threads::posting::{greet, greet_back, post};
 use crate::threads::worker::Worker;
 use crossbeam_channel::Receiver;
@@ -17,14 +18,15 @@ use std::alloc::Global;
 use std::sync::Wait;
 
 /// Serves an inbox until Stop.
-pub(crate) fn serve<R: Wait, K: Keeper, G: Gate>(
+pub(crate) fn serve<R: Wait, K: Keeper, G: Gate, P: OfPlant>(
     rt: &R,
     alloc: Global,
-    desk: Desk<'_, G>,
+    desk: Desk<'_, G, P>,
     inbox: &Receiver<Inbox>,
     worker: Worker<K>,
     faults: Vec<NodeFault>,
 ) -> Ended
+    requires { worker.plant ≡ P.plant }
     ensures lawful { IsLawful worker.plant worker.firsts worker.max_number result.journal }
     ensures first { result.journal.first ≡ worker.first }
 {
@@ -47,9 +49,9 @@ pub(crate) fn serve<R: Wait, K: Keeper, G: Gate>(
 }
 
 /// Hears in which incarnation another resource is. Where that is news of one from which it takes, it says in which it is itself.
-fn hear<R: Wait, K: Keeper, G: Gate>(
+fn hear<R: Wait, K: Keeper, G: Gate, P: OfPlant>(
     rt: &R,
-    desk: &Desk<'_, G>,
+    desk: &Desk<'_, G, P>,
     worker: Worker<K>,
     hello: Hello,
 ) -> Worker<K>
@@ -65,14 +67,15 @@ fn hear<R: Wait, K: Keeper, G: Gate>(
 }
 
 /// Obeys a command if the resource isn't stopped, and says that it is done with.
-fn answer<R: Wait, K: Keeper, G: Gate>(
+fn answer<R: Wait, K: Keeper, G: Gate, P: OfPlant>(
     rt: &R,
     alloc: Global,
-    desk: &Desk<'_, G>,
+    desk: &Desk<'_, G, P>,
     worker: Worker<K>,
     faults: &mut Vec<NodeFault>,
     command: &Command,
 ) -> Worker<K>
+    requires { worker.plant ≡ P.plant }
     ensures { result ≡ worker }
 {
     let (worker, outcome) = if worker.is_stopped() {
@@ -92,9 +95,9 @@ fn answer<R: Wait, K: Keeper, G: Gate>(
 }
 
 /// Tells those who have to know that the resource restarted.
-fn tell_restart<R: Wait, K: Keeper, G: Gate>(
+fn tell_restart<R: Wait, K: Keeper, G: Gate, P: OfPlant>(
     rt: &R,
-    desk: &Desk<'_, G>,
+    desk: &Desk<'_, G, P>,
     worker: &Worker<K>,
 ) -> Result<(), Cause> {
     match worker.hello() {
@@ -110,7 +113,11 @@ fn tell_restart<R: Wait, K: Keeper, G: Gate>(
 }
 
 /// Sends an evaluation that was entered, also where its task's retained variables aren't kept. It answers the first of the two faults.
-fn send<R: Wait, G: Gate>(rt: &R, desk: &Desk<'_, G>, entered: Entered) -> Result<(), Cause> {
+fn send<R: Wait, G: Gate, P: OfPlant>(
+    rt: &R,
+    desk: &Desk<'_, G, P>,
+    entered: Entered,
+) -> Result<(), Cause> {
     let is_sent = match &entered.frame {
         Some(frame) => post(rt, desk, frame),
         None => false,
@@ -120,13 +127,14 @@ fn send<R: Wait, G: Gate>(rt: &R, desk: &Desk<'_, G>, entered: Entered) -> Resul
 }
 
 /// Obeys a command. An evaluation that was made is sent once it is entered, and a restart is told.
-fn obey<R: Wait, K: Keeper, G: Gate>(
+fn obey<R: Wait, K: Keeper, G: Gate, P: OfPlant>(
     rt: &R,
     alloc: Global,
-    desk: &Desk<'_, G>,
+    desk: &Desk<'_, G, P>,
     worker: Worker<K>,
     command: &Command,
 ) -> (Worker<K>, Result<(), Cause>)
+    requires { worker.plant ≡ P.plant }
     ensures { result.0 ≡ worker }
 {
     match &command.act {

@@ -11,6 +11,7 @@ use crate::threads::desk::Desk;
 use crate::threads::ended::Ended;
 use crate::threads::inbox::Inbox;
 use crate::threads::lawful_for::LawfulFor;
+use crate::threads::of_plant::OfPlant;
 use crate::threads::serving::serve;
 use crate::threads::worker::Worker;
 use crossbeam_channel::Receiver;
@@ -29,11 +30,11 @@ fn count_of(commands: &[Command], resource: usize) -> usize {
 }
 
 /// Starts the thread of one resource.
-fn start_one<'s, E, R: Threads + Wait + Sync, K: Keeper, G: Gate>(
+fn start_one<'s, E, R: Threads + Wait + Sync, K: Keeper, G: Gate, P: OfPlant + Send + Sync>(
     scope: &Scope<'s, E>,
     rt: &'s R,
     alloc: Global,
-    desk: Desk<'s, G>,
+    desk: Desk<'s, G, P>,
     inbox: &'s Receiver<Inbox>,
     worker: Worker<K>,
     faults: Vec<NodeFault>,
@@ -41,7 +42,9 @@ fn start_one<'s, E, R: Threads + Wait + Sync, K: Keeper, G: Gate>(
 ) -> Result<PromisedHandle<Ended, LawfulFor<'s>>, RunFault>
 where
     K: 's,
-    requires { IsWorkerFor desk.plant.now desk.firsts.now max_number worker }
+    P: 's,
+    requires worker { IsWorkerFor desk.plant.now desk.firsts.now max_number worker }
+    requires plant { desk.plant.now ≡ P.plant }
     ensures promised { IfOk result (λ h. IsPromisedFor desk.entry.plant.now desk.entry.firsts.now max_number h.promise) }
     ensures first { IfOk result (λ h. h.promise.first ≡ worker.first) }
     ensures fault { IfErr result IsStartFault }
@@ -53,6 +56,7 @@ where
         first: worker.first(),
     };
     let served = move || -> Ended
+        requires { worker.plant ≡ P.plant }
         ensures lawful { IsLawful worker.plant worker.firsts worker.max_number result.journal }
         ensures first { result.journal.first ≡ worker.first }
     { serve(rt, alloc, desk, inbox, worker, faults) };
@@ -63,11 +67,18 @@ where
 }
 
 /// Starts one thread for each resource.
-pub(crate) fn start_all<'s, E, R: Threads + Wait + Sync, K: Keeper, G: Gate>(
+pub(crate) fn start_all<
+    's,
+    E,
+    R: Threads + Wait + Sync,
+    K: Keeper,
+    G: Gate,
+    P: OfPlant + Send + Sync,
+>(
     scope: &Scope<'s, E>,
     rt: &'s R,
     alloc: Global,
-    desk: Desk<'s, G>,
+    desk: Desk<'s, G, P>,
     inboxes: &'s [Receiver<Inbox>],
     workers: Vec<Worker<K>>,
     max_number: u32,
@@ -75,7 +86,9 @@ pub(crate) fn start_all<'s, E, R: Threads + Wait + Sync, K: Keeper, G: Gate>(
 ) -> Result<Vec<PromisedHandle<Ended, LawfulFor<'s>>>, RunFault>
 where
     K: 's,
-    requires { All (IsWorkerFor desk.plant.now desk.firsts.now max_number) workers.items }
+    P: 's,
+    requires workers { All (IsWorkerFor desk.plant.now desk.firsts.now max_number) workers.items }
+    requires plant { desk.plant.now ≡ P.plant }
     ensures promised { IfOk result (λ hs. All (λ h. IsPromisedFor desk.entry.plant.now desk.entry.firsts.now max_number h.promise) hs.items) }
     ensures firsts { IfOk result (λ hs. map (λ (h : PromisedHandle Ended LawfulFor). h.promise.first) hs.items ≡ firsts_of_workers workers.items) }
     ensures fault { IfErr result IsStartFault }

@@ -1,11 +1,12 @@
 use crate::threads::entered::Entered;
 use crate::threads::entering::enter_pending;
 use crate::threads::hello::Hello;
+use crate::threads::of_plant::OfPlant;
+use crate::threads::plant_book::PlantBook;
 use crate::threads::raised::Raised;
 use crate::threads::restarting::restart_station;
 use crate::threads::worker_state::WorkerState;
 use evaluation::{Frame, Inputs};
-use evaluation_book::Book;
 use keepers::Keeper;
 use node_journals::{Cause, Journal, RunFault, Station};
 use plant::Plant;
@@ -161,16 +162,17 @@ impl<K: Keeper> Worker<K> {
     }
 
     /// Evaluates a task, enters the evaluation, and keeps the task's retained variables. Where it isn't entered, the resource is stopped.
-    pub fn evaluate<R: Wait>(
+    pub fn evaluate<R: Wait, P: OfPlant>(
         self,
         rt: &R,
         alloc: Global,
-        book: &Mutex<Book>,
+        book: &Mutex<PlantBook<P>>,
         ticket: u64,
         task: usize,
         dt: u32,
         inputs: &Inputs,
     ) -> (Worker<K>, Result<Entered, Cause>)
+        requires { self.plant ≡ P.plant }
         ensures { result.0 ≡ self }
     {
         let Worker {

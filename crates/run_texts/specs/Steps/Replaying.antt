@@ -1,6 +1,6 @@
 -- The replay of a book in one thread.
-use Rattle.std.specs.Prelude.{◌≡◌, ◌↔◌, ℕ, Bool, IsTrue, List, Some, All, slice_get}
-use Rattle.plant.specs.PlantValue.{PlantValue, code_at}
+use Rattle.std.specs.Prelude.{◌≡◌, ◌↔◌, ℕ, Bool, IsTrue, List, Some, slice_get}
+use Rattle.plant.specs.PlantValue.{PlantValue}
 use Rattle.evaluation.specs.Meaning.{Evaluated}
 use Rattle.exchange.specs.declared.event.Event.{Event}
 use Rattle.exchange.specs.History.{Setting, Openings, setting_over}
@@ -20,10 +20,6 @@ pub record IsReplay (plant : PlantValue) (first : List ℕ) (opening : Openings)
   pub log : List Evaluated
   pub run : IsRun (replayed_in plant first opening) schedule log
   pub equal_is : IsTrue equal ↔ (log ≡ book.entries)
-
--- each evaluation is by the plant's code of its task
-abbrev pub AreOfPlant : PlantValue → List Evaluated → Type 0
-AreOfPlant plant entries = All (λ (x : Evaluated). code_at plant x.name.task ≡ Some x.code) entries
 
 -- evaluations of one task at one place of two lists are by one code
 abbrev pub AreOfOneCode : List Evaluated → List Evaluated → Type 0

@@ -1,10 +1,12 @@
 -- They agree exactly where the checks pass.
-use Rattle.std.proofs.Common.{◌↔◌, ℕ, Bool, IsTrue, List, length, Result, Ok, Err, IfOk, ap, sym, ◌∙◌, subst, arith}
+use Rattle.std.proofs.Common.{◌↔◌, ℕ, Bool, IsTrue, List, All, length, Result, Ok, Err, IfOk, ap, sym, ◌∙◌, subst, arith}
 use Rattle.std.proofs.lemmas.Bool.{false≢true}
 use Rattle.std.specs.declared.alloc.AllocError.{AllocError}
 use Rattle.evaluation.specs.Meaning.{Evaluated}
 use Rattle.node_reports.specs.Reports.{Agree}
 use Rattle.node_reports.specs.Steps.Collecting.{AllBegin, HaveJournals, AllMade}
+use Rattle.node_reports.specs.Steps.Comparing.{MadeByCodeOf}
+use Rattle.node_reports.proofs.ByPlant.{by_code}
 use Rattle.node_reports.proofs.Reporting.{agree_of, begin_of, made_of, have_journals}
 use Rattle.node_reports.proofs.collector.agrees.Goals as goal
 
@@ -17,8 +19,13 @@ returns-then-not-all_begin c = (
   λ agree. absurd (false≢true (c.if-not-all_begin.ensures.1 (subst (λ (first : List ℕ). AllBegin first c.args.journals.now) (sym c.first.ensures) (begin_of c.args.plant.now c.args.book.now c.args.journals.now agree)))),
 )
 
-pub all_made-requires : goal.all_made-requires
-all_made-requires c =
+pub all_made-requires-clause-by_code : goal.all_made-requires-clause-by_code
+all_made-requires-clause-by_code c =
+    subst (All (MadeByCodeOf c.args.journals.now)) (sym c.entries.ensures.value)
+    (by_code c.args.plant.now c.args.journals.now c.args.book.now.entries c.requires.journals c.requires.book)
+
+pub all_made-requires-clause-journals : goal.all_made-requires-clause-journals
+all_made-requires-clause-journals c =
     let begin : AllBegin c.first.result.now c.args.journals.now = c.all_begin.ensures.0 c.if-not-all_begin.false in
     subst (λ (es : List Evaluated). HaveJournals es c.args.journals.now) (sym c.entries.ensures.value)
     (have_journals c.args.book.now.first c.args.book.now.entries c.args.journals.now c.entries.ensures.fit (begin.many ∙ ap length c.first.ensures))

@@ -5,8 +5,11 @@ use Rattle.std.specs.List.Sorted.{IsStrictlyIncreasing}
 use Rattle.lists.proofs.Results.{kept_fault}
 use Rattle.evaluation.specs.Meaning.{Evaluated}
 use Rattle.node_journals.specs.declared.journal.Journal.{Journal}
+use Rattle.node_journals.specs.Journals.{firsts_of}
 use Rattle.node_reports.specs.Reports.{IsFittingBook, AreJournalsOf, AreInBook, RunsAgain, CanBeMadeAgain, IsCommanded, IsObedient, HasHeardTruly, AreTold, Agree, AreRising, IsCollectFault, command_of, tickets_of, unanswered_of}
 use Rattle.node_reports.specs.Steps.Collecting.{IsToldFault}
+use Rattle.node_reports.specs.Steps.Comparing.{MadeOfPlant}
+use Rattle.node_reports.proofs.ByPlant.{made_of_plant}
 use Rattle.node_reports.proofs.Remaking.{HasIncarnation}
 use Rattle.node_reports.proofs.Reporting.{fitting_book, journals_of, again, made_again, told_fault}
 use Rattle.node_reports.proofs.collector.collect.Goals as goal
@@ -115,3 +118,7 @@ returns-then-not-all_rising-clause-fault c =
       },
       λ rising. false≢true (c.if-not-all_rising.ensures.1 (subst AreRising (sym c.as_slice-6.ensures.value) rising)),
     )
+
+pub agrees-requires-clause-journals : goal.agrees-requires-clause-journals
+agrees-requires-clause-journals c =
+    subst (MadeOfPlant c.args.plant.now) (sym c.as_slice.ensures.value) (made_of_plant c.args.plant.now (firsts_of c.args.journals.items) c.args.max_number c.args.journals.items c.requires.lawful)

@@ -6,6 +6,9 @@ use Rattle.evaluation.specs.Meaning.{Evaluated}
 use Rattle.node_journals.specs.declared.step.Step.{Step}
 use Rattle.node_journals.specs.declared.journal.Journal.{Journal}
 use Rattle.node_journals.specs.Journals.{made}
+use Rattle.node_reports.specs.Steps.Comparing.{AreByCodeOf}
+use Rattle.node_reports.proofs.ByPlant.{made_from}
+use Rattle.node_reports.proofs.Remaking.{holds_at}
 use Rattle.node_reports.proofs.Walking.{come_on, cant_go_on}
 use Rattle.node_reports.proofs.collector.agreement.advance.Goals as goal
 
@@ -30,3 +33,16 @@ returns-in-None c =
     let here : slice_get c.args.journals.now r ≡ Some j = slice_get_read _ _ r j refl within c.index-journals-resource.is in
     cant_go_on c.args.entry.now c.args.journals.now c.args.at.now r j resource here
     (subst (λ (ss : List Step). (rest : List Evaluated) → made (drop (get_or c.args.at.now r 0) ss) ≡ c.args.entry.now ∷ rest → ⊥) (c.as_slice.ensures ∙ ap (λ (y : Journal). y.steps) (get_or_from_slice_get c.args.journals.now r j j here)) c.in-None.ensures)
+
+pub behind-requires : goal.behind-requires
+behind-requires c =
+    let y = c.args.entry.now in
+    let r = c.name-resource.result.task.resource in
+    let j = c.index-journals-resource.result in
+    let resource : y.name.task.resource ≡ r = ap (λ (n : Name). n.task.resource) (sym c.name-resource.ensures) in
+    let within : r < length c.args.journals.now = subst (λ k. k < length c.args.journals.now) resource c.requires.journal in
+    let here : slice_get c.args.journals.now r ≡ Some j = slice_get_read _ _ r j refl within c.index-journals-resource.is in
+    let steps : c.as_slice.result.now ≡ j.steps = c.as_slice.ensures ∙ ap (λ (i : Journal). i.steps) (get_or_from_slice_get c.args.journals.now r j j here) in
+    let all : AreByCodeOf y (made j.steps) = holds_at (λ (i : Journal). AreByCodeOf y (made i.steps)) c.args.journals.now r j within here c.requires.by_code in
+    subst (λ (ss : List Step). AreByCodeOf y (made (drop (get_or c.args.at.now r 0) ss))) (sym steps)
+    (made_from (λ (x : Evaluated). x.name.task ≡ y.name.task → x.code ≡ y.code) (get_or c.args.at.now r 0) j.steps all)

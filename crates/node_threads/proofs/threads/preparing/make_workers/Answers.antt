@@ -1,5 +1,5 @@
 -- One more resource.
-use Rattle.std.proofs.Common.{arith, rules, ◌≡◌, ℕ, ◌+◌, ◌++◌, List, [], ◌∷◌, length, map, ap, sym, subst, ◌∙◌, append_assoc}
+use Rattle.std.proofs.Common.{arith, rules, ◌≡◌, ℕ, ◌++◌, List, [], ◌∷◌, length, ap, sym, subst, ◌∙◌, append_assoc}
 use Rattle.std.specs.Vec.Iter.{into_iter_items}
 use Rattle.std.proofs.lemmas.List.{length-append, length-map, map_push}
 use Rattle.node_threads.specs.Steps.Working.{WorkerValue, IsWorkerFor, AreOpened, firsts_of_workers, lasts_of}

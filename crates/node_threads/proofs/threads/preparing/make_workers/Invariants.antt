@@ -1,6 +1,6 @@
 -- Each resource so far is of this plant, these first incarnations and this limit, and begins in the first incarnation at its place.
 -- What was kept of the others suits them.
-use Rattle.std.proofs.Common.{◌≡◌, ◌++◌, All, length, map, vec_items}
+use Rattle.std.proofs.Common.{◌≡◌, ◌++◌, All, length, vec_items}
 use Rattle.std.specs.Vec.Iter.{into_iter_items}
 use Rattle.node_threads.specs.Steps.Working.{IsWorkerFor, AreOpened, firsts_of_workers, lasts_of}
 use Rattle.node_threads.proofs.threads.preparing.make_workers.Given as goal

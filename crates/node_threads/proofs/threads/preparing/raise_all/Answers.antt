@@ -2,7 +2,7 @@
 use Rattle.std.proofs.Common.{rules, ◌≡◌, ℕ, ◌<◌, ◌++◌, List, [], ◌∷◌, map, ap, sym, ◌∙◌, append_assoc, subst}
 use Rattle.std.specs.List.{AllZip}
 use Rattle.std.specs.Vec.Iter.{into_iter_items}
-use Rattle.node_threads.specs.Steps.Working.{AreOpened, lasts_of}
+use Rattle.node_threads.specs.Steps.Working.{lasts_of}
 use Rattle.node_threads.proofs.Alls.{zip_push}
 use Rattle.node_threads.proofs.Opened.{opened_push, lasts_push}
 use Rattle.node_threads.proofs.threads.preparing.raise_all.Goals as goal

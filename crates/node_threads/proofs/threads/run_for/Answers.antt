@@ -12,7 +12,7 @@ use Rattle.node_journals.specs.RunFaults.{IsThreadsFault}
 use Rattle.node_threads.proofs.Alls.{zip_long}
 use Rattle.node_threads.proofs.Firsts.{begin_above, firsts_parted}
 use Rattle.node_threads.proofs.Refusing.{raise_fault, start_fault}
-use Rattle.node_threads.proofs.threads.run_all.Goals as goal
+use Rattle.node_threads.proofs.threads.run_for.Goals as goal
 
 -- there is one keeper for each resource, so there is one first incarnation for each
 pub make_workers-requires-clause-many : goal.make_workers-requires-clause-many
@@ -20,7 +20,7 @@ make_workers-requires-clause-many g c _ _ =
     ap (λ (l : List ℕ). length l) c.as_slice.ensures.value
     ∙ zip_long (λ (held first : ℕ). held < first) (map g.K.Keeper.last c.args.keepers.items) c.in_ok-raised.firsts.items c.in_ok-raised.ensures.above
     ∙ length-map c.args.keepers.items g.K.Keeper.last
-    ∙ c.requires
+    ∙ c.requires.keepers
 
 pub returns-clause-lawful : goal.returns-clause-lawful
 returns-clause-lawful g c =
