@@ -1,0 +1,4 @@
+pub mod Lists
+pub mod Messages
+pub mod Parts
+pub mod WordsRead

@@ -1,0 +1,2 @@
+pub mod MessageLines
+pub mod Steps
