@@ -1,25 +1,22 @@
 -- What a core is, and what it answers.
-use Rattle.std.specs.Prelude.{◌≡◌, ◌≢◌, ℕ, ◌+◌, ◌<◌, ◌≤◌, ◌==◌, ◌&&◌, Bool, true, false, not, nat_lt, List, [], Option, Some, None, is_some, length, map, slice_get, slice_set, slice_index, slice_index_or, if◌then◌else◌}
+use Rattle.std.specs.Prelude.{◌≡◌, ◌≢◌, ℕ, ◌+◌, ◌<◌, ◌≤◌, ◌==◌, ◌&&◌, Bool, true, false, not, nat_lt, List, [], Option, Some, None, is_some, length, map, slice_set, slice_index, slice_index_or, if◌then◌else◌}
 use Rattle.std_blocks.specs.declared.value.Value.{Value}
-use Rattle.declared_names.specs.declared.declarations.Kind.{Kind}
 use Rattle.declared_names.specs.Kinds.{kind_of}
 use Rattle.due_list.specs.declared.task_ref.TaskRef.{TaskRef}
-use Rattle.plant.specs.PlantValue.{PlantValue, code_at, codes_at, IsSoundPlant}
-use Rattle.task_codes.specs.CodeValue.{CodeValue, expected_at, image_kinds}
+use Rattle.plant.specs.PlantValue.{PlantValue, code_at}
+use Rattle.task_codes.specs.CodeValue.{CodeValue}
 use Rattle.evaluation.specs.declared.field_input.FieldInput.{FieldInput}
 use Rattle.evaluation.specs.declared.name.Name.{Name}
 use Rattle.evaluation.specs.Names.{precedes}
 use Rattle.evaluation.specs.Meaning.{Evaluated, IsAsked}
-use Rattle.exchange_core.specs.declared.accepted.Accepted.{Accepted}
-use Rattle.exchange_core.specs.declared.accepted.Accepted.TheVariants.{Taken, Old, Unused, Stray}
-use Rattle.exchange_core.specs.declared.core_fault.CoreFault.{CoreFault}
-use Rattle.exchange_core.specs.declared.core_fault.CoreFault.TheVariants as fault
-use Rattle.exchange_core.specs.declared.eval_fault.EvalFault.{EvalFault}
-use Rattle.exchange_core.specs.declared.eval_fault.EvalFault.TheVariants.{NoSuchTask, NumbersSpent, Memory}
+use Rattle.message_core.specs.declared.accepted.Accepted.{Accepted}
+use Rattle.message_core.specs.declared.accepted.Accepted.TheVariants.{Taken, Old, Unused, Stray}
+use Rattle.message_core.specs.declared.eval_fault.EvalFault.{EvalFault}
+use Rattle.message_core.specs.declared.eval_fault.EvalFault.TheVariants.{NoSuchTask, NumbersSpent, Memory}
 use Rattle.evaluation.specs.Heard.{is_addressed}
 use Rattle.evaluation.specs.Last.{state_from, left_by, takes_of, last_number}
-use Rattle.evaluation.specs.Retained.{Suits, initial_retained}
-use Rattle.exchange_core.specs.Held.{Table, known, with_known, empty_for, IsShaped}
+use Rattle.exchange_core.specs.Held.{Table, known, with_known, empty_for}
+pub use Rattle.message_core.specs.Openings.{AreOpeningOf, initial_opening, IsCoreFault, Expects}
 
 -- A core: its plant, its resource, the first incarnation of each resource, its own incarnation, the incarnation of each
 -- resource of which it has heard, the greatest number, for each task of its resource the retained values with which it
@@ -55,34 +52,9 @@ abbrev pub fresh_core : PlantValue → ℕ → List ℕ → ℕ → List (List V
 fresh_core plant resource first incarnation opening max_number =
     core_of plant resource first incarnation (slice_set first resource incarnation) max_number opening (empty_for plant)
 
--- retained values for each task of a resource, of the kinds of its retained variables
-pub record AreOpeningOf (plant : PlantValue) (resource : ℕ) (opening : List (List Value)) : Type 0 where
-  pub many : length opening ≡ length (codes_at plant resource)
-  pub each : (task : ℕ) (code : CodeValue) (values : List Value)
-      → code_at plant (record { resource = resource; task = task }) ≡ Some code
-      → slice_get opening task ≡ Some values → Suits code values
-
--- what the tasks of a resource begin with where nothing was kept
-abbrev pub initial_opening : PlantValue → ℕ → List (List Value)
-initial_opening plant resource = map initial_retained (codes_at plant resource)
-
--- why there is no core; memory is wanting only where there is such a resource
-abbrev pub IsCoreFault : PlantValue → ℕ → CoreFault → Type 0
-IsCoreFault plant resource fault.NoSuchResource = length plant.resources ≤ resource
-IsCoreFault plant resource fault.Memory = resource < length plant.resources
-
 -- a task of the core's resource
 abbrev pub own_task : CoreValue → ℕ → TaskRef
 own_task core task = record { resource = core.resource; task = task }
-
--- some task of a resource takes from p, and expects an image of these kinds of it
-pub record Expects (plant : PlantValue) (resource : ℕ) (p : TaskRef) (kinds : List Kind) : Type 0 where
-  pub task : ℕ
-  pub code : CodeValue
-  pub place : ℕ
-  pub found : code_at plant (record { resource = resource; task = task }) ≡ Some code
-  pub producer_is : slice_get code.producers place ≡ Some p
-  pub kinds_are : expected_at code place ≡ kinds
 
 -- an evaluation is of use: it is of another resource's task, from which a task here takes,
 -- and its image has the kinds expected
@@ -178,21 +150,3 @@ IsEvalFault core task Memory = IsDue core task
 -- what is held of a task of another resource; nothing of a task of its own
 abbrev pub held_of : CoreValue → TaskRef → Option Evaluated
 held_of core p = if p.resource == core.resource then None else known core.table p
-
--- what is known of a task is an evaluation with an image of that task's kinds,
--- and of a task of the resource itself one of the task's code
-pub record IsKnownOf (core : CoreValue) (p : TaskRef) (x : Evaluated) : Type 0 where
-  pub code : CodeValue
-  pub found : code_at core.plant p ≡ Some code
-  pub kinds_are : map kind_of x.outputs ≡ image_kinds code
-  pub own : p.resource ≡ core.resource → x.code ≡ code
-
--- the parts of a core suit each other
-pub record IsCore (core : CoreValue) : Type 0 where
-  pub sound : IsSoundPlant core.plant
-  pub shaped : IsShaped core.plant core.table
-  pub firsts : length core.first ≡ length core.plant.resources
-  pub heards : length core.heard ≡ length core.plant.resources
-  pub own_heard : slice_get core.heard core.resource ≡ Some core.incarnation
-  pub kept_suit : AreOpeningOf core.plant core.resource core.kept
-  pub each : (p : TaskRef) (x : Evaluated) → known core.table p ≡ Some x → IsKnownOf core p x

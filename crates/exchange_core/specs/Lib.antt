@@ -1,3 +1,4 @@
 pub mod Held
 pub mod CoreValue
+pub mod Wholes
 pub mod Steps

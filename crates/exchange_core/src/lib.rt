@@ -1,19 +1,7 @@
-//! What one resource of a plant keeps, takes and makes.
+//! What one resource of a plant keeps, takes and makes, where all comes as evaluations.
 #![tactic(auto)]
 
-mod accepted;
-mod core_fault;
-mod eval_fault;
-mod known;
-mod opening;
 mod resource_core;
-mod restart_fault;
-mod takes;
-mod usable;
 
-pub use accepted::Accepted;
-pub use core_fault::CoreFault;
-pub use eval_fault::EvalFault;
-pub use opening::{initial_opening, is_opening};
+pub use message_core::{Accepted, CoreFault, EvalFault, RestartFault, initial_opening, is_opening};
 pub use resource_core::Core;
-pub use restart_fault::RestartFault;

@@ -6,8 +6,8 @@ use Rattle.std_blocks.specs.declared.value.Value.{Value}
 use Rattle.plant.specs.PlantValue.{PlantValue, IsSoundPlant}
 use Rattle.evaluation.specs.declared.field_input.FieldInput.{FieldInput}
 use Rattle.evaluation.specs.Meaning.{Evaluated}
-use Rattle.exchange_core.specs.declared.accepted.Accepted.{Accepted}
-use Rattle.exchange_core.specs.declared.accepted.Accepted.TheVariants.{Taken, Old, Unused, Stray}
+use Rattle.message_core.specs.declared.accepted.Accepted.{Accepted}
+use Rattle.message_core.specs.declared.accepted.Accepted.TheVariants.{Taken, Old, Unused, Stray}
 use Rattle.exchange_core.specs.CoreValue.{CoreValue, fresh_core, AreOpeningOf, IsRestartOf, HasHeard, IsAccepted, IsNext}
 use Rattle.exchange_core.specs.Held.{Table, with_known}
 use Rattle.node_journals.specs.declared.step.Step.{Step}

@@ -1,6 +1,6 @@
 -- Which cause is noted where a resource couldn't evaluate a task.
-use Rattle.exchange_core.specs.declared.eval_fault.EvalFault.{EvalFault}
-use Rattle.exchange_core.specs.declared.eval_fault.EvalFault.TheVariants as core
+use Rattle.message_core.specs.declared.eval_fault.EvalFault.{EvalFault}
+use Rattle.message_core.specs.declared.eval_fault.EvalFault.TheVariants as core
 use Rattle.node_journals.specs.declared.cause.Cause.{Cause}
 use Rattle.node_journals.specs.declared.cause.Cause.TheVariants.{NoSuchTask, NumbersSpent, Memory}
 

@@ -15,8 +15,8 @@ use Rattle.due_list.specs.declared.task_ref.TaskRef.{TaskRef}
 use Rattle.plant.specs.PlantValue.{PlantValue}
 use Rattle.evaluation.specs.Meaning.{Evaluated}
 use Rattle.evaluation.specs.Heard.{is_addressed}
-use Rattle.exchange_core.specs.declared.accepted.Accepted.{Accepted}
-use Rattle.exchange_core.specs.declared.accepted.Accepted.TheVariants.{Taken, Old, Unused, Stray}
+use Rattle.message_core.specs.declared.accepted.Accepted.{Accepted}
+use Rattle.message_core.specs.declared.accepted.Accepted.TheVariants.{Taken, Old, Unused, Stray}
 use Rattle.exchange.specs.declared.event.Event.{Event}
 use Rattle.exchange.specs.declared.event.Event.TheVariants.{Evaluate, Deliver, Restart, Hear}
 use Rattle.exchange.specs.declared.world_fault.WorldFault.{WorldFault}

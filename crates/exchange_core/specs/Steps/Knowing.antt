@@ -1,22 +1,8 @@
--- Where the last evaluations stand, and what they have to be for a task to go on from them.
-use Rattle.std.specs.Prelude.{◌≡◌, ◌<◌, ℕ, List, [], Option, Some, None, length, slice_get, slice_index_or}
-use Rattle.declared_names.specs.declared.declarations.Kind.{Kind}
+-- Where the last evaluations stand.
 use Rattle.due_list.specs.declared.task_ref.TaskRef.{TaskRef}
-use Rattle.task_codes.specs.CodeValue.{CodeValue, expected_at}
-use Rattle.evaluation.specs.Meaning.{Evaluated}
+use Rattle.message_core.specs.Steps.Knowing as cells
 use Rattle.exchange_core.specs.Held.{Table}
 
 -- the table has a place for this task
 abbrev pub has_place : Table → TaskRef → Type 0
-has_place table p = (p.resource < length table) × (p.task < length (slice_index_or table p.resource []))
-
--- the last evaluation of a task, if there is one, was one of this code
-abbrev pub FitsLast : CodeValue → Option Evaluated → Type 0
-FitsLast code None = Unit {0}
-FitsLast code (Some x) = x.code ≡ code
-
--- a code takes from p, and expects an image of these kinds of it
-pub record ExpectsOf (code : CodeValue) (p : TaskRef) (kinds : List Kind) : Type 0 where
-  pub place : ℕ
-  pub producer_is : slice_get code.producers place ≡ Some p
-  pub kinds_are : expected_at code place ≡ kinds
+has_place table p = cells.has_place table p

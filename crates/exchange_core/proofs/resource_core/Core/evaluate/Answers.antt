@@ -1,20 +1,14 @@
-use Rattle.std.proofs.Common.{sym, subst}
-use Rattle.due_list.specs.declared.task_ref.TaskRef.{TaskRef}
-use Rattle.exchange_core.specs.CoreValue.{CoreValue, IsKnownOf}
-use Rattle.exchange_core.proofs.Keeping.{core-with, next-known, place-known}
+use Rattle.std.proofs.Common.{IfOk, subst}
+use Rattle.exchange_core.specs.CoreValue.{CoreValue, IsNext}
+use Rattle.exchange_core.specs.Wholes.{core_in}
+use Rattle.exchange_core.proofs.Telling.{made-in, made-whole}
 use Rattle.exchange_core.proofs.resource_core.Core.evaluate.Goals as goal
-
-pub set-requires : goal.set-requires
-set-requires c =
-    place-known _ c.own-own.result c.in_ok-frame.frame c.self.invariant
-    (subst (λ (w : CoreValue). IsKnownOf w c.own-own.result c.in_ok-frame.frame) (sym c.self.view_is)
-    (subst (λ (p : TaskRef). IsKnownOf c.args.self.now p c.in_ok-frame.frame) (sym c.own-own.ensures)
-    (next-known c.args.self.now c.args.ticket c.args.task c.args.dt c.args.inputs.now c.in_ok-frame.frame c.in_ok-frame.ensures.made)))
 
 pub invariant_of-self : goal.invariant_of-self
 invariant_of-self c =
-    rw (c.set.ensures, c.in_ok-kept.ensures)
-    (core-with _ c.own-own.result c.in_ok-frame.frame c.self.invariant
-    (subst (λ (w : CoreValue). IsKnownOf w c.own-own.result c.in_ok-frame.frame) (sym c.self.view_is)
-    (subst (λ (p : TaskRef). IsKnownOf c.args.self.now p c.in_ok-frame.frame) (sym c.own-own.ensures)
-    (next-known c.args.self.now c.args.ticket c.args.task c.args.dt c.args.inputs.now c.in_ok-frame.frame c.in_ok-frame.ensures.made))))
+    made-whole c.self.inside.inner c.evaluate.new.self c.args.ticket c.args.task c.args.dt c.args.inputs.now c.evaluate.result c.self.invariant c.evaluate.ensures.made c.evaluate.ensures.err
+
+pub returns-clause-made : goal.returns-clause-made
+returns-clause-made c =
+    subst (λ (w : CoreValue). IfOk c.evaluate.result (λ f. IsNext w (core_in c.evaluate.new.self) c.args.ticket c.args.task c.args.dt c.args.inputs.now f)) c.self.view_is
+    (made-in c.taken_alike.ensures c.self.inside.inner c.evaluate.new.self c.args.ticket c.args.task c.args.dt c.args.inputs.now c.evaluate.result c.self.invariant c.evaluate.ensures.made)

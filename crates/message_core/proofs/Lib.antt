@@ -1,0 +1,4 @@
+pub mod Tables
+pub mod CodeTakes
+pub mod Keeping
+pub mod Openings

@@ -1,0 +1,4 @@
+pub mod Held
+pub mod Openings
+pub mod MessageCoreValue
+pub mod Steps
