@@ -1,5 +1,5 @@
 -- What `plc verify` writes.
-use Rattle.std.specs.Prelude.{◌≡◌, ℕ, ◌<◌, List, Option, length}
+use Rattle.std.specs.Prelude.{◌≡◌, ℕ, ◌<◌, List, All, Option, length}
 use Rattle.std.specs.List.{AllZip}
 use Rattle.std.specs.Io.KnownBytes.{Appends, Keeps}
 use Rattle.network.specs.Links.{Diagram}
@@ -13,6 +13,7 @@ use Rattle.verifying.specs.declared.setup.Setting.{Setting}
 use Rattle.verifying.specs.declared.verdict.Verdict.{Verdict}
 use Rattle.verifying.specs.Runs.{SetupValue}
 use Rattle.verifying.specs.Verdicts.{AreVerdicts}
+use Rattle.verifying.specs.Counts.{AreCounts}
 use Rattle.verify_texts.specs.Inputs.{AreFree, AreInputs}
 use Rattle.verify_texts.specs.Questions.{IsClaim, IsFirstClaimFault, HoldsInput, IsFirstHeldFault, QuestionValue}
 use Rattle.verify_texts.specs.VerdictLines.{AreTexts}
@@ -33,7 +34,7 @@ pub record IsSetup (drawing : List ℕ) (q : QuestionValue) (u : SetupValue) : T
   pub inputs : AreInputs u.ladder.declarations u.ladder.networks u.free u.held
 
 -- A text that answers the question: the ladder with its inputs, the claims at their places, a verdict for each that is
--- proved of all runs, and the text of these verdicts.
+-- proved of all runs, with the numbers of states and scans, and the text of all that.
 pub record IsAnswer (drawing : List ℕ) (q : QuestionValue) (text : List ℕ) : Type 0 where
   pub setup : SetupValue
   pub is : IsSetup drawing q setup
@@ -43,6 +44,7 @@ pub record IsAnswer (drawing : List ℕ) (q : QuestionValue) (text : List ℕ) :
   pub proved : AreVerdicts setup q.most_states places verdicts
   pub states : ℕ
   pub scans : ℕ
+  pub counts : All (AreCounts setup q.most_states states scans) verdicts
   pub texts : AreTexts setup q.file states scans q.claims verdicts text
 
 -- such a text was written, and this is its summary

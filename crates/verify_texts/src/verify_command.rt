@@ -19,6 +19,7 @@ use crate::verify_fault::VerifyFault;
 use ladder_text::{Drawing, ReadText};
 use network::Graph;
 use power_flow::{Declarations, Guess, Ladder};
+use progress::Progress;
 use std::alloc::Global;
 use std::io::Write;
 use text_commands::{TextCommandFault, read_rows};
@@ -114,36 +115,39 @@ fn prepare(
 }
 
 /// The text of the verdicts on the claims about a drawing, and what comes of all.
-fn answer_text(
+fn answer_text<P: Progress>(
     alloc: Global,
     drawing: &str,
     question: &Question<'_>,
+    progress: &mut P,
 ) -> Result<(String, Summary), VerifyFault>
     ensures ok { IfOk result (λ r. IsToldAnswer drawing.now (question_of question.now) (string_bytes r.0) r.1) }
     ensures err { IfErr result (RefusesPreparing drawing.now (question_of question.now)) }
 {
     let (setup, claims) = prepare(alloc, drawing, question)?;
-    let outcome = verify(alloc, &setup, &claims, question.most_states)?;
+    let outcome = verify(alloc, &setup, &claims, question.most_states, progress)?;
     let text = verdict_texts(alloc, &setup, question.file, question.claims, &outcome)?;
     Ok((text, summary_of(&outcome.verdicts)))
 }
 
-/// Tells of each claim about a drawing whether it holds, whatever the free inputs do, and what comes of all.
+/// Tells of each claim about a drawing whether it holds, whatever the free inputs do, and what comes of all. How far the
+/// search is is told meanwhile.
 ///
 /// `Command(Text)`, `Command(Word)`, `Command(Memory)`, `Claim`, `Held` and `TooManyInputs` come before anything is
 /// written. After `Command(Write)` what went out is a prefix, and not all.
-pub fn verify_text<W: Write>(
+pub fn verify_text<W: Write, P: Progress>(
     alloc: Global,
     drawing: &str,
     question: &Question<'_>,
     writer: &mut W,
+    progress: &mut P,
 ) -> Result<Summary, VerifyFault>
     ensures ok { IfOk result
         (WritesAnswer drawing.now (question_of question.now) (W.contents writer.old) (W.contents writer.new)) }
     ensures fault { IfErr result
         (ExplainsAnswer drawing.now (question_of question.now) (W.contents writer.old) (W.contents writer.new)) }
 {
-    let (text, summary) = answer_text(alloc, drawing, question)?;
+    let (text, summary) = answer_text(alloc, drawing, question, progress)?;
     write_text(writer, text.as_str())?;
     Ok(summary)
 }

@@ -6,3 +6,5 @@ pub mod Growing
 pub mod Tracing
 pub mod Answering
 pub mod Exploring
+pub mod Counting
+pub mod Chaining

@@ -1,3 +1,4 @@
 pub mod Runs
 pub mod Verdicts
+pub mod Counts
 pub mod Steps

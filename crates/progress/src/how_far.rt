@@ -1,0 +1,32 @@
+/// How far a work is.
+#[derive(Clone, Copy, Debug, PartialEq, Eq)]
+pub enum HowFar {
+    /// Of a search: states that were met, those of them that are not gone through yet, and scans that were made.
+    Searched {
+        states: usize,
+        to_go: usize,
+        scans: usize,
+    },
+    /// Of a text: lines that went out.
+    Written {
+        lines: usize,
+    },
+}
+
+/// Who is told how far a work is. The work is the same, whatever comes of it.
+pub trait Progress {
+    /// The work is so far.
+    fn tell(&mut self, how_far: HowFar);
+
+    /// The work is done, or given up.
+    fn end(&mut self);
+}
+
+/// Nobody is told.
+pub struct Untold;
+
+impl Progress for Untold {
+    fn tell(&mut self, _how_far: HowFar) {}
+
+    fn end(&mut self) {}
+}
