@@ -8,22 +8,24 @@ use crate::files::file_text;
 use crate::shown::Shown;
 use crate::status::{CLAIM_FAILS, UNDECIDED, WORD_REFUSED};
 use command_line::VerifyRequest;
+use progress::{OnTerminal, Progress};
 use std::alloc::Global;
 use std::io;
 use std::io::Write;
-use std::rt::Files;
+use std::rt::{Clock, Files};
 use verify_texts::{
     ClaimFault, ClaimFaultKind, HeldFault, Question, Summary, VerifyFault, verify_text,
 };
 
 /// Writes what is true of the claims about the drawing in the text. The file is what stands for it before the words for
-/// `plc eval`.
-pub fn obey_verify<W: Write>(
+/// `plc eval`. How far the search is is told meanwhile.
+pub fn obey_verify<W: Write, P: Progress>(
     alloc: Global,
     request: &VerifyRequest<'_>,
     file: &str,
     text: &str,
     writer: &mut W,
+    progress: &mut P,
 ) -> Result<Summary, VerifyFault>
     ensures ok { IfOk result (WritesAnswer text.now (asked_question file.now request.now) (W.contents writer.old) (W.contents writer.new)) }
     ensures fault { IfErr result (ExplainsAnswer text.now (asked_question file.now request.now) (W.contents writer.old) (W.contents writer.new)) }
@@ -33,9 +35,9 @@ pub fn obey_verify<W: Write>(
         claims: &request.claims,
         words: &request.words,
         dt: request.dt,
-        most_states: request.most_states as usize,
+        most_states: request.most_states,
     };
-    verify_text(alloc, text, &question, writer)
+    verify_text(alloc, text, &question, writer, progress)
 }
 
 /// The status after all claims were answered.
@@ -90,9 +92,11 @@ fn print_verify_fault<R: Eprint + AllocGlobal>(
     }
 }
 
-/// Reads a drawing, and writes what is true of the claims about it; the status.
-pub fn answer_verify<R: Files + Print + Eprint + AllocGlobal>(
+/// Reads a drawing, and writes what is true of the claims about it; the status. `told` is whether the search tells on
+/// standard error how far it is.
+pub fn answer_verify<R: Files + Clock + Print + Eprint + AllocGlobal>(
     rt: &R,
+    told: bool,
     request: &VerifyRequest<'_>,
 ) -> io::Result<u8> {
     let text = match file_text(rt, request.drawing)? {
@@ -104,13 +108,17 @@ pub fn answer_verify<R: Files + Print + Eprint + AllocGlobal>(
         return print_failure(rt, CommandFault::Memory);
     };
     let mut writer = io::writer(rt);
-    match obey_verify(
+    let mut progress = OnTerminal::new(rt, told);
+    let answered = obey_verify(
         rt.alloc(),
         request,
         file.as_str(),
         text.as_str(),
         &mut writer,
-    ) {
+        &mut progress,
+    );
+    progress.end();
+    match answered {
         Ok(summary) => Ok(status_of(summary)),
         Err(fault) => print_verify_fault(rt, request, text.as_str(), fault),
     }

@@ -21,7 +21,7 @@ use std::alloc::{AllocError, Global};
 use std::io;
 use std::io::{IsTerminal, Write};
 use std::process::ExitCode;
-use std::rt::{Env, Files};
+use std::rt::{Clock, Env, Files};
 use std::sync::{Arc, Wait};
 use std::thread::Threads;
 
@@ -226,7 +226,7 @@ fn answer_run<R: Files + Print + Eprint + AllocGlobal + Threads + Wait + Sync>(
     }
 }
 
-fn answer<R: Env + Files + Input + Print + Eprint + AllocGlobal + Threads + Wait + Sync>(
+fn answer<R: Env + Files + Clock + Input + Print + Eprint + AllocGlobal + Threads + Wait + Sync>(
     rt: &R,
     host: &HostRuntime,
 ) -> io::Result<u8> {
@@ -234,10 +234,12 @@ fn answer<R: Env + Files + Input + Print + Eprint + AllocGlobal + Threads + Wait
         Ok(given) => given,
         Err(error) => return print_given_fault(rt, &error),
     };
+    let shown = host.stdout().is_terminal();
+    let told = host.stderr().is_terminal();
     match read_words(rt.alloc(), given.as_slice()) {
-        Ok(Request::Text(request)) => answer_text(rt, host.stdout().is_terminal(), &request),
-        Ok(Request::Verify(request)) => answer_verify(rt, &request),
-        Ok(Request::Sim(request)) => answer_schedule(rt, &request),
+        Ok(Request::Text(request)) => answer_text(rt, shown, told && !shown, &request),
+        Ok(Request::Verify(request)) => answer_verify(rt, told, &request),
+        Ok(Request::Sim(request)) => answer_schedule(rt, told && !shown, &request),
         Ok(Request::Run(request)) => answer_run(rt, host, &request),
         Ok(Request::Explain(Some(kind))) => answer_kind(rt, kind),
         Ok(Request::Explain(None)) => answer_kinds(rt),

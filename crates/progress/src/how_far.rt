@@ -21,12 +21,3 @@ pub trait Progress {
     /// The work is done, or given up.
     fn end(&mut self);
 }
-
-/// Nobody is told.
-pub struct Untold;
-
-impl Progress for Untold {
-    fn tell(&mut self, _how_far: HowFar) {}
-
-    fn end(&mut self) {}
-}

@@ -5,6 +5,6 @@ mod how_far;
 mod on_terminal;
 mod told_lines;
 
-pub use how_far::{HowFar, Progress, Untold};
+pub use how_far::{HowFar, Progress};
 pub use on_terminal::OnTerminal;
 pub use told_lines::ToldLines;

@@ -3,6 +3,7 @@ use std::io;
 use std::io::Write;
 
 /// A writer that passes on all that comes to it, and tells how many lines went out.
+#[derive(Drop)]
 pub struct ToldLines<W, P> {
     to: W,
     progress: P,

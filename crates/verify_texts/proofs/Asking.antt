@@ -1,5 +1,5 @@
 -- From marks to what is stored, and from parts of a question to the whole.
-use Rattle.std.proofs.Common.{◌≡◌, ℕ, Option, Result, Ok, Err, IfOk, IfErr, zero, suc, ◌<◌, ◌≤◌, List, [], ◌∷◌, Bool, true, Some, inl, inr, All, Contains, length, take, get_or, slice_get, refl, sym, ap, ◌∙◌, subst, arith}
+use Rattle.std.proofs.Common.{◌≡◌, ℕ, Option, Result, Ok, Err, IfOk, IfErr, zero, suc, ◌<◌, ◌≤◌, List, [], ◌∷◌, Bool, true, inl, inr, All, length, take, get_or, refl, sym, ◌∙◌, subst, arith}
 use Rattle.std.specs.Borrow.{Bor}
 use Rattle.std.specs.Global.{Vec}
 use Rattle.std.specs.List.{AllZip}
@@ -25,13 +25,13 @@ use Rattle.power_flow.specs.LadderValue.{LadderValue}
 use Rattle.power_flow.specs.Meaning.{Moment}
 use Rattle.verifying.specs.Runs.{HasInputs, IsBool, IsBoolAt, Leads, SetupValue}
 use Rattle.verifying.specs.Verdicts.{AreVerdicts, IsVerdict}
-use Rattle.verify_texts.specs.Inputs.{AreFree, AreInputs, IsHeld, IsInput}
-use Rattle.verify_texts.specs.Stores.{IsStored, stored_places}
+use Rattle.verify_texts.specs.Inputs.{AreFree, AreInputs, IsInput}
+use Rattle.verify_texts.specs.Stores.{stored_places}
 use Rattle.verify_texts.specs.Questions.{HoldsInput, HoldsNoInput, IsClaim, IsNoClaim, QuestionValue}
-use Rattle.verify_texts.specs.VerifyText.{ExplainsAnswer, HasManyInputs}
+use Rattle.verify_texts.specs.VerifyText.{ExplainsAnswer}
 use Rattle.verify_texts.specs.Steps.Adding.{AreWholeRows, FitsSetup}
 use Rattle.verify_texts.specs.Steps.Asking.{AreHeldBy, IsAsked, IsPrepared, RefusesAsking, RefusesFree, RefusesHolding, RefusesPreparing}
-use Rattle.verify_texts.specs.Steps.Marks.{AreMarksOf, AreUnmarked, ClaimsRead, ClaimsRefused, HeldRead, HeldRefused, HoldsOf, HoldsNoneOf, IsClaimOf, IsMarked, IsNoClaimOf, IsUnmarked}
+use Rattle.verify_texts.specs.Steps.Marks.{AreMarksOf, AreUnmarked, ClaimsRead, ClaimsRefused, HeldRead, HeldRefused, HoldsOf, HoldsNoneOf, IsClaimOf, IsNoClaimOf}
 use Rattle.verify_texts.specs.declared.verify_fault.ClaimFaultKind.{ClaimFaultKind}
 use Rattle.verify_texts.specs.declared.verify_fault.ClaimFaultKind.TheVariants.{NoVariable, NeverStored}
 use Rattle.verify_texts.specs.declared.verify_fault.HeldFaultKind.{HeldFaultKind}

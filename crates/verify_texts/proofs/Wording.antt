@@ -1,5 +1,5 @@
 -- Words are written one after the other.
-use Rattle.std.proofs.Common.{◌≡◌, ℕ, ◌+◌, ◌<◌, ◌≤◌, ◌++◌, List, [], ◌∷◌, Bool, false, Option, Some, length, take, get_or, map, slice_get, unwrap_or, codes, refl, sym, ap, ◌∙◌, arith, zero, suc, append_assoc}
+use Rattle.std.proofs.Common.{◌≡◌, ℕ, ◌+◌, ◌<◌, ◌≤◌, ◌++◌, List, [], ◌∷◌, Bool, false, Option, length, take, get_or, map, slice_get, unwrap_or, codes, refl, sym, ap, ◌∙◌, arith, zero, suc, append_assoc}
 use Rattle.std.specs.List.{enumerate_from, flat_map}
 use Rattle.std.proofs.lemmas.List.{append-nil, flat_map_more, take_all, take_more}
 use Rattle.declared_names.specs.declared.declarations.Declaration.{Declaration}

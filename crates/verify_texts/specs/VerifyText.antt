@@ -7,7 +7,6 @@ use Rattle.declared_names.specs.declared.declarations.Declaration.{Declaration}
 use Rattle.text_writer.specs.Sending.{SendsLess}
 use Rattle.text_commands.specs.EvalText.{IsLadderOfDrawing, RefusesDrawing, RefusesWords}
 use Rattle.text_commands.specs.Rows.{RowValue, SpellRows}
-use Rattle.text_commands.specs.declared.text_command_fault.TextCommandFault.{TextCommandFault}
 use Rattle.text_commands.specs.declared.text_command_fault.TextCommandFault.TheVariants.{Text, Word, Write, Memory}
 use Rattle.verifying.specs.declared.setup.Setting.{Setting}
 use Rattle.verifying.specs.declared.verdict.Verdict.{Verdict}

@@ -1,4 +1,4 @@
-use Rattle.std.proofs.Common.{string_bytes, get_or, ◌∙◌, ap, subst, List, Bool}
+use Rattle.std.proofs.Common.{string_bytes, ◌∙◌, ap, subst, List, Bool}
 use Rattle.power_flow.specs.LadderValue.{LadderValue}
 use Rattle.text_commands.specs.Lines.{line_of}
 use Rattle.verifying.specs.Runs.{ScansWith}
