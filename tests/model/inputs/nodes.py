@@ -41,9 +41,9 @@ class Process:
 class Machines:
     """All nodes of a plant, each over a folder of state, and what is on its way to each."""
 
-    def __init__(self, chance, maker):
-        self.chance, self.maker = chance, maker
-        self.plant = read_plant(maker.text())
+    def __init__(self, chance, text):
+        self.chance, self.text = chance, text
+        self.plant = read_plant(text)
         self.loss, self.doubling = chance.choice([0, 0.2, 0.4]), chance.choice([0, 0.2, 0.4])
         self.journals, self.processes = {}, []
         self.folders = {it: Memory() for it in self.plant.resources}
@@ -108,22 +108,23 @@ class Machines:
             self.end(resource)
         elif choice < deaths + faults:
             self.give(resource, self.fault(resource))
-        elif ahead and choice < 0.6:
+        elif ahead and choice < 0.75:
             self.give(resource, ahead.pop(0))
-        elif choice < 0.64:
+        elif choice > 0.985:
             self.give(resource, f"{cased(chance, 'RESTART')} {cased(chance, resource.name)}")
         else:
             self.give(resource, self.evaluation(resource))
 
     def begin_again(self, resource):
-        is_moved = self.chance.random() < 0.1
+        is_moved = self.chance.random() < 0.2
         self.begin(resource, f"{resource.name}.{len(self.processes)}.journal" if is_moved else None)
 
     def end(self, resource):
         del self.alive[resource]
 
     def evaluation(self, resource):
-        chance, task = self.chance, self.chance.choice(resource.tasks)
+        chance = self.chance
+        task = chance.choice([it for it in resource.tasks if it.programs] * 4 + resource.tasks)
         elapsed = chance.choice([0, 5, 10, 10, 20, 1000, 4294967295])
         parts = [cased(chance, "EVAL"), cased(chance, task.full_name), str(elapsed), *inputs(chance)]
         return chance.choice([" ", " ", " ", "  ", "\t"]).join(parts)
@@ -131,38 +132,40 @@ class Machines:
     def fault(self, resource):
         """A line that is refused, or empty, or one that no node has sent."""
         kind = self.chance.choice(["foreign", "no line", "empty", "forged", "forged", "forged"])
-        sent = [it for ahead in self.ahead.values() for it in ahead if it.startswith("MESSAGE")]
+        sent = [it for it in self.ahead[resource] if it.startswith("MESSAGE") and not it.endswith("GIVES -")]
         if kind == "forged" and sent:
             return forged(self.chance, self.chance.choice(sent))
         return self.chance.choice({"foreign": FOREIGN, "no line": NO_LINES}.get(kind, EMPTY))
 
 
 def forged(chance, line):
-    """A message with another digit."""
-    places = [at for at, sign in enumerate(line) if sign.isdigit() and line[at - 1] in ".=-#0123456789"]
-    at = chance.choice(places)
+    """A message with another digit, in its number, in what was heard or in what was given."""
+    behind = line.index(chance.choice([".1", ".2", "HEARD", "GIVES"])) if ".1" in line and ".2" in line else line.index("GIVES")
+    at = chance.choice([at for at, sign in enumerate(line) if sign.isdigit() and at > behind and line[at - 1] in ".=-#0123456789"])
     return line[:at] + chance.choice("0123456789") + line[at + 1 :]
 
 
-def of_pairs(chance):
-    """A plant of few resources, so that they have much to do with one another."""
-    maker = PlantMaker(chance)
-    while len(maker.resources) > 4:
-        maker = PlantMaker(chance)
-    return maker
+def joined_plant(chance):
+    """The text of a plant of few resources, of which most take from others."""
+    while True:
+        text = PlantMaker(chance).text()
+        resources = read_plant(text).resources
+        taking = {it for it in resources for task in it.tasks for producer in task.producers() if producer.resource is not it}
+        if len(resources) <= 4 and len(taking) > len(resources) / 2:
+            return text
 
 
 def nodes(chance):
     """A plant, with runs of its nodes over one folder, each with the lines that it reads; then the audit of their journals."""
-    machines = Machines(chance, of_pairs(chance))
+    machines = Machines(chance, joined_plant(chance))
     kept = {f"{it.name}.inc": chance.choice(NUMBERS) for it in machines.plant.resources if chance.random() < 0.1}
     for it in machines.plant.resources:
         machines.folders[it].files.update(kept)
         machines.begin(it)
-    deaths, faults = chance.choice([0, 0.03]), chance.choice([0, 0.1])
+    deaths, faults = chance.choice([0, 0.02]), chance.choice([0, 0.05])
     for _ in range(chance.choice([10, 40, 120])):
         machines.happen(deaths, faults)
-    files, runs = {"it.plant": machines.maker.text(), **kept}, []
+    files, runs = {"it.plant": machines.text, **kept}, []
     for process in machines.processes:
         resource, life = process.life
         name = f"{resource.name}.{life}.lines"
@@ -181,8 +184,8 @@ def shuffled(chance, names):
 class DyingMachines(Machines):
     """Nodes that die at each point of a line; whose folder is lost, or of which two run at once, now and then."""
 
-    def __init__(self, chance, maker):
-        super().__init__(chance, maker)
+    def __init__(self, chance, text):
+        super().__init__(chance, text)
         self.is_careless = chance.random() < 0.15
 
     def end(self, resource):
@@ -199,11 +202,11 @@ class DyingMachines(Machines):
             process = self.alive[resource]
             process.node.answer(self.evaluation(resource))
         self.alive.pop(resource, None)
-        if self.is_careless and self.chance.random() < 0.5:
+        if self.is_careless and self.chance.random() < 0.3:
             self.folders[resource] = Memory()
 
     def begin_again(self, resource):
-        if self.chance.random() < 0.2:
+        if self.chance.random() < 0.1:
             self.death = self.chance.choice([0, 1, self.chance.randint(0, 30), 2**30])
         super().begin_again(resource)
         self.death = None
@@ -211,20 +214,20 @@ class DyingMachines(Machines):
 
 def journals(chance):
     """A plant, with journals of its nodes, which are whole, cut, edited or in part left out, and their audit."""
-    machines = DyingMachines(chance, of_pairs(chance))
+    machines = DyingMachines(chance, joined_plant(chance))
     for it in machines.plant.resources:
         machines.begin(it)
-    deaths, faults = chance.choice([0, 0.03, 0.1]), chance.choice([0, 0, 0.05])
-    for _ in range(chance.choice([20, 60, 150])):
+    deaths, faults = chance.choice([0, 0.01, 0.04]), chance.choice([0, 0, 0.05])
+    for _ in range(chance.choice([20, 60, 120])):
         machines.happen(deaths, faults)
     left = {name: text for name, text in machines.journals.items() if first_start(text)}
-    slip = chance.choice(["none", "none", "cut", "cut", "edited", "edited", "without"])
+    slip = chance.choice([None, None, None, cut, cut, edited, other_evaluation, other_evaluation, "without"])
+    name = chance.choice(list(left))
     if slip == "without" and len(left) > 1:
-        del left[chance.choice(list(left))]
-    elif slip in ("cut", "edited"):
-        name = chance.choice(list(left))
-        left[name] = (cut if slip == "cut" else edited)(chance, left[name])
-    return {"it.plant": machines.maker.text(), **left}, [["audit", "it.plant", *shuffled(chance, left)]]
+        del left[name]
+    elif slip in (cut, edited, other_evaluation):
+        left[name] = slip(chance, left[name])
+    return {"it.plant": machines.text, **left}, [["audit", "it.plant", *shuffled(chance, left)]]
 
 
 def first_start(text):
@@ -245,3 +248,13 @@ def edited(chance, text):
     at = first_start(text)
     slip = chance.choice([with_line_twice, with_other_sign, with_sign_left_out, with_sign_put_in, without_line])
     return text[:at] + (slip(chance, text[at:]) if len(text) > at + 1 else text[at:])
+
+
+def other_evaluation(chance, text):
+    """A line of an evaluation is left out, or has other inputs."""
+    lines = text.split("\n")
+    places = [at for at, line in enumerate(lines) if line.upper().startswith("EVAL") and line.endswith(";")]
+    if places:
+        at = chance.choice(places)
+        lines[at : at + 1] = [] if chance.random() < 0.5 else [" ".join(["EVAL", lines[at].rstrip(";").split()[1], "10", *inputs(chance)]) + ";"]
+    return "\n".join(lines)
