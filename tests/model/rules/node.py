@@ -122,7 +122,7 @@ class Node:
         self.own(name)
         try:
             incarnation = self.keeper.raised(self.resource)
-        except BadFile:
+        except (BadFile, OSError):
             raise Refused("Keeper") from None
         self.note(f"RESTART {self.resource.name} {incarnation}")
         self.core.begin(incarnation)
