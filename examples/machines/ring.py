@@ -1,32 +1,36 @@
 #!/usr/bin/env python3
 """ring.py [--broker] [COUNT]: three nodes in a ring, with a medium that loses, doubles and reorders. After half of COUNT evaluations
-one of them is killed and begins anew; at the end their journals are audited. Between the nodes are pipes, or a broker, which has
-to run then: mosquitto -c mosquitto.conf.
+one of them is killed and begins anew; at the end their journals are audited. Between the nodes are pipes, or a broker (mosquitto).
 """
 import argparse
 import os
 import shutil
 import signal
+import socket
 import subprocess
 import sys
 import tempfile
 import time
 
-HERE = os.path.dirname(os.path.abspath(__file__))
-ROOT = os.path.dirname(os.path.dirname(HERE))
+HERE = os.path.dirname(os.path.realpath(__file__))
+PLC = os.environ.get("PLC", os.path.join(HERE, "..", "..", "plc"))
 NAMES = ("R1", "R2", "R3")
+HOST, PORT = "127.0.0.1", 18830
 
 
 class Ring:
     def __init__(self, folder, has_broker):
         self.folder, self.nodes = folder, {}
-        tools = [ROOT] if has_broker else [os.path.join(HERE, "pipes"), ROOT]
-        self.how = {"cwd": folder, "env": {**os.environ, "PATH": os.pathsep.join([*tools, os.environ["PATH"]])}}
+        path = os.environ["PATH"] if has_broker else os.path.join(HERE, "pipes") + os.pathsep + os.environ["PATH"]
+        self.how = {"cwd": folder, "env": {**os.environ, "PLC": PLC, "PATH": path, "BROKER": f"-h {HOST} -p {PORT}"}}
         os.mkdir(os.path.join(folder, "state"))
         shutil.copy(os.path.join(HERE, "three.plant"), folder)
+        # Where the program isn't built yet, this builds it.
+        subprocess.run([PLC, "check", "three.plant"], check=True, stdout=subprocess.DEVNULL, **self.how)
         # A pipe keeps what comes while its reader is away, as a broker does.
         pipes = [os.path.join(folder, f"to.{name}") for name in NAMES]
         self.pipes = [os.mkfifo(it) or os.open(it, os.O_RDWR) for it in pipes]
+        self.broker = begun_broker() if has_broker else None
 
     def begin(self, name, seed, count):
         """A node with what is round it, in a group of processes of its own."""
@@ -37,6 +41,13 @@ class Ring:
     def kill(self, name):
         os.killpg(self.nodes[name].pid, signal.SIGKILL)
         self.nodes[name].wait()
+
+    def end(self):
+        for name in self.nodes:
+            self.kill(name)
+        if self.broker:
+            self.broker.terminate()
+            self.broker.wait()
 
     def answers(self, name):
         """What a node has answered to EVAL: all but the place in its process."""
@@ -50,9 +61,21 @@ class Ring:
 
     def audit(self):
         journals = [f"{name}.journal" for name in NAMES]
-        ran = subprocess.run(["plc", "audit", "three.plant", *journals], capture_output=True, text=True, **self.how)
+        ran = subprocess.run([PLC, "audit", "three.plant", *journals], capture_output=True, text=True, **self.how)
         sys.stderr.write(ran.stderr)
         return ran.stdout.splitlines(), ran.returncode
+
+
+def begun_broker():
+    """A broker that listens."""
+    broker = subprocess.Popen(["mosquitto", "-c", os.path.join(HERE, "mosquitto.conf")])
+    while broker.poll() is None:
+        try:
+            socket.create_connection((HOST, PORT)).close()
+            return broker
+        except OSError:
+            time.sleep(0.1)
+    sys.exit("ring.py: mosquitto doesn't run")
 
 
 def made_by(line):
@@ -78,6 +101,7 @@ def main():
     asked.add_argument("--broker", action="store_true")
     asked.add_argument("count", type=int, nargs="?", default=100)
     asked = asked.parse_args()
+    signal.signal(signal.SIGTERM, lambda *_: sys.exit(1))
     with tempfile.TemporaryDirectory() as folder:
         ring = Ring(folder, asked.broker)
         try:
@@ -90,8 +114,7 @@ def main():
             for name in NAMES:
                 ring.wait_for(name, asked.count)
         finally:
-            for name in ring.nodes:
-                ring.kill(name)
+            ring.end()
         return tell(ring)
 
 
