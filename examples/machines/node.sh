@@ -7,10 +7,10 @@ here=$(dirname "$0")
 rm -f "in.$name"
 mkfifo "in.$name"
 exec 3<>"in.$name"
-mosquitto_sub $BROKER -v -q 1 -c -i "plc-$name" -t "plc/$name/#" | while read -r topic line; do
+mosquitto_sub -v -q 1 -c -i "plc-$name" -t "plc/$name/#" $BROKER | while read -r topic line; do
   case $line in "MESSAGE ${topic##*/}."*|"HELLO ${topic##*/} "*) printf '%s\n' "$line";; esac
 done >&3 &
 "$here/driver" "$name" "$3" >&3 &
 "${PLC:-plc}" node three.plant "$name" --state state --journal "$name.journal" <&3 | "$here/shim" "$2" | while read -r word to line; do
-  if [ "$word" = SEND ]; then mosquitto_pub $BROKER -q 1 -t "plc/$to/$name" -m "$line"; else echo "$word $to $line"; fi
+  if [ "$word" = SEND ]; then mosquitto_pub -q 1 -t "plc/$to/$name" -m "$line" $BROKER; else echo "$word $to $line"; fi
 done

@@ -91,9 +91,10 @@ def tell(ring):
         incarnations = sorted({it.split()[1].partition(".")[0] for it in answers})
         where = "in the book" if set(answers) <= set(made) else "not all in the book"
         print(f"{name}: {len(answers)} answers in incarnations {' '.join(incarnations)}, {where}")
-    print(f"{sum('=-' not in it for it in made)} of {len(made)} evaluations took one of the node before")
+    taken = sum("=-" not in it for it in made)
+    print(f"{taken} of {len(made)} evaluations took one of the node before")
     print(*(it for it in lines if not it.startswith("EVAL ")), sep="\n")
-    return status
+    return status if taken else 1
 
 
 def main():
