@@ -11,9 +11,13 @@ import subprocess
 import sys
 import threading
 
-PLC, PLANT, NAMES, SEED = sys.argv[1], "three.plant", ("R1", "R2", "R3"), 51
+PLC, PLANT, NAMES = sys.argv[1], "three.plant", ("R1", "R2", "R3")
+# three_nodes.py PLC [SEED]: another seed than this one has other kills.
+SEED = sys.argv[2] if len(sys.argv) > 2 else "51"
 # A node is killed once it has answered so many; all go on until they have, and have so often taken what another gave.
 KILLS = {"R1": [], "R2": [25, 40], "R3": [30]}
+if SEED != "51":
+    KILLS = {name: sorted(random.Random(f"{name} {SEED}").sample(range(60), 4)) for name in NAMES}
 ANSWERS, TAKES, MOST = 60, 10, 5000
 SECONDS = 100
 
