@@ -90,6 +90,13 @@ impl Station {
         self.journal.hear(&mut self.core, of, incarnation)
     }
 
+    /// The core, which tells what would be answered next.
+    pub fn core(&self) -> &Core
+        ensures { result.now ≡ self.now.core }
+    {
+        &self.core
+    }
+
     /// The resource.
     pub fn resource(&self) -> usize
         ensures { result ≡ self.now.journal.resource }

@@ -16,8 +16,9 @@ use Rattle.node_journals.specs.declared.command.Command.{Command}
 use Rattle.node_journals.specs.declared.journal.Journal.{Journal}
 use Rattle.node_journals.specs.declared.node_fault.NodeFault.{NodeFault}
 use Rattle.node_journals.specs.declared.run_fault.RunFault.{RunFault}
+use Rattle.node_journals.specs.declared.run_fault.RunFault.TheVariants as run
 use Rattle.node_journals.specs.Journals.{made, firsts_of, openings_of, IsLawful}
-use Rattle.node_reports.specs.Reports.{entries_of, IsFittingBook, AreJournalsOf, RunsAgain, CanBeMadeAgain, Agree, unanswered_of, IsCollectFault}
+use Rattle.node_reports.specs.Reports.{entries_of, IsFittingBook, AreJournalsOf, RunsAgain, CanBeMadeAgain, Agree, IsAgreeFault, unanswered_of, IsCollectFault}
 use Rattle.node_reports.specs.Steps.Collecting.{AllBegin, HaveJournals, AllMade, IsToldFault}
 use Rattle.node_reports.proofs.Collecting.{firsts_are}
 use Rattle.node_reports.proofs.Remaking.{HasIncarnation, holds_at, each-reverse, could_be_made, runs_again}
@@ -75,6 +76,16 @@ pub made_again : (plant : PlantValue) (max_number : ℕ) (book : BookValue) (jou
 made_again plant max_number book journals fit agree lawful bounds =
     subst (λ (first : List ℕ). AllCouldBeMade (setting_over plant first (openings_of journals) max_number) (reverse book.entries)) agree.first_is
     (could_be_made plant max_number book journals (fitting_book plant book journals fit agree) (journals_of plant max_number book journals agree lawful) agree.in_book bounds)
+
+-- where a book and journals don't agree, no report is collected
+pub agree_fault : (plant : PlantValue) (commands : List Command) (book : BookValue) (journals : List Journal) (noted : List NodeFault) (found : RunFault) → IsAgreeFault plant book journals found
+    → IsCollectFault plant commands book journals noted found
+agree_fault plant commands book journals noted run.Memory found = tt
+agree_fault plant commands book journals noted run.Spawn found = found
+agree_fault plant commands book journals noted run.BookDisagrees found = found
+agree_fault plant commands book journals noted run.Stranger found = absurd found
+agree_fault plant commands book journals noted run.Doubled found = absurd found
+agree_fault plant commands book journals noted run.Keeper found = found
 
 -- where the faults noted aren't told, no report is collected
 pub told_fault : (plant : PlantValue) (commands : List Command) (book : BookValue) (journals : List Journal) (noted : List NodeFault) (found : RunFault) → Agree plant book journals

@@ -246,6 +246,15 @@ pub record Agree (plant : PlantValue) (book : BookValue) (journals : List Journa
   pub first_is : book.first ≡ firsts_of journals
   pub in_book : AreInBook book.entries journals
 
+-- Why a book and journals aren't those of one run: they don't agree. Want of memory may stand in its place.
+abbrev pub IsAgreeFault : PlantValue → BookValue → List Journal → RunFault → Type 0
+IsAgreeFault plant book journals run.Memory = Unit {0}
+IsAgreeFault plant book journals run.Spawn = ⊥
+IsAgreeFault plant book journals run.BookDisagrees = ¬ (Agree plant book journals)
+IsAgreeFault plant book journals run.Stranger = ⊥
+IsAgreeFault plant book journals run.Doubled = ⊥
+IsAgreeFault plant book journals run.Keeper = ⊥
+
 -- each entry answers an Evaluate command of its ticket with its contents,
 -- each restart a Restart command of its resource, and what entries have heard is true
 pub record AreCommanded (commands : List Command) (entries : List Evaluated) (journals : List Journal) : Type 0 where

@@ -1,3 +1,4 @@
+mod agreeing;
 mod agreement;
 mod hearings;
 mod obedience;
@@ -5,45 +6,23 @@ mod stops;
 mod told;
 mod unanswered;
 
-ghost use Rattle.std.specs.Prelude.{◌≡◌, ◌↔◌, IsTrue, IfOk, IfErr, All};
+ghost use Rattle.std.specs.Prelude.{◌≡◌, IfOk, IfErr, All};
 ghost use Rattle.node_journals.specs.Codes.{AreOfPlant};
 ghost use Rattle.node_journals.specs.Commands.{AreNumbered, AreForPlant};
 ghost use Rattle.node_journals.specs.Journals.{firsts_of, IsLawful};
-ghost use Rattle.node_reports.specs.Reports.{IsFittingBook, AreJournalsOf, AreInBook, AreAnswers, RunsAgain, CanBeMadeAgain, AreTold, AreByTicket, Agree, IsCollectFault};
-ghost use Rattle.node_reports.specs.Steps.Comparing.{MadeOfPlant};
+ghost use Rattle.node_reports.specs.Reports.{IsFittingBook, AreJournalsOf, AreInBook, AreAnswers, RunsAgain, CanBeMadeAgain, AreTold, AreByTicket, IsCollectFault};
 
-use crate::collector::agreement::{all_begin, all_made};
 use crate::collector::hearings::have_heard_truly;
 use crate::collector::obedience::{all_commanded, all_rising, are_answers};
 use crate::collector::told::told_faults;
 use crate::collector::unanswered::unanswered_tickets;
-use crate::journals::Journals;
+use crate::plant_book::PlantBook;
 use crate::report::Report;
+pub use agreeing::agreed;
 use exchange::Book;
 use node_journals::{Command, Journal, NodeFault, RunFault};
 use plant::Plant;
-use std::alloc::{AllocError, Global};
-
-/// Whether the journals are those of the plant's resources in order, begin in the book's first incarnations, and made the book's entries.
-fn agrees(
-    alloc: Global,
-    book: &Book,
-    plant: &Plant,
-    journals: &[Journal],
-) -> Result<bool, AllocError>
-    requires book { AreOfPlant plant.now book.now.entries }
-    requires journals { MadeOfPlant plant.now journals.now }
-    ensures { IfOk result (λ agree. IsTrue agree ↔ Agree plant.now book.now journals.now) }
-{
-    if journals.len() != plant.resources() {
-        return Ok(false);
-    }
-    if !all_begin(book.first(), journals) {
-        return Ok(false);
-    }
-    // The getter hands out that each entry fits those before it, so its resource has a journal.
-    all_made(alloc, book.entries(), journals)
-}
+use std::alloc::Global;
 
 /// The report of what the threads did, if the book and the journals agree, and answer the commands.
 pub fn collect(
@@ -70,12 +49,7 @@ pub fn collect(
     ensures kept { IfOk result (λ r. (r.book ≡ book) × (r.journals ≡ journals.items)) }
     ensures fault { IfErr result (IsCollectFault plant.now commands.now book journals.items faults.items) }
 {
-    // The getter hands out that the plant is sound.
-    let _resources = plant.resources();
-    let agree = agrees(alloc, &book, plant, journals.as_slice())?;
-    if !agree {
-        return Err(RunFault::BookDisagrees);
-    }
+    let PlantBook { book, journals } = agreed(alloc, plant, max_number, book, journals)?;
     if !are_answers(commands, book.entries()) {
         return Err(RunFault::Stranger);
     }
@@ -100,7 +74,7 @@ pub fn collect(
     }
     Ok(Report {
         book,
-        journals: Journals::of(journals),
+        journals,
         unanswered,
         node_faults,
     })

@@ -41,7 +41,7 @@ fn asks_for(command: &Command, evaluation: &Evaluation) -> bool
 }
 
 /// What was heard are numbers of 32 bits.
-fn heard_of(heard: &[u32]) -> &[u32]
+pub(crate) fn heard_of(heard: &[u32]) -> &[u32]
     ensures same { result.now ≡ heard.now }
     ensures bound { (m : ℕ) → slice_index heard.now m ≤ 4294967295 }
 {

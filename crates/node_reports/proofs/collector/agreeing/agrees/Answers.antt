@@ -8,7 +8,7 @@ use Rattle.node_reports.specs.Steps.Collecting.{AllBegin, HaveJournals, AllMade}
 use Rattle.node_reports.specs.Steps.Comparing.{MadeByCodeOf}
 use Rattle.node_reports.proofs.ByPlant.{by_code}
 use Rattle.node_reports.proofs.Reporting.{agree_of, begin_of, made_of, have_journals}
-use Rattle.node_reports.proofs.collector.agrees.Goals as goal
+use Rattle.node_reports.proofs.collector.agreeing.agrees.Goals as goal
 
 pub returns-then-journals-resources : goal.returns-then-journals-resources
 returns-then-journals-resources c = (λ yes. absurd (false≢true yes), λ agree. (let many = agree.many in absurd (omega arith)))
