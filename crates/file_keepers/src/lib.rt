@@ -14,5 +14,6 @@ pub use bad_line::BadLine;
 pub use file_keeper::FileKeeper;
 pub use folder::Folder;
 pub use folder_fault::FolderFault;
-pub use folder_lock::{FolderLock, LockFault};
+pub use folder_lock::{FolderLock, LockFault, ResourceLock};
+pub use retained_text::before_value;
 pub use system_folder::SystemFolder;

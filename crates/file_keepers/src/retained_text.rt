@@ -54,7 +54,7 @@ fn variable_name(code: &TaskCode, variable: RetainedVariable) -> &str
 }
 
 /// What stands before the value of a retained variable, as `H.M=`.
-pub(crate) fn before_value(
+pub fn before_value(
     alloc: Global,
     code: &TaskCode,
     variable: RetainedVariable,

@@ -1,0 +1,2 @@
+pub mod NodeSteps
+pub mod NodeValue
