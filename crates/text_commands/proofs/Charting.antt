@@ -23,7 +23,8 @@ last-append : (before : Option Value) (vs us : List Value) → last_of before (v
 last-append before [] us = refl
 last-append before (v ∷ vs) us = last-append (Some v) vs us
 
-values_more : (place : ℕ) (states : List StateValue) (i : ℕ) (x : StateValue) (value : Option Value) → i < length states → x ≡ get_or states i x → value ≡ variable_at x.slots place
+-- the values with that of one state more
+pub values_more : (place : ℕ) (states : List StateValue) (i : ℕ) (x : StateValue) (value : Option Value) → i < length states → x ≡ get_or states i x → value ≡ variable_at x.slots place
     → values_at place (slots_of (take (i + 1) states)) ≡ values_at place (slots_of (take i states)) ++ option_to_list value
 values_more place states i x value lt x_is value_is =
     let vs = values_at place (slots_of (take i states)) in

@@ -14,3 +14,4 @@ pub mod Charting
 pub mod Expecting
 pub mod TestReading
 pub mod TestAnswers
+pub mod TracedAnswers

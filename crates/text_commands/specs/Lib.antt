@@ -9,5 +9,6 @@ pub mod Chart
 pub mod LiveDrawing
 pub mod Shown
 pub mod TestText
+pub mod Traced
 pub mod Giving
 pub mod Steps

@@ -5,3 +5,4 @@ pub mod Joining
 pub mod Rows
 pub mod Testing
 pub mod Showing
+pub mod Tracing

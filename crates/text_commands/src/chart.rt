@@ -12,7 +12,8 @@ use power_flow::{Declarations, Declared, State};
 use std::alloc::{AllocError, Global};
 use std_blocks::Value;
 
-fn is_variable(declared: Declared) -> bool
+/// Whether what is declared is a variable, and no instance of a block.
+pub(crate) fn is_variable(declared: Declared) -> bool
     ensures { result ≡ is_variable declared }
 {
     match declared {

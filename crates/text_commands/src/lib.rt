@@ -18,6 +18,9 @@ mod test_command;
 mod test_words;
 mod text_command_fault;
 mod text_fault;
+mod traced;
+mod traced_command;
+mod tracks;
 mod word_fault;
 
 pub use check_command::{check, read_plant};
@@ -31,4 +34,6 @@ pub use rows::read_rows;
 pub use test_command::eval_test;
 pub use text_command_fault::TextCommandFault;
 pub use text_fault::TextFault;
+pub use traced::Traced;
+pub use traced_command::eval_traced;
 pub use word_fault::{WordFault, WordFaultKind};

@@ -77,7 +77,7 @@ fn trace_chart(
 }
 
 /// The states after each of so many scans, and what is written of them.
-fn trace_form(
+pub(crate) fn trace_form(
     alloc: Global,
     ladder: &Ladder,
     drawing: &str,

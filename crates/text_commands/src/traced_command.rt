@@ -1,0 +1,94 @@
+ghost use Rattle.std.specs.Prelude.{IfOk, IfErr, All, string_bytes};
+ghost use Rattle.text_commands.specs.Rows.{IsBoolAt, texts};
+ghost use Rattle.text_commands.specs.TestText.{ExplainsTest};
+ghost use Rattle.text_commands.specs.Traced.{WritesTraced};
+ghost use Rattle.text_commands.specs.Steps.Tracing.{IsTracedTest};
+
+use crate::eval_command::read_ladder;
+use crate::expectations::first_difference;
+use crate::form::Form;
+use crate::test_command::{eval_test, trace_form};
+use crate::test_words::{TestWords, read_test_words, test_scan_count};
+use crate::text_command_fault::TextCommandFault;
+use crate::traced::Traced;
+use crate::tracks::state_texts;
+use power_flow::Ladder;
+use std::alloc::{AllocError, Global};
+use std::io::Write;
+use text_writer::write_text;
+use traces::{TraceTexts, Wanted};
+
+/// The text of all scans of a test, the first difference, if there is one, and the texts of their trace.
+fn trace_whole(
+    alloc: Global,
+    ladder: &Ladder,
+    drawing: &str,
+    test: &TestWords<'_>,
+    dt: u32,
+    form: Form,
+    wanted: Wanted<'_>,
+) -> Result<(String, Traced), AllocError>
+    requires rows { All (λ row. IsBoolAt ladder.now.declarations row.place) test.now.rows.items }
+    requires expected { All (λ row. IsBoolAt ladder.now.declarations row.place) test.now.expected.items }
+    ensures { IfOk result (λ made. IsTracedTest drawing.now ladder.now.declarations ladder.now.networks dt form wanted.entry
+        test.now.rows.items test.now.expected.items (string_bytes made.0) made.1) }
+{
+    let scans = test_scan_count(test);
+    let (states, text) = trace_form(alloc, ladder, drawing, &test.rows, scans, dt, form)?;
+    let difference = first_difference(alloc, ladder.declarations(), &test.expected, &states)?;
+    let texts = state_texts(alloc, ladder.declarations(), &states, dt, wanted)?;
+    Ok((text, Traced { difference, texts }))
+}
+
+/// Evaluates a drawing as `eval_traced` does, where some text is wanted.
+fn eval_whole<W: Write>(
+    alloc: Global,
+    drawing: &str,
+    words: &[&str],
+    dt: u32,
+    form: Form,
+    wanted: Wanted<'_>,
+    writer: &mut W,
+) -> Result<Traced, TextCommandFault>
+    ensures ok { IfOk result
+        (WritesTraced drawing.now (texts words.now) dt form wanted.entry (W.contents writer.old) (W.contents writer.new)) }
+    ensures fault { IfErr result
+        (ExplainsTest drawing.now (texts words.now) dt form (W.contents writer.old) (W.contents writer.new)) }
+{
+    let ladder = read_ladder(alloc, drawing)?;
+    let test = read_test_words(alloc, ladder.declarations(), words)?;
+    let (text, traced) = trace_whole(alloc, &ladder, drawing, &test, dt, form, wanted)?;
+    write_text(writer, text.as_str())?;
+    Ok(traced)
+}
+
+/// Evaluates a drawing as `eval_test` does, and makes the texts of its trace that are wanted: of all its variables, with
+/// the value after each scan. A scan is shown for `dt` milliseconds, and for one where that is 0. The first one begins at 0.
+///
+/// Where a text is wanted nothing is written before the last scan. After a fault there are no texts; `Text` and `Word` come
+/// before anything is written, after `Write` what went out is a prefix and not all, after `Memory` a prefix.
+pub fn eval_traced<W: Write>(
+    alloc: Global,
+    drawing: &str,
+    words: &[&str],
+    dt: u32,
+    form: Form,
+    wanted: Wanted<'_>,
+    writer: &mut W,
+) -> Result<Traced, TextCommandFault>
+    ensures ok { IfOk result
+        (WritesTraced drawing.now (texts words.now) dt form wanted.entry (W.contents writer.old) (W.contents writer.new)) }
+    ensures fault { IfErr result
+        (ExplainsTest drawing.now (texts words.now) dt form (W.contents writer.old) (W.contents writer.new)) }
+{
+    if !wanted.is_nothing() {
+        return eval_whole(alloc, drawing, words, dt, form, wanted, writer);
+    }
+    match eval_test(alloc, drawing, words, dt, form, writer) {
+        Ok(difference) => Ok(Traced {
+            difference,
+            texts: TraceTexts::none(),
+        }),
+        Err(fault) => Err(fault),
+    }
+}
