@@ -1,0 +1,2 @@
+mod KeptLines
+mod LinesRead
