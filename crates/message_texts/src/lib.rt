@@ -10,5 +10,5 @@ mod names;
 mod outputs;
 mod reading;
 
-pub use message_line::push_message;
+pub use message_line::{push_message, push_name};
 pub use reading::read_message;

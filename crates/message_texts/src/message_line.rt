@@ -12,7 +12,7 @@ use std::alloc::AllocError;
 use std::fmt::Write;
 
 /// Writes a name, as `R1.FAST 1.2`, behind a line.
-fn push_name(line: &mut String, plant: &Plant, name: Name) -> Result<(), AllocError>
+pub fn push_name(line: &mut String, plant: &Plant, name: Name) -> Result<(), AllocError>
     ensures { OnOk result (GrowsBy line.old line.new (name_text plant.now name)) }
 {
     let incarnation = name.incarnation;

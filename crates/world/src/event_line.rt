@@ -15,7 +15,8 @@ use plant::Plant;
 use std::alloc::{AllocError, Global};
 use std::fmt::Write;
 
-fn push_accepted(line: &mut String, accepted: Accepted) -> Result<(), AllocError>
+/// Writes what a resource answers to a message behind a line.
+pub fn push_accepted(line: &mut String, accepted: Accepted) -> Result<(), AllocError>
     ensures { OnOk result (GrowsBy line.old line.new (accepted_text accepted)) }
 {
     match accepted {

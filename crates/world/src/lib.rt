@@ -16,15 +16,20 @@ mod sim_fault;
 mod simulation;
 
 pub use evaluation_line::push_evaluation;
+pub use event_line::push_accepted;
 pub use exchange::{
     Book, Done, Event, Misfit, Schedule, World, WorldFault, are_openings, books_are_consistent,
     consistency_theorem, fitting_entries_replay, holders_agree, initial_openings,
     keeping_the_greatest_keeps_the_latest, one_run, pairs_rise, runs_are_consistent,
     runs_are_entered, runs_could_be_made, runs_fit, runs_replay,
 };
+pub use line_fault::LineFault;
 pub use line_source::LineSource;
+pub use lines::{is_idle, without_last};
 pub use live::{simulate_in_turns, simulate_lines};
 pub use live_fault::LiveFault;
+pub use names::resource_of;
+pub use read_line::read_event;
 pub use schedule_laws::one_reading;
 pub use sim_fault::SimFault;
 pub use simulation::simulate;
