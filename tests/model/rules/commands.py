@@ -151,7 +151,7 @@ def number(word):
 class Files:
     """The files of a folder, each told by its path as it was given, and what comes from standard input."""
 
-    def __init__(self, folder, read):
+    def __init__(self, folder, read=()):
         self.folder, self.read = folder, read
 
     def lines_read(self):
