@@ -8,11 +8,10 @@ use crate::shown::Shown;
 use crate::status::WORD_REFUSED;
 use command_line::{Color, TextRequest, View};
 use guidance::{explain, kinds};
-use progress::{OnTerminal, ToldLines};
 use std::alloc::Global;
 use std::io;
 use std::io::Write;
-use std::rt::{Clock, Files};
+use std::rt::Files;
 use text_commands::{Difference, Form, TextCommandFault, check, eval_test, plan_text};
 use text_writer::write_text;
 
@@ -76,12 +75,10 @@ pub fn obey<W: Write>(
     }
 }
 
-/// Reads a file, and writes what is asked for of its text; the status. `terminal` is whether standard output is one, and
-/// `told` whether it is told on standard error how many lines went out.
-pub fn answer_text<R: Files + Clock + Print + Eprint + AllocGlobal>(
+/// Reads a file, and writes what is asked for of its text; the status. `terminal` is whether standard output is one.
+pub fn answer_text<R: Files + Print + Eprint + AllocGlobal>(
     rt: &R,
     terminal: bool,
-    told: bool,
     request: &TextRequest<'_>,
 ) -> io::Result<u8> {
     let file = request.file();
@@ -89,10 +86,8 @@ pub fn answer_text<R: Files + Clock + Print + Eprint + AllocGlobal>(
         Ok(text) => text,
         Err(status) => return Ok(status),
     };
-    let mut writer = ToldLines::new(io::writer(rt), OnTerminal::new(rt, told));
-    let answered = obey(rt.alloc(), terminal, request, text.as_str(), &mut writer);
-    writer.end();
-    match answered {
+    let mut writer = io::writer(rt);
+    match obey(rt.alloc(), terminal, request, text.as_str(), &mut writer) {
         Ok(None) => Ok(0),
         Ok(Some(difference)) => print_difference(rt, file, &difference),
         Err(fault) => print_fault(rt, file, text.as_str(), request.words(), fault.into()),

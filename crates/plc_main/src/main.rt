@@ -234,12 +234,10 @@ fn answer<R: Env + Files + Clock + Input + Print + Eprint + AllocGlobal + Thread
         Ok(given) => given,
         Err(error) => return print_given_fault(rt, &error),
     };
-    let shown = host.stdout().is_terminal();
-    let told = host.stderr().is_terminal();
     match read_words(rt.alloc(), given.as_slice()) {
-        Ok(Request::Text(request)) => answer_text(rt, shown, told && !shown, &request),
-        Ok(Request::Verify(request)) => answer_verify(rt, told, &request),
-        Ok(Request::Sim(request)) => answer_schedule(rt, told && !shown, &request),
+        Ok(Request::Text(request)) => answer_text(rt, host.stdout().is_terminal(), &request),
+        Ok(Request::Verify(request)) => answer_verify(rt, host.stderr().is_terminal(), &request),
+        Ok(Request::Sim(request)) => answer_schedule(rt, &request),
         Ok(Request::Run(request)) => answer_run(rt, host, &request),
         Ok(Request::Explain(Some(kind))) => answer_kind(rt, kind),
         Ok(Request::Explain(None)) => answer_kinds(rt),
