@@ -98,16 +98,6 @@ pub struct RunRequest<'a> {
     pub words: Vec<&'a str>,
 }
 
-/// One resource of a plant, of this name, as a node of its own, which answers the lines of standard input. The folder
-/// `state` keeps its incarnation; without it that is 1. It notes what it does in the file `journal`, if one is given.
-#[derive(Clone, Copy)]
-pub struct NodeRequest<'a> {
-    pub plant: &'a str,
-    pub resource: &'a str,
-    pub state: Option<&'a str>,
-    pub journal: Option<&'a str>,
-}
-
 /// What the words of the command line ask for.
 #[derive(Drop)]
 pub enum Request<'a> {
@@ -119,8 +109,6 @@ pub enum Request<'a> {
     Sim(SimRequest<'a>),
     /// What the threads of a plant do.
     Run(RunRequest<'a>),
-    /// What one resource of a plant does on a machine of its own.
-    Node(NodeRequest<'a>),
     /// What is told of the kinds of faults of this name; all kinds, where none is named.
     Explain(Option<&'a str>),
 }

@@ -2,12 +2,10 @@ ghost use Rattle.std.specs.Prelude.{◌≡◌, IfOk, MatchOption, Some, map, str
 ghost use Rattle.std.specs.Option.{option_map};
 ghost use Rattle.std.specs.Str.Parse.{digits_value};
 ghost use Rattle.clap.specs.Words.{rows_of, found_of, first_of, subcommand_of};
-ghost use Rattle.command_line.specs.CommandLine.{plc_app, IsNumber, GivesNumber, AsksEval, AsksVerify, AsksPlan, AsksSim, AsksRun, AsksNode, AsksFor, given_word, words_given, claims_given, is_given, GivesView, GivesColor};
+ghost use Rattle.command_line.specs.CommandLine.{plc_app, IsNumber, GivesNumber, AsksEval, AsksVerify, AsksPlan, AsksSim, AsksRun, AsksFor, given_word, words_given, claims_given, is_given, GivesView, GivesColor};
 
 use crate::commands::commands;
-use crate::request::{
-    Color, NodeRequest, Request, RunRequest, SimRequest, TextRequest, VerifyRequest, View,
-};
+use crate::request::{Color, Request, RunRequest, SimRequest, TextRequest, VerifyRequest, View};
 use clap::error::ErrorKind;
 use clap::{ArgMatches, Command, Error};
 use std::alloc::{AllocError, Global};
@@ -205,17 +203,6 @@ fn run_request<'a>(
     }))
 }
 
-fn node_request<'a>(inner: &ArgMatches<'a>) -> Request<'a>
-    ensures { AsksNode (rows_of (found_of inner.now)) result }
-{
-    Request::Node(NodeRequest {
-        plant: given_word(inner, "PLANT"),
-        resource: given_word(inner, "RESOURCE"),
-        state: word_of(inner, "state"),
-        journal: word_of(inner, "journal"),
-    })
-}
-
 /// What a command of that name asks for, by what was found for it.
 fn request_of<'a>(
     alloc: Global,
@@ -234,7 +221,6 @@ fn request_of<'a>(
         "plan" => plan_request(command, inner),
         "sim" => sim_request(command, inner),
         "run" => run_request(alloc, command, inner),
-        "node" => Ok(node_request(inner)),
         "explain" => Ok(Request::Explain(word_of(inner, "KIND"))),
         _ => Err(command.error(ErrorKind::MissingSubcommand, "a command is missing")?),
     }
