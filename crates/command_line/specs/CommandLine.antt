@@ -11,6 +11,7 @@ use Rattle.command_line.specs.declared.request.View.{View}
 use Rattle.command_line.specs.declared.request.View.TheVariants.{Rows, Drawings, Chart}
 use Rattle.command_line.specs.declared.request.Color.{Color}
 use Rattle.command_line.specs.declared.request.Color.TheVariants.{Always, Auto, Never}
+use Rattle.command_line.specs.declared.request.TraceFiles.{TraceFiles}
 use Rattle.command_line.specs.declared.request.Request.{Request}
 use Rattle.command_line.specs.declared.request.Request.TheVariants.{Text as OfText, Verify, Sim, Run, Explain}
 
@@ -65,6 +66,17 @@ show_rule = flag_of (codes "show")
 abbrev pub color_rule : Rule
 color_rule = option_of (codes "color")
 
+-- options `--vcd FILE` and `--svg FILE`
+abbrev pub vcd_rule : Rule
+vcd_rule = option_of (codes "vcd")
+
+abbrev pub svg_rule : Rule
+svg_rule = option_of (codes "svg")
+
+-- with the options for files of a trace, `[--vcd FILE] [--svg FILE]`
+abbrev pub traced : App → App
+traced a = with_rule (with_rule a vcd_rule) svg_rule
+
 -- an option `--never NAME`, once or more often
 abbrev pub never_rule : Rule
 never_rule = record (new_rule (codes "never")) {
@@ -85,11 +97,15 @@ words_rule = record (new_rule (codes "words")) {
   value_names = 1;
 }
 
--- `eval DRAWING [--dt MS] [--show] [--chart] [--color WHEN] [NAME=BITS]..`
-abbrev pub eval_app : App
-eval_app =
+-- `eval DRAWING [--dt MS] [--show] [--chart] [--color WHEN]`
+abbrev pub shown_app : App
+shown_app =
     let dt = with_rule (with_rule (new_app (codes "eval")) drawing_rule) dt_rule in
-    with_rule (with_rule (with_rule (with_rule dt show_rule) chart_rule) color_rule) words_rule
+    with_rule (with_rule (with_rule dt show_rule) chart_rule) color_rule
+
+-- .. `[--vcd FILE] [--svg FILE] [NAME=BITS]..`
+abbrev pub eval_app : App
+eval_app = with_rule (traced shown_app) words_rule
 
 -- `verify DRAWING --never NAME [--dt MS] [--most-states N] [NAME=BIT]..`
 abbrev pub verify_app : App
@@ -175,11 +191,18 @@ GivesColor word Always = word ≡ Some (codes "always")
 GivesColor word Auto = (word ≡ None) ⊎ (word ≡ Some (codes "auto"))
 GivesColor word Never = word ≡ Some (codes "never")
 
+-- the files behind `--vcd` and `--svg`
+abbrev pub AsksFiles : List Row → TraceFiles → Type 0
+AsksFiles found files =
+    (option_map (λ f. f.now) files.vcd ≡ first_of (codes "vcd") found)
+    × (option_map (λ f. f.now) files.svg ≡ first_of (codes "svg") found)
+
 abbrev pub AsksEval : List Row → Request → Type 0
-AsksEval found (OfText (Eval drawing dt view color words)) =
+AsksEval found (OfText (Eval drawing dt view color files words)) =
     (drawing.now ≡ given_word (codes "DRAWING") found) × GivesNumber 0 (first_of (codes "dt") found) dt
     × GivesView (is_given (codes "show") found) (is_given (codes "chart") found) view
-    × GivesColor (first_of (codes "color") found) color × (map (λ w. w.now) words.items ≡ words_given found)
+    × GivesColor (first_of (codes "color") found) color
+    × AsksFiles found files × (map (λ w. w.now) words.items ≡ words_given found)
 AsksEval found (OfText (Check plant)) = ⊥
 AsksEval found (OfText (Plan plant until)) = ⊥
 AsksEval found (Verify verify) = ⊥
@@ -200,7 +223,7 @@ AsksVerify found (Run run) = ⊥
 AsksVerify found (Explain kind) = ⊥
 
 abbrev pub AsksCheck : List Row → Request → Type 0
-AsksCheck found (OfText (Eval drawing dt view color words)) = ⊥
+AsksCheck found (OfText (Eval drawing dt view color files words)) = ⊥
 AsksCheck found (OfText (Check plant)) = plant.now ≡ given_word (codes "PLANT") found
 AsksCheck found (OfText (Plan plant until)) = ⊥
 AsksCheck found (Verify verify) = ⊥
@@ -209,7 +232,7 @@ AsksCheck found (Run run) = ⊥
 AsksCheck found (Explain kind) = ⊥
 
 abbrev pub AsksPlan : List Row → Request → Type 0
-AsksPlan found (OfText (Eval drawing dt view color words)) = ⊥
+AsksPlan found (OfText (Eval drawing dt view color files words)) = ⊥
 AsksPlan found (OfText (Check plant)) = ⊥
 AsksPlan found (OfText (Plan plant until)) =
     (plant.now ≡ given_word (codes "PLANT") found) × GivesNumber 0 (first_of (codes "until") found) until
@@ -219,7 +242,7 @@ AsksPlan found (Run run) = ⊥
 AsksPlan found (Explain kind) = ⊥
 
 abbrev pub AsksSim : List Row → Request → Type 0
-AsksSim found (OfText (Eval drawing dt view color words)) = ⊥
+AsksSim found (OfText (Eval drawing dt view color files words)) = ⊥
 AsksSim found (OfText (Check plant)) = ⊥
 AsksSim found (OfText (Plan plant until)) = ⊥
 AsksSim found (Verify verify) = ⊥
@@ -230,7 +253,7 @@ AsksSim found (Run run) = ⊥
 AsksSim found (Explain kind) = ⊥
 
 abbrev pub AsksRun : List Row → Request → Type 0
-AsksRun found (OfText (Eval drawing dt view color words)) = ⊥
+AsksRun found (OfText (Eval drawing dt view color files words)) = ⊥
 AsksRun found (OfText (Check plant)) = ⊥
 AsksRun found (OfText (Plan plant until)) = ⊥
 AsksRun found (Verify verify) = ⊥
@@ -262,12 +285,18 @@ AsksFor (Some (name, found)) request =
 
 -- the file that is to be read
 abbrev pub file_of : TextRequest → List ℕ
-file_of (Eval drawing dt view color words) = drawing.now
+file_of (Eval drawing dt view color files words) = drawing.now
 file_of (Check plant) = plant.now
 file_of (Plan plant until) = plant.now
 
+-- the files that are written of a trace
+abbrev pub files_in : TextRequest → TraceFiles
+files_in (Eval drawing dt view color files words) = files
+files_in (Check plant) = record { vcd = None; svg = None }
+files_in (Plan plant until) = record { vcd = None; svg = None }
+
 -- the words NAME=BITS and NAME==BITS
 abbrev pub words_in : TextRequest → List (List ℕ)
-words_in (Eval drawing dt view color words) = map (λ w. w.now) words.items
+words_in (Eval drawing dt view color files words) = map (λ w. w.now) words.items
 words_in (Check plant) = []
 words_in (Plan plant until) = []

@@ -1,6 +1,6 @@
 ghost use Rattle.std.specs.Prelude.{◌≡◌, false, IfOk, codes};
 ghost use Rattle.clap.specs.Words.{app_of, new_app, rule_of};
-ghost use Rattle.command_line.specs.CommandLine.{needed_word, option_of, flag_of, words_rule, plant_rule, until_rule, state_rule, paced_rule, show_rule, chart_rule, color_rule, kind_rule, never_rule, eval_app, verify_app, check_app, plan_app, sim_app, run_app, explain_app, versioned, commanded, plc_app, text_app};
+ghost use Rattle.command_line.specs.CommandLine.{needed_word, option_of, flag_of, words_rule, plant_rule, until_rule, state_rule, paced_rule, show_rule, chart_rule, color_rule, vcd_rule, svg_rule, traced, kind_rule, never_rule, shown_app, eval_app, verify_app, check_app, plan_app, sim_app, run_app, explain_app, versioned, commanded, plc_app, text_app};
 
 use crate::help::{
     CHECK_HELP, EVAL_HELP, EXPLAIN_HELP, FIRST_STEPS, PLAN_HELP, RUN_HELP, SIM_HELP, VERIFY_HELP,
@@ -134,6 +134,32 @@ fn color_arg<'a>(alloc: Global) -> Arg<'a>
     )
 }
 
+fn vcd_arg<'a>(alloc: Global) -> Arg<'a>
+    ensures rule { rule_of result ≡ vcd_rule }
+    ensures local { result.global ≡ false }
+{
+    number_arg(
+        alloc,
+        "vcd",
+        "FILE",
+        "A file for a value change dump, which programs that show waves read",
+    )
+}
+
+fn svg_arg<'a>(alloc: Global) -> Arg<'a>
+    ensures rule { rule_of result ≡ svg_rule }
+    ensures local { result.global ≡ false }
+{
+    number_arg(alloc, "svg", "FILE", "A file for a timing diagram (SVG)")
+}
+
+/// The options for files of a trace.
+fn traced_command<'a>(alloc: Global, command: Command<'a>) -> Result<Command<'a>, AllocError>
+    ensures { IfOk result (λ c. app_of c ≡ traced (app_of command.entry)) }
+{
+    command.arg(vcd_arg(alloc))?.arg(svg_arg(alloc))
+}
+
 fn kind_arg<'a>(alloc: Global) -> Arg<'a>
     ensures rule { rule_of result ≡ kind_rule }
     ensures local { result.global ≡ false }
@@ -155,8 +181,9 @@ fn never_arg<'a>(alloc: Global) -> Arg<'a>
         .help("A BOOL variable that is never to be TRUE; may be given several times")
 }
 
-fn eval_command<'a>(alloc: Global) -> Result<Command<'a>, AllocError>
-    ensures { IfOk result (λ c. app_of c ≡ eval_app) }
+/// The command `eval` without its files and words.
+fn shown_command<'a>(alloc: Global) -> Result<Command<'a>, AllocError>
+    ensures { IfOk result (λ c. app_of c ≡ shown_app) }
 {
     Command::new(alloc, "eval")
         .about("Evaluates a drawing, scan by scan, and writes its variables after each scan")
@@ -170,12 +197,17 @@ fn eval_command<'a>(alloc: Global) -> Result<Command<'a>, AllocError>
         ))?
         .arg(show_arg(alloc))?
         .arg(chart_arg(alloc))?
-        .arg(color_arg(alloc))?
-        .arg(words_arg(
-            alloc,
-            "NAME=BITS",
-            "The values of a variable, a digit for each scan; NAME==BITS: what they are to be after it",
-        ))
+        .arg(color_arg(alloc))
+}
+
+fn eval_command<'a>(alloc: Global) -> Result<Command<'a>, AllocError>
+    ensures { IfOk result (λ c. app_of c ≡ eval_app) }
+{
+    traced_command(alloc, shown_command(alloc)?)?.arg(words_arg(
+        alloc,
+        "NAME=BITS",
+        "The values of a variable, a digit for each scan; NAME==BITS: what they are to be after it",
+    ))
 }
 
 fn verify_command<'a>(alloc: Global) -> Result<Command<'a>, AllocError>

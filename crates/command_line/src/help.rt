@@ -25,6 +25,10 @@ after the first scan, and behind a blank after each one that changed it.
 A word NAME==BITS tells what the BOOL variable NAME is to be after each scan, and behind its last digit nothing.
 The first difference is told on standard error.
 
+With --vcd FILE all variables are written as a value change dump (IEEE 1364) after the last scan, for programs that show
+waves; with --svg FILE as a timing diagram, which a browser shows. The first scan is at 0 ms, each further one --dt MS later,
+or 1 ms where that is 0. A file is written whole, in the place of one of its name; both options may be given.
+
 Example, for the drawing examples/start_stop.ladder:
 
   $ plc eval examples/start_stop.ladder START=100 STOP=001
@@ -41,9 +45,10 @@ Example, for the drawing examples/start_stop.ladder:
   START #__
   STOP  __#
   RUN   ##_
+  $ plc eval examples/start_stop.ladder START=100 STOP=001 --svg start_stop.svg >/dev/null
 
 The exit status is 0; 1 if the text of the drawing is refused, with FILE:LINE:COLUMN: Kind on standard error;
-2 if a word is refused; 3 if the file can't be read, the output can't be written or there is no memory left;
+2 if a word is refused; 3 if the file can't be read, the output or a file can't be written or there is no memory left;
 4 if a variable isn't what a word NAME==BITS tells.";
 
 /// What `plc verify --help` tells behind the words.

@@ -7,5 +7,7 @@ mod request;
 mod words;
 
 pub use help::FIRST_STEPS;
-pub use request::{Color, Request, RunRequest, SimRequest, TextRequest, VerifyRequest, View};
+pub use request::{
+    Color, Request, RunRequest, SimRequest, TextRequest, TraceFiles, VerifyRequest, View,
+};
 pub use words::read_words;

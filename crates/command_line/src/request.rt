@@ -1,5 +1,5 @@
 ghost use Rattle.std.specs.Prelude.{◌≡◌, map};
-ghost use Rattle.command_line.specs.CommandLine.{file_of, words_in};
+ghost use Rattle.command_line.specs.CommandLine.{file_of, files_in, words_in};
 
 /// What is written of the scans of a drawing.
 #[derive(Clone, Copy, Debug, PartialEq, Eq)]
@@ -21,6 +21,21 @@ pub enum Color {
     Never,
 }
 
+/// The files that are written of a trace: a value change dump, and a timing diagram.
+#[derive(Clone, Copy, Debug)]
+pub struct TraceFiles<'a> {
+    pub vcd: Option<&'a str>,
+    pub svg: Option<&'a str>,
+}
+
+impl TraceFiles<'_> {
+    /// No files.
+    pub const NONE: TraceFiles<'static> = TraceFiles {
+        vcd: None,
+        svg: None,
+    };
+}
+
 /// What is done with the text of one file.
 #[derive(Drop)]
 pub enum TextRequest<'a> {
@@ -31,6 +46,7 @@ pub enum TextRequest<'a> {
         dt: u32,
         view: View,
         color: Color,
+        files: TraceFiles<'a>,
         words: Vec<&'a str>,
     },
     /// How many resources, tasks, programs and connections a plant has.
@@ -53,6 +69,16 @@ impl<'a> TextRequest<'a> {
             TextRequest::Eval { drawing, .. } => drawing,
             TextRequest::Check { plant } => plant,
             TextRequest::Plan { plant, .. } => plant,
+        }
+    }
+
+    /// The files that are written of a trace.
+    pub fn files(&self) -> TraceFiles<'a>
+        ensures { result ≡ files_in self.now }
+    {
+        match self {
+            TextRequest::Eval { files, .. } => *files,
+            TextRequest::Check { .. } | TextRequest::Plan { .. } => TraceFiles::NONE,
         }
     }
 

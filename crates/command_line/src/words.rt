@@ -2,10 +2,12 @@ ghost use Rattle.std.specs.Prelude.{◌≡◌, IfOk, MatchOption, Some, map, str
 ghost use Rattle.std.specs.Option.{option_map};
 ghost use Rattle.std.specs.Str.Parse.{digits_value};
 ghost use Rattle.clap.specs.Words.{rows_of, found_of, first_of, subcommand_of};
-ghost use Rattle.command_line.specs.CommandLine.{plc_app, IsNumber, GivesNumber, AsksEval, AsksVerify, AsksPlan, AsksSim, AsksRun, AsksFor, given_word, words_given, claims_given, is_given, GivesView, GivesColor};
+ghost use Rattle.command_line.specs.CommandLine.{plc_app, IsNumber, GivesNumber, AsksEval, AsksVerify, AsksPlan, AsksSim, AsksRun, AsksFiles, AsksFor, given_word, words_given, claims_given, is_given, GivesView, GivesColor};
 
 use crate::commands::commands;
-use crate::request::{Color, Request, RunRequest, SimRequest, TextRequest, VerifyRequest, View};
+use crate::request::{
+    Color, Request, RunRequest, SimRequest, TextRequest, TraceFiles, VerifyRequest, View,
+};
 use clap::error::ErrorKind;
 use clap::{ArgMatches, Command, Error};
 use std::alloc::{AllocError, Global};
@@ -90,6 +92,16 @@ fn claims_given<'a>(alloc: Global, matches: &ArgMatches<'a>) -> Result<Vec<&'a s
     }
 }
 
+/// The files that are written of a trace.
+fn files_of<'a>(matches: &ArgMatches<'a>) -> TraceFiles<'a>
+    ensures { AsksFiles (rows_of (found_of matches.now)) result }
+{
+    TraceFiles {
+        vcd: word_of(matches, "vcd"),
+        svg: word_of(matches, "svg"),
+    }
+}
+
 /// What is written of the scans, by the flags that were given.
 fn view_of<'a>(command: &mut Command<'a>, show: bool, chart: bool) -> Result<View, Error>
     ensures { IfOk result (GivesView show chart) }
@@ -136,6 +148,7 @@ fn eval_request<'a>(
         dt: number_of(command, inner, "dt", 0, DT_REFUSED)?,
         view: view_of(command, is_given(inner, "show"), is_given(inner, "chart"))?,
         color: color_of(command, word_of(inner, "color"))?,
+        files: files_of(inner),
         words: words_given(alloc, inner)?,
     }))
 }

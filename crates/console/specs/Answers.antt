@@ -1,5 +1,6 @@
 -- What the program writes for the words of its command line.
 use Rattle.std.specs.Prelude.{◌≡◌, ℕ, List, Option, None, Bool, true, false}
+use Rattle.std.specs.Option.{option_map, option_map_or}
 use Rattle.command_line.specs.declared.request.TextRequest.{TextRequest}
 use Rattle.command_line.specs.declared.request.TextRequest.TheVariants.{Eval, Check, Plan}
 use Rattle.command_line.specs.declared.request.View.{View}
@@ -10,8 +11,11 @@ use Rattle.command_line.specs.CommandLine.{words_in}
 use Rattle.text_commands.specs.declared.form.Form.{Form}
 use Rattle.text_commands.specs.declared.form.Form.TheVariants.{Rows, Drawings, Chart}
 use Rattle.text_commands.specs.declared.text_command_fault.TextCommandFault.{TextCommandFault}
-use Rattle.text_commands.specs.TestText.{WritesTest, ExplainsTest}
-use Rattle.text_commands.specs.declared.difference.Difference.{Difference}
+use Rattle.command_line.specs.declared.request.TraceFiles.{TraceFiles}
+use Rattle.traces.specs.declared.texts.Wanted.{Wanted}
+use Rattle.text_commands.specs.TestText.{ExplainsTest}
+use Rattle.text_commands.specs.Traced.{WritesTraced}
+use Rattle.text_commands.specs.declared.traced.Traced.{Traced}
 use Rattle.text_commands.specs.CheckText.{WritesCheck, ExplainsCheck}
 use Rattle.text_commands.specs.PlanText.{WritesPlan, ExplainsPlan}
 
@@ -27,17 +31,30 @@ form_of view.Rows color terminal = Rows
 form_of view.Drawings color terminal = Drawings (is_colored color terminal)
 form_of view.Chart color terminal = Chart
 
+-- a dump is wanted where it has a file, and a diagram, under this title, where it has one
+pub record AreWantedFor (title : List ℕ) (files : TraceFiles) (wanted : Wanted) : Type 0 where
+  pub dump : wanted.dump ≡ option_map_or (λ f. true) files.vcd false
+  pub diagram : option_map (λ t. t.now) wanted.diagram ≡ option_map (λ f. title) files.svg
+
+-- nothing was expected, and no texts of a trace are made
+pub record HasNoTrace (traced : Traced) : Type 0 where
+  pub difference : traced.difference ≡ None
+  pub dump : traced.texts.dump ≡ None
+  pub diagram : traced.texts.diagram ≡ None
+
 -- what was asked for was written: by its own command, with its words, at its times; and this is the first difference from
--- what they expect, if there is one
-abbrev pub WritesAnswer : Bool → TextRequest → List ℕ → Option (List ℕ) → Option (List ℕ) → Option Difference → Type 0
-WritesAnswer terminal (Eval drawing dt view color words) text old new found =
-    WritesTest text (words_in (Eval drawing dt view color words)) dt (form_of view color terminal) old new found
-WritesAnswer terminal (Check plant) text old new found = WritesCheck text old new × (found ≡ None)
-WritesAnswer terminal (Plan plant until) text old new found = WritesPlan text until old new × (found ≡ None)
+-- what they expect, if there is one, with the texts for the files that are wanted
+abbrev pub WritesAnswer : Bool → TextRequest → List ℕ → Option (List ℕ) → Option (List ℕ) → Traced → Type 0
+WritesAnswer terminal (Eval drawing dt view color files words) text old new traced =
+    (wanted : Wanted) × AreWantedFor drawing.now files wanted
+    × WritesTraced text (words_in (Eval drawing dt view color files words)) dt (form_of view color terminal) wanted old new
+    traced
+WritesAnswer terminal (Check plant) text old new traced = WritesCheck text old new × HasNoTrace traced
+WritesAnswer terminal (Plan plant until) text old new traced = WritesPlan text until old new × HasNoTrace traced
 
 -- why what was asked for wasn't written, and what was written before
 abbrev pub ExplainsAnswer : Bool → TextRequest → List ℕ → Option (List ℕ) → Option (List ℕ) → TextCommandFault → Type 0
-ExplainsAnswer terminal (Eval drawing dt view color words) text old new fault =
-    ExplainsTest text (words_in (Eval drawing dt view color words)) dt (form_of view color terminal) old new fault
+ExplainsAnswer terminal (Eval drawing dt view color files words) text old new fault =
+    ExplainsTest text (words_in (Eval drawing dt view color files words)) dt (form_of view color terminal) old new fault
 ExplainsAnswer terminal (Check plant) text old new fault = ExplainsCheck text old new fault
 ExplainsAnswer terminal (Plan plant until) text old new fault = ExplainsPlan text until old new fault

@@ -1,19 +1,21 @@
 ghost use Rattle.std.specs.Prelude.{◌≡◌, IfOk, IfErr};
-ghost use Rattle.console.specs.Answers.{WritesAnswer, ExplainsAnswer, form_of, is_colored};
+ghost use Rattle.console.specs.Answers.{AreWantedFor, HasNoTrace, WritesAnswer, ExplainsAnswer, form_of, is_colored};
 
+use crate::answered::Answered;
 use crate::command_fault::CommandFault;
 use crate::faults::{print_difference, print_failure, print_fault};
 use crate::files::file_text;
 use crate::shown::Shown;
 use crate::status::WORD_REFUSED;
-use command_line::{Color, TextRequest, View};
+use command_line::{Color, TextRequest, TraceFiles, View};
 use guidance::{explain, kinds};
 use std::alloc::Global;
 use std::io;
 use std::io::Write;
 use std::rt::Files;
-use text_commands::{Difference, Form, TextCommandFault, check, eval_test, plan_text};
+use text_commands::{Form, TextCommandFault, Traced, check, eval_traced, plan_text};
 use text_writer::write_text;
+use traces::{TraceTexts, Wanted};
 
 /// Whether there is color.
 fn is_colored(color: Color, terminal: bool) -> bool
@@ -39,15 +41,38 @@ fn form_of(view: View, color: Color, terminal: bool) -> Form
     }
 }
 
-/// Writes what the words ask for of the text of the file; the first difference from what they expect, if there is one.
-/// `terminal` is whether standard output is one.
+/// The texts of a trace that are wanted for its files. A diagram has this title.
+pub fn wanted_for<'a>(title: &'a str, files: TraceFiles<'_>) -> Wanted<'a>
+    ensures { AreWantedFor title.entry.now files.entry result }
+{
+    Wanted {
+        dump: files.vcd.is_some(),
+        diagram: match files.svg {
+            Some(_) => Some(title),
+            None => None,
+        },
+    }
+}
+
+/// Neither a difference nor texts of a trace.
+fn without_trace() -> Traced
+    ensures { HasNoTrace result }
+{
+    Traced {
+        difference: None,
+        texts: TraceTexts::none(),
+    }
+}
+
+/// Writes what the words ask for of the text of the file; the first difference from what they expect, if there is one, and
+/// the texts for the files of a trace. `terminal` is whether standard output is one.
 pub fn obey<W: Write>(
     alloc: Global,
     terminal: bool,
     request: &TextRequest<'_>,
     text: &str,
     writer: &mut W,
-) -> Result<Option<Difference>, TextCommandFault>
+) -> Result<Traced, TextCommandFault>
     ensures ok { IfOk result
         (WritesAnswer terminal request.now text.now (W.contents writer.old) (W.contents writer.new)) }
     ensures fault { IfErr result
@@ -55,42 +80,53 @@ pub fn obey<W: Write>(
 {
     match request {
         TextRequest::Eval {
+            drawing,
             dt,
             view,
             color,
+            files,
             words,
-            ..
         } => {
             let form = form_of(*view, *color, terminal);
-            eval_test(alloc, text, words, *dt, form, writer)
+            let wanted = wanted_for(drawing, *files);
+            eval_traced(alloc, text, words, *dt, form, wanted, writer)
         }
         TextRequest::Check { .. } => {
             check(alloc, text, writer)?;
-            Ok(None)
+            Ok(without_trace())
         }
         TextRequest::Plan { until, .. } => {
             plan_text(alloc, text, *until, writer)?;
-            Ok(None)
+            Ok(without_trace())
         }
     }
 }
 
-/// Reads a file, and writes what is asked for of its text; the status. `terminal` is whether standard output is one.
+/// Reads a file, and writes what is asked for of its text; the status, and the texts for the files of a trace. `terminal` is
+/// whether standard output is one.
 pub fn answer_text<R: Files + Print + Eprint + AllocGlobal>(
     rt: &R,
     terminal: bool,
     request: &TextRequest<'_>,
-) -> io::Result<u8> {
+) -> io::Result<Answered> {
     let file = request.file();
     let text = match file_text(rt, file)? {
         Ok(text) => text,
-        Err(status) => return Ok(status),
+        Err(status) => return Ok(Answered::with(status)),
     };
     let mut writer = io::writer(rt);
     match obey(rt.alloc(), terminal, request, text.as_str(), &mut writer) {
-        Ok(None) => Ok(0),
-        Ok(Some(difference)) => print_difference(rt, file, &difference),
-        Err(fault) => print_fault(rt, file, text.as_str(), request.words(), fault.into()),
+        Ok(Traced { difference, texts }) => {
+            let status = match difference {
+                None => 0,
+                Some(difference) => print_difference(rt, file, &difference)?,
+            };
+            Ok(Answered { status, texts })
+        }
+        Err(fault) => {
+            let status = print_fault(rt, file, text.as_str(), request.words(), fault.into())?;
+            Ok(Answered::with(status))
+        }
     }
 }
 

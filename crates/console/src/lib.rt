@@ -1,6 +1,7 @@
 //! What the program tells for what it is asked but a run in threads: answers, refusals, and statuses.
 #![tactic(auto)]
 
+mod answered;
 mod answers;
 mod command_fault;
 mod faults;
@@ -14,6 +15,7 @@ mod shown;
 mod status;
 mod verify_answer;
 
+pub use answered::Answered;
 pub use answers::{answer_kind, answer_kinds, answer_text, obey};
 pub use command_fault::CommandFault;
 pub use faults::{print_failure, print_fault};

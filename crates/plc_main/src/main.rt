@@ -2,6 +2,7 @@
 #![tactic(auto)]
 
 mod run_command;
+mod trace_files;
 
 ghost use Rattle.std.specs.Prelude.{◌≡◌, length, vec_len, IfOk, IfErr};
 ghost use Rattle.plc_main.specs.RunText.{WritesReport, ExplainsRun};
@@ -24,6 +25,7 @@ use std::process::ExitCode;
 use std::rt::{Clock, Env, Files};
 use std::sync::{Arc, Wait};
 use std::thread::Threads;
+use trace_files::write_files;
 
 /// How often a paced command looks, at most, whether the one before it is done.
 const TURNS: u64 = 10_000_000;
@@ -235,7 +237,10 @@ fn answer<R: Env + Files + Clock + Input + Print + Eprint + AllocGlobal + Thread
         Err(error) => return print_given_fault(rt, &error),
     };
     match read_words(rt.alloc(), given.as_slice()) {
-        Ok(Request::Text(request)) => answer_text(rt, host.stdout().is_terminal(), &request),
+        Ok(Request::Text(request)) => {
+            let answered = answer_text(rt, host.stdout().is_terminal(), &request)?;
+            write_files(rt, host, request.files(), answered)
+        }
         Ok(Request::Verify(request)) => answer_verify(rt, host.stderr().is_terminal(), &request),
         Ok(Request::Sim(request)) => answer_schedule(rt, &request),
         Ok(Request::Run(request)) => answer_run(rt, host, &request),

@@ -5,6 +5,7 @@ from rules.blocks import inputs_of, outputs_of
 from rules.words import BLOCK_TYPES
 
 from .pieces import Branch, Piece, Side, beside, box, fork, in_a_row, symbol, wire
+from .traces import trace_words
 
 TIMERS, COUNTERS = ("TP", "TON", "TOF"), ("CTU", "CTD", "CTUD")
 CONTACTS = ["| |"] * 5 + ["|/|"] * 3 + ["|P|", "|N|", "|p|", "|n|"]
@@ -271,6 +272,12 @@ def drawing(chance):
         words.append(f"{cased(chance, name)}=={digits(chance, chance.randint(1, min(scans, 4)))}")
     words += ["--chart"] * (chance.random() < 0.3)
     return {"it.ladder": text}, [words]
+
+
+def traced(chance):
+    """A drawing with the files of its trace."""
+    files, [words] = drawing(chance)
+    return files, [words + trace_words(chance)]
 
 
 def shown(chance):

@@ -17,6 +17,7 @@ from .refusal import Refusal
 from .run import Run, do_in_turns, lines_of_run
 from .scan import Ladder, State
 from .schedule import MOST_U32, events_of
+from .traces import Track, diagram, dump
 from .verify import MOST_INPUTS, Search, line_of, stored_names, verdict_lines
 
 REFUSED_TEXT, REFUSED_WORDS, NO_FILE, DIFFERS, UNDECIDED = 1, 2, 3, 4, 5
@@ -43,7 +44,7 @@ class Refused(Exception):
 
 @dataclass
 class Shape:
-    """The words that a command has: its files, its options with a number, with one of a few words or with a name of a folder,
+    """The words that a command has: its files, its options with a number, with one of a few words or with a name of a file or folder,
     its flags, its options that may stand several times, and whether further words follow."""
 
     files: int
@@ -59,7 +60,7 @@ class Shape:
 COLORS = ("always", "auto", "never")
 
 SHAPES = {
-    "eval": Shape(1, numbers=("--dt",), choices={"--color": COLORS}, flags=("--show", "--chart"), has_more=True),
+    "eval": Shape(1, ("--dt",), {"--color": COLORS}, ("--vcd", "--svg"), ("--show", "--chart"), has_more=True),
     "verify": Shape(1, numbers=("--dt", "--most-states"), lists=("--never",), needed=("--never",), has_more=True),
     "check": Shape(1),
     "plan": Shape(1, numbers=("--until",), needed=("--until",)),
@@ -169,6 +170,17 @@ class Files:
         except (OSError, UnicodeDecodeError):
             raise Refused(NO_FILE) from None
 
+    def write_traces(self, options, title, step, moments, tracks):
+        """The files of a trace that are asked for."""
+        if "--vcd" in options:
+            self.write(options["--vcd"], dump(step, moments, tracks))
+        if "--svg" in options:
+            self.write(options["--svg"], diagram(title, step, moments, tracks))
+
+    def write(self, path, text):
+        with open(os.path.join(self.folder, path), "w", encoding="utf-8", newline="") as file:
+            file.write(text)
+
     def plant(self, path):
         try:
             return read_plant(self.text(path))
@@ -209,6 +221,8 @@ def evaluate(write, files, paths, options, more):
         lines = lines_of_scans(variables, traced)
     for line in lines:
         write(line)
+    tracks = [Track(None, it.name, it.kind, [values[words.fold(it.name)] for values in traced]) for it in variables]
+    files.write_traces(options, paths[0], options.get("--dt", 0) or 1, len(traced), tracks)
     tell_difference(paths[0], variables, expected, traced)
 
 

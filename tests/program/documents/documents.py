@@ -76,6 +76,13 @@ def try_commands(name, place):
             told.append(f"{name}: {command}: writes\n{found}and not\n{wanted}")
 
 
+def try_picture(name, place):
+    """A picture of the guides is what their commands left."""
+    path = os.path.join(place, name)
+    if not os.path.exists(path) or open(path, encoding="utf-8").read() != read("docs", name):
+        told.append(f"docs/{name}: it isn't what a command of the documents writes")
+
+
 def try_schedule(name, place):
     text = read("examples", name)
     wanted = re.findall(r"(?m)^# ((?:EVAL|DELIVER|RESTART|HEAR|REFUSED) .*)", text)
@@ -158,12 +165,15 @@ def listed_kinds(place):
 
 
 def main():
-    documents = ["README.md", "examples/README.md", *(f"docs/{it}" for it in sorted(os.listdir(os.path.join(ROOT, "docs"))))]
+    listed = sorted(os.listdir(os.path.join(ROOT, "docs")))
+    documents = ["README.md", "examples/README.md", *(f"docs/{it}" for it in listed if it.endswith(".md"))]
     with tempfile.TemporaryDirectory() as place:
         for name in ("plc", "examples"):
             os.symlink(os.path.join(ROOT, name), os.path.join(place, name))
         for name in documents:
             try_commands(name, place)
+        for name in (it for it in listed if it.endswith(".svg")):
+            try_picture(name, place)
         for name in sorted(os.listdir(os.path.join(ROOT, "examples"))):
             if name.endswith(".schedule"):
                 try_schedule(name, place)
