@@ -3,14 +3,16 @@ import os
 from dataclasses import dataclass, field
 
 from . import words
+from .audit import Audit
 from .binding import guessed, refuse_names
 from .drawing_faults import read_drawing
 from .inputs import BadInput, Inputs, parts_of
 from .kept_files import BadFile, KeptFiles
 from .lines import lines_of
 from .networks import networks_of
+from .node import Node, NoFiles
 from .plan import plan_of
-from .plant_text import read_plant
+from .plant_text import find, read_plant
 from .refusal import Refusal
 from .run import Run, do_in_turns, lines_of_run
 from .scan import Ladder, State
@@ -64,18 +66,20 @@ SHAPES = {
     "plan": Shape(1, numbers=("--until",), needed=("--until",)),
     "sim": Shape(2, numbers=("--max-number",)),
     "run": Shape(1, numbers=("--until",), names=("--state",), flags=("--paced",), needed=("--until",), has_more=True),
+    "node": Shape(2, names=("--state", "--journal")),
+    "audit": Shape(2, has_more=True),
 }
 
 
-def answer_of(given, folder="."):
-    """What the program does with these words in a folder."""
+def answer_of(given, folder=".", read=(), write=None):
+    """What the program does with these words in a folder, where it reads these lines of bytes; each line is written when it is known."""
     answer = Answer()
     try:
         if not given or given[0] not in SHAPES:
             raise Refused(REFUSED_WORDS)
         files, options, more = read_words(SHAPES[given[0]], given[1:])
         answer.lines = []
-        COMMANDS[given[0]](answer.lines.append, Files(folder), files, options, more)
+        COMMANDS[given[0]](write or answer.lines.append, Files(folder, read), files, options, more)
     except Refused as refused:
         answer.status, answer.told = refused.status, refused.told
     return answer
@@ -146,10 +150,18 @@ def number(word):
 
 
 class Files:
-    """The files of a folder, each told by its path as it was given."""
+    """The files of a folder, each told by its path as it was given, and what comes from standard input."""
 
-    def __init__(self, folder):
-        self.folder = folder
+    def __init__(self, folder, read=()):
+        self.folder, self.read = folder, read
+
+    def lines_read(self):
+        """The lines of standard input, each without its line feed and one carriage return before it."""
+        return (it.decode("utf-8", "surrogateescape").removesuffix("\n").removesuffix("\r") for it in self.read)
+
+    def append(self, path, text):
+        with open(os.path.join(self.folder, path), "a", encoding="utf-8", newline="") as file:
+            file.write(text)
 
     def text(self, path):
         try:
@@ -343,4 +355,39 @@ def run_paced(write, files, paths, options, more):
     write("REPLAY equal")
 
 
-COMMANDS = {"eval": evaluate, "verify": verify, "check": check, "plan": plan, "sim": simulate, "run": run_paced}
+def node(write, files, paths, options, _more):
+    plant = files.plant(paths[0])
+    resource = find(plant.resources, paths[1])
+    if not resource:
+        raise Refused(REFUSED_WORDS)
+    keeper = KeptFiles(files.folder, options["--state"]) if "--state" in options else NoFiles()
+    try:
+        it = Node(plant, resource, keeper, lambda line: "--journal" in options and files.append(options["--journal"], f"{line};\n"))
+        for line in it.first:
+            write(line)
+        for line in files.lines_read():
+            for answered in it.answer(line):
+                write(answered)
+    except (BadFile, OSError):
+        raise Refused(NO_FILE) from None
+
+
+def audit(write, files, paths, _options, more):
+    plant, journals = files.plant(paths[0]), [paths[1], *more]
+    found = Audit(plant, [(path, files.text(path)) for path in journals])
+    for line in found.lines():
+        write(line)
+    if not found.is_whole:
+        raise Refused(NO_FILE)
+
+
+COMMANDS = {
+    "eval": evaluate,
+    "verify": verify,
+    "check": check,
+    "plan": plan,
+    "sim": simulate,
+    "run": run_paced,
+    "node": node,
+    "audit": audit,
+}

@@ -41,6 +41,8 @@ OCCASIONS = {
     "in a FAULT line of plc run": ("RUN.md", "Each cause"),
     "where plc run gives no report": ("RUN.md", "When there is no report"),
     "in a folder of state": ("RUN.md", "A folder of state"),
+    "in a REFUSED line of plc node": ("MACHINES.md", "When a line is refused"),
+    "in an UNSHOWN line of plc audit": ("MACHINES.md", "What can't be shown"),
 }
 told = []
 

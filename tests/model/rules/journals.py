@@ -1,0 +1,122 @@
+"""The journal of a node: what stands in it, and which lines of it were done."""
+from dataclasses import dataclass
+
+from . import words
+from .core import message_of
+from .inputs import parts_of
+from .kept_files import BadFile, value_of
+from .plant_text import find
+from .run import pair
+from .schedule import MOST_U32, Evaluate, evaluation_of, number_up_to
+
+
+@dataclass
+class Start:
+    resource: object
+    incarnation: int
+    kept: dict
+
+
+@dataclass
+class Restart:
+    resource: object
+    incarnation: int
+
+
+@dataclass
+class Hello:
+    resource: object
+    incarnation: int
+
+
+@dataclass
+class Evaluated:
+    task: object
+    elapsed: int
+    inputs: object
+
+
+def start_line(resource, incarnation, kept):
+    """The values with which the tasks of a resource open stand in it one by one, where it has such."""
+    values = [
+        f" {program.name}.{it.name}={words.shown(value)}" for task in resource.tasks for (program, it), value in zip(task.retained(), kept[task])
+    ]
+    return f"START {resource.name} {incarnation}{' KEEPS' if values else ''}{''.join(values)}"
+
+
+def start_of(plant, line):
+    parts = line.split(" ")
+    resource = len(parts) >= 3 and parts[0] == "START" and find(plant.resources, parts[1])
+    incarnation = resource and words.digits_of(parts[2], MOST_U32)
+    if incarnation is None or not resource:
+        return None
+    kept, given = {}, parts[4:]
+    try:
+        for task in resource.tasks:
+            retained = task.retained()
+            kept[task] = [value_of(word, it.kind) for (_, it), word in zip(retained, given)]
+            if len(kept[task]) != len(retained):
+                return None
+            given = given[len(retained) :]
+    except BadFile:
+        return None
+    return Start(resource, incarnation, kept) if start_line(resource, incarnation, kept) == line else None
+
+
+def restart_of(resource, line):
+    parts = line.split(" ")
+    incarnation = words.digits_of(parts[2], MOST_U32) if len(parts) == 3 else None
+    is_whole = incarnation is not None and line == f"RESTART {resource.name} {incarnation}"
+    return Restart(resource, incarnation) if is_whole else None
+
+
+def hello_of(plant, parts):
+    """The resource's name is looked up by the reader: a name of the right form may stand for none."""
+    if len(parts) != 3 or words.fold(parts[0]) != "HELLO" or not words.is_plain_name(parts[1]):
+        return None
+    incarnation = number_up_to(parts[2], MOST_U32)
+    return None if incarnation is None else Hello(find(plant.resources, parts[1]), incarnation)
+
+
+def evaluate_of(parts):
+    if len(parts) < 3 or words.fold(parts[0]) != "EVAL":
+        return None
+    return evaluation_of(parts[1], number_up_to(parts[2], MOST_U32), parts[3:])
+
+
+def item_of(plant, resource, line):
+    """What a line of a resource's node says behind its START; None where no node of it writes such a line."""
+    parts = parts_of(line)
+    hello, event = hello_of(plant, parts), evaluate_of(parts)
+    if hello:
+        return hello if hello.resource else None
+    if isinstance(event, Evaluate):
+        task = find(resource.tasks, event.task) if find(plant.resources, event.resource) is resource else None
+        return Evaluated(task, event.elapsed, event.inputs) if task else None
+    return message_of(plant, line) or restart_of(resource, line)
+
+
+@dataclass
+class Line:
+    """A line that was done: where it stands, and what it says."""
+
+    path: str
+    number: int
+    item: object
+
+
+def runs_of(plant, path, text):
+    """The runs of nodes in a journal, each a list of lines from its START on. A line that doesn't end with `;` was torn."""
+    runs = []
+    for number, line in enumerate(text.split("\n"), 1):
+        if line.endswith(";"):
+            start = start_of(plant, line[:-1])
+            if start:
+                runs.append([Line(path, number, start)])
+            elif runs:
+                runs[-1].append(Line(path, number, item_of(plant, runs[-1][0].item.resource, line[:-1])))
+    return runs
+
+
+def told_of(name, task):
+    return f"{task.full_name} {pair(name)}"

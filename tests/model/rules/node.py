@@ -1,0 +1,134 @@
+"""A node: a resource that reads lines, notes what it does, and answers."""
+from .core import Core, initial, message_in, message_of
+from .inputs import parts_of
+from .journals import evaluate_of, hello_of, start_line
+from .kept_files import BadFile, retained_name, text_of
+from .plant_text import find
+from .run import pair, takes_from
+from . import words
+
+MOST_BYTES = 16_777_216
+
+
+class Refused(Exception):
+    """A line that changes nothing, with its kind."""
+
+
+class NoFiles:
+    """The incarnations of one life, where nothing is kept."""
+
+    def __init__(self):
+        self.incarnation = 0
+
+    def raised(self, _resource):
+        self.incarnation += 1
+        return self.incarnation
+
+    def retained(self, _task):
+        return None
+
+    def replace(self, _resource, _name, _text):
+        pass
+
+
+class Node:
+    """A node over a keeper of files; `note` is given each line that is done, before it is."""
+
+    def __init__(self, plant, resource, keeper, note):
+        self.plant, self.resource, self.keeper, self.note = plant, resource, keeper, note
+        self.made = 0
+        incarnation = keeper.raised(resource)
+        kept = {task: keeper.retained(task) or initial(task) for task in resource.tasks}
+        self.core = Core(plant, resource, kept)
+        note("\n" + start_line(resource, incarnation, kept))
+        self.core.begin(incarnation)
+        self.first = [*self.greetings(), f"START {resource.name} {incarnation}"]
+
+    def greetings(self):
+        own = self.resource
+        joined = [it for it in self.plant.resources if it is not own and (feeds(own, it) or feeds(it, own))]
+        return [self.greeting(it) for it in joined]
+
+    def greeting(self, to):
+        return f"SEND {to.name} HELLO {self.resource.name} {self.core.incarnation}"
+
+    def answer(self, line):
+        """The lines that are written of a line; none of a blank line or a comment."""
+        try:
+            if len(line.encode("utf-8", "surrogateescape")) > MOST_BYTES:
+                raise Refused("TooLong")
+            parts = parts_of(line)
+            if not parts or parts[0].startswith("#"):
+                return []
+            return self.done(line, parts)
+        except Refused as kind:
+            return [f"REFUSED {kind}"]
+
+    def done(self, line, parts):
+        message, hello, event = message_of(self.plant, line), hello_of(self.plant, parts), evaluate_of(parts)
+        if message:
+            return self.accept(line, message)
+        if hello:
+            return self.hear(line, hello)
+        if event:
+            return self.evaluate(line, event)
+        if len(parts) == 2 and words.fold(parts[0]) == "RESTART" and words.is_plain_name(parts[1]):
+            return self.restart(parts[1])
+        raise Refused("Syntax")
+
+    def named(self, name):
+        resource = find(self.plant.resources, name)
+        if not resource:
+            raise Refused("NoSuchResource")
+        return resource
+
+    def own(self, name):
+        if self.named(name) is not self.resource:
+            raise Refused("NotHere")
+
+    def accept(self, line, message):
+        self.note(line)
+        answer, at = self.core.answer_to(message), self.resource.place
+        self.core.accept(message)
+        is_behind = answer == "stray" and message.heard[at] < self.core.incarnation
+        sent = [self.greeting(message.task.resource)] if is_behind else []
+        return [*sent, f"MESSAGE {message.task.full_name} {pair(message.name)} {answer}"]
+
+    def hear(self, line, hello):
+        if not hello.resource:
+            raise Refused("NoSuchResource")
+        self.note(line)
+        is_new = self.core.is_news(hello.resource, hello.incarnation)
+        self.core.hear(hello.resource, hello.incarnation)
+        sent = [self.greeting(hello.resource)] if is_new and feeds(hello.resource, self.resource) else []
+        return [*sent, f"HELLO {hello.resource.name} {hello.incarnation} {'new' if is_new else 'old'}"]
+
+    def evaluate(self, line, event):
+        self.own(event.resource)
+        task = find(self.resource.tasks, event.task)
+        if not task:
+            raise Refused("NoSuchTask")
+        self.note(line)
+        made = self.core.next(task, event.elapsed, event.inputs)
+        self.core.make(made)
+        if task.retained():
+            self.keeper.replace(self.resource, retained_name(task), text_of(task, self.core.left[task]))
+        self.made += 1
+        made.message = self.made
+        takers = [it for it in self.plant.resources if it is not self.resource and takes_from(it, task)]
+        return [*(f"SEND {it.name} {message_in(made).line(self.plant)}" for it in takers), made.line()]
+
+    def restart(self, name):
+        self.own(name)
+        try:
+            incarnation = self.keeper.raised(self.resource)
+        except (BadFile, OSError):
+            raise Refused("Keeper") from None
+        self.note(f"RESTART {self.resource.name} {incarnation}")
+        self.core.begin(incarnation)
+        return [*self.greetings(), f"RESTART {self.resource.name} {incarnation}"]
+
+
+def feeds(maker, taker):
+    """Whether some task of one resource takes from a task of another."""
+    return any(takes_from(taker, task) for task in maker.tasks)
