@@ -13,7 +13,7 @@ use Rattle.command_line.specs.declared.request.Color.{Color}
 use Rattle.command_line.specs.declared.request.Color.TheVariants.{Always, Auto, Never}
 use Rattle.command_line.specs.declared.request.TraceFiles.{TraceFiles}
 use Rattle.command_line.specs.declared.request.Request.{Request}
-use Rattle.command_line.specs.declared.request.Request.TheVariants.{Text as OfText, Verify, Sim, Run, Explain}
+use Rattle.command_line.specs.declared.request.Request.TheVariants.{Text as OfText, Verify, Sim, Run, Explain, Audit}
 
 -- a word that must be given
 abbrev pub needed_word : Text → Rule
@@ -131,6 +131,18 @@ run_app =
     let until = with_rule (with_rule (new_app (codes "run")) plant_rule) until_rule in
     with_rule (with_rule (with_rule until state_rule) paced_rule) words_rule
 
+-- the names of journals, one or more
+abbrev pub journals_rule : Rule
+journals_rule = record (new_rule (codes "JOURNAL")) {
+  action = Some Append;
+  range = Some (record { start_inclusive = 1; end_inclusive = usize_max });
+  required = true;
+}
+
+-- `audit PLANT JOURNAL..`
+abbrev pub audit_app : App
+audit_app = with_rule (with_rule (new_app (codes "audit")) plant_rule) journals_rule
+
 -- `explain [KIND]`
 abbrev pub explain_app : App
 explain_app = with_rule (new_app (codes "explain")) kind_rule
@@ -150,9 +162,11 @@ text_app =
     with_subcommand (with_subcommand (with_subcommand (with_subcommand plc eval_app.top) verify_app.top) check_app.top)
     plan_app.top
 
--- `plc`, and one of the seven
+-- `plc`, and one of the eight
 abbrev pub plc_app : App
-plc_app = with_subcommand (with_subcommand (with_subcommand text_app sim_app.top) run_app.top) explain_app.top
+plc_app =
+    let run = with_subcommand (with_subcommand text_app sim_app.top) run_app.top in
+    with_subcommand (with_subcommand run audit_app.top) explain_app.top
 
 -- digits alone are a number of 32 bits
 abbrev pub IsNumber : List ℕ → Type 0
@@ -174,6 +188,10 @@ words_given found = unwrap_or (all_of (codes "words") found) []
 -- the names behind each `--never`, in order
 abbrev pub claims_given : List Row → List Text
 claims_given found = unwrap_or (all_of (codes "never") found) []
+
+-- the names of journals, in order
+abbrev pub journals_given : List Row → List Text
+journals_given found = unwrap_or (all_of (codes "JOURNAL") found) []
 
 -- a flag was given: what stands for it is `true`
 abbrev pub is_given : Text → List Row → Bool
@@ -209,6 +227,7 @@ AsksEval found (Verify verify) = ⊥
 AsksEval found (Sim sim) = ⊥
 AsksEval found (Run run) = ⊥
 AsksEval found (Explain kind) = ⊥
+AsksEval found (Audit audit) = ⊥
 
 abbrev pub AsksVerify : List Row → Request → Type 0
 AsksVerify found (OfText text) = ⊥
@@ -221,6 +240,7 @@ AsksVerify found (Verify verify) =
 AsksVerify found (Sim sim) = ⊥
 AsksVerify found (Run run) = ⊥
 AsksVerify found (Explain kind) = ⊥
+AsksVerify found (Audit audit) = ⊥
 
 abbrev pub AsksCheck : List Row → Request → Type 0
 AsksCheck found (OfText (Eval drawing dt view color files words)) = ⊥
@@ -230,6 +250,7 @@ AsksCheck found (Verify verify) = ⊥
 AsksCheck found (Sim sim) = ⊥
 AsksCheck found (Run run) = ⊥
 AsksCheck found (Explain kind) = ⊥
+AsksCheck found (Audit audit) = ⊥
 
 abbrev pub AsksPlan : List Row → Request → Type 0
 AsksPlan found (OfText (Eval drawing dt view color files words)) = ⊥
@@ -240,6 +261,7 @@ AsksPlan found (Verify verify) = ⊥
 AsksPlan found (Sim sim) = ⊥
 AsksPlan found (Run run) = ⊥
 AsksPlan found (Explain kind) = ⊥
+AsksPlan found (Audit audit) = ⊥
 
 abbrev pub AsksSim : List Row → Request → Type 0
 AsksSim found (OfText (Eval drawing dt view color files words)) = ⊥
@@ -251,6 +273,7 @@ AsksSim found (Sim sim) =
     × GivesNumber 4294967295 (first_of (codes "max-number") found) sim.max_number
 AsksSim found (Run run) = ⊥
 AsksSim found (Explain kind) = ⊥
+AsksSim found (Audit audit) = ⊥
 
 abbrev pub AsksRun : List Row → Request → Type 0
 AsksRun found (OfText (Eval drawing dt view color files words)) = ⊥
@@ -263,6 +286,7 @@ AsksRun found (Run run) =
     × (option_map (λ d. d.now) run.state ≡ first_of (codes "state") found)
     × (run.paced ≡ is_given (codes "paced") found) × (map (λ w. w.now) run.words.items ≡ words_given found)
 AsksRun found (Explain kind) = ⊥
+AsksRun found (Audit audit) = ⊥
 
 abbrev pub AsksExplain : List Row → Request → Type 0
 AsksExplain found (OfText text) = ⊥
@@ -270,6 +294,17 @@ AsksExplain found (Verify verify) = ⊥
 AsksExplain found (Sim sim) = ⊥
 AsksExplain found (Run run) = ⊥
 AsksExplain found (Explain kind) = option_map (λ k. k.now) kind ≡ first_of (codes "KIND") found
+AsksExplain found (Audit audit) = ⊥
+
+abbrev pub AsksAudit : List Row → Request → Type 0
+AsksAudit found (OfText text) = ⊥
+AsksAudit found (Verify verify) = ⊥
+AsksAudit found (Sim sim) = ⊥
+AsksAudit found (Run run) = ⊥
+AsksAudit found (Explain kind) = ⊥
+AsksAudit found (Audit audit) =
+    (audit.plant.now ≡ given_word (codes "PLANT") found)
+    × (map (λ w. w.now) audit.journals.items ≡ journals_given found)
 
 -- the request is what the subcommand asks for, with what was found for its options
 abbrev pub AsksFor : Option (Text × List Row) → Request → Type 0
@@ -281,7 +316,8 @@ AsksFor (Some (name, found)) request =
     ⊎ (((name ≡ codes "plan") × AsksPlan found request)
     ⊎ (((name ≡ codes "sim") × AsksSim found request)
     ⊎ (((name ≡ codes "run") × AsksRun found request)
-    ⊎ ((name ≡ codes "explain") × AsksExplain found request))))))
+    ⊎ (((name ≡ codes "audit") × AsksAudit found request)
+    ⊎ ((name ≡ codes "explain") × AsksExplain found request)))))))
 
 -- the file that is to be read
 abbrev pub file_of : TextRequest → List ℕ

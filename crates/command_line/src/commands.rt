@@ -1,9 +1,10 @@
 ghost use Rattle.std.specs.Prelude.{◌≡◌, false, IfOk, codes};
 ghost use Rattle.clap.specs.Words.{app_of, new_app, rule_of};
-ghost use Rattle.command_line.specs.CommandLine.{needed_word, option_of, flag_of, words_rule, plant_rule, until_rule, state_rule, paced_rule, show_rule, chart_rule, color_rule, vcd_rule, svg_rule, traced, kind_rule, never_rule, shown_app, eval_app, verify_app, check_app, plan_app, sim_app, run_app, explain_app, versioned, commanded, plc_app, text_app};
+ghost use Rattle.command_line.specs.CommandLine.{needed_word, option_of, flag_of, words_rule, plant_rule, until_rule, state_rule, paced_rule, show_rule, chart_rule, color_rule, vcd_rule, svg_rule, traced, kind_rule, never_rule, journals_rule, shown_app, eval_app, verify_app, check_app, plan_app, sim_app, run_app, explain_app, audit_app, versioned, commanded, plc_app, text_app};
 
 use crate::help::{
-    CHECK_HELP, EVAL_HELP, EXPLAIN_HELP, FIRST_STEPS, PLAN_HELP, RUN_HELP, SIM_HELP, VERIFY_HELP,
+    AUDIT_HELP, CHECK_HELP, EVAL_HELP, EXPLAIN_HELP, FIRST_STEPS, PLAN_HELP, RUN_HELP, SIM_HELP,
+    VERIFY_HELP,
 };
 use clap::{Arg, ArgAction, Command};
 use std::alloc::{AllocError, Global};
@@ -297,6 +298,29 @@ fn run_command<'a>(alloc: Global) -> Result<Command<'a>, AllocError>
         ))
 }
 
+fn journals_arg<'a>(alloc: Global) -> Arg<'a>
+    ensures rule { rule_of result ≡ journals_rule }
+    ensures local { result.global ≡ false }
+{
+    Arg::new(alloc, "JOURNAL")
+        .required(true)
+        .action(ArgAction::Append)
+        .num_args(1..)
+        .help("The file of a node's journal; several, in any order")
+}
+
+fn audit_command<'a>(alloc: Global) -> Result<Command<'a>, AllocError>
+    ensures { IfOk result (λ c. app_of c ≡ audit_app) }
+{
+    Command::new(alloc, "audit")
+        .about(
+            "Reads the journals of a plant's nodes, and writes what they show and what they can't",
+        )
+        .after_help(AUDIT_HELP)
+        .arg(plant_arg(alloc))?
+        .arg(journals_arg(alloc))
+}
+
 fn explain_command<'a>(alloc: Global) -> Result<Command<'a>, AllocError>
     ensures { IfOk result (λ c. app_of c ≡ explain_app) }
 {
@@ -344,5 +368,6 @@ pub fn commands<'a>(alloc: Global) -> Result<Command<'a>, AllocError>
     text_commands(alloc)?
         .subcommand(sim_command(alloc)?)?
         .subcommand(run_command(alloc)?)?
+        .subcommand(audit_command(alloc)?)?
         .subcommand(explain_command(alloc)?)
 }

@@ -164,10 +164,32 @@ The exit status is 0; 1 if the text of the plant is refused, with FILE:LINE: Kin
 more than 100,000 lines, with plan: TooLong; 2 if a word is refused; 3 if a FAULT was written, a file can't be read or an
 incarnation kept, the output can't be written, the threads can't be run or there is no memory left.";
 
+/// What `plc audit --help` tells behind the words.
+pub const AUDIT_HELP: &str = "\
+Each JOURNAL is a file that plc node wrote with --journal; a file may hold the lines of several nodes, one after the other.
+The lines of all of them are done once more, each as soon as what it needs is there: a message that was taken needs the
+evaluation that made it, and has to be equal to what that gave.
+
+A line is written for each evaluation that is shown, in an order in which each one takes what was made before it; then
+UNSHOWN with FILE:LINE and the reason for each resource whose journal can't be followed further, and for each file without
+a START, and NOJOURNAL for each resource without a journal; at last whether a run of these evaluations in one thread makes
+the same ones again. plc explain tells more of each reason.
+
+Example:
+
+  $ plc audit examples/pair.plant r1.journal r2.journal
+  EVAL 1 R1.FAST 1.1 TAKES - GIVES A.N=1 A.FULL=0
+  EVAL 2 R2.SLOW 1.1 TAKES R1.FAST=1.1 GIVES B.SEEN=1 B.HIT=0
+  REPLAY equal
+
+The exit status is 0 if all is shown; 1 if the text of the plant is refused, with FILE:LINE: Kind on standard error; 2 if a
+word is refused; 3 if an UNSHOWN or NOJOURNAL was written, a file can't be read, the output can't be written or there is no
+memory left.";
+
 /// What `plc explain --help` tells behind the words.
 pub const EXPLAIN_HELP: &str = "\
 KIND is the kind of a fault as the first line of a message tells it, in either case: Crossing in drawing.ladder:3:14: Crossing;
-or that of a line REFUSED or FAULT. What is wrong and how it is mended is written, of a text with an example. A kind that is
+or that of a line REFUSED, FAULT or UNSHOWN. What is wrong and how it is mended is written, of a text with an example. A kind that is
 met in several places is told for each of them. Without KIND all kinds are listed, with where they are met.
 
 Example:

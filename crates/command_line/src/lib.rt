@@ -8,6 +8,6 @@ mod words;
 
 pub use help::FIRST_STEPS;
 pub use request::{
-    Color, Request, RunRequest, SimRequest, TextRequest, TraceFiles, VerifyRequest, View,
+    AuditRequest, Color, Request, RunRequest, SimRequest, TextRequest, TraceFiles, VerifyRequest, View,
 };
 pub use words::read_words;

@@ -124,6 +124,13 @@ pub struct RunRequest<'a> {
     pub words: Vec<&'a str>,
 }
 
+/// What is shown of the journals of a plant's nodes.
+#[derive(Drop)]
+pub struct AuditRequest<'a> {
+    pub plant: &'a str,
+    pub journals: Vec<&'a str>,
+}
+
 /// What the words of the command line ask for.
 #[derive(Drop)]
 pub enum Request<'a> {
@@ -137,4 +144,6 @@ pub enum Request<'a> {
     Run(RunRequest<'a>),
     /// What is told of the kinds of faults of this name; all kinds, where none is named.
     Explain(Option<&'a str>),
+    /// What is shown of the journals of a plant's nodes.
+    Audit(AuditRequest<'a>),
 }

@@ -2,11 +2,11 @@ ghost use Rattle.std.specs.Prelude.{◌≡◌, IfOk, MatchOption, Some, map, str
 ghost use Rattle.std.specs.Option.{option_map};
 ghost use Rattle.std.specs.Str.Parse.{digits_value};
 ghost use Rattle.clap.specs.Words.{rows_of, found_of, first_of, subcommand_of};
-ghost use Rattle.command_line.specs.CommandLine.{plc_app, IsNumber, GivesNumber, AsksEval, AsksVerify, AsksPlan, AsksSim, AsksRun, AsksFiles, AsksFor, given_word, words_given, claims_given, is_given, GivesView, GivesColor};
+ghost use Rattle.command_line.specs.CommandLine.{plc_app, IsNumber, GivesNumber, AsksEval, AsksVerify, AsksPlan, AsksSim, AsksRun, AsksAudit, AsksFiles, AsksFor, given_word, words_given, claims_given, journals_given, is_given, GivesView, GivesColor};
 
 use crate::commands::commands;
 use crate::request::{
-    Color, Request, RunRequest, SimRequest, TextRequest, TraceFiles, VerifyRequest, View,
+    AuditRequest, Color, Request, RunRequest, SimRequest, TextRequest, TraceFiles, VerifyRequest, View,
 };
 use clap::error::ErrorKind;
 use clap::{ArgMatches, Command, Error};
@@ -99,6 +99,15 @@ fn files_of<'a>(matches: &ArgMatches<'a>) -> TraceFiles<'a>
     TraceFiles {
         vcd: word_of(matches, "vcd"),
         svg: word_of(matches, "svg"),
+    }
+}
+
+fn journals_given<'a>(alloc: Global, matches: &ArgMatches<'a>) -> Result<Vec<&'a str>, AllocError>
+    ensures { IfOk result (λ journals. map (λ w. w.now) journals.items ≡ journals_given (rows_of (found_of matches.now))) }
+{
+    match matches.get_strs("JOURNAL") {
+        Some(journals) => Vec::from_slice(alloc, journals),
+        None => Ok(Vec::new(alloc)),
     }
 }
 
@@ -216,6 +225,15 @@ fn run_request<'a>(
     }))
 }
 
+fn audit_request<'a>(alloc: Global, inner: &ArgMatches<'a>) -> Result<Request<'a>, Error>
+    ensures { IfOk result (AsksAudit (rows_of (found_of inner.now))) }
+{
+    Ok(Request::Audit(AuditRequest {
+        plant: given_word(inner, "PLANT"),
+        journals: journals_given(alloc, inner)?,
+    }))
+}
+
 /// What a command of that name asks for, by what was found for it.
 fn request_of<'a>(
     alloc: Global,
@@ -234,6 +252,7 @@ fn request_of<'a>(
         "plan" => plan_request(command, inner),
         "sim" => sim_request(command, inner),
         "run" => run_request(alloc, command, inner),
+        "audit" => audit_request(alloc, inner),
         "explain" => Ok(Request::Explain(word_of(inner, "KIND"))),
         _ => Err(command.error(ErrorKind::MissingSubcommand, "a command is missing")?),
     }

@@ -15,24 +15,46 @@ use text_commands::{TextCommandFault, read_plant};
 /// What stands for standard input in the place of a file's name.
 pub(crate) const STANDARD_INPUT: &str = "-";
 
+/// Tells that no file stands behind `-`; the status.
+fn print_no_file<R: Eprint>(rt: &R) -> io::Result<u8> {
+    eprintln!(rt;
+        "plc: -: only a schedule is read from standard input; a file of this name is ./-"
+    )?;
+    Ok(WORD_REFUSED)
+}
+
+/// Tells why a file can't be read; the status.
+fn print_unread<R: Eprint>(rt: &R, file: &str, error: &io::Error) -> io::Result<u8> {
+    let file = Shown(file);
+    eprintln!(rt; "plc: {file}: {error}")?;
+    Ok(FAILED)
+}
+
 /// The text of a file, or the status after its fault was told. A whole text isn't read from standard input.
 pub(crate) fn file_text<R: Files + Eprint + AllocGlobal>(
     rt: &R,
     file: &str,
 ) -> io::Result<Result<String, u8>> {
     if file == STANDARD_INPUT {
-        eprintln!(rt;
-            "plc: -: only a schedule is read from standard input; a file of this name is ./-"
-        )?;
-        return Ok(Err(WORD_REFUSED));
+        return Ok(Err(print_no_file(rt)?));
     }
     match fs::read_to_string(rt, file) {
         Ok(text) => Ok(Ok(text)),
-        Err(error) => {
-            let file = Shown(file);
-            eprintln!(rt; "plc: {file}: {error}")?;
-            Ok(Err(FAILED))
-        }
+        Err(error) => Ok(Err(print_unread(rt, file, &error)?)),
+    }
+}
+
+/// The bytes of a file, or the status after its fault was told. Those of a whole file aren't read from standard input.
+pub fn file_bytes<R: Files + Eprint + AllocGlobal>(
+    rt: &R,
+    file: &str,
+) -> io::Result<Result<Vec<u8>, u8>> {
+    if file == STANDARD_INPUT {
+        return Ok(Err(print_no_file(rt)?));
+    }
+    match fs::read(rt, file) {
+        Ok(bytes) => Ok(Ok(bytes)),
+        Err(error) => Ok(Err(print_unread(rt, file, &error)?)),
     }
 }
 
@@ -46,7 +68,7 @@ fn shared_plant(alloc: Global, text: &str) -> Result<Arc<Plant>, TextCommandFaul
 }
 
 /// The plant of a file, or the status after its fault was told.
-pub(crate) fn file_plant<R: Files + Eprint + AllocGlobal>(
+pub fn file_plant<R: Files + Eprint + AllocGlobal>(
     rt: &R,
     file: &str,
 ) -> io::Result<Result<Arc<Plant>, u8>> {

@@ -20,6 +20,7 @@ pub use answers::{answer_kind, answer_kinds, answer_text, obey};
 pub use command_fault::CommandFault;
 pub use faults::{print_failure, print_fault};
 pub use field_words::read_field_words;
+pub use files::{file_bytes, file_plant};
 pub use given::{given_words, print_given_fault, print_usage};
 pub use prepared::{Prepared, prepare};
 pub use schedules::{answer_schedule, obey_lines, obey_schedule};

@@ -11,14 +11,17 @@ pub enum Occasion {
     Run,
     /// A file of a folder of state isn't raised.
     State,
+    /// A line of a journal can't be shown.
+    Audit,
 }
 
 /// All of them.
-pub const OCCASIONS: [Occasion; 4] = [
+pub const OCCASIONS: [Occasion; 5] = [
     Occasion::Event,
     Occasion::Command,
     Occasion::Run,
     Occasion::State,
+    Occasion::Audit,
 ];
 
 impl Occasion {
@@ -29,6 +32,7 @@ impl Occasion {
             Occasion::Command => "in a FAULT line of plc run",
             Occasion::Run => "where plc run gives no report",
             Occasion::State => "in a folder of state",
+            Occasion::Audit => "in an UNSHOWN line of plc audit",
         }
     }
 
@@ -39,6 +43,7 @@ impl Occasion {
             Occasion::Command => &COMMANDS,
             Occasion::Run => &RUNS,
             Occasion::State => &STATES,
+            Occasion::Audit => &AUDITS,
         }
     }
 }
@@ -149,5 +154,40 @@ const STATES: [Remark; 3] = [
     Remark {
         kind: "Spent",
         sentence: "NAME.inc is 4294967295, and no incarnation is left: begin with an empty folder.",
+    },
+];
+
+const AUDITS: [Remark; 8] = [
+    Remark {
+        kind: "Syntax",
+        sentence: "The line is none that a node of this plant's resource notes: a byte was changed, a line was cut, the plant is another one, or no START stands before it.",
+    },
+    Remark {
+        kind: "NotRisen",
+        sentence: "This START or RESTART isn't above the incarnation before. Two nodes of one resource wrote journals, each with a folder of state of its own, or the folder was lost.",
+    },
+    Remark {
+        kind: "TooHigh",
+        sentence: "This START or RESTART is above the incarnation before by more than 1,000,000.",
+    },
+    Remark {
+        kind: "Kept",
+        sentence: "The retained values that this START opens with aren't those that were left. A file of the folder of state was changed, or the journal of a run between isn't given.",
+    },
+    Remark {
+        kind: "Differs",
+        sentence: "The message was taken otherwise than it was made: with other values, or another list of what its maker had heard. Something between the nodes changed or forged it.",
+    },
+    Remark {
+        kind: "Unmade",
+        sentence: "The message was taken, and its maker, which went on to a later incarnation, never made it. Something between the nodes forged it.",
+    },
+    Remark {
+        kind: "Waits",
+        sentence: "The journal of the resource that is named can't be shown so far itself; look at its own UNSHOWN line. Where all wait, two nodes of one resource ran at once.",
+    },
+    Remark {
+        kind: "Missing",
+        sentence: "What the line needs stands in no journal that was given: one was cut off or isn't given. It can't be shown, either way.",
     },
 ];

@@ -1,1 +1,2 @@
 pub mod RunExplaining
+pub mod AuditExplaining

@@ -1,19 +1,22 @@
 //! The program `plc`.
 #![tactic(auto)]
 
+mod audit_command;
 mod run_command;
 mod trace_files;
 
 ghost use Rattle.std.specs.Prelude.{◌≡◌, length, vec_len, IfOk, IfErr};
 ghost use Rattle.plc_main.specs.RunText.{WritesReport, ExplainsRun};
 
-use command_line::{Request, RunRequest, read_words};
+use audit_command::audit_text;
+use command_line::{AuditRequest, Request, RunRequest, read_words};
 use console::{
     CommandFault, FAILED, Prepared, answer_kind, answer_kinds, answer_schedule, answer_text,
-    answer_verify, given_words, prepare, print_failure, print_fault, print_given_fault,
-    print_usage,
+    answer_verify, file_bytes, file_plant, given_words, prepare, print_failure, print_fault,
+    print_given_fault, print_usage,
 };
 use file_keepers::{BadLine, FileKeeper, FolderLock, LockFault, SystemFolder};
+use journal_files::JournalFile;
 use keepers::KeeperFault;
 use node::{FreeGate, Gate, Keeper, MemoryKeeper, PacedGate, RunFault};
 use plant::{Plant, TaskRef};
@@ -228,6 +231,55 @@ fn answer_run<R: Files + Print + Eprint + AllocGlobal + Threads + Wait + Sync>(
     }
 }
 
+/// The journal in a file, or the status after its fault was told.
+fn file_journal<R: Files + Eprint + AllocGlobal>(
+    rt: &R,
+    name: &str,
+) -> io::Result<Result<JournalFile, u8>> {
+    let text = match file_bytes(rt, name)? {
+        Ok(text) => text,
+        Err(status) => return Ok(Err(status)),
+    };
+    let name = String::from_str(rt.alloc(), name)?;
+    Ok(Ok(JournalFile { name, text }))
+}
+
+/// The journals in files, or the status after the fault of one was told.
+fn file_journals<R: Files + Eprint + AllocGlobal>(
+    rt: &R,
+    names: &[&str],
+) -> io::Result<Result<Vec<JournalFile>, u8>> {
+    let mut journals = Vec::new(rt.alloc());
+    for name in names {
+        match file_journal(rt, name)? {
+            Ok(journal) => journals.push(journal)?,
+            Err(status) => return Ok(Err(status)),
+        }
+    }
+    Ok(Ok(journals))
+}
+
+/// Reads a plant and the journals of its nodes, and writes what is shown of them; the status.
+fn answer_audit<R: Files + Print + Eprint + AllocGlobal>(
+    rt: &R,
+    request: &AuditRequest<'_>,
+) -> io::Result<u8> {
+    let plant = match file_plant(rt, request.plant)? {
+        Ok(plant) => plant,
+        Err(status) => return Ok(status),
+    };
+    let journals = match file_journals(rt, request.journals.as_slice())? {
+        Ok(journals) => journals,
+        Err(status) => return Ok(status),
+    };
+    let mut writer = io::writer(rt);
+    match audit_text(rt.alloc(), plant, journals.as_slice(), &mut writer) {
+        Ok(true) => Ok(0),
+        Ok(false) => Ok(FAILED),
+        Err(fault) => print_fault(rt, "", "", &[], fault),
+    }
+}
+
 fn answer<R: Env + Files + Clock + Input + Print + Eprint + AllocGlobal + Threads + Wait + Sync>(
     rt: &R,
     host: &HostRuntime,
@@ -244,6 +296,7 @@ fn answer<R: Env + Files + Clock + Input + Print + Eprint + AllocGlobal + Thread
         Ok(Request::Verify(request)) => answer_verify(rt, host.stderr().is_terminal(), &request),
         Ok(Request::Sim(request)) => answer_schedule(rt, &request),
         Ok(Request::Run(request)) => answer_run(rt, host, &request),
+        Ok(Request::Audit(request)) => answer_audit(rt, &request),
         Ok(Request::Explain(Some(kind))) => answer_kind(rt, kind),
         Ok(Request::Explain(None)) => answer_kinds(rt),
         Err(error) => print_usage(rt, &error),

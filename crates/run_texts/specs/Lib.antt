@@ -1,3 +1,4 @@
 pub mod RunCommands
 pub mod ReportText
+pub mod AuditText
 pub mod Steps

@@ -1,10 +1,14 @@
-//! The texts of `plc run`: the commands for a plan, and the lines of a report. Nothing here needs a thread.
+//! The texts of `plc run` and `plc audit`: the commands for a plan, the lines of a report, and those of an audit. Nothing
+//! here needs a thread.
 #![tactic(auto)]
 
+mod audit_telling;
+mod audit_text;
 mod replay;
 mod report_text;
 mod run_commands;
 mod telling;
 
+pub use audit_telling::tell_audit;
 pub use run_commands::planned_commands;
 pub use telling::tell_report;

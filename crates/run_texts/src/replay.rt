@@ -1,4 +1,4 @@
-//! Whether what the threads made is made again by one thread.
+//! Whether what a book has is made again by one thread.
 
 ghost use Rattle.std.specs.Prelude.{◌≡◌, ◌↔◌, true, length, IfOk, IsTrue};
 ghost use Rattle.task_codes.specs.CodeValue.{lists_of};
@@ -11,7 +11,7 @@ ghost use Rattle.run_texts.specs.Steps.Replaying.{IsReplay, AreOfOneCode};
 use evaluation::{Frame, Retained};
 use exchange::{Book, Schedule, World, one_run};
 use node_journals::Journal;
-use node_reports::{Report, are_equal};
+use node_reports::are_equal;
 use plant::Plant;
 use std::alloc::{AllocError, Global};
 use std::sync::Arc;
@@ -87,19 +87,23 @@ fn is_replayed(
     }
 }
 
-/// Runs the schedule of a report's book in one thread, from the journals' first incarnations and openings, and tells
-/// whether that makes the book's entries. It does if the report is one of threads.
-pub(crate) fn replay(alloc: Global, plant: Arc<Plant>, report: &Report) -> Result<bool, AllocError>
-    requires journals { AreJournalsOf plant.value 4294967295 report.now.journals }
-    requires of_plant { AreOfPlant plant.value report.now.book.entries }
+/// Runs the schedule of a book in one thread, from the journals' first incarnations and openings, and tells whether that
+/// makes the book's entries. It does where the journals made them.
+pub(crate) fn replay(
+    alloc: Global,
+    plant: Arc<Plant>,
+    book: &Book,
+    journals: &[Journal],
+) -> Result<bool, AllocError>
+    requires journals { AreJournalsOf plant.value 4294967295 journals.now }
+    requires of_plant { AreOfPlant plant.value book.now.entries }
     ensures answer { IfOk result
-        (IsReplay plant.value (firsts_of report.now.journals) (openings_of report.now.journals) report.now.book) }
-    ensures equal { RunsAgain plant.value 4294967295 report.now.book report.now.journals
+        (IsReplay plant.value (firsts_of journals.now) (openings_of journals.now) book.now) }
+    ensures equal { RunsAgain plant.value 4294967295 book.now journals.now
         → IfOk result (λ equal. equal ≡ true) }
 {
     one_run();
-    let journals = report.journals.as_slice();
     let first = first_incarnations(alloc, journals)?;
     let opening = openings(alloc, journals)?;
-    is_replayed(alloc, plant, &first, &opening, &report.book)
+    is_replayed(alloc, plant, &first, &opening, book)
 }

@@ -49,7 +49,7 @@ fn push_fault(lines: &mut String, plant: &Plant, fault: NodeFault) -> Result<(),
 }
 
 /// Writes a line for each evaluation, with its place, counted from 1.
-fn write_entries<W: Write>(
+pub(crate) fn write_entries<W: Write>(
     alloc: Global,
     plant: &Plant,
     entries: &[Frame],

@@ -28,7 +28,7 @@ pub fn tell_report<W: Write>(
     ensures fault { IfErr result (TellsPart plant.value report.now (W.contents writer.old) (W.contents writer.new)) }
 {
     write_report(alloc, &plant, report, writer)?;
-    let equal = replay(alloc, plant, report)?;
+    let equal = replay(alloc, plant, &report.book, report.journals.as_slice())?;
     write_text(writer, replay_line(equal))?;
     Ok(!report.node_faults.as_slice().is_empty())
 }

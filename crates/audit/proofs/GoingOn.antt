@@ -1,0 +1,308 @@
+-- What a resource has made and received after one more step, and that the others stand as before.
+use Rattle.std.proofs.Common.{◌≡◌, ◌≢◌, ℕ, ◌+◌, ◌++◌, List, [], ◌∷◌, All, Contains, Some, slice_get, cond, eqb, true, false, Bool, zero, suc, ◌<◌, add-zero, zero-add, length, replicate, refl, ap, ap₂, sym, ◌∙◌, subst, arith}
+use Rattle.std.specs.List.{filter}
+use Rattle.std.proofs.lemmas.List.{append-nil}
+use Rattle.std.proofs.lemmas.List.Elements.{filter-append, Contains-append_left, Contains-append_right, All-weaker, All-append, All-cons, All-nil}
+use Rattle.std.proofs.lemmas.Bool.{eq-eqb, eqb-true}
+use Rattle.std.proofs.lemmas.Option.{slice_get_within, none-some, same_Some}
+use Rattle.lists.proofs.Members.{all_from_places}
+use Rattle.plant.specs.PlantValue.{PlantValue}
+use Rattle.evaluation.specs.Meaning.{Evaluated}
+use Rattle.evaluation_book.specs.Book.{BookValue}
+use Rattle.message_core.specs.declared.accepted.Accepted.{Accepted}
+use Rattle.message_core.specs.declared.accepted.Accepted.TheVariants.{Taken, Old, Unused, Stray}
+use Rattle.evaluation.specs.declared.field_input.FieldInput.{FieldInput}
+use Rattle.exchange_core.specs.CoreValue.{CoreValue, IsAccepted, HasHeard}
+use Rattle.node_journals.specs.declared.step.Step.{Step}
+use Rattle.node_journals.specs.declared.step.Step.TheVariants.{Took, Made, Restarted, Heard}
+use Rattle.node_journals.specs.declared.journal.Journal.{Journal}
+use Rattle.node_journals.specs.Journals.{made, received, with_step, firsts_of, IsLawful}
+use Rattle.node_journals.specs.Steps.Stations.{StationValue, PendingValue, IsReceived, IsTold, IsRestarted, IsPending, IsNoted}
+use Rattle.node_reports.specs.Reports.{entries_of, Agree}
+use Rattle.audit.specs.declared.standing.Standing.{Standing}
+use Rattle.audit.specs.declared.standing.Standing.TheVariants.{Going, Ended}
+use Rattle.audit.specs.declared.follower.Follower.{Follower}
+use Rattle.audit.specs.Steps.Standings.{AuditedBook, zeros, IsJournalOf, IsGoing, IsEnded, IsStanding, IsPendingFor, journal_in, Grows, Goes, IsOfSame, IsAt, AreFrom, AreJournalsFrom}
+use Rattle.audit.specs.Delivered.{AreDelivered}
+
+made-append : (a b : List Step) → made (a ++ b) ≡ made a ++ made b
+made-append [] b = refl
+made-append (Took x ∷ a) b = made-append a b
+made-append (Heard of heard ∷ a) b = made-append a b
+made-append (Made x ∷ a) b = ap (λ xs. x ∷ xs) (made-append a b)
+made-append (Restarted ticket incarnation ∷ a) b = made-append a b
+
+received-append : (a b : List Step) → received (a ++ b) ≡ received a ++ received b
+received-append [] b = refl
+received-append (Took x ∷ a) b = ap (λ xs. x ∷ xs) (received-append a b)
+received-append (Heard of heard ∷ a) b = received-append a b
+received-append (Made x ∷ a) b = received-append a b
+received-append (Restarted ticket incarnation ∷ a) b = received-append a b
+
+-- a step that makes nothing and receives nothing
+still : (b : AuditedBook) (j : Journal) (s : Step) → made (s ∷ []) ≡ [] → received (s ∷ []) ≡ [] → IsJournalOf b j → IsJournalOf b (with_step j s)
+still b j s none nothing is = record {
+  first_is = is.first_is;
+  made_is = made-append j.steps (s ∷ []) ∙ ap (λ ys. made j.steps ++ ys) none ∙ append-nil (made j.steps) ∙ is.made_is;
+  delivered = subst (All (Contains b.book.entries)) (sym (received-append j.steps (s ∷ []) ∙ ap (λ ys. received j.steps ++ ys) nothing ∙ append-nil (received j.steps))) is.delivered;
+}
+
+-- one more entry was received
+took : (b : AuditedBook) (j : Journal) (x : Evaluated) → Contains b.book.entries x → IsJournalOf b j → IsJournalOf b (with_step j (Took x))
+took b j x listed is = record {
+  first_is = is.first_is;
+  made_is = made-append j.steps (Took x ∷ []) ∙ append-nil (made j.steps) ∙ is.made_is;
+  delivered = subst (All (Contains b.book.entries)) (sym (received-append j.steps (Took x ∷ [])))
+      (All-append (Contains b.book.entries) (received j.steps) (x ∷ []) is.delivered (All-cons (Contains b.book.entries) x [] listed (All-nil (Contains b.book.entries))));
+}
+
+own_entry : (r : ℕ) (x : Evaluated) → x.name.task.resource ≡ r → entries_of r (x ∷ []) ≡ x ∷ []
+own_entry r x own = ap (λ b. cond b (x ∷ []) []) (eq-eqb x.name.task.resource r own)
+
+no_entry : (r : ℕ) (x : Evaluated) → (x.name.task.resource ≡ r → ⊥) → entries_of r (x ∷ []) ≡ []
+no_entry r x other = by (eqb x.name.task.resource r) refl
+  where
+    by : (b : Bool) → b ≡ eqb x.name.task.resource r → cond b (x ∷ []) [] ≡ []
+    by true is = absurd (other (eqb-true x.name.task.resource r (sym is)))
+    by false is = refl
+
+-- a core of the same plant, first incarnations, limit and resource
+record IsSameSetting (old new : CoreValue) : Type 0 where
+  plant_is : new.plant ≡ old.plant
+  firsts_are : new.first ≡ old.first
+  limit_is : new.max_number ≡ old.max_number
+  resource_is : new.resource ≡ old.resource
+
+same_setting : (old new other : CoreValue) → new ≡ other → IsSameSetting old other → IsSameSetting old new
+same_setting old new other is same = subst (IsSameSetting old) (sym is) same
+
+unchanged : (old : CoreValue) → IsSameSetting old old
+unchanged old = record { plant_is = refl; firsts_are = refl; limit_is = refl; resource_is = refl }
+
+accepted_setting : (old new : CoreValue) (x : Evaluated) (answer : Accepted) → IsAccepted old new x answer → IsSameSetting old new
+accepted_setting old new x Unused is = same_setting old new old is.1 (unchanged old)
+accepted_setting old new x Stray is = same_setting old new old is.2 (unchanged old)
+accepted_setting old new x Old is = same_setting old new old is.3 (unchanged old)
+accepted_setting old new x Taken is = same_setting old new _ is.3 (record { plant_is = refl; firsts_are = refl; limit_is = refl; resource_is = refl })
+
+heard_setting : (old new : CoreValue) (of incarnation : ℕ) (answer : Bool) → HasHeard old new of incarnation answer → IsSameSetting old new
+heard_setting old new of incarnation true is = same_setting old new _ is.after (record { plant_is = refl; firsts_are = refl; limit_is = refl; resource_is = refl })
+heard_setting old new of incarnation false is = same_setting old new old is.after (unchanged old)
+
+-- a resource whose core has the same setting, and whose journal is another one
+gone : (b : AuditedBook) (old new : StationValue) → IsGoing b old → IsSameSetting old.core new.core → new.journal.resource ≡ old.journal.resource → IsJournalOf b new.journal → IsGoing b new
+gone b old new going same resource journal = record {
+  plant_is = same.plant_is ∙ going.plant_is;
+  firsts_are = same.firsts_are ∙ going.firsts_are;
+  limit_is = same.limit_is ∙ going.limit_is;
+  core_is = same.resource_is ∙ going.core_is ∙ sym resource;
+  journal = journal;
+}
+
+pub received_going : (b : AuditedBook) (old new : StationValue) (x : Evaluated) (answer : Accepted) → Contains b.book.entries x → IsReceived old new x answer → IsGoing b old → IsGoing b new
+received_going b old new x answer listed is going =
+    gone b old new going (accepted_setting old.core new.core x answer is.accepted) (ap (λ (j : Journal). j.resource) is.noted)
+    (subst (IsJournalOf b) (sym is.noted) (took b old.journal x listed going.journal))
+
+pub heard_going : (b : AuditedBook) (old new : StationValue) (of incarnation : ℕ) (answer : Bool) → IsTold old new of incarnation answer → IsGoing b old → IsGoing b new
+heard_going b old new of incarnation answer is going =
+    gone b old new going (heard_setting old.core new.core of incarnation answer is.heard_is) (ap (λ (j : Journal). j.resource) is.noted)
+    (subst (IsJournalOf b) (sym is.noted) (still b old.journal (Heard of incarnation) refl refl going.journal))
+
+pub restarted_going : (b : AuditedBook) (old new : StationValue) (ticket incarnation : ℕ) → IsRestarted old new ticket incarnation → IsGoing b old → IsGoing b new
+restarted_going b old new ticket incarnation is going =
+    gone b old new going (same_setting old.core new.core _ is.core.is (record { plant_is = refl; firsts_are = refl; limit_is = refl; resource_is = refl })) (ap (λ (j : Journal). j.resource) is.noted)
+    (subst (IsJournalOf b) (sym is.noted) (still b old.journal (Restarted ticket incarnation) refl refl going.journal))
+
+-- an evaluation was made next, and isn't noted yet
+pub pending_for : (b : AuditedBook) (s : StationValue) (p : PendingValue) (ticket task dt : ℕ) (inputs : List FieldInput) → IsPending s p ticket task dt inputs → IsGoing b s → IsPendingFor b p
+pending_for b s p ticket task dt inputs is going = record {
+  going = gone b s (record { core = p.core; journal = p.journal }) going (same_setting s.core p.core _ is.next.after (record { plant_is = refl; firsts_are = refl; limit_is = refl; resource_is = refl }))
+      (ap (λ (j : Journal). j.resource) is.journal) (subst (IsJournalOf b) (sym is.journal) going.journal);
+  own = ap (λ (x : Evaluated). x.name.task.resource) is.next.next.asked.is ∙ going.core_is ∙ ap (λ (j : Journal). j.resource) (sym is.journal);
+}
+
+-- a book that is as it was
+pub grown_not : (resource : ℕ) (b : AuditedBook) → Grows resource b b
+grown_not resource b = record { plant_is = refl; first_is = refl; others = λ r other. refl; kept = λ x listed. listed }
+
+pub grown_twice : (resource : ℕ) (a b c : AuditedBook) → Grows resource a b → Grows resource b c → Grows resource a c
+grown_twice resource a b c one two = record {
+  plant_is = two.plant_is ∙ one.plant_is;
+  first_is = two.first_is ∙ one.first_is;
+  others = λ r other. two.others r other ∙ one.others r other;
+  kept = λ x listed. two.kept x (one.kept x listed);
+}
+
+entries_behind : (r : ℕ) (old new : AuditedBook) (x : Evaluated) → new.book ≡ record old.book { entries = old.book.entries ++ x ∷ [] } → entries_of r new.book.entries ≡ entries_of r old.book.entries ++ entries_of r (x ∷ [])
+entries_behind r old new x is = ap (λ (k : BookValue). entries_of r k.entries) is ∙ filter-append (λ (y : Evaluated). eqb y.name.task.resource r) old.book.entries (x ∷ [])
+
+-- a book with one more entry of a resource
+pub grown_by : (resource : ℕ) (old new : AuditedBook) (x : Evaluated) → new.plant ≡ old.plant → new.book ≡ record old.book { entries = old.book.entries ++ x ∷ [] } → x.name.task.resource ≡ resource → Grows resource old new
+grown_by resource old new x plant_is is own = record {
+  plant_is = plant_is;
+  first_is = ap (λ (k : BookValue). k.first) is;
+  others = λ r other. entries_behind r old new x is ∙ ap (λ ys. entries_of r old.book.entries ++ ys) (no_entry r x (λ same. other (sym same ∙ own))) ∙ append-nil (entries_of r old.book.entries);
+  kept = λ y listed. subst (λ (k : BookValue). Contains k.entries y) (sym is) (Contains-append_left old.book.entries (x ∷ []) y listed);
+}
+
+-- the journal of another resource is one of a book that has grown
+still_of : (resource : ℕ) (old new : AuditedBook) (j : Journal) → Grows resource old new → j.resource ≢ resource → IsJournalOf old j → IsJournalOf new j
+still_of resource old new j grows other is = record {
+  first_is = is.first_is;
+  made_is = is.made_is ∙ sym (grows.others j.resource other);
+  delivered = All-weaker (Contains old.book.entries) (Contains new.book.entries) grows.kept (received j.steps) is.delivered;
+}
+
+pub still_standing : (resource : ℕ) (old new : AuditedBook) (s : Standing) → Grows resource old new → (journal_in s).resource ≢ resource → IsStanding old s → IsStanding new s
+still_standing resource old new (Going s) grows other is = record {
+  plant_is = is.plant_is ∙ sym grows.plant_is;
+  firsts_are = is.firsts_are ∙ ap zeros (sym grows.plant_is);
+  limit_is = is.limit_is;
+  core_is = is.core_is;
+  journal = still_of resource old new s.journal grows other is.journal;
+}
+still_standing resource old new (Ended j) grows other is = record {
+  lawful = subst (λ plant. IsLawful plant (zeros plant) 4294967295 j) (sym grows.plant_is) is.lawful;
+  journal = still_of resource old new j grows other is.journal;
+}
+
+-- the evaluation was entered, and is noted as made
+pub noted_going : (old new : AuditedBook) (p : PendingValue) (s : StationValue) → new.plant ≡ old.plant → new.book ≡ record old.book { entries = old.book.entries ++ p.made ∷ [] } → IsNoted p s → IsPendingFor old p → IsGoing new s
+noted_going old new p s plant_is is noted pending = record {
+  plant_is = ap (λ (c : CoreValue). c.plant) noted.core ∙ pending.going.plant_is ∙ sym plant_is;
+  firsts_are = ap (λ (c : CoreValue). c.first) noted.core ∙ pending.going.firsts_are ∙ ap zeros (sym plant_is);
+  limit_is = ap (λ (c : CoreValue). c.max_number) noted.core ∙ pending.going.limit_is;
+  core_is = ap (λ (c : CoreValue). c.resource) noted.core ∙ pending.going.core_is ∙ sym (ap (λ (j : Journal). j.resource) noted.noted);
+  journal = subst (IsJournalOf new) (sym noted.noted) (record {
+    first_is = pending.going.journal.first_is;
+    made_is = made-append p.journal.steps (Made p.made ∷ []) ∙ ap (λ ys. ys ++ p.made ∷ []) pending.going.journal.made_is
+        ∙ ap (λ ys. entries_of p.journal.resource old.book.entries ++ ys) (sym (own_entry p.journal.resource p.made pending.own))
+        ∙ sym (entries_behind p.journal.resource old new p.made is);
+    delivered = subst (All (Contains new.book.entries)) (sym (received-append p.journal.steps (Made p.made ∷ []) ∙ append-nil (received p.journal.steps)))
+        (All-weaker (Contains old.book.entries) (Contains new.book.entries) (λ x listed. subst (λ (k : BookValue). Contains k.entries x) (sym is) (Contains-append_left old.book.entries (p.made ∷ []) x listed)) (received p.journal.steps) pending.going.journal.delivered);
+  });
+}
+
+-- the lawful journal of a resource that goes on or not
+pub ended_going : (b : AuditedBook) (s : StationValue) (j : Journal) → j ≡ s.journal → IsLawful s.core.plant s.core.first s.core.max_number j → IsGoing b s → IsEnded b j
+ended_going b s j same lawful going = record {
+  lawful = subst (λ n. IsLawful b.plant (zeros b.plant) n j) going.limit_is
+      (subst (λ firsts. IsLawful b.plant firsts s.core.max_number j) going.firsts_are (subst (λ plant. IsLawful plant s.core.first s.core.max_number j) going.plant_is lawful));
+  journal = subst (IsJournalOf b) (sym same) going.journal;
+}
+
+pub goes_twice : (a b c : AuditedBook) (s t u : Standing) → Goes a b s t → Goes b c t u → Goes a c s u
+goes_twice a b c s t u one two = record {
+  stands = two.stands;
+  resource_is = two.resource_is ∙ one.resource_is;
+  grows = grown_twice (journal_in s).resource a b c one.grows (subst (λ r. Grows r b c) one.resource_is two.grows);
+}
+
+pub goes_not : (b : AuditedBook) (s : Standing) → IsStanding b s → Goes b b s s
+goes_not b s stands = record { stands = stands; resource_is = refl; grows = grown_not (journal_in s).resource b }
+
+by_one : (n k : ℕ) → n + suc k ≡ n + 1 + k
+by_one n k = omega arith
+
+-- the resources from a place on: the first one, and the others
+pub first_at : (b : AuditedBook) (n : ℕ) (f : Follower) (fs : List Follower) → AreFrom b n (f ∷ fs) → IsAt b n f
+first_at b n f fs are = subst (λ k. IsAt b k f) (add-zero n) (are 0 f refl)
+
+pub others_from : (b : AuditedBook) (n : ℕ) (f : Follower) (fs : List Follower) → AreFrom b n (f ∷ fs) → AreFrom b (n + 1) fs
+others_from b n f fs are = λ k g at. subst (λ j. IsAt b j g) (by_one n k) (are (suc k) g at)
+
+-- one more behind those from 0 on
+pub one_more_at : (b : AuditedBook) (n : ℕ) (fs : List Follower) (f : Follower) → AreFrom b n fs → IsAt b (n + length fs) f → AreFrom b n (fs ++ f ∷ [])
+one_more_at b n [] f are is zero g at = subst (λ h. IsAt b (n + 0) h) (same_Some f g at) is
+one_more_at b n [] f are is (suc k) g at = absurd (none-some g at)
+one_more_at b n (h ∷ fs) f are is zero g at = are 0 g at
+one_more_at b n (h ∷ fs) f are is (suc k) g at =
+    let more = one_more_at b (n + 1) fs f (others_from b n h fs are) (subst (λ j. IsAt b j f) (by_one n (length fs)) is) k g at in
+    subst (λ j. IsAt b j g) (sym (by_one n k)) more
+
+-- resources that stand at other places than the one that went on
+pub others_still : (r n : ℕ) (old new : AuditedBook) (fs : List Follower) → Grows r old new → ((k : ℕ) → k < length fs → n + k ≢ r) → AreFrom old n fs → AreFrom new n fs
+others_still r n old new fs grows apart are = λ k f at.
+    let is = are k f at in
+    record {
+      stands = still_standing r old new f.standing grows (λ same. apart k (slice_get_within fs k f at) (sym is.resource_is ∙ same)) is.stands;
+      resource_is = is.resource_is;
+    }
+
+-- a resource that went on stands at its place
+pub went_at : (old new : AuditedBook) (n : ℕ) (f g : Follower) → IsAt old n f → Goes old new f.standing g.standing → IsAt new n g
+went_at old new n f g is goes = record { stands = goes.stands; resource_is = goes.resource_is ∙ is.resource_is }
+
+below_not : (k n : ℕ) → k < n → k ≡ n → ⊥
+below_not k n lt same = absurd (omega arith)
+
+behind_not : (n k : ℕ) → n + 1 + k ≡ n → ⊥
+behind_not n k same = absurd (omega arith)
+
+-- one resource goes on, and all stand
+pub round_on : (old new : AuditedBook) (gone rest : List Follower) (f g : Follower) → AreFrom old 0 gone → AreFrom old (length gone) (f ∷ rest) → Goes old new f.standing g.standing
+    → AreFrom new 0 (gone ++ g ∷ []) × AreFrom new (length gone + 1) rest × IsOfSame old new
+round_on old new gone rest f g before behind goes =
+    let here : IsAt old (length gone) f = first_at old (length gone) f rest behind in
+    let grows : Grows (length gone) old new = subst (λ r. Grows r old new) here.resource_is goes.grows in (
+      one_more_at new 0 gone g (others_still (length gone) 0 old new gone grows (λ k lt same. below_not k (length gone) lt (sym (zero-add k) ∙ same)) before)
+          (subst (λ k. IsAt new k g) (sym (zero-add (length gone))) (went_at old new (length gone) f g here goes)),
+      others_still (length gone) (length gone + 1) old new rest grows (λ k lt same. behind_not (length gone) k same) (others_from old (length gone) f rest behind),
+      record { plant_is = grows.plant_is; first_is = grows.first_is },
+    )
+
+pub same_twice : (a b c : AuditedBook) → IsOfSame a b → IsOfSame b c → IsOfSame a c
+same_twice a b c one two = record { plant_is = two.plant_is ∙ one.plant_is; first_is = two.first_is ∙ one.first_is }
+
+-- the journals that the resources have made, with one more
+pub journal_more : (b : AuditedBook) (n : ℕ) (js : List Journal) (j : Journal) → AreJournalsFrom b n js → IsEnded b j × (j.resource ≡ n + length js) → AreJournalsFrom b n (js ++ j ∷ [])
+journal_more b n [] j are is zero i at = subst (λ h. IsEnded b h × (h.resource ≡ n + 0)) (same_Some j i at) is
+journal_more b n [] j are is (suc k) i at = absurd (none-some i at)
+journal_more b n (h ∷ js) j are is zero i at = are 0 i at
+journal_more b n (h ∷ js) j are is (suc k) i at =
+    let tail : AreJournalsFrom b (n + 1) js = λ m g found. let it = are (suc m) g found in (it.0, it.1 ∙ by_one n m) in
+    let more = journal_more b (n + 1) js j tail (is.0, is.1 ∙ by_one n (length js)) k i at in
+    (more.0, more.1 ∙ sym (by_one n k))
+
+-- what is known of the journals of all resources, and of the book that they made
+pub record AllAgree (plant : PlantValue) (book : BookValue) (journals : List Journal) : Type 0 where
+  pub lawful : All (IsLawful plant (firsts_of journals) 4294967295) journals
+  pub agree : Agree plant book journals
+  pub delivered : AreDelivered book.entries journals
+
+firsts_zero : (js : List Journal) → ((k : ℕ) (j : Journal) → slice_get js k ≡ Some j → j.first ≡ 0) → firsts_of js ≡ replicate (length js) 0
+firsts_zero [] each = refl
+firsts_zero (j ∷ js) each = ap₂ (λ (x : ℕ) (xs : List ℕ). x ∷ xs) (each 0 j refl) (firsts_zero js (λ k i at. each (suc k) i at))
+
+pub all_agree : (plant : PlantValue) (b : AuditedBook) (journals : List Journal) → b.plant ≡ plant → b.book.first ≡ zeros plant → length journals ≡ length plant.resources → AreJournalsFrom b 0 journals → AllAgree plant b.book journals
+all_agree plant b journals plant_is first_is many are =
+    let firsts_are : firsts_of journals ≡ zeros plant = firsts_zero journals (λ k j at. (are k j at).0.journal.first_is) ∙ ap (λ n. replicate n 0) many in record {
+      lawful = all_from_places (IsLawful plant (firsts_of journals) 4294967295) journals (λ k j at.
+          subst (λ firsts. IsLawful plant firsts 4294967295 j) (sym firsts_are) (subst (λ (p : PlantValue). IsLawful p (zeros p) 4294967295 j) plant_is (are k j at).0.lawful));
+      agree = record {
+        many = many;
+        in_order = λ k j at. (are k j at).1 ∙ zero-add k;
+        first_is = first_is ∙ sym firsts_are;
+        in_book = all_from_places (λ (j : Journal). made j.steps ≡ entries_of j.resource b.book.entries) journals (λ k j at. (are k j at).0.journal.made_is);
+      };
+      delivered = all_from_places (λ (j : Journal). All (Contains b.book.entries) (received j.steps)) journals (λ k j at. (are k j at).0.journal.delivered);
+    }
+
+pub goes_still : (b : AuditedBook) (s t : StationValue) → IsGoing b t → t.journal.resource ≡ s.journal.resource → Goes b b (Going s) (Going t)
+goes_still b s t going same = record { stands = going; resource_is = same; grows = grown_not s.journal.resource b }
+
+pub restarted_goes : (b : AuditedBook) (old new : StationValue) (ticket incarnation : ℕ) → IsRestarted old new ticket incarnation → IsGoing b old → Goes b b (Going old) (Going new)
+restarted_goes b old new ticket incarnation is going = goes_still b old new (restarted_going b old new ticket incarnation is going) (ap (λ (j : Journal). j.resource) is.noted)
+
+pub made_goes : (old new : AuditedBook) (s : StationValue) (p : PendingValue) (t : Standing) (ticket task dt : ℕ) (inputs : List FieldInput) → IsPending s p ticket task dt inputs
+    → IsStanding new t → (journal_in t).resource ≡ p.journal.resource → Grows p.journal.resource old new → Goes old new (Going s) t
+made_goes old new s p t ticket task dt inputs is stands same grows =
+    let own : p.journal.resource ≡ s.journal.resource = ap (λ (j : Journal). j.resource) is.journal in
+    record { stands = stands; resource_is = same ∙ own; grows = subst (λ r. Grows r old new) own grows }
+
+pub entered_grows : (old new : AuditedBook) (p : PendingValue) → new.plant ≡ old.plant → new.book ≡ record old.book { entries = old.book.entries ++ p.made ∷ [] } → IsPendingFor old p → Grows p.journal.resource old new
+entered_grows old new p plant_is is pending = grown_by p.journal.resource old new p.made plant_is is pending.own
+
+pub given_up : (b : AuditedBook) (p : PendingValue) (j : Journal) → j ≡ p.journal → IsLawful p.core.plant p.core.first p.core.max_number j → IsPendingFor b p → IsEnded b j
+given_up b p j same lawful pending = ended_going b (record { core = p.core; journal = p.journal }) j same lawful pending.going

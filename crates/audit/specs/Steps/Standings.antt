@@ -1,0 +1,90 @@
+-- Resources that go through their lines, and the book that they make.
+use Rattle.std.specs.Prelude.{◌≡◌, ◌≢◌, ℕ, ◌+◌, List, [], All, Contains, Some, length, replicate, slice_get}
+use Rattle.plant.specs.PlantValue.{PlantValue}
+use Rattle.evaluation.specs.Meaning.{Evaluated}
+use Rattle.evaluation_book.specs.Book.{BookValue}
+use Rattle.node_journals.specs.declared.journal.Journal.{Journal}
+use Rattle.node_journals.specs.Journals.{made, received, IsLawful}
+use Rattle.node_journals.specs.Steps.Stations.{StationValue, PendingValue}
+use Rattle.node_reports.specs.Reports.{entries_of}
+use Rattle.audit.specs.declared.follower.Follower.{Follower}
+use Rattle.audit.specs.declared.standing.Standing.{Standing}
+use Rattle.audit.specs.declared.standing.Standing.TheVariants.{Going, Ended}
+
+-- a plant and its book
+pub record AuditedBook : Type 0 where
+  pub plant : PlantValue
+  pub book : BookValue
+
+-- the first incarnations: 0 for each resource
+abbrev pub zeros : PlantValue → List ℕ
+zeros plant = replicate (length plant.resources) 0
+
+-- the book before the first entry
+abbrev pub empty_book : PlantValue → AuditedBook
+empty_book plant = record { plant = plant; book = record { first = zeros plant; entries = [] } }
+
+-- the journal of a resource that began in 0: what it made are the book's entries of it, and what it received are entries
+pub record IsJournalOf (b : AuditedBook) (j : Journal) : Type 0 where
+  pub first_is : j.first ≡ 0
+  pub made_is : made j.steps ≡ entries_of j.resource b.book.entries
+  pub delivered : All (Contains b.book.entries) (received j.steps)
+
+-- a resource of the plant that goes on
+pub record IsGoing (b : AuditedBook) (s : StationValue) : Type 0 where
+  pub plant_is : s.core.plant ≡ b.plant
+  pub firsts_are : s.core.first ≡ zeros b.plant
+  pub limit_is : s.core.max_number ≡ 4294967295
+  pub core_is : s.core.resource ≡ s.journal.resource
+  pub journal : IsJournalOf b s.journal
+
+-- a resource that has made an evaluation, which isn't entered yet
+pub record IsPendingFor (b : AuditedBook) (p : PendingValue) : Type 0 where
+  pub going : IsGoing b (record { core = p.core; journal = p.journal })
+  pub own : p.made.name.task.resource ≡ p.journal.resource
+
+-- the lawful journal of one that can't go on
+pub record IsEnded (b : AuditedBook) (j : Journal) : Type 0 where
+  pub lawful : IsLawful b.plant (zeros b.plant) 4294967295 j
+  pub journal : IsJournalOf b j
+
+abbrev pub IsStanding : AuditedBook → Standing → Type 0
+IsStanding b (Going s) = IsGoing b s
+IsStanding b (Ended j) = IsEnded b j
+
+-- its journal
+abbrev pub journal_in : Standing → Journal
+journal_in (Going s) = s.journal
+journal_in (Ended j) = j
+
+-- a book has grown by entries of one resource alone
+pub record Grows (resource : ℕ) (old new : AuditedBook) : Type 0 where
+  pub plant_is : new.plant ≡ old.plant
+  pub first_is : new.book.first ≡ old.book.first
+  pub others : (r : ℕ) → r ≢ resource → entries_of r new.book.entries ≡ entries_of r old.book.entries
+  pub kept : (x : Evaluated) → Contains old.book.entries x → Contains new.book.entries x
+
+-- a book of the same plant, in which the resources begin in the same incarnations
+pub record IsOfSame (old new : AuditedBook) : Type 0 where
+  pub plant_is : new.plant ≡ old.plant
+  pub first_is : new.book.first ≡ old.book.first
+
+-- a resource has gone on, and the book has grown by what it made
+pub record Goes (old new : AuditedBook) (from to : Standing) : Type 0 where
+  pub stands : IsStanding new to
+  pub resource_is : (journal_in to).resource ≡ (journal_in from).resource
+  pub grows : Grows (journal_in from).resource old new
+
+-- a resource at its place among all
+pub record IsAt (b : AuditedBook) (place : ℕ) (f : Follower) : Type 0 where
+  pub stands : IsStanding b f.standing
+  pub resource_is : (journal_in f.standing).resource ≡ place
+
+-- these resources stand at the places from this one on
+abbrev pub AreFrom : AuditedBook → ℕ → List Follower → Type 0
+AreFrom b from fs = (k : ℕ) (f : Follower) → slice_get fs k ≡ Some f → IsAt b (from + k) f
+
+-- these journals are those of the resources from this place on
+abbrev pub AreJournalsFrom : AuditedBook → ℕ → List Journal → Type 0
+AreJournalsFrom b from journals =
+    (k : ℕ) (j : Journal) → slice_get journals k ≡ Some j → IsEnded b j × (j.resource ≡ from + k)

@@ -1,0 +1,62 @@
+//! Messages and hellos that come to a resource.
+
+ghost use Rattle.std.specs.Prelude.{◌≡◌};
+ghost use Rattle.audit.specs.Steps.Standings.{AuditedBook, IsGoing};
+
+use crate::book_of_audit::BookOfAudit;
+use crate::needs::Need;
+use crate::outcome::Outcome;
+use crate::reason::Reason;
+use evaluation::Message;
+use exchange_core::Accepted;
+use node_journals::Station;
+use std::alloc::AllocError;
+
+/// Receives the entry whose message came. What wouldn't be taken changes nothing, and needs no entry.
+#[tactic(auto, using(crate::proofs::GoingOn::received_going))]
+pub(crate) fn receive(
+    station: &mut Station,
+    message: &Message,
+    book: &BookOfAudit,
+) -> Result<Outcome, AllocError>
+    requires { IsGoing book.now station.old }
+    ensures going { IsGoing book.now station.new }
+    ensures resource { station.new.journal.resource ≡ station.old.journal.resource }
+{
+    if station.core().messages().would_accept(message) != Accepted::Taken {
+        return Ok(Outcome::Done);
+    }
+    let name = message.name();
+    let Some(entry) = book.find(name) else {
+        return Ok(Outcome::Waits(Need::Evaluation(name)));
+    };
+    if !entry.message().same(message) {
+        return Ok(Outcome::Stops(Reason::Differs(name)));
+    }
+    station.receive(entry.try_clone()?)?;
+    Ok(Outcome::Done)
+}
+
+/// Hears of an incarnation in which that resource is by now, or was. What would be no news changes nothing.
+#[tactic(auto, using(crate::proofs::GoingOn::heard_going))]
+pub(crate) fn hear(
+    station: &mut Station,
+    of: usize,
+    incarnation: u32,
+    present: &[u32],
+) -> Result<Outcome, AllocError>
+    ensures going { (b : AuditedBook) → IsGoing b station.old → IsGoing b station.new }
+    ensures resource { station.new.journal.resource ≡ station.old.journal.resource }
+{
+    if !station.core().messages().would_hear(of, incarnation) {
+        return Ok(Outcome::Done);
+    }
+    if present.get(of).copied().unwrap_or(0) < incarnation {
+        return Ok(Outcome::Waits(Need::Incarnation {
+            resource: of,
+            incarnation,
+        }));
+    }
+    station.hear(of, incarnation)?;
+    Ok(Outcome::Done)
+}

@@ -1,0 +1,141 @@
+//! The audit of the journals of a plant's nodes.
+
+ghost use Rattle.std.specs.Prelude.{◌≡◌, IfOk, OnOk, length};
+ghost use Rattle.node_reports.specs.Reports.{IsFittingBook, AreJournalsOf, AreInBook, RunsAgain, CanBeMadeAgain};
+ghost use Rattle.audit.specs.Delivered.{AreDelivered};
+ghost use Rattle.audit.specs.Steps.Standings.{AuditedBook, empty_book, AreFrom, AreJournalsFrom, IsOfSame};
+
+use crate::book_of_audit::BookOfAudit;
+use crate::follower::Follower;
+use crate::reason::Unshown;
+use crate::telling::{all_unshown, all_without};
+use exchange::Book;
+use journal_files::{JournalFile, Line, Readings, read_journals};
+use node_journals::{Journal, RunFault};
+use node_reports::{Journals, PlantBook, agreed};
+use plant::Plant;
+use std::alloc::{AllocError, Global};
+use std::sync::Arc;
+
+/// What is shown of the journals of a plant's nodes, and what can't be.
+#[derive(Drop)]
+pub struct Audited {
+    /// All evaluations that are shown.
+    pub book: Book,
+    /// What each resource did, as far as it is shown. Each begins in incarnation 0, in which it does nothing.
+    pub journals: Journals,
+    /// The lines from which on a journal can't be shown: at most one of each resource, in the plant's order, and behind
+    /// them the first line of each file that has no START.
+    pub unshown: Vec<Unshown>,
+    /// The resources of which there is no run.
+    pub without: Vec<usize>,
+}
+
+/// The resources before their first lines.
+fn followers_of(
+    alloc: Global,
+    plant: &Arc<Plant>,
+    resources: Vec<Vec<Line>>,
+) -> Result<Vec<Follower>, AllocError>
+    requires { length resources.items ≡ length plant.now.value.resources }
+    ensures many { IfOk result (λ fs. length fs.items ≡ length plant.now.value.resources) }
+    ensures stand { IfOk result (λ fs. AreFrom (empty_book plant.now.value) 0 fs.items) }
+{
+    let first = vec![in alloc; 0_u32; plant.resources()]?;
+    let mut followers = Vec::with_capacity(alloc, plant.resources())?;
+    for lines in resources {
+        let resource = followers.len();
+        followers.push(Follower::new(alloc, plant, resource, first.as_slice(), lines)?)?;
+    }
+    Ok(followers)
+}
+
+/// Lets each resource go on as far as it can; whether one did a line.
+fn go_round(
+    alloc: Global,
+    followers: Vec<Follower>,
+    present: &mut [u32],
+    book: &mut BookOfAudit,
+) -> Result<(Vec<Follower>, bool), AllocError>
+    requires { AreFrom book.old 0 followers.items }
+    ensures many { IfOk result (λ r. length r.0.items ≡ length followers.items) }
+    ensures stand { IfOk result (λ r. AreFrom book.new 0 r.0.items) }
+    ensures plant { OnOk result (IsOfSame book.old book.new) }
+{
+    let mut gone = Vec::with_capacity(alloc, followers.len())?;
+    let mut any = false;
+    for follower in followers {
+        let (next, went) = follower.follow(alloc, present, book)?;
+        gone.push(next)?;
+        any = any || went;
+    }
+    Ok((gone, any))
+}
+
+/// Lets all resources go on until none can.
+fn go_on(
+    alloc: Global,
+    followers: Vec<Follower>,
+    book: &mut BookOfAudit,
+) -> Result<Vec<Follower>, AllocError>
+    requires { AreFrom book.old 0 followers.items }
+    ensures many { IfOk result (λ fs. length fs.items ≡ length followers.items) }
+    ensures stand { IfOk result (λ fs. AreFrom book.new 0 fs.items) }
+    ensures plant { OnOk result (IsOfSame book.old book.new) }
+{
+    let mut present = vec![in alloc; 0_u32; followers.len()]?;
+    let mut followers = followers;
+    for _round in 0..u64::MAX {
+        let (gone, went) = go_round(alloc, followers, present.as_mut_slice(), book)?;
+        followers = gone;
+        if !went {
+            break;
+        }
+    }
+    Ok(followers)
+}
+
+/// The journals that the resources have made.
+fn journals_of(alloc: Global, followers: Vec<Follower>) -> Result<Vec<Journal>, AllocError>
+    ensures many { IfOk result (λ js. length js.items ≡ length followers.items) }
+    ensures journals { (b : AuditedBook) → AreFrom b 0 followers.items → IfOk result (λ js. AreJournalsFrom b 0 js.items) }
+{
+    let mut journals = Vec::with_capacity(alloc, followers.len())?;
+    for follower in followers {
+        journals.push(follower.into_journal())?;
+    }
+    Ok(journals)
+}
+
+/// What is shown of the journals of a plant's nodes, and what can't be. The lines of all resources are done in turn, each
+/// as soon as what it needs is there, until none can be done.
+pub fn audit(alloc: Global, plant: Arc<Plant>, files: &[JournalFile]) -> Result<Audited, AllocError>
+    ensures fitting { IfOk result (λ r. IsFittingBook r.book r.journals) }
+    ensures journals { IfOk result (λ r. AreJournalsOf plant.value 4294967295 r.journals) }
+    ensures made { IfOk result (λ r. AreInBook r.book.entries r.journals) }
+    ensures again { IfOk result (λ r. RunsAgain plant.value 4294967295 r.book r.journals) }
+    ensures made_again { IfOk result (λ r. CanBeMadeAgain plant.value 4294967295 r.book r.journals) }
+    ensures delivered { IfOk result (λ r. AreDelivered r.book.entries r.journals) }
+{
+    let Readings {
+        resources,
+        without_start,
+    } = read_journals(alloc, &plant, files)?;
+    let mut book = BookOfAudit::new(alloc, Arc::try_clone(&plant)?)?;
+    let followers = followers_of(alloc, &plant, resources)?;
+    let followers = go_on(alloc, followers, &mut book)?;
+    let unshown = all_unshown(alloc, followers.as_slice(), without_start.as_slice())?;
+    let without = all_without(alloc, followers.as_slice())?;
+    let journals = journals_of(alloc, followers)?;
+    match agreed(alloc, &plant, u32::MAX, book.into_book(), journals) {
+        Ok(PlantBook { book, journals }) => Ok(Audited {
+            book,
+            journals,
+            unshown,
+            without,
+        }),
+        Err(RunFault::Memory) => Err(AllocError),
+        // What each resource makes is entered, so the journals and the book agree.
+        Err(_) => unreachable!(),
+    }
+}

@@ -1,0 +1,166 @@
+//! A resource goes through its lines.
+
+ghost use Rattle.std.specs.Prelude.{◌≡◌, ◌<◌, length, IfOk};
+ghost use Rattle.message_core.specs.Openings.{AreOpeningOf};
+ghost use Rattle.audit.specs.Steps.Standings.{AuditedBook, zeros, empty_book, IsEnded, IsStanding, IsAt, journal_in, Goes};
+
+use crate::book_of_audit::BookOfAudit;
+use crate::doing::do_line;
+use crate::standing::Standing;
+use crate::trail::Trail;
+use evaluation::Retained;
+use exchange_core::{CoreFault, initial_opening, is_opening};
+use journal_files::{Item, Line};
+use node_journals::{Journal, Opening, Station};
+use plant::Plant;
+use std::alloc::{AllocError, Global};
+use std::sync::Arc;
+
+/// A resource, its lines, and how far they were done.
+#[derive(Drop)]
+pub(crate) struct Follower {
+    pub standing: Standing,
+    pub lines: Vec<Line>,
+    pub trail: Trail,
+}
+
+/// Equal values.
+fn copies(alloc: Global, kept: &[Retained]) -> Result<Vec<Retained>, AllocError>
+    ensures { IfOk result (λ copy. copy.items ≡ kept.now) }
+{
+    let mut copy = Vec::with_capacity(alloc, kept.len())?;
+    for retained in kept {
+        copy.push(retained.try_copy()?)?;
+    }
+    Ok(copy)
+}
+
+/// The retained values with which a resource opens: those of its first START.
+fn opening_in(
+    alloc: Global,
+    plant: &Plant,
+    resource: usize,
+    lines: &[Line],
+) -> Result<Vec<Retained>, AllocError>
+    ensures { IfOk result (λ opening. AreOpeningOf plant.now resource opening.items) }
+{
+    if let Some(first) = lines.first() {
+        if let Item::Start { kept, .. } = &first.item {
+            if is_opening(plant, resource, kept.as_slice()) {
+                return copies(alloc, kept.as_slice());
+            }
+        }
+    }
+    initial_opening(alloc, plant, resource)
+}
+
+/// A resource in incarnation 0, in which it does nothing.
+fn begin(
+    alloc: Global,
+    plant: Arc<Plant>,
+    resource: usize,
+    first: &[u32],
+    opening: Vec<Retained>,
+) -> Result<Standing, AllocError>
+    requires exists { resource < length plant.value.resources }
+    requires first { first.now ≡ zeros plant.value }
+    requires opening { AreOpeningOf plant.value resource opening.items }
+    ensures { IfOk result (λ s. IsStanding (empty_book plant.value) s × ((journal_in s).resource ≡ resource)) }
+{
+    let opening = Opening::of(opening);
+    match Station::new(alloc, plant, resource, first, opening, u32::MAX) {
+        Ok(station) => Ok(Standing::Going(station)),
+        Err(CoreFault::NoSuchResource) | Err(CoreFault::Memory) => Err(AllocError),
+    }
+}
+
+/// Its journal.
+#[tactic(auto, using(crate::proofs::GoingOn::ended_going))]
+fn journal_of(standing: Standing) -> Journal
+    ensures same { result ≡ journal_in standing }
+    ensures lawful { (b : AuditedBook) → IsStanding b standing → IsEnded b result }
+{
+    match standing {
+        Standing::Going(station) => station.into_journal(),
+        Standing::Ended(journal) => journal,
+    }
+}
+
+impl Follower {
+    /// A resource before its first line.
+    pub(crate) fn new(
+        alloc: Global,
+        plant: &Arc<Plant>,
+        resource: usize,
+        first: &[u32],
+        lines: Vec<Line>,
+    ) -> Result<Follower, AllocError>
+        requires exists { resource < length plant.now.value.resources }
+        requires first { first.now ≡ zeros plant.now.value }
+        ensures { IfOk result (IsAt (empty_book plant.now.value) resource) }
+    {
+        let opening = opening_in(alloc, plant, resource, lines.as_slice())?;
+        let left = copies(alloc, opening.as_slice())?;
+        let shared = Arc::try_clone(plant)?;
+        Ok(Follower {
+            standing: begin(alloc, shared, resource, first, opening)?,
+            lines,
+            trail: Trail::new(alloc, left),
+        })
+    }
+
+    /// Does the lines of a resource as far as they can be done by now; whether it did one.
+    pub(crate) fn follow(
+        self,
+        alloc: Global,
+        present: &mut [u32],
+        book: &mut BookOfAudit,
+    ) -> Result<(Follower, bool), AllocError>
+        requires { IsStanding book.old self.standing }
+        ensures { IfOk result (λ r. Goes book.old book.new self.standing r.0.standing) }
+    {
+        let Follower {
+            standing,
+            lines,
+            mut trail,
+        } = self;
+        let mut standing = standing;
+        let from = trail.at;
+        for _line in 0..lines.len() {
+            let (next, done) = do_line(
+                alloc,
+                standing,
+                lines.as_slice(),
+                &mut trail,
+                present,
+                book,
+            )?;
+            standing = next;
+            if !done {
+                break;
+            }
+        }
+        let went = trail.at != from;
+        Ok((
+            Follower {
+                standing,
+                lines,
+                trail,
+            },
+            went,
+        ))
+    }
+
+    /// The journal that the lines have made.
+    pub(crate) fn into_journal(self) -> Journal
+        ensures same { result ≡ journal_in self.standing }
+        ensures lawful { (b : AuditedBook) → IsStanding b self.standing → IsEnded b result }
+    {
+        journal_of(self.standing)
+    }
+
+    /// Whether there are lines that weren't done.
+    pub(crate) fn is_open(&self) -> bool {
+        self.trail.at < self.lines.len()
+    }
+}

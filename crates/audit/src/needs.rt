@@ -1,0 +1,28 @@
+use evaluation::Name;
+
+/// What a line waits for.
+#[derive(Clone, Copy, Debug, PartialEq, Eq)]
+pub enum Need {
+    /// The evaluation of this name, whose message was taken.
+    Evaluation(Name),
+    /// That a resource is in this incarnation or above, of which was heard.
+    Incarnation { resource: usize, incarnation: u32 },
+}
+
+impl Need {
+    /// The resource that is to go on.
+    pub(crate) fn resource(self) -> usize {
+        match self {
+            Need::Evaluation(name) => name.task.resource,
+            Need::Incarnation { resource, .. } => resource,
+        }
+    }
+
+    /// The incarnation in which it is to be.
+    pub(crate) fn incarnation(self) -> u32 {
+        match self {
+            Need::Evaluation(name) => name.incarnation,
+            Need::Incarnation { incarnation, .. } => incarnation,
+        }
+    }
+}

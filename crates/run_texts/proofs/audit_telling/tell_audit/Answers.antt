@@ -1,0 +1,45 @@
+-- The audit is written whole or in part.
+use Rattle.std.proofs.Common.{ap, ◌∙◌}
+use Rattle.std.proofs.KnownBytes.{Appends-trans}
+use Rattle.lists.proofs.Results.{kept_fault}
+use Rattle.text_writer.specs.declared.send_fault.SendFault.TheVariants.{Write, Memory}
+use Rattle.run_texts.specs.ReportText.{replay_line}
+use Rattle.run_texts.specs.AuditText.{audit_lines, TellsAuditPart}
+use Rattle.run_texts.proofs.ReportTelling.{lines_partly, lines_alone, last_partly, all_shown}
+use Rattle.node_reports.specs.Reports.{setting_of}
+use Rattle.run_texts.proofs.Replaying.{entries_of_plant}
+use Rattle.run_texts.proofs.audit_telling.tell_audit.Goals as goal
+
+pub replay-requires-clause-of_plant : goal.replay-requires-clause-of_plant
+replay-requires-clause-of_plant g c = entries_of_plant (setting_of c.args.plant.value 4294967295 c.args.audited.now.journals) c.args.audited.now.book.entries c.requires.made_again
+
+pub returns-in_err-write_audit-clause-fault : goal.returns-in_err-write_audit-clause-fault
+returns-in_err-write_audit-clause-fault g c =
+    let plant = c.args.plant.value in
+    let audited = c.args.audited.now in
+    kept_fault _ (TellsAuditPart plant c.args.files.now audited _ _) _ c.from_residual.ensures.1 (lines_partly (audit_lines plant c.args.files.now audited) _ _ _ (rw c.deref.ensures at c.in_err-write_audit.ensures.part))
+
+pub returns-in_err-equal-clause-fault : goal.returns-in_err-equal-clause-fault
+returns-in_err-equal-clause-fault g c =
+    let plant = c.args.plant.value in
+    let audited = c.args.audited.now in
+    kept_fault Memory (TellsAuditPart plant c.args.files.now audited _ _) _ c.from_residual-in_err-equal.ensures.1 (lines_alone (audit_lines plant c.args.files.now audited) _ _ (rw c.deref.ensures at c.in_ok-write_audit.ensures.ok))
+
+pub returns-in_err-write_text-clause-fault : goal.returns-in_err-write_text-clause-fault
+returns-in_err-write_text-clause-fault g c =
+    let plant = c.args.plant.value in
+    let audited = c.args.audited.now in
+    let line = c.replay_line.ensures ∙ ap replay_line (c.in_ok-equal.ensures.equal c.requires.again) in
+    let part = rw line at c.in_err-write_text.ensures.prefix in
+    kept_fault Write (TellsAuditPart plant c.args.files.now audited _ _) _ c.from_residual-in_err-write_text.ensures.1
+    (last_partly (audit_lines plant c.args.files.now audited) _ _ _ (rw c.deref.ensures at c.in_ok-write_audit.ensures.ok) part)
+
+pub returns-clause-ok : goal.returns-clause-ok
+returns-clause-ok g c =
+    let plant = c.args.plant.value in
+    let audited = c.args.audited.now in
+    let line = c.replay_line.ensures ∙ ap replay_line (c.in_ok-equal.ensures.equal c.requires.again) in
+    record {
+      appended = Appends-trans _ _ _ (audit_lines plant c.args.files.now audited) _ (rw c.deref.ensures at c.in_ok-write_audit.ensures.ok) (rw line at c.in_ok-write_text.ensures.whole);
+      shown_is = all_shown audited.unshown.items audited.without.items _ _ c.is_empty.ensures c.is_empty-2.ensures;
+    }
