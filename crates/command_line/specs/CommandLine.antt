@@ -13,7 +13,7 @@ use Rattle.command_line.specs.declared.request.Color.{Color}
 use Rattle.command_line.specs.declared.request.Color.TheVariants.{Always, Auto, Never}
 use Rattle.command_line.specs.declared.request.TraceFiles.{TraceFiles}
 use Rattle.command_line.specs.declared.request.Request.{Request}
-use Rattle.command_line.specs.declared.request.Request.TheVariants.{Text as OfText, Verify, Sim, Run, Explain, Audit}
+use Rattle.command_line.specs.declared.request.Request.TheVariants.{Text as OfText, Verify, Sim, Run, Node, Explain, Audit}
 
 -- a word that must be given
 abbrev pub needed_word : Text → Rule
@@ -42,12 +42,19 @@ until_rule = record (option_of (codes "until")) { required = true }
 abbrev pub schedule_rule : Rule
 schedule_rule = needed_word (codes "SCHEDULE")
 
+abbrev pub resource_rule : Rule
+resource_rule = needed_word (codes "RESOURCE")
+
 abbrev pub max_number_rule : Rule
 max_number_rule = option_of (codes "max-number")
 
 -- an option `--state DIR`
 abbrev pub state_rule : Rule
 state_rule = option_of (codes "state")
+
+-- an option `--journal FILE`
+abbrev pub journal_rule : Rule
+journal_rule = option_of (codes "journal")
 
 -- a flag `--id`
 abbrev pub flag_of : Text → Rule
@@ -131,6 +138,12 @@ run_app =
     let until = with_rule (with_rule (new_app (codes "run")) plant_rule) until_rule in
     with_rule (with_rule (with_rule until state_rule) paced_rule) words_rule
 
+-- `node PLANT RESOURCE [--state DIR] [--journal FILE]`
+abbrev pub node_app : App
+node_app =
+    let resource = with_rule (with_rule (new_app (codes "node")) plant_rule) resource_rule in
+    with_rule (with_rule resource state_rule) journal_rule
+
 -- the names of journals, one or more
 abbrev pub journals_rule : Rule
 journals_rule = record (new_rule (codes "JOURNAL")) {
@@ -166,7 +179,7 @@ text_app =
 abbrev pub plc_app : App
 plc_app =
     let run = with_subcommand (with_subcommand text_app sim_app.top) run_app.top in
-    with_subcommand (with_subcommand run audit_app.top) explain_app.top
+    with_subcommand (with_subcommand (with_subcommand run node_app.top) audit_app.top) explain_app.top
 
 -- digits alone are a number of 32 bits
 abbrev pub IsNumber : List ℕ → Type 0
@@ -226,6 +239,7 @@ AsksEval found (OfText (Plan plant until)) = ⊥
 AsksEval found (Verify verify) = ⊥
 AsksEval found (Sim sim) = ⊥
 AsksEval found (Run run) = ⊥
+AsksEval found (Node node) = ⊥
 AsksEval found (Explain kind) = ⊥
 AsksEval found (Audit audit) = ⊥
 
@@ -239,6 +253,7 @@ AsksVerify found (Verify verify) =
     × (map (λ w. w.now) verify.words.items ≡ words_given found)
 AsksVerify found (Sim sim) = ⊥
 AsksVerify found (Run run) = ⊥
+AsksVerify found (Node node) = ⊥
 AsksVerify found (Explain kind) = ⊥
 AsksVerify found (Audit audit) = ⊥
 
@@ -249,6 +264,7 @@ AsksCheck found (OfText (Plan plant until)) = ⊥
 AsksCheck found (Verify verify) = ⊥
 AsksCheck found (Sim sim) = ⊥
 AsksCheck found (Run run) = ⊥
+AsksCheck found (Node node) = ⊥
 AsksCheck found (Explain kind) = ⊥
 AsksCheck found (Audit audit) = ⊥
 
@@ -260,6 +276,7 @@ AsksPlan found (OfText (Plan plant until)) =
 AsksPlan found (Verify verify) = ⊥
 AsksPlan found (Sim sim) = ⊥
 AsksPlan found (Run run) = ⊥
+AsksPlan found (Node node) = ⊥
 AsksPlan found (Explain kind) = ⊥
 AsksPlan found (Audit audit) = ⊥
 
@@ -272,6 +289,7 @@ AsksSim found (Sim sim) =
     (sim.plant.now ≡ given_word (codes "PLANT") found) × (sim.schedule.now ≡ given_word (codes "SCHEDULE") found)
     × GivesNumber 4294967295 (first_of (codes "max-number") found) sim.max_number
 AsksSim found (Run run) = ⊥
+AsksSim found (Node node) = ⊥
 AsksSim found (Explain kind) = ⊥
 AsksSim found (Audit audit) = ⊥
 
@@ -285,14 +303,28 @@ AsksRun found (Run run) =
     (run.plant.now ≡ given_word (codes "PLANT") found) × GivesNumber 0 (first_of (codes "until") found) run.until
     × (option_map (λ d. d.now) run.state ≡ first_of (codes "state") found)
     × (run.paced ≡ is_given (codes "paced") found) × (map (λ w. w.now) run.words.items ≡ words_given found)
+AsksRun found (Node node) = ⊥
 AsksRun found (Explain kind) = ⊥
 AsksRun found (Audit audit) = ⊥
+
+abbrev pub AsksNode : List Row → Request → Type 0
+AsksNode found (OfText text) = ⊥
+AsksNode found (Verify verify) = ⊥
+AsksNode found (Sim sim) = ⊥
+AsksNode found (Run run) = ⊥
+AsksNode found (Node node) =
+    (node.plant.now ≡ given_word (codes "PLANT") found) × (node.resource.now ≡ given_word (codes "RESOURCE") found)
+    × (option_map (λ d. d.now) node.state ≡ first_of (codes "state") found)
+    × (option_map (λ f. f.now) node.journal ≡ first_of (codes "journal") found)
+AsksNode found (Explain kind) = ⊥
+AsksNode found (Audit audit) = ⊥
 
 abbrev pub AsksExplain : List Row → Request → Type 0
 AsksExplain found (OfText text) = ⊥
 AsksExplain found (Verify verify) = ⊥
 AsksExplain found (Sim sim) = ⊥
 AsksExplain found (Run run) = ⊥
+AsksExplain found (Node node) = ⊥
 AsksExplain found (Explain kind) = option_map (λ k. k.now) kind ≡ first_of (codes "KIND") found
 AsksExplain found (Audit audit) = ⊥
 
@@ -301,6 +333,7 @@ AsksAudit found (OfText text) = ⊥
 AsksAudit found (Verify verify) = ⊥
 AsksAudit found (Sim sim) = ⊥
 AsksAudit found (Run run) = ⊥
+AsksAudit found (Node node) = ⊥
 AsksAudit found (Explain kind) = ⊥
 AsksAudit found (Audit audit) =
     (audit.plant.now ≡ given_word (codes "PLANT") found)
@@ -316,8 +349,9 @@ AsksFor (Some (name, found)) request =
     ⊎ (((name ≡ codes "plan") × AsksPlan found request)
     ⊎ (((name ≡ codes "sim") × AsksSim found request)
     ⊎ (((name ≡ codes "run") × AsksRun found request)
+    ⊎ (((name ≡ codes "node") × AsksNode found request)
     ⊎ (((name ≡ codes "audit") × AsksAudit found request)
-    ⊎ ((name ≡ codes "explain") × AsksExplain found request)))))))
+    ⊎ ((name ≡ codes "explain") × AsksExplain found request))))))))
 
 -- the file that is to be read
 abbrev pub file_of : TextRequest → List ℕ

@@ -1,10 +1,10 @@
 ghost use Rattle.std.specs.Prelude.{◌≡◌, false, IfOk, codes};
 ghost use Rattle.clap.specs.Words.{app_of, new_app, rule_of};
-ghost use Rattle.command_line.specs.CommandLine.{needed_word, option_of, flag_of, words_rule, plant_rule, until_rule, state_rule, paced_rule, show_rule, chart_rule, color_rule, vcd_rule, svg_rule, traced, kind_rule, never_rule, journals_rule, shown_app, eval_app, verify_app, check_app, plan_app, sim_app, run_app, explain_app, audit_app, versioned, commanded, plc_app, text_app};
+ghost use Rattle.command_line.specs.CommandLine.{needed_word, option_of, flag_of, words_rule, plant_rule, until_rule, state_rule, journal_rule, paced_rule, show_rule, chart_rule, color_rule, vcd_rule, svg_rule, traced, kind_rule, never_rule, journals_rule, shown_app, eval_app, verify_app, check_app, plan_app, sim_app, run_app, node_app, explain_app, audit_app, versioned, commanded, plc_app, text_app};
 
 use crate::help::{
-    AUDIT_HELP, CHECK_HELP, EVAL_HELP, EXPLAIN_HELP, FIRST_STEPS, PLAN_HELP, RUN_HELP, SIM_HELP,
-    VERIFY_HELP,
+    AUDIT_HELP, CHECK_HELP, EVAL_HELP, EXPLAIN_HELP, FIRST_STEPS, NODE_HELP, PLAN_HELP, RUN_HELP,
+    SIM_HELP, VERIFY_HELP,
 };
 use clap::{Arg, ArgAction, Command};
 use std::alloc::{AllocError, Global};
@@ -76,6 +76,18 @@ fn state_arg<'a>(alloc: Global) -> Arg<'a>
         "state",
         "DIR",
         "A folder that keeps incarnations and retained variables between runs",
+    )
+}
+
+fn journal_arg<'a>(alloc: Global) -> Arg<'a>
+    ensures rule { rule_of result ≡ journal_rule }
+    ensures local { result.global ≡ false }
+{
+    number_arg(
+        alloc,
+        "journal",
+        "FILE",
+        "The file to which the node notes what it does, for plc audit",
     )
 }
 
@@ -298,6 +310,20 @@ fn run_command<'a>(alloc: Global) -> Result<Command<'a>, AllocError>
         ))
 }
 
+fn node_command<'a>(alloc: Global) -> Result<Command<'a>, AllocError>
+    ensures { IfOk result (λ c. app_of c ≡ node_app) }
+{
+    Command::new(alloc, "node")
+        .about(
+            "Runs one resource of a plant: answers each line of standard input before it reads the next",
+        )
+        .after_help(NODE_HELP)
+        .arg(plant_arg(alloc))?
+        .arg(needed_arg(alloc, "RESOURCE", "The name of the resource"))?
+        .arg(state_arg(alloc))?
+        .arg(journal_arg(alloc))
+}
+
 fn journals_arg<'a>(alloc: Global) -> Arg<'a>
     ensures rule { rule_of result ≡ journals_rule }
     ensures local { result.global ≡ false }
@@ -368,6 +394,7 @@ pub fn commands<'a>(alloc: Global) -> Result<Command<'a>, AllocError>
     text_commands(alloc)?
         .subcommand(sim_command(alloc)?)?
         .subcommand(run_command(alloc)?)?
+        .subcommand(node_command(alloc)?)?
         .subcommand(audit_command(alloc)?)?
         .subcommand(explain_command(alloc)?)
 }

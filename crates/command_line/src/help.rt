@@ -164,6 +164,38 @@ The exit status is 0; 1 if the text of the plant is refused, with FILE:LINE: Kin
 more than 100,000 lines, with plan: TooLong; 2 if a word is refused; 3 if a FAULT was written, a file can't be read or an
 incarnation kept, the output can't be written, the threads can't be run or there is no memory left.";
 
+/// What `plc node --help` tells behind the words.
+pub const NODE_HELP: &str = "\
+The resource runs on a machine of its own: lines go in and out, and whatever carries them connects the nodes. These lines are
+read, each is answered before the next one is read, and words are as in a schedule:
+
+  EVAL R.T MS ADDRESS=VALUE..   evaluate the task, MS ms after the time before
+  MESSAGE ..                    what another node gave, as its SEND line has it
+  HELLO R I                     resource R is in incarnation I
+  RESTART R                     go to the next incarnation
+
+SEND R LINE is written for each LINE that is to be carried to the node of R, and then one closing line: START at the start,
+EVAL, MESSAGE with taken, old, stray or unused, HELLO with new or old, RESTART, or REFUSED and why (plc explain tells of it).
+A line that is refused changes nothing; for a blank line or a comment nothing is written.
+
+With --state DIR the resource counts its incarnations in DIR/NAME.inc, one more at each start and RESTART, and its task K
+keeps what stands in VAR RETAIN in DIR/NAME.K.ret; without it the incarnation is 1: for one life alone. With --journal FILE
+each line is noted at the end of FILE, and on the disk, before it is done; plc audit reads these files. A second node doesn't
+use the same DIR or FILE meanwhile.
+
+Example:
+
+  $ printf 'HELLO R2 1\\nEVAL R1.FAST 10 %IX0=1\\n' | plc node examples/pair.plant R1
+  SEND R2 HELLO R1 1
+  START R1 1
+  HELLO R2 1 new
+  SEND R2 MESSAGE R1.FAST 1.1 HEARD R1=1 R2=1 GIVES A.N=1 A.FULL=0
+  EVAL 1 R1.FAST 1.1 TAKES - GIVES A.N=1 A.FULL=0
+
+The exit status is 0 at the end of the lines; 1 if the text of the plant is refused, with FILE:LINE: Kind on standard error;
+2 if a word is refused; 3 if a file can't be read or written, an incarnation kept, the output written or there is no memory
+left: then the line that was read last isn't answered.";
+
 /// What `plc audit --help` tells behind the words.
 pub const AUDIT_HELP: &str = "\
 Each JOURNAL is a file that plc node wrote with --journal; a file may hold the lines of several nodes, one after the other.

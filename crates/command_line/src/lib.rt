@@ -8,6 +8,7 @@ mod words;
 
 pub use help::FIRST_STEPS;
 pub use request::{
-    AuditRequest, Color, Request, RunRequest, SimRequest, TextRequest, TraceFiles, VerifyRequest, View,
+    AuditRequest, Color, NodeRequest, Request, RunRequest, SimRequest, TextRequest, TraceFiles,
+    VerifyRequest, View,
 };
 pub use words::read_words;

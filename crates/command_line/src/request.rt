@@ -124,6 +124,16 @@ pub struct RunRequest<'a> {
     pub words: Vec<&'a str>,
 }
 
+/// One resource of a plant, of this name, as a node of its own, which answers the lines of standard input. The folder
+/// `state` keeps its incarnation; without it that is 1. It notes what it does in the file `journal`, if one is given.
+#[derive(Clone, Copy)]
+pub struct NodeRequest<'a> {
+    pub plant: &'a str,
+    pub resource: &'a str,
+    pub state: Option<&'a str>,
+    pub journal: Option<&'a str>,
+}
+
 /// What is shown of the journals of a plant's nodes.
 #[derive(Drop)]
 pub struct AuditRequest<'a> {
@@ -142,6 +152,8 @@ pub enum Request<'a> {
     Sim(SimRequest<'a>),
     /// What the threads of a plant do.
     Run(RunRequest<'a>),
+    /// What one resource of a plant does on a machine of its own.
+    Node(NodeRequest<'a>),
     /// What is told of the kinds of faults of this name; all kinds, where none is named.
     Explain(Option<&'a str>),
     /// What is shown of the journals of a plant's nodes.

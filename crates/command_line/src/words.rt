@@ -2,11 +2,12 @@ ghost use Rattle.std.specs.Prelude.{◌≡◌, IfOk, MatchOption, Some, map, str
 ghost use Rattle.std.specs.Option.{option_map};
 ghost use Rattle.std.specs.Str.Parse.{digits_value};
 ghost use Rattle.clap.specs.Words.{rows_of, found_of, first_of, subcommand_of};
-ghost use Rattle.command_line.specs.CommandLine.{plc_app, IsNumber, GivesNumber, AsksEval, AsksVerify, AsksPlan, AsksSim, AsksRun, AsksAudit, AsksFiles, AsksFor, given_word, words_given, claims_given, journals_given, is_given, GivesView, GivesColor};
+ghost use Rattle.command_line.specs.CommandLine.{plc_app, IsNumber, GivesNumber, AsksEval, AsksVerify, AsksPlan, AsksSim, AsksRun, AsksNode, AsksAudit, AsksFiles, AsksFor, given_word, words_given, claims_given, journals_given, is_given, GivesView, GivesColor};
 
 use crate::commands::commands;
 use crate::request::{
-    AuditRequest, Color, Request, RunRequest, SimRequest, TextRequest, TraceFiles, VerifyRequest, View,
+    AuditRequest, Color, NodeRequest, Request, RunRequest, SimRequest, TextRequest, TraceFiles,
+    VerifyRequest, View,
 };
 use clap::error::ErrorKind;
 use clap::{ArgMatches, Command, Error};
@@ -225,6 +226,17 @@ fn run_request<'a>(
     }))
 }
 
+fn node_request<'a>(inner: &ArgMatches<'a>) -> Request<'a>
+    ensures { AsksNode (rows_of (found_of inner.now)) result }
+{
+    Request::Node(NodeRequest {
+        plant: given_word(inner, "PLANT"),
+        resource: given_word(inner, "RESOURCE"),
+        state: word_of(inner, "state"),
+        journal: word_of(inner, "journal"),
+    })
+}
+
 fn audit_request<'a>(alloc: Global, inner: &ArgMatches<'a>) -> Result<Request<'a>, Error>
     ensures { IfOk result (AsksAudit (rows_of (found_of inner.now))) }
 {
@@ -252,6 +264,7 @@ fn request_of<'a>(
         "plan" => plan_request(command, inner),
         "sim" => sim_request(command, inner),
         "run" => run_request(alloc, command, inner),
+        "node" => Ok(node_request(inner)),
         "audit" => audit_request(alloc, inner),
         "explain" => Ok(Request::Explain(word_of(inner, "KIND"))),
         _ => Err(command.error(ErrorKind::MissingSubcommand, "a command is missing")?),

@@ -11,16 +11,19 @@ pub enum Occasion {
     Run,
     /// A file of a folder of state isn't raised.
     State,
+    /// A line of a node is refused.
+    Node,
     /// A line of a journal can't be shown.
     Audit,
 }
 
 /// All of them.
-pub const OCCASIONS: [Occasion; 5] = [
+pub const OCCASIONS: [Occasion; 6] = [
     Occasion::Event,
     Occasion::Command,
     Occasion::Run,
     Occasion::State,
+    Occasion::Node,
     Occasion::Audit,
 ];
 
@@ -32,6 +35,7 @@ impl Occasion {
             Occasion::Command => "in a FAULT line of plc run",
             Occasion::Run => "where plc run gives no report",
             Occasion::State => "in a folder of state",
+            Occasion::Node => "in a REFUSED line of plc node",
             Occasion::Audit => "in an UNSHOWN line of plc audit",
         }
     }
@@ -43,6 +47,7 @@ impl Occasion {
             Occasion::Command => &COMMANDS,
             Occasion::Run => &RUNS,
             Occasion::State => &STATES,
+            Occasion::Node => &NODES,
             Occasion::Audit => &AUDITS,
         }
     }
@@ -154,6 +159,37 @@ const STATES: [Remark; 3] = [
     Remark {
         kind: "Spent",
         sentence: "NAME.inc is 4294967295, and no incarnation is left: begin with an empty folder.",
+    },
+];
+
+const NODES: [Remark; 7] = [
+    Remark {
+        kind: "Syntax",
+        sentence: "It is no EVAL, MESSAGE, HELLO or RESTART with its words. A MESSAGE is read only as a node of the same plant writes it behind SEND.",
+    },
+    Remark {
+        kind: "TooLong",
+        sentence: "It has more than 16,777,216 bytes. It was read to its end.",
+    },
+    Remark {
+        kind: "NoSuchResource",
+        sentence: "The plant has no resource of that name.",
+    },
+    Remark {
+        kind: "NotHere",
+        sentence: "The resource is another one's node: give it the line.",
+    },
+    Remark {
+        kind: "NoSuchTask",
+        sentence: "The resource has no task of that name.",
+    },
+    Remark {
+        kind: "NumbersSpent",
+        sentence: "The task has made 4294967295 evaluations in this incarnation. RESTART begins anew.",
+    },
+    Remark {
+        kind: "Keeper",
+        sentence: "The incarnation couldn't be raised: with --state, NAME.inc is Unreadable, Unwritable or Spent, without it 4294967295. The resource goes on in its incarnation.",
     },
 ];
 

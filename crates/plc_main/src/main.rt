@@ -2,6 +2,7 @@
 #![tactic(auto)]
 
 mod audit_command;
+mod node_command;
 mod run_command;
 mod trace_files;
 
@@ -19,6 +20,7 @@ use file_keepers::{BadLine, FileKeeper, FolderLock, LockFault, SystemFolder};
 use journal_files::JournalFile;
 use keepers::KeeperFault;
 use node::{FreeGate, Gate, Keeper, MemoryKeeper, PacedGate, RunFault};
+use node_command::answer_node;
 use plant::{Plant, TaskRef};
 use run_command::run_text;
 use std::alloc::{AllocError, Global};
@@ -44,6 +46,19 @@ fn memory_keepers(alloc: Global, plant: &Plant) -> Result<Vec<MemoryKeeper>, All
     Ok(keepers)
 }
 
+/// A keeper of a resource, in a folder of the system.
+fn keeper_in(
+    alloc: Global,
+    host: &HostRuntime,
+    plant: &Plant,
+    resource: usize,
+    folder: &str,
+) -> Result<FileKeeper<SystemFolder<HostRuntime>>, AllocError> {
+    let name = plant.resource_name(resource).unwrap_or("");
+    let folder = SystemFolder::new(host.clone()?, folder)?;
+    FileKeeper::new(alloc, folder, name)
+}
+
 /// A keeper for each resource, in a folder of the system.
 fn keepers_in(
     alloc: Global,
@@ -55,9 +70,7 @@ fn keepers_in(
 {
     let mut keepers = Vec::with_capacity(alloc, plant.resources())?;
     for resource in 0..plant.resources() {
-        let name = plant.resource_name(resource).unwrap_or("");
-        let folder = SystemFolder::new(host.clone()?, folder)?;
-        keepers.push(FileKeeper::new(alloc, folder, name)?)?;
+        keepers.push(keeper_in(alloc, host, plant, resource, folder)?)?;
     }
     Ok(keepers)
 }
@@ -170,6 +183,23 @@ fn print_task_faults<R: Eprint + AllocGlobal>(
     Ok(())
 }
 
+/// Tells whether a resource's incarnation couldn't be raised, and of which of its tasks the retained variables couldn't be
+/// told.
+fn print_resource_faults<R: Eprint + AllocGlobal>(
+    rt: &R,
+    plant: &Plant,
+    resource: usize,
+    folder: &str,
+    keeper: &FileKeeper<SystemFolder<HostRuntime>>,
+) -> io::Result<()> {
+    let name = plant.resource_name(resource).unwrap_or("");
+    let path = format!(in rt.alloc(); "{folder}/{name}")?;
+    if let Err(fault) = keeper.next_number() {
+        eprintln!(rt; "plc: {path}.inc: {fault}")?;
+    }
+    print_task_faults(rt, plant, resource, path.as_str(), keeper)
+}
+
 /// Tells of which resources an incarnation couldn't be raised, or retained variables couldn't be told.
 fn print_keeper_faults<R: Eprint + AllocGlobal>(
     rt: &R,
@@ -179,12 +209,7 @@ fn print_keeper_faults<R: Eprint + AllocGlobal>(
 ) -> io::Result<()> {
     let keepers = keepers_in(rt.alloc(), host, plant, folder)?;
     for (resource, keeper) in keepers.iter().enumerate() {
-        let name = plant.resource_name(resource).unwrap_or("");
-        let path = format!(in rt.alloc(); "{folder}/{name}")?;
-        if let Err(fault) = keeper.next_number() {
-            eprintln!(rt; "plc: {path}.inc: {fault}")?;
-        }
-        print_task_faults(rt, plant, resource, path.as_str(), keeper)?;
+        print_resource_faults(rt, plant, resource, folder, keeper)?;
     }
     Ok(())
 }
@@ -296,6 +321,7 @@ fn answer<R: Env + Files + Clock + Input + Print + Eprint + AllocGlobal + Thread
         Ok(Request::Verify(request)) => answer_verify(rt, host.stderr().is_terminal(), &request),
         Ok(Request::Sim(request)) => answer_schedule(rt, &request),
         Ok(Request::Run(request)) => answer_run(rt, host, &request),
+        Ok(Request::Node(request)) => answer_node(rt, host, &request),
         Ok(Request::Audit(request)) => answer_audit(rt, &request),
         Ok(Request::Explain(Some(kind))) => answer_kind(rt, kind),
         Ok(Request::Explain(None)) => answer_kinds(rt),

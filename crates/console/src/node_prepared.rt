@@ -1,0 +1,51 @@
+ghost use Rattle.std.specs.Prelude.{◌<◌, IfOk, IfSome, length};
+
+use crate::files::file_plant;
+use crate::shown::Shown;
+use crate::status::WORD_REFUSED;
+use command_line::NodeRequest;
+use plant::Plant;
+use std::io;
+use std::rt::Files;
+use std::sync::Arc;
+use world::resource_of;
+
+/// What a node needs: the plant, and the place of its resource.
+#[derive(Drop)]
+pub struct PreparedNode {
+    pub plant: Arc<Plant>,
+    pub resource: usize,
+}
+
+/// The place of the resource of a name; None where the plant has none.
+fn place_of(plant: &Plant, name: &str) -> Option<usize>
+    ensures { IfSome result (λ n. n < length plant.now.resources) }
+{
+    let place = resource_of(plant, name.as_bytes())?;
+    if place < plant.resources() {
+        Some(place)
+    } else {
+        None
+    }
+}
+
+/// Reads the file of the plant, and finds the resource in it, or tells what is wrong; the status.
+pub fn prepare_node<R: Files + Eprint + AllocGlobal>(
+    rt: &R,
+    request: &NodeRequest<'_>,
+) -> io::Result<Result<PreparedNode, u8>>
+    ensures { IfOk result (λ prepared. IfOk prepared (λ p. p.resource < length p.plant.value.resources)) }
+{
+    let plant = match file_plant(rt, request.plant)? {
+        Ok(plant) => plant,
+        Err(status) => return Ok(Err(status)),
+    };
+    match place_of(&plant, request.resource) {
+        Some(resource) => Ok(Ok(PreparedNode { plant, resource })),
+        None => {
+            let name = Shown(request.resource);
+            eprintln!(rt; "plc: {name}: the plant has no resource of this name")?;
+            Ok(Err(WORD_REFUSED))
+        }
+    }
+}

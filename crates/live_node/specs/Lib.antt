@@ -1,0 +1,3 @@
+pub mod LineTaking
+pub mod LiveNode
+pub mod NodeAnswers

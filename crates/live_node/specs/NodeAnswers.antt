@@ -1,0 +1,160 @@
+-- What a node answers to a line, what it notes for it, and what it is then.
+use Rattle.std.specs.Prelude.{◌≡◌, ◌≢◌, ℕ, ◌+◌, ◌<◌, ◌≤◌, ◌++◌, ◌⊎◌, ◌&&◌, Bool, true, false, nat_lt, List, [], Option, Some, None, MatchOption, codes, length, slice_index, slice_get, if◌then◌else◌}
+use Rattle.std.specs.Io.KnownBytes.{Appends}
+use Rattle.std_blocks.specs.declared.value.Value.{Value}
+use Rattle.due_list.specs.declared.task_ref.TaskRef.{TaskRef}
+use Rattle.plant.specs.PlantValue.{PlantValue, code_at}
+use Rattle.evaluation.specs.declared.field_input.FieldInput.{FieldInput}
+use Rattle.evaluation.specs.Last.{last_number}
+use Rattle.evaluation.specs.Meaning.{Evaluated}
+use Rattle.evaluation.specs.Messages.{MessageValue, message_of}
+use Rattle.message_core.specs.declared.accepted.Accepted.{Accepted}
+use Rattle.message_core.specs.declared.accepted.Accepted.TheVariants.{Taken, Old, Unused, Stray}
+use Rattle.message_core.specs.declared.last.Last.TheVariants.{Told}
+use Rattle.message_core.specs.MessageCoreValue.{MessageCoreValue, HasHeard, HasOwnTask, IsAccepted, IsDue, IsNext, IsRestartOf, own_last}
+use Rattle.world.specs.RunLines.{evaluation_line}
+use Rattle.node_lines.specs.declared.node_line.NodeLine.{NodeLine}
+use Rattle.node_lines.specs.declared.node_line.NodeLine.TheVariants.{Idle, Evaluate, Take, Hello, Restart}
+use Rattle.node_cores.specs.declared.line_refusal.LineRefusal.{LineRefusal}
+use Rattle.node_cores.specs.declared.line_refusal.LineRefusal.TheVariants.{Syntax, TooLong, NoSuchResource, NotHere, NoSuchTask, NumbersSpent, Keeper}
+use Rattle.node_lines.specs.NodeLines.{Spells, SpellsNothing}
+use Rattle.node_lines.specs.Partners.{takes_from_resource}
+use Rattle.node_lines.specs.Sends.{greetings, hello_to, message_sends}
+use Rattle.node_lines.specs.Answers.{refused_line, message_answer, hello_answer, risen_line}
+use Rattle.node_lines.specs.NodeJournal.{line_note, start_note, restart_note}
+use Rattle.node_cores.specs.NodeValue.{NodeValue, IsStarted}
+use Rattle.node_cores.specs.NodeSteps.{HasMade, HasTaken, HasHeardOf, HasRisen, IsTaskRefusal, is_behind}
+
+-- a line isn't done: nothing changes, nothing is noted, and its answer is the refusal
+pub record IsRefused (old new : NodeValue) (note text : List ℕ) (refusal : LineRefusal) : Type 0 where
+  pub same : new ≡ old
+  pub unnoted : note ≡ []
+  pub text_is : text ≡ refused_line refusal
+
+-- why a restart isn't done: it isn't this resource's, or the keeper doesn't raise its incarnation
+abbrev pub IsRestartRefusal : MessageCoreValue → ℕ → LineRefusal → Type 0
+IsRestartRefusal core n Syntax = ⊥
+IsRestartRefusal core n TooLong = ⊥
+IsRestartRefusal core n NoSuchResource = length core.plant.resources ≤ n
+IsRestartRefusal core n NotHere = (n < length core.plant.resources) × (n ≢ core.resource)
+IsRestartRefusal core n NoSuchTask = ⊥
+IsRestartRefusal core n NumbersSpent = ⊥
+IsRestartRefusal core n Keeper = n ≡ core.resource
+
+-- the node's own hello, to this resource
+abbrev pub own_hello : MessageCoreValue → ℕ → List ℕ
+own_hello core to = hello_to core.plant core.resource core.incarnation to
+
+-- a stray message that is addressed to an earlier incarnation is answered by a hello to its maker
+abbrev pub stray_hello : MessageCoreValue → MessageValue → Accepted → List ℕ
+stray_hello core m Taken = []
+stray_hello core m Old = []
+stray_hello core m Unused = []
+stray_hello core m Stray = if is_behind core m then own_hello core m.name.task.resource else []
+
+-- a new incarnation of a resource from which this one takes is answered by a hello to it
+abbrev pub news_hello : MessageCoreValue → ℕ → Bool → List ℕ
+news_hello core of newer =
+    if newer && takes_from_resource core.plant core.resource of then own_hello core of else []
+
+-- A task was evaluated: the line is noted; the message goes to each other resource that takes from the task, and the
+-- evaluation is told, with its place among those made since the start.
+pub record AnswersEvaluate (old new : NodeValue) (line : List ℕ) (t : TaskRef) (dt : ℕ) (inputs : List FieldInput)
+    (note text : List ℕ) : Type 0 where
+  pub evaluated : Evaluated
+  pub here : t.resource ≡ old.core.resource
+  pub made : HasMade old new t.task dt inputs evaluated
+  pub note_is : note ≡ line_note line
+  pub text_is : text
+      ≡ message_sends old.core.plant (message_of evaluated) ++ evaluation_line old.core.plant (old.made + 1) evaluated
+
+-- A message was answered: the line is noted.
+pub record AnswersMessage (old new : NodeValue) (line : List ℕ) (m : MessageValue) (note text : List ℕ) : Type 0 where
+  pub answer : Accepted
+  pub taken : HasTaken old new m answer
+  pub note_is : note ≡ line_note line
+  pub text_is : text ≡ stray_hello old.core m answer ++ message_answer old.core.plant m.name answer
+
+-- A hello of a resource of the plant was answered: the line is noted.
+pub record AnswersHello (old new : NodeValue) (line : List ℕ) (of incarnation : ℕ) (note text : List ℕ) : Type 0 where
+  pub exists : of < length old.core.plant.resources
+  pub newer : Bool
+  pub heard : HasHeardOf old new of incarnation newer
+  pub note_is : note ≡ line_note line
+  pub text_is : text ≡ news_hello old.core of newer ++ hello_answer old.core.plant of incarnation newer
+
+-- The resource was restarted in a greater incarnation, which is noted; hellos go to its partners.
+pub record AnswersRestart (old new : NodeValue) (n : ℕ) (note text : List ℕ) : Type 0 where
+  pub incarnation : ℕ
+  pub here : n ≡ old.core.resource
+  pub above : old.core.incarnation < incarnation
+  pub risen : HasRisen old new incarnation
+  pub note_is : note ≡ restart_note old.core.plant n incarnation
+  pub text_is : text
+      ≡ greetings old.core.plant n incarnation ++ risen_line (codes "RESTART") old.core.plant n incarnation
+
+-- The resource was restarted in this incarnation; the note stands behind what was noted, and what is written behind
+-- what was written.
+pub record HasRisenTo (old new : NodeValue) (incarnation : ℕ) (noted_old noted_new : Option (List ℕ))
+    (out_old out_new : List ℕ) : Type 0 where
+  pub risen : HasRisen old new incarnation
+  pub noted : Appends noted_old noted_new (restart_note old.core.plant old.core.resource incarnation)
+  pub written : out_new
+      ≡ out_old
+      ++ (greetings old.core.plant old.core.resource incarnation
+      ++ risen_line (codes "RESTART") old.core.plant old.core.resource incarnation)
+
+-- this is noted for what a line asks, and answered to it
+abbrev pub AnswersAsked : NodeValue → NodeValue → List ℕ → Option NodeLine → List ℕ → List ℕ → Type 0
+AnswersAsked old new line None note text = IsRefused old new note text Syntax
+AnswersAsked old new line (Some Idle) note text = (new ≡ old) × (note ≡ []) × (text ≡ [])
+AnswersAsked old new line (Some (Evaluate t dt inputs)) note text =
+    AnswersEvaluate old new line t dt inputs note text
+    ⊎ ((refusal : LineRefusal) × IsTaskRefusal old.core t refusal × IsRefused old new note text refusal)
+AnswersAsked old new line (Some (Take m)) note text = AnswersMessage old new line m note text
+AnswersAsked old new line (Some (Hello of incarnation)) note text =
+    AnswersHello old new line of incarnation note text
+    ⊎ ((length old.core.plant.resources ≤ of) × IsRefused old new note text NoSuchResource)
+AnswersAsked old new line (Some (Restart n)) note text =
+    AnswersRestart old new n note text
+    ⊎ ((refusal : LineRefusal) × IsRestartRefusal old.core n refusal × IsRefused old new note text refusal)
+
+-- a line asks this of a node
+abbrev pub IsAsking : PlantValue → List ℕ → Option NodeLine → Type 0
+IsAsking plant line asked = MatchOption asked (SpellsNothing plant line) (λ a. Spells plant a line)
+
+-- A line was answered: this was noted for it before it was done, and this is its answer.
+pub record Answers (old new : NodeValue) (line note text : List ℕ) : Type 0 where
+  pub asked : Option NodeLine
+  pub read : IsAsking old.core.plant line asked
+  pub answered : AnswersAsked old new line asked note text
+
+-- what a line asks was answered; the note stands behind what was noted, the answer behind what was written
+pub record IsAnsweredBy (old new : NodeValue) (line : List ℕ) (asked : Option NodeLine)
+    (noted_old noted_new : Option (List ℕ)) (out_old out_new : List ℕ) : Type 0 where
+  pub note : List ℕ
+  pub text : List ℕ
+  pub answered : AnswersAsked old new line asked note text
+  pub noted : Appends noted_old noted_new note
+  pub written : out_new ≡ out_old ++ text
+
+-- a line was answered; the note stands behind what was noted, the answer behind what was written
+pub record IsAnswered (old new : NodeValue) (line : List ℕ) (noted_old noted_new : Option (List ℕ))
+    (out_old out_new : List ℕ) : Type 0 where
+  pub note : List ℕ
+  pub text : List ℕ
+  pub answers : Answers old new line note text
+  pub noted : Appends noted_old noted_new note
+  pub written : out_new ≡ out_old ++ text
+
+-- what is written at a start: hellos to its partners, and `START R i`
+abbrev pub start_text : PlantValue → ℕ → ℕ → List ℕ
+start_text plant n incarnation = greetings plant n incarnation ++ risen_line (codes "START") plant n incarnation
+
+-- A node began in this incarnation, and its tasks opened with these values; both are noted.
+pub record HasBegun (plant : PlantValue) (n : ℕ) (s : NodeValue) (noted_old noted_new : Option (List ℕ))
+    (out_old out_new : List ℕ) : Type 0 where
+  pub opening : List (List Value)
+  pub started : IsStarted plant n opening s.core.incarnation s
+  pub noted : Appends noted_old noted_new (start_note plant n s.core.incarnation opening)
+  pub written : out_new ≡ out_old ++ start_text plant n s.core.incarnation

@@ -1,0 +1,100 @@
+//! A node reads line by line, and answers each line before it reads the next one.
+
+ghost use Rattle.std.specs.Prelude.{◌≡◌, ℕ, ◌+◌, ◌<◌, ◌≤◌, IfOk, OnOk, List, Option, string_bytes};
+ghost use Rattle.std.specs.Io.KnownBytes.{Appends};
+ghost use Rattle.live_node.specs.LineTaking.{BeginsLine};
+ghost use Rattle.live_node.specs.LiveNode.{HasAnsweredNext, HasAnsweredSoFar, WritesNode};
+
+use crate::live_lines::{TakenLine, take_line};
+use crate::live_stop::LiveStop;
+use crate::node::Node;
+use crate::notes::Notes;
+use keepers::Keeper;
+use node_cores::LineRefusal;
+use node_lines::push_refused;
+use std::alloc::Global;
+use std::io::Write;
+use text_writer::write_text;
+use world::LineSource;
+
+/// What a node reads and writes by: a line, a part of a long one, and an answer.
+#[derive(Drop)]
+struct Room {
+    line: Vec<u8>,
+    piece: Vec<u8>,
+    answer: String,
+}
+
+/// Writes an answer, and hands it on.
+fn hand_on<W: Write>(answer: &str, out: &mut W) -> Result<(), LiveStop>
+    ensures { OnOk result (Appends (W.contents out.old) (W.contents out.new) answer.now) }
+{
+    write_text(out, answer)?;
+    match out.flush() {
+        Ok(()) => Ok(()),
+        Err(_) => Err(LiveStop::Write),
+    }
+}
+
+/// Takes the next line, and answers it; whether more may follow.
+fn do_next<K: Keeper, N: Notes, L: LineSource, W: Write>(
+    node: &mut Node<K, N>,
+    room: &mut Room,
+    source: &mut L,
+    out: &mut W,
+) -> Result<bool, LiveStop>
+    requires few { node.old.state.lines < 18446744073709551615 }
+    requires kept { K.last node.old.keeper ≡ node.old.state.core.incarnation }
+    requires ready { (left : Option (List ℕ)) → BeginsLine (L.left source.old) left → L.is_ready left (W.contents out.old) }
+    ensures answered { IfOk result (HasAnsweredNext node.old.state node.new.state (L.left source.old) (L.left source.new)
+        (N.noted node.old.notes) (N.noted node.new.notes) (W.contents out.old) (W.contents out.new)) }
+    ensures kept { OnOk result (K.last node.new.keeper ≡ node.new.state.core.incarnation) }
+    ensures few { OnOk result (node.new.state.lines ≤ node.old.state.lines + 1) }
+{
+    room.answer.clear();
+    let more = match take_line(source, &mut room.line, &mut room.piece, out)? {
+        TakenLine::End => return Ok(false),
+        TakenLine::Line { fed } => {
+            node.answer(room.line.as_slice(), &mut room.answer)?;
+            fed
+        }
+        TakenLine::TooLong { fed } => {
+            push_refused(&mut room.answer, LineRefusal::TooLong)?;
+            fed
+        }
+    };
+    hand_on(room.answer.as_str(), out)?;
+    Ok(more)
+}
+
+/// Writes what a node that begun writes at its start, and answers the lines of a source, to its end: each line is answered, and the answer handed on, before the next line is taken.
+///
+/// After a stop the line that was read last isn't answered; after `Write` a beginning of its answer is written.
+pub fn live<K: Keeper, N: Notes, L: LineSource, W: Write>(
+    alloc: Global,
+    node: &mut Node<K, N>,
+    begun: &str,
+    source: &mut L,
+    out: &mut W,
+) -> Result<(), LiveStop>
+    requires fresh { node.old.state.lines ≡ 0 }
+    requires kept { K.last node.old.keeper ≡ node.old.state.core.incarnation }
+    requires turns { (left written : Option (List ℕ))
+        → HasAnsweredSoFar node.old.state begun.now (L.left source.old) left (W.contents out.old) written
+        → L.is_ready left written }
+    ensures ok { OnOk result (WritesNode node.old.state node.new.state begun.now (L.left source.old) (L.left source.new)
+        (N.noted node.old.notes) (N.noted node.new.notes) (W.contents out.old) (W.contents out.new)) }
+{
+    let mut room = Room {
+        line: Vec::new(alloc),
+        piece: Vec::new(alloc),
+        answer: String::new(alloc),
+    };
+    hand_on(begun, out)?;
+    for _ in 0..u64::MAX {
+        if !do_next(node, &mut room, source, out)? {
+            return Ok(());
+        }
+    }
+    Err(LiveStop::Read)
+}

@@ -1,0 +1,88 @@
+//! The lines that a node reads. A longer one than it may have is read to its end.
+
+ghost use Rattle.std.specs.Prelude.{◌≡◌, ℕ, ◌≤◌, IfOk, List, Option, length};
+ghost use Rattle.live_node.specs.LineTaking.{BeginsLine, IsTaken, Takes, TakesRest, HasPut};
+
+use line_reader::{Given, ReadFault};
+use std::io::Write;
+use world::LineSource;
+
+/// How many bytes a line of a node has at most, its line feed aside.
+pub(crate) const LONGEST: usize = 16_777_216;
+
+/// What was taken.
+#[derive(Clone, Copy)]
+pub(crate) enum TakenLine {
+    /// A line; whether a line feed ended it.
+    Line { fed: bool },
+    /// A line that is too long; whether a line feed ended it.
+    TooLong { fed: bool },
+    /// Nothing: all was read.
+    End,
+}
+
+/// A line of which this was taken.
+fn taken(too_long: bool, fed: bool) -> TakenLine
+    ensures { IsTaken too_long fed result }
+{
+    if too_long {
+        TakenLine::TooLong { fed }
+    } else {
+        TakenLine::Line { fed }
+    }
+}
+
+/// Puts a piece behind what was read of a line, where it isn't too long; whether it is.
+fn put_piece(line: &mut Vec<u8>, piece: &[u8], too_long: bool) -> Result<bool, ReadFault>
+    requires { length line.old.items ≤ 16777216 }
+    ensures { IfOk result (HasPut line.old.items line.new.items piece.now too_long) }
+{
+    if too_long || piece.len() > LONGEST - line.len() {
+        return Ok(true);
+    }
+    line.extend_from_slice(piece)?;
+    Ok(false)
+}
+
+/// Takes the rest of a line of which some was taken.
+fn take_rest<L: LineSource, W: Write>(
+    source: &mut L,
+    line: &mut Vec<u8>,
+    piece: &mut Vec<u8>,
+    out: &W,
+) -> Result<TakenLine, ReadFault>
+    requires few { length line.old.items ≤ 16777216 }
+    requires ready { (left : Option (List ℕ)) → BeginsLine (L.left source.old) left → L.is_ready left (W.contents out.now) }
+    ensures ok { IfOk result (TakesRest (L.left source.old) (L.left source.new) line.old.items line.new.items) }
+{
+    let mut too_long = false;
+    for _ in 0..u64::MAX {
+        let given = source.take_line(piece, out)?;
+        too_long = put_piece(line, piece.as_slice(), too_long)?;
+        match given {
+            Given::TooLong => {}
+            Given::Line => return Ok(taken(too_long, true)),
+            Given::LastLine | Given::End => return Ok(taken(too_long, false)),
+        }
+    }
+    Err(ReadFault::Read)
+}
+
+/// Takes the next line, without its line feed, in the place of what was in `line`; `piece` is room for a part of a long
+/// one.
+pub(crate) fn take_line<L: LineSource, W: Write>(
+    source: &mut L,
+    line: &mut Vec<u8>,
+    piece: &mut Vec<u8>,
+    out: &W,
+) -> Result<TakenLine, ReadFault>
+    requires ready { (left : Option (List ℕ)) → BeginsLine (L.left source.old) left → L.is_ready left (W.contents out.now) }
+    ensures ok { IfOk result (Takes (L.left source.old) (L.left source.new) line.new.items) }
+{
+    match source.take_line(line, out)? {
+        Given::Line => Ok(TakenLine::Line { fed: true }),
+        Given::LastLine => Ok(TakenLine::Line { fed: false }),
+        Given::End => Ok(TakenLine::End),
+        Given::TooLong => take_rest(source, line, piece, out),
+    }
+}

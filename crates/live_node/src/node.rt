@@ -1,0 +1,286 @@
+//! A node answers lines.
+
+ghost use Rattle.std.specs.Prelude.{◌≡◌, ◌<◌, IfOk, OnOk, Some, length, string_bytes};
+ghost use Rattle.std.specs.Io.KnownBytes.{Appends};
+ghost use Rattle.evaluation.specs.Messages.{message_of};
+ghost use Rattle.message_core.specs.Openings.{AreOpeningOf};
+ghost use Rattle.message_texts.specs.MessageLines.{IsMessageOf};
+ghost use Rattle.node_lines.specs.declared.node_line.NodeLine.TheVariants as asked;
+ghost use Rattle.live_node.specs.NodeAnswers.{own_hello, HasRisenTo, IsAnsweredBy, IsAnswered, HasBegun};
+ghost use Rattle.node_lines.specs.NodeJournal.{line_note};
+ghost use Rattle.text_writer.specs.Growing.{GrowsBy};
+
+use crate::node_stop::NodeStop;
+use crate::notes::Notes;
+use evaluation::{Evaluation, Inputs, Message, Retained};
+use keepers::{Keeper, KeeperFault};
+use message_core::Accepted;
+use node_cores::{LineRefusal, NodeCore};
+use node_lines::{
+    NodeLine, note_of_line, note_of_restart, note_of_start, push_greetings, push_hello_answer,
+    push_hello_to, push_message_answer, push_message_sends, push_refused, push_risen,
+    read_node_line, takes_from_resource,
+};
+use plant::{Plant, TaskRef};
+use std::alloc::Global;
+use std::sync::Arc;
+use world::push_evaluation;
+
+/// One resource on a machine of its own. It notes each line before it does it, and keeps what it is to keep before it answers.
+#[derive(Drop)]
+pub struct Node<K: Keeper, N: Notes> {
+    alloc: Global,
+    state: NodeCore,
+    keeper: K,
+    notes: N,
+}
+
+/// What a keeper has kept of each task of its resource, in their order.
+fn kept_opening<K: Keeper>(
+    alloc: Global,
+    plant: &Plant,
+    resource: usize,
+    keeper: &mut K,
+) -> Result<Vec<Retained>, NodeStop>
+    ensures opened { IfOk result (λ kept. AreOpeningOf plant.now resource kept.items) }
+    ensures last { OnOk result (K.last keeper.new ≡ K.last keeper.old) }
+{
+    // The getter hands out that each task has its code.
+    let _resources = plant.resources();
+    let tasks = plant.tasks(resource).len();
+    let mut kept = Vec::with_capacity(alloc, tasks)?;
+    for task in 0..tasks {
+        if let Some(code) = plant.code(TaskRef { resource, task }) {
+            kept.push(keeper.kept(task, code)?)?;
+        }
+    }
+    Ok(kept)
+}
+
+/// Keeps what an evaluation left in the retained variables of its task, if the task has any.
+fn keep_after<K: Keeper>(
+    alloc: Global,
+    keeper: &mut K,
+    evaluation: &Evaluation,
+) -> Result<(), NodeStop>
+    ensures { K.last keeper.new ≡ K.last keeper.old }
+{
+    let code = evaluation.code();
+    if code.retained().is_empty() {
+        return Ok(());
+    }
+    let retained = Retained::of(alloc, code, evaluation.after())?;
+    keeper.keep(evaluation.name().task.task, code, &retained)?;
+    Ok(())
+}
+
+impl<K: Keeper, N: Notes> Node<K, N> {
+    /// Raises the incarnation of a resource of the plant, notes the start with what was kept of its tasks, and starts it. `out` is what it writes, behind what is there: its hellos, and `START R i`.
+    pub fn begin(
+        alloc: Global,
+        plant: Arc<Plant>,
+        resource: usize,
+        keeper: K,
+        notes: N,
+        out: &mut String,
+    ) -> Result<Node<K, N>, NodeStop>
+        requires { resource < length plant.value.resources }
+        ensures begun { IfOk result (λ node. HasBegun plant.value resource node.state
+            (N.noted notes) (N.noted node.notes) (string_bytes out.old) (string_bytes out.new)) }
+        ensures kept { IfOk result (λ node. K.last node.keeper ≡ node.state.core.incarnation) }
+        ensures above { IfOk result (λ node. K.last keeper < node.state.core.incarnation) }
+        ensures fresh { IfOk result (λ node. node.state.lines ≡ 0) }
+    {
+        let (mut keeper, mut notes) = (keeper, notes);
+        let incarnation = keeper.raise()?;
+        let opening = kept_opening(alloc, &plant, resource, &mut keeper)?;
+        let note = note_of_start(alloc, &plant, resource, incarnation, opening.as_slice())?;
+        notes.note(note.as_bytes())?;
+        let state = NodeCore::start(alloc, plant, resource, opening.as_slice(), incarnation)?;
+        push_greetings(alloc, out, state.plant(), resource, incarnation)?;
+        push_risen(out, "START", state.plant(), resource, incarnation)?;
+        Ok(Node {
+            alloc,
+            state,
+            keeper,
+            notes,
+        })
+    }
+
+    /// Notes a line that is done next.
+    fn note_line(&mut self, line: &[u8]) -> Result<(), NodeStop>
+        ensures noted { OnOk result (Appends (N.noted self.old.notes) (N.noted self.new.notes) (line_note line.now)) }
+        ensures state { self.new.state ≡ self.old.state }
+        ensures keeper { self.new.keeper ≡ self.old.keeper }
+    {
+        let note = note_of_line(self.alloc, line)?;
+        self.notes.note(note.as_slice())?;
+        Ok(())
+    }
+
+    /// Answers a line `EVAL`.
+    #[tactic(auto, using(crate::proofs::Telling::refused_evaluate))]
+    fn answer_evaluate(
+        &mut self,
+        line: &[u8],
+        task: TaskRef,
+        dt: u32,
+        inputs: &Inputs,
+        out: &mut String,
+    ) -> Result<(), NodeStop>
+        requires few { self.old.state.lines < 18446744073709551615 }
+        ensures answered { OnOk result (IsAnsweredBy self.old.state self.new.state line.now (Some (asked.Evaluate task dt inputs.now))
+            (N.noted self.old.notes) (N.noted self.new.notes) (string_bytes out.old) (string_bytes out.new)) }
+        ensures kept { OnOk result (K.last self.new.keeper ≡ K.last self.old.keeper) }
+    {
+        if let Some(refusal) = self.state.refusal_of_task(task) {
+            push_refused(out, refusal)?;
+            return Ok(());
+        }
+        self.note_line(line)?;
+        let Ok(frame) = self.state.evaluate(self.alloc, task.task, dt, inputs) else {
+            return Err(NodeStop::Memory);
+        };
+        keep_after(self.alloc, &mut self.keeper, frame.evaluation())?;
+        let plant = self.state.plant();
+        push_message_sends(self.alloc, out, plant, frame.message())?;
+        push_evaluation(out, plant, self.state.made(), frame.evaluation())?;
+        Ok(())
+    }
+
+    /// Answers a line `MESSAGE`.
+    fn answer_message(
+        &mut self,
+        line: &[u8],
+        message: Message,
+        out: &mut String,
+    ) -> Result<(), NodeStop>
+        requires few { self.old.state.lines < 18446744073709551615 }
+        ensures answered { OnOk result (IsAnsweredBy self.old.state self.new.state line.now (Some (asked.Take message))
+            (N.noted self.old.notes) (N.noted self.new.notes) (string_bytes out.old) (string_bytes out.new)) }
+        ensures kept { self.new.keeper ≡ self.old.keeper }
+    {
+        self.note_line(line)?;
+        let name = message.name();
+        let is_behind = self.state.is_behind(&message);
+        let answer = self.state.accept(message);
+        if answer == Accepted::Stray && is_behind {
+            self.push_own_hello(name.task.resource, out)?;
+        }
+        push_message_answer(out, self.state.plant(), name, answer)?;
+        Ok(())
+    }
+
+    /// Writes the node's own hello to a resource.
+    fn push_own_hello(&self, to: usize, out: &mut String) -> Result<(), NodeStop>
+        ensures { OnOk result (GrowsBy out.old out.new (own_hello self.now.state.core to)) }
+    {
+        let state = &self.state;
+        push_hello_to(
+            self.alloc,
+            out,
+            state.plant(),
+            to,
+            state.resource(),
+            state.incarnation(),
+        )?;
+        Ok(())
+    }
+
+    /// Answers a line `HELLO`.
+    fn answer_hello(
+        &mut self,
+        line: &[u8],
+        of: usize,
+        incarnation: u32,
+        out: &mut String,
+    ) -> Result<(), NodeStop>
+        requires few { self.old.state.lines < 18446744073709551615 }
+        ensures answered { OnOk result (IsAnsweredBy self.old.state self.new.state line.now (Some (asked.Hello of incarnation))
+            (N.noted self.old.notes) (N.noted self.new.notes) (string_bytes out.old) (string_bytes out.new)) }
+        ensures kept { self.new.keeper ≡ self.old.keeper }
+    {
+        if of >= self.state.plant().resources() {
+            push_refused(out, LineRefusal::NoSuchResource)?;
+            return Ok(());
+        }
+        self.note_line(line)?;
+        let newer = self.state.hear(of, incarnation);
+        if newer && takes_from_resource(self.state.plant(), self.state.resource(), of) {
+            self.push_own_hello(of, out)?;
+        }
+        push_hello_answer(out, self.state.plant(), of, incarnation, newer)?;
+        Ok(())
+    }
+
+    /// Answers a line `RESTART`.
+    #[tactic(auto, using(crate::proofs::Telling::refused_restart))]
+    fn answer_restart(
+        &mut self,
+        line: &[u8],
+        resource: usize,
+        out: &mut String,
+    ) -> Result<(), NodeStop>
+        requires kept { K.last self.old.keeper ≡ self.old.state.core.incarnation }
+        requires few { self.old.state.lines < 18446744073709551615 }
+        ensures answered { OnOk result (IsAnsweredBy self.old.state self.new.state line.now (Some (asked.Restart resource))
+            (N.noted self.old.notes) (N.noted self.new.notes) (string_bytes out.old) (string_bytes out.new)) }
+        ensures kept { OnOk result (K.last self.new.keeper ≡ self.new.state.core.incarnation) }
+    {
+        if let Some(refusal) = self.state.refusal_of_place(resource) {
+            push_refused(out, refusal)?;
+            return Ok(());
+        }
+        match self.keeper.raise() {
+            Ok(incarnation) => self.rise(incarnation, out),
+            Err(KeeperFault::Memory) => Err(NodeStop::Memory),
+            Err(_) => {
+                push_refused(out, LineRefusal::Keeper)?;
+                Ok(())
+            }
+        }
+    }
+
+    /// Restarts in an incarnation to which the keeper was raised.
+    fn rise(&mut self, incarnation: u32, out: &mut String) -> Result<(), NodeStop>
+        requires few { self.old.state.lines < 18446744073709551615 }
+        ensures risen { OnOk result (HasRisenTo self.old.state self.new.state incarnation
+            (N.noted self.old.notes) (N.noted self.new.notes) (string_bytes out.old) (string_bytes out.new)) }
+        ensures keeper { self.new.keeper ≡ self.old.keeper }
+    {
+        let resource = self.state.resource();
+        let note = note_of_restart(self.alloc, self.state.plant(), resource, incarnation)?;
+        self.notes.note(note.as_bytes())?;
+        self.state.restart(self.alloc, incarnation)?;
+        let plant = self.state.plant();
+        push_greetings(self.alloc, out, plant, resource, incarnation)?;
+        push_risen(out, "RESTART", plant, resource, incarnation)?;
+        Ok(())
+    }
+
+    /// Answers a line, without its line feed: notes it, does it, keeps what it left, and writes its answer behind what is there. A line that is refused, a blank one and a comment change nothing, and aren't noted. After a stop there is no answer, and the node is at its end.
+    #[tactic(auto, using(crate::proofs::Telling::idle_answer))]
+    pub fn answer(&mut self, line: &[u8], out: &mut String) -> Result<(), NodeStop>
+        requires few { self.old.state.lines < 18446744073709551615 }
+        requires kept { K.last self.old.keeper ≡ self.old.state.core.incarnation }
+        ensures answered { OnOk result (IsAnswered self.old.state self.new.state line.now
+            (N.noted self.old.notes) (N.noted self.new.notes) (string_bytes out.old) (string_bytes out.new)) }
+        ensures kept { OnOk result (K.last self.new.keeper ≡ self.new.state.core.incarnation) }
+    {
+        match read_node_line(self.alloc, self.state.plant(), line)? {
+            None => {
+                push_refused(out, LineRefusal::Syntax)?;
+                Ok(())
+            }
+            Some(NodeLine::Idle) => Ok(()),
+            Some(NodeLine::Evaluate { task, dt, inputs }) => {
+                self.answer_evaluate(line, task, dt, &inputs, out)
+            }
+            Some(NodeLine::Take(message)) => self.answer_message(line, message, out),
+            Some(NodeLine::Hello { of, incarnation }) => {
+                self.answer_hello(line, of, incarnation, out)
+            }
+            Some(NodeLine::Restart { resource }) => self.answer_restart(line, resource, out),
+        }
+    }
+}

@@ -1,0 +1,143 @@
+//! The command `node`.
+
+ghost use Rattle.std.specs.Prelude.{◌<◌, length};
+
+use crate::{keeper_in, print_lock_fault, print_resource_faults};
+use command_line::NodeRequest;
+use console::{FAILED, PreparedNode, prepare_node};
+use file_keepers::ResourceLock;
+use keepers::{Keeper, MemoryKeeper};
+use live_node::{FileNotes, JournalFault, LiveStop, NoNotes, Node, NodeStop, Notes, live};
+use std::alloc::Global;
+use std::io;
+use std::io::{BufReader, Read, Write};
+use std::rt::Files;
+use std::sync::Arc;
+
+/// Why a node isn't run to the end of its lines.
+#[derive(Clone, Copy, Debug, PartialEq, Eq)]
+enum NodeFault {
+    /// Its journal isn't opened.
+    Journal(JournalFault),
+    /// It ended before.
+    Stop(LiveStop),
+}
+
+/// Starts a node, and answers the lines of a reader, to its end.
+fn run_node<K: Keeper, N: Notes, I: Read, W: Write>(
+    alloc: Global,
+    prepared: PreparedNode,
+    keeper: K,
+    notes: N,
+    input: &mut I,
+    writer: &mut W,
+) -> Result<(), LiveStop>
+    requires { prepared.resource < length prepared.plant.value.resources }
+{
+    let PreparedNode { plant, resource } = prepared;
+    let mut begun = String::new(alloc);
+    let mut node = Node::begin(alloc, plant, resource, keeper, notes, &mut begun)?;
+    live(alloc, &mut node, begun.as_str(), input, writer)
+}
+
+/// Runs a node on standard input and output.
+fn run_with<R: Input + Print + AllocGlobal, K: Keeper, N: Notes>(
+    rt: &R,
+    prepared: PreparedNode,
+    keeper: K,
+    notes: N,
+) -> Result<(), NodeFault>
+    requires { prepared.resource < length prepared.plant.value.resources }
+{
+    let Ok(mut input) = BufReader::new(rt.alloc(), rt.reader()) else {
+        return Err(NodeFault::Stop(LiveStop::Memory));
+    };
+    let mut writer = io::writer(rt);
+    match run_node(rt.alloc(), prepared, keeper, notes, &mut input, &mut writer) {
+        Ok(()) => Ok(()),
+        Err(stop) => Err(NodeFault::Stop(stop)),
+    }
+}
+
+/// Runs a node that notes to the journal that was asked for, if one was.
+fn run_noting<R: Input + Print + AllocGlobal, K: Keeper>(
+    rt: &R,
+    host: &HostRuntime,
+    request: &NodeRequest<'_>,
+    prepared: PreparedNode,
+    keeper: K,
+) -> Result<(), NodeFault>
+    requires { prepared.resource < length prepared.plant.value.resources }
+{
+    let Some(journal) = request.journal else {
+        return run_with(rt, prepared, keeper, NoNotes);
+    };
+    match FileNotes::open(host, journal) {
+        Ok(notes) => run_with(rt, prepared, keeper, notes),
+        Err(fault) => Err(NodeFault::Journal(fault)),
+    }
+}
+
+/// Tells how a node ended; the status.
+fn tell_node<R: Eprint>(
+    rt: &R,
+    request: &NodeRequest<'_>,
+    ran: Result<(), NodeFault>,
+) -> io::Result<u8> {
+    match ran {
+        Ok(()) => return Ok(0),
+        Err(NodeFault::Stop(stop)) => eprintln!(rt; "plc: {stop}")?,
+        Err(NodeFault::Journal(fault)) => {
+            let journal = request.journal.unwrap_or("");
+            eprintln!(rt; "plc: {journal}: {fault}")?;
+        }
+    }
+    Ok(FAILED)
+}
+
+/// Runs a node whose incarnation and retained variables are kept in a folder; the status.
+fn run_kept<R: Input + Print + Eprint + AllocGlobal>(
+    rt: &R,
+    host: &HostRuntime,
+    request: &NodeRequest<'_>,
+    prepared: PreparedNode,
+    folder: &str,
+) -> io::Result<u8>
+    requires { prepared.resource < length prepared.plant.value.resources }
+{
+    let resource = prepared.resource;
+    let plant = Arc::try_clone(&prepared.plant)?;
+    let name = plant.resource_name(resource).unwrap_or("");
+    let _lock = match ResourceLock::take(host, rt.alloc(), folder, name) {
+        Ok(lock) => lock,
+        Err(fault) => return print_lock_fault(rt, folder, fault),
+    };
+    let keeper = keeper_in(rt.alloc(), host, &plant, resource, folder)?;
+    let ran = run_noting(rt, host, request, prepared, keeper);
+    let status = tell_node(rt, request, ran)?;
+    if let Err(NodeFault::Stop(LiveStop::Node(NodeStop::Keeper(_)))) = ran {
+        let keeper = keeper_in(rt.alloc(), host, &plant, resource, folder)?;
+        print_resource_faults(rt, &plant, resource, folder, &keeper)?;
+    }
+    Ok(status)
+}
+
+/// Reads what a node needs, and runs it; the status.
+pub(crate) fn answer_node<R: Files + Input + Print + Eprint + AllocGlobal>(
+    rt: &R,
+    host: &HostRuntime,
+    request: &NodeRequest<'_>,
+) -> io::Result<u8> {
+    let prepared = match prepare_node(rt, request)? {
+        Ok(prepared) => prepared,
+        Err(status) => return Ok(status),
+    };
+    match request.state {
+        Some(folder) => run_kept(rt, host, request, prepared, folder),
+        None => {
+            let keeper = MemoryKeeper::new(rt.alloc(), 0);
+            let ran = run_noting(rt, host, request, prepared, keeper);
+            tell_node(rt, request, ran)
+        }
+    }
+}
