@@ -1,8 +1,7 @@
 -- What a resource has made and received after one more step, and that the others stand as before.
 use Rattle.std.proofs.Common.{◌≡◌, ◌≢◌, ℕ, ◌+◌, ◌++◌, List, [], ◌∷◌, All, Contains, Some, slice_get, cond, eqb, true, false, Bool, zero, suc, ◌<◌, add-zero, zero-add, length, replicate, refl, ap, ap₂, sym, ◌∙◌, subst, arith}
-use Rattle.std.specs.List.{filter}
-use Rattle.std.proofs.lemmas.List.{append-nil}
-use Rattle.std.proofs.lemmas.List.Elements.{filter-append, Contains-append_left, Contains-append_right, All-weaker, All-append, All-cons, All-nil}
+use Rattle.std.proofs.lemmas.List.{append-nil, length-append}
+use Rattle.std.proofs.lemmas.List.Elements.{filter-append, Contains-append_left, All-weaker, All-append, All-cons, All-nil}
 use Rattle.std.proofs.lemmas.Bool.{eq-eqb, eqb-true}
 use Rattle.std.proofs.lemmas.Option.{slice_get_within, none-some, same_Some}
 use Rattle.lists.proofs.Members.{all_from_places}
@@ -18,11 +17,13 @@ use Rattle.node_journals.specs.declared.step.Step.TheVariants.{Took, Made, Resta
 use Rattle.node_journals.specs.declared.journal.Journal.{Journal}
 use Rattle.node_journals.specs.Journals.{made, received, with_step, firsts_of, IsLawful}
 use Rattle.node_journals.specs.Steps.Stations.{StationValue, PendingValue, IsReceived, IsTold, IsRestarted, IsPending, IsNoted}
-use Rattle.node_reports.specs.Reports.{entries_of, Agree}
+use Rattle.node_journals.specs.declared.run_fault.RunFault.{RunFault}
+use Rattle.node_journals.specs.declared.run_fault.RunFault.TheVariants.{BookDisagrees}
+use Rattle.node_reports.specs.Reports.{entries_of, Agree, IsAgreeFault}
 use Rattle.audit.specs.declared.standing.Standing.{Standing}
 use Rattle.audit.specs.declared.standing.Standing.TheVariants.{Going, Ended}
 use Rattle.audit.specs.declared.follower.Follower.{Follower}
-use Rattle.audit.specs.Steps.Standings.{AuditedBook, zeros, IsJournalOf, IsGoing, IsEnded, IsStanding, IsPendingFor, journal_in, Grows, Goes, IsOfSame, IsAt, AreFrom, AreJournalsFrom}
+use Rattle.audit.specs.Steps.Standings.{AuditedBook, zeros, empty_book, IsJournalOf, IsGoing, IsEnded, IsStanding, IsPendingFor, journal_in, Grows, Goes, IsOfSame, IsAt, AreFrom, AreJournalsFrom}
 use Rattle.audit.specs.Delivered.{AreDelivered}
 
 made-append : (a b : List Step) → made (a ++ b) ≡ made a ++ made b
@@ -306,3 +307,74 @@ entered_grows old new p plant_is is pending = grown_by p.journal.resource old ne
 
 pub given_up : (b : AuditedBook) (p : PendingValue) (j : Journal) → j ≡ p.journal → IsLawful p.core.plant p.core.first p.core.max_number j → IsPendingFor b p → IsEnded b j
 given_up b p j same lawful pending = ended_going b (record { core = p.core; journal = p.journal }) j same lawful pending.going
+
+-- before the first turn of a round, none has gone on
+pub round_begins : (b : AuditedBook) (before rest all : List Follower) → before ≡ [] → rest ≡ all → AreFrom b 0 all → (length before + length rest ≡ length all) × AreFrom b 0 before × AreFrom b (length before) rest × IsOfSame b b
+round_begins b before rest all none same are =
+    subst (λ (gs : List Follower). (length gs + length rest ≡ length all) × AreFrom b 0 gs × AreFrom b (length gs) rest × IsOfSame b b) (sym none)
+    (subst (λ (rs : List Follower). (0 + length rs ≡ length all) × AreFrom b 0 [] × AreFrom b 0 rs × IsOfSame b b) (sym same)
+    (zero-add (length all), (λ k f at. absurd (none-some f at)), are, record { plant_is = refl; first_is = refl }))
+
+-- the next one stands
+pub next_stands : (b : AuditedBook) (n : ℕ) (rest others : List Follower) (f : Follower) → rest ≡ f ∷ others → AreFrom b n rest → IsStanding b f.standing
+next_stands b n rest others f is are = (first_at b n f others (subst (λ (fs : List Follower). AreFrom b n fs) is are)).stands
+
+moved : (gone_long rest_long after_long others_long n : ℕ) → rest_long ≡ suc others_long → after_long ≡ gone_long + 1 → gone_long + rest_long ≡ n → after_long + others_long ≡ n
+moved gone_long rest_long after_long others_long n is more sum = omega (arith, is, more, sum)
+
+-- a turn of a round: one more has gone on
+pub round_turns : (start old new : AuditedBook) (before after rest others : List Follower) (f g : Follower) (n : ℕ) → rest ≡ f ∷ others → after ≡ before ++ g ∷ []
+    → (length before + length rest ≡ n) × AreFrom old 0 before × AreFrom old (length before) rest × IsOfSame start old → Goes old new f.standing g.standing
+    → (length after + length others ≡ n) × AreFrom new 0 after × AreFrom new (length after) others × IsOfSame start new
+round_turns start old new before after rest others f g n is more stand goes =
+    let r = round_on old new before others f g stand.1 (subst (λ (fs : List Follower). AreFrom old (length before) fs) is stand.2) goes in
+    let long : length after ≡ length before + 1 = ap length more ∙ length-append before (g ∷ []) in (
+      moved (length before) (length rest) (length after) (length others) n (ap length is) long stand.0,
+      subst (λ (fs : List Follower). AreFrom new 0 fs) (sym more) r.0,
+      subst (λ (k : ℕ). AreFrom new k others) (sym long) r.1,
+      same_twice start old new stand.3 r.2,
+    )
+
+-- one more resource before its first line
+pub begun_more : (b : AuditedBook) (followers after : List Follower) (rest_long others_long n place : ℕ) (f : Follower) → rest_long ≡ suc others_long → after ≡ followers ++ f ∷ [] → place ≡ length followers
+    → (length followers + rest_long ≡ n) × AreFrom b 0 followers → IsAt b place f → (length after + others_long ≡ n) × AreFrom b 0 after
+begun_more b followers after rest_long others_long n place f is more at stand here =
+    let long : length after ≡ length followers + 1 = ap length more ∙ length-append followers (f ∷ []) in (
+      moved (length followers) rest_long (length after) others_long n is long stand.0,
+      subst (λ (fs : List Follower). AreFrom b 0 fs) (sym more) (one_more_at b 0 followers f stand.1 (subst (λ (k : ℕ). IsAt b k f) (at ∙ sym (zero-add (length followers))) here)),
+    )
+
+-- before the first journal
+pub journals_begin : (journals : List Journal) (rest all : List Follower) → journals ≡ [] → rest ≡ all
+    → (length journals + length rest ≡ length all) × ((b : AuditedBook) → AreFrom b 0 all → AreJournalsFrom b 0 journals × AreFrom b (length journals) rest)
+journals_begin journals rest all none same =
+    subst (λ (js : List Journal). (length js + length rest ≡ length all) × ((b : AuditedBook) → AreFrom b 0 all → AreJournalsFrom b 0 js × AreFrom b (length js) rest)) (sym none)
+    (subst (λ (rs : List Follower). (0 + length rs ≡ length all) × ((b : AuditedBook) → AreFrom b 0 all → AreJournalsFrom b 0 [] × AreFrom b 0 rs)) (sym same)
+    (zero-add (length all), λ b are. ((λ k j at. absurd (none-some j at)), are)))
+
+-- one more journal
+pub journals_turn : (journals after : List Journal) (rest others all : List Follower) (f : Follower) (j : Journal) → rest ≡ f ∷ others → after ≡ journals ++ j ∷ [] → j ≡ journal_in f.standing
+    → ((b : AuditedBook) → IsStanding b f.standing → IsEnded b j)
+    → (length journals + length rest ≡ length all) × ((b : AuditedBook) → AreFrom b 0 all → AreJournalsFrom b 0 journals × AreFrom b (length journals) rest)
+    → (length after + length others ≡ length all) × ((b : AuditedBook) → AreFrom b 0 all → AreJournalsFrom b 0 after × AreFrom b (length after) others)
+journals_turn journals after rest others all f j is more same lawful stand =
+    let long : length after ≡ length journals + 1 = ap length more ∙ length-append journals (j ∷ []) in (
+      moved (length journals) (length rest) (length after) (length others) (length all) (ap length is) long stand.0,
+      λ b are.
+          let now = stand.1 b are in
+          let behind : AreFrom b (length journals) (f ∷ others) = subst (λ (fs : List Follower). AreFrom b (length journals) fs) is now.1 in
+          let here : IsAt b (length journals) f = first_at b (length journals) f others behind in
+          let place : j.resource ≡ 0 + length journals = ap (λ (i : Journal). i.resource) same ∙ here.resource_is ∙ sym (zero-add (length journals)) in (
+            subst (λ (js : List Journal). AreJournalsFrom b 0 js) (sym more) (journal_more b 0 journals j now.0 (lawful b here.stands, place)),
+            subst (λ (k : ℕ). AreFrom b k others) (sym long) (others_from b (length journals) f others behind),
+          ),
+    )
+
+-- in the end the journals and the book agree
+pub audited_agree : (plant : PlantValue) (start b : AuditedBook) (followers all : List Follower) (journals : List Journal) → start ≡ empty_book plant → IsOfSame start b → length followers ≡ length plant.resources
+    → length all ≡ length followers → length journals ≡ length all → AreFrom b 0 all → ((x : AuditedBook) → AreFrom x 0 all → AreJournalsFrom x 0 journals) → AllAgree plant b.book journals
+audited_agree plant start b followers all journals is same many as_many last stand ends =
+    all_agree plant b journals (same.plant_is ∙ ap (λ (x : AuditedBook). x.plant) is) (same.first_is ∙ ap (λ (x : AuditedBook). x.book.first) is) (last ∙ as_many ∙ many) (ends b stand)
+
+pub disagrees_not : (plant : PlantValue) (book : BookValue) (journals : List Journal) (fault : RunFault) → fault ≡ BookDisagrees → IsAgreeFault plant book journals fault → Agree plant book journals → ⊥
+disagrees_not plant book journals fault is given agree = subst (λ (f : RunFault). IsAgreeFault plant book journals f) is given agree

@@ -134,8 +134,8 @@ pub fn audit(alloc: Global, plant: Arc<Plant>, files: &[JournalFile]) -> Result<
             unshown,
             without,
         }),
-        Err(RunFault::Memory) => Err(AllocError),
         // What each resource makes is entered, so the journals and the book agree.
-        Err(_) => unreachable!(),
+        Err(RunFault::BookDisagrees) => unreachable!(),
+        Err(_) => Err(AllocError),
     }
 }

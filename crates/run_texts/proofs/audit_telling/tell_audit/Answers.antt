@@ -29,7 +29,7 @@ pub returns-in_err-write_text-clause-fault : goal.returns-in_err-write_text-clau
 returns-in_err-write_text-clause-fault g c =
     let plant = c.args.plant.value in
     let audited = c.args.audited.now in
-    let line = c.replay_line.ensures ∙ ap replay_line (c.in_ok-equal.ensures.equal c.requires.again) in
+    let line = c.replay_line.ensures ∙ ap replay_line (c.in_ok-equal.ensures.equal (rw c.as_slice.ensures c.requires.again)) in
     let part = rw line at c.in_err-write_text.ensures.prefix in
     kept_fault Write (TellsAuditPart plant c.args.files.now audited _ _) _ c.from_residual-in_err-write_text.ensures.1
     (last_partly (audit_lines plant c.args.files.now audited) _ _ _ (rw c.deref.ensures at c.in_ok-write_audit.ensures.ok) part)
@@ -38,7 +38,7 @@ pub returns-clause-ok : goal.returns-clause-ok
 returns-clause-ok g c =
     let plant = c.args.plant.value in
     let audited = c.args.audited.now in
-    let line = c.replay_line.ensures ∙ ap replay_line (c.in_ok-equal.ensures.equal c.requires.again) in
+    let line = c.replay_line.ensures ∙ ap replay_line (c.in_ok-equal.ensures.equal (rw c.as_slice.ensures c.requires.again)) in
     record {
       appended = Appends-trans _ _ _ (audit_lines plant c.args.files.now audited) _ (rw c.deref.ensures at c.in_ok-write_audit.ensures.ok) (rw line at c.in_ok-write_text.ensures.whole);
       shown_is = all_shown audited.unshown.items audited.without.items _ _ c.is_empty.ensures c.is_empty-2.ensures;

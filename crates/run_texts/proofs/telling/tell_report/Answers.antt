@@ -28,7 +28,7 @@ pub returns-in_err-write_text-clause-fault : goal.returns-in_err-write_text-clau
 returns-in_err-write_text-clause-fault g c =
     let plant = c.args.plant.value in
     let report = c.args.report.now in
-    let line = c.replay_line.ensures ∙ ap replay_line (c.in_ok-equal.ensures.equal c.requires.again) in
+    let line = c.replay_line.ensures ∙ ap replay_line (c.in_ok-equal.ensures.equal (rw c.as_slice.ensures c.requires.again)) in
     let part = rw line at c.in_err-write_text.ensures.prefix in
     kept_fault Write (TellsPart plant report _ _) _ c.from_residual-in_err-write_text.ensures.1
     (last_partly (report_lines plant report) _ _ _ (rw c.deref.ensures at c.in_ok-write_report.ensures.ok) part)
@@ -37,8 +37,8 @@ pub returns-clause-ok : goal.returns-clause-ok
 returns-clause-ok g c =
     let plant = c.args.plant.value in
     let report = c.args.report.now in
-    let line = c.replay_line.ensures ∙ ap replay_line (c.in_ok-equal.ensures.equal c.requires.again) in
+    let line = c.replay_line.ensures ∙ ap replay_line (c.in_ok-equal.ensures.equal (rw c.as_slice.ensures c.requires.again)) in
     record {
       appended = Appends-trans _ _ _ (report_lines plant report) _ (rw c.deref.ensures at c.in_ok-write_report.ensures.ok) (rw line at c.in_ok-write_text.ensures.whole);
-      faulty_is = faulty report.node_faults c.is_empty.result (rw c.as_slice.ensures at c.is_empty.ensures);
+      faulty_is = faulty report.node_faults c.is_empty.result (rw c.as_slice-2.ensures at c.is_empty.ensures);
     }

@@ -1,0 +1,49 @@
+-- The journals and the book agree in the end, since each resource has stood from its beginning on.
+use Rattle.std.proofs.Common.{◌≡◌, ◌∙◌, All, List, sym, ap, subst}
+use Rattle.plant.specs.PlantValue.{PlantValue}
+use Rattle.evaluation_book.specs.Book.{BookValue}
+use Rattle.node_journals.specs.declared.journal.Journal.{Journal}
+use Rattle.node_journals.specs.Journals.{firsts_of, IsLawful}
+use Rattle.node_reports.specs.Reports.{RunsAgain, IsAgreeFault}
+use Rattle.audit.specs.Delivered.{AreDelivered}
+use Rattle.audit.specs.Steps.Standings.{AuditedBook, empty_book, AreFrom}
+use Rattle.audit.proofs.GoingOn.{audited_agree, disagrees_not}
+use Rattle.audit.proofs.auditing.audit.Goals as goal
+
+pub go_on-requires : goal.go_on-requires
+go_on-requires c =
+    let begins : c.in_ok-book.book ≡ empty_book c.args.plant.value = c.in_ok-book.ensures ∙ ap (λ (p : PlantValue). empty_book p) c.in_ok-try_clone.ensures in
+    subst (λ (b : AuditedBook). AreFrom b 0 c.in_ok-followers.followers.items) (sym begins) c.in_ok-followers.ensures.stand
+
+pub agreed-requires-clause-lawful : goal.agreed-requires-clause-lawful
+agreed-requires-clause-lawful c =
+    let journals = c.in_ok-journals.journals.items in
+    let begins : c.in_ok-book.book ≡ empty_book c.args.plant.value = c.in_ok-book.ensures ∙ ap (λ (p : PlantValue). empty_book p) c.in_ok-try_clone.ensures in
+    let all = audited_agree c.args.plant.value c.in_ok-book.book c.go_on.new.book c.in_ok-followers.followers.items c.in_ok-followers-2.followers.items journals begins
+    c.in_ok-followers-2.ensures.plant c.in_ok-followers.ensures.many c.in_ok-followers-2.ensures.many c.in_ok-journals.ensures.many c.in_ok-followers-2.ensures.stand c.in_ok-journals.ensures.journals in
+    subst (λ (p : PlantValue). All (IsLawful p (firsts_of journals) 4294967295) journals) (sym c.deref-2.ensures) all.lawful
+
+pub returns-in-Ok-clause-again : goal.returns-in-Ok-clause-again
+returns-in-Ok-clause-again c =
+    subst (λ (p : PlantValue). RunsAgain p 4294967295 c.in-Ok.field-0.book c.in-Ok.field-0.journals) c.deref-2.ensures c.in-Ok.ensures.again
+
+pub returns-in-Ok-clause-delivered : goal.returns-in-Ok-clause-delivered
+returns-in-Ok-clause-delivered c =
+    let journals = c.in_ok-journals.journals.items in
+    let kept = c.in-Ok.ensures.kept in
+    let begins : c.in_ok-book.book ≡ empty_book c.args.plant.value = c.in_ok-book.ensures ∙ ap (λ (p : PlantValue). empty_book p) c.in_ok-try_clone.ensures in
+    let all = audited_agree c.args.plant.value c.in_ok-book.book c.go_on.new.book c.in_ok-followers.followers.items c.in_ok-followers-2.followers.items journals begins
+    c.in_ok-followers-2.ensures.plant c.in_ok-followers.ensures.many c.in_ok-followers-2.ensures.many c.in_ok-journals.ensures.many c.in_ok-followers-2.ensures.stand c.in_ok-journals.ensures.journals in
+    subst (λ (k : BookValue). AreDelivered k.entries c.in-Ok.field-0.journals) (sym (kept.0 ∙ c.into_book.ensures.same))
+    (subst (λ (js : List Journal). AreDelivered c.go_on.new.book.book.entries js) (sym kept.1) all.delivered)
+
+pub unreachable-requires : goal.unreachable-requires
+unreachable-requires c =
+    let journals = c.in_ok-journals.journals.items in
+    let fault = c.in-Err-BookDisagrees.field-0 in
+    let begins : c.in_ok-book.book ≡ empty_book c.args.plant.value = c.in_ok-book.ensures ∙ ap (λ (p : PlantValue). empty_book p) c.in_ok-try_clone.ensures in
+    let all = audited_agree c.args.plant.value c.in_ok-book.book c.go_on.new.book c.in_ok-followers.followers.items c.in_ok-followers-2.followers.items journals begins
+    c.in_ok-followers-2.ensures.plant c.in_ok-followers.ensures.many c.in_ok-followers-2.ensures.many c.in_ok-journals.ensures.many c.in_ok-followers-2.ensures.stand c.in_ok-journals.ensures.journals in
+    let given = subst (λ (p : PlantValue). IsAgreeFault p c.go_on.new.book.book journals fault) c.deref-2.ensures
+    (subst (λ (k : BookValue). IsAgreeFault c.deref-2.result.now k journals fault) c.into_book.ensures.same c.in-Err-BookDisagrees.ensures.fault) in
+    disagrees_not c.args.plant.value c.go_on.new.book.book journals fault c.in-Err-BookDisagrees.field-0-is given all.agree
