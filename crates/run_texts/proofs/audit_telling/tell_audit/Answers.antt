@@ -1,5 +1,5 @@
 -- The audit is written whole or in part.
-use Rattle.std.proofs.Common.{ap, ◌∙◌}
+use Rattle.std.proofs.Common.{◌≡◌, ◌↔◌, ◌∙◌, ◌==◌, ℕ, Bool, true, false, IsTrue, [], length, ap, sym, refl, subst}
 use Rattle.std.proofs.KnownBytes.{Appends-trans}
 use Rattle.lists.proofs.Results.{kept_fault}
 use Rattle.text_writer.specs.declared.send_fault.SendFault.TheVariants.{Write, Memory}
@@ -34,12 +34,23 @@ returns-in_err-write_text-clause-fault g c =
     kept_fault Write (TellsAuditPart plant c.args.files.now audited _ _) _ c.from_residual-in_err-write_text.ensures.1
     (last_partly (audit_lines plant c.args.files.now audited) _ _ _ (rw c.deref.ensures at c.in_ok-write_audit.ensures.ok) part)
 
-pub returns-clause-ok : goal.returns-clause-ok
-returns-clause-ok g c =
+pub returns-then-is_empty-clause-ok : goal.returns-then-is_empty-clause-ok
+returns-then-is_empty-clause-ok g c =
     let plant = c.args.plant.value in
     let audited = c.args.audited.now in
     let line = c.replay_line.ensures ∙ ap replay_line (c.in_ok-equal.ensures.equal (rw c.as_slice.ensures c.requires.again)) in
     record {
       appended = Appends-trans _ _ _ (audit_lines plant c.args.files.now audited) _ (rw c.deref.ensures at c.in_ok-write_audit.ensures.ok) (rw line at c.in_ok-write_text.ensures.whole);
-      shown_is = all_shown audited.unshown.items audited.without.items _ _ c.is_empty.ensures c.is_empty-2.ensures;
+      shown_is = all_shown audited.unshown.items audited.without.items true c.is_empty-then-is_empty.result (sym c.if-is_empty.true ∙ c.is_empty.ensures ∙ ap (λ (n : ℕ). n == 0) audited.unshown.ok.0) (c.is_empty-then-is_empty.ensures ∙ ap (λ (n : ℕ). n == 0) audited.without.ok.0);
+    }
+
+pub returns-else-is_empty-clause-ok : goal.returns-else-is_empty-clause-ok
+returns-else-is_empty-clause-ok g c =
+    let plant = c.args.plant.value in
+    let audited = c.args.audited.now in
+    let line = c.replay_line.ensures ∙ ap replay_line (c.in_ok-equal.ensures.equal (rw c.as_slice.ensures c.requires.again)) in
+    record {
+      appended = Appends-trans _ _ _ (audit_lines plant c.args.files.now audited) _ (rw c.deref.ensures at c.in_ok-write_audit.ensures.ok) (rw line at c.in_ok-write_text.ensures.whole);
+      shown_is = subst (λ (b : Bool). IsTrue b ↔ ((audited.unshown.items ≡ []) × (audited.without.items ≡ []))) (sym c.if-is_empty.false)
+          (all_shown audited.unshown.items audited.without.items false (length audited.without.items == 0) (sym c.if-is_empty.false ∙ c.is_empty.ensures ∙ ap (λ (n : ℕ). n == 0) audited.unshown.ok.0) refl);
     }

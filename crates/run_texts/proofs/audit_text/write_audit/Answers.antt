@@ -20,20 +20,20 @@ returns-in_err-write_unshown-clause-part g c =
     let entries = entry_lines c.args.plant.now 1 a.book.entries in
     let unshown = flat_map (unshown_line c.args.plant.now c.args.files.now) a.unshown.items in
     on_err _ (part_of_first (entries ++ unshown) (flat_map (without_line c.args.plant.now) a.without.items) _ _
-    (part_of_second entries unshown _ _ _ (rw c.entries.ensures.value at c.in_ok-write_entries.ensures.ok) (rw c.as_slice.ensures at c.in_err-write_unshown.ensures.part)))
+    (part_of_second entries unshown _ _ _ (rw c.entries.ensures.value at c.in_ok-write_entries.ensures.ok) (rw c.as_slice.ensures.value at c.in_err-write_unshown.ensures.part)))
 
 pub returns-clause-ok : goal.returns-clause-ok
 returns-clause-ok g c =
     let a = c.args.audited.now in
     let entries = entry_lines c.args.plant.now 1 a.book.entries in
     let unshown = flat_map (unshown_line c.args.plant.now c.args.files.now) a.unshown.items in
-    let two = Appends-trans _ _ _ entries unshown (rw c.entries.ensures.value at c.in_ok-write_entries.ensures.ok) (rw c.as_slice.ensures at c.in_ok-write_unshown.ensures.ok) in
-    then_ok c.write_without.result (entries ++ unshown) (flat_map (without_line c.args.plant.now) a.without.items) _ _ _ two (rw c.as_slice-2.ensures at c.write_without.ensures.ok)
+    let two = Appends-trans _ _ _ entries unshown (rw c.entries.ensures.value at c.in_ok-write_entries.ensures.ok) (rw c.as_slice.ensures.value at c.in_ok-write_unshown.ensures.ok) in
+    then_ok c.write_without.result (entries ++ unshown) (flat_map (without_line c.args.plant.now) a.without.items) _ _ _ two (rw c.as_slice-2.ensures.value at c.write_without.ensures.ok)
 
 pub returns-clause-part : goal.returns-clause-part
 returns-clause-part g c =
     let a = c.args.audited.now in
     let entries = entry_lines c.args.plant.now 1 a.book.entries in
     let unshown = flat_map (unshown_line c.args.plant.now c.args.files.now) a.unshown.items in
-    let two = Appends-trans _ _ _ entries unshown (rw c.entries.ensures.value at c.in_ok-write_entries.ensures.ok) (rw c.as_slice.ensures at c.in_ok-write_unshown.ensures.ok) in
-    then_part c.write_without.result (entries ++ unshown) (flat_map (without_line c.args.plant.now) a.without.items) _ _ _ two (rw c.as_slice-2.ensures at c.write_without.ensures.part)
+    let two = Appends-trans _ _ _ entries unshown (rw c.entries.ensures.value at c.in_ok-write_entries.ensures.ok) (rw c.as_slice.ensures.value at c.in_ok-write_unshown.ensures.ok) in
+    then_part c.write_without.result (entries ++ unshown) (flat_map (without_line c.args.plant.now) a.without.items) _ _ _ two (rw c.as_slice-2.ensures.value at c.write_without.ensures.part)

@@ -1,6 +1,4 @@
 -- The world opens as the journals did.
-use Rattle.std.proofs.Common.{sym, subst}
-use Rattle.exchange.specs.History.{AreOpenings}
 use Rattle.run_texts.proofs.Replaying.{openings_suit}
 use Rattle.run_texts.proofs.replay.replay.Goals as goal
 
