@@ -1,1 +1,5 @@
+mod LineTaking
+mod NextAnswered
+mod Opened
+mod Standing
 mod Telling

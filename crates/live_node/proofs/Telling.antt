@@ -3,6 +3,7 @@ use Rattle.std.proofs.Common.{◌≡◌, inl, inr, ℕ, ◌+◌, ◌++◌, ◌<�
 use Rattle.std.specs.Prelude.{codes}
 use Rattle.std.specs.Io.KnownBytes.{Appends}
 use Rattle.std.proofs.KnownBytes.{Appends-nil}
+use Rattle.std_blocks.specs.declared.value.Value.{Value}
 use Rattle.due_list.specs.declared.task_ref.TaskRef.{TaskRef}
 use Rattle.plant.specs.PlantValue.{PlantValue}
 use Rattle.evaluation.specs.declared.field_input.FieldInput.{FieldInput}
@@ -11,17 +12,19 @@ use Rattle.evaluation.specs.Messages.{MessageValue, message_of}
 use Rattle.message_core.specs.MessageCoreValue.{MessageCoreValue}
 use Rattle.message_texts.specs.MessageLines.{HasForm}
 use Rattle.world.specs.RunLines.{evaluation_line}
+use Rattle.node_lines.specs.declared.node_line.NodeLine.{NodeLine}
 use Rattle.node_lines.specs.declared.node_line.NodeLine.TheVariants.{Idle, Evaluate, Take, Hello, Restart}
-use Rattle.node_lines.specs.Sends.{message_sends}
-use Rattle.node_lines.specs.Answers.{refused_line}
-use Rattle.node_lines.specs.NodeJournal.{line_note}
+use Rattle.node_lines.specs.Sends.{greetings, message_sends}
+use Rattle.node_lines.specs.Answers.{refused_line, risen_line}
+use Rattle.node_lines.specs.NodeJournal.{line_note, restart_note, start_note}
 use Rattle.node_cores.specs.declared.line_refusal.LineRefusal.{LineRefusal}
-use Rattle.node_cores.specs.NodeValue.{NodeValue}
-use Rattle.node_cores.specs.NodeSteps.{HasMade, IsTaskRefusal}
+use Rattle.node_cores.specs.declared.line_refusal.LineRefusal.TheVariants.{Syntax, TooLong, NoSuchResource, NotHere, NoSuchTask, NumbersSpent, Keeper}
+use Rattle.node_cores.specs.NodeValue.{NodeValue, IsStarted}
+use Rattle.node_cores.specs.NodeSteps.{HasMade, IsPlaceRefusal, IsTaskRefusal}
 use Rattle.std.proofs.lemmas.List.{append-nil}
 use Rattle.world.specs.ScheduleText.{is_idle}
-use Rattle.node_lines.specs.NodeLines.{node_words}
-use Rattle.live_node.specs.NodeAnswers.{IsAnsweredBy, IsAnswered, IsRestartRefusal}
+use Rattle.node_lines.specs.NodeLines.{Spells, node_words}
+use Rattle.live_node.specs.NodeAnswers.{HasBegun, start_text, HasRisenTo, IsAnsweredBy, IsAnswered, IsRestartRefusal}
 
 -- an evaluation's message has the form of the plant's
 pub made_form : (old new : NodeValue) (task dt : ℕ) (inputs : List FieldInput) (x : Evaluated) → HasMade old new task dt inputs x → length x.heard ≡ length new.core.plant.resources → HasForm new.core.plant (message_of x)
@@ -72,6 +75,35 @@ refused_restart s line n r noted out_old out_new why is = record {
   written = is;
 }
 
+-- a restart of another resource
+restart_place : (core : MessageCoreValue) (n : ℕ) (r : LineRefusal) → IsPlaceRefusal core n r → IsRestartRefusal core n r
+restart_place core n Syntax why = why
+restart_place core n TooLong why = why
+restart_place core n NoSuchResource why = why
+restart_place core n NotHere why = why
+restart_place core n NoSuchTask why = why
+restart_place core n NumbersSpent why = why
+restart_place core n Keeper why = absurd why
+
+pub refused_place : (s : NodeValue) (line : List ℕ) (n : ℕ) (r : LineRefusal) (noted : Option (List ℕ)) (out_old out_new : List ℕ) → IsPlaceRefusal s.core n r → out_new ≡ out_old ++ refused_line r → IsAnsweredBy s s line (Some (Restart n)) noted noted out_old out_new
+refused_place s line n r noted out_old out_new why is = refused_restart s line n r noted out_old out_new (restart_place s.core n r why) is
+
+-- a restart to which the keeper doesn't raise
+pub refused_raise : (s : NodeValue) (line : List ℕ) (n : ℕ) (noted : Option (List ℕ)) (out_old out_new : List ℕ) → n ≡ s.core.resource → out_new ≡ out_old ++ refused_line Keeper → IsAnsweredBy s s line (Some (Restart n)) noted noted out_old out_new
+refused_raise s line n noted out_old out_new here is = refused_restart s line n Keeper noted out_old out_new here is
+
+-- a restart
+pub risen_restart : (old new : NodeValue) (line : List ℕ) (n incarnation : ℕ) (noted_old noted_new : Option (List ℕ)) (out_old out_new : List ℕ) → n ≡ old.core.resource → old.core.incarnation < incarnation → HasRisenTo old new incarnation noted_old noted_new out_old out_new
+    → IsAnsweredBy old new line (Some (Restart n)) noted_old noted_new out_old out_new
+risen_restart old new line n incarnation noted_old noted_new out_old out_new here above h =
+    subst (λ m. IsAnsweredBy old new line (Some (Restart m)) noted_old noted_new out_old out_new) (sym here) (record {
+      note = restart_note old.core.plant old.core.resource incarnation;
+      text = greetings old.core.plant old.core.resource incarnation ++ risen_line (codes "RESTART") old.core.plant old.core.resource incarnation;
+      answered = inl (record { incarnation = incarnation; here = refl; above = above; risen = h.risen; note_is = refl; text_is = refl });
+      noted = h.noted;
+      written = h.written;
+    })
+
 -- a blank line or a comment
 pub idle_answer : (s : NodeValue) (line : List ℕ) (noted : Option (List ℕ)) (out : List ℕ) → is_idle (node_words line) ≡ true → IsAnswered s s line noted noted out out
 idle_answer s line noted out idle = record {
@@ -81,3 +113,32 @@ idle_answer s line noted out idle = record {
   noted = Appends-nil noted;
   written = sym (append-nil out);
 }
+
+-- a line that asks what was answered
+pub line_answered : (old new : NodeValue) (line : List ℕ) (asked : NodeLine) (noted_old noted_new : Option (List ℕ)) (out_old out_new : List ℕ) → Spells old.core.plant asked line → IsAnsweredBy old new line (Some asked) noted_old noted_new out_old out_new
+    → IsAnswered old new line noted_old noted_new out_old out_new
+line_answered old new line asked noted_old noted_new out_old out_new read h = record {
+  note = h.note;
+  text = h.text;
+  answers = record { asked = Some asked; read = read; answered = h.answered };
+  noted = h.noted;
+  written = h.written;
+}
+
+-- a node began: its start is noted and told
+pub node_begun : (plant : PlantValue) (n i : ℕ) (opening : List (List Value)) (s : NodeValue) (noted_old noted_new : Option (List ℕ)) (note out_old mid out_new : List ℕ) → IsStarted plant n opening i s → note ≡ start_note plant n i opening
+    → Appends noted_old noted_new note → mid ≡ out_old ++ greetings s.core.plant n i → out_new ≡ mid ++ risen_line (codes "START") s.core.plant n i → HasBegun plant n s noted_old noted_new out_old out_new
+node_begun plant n i opening s noted_old noted_new note out_old mid out_new started is noted first last =
+    let p : s.core.plant ≡ plant = ap (λ (c : MessageCoreValue). c.plant) started.risen.is in
+    let k : s.core.incarnation ≡ i = ap (λ (c : MessageCoreValue). c.incarnation) started.risen.is in
+    record {
+      opening = opening;
+      started = subst (λ j. IsStarted plant n opening j s) (sym k) started;
+      noted = subst (Appends noted_old noted_new) (is ∙ ap (λ j. start_note plant n j opening) (sym k)) noted;
+      written =
+          last
+          ∙ ap (λ l. l ++ risen_line (codes "START") s.core.plant n i) first
+          ∙ append_assoc out_old (greetings s.core.plant n i) (risen_line (codes "START") s.core.plant n i)
+          ∙ ap (λ pl. out_old ++ start_text pl n i) p
+          ∙ ap (λ j. out_old ++ start_text plant n j) (sym k);
+    }

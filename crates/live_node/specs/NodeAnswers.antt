@@ -45,12 +45,17 @@ IsRestartRefusal core n Keeper = n ≡ core.resource
 abbrev pub own_hello : MessageCoreValue → ℕ → List ℕ
 own_hello core to = hello_to core.plant core.resource core.incarnation to
 
--- a stray message that is addressed to an earlier incarnation is answered by a hello to its maker
+-- a message is answered by a hello: a stray one that is addressed to an earlier incarnation
+abbrev pub is_told : Accepted → Bool → Bool
+is_told Taken behind = false
+is_told Old behind = false
+is_told Unused behind = false
+is_told Stray behind = behind
+
+-- such a message is answered by a hello to its maker
 abbrev pub stray_hello : MessageCoreValue → MessageValue → Accepted → List ℕ
-stray_hello core m Taken = []
-stray_hello core m Old = []
-stray_hello core m Unused = []
-stray_hello core m Stray = if is_behind core m then own_hello core m.name.task.resource else []
+stray_hello core m answer =
+    if is_told answer (is_behind core m) then own_hello core m.name.task.resource else []
 
 -- a new incarnation of a resource from which this one takes is answered by a hello to it
 abbrev pub news_hello : MessageCoreValue → ℕ → Bool → List ℕ

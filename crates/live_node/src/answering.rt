@@ -37,6 +37,7 @@ fn hand_on<W: Write>(answer: &str, out: &mut W) -> Result<(), LiveStop>
 }
 
 /// Takes the next line, and answers it; whether more may follow.
+#[tactic(auto, using(crate::proofs::NextAnswered::next_ended, crate::proofs::NextAnswered::next_answered, crate::proofs::NextAnswered::next_too_long, crate::proofs::NextAnswered::lines_after))]
 fn do_next<K: Keeper, N: Notes, L: LineSource, W: Write>(
     node: &mut Node<K, N>,
     room: &mut Room,
@@ -52,19 +53,19 @@ fn do_next<K: Keeper, N: Notes, L: LineSource, W: Write>(
     ensures few { OnOk result (node.new.state.lines ≤ node.old.state.lines + 1) }
 {
     room.answer.clear();
-    let more = match take_line(source, &mut room.line, &mut room.piece, out)? {
-        TakenLine::End => return Ok(false),
+    match take_line(source, &mut room.line, &mut room.piece, out)? {
+        TakenLine::End => Ok(false),
         TakenLine::Line { fed } => {
             node.answer(room.line.as_slice(), &mut room.answer)?;
-            fed
+            hand_on(room.answer.as_str(), out)?;
+            Ok(fed)
         }
         TakenLine::TooLong { fed } => {
             push_refused(&mut room.answer, LineRefusal::TooLong)?;
-            fed
+            hand_on(room.answer.as_str(), out)?;
+            Ok(fed)
         }
-    };
-    hand_on(room.answer.as_str(), out)?;
-    Ok(more)
+    }
 }
 
 /// Writes what a node that begun writes at its start, and answers the lines of a source, to its end: each line is answered, and the answer handed on, before the next line is taken.

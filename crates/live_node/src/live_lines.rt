@@ -70,6 +70,7 @@ fn take_rest<L: LineSource, W: Write>(
 
 /// Takes the next line, without its line feed, in the place of what was in `line`; `piece` is room for a part of a long
 /// one.
+#[tactic(auto, using(crate::proofs::LineTaking::takes_line, crate::proofs::LineTaking::takes_last, crate::proofs::LineTaking::takes_whole, crate::proofs::LineTaking::begins_more, crate::proofs::LineTaking::begins_none))]
 pub(crate) fn take_line<L: LineSource, W: Write>(
     source: &mut L,
     line: &mut Vec<u8>,

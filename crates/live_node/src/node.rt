@@ -1,12 +1,12 @@
 //! A node answers lines.
 
-ghost use Rattle.std.specs.Prelude.{◌≡◌, ◌<◌, IfOk, OnOk, Some, length, string_bytes};
+ghost use Rattle.std.specs.Prelude.{◌≡◌, ◌<◌, IfOk, OnOk, Some, [], length, string_bytes, if◌then◌else◌};
 ghost use Rattle.std.specs.Io.KnownBytes.{Appends};
 ghost use Rattle.evaluation.specs.Messages.{message_of};
 ghost use Rattle.message_core.specs.Openings.{AreOpeningOf};
 ghost use Rattle.message_texts.specs.MessageLines.{IsMessageOf};
 ghost use Rattle.node_lines.specs.declared.node_line.NodeLine.TheVariants as asked;
-ghost use Rattle.live_node.specs.NodeAnswers.{own_hello, HasRisenTo, IsAnsweredBy, IsAnswered, HasBegun};
+ghost use Rattle.live_node.specs.NodeAnswers.{is_told, own_hello, HasRisenTo, IsAnsweredBy, IsAnswered, HasBegun};
 ghost use Rattle.node_lines.specs.NodeJournal.{line_note};
 ghost use Rattle.text_writer.specs.Growing.{GrowsBy};
 
@@ -72,6 +72,16 @@ fn keep_after<K: Keeper>(
     let retained = Retained::of(alloc, code, evaluation.after())?;
     keeper.keep(evaluation.name().task.task, code, &retained)?;
     Ok(())
+}
+
+/// Whether a message is answered by a hello to its maker: a stray one that is addressed to an earlier incarnation.
+fn is_told(answer: Accepted, is_behind: bool) -> bool
+    ensures { result ≡ is_told answer is_behind }
+{
+    match answer {
+        Accepted::Stray => is_behind,
+        Accepted::Taken | Accepted::Old | Accepted::Unused => false,
+    }
 }
 
 impl<K: Keeper, N: Notes> Node<K, N> {
@@ -164,9 +174,7 @@ impl<K: Keeper, N: Notes> Node<K, N> {
         let name = message.name();
         let is_behind = self.state.is_behind(&message);
         let answer = self.state.accept(message);
-        if answer == Accepted::Stray && is_behind {
-            self.push_own_hello(name.task.resource, out)?;
-        }
+        self.push_own_hello_if(is_told(answer, is_behind), name.task.resource, out)?;
         push_message_answer(out, self.state.plant(), name, answer)?;
         Ok(())
     }
@@ -184,6 +192,16 @@ impl<K: Keeper, N: Notes> Node<K, N> {
             state.resource(),
             state.incarnation(),
         )?;
+        Ok(())
+    }
+
+    /// Writes the node's own hello to a resource, where it is wanted.
+    fn push_own_hello_if(&self, wanted: bool, to: usize, out: &mut String) -> Result<(), NodeStop>
+        ensures { OnOk result (GrowsBy out.old out.new (if wanted then own_hello self.now.state.core to else [])) }
+    {
+        if wanted {
+            self.push_own_hello(to, out)?;
+        }
         Ok(())
     }
 
@@ -206,15 +224,14 @@ impl<K: Keeper, N: Notes> Node<K, N> {
         }
         self.note_line(line)?;
         let newer = self.state.hear(of, incarnation);
-        if newer && takes_from_resource(self.state.plant(), self.state.resource(), of) {
-            self.push_own_hello(of, out)?;
-        }
+        let takes = takes_from_resource(self.state.plant(), self.state.resource(), of);
+        self.push_own_hello_if(newer && takes, of, out)?;
         push_hello_answer(out, self.state.plant(), of, incarnation, newer)?;
         Ok(())
     }
 
     /// Answers a line `RESTART`.
-    #[tactic(auto, using(crate::proofs::Telling::refused_restart))]
+    #[tactic(auto, using(crate::proofs::Telling::refused_place, crate::proofs::Telling::refused_raise, crate::proofs::Telling::risen_restart))]
     fn answer_restart(
         &mut self,
         line: &[u8],
@@ -259,7 +276,7 @@ impl<K: Keeper, N: Notes> Node<K, N> {
     }
 
     /// Answers a line, without its line feed: notes it, does it, keeps what it left, and writes its answer behind what is there. A line that is refused, a blank one and a comment change nothing, and aren't noted. After a stop there is no answer, and the node is at its end.
-    #[tactic(auto, using(crate::proofs::Telling::idle_answer))]
+    #[tactic(auto, using(crate::proofs::Telling::idle_answer, crate::proofs::Telling::line_answered))]
     pub fn answer(&mut self, line: &[u8], out: &mut String) -> Result<(), NodeStop>
         requires few { self.old.state.lines < 18446744073709551615 }
         requires kept { K.last self.old.keeper ≡ self.old.state.core.incarnation }

@@ -1,0 +1,12 @@
+use Rattle.std.proofs.Common.{subst}
+use Rattle.line_reader.specs.Lines.{Gives}
+use Rattle.live_node.proofs.LineTaking.{begins_more}
+use Rattle.live_node.proofs.live_lines.take_line.Goals as goal
+
+pub take_rest-requires-clause-ready : goal.take_rest-requires-clause-ready
+take_rest-requires-clause-ready g c =
+    let given = g.L.LineSource.left c.args.source.now in
+    let mid = g.L.LineSource.left c.take_line.new.self in
+    let begun = c.take_line.new.line.items in
+    let gives = subst (Gives given mid begun) c.in-TooLong.is c.in_ok-take_line.ensures.ok in
+    λ left b. c.requires.ready left (begins_more given mid left begun gives.0 gives.2 b)

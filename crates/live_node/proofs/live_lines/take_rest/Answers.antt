@@ -1,0 +1,63 @@
+use Rattle.std.proofs.Common.{true, false, ◌++◌, ◌∷◌, [], subst}
+use Rattle.std.proofs.KnownBytes.{Consumes-trans}
+use Rattle.line_reader.specs.Lines.{Gives}
+use Rattle.live_node.specs.LineTaking.{HasPut}
+use Rattle.live_node.proofs.LineTaking.{plain_both, held_more, held_within, rest_taken, fed_end, whole_end, last_end}
+use Rattle.live_node.proofs.live_lines.take_rest.Goals as goal
+
+pub returns-in-Line : goal.returns-in-Line
+returns-in-Line g c =
+    let given = g.L.LineSource.left c.args.source.now in
+    let mid = g.L.LineSource.left c.loop.source in
+    let left = g.L.LineSource.left c.take_line.new.self in
+    let piece = c.take_line.new.line.items in
+    let begun = c.args.line.now.items in
+    let new = c.put_piece.new.line.items in
+    let now = c.in_ok-too_long.too_long in
+    let so_far = c.loop.invariant in
+    let put = subst (λ p. HasPut c.loop.line.items new p c.loop.too_long now) c.as_slice.ensures.value c.in_ok-too_long.ensures in
+    let gives = subst (Gives mid left piece) c.in-Line.is c.in_ok-given.ensures.ok in
+    record {
+      ok = rest_taken now true given left begun new (so_far.0 ++ piece) c.taken.result (plain_both so_far.0 piece so_far.1 gives.0)
+          (held_more c.loop.too_long now begun c.loop.line.items new so_far.0 piece so_far.3 put)
+          (held_within c.loop.too_long now c.loop.line.items new piece so_far.4 put)
+          (fed_end given mid left so_far.0 piece so_far.2 gives.2) c.taken.ensures;
+    }
+
+pub returns-in-LastLine : goal.returns-in-LastLine
+returns-in-LastLine g c =
+    let given = g.L.LineSource.left c.args.source.now in
+    let mid = g.L.LineSource.left c.loop.source in
+    let left = g.L.LineSource.left c.take_line.new.self in
+    let piece = c.take_line.new.line.items in
+    let begun = c.args.line.now.items in
+    let new = c.put_piece.new.line.items in
+    let now = c.in_ok-too_long.too_long in
+    let so_far = c.loop.invariant in
+    let put = subst (λ p. HasPut c.loop.line.items new p c.loop.too_long now) c.as_slice.ensures.value c.in_ok-too_long.ensures in
+    let gives = last_end mid left piece c.in_ok-given.given c.in-LastLine.is c.in_ok-given.ensures.ok in
+    record {
+      ok = rest_taken now false given left begun new (so_far.0 ++ piece) c.taken-in-LastLine.result (plain_both so_far.0 piece so_far.1 gives.0)
+          (held_more c.loop.too_long now begun c.loop.line.items new so_far.0 piece so_far.3 put)
+          (held_within c.loop.too_long now c.loop.line.items new piece so_far.4 put)
+          (whole_end given mid left so_far.0 piece false so_far.2 (gives.1, gives.2)) c.taken-in-LastLine.ensures;
+    }
+
+pub loop-preserved : goal.loop-preserved
+loop-preserved g c =
+    let given = g.L.LineSource.left c.args.source.now in
+    let mid = g.L.LineSource.left c.loop.source in
+    let left = g.L.LineSource.left c.take_line.new.self in
+    let piece = c.take_line.new.line.items in
+    let begun = c.args.line.now.items in
+    let new = c.put_piece.new.line.items in
+    let now = c.in_ok-too_long.too_long in
+    let so_far = c.loop.invariant in
+    let put = subst (λ p. HasPut c.loop.line.items new p c.loop.too_long now) c.as_slice.ensures.value c.in_ok-too_long.ensures in
+    let gives = subst (Gives mid left piece) c.in-TooLong.is c.in_ok-given.ensures.ok in (
+      so_far.0 ++ piece,
+      plain_both so_far.0 piece so_far.1 gives.0,
+      Consumes-trans given mid left so_far.0 piece so_far.2 gives.2,
+      held_more c.loop.too_long now begun c.loop.line.items new so_far.0 piece so_far.3 put,
+      held_within c.loop.too_long now c.loop.line.items new piece so_far.4 put,
+    )
