@@ -1,5 +1,5 @@
 -- The fault of a word is one of a plant's text, and no body's; and one that tells of no name is no name's.
-use Rattle.std.proofs.Common.{◌≡◌, ◌⊎◌, inl, inr, ℕ, None, refl, subst}
+use Rattle.std.proofs.Common.{◌≡◌, ◌≢◌, sym, ◌∙◌, ◌⊎◌, inl, inr, ℕ, None, refl, subst}
 use Rattle.plant_grammar.specs.declared.grammar_fault.GrammarFault.{GrammarFault}
 use Rattle.plant_grammar.specs.declared.grammar_fault.GrammarFaultKind.{GrammarFaultKind}
 use Rattle.plant_grammar.specs.declared.grammar_fault.GrammarFaultKind.TheVariants as word
@@ -73,6 +73,33 @@ pub memory_no_body : (fault : PlantFault) → fault.kind ≡ kind.Memory → IsO
 memory_no_body fault m (inl e) = cc
 memory_no_body fault m (inr (inl e)) = cc
 memory_no_body fault m (inr (inr e)) = cc
+
+-- want of memory is no fault of the grammar
+pub memory_no_syntax : (fault : PlantFault) → fault.kind ≡ kind.Memory → fault.kind ≡ kind.Syntax → ⊥
+memory_no_syntax fault m s = let wrong : kind.Memory ≡ kind.Syntax = sym m ∙ s in cc
+
+pub syntax_no_memory : (fault : PlantFault) → fault.kind ≡ kind.Syntax → fault.kind ≢ kind.Memory
+syntax_no_memory fault s m = memory_no_syntax fault m s
+
+-- nor is the fault of a body
+pub body_no_syntax : (k : PlantFaultKind) (why : BodyFault) → k ≡ kind_of_body why → k ≡ kind.Syntax → ⊥
+body_no_syntax k (body.Drawing d) e s = let wrong : kind.Drawing ≡ kind.Syntax = sym e ∙ s in cc
+body_no_syntax k (body.Graph g) e s = let wrong : kind.Graph ≡ kind.Syntax = sym e ∙ s in cc
+body_no_syntax k (body.Bind b) e s = let wrong : kind.Bind ≡ kind.Syntax = sym e ∙ s in cc
+
+-- a fault of the grammar, among those of words
+pub of_syntax : (k : GrammarFaultKind) → kind_of_word k ≡ kind.Syntax → k ≡ word.Syntax
+of_syntax word.Syntax s = refl
+of_syntax word.NameTwice s = absurd cc
+of_syntax word.UnknownName s = absurd cc
+of_syntax word.WrongKind s = absurd cc
+of_syntax word.InputBoundTwice s = absurd cc
+of_syntax word.TooMany s = absurd cc
+of_syntax word.Memory s = absurd cc
+
+-- nor is the fault of a source
+pub source_no_syntax : (k : GrammarFaultKind) → TellsOfSource k → kind_of_word k ≡ kind.Syntax → ⊥
+source_no_syntax k tells s = subst TellsOfSource (of_syntax k s) tells
 
 -- the fault of a body is no name's
 pub body_no_name : (k : PlantFaultKind) (why : BodyFault) → k ≡ kind_of_body why → IsOfDeclaredName k → ⊥

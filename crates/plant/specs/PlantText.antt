@@ -1,6 +1,6 @@
 -- The plant that a text is.
-use Rattle.std.specs.Prelude.{◌≡◌, ◌⊎◌, ◌≤◌, ℕ, List, length, map, All}
-use Rattle.std.specs.List.{flat_map}
+use Rattle.std.specs.Prelude.{◌≡◌, ◌≢◌, ◌⊎◌, ◌≤◌, ◌++◌, ℕ, List, [], true, length, map, All}
+use Rattle.std.specs.List.{flat_map, list_all}
 use Rattle.words.specs.Lines.{without_last}
 use Rattle.plant_text.specs.declared.token.Token.{Token}
 use Rattle.plant_grammar.specs.declared.grammar_fault.GrammarFaultKind.{GrammarFaultKind}
@@ -10,6 +10,7 @@ use Rattle.program_bodies.specs.declared.plant_fault.PlantFault.{PlantFault}
 use Rattle.program_bodies.specs.declared.plant_fault.PlantFaultKind.TheVariants.{UnknownName, WrongKind}
 use Rattle.plant_grammar.specs.Grammar.{TextValue, Tree, program_words, words_of}
 use Rattle.plant_grammar.specs.Lawful.{all_uses, IsTreeLawful}
+use Rattle.plant_grammar.specs.WellFormed.{is_plain, IsTreeWellFormed}
 use Rattle.plant_grammar.specs.Parts.{IsSameTree}
 use Rattle.program_bodies.specs.BodyFaults.{IsFirstBodyFault}
 use Rattle.plant_text.specs.Spelling.{Spells, BeginsWith}
@@ -27,6 +28,17 @@ pub record IsPlantText (text : List ℕ) (plant : PlantValue) : Type 0 where
 -- The text, but for a carriage return at its end, spells no tree without fault.
 abbrev pub IsNoPlant : List ℕ → Type 0
 IsNoPlant text = (tree : Tree) → Spells (without_last 13 text) (words_of tree) → IsTreeFaultless tree → ⊥
+
+-- the words of the tree are those of one without fault
+abbrev pub HasFaultlessWords : Tree → Type 0
+HasFaultlessWords tree = (t : Tree) × (words_of t ≡ words_of tree) × IsTreeFaultless t
+
+-- Where the text, but for a carriage return at its end, spells a tree as the grammar has it, whatever its names, of at
+-- most 64 program types, and then further words, no body among these: there is such a word, and the tree is without fault.
+abbrev pub IsNotOfGrammar : List ℕ → Type 0
+IsNotOfGrammar text =
+    (tree : Tree) (more : List Token) → length tree.programs ≤ 64 → IsTreeWellFormed tree → list_all is_plain more ≡ true
+    → Spells (without_last 13 text) (words_of tree ++ more) → (more ≢ []) × HasFaultlessWords tree
 
 -- Trees of at most 64 program types that the text, but for a carriage return at its end, spells say the same.
 abbrev pub SpellsOneTree : List ℕ → Type 0

@@ -14,3 +14,4 @@ pub mod RetainedPlaces
 pub mod LawfulPrograms
 pub mod LawfulResources
 pub mod LawfulTrees
+pub mod MissingWords

@@ -1,4 +1,5 @@
 -- The words of a tree stand where the text of a plant may have them.
+use Rattle.plant_grammar.proofs.OneTree.{tree_parts_of}
 use Rattle.std.proofs.Common.{◌≡◌, ◌&&◌, ℕ, ◌+◌, ◌≤◌, Bool, true, false, List, [], ◌∷◌, ◌++◌, length, Option, None, Some, refl, sym, ap, ◌∙◌, append_assoc, subst, arith}
 use Rattle.std.specs.List.{flat_map, list_all}
 use Rattle.std.proofs.lemmas.List.Concat.{flat_map-cons}
@@ -27,13 +28,8 @@ use Rattle.plant_grammar.specs.declared.grammar.tree.Use.{Use}
 use Rattle.plant_grammar.specs.declared.grammar.tree.Item.{Item}
 use Rattle.plant_grammar.specs.declared.grammar.tree.Item.TheVariants as item
 use Rattle.plant_grammar.specs.declared.grammar.tree.Resource.{Resource}
+use Rattle.plant_grammar.specs.WellFormed.{is_plain}
 use Rattle.plant_grammar.specs.Grammar.{Tree, key_word, mark_word, section_words, type_word, name_words, list_words, lists_words, block_words, program_words, settings, task_words, source_words, bind_words, with_commas, binds_words, binds_listed, use_words, item_words, items_words, resource_words, resources_words, words_of}
-
--- a word, and no body
-abbrev is_plain : Token → Bool
-is_plain (token.Body b) = false
-is_plain token.Unknown = false
-is_plain _ = true
 
 -- a word inside a block of variables
 abbrev is_inner : Token → Bool
@@ -206,3 +202,11 @@ unfolding words_of
 tree_placed tree few =
     programs_placed tree.programs (key_word key.Configuration ∷ token.Name tree.name ∷ resources_words tree.resources) 0 (omega (arith, few))
     (λ k. ((λ e. cc, λ d. absurd cc), in_configuration (token.Name tree.name ∷ resources_words tree.resources) k (resources_plain tree.resources)))
+
+-- and plain words behind it
+pub tree_placed_before : (tree : Tree) (more : List Token) → length tree.programs ≤ 64 → list_all is_plain more ≡ true → AreWordsInPlace (words_of tree ++ more)
+tree_placed_before tree more few plain =
+    let end = token.Name tree.name ∷ (resources_words tree.resources ++ more) in
+    subst AreWordsInPlace (sym (tree_parts_of tree more))
+    (programs_placed tree.programs (key_word key.Configuration ∷ end) 0 (omega (arith, few))
+    (λ k. ((λ e. cc, λ d. absurd cc), in_configuration end k (both is_plain (resources_words tree.resources) more (resources_plain tree.resources) plain))))

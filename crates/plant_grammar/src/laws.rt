@@ -1,14 +1,20 @@
-ghost use Rattle.std.specs.Prelude.{◌≡◌, ◌≤◌, ◌++◌, ℕ, length, map, take, List};
-ghost use Rattle.std.specs.List.{flat_map};
+ghost use Rattle.std.specs.Prelude.{◌≡◌, ◌≤◌, ◌++◌, ℕ, length, map, take, List, true};
+ghost use Rattle.std.specs.List.{flat_map, list_all};
 ghost use Rattle.plant_text.specs.Steps.Lexing.{AreWordsInPlace};
 ghost use Rattle.plant_text.specs.declared.token.Token.{Token};
 ghost use Rattle.plant_grammar.specs.declared.grammar.tree.Program.{Program};
 ghost use Rattle.plant_grammar.specs.Grammar.{Tree, program_words, words_of};
+ghost use Rattle.plant_grammar.specs.WellFormed.{is_plain};
 ghost use Rattle.plant_grammar.specs.Parts.{program_parts, IsSameTree};
 
 /// The words of a plant of at most 64 program types stand where a plant's text may have them.
 pub fn words_are_in_place()
     ensures { (tree : Tree) → length tree.programs ≤ 64 → AreWordsInPlace (words_of tree) }
+{}
+
+/// So do further words behind them, no body among these.
+pub fn words_behind_are_in_place()
+    ensures { (tree : Tree) (more : List Token) → length tree.programs ≤ 64 → list_all is_plain more ≡ true → AreWordsInPlace (words_of tree ++ more) }
 {}
 
 /// Two trees that begin the same words say the same, and the same stands behind them.

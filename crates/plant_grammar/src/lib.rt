@@ -17,6 +17,8 @@ pub use grammar::tree::{
     VarBlock,
 };
 pub use grammar_fault::{GrammarFault, GrammarFaultKind};
-pub use laws::{programs_are_the_first, words_are_in_place, words_have_one_tree};
+pub use laws::{
+    programs_are_the_first, words_are_in_place, words_behind_are_in_place, words_have_one_tree,
+};
 pub use names::is_named;
 pub use spaces::kind_of_space;

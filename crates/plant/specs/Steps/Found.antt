@@ -1,8 +1,8 @@
 -- What is found under a name, or in a place.
 use Rattle.std.specs.Prelude.{ℕ, List, Option, MatchOption}
 use Rattle.plant_grammar.specs.Names.{IsAt}
-use Rattle.plant_grammar.specs.NameFaults.{Tells}
 use Rattle.plant_grammar.specs.declared.grammar_fault.GrammarFaultKind.{GrammarFaultKind}
+use Rattle.plant_grammar.specs.declared.grammar_fault.GrammarFaultKind.TheVariants as kind
 
 -- what is found are two things of which this holds; it is none only where it holds of no two
 abbrev pub FindsBoth : {A B : Type 0} → (A → B → Type 0) → Option (A × B) → Type 0
@@ -13,6 +13,12 @@ abbrev pub FindsAt : {A : Type 0} → (A → List ℕ) → List A → List ℕ �
 FindsAt {A} name_of xs name found =
     MatchOption found ((k : ℕ) (x : A) → IsAt name_of xs name k x → ⊥) (λ k. (x : A) × IsAt name_of xs name k x)
 
--- of the kinds of faults of a word, those of a source are UnknownName and WrongKind
+-- what may be told of a source: UnknownName or WrongKind, or want of memory
 abbrev pub TellsOfSource : GrammarFaultKind → Type 0
-TellsOfSource k = Tells k ⊥ (Unit {0}) (Unit {0}) ⊥ ⊥
+TellsOfSource kind.Syntax = ⊥
+TellsOfSource kind.NameTwice = ⊥
+TellsOfSource kind.UnknownName = Unit {0}
+TellsOfSource kind.WrongKind = Unit {0}
+TellsOfSource kind.InputBoundTwice = ⊥
+TellsOfSource kind.TooMany = ⊥
+TellsOfSource kind.Memory = Unit {0}

@@ -1,8 +1,8 @@
 //! Whether a name is declared already, without regard to case.
 
-ghost use Rattle.std.specs.Prelude.{◌≡◌, ◌↔◌, IsTrue, IsFalse, Any, OnOk, IfErr, length};
+ghost use Rattle.std.specs.Prelude.{◌≡◌, ◌≢◌, ◌↔◌, IsTrue, IsFalse, Any, OnOk, IfErr, length};
 ghost use Rattle.plant_grammar.specs.WordFaults.{IsGrammarFault};
-ghost use Rattle.plant_grammar.specs.declared.grammar_fault.GrammarFaultKind.TheVariants.{NameTwice, TooMany};
+ghost use Rattle.plant_grammar.specs.declared.grammar_fault.GrammarFaultKind.TheVariants.{NameTwice, Syntax, TooMany};
 ghost use Rattle.std.specs.List.{flat_map, find};
 ghost use Rattle.std.specs.Option.{option_map};
 ghost use Rattle.plant_grammar.specs.NameFaults.{TellsOfName};
@@ -24,6 +24,7 @@ pub fn check_new(name: &Name, is_twice: bool, is_full: bool) -> Result<(), Gramm
     ensures twice { IfErr result (λ e. IsTrue is_twice → e.kind ≡ NameTwice) }
     ensures full { IfErr result (λ e. IsFalse is_twice → IsTrue is_full × (e.kind ≡ TooMany)) }
     ensures tells { IfErr result (λ e. TellsOfName e.kind (IsTrue is_twice) (IsTrue is_full)) }
+    ensures named { IfErr result (λ e. e.kind ≢ Syntax) }
     ensures value { IfErr result IsGrammarFault }
 {
     if is_twice {

@@ -11,12 +11,13 @@ ghost use Rattle.plant_grammar.specs.declared.grammar.tree.TypeName.{TypeName};
 ghost use Rattle.plant_grammar.specs.declared.grammar.tree.NameList.{NameList};
 ghost use Rattle.plant_grammar.specs.declared.grammar.tree.VarBlock.{VarBlock};
 ghost use Rattle.plant_grammar.specs.declared.grammar.tree.Program.{Program};
-ghost use Rattle.plant_grammar.specs.declared.grammar_fault.GrammarFaultKind.TheVariants.{Memory};
+ghost use Rattle.plant_grammar.specs.declared.grammar_fault.GrammarFaultKind.TheVariants.{Memory, Syntax};
 ghost use Rattle.plant_text.specs.declared.token.Keyword.TheVariants as key;
 ghost use Rattle.plant_text.specs.declared.token.Punctuation.TheVariants.{Colon, Semicolon};
 ghost use Rattle.plant_grammar.specs.Steps.Refusing.{MayBeDeclared};
 ghost use Rattle.plant_grammar.specs.Grammar.{key_word, mark_word, section_words, kind_word, type_word, name_words, list_words, lists_words, block_words, program_words};
 ghost use Rattle.plant_grammar.specs.Lawful.{list_variables, lists_variables, block_variables, IsTypeLawful, IsListLawful, IsBlockLawful, IsProgramLawful};
+ghost use Rattle.plant_grammar.specs.WellFormed.{HasNames, IsBlockWellFormed, IsProgramWellFormed};
 ghost use Rattle.plant_grammar.specs.NameFaults.{TellsOfName, RefusesVariable, RefusesOneList, RefusesList, RefusesBlock, RefusesBlocks, RefusesProgram, RefusesPrograms};
 ghost use Rattle.plant_grammar.specs.Steps.Declaring.{TellsOfType, TellsOfVariable, TellsOfBlock, BeginRefused};
 ghost use Rattle.plant_grammar.specs.Steps.Lines.{next_line, IsNotNext, IsOneNext, IsNoneNext};
@@ -50,6 +51,7 @@ impl<'a> Reader<'a> {
         ensures bodies { OnOk result (self.new.bodies ≡ self.old.bodies) }
         ensures other { IfErr result (λ e. e.kind ≢ Memory → (name : List ℕ) (rest : List Token) → self.old.words ≡ token.Name name ∷ rest → (IsDeclared variables.now name → ⊥) → IsNew (λ n. n) before.now name → length variables.now + length before.now < 1000 → ⊥) }
         ensures tells { IfErr result (TellsOfVariable variables.now before.now self.old.words) }
+        ensures syntax { IfErr result (λ e. e.kind ≡ Syntax → IsNoneNext token.Name self.old.words) }
         ensures value { IfErr result IsGrammarFault }
     {
         let name = self.name(alloc)?;
@@ -58,7 +60,7 @@ impl<'a> Reader<'a> {
     }
 
     /// Names with commas between them.
-    #[tactic(auto, using(crate::proofs::RefusedNames::no_name, crate::proofs::RefusedNames::memory_no_name))]
+    #[tactic(auto, using(crate::proofs::RefusedNames::no_name, crate::proofs::RefusedNames::memory_no_name, crate::proofs::MissingWords::memory_no_syntax))]
     fn names(&mut self, alloc: Global, variables: &Variables) -> Result<Vec<Name>, GrammarFault>
         ensures ok { IfOk result (λ names. self.old.words ≡ name_words names.items ++ self.new.words) }
         ensures bodies { OnOk result (self.new.bodies ≡ self.old.bodies) }
@@ -66,6 +68,7 @@ impl<'a> Reader<'a> {
         ensures other { IfErr result (λ e. e.kind ≢ Memory → (ns : List (List ℕ)) (rest : List Token) → self.old.words ≡ name_words ns ++ mark_word Colon ∷ rest → 0 < length ns → MayBeDeclared variables.now ns → ⊥) }
         ensures only { IfOk result (λ names. (ns : List (List ℕ)) (rest : List Token) → self.old.words ≡ name_words ns ++ mark_word Colon ∷ rest → 0 < length ns → (names.items ≡ ns) × (self.new.words ≡ mark_word Colon ∷ rest)) }
         ensures names { IfErr result (BeginRefused (λ k. RefusesVariable k variables.now) self.old.words) }
+        ensures syntax { IfErr result (λ e. e.kind ≡ Syntax → (ns : List (List ℕ)) (rest : List Token) → self.old.words ≡ name_words ns ++ mark_word Colon ∷ rest → 0 < length ns → ⊥) }
         ensures value { IfErr result IsGrammarFault }
     {
         let mut names = Vec::new(alloc);
@@ -105,6 +108,7 @@ impl<'a> Reader<'a> {
         ensures other { OnErr result ((t : TypeName) (rest : List Token) → self.old.words ≡ type_word t ∷ rest → IsTypeLawful section t → ⊥) }
         ensures only { OnOk result ((t : TypeName) (rest : List Token) → self.old.words ≡ type_word t ∷ rest → rest ≡ self.new.words) }
         ensures tells { IfErr result (TellsOfBlock section self.old.words) }
+        ensures syntax { IfErr result (λ e. e.kind ≡ Syntax → IsNoneNext type_word self.old.words) }
         ensures value { IfErr result IsGrammarFault }
     {
         if !self.sees_block_type() {
@@ -117,7 +121,7 @@ impl<'a> Reader<'a> {
     }
 
     /// A list of names of one type. They are declared.
-    #[tactic(auto, using(crate::proofs::RefusedNames::no_name, crate::proofs::RefusedNames::memory_no_name), unfolding(crate::specs::Grammar::list_words))]
+    #[tactic(auto, using(crate::proofs::RefusedNames::no_name, crate::proofs::RefusedNames::memory_no_name, crate::proofs::MissingWords::memory_no_syntax), unfolding(crate::specs::Grammar::list_words))]
     fn list(
         &mut self,
         alloc: Global,
@@ -130,6 +134,7 @@ impl<'a> Reader<'a> {
         ensures lawful { IfOk result (λ l. IsListLawful section l) }
         ensures other { IfErr result (λ e. e.kind ≢ Memory → (ns : List (List ℕ)) (t : TypeName) (rest : List Token) → self.old.words ≡ name_words ns ++ mark_word Colon ∷ type_word t ∷ mark_word Semicolon ∷ rest → 0 < length ns → IsTypeLawful section t → MayBeDeclared variables.old ns → ⊥) }
         ensures names { IfErr result (BeginRefused (RefusesOneList section variables.old) self.old.words) }
+        ensures syntax { IfErr result (λ e. e.kind ≡ Syntax → (ns : List (List ℕ)) (t : TypeName) (rest : List Token) → self.old.words ≡ name_words ns ++ mark_word Colon ∷ type_word t ∷ mark_word Semicolon ∷ rest → 0 < length ns → ⊥) }
         ensures value { IfErr result IsGrammarFault }
     {
         let names = self.names(alloc, variables)?;
@@ -142,7 +147,7 @@ impl<'a> Reader<'a> {
     }
 
     /// The lists of a block, up to its end. They are declared.
-    #[tactic(auto, using(crate::proofs::RefusedNames::no_name, crate::proofs::RefusedNames::memory_no_name, crate::proofs::WordLists::list_has_words))]
+    #[tactic(auto, using(crate::proofs::RefusedNames::no_name, crate::proofs::RefusedNames::memory_no_name, crate::proofs::MissingWords::memory_no_syntax, crate::proofs::WordLists::list_has_words))]
     fn lists(
         &mut self,
         alloc: Global,
@@ -155,6 +160,7 @@ impl<'a> Reader<'a> {
         ensures lawful { IfOk result (λ ls. All (IsListLawful section) ls.items) }
         ensures other { IfErr result (λ e. e.kind ≢ Memory → (ls : List NameList) (rest : List Token) → self.old.words ≡ lists_words ls ++ rest → All (IsListLawful section) ls → AreVariables (variables.old ++ lists_variables section ls) → ⊥) }
         ensures names { IfErr result (BeginRefused (λ k. RefusesList k section variables.old) self.old.words) }
+        ensures syntax { IfErr result (λ e. e.kind ≡ Syntax → (ls : List NameList) (rest : List Token) → self.old.words ≡ lists_words ls ++ rest → All HasNames ls → ⊥) }
         ensures value { IfErr result IsGrammarFault }
     {
         let mut lists = Vec::new(alloc);
@@ -202,7 +208,7 @@ impl<'a> Reader<'a> {
     }
 
     /// A block. Its names are declared.
-    #[tactic(auto, using(crate::proofs::RefusedNames::no_name, crate::proofs::RefusedNames::memory_no_name), unfolding(crate::specs::Grammar::block_words))]
+    #[tactic(auto, using(crate::proofs::RefusedNames::no_name, crate::proofs::RefusedNames::memory_no_name, crate::proofs::MissingWords::memory_no_syntax), unfolding(crate::specs::Grammar::block_words))]
     fn block(&mut self, alloc: Global, variables: &mut Variables) -> Result<VarBlock, GrammarFault>
         ensures ok { IfOk result (λ b. self.old.words ≡ block_words b ++ self.new.words) }
         ensures bodies { OnOk result (self.new.bodies ≡ self.old.bodies) }
@@ -210,6 +216,7 @@ impl<'a> Reader<'a> {
         ensures lawful { IfOk result (λ b. IsBlockLawful b) }
         ensures other { IfErr result (λ e. e.kind ≢ Memory → (s : Section) (ls : List NameList) (rest : List Token) → self.old.words ≡ section_words s ++ (lists_words ls ++ rest) → All (IsListLawful s) ls → AreVariables (variables.old ++ lists_variables s ls) → ⊥) }
         ensures names { IfErr result (BeginRefused (λ k. RefusesBlock k variables.old) self.old.words) }
+        ensures syntax { IfErr result (λ e. e.kind ≡ Syntax → (s : Section) (ls : List NameList) (rest : List Token) → self.old.words ≡ section_words s ++ (lists_words ls ++ rest) → All HasNames ls → ⊥) }
         ensures value { IfErr result IsGrammarFault }
     {
         let section = self.section()?;
@@ -218,7 +225,7 @@ impl<'a> Reader<'a> {
     }
 
     /// The blocks of a program. Their names are declared.
-    #[tactic(auto, using(crate::proofs::RefusedNames::no_name, crate::proofs::RefusedNames::memory_no_name, crate::proofs::WordLists::block_has_words))]
+    #[tactic(auto, using(crate::proofs::RefusedNames::no_name, crate::proofs::RefusedNames::memory_no_name, crate::proofs::MissingWords::memory_no_syntax, crate::proofs::WordLists::block_has_words))]
     fn blocks(
         &mut self,
         alloc: Global,
@@ -231,6 +238,7 @@ impl<'a> Reader<'a> {
         ensures none { OnOk result (IsNoneNext section_start self.new.words) }
         ensures other { IfErr result (λ e. e.kind ≢ Memory → (bs : List VarBlock) (rest : List Token) → self.old.words ≡ flat_map block_words bs ++ rest → IsNoneNext section_start rest → All IsBlockLawful bs → AreVariables (variables.old ++ flat_map block_variables bs) → ⊥) }
         ensures names { IfErr result (BeginRefused (λ k. RefusesBlocks k variables.old) self.old.words) }
+        ensures syntax { IfErr result (λ e. e.kind ≡ Syntax → (bs : List VarBlock) (rest : List Token) → self.old.words ≡ flat_map block_words bs ++ rest → IsNoneNext section_start rest → All IsBlockWellFormed bs → ⊥) }
         ensures value { IfErr result IsGrammarFault }
     {
         let mut blocks = Vec::new(alloc);
@@ -249,6 +257,7 @@ impl<'a> Reader<'a> {
         ensures few { OnOk result (length before.now < 64) }
         ensures other { IfErr result (λ e. e.kind ≢ Memory → (name : List ℕ) (rest : List Token) → self.old.words ≡ token.Name name ∷ rest → IsNew (λ p. p.name) (programs_of before.now) name → length before.now < 64 → ⊥) }
         ensures tells { IfErr result (TellsOfType before.now self.old.words) }
+        ensures syntax { IfErr result (λ e. e.kind ≡ Syntax → IsNoneNext token.Name self.old.words) }
         ensures value { IfErr result IsGrammarFault }
     {
         let name = self.name(alloc)?;
@@ -265,6 +274,7 @@ impl<'a> Reader<'a> {
         ensures few { OnOk result (length before.now < 64) }
         ensures other { IfErr result (λ e. e.kind ≢ Memory → (name : List ℕ) (rest : List Token) → self.old.words ≡ key_word key.Program ∷ token.Name name ∷ rest → IsNew (λ p. p.name) (programs_of before.now) name → length before.now < 64 → ⊥) }
         ensures names { IfErr result (BeginRefused (λ k. RefusesProgram k (programs_of before.now)) self.old.words) }
+        ensures syntax { IfErr result (λ e. e.kind ≡ Syntax → (name : List ℕ) (rest : List Token) → self.old.words ≡ key_word key.Program ∷ token.Name name ∷ rest → ⊥) }
         ensures value { IfErr result IsGrammarFault }
     {
         self.keyword(Keyword::Program)?;
@@ -285,7 +295,7 @@ impl<'a> Reader<'a> {
     }
 
     /// A program type, behind these. Its body isn't drawn.
-    #[tactic(auto, using(crate::proofs::RefusedNames::no_name, crate::proofs::RefusedNames::memory_no_name), unfolding(crate::specs::Grammar::program_words))]
+    #[tactic(auto, using(crate::proofs::RefusedNames::no_name, crate::proofs::RefusedNames::memory_no_name, crate::proofs::MissingWords::memory_no_syntax), unfolding(crate::specs::Grammar::program_words))]
     fn program(
         &mut self,
         alloc: Global,
@@ -298,6 +308,7 @@ impl<'a> Reader<'a> {
         ensures declared { IfOk result (λ p. IsProgramLawful p.program) }
         ensures other { IfErr result (λ e. e.kind ≢ Memory → (p : Program) (rest : List Token) → self.old.words ≡ program_words p ++ rest → IsNew (λ p. p.name) (programs_of before.now) p.name → length before.now < 64 → IsProgramLawful p → ⊥) }
         ensures names { IfErr result (BeginRefused (λ k. RefusesProgram k (programs_of before.now)) self.old.words) }
+        ensures syntax { IfErr result (λ e. e.kind ≡ Syntax → (p : Program) (rest : List Token) → self.old.words ≡ program_words p ++ rest → IsProgramWellFormed p → ⊥) }
         ensures value { IfErr result IsGrammarFault }
     {
         let name = self.program_start(alloc, before)?;
@@ -310,7 +321,7 @@ impl<'a> Reader<'a> {
     }
 
     /// The program types, their bodies not drawn. They are added to `texts`; after a fault, those before it.
-    #[tactic(auto, using(crate::proofs::RefusedNames::no_name, crate::proofs::RefusedNames::memory_no_name, crate::proofs::WordLists::program_has_words))]
+    #[tactic(auto, using(crate::proofs::RefusedNames::no_name, crate::proofs::RefusedNames::memory_no_name, crate::proofs::MissingWords::memory_no_syntax, crate::proofs::WordLists::program_has_words))]
     pub fn programs(
         &mut self,
         alloc: Global,
@@ -325,6 +336,7 @@ impl<'a> Reader<'a> {
         ensures none { OnOk result (IsNotNext (key_word key.Program) self.new.words) }
         ensures other { IfErr result (λ e. e.kind ≢ Memory → (ps : List Program) (rest : List Token) → all_words texts.old.items self.old.words ≡ flat_map program_words ps ++ rest → IsNotNext (key_word key.Program) rest → AreProgramsDeclared ps → ⊥) }
         ensures names { IfErr result (BeginRefused RefusesPrograms (all_words texts.old.items self.old.words)) }
+        ensures syntax { IfErr result (λ e. e.kind ≡ Syntax → (ps : List Program) (rest : List Token) → all_words texts.old.items self.old.words ≡ flat_map program_words ps ++ rest → IsNotNext (key_word key.Program) rest → All IsProgramWellFormed ps → ⊥) }
         ensures value { IfErr result IsGrammarFault }
     {
         'programs: while self.sees_keyword(Keyword::Program) {

@@ -15,12 +15,14 @@ ghost use Rattle.plant_grammar.specs.declared.grammar.tree.Item.{Item};
 ghost use Rattle.plant_grammar.specs.declared.grammar.tree.Resource.{Resource};
 ghost use Rattle.plant_grammar.specs.declared.grammar.tree.SourceName.{SourceName};
 ghost use Rattle.plant_grammar.specs.declared.grammar.tree.SourceName.TheVariants as source;
-ghost use Rattle.plant_grammar.specs.declared.grammar_fault.GrammarFaultKind.TheVariants.{Memory};
+ghost use Rattle.plant_grammar.specs.declared.grammar_fault.GrammarFaultKind.TheVariants.{Memory, Syntax};
 ghost use Rattle.plant_text.specs.declared.token.Keyword.TheVariants.{Program, With};
 ghost use Rattle.plant_text.specs.declared.token.Punctuation.TheVariants.{Colon, Semicolon};
 ghost use Rattle.plant_grammar.specs.Grammar.{key_word, mark_word, interval_words, priority_words, settings, task_words, source_words, bind_words, binds_words, binds_listed, use_words, item_words, items_words, resource_words, resources_words};
 ghost use Rattle.plant_grammar.specs.Names.{is_named, AreNamesApart};
 ghost use Rattle.plant_grammar.specs.Lawful.{variables, task_of, use_of, uses_of, IsUseLawful, IsResourceLawful};
+ghost use Rattle.plant_grammar.specs.WellFormed.{AreIntervalsPositive, IsResourceWellFormed};
+ghost use Rattle.plant_grammar.specs.Steps.Lines.{IsNoneNext};
 ghost use Rattle.plant_grammar.specs.NameFaults.{TellsOfName, RefusesTask, RefusesOneBind, RefusesBind};
 ghost use Rattle.plant_grammar.specs.Steps.Declaring.{TellsOfTask, TellsOfInstance, TellsOfMissing, TellsOfMissingBehind, TellsOfInput, TellsOfAddress, TellsOfResource, BeginRefused, RefusesFurtherInstance, RefusesItem, RefusesFurtherItems, RefusesFurtherResource, RefusesFurtherResources, RefusesInParentheses};
 ghost use Rattle.plant_grammar.specs.Steps.ReadParts.{types_alone, with_instance, with_binds, tally_with, EndWithBinds, bound_in, IsNew, MayFollow, AreItemsLawful, AreResourcesLawful};
@@ -110,6 +112,7 @@ impl<'a> Reader<'a> {
         ensures few { OnOk result (length (flat_map task_of before.now) < 16) }
         ensures other { IfErr result (λ e. e.kind ≢ Memory → (name : List ℕ) (rest : List Token) → self.old.words ≡ token.Name name ∷ rest → IsNew (λ t. t.name) (flat_map task_of before.now) name → length (flat_map task_of before.now) < 16 → ⊥) }
         ensures tells { IfErr result (TellsOfTask before.now self.old.words) }
+        ensures syntax { IfErr result (λ e. e.kind ≡ Syntax → IsNoneNext token.Name self.old.words) }
         ensures value { IfErr result IsGrammarFault }
     {
         let name = self.name(alloc)?;
@@ -122,7 +125,7 @@ impl<'a> Reader<'a> {
     }
 
     /// A task, behind these lines of its resource.
-    #[tactic(auto, using(crate::proofs::RefusedNames::no_name, crate::proofs::RefusedNames::memory_no_name), unfolding(crate::specs::Grammar::task_words))]
+    #[tactic(auto, using(crate::proofs::RefusedNames::no_name, crate::proofs::RefusedNames::memory_no_name, crate::proofs::MissingWords::memory_no_syntax), unfolding(crate::specs::Grammar::task_words))]
     fn task(&mut self, alloc: Global, before: &[Item]) -> Result<TaskLine, GrammarFault>
         ensures ok { IfOk result (λ t. self.old.words ≡ task_words t ++ self.new.words) }
         ensures new { IfOk result (λ t. IsNew (λ t. t.name) (flat_map task_of before.now) t.name) }
@@ -130,6 +133,7 @@ impl<'a> Reader<'a> {
         ensures positive { IfOk result (λ t. 0 < t.interval) }
         ensures other { IfErr result (λ e. e.kind ≢ Memory → (t : TaskLine) (rest : List Token) → self.old.words ≡ task_words t ++ rest → IsNew (λ t. t.name) (flat_map task_of before.now) t.name → length (flat_map task_of before.now) < 16 → 0 < t.interval → ⊥) }
         ensures names { IfErr result (BeginRefused (λ k. RefusesTask k before.now) self.old.words) }
+        ensures syntax { IfErr result (λ e. e.kind ≡ Syntax → (t : TaskLine) (rest : List Token) → self.old.words ≡ task_words t ++ rest → 0 < t.interval → ⊥) }
         ensures value { IfErr result IsGrammarFault }
     {
         self.keyword(Keyword::Task)?;
@@ -152,6 +156,7 @@ impl<'a> Reader<'a> {
         ensures kind { IfOk result (λ a. kind_of_space a.space ≡ kind) }
         ensures other { OnErr result ((a : Address) (rest : List Token) → self.old.words ≡ token.Address a ∷ rest → kind_of_space a.space ≡ kind → ⊥) }
         ensures tells { IfErr result (TellsOfAddress kind self.old.words) }
+        ensures syntax { IfErr result (λ e. e.kind ≡ Syntax → IsNoneNext token.Address self.old.words) }
         ensures value { IfErr result IsGrammarFault }
     {
         let other = GrammarFault::at(GrammarFaultKind::WrongKind, self.line());
@@ -189,6 +194,7 @@ impl<'a> Reader<'a> {
         ensures kind { IfOk result (HasFieldKind kind) }
         ensures other { IfErr result (λ e. e.kind ≢ Memory → (s : SourceName) (rest : List Token) → self.old.words ≡ source_words s ++ rest → HasFieldKind kind s → ⊥) }
         ensures tells { IfErr result (TellsOfAddress kind self.old.words) }
+        ensures syntax { IfErr result (λ e. e.kind ≡ Syntax → (s : SourceName) (rest : List Token) → self.old.words ≡ source_words s ++ rest → ⊥) }
         ensures value { IfErr result IsGrammarFault }
     {
         if self.sees_address() {
@@ -212,6 +218,7 @@ impl<'a> Reader<'a> {
         ensures tally { OnOk result (tally.new ≡ with_binds tally.old 1) }
         ensures other { IfErr result (λ e. e.kind ≢ Memory → (name : List ℕ) (k : Kind) (rest : List Token) → self.old.words ≡ token.Name name ∷ rest → input_kind_of (variables program.now.program) name ≡ Some k → IsNew (λ b. b.input) before.now name → tally.old.binds < 4096 → ⊥) }
         ensures tells { IfErr result (TellsOfInput tally.old.binds (variables program.now.program) before.now self.old.words) }
+        ensures syntax { IfErr result (λ e. e.kind ≡ Syntax → IsNoneNext token.Name self.old.words) }
         ensures value { IfErr result IsGrammarFault }
     {
         let input = self.name(alloc)?;
@@ -240,6 +247,7 @@ impl<'a> Reader<'a> {
         ensures tally { OnOk result (tally.new ≡ with_binds tally.old 1) }
         ensures other { IfErr result (λ e. e.kind ≢ Memory → (b : Bind) (rest : List Token) → self.old.words ≡ bind_words b ++ rest → IsOfInputKind (variables program.now.program) b → IsNew (λ b. b.input) before.now b.input → tally.old.binds < 4096 → ⊥) }
         ensures names { IfErr result (BeginRefused (RefusesOneBind tally.old.binds (variables program.now.program) before.now) self.old.words) }
+        ensures syntax { IfErr result (λ e. e.kind ≡ Syntax → (b : Bind) (rest : List Token) → self.old.words ≡ bind_words b ++ rest → ⊥) }
         ensures value { IfErr result IsGrammarFault }
     {
         let (input, kind) = self.bound_input(alloc, program, before, tally)?;
@@ -249,7 +257,7 @@ impl<'a> Reader<'a> {
     }
 
     /// The binds of an instance of a type, up to the parenthesis that closes them.
-    #[tactic(auto, using(crate::proofs::RefusedNames::no_name, crate::proofs::RefusedNames::memory_no_name))]
+    #[tactic(auto, using(crate::proofs::RefusedNames::no_name, crate::proofs::RefusedNames::memory_no_name, crate::proofs::MissingWords::memory_no_syntax))]
     fn binds(
         &mut self,
         alloc: Global,
@@ -262,6 +270,7 @@ impl<'a> Reader<'a> {
         ensures tally { IfOk result (λ binds. tally.new ≡ with_binds tally.old (length binds.items)) }
         ensures other { IfErr result (λ e. e.kind ≢ Memory → (bs : List Bind) (rest : List Token) → EndWithBinds bs self.old.words rest → AreNamesApart (map (λ b. b.input) bs) → All (IsOfInputKind (variables program.now.program)) bs → tally.old.binds + length bs ≤ 4096 → ⊥) }
         ensures names { IfErr result (BeginRefused (λ k. RefusesBind k tally.old.binds (variables program.now.program)) self.old.words) }
+        ensures syntax { IfErr result (λ e. e.kind ≡ Syntax → (bs : List Bind) (rest : List Token) → EndWithBinds bs self.old.words rest → ⊥) }
         ensures value { IfErr result IsGrammarFault }
     {
         let mut binds = Vec::new(alloc);
@@ -277,7 +286,7 @@ impl<'a> Reader<'a> {
     }
 
     /// The binds of an instance of a type. There may be no parentheses.
-    #[tactic(auto, using(crate::proofs::RefusedNames::no_name, crate::proofs::RefusedNames::memory_no_name))]
+    #[tactic(auto, using(crate::proofs::RefusedNames::no_name, crate::proofs::RefusedNames::memory_no_name, crate::proofs::MissingWords::memory_no_syntax))]
     fn some_binds(
         &mut self,
         alloc: Global,
@@ -291,6 +300,7 @@ impl<'a> Reader<'a> {
         ensures other { IfErr result (λ e. e.kind ≢ Memory → (bs : Option (List Bind)) (rest : List Token) → self.old.words ≡ binds_words bs ++ mark_word Semicolon ∷ rest → AreNamesApart (map (λ b. b.input) (items_or_none bs)) → All (IsOfInputKind (variables program.now.program)) (items_or_none bs) → tally.old.binds + length (items_or_none bs) ≤ 4096 → ⊥) }
         ensures only { OnOk result ((bs : Option (List Bind)) (rest : List Token) → self.old.words ≡ binds_words bs ++ mark_word Semicolon ∷ rest → self.new.words ≡ mark_word Semicolon ∷ rest) }
         ensures names { IfErr result (BeginRefused (RefusesInParentheses tally.old.binds (variables program.now.program)) self.old.words) }
+        ensures syntax { IfErr result (λ e. e.kind ≡ Syntax → (bs : Option (List Bind)) (rest : List Token) → self.old.words ≡ binds_words bs ++ mark_word Semicolon ∷ rest → ⊥) }
         ensures value { IfErr result IsGrammarFault }
     {
         if self.sees_punctuation(Punctuation::Open) {
@@ -313,6 +323,7 @@ impl<'a> Reader<'a> {
         ensures tally { OnOk result (tally.new ≡ with_instance tally.old) }
         ensures other { IfErr result (λ e. e.kind ≢ Memory → (name : List ℕ) (rest : List Token) → self.old.words ≡ token.Name name ∷ rest → IsNew (λ u. u.instance) (flat_map use_of before.now) name → tally.old.instances < 64 → ⊥) }
         ensures tells { IfErr result (TellsOfInstance before.now tally.old.instances self.old.words) }
+        ensures syntax { IfErr result (λ e. e.kind ≡ Syntax → IsNoneNext token.Name self.old.words) }
         ensures value { IfErr result IsGrammarFault }
     {
         let name = self.name(alloc)?;
@@ -327,6 +338,7 @@ impl<'a> Reader<'a> {
         ensures known { IfOk result (λ name. Any (λ t. IsTrue (is_named name t.name)) (flat_map task_of before.now)) }
         ensures other { IfErr result (λ e. e.kind ≢ Memory → (name : List ℕ) (rest : List Token) → self.old.words ≡ token.Name name ∷ rest → Any (λ t. IsTrue (is_named name t.name)) (flat_map task_of before.now) → ⊥) }
         ensures tells { IfErr result (TellsOfMissing (λ t. t.name) (flat_map task_of before.now) self.old.words) }
+        ensures syntax { IfErr result (λ e. e.kind ≡ Syntax → IsNoneNext token.Name self.old.words) }
         ensures value { IfErr result IsGrammarFault }
     {
         let name = self.name(alloc)?;
@@ -350,6 +362,7 @@ impl<'a> Reader<'a> {
         ensures tally { OnOk result (tally.new ≡ with_instance tally.old) }
         ensures other { IfErr result (λ e. e.kind ≢ Memory → (name : List ℕ) (rest : List Token) → self.old.words ≡ key_word Program ∷ token.Name name ∷ rest → IsNew (λ u. u.instance) (flat_map use_of before.now) name → tally.old.instances < 64 → ⊥) }
         ensures names { (programs : List ProgramTree) → IfErr result (BeginRefused (RefusesFurtherInstance tally.old programs before.now) self.old.words) }
+        ensures syntax { IfErr result (λ e. e.kind ≡ Syntax → (name : List ℕ) (rest : List Token) → self.old.words ≡ key_word Program ∷ token.Name name ∷ rest → ⊥) }
         ensures value { IfErr result IsGrammarFault }
     {
         self.keyword(Keyword::Program)?;
@@ -362,6 +375,7 @@ impl<'a> Reader<'a> {
         ensures known { IfOk result (λ name. Any (λ t. IsTrue (is_named name t.name)) (flat_map task_of before.now)) }
         ensures other { IfErr result (λ e. e.kind ≢ Memory → (name : List ℕ) (rest : List Token) → self.old.words ≡ key_word With ∷ token.Name name ∷ rest → Any (λ t. IsTrue (is_named name t.name)) (flat_map task_of before.now) → ⊥) }
         ensures tells { IfErr result (TellsOfMissingBehind (key_word With) (λ t. t.name) (flat_map task_of before.now) self.old.words) }
+        ensures syntax { IfErr result (λ e. e.kind ≡ Syntax → (name : List ℕ) (rest : List Token) → self.old.words ≡ key_word With ∷ token.Name name ∷ rest → ⊥) }
         ensures value { IfErr result IsGrammarFault }
     {
         self.keyword(Keyword::With)?;
@@ -378,6 +392,7 @@ impl<'a> Reader<'a> {
         ensures found { IfOk result (λ p. find (λ t. is_named p.0 t.program.name) types.now ≡ Some p.1.now) }
         ensures other { IfErr result (λ e. e.kind ≢ Memory → (name : List ℕ) (rest : List Token) → self.old.words ≡ mark_word Colon ∷ token.Name name ∷ rest → find (λ t. is_named name t.program.name) types.now ≢ None → ⊥) }
         ensures tells { IfErr result (TellsOfMissingBehind (mark_word Colon) (λ p. p.name) (programs_of types.now) self.old.words) }
+        ensures syntax { IfErr result (λ e. e.kind ≡ Syntax → (name : List ℕ) (rest : List Token) → self.old.words ≡ mark_word Colon ∷ token.Name name ∷ rest → ⊥) }
         ensures value { IfErr result IsGrammarFault }
     {
         self.punctuation(Punctuation::Colon)?;
@@ -389,7 +404,7 @@ impl<'a> Reader<'a> {
     }
 
     /// A program instance, behind these lines of its resource.
-    #[tactic(auto, using(crate::proofs::RefusedNames::no_name, crate::proofs::RefusedNames::memory_no_name), unfolding(crate::specs::Grammar::use_words))]
+    #[tactic(auto, using(crate::proofs::RefusedNames::no_name, crate::proofs::RefusedNames::memory_no_name, crate::proofs::MissingWords::memory_no_syntax), unfolding(crate::specs::Grammar::use_words))]
     fn instance(
         &mut self,
         alloc: Global,
@@ -403,6 +418,7 @@ impl<'a> Reader<'a> {
         ensures tally { IfOk result (λ u. tally.new ≡ tally_with tally.old (u ∷ [])) }
         ensures other { IfErr result (λ e. e.kind ≢ Memory → (u : Use) (rest : List Token) → self.old.words ≡ use_words u ++ rest → AreTypesApart types.now → IsNew (λ u. u.instance) (flat_map use_of before.now) u.instance → IsUseLawful (types_alone types.now) before.now u → HasRoomFor tally.old (u ∷ []) → ⊥) }
         ensures names { IfErr result (BeginRefused (RefusesFurtherInstance tally.old (programs_of types.now) before.now) self.old.words) }
+        ensures syntax { IfErr result (λ e. e.kind ≡ Syntax → (u : Use) (rest : List Token) → self.old.words ≡ use_words u ++ rest → ⊥) }
         ensures value { IfErr result IsGrammarFault }
     {
         let instance = self.instance_start(alloc, before, tally)?;
@@ -419,7 +435,7 @@ impl<'a> Reader<'a> {
     }
 
     /// A line of a resource, behind these.
-    #[tactic(auto, using(crate::proofs::RefusedNames::no_name, crate::proofs::RefusedNames::memory_no_name))]
+    #[tactic(auto, using(crate::proofs::RefusedNames::no_name, crate::proofs::RefusedNames::memory_no_name, crate::proofs::MissingWords::memory_no_syntax))]
     fn item(
         &mut self,
         alloc: Global,
@@ -432,6 +448,7 @@ impl<'a> Reader<'a> {
         ensures tally { IfOk result (λ x. tally.new ≡ tally_with tally.old (use_of x)) }
         ensures other { IfErr result (λ e. e.kind ≢ Memory → (x : Item) (rest : List Token) → self.old.words ≡ item_words x ++ rest → AreTypesApart types.now → MayFollow (types_alone types.now) before.now x → HasRoomFor tally.old (use_of x) → ⊥) }
         ensures names { IfErr result (BeginRefused (RefusesItem tally.old (programs_of types.now) before.now) self.old.words) }
+        ensures syntax { IfErr result (λ e. e.kind ≡ Syntax → (x : Item) (rest : List Token) → self.old.words ≡ item_words x ++ rest → All (λ t. 0 < t.interval) (task_of x) → ⊥) }
         ensures value { IfErr result IsGrammarFault }
     {
         if self.sees_keyword(Keyword::Task) {
@@ -442,7 +459,7 @@ impl<'a> Reader<'a> {
     }
 
     /// The lines of a resource, up to its end.
-    #[tactic(auto, using(crate::proofs::RefusedNames::no_name, crate::proofs::RefusedNames::memory_no_name, crate::proofs::WordLists::item_has_words, crate::proofs::ResourceLines::no_items))]
+    #[tactic(auto, using(crate::proofs::RefusedNames::no_name, crate::proofs::RefusedNames::memory_no_name, crate::proofs::MissingWords::memory_no_syntax, crate::proofs::WordLists::item_has_words, crate::proofs::ResourceLines::no_items))]
     fn items(
         &mut self,
         alloc: Global,
@@ -454,6 +471,7 @@ impl<'a> Reader<'a> {
         ensures tally { IfOk result (λ xs. tally.new ≡ tally_with tally.old (flat_map use_of xs.items)) }
         ensures other { IfErr result (λ e. e.kind ≢ Memory → (xs : List Item) (rest : List Token) → self.old.words ≡ items_words xs ++ rest → AreTypesApart types.now → AreItemsLawful (types_alone types.now) xs → HasRoomFor tally.old (flat_map use_of xs) → ⊥) }
         ensures names { IfErr result (BeginRefused (RefusesFurtherItems tally.old (programs_of types.now)) self.old.words) }
+        ensures syntax { IfErr result (λ e. e.kind ≡ Syntax → (xs : List Item) (rest : List Token) → self.old.words ≡ items_words xs ++ rest → AreIntervalsPositive xs → ⊥) }
         ensures value { IfErr result IsGrammarFault }
     {
         let mut items = Vec::new(alloc);
@@ -472,6 +490,7 @@ impl<'a> Reader<'a> {
         ensures few { OnOk result (length before.now < 16) }
         ensures other { IfErr result (λ e. e.kind ≢ Memory → (name : List ℕ) (rest : List Token) → self.old.words ≡ token.Name name ∷ rest → IsNew (λ r. r.name) before.now name → length before.now < 16 → ⊥) }
         ensures tells { IfErr result (TellsOfResource before.now self.old.words) }
+        ensures syntax { IfErr result (λ e. e.kind ≡ Syntax → IsNoneNext token.Name self.old.words) }
         ensures value { IfErr result IsGrammarFault }
     {
         let name = self.name(alloc)?;
@@ -484,7 +503,7 @@ impl<'a> Reader<'a> {
     }
 
     /// A resource, behind these.
-    #[tactic(auto, unfolding(crate::specs::Grammar::resource_words), using(crate::proofs::RefusedNames::no_name, crate::proofs::RefusedNames::memory_no_name, crate::proofs::ResourceLines::resource_is_lawful))]
+    #[tactic(auto, unfolding(crate::specs::Grammar::resource_words), using(crate::proofs::RefusedNames::no_name, crate::proofs::RefusedNames::memory_no_name, crate::proofs::MissingWords::memory_no_syntax, crate::proofs::ResourceLines::resource_is_lawful))]
     fn resource(
         &mut self,
         alloc: Global,
@@ -499,6 +518,7 @@ impl<'a> Reader<'a> {
         ensures tally { IfOk result (λ r. tally.new ≡ tally_with tally.old (uses_of r)) }
         ensures other { IfErr result (λ e. e.kind ≢ Memory → (r : Resource) (rest : List Token) → self.old.words ≡ resource_words r ++ rest → AreTypesApart types.now → IsNew (λ r. r.name) before.now r.name → length before.now < 16 → IsResourceLawful (types_alone types.now) r → HasRoomFor tally.old (uses_of r) → ⊥) }
         ensures names { IfErr result (BeginRefused (RefusesFurtherResource tally.old (programs_of types.now) before.now) self.old.words) }
+        ensures syntax { IfErr result (λ e. e.kind ≡ Syntax → (r : Resource) (rest : List Token) → self.old.words ≡ resource_words r ++ rest → IsResourceWellFormed r → ⊥) }
         ensures value { IfErr result IsGrammarFault }
     {
         self.keyword(Keyword::Resource)?;
@@ -510,7 +530,7 @@ impl<'a> Reader<'a> {
     }
 
     /// The resources, one at least, up to the end of the configuration.
-    #[tactic(auto, using(crate::proofs::RefusedNames::no_name, crate::proofs::RefusedNames::memory_no_name, crate::proofs::WordLists::resource_has_words, crate::proofs::ResourceLines::no_resources))]
+    #[tactic(auto, using(crate::proofs::RefusedNames::no_name, crate::proofs::RefusedNames::memory_no_name, crate::proofs::MissingWords::memory_no_syntax, crate::proofs::WordLists::resource_has_words, crate::proofs::ResourceLines::no_resources))]
     pub fn resources(
         &mut self,
         alloc: Global,
@@ -523,6 +543,7 @@ impl<'a> Reader<'a> {
         ensures tally { IfOk result (λ rs. tally.new ≡ tally_with tally.old (flat_map uses_of rs.items)) }
         ensures other { IfErr result (λ e. e.kind ≢ Memory → (rs : List Resource) (rest : List Token) → self.old.words ≡ resources_words rs ++ rest → 0 < length rs → AreTypesApart types.now → AreResourcesLawful (types_alone types.now) rs → HasRoomFor tally.old (flat_map uses_of rs) → ⊥) }
         ensures names { IfErr result (BeginRefused (RefusesFurtherResources tally.old (programs_of types.now)) self.old.words) }
+        ensures syntax { IfErr result (λ e. e.kind ≡ Syntax → (rs : List Resource) (rest : List Token) → self.old.words ≡ resources_words rs ++ rest → 0 < length rs → All IsResourceWellFormed rs → ⊥) }
         ensures value { IfErr result IsGrammarFault }
     {
         let mut resources = Vec::new(alloc);

@@ -6,7 +6,7 @@ ghost use Rattle.plant_grammar.specs.NameFaults.{IsOfName, IsNameTaken};
 ghost use Rattle.plant_grammar.specs.Steps.Declaring.{TellsOfChecked, TellsOfAdded, RefusesOneOf};
 ghost use Rattle.plant_grammar.specs.Steps.ReadParts.{AreVariables, IsNew};
 ghost use Rattle.plant_grammar.specs.Steps.Refusing.{MayBeDeclared};
-ghost use Rattle.plant_grammar.specs.declared.grammar_fault.GrammarFaultKind.TheVariants.{Memory};
+ghost use Rattle.plant_grammar.specs.declared.grammar_fault.GrammarFaultKind.TheVariants.{Memory, Syntax};
 
 use crate::grammar::known_names::check_new;
 use crate::grammar::name::Name;
@@ -91,6 +91,7 @@ impl Variables {
         ensures few { OnOk result (length self.now + length more.now < 1000) }
         ensures other { OnErr result ((IsDeclared self.now name.now → ⊥) → IsNew (λ n. n) more.now name.now → length self.now + length more.now < 1000 → ⊥) }
         ensures tells { IfErr result (TellsOfChecked self.now more.now name.now) }
+        ensures named { IfErr result (λ e. e.kind ≢ Syntax) }
         ensures value { IfErr result IsGrammarFault }
     {
         let is_full = more.len() >= MOST_NAMES - self.len();
@@ -102,6 +103,7 @@ impl Variables {
         ensures ok { OnOk result (self.new ≡ self.old ++ record { name = name.now; declared = declared } ∷ []) }
         ensures tells { IfErr result (TellsOfAdded self.old name.now) }
         ensures other { IfErr result (λ e. e.kind ≢ Memory → (IsDeclared self.old name.now → ⊥) → length self.old < 1000 → ⊥) }
+        ensures named { IfErr result (λ e. e.kind ≢ Syntax) }
         ensures value { IfErr result IsGrammarFault }
     {
         if self.declarations.len() >= MOST_NAMES {
@@ -118,11 +120,12 @@ impl Variables {
     }
 
     /// Declares the names of a list of a section.
-    #[tactic(auto, using(crate::proofs::RefusedNames::no_name, crate::proofs::RefusedNames::memory_no_name))]
+    #[tactic(auto, using(crate::proofs::RefusedNames::no_name, crate::proofs::RefusedNames::memory_no_name, crate::proofs::MissingWords::memory_no_syntax))]
     pub fn add_list(&mut self, section: Section, list: &NameList) -> Result<(), GrammarFault>
         ensures ok { OnOk result (self.new ≡ self.old ++ list_variables section list.now) }
         ensures other { IfErr result (λ e. e.kind ≢ Memory → MayBeDeclared self.old list.now.names.items → ⊥) }
         ensures names { IfErr result (λ e. IsOfName e.kind → RefusesOneOf list.now.names.items self.old e.kind) }
+        ensures named { IfErr result (λ e. e.kind ≢ Syntax) }
         ensures value { IfErr result IsGrammarFault }
     {
         let declared = declared_as(section, list.type_name);

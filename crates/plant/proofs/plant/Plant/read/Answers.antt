@@ -1,5 +1,5 @@
 use Rattle.std.proofs.Common.{◌≡◌, ◌≢◌, inl, inr, List, [], ◌++◌, All, map, ap, refl, sym, subst, ◌∙◌}
-use Rattle.std.proofs.lemmas.List.{append-nil}
+use Rattle.std.proofs.lemmas.List.{append-nil, append_cancel_right}
 use Rattle.words.specs.Lines.{without_last}
 use Rattle.plant_text.specs.declared.token.Token.{Token}
 use Rattle.plant_text.specs.declared.token.Token.TheVariants as token
@@ -14,16 +14,16 @@ use Rattle.lists.proofs.Results.{kept_fault}
 use Rattle.program_bodies.specs.Faults.{IsPlantFault, IsOfBody, IsOfDeclaredName, kind_of_word, fault_of_word}
 use Rattle.program_bodies.specs.Ladders.{IsLadderOf}
 use Rattle.program_bodies.specs.ProgramTypes.{TypeValue}
-use Rattle.plant.specs.Faultless.{AreBindsFed}
-use Rattle.program_bodies.specs.declared.plant_fault.PlantFaultKind.TheVariants.{Memory}
+use Rattle.plant.specs.Faultless.{AreBindsFed, IsTreeFaultless}
+use Rattle.program_bodies.specs.declared.plant_fault.PlantFaultKind.TheVariants.{Memory, Syntax}
 use Rattle.plant_grammar.specs.Steps.Reading.{programs_of}
-use Rattle.plant.specs.PlantText.{IsNoPlant, IsBodyFaultIn, IsNameFaultIn}
+use Rattle.plant.specs.PlantText.{IsNoPlant, HasFaultlessWords, IsNotOfGrammar, IsBodyFaultIn, IsNameFaultIn}
 use Rattle.plant.proofs.SameTrees.{ladders_same, sources_same}
 use Rattle.plant.specs.StandsFor.{IsPlantOf}
 use Rattle.plant.specs.Steps.Reading.{ReadingValue, tree_of}
 use Rattle.plant.proofs.BodyCounts.{begun_by_programs}
 use Rattle.plant.proofs.DrawnTrees.{drawn_tree, drawn_have_ladders}
-use Rattle.plant.proofs.WordFaults.{plant_of_word, no_body, of_name, no_name, source_kind, memory_no_body, memory_no_name, body_no_name}
+use Rattle.plant.proofs.WordFaults.{plant_of_word, no_body, of_name, no_name, source_kind, memory_no_body, memory_no_name, body_no_name, syntax_no_memory, body_no_syntax, of_syntax, source_no_syntax}
 use Rattle.plant.proofs.KnownWords.{words_known}
 use Rattle.plant.proofs.RefusedKnown.{begun_by_front, begun_by_refused}
 use Rattle.plant.proofs.plant.Plant.read.Goals as goal
@@ -215,3 +215,50 @@ returns-clause-tree c = λ t u few_t few_u spelled_t spelled_u.
     let every = c.in_ok-words.ensures.every in
     let same : words_of t ≡ words_of u = sym (every (words_of t) (c.words_are_in_place.ensures t few_t) spelled_t) ∙ every (words_of u) (c.words_are_in_place.ensures u few_u) spelled_u in
     (c.words_have_one_tree.ensures t u [] [] (ap (λ (ws : List Token). ws ++ []) same)).1
+
+pub returns-in_err-types-clause-syntax : goal.returns-in_err-types-clause-syntax
+returns-in_err-types-clause-syntax c =
+    let fault = c.in_err-types.field-0.0 in
+    kept_fault fault (λ f. f.kind ≡ Syntax → IsNotOfGrammar c.args.text.now) c.from_residual-in_err-types.result c.from_residual-in_err-types.ensures.1
+    (λ syntax. let is = (c.in_err-types.ensures.fault (syntax_no_memory fault syntax)).fault_is in absurd (body_no_syntax fault.kind is.why is.kind_is syntax))
+
+pub returns-in_err-resources-clause-syntax : goal.returns-in_err-resources-clause-syntax
+returns-in_err-resources-clause-syntax c =
+    let word = c.in_err-resources.field-0.0 in
+    let ws = c.in_ok-words.words in
+    let words : map (λ (w : WordValue). w.token) ws ≡ c.new-reader.result.words = ap (λ (ws : List WordValue). map (λ (w : WordValue). w.token) ws) (sym c.words-2.ensures) ∙ ap (λ (r : ReaderValue). r.words) (sym c.new-reader.ensures) in
+    kept_fault (fault_of_word word) (λ f. f.kind ≡ Syntax → IsNotOfGrammar c.args.text.now) c.from_residual-in_err-resources.result c.from_residual-in_err-resources.ensures.1
+    (λ syntax tree more few formed plain spelled.
+    let start : c.new-reader.result.words ≡ words_of tree ++ more = sym words ∙ c.in_ok-words.ensures.every (words_of tree ++ more) (c.words_behind_are_in_place.ensures tree more few plain) spelled in
+    absurd (c.in_err-resources.ensures.syntax (of_syntax word.kind syntax) tree more start formed))
+
+pub returns-in_err-plant-clause-syntax : goal.returns-in_err-plant-clause-syntax
+returns-in_err-plant-clause-syntax c =
+    let word = c.in_err-plant.field-0.0 in
+    kept_fault (fault_of_word word) (λ f. f.kind ≡ Syntax → IsNotOfGrammar c.args.text.now) c.from_residual-in_err-plant.result c.from_residual-in_err-plant.ensures.1
+    (λ syntax. absurd (source_no_syntax word.kind c.in_err-plant.ensures.tells syntax))
+
+pub returns-in_err-end-clause-syntax : goal.returns-in_err-end-clause-syntax
+returns-in_err-end-clause-syntax c =
+    let word = c.in_err-end.field-0.0 in
+    let ws = c.in_ok-words.words in
+    let words : map (λ (w : WordValue). w.token) ws ≡ c.new-reader.result.words = ap (λ (ws : List WordValue). map (λ (w : WordValue). w.token) ws) (sym c.words-2.ensures) ∙ ap (λ (r : ReaderValue). r.words) (sym c.new-reader.ensures) in
+    let read = c.in_ok-resources.ensures.ok in
+    let texts = c.read_tree-tree.new.texts.items in
+    let types = c.in_ok-types.types.items in
+    let rs = c.in_ok-resources.resources.items in
+    let drawn = c.in_ok-types.ensures.ok in
+    let found = tree_written read.name texts rs in
+    let same = ap (tree_of read.name) c.new-reading.ensures ∙ drawn_tree read.name texts types rs drawn in
+    kept_fault (fault_of_word word) (λ f. f.kind ≡ Syntax → IsNotOfGrammar c.args.text.now) c.from_residual-in_err-end.result c.from_residual-in_err-end.ensures.1
+    (λ syntax tree more few formed plain spelled.
+    let start : c.new-reader.result.words ≡ words_of tree ++ more = sym words ∙ c.in_ok-words.ensures.every (words_of tree ++ more) (c.words_behind_are_in_place.ensures tree more few plain) spelled in
+    let left = (c.in_ok-resources.ensures.only tree more start).0 in
+    let both : words_of found ++ more ≡ words_of tree ++ more = ap (λ (rest : List Token). words_of found ++ rest) (sym left) ∙ sym read.written ∙ start in
+    let faultless : IsTreeFaultless found = record {
+      lawful = read.lawful;
+      drawn = drawn_have_ladders texts types drawn;
+      sources = subst (λ (t : Tree). All (AreBindsFed t) (all_uses t)) same (c.in_ok-plant.ensures.sources read.name);
+    } in
+    let of_faultless : HasFaultlessWords tree = (found, append_cancel_right (words_of found) (words_of tree) more both, faultless) in
+    ((λ none. c.in_err-end.ensures.err.1 (left ∙ none)), of_faultless))

@@ -10,9 +10,11 @@ use Rattle.plant_grammar.specs.Steps.Reading.{programs_of, all_words}
 use Rattle.plant_grammar.proofs.RefusedPlaces.{begin_left, begin_right, in_configuration}
 use Rattle.plant_grammar.proofs.WholeTrees.{tree_is, begun_words, begin_with_texts}
 use Rattle.plant_text.specs.declared.token.Token.{Token}
-use Rattle.plant_grammar.specs.declared.grammar_fault.GrammarFaultKind.TheVariants.{Memory}
+use Rattle.plant_grammar.specs.declared.grammar_fault.GrammarFaultKind.TheVariants.{Memory, Syntax}
 use Rattle.plant_grammar.specs.Lawful.{IsTreeLawful}
 use Rattle.plant_grammar.proofs.LawfulTrees.{programs_allowed, behind_programs, behind_name, name_follows, resources_allowed, read_alone}
+use Rattle.plant_grammar.proofs.MissingWords.{syntax_no_memory, programs_missing}
+use Rattle.plant_grammar.specs.WellFormed.{IsTreeWellFormed}
 use Rattle.plant_grammar.proofs.grammar.read_tree.read_tree.Goals as goal
 
 pub returns-clause-ok : goal.returns-clause-ok
@@ -93,3 +95,34 @@ returns-in_err-resources-clause-refused c =
 pub returns-clause-only : goal.returns-clause-only
 returns-clause-only c = λ tree rest e.
     read_alone tree c.programs.new.texts.items c.in_ok-resources.resources.items c.args.reader.now.words c.resources.new.self.words rest (returns-clause-ok c) e
+
+pub returns-in_err-programs-clause-syntax : goal.returns-in_err-programs-clause-syntax
+returns-in_err-programs-clause-syntax c =
+    let fault = c.in_err-programs.field-0.0 in
+    kept_fault fault (λ f. f.kind ≡ Syntax → (tree : Tree) (rest : List Token) → c.args.reader.now.words ≡ words_of tree ++ rest → IsTreeWellFormed tree → ⊥) c.from_residual.result c.from_residual.ensures.1
+    (λ syntax tree rest e formed. programs_missing c.args.texts.now.items tree c.args.reader.now.words rest c.requires e formed (c.in_err-programs.ensures.syntax syntax))
+
+pub returns-in_err-keyword-clause-syntax : goal.returns-in_err-keyword-clause-syntax
+returns-in_err-keyword-clause-syntax c =
+    let fault = c.in_err-keyword.field-0.0 in
+    kept_fault fault (λ f. f.kind ≡ Syntax → (tree : Tree) (rest : List Token) → c.args.reader.now.words ≡ words_of tree ++ rest → IsTreeWellFormed tree → ⊥) c.from_residual-in_err-keyword.result c.from_residual-in_err-keyword.ensures.1
+    (λ syntax tree rest e formed.
+    let one = behind_programs c.args.texts.now.items c.programs.new.texts.items tree c.args.reader.now.words c.programs.new.self.words rest c.requires c.in_ok-programs.ensures.ok c.in_ok-programs.ensures.none e in
+    c.in_err-keyword.ensures.other _ one.1)
+
+pub returns-in_err-_name-clause-syntax : goal.returns-in_err-_name-clause-syntax
+returns-in_err-_name-clause-syntax c =
+    let fault = c.in_err-_name.field-0.0 in
+    kept_fault fault (λ f. f.kind ≡ Syntax → (tree : Tree) (rest : List Token) → c.args.reader.now.words ≡ words_of tree ++ rest → IsTreeWellFormed tree → ⊥) c.from_residual-in_err-_name.result c.from_residual-in_err-_name.ensures.1
+    (λ syntax tree rest e formed.
+    let one = behind_programs c.args.texts.now.items c.programs.new.texts.items tree c.args.reader.now.words c.programs.new.self.words rest c.requires c.in_ok-programs.ensures.ok c.in_ok-programs.ensures.none e in
+    c.in_err-_name.ensures.other (syntax_no_memory fault syntax) tree.name _ (name_follows tree c.programs.new.self.words c.keyword.new.self.words rest one.1 c.in_ok-keyword.ensures.ok))
+
+pub returns-in_err-resources-clause-syntax : goal.returns-in_err-resources-clause-syntax
+returns-in_err-resources-clause-syntax c =
+    let fault = c.in_err-resources.field-0.0 in
+    kept_fault fault (λ f. f.kind ≡ Syntax → (tree : Tree) (rest : List Token) → c.args.reader.now.words ≡ words_of tree ++ rest → IsTreeWellFormed tree → ⊥) c.from_residual-in_err-resources.result c.from_residual-in_err-resources.ensures.1
+    (λ syntax tree rest e formed.
+    let one = behind_programs c.args.texts.now.items c.programs.new.texts.items tree c.args.reader.now.words c.programs.new.self.words rest c.requires c.in_ok-programs.ensures.ok c.in_ok-programs.ensures.none e in
+    c.in_err-resources.ensures.syntax syntax tree.resources rest
+    (behind_name tree c.in_ok-_name._name c.programs.new.self.words c.keyword.new.self.words c.name.new.self.words rest one.1 c.in_ok-keyword.ensures.ok c.in_ok-_name.ensures.ok) formed.some_resource formed.resources)

@@ -1,4 +1,4 @@
-use Rattle.std.proofs.Common.{◌≢◌, ◌+◌, ◌≤◌, List, length, map, refl, ◌∙◌, arith, subst, ap}
+use Rattle.std.proofs.Common.{◌≢◌, ◌+◌, ◌≤◌, List, length, map, refl, ◌∙◌, arith, subst, ap, ◌≡◌}
 use Rattle.plant_grammar.specs.declared.grammar.tree.Bind.{Bind}
 use Rattle.plant_grammar.specs.Steps.ReadParts.{IsNew, TallyValue, EndWithBinds}
 use Rattle.plant_grammar.proofs.Apart.{apart_more}
@@ -12,13 +12,14 @@ use Rattle.lists.proofs.Results.{kept_fault}
 use Rattle.plant_grammar.proofs.RefusedPlaces.{first_bind, next_bind}
 use Rattle.std.proofs.lemmas.List.Elements.{All-nil}
 use Rattle.plant_text.specs.declared.token.Token.{Token}
-use Rattle.plant_grammar.specs.declared.grammar_fault.GrammarFaultKind.TheVariants.{Memory}
+use Rattle.plant_grammar.specs.declared.grammar_fault.GrammarFaultKind.TheVariants.{Memory, Syntax}
 use Rattle.std.specs.Prelude.{All}
 use Rattle.plant_text.specs.declared.token.Punctuation.TheVariants.{Close}
 use Rattle.plant_grammar.specs.Grammar.{mark_word}
 use Rattle.plant_grammar.specs.Names.{AreNamesApart}
 use Rattle.plant_grammar.specs.Steps.Lines.{ReaderValue, IsNotNext}
 use Rattle.plant_grammar.proofs.LawfulResources.{first_bind_allowed, next_bind_allowed, close_allowed}
+use Rattle.plant_grammar.proofs.MissingWords.{bind_missing, next_bind_missing}
 use Rattle.plant_grammar.proofs.grammar.reader.Reader.binds.Goals as goal
 use Rattle.plant_grammar.proofs.grammar.reader.Reader.binds.Goals.{then-not-sees_punctuation+in_ok-bind+in_ok-push+else-binds-test, else-not-sees_punctuation}
 
@@ -76,6 +77,29 @@ returns-in_err-punctuation-2-clause-other c =
     let fault = c.in_err-punctuation-2.field-0.0 in
     kept_fault fault (λ f. f.kind ≢ Memory → (bs : List Bind) (rest : List Token) → EndWithBinds bs c.args.self.now.words rest → AreNamesApart (map (λ (b : Bind). b.input) bs) → All (IsOfInputKind (variables c.args.program.now.program)) bs → c.args.tally.now.binds + length bs ≤ 4096 → ⊥) c.from_residual-in_err-punctuation-2.result c.from_residual-in_err-punctuation-2.ensures.1
     (λ known bs rest e apart kinds few. elim c.if-not-sees_punctuation.branch [
+      | then-not-sees_punctuation+in_ok-bind+in_ok-push+else-binds-test w ↦ close_allowed w.binds.binds.items bs c.args.self.now.words w.binds.self.words rest w.binds.invariant.some w.binds.invariant.words (w.binds-test.ensures.no refl) e
+          (subst (λ (r : ReaderValue). IsNotNext (mark_word Close) r.words) w.self-is c.in_err-punctuation-2.ensures.other)
+      | else-not-sees_punctuation w ↦ let next = w.if-not-sees_punctuation.ensures.yes refl in
+          (subst (λ (r : ReaderValue). IsNotNext (mark_word Close) r.words) w.self-is c.in_err-punctuation-2.ensures.other) next.0 next.1
+    ])
+
+pub returns-in_err-bind-clause-syntax : goal.returns-in_err-bind-clause-syntax
+returns-in_err-bind-clause-syntax c =
+    let fault = c.in_err-bind.field-0.0 in
+    kept_fault fault (λ f. f.kind ≡ Syntax → (bs : List Bind) (rest : List Token) → EndWithBinds bs c.args.self.now.words rest → ⊥) c.from_residual.result c.from_residual.ensures.1
+    (λ syntax bs rest e. bind_missing bs c.args.self.now.words rest e (c.if-not-sees_punctuation.ensures.no refl) (c.in_err-bind.ensures.syntax syntax))
+
+pub returns-in_err-bind-2-clause-syntax : goal.returns-in_err-bind-2-clause-syntax
+returns-in_err-bind-2-clause-syntax c =
+    let fault = c.in_err-bind-2.field-0.0 in
+    kept_fault fault (λ f. f.kind ≡ Syntax → (bs : List Bind) (rest : List Token) → EndWithBinds bs c.args.self.now.words rest → ⊥) c.from_residual-in_err-bind-2.result c.from_residual-in_err-bind-2.ensures.1
+    (λ syntax bs rest e. next_bind_missing c.binds.binds.items bs c.args.self.now.words c.binds.self.words c.punctuation.new.self.words rest c.binds.invariant.some c.binds.invariant.words c.in_ok-punctuation.ensures.ok e (c.in_err-bind-2.ensures.syntax syntax))
+
+pub returns-in_err-punctuation-2-clause-syntax : goal.returns-in_err-punctuation-2-clause-syntax
+returns-in_err-punctuation-2-clause-syntax c =
+    let fault = c.in_err-punctuation-2.field-0.0 in
+    kept_fault fault (λ f. f.kind ≡ Syntax → (bs : List Bind) (rest : List Token) → EndWithBinds bs c.args.self.now.words rest → ⊥) c.from_residual-in_err-punctuation-2.result c.from_residual-in_err-punctuation-2.ensures.1
+    (λ syntax bs rest e. elim c.if-not-sees_punctuation.branch [
       | then-not-sees_punctuation+in_ok-bind+in_ok-push+else-binds-test w ↦ close_allowed w.binds.binds.items bs c.args.self.now.words w.binds.self.words rest w.binds.invariant.some w.binds.invariant.words (w.binds-test.ensures.no refl) e
           (subst (λ (r : ReaderValue). IsNotNext (mark_word Close) r.words) w.self-is c.in_err-punctuation-2.ensures.other)
       | else-not-sees_punctuation w ↦ let next = w.if-not-sees_punctuation.ensures.yes refl in

@@ -7,12 +7,14 @@ use Rattle.plant_grammar.specs.Steps.Declaring.{BeginWith}
 use Rattle.lists.proofs.Results.{kept_fault}
 use Rattle.plant_grammar.proofs.RefusedPlaces.{block_refused}
 use Rattle.plant_text.specs.declared.token.Token.{Token}
-use Rattle.plant_grammar.specs.declared.grammar_fault.GrammarFaultKind.TheVariants.{Memory}
+use Rattle.plant_grammar.specs.declared.grammar_fault.GrammarFaultKind.TheVariants.{Memory, Syntax}
 use Rattle.std.specs.List.{flat_map}
 use Rattle.plant_grammar.specs.declared.grammar.tree.VarBlock.{VarBlock}
 use Rattle.plant_grammar.specs.Steps.Lines.{IsNoneNext}
 use Rattle.plant_grammar.specs.Steps.ReadParts.{section_start, AreVariables}
 use Rattle.plant_grammar.proofs.LawfulPrograms.{block_allowed}
+use Rattle.plant_grammar.proofs.MissingWords.{block_missing}
+use Rattle.plant_grammar.specs.WellFormed.{IsBlockWellFormed}
 use Rattle.plant_grammar.proofs.grammar.reader.Reader.blocks.Goals as goal
 
 pub sections-preserved : goal.sections-preserved
@@ -35,3 +37,9 @@ returns-in_err-block-clause-other c =
     kept_fault fault (λ f. f.kind ≢ Memory → (bs : List VarBlock) (rest : List Token) → c.args.self.now.words ≡ flat_map block_words bs ++ rest → IsNoneNext section_start rest → All IsBlockLawful bs → AreVariables (c.args.variables.now ++ flat_map block_variables bs) → ⊥) c.from_residual.result c.from_residual.ensures.1
     (λ known bs rest e none lawful are. block_allowed c.args.variables.now c.sections.variables c.sections.blocks.items bs c.args.self.now.words c.sections.self.words rest c.sections.invariant.words c.sections.invariant.declared (c.sections-test.ensures.yes refl) e none lawful are
     (c.in_err-block.ensures.other known))
+
+pub returns-in_err-block-clause-syntax : goal.returns-in_err-block-clause-syntax
+returns-in_err-block-clause-syntax c =
+    let fault = c.in_err-block.field-0.0 in
+    kept_fault fault (λ f. f.kind ≡ Syntax → (bs : List VarBlock) (rest : List Token) → c.args.self.now.words ≡ flat_map block_words bs ++ rest → IsNoneNext section_start rest → All IsBlockWellFormed bs → ⊥) c.from_residual.result c.from_residual.ensures.1
+    (λ syntax bs rest e none formed. block_missing c.sections.blocks.items bs c.args.self.now.words c.sections.self.words rest c.sections.invariant.words (c.sections-test.ensures.yes refl) e none formed (c.in_err-block.ensures.syntax syntax))

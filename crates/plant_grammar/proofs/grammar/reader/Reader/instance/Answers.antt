@@ -10,7 +10,7 @@ use Rattle.lists.proofs.Results.{kept_fault}
 use Rattle.plant_grammar.specs.Steps.Reading.{programs_of}
 use Rattle.plant_grammar.proofs.RefusedPlaces.{in_instance, task_unknown, type_unknown, binds_of_type}
 use Rattle.plant_text.specs.declared.token.Token.{Token}
-use Rattle.plant_grammar.specs.declared.grammar_fault.GrammarFaultKind.TheVariants.{Memory}
+use Rattle.plant_grammar.specs.declared.grammar_fault.GrammarFaultKind.TheVariants.{Memory, Syntax}
 use Rattle.plant_grammar.specs.declared.grammar.tree.Program.{Program}
 use Rattle.plant_grammar.specs.declared.grammar.tree.Use.{Use}
 use Rattle.std.specs.List.{flat_map}
@@ -82,5 +82,21 @@ returns-in_err-punctuation-clause-other c =
     let fault = c.in_err-punctuation.field-0.0 in
     kept_fault fault (λ f. f.kind ≢ Memory → (u : Use) (rest : List Token) → c.args.self.now.words ≡ use_words u ++ rest → AreTypesApart c.args.types.now → IsNew (λ (u : Use). u.instance) (flat_map use_of c.args.before.now) u.instance → IsUseLawful (types_alone c.args.types.now) c.args.before.now u → HasRoomFor c.args.tally.now (u ∷ []) → ⊥) c.from_residual-in_err-punctuation.result c.from_residual-in_err-punctuation.ensures.1
     (λ known u rest e apart new lawful room.
+    let typed = use_typed u c.in_ok-instance.instance c.in_ok-task.task _ c.args.self.now.words c.instance_start.new.self.words c.task_of_instance.new.self.words c.type_of_instance.new.self.words rest c.in_ok-instance.ensures.ok c.in_ok-task.ensures.ok c.in_ok-program.ensures.ok e in
+    c.in_err-punctuation.ensures.other rest (c.in_ok-binds.ensures.only (binds_listed u.binds) rest typed.1))
+
+pub returns-in_err-binds-clause-syntax : goal.returns-in_err-binds-clause-syntax
+returns-in_err-binds-clause-syntax c =
+    let fault = c.in_err-binds.field-0.0 in
+    kept_fault fault (λ f. f.kind ≡ Syntax → (u : Use) (rest : List Token) → c.args.self.now.words ≡ use_words u ++ rest → ⊥) c.from_residual-in_err-binds.result c.from_residual-in_err-binds.ensures.1
+    (λ syntax u rest e.
+    let typed = use_typed u c.in_ok-instance.instance c.in_ok-task.task _ c.args.self.now.words c.instance_start.new.self.words c.task_of_instance.new.self.words c.type_of_instance.new.self.words rest c.in_ok-instance.ensures.ok c.in_ok-task.ensures.ok c.in_ok-program.ensures.ok e in
+    c.in_err-binds.ensures.syntax syntax (binds_listed u.binds) rest typed.1)
+
+pub returns-in_err-punctuation-clause-syntax : goal.returns-in_err-punctuation-clause-syntax
+returns-in_err-punctuation-clause-syntax c =
+    let fault = c.in_err-punctuation.field-0.0 in
+    kept_fault fault (λ f. f.kind ≡ Syntax → (u : Use) (rest : List Token) → c.args.self.now.words ≡ use_words u ++ rest → ⊥) c.from_residual-in_err-punctuation.result c.from_residual-in_err-punctuation.ensures.1
+    (λ syntax u rest e.
     let typed = use_typed u c.in_ok-instance.instance c.in_ok-task.task _ c.args.self.now.words c.instance_start.new.self.words c.task_of_instance.new.self.words c.type_of_instance.new.self.words rest c.in_ok-instance.ensures.ok c.in_ok-task.ensures.ok c.in_ok-program.ensures.ok e in
     c.in_err-punctuation.ensures.other rest (c.in_ok-binds.ensures.only (binds_listed u.binds) rest typed.1))

@@ -1,13 +1,15 @@
-use Rattle.std.proofs.Common.{◌≡◌, ◌≢◌, ◌++◌, List, refl}
+use Rattle.std.proofs.Common.{◌≡◌, ◌≢◌, ◌++◌, List, refl, All, ◌<◌}
 use Rattle.plant_text.specs.declared.token.Token.{Token}
-use Rattle.plant_grammar.specs.declared.grammar_fault.GrammarFaultKind.TheVariants.{Memory}
+use Rattle.plant_grammar.specs.declared.grammar_fault.GrammarFaultKind.TheVariants.{Memory, Syntax}
 use Rattle.lists.proofs.Results.{kept_fault}
 use Rattle.plant_grammar.specs.declared.grammar.tree.Item.{Item}
 use Rattle.plant_grammar.specs.Grammar.{item_words}
-use Rattle.plant_grammar.specs.Lawful.{use_of}
+use Rattle.plant_grammar.specs.Lawful.{use_of, task_of}
 use Rattle.plant_grammar.specs.Steps.ReadParts.{types_alone, MayFollow}
 use Rattle.plant_grammar.specs.Steps.Refusing.{HasRoomFor, AreTypesApart}
 use Rattle.plant_grammar.proofs.LawfulResources.{task_allowed, use_allowed}
+use Rattle.plant_grammar.proofs.MissingWords.{task_missing, use_missing}
+use Rattle.plant_grammar.specs.declared.grammar.tree.TaskLine.{TaskLine}
 use Rattle.plant_grammar.proofs.grammar.reader.Reader.item.Goals as goal
 
 pub returns-in_err-task-clause-other : goal.returns-in_err-task-clause-other
@@ -22,3 +24,15 @@ returns-in_err-instance-clause-other c =
     kept_fault fault (λ f. f.kind ≢ Memory → (x : Item) (rest : List Token) → c.args.self.now.words ≡ item_words x ++ rest → AreTypesApart c.args.types.now → MayFollow (types_alone c.args.types.now) c.args.before.now x → HasRoomFor c.args.tally.now (use_of x) → ⊥) c.from_residual-in_err-instance.result c.from_residual-in_err-instance.ensures.1
     (λ known x rest e apart may room. use_allowed (types_alone c.args.types.now) c.args.before.now c.args.tally.now x c.args.self.now.words rest e (c.if-sees_keyword.ensures.no refl) may room
     (λ u after h new lawful left. c.in_err-instance.ensures.other known u after h apart new lawful left))
+
+pub returns-in_err-task-clause-syntax : goal.returns-in_err-task-clause-syntax
+returns-in_err-task-clause-syntax c =
+    let fault = c.in_err-task.field-0.0 in
+    kept_fault fault (λ f. f.kind ≡ Syntax → (x : Item) (rest : List Token) → c.args.self.now.words ≡ item_words x ++ rest → All (λ (t : TaskLine). 0 < t.interval) (task_of x) → ⊥) c.from_residual.result c.from_residual.ensures.1
+    (λ syntax x rest e positive. task_missing x c.args.self.now.words rest e (c.if-sees_keyword.ensures.yes refl) positive (c.in_err-task.ensures.syntax syntax))
+
+pub returns-in_err-instance-clause-syntax : goal.returns-in_err-instance-clause-syntax
+returns-in_err-instance-clause-syntax c =
+    let fault = c.in_err-instance.field-0.0 in
+    kept_fault fault (λ f. f.kind ≡ Syntax → (x : Item) (rest : List Token) → c.args.self.now.words ≡ item_words x ++ rest → All (λ (t : TaskLine). 0 < t.interval) (task_of x) → ⊥) c.from_residual-in_err-instance.result c.from_residual-in_err-instance.ensures.1
+    (λ syntax x rest e positive. use_missing x c.args.self.now.words rest e (c.if-sees_keyword.ensures.no refl) (c.in_err-instance.ensures.syntax syntax))

@@ -11,10 +11,12 @@ use Rattle.plant_grammar.specs.Steps.Reading.{programs_of}
 use Rattle.lists.proofs.Results.{kept_fault}
 use Rattle.plant_grammar.proofs.RefusedPlaces.{item_refused}
 use Rattle.plant_text.specs.declared.token.Token.{Token}
-use Rattle.plant_grammar.specs.declared.grammar_fault.GrammarFaultKind.TheVariants.{Memory}
+use Rattle.plant_grammar.specs.declared.grammar_fault.GrammarFaultKind.TheVariants.{Memory, Syntax}
 use Rattle.std.specs.List.{flat_map}
 use Rattle.plant_grammar.specs.Steps.Refusing.{HasRoomFor, AreTypesApart}
 use Rattle.plant_grammar.proofs.LawfulResources.{item_allowed}
+use Rattle.plant_grammar.proofs.MissingWords.{item_missing}
+use Rattle.plant_grammar.specs.WellFormed.{AreIntervalsPositive}
 use Rattle.plant_grammar.proofs.grammar.reader.Reader.items.Goals as goal
 
 pub items-preserved : goal.items-preserved
@@ -32,6 +34,7 @@ returns c = record {
   tally = c.items.invariant.tally;
   other = tt;
   names = tt;
+  syntax = tt;
   value = tt;
 }
 
@@ -48,3 +51,9 @@ returns-in_err-item-clause-other c =
     kept_fault fault (λ f. f.kind ≢ Memory → (xs : List Item) (rest : List Token) → c.args.self.now.words ≡ items_words xs ++ rest → AreTypesApart c.args.types.now → AreItemsLawful (types_alone c.args.types.now) xs → HasRoomFor c.args.tally.now (flat_map use_of xs) → ⊥) c.from_residual.result c.from_residual.ensures.1
     (λ known xs rest e apart lawful room. item_allowed (types_alone c.args.types.now) c.args.tally.now c.items.tally c.items.items.items xs c.args.self.now.words c.items.self.words rest c.items.invariant.words c.items.invariant.tally (c.items-test.ensures.no refl) e lawful room
     (λ x after h may left. c.in_err-item.ensures.other known x after h apart (subst (λ (ys : List Item). MayFollow (types_alone c.args.types.now) ys x) (sym c.deref.ensures.value) may) left))
+
+pub returns-in_err-item-clause-syntax : goal.returns-in_err-item-clause-syntax
+returns-in_err-item-clause-syntax c =
+    let fault = c.in_err-item.field-0.0 in
+    kept_fault fault (λ f. f.kind ≡ Syntax → (xs : List Item) (rest : List Token) → c.args.self.now.words ≡ items_words xs ++ rest → AreIntervalsPositive xs → ⊥) c.from_residual.result c.from_residual.ensures.1
+    (λ syntax xs rest e positive. item_missing c.items.items.items xs c.args.self.now.words c.items.self.words rest c.items.invariant.words (c.items-test.ensures.no refl) e positive (c.in_err-item.ensures.syntax syntax))

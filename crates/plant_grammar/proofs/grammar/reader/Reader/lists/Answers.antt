@@ -7,10 +7,12 @@ use Rattle.plant_grammar.specs.Steps.Declaring.{BeginWith}
 use Rattle.lists.proofs.Results.{kept_fault}
 use Rattle.plant_grammar.proofs.RefusedPlaces.{list_refused}
 use Rattle.plant_text.specs.declared.token.Token.{Token}
-use Rattle.plant_grammar.specs.declared.grammar_fault.GrammarFaultKind.TheVariants.{Memory}
+use Rattle.plant_grammar.specs.declared.grammar_fault.GrammarFaultKind.TheVariants.{Memory, Syntax}
 use Rattle.plant_grammar.specs.declared.grammar.tree.NameList.{NameList}
 use Rattle.plant_grammar.specs.Steps.ReadParts.{AreVariables}
 use Rattle.plant_grammar.proofs.LawfulPrograms.{list_allowed}
+use Rattle.plant_grammar.proofs.MissingWords.{list_missing}
+use Rattle.plant_grammar.specs.WellFormed.{HasNames}
 use Rattle.plant_grammar.proofs.grammar.reader.Reader.lists.Goals as goal
 
 pub lists-preserved : goal.lists-preserved
@@ -29,6 +31,7 @@ returns c = record {
   lawful = c.lists.invariant.lawful;
   other = tt;
   names = tt;
+  syntax = tt;
   value = tt;
 }
 
@@ -44,3 +47,9 @@ returns-in_err-list-clause-other c =
     kept_fault fault (λ f. f.kind ≢ Memory → (ls : List NameList) (rest : List Token) → c.args.self.now.words ≡ lists_words ls ++ rest → All (IsListLawful c.args.section) ls → AreVariables (c.args.variables.now ++ lists_variables c.args.section ls) → ⊥) c.from_residual.result c.from_residual.ensures.1
     (λ known ls rest e lawful are. list_allowed c.args.section c.args.variables.now c.lists.variables c.lists.lists.items ls c.args.self.now.words c.lists.self.words rest c.lists.invariant.words c.lists.invariant.declared (c.lists-test.ensures.no refl) e lawful are
     (c.in_err-list.ensures.other known))
+
+pub returns-in_err-list-clause-syntax : goal.returns-in_err-list-clause-syntax
+returns-in_err-list-clause-syntax c =
+    let fault = c.in_err-list.field-0.0 in
+    kept_fault fault (λ f. f.kind ≡ Syntax → (ls : List NameList) (rest : List Token) → c.args.self.now.words ≡ lists_words ls ++ rest → All HasNames ls → ⊥) c.from_residual.result c.from_residual.ensures.1
+    (λ syntax ls rest e named. list_missing c.args.section c.lists.lists.items ls c.args.self.now.words c.lists.self.words rest c.lists.invariant.words (c.lists-test.ensures.no refl) e named (c.in_err-list.ensures.syntax syntax))

@@ -1,7 +1,7 @@
 use Rattle.std.proofs.Common.{◌≡◌, ◌≢◌, refl, ◌∙◌, ◌++◌, ◌∷◌, ◌<◌, ℕ, List, length, arith}
 use Rattle.plant_text.specs.declared.token.Token.{Token}
 use Rattle.plant_text.specs.declared.token.Punctuation.TheVariants.{Colon}
-use Rattle.plant_grammar.specs.declared.grammar_fault.GrammarFaultKind.TheVariants.{Memory}
+use Rattle.plant_grammar.specs.declared.grammar_fault.GrammarFaultKind.TheVariants.{Memory, Syntax}
 use Rattle.plant_grammar.specs.Grammar.{mark_word, name_words}
 use Rattle.plant_grammar.specs.Steps.Refusing.{MayBeDeclared}
 use Rattle.plant_grammar.proofs.NewNames.{first_refused, next_refused, all_names}
@@ -10,6 +10,7 @@ use Rattle.plant_grammar.specs.NameFaults.{IsOfName, RefusesVariable}
 use Rattle.plant_grammar.specs.Steps.Declaring.{BeginWith}
 use Rattle.lists.proofs.Results.{kept_fault}
 use Rattle.plant_grammar.proofs.RefusedPlaces.{first_variable, next_variable}
+use Rattle.plant_grammar.proofs.MissingWords.{name_missing, next_missing}
 use Rattle.plant_grammar.proofs.grammar.reader.Reader.names.Goals as goal
 
 pub names-preserved : goal.names-preserved
@@ -49,3 +50,15 @@ returns-in_err-variable-2-clause-other c =
 pub returns-clause-only : goal.returns-clause-only
 returns-clause-only c = λ ns rest e some.
     all_names c.names.names.items ns c.args.self.now.words c.names.self.words rest c.names.invariant.some some c.names.invariant.words e (λ mid f. c.names-test.ensures.no refl mid f)
+
+pub returns-in_err-variable-clause-syntax : goal.returns-in_err-variable-clause-syntax
+returns-in_err-variable-clause-syntax c =
+    let fault = c.in_err-variable.field-0.0 in
+    kept_fault fault (λ f. f.kind ≡ Syntax → (ns : List (List ℕ)) (rest : List Token) → c.args.self.now.words ≡ name_words ns ++ mark_word Colon ∷ rest → 0 < length ns → ⊥) c.from_residual.result c.from_residual.ensures.1
+    (λ syntax ns rest e some. name_missing ns c.args.self.now.words rest some e (c.in_err-variable.ensures.syntax syntax))
+
+pub returns-in_err-variable-2-clause-syntax : goal.returns-in_err-variable-2-clause-syntax
+returns-in_err-variable-2-clause-syntax c =
+    let fault = c.in_err-variable-2.field-0.0 in
+    kept_fault fault (λ f. f.kind ≡ Syntax → (ns : List (List ℕ)) (rest : List Token) → c.args.self.now.words ≡ name_words ns ++ mark_word Colon ∷ rest → 0 < length ns → ⊥) c.from_residual-in_err-variable-2.result c.from_residual-in_err-variable-2.ensures.1
+    (λ syntax ns rest e some. next_missing c.names.names.items ns c.args.self.now.words c.names.self.words c.punctuation.new.self.words rest c.names.invariant.some some c.names.invariant.words c.in_ok-punctuation.ensures.ok e (c.in_err-variable-2.ensures.syntax syntax))

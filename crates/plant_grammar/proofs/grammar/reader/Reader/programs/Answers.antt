@@ -1,4 +1,4 @@
-use Rattle.std.proofs.Common.{rules, ◌≡◌, ◌≢◌, refl, ◌++◌, ◌∷◌, [], ◌∙◌, ◌<◌, ℕ, List, append_assoc, length, ap, sym, subst, arith}
+use Rattle.std.proofs.Common.{rules, ◌≡◌, ◌≢◌, refl, ◌++◌, ◌∷◌, [], ◌∙◌, ◌<◌, ℕ, List, append_assoc, length, ap, sym, subst, arith, All}
 use Rattle.std.proofs.lemmas.List.{length-map}
 use Rattle.std.specs.List.{flat_map}
 use Rattle.plant_grammar.specs.Grammar.{TextValue, key_word, program_words}
@@ -13,11 +13,13 @@ use Rattle.plant_grammar.specs.Steps.Declaring.{BeginWith}
 use Rattle.lists.proofs.Results.{kept_fault}
 use Rattle.plant_grammar.proofs.RefusedPlaces.{program_refused}
 use Rattle.plant_grammar.proofs.RefusedNames.{memory_result, memory_excused}
-use Rattle.plant_grammar.specs.declared.grammar_fault.GrammarFaultKind.TheVariants.{Memory}
+use Rattle.plant_grammar.specs.declared.grammar_fault.GrammarFaultKind.TheVariants.{Memory, Syntax}
 use Rattle.plant_text.specs.declared.token.Keyword.TheVariants as key
 use Rattle.plant_grammar.specs.declared.grammar_fault.GrammarFault.{GrammarFault}
 use Rattle.plant_grammar.specs.Steps.Lines.{IsNotNext}
 use Rattle.plant_grammar.proofs.LawfulPrograms.{program_allowed}
+use Rattle.plant_grammar.proofs.MissingWords.{program_missing}
+use Rattle.plant_grammar.specs.WellFormed.{IsProgramWellFormed}
 use Rattle.plant_grammar.proofs.grammar.reader.Reader.programs.Goals as goal
 
 pub programs-preserved : goal.programs-preserved
@@ -75,3 +77,9 @@ returns-in_err-text-clause-other c =
 pub returns-in_err-push-clause-other : goal.returns-in_err-push-clause-other
 returns-in_err-push-clause-other c =
     memory_excused (λ (f : GrammarFault). (ps : List Program) (rest : List Token) → all_words c.args.texts.now.items c.args.self.now.words ≡ flat_map program_words ps ++ rest → IsNotNext (key_word key.Program) rest → AreProgramsDeclared ps → ⊥) c.from_residual-in_err-push.result c.from_residual-in_err-push.ensures.1
+
+pub returns-in_err-text-clause-syntax : goal.returns-in_err-text-clause-syntax
+returns-in_err-text-clause-syntax c =
+    let fault = c.in_err-text.field-0.0 in
+    kept_fault fault (λ f. f.kind ≡ Syntax → (ps : List Program) (rest : List Token) → all_words c.args.texts.now.items c.args.self.now.words ≡ flat_map program_words ps ++ rest → IsNotNext (key_word key.Program) rest → All IsProgramWellFormed ps → ⊥) c.from_residual.result c.from_residual.ensures.1
+    (λ syntax ps rest e none formed. program_missing (programs_of c.programs.texts.items) ps (all_words c.args.texts.now.items c.args.self.now.words) c.programs.self.words rest c.programs.invariant.words (c.programs-test.ensures.yes refl) e none formed (c.in_err-text.ensures.syntax syntax))
