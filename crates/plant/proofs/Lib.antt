@@ -17,3 +17,4 @@ pub mod DrawnTrees
 pub mod Members
 pub mod Sourcing
 pub mod SameTrees
+pub mod FaultySources

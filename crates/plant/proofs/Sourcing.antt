@@ -378,7 +378,7 @@ module _ (programs : List Program) (name : List ℕ) (rs : List Resource) (ds : 
       (found.0, found.1, found.2, found.3)
 
   -- the type of an instance, where types are apart
-  one_type : IsTreeLawful tree → (u : Use) (k : ℕ) (p q : Program) (l : ℕ) → IsAt (λ (p : Program). p.name) programs u.program k p → IsAt (λ (p : Program). p.name) programs u.program l q → p ≡ q
+  pub one_type : IsTreeLawful tree → (u : Use) (k : ℕ) (p q : Program) (l : ℕ) → IsAt (λ (p : Program). p.name) programs u.program k p → IsAt (λ (p : Program). p.name) programs u.program l q → p ≡ q
   one_type lawful u k p q l one other = one_item (λ (p : Program). p.name) programs u.program lawful.types_apart k l p q one other
 
   -- the names of a source mean a value
@@ -417,28 +417,29 @@ module _ (programs : List Program) (name : List ℕ) (rs : List Resource) (ds : 
       } in
       ((t, output.0), (of_origin, of_image))
 
-  -- a bind that is fed in the drafts is fed in the tree, and the other way round
+  -- a source in the drafts is one in the tree, and the other way round
+  pub source_of_origin : AreDraftsApart ds → (s : SourceName) (o : Origin) (kind : Kind) → IsOriginOf (drafted ds) s o kind → HasSource tree s kind
+  source_of_origin apart (named.Field a) (origin.Field b) kind at = ap (λ (x : Address). kind_of_space x.space) at.0 ∙ at.1
+  source_of_origin apart (named.Field a) (origin.Output t k) kind at = absurd at
+  source_of_origin apart (named.Output r i o) (origin.Field b) kind at = absurd at
+  source_of_origin apart (named.Output r i o) (origin.Output t k) kind at = source_of_value apart r i o (t, k, kind) at
+
+  pub origin_of_source : IsTreeLawful tree → (s : SourceName) (kind : Kind) → HasSource tree s kind → (o : Origin) × IsOriginOf (drafted ds) s o kind
+  origin_of_source lawful (named.Field a) kind at = (origin.Field a, (refl, at))
+  origin_of_source lawful (named.Output r i o) kind at = let x = value_of_source lawful r i o kind at in (origin.Output x.0.0 x.0.1, x.1)
+
+  -- so it is with a bind that is fed
   fed_in_tree : AreDraftsApart ds → (p : Program) (b : Bind) → HasFeed (drafted ds) (variables p) b → IsFed tree p b
-  fed_in_tree apart p b (f, is) = (f.kind, ap (option_and_then (input_kind_at (variables p))) is.input_is ∙ is.input_kind_is, go b.source f.origin is.origin_is)
-    where
-      go : (s : SourceName) (o : Origin) → IsOriginOf (drafted ds) s o f.kind → HasSource tree s f.kind
-      go (named.Field a) (origin.Field b) at = ap (λ (x : Address). kind_of_space x.space) at.0 ∙ at.1
-      go (named.Field a) (origin.Output t k) at = absurd at
-      go (named.Output r i o) (origin.Field b) at = absurd at
-      go (named.Output r i o) (origin.Output t k) at = source_of_value apart r i o (t, k, f.kind) at
+  fed_in_tree apart p b (f, is) = (f.kind, ap (option_and_then (input_kind_at (variables p))) is.input_is ∙ is.input_kind_is, source_of_origin apart b.source f.origin f.kind is.origin_is)
 
   fed_in_drafts : IsTreeLawful tree → (p : Program) (b : Bind) → IsFed tree p b → HasFeed (drafted ds) (variables p) b
   fed_in_drafts lawful p b (kind, input, source) = by (place_of (variables p) b.input) refl
     where
-      found : (s : SourceName) → HasSource tree s kind → (o : Origin) × IsOriginOf (drafted ds) s o kind
-      found (named.Field a) at = (origin.Field a, (refl, at))
-      found (named.Output r i o) at = let x = value_of_source lawful r i o kind at in (origin.Output x.0.0 x.0.1, x.1)
-
       by : (o : Option ℕ) → place_of (variables p) b.input ≡ o → HasFeed (drafted ds) (variables p) b
       by None e = let none : option_and_then (input_kind_at (variables p)) None ≡ Some kind = ap (option_and_then (input_kind_at (variables p))) (sym e) ∙ input in absurd cc
       by (Some place) e =
           let at : input_kind_at (variables p) place ≡ Some kind = ap (option_and_then (input_kind_at (variables p))) (sym e) ∙ input in
-          let o = found b.source source in
+          let o = origin_of_source lawful b.source kind source in
           (record { place = place; kind = kind; origin = o.0 }, record { input_is = e; input_kind_is = at; origin_is = o.1 })
 
 any_map : {A B : Type 0} (f : A → B) (P : B → Type 0) (xs : List A) → Any P (map f xs) → Any (λ x. P (f x)) xs
@@ -457,7 +458,7 @@ module _ (types : List TypeValue) (name : List ℕ) (rs : List Resource) (ds : L
   tree_apart = drafts_apart (programs_in types) name rs ds known lawful
 
   -- the type that is found by its name
-  type_of : (u : Use) (t : TypeValue) → find (λ (t : TypeValue). is_named u.program t.program.name) types ≡ Some t
+  pub type_of : (u : Use) (t : TypeValue) → find (λ (t : TypeValue). is_named u.program t.program.name) types ≡ Some t
       → (k : ℕ) × IsAt (λ (p : Program). p.name) (programs_in types) u.program k t.program × (t.ladder.declarations ≡ variables t.program)
   type_of u t found =
       let at = found_place (λ (t : TypeValue). is_named u.program t.program.name) types t found in (

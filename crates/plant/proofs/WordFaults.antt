@@ -1,5 +1,5 @@
 -- The fault of a word is one of a plant's text, and no body's; and one that tells of no name is no name's.
-use Rattle.std.proofs.Common.{◌≡◌, ◌≢◌, sym, ◌∙◌, ◌⊎◌, inl, inr, ℕ, None, refl, subst}
+use Rattle.std.proofs.Common.{◌≡◌, ◌≢◌, sym, ◌∙◌, inl, inr, ℕ, None, refl, subst}
 use Rattle.plant_grammar.specs.declared.grammar_fault.GrammarFault.{GrammarFault}
 use Rattle.plant_grammar.specs.declared.grammar_fault.GrammarFaultKind.{GrammarFaultKind}
 use Rattle.plant_grammar.specs.declared.grammar_fault.GrammarFaultKind.TheVariants as word
@@ -50,16 +50,6 @@ tells_no_name word.WrongKind tells of = tells
 tells_no_name word.InputBoundTwice tells of = tells
 tells_no_name word.TooMany tells of = tells
 tells_no_name word.Memory tells of = of
-
--- what the fault of a source is of
-pub source_kind : (k : GrammarFaultKind) → TellsOfSource k → IsOfDeclaredName (kind_of_word k) → (kind_of_word k ≡ kind.UnknownName) ⊎ (kind_of_word k ≡ kind.WrongKind)
-source_kind word.Syntax tells of = absurd of
-source_kind word.NameTwice tells of = absurd tells
-source_kind word.UnknownName tells of = inl refl
-source_kind word.WrongKind tells of = inr refl
-source_kind word.InputBoundTwice tells of = absurd tells
-source_kind word.TooMany tells of = absurd tells
-source_kind word.Memory tells of = absurd of
 
 -- a fault that tells of no name
 pub no_name : (k : GrammarFaultKind) → TellsOfName k ⊥ ⊥ → IsOfDeclaredName (kind_of_word k) → ⊥

@@ -4,3 +4,4 @@ pub mod Drafts
 pub mod Found
 pub mod Outputs
 pub mod Reading
+pub mod SourceFaults

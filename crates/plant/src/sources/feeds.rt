@@ -2,8 +2,9 @@
 
 ghost use Rattle.std.specs.Prelude.{◌≡◌, ◌≢◌, All, IfOk, OnOk, OnErr, length, IfErr};
 ghost use Rattle.plant.specs.Steps.Found.{TellsOfSource};
+ghost use Rattle.plant.specs.Steps.SourceFaults.{TellsOfBind, TellsOfBinds, TellsOfUse, TellsOfUses};
 ghost use Rattle.plant_grammar.specs.WordFaults.{IsGrammarFault};
-ghost use Rattle.plant_grammar.specs.declared.grammar_fault.GrammarFaultKind.TheVariants.{Memory};
+ghost use Rattle.plant_grammar.specs.declared.grammar_fault.GrammarFaultKind.TheVariants.{Memory, UnknownName};
 ghost use Rattle.std.specs.List.{AllZip, flat_map};
 ghost use Rattle.plant_grammar.specs.Lawful.{binds_of, use_of, uses_of};
 ghost use Rattle.plant_grammar.specs.Steps.ReadParts.{FindsInput};
@@ -24,6 +25,7 @@ use task_codes::ProgramInstance;
 
 /// The fault of a name that isn't declared where it is sought.
 fn unknown(name: &Name) -> GrammarFault
+    ensures kind { result.kind ≡ UnknownName }
     ensures tells { TellsOfSource result.kind }
     ensures value { IsGrammarFault result }
 {
@@ -39,6 +41,7 @@ fn find_value(
 ) -> Result<(TaskRef, usize, Kind), GrammarFault>
     ensures ok { IfOk result (IsValue (drafted drafts.now) resource.now instance.now output.now) }
     ensures refused { OnErr result (AreDraftsApart drafts.now → HasNoValue (drafted drafts.now) resource.now instance.now output.now) }
+    ensures kind { IfErr result (λ e. e.kind ≡ UnknownName) }
     ensures tells { IfErr result (λ e. TellsOfSource e.kind) }
     ensures value { IfErr result IsGrammarFault }
 {
@@ -66,6 +69,7 @@ fn find_origin(
 ) -> Result<(Origin, Kind), GrammarFault>
     ensures ok { IfOk result (λ x. IsOriginOf (drafted drafts.now) source.now x.0 x.1) }
     ensures refused { OnErr result (AreDraftsApart drafts.now → HasNoOrigin (drafted drafts.now) source.now) }
+    ensures kind { IfErr result (λ e. e.kind ≡ UnknownName) }
     ensures tells { IfErr result (λ e. TellsOfSource e.kind) }
     ensures value { IfErr result IsGrammarFault }
 {
@@ -109,6 +113,7 @@ fn feed(
 ) -> Result<Feed, GrammarFault>
     ensures ok { IfOk result (λ f. IsFeedOf (drafted drafts.now) declarations.now bind.now f) }
     ensures refused { OnErr result (AreDraftsApart drafts.now → HasFeed (drafted drafts.now) declarations.now bind.now → ⊥) }
+    ensures why { IfErr result (λ e. AreDraftsApart drafts.now → TellsOfBind (drafted drafts.now) declarations.now bind.now e.kind) }
     ensures tells { IfErr result (λ e. TellsOfSource e.kind) }
     ensures value { IfErr result IsGrammarFault }
 {
@@ -187,6 +192,7 @@ fn check_binds(
 ) -> Result<(), GrammarFault>
     ensures ok { OnOk result (All (HasFeed (drafted drafts.now) declarations.now) binds.now) }
     ensures refused { OnErr result (AreDraftsApart drafts.now → All (HasFeed (drafted drafts.now) declarations.now) binds.now → ⊥) }
+    ensures why { IfErr result (λ e. AreDraftsApart drafts.now → TellsOfBinds (drafted drafts.now) declarations.now binds.now e.kind) }
     ensures tells { IfErr result (λ e. TellsOfSource e.kind) }
     ensures value { IfErr result IsGrammarFault }
 {
@@ -200,6 +206,7 @@ fn check_binds(
 fn check_use(drafts: &[ResourceDraft], types: &[ProgramType], run: &Use) -> Result<(), GrammarFault>
     ensures ok { OnOk result (IsUseResolved (drafted drafts.now) types.now run.now) }
     ensures refused { OnErr result (AreDraftsApart drafts.now → IsUseResolved (drafted drafts.now) types.now run.now → ⊥) }
+    ensures why { IfErr result (λ e. AreDraftsApart drafts.now → TellsOfUse (drafted drafts.now) types.now run.now e.kind) }
     ensures tells { IfErr result (λ e. TellsOfSource e.kind) }
     ensures value { IfErr result IsGrammarFault }
 {
@@ -217,6 +224,7 @@ fn check_item(
 ) -> Result<(), GrammarFault>
     ensures ok { OnOk result (All (IsUseResolved (drafted drafts.now) types.now) (use_of item.now)) }
     ensures refused { OnErr result (AreDraftsApart drafts.now → All (IsUseResolved (drafted drafts.now) types.now) (use_of item.now) → ⊥) }
+    ensures why { IfErr result (λ e. AreDraftsApart drafts.now → TellsOfUses (drafted drafts.now) types.now (use_of item.now) e.kind) }
     ensures tells { IfErr result (λ e. TellsOfSource e.kind) }
     ensures value { IfErr result IsGrammarFault }
 {
@@ -234,6 +242,7 @@ fn check_resource(
 ) -> Result<(), GrammarFault>
     ensures ok { OnOk result (All (IsUseResolved (drafted drafts.now) types.now) (uses_of resource.now)) }
     ensures refused { OnErr result (AreDraftsApart drafts.now → All (IsUseResolved (drafted drafts.now) types.now) (uses_of resource.now) → ⊥) }
+    ensures why { IfErr result (λ e. AreDraftsApart drafts.now → TellsOfUses (drafted drafts.now) types.now (uses_of resource.now) e.kind) }
     ensures tells { IfErr result (λ e. TellsOfSource e.kind) }
     ensures value { IfErr result IsGrammarFault }
 {
@@ -251,6 +260,7 @@ pub fn check_sources(
 ) -> Result<(), GrammarFault>
     ensures ok { OnOk result (All (IsUseResolved (drafted drafts.now) types.now) (flat_map uses_of resources.now)) }
     ensures refused { OnErr result (AreDraftsApart drafts.now → All (IsUseResolved (drafted drafts.now) types.now) (flat_map uses_of resources.now) → ⊥) }
+    ensures why { IfErr result (λ e. AreDraftsApart drafts.now → TellsOfUses (drafted drafts.now) types.now (flat_map uses_of resources.now) e.kind) }
     ensures tells { IfErr result (λ e. TellsOfSource e.kind) }
     ensures value { IfErr result IsGrammarFault }
 {

@@ -15,6 +15,7 @@ use Rattle.program_bodies.specs.Faults.{IsPlantFault, IsOfBody, IsOfDeclaredName
 use Rattle.program_bodies.specs.Ladders.{IsLadderOf}
 use Rattle.program_bodies.specs.ProgramTypes.{TypeValue}
 use Rattle.plant.specs.Faultless.{AreBindsFed, IsTreeFaultless}
+use Rattle.plant.specs.SourceFaults.{HasSourceFault}
 use Rattle.program_bodies.specs.declared.plant_fault.PlantFaultKind.TheVariants.{Memory, Syntax}
 use Rattle.plant_grammar.specs.Steps.Reading.{programs_of}
 use Rattle.plant.specs.PlantText.{IsNoPlant, HasFaultlessWords, IsNotOfGrammar, IsBodyFaultIn, IsNameFaultIn}
@@ -23,7 +24,7 @@ use Rattle.plant.specs.StandsFor.{IsPlantOf}
 use Rattle.plant.specs.Steps.Reading.{ReadingValue, tree_of}
 use Rattle.plant.proofs.BodyCounts.{begun_by_programs}
 use Rattle.plant.proofs.DrawnTrees.{drawn_tree, drawn_have_ladders}
-use Rattle.plant.proofs.WordFaults.{plant_of_word, no_body, of_name, no_name, source_kind, memory_no_body, memory_no_name, body_no_name, syntax_no_memory, body_no_syntax, of_syntax, source_no_syntax}
+use Rattle.plant.proofs.WordFaults.{plant_of_word, no_body, of_name, no_name, memory_no_body, memory_no_name, body_no_name, syntax_no_memory, body_no_syntax, of_syntax, source_no_syntax}
 use Rattle.plant.proofs.KnownWords.{words_known}
 use Rattle.plant.proofs.RefusedKnown.{begun_by_front, begun_by_refused}
 use Rattle.plant.proofs.plant.Plant.read.Goals as goal
@@ -136,12 +137,14 @@ returns-in_err-plant-clause-name c =
     let words : map (λ (w : WordValue). w.token) ws ≡ c.new-reader.result.words = ap (λ (ws : List WordValue). map (λ (w : WordValue). w.token) ws) (sym c.words-2.ensures) ∙ ap (λ (r : ReaderValue). r.words) (sym c.new-reader.ensures) in
     let begun = begun_by_front (without_last 13 c.args.text.now) ws c.new-reader.result.words (words_of tree) c.read_tree-tree.new.reader.words c.in_ok-words.ensures.begun words read.written (words_known tree) in
     inr (record {
-      kind_is = source_kind word.kind c.in_err-plant.ensures.tells of;
+      kind = word.kind;
+      kind_is = refl;
       tree = tree;
       lines = begun.0;
       begun = begun.1;
       lawful = read.lawful;
       refused = λ fed. c.in_err-plant.ensures.refused (λ memory. subst names.IsOfName memory (of_name word.kind of)) read.name (subst (λ (t : Tree). All (AreBindsFed t) (all_uses t)) (sym same) fed);
+      wrong = subst (λ (t : Tree). HasSourceFault t word.kind) same (c.in_err-plant.ensures.why (λ memory. subst names.IsOfName memory (of_name word.kind of)) read.name);
     }))
 
 pub returns-in_err-end-clause-value : goal.returns-in_err-end-clause-value

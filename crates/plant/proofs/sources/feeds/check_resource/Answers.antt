@@ -1,4 +1,6 @@
-use Rattle.plant.proofs.Members.{part_of}
+use Rattle.plant.specs.Steps.SourceFaults.{TellsOfUse, TellsOfUses}
+use Rattle.plant_grammar.specs.declared.grammar.tree.Use.{Use}
+use Rattle.plant.proofs.Members.{part_of, part_some}
 use Rattle.plant_grammar.specs.Lawful.{uses_of}
 use Rattle.plant.specs.Steps.Drafts.{AreDraftsApart}
 use Rattle.lists.proofs.Results.{kept_fault}
@@ -26,3 +28,10 @@ returns-in_err-check_item-clause-refused c =
     let Resolved = IsUseResolved (drafted c.args.drafts.now) c.args.types.now in
     kept_fault c.in_err-check_item.field-0.0 (λ _. AreDraftsApart c.args.drafts.now → All Resolved (uses_of c.args.resource.now) → ⊥) c.from_residual.result c.from_residual.ensures.1
     (λ apart each. c.in_err-check_item.ensures.refused apart (part_of Resolved use_of c.deref-item-items.result.now c.loop-item.item-index c.item-item.result c.loop-item-test.true c.item-item.is (rw c.deref-item-items.ensures.value each)))
+
+pub returns-in_err-check_item-clause-why : goal.returns-in_err-check_item-clause-why
+returns-in_err-check_item-clause-why c =
+    let plant = drafted c.args.drafts.now in
+    let fault = c.in_err-check_item.field-0.0 in
+    kept_fault fault (λ e. AreDraftsApart c.args.drafts.now → TellsOfUses plant c.args.types.now (uses_of c.args.resource.now) e.kind) c.from_residual.result c.from_residual.ensures.1
+    (λ apart. rw (← c.deref-item-items.ensures.value) (part_some (λ (u : Use). TellsOfUse plant c.args.types.now u fault.kind) use_of c.deref-item-items.result.now c.loop-item.item-index c.item-item.result c.loop-item-test.true c.item-item.is (c.in_err-check_item.ensures.why apart)))

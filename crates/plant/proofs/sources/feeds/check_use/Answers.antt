@@ -1,8 +1,9 @@
-use Rattle.plant.specs.Steps.Drafts.{drafted, HasFeed}
+use Rattle.plant.specs.Steps.SourceFaults.{TellsOfBinds, TellsOfUse}
+use Rattle.plant.specs.Steps.Drafts.{drafted, HasFeed, AreDraftsApart}
 use Rattle.plant_grammar.specs.Lawful.{binds_of}
 use Rattle.lists.proofs.Places.{some_same}
-use Rattle.std.proofs.lemmas.Result.{on_err_weaker}
-use Rattle.std.proofs.Common.{sym, subst, ◌∙◌, All}
+use Rattle.std.proofs.lemmas.Result.{on_err_weaker, IfErr-weaker}
+use Rattle.std.proofs.Common.{sym, subst, ◌∙◌, All, inr}
 use Rattle.std.proofs.Common.{rules, ◌≡◌, Some}
 use Rattle.std.specs.List.{find}
 use Rattle.plant_grammar.specs.Names.{is_named}
@@ -23,3 +24,11 @@ returns-clause-refused c =
     on_err_weaker c.check_binds.result (λ refused apart is.
     let same : is.type ≡ c.in-Some.found.now = some_same (sym is.type_is ∙ found) in
     refused apart (subst (λ (t : TypeValue). All (HasFeed (drafted c.args.drafts.now) t.ladder.declarations) (binds_of c.args.run.now)) same is.each)) none
+
+pub returns-clause-why : goal.returns-clause-why
+returns-clause-why c =
+    let plant = drafted c.args.drafts.now in
+    let found : find (λ (t : TypeValue). is_named c.args.run.now.program t.program.name) c.args.types.now ≡ Some c.in-Some.found.now = search rules in
+    let why = rw (c.binds_of.ensures, c.declarations.ensures.list, c.deref.ensures, c.ladder.ensures.ladder) at c.check_binds.ensures.why in
+    IfErr-weaker c.check_binds.result (λ e. AreDraftsApart c.args.drafts.now → TellsOfBinds plant c.in-Some.found.now.ladder.declarations (binds_of c.args.run.now) e.kind)
+    (λ e. AreDraftsApart c.args.drafts.now → TellsOfUse plant c.args.types.now c.args.run.now e.kind) (λ e told apart. inr (c.in-Some.found.now, found, told apart)) why

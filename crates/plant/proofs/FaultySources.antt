@@ -1,0 +1,80 @@
+-- What is found wrong with a source of drafts is wrong with it in the tree.
+use Rattle.std.proofs.Common.{◌≡◌, inl, inr, ℕ, IsTrue, List, None, Some, sym, ◌∙◌, subst}
+use Rattle.std.specs.Prelude.{All, Any}
+use Rattle.std.specs.List.{flat_map, AllZip}
+use Rattle.lists.proofs.Members.{any_at, any_found}
+use Rattle.declared_names.specs.declared.declarations.Declaration.{Declaration}
+use Rattle.plant_grammar.specs.declared.grammar_fault.GrammarFaultKind.{GrammarFaultKind}
+use Rattle.plant_grammar.specs.declared.grammar_fault.GrammarFaultKind.TheVariants as kind
+use Rattle.plant_grammar.specs.declared.grammar.tree.Program.{Program}
+use Rattle.plant_grammar.specs.declared.grammar.tree.Bind.{Bind}
+use Rattle.plant_grammar.specs.declared.grammar.tree.Use.{Use}
+use Rattle.plant_grammar.specs.declared.grammar.tree.Resource.{Resource}
+use Rattle.plant_grammar.specs.Grammar.{Tree}
+use Rattle.plant_grammar.specs.Names.{is_named}
+use Rattle.plant_grammar.specs.Kinds.{IsOfInputKind}
+use Rattle.plant_grammar.specs.Lawful.{variables, uses_of, binds_of, IsResourceLawful, IsTreeLawful}
+use Rattle.program_bodies.specs.Ladders.{IsLadderOf}
+use Rattle.program_bodies.specs.ProgramTypes.{TypeValue}
+use Rattle.plant.specs.PlantValue.{ResourceValue, PlantValue}
+use Rattle.plant.specs.Faultless.{RunsType}
+use Rattle.plant.specs.SourceFaults.{IsBindFault, HasBindFault}
+use Rattle.plant.specs.Steps.Drafts.{drafted, programs_in, IsResourceDraft, IsTypeKnown}
+use Rattle.plant.specs.Steps.SourceFaults.{MissesSource, TellsOfBind, TellsOfUse, TellsOfUses}
+use Rattle.plant.proofs.FirstMentions.{all_flat}
+use Rattle.plant.proofs.LinkedPlants.{uses_all}
+use Rattle.plant.proofs.Members.{type_found}
+use Rattle.plant.proofs.Sourcing.{source_of_origin, origin_of_source, one_type, type_of, tree_apart, types_known}
+use Rattle.plant.proofs.Zips.{all_at}
+
+-- a name that is unknown
+pub unknown_bind : (plant : PlantValue) (ds : List Declaration) (b : Bind) (k : GrammarFaultKind) → k ≡ kind.UnknownName → MissesSource plant ds b → TellsOfBind plant ds b k
+unknown_bind plant ds b k e misses = subst (TellsOfBind plant ds b) (sym e) misses
+
+-- the binds of each instance of a lawful tree name inputs of its type
+inputs_known : (programs : List Program) (name : List ℕ) (rs : List Resource) → IsTreeLawful (record { programs = programs; name = name; resources = rs })
+    → All (λ u. RunsType (record { programs = programs; name = name; resources = rs }) (λ p. All (IsOfInputKind (variables p)) (binds_of u)) u) (flat_map uses_of rs)
+inputs_known programs name rs lawful = all_flat Named uses_of rs (λ k d lt. of_resource _ (lawful.resources_lawful k d lt))
+  where
+    written : Tree
+    written = record { programs = programs; name = name; resources = rs }
+
+    Named : Use → Type 0
+    Named u = Any (λ (p : Program). IsTrue (is_named u.program p.name) × All (IsOfInputKind (variables p)) (binds_of u)) programs
+
+    of_resource : (r : Resource) → IsResourceLawful (record { programs = programs; name = name; resources = rs }) r → All Named (uses_of r)
+    of_resource r is = uses_all Named r.items.items (λ j u at. (is.uses_lawful j u at).type_is)
+
+module _ (types : List TypeValue) (name : List ℕ) (rs : List Resource) (ds : List ResourceValue) (drawn : All (λ (t : TypeValue). IsLadderOf t.program t.ladder) types) (known : AllZip (IsResourceDraft (programs_in types)) rs ds)
+    (lawful : IsTreeLawful (record { programs = programs_in types; name = name; resources = rs })) where
+  abbrev written : Tree
+  written = record { programs = programs_in types; name = name; resources = rs }
+
+  bind_fault : (p : Program) (b : Bind) (k : GrammarFaultKind) → IsOfInputKind (variables p) b → TellsOfBind (drafted ds) (variables p) b k → IsBindFault written k p b
+  bind_fault p b kind.Syntax input told = told
+  bind_fault p b kind.NameTwice input told = told
+  bind_fault p b kind.UnknownName (its, is, has) (inl none) = absurd (let wrong : None ≡ Some its = sym none ∙ is in cc)
+  bind_fault p b kind.UnknownName input (inr none) = λ kind has. let o = origin_of_source (programs_in types) name rs ds known lawful b.source kind has in none o.0 kind o.1
+  bind_fault p b kind.WrongKind input (its, given, o, is, of, other) = (its, given, is, source_of_origin (programs_in types) name rs ds known (tree_apart types name rs ds drawn known lawful) b.source o given of, other)
+  bind_fault p b kind.InputBoundTwice input told = told
+  bind_fault p b kind.TooMany input told = told
+  bind_fault p b kind.Memory input told = told
+
+  use_fault : (u : Use) (k : GrammarFaultKind) → IsTypeKnown types u → RunsType written (λ p. All (IsOfInputKind (variables p)) (binds_of u)) u → TellsOfUse (drafted ds) types u k → HasBindFault written k u
+  use_fault u k some inputs (inl none) = absurd (type_found types u some none)
+  use_fault u k some inputs (inr (type, found, any)) =
+      let t = type_of types name rs ds drawn known lawful u type found in
+      let p = any_found (λ (p : Program). IsTrue (is_named u.program p.name) × All (IsOfInputKind (variables p)) (binds_of u)) (programs_in types) inputs in
+      let same : p.1 ≡ type.program = one_type (programs_in types) name rs ds known lawful u p.0 p.1 type.program t.0 (record { stands = p.2; named = p.3.0 }) t.1 in
+      let kinds : All (IsOfInputKind (variables type.program)) (binds_of u) = subst (λ (q : Program). All (IsOfInputKind (variables q)) (binds_of u)) same p.3.1 in
+      let b = any_found (λ (b : Bind). TellsOfBind (drafted ds) type.ladder.declarations b k) (binds_of u) any in
+      let told : TellsOfBind (drafted ds) (variables type.program) b.1 k = subst (λ (vs : List Declaration). TellsOfBind (drafted ds) vs b.1 k) t.2 b.3 in
+      let at : Any (IsBindFault written k type.program) (binds_of u) = any_at (IsBindFault written k type.program) (binds_of u) b.0 b.1 b.2 (bind_fault type.program b.1 k (all_at (IsOfInputKind (variables type.program)) (binds_of u) kinds b.0 b.1 b.2) told) in
+      any_at (λ (q : Program). IsTrue (is_named u.program q.name) × Any (IsBindFault written k q) (binds_of u)) (programs_in types) t.0 type.program t.1.stands (t.1.named, at)
+
+  pub fault_in_tree : (k : GrammarFaultKind) → TellsOfUses (drafted ds) types (flat_map uses_of rs) k → Any (HasBindFault written k) (flat_map uses_of rs)
+  fault_in_tree k any =
+      let u = any_found (λ (u : Use). TellsOfUse (drafted ds) types u k) (flat_map uses_of rs) any in
+      any_at (HasBindFault written k) (flat_map uses_of rs) u.0 u.1 u.2
+      (use_fault u.1 k (all_at (IsTypeKnown types) (flat_map uses_of rs) (types_known types name rs lawful) u.0 u.1 u.2)
+      (all_at (λ (v : Use). RunsType written (λ p. All (IsOfInputKind (variables p)) (binds_of v)) v) (flat_map uses_of rs) (inputs_known (programs_in types) name rs lawful) u.0 u.1 u.2) u.3)
