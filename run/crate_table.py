@@ -1,5 +1,5 @@
 #!/usr/bin/env python3
-"""run/crate_table.py [--write]: the table of crates in docs/ARCHITECTURE.md, made of crates.txt and what each crate says of itself.
+"""run/crate_table.py [--write]: the table of the program's crates in docs/ARCHITECTURE.md, made of crates.txt and what each crate says of itself.
 
 With --write it is put into the page; without, a last line tells whether the table there is this one.
 """
@@ -8,7 +8,7 @@ import re
 import sys
 
 sys.dont_write_bytecode = True
-from crates import ROOT, crates_of, listed_crates
+from crates import PROGRAM, ROOT, crates_of, listed_crates
 
 PAGE = f"{ROOT}/docs/ARCHITECTURE.md"
 BEGIN, END = "<!-- The table of crates: run/crate_table.py --write makes it. -->\n", "<!-- The end of the table of crates. -->\n"
@@ -33,7 +33,10 @@ def nearest(crate, below):
 
 def table():
     rows = ["Crate | What is in it | Over", "---|---|---"]
+    wanted = crates_of(PROGRAM)
     for crate, below in listed_crates().items():
+        if crate not in wanted:
+            continue
         over = ", ".join(f"`{it}`" for it in nearest(crate, below))
         rows.append(f"`{crate}` | {sentence_of(crate)} | {over}".rstrip())
     return "\n".join(rows) + "\n"

@@ -13,7 +13,7 @@ sys.path.insert(0, f"{ROOT}/run")
 sys.dont_write_bytecode = True
 from crates import PROGRAM, crates_of
 
-FOLDERS = ("", "docs", "examples", "tests", "bench", "wrong_bodies")
+FOLDERS = ("", "docs", "examples", "examples/machines", "tests", "bench", "wrong_bodies")
 LINK = re.compile(r"\]\(([^)\s]+)\)")
 told = []
 
