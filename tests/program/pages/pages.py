@@ -1,7 +1,7 @@
 """That the pages of the repository hold together, the program aside.
 
 Each link to a file of the repository leads to one, and one to a heading to that heading. The table of crates is made of
-crates.txt and the crates, and each crate of the program has its heading among what is proved.
+crates.txt and the crates, and each crate of the program that promises something has its heading among what is proved.
 """
 import os
 import re
@@ -14,6 +14,8 @@ sys.dont_write_bytecode = True
 from crates import PROGRAM, crates_of
 
 FOLDERS = ("", "docs", "examples", "examples/machines", "tests", "bench", "wrong_bodies")
+# There is no call in the one, and nothing is promised of the other.
+PROMISE_NOTHING = {"lists", "progress"}
 LINK = re.compile(r"\]\(([^)\s]+)\)")
 told = []
 
@@ -51,7 +53,7 @@ def main():
             if name.endswith(".md"):
                 try_links(os.path.join(folder, name))
     titles = re.findall(r"(?m)^### (\w+)", read("docs/PROVED.md"))
-    for crate in sorted(crates_of(PROGRAM).keys() ^ set(titles)):
+    for crate in sorted(crates_of(PROGRAM).keys() - PROMISE_NOTHING ^ set(titles)):
         told.append(f"docs/PROVED.md: {crate} is a crate of the program or a heading, and not both")
     table = subprocess.run([sys.executable, f"{ROOT}/run/crate_table.py"], stdout=subprocess.PIPE, text=True, check=False)
     if table.returncode:
