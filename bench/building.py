@@ -9,6 +9,9 @@ import sys
 
 HERE = os.path.dirname(os.path.realpath(__file__))
 ROOT = os.path.dirname(HERE)
+sys.path.insert(0, f"{ROOT}/run")
+sys.dont_write_bytecode = True
+from crates import crates_of, lines_of_crates, names_of, write_crates_txt
 
 
 def run(words, folder):
@@ -24,30 +27,20 @@ def copy_named(source, target):
     shutil.copy(source, target.removesuffix(".txt"))
 
 
-def crates_below(crates):
-    """The line in crates.txt of each of these crates, and of those that they stand on, also through others."""
-    with open(os.path.join(ROOT, "crates.txt"), encoding="ascii") as file:
-        listed = {line.split(":")[0].split()[0]: line for line in file.read().splitlines() if ":" in line}
-    lines, left = {}, list(crates)
-    while left:
-        name = left.pop()
-        if name in listed and name not in lines:
-            lines[name] = listed[name]
-            left += listed[name].split(":")[1].split()
-    return lines
+def copy_below(root, crates, more=""):
+    """Copies these crates, and those that they stand on, with what `rt lib` made of them, into a root; more is the line of one that only that root has."""
+    unneeded = shutil.ignore_patterns("incremental", "must-fail", "BUILD.bazel")
+    wanted = crates_of(*crates)
+    for it in wanted:
+        shutil.copytree(os.path.join(ROOT, "crates", it), os.path.join(root, "crates", it), ignore=unneeded)
+    shutil.copy(os.path.join(ROOT, "HANDLES"), root)
+    write_crates_txt(root, wanted, more)
 
 
 def copy_crates(root, line):
-    """Copies the crate of a line of crates.txt, and those that it stands on with what `rt lib` made of them; answers its folder."""
-    crates = os.path.join(root, "crates")
-    name, below = line.split()[0].rstrip(":"), line.split(":")[1].split()
-    unneeded = shutil.ignore_patterns("incremental", "must-fail", "BUILD.bazel")
-    lines = crates_below(below)
-    for it in lines:
-        shutil.copytree(os.path.join(ROOT, "crates", it), os.path.join(crates, it), ignore=unneeded)
-    folder = os.path.join(crates, name)
+    """Copies the crate of a line for crates.txt from this folder, and those that it stands on; answers its folder."""
+    copy_below(root, [it for it in names_of(line) if it in lines_of_crates()], f"{line}\n")
+    name = line.partition(":")[0].split()[0]
+    folder = os.path.join(root, "crates", name)
     shutil.copytree(os.path.join(HERE, name), folder, copy_function=copy_named)
-    shutil.copy(os.path.join(ROOT, "HANDLES"), root)
-    with open(os.path.join(root, "crates.txt"), "w", encoding="ascii") as file:
-        file.write("\n".join([*lines.values(), line]) + "\n")
     return folder

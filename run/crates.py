@@ -27,27 +27,41 @@ def around_proofs():
     return {"RT_JOBS": str(checks_at_once()), "MIMALLOC_PURGE_DELAY": "-1", **os.environ}
 
 
+def lines_of_crates():
+    """The line of crates.txt for each crate, in its order."""
+    with open(f"{ROOT}/crates.txt", encoding="utf-8") as file:
+        lines = [line for line in file if ":" in line.partition("#")[0]]
+    return {line.partition(":")[0].split()[0]: line for line in lines}
+
+
+def names_of(line):
+    """What a line of crates.txt names: the crates that its own stands on, those of the kit among them."""
+    return line.partition("#")[0].partition(":")[2].split()
+
+
 def listed_crates():
     """The crates of crates.txt, and for each those of them that it names."""
-    named = {}
-    with open(f"{ROOT}/crates.txt", encoding="utf-8") as file:
-        for line in file:
-            head, colon, below = line.partition("#")[0].partition(":")
-            if colon:
-                named[head.split()[0]] = below.split()
-    return {crate: [it for it in below if it in named] for crate, below in named.items()}
+    lines = lines_of_crates()
+    return {crate: [it for it in names_of(line) if it in lines] for crate, line in lines.items()}
 
 
-def crates_of(program):
-    """The crates that a program is made of, each with those that it names."""
+def crates_of(*asked):
+    """These crates and all that they stand on, each with those that it names."""
     listed, needed = listed_crates(), {}
-    waiting = [program]
+    waiting = list(asked)
     while waiting:
         crate = waiting.pop()
         if crate not in needed:
             needed[crate] = listed[crate]
             waiting += listed[crate]
     return needed
+
+
+def write_crates_txt(root, crates, more=""):
+    """The crates.txt of another root: the lines of these crates, and of one that only that root has."""
+    with open(f"{root}/crates.txt", "w", encoding="utf-8") as file:
+        file.writelines(line for crate, line in lines_of_crates().items() if crate in crates)
+        file.write(more)
 
 
 def files_of(crate):

@@ -8,7 +8,7 @@ import os
 import shutil
 import tempfile
 
-from crates import ROOT, listed_crates
+from crates import ROOT, crates_of, write_crates_txt
 
 ROOMS = f"{ROOT}/.git/plc-rooms"
 
@@ -20,17 +20,6 @@ def place_of_rooms():
     shutil.rmtree(ROOMS, ignore_errors=True)
     os.mkdir(ROOMS)
     return ROOMS
-
-
-def below_of(crate):
-    """All crates that a crate stands on."""
-    listed, found, waiting = listed_crates(), set(), [crate]
-    while waiting:
-        for it in listed[waiting.pop()]:
-            if it not in found:
-                found.add(it)
-                waiting.append(it)
-    return found
 
 
 def link_or_copy(old, new):
@@ -67,22 +56,16 @@ class Room:
         self.out = f"{ROOT}/crates/{crate}/out"
         self.root = tempfile.mkdtemp(prefix=f"plc-{crate}-", dir=place)
         self.folder = f"{self.root}/crates/{crate}"
-        below = below_of(crate)
-        self.write_crates_txt({crate, *below})
+        crates = crates_of(crate)
+        write_crates_txt(self.root, crates)
         link_or_copy(f"{ROOT}/HANDLES", f"{self.root}/HANDLES")
-        for it in below:
+        for it in crates.keys() - {crate}:
             take_over(it, f"{self.root}/crates/{it}", ["src", "specs", "proofs", "out/rlib"])
         take_over(crate, self.folder, [it for it in os.listdir(f"{ROOT}/crates/{crate}") if it not in ("out", "must-fail")])
         for kept in ("rlib", "incremental"):
             if os.path.isdir(f"{self.out}/{kept}"):
                 os.makedirs(f"{self.folder}/out", exist_ok=True)
                 shutil.move(f"{self.out}/{kept}", f"{self.folder}/out/{kept}")
-
-    def write_crates_txt(self, crates):
-        with open(f"{ROOT}/crates.txt", encoding="utf-8") as file:
-            lines = [line for line in file if line.partition("#")[0].partition(":")[0].split(" ")[0] in crates]
-        with open(f"{self.root}/crates.txt", "w", encoding="utf-8") as file:
-            file.writelines(lines)
 
     def leave(self):
         """Moves what was proved, or the work on it, back into the repository."""

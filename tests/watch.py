@@ -4,24 +4,24 @@ import re
 import threading
 import time
 
+from crates import ROOT, listed_crates
+
 TICKS = os.sysconf("SC_CLK_TCK")
 PROOF, TESTS, EDITS = "proof", "tests", "edits"
 
 
-def edits_by_crate(root):
+def edits_by_crate():
     """How many must-fail edits each crate of crates.txt has."""
-    with open(f"{root}/crates.txt", encoding="utf-8") as file:
-        crates = re.findall(r"(?m)^([a-z][a-z0-9_]*).*:", file.read())
     count = {}
-    for crate in crates:
-        folder = f"{root}/crates/{crate}/must-fail"
+    for crate in listed_crates():
+        folder = f"{ROOT}/crates/{crate}/must-fail"
         names = os.listdir(folder) if os.path.isdir(folder) else []
         count[crate] = sum(name.endswith(".edit") for name in names)
     return count
 
 
-def has_tests(root, crate):
-    for folder, _, names in os.walk(f"{root}/crates/{crate}/src"):
+def has_tests(crate):
+    for folder, _, names in os.walk(f"{ROOT}/crates/{crate}/src"):
         for name in names:
             with open(f"{folder}/{name}", encoding="utf-8") as file:
                 if "#[test]" in file.read():
@@ -70,11 +70,11 @@ class Part:
 class Watch(threading.Thread):
     """Looks once a second at the checks below a process, and tells of each part and edit as it begins."""
 
-    def __init__(self, root, pid):
+    def __init__(self, pid):
         super().__init__(daemon=True)
         self.pid, self.begun, self.parts = pid, time.monotonic(), {}
-        self.edits = edits_by_crate(root)
-        self.in_all = len(self.edits) + sum(map(bool, self.edits.values())) + sum(has_tests(root, it) for it in self.edits)
+        self.edits = edits_by_crate()
+        self.in_all = len(self.edits) + sum(map(bool, self.edits.values())) + sum(map(has_tests, self.edits))
         self.is_over = threading.Event()
 
     def run(self):

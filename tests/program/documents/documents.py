@@ -135,7 +135,7 @@ def try_example(kind, text, place, status):
 
 def rows_of(name, title):
     """The rows of the table in a section of a guide: a kind, and what is said of it; where it is met is no part of that."""
-    lines = re.findall(r"(?m)^\| (.*) \|$", section(name, title))
+    lines = re.findall(r"(?m)^(?:\| )?(\S.* \| .*?)(?: \|)?$", section(name, title))
     header, *rows = ([it.replace("`", "") for it in line.split(" | ")] for line in lines)
     for row in rows:
         yield row[0], [cell for at, cell in zip(header[1:], row[1:]) if at != "At"]

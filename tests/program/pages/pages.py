@@ -1,0 +1,64 @@
+"""That the pages of the repository hold together, the program aside.
+
+Each link to a file of the repository leads to one, and one to a heading to that heading. The table of crates is made of
+crates.txt and the crates, and each crate of the program that promises something has its heading among what is proved.
+"""
+import os
+import re
+import subprocess
+import sys
+
+ROOT = os.path.dirname(os.path.realpath(sys.argv[1]))
+sys.path.insert(0, f"{ROOT}/run")
+sys.dont_write_bytecode = True
+from crates import PROGRAM, crates_of
+
+FOLDERS = ("", "docs", "examples", "examples/machines", "tests", "bench", "wrong_bodies")
+# There is no call in the one, and nothing is promised of the other.
+PROMISE_NOTHING = {"lists", "progress"}
+LINK = re.compile(r"\]\(([^)\s]+)\)")
+told = []
+
+
+def read(path):
+    with open(os.path.join(ROOT, path), encoding="utf-8") as file:
+        return file.read()
+
+
+def without_code(text):
+    return re.sub(r"(?ms)^```.*?^```$|`[^`\n]*`", "", text)
+
+
+def anchors_of(path):
+    """The headings of a page, as links name them."""
+    titles = re.findall(r"(?m)^#+ (.*)$", re.sub(r"(?ms)^```.*?^```$", "", read(path)))
+    return {re.sub(r"[^\w\- ]", "", title.lower()).replace(" ", "-") for title in titles}
+
+
+def try_links(path):
+    for link in LINK.findall(without_code(read(path))):
+        if "://" in link:
+            continue
+        name, _, anchor = link.partition("#")
+        target = os.path.normpath(os.path.join(os.path.dirname(path), name)) if name else path
+        if not os.path.exists(os.path.join(ROOT, target)):
+            told.append(f"{path}: there is no {link}")
+        elif anchor and anchor not in anchors_of(target):
+            told.append(f"{path}: {target} has no heading {anchor}")
+
+
+def main():
+    for folder in FOLDERS:
+        for name in sorted(os.listdir(os.path.join(ROOT, folder))):
+            if name.endswith(".md"):
+                try_links(os.path.join(folder, name))
+    titles = re.findall(r"(?m)^### (\w+)", read("docs/PROVED.md"))
+    for crate in sorted(crates_of(PROGRAM).keys() - PROMISE_NOTHING ^ set(titles)):
+        told.append(f"docs/PROVED.md: {crate} is a crate of the program or a heading, and not both")
+    table = subprocess.run([sys.executable, f"{ROOT}/run/crate_table.py"], stdout=subprocess.PIPE, text=True, check=False)
+    if table.returncode:
+        told.append(table.stdout)
+    print("\n".join(told) or "the pages hold together")
+
+
+main()
