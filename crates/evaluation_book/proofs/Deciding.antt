@@ -134,7 +134,7 @@ last-greatest first (x ∷ older) fit t i =
       by false d ih = (λ own now. absurd (false≢true (d.passes (own, now))), ih)
 
 -- no entry has the name of a later one
-names-differ : (first : List ℕ) (older : List Evaluated) (x : Evaluated) → AllFit first (x ∷ older) → AllByRecursion (λ (y : Evaluated). y.name ≡ x.name → ⊥) older
+pub names-differ : (first : List ℕ) (older : List Evaluated) (x : Evaluated) → AllFit first (x ∷ older) → AllByRecursion (λ (y : Evaluated). y.name ≡ x.name → ⊥) older
 names-differ first older x fit = each-map _ _ apart older (last-greatest first older fit.1 x.name.task x.name.incarnation) where
   apart : (y : Evaluated) → (y.name.task ≡ x.name.task → y.name.incarnation ≡ x.name.incarnation → y.name.number ≤ last_number (last_in older x.name.task x.name.incarnation)) → y.name ≡ x.name → ⊥
   apart y low same =

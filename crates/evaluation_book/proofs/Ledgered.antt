@@ -1,5 +1,5 @@
 -- What the tables of a book tell of its entries.
-use Rattle.std.proofs.Common.{◌≡◌, ℕ, zero, suc, ◌-◌, ◌<◌, ◌≤◌, arith, replicate, Bool, true, false, cond, ◌&&◌, ◌||◌, List, [], ◌∷◌, ◌++◌, map, take, drop, length, get_or, Option, Some, None, refl, ap, sym, ◌∙◌, subst, eqb, length-append}
+use Rattle.std.proofs.Common.{◌≡◌, ◌⊎◌, inl, inr, ◌↔◌, ℕ, zero, suc, ◌+◌, ◌-◌, ◌<◌, ◌≤◌, arith, replicate, Bool, true, false, cond, ◌&&◌, ◌||◌, List, [], ◌∷◌, ◌++◌, map, take, drop, length, get_or, Option, Some, None, refl, ap, sym, ◌∙◌, subst, eqb, length-append}
 use Rattle.std.specs.Prelude.{reverse, slice_index, slice_get, slice_set}
 use Rattle.std.specs.Option.{option_map, option_and_then}
 use Rattle.std.specs.Ordering.{nat_cmp, ordering_then}
@@ -8,7 +8,8 @@ use Rattle.std.specs.List.{find, list_any}
 use Rattle.std.proofs.lemmas.Bool.{false≢true, eqb-true, eq-eqb}
 use Rattle.std.proofs.lemmas.Bool.Decides.{nat_tests}
 use Rattle.std.proofs.lemmas.List.{reverse-append, reverse-reverse, length-reverse, length-replicate, length-set, get_or-set_same, get_or-set_other}
-use Rattle.lists.proofs.Places.{push_here}
+use Rattle.std.proofs.lemmas.Option.{none-some, same_Some}
+use Rattle.lists.proofs.Places.{push_here, slice_get-append}
 use Rattle.due_list.specs.declared.task_ref.TaskRef.{TaskRef}
 use Rattle.evaluation.specs.declared.name.Name.{Name}
 use Rattle.evaluation.specs.declared.take.Take.{Take}
@@ -24,7 +25,7 @@ use Rattle.evaluation_book.specs.Presents.{ArePresentWith}
 use Rattle.evaluation_book.specs.Steps.Deciding.{is_of_task, is_of_resource, is_named, takes_from}
 use Rattle.evaluation_book.specs.Steps.Ledger.{newest_place, newests, place_of, places_of, places_in, last_index, pair_cmp, index_of, AreRising, taker_in, has_row, noted, AreTables, Tells, TellsOneMore}
 use Rattle.evaluation_book.proofs.Presents.{lows}
-use Rattle.evaluation_book.proofs.Deciding.{test-task, last-greatest}
+use Rattle.evaluation_book.proofs.Deciding.{test-task, test-name, last-greatest, names-differ}
 use Rattle.evaluation_book.proofs.Ledgers.{taker-noted}
 
 abbrev nowhere : Option ℕ
@@ -170,6 +171,60 @@ index-named first t i n (x ∷ older) fit = by (same_task x.name.task t) refl (i
       ∙ ap (λ o. cond (eqb x.name.incarnation i && eqb x.name.number n) (Some (length older)) o) ih
   by false e ih = ih
 
+-- an entry that is found by its name has it
+found-named : (name : Name) (older : List Evaluated) (k : ℕ) → newest_place (is_named name) older ≡ Some k → option_map (λ (y : Evaluated). y.name) (find (is_named name) older) ≡ Some name
+found-named name [] k e = absurd (none-some k e)
+found-named name (x ∷ older) k e = by (is_named name x) refl e (found-named name older k) where
+  by : (b : Bool) → is_named name x ≡ b → cond b (Some (length older)) (newest_place (is_named name) older) ≡ Some k
+      → (newest_place (is_named name) older ≡ Some k → option_map (λ (y : Evaluated). y.name) (find (is_named name) older) ≡ Some name)
+      → option_map (λ (y : Evaluated). y.name) (cond b (Some x) (find (is_named name) older)) ≡ Some name
+  by true t f ih = ap Some ((test-name x.name name).holds t)
+  by false t f ih = ih f
+
+none-newest : (name : Name) (older : List Evaluated) → AllByRecursion (λ (y : Evaluated). y.name ≡ name → ⊥) older → newest_place (is_named name) older ≡ None
+none-newest name [] apart = refl
+none-newest name (x ∷ older) apart = by (is_named name x) refl (none-newest name older apart.1) where
+  by : (b : Bool) → is_named name x ≡ b → newest_place (is_named name) older ≡ None → cond b (Some (length older)) (newest_place (is_named name) older) ≡ None
+  by true t ih = absurd (apart.0 ((test-name x.name name).holds t))
+  by false t ih = ih
+
+-- where an entry has the name, it is found
+placed-named : (first : List ℕ) (name : Name) (older : List Evaluated) → AllFit first older → (k : ℕ) → option_map (λ (y : Evaluated). y.name) (slice_get (reverse older) k) ≡ Some name → newest_place (is_named name) older ≡ Some k
+placed-named first name [] fit k e = absurd (none-some name e)
+placed-named first name (x ∷ older) fit k e = by (slice_get-append (reverse older) (x ∷ []) k) (is_named name x) refl (placed-named first name older fit.1 k) where
+  turned : reverse (x ∷ older) ≡ reverse older ++ x ∷ []
+  turned = reverse-append (x ∷ []) older
+
+  here : option_map (λ (y : Evaluated). y.name) (slice_get (reverse older ++ x ∷ []) k) ≡ Some name
+  here = ap (λ es. option_map (λ (y : Evaluated). y.name) (slice_get es k)) (sym turned) ∙ e
+
+  last : (j : ℕ) (b : Bool) → is_named name x ≡ b → k ≡ length (reverse older) + j → option_map (λ (y : Evaluated). y.name) (slice_get (x ∷ []) j) ≡ Some name → cond b (Some (length older)) (newest_place (is_named name) older) ≡ Some k
+  last zero true t at f = let long = length-reverse older in ap Some (omega (arith, at, long))
+  last zero false t at f = absurd (false≢true (sym t ∙ (test-name x.name name).passes (same_Some x.name name f)))
+  last (suc j) b t at f = absurd (none-some name f)
+
+  by : ((k < length (reverse older)) × (slice_get (reverse older ++ x ∷ []) k ≡ slice_get (reverse older) k)) ⊎ ((j : ℕ) × (k ≡ length (reverse older) + j) × (slice_get (reverse older ++ x ∷ []) k ≡ slice_get (x ∷ []) j))
+      → (b : Bool) → is_named name x ≡ b → (option_map (λ (y : Evaluated). y.name) (slice_get (reverse older) k) ≡ Some name → newest_place (is_named name) older ≡ Some k)
+      → cond b (Some (length older)) (newest_place (is_named name) older) ≡ Some k
+  by (inl front) true t ih =
+      let name_is : x.name ≡ name = (test-name x.name name).holds t in
+      let found = ih (ap (option_map (λ (y : Evaluated). y.name)) (sym front.1) ∙ here) in
+      let none = none-newest name older (subst (λ n. AllByRecursion (λ (y : Evaluated). y.name ≡ n → ⊥) older) name_is (names-differ first older x fit)) in
+      absurd (none-some k (sym none ∙ found))
+  by (inl front) false t ih = ih (ap (option_map (λ (y : Evaluated). y.name)) (sym front.1) ∙ here)
+  by (inr back) b t ih = last back.0 b t back.1 (ap (option_map (λ (y : Evaluated). y.name)) (sym back.2) ∙ here)
+
+-- the place of a name is the one at which an entry has it
+pub place-is : (first : List ℕ) (name : Name) (entries : List Evaluated) → AllFit first (reverse entries) → (k : ℕ)
+    → (newest_place (is_named name) (reverse entries) ≡ Some k) ↔ (option_map (λ (y : Evaluated). y.name) (slice_get entries k) ≡ Some name)
+place-is first name entries fit k = (
+  λ e. ap (λ es. option_map (λ (y : Evaluated). y.name) (slice_get es k)) (sym (reverse-reverse entries))
+      ∙ ap (λ o. option_map (λ (y : Evaluated). y.name) (option_and_then (λ n. slice_get (reverse (reverse entries)) n) o)) (sym e)
+      ∙ ap (option_map (λ (y : Evaluated). y.name)) (newest-at (is_named name) (reverse entries))
+      ∙ found-named name (reverse entries) k e,
+  λ e. placed-named first name (reverse entries) fit k (ap (λ es. option_map (λ (y : Evaluated). y.name) (slice_get es k)) (reverse-reverse entries) ∙ e),
+)
+
 made-at : (rows : List Taker) (n : ℕ) (q : TaskRef) (us : List Take) → AllByRecursion (λ (u : Take). has_row rows n u.producer ≡ true) us → list_any (λ (u : Take). same_task u.producer q) us ≡ true → has_row rows n q ≡ true
 made-at rows n q [] all has = absurd (false≢true has)
 made-at rows n q (u ∷ us) all has = by (same_task u.producer q) refl has (made-at rows n q us all.1) where
@@ -257,12 +312,11 @@ module _ (first : List ℕ) (entries : List Evaluated) (ledger : Ledger) (told :
   pub newest-told : (t : TaskRef) → option_and_then (λ k. slice_get entries k) (last_index (places_in ledger.tasks.items t)) ≡ find (is_of_task t) (reverse entries)
   newest-told t = at-newest (is_of_task t) (last_index (places_in ledger.tasks.items t)) (ap last_index (told.1.places t) ∙ last-newest t (reverse entries))
 
-  pub named-told : (name : Name) (index : Option ℕ) → (AreRising (places_in ledger.tasks.items name.task) → index ≡ index_of name.incarnation name.number (places_in ledger.tasks.items name.task))
-      → option_and_then (λ k. slice_get entries k) index ≡ find (is_named name) (reverse entries)
-  named-told name index found =
-      at-newest (is_named name) index
-      (found (subst AreRising (sym (told.1.places name.task)) (places-rise first name.task (reverse entries) told.0))
-      ∙ ap (index_of name.incarnation name.number) (told.1.places name.task) ∙ index-named first name.task name.incarnation name.number (reverse entries) told.0)
+  pub place-told : (name : Name) (index : Option ℕ) → (AreRising (places_in ledger.tasks.items name.task) → index ≡ index_of name.incarnation name.number (places_in ledger.tasks.items name.task))
+      → index ≡ newest_place (is_named name) (reverse entries)
+  place-told name index found =
+      found (subst AreRising (sym (told.1.places name.task)) (places-rise first name.task (reverse entries) told.0))
+      ∙ ap (index_of name.incarnation name.number) (told.1.places name.task) ∙ index-named first name.task name.incarnation name.number (reverse entries) told.0
 
   pub taker-told : (n : ℕ) (q : TaskRef) → option_and_then (λ k. slice_get entries k) (taker_in ledger.takers.items n q) ≡ find (takes_from n q) (reverse entries)
   taker-told n q = at-newest (takes_from n q) (taker_in ledger.takers.items n q) (told.1.latest n q)

@@ -184,6 +184,12 @@ place-found i n (p ∷ ps) rising (suc k) d within e =
     let low = each-get (λ (q : Place). pair_cmp q.incarnation q.number p ≡ Less) ps rising.0 k d (omega (arith, within)) in
     rw (lower-differs p.incarnation p.number (get_or ps k d).incarnation (get_or ps k d).number i n low e) (place-found i n ps rising.1 k d (omega (arith, within)) e)
 
+-- a place of the pair among rising places is the one
+pub place-at : (i n : ℕ) (ps : List Place) → AreRising ps → (k : ℕ) (p : Place) → k < length ps → p ≡ get_or ps k p → p.incarnation ≡ i → p.number ≡ n → Some p.index ≡ index_of i n ps
+place-at i n ps rising k p within at here now =
+    subst (λ (q : Place). Some q.index ≡ index_of i n ps) (sym at)
+    (place-found i n ps rising k p within (ap (pair_cmp i n) (sym at) ∙ pair-equal p.incarnation p.number i n (rw (eq-eqb p.incarnation i here, eq-eqb p.number n now) refl)))
+
 pub place-missing : (i n : ℕ) (ps : List Place) → ((k : ℕ) (d : Place) → k < length ps → pair_cmp i n (get_or ps k d) ≡ Equal → ⊥) → None ≡ index_of i n ps
 place-missing i n [] none = refl
 place-missing i n (p ∷ ps) none = by (eqb p.incarnation i && eqb p.number n) refl (place-missing i n ps (λ k d h. none (suc k) d (omega (arith, h)))) where

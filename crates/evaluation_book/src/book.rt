@@ -13,7 +13,8 @@ mod taken;
 
 use crate::book::fitting::find_misfit;
 use crate::book::ledger::Ledger;
-use evaluation::Frame;
+use crate::book::taken::place_of;
+use evaluation::{Frame, Name};
 pub use misfit::Misfit;
 use std::alloc::{AllocError, Global};
 use std::marker::Model;
@@ -37,7 +38,8 @@ impl Model for Book {
     ghost invariant = { λ b. IsBook b.first.items b.entries.items b.ledger };
 }
 
-ghost use Rattle.std.specs.Prelude.{◌≡◌, ◌++◌, ◌∷◌, [], IfOk, IfErr, OnOk, OnErr, reverse};
+ghost use Rattle.std.specs.Prelude.{◌≡◌, ◌↔◌, ◌++◌, ◌∷◌, [], ℕ, Some, IfOk, IfErr, OnOk, OnErr, reverse, slice_get};
+ghost use Rattle.std.specs.Option.{option_map};
 ghost use Rattle.evaluation_book.specs.Fits.{Fits, AllFit, NeverFall};
 ghost use Rattle.evaluation_book.specs.Book.{IsMisfit};
 
@@ -67,6 +69,13 @@ impl Book {
         ensures unfallen { NeverFall (reverse self.now.entries) }
     {
         self.entries.as_slice()
+    }
+
+    /// Where the entry of a name stands, counted from 0. No two entries have one name.
+    pub fn position_of(&self, name: Name) -> Option<usize>
+        ensures { (k : ℕ) → (result ≡ Some k) ↔ (option_map (λ y. y.name) (slice_get self.now.entries k) ≡ Some name) }
+    {
+        place_of(self, name)
     }
 
     /// Appends an evaluation that fits the entries. Any other one comes back with the first cause, and the book is unchanged.

@@ -5,3 +5,4 @@ pub mod Hearing
 pub mod Replaying
 pub mod Replayable
 pub mod Listing
+pub mod Tables

@@ -3,41 +3,44 @@
 mod deliveries;
 mod hearings;
 mod known;
-mod last_taken;
+mod last_takes;
 mod restarts;
+mod tables;
 
 ghost use Rattle.std.specs.Prelude.{◌≡◌, ◌++◌, IfOk, OnOk, reverse};
 ghost use Rattle.exchange.specs.Replays.{Replays};
 ghost use Rattle.evaluation_book.specs.Fits.{Fits};
-ghost use Rattle.evaluation_book.specs.Presents.{ArePresent};
 ghost use Rattle.exchange.specs.Schedule.{events_of, schedule_of};
+ghost use Rattle.exchange.specs.Steps.Tables.{before, IsAt};
 
 use crate::event::Event;
 use crate::schedule::deliveries::push_deliveries;
 use crate::schedule::hearings::push_hearings;
 use crate::schedule::restarts::push_restarts;
+use crate::schedule::tables::Tables;
 use evaluation::Frame;
-use evaluation_book::{Book, raise_present};
+use evaluation_book::Book;
 use std::alloc::{AllocError, Global};
 
-/// The events of one entry after older ones: its resource's restarts, those of others with what is heard of them, the deliveries of what it took, and its evaluation.
+/// The events of the entry at an index after those before it, of which the tables tell: its resource's restarts, those of others with what is heard of them, the deliveries of what it took, and its evaluation.
 fn push_events(
     events: &mut Vec<Event>,
-    first: &[u32],
-    present: &[u32],
-    older: &[Frame],
+    book: &Book,
+    index: usize,
+    tables: &Tables,
     frame: &Frame,
 ) -> Result<(), AllocError>
-    requires present { ArePresent first.now (reverse older.now) present.now }
-    requires fits { Fits first.now (reverse older.now) frame.now }
-    ensures { OnOk result (events.new.items ≡ events.old.items ++ events_of first.now (reverse older.now) frame.now) }
+    requires at { IsAt book.now index tables.now frame.now.name }
+    requires fits { Fits book.now.first (before book.now.entries index) frame.now }
+    ensures { OnOk result (events.new.items ≡ events.old.items ++ events_of book.now.first (before book.now.entries index) frame.now) }
 {
     let evaluation = frame.evaluation();
     let name = evaluation.name();
     let resource = name.task.resource;
-    push_restarts(events, resource, present[resource], name.incarnation)?;
-    push_hearings(events, first, present, older, name, evaluation.heard())?;
-    push_deliveries(events, older, name, evaluation.takes())?;
+    push_restarts(events, resource, tables.present[resource], name.incarnation)?;
+    push_hearings(events, book, index, tables, name, evaluation.heard())?;
+    let taken = tables.seen[resource].taken.as_slice();
+    push_deliveries(events, book, index, taken, name, evaluation.takes())?;
     let inputs = evaluation.inputs().try_copy()?;
     events.push(Event::Evaluate {
         ticket: evaluation.ticket(),
@@ -62,14 +65,13 @@ impl Schedule for Book {
         ensures replays { IfOk result (λ events. Replays self.now.first self.now.entries events.items) }
         ensures events { IfOk result (λ events. events.items ≡ schedule_of self.now.first (reverse self.now.entries)) }
     {
-        let first = self.first();
         let entries = self.entries();
-        let mut present = Vec::from_slice(alloc, first)?;
+        let mut tables = Tables::new(alloc, self.first())?;
         let mut events = Vec::new(alloc);
         for i in 0..entries.len() {
-            let older = &entries[..i];
-            push_events(&mut events, first, present.as_slice(), older, &entries[i])?;
-            raise_present(&mut present, entries[i].evaluation());
+            let frame = &entries[i];
+            push_events(&mut events, self, i, &tables, frame)?;
+            tables.note(frame.evaluation(), i)?;
         }
         Ok(events)
     }

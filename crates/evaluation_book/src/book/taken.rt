@@ -1,7 +1,9 @@
 ghost use Rattle.std.specs.Prelude.{◌≡◌, reverse};
 ghost use Rattle.std.specs.List.{list_all, find};
 ghost use Rattle.std.specs.Option.{option_copied};
+ghost use Rattle.evaluation_book.specs.Fits.{AllFit};
 ghost use Rattle.evaluation_book.specs.Steps.Deciding.{is_named, has_named, is_known, keeps_image, is_untorn};
+ghost use Rattle.evaluation_book.specs.Steps.Ledger.{newest_place};
 
 use crate::book::Book;
 use crate::book::entry_at::entry_at;
@@ -73,11 +75,18 @@ fn is_image_of(book: &Book, name: Name, image: &Image) -> bool
     }
 }
 
+/// Where the entry of a name stands, if there is one.
+pub fn place_of(book: &Book, name: Name) -> Option<usize>
+    ensures value { result ≡ newest_place (is_named name) (reverse book.now.entries) }
+    ensures fit { AllFit book.now.first (reverse book.now.entries) }
+{
+    let places = places_of(book.ledger.tasks.as_slice(), name.task);
+    find_place(places, name.incarnation, name.number)
+}
+
 /// The entry of a name, if there is one.
 pub fn find_named(book: &Book, name: Name) -> Option<&Frame>
     ensures { option_copied result ≡ find (is_named name) (reverse book.now.entries) }
 {
-    let places = places_of(book.ledger.tasks.as_slice(), name.task);
-    let index = find_place(places, name.incarnation, name.number);
-    entry_at(book.entries.as_slice(), index)
+    entry_at(book.entries.as_slice(), place_of(book, name))
 }

@@ -30,18 +30,22 @@ split-at [] k x e = absurd (none-some x e)
 split-at (y ∷ ys) zero x e = (ys, ap (λ (z : Evaluated). z ∷ ys) (same_Some y x e))
 split-at (y ∷ ys) (suc k) x e = let found = split-at ys k x e in (found.0, ap (λ (l : List Evaluated). y ∷ l) found.1)
 
-fits-within : (first : List ℕ) (newer older : List Evaluated) (x : Evaluated) → AllFit first (newer ++ x ∷ older) → Fits first older x
-fits-within first [] older x all = all.0
-fits-within first (y ∷ newer) older x all = fits-within first newer older x all.1
+fit-within : (first : List ℕ) (newer older : List Evaluated) → AllFit first (newer ++ older) → AllFit first older
+fit-within first [] older all = all
+fit-within first (y ∷ newer) older all = fit-within first newer older all.1
 
--- an entry of a log fits those before it
-pub fits-at : (first : List ℕ) (log : List Evaluated) (k : ℕ) (x : Evaluated) → AllFit first (reverse log) → slice_get log k ≡ Some x → Fits first (reverse (take k log)) x
-fits-at first log k x all e =
+-- an entry of a log and those before it fit
+pub fit-at : (first : List ℕ) (log : List Evaluated) (k : ℕ) (x : Evaluated) → AllFit first (reverse log) → slice_get log k ≡ Some x → AllFit first (x ∷ reverse (take k log))
+fit-at first log k x all e =
     let found = split-at log k x e in
     let rest : List Evaluated = found.0 in
     let turned : reverse log ≡ reverse rest ++ x ∷ reverse (take k log) =
     ap reverse found.1 ∙ reverse-append (take k log) (x ∷ rest) ∙ ap (λ (l : List Evaluated). l ++ reverse (take k log)) (reverse-append (x ∷ []) rest) ∙ append_assoc (reverse rest) (x ∷ []) (reverse (take k log)) in
-    fits-within first (reverse rest) (reverse (take k log)) x (subst (AllFit first) turned all)
+    fit-within first (reverse rest) (x ∷ reverse (take k log)) (subst (AllFit first) turned all)
+
+-- an entry of a log fits those before it
+pub fits-at : (first : List ℕ) (log : List Evaluated) (k : ℕ) (x : Evaluated) → AllFit first (reverse log) → slice_get log k ≡ Some x → Fits first (reverse (take k log)) x
+fits-at first log k x all e = (fit-at first log k x all e).0
 
 -- what fits is refused for want of memory alone
 only-memory : (first : List ℕ) (older : List Evaluated) (x : Evaluated) (misfit : Misfit) → Fits first older x → IsMisfit first older x misfit → misfit ≡ Memory

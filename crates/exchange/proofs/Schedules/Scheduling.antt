@@ -43,7 +43,7 @@ is_from-true (Some g) f e =
 abbrev is_named : Name → TaskRef → ℕ × ℕ → Bool
 is_named name q f = same_task name.task q && is_from (Some (name.incarnation, name.number)) f
 
-named-true : (name : Name) (q : TaskRef) (f : ℕ × ℕ) → is_named name q f ≡ true → name ≡ name_from q f
+pub named-true : (name : Name) (q : TaskRef) (f : ℕ × ℕ) → is_named name q f ≡ true → name ≡ name_from q f
 named-true name q f e =
     let parts = and_parts (same_task name.task q) (is_from (Some (name.incarnation, name.number)) f) e in
     let pair = and_parts (eqb name.incarnation f.0) (eqb name.number f.1) parts.1 in
@@ -51,7 +51,7 @@ named-true name q f e =
     ∙ ap (λ i. name_from q (i, name.number)) (eqb-true name.incarnation f.0 pair.0)
     ∙ ap (λ n. name_from q (f.0, n)) (eqb-true name.number f.1 pair.1)
 
-named-itself : (q : TaskRef) (f : ℕ × ℕ) → is_named (name_from q f) q f ≡ true
+pub named-itself : (q : TaskRef) (f : ℕ × ℕ) → is_named (name_from q f) q f ≡ true
 named-itself q f = rw (same_task-itself q, eq-eqb f.0 f.0 refl, eq-eqb f.1 f.1 refl) refl
 
 -- among these entries, one of resource n in incarnation i took this of producer q

@@ -1,12 +1,13 @@
 //! The deliveries of what an entry took.
 
-ghost use Rattle.std.specs.Prelude.{◌≡◌, ◌++◌, ◌&&◌, OnOk, Some, reverse};
-ghost use Rattle.evaluation.specs.Last.{same_task, from_of};
+ghost use Rattle.std.specs.Prelude.{◌≡◌, ◌++◌, OnOk};
 ghost use Rattle.exchange.specs.Schedule.{is_from, message_of, delivery, deliveries};
+ghost use Rattle.exchange.specs.Steps.Tables.{before, TellTakes};
 
 use crate::event::Event;
-use crate::schedule::last_taken::last_taken;
-use evaluation::{Frame, Name, Take};
+use crate::schedule::last_takes::{LastTake, taken_in};
+use evaluation::{Name, Take};
+use evaluation_book::Book;
 use plant::TaskRef;
 use std::alloc::AllocError;
 
@@ -20,36 +21,32 @@ fn is_from(taken: Option<(u32, u32)>, from: (u32, u32)) -> bool
     }
 }
 
-/// Whether an entry is a task's evaluation of this incarnation and number.
-fn is_named(entry: &Frame, task: TaskRef, from: (u32, u32)) -> bool
-    ensures { result ≡ (same_task entry.now.name.task task && is_from (from_of (Some entry.now)) from) }
+/// The message of a task's evaluation of this incarnation and number among the entries before an index, 0 where there is none.
+fn message_of(book: &Book, index: usize, task: TaskRef, from: (u32, u32)) -> u64
+    ensures { result ≡ message_of (before book.now.entries index) task from }
 {
-    let name = entry.name();
-    name.task == task && is_from(Some((name.incarnation, name.number)), from)
-}
-
-/// The message of a task's evaluation of this incarnation and number, 0 where there is none.
-fn message_of(older: &[Frame], task: TaskRef, from: (u32, u32)) -> u64
-    ensures { result ≡ message_of (reverse older.now) task from }
-{
-    let count = older.len();
-    for i in 0..count {
-        let place = count - 1 - i;
-        if is_named(&older[place], task, from) {
-            return place as u64 + 1;
-        }
+    let name = Name {
+        task,
+        incarnation: from.0,
+        number: from.1,
+    };
+    match book.position_of(name) {
+        None => 0,
+        Some(place) => { if place < index { place as u64 + 1 } else { 0 } }
     }
-    0
 }
 
 /// Delivers what a take from another resource names, unless that was taken there last of its producer in this incarnation.
 fn push_delivery(
     events: &mut Vec<Event>,
-    older: &[Frame],
+    book: &Book,
+    index: usize,
+    rows: &[LastTake],
     name: Name,
     take: &Take,
 ) -> Result<(), AllocError>
-    ensures { OnOk result (events.new.items ≡ events.old.items ++ delivery (reverse older.now) name take.now) }
+    requires { TellTakes (before book.now.entries index) name rows.now }
+    ensures { OnOk result (events.new.items ≡ events.old.items ++ delivery (before book.now.entries index) name take.now) }
 {
     let producer = take.producer;
     if producer.resource == name.task.resource {
@@ -58,11 +55,11 @@ fn push_delivery(
     let Some(from) = take.from else {
         return Ok(());
     };
-    if is_from(last_taken(older, name, producer), from) {
+    if is_from(taken_in(rows, producer, name.incarnation), from) {
         return Ok(());
     }
     events.push(Event::Deliver {
-        message: message_of(older, producer, from),
+        message: message_of(book, index, producer, from),
         resource: name.task.resource,
     })?;
     Ok(())
@@ -71,14 +68,17 @@ fn push_delivery(
 /// Delivers what these takes need.
 pub fn push_deliveries(
     events: &mut Vec<Event>,
-    older: &[Frame],
+    book: &Book,
+    index: usize,
+    rows: &[LastTake],
     name: Name,
     takes: &[Take],
 ) -> Result<(), AllocError>
-    ensures { OnOk result (events.new.items ≡ events.old.items ++ deliveries (reverse older.now) name takes.now) }
+    requires { TellTakes (before book.now.entries index) name rows.now }
+    ensures { OnOk result (events.new.items ≡ events.old.items ++ deliveries (before book.now.entries index) name takes.now) }
 {
     for take in takes {
-        push_delivery(events, older, name, take)?;
+        push_delivery(events, book, index, rows, name, take)?;
     }
     Ok(())
 }

@@ -1,13 +1,15 @@
 //! What an entry's resource needs to have heard what the entry has.
 
-ghost use Rattle.std.specs.Prelude.{◌≡◌, ◌++◌, OnOk, length, reverse};
-ghost use Rattle.evaluation_book.specs.Presents.{ArePresent};
+ghost use Rattle.std.specs.Prelude.{◌≡◌, ◌++◌, OnOk, length};
 ghost use Rattle.exchange.specs.Schedule.{hearing_of, hearings};
+ghost use Rattle.exchange.specs.Steps.Tables.{before, IsAt};
 
 use crate::event::Event;
 use crate::schedule::known::{known_from, newest_of};
 use crate::schedule::restarts::push_restarts;
-use evaluation::{Frame, Name};
+use crate::schedule::tables::Tables;
+use evaluation::Name;
+use evaluation_book::Book;
 use std::alloc::AllocError;
 
 /// Restarts a resource as often as brings it from its present incarnation to the one heard of, and lets another one hear it that knows of a lower one.
@@ -35,17 +37,19 @@ fn push_hearing(
 /// For each other resource in order, brings it to the incarnation of it that was heard, and lets the name's resource hear it where it hasn't that number in its incarnation.
 pub fn push_hearings(
     events: &mut Vec<Event>,
-    first: &[u32],
-    present: &[u32],
-    older: &[Frame],
+    book: &Book,
+    index: usize,
+    tables: &Tables,
     name: Name,
     heard: &[u32],
 ) -> Result<(), AllocError>
-    requires present { ArePresent first.now (reverse older.now) present.now }
-    requires many { length heard.now ≡ length first.now }
-    ensures { OnOk result (events.new.items ≡ events.old.items ++ hearings first.now (reverse older.now) name heard.now) }
+    requires at { IsAt book.now index tables.now name }
+    requires many { length heard.now ≡ length book.now.first }
+    ensures { OnOk result (events.new.items ≡ events.old.items ++ hearings book.now.first (before book.now.entries index) name heard.now) }
 {
-    let newest = newest_of(older, name);
+    let first = book.first();
+    let present = tables.present.as_slice();
+    let newest = newest_of(book, index, tables, name);
     for of in 0..heard.len() {
         if of != name.task.resource {
             let known = known_from(first, newest, of);

@@ -1,4 +1,4 @@
-ghost use Rattle.std.specs.Prelude.{◌≡◌, OnOk, OnErr};
+ghost use Rattle.std.specs.Prelude.{◌≡◌, Some, IfSome, OnOk, OnErr};
 ghost use Rattle.std.specs.List.{find, position};
 ghost use Rattle.std.specs.Option.{option_copied};
 ghost use Rattle.evaluation_book.specs.Steps.Ledger.{is_row, places_in, last_index, index_of, AreRising, AddsPlace, KeepsPlaces, AddsRow};
@@ -34,8 +34,33 @@ pub fn last_place(places: &[Place]) -> Option<usize>
     }
 }
 
-/// Where the place of a pair is, searched by halving.
+/// Where the place of a pair is: as far before the last as its number is below the last one's, where numbers run on from it; else searched by halving.
 pub fn find_place(places: &[Place], incarnation: u32, number: u32) -> Option<usize>
+    ensures { AreRising places.now → result ≡ index_of incarnation number places.now }
+{
+    match place_before_last(places, incarnation, number) {
+        Some(index) => Some(index),
+        None => search_place(places, incarnation, number),
+    }
+}
+
+/// Where the place of a pair is, if it stands as far before the last as its number is below the last one's.
+fn place_before_last(places: &[Place], incarnation: u32, number: u32) -> Option<usize>
+    ensures { AreRising places.now → IfSome result (λ index. Some index ≡ index_of incarnation number places.now) }
+{
+    let last = places.last()?;
+    let below = last.number.checked_sub(number)? as usize;
+    let before = places.len().checked_sub(1)?.checked_sub(below)?;
+    let place = places.get(before)?;
+    if place.incarnation == incarnation && place.number == number {
+        Some(place.index)
+    } else {
+        None
+    }
+}
+
+/// Where the place of a pair is, searched by halving.
+fn search_place(places: &[Place], incarnation: u32, number: u32) -> Option<usize>
     ensures { AreRising places.now → result ≡ index_of incarnation number places.now }
 {
     let pair = (incarnation, number);

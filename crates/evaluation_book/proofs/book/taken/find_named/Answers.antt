@@ -1,16 +1,16 @@
--- The place of the pair among the task's is that of the entry of this name.
-use Rattle.std.proofs.Common.{◌∙◌, ap, subst, ◌≡◌}
+-- What stands at the place of a name is its entry.
+use Rattle.std.proofs.Common.{◌∙◌, ap, sym}
 use Rattle.std.specs.Prelude.{reverse}
 use Rattle.std.specs.List.{find}
 use Rattle.evaluation_book.specs.Book.{BookValue}
 use Rattle.evaluation_book.specs.Steps.Deciding.{is_named}
-use Rattle.evaluation_book.specs.Steps.Ledger.{AreRising, index_of, places_in}
-use Rattle.evaluation_book.proofs.Ledgered.{named-told}
+use Rattle.evaluation_book.specs.Steps.Ledger.{newest_place}
+use Rattle.evaluation_book.proofs.Ledgered.{at-newest}
 use Rattle.evaluation_book.proofs.book.taken.find_named.Goals as goal
 
 pub returns : goal.returns
 returns c =
-    rw (c.entry_at.ensures, c.as_slice-2.ensures.value)
-    (named-told c.book.inside.first.items c.book.inside.entries.items c.book.inside.ledger c.book.invariant c.args.name c.find_place-index.result
-    (subst (λ ps. AreRising ps → c.find_place-index.result ≡ index_of c.args.name.incarnation c.args.name.number ps) (c.places_of-places.ensures ∙ ap (λ rows. places_in rows c.args.name.task) c.as_slice.ensures.value) c.find_place-index.ensures)
+    rw (c.entry_at.ensures, c.as_slice.ensures.value)
+    (at-newest c.book.inside.first.items c.book.inside.entries.items c.book.inside.ledger c.book.invariant (is_named c.args.name) c.place_of.result
+    (c.place_of.ensures.value ∙ ap (λ (b : BookValue). newest_place (is_named c.args.name) (reverse b.entries)) (sym c.book.view_is))
     ∙ ap (λ (b : BookValue). find (is_named c.args.name) (reverse b.entries)) c.book.view_is)
