@@ -1,11 +1,11 @@
 -- What `plc check` writes.
-use Rattle.std.specs.Prelude.{◌≢◌, ℕ, ◌++◌, List, Option, length, codes, sum_by}
+use Rattle.std.specs.Prelude.{◌≡◌, ◌≢◌, ℕ, ◌++◌, List, Option, length, codes, sum_by}
 use Rattle.std.specs.Fmt.{decimal}
 use Rattle.std.specs.Io.KnownBytes.{Appends, Keeps}
 use Rattle.plant.specs.PlantValue.{ResourceValue, PlantValue}
 use Rattle.task_codes.specs.CodeValue.{CodeValue}
 use Rattle.program_bodies.specs.Faults.{IsPlantFault, IsOfBody, IsOfDeclaredName}
-use Rattle.plant.specs.PlantText.{IsPlantText, IsNoPlant, IsBodyFaultIn, IsNameFaultIn}
+use Rattle.plant.specs.PlantText.{IsPlantText, IsNoPlant, IsNotOfGrammar, IsBodyFaultIn, IsNameFaultIn}
 use Rattle.program_bodies.specs.declared.plant_fault.PlantFault.{PlantFault}
 use Rattle.program_bodies.specs.declared.plant_fault.PlantFaultKind.TheVariants as plant
 use Rattle.text_writer.specs.Sending.{SendsLess}
@@ -51,12 +51,13 @@ abbrev pub WritesCheckPart : List ℕ → Option (List ℕ) → Option (List ℕ
 WritesCheckPart text old new = (plant : PlantValue) × IsPlantText text plant × SendsLess (check_lines plant) old new
 
 -- a refusal of the text of a plant: not want of memory, with what belongs to its kind, and of no faultless text; the
--- fault of a body is that of the first body that is refused, and any other but Syntax is of a word or a source of the
--- text
+-- fault of a body is that of the first body that is refused, Syntax is that of a text that isn't of the grammar, and any
+-- other is of a word or a source of the text
 pub record IsRefusal (text : List ℕ) (fault : PlantFault) : Type 0 where
   pub not_memory : fault.kind ≢ plant.Memory
   pub value : IsPlantFault fault
   pub no_plant : IsNoPlant text
+  pub syntax : fault.kind ≡ plant.Syntax → IsNotOfGrammar text
   pub body : IsOfBody fault.kind → IsBodyFaultIn text fault
   pub name : IsOfDeclaredName fault.kind → IsNameFaultIn text fault
 
