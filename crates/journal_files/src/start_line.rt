@@ -1,172 +1,118 @@
-//! The line of a START, such as `START R1 2 KEEPS H.M=1 H.K=-3`.
+//! The line of a START, such as `START R1 2 KEEPS H.M=1 H.K=-3`. It is read freely, part by part, and what was read is
+//! written again: it is that START only if both are equal.
 
-use crate::numbers::{plain_number, plain_value, split_before};
+ghost use Rattle.std.specs.Prelude.{◌≡◌, ◌<◌, ◌↔◌, IfOk, IfSome, IsTrue, List, MatchOption, ℕ, length};
+ghost use Rattle.std.specs.Option.{option_map};
+ghost use Rattle.node_lines.specs.NodeJournal.{keeps_text};
+ghost use Rattle.journal_files.specs.JournalLines.{IsStart, IsNoStart};
+ghost use Rattle.journal_files.specs.Steps.Reading.{IsStartRead, IsNoStartOf};
+
+use crate::beginnings::{behind_resource, number_at};
+use crate::kept_values::all_kept_in;
+use crate::notes::is_note_of;
 use evaluation::Retained;
-use line_parts::{behind, resource_name};
-use plant::{Plant, TaskCode, TaskRef};
+use line_parts::behind;
+use message_core::is_opening;
+use node_lines::note_of_start;
+use plant::Plant;
 use std::alloc::{AllocError, Global};
-use std_blocks::Value;
-use task_codes::RetainedVariable;
 
 /// What a START tells: the resource, its incarnation, and the retained values of each of its tasks.
-pub(crate) type Start = (usize, u32, Vec<Retained>);
+#[derive(Drop)]
+pub(crate) struct Start {
+    pub resource: usize,
+    pub incarnation: u32,
+    pub kept: Vec<Retained>,
+}
 
-fn program_name(code: &TaskCode, variable: RetainedVariable) -> &str {
-    match code.program_name(variable.program) {
-        Some(name) => name,
-        None => "",
+/// What stands behind ` KEEPS`; the text itself, where it doesn't begin so.
+#[tactic(auto, using(crate::proofs::Starts::kept_behind, crate::proofs::Starts::kept_without))]
+fn kept_part(text: &[u8]) -> &[u8]
+    ensures { (kept : List ℕ) → text.now ≡ keeps_text kept → result.now ≡ kept }
+{
+    match behind(text, b" KEEPS") {
+        Some(rest) => rest,
+        None => text,
     }
 }
 
-fn variable_name(code: &TaskCode, variable: RetainedVariable) -> &str {
-    let Some(ladder) = code.ladder(variable.program) else {
-        return "";
-    };
-    match ladder.declarations().entry(variable.place) {
-        Some((name, _)) => name,
-        None => "",
-    }
-}
-
-/// What stands behind a blank and a retained variable's name, as ` H.M=`.
-fn behind_variable<'a>(
-    text: &'a [u8],
-    code: &TaskCode,
-    variable: RetainedVariable,
-) -> Option<&'a [u8]> {
-    let rest = behind(text, b" ")?;
-    let rest = behind(rest, program_name(code, variable).as_bytes())?;
-    let rest = behind(rest, b".")?;
-    let rest = behind(rest, variable_name(code, variable).as_bytes())?;
-    behind(rest, b"=")
-}
-
-/// The value of a retained variable, where a text begins with its name and that, and the rest.
-fn value_at<'a>(
+/// The incarnation and the retained values of a START of a resource: those that a line is one with, if it is one. Other
+/// lines may be read too.
+fn read_freely(
     alloc: Global,
-    text: &'a [u8],
-    code: &TaskCode,
-    variable: RetainedVariable,
-) -> Result<Option<(Value, &'a [u8])>, AllocError> {
-    let Some(rest) = behind_variable(text, code, variable) else {
+    plant: &Plant,
+    resource: usize,
+    line: &[u8],
+) -> Result<Option<(u32, Vec<Retained>)>, AllocError>
+    ensures { IfOk result (λ found. IsStartRead plant.now resource line.now (option_map (λ r. (r.0, r.1.items)) found)) }
+{
+    let Some(rest) = behind_resource(line, b"START ", plant, resource) else {
         return Ok(None);
     };
-    let (word, rest) = split_before(rest, b' ');
-    match plain_value(alloc, variable.kind, word)? {
-        Some(value) => Ok(Some((value, rest))),
+    let Some((incarnation, rest)) = number_at(rest) else {
+        return Ok(None);
+    };
+    match all_kept_in(alloc, kept_part(rest), plant, resource)? {
+        Some(kept) => Ok(Some((incarnation, kept))),
         None => Ok(None),
     }
 }
 
-/// The values of a task's retained variables, where a text begins with them, and the rest.
-fn values_at<'a>(
+/// Whether a line is the START of a resource in this incarnation, with these retained values.
+fn is_start(
     alloc: Global,
-    text: &'a [u8],
-    code: &TaskCode,
-) -> Result<Option<(Retained, &'a [u8])>, AllocError> {
-    let mut values = Vec::new(alloc);
-    let mut rest = text;
-    for variable in code.retained() {
-        let Some((value, behind)) = value_at(alloc, rest, code, *variable)? else {
-            return Ok(None);
-        };
-        values.push(value)?;
-        rest = behind;
-    }
-    Ok(Some((Retained::from_values(values), rest)))
-}
-
-/// The values of all tasks of a resource, of which a text consists.
-fn all_values_in(
-    alloc: Global,
-    text: &[u8],
     plant: &Plant,
     resource: usize,
-) -> Result<Option<Vec<Retained>>, AllocError> {
-    let mut kept = Vec::new(alloc);
-    let mut rest = text;
-    for task in 0..plant.tasks(resource).len() {
-        let Some(code) = plant.code(TaskRef { resource, task }) else {
-            return Ok(None);
-        };
-        let Some((retained, behind)) = values_at(alloc, rest, code)? else {
-            return Ok(None);
-        };
-        kept.push(retained)?;
-        rest = behind;
+    incarnation: u32,
+    kept: &[Retained],
+    line: &[u8],
+) -> Result<bool, AllocError>
+    requires { resource < length plant.now.resources }
+    ensures { IfOk result (λ is. IsTrue is ↔ IsStart plant.now resource incarnation kept.now line.now) }
+{
+    if !is_opening(plant, resource, kept) {
+        return Ok(false);
     }
-    if rest.is_empty() {
-        Ok(Some(kept))
+    let note = note_of_start(alloc, plant, resource, incarnation, kept)?;
+    is_note_of(alloc, b"\n", line, note.as_bytes())
+}
+
+/// The START of a resource that a line is.
+fn start_of(
+    alloc: Global,
+    plant: &Plant,
+    resource: usize,
+    line: &[u8],
+) -> Result<Option<Start>, AllocError>
+    requires { resource < length plant.now.resources }
+    ensures { IfOk result (λ found. MatchOption found (IsNoStartOf plant.now resource line.now)
+        (λ s. IsStart plant.now s.resource s.incarnation s.kept.items line.now)) }
+{
+    let Some((incarnation, kept)) = read_freely(alloc, plant, resource, line)? else {
+        return Ok(None);
+    };
+    if is_start(alloc, plant, resource, incarnation, kept.as_slice(), line)? {
+        Ok(Some(Start {
+            resource,
+            incarnation,
+            kept,
+        }))
     } else {
         Ok(None)
     }
 }
 
-/// Whether a task of a resource has retained variables.
-fn has_retained(plant: &Plant, resource: usize) -> bool {
-    for task in 0..plant.tasks(resource).len() {
-        if let Some(code) = plant.code(TaskRef { resource, task }) {
-            if !code.retained().is_empty() {
-                return true;
-            }
-        }
-    }
-    false
-}
-
-/// The values behind ` KEEPS`, which stands there only where the resource has retained variables.
-fn kept_in(
-    alloc: Global,
-    text: &[u8],
-    plant: &Plant,
-    resource: usize,
-) -> Result<Option<Vec<Retained>>, AllocError> {
-    if !has_retained(plant, resource) {
-        return all_values_in(alloc, text, plant, resource);
-    }
-    match behind(text, b" KEEPS") {
-        Some(rest) => all_values_in(alloc, rest, plant, resource),
-        None => Ok(None),
-    }
-}
-
-/// What stands behind a resource's name and a blank.
-fn behind_name<'a>(text: &'a [u8], plant: &Plant, resource: usize) -> Option<&'a [u8]> {
-    let rest = behind(text, resource_name(plant, resource).as_bytes())?;
-    behind(rest, b" ")
-}
-
-/// What the START of a resource tells, where the line is one; `text` is what stands behind its first word.
-fn start_of(
-    alloc: Global,
-    text: &[u8],
-    plant: &Plant,
-    resource: usize,
-) -> Result<Option<Start>, AllocError> {
-    let Some(rest) = behind_name(text, plant, resource) else {
-        return Ok(None);
-    };
-    let (digits, rest) = split_before(rest, b' ');
-    let Some(incarnation) = plain_number(digits) else {
-        return Ok(None);
-    };
-    match kept_in(alloc, rest, plant, resource)? {
-        Some(kept) => Ok(Some((resource, incarnation, kept))),
-        None => Ok(None),
-    }
-}
-
-/// What a line tells, where it is a START of a resource of the plant.
+/// The START of a resource of the plant that a line is. `line` is without its `;`.
 pub(crate) fn read_start(
     alloc: Global,
     plant: &Plant,
     line: &[u8],
-) -> Result<Option<Start>, AllocError> {
-    let Some(text) = behind(line, b"START ") else {
-        return Ok(None);
-    };
+) -> Result<Option<Start>, AllocError>
+    ensures { IfOk result (λ found. MatchOption found (IsNoStart plant.now line.now)
+        (λ s. IsStart plant.now s.resource s.incarnation s.kept.items line.now)) }
+{
     for resource in 0..plant.resources() {
-        let found = start_of(alloc, text, plant, resource)?;
+        let found = start_of(alloc, plant, resource, line)?;
         if found.is_some() {
             return Ok(found);
         }

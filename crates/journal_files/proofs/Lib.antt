@@ -1,0 +1,6 @@
+mod KeptLists
+mod Restarts
+mod RunLines
+mod Starts
+mod Tellings
+mod WholeLines

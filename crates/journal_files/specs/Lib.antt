@@ -1,0 +1,3 @@
+pub mod JournalLines
+pub mod Readings
+pub mod Steps
