@@ -7,10 +7,11 @@ use crate::faults::{print_failure, print_live_fault, print_sim_fault};
 use crate::files::{STANDARD_INPUT, file_plant, file_text};
 use command_line::SimRequest;
 use plant::Plant;
+use progress::{OnTerminal, ToldLines};
 use std::alloc::Global;
 use std::io;
 use std::io::{BufReader, Read, Write};
-use std::rt::Files;
+use std::rt::{Clock, Files};
 use std::sync::Arc;
 use world::{LiveFault, SimFault, simulate, simulate_lines};
 
@@ -31,14 +32,17 @@ pub fn obey_schedule<W: Write>(
 }
 
 /// Writes what each event of a schedule does; the status.
-fn write_schedule<R: Print + Eprint + AllocGlobal>(
+fn write_schedule<R: Clock + Print + Eprint + AllocGlobal>(
     rt: &R,
+    told: bool,
     request: &SimRequest<'_>,
     plant: Arc<Plant>,
     schedule: &str,
 ) -> io::Result<u8> {
-    let mut writer = io::writer(rt);
-    match obey_schedule(rt.alloc(), request, plant, schedule, &mut writer) {
+    let mut writer = ToldLines::new(io::writer(rt), OnTerminal::new(rt, told));
+    let obeyed = obey_schedule(rt.alloc(), request, plant, schedule, &mut writer);
+    writer.end();
+    match obeyed {
         Ok(()) => Ok(0),
         Err(fault) => print_sim_fault(rt, request.schedule, schedule, fault),
     }
@@ -88,9 +92,11 @@ fn write_lines<R: Input + Print + Eprint + AllocGlobal>(
 }
 
 /// Reads the file of a plant and then that of a schedule, or standard input line by line where that is `-`, and writes
-/// what each event does; the status.
-pub fn answer_schedule<R: Files + Input + Print + Eprint + AllocGlobal>(
+/// what each event does; the status. `told` is whether it is told on standard error how many lines of a file's schedule
+/// went out.
+pub fn answer_schedule<R: Files + Clock + Input + Print + Eprint + AllocGlobal>(
     rt: &R,
+    told: bool,
     request: &SimRequest<'_>,
 ) -> io::Result<u8> {
     let plant = match file_plant(rt, request.plant)? {
@@ -101,7 +107,7 @@ pub fn answer_schedule<R: Files + Input + Print + Eprint + AllocGlobal>(
         return write_lines(rt, request, plant);
     }
     match file_text(rt, request.schedule)? {
-        Ok(schedule) => write_schedule(rt, request, plant, schedule.as_str()),
+        Ok(schedule) => write_schedule(rt, told, request, plant, schedule.as_str()),
         Err(status) => Ok(status),
     }
 }

@@ -22,6 +22,7 @@ use keepers::KeeperFault;
 use node::{FreeGate, Gate, Keeper, MemoryKeeper, PacedGate, RunFault};
 use node_command::answer_node;
 use plant::{Plant, TaskRef};
+use progress::{OnTerminal, ToldLines};
 use run_command::run_text;
 use std::alloc::{AllocError, Global};
 use std::io;
@@ -106,21 +107,25 @@ fn obey_run<R: AllocGlobal + Threads + Wait + Sync, K: Keeper, G: Gate, W: Write
 }
 
 /// Runs a plant with these keepers, paced or free, and writes what its threads did; whether there was a fault in them.
-fn run_plant<R: Print + AllocGlobal + Threads + Wait + Sync, K: Keeper>(
+/// `told` is whether it is told on standard error how many lines of that went out.
+fn run_plant<R: Clock + Print + Eprint + AllocGlobal + Threads + Wait + Sync, K: Keeper>(
     rt: &R,
+    told: bool,
     request: &RunRequest<'_>,
     prepared: Prepared,
     keepers: Vec<K>,
 ) -> Result<bool, CommandFault>
     requires { vec_len keepers ≡ length prepared.plant.value.resources }
 {
-    let mut writer = io::writer(rt);
-    if request.paced {
+    let mut writer = ToldLines::new(io::writer(rt), OnTerminal::new(rt, told));
+    let ran = if request.paced {
         let gate = PacedGate::new(TURNS);
         obey_run(rt, request, prepared, keepers, &gate, &mut writer)
     } else {
         obey_run(rt, request, prepared, keepers, &FreeGate, &mut writer)
-    }
+    };
+    writer.end();
+    ran
 }
 
 /// Tells how a run ended; the status.
@@ -133,13 +138,14 @@ fn tell_run<R: Eprint + AllocGlobal>(rt: &R, ran: Result<bool, CommandFault>) ->
 }
 
 /// Runs a plant that begins anew; the status.
-fn run_anew<R: Print + Eprint + AllocGlobal + Threads + Wait + Sync>(
+fn run_anew<R: Clock + Print + Eprint + AllocGlobal + Threads + Wait + Sync>(
     rt: &R,
+    told: bool,
     request: &RunRequest<'_>,
     prepared: Prepared,
 ) -> io::Result<u8> {
     match memory_keepers(rt.alloc(), &prepared.plant) {
-        Ok(keepers) => tell_run(rt, run_plant(rt, request, prepared, keepers)),
+        Ok(keepers) => tell_run(rt, run_plant(rt, told, request, prepared, keepers)),
         Err(_) => print_failure(rt, CommandFault::Memory),
     }
 }
@@ -215,9 +221,10 @@ fn print_keeper_faults<R: Eprint + AllocGlobal>(
 }
 
 /// Runs a plant whose incarnations and retained variables are kept in a folder, which no other run uses meanwhile; the status.
-fn run_kept<R: Print + Eprint + AllocGlobal + Threads + Wait + Sync>(
+fn run_kept<R: Clock + Print + Eprint + AllocGlobal + Threads + Wait + Sync>(
     rt: &R,
     host: &HostRuntime,
+    told: bool,
     request: &RunRequest<'_>,
     prepared: Prepared,
     folder: &str,
@@ -232,7 +239,7 @@ fn run_kept<R: Print + Eprint + AllocGlobal + Threads + Wait + Sync>(
     let Ok(keepers) = keepers_in(rt.alloc(), host, &prepared.plant, folder) else {
         return print_failure(rt, CommandFault::Memory);
     };
-    let ran = run_plant(rt, request, prepared, keepers);
+    let ran = run_plant(rt, told, request, prepared, keepers);
     let status = tell_run(rt, ran)?;
     if ran == Err(CommandFault::Run(RunFault::Keeper)) {
         print_keeper_faults(rt, host, &plant, folder)?;
@@ -241,9 +248,10 @@ fn run_kept<R: Print + Eprint + AllocGlobal + Threads + Wait + Sync>(
 }
 
 /// Reads what a run needs, and runs it; the status.
-fn answer_run<R: Files + Print + Eprint + AllocGlobal + Threads + Wait + Sync>(
+fn answer_run<R: Files + Clock + Print + Eprint + AllocGlobal + Threads + Wait + Sync>(
     rt: &R,
     host: &HostRuntime,
+    told: bool,
     request: &RunRequest<'_>,
 ) -> io::Result<u8> {
     let prepared = match prepare(rt, request)? {
@@ -251,8 +259,8 @@ fn answer_run<R: Files + Print + Eprint + AllocGlobal + Threads + Wait + Sync>(
         Err(status) => return Ok(status),
     };
     match request.state {
-        Some(folder) => run_kept(rt, host, request, prepared, folder),
-        None => run_anew(rt, request, prepared),
+        Some(folder) => run_kept(rt, host, told, request, prepared, folder),
+        None => run_anew(rt, told, request, prepared),
     }
 }
 
@@ -313,14 +321,16 @@ fn answer<R: Env + Files + Clock + Input + Print + Eprint + AllocGlobal + Thread
         Ok(given) => given,
         Err(error) => return print_given_fault(rt, &error),
     };
+    let shown = host.stdout().is_terminal();
+    let told = host.stderr().is_terminal();
     match read_words(rt.alloc(), given.as_slice()) {
         Ok(Request::Text(request)) => {
-            let answered = answer_text(rt, host.stdout().is_terminal(), &request)?;
+            let answered = answer_text(rt, shown, told && !shown, &request)?;
             write_files(rt, host, request.files(), answered)
         }
-        Ok(Request::Verify(request)) => answer_verify(rt, host.stderr().is_terminal(), &request),
-        Ok(Request::Sim(request)) => answer_schedule(rt, &request),
-        Ok(Request::Run(request)) => answer_run(rt, host, &request),
+        Ok(Request::Verify(request)) => answer_verify(rt, told, &request),
+        Ok(Request::Sim(request)) => answer_schedule(rt, told && !shown, &request),
+        Ok(Request::Run(request)) => answer_run(rt, host, told && !shown, &request),
         Ok(Request::Node(request)) => answer_node(rt, host, &request),
         Ok(Request::Audit(request)) => answer_audit(rt, &request),
         Ok(Request::Explain(Some(kind))) => answer_kind(rt, kind),
