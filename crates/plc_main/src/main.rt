@@ -22,7 +22,6 @@ use keepers::KeeperFault;
 use node::{FreeGate, Gate, Keeper, MemoryKeeper, PacedGate, RunFault};
 use node_command::answer_node;
 use plant::{Plant, TaskRef};
-use progress::{OnTerminal, ToldLines};
 use run_command::run_text;
 use std::alloc::{AllocError, Global};
 use std::io;
@@ -107,25 +106,21 @@ fn obey_run<R: AllocGlobal + Threads + Wait + Sync, K: Keeper, G: Gate, W: Write
 }
 
 /// Runs a plant with these keepers, paced or free, and writes what its threads did; whether there was a fault in them.
-/// `told` is whether it is told on standard error how many lines of that went out.
-fn run_plant<R: Clock + Print + Eprint + AllocGlobal + Threads + Wait + Sync, K: Keeper>(
+fn run_plant<R: Print + AllocGlobal + Threads + Wait + Sync, K: Keeper>(
     rt: &R,
-    told: bool,
     request: &RunRequest<'_>,
     prepared: Prepared,
     keepers: Vec<K>,
 ) -> Result<bool, CommandFault>
     requires { vec_len keepers ≡ length prepared.plant.value.resources }
 {
-    let mut writer = ToldLines::new(io::writer(rt), OnTerminal::new(rt, told));
-    let ran = if request.paced {
+    let mut writer = io::writer(rt);
+    if request.paced {
         let gate = PacedGate::new(TURNS);
         obey_run(rt, request, prepared, keepers, &gate, &mut writer)
     } else {
         obey_run(rt, request, prepared, keepers, &FreeGate, &mut writer)
-    };
-    writer.end();
-    ran
+    }
 }
 
 /// Tells how a run ended; the status.
@@ -138,14 +133,13 @@ fn tell_run<R: Eprint + AllocGlobal>(rt: &R, ran: Result<bool, CommandFault>) ->
 }
 
 /// Runs a plant that begins anew; the status.
-fn run_anew<R: Clock + Print + Eprint + AllocGlobal + Threads + Wait + Sync>(
+fn run_anew<R: Print + Eprint + AllocGlobal + Threads + Wait + Sync>(
     rt: &R,
-    told: bool,
     request: &RunRequest<'_>,
     prepared: Prepared,
 ) -> io::Result<u8> {
     match memory_keepers(rt.alloc(), &prepared.plant) {
-        Ok(keepers) => tell_run(rt, run_plant(rt, told, request, prepared, keepers)),
+        Ok(keepers) => tell_run(rt, run_plant(rt, request, prepared, keepers)),
         Err(_) => print_failure(rt, CommandFault::Memory),
     }
 }
@@ -221,10 +215,9 @@ fn print_keeper_faults<R: Eprint + AllocGlobal>(
 }
 
 /// Runs a plant whose incarnations and retained variables are kept in a folder, which no other run uses meanwhile; the status.
-fn run_kept<R: Clock + Print + Eprint + AllocGlobal + Threads + Wait + Sync>(
+fn run_kept<R: Print + Eprint + AllocGlobal + Threads + Wait + Sync>(
     rt: &R,
     host: &HostRuntime,
-    told: bool,
     request: &RunRequest<'_>,
     prepared: Prepared,
     folder: &str,
@@ -239,7 +232,7 @@ fn run_kept<R: Clock + Print + Eprint + AllocGlobal + Threads + Wait + Sync>(
     let Ok(keepers) = keepers_in(rt.alloc(), host, &prepared.plant, folder) else {
         return print_failure(rt, CommandFault::Memory);
     };
-    let ran = run_plant(rt, told, request, prepared, keepers);
+    let ran = run_plant(rt, request, prepared, keepers);
     let status = tell_run(rt, ran)?;
     if ran == Err(CommandFault::Run(RunFault::Keeper)) {
         print_keeper_faults(rt, host, &plant, folder)?;
@@ -248,10 +241,9 @@ fn run_kept<R: Clock + Print + Eprint + AllocGlobal + Threads + Wait + Sync>(
 }
 
 /// Reads what a run needs, and runs it; the status.
-fn answer_run<R: Files + Clock + Print + Eprint + AllocGlobal + Threads + Wait + Sync>(
+fn answer_run<R: Files + Print + Eprint + AllocGlobal + Threads + Wait + Sync>(
     rt: &R,
     host: &HostRuntime,
-    told: bool,
     request: &RunRequest<'_>,
 ) -> io::Result<u8> {
     let prepared = match prepare(rt, request)? {
@@ -259,8 +251,8 @@ fn answer_run<R: Files + Clock + Print + Eprint + AllocGlobal + Threads + Wait +
         Err(status) => return Ok(status),
     };
     match request.state {
-        Some(folder) => run_kept(rt, host, told, request, prepared, folder),
-        None => run_anew(rt, told, request, prepared),
+        Some(folder) => run_kept(rt, host, request, prepared, folder),
+        None => run_anew(rt, request, prepared),
     }
 }
 
@@ -330,7 +322,7 @@ fn answer<R: Env + Files + Clock + Input + Print + Eprint + AllocGlobal + Thread
         }
         Ok(Request::Verify(request)) => answer_verify(rt, told, &request),
         Ok(Request::Sim(request)) => answer_schedule(rt, told && !shown, &request),
-        Ok(Request::Run(request)) => answer_run(rt, host, told && !shown, &request),
+        Ok(Request::Run(request)) => answer_run(rt, host, &request),
         Ok(Request::Node(request)) => answer_node(rt, host, &request),
         Ok(Request::Audit(request)) => answer_audit(rt, &request),
         Ok(Request::Explain(Some(kind))) => answer_kind(rt, kind),
