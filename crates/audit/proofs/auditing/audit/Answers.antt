@@ -7,7 +7,9 @@ use Rattle.node_journals.specs.Journals.{firsts_of, IsLawful}
 use Rattle.node_reports.specs.Reports.{RunsAgain, IsAgreeFault}
 use Rattle.audit.specs.Delivered.{AreDelivered}
 use Rattle.audit.specs.Steps.Standings.{AuditedBook, empty_book, AreFrom}
+use Rattle.journal_files.specs.Readings.{AreReadings}
 use Rattle.audit.proofs.GoingOn.{audited_agree, disagrees_not}
+use Rattle.audit.proofs.Tellings.{told_by}
 use Rattle.audit.proofs.auditing.audit.Goals as goal
 
 pub go_on-requires : goal.go_on-requires
@@ -47,3 +49,15 @@ unreachable-requires c =
     let given = subst (λ (p : PlantValue). IsAgreeFault p c.go_on.new.book.book journals fault) c.deref-2.ensures
     (subst (λ (k : BookValue). IsAgreeFault c.deref-2.result.now k journals fault) c.into_book.ensures.same c.in-Err-BookDisagrees.ensures.fault) in
     disagrees_not c.args.plant.value c.go_on.new.book.book journals fault c.in-Err-BookDisagrees.field-0-is given all.agree
+
+pub returns-in-Ok-clause-told : goal.returns-in-Ok-clause-told
+returns-in-Ok-clause-told c =
+    let p = c.args.plant.value in
+    let files = c.args.files.now in
+    let fs = c.in_ok-followers-2.followers.items in
+    let begins : c.in_ok-book.book ≡ empty_book p = c.in_ok-book.ensures ∙ ap (λ (p : PlantValue). empty_book p) c.in_ok-try_clone.ensures in
+    told_by p files c.in-Ok.field-0 (record { resources = c.in_ok-resources.resources; without_start = c.in_ok-resources.without_start }) c.go_on.new.book fs c.in_ok-journals.journals.items
+    (subst (λ q. AreReadings q files (record { resources = c.in_ok-resources.resources; without_start = c.in_ok-resources.without_start })) c.deref.ensures c.in_ok-resources.ensures.read)
+    (c.in_ok-followers-2.ensures.plant.plant_is ∙ ap (λ (x : AuditedBook). x.plant) begins)
+    c.in_ok-followers-2.ensures.stand (c.in_ok-followers-2.ensures.many ∙ c.in_ok-followers.ensures.many) (c.in_ok-followers-2.ensures.lines ∙ c.in_ok-followers.ensures.lines)
+    c.in_ok-journals.ensures.same c.in-Ok.ensures.kept.1 c.in_ok-unshown.ensures c.in_ok-without.ensures
