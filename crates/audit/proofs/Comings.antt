@@ -129,7 +129,7 @@ start_reason s incarnation kept (reason.Missing need) h = absurd h
 start_reason s incarnation kept (reason.Misfit misfit) h = absurd h
 
 pub started_comes : (ticket : ℕ) (next : Option Item) (incarnation : ℕ) (kept : Vec (List Value)) (old : StationValue) (to : Standing) (outcome : Outcome) → HasStarted incarnation kept.items old to outcome → Comes ticket next (Start incarnation kept) old to outcome
-started_comes ticket next incarnation kept old to Done h = h
+started_comes ticket next incarnation kept old to Done h = (h.0, h.1, (h.2, h.3))
 started_comes ticket next incarnation kept old to (Waits need) h = absurd h
 started_comes ticket next incarnation kept old to (Stops why) h = (stopped_same old to h.0, start_reason old incarnation kept why h.1)
 

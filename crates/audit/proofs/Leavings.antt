@@ -105,7 +105,7 @@ left_taken old new item m (Waits need) kept h are = same_left old new kept h.0 a
 left_taken old new item m (Stops why) kept h are = same_left old new kept h.0 are
 
 pub left_heard : (old new : StationValue) (item : Item) (of incarnation : ℕ) (outcome : Outcome) (kept : List (List Value)) → Meets (Hears old new of incarnation) old new item outcome → AreLeft old.journal kept → AreLeft new.journal kept
-left_heard old new item of incarnation Done kept (inl h) are = subst (λ j. AreLeft j kept) (sym h.1.noted) (left_still old.journal (Heard incarnation) kept refl are)
+left_heard old new item of incarnation Done kept (inl h) are = subst (λ j. AreLeft j kept) (sym h.1.noted) (left_still old.journal (Heard of incarnation) kept refl are)
 left_heard old new item of incarnation Done kept (inr h) are = same_left old new kept h.1 are
 left_heard old new item of incarnation (Waits need) kept h are = same_left old new kept h.0 are
 left_heard old new item of incarnation (Stops why) kept h are = same_left old new kept h.0 are

@@ -1,4 +1,7 @@
-use Rattle.std.proofs.Common.{◌≡◌, sym, subst}
+use Rattle.std.proofs.Common.{◌∙◌, ℕ, List, ap, ap₂, sym, subst}
+use Rattle.std_blocks.specs.declared.value.Value.{Value}
+use Rattle.evaluation.specs.declared.name.Name.{Name}
+use Rattle.evaluation.specs.Meaning.{Evaluated}
 use Rattle.std.specs.Prelude.{slice_set}
 use Rattle.evaluation.specs.Retained.{retained_values}
 use Rattle.audit.specs.Lines.{AreLeft}
@@ -19,5 +22,8 @@ returns-in-Ok-clause-grows c =
 pub returns-in-Ok-clause-left : goal.returns-in-Ok-clause-left
 returns-in-Ok-clause-left c =
     let p = c.args.pending in
-    let same : c.leave.new.self.left.items ≡ slice_set c.args.past.now.left.items p.made.name.task.task (retained_values p.made.code p.made.after) = cc in
-    subst (AreLeft c.in-Ok.station.journal) (sym same) (left_noted p c.in-Ok.station c.args.past.now.left.items c.in-Ok.ensures.noted c.requires.pending.own c.requires.left)
+    let kept = c.args.past.now.left.items in
+    let task = ap (λ (n : Name). n.task.task) c.name-task.ensures ∙ ap (λ (x : Evaluated). x.name.task.task) c.frame-2.ensures.value in
+    let left = c.in_ok-left.ensures ∙ ap (λ (x : Evaluated). retained_values x.code x.after) (c.evaluation.ensures ∙ c.frame.ensures.value) in
+    let same = c.leave.ensures ∙ ap₂ (λ (k : ℕ) (values : List Value). slice_set kept k values) task left in
+    subst (AreLeft c.in-Ok.station.journal) (sym same) (left_noted p c.in-Ok.station kept c.in-Ok.ensures.noted c.requires.pending.own c.requires.left)
