@@ -60,11 +60,13 @@ returns-in-Ok-clause-told c =
     let files = c.args.files.now in
     let fs = c.in_ok-followers-2.followers.items in
     let begins : c.in_ok-book.book ≡ empty_book p = c.in_ok-book.ensures ∙ ap (λ (p : PlantValue). empty_book p) c.in_ok-try_clone.ensures in
-    told_by p files (record { book = c.in-Ok.field-0.book; journals = c.in-Ok.field-0.journals; unshown = c.in_ok-unshown.unshown; without = c.in_ok-without.without }) (record { resources = c.in_ok-resources.resources; without_start = c.in_ok-resources.without_start }) c.go_on.new.book fs c.in_ok-journals.journals.items
-    (subst (λ q. AreReadings q files (record { resources = c.in_ok-resources.resources; without_start = c.in_ok-resources.without_start })) c.deref.ensures c.in_ok-resources.ensures.read)
+    let readings = c.in_ok-resources.field-0 in
+    told_by p files (record { book = c.in-Ok.field-0.book; journals = c.in-Ok.field-0.journals; unshown = c.in_ok-unshown.unshown; without = c.in_ok-without.without }) readings c.go_on.new.book fs c.in_ok-journals.journals.items
+    (subst (λ q. AreReadings q files readings) c.deref.ensures c.in_ok-resources.ensures.read)
     (c.in_ok-followers-2.ensures.plant.plant_is ∙ ap (λ (x : AuditedBook). x.plant) begins)
-    c.in_ok-followers-2.ensures.stand (c.in_ok-followers-2.ensures.many ∙ c.in_ok-followers.ensures.many) (c.in_ok-followers-2.ensures.lines ∙ c.in_ok-followers.ensures.lines)
+    c.in_ok-followers-2.ensures.stand (c.in_ok-followers-2.ensures.many ∙ c.in_ok-followers.ensures.many)
+    (c.in_ok-followers-2.ensures.lines ∙ c.in_ok-followers.ensures.lines)
     c.in_ok-journals.ensures.same c.in-Ok.ensures.kept.1
-    (subst (λ (xs : List Follower). HaveTold xs c.in_ok-resources.without_start.items c.in_ok-unshown.unshown.items) c.as_slice.ensures.value
+    (subst (λ (xs : List Follower). HaveTold xs readings.without_start.items c.in_ok-unshown.unshown.items) c.as_slice.ensures.value
     (subst (λ (places : List Place). HaveTold c.as_slice.result.now places c.in_ok-unshown.unshown.items) c.as_slice-2.ensures.value c.in_ok-unshown.ensures))
     (c.in_ok-without.ensures ∙ ap (λ (xs : List Follower). all_without (lines_of xs) (length xs)) c.as_slice-3.ensures.value)
