@@ -1,9 +1,9 @@
 -- What comes of a line, and that the resource has come as far as its lines lead.
-use Rattle.std.proofs.Common.{arith, ◌≡◌, ◌≢◌, ◌⊎◌, ℕ, zero, suc, ◌+◌, ◌-◌, ◌<◌, ◌≤◌, ◌++◌, List, [], ◌∷◌, Bool, true, false, cond, Option, Some, None, length, map, slice_get, refl, ap, sym, ◌∙◌, subst, add-one, inl, inr}
+use Rattle.std.proofs.Common.{arith, ◌≡◌, ◌≢◌, ℕ, ◌+◌, ◌-◌, ◌<◌, ◌≤◌, List, Bool, true, false, Option, Some, None, length, slice_get, refl, ap, sym, ◌∙◌, subst, add-one, inl, inr}
 use Rattle.std.specs.Prelude.{if◌then◌else◌, slice_index}
 use Rattle.std.specs.Global.{Vec}
 use Rattle.std.specs.Option.{option_map}
-use Rattle.std.proofs.lemmas.Option.{none-some, same_Some, slice_get_within, slice_get_past}
+use Rattle.std.proofs.lemmas.Option.{same_Some, slice_get_within, slice_get_past}
 use Rattle.std_blocks.specs.declared.value.Value.{Value}
 use Rattle.plant.specs.PlantValue.{PlantValue}
 use Rattle.evaluation.specs.declared.field_input.FieldInput.{FieldInput}
@@ -14,9 +14,9 @@ use Rattle.message_core.specs.declared.accepted.Accepted.{Accepted}
 use Rattle.message_core.specs.declared.accepted.Accepted.TheVariants.{Taken}
 use Rattle.message_core.specs.MessageCoreValue as messages
 use Rattle.exchange_core.specs.CoreValue.{CoreValue, is_news}
-use Rattle.exchange_core.specs.Wholes.{core_in, as_wholes, AreWhole}
+use Rattle.exchange_core.specs.Wholes.{core_in, AreWhole}
 use Rattle.node_journals.specs.declared.journal.Journal.{Journal}
-use Rattle.node_journals.specs.Steps.Stations.{StationValue, PendingValue, fresh_station, IsReceived, IsTold, IsPending, IsNoted}
+use Rattle.node_journals.specs.Steps.Stations.{StationValue, PendingValue, fresh_station, IsReceived, IsTold, IsPending}
 use Rattle.journal_files.specs.declared.item.Item.{Item}
 use Rattle.journal_files.specs.declared.item.Item.TheVariants.{Start, Restart, Message, Hello, Evaluate, Faulty}
 use Rattle.journal_files.specs.declared.line.Line.{Line}
@@ -28,8 +28,8 @@ use Rattle.audit.specs.declared.reason.Reason.TheVariants as reason
 use Rattle.audit.specs.declared.standing.Standing.{Standing}
 use Rattle.audit.specs.declared.standing.Standing.TheVariants.{Going, Ended}
 use Rattle.audit.specs.declared.trail.Trail.{Trail}
-use Rattle.audit.specs.Lines.{messages_in, zeros, AreLeft, Rises, Takes, Hears, OpensWith, WasUndone, WasDone, Evaluates, Does, Opens, item_at, ticket_behind, ticket_at, StandsAt}
-use Rattle.audit.specs.Reasons.{Needs, WouldTake, WouldHear, IsReason}
+use Rattle.audit.specs.Lines.{messages_in, zeros, AreLeft, Takes, Hears, OpensWith, WasUndone, WasDone, Does, Opens, item_at, ticket_behind, ticket_at, StandsAt}
+use Rattle.audit.specs.Reasons.{WouldTake, WouldHear, IsReason}
 use Rattle.audit.specs.Steps.Standings.{journal_in}
 use Rattle.audit.specs.Steps.Following.{IsStart, HasNoted, IsNotRisen, IsNoStart, IsMisfit, HasRisen, HasStarted, HasEntered, Meets, HasStopped, Comes, IsLed, IsTried, IsFollowing, IsSettledAt, HasBegun}
 use Rattle.audit.proofs.Leavings.{left_fresh}

@@ -1,5 +1,5 @@
 -- What is left of the tasks of a resource, step by step.
-use Rattle.std.proofs.Common.{◌≡◌, ◌≢◌, ℕ, ◌+◌, ◌<◌, ◌++◌, ◌==◌, ◌&&◌, List, [], ◌∷◌, Bool, true, false, cond, Option, Some, None, length, reverse, slice_get, set, refl, inl, inr, ap, sym, ◌∙◌, subst, arith, filter}
+use Rattle.std.proofs.Common.{◌≡◌, ℕ, ◌<◌, ◌++◌, ◌==◌, ◌&&◌, List, [], ◌∷◌, Bool, true, false, cond, Some, length, reverse, slice_get, refl, inl, inr, ap, sym, ◌∙◌, subst, arith, filter}
 use Rattle.std.specs.Prelude.{slice_set}
 use Rattle.std.proofs.lemmas.List.{reverse-append, length-set}
 use Rattle.std.proofs.lemmas.Bool.{eq-eqb, eqb-true}
@@ -14,7 +14,7 @@ use Rattle.node_journals.specs.declared.step.Step.{Step}
 use Rattle.node_journals.specs.declared.step.Step.TheVariants.{Took, Made, Restarted, Heard}
 use Rattle.node_journals.specs.declared.journal.Journal.{Journal}
 use Rattle.node_journals.specs.Journals.{made, newest, last_of, opening_at, with_step, fresh_journal}
-use Rattle.node_journals.specs.Steps.Stations.{StationValue, PendingValue, IsReceived, IsTold, IsNoted, IsRestarted}
+use Rattle.node_journals.specs.Steps.Stations.{StationValue, PendingValue, IsNoted, IsRestarted}
 use Rattle.evaluation.specs.Messages.{MessageValue}
 use Rattle.journal_files.specs.declared.item.Item.{Item}
 use Rattle.audit.specs.declared.outcome.Outcome.{Outcome}

@@ -1,15 +1,13 @@
 -- What is shown of all resources, and what can't be.
-use Rattle.std.proofs.Common.{arith, ◌≡◌, ◌≢◌, ◌⊎◌, ℕ, zero, suc, ◌+◌, ◌<◌, ◌≤◌, ◌++◌, List, [], ◌∷◌, Option, Some, None, length, map, slice_get, refl, ap, sym, ◌∙◌, subst, zero-add, add-one, option_map, append-nil}
+use Rattle.std.proofs.Common.{arith, ◌≡◌, ℕ, zero, suc, ◌+◌, ◌++◌, List, [], ◌∷◌, Option, Some, None, length, map, slice_get, refl, ap, sym, ◌∙◌, subst, zero-add, add-one, option_map, append-nil}
 use Rattle.std.proofs.lemmas.List.{length-map}
 use Rattle.std.specs.Global.{Vec}
-use Rattle.std.proofs.lemmas.Option.{none-some, same_Some, slice_get-map, slice_get-get_or}
-use Rattle.lists.proofs.Places.{same_within}
+use Rattle.std.proofs.lemmas.Option.{slice_get-map}
 use Rattle.plant.specs.PlantValue.{PlantValue}
 use Rattle.node_journals.specs.declared.journal.Journal.{Journal}
 use Rattle.node_journals.specs.Steps.Stations.{StationValue}
 use Rattle.journal_files.specs.declared.item.Item.{Item}
 use Rattle.journal_files.specs.declared.line.Line.{Line}
-use Rattle.journal_files.specs.declared.line.Place.{Place}
 use Rattle.audit.specs.declared.follower.Follower.{Follower}
 use Rattle.audit.specs.declared.needs.Need.{Need}
 use Rattle.audit.specs.declared.outcome.Outcome.{Outcome}
@@ -22,7 +20,7 @@ use Rattle.audit.specs.declared.standing.Standing.TheVariants.{Going, Ended}
 use Rattle.audit.specs.Reasons.{Needs, IsReason}
 use Rattle.audit.specs.Told.{IsTold, IsShown, AreShown, AreToldBy, if_none, without_lines, all_without}
 use Rattle.audit.specs.Steps.Standings.{AuditedBook, journal_in, AreFrom}
-use Rattle.audit.specs.Steps.Following.{IsLed, IsTried, IsFollowing, IsFollowed, IsReasonFor, IsToldOf, AreToldOf, HaveTold}
+use Rattle.audit.specs.Steps.Following.{IsLed, IsTried, IsFollowed, IsReasonFor, IsToldOf, AreToldOf, HaveTold}
 use Rattle.journal_files.specs.declared.journal_file.JournalFile.{JournalFile}
 use Rattle.journal_files.specs.declared.reading.Readings.{Readings}
 use Rattle.journal_files.specs.Readings.{AreReadings}

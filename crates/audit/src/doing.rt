@@ -108,7 +108,15 @@ fn do_item(
 {
     match item {
         Item::Start { incarnation, kept } => {
-            start(alloc, station, *incarnation, kept.as_slice(), past, present, book)
+            start(
+                alloc,
+                station,
+                *incarnation,
+                kept.as_slice(),
+                past,
+                present,
+                book,
+            )
         }
         Item::Restart { incarnation } => {
             restart(alloc, station, ticket, *incarnation, past, present, book)

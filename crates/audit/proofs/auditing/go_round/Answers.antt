@@ -1,7 +1,7 @@
-use Rattle.std.proofs.Common.{◌≡◌, ◌∙◌, [], sym, subst, ap, slice_get}
+use Rattle.std.proofs.Common.{sym, subst}
 use Rattle.std.proofs.lemmas.Option.{none-some}
 use Rattle.audit.specs.Steps.Following.{AreSettled}
-use Rattle.audit.proofs.GoingOn.{round_begins, next_stands, next_left, round_turns, settled_more, lines_begin, lines_turn, lines_end}
+use Rattle.audit.proofs.GoingOn.{round_begins, next_stands, next_left, round_turns, settled_more, lines_begin, lines_turn}
 use Rattle.audit.proofs.auditing.go_round.Goals as goal
 
 pub loop-follower-init : goal.loop-follower-init

@@ -1,4 +1,4 @@
-use Rattle.std.proofs.Common.{◌≡◌, ◌∙◌, Some, length, slice_get, refl, sym, subst}
+use Rattle.std.proofs.Common.{◌≡◌, Some, length, slice_get, refl, subst}
 use Rattle.std.specs.Option.{option_copied}
 use Rattle.std.proofs.lemmas.Option.{slice_get_read}
 use Rattle.audit.specs.declared.standing.Standing.{Standing}

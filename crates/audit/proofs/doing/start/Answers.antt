@@ -12,11 +12,14 @@ returns-in-Some-clause-started c =
 
 pub returns-then-not-are_all_same-clause-started :
     goal.returns-then-not-are_all_same-clause-started
-returns-then-not-are_all_same-clause-started c = (refl, λ are.
-    let same : c.args.kept.now ≡ c.as_slice.result.now = left_same c.args.station.journal c.args.kept.now c.args.past.now.left.items are c.requires.left ∙ sym c.as_slice.ensures.value in
-    let all = c.are_all_same.ensures.1 same in
-    let not = c.if-not-are_all_same.true in
-    absurd cc)
+returns-then-not-are_all_same-clause-started c = (
+  refl,
+  λ are.
+      let same : c.args.kept.now ≡ c.as_slice.result.now = left_same c.args.station.journal c.args.kept.now c.args.past.now.left.items are c.requires.left ∙ sym c.as_slice.ensures.value in
+      let all = c.are_all_same.ensures.1 same in
+      let not = c.if-not-are_all_same.true in
+      absurd cc,
+)
 
 pub returns-clause-started : goal.returns-clause-started
 returns-clause-started c =

@@ -33,13 +33,13 @@ returns-clause-follows c =
       | else-loop-line-test w ↦
           rw (w.standing-is, w.trail-is)
           (λ plant n f. let g = c.loop-line.invariant.follows plant n f in
-              (g, lines_done plant n c.args.self.lines.items c.loop-line.standing c.loop-line.trail c.args.self.trail.at c.loop-line._line c.loop-line.invariant.at (omega (arith, w.loop-line-test.false, c.len-line-end.ensures, c.args.self.lines.ok.0)) g))
+          (g, lines_done plant n c.args.self.lines.items c.loop-line.standing c.loop-line.trail c.args.self.trail.at c.loop-line._line c.loop-line.invariant.at (omega (arith, w.loop-line-test.false, c.len-line-end.ensures, c.args.self.lines.ok.0)) g))
       | then-loop-line-test+in_ok-next+then-not-done w ↦
           rw (w.standing-is, w.trail-is)
           (λ plant n f.
-              let before = subst (λ (ls : List Line). IsFollowing plant n ls c.loop-line.standing c.loop-line.trail) (sym w.as_slice.ensures.value) (c.loop-line.invariant.follows plant n f) in
-              let r = w.in_ok-next.ensures.follows plant n before in (
-                subst (λ (ls : List Line). IsFollowing plant n ls w.in_ok-next.next w.do_line.new.trail) w.as_slice.ensures.value r.0,
-                subst (λ (ls : List Line). IsSettledAt ls w.do_line.new.trail) w.as_slice.ensures.value (r.1 w.if-not-done.true),
-              ))
+          let before = subst (λ (ls : List Line). IsFollowing plant n ls c.loop-line.standing c.loop-line.trail) (sym w.as_slice.ensures.value) (c.loop-line.invariant.follows plant n f) in
+          let r = w.in_ok-next.ensures.follows plant n before in (
+            subst (λ (ls : List Line). IsFollowing plant n ls w.in_ok-next.next w.do_line.new.trail) w.as_slice.ensures.value r.0,
+            subst (λ (ls : List Line). IsSettledAt ls w.do_line.new.trail) w.as_slice.ensures.value (r.1 w.if-not-done.true),
+          ))
     ]
