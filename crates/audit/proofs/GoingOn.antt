@@ -1,10 +1,13 @@
 -- What a resource has made and received after one more step, and that the others stand as before.
-use Rattle.std.proofs.Common.{◌≡◌, ◌≢◌, ℕ, ◌+◌, ◌++◌, List, [], ◌∷◌, All, Contains, Some, slice_get, cond, eqb, true, false, Bool, zero, suc, ◌<◌, add-zero, zero-add, length, replicate, refl, ap, ap₂, sym, ◌∙◌, subst, arith}
-use Rattle.std.proofs.lemmas.List.{append-nil, length-append}
+use Rattle.std.proofs.Common.{◌≡◌, ◌≢◌, ◌⊎◌, inl, inr, map, append_assoc, ℕ, ◌+◌, ◌++◌, List, [], ◌∷◌, All, Contains, Some, slice_get, cond, eqb, true, false, Bool, zero, suc, ◌<◌, add-zero, zero-add, length, replicate, refl, ap, ap₂, sym, ◌∙◌, subst, arith}
+use Rattle.std.proofs.lemmas.List.{append-nil, length-append, map-append, nil_from_length}
 use Rattle.std.proofs.lemmas.List.Elements.{filter-append, Contains-append_left, All-weaker, All-append, All-cons, All-nil}
 use Rattle.std.proofs.lemmas.Bool.{eq-eqb, eqb-true}
 use Rattle.std.proofs.lemmas.Option.{slice_get_within, none-some, same_Some}
 use Rattle.lists.proofs.Members.{all_from_places}
+use Rattle.lists.proofs.Places.{push_cases}
+use Rattle.std.specs.Global.{Vec}
+use Rattle.journal_files.specs.declared.line.Line.{Line}
 use Rattle.plant.specs.PlantValue.{PlantValue}
 use Rattle.evaluation.specs.Meaning.{Evaluated}
 use Rattle.evaluation_book.specs.Book.{BookValue}
@@ -23,7 +26,10 @@ use Rattle.node_reports.specs.Reports.{entries_of, Agree, IsAgreeFault}
 use Rattle.audit.specs.declared.standing.Standing.{Standing}
 use Rattle.audit.specs.declared.standing.Standing.TheVariants.{Going, Ended}
 use Rattle.audit.specs.declared.follower.Follower.{Follower}
-use Rattle.audit.specs.Steps.Standings.{AuditedBook, zeros, empty_book, IsJournalOf, IsGoing, IsEnded, IsStanding, IsPendingFor, journal_in, Grows, Goes, IsOfSame, IsAt, AreFrom, AreJournalsFrom}
+use Rattle.audit.specs.Lines.{zeros, AreLeft}
+use Rattle.audit.specs.Steps.Following.{IsFollowed, IsSettled, AreSettled}
+use Rattle.audit.proofs.Comings.{followed_left}
+use Rattle.audit.specs.Steps.Standings.{AuditedBook, empty_book, IsJournalOf, IsGoing, IsEnded, IsStanding, IsPendingFor, journal_in, Grows, Goes, IsOfSame, IsAt, AreFrom, AreJournalsFrom}
 use Rattle.audit.specs.Delivered.{AreDelivered}
 
 made-append : (a b : List Step) → made (a ++ b) ≡ made a ++ made b
@@ -229,11 +235,20 @@ others_still r n old new fs grows apart are = λ k f at.
     record {
       stands = still_standing r old new f.standing grows (λ same. apart k (slice_get_within fs k f at) (sym is.resource_is ∙ same)) is.stands;
       resource_is = is.resource_is;
+      followed = subst (λ p. IsFollowed p (n + k) f) (sym grows.plant_is) is.followed;
     }
 
+-- where a resource has followed its lines, it has followed them further, and is settled
+abbrev pub Follows : Follower → Follower → Type 0
+Follows f g = (plant : PlantValue) (n : ℕ) → IsFollowed plant n f → IsFollowed plant n g × IsSettled g
+
 -- a resource that went on stands at its place
-pub went_at : (old new : AuditedBook) (n : ℕ) (f g : Follower) → IsAt old n f → Goes old new f.standing g.standing → IsAt new n g
-went_at old new n f g is goes = record { stands = goes.stands; resource_is = goes.resource_is ∙ is.resource_is }
+pub went_at : (old new : AuditedBook) (n : ℕ) (f g : Follower) → IsAt old n f → Goes old new f.standing g.standing → Follows f g → IsAt new n g
+went_at old new n f g is goes follows = record {
+  stands = goes.stands;
+  resource_is = goes.resource_is ∙ is.resource_is;
+  followed = subst (λ p. IsFollowed p n g) (sym goes.grows.plant_is) (follows old.plant n is.followed).0;
+}
 
 below_not : (k n : ℕ) → k < n → k ≡ n → ⊥
 below_not k n lt same = absurd (omega arith)
@@ -242,13 +257,13 @@ behind_not : (n k : ℕ) → n + 1 + k ≡ n → ⊥
 behind_not n k same = absurd (omega arith)
 
 -- one resource goes on, and all stand
-pub round_on : (old new : AuditedBook) (gone rest : List Follower) (f g : Follower) → AreFrom old 0 gone → AreFrom old (length gone) (f ∷ rest) → Goes old new f.standing g.standing
+pub round_on : (old new : AuditedBook) (gone rest : List Follower) (f g : Follower) → AreFrom old 0 gone → AreFrom old (length gone) (f ∷ rest) → Goes old new f.standing g.standing → Follows f g
     → AreFrom new 0 (gone ++ g ∷ []) × AreFrom new (length gone + 1) rest × IsOfSame old new
-round_on old new gone rest f g before behind goes =
+round_on old new gone rest f g before behind goes follows =
     let here : IsAt old (length gone) f = first_at old (length gone) f rest behind in
     let grows : Grows (length gone) old new = subst (λ r. Grows r old new) here.resource_is goes.grows in (
       one_more_at new 0 gone g (others_still (length gone) 0 old new gone grows (λ k lt same. below_not k (length gone) lt (sym (zero-add k) ∙ same)) before)
-          (subst (λ k. IsAt new k g) (sym (zero-add (length gone))) (went_at old new (length gone) f g here goes)),
+          (subst (λ k. IsAt new k g) (sym (zero-add (length gone))) (went_at old new (length gone) f g here goes follows)),
       others_still (length gone) (length gone + 1) old new rest grows (λ k lt same. behind_not (length gone) k same) (others_from old (length gone) f rest behind),
       record { plant_is = grows.plant_is; first_is = grows.first_is },
     )
@@ -324,16 +339,76 @@ moved gone_long rest_long after_long others_long n is more sum = omega (arith, i
 
 -- a turn of a round: one more has gone on
 pub round_turns : (start old new : AuditedBook) (before after rest others : List Follower) (f g : Follower) (n : ℕ) → rest ≡ f ∷ others → after ≡ before ++ g ∷ []
-    → (length before + length rest ≡ n) × AreFrom old 0 before × AreFrom old (length before) rest × IsOfSame start old → Goes old new f.standing g.standing
+    → (length before + length rest ≡ n) × AreFrom old 0 before × AreFrom old (length before) rest × IsOfSame start old → Goes old new f.standing g.standing → Follows f g
     → (length after + length others ≡ n) × AreFrom new 0 after × AreFrom new (length after) others × IsOfSame start new
-round_turns start old new before after rest others f g n is more stand goes =
-    let r = round_on old new before others f g stand.1 (subst (λ (fs : List Follower). AreFrom old (length before) fs) is stand.2) goes in
+round_turns start old new before after rest others f g n is more stand goes follows =
+    let r = round_on old new before others f g stand.1 (subst (λ (fs : List Follower). AreFrom old (length before) fs) is stand.2) goes follows in
     let long : length after ≡ length before + 1 = ap length more ∙ length-append before (g ∷ []) in (
       moved (length before) (length rest) (length after) (length others) n (ap length is) long stand.0,
       subst (λ (fs : List Follower). AreFrom new 0 fs) (sym more) r.0,
       subst (λ (k : ℕ). AreFrom new k others) (sym long) r.1,
       same_twice start old new stand.3 r.2,
     )
+
+-- what is left of the tasks of the next one is known
+pub next_left : (b : AuditedBook) (n : ℕ) (rest others : List Follower) (f : Follower) → rest ≡ f ∷ others → AreFrom b n rest → AreLeft (journal_in f.standing) f.trail.past.left.items
+next_left b n rest others f is are = followed_left b.plant n f.lines.items f.standing f.trail (first_at b n f others (subst (λ (fs : List Follower). AreFrom b n fs) is are)).followed
+
+-- one more is settled
+pub settled_more : (b : AuditedBook) (n : ℕ) (before after rest others : List Follower) (f g : Follower) → rest ≡ f ∷ others → after ≡ before ++ g ∷ [] → AreFrom b n rest → Follows f g → AreSettled before → AreSettled after
+settled_more b n before after rest others f g is more are follows settled =
+    let here = first_at b n f others (subst (λ (fs : List Follower). AreFrom b n fs) is are) in
+    λ k h at. by k h (push_cases before g k h (ap (λ hs. slice_get hs k) (sym more) ∙ at)) ((follows b.plant n here.followed).1)
+  where
+    by : (k : ℕ) (h : Follower) → (slice_get before k ≡ Some h) ⊎ ((k ≡ length before) × (h ≡ g)) → IsSettled g → IsSettled h
+    by k h (inl there) so = settled k h there
+    by k h (inr here) so = subst IsSettled (sym here.1) so
+
+-- the lines of the resources stay
+abbrev pub lines_of : List Follower → List (Vec Line)
+lines_of fs = map (λ (f : Follower). f.lines) fs
+
+pub lines_begin : (before rest all : List Follower) → before ≡ [] → rest ≡ all → lines_of before ++ lines_of rest ≡ lines_of all
+lines_begin before rest all none same = ap (λ fs. lines_of fs ++ lines_of rest) none ∙ ap lines_of same
+
+pub lines_turn : (before after rest others all : List Follower) (f g : Follower) → rest ≡ f ∷ others → after ≡ before ++ g ∷ [] → g.lines ≡ f.lines → lines_of before ++ lines_of rest ≡ lines_of all → lines_of after ++ lines_of others ≡ lines_of all
+lines_turn before after rest others all f g is more same was =
+    ap (λ ls. ls ++ lines_of others) (ap lines_of more ∙ map-append (λ (h : Follower). h.lines) before (g ∷ []))
+    ∙ append_assoc (lines_of before) (g.lines ∷ []) (lines_of others)
+    ∙ ap (λ (l : Vec Line). lines_of before ++ (l ∷ lines_of others)) same
+    ∙ ap (λ fs. lines_of before ++ lines_of fs) (sym is) ∙ was
+
+pub lines_end : (before rest all : List Follower) → length rest ≡ 0 → lines_of before ++ lines_of rest ≡ lines_of all → lines_of before ≡ lines_of all
+lines_end before rest all none was = sym (append-nil (lines_of before)) ∙ ap (λ fs. lines_of before ++ lines_of fs) (sym (nil_from_length rest none)) ∙ was
+
+-- one more resource with its lines
+pub lines_begun : (followers after : List Follower) (rest others all : List (Vec Line)) (f : Follower) (lines : Vec Line) → rest ≡ lines ∷ others → after ≡ followers ++ f ∷ [] → f.lines ≡ lines
+    → lines_of followers ++ rest ≡ all → lines_of after ++ others ≡ all
+lines_begun followers after rest others all f lines is more same was =
+    ap (λ ls. ls ++ others) (ap lines_of more ∙ map-append (λ (h : Follower). h.lines) followers (f ∷ []))
+    ∙ append_assoc (lines_of followers) (f.lines ∷ []) others
+    ∙ ap (λ (l : Vec Line). lines_of followers ++ (l ∷ others)) same
+    ∙ ap (λ ls. lines_of followers ++ ls) (sym is) ∙ was
+
+pub lines_all : (followers : List Follower) (rest all : List (Vec Line)) → length rest ≡ 0 → lines_of followers ++ rest ≡ all → lines_of followers ≡ all
+lines_all followers rest all none was = sym (append-nil (lines_of followers)) ∙ ap (λ ls. lines_of followers ++ ls) (sym (nil_from_length rest none)) ∙ was
+
+-- the journals of the resources
+abbrev pub journals_in : List Follower → List Journal
+journals_in fs = map (λ (f : Follower). journal_in f.standing) fs
+
+pub journals_first : (js : List Journal) (rest all : List Follower) → js ≡ [] → rest ≡ all → js ++ journals_in rest ≡ journals_in all
+journals_first js rest all none same = ap (λ ks. ks ++ journals_in rest) none ∙ ap journals_in same
+
+pub journals_next : (js after : List Journal) (rest others all : List Follower) (f : Follower) (j : Journal) → rest ≡ f ∷ others → after ≡ js ++ j ∷ [] → j ≡ journal_in f.standing → js ++ journals_in rest ≡ journals_in all → after ++ journals_in others ≡ journals_in all
+journals_next js after rest others all f j is more same was =
+    ap (λ ks. ks ++ journals_in others) more
+    ∙ append_assoc js (j ∷ []) (journals_in others)
+    ∙ ap (λ (i : Journal). js ++ (i ∷ journals_in others)) same
+    ∙ ap (λ fs. js ++ journals_in fs) (sym is) ∙ was
+
+pub journals_last : (js : List Journal) (rest all : List Follower) → length rest ≡ 0 → js ++ journals_in rest ≡ journals_in all → js ≡ journals_in all
+journals_last js rest all none was = sym (append-nil js) ∙ ap (λ fs. js ++ journals_in fs) (sym (nil_from_length rest none)) ∙ was
 
 -- one more resource before its first line
 pub begun_more : (b : AuditedBook) (followers after : List Follower) (rest_long others_long n place : ℕ) (f : Follower) → rest_long ≡ suc others_long → after ≡ followers ++ f ∷ [] → place ≡ length followers
@@ -378,3 +453,8 @@ audited_agree plant start b followers all journals is same many as_many last sta
 
 pub disagrees_not : (plant : PlantValue) (book : BookValue) (journals : List Journal) (fault : RunFault) → fault ≡ BookDisagrees → IsAgreeFault plant book journals fault → Agree plant book journals → ⊥
 disagrees_not plant book journals fault is given agree = subst (λ (f : RunFault). IsAgreeFault plant book journals f) is given agree
+
+-- after the last round all are settled
+pub settled_end : (round : ℕ) (fs : List Follower) → (round ≡ 0) ⊎ AreSettled fs → (round ≡ 0 → ⊥) → AreSettled fs
+settled_end round fs (inl none) some = absurd (some none)
+settled_end round fs (inr settled) some = settled

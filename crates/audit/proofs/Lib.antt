@@ -1,1 +1,4 @@
 pub mod GoingOn
+pub mod Comings
+pub mod Leavings
+pub mod Tellings

@@ -1,2 +1,5 @@
 pub mod Delivered
+pub mod Lines
+pub mod Reasons
 pub mod Steps
+pub mod Told

@@ -1,7 +1,10 @@
 //! Messages and hellos that come to a resource.
 
-ghost use Rattle.std.specs.Prelude.{◌≡◌};
+ghost use Rattle.std.specs.Prelude.{◌≡◌, IfOk};
+ghost use Rattle.journal_files.specs.declared.item.Item.TheVariants as item;
+ghost use Rattle.audit.specs.Lines.{Takes, Hears};
 ghost use Rattle.audit.specs.Steps.Standings.{AuditedBook, IsGoing};
+ghost use Rattle.audit.specs.Steps.Following.{Meets};
 
 use crate::book_of_audit::BookOfAudit;
 use crate::needs::Need;
@@ -22,9 +25,11 @@ pub(crate) fn receive(
     requires { IsGoing book.now station.old }
     ensures going { IsGoing book.now station.new }
     ensures resource { station.new.journal.resource ≡ station.old.journal.resource }
+    ensures meets { IfOk result (Meets (Takes station.old station.new message.now) station.old station.new (item.Message message.now)) }
 {
-    if station.core().messages().would_accept(message) != Accepted::Taken {
-        return Ok(Outcome::Done);
+    match station.core().messages().would_accept(message) {
+        Accepted::Taken => {}
+        Accepted::Old | Accepted::Stray | Accepted::Unused => return Ok(Outcome::Done),
     }
     let name = message.name();
     let Some(entry) = book.find(name) else {
@@ -47,6 +52,7 @@ pub(crate) fn hear(
 ) -> Result<Outcome, AllocError>
     ensures going { (b : AuditedBook) → IsGoing b station.old → IsGoing b station.new }
     ensures resource { station.new.journal.resource ≡ station.old.journal.resource }
+    ensures meets { IfOk result (Meets (Hears station.old station.new of incarnation) station.old station.new (item.Hello of incarnation)) }
 {
     if !station.core().messages().would_hear(of, incarnation) {
         return Ok(Outcome::Done);

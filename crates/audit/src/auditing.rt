@@ -1,9 +1,12 @@
 //! The audit of the journals of a plant's nodes.
 
-ghost use Rattle.std.specs.Prelude.{◌≡◌, IfOk, OnOk, length};
+ghost use Rattle.std.specs.Prelude.{◌≡◌, IfOk, OnOk, length, map};
 ghost use Rattle.node_reports.specs.Reports.{IsFittingBook, AreJournalsOf, AreInBook, RunsAgain, CanBeMadeAgain};
 ghost use Rattle.audit.specs.Delivered.{AreDelivered};
-ghost use Rattle.audit.specs.Steps.Standings.{AuditedBook, empty_book, AreFrom, AreJournalsFrom, IsOfSame};
+ghost use Rattle.audit.specs.Told.{AreToldBy};
+ghost use Rattle.audit.specs.Steps.Following.{AreSettled};
+ghost use Rattle.audit.specs.Steps.Standings.{AuditedBook, empty_book, journal_in, AreFrom, AreJournalsFrom, IsOfSame};
+ghost use Rattle.audit.specs.declared.follower.Follower.{Follower as FollowerValue};
 
 use crate::book_of_audit::BookOfAudit;
 use crate::follower::Follower;
@@ -40,6 +43,7 @@ fn followers_of(
     requires { length resources.items ≡ length plant.now.value.resources }
     ensures many { IfOk result (λ fs. length fs.items ≡ length plant.now.value.resources) }
     ensures stand { IfOk result (λ fs. AreFrom (empty_book plant.now.value) 0 fs.items) }
+    ensures lines { IfOk result (λ fs. map (λ (f : FollowerValue). f.lines) fs.items ≡ resources.items) }
 {
     let first = vec![in alloc; 0_u32; plant.resources()]?;
     let mut followers = Vec::with_capacity(alloc, plant.resources())?;
@@ -60,6 +64,8 @@ fn go_round(
     requires { AreFrom book.old 0 followers.items }
     ensures many { IfOk result (λ r. length r.0.items ≡ length followers.items) }
     ensures stand { IfOk result (λ r. AreFrom book.new 0 r.0.items) }
+    ensures settled { IfOk result (λ r. AreSettled r.0.items) }
+    ensures lines { IfOk result (λ r. map (λ (f : FollowerValue). f.lines) r.0.items ≡ map (λ (f : FollowerValue). f.lines) followers.items) }
     ensures plant { OnOk result (IsOfSame book.old book.new) }
 {
     let mut gone = Vec::with_capacity(alloc, followers.len())?;
@@ -81,6 +87,8 @@ fn go_on(
     requires { AreFrom book.old 0 followers.items }
     ensures many { IfOk result (λ fs. length fs.items ≡ length followers.items) }
     ensures stand { IfOk result (λ fs. AreFrom book.new 0 fs.items) }
+    ensures settled { IfOk result (λ fs. AreSettled fs.items) }
+    ensures lines { IfOk result (λ fs. map (λ (f : FollowerValue). f.lines) fs.items ≡ map (λ (f : FollowerValue). f.lines) followers.items) }
     ensures plant { OnOk result (IsOfSame book.old book.new) }
 {
     let mut present = vec![in alloc; 0_u32; followers.len()]?;
@@ -99,6 +107,7 @@ fn go_on(
 fn journals_of(alloc: Global, followers: Vec<Follower>) -> Result<Vec<Journal>, AllocError>
     ensures many { IfOk result (λ js. length js.items ≡ length followers.items) }
     ensures journals { (b : AuditedBook) → AreFrom b 0 followers.items → IfOk result (λ js. AreJournalsFrom b 0 js.items) }
+    ensures same { IfOk result (λ js. js.items ≡ map (λ (f : FollowerValue). journal_in f.standing) followers.items) }
 {
     let mut journals = Vec::with_capacity(alloc, followers.len())?;
     for follower in followers {
@@ -116,6 +125,7 @@ pub fn audit(alloc: Global, plant: Arc<Plant>, files: &[JournalFile]) -> Result<
     ensures again { IfOk result (λ r. RunsAgain plant.value 4294967295 r.book r.journals) }
     ensures made_again { IfOk result (λ r. CanBeMadeAgain plant.value 4294967295 r.book r.journals) }
     ensures delivered { IfOk result (λ r. AreDelivered r.book.entries r.journals) }
+    ensures told { IfOk result (AreToldBy plant.value files.now) }
 {
     let Readings {
         resources,

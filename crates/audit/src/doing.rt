@@ -1,17 +1,24 @@
 //! One line of a resource is done.
 
-ghost use Rattle.std.specs.Prelude.{IfOk};
-ghost use Rattle.audit.specs.Steps.Standings.{IsGoing, IsStanding, Goes};
+ghost use Rattle.std.specs.Prelude.{◌≡◌, ◌+◌, ℕ, true, false, IfOk};
+ghost use Rattle.std.specs.Option.{option_copied};
+ghost use Rattle.plant.specs.PlantValue.{PlantValue};
+ghost use Rattle.audit.specs.Lines.{AreLeft, item_at};
+ghost use Rattle.audit.specs.Steps.Standings.{IsGoing, IsStanding, journal_in, Goes};
+ghost use Rattle.audit.specs.Steps.Following.{HasRisen, HasStarted, Comes, IsStart, IsFollowing, IsSettledAt};
 ghost use Rattle.audit.specs.declared.standing.Standing.TheVariants.{Going};
 
 use crate::answering::{hear, receive};
 use crate::book_of_audit::BookOfAudit;
 use crate::evaluating::evaluate;
+use crate::kept::are_all_same;
 use crate::outcome::Outcome;
+use crate::past::Past;
 use crate::reason::Reason;
 use crate::rising::not_rising;
 use crate::standing::Standing;
-use crate::trail::{Trail, are_all_same, opened_at};
+use crate::trail::Trail;
+use evaluation::Retained;
 use journal_files::{Item, Line};
 use node_journals::Station;
 use std::alloc::{AllocError, Global};
@@ -28,21 +35,25 @@ fn raise(present: &mut [u32], resource: usize, incarnation: u32) {
 fn restart(
     alloc: Global,
     station: Station,
-    trail: &mut Trail,
+    ticket: u64,
     incarnation: u32,
+    past: &mut Past,
     present: &mut [u32],
     book: &BookOfAudit,
 ) -> Result<(Standing, Outcome), AllocError>
-    requires { IsGoing book.now station }
-    ensures { IfOk result (λ r. Goes book.now book.now (Going station) r.0) }
+    requires going { IsGoing book.now station }
+    requires left { AreLeft station.journal past.old.left.items }
+    ensures goes { IfOk result (λ r. Goes book.now book.now (Going station) r.0) }
+    ensures risen { IfOk result (λ r. HasRisen ticket incarnation station r.0 r.1) }
+    ensures left { IfOk result (λ r. AreLeft (journal_in r.0) past.new.left.items) }
 {
     if let Some(reason) = not_rising(station.incarnation(), incarnation) {
         return Ok((Standing::Going(station), Outcome::Stops(reason)));
     }
     let resource = station.resource();
-    match station.restart(alloc, trail.ticket, incarnation) {
+    match station.restart(alloc, ticket, incarnation) {
         Ok(station) => {
-            trail.had.push(incarnation)?;
+            past.had.push(incarnation)?;
             raise(present, resource, incarnation);
             Ok((Standing::Going(station), Outcome::Done))
         }
@@ -50,31 +61,65 @@ fn restart(
     }
 }
 
-/// Does what a line tells, where it can be done.
+/// Begins a resource anew, where its incarnation rises and it opens with what was left.
+#[tactic(auto, using(crate::proofs::GoingOn::goes_not))]
+fn start(
+    alloc: Global,
+    station: Station,
+    incarnation: u32,
+    kept: &[Retained],
+    past: &mut Past,
+    present: &mut [u32],
+    book: &BookOfAudit,
+) -> Result<(Standing, Outcome), AllocError>
+    requires going { IsGoing book.now station }
+    requires left { AreLeft station.journal past.old.left.items }
+    ensures goes { IfOk result (λ r. Goes book.now book.now (Going station) r.0) }
+    ensures started { IfOk result (λ r. HasStarted incarnation kept.now station r.0 r.1) }
+    ensures left { IfOk result (λ r. AreLeft (journal_in r.0) past.new.left.items) }
+{
+    if let Some(reason) = not_rising(station.incarnation(), incarnation) {
+        return Ok((Standing::Going(station), Outcome::Stops(reason)));
+    }
+    if !are_all_same(kept, past.left.as_slice()) {
+        return Ok((Standing::Going(station), Outcome::Stops(Reason::Kept)));
+    }
+    restart(alloc, station, 0, incarnation, past, present, book)
+}
+
+/// Does what a line tells, where it can be done; `ticket` is how many lines it stands behind the last START, and `next` the
+/// line behind it.
 #[tactic(auto, using(crate::proofs::GoingOn::goes_still, crate::proofs::GoingOn::goes_not))]
 fn do_item(
     alloc: Global,
     station: Station,
-    lines: &[Line],
     item: &Item,
-    trail: &mut Trail,
+    next: Option<&Item>,
+    ticket: u64,
+    past: &mut Past,
     present: &mut [u32],
     book: &mut BookOfAudit,
 ) -> Result<(Standing, Outcome), AllocError>
-    requires { IsGoing book.old station }
-    ensures { IfOk result (λ r. Goes book.old book.new (Going station) r.0) }
+    requires going { IsGoing book.old station }
+    requires left { AreLeft station.journal past.old.left.items }
+    ensures goes { IfOk result (λ r. Goes book.old book.new (Going station) r.0) }
+    ensures comes { IfOk result (λ r. Comes ticket (option_copied next.entry) item.now station r.0 r.1) }
+    ensures left { IfOk result (λ r. AreLeft (journal_in r.0) past.new.left.items) }
 {
     match item {
         Item::Start { incarnation, kept } => {
-            let risen = not_rising(station.incarnation(), *incarnation).is_none();
-            if risen && !are_all_same(kept.as_slice(), trail.left.as_slice()) {
-                return Ok((Standing::Going(station), Outcome::Stops(Reason::Kept)));
-            }
-            trail.ticket = 0;
-            restart(alloc, station, trail, *incarnation, present, book)
+            start(
+                alloc,
+                station,
+                *incarnation,
+                kept.as_slice(),
+                past,
+                present,
+                book,
+            )
         }
         Item::Restart { incarnation } => {
-            restart(alloc, station, trail, *incarnation, present, book)
+            restart(alloc, station, ticket, *incarnation, past, present, book)
         }
         Item::Message(message) => {
             let mut station = station;
@@ -89,11 +134,29 @@ fn do_item(
             let outcome = hear(&mut station, *resource, *incarnation, present)?;
             Ok((Standing::Going(station), outcome))
         }
-        Item::Evaluate { task, dt, inputs } => {
-            let opened = opened_at(lines, trail.at.saturating_add(1), *task);
-            evaluate(alloc, station, trail, opened, *task, *dt, inputs, book)
-        }
+        Item::Evaluate { task, dt, inputs } => evaluate(
+            alloc, station, next, ticket, *task, *dt, inputs, past, book,
+        ),
         Item::Faulty => Ok((Standing::Going(station), Outcome::Stops(Reason::Syntax))),
+    }
+}
+
+/// What the line at a place tells.
+fn item_at(lines: &[Line], place: usize) -> Option<&Item>
+    ensures { option_copied result ≡ item_at lines.now place }
+{
+    match lines.get(place) {
+        Some(line) => Some(&line.item),
+        None => None,
+    }
+}
+
+fn is_start(item: &Item) -> bool
+    ensures { IsStart item.now result }
+{
+    match item {
+        Item::Start { .. } => true,
+        _ => false,
     }
 }
 
@@ -107,22 +170,36 @@ pub(crate) fn do_line(
     present: &mut [u32],
     book: &mut BookOfAudit,
 ) -> Result<(Standing, bool), AllocError>
-    requires { IsStanding book.old standing }
-    ensures { IfOk result (λ r. Goes book.old book.new standing r.0) }
+    requires stands { IsStanding book.old standing }
+    requires left { AreLeft (journal_in standing) trail.old.past.left.items }
+    ensures goes { IfOk result (λ r. Goes book.old book.new standing r.0) }
+    ensures left { IfOk result (λ r. AreLeft (journal_in r.0) trail.new.past.left.items) }
+    ensures follows { (plant : PlantValue) (n : ℕ) → IsFollowing plant n lines.now standing trail.old
+        → IfOk result (λ r. IsFollowing plant n lines.now r.0 trail.new × (r.1 ≡ false → IsSettledAt lines.now trail.new)) }
+    ensures more { IfOk result (λ r. r.1 ≡ true → trail.new.at ≡ trail.old.at + 1) }
 {
     let Some(line) = lines.get(trail.at) else {
         return Ok((standing, false));
     };
-    if trail.stop.is_some() {
+    if trail.is_stopped() {
         return Ok((standing, false));
     }
     match standing {
         Standing::Ended(journal) => Ok((Standing::Ended(journal), false)),
         Standing::Going(station) => {
+            let ticket = trail.ticket();
+            let next = item_at(lines, trail.at + 1);
             let (standing, outcome) = do_item(
-                alloc, station, lines, &line.item, trail, present, book,
+                alloc,
+                station,
+                &line.item,
+                next,
+                ticket,
+                &mut trail.past,
+                present,
+                book,
             )?;
-            Ok((standing, trail.note(outcome)))
+            Ok((standing, trail.note(is_start(&line.item), outcome)))
         }
     }
 }

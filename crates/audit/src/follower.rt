@@ -1,11 +1,15 @@
 //! A resource goes through its lines.
 
-ghost use Rattle.std.specs.Prelude.{◌≡◌, ◌<◌, length, IfOk};
+ghost use Rattle.std.specs.Prelude.{◌≡◌, ◌<◌, ◌↔◌, ℕ, IsTrue, length, IfOk};
 ghost use Rattle.message_core.specs.Openings.{AreOpeningOf};
-ghost use Rattle.audit.specs.Steps.Standings.{AuditedBook, zeros, empty_book, IsEnded, IsStanding, IsAt, journal_in, Goes};
+ghost use Rattle.plant.specs.PlantValue.{PlantValue};
+ghost use Rattle.audit.specs.Lines.{zeros, item_at, AreLeft, Opens};
+ghost use Rattle.audit.specs.Steps.Standings.{AuditedBook, empty_book, IsEnded, IsStanding, IsAt, journal_in, Goes};
+ghost use Rattle.audit.specs.Steps.Following.{HasBegun, IsFollowed, IsSettled};
 
 use crate::book_of_audit::BookOfAudit;
 use crate::doing::do_line;
+use crate::past::Past;
 use crate::standing::Standing;
 use crate::trail::Trail;
 use evaluation::Retained;
@@ -42,7 +46,8 @@ fn opening_in(
     resource: usize,
     lines: &[Line],
 ) -> Result<Vec<Retained>, AllocError>
-    ensures { IfOk result (λ opening. AreOpeningOf plant.now resource opening.items) }
+    ensures suits { IfOk result (λ opening. AreOpeningOf plant.now resource opening.items) }
+    ensures opens { IfOk result (λ opening. Opens plant.now resource (item_at lines.now 0) opening.items) }
 {
     if let Some(first) = lines.first() {
         if let Item::Start { kept, .. } = &first.item {
@@ -65,7 +70,8 @@ fn begin(
     requires exists { resource < length plant.value.resources }
     requires first { first.now ≡ zeros plant.value }
     requires opening { AreOpeningOf plant.value resource opening.items }
-    ensures { IfOk result (λ s. IsStanding (empty_book plant.value) s × ((journal_in s).resource ≡ resource)) }
+    ensures stands { IfOk result (λ s. IsStanding (empty_book plant.value) s × ((journal_in s).resource ≡ resource)) }
+    ensures begun { IfOk result (HasBegun plant.value resource opening.items) }
 {
     let opening = Opening::of(opening);
     match Station::new(alloc, plant, resource, first, opening, u32::MAX) {
@@ -97,7 +103,8 @@ impl Follower {
     ) -> Result<Follower, AllocError>
         requires exists { resource < length plant.now.value.resources }
         requires first { first.now ≡ zeros plant.now.value }
-        ensures { IfOk result (IsAt (empty_book plant.now.value) resource) }
+        ensures at { IfOk result (IsAt (empty_book plant.now.value) resource) }
+        ensures lines { IfOk result (λ f. f.lines ≡ lines) }
     {
         let opening = opening_in(alloc, plant, resource, lines.as_slice())?;
         let left = copies(alloc, opening.as_slice())?;
@@ -105,7 +112,7 @@ impl Follower {
         Ok(Follower {
             standing: begin(alloc, shared, resource, first, opening)?,
             lines,
-            trail: Trail::new(alloc, left),
+            trail: Trail::new(Past::new(alloc, left)),
         })
     }
 
@@ -116,8 +123,11 @@ impl Follower {
         present: &mut [u32],
         book: &mut BookOfAudit,
     ) -> Result<(Follower, bool), AllocError>
-        requires { IsStanding book.old self.standing }
-        ensures { IfOk result (λ r. Goes book.old book.new self.standing r.0.standing) }
+        requires stands { IsStanding book.old self.standing }
+        requires left { AreLeft (journal_in self.standing) self.trail.past.left.items }
+        ensures goes { IfOk result (λ r. Goes book.old book.new self.standing r.0.standing) }
+        ensures follows { (plant : PlantValue) (n : ℕ) → IsFollowed plant n self → IfOk result (λ r. IsFollowed plant n r.0 × IsSettled r.0) }
+        ensures lines { IfOk result (λ r. r.0.lines ≡ self.lines) }
     {
         let Follower {
             standing,
@@ -160,7 +170,9 @@ impl Follower {
     }
 
     /// Whether there are lines that weren't done.
-    pub(crate) fn is_open(&self) -> bool {
+    pub(crate) fn is_open(&self) -> bool
+        ensures { IsTrue result ↔ (self.now.trail.at < length self.now.lines.items) }
+    {
         self.trail.at < self.lines.len()
     }
 }

@@ -1,90 +1,65 @@
-use crate::needs::Need;
+ghost use Rattle.std.specs.Prelude.{◌≡◌, ◌+◌, ◌-◌, ◌<◌, if◌then◌else◌};
+ghost use Rattle.audit.specs.declared.outcome.Outcome.TheVariants.{Done};
+ghost use Rattle.audit.specs.Steps.Following.{HasNoted, IsStopped};
+
 use crate::outcome::Outcome;
-use crate::reason::Reason;
-use evaluation::Retained;
-use journal_files::{Item, Line};
-use std::alloc::Global;
+use crate::past::Past;
 
 /// How far the lines of a resource were done.
 #[derive(Drop)]
 pub(crate) struct Trail {
     /// The place of the next line, counted from 0.
     pub at: usize,
-    /// The place of the next line behind the last START, which counts as 0.
-    pub ticket: u64,
-    /// The retained values that a restart would leave of each task.
-    pub left: Vec<Retained>,
-    /// The incarnations in which the resource was.
-    pub had: Vec<u32>,
-    /// Why the next line can't be done, whatever others do.
-    pub stop: Option<Reason>,
-    /// What the next line waits for.
-    pub need: Option<Need>,
+    /// The place of the last START that was done; 0 before it.
+    pub begun: usize,
+    pub past: Past,
+    /// What came of the line that was tried last.
+    pub last: Outcome,
 }
 
 impl Trail {
-    /// No line was done; each task begins with these retained values.
-    pub(crate) fn new(alloc: Global, left: Vec<Retained>) -> Trail {
+    /// No line was done.
+    pub(crate) fn new(past: Past) -> Trail
+        ensures { result ≡ record { at = 0; begun = 0; past = past; last = Done } }
+    {
         Trail {
             at: 0,
-            ticket: 0,
-            left,
-            had: Vec::new(alloc),
-            stop: None,
-            need: None,
+            begun: 0,
+            past,
+            last: Outcome::Done,
         }
     }
 
-    /// Notes what came of the next line; whether it was done.
-    pub(crate) fn note(&mut self, outcome: Outcome) -> bool {
-        match outcome {
-            Outcome::Done => {
-                self.at = self.at.saturating_add(1);
-                self.ticket = self.ticket.saturating_add(1);
-                self.need = None;
-                true
-            }
-            Outcome::Waits(need) => {
-                self.need = Some(need);
-                false
-            }
-            Outcome::Stops(reason) => {
-                self.stop = Some(reason);
-                false
-            }
+    /// How many lines the next one stands behind the last START.
+    pub(crate) fn ticket(&self) -> u64
+        ensures { result ≡ self.now.at - self.now.begun }
+    {
+        self.at.saturating_sub(self.begun) as u64
+    }
+
+    /// Whether the next line can't be done, whatever others do.
+    pub(crate) fn is_stopped(&self) -> bool
+        ensures { IsStopped self.now.last result }
+    {
+        match self.last {
+            Outcome::Stops(_) => true,
+            Outcome::Done | Outcome::Waits(_) => false,
         }
     }
 
-    /// Notes what a task's evaluation has left.
-    pub(crate) fn leave(&mut self, task: usize, retained: Retained) {
-        if let Some(place) = self.left.get_mut(task) {
-            *place = retained;
-        }
-    }
-}
-
-/// The retained values of a task with which the START at a place opens, where one stands there.
-pub(crate) fn opened_at(lines: &[Line], place: usize, task: usize) -> Option<&Retained> {
-    match &lines.get(place)?.item {
-        Item::Start { kept, .. } => kept.get(task),
-        _ => None,
-    }
-}
-
-/// Whether both have the same values in the same order.
-pub(crate) fn are_same(kept: &Retained, left: &Retained) -> bool {
-    kept.values() == left.values()
-}
-
-/// Whether both are the same values of the same tasks.
-pub(crate) fn are_all_same(kept: &[Retained], left: &[Retained]) -> bool {
-    if kept.len() != left.len() {
-        return false;
-    }
-    for task in 0..kept.len() {
-        if !are_same(&kept[task], &left[task]) {
+    /// Notes what came of the next line, which is a START or not; whether it was done.
+    pub(crate) fn note(&mut self, is_start: bool, outcome: Outcome) -> bool
+        requires { self.old.at < 18446744073709551615 }
+        ensures { HasNoted is_start outcome self.old self.new result }
+    {
+        self.last = outcome;
+        if outcome != Outcome::Done {
             return false;
         }
+        if is_start {
+            self.begun = self.at;
+        }
+        self.at += 1;
+        true
     }
-    true
 }

@@ -1,5 +1,5 @@
 -- Resources that go through their lines, and the book that they make.
-use Rattle.std.specs.Prelude.{◌≡◌, ◌≢◌, ℕ, ◌+◌, List, [], All, Contains, Some, length, replicate, slice_get}
+use Rattle.std.specs.Prelude.{◌≡◌, ◌≢◌, ℕ, ◌+◌, List, [], All, Contains, Some, slice_get}
 use Rattle.plant.specs.PlantValue.{PlantValue}
 use Rattle.evaluation.specs.Meaning.{Evaluated}
 use Rattle.evaluation_book.specs.Book.{BookValue}
@@ -7,6 +7,8 @@ use Rattle.node_journals.specs.declared.journal.Journal.{Journal}
 use Rattle.node_journals.specs.Journals.{made, received, IsLawful}
 use Rattle.node_journals.specs.Steps.Stations.{StationValue, PendingValue}
 use Rattle.node_reports.specs.Reports.{entries_of}
+use Rattle.audit.specs.Lines.{zeros}
+use Rattle.audit.specs.Steps.Following.{IsFollowed}
 use Rattle.audit.specs.declared.follower.Follower.{Follower}
 use Rattle.audit.specs.declared.standing.Standing.{Standing}
 use Rattle.audit.specs.declared.standing.Standing.TheVariants.{Going, Ended}
@@ -15,10 +17,6 @@ use Rattle.audit.specs.declared.standing.Standing.TheVariants.{Going, Ended}
 pub record AuditedBook : Type 0 where
   pub plant : PlantValue
   pub book : BookValue
-
--- the first incarnations: 0 for each resource
-abbrev pub zeros : PlantValue → List ℕ
-zeros plant = replicate (length plant.resources) 0
 
 -- the book before the first entry
 abbrev pub empty_book : PlantValue → AuditedBook
@@ -79,6 +77,7 @@ pub record Goes (old new : AuditedBook) (from to : Standing) : Type 0 where
 pub record IsAt (b : AuditedBook) (place : ℕ) (f : Follower) : Type 0 where
   pub stands : IsStanding b f.standing
   pub resource_is : (journal_in f.standing).resource ≡ place
+  pub followed : IsFollowed b.plant place f
 
 -- these resources stand at the places from this one on
 abbrev pub AreFrom : AuditedBook → ℕ → List Follower → Type 0

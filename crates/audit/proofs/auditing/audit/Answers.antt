@@ -1,5 +1,5 @@
 -- The journals and the book agree in the end, since each resource has stood from its beginning on.
-use Rattle.std.proofs.Common.{◌≡◌, ◌∙◌, All, List, sym, ap, subst}
+use Rattle.std.proofs.Common.{◌≡◌, ◌∙◌, All, List, length, sym, ap, subst}
 use Rattle.plant.specs.PlantValue.{PlantValue}
 use Rattle.evaluation_book.specs.Book.{BookValue}
 use Rattle.node_journals.specs.declared.journal.Journal.{Journal}
@@ -7,7 +7,13 @@ use Rattle.node_journals.specs.Journals.{firsts_of, IsLawful}
 use Rattle.node_reports.specs.Reports.{RunsAgain, IsAgreeFault}
 use Rattle.audit.specs.Delivered.{AreDelivered}
 use Rattle.audit.specs.Steps.Standings.{AuditedBook, empty_book, AreFrom}
-use Rattle.audit.proofs.GoingOn.{audited_agree, disagrees_not}
+use Rattle.journal_files.specs.Readings.{AreReadings}
+use Rattle.journal_files.specs.declared.line.Place.{Place}
+use Rattle.audit.specs.Told.{all_without}
+use Rattle.audit.specs.Steps.Following.{HaveTold}
+use Rattle.audit.specs.declared.follower.Follower.{Follower}
+use Rattle.audit.proofs.GoingOn.{audited_agree, disagrees_not, lines_of}
+use Rattle.audit.proofs.Tellings.{told_by}
 use Rattle.audit.proofs.auditing.audit.Goals as goal
 
 pub go_on-requires : goal.go_on-requires
@@ -47,3 +53,20 @@ unreachable-requires c =
     let given = subst (λ (p : PlantValue). IsAgreeFault p c.go_on.new.book.book journals fault) c.deref-2.ensures
     (subst (λ (k : BookValue). IsAgreeFault c.deref-2.result.now k journals fault) c.into_book.ensures.same c.in-Err-BookDisagrees.ensures.fault) in
     disagrees_not c.args.plant.value c.go_on.new.book.book journals fault c.in-Err-BookDisagrees.field-0-is given all.agree
+
+pub returns-in-Ok-clause-told : goal.returns-in-Ok-clause-told
+returns-in-Ok-clause-told c =
+    let p = c.args.plant.value in
+    let files = c.args.files.now in
+    let fs = c.in_ok-followers-2.followers.items in
+    let begins : c.in_ok-book.book ≡ empty_book p = c.in_ok-book.ensures ∙ ap (λ (p : PlantValue). empty_book p) c.in_ok-try_clone.ensures in
+    let readings = c.in_ok-resources.field-0 in
+    told_by p files (record { book = c.in-Ok.field-0.book; journals = c.in-Ok.field-0.journals; unshown = c.in_ok-unshown.unshown; without = c.in_ok-without.without }) readings c.go_on.new.book fs c.in_ok-journals.journals.items
+    (subst (λ q. AreReadings q files readings) c.deref.ensures c.in_ok-resources.ensures.read)
+    (c.in_ok-followers-2.ensures.plant.plant_is ∙ ap (λ (x : AuditedBook). x.plant) begins)
+    c.in_ok-followers-2.ensures.stand (c.in_ok-followers-2.ensures.many ∙ c.in_ok-followers.ensures.many)
+    (c.in_ok-followers-2.ensures.lines ∙ c.in_ok-followers.ensures.lines)
+    c.in_ok-journals.ensures.same c.in-Ok.ensures.kept.1
+    (subst (λ (xs : List Follower). HaveTold xs readings.without_start.items c.in_ok-unshown.unshown.items) c.as_slice.ensures.value
+    (subst (λ (places : List Place). HaveTold c.as_slice.result.now places c.in_ok-unshown.unshown.items) c.as_slice-2.ensures.value c.in_ok-unshown.ensures))
+    (c.in_ok-without.ensures ∙ ap (λ (xs : List Follower). all_without (lines_of xs) (length xs)) c.as_slice-3.ensures.value)

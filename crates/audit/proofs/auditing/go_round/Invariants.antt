@@ -1,11 +1,16 @@
 -- The resources that went on stand at the first places, and the others behind them.
-use Rattle.std.proofs.Common.{◌≡◌, ◌+◌, length}
+use Rattle.std.proofs.Common.{◌≡◌, ◌+◌, ◌++◌, length}
 use Rattle.audit.specs.Steps.Standings.{AreFrom, IsOfSame}
+use Rattle.audit.specs.Steps.Following.{AreSettled}
+use Rattle.audit.proofs.GoingOn.{lines_of}
 use Rattle.audit.proofs.auditing.go_round.Given as goal
 
 abbrev pub invariant-loop-follower : goal.invariant-loop-follower
-invariant-loop-follower l =
-    (length l.gone.items + length l.follower-iterator.rest.items ≡ length l.fn.followers.items)
-    × AreFrom l.book 0 l.gone.items
-    × AreFrom l.book (length l.gone.items) l.follower-iterator.rest.items
-    × IsOfSame l.fn.book l.book
+invariant-loop-follower l = record {
+  stand : (length l.gone.items + length l.follower-iterator.rest.items ≡ length l.fn.followers.items)
+      × AreFrom l.book 0 l.gone.items
+      × AreFrom l.book (length l.gone.items) l.follower-iterator.rest.items
+      × IsOfSame l.fn.book l.book;
+  settled : AreSettled l.gone.items;
+  lines : lines_of l.gone.items ++ lines_of l.follower-iterator.rest.items ≡ lines_of l.fn.followers.items;
+}

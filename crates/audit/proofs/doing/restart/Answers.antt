@@ -1,5 +1,13 @@
+use Rattle.std.proofs.Common.{refl, rules}
 use Rattle.audit.proofs.GoingOn.{restarted_goes}
+use Rattle.audit.proofs.Leavings.{left_restarted}
 use Rattle.audit.proofs.doing.restart.Goals as goal
 
-pub returns-in-Ok : goal.returns-in-Ok
-returns-in-Ok c = restarted_goes c.args.book.now c.args.station c.in-Ok.station _ c.args.incarnation c.in-Ok.ensures.ok c.requires
+pub returns-in-Ok-clause-goes : goal.returns-in-Ok-clause-goes
+returns-in-Ok-clause-goes c = restarted_goes c.args.book.now c.args.station c.in-Ok.station _ c.args.incarnation c.in-Ok.ensures.ok c.requires.going
+
+pub returns-in-Ok-clause-risen : goal.returns-in-Ok-clause-risen
+returns-in-Ok-clause-risen c = (c.in-Ok.station, refl, (search rules, c.in-Ok.ensures.ok))
+
+pub returns-in-Ok-clause-left : goal.returns-in-Ok-clause-left
+returns-in-Ok-clause-left c = left_restarted c.args.station c.in-Ok.station _ c.args.incarnation _ c.in-Ok.ensures.ok c.requires.left

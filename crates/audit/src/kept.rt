@@ -1,0 +1,57 @@
+//! Retained values are compared.
+
+ghost use Rattle.std.specs.Prelude.{◌≡◌, ◌↔◌, IsTrue, MatchOption};
+ghost use Rattle.std.specs.Option.{option_copied};
+ghost use Rattle.audit.specs.Lines.{OpensWith};
+ghost use Rattle.audit.specs.Steps.Following.{OpensNot};
+
+use evaluation::Retained;
+use journal_files::Item;
+use std_blocks::Value;
+
+/// The retained values of a task with which the next line opens, if it is a START.
+pub(crate) fn opened_by(next: Option<&Item>, task: usize) -> Option<&Retained>
+    ensures { MatchOption result (OpensNot (option_copied next.entry) task) (λ kept. OpensWith (option_copied next.entry) task kept.now) }
+{
+    match next {
+        Some(Item::Start { kept, .. }) => kept.get(task),
+        _ => None,
+    }
+}
+
+/// Whether both are the same values in the same order.
+fn are_equal(values: &[Value], others: &[Value]) -> bool
+    ensures { IsTrue result ↔ (values.now ≡ others.now) }
+{
+    if values.len() != others.len() {
+        return false;
+    }
+    for i in 0..values.len() {
+        if values[i] != others[i] {
+            return false;
+        }
+    }
+    true
+}
+
+/// Whether both have the same values in the same order.
+pub(crate) fn are_same(kept: &Retained, left: &Retained) -> bool
+    ensures { IsTrue result ↔ (kept.now ≡ left.now) }
+{
+    are_equal(kept.values(), left.values())
+}
+
+/// Whether both are the same values of the same tasks.
+pub(crate) fn are_all_same(kept: &[Retained], left: &[Retained]) -> bool
+    ensures { IsTrue result ↔ (kept.now ≡ left.now) }
+{
+    if kept.len() != left.len() {
+        return false;
+    }
+    for task in 0..kept.len() {
+        if !are_same(&kept[task], &left[task]) {
+            return false;
+        }
+    }
+    true
+}
