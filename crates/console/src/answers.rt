@@ -9,10 +9,11 @@ use crate::shown::Shown;
 use crate::status::WORD_REFUSED;
 use command_line::{Color, TextRequest, TraceFiles, View};
 use guidance::{explain, kinds};
+use progress::{OnTerminal, ToldLines};
 use std::alloc::Global;
 use std::io;
 use std::io::Write;
-use std::rt::Files;
+use std::rt::{Clock, Files};
 use text_commands::{Form, TextCommandFault, Traced, check, eval_traced, plan_text};
 use text_writer::write_text;
 use traces::{TraceTexts, Wanted};
@@ -103,10 +104,11 @@ pub fn obey<W: Write>(
 }
 
 /// Reads a file, and writes what is asked for of its text; the status, and the texts for the files of a trace. `terminal` is
-/// whether standard output is one.
-pub fn answer_text<R: Files + Print + Eprint + AllocGlobal>(
+/// whether standard output is one, and `told` whether it is told on standard error how many lines went out.
+pub fn answer_text<R: Files + Clock + Print + Eprint + AllocGlobal>(
     rt: &R,
     terminal: bool,
+    told: bool,
     request: &TextRequest<'_>,
 ) -> io::Result<Answered> {
     let file = request.file();
@@ -114,8 +116,10 @@ pub fn answer_text<R: Files + Print + Eprint + AllocGlobal>(
         Ok(text) => text,
         Err(status) => return Ok(Answered::with(status)),
     };
-    let mut writer = io::writer(rt);
-    match obey(rt.alloc(), terminal, request, text.as_str(), &mut writer) {
+    let mut writer = ToldLines::new(io::writer(rt), OnTerminal::new(rt, told));
+    let obeyed = obey(rt.alloc(), terminal, request, text.as_str(), &mut writer);
+    writer.end();
+    match obeyed {
         Ok(Traced { difference, texts }) => {
             let status = match difference {
                 None => 0,

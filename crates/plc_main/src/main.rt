@@ -12,9 +12,9 @@ ghost use Rattle.plc_main.specs.RunText.{WritesReport, ExplainsRun};
 use audit_command::audit_text;
 use command_line::{AuditRequest, Request, RunRequest, read_words};
 use console::{
-    CommandFault, FAILED, Prepared, answer_kind, answer_kinds, answer_schedule, answer_text,
-    answer_verify, file_bytes, file_plant, given_words, prepare, print_failure, print_fault,
-    print_given_fault, print_usage,
+    Answered, CommandFault, FAILED, Prepared, answer_kind, answer_kinds, answer_schedule,
+    answer_text, answer_verify, file_bytes, file_plant, given_words, prepare, print_failure,
+    print_fault, print_given_fault, print_usage, wanted_for,
 };
 use file_keepers::{BadLine, FileKeeper, FolderLock, LockFault, SystemFolder};
 use journal_files::JournalFile;
@@ -22,7 +22,8 @@ use keepers::KeeperFault;
 use node::{FreeGate, Gate, Keeper, MemoryKeeper, PacedGate, RunFault};
 use node_command::answer_node;
 use plant::{Plant, TaskRef};
-use run_command::run_text;
+use progress::{OnTerminal, ToldLines};
+use run_command::{Ran, run_text};
 use std::alloc::{AllocError, Global};
 use std::io;
 use std::io::{IsTerminal, Write};
@@ -31,6 +32,7 @@ use std::rt::{Clock, Env, Files};
 use std::sync::{Arc, Wait};
 use std::thread::Threads;
 use trace_files::write_files;
+use traces::Wanted;
 
 /// How often a paced command looks, at most, whether the one before it is done.
 const TURNS: u64 = 10_000_000;
@@ -82,11 +84,12 @@ fn obey_run<R: AllocGlobal + Threads + Wait + Sync, K: Keeper, G: Gate, W: Write
     prepared: Prepared,
     keepers: Vec<K>,
     gate: &G,
+    wanted: Wanted<'_>,
     writer: &mut W,
-) -> Result<bool, CommandFault>
+) -> Result<Ran, CommandFault>
     requires { vec_len keepers ≡ length prepared.plant.value.resources }
     ensures ok { IfOk result
-        (WritesReport prepared.plant.value request.now.until prepared.inputs
+        (WritesReport prepared.plant.value request.now.until prepared.inputs wanted.entry
         (W.contents writer.old) (W.contents writer.new)) }
     ensures fault { IfErr result
         (ExplainsRun prepared.plant.value request.now.until prepared.inputs
@@ -101,46 +104,63 @@ fn obey_run<R: AllocGlobal + Threads + Wait + Sync, K: Keeper, G: Gate, W: Write
         inputs,
         keepers,
         gate,
+        wanted,
         writer,
     )
 }
 
 /// Runs a plant with these keepers, paced or free, and writes what its threads did; whether there was a fault in them.
-fn run_plant<R: Print + AllocGlobal + Threads + Wait + Sync, K: Keeper>(
+/// `told` is whether it is told on standard error how many lines of that went out.
+fn run_plant<R: Clock + Print + Eprint + AllocGlobal + Threads + Wait + Sync, K: Keeper>(
     rt: &R,
+    told: bool,
     request: &RunRequest<'_>,
     prepared: Prepared,
     keepers: Vec<K>,
-) -> Result<bool, CommandFault>
+) -> Result<Ran, CommandFault>
     requires { vec_len keepers ≡ length prepared.plant.value.resources }
 {
-    let mut writer = io::writer(rt);
-    if request.paced {
+    let mut writer = ToldLines::new(io::writer(rt), OnTerminal::new(rt, told));
+    let wanted = wanted_for(request.plant, request.files);
+    let ran = if request.paced {
         let gate = PacedGate::new(TURNS);
-        obey_run(rt, request, prepared, keepers, &gate, &mut writer)
+        obey_run(rt, request, prepared, keepers, &gate, wanted, &mut writer)
     } else {
-        obey_run(rt, request, prepared, keepers, &FreeGate, &mut writer)
-    }
+        obey_run(rt, request, prepared, keepers, &FreeGate, wanted, &mut writer)
+    };
+    writer.end();
+    ran
 }
 
-/// Tells how a run ended; the status.
-fn tell_run<R: Eprint + AllocGlobal>(rt: &R, ran: Result<bool, CommandFault>) -> io::Result<u8> {
-    match ran {
-        Ok(false) => Ok(0),
-        Ok(true) => Ok(FAILED),
-        Err(fault) => print_fault(rt, "", "", &[], fault),
-    }
-}
-
-/// Runs a plant that begins anew; the status.
-fn run_anew<R: Print + Eprint + AllocGlobal + Threads + Wait + Sync>(
+/// Tells how a run ended; the status, and the texts for the files of its trace.
+fn tell_run<R: Eprint + AllocGlobal>(
     rt: &R,
+    ran: Result<Ran, CommandFault>,
+) -> io::Result<Answered> {
+    match ran {
+        Ok(Ran { faulty, texts }) => {
+            let status = if faulty { FAILED } else { 0 };
+            Ok(Answered { status, texts })
+        }
+        Err(fault) => Ok(Answered::with(print_fault(rt, "", "", &[], fault)?)),
+    }
+}
+
+/// Tells that something failed; the status.
+fn failed<R: Eprint>(rt: &R, fault: CommandFault) -> io::Result<Answered> {
+    Ok(Answered::with(print_failure(rt, fault)?))
+}
+
+/// Runs a plant that begins anew; the status, and the texts for the files of its trace.
+fn run_anew<R: Clock + Print + Eprint + AllocGlobal + Threads + Wait + Sync>(
+    rt: &R,
+    told: bool,
     request: &RunRequest<'_>,
     prepared: Prepared,
-) -> io::Result<u8> {
+) -> io::Result<Answered> {
     match memory_keepers(rt.alloc(), &prepared.plant) {
-        Ok(keepers) => tell_run(rt, run_plant(rt, request, prepared, keepers)),
-        Err(_) => print_failure(rt, CommandFault::Memory),
+        Ok(keepers) => tell_run(rt, run_plant(rt, told, request, prepared, keepers)),
+        Err(_) => failed(rt, CommandFault::Memory),
     }
 }
 
@@ -214,45 +234,49 @@ fn print_keeper_faults<R: Eprint + AllocGlobal>(
     Ok(())
 }
 
-/// Runs a plant whose incarnations and retained variables are kept in a folder, which no other run uses meanwhile; the status.
-fn run_kept<R: Print + Eprint + AllocGlobal + Threads + Wait + Sync>(
+/// Runs a plant whose incarnations and retained variables are kept in a folder, which no other run uses meanwhile; the
+/// status, and the texts for the files of its trace.
+fn run_kept<R: Clock + Print + Eprint + AllocGlobal + Threads + Wait + Sync>(
     rt: &R,
     host: &HostRuntime,
+    told: bool,
     request: &RunRequest<'_>,
     prepared: Prepared,
     folder: &str,
-) -> io::Result<u8> {
+) -> io::Result<Answered> {
     let _lock = match FolderLock::take(host, folder) {
         Ok(lock) => lock,
-        Err(fault) => return print_lock_fault(rt, folder, fault),
+        Err(fault) => return Ok(Answered::with(print_lock_fault(rt, folder, fault)?)),
     };
     let Ok(plant) = Arc::try_clone(&prepared.plant) else {
-        return print_failure(rt, CommandFault::Memory);
+        return failed(rt, CommandFault::Memory);
     };
     let Ok(keepers) = keepers_in(rt.alloc(), host, &prepared.plant, folder) else {
-        return print_failure(rt, CommandFault::Memory);
+        return failed(rt, CommandFault::Memory);
     };
-    let ran = run_plant(rt, request, prepared, keepers);
-    let status = tell_run(rt, ran)?;
-    if ran == Err(CommandFault::Run(RunFault::Keeper)) {
+    let ran = run_plant(rt, told, request, prepared, keepers);
+    let is_of_keepers = matches!(&ran, Err(CommandFault::Run(RunFault::Keeper)));
+    let answered = tell_run(rt, ran)?;
+    if is_of_keepers {
         print_keeper_faults(rt, host, &plant, folder)?;
     }
-    Ok(status)
+    Ok(answered)
 }
 
-/// Reads what a run needs, and runs it; the status.
-fn answer_run<R: Files + Print + Eprint + AllocGlobal + Threads + Wait + Sync>(
+/// Reads what a run needs, and runs it; the status, and the texts for the files of its trace.
+fn answer_run<R: Files + Clock + Print + Eprint + AllocGlobal + Threads + Wait + Sync>(
     rt: &R,
     host: &HostRuntime,
+    told: bool,
     request: &RunRequest<'_>,
-) -> io::Result<u8> {
+) -> io::Result<Answered> {
     let prepared = match prepare(rt, request)? {
         Ok(prepared) => prepared,
-        Err(status) => return Ok(status),
+        Err(status) => return Ok(Answered::with(status)),
     };
     match request.state {
-        Some(folder) => run_kept(rt, host, request, prepared, folder),
-        None => run_anew(rt, request, prepared),
+        Some(folder) => run_kept(rt, host, told, request, prepared, folder),
+        None => run_anew(rt, told, request, prepared),
     }
 }
 
@@ -313,14 +337,22 @@ fn answer<R: Env + Files + Clock + Input + Print + Eprint + AllocGlobal + Thread
         Ok(given) => given,
         Err(error) => return print_given_fault(rt, &error),
     };
+    let shown = host.stdout().is_terminal();
+    let told = host.stderr().is_terminal();
     match read_words(rt.alloc(), given.as_slice()) {
         Ok(Request::Text(request)) => {
-            let answered = answer_text(rt, host.stdout().is_terminal(), &request)?;
+            let answered = answer_text(rt, shown, told && !shown, &request)?;
             write_files(rt, host, request.files(), answered)
         }
-        Ok(Request::Verify(request)) => answer_verify(rt, host.stderr().is_terminal(), &request),
-        Ok(Request::Sim(request)) => answer_schedule(rt, &request),
-        Ok(Request::Run(request)) => answer_run(rt, host, &request),
+        Ok(Request::Verify(request)) => answer_verify(rt, told, &request),
+        Ok(Request::Sim(request)) => {
+            let answered = answer_schedule(rt, told && !shown, &request)?;
+            write_files(rt, host, request.files, answered)
+        }
+        Ok(Request::Run(request)) => {
+            let answered = answer_run(rt, host, told && !shown, &request)?;
+            write_files(rt, host, request.files, answered)
+        }
         Ok(Request::Node(request)) => answer_node(rt, host, &request),
         Ok(Request::Audit(request)) => answer_audit(rt, &request),
         Ok(Request::Explain(Some(kind))) => answer_kind(rt, kind),
