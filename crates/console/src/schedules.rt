@@ -91,8 +91,7 @@ pub fn obey_lines<R: Read, W: Write>(
         (EndsLiveRun plant.value request.now.max_number (R.remaining input.old) (R.remaining input.new)
         (W.contents writer.old) (W.contents writer.new)) }
 {
-    let ended =
-        simulate_world_in_turns(alloc, plant, request.max_number, line, input, writer)?;
+    let ended = simulate_world_in_turns(alloc, plant, request.max_number, line, input, writer)?;
     match texts_of(alloc, request, &ended) {
         Ok(texts) => Ok(texts),
         Err(_) => Err(LiveFault::Memory),

@@ -126,7 +126,15 @@ fn run_plant<R: Clock + Print + Eprint + AllocGlobal + Threads + Wait + Sync, K:
         let gate = PacedGate::new(TURNS);
         obey_run(rt, request, prepared, keepers, &gate, wanted, &mut writer)
     } else {
-        obey_run(rt, request, prepared, keepers, &FreeGate, wanted, &mut writer)
+        obey_run(
+            rt,
+            request,
+            prepared,
+            keepers,
+            &FreeGate,
+            wanted,
+            &mut writer,
+        )
     };
     writer.end();
     ran

@@ -61,6 +61,7 @@ ends_well plant most text L w n old now e a = record { events = a.events; spelle
 -- what stands at the end
 pub has_run : (plant : PlantValue) (most : ℕ) (text : List ℕ) (L : List (List (List ℕ))) (w : WorldValue) (n : ℕ) (old now : Option (List ℕ)) (ended : Simulated) → L ≡ schedule_lines text → Stands (from_one plant most) L w n old now
     → ended.world ≡ w → ended.events ≡ n → HasRun plant most text old now ended
+unfolding ends_well
 has_run plant most text L w n old now ended e a is many = record {
   run = ends_well plant most text L w n old now e a;
   setting = ap (λ (x : WorldValue). x.setting) is ∙ a.setting;

@@ -146,10 +146,8 @@ pub fn simulate_in_turns<L: LineSource, W: Write>(
         (EndsLiveRun plant.value max_number (L.left source.old) (L.left source.new)
         (W.contents out.old) (W.contents out.new)) }
 {
-    match simulate_world_in_turns(alloc, plant, max_number, line, source, out) {
-        Ok(_) => Ok(()),
-        Err(fault) => Err(fault),
-    }
+    simulate_world_in_turns(alloc, plant, max_number, line, source, out)?;
+    Ok(())
 }
 
 /// Does the events of a schedule as `simulate_in_turns` does; what stands at the end.

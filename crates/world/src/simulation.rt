@@ -152,10 +152,8 @@ pub fn simulate<W: Write>(
     ensures fault { IfErr result
         (EndsEarly plant.value max_number schedule.now (W.contents out.old) (W.contents out.new)) }
 {
-    match simulate_world(alloc, plant, schedule, max_number, out) {
-        Ok(_) => Ok(()),
-        Err(fault) => Err(fault),
-    }
+    simulate_world(alloc, plant, schedule, max_number, out)?;
+    Ok(())
 }
 
 /// Does the events of a schedule as `simulate` does; what stands at the end.
