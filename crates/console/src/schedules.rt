@@ -48,10 +48,10 @@ pub fn obey_schedule<W: Write>(
         (EndsEarly plant.value request.now.max_number schedule.now (W.contents writer.old) (W.contents writer.new)) }
 {
     let ended = simulate_world(alloc, plant, schedule, request.max_number, writer)?;
-    match texts_of(alloc, request, &ended) {
-        Ok(texts) => Ok(texts),
-        Err(_) => Err(SimFault::Memory),
-    }
+    let Ok(texts) = texts_of(alloc, request, &ended) else {
+        return Err(SimFault::Memory);
+    };
+    Ok(texts)
 }
 
 /// Writes what each event of a schedule does; the status, and the texts for the files of its trace.
@@ -92,10 +92,10 @@ pub fn obey_lines<R: Read, W: Write>(
         (W.contents writer.old) (W.contents writer.new)) }
 {
     let ended = simulate_world_in_turns(alloc, plant, request.max_number, line, input, writer)?;
-    match texts_of(alloc, request, &ended) {
-        Ok(texts) => Ok(texts),
-        Err(_) => Err(LiveFault::Memory),
-    }
+    let Ok(texts) = texts_of(alloc, request, &ended) else {
+        return Err(LiveFault::Memory);
+    };
+    Ok(texts)
 }
 
 /// Writes what each event does that comes on standard input; the status, and the texts for the files of its trace.
