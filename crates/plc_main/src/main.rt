@@ -22,7 +22,6 @@ use keepers::KeeperFault;
 use node::{FreeGate, Gate, Keeper, MemoryKeeper, PacedGate, RunFault};
 use node_command::answer_node;
 use plant::{Plant, TaskRef};
-use progress::{OnTerminal, ToldLines};
 use run_command::{Ran, run_text};
 use std::alloc::{AllocError, Global};
 use std::io;
@@ -110,19 +109,17 @@ fn obey_run<R: AllocGlobal + Threads + Wait + Sync, K: Keeper, G: Gate, W: Write
 }
 
 /// Runs a plant with these keepers, paced or free, and writes what its threads did; whether there was a fault in them.
-/// `told` is whether it is told on standard error how many lines of that went out.
-fn run_plant<R: Clock + Print + Eprint + AllocGlobal + Threads + Wait + Sync, K: Keeper>(
+fn run_plant<R: Print + AllocGlobal + Threads + Wait + Sync, K: Keeper>(
     rt: &R,
-    told: bool,
     request: &RunRequest<'_>,
     prepared: Prepared,
     keepers: Vec<K>,
 ) -> Result<Ran, CommandFault>
     requires { vec_len keepers ≡ length prepared.plant.value.resources }
 {
-    let mut writer = ToldLines::new(io::writer(rt), OnTerminal::new(rt, told));
+    let mut writer = io::writer(rt);
     let wanted = wanted_for(request.plant, request.files);
-    let ran = if request.paced {
+    if request.paced {
         let gate = PacedGate::new(TURNS);
         obey_run(rt, request, prepared, keepers, &gate, wanted, &mut writer)
     } else {
@@ -135,9 +132,7 @@ fn run_plant<R: Clock + Print + Eprint + AllocGlobal + Threads + Wait + Sync, K:
             wanted,
             &mut writer,
         )
-    };
-    writer.end();
-    ran
+    }
 }
 
 /// Tells how a run ended; the status, and the texts for the files of its trace.
@@ -160,14 +155,13 @@ fn failed<R: Eprint>(rt: &R, fault: CommandFault) -> io::Result<Answered> {
 }
 
 /// Runs a plant that begins anew; the status, and the texts for the files of its trace.
-fn run_anew<R: Clock + Print + Eprint + AllocGlobal + Threads + Wait + Sync>(
+fn run_anew<R: Print + Eprint + AllocGlobal + Threads + Wait + Sync>(
     rt: &R,
-    told: bool,
     request: &RunRequest<'_>,
     prepared: Prepared,
 ) -> io::Result<Answered> {
     match memory_keepers(rt.alloc(), &prepared.plant) {
-        Ok(keepers) => tell_run(rt, run_plant(rt, told, request, prepared, keepers)),
+        Ok(keepers) => tell_run(rt, run_plant(rt, request, prepared, keepers)),
         Err(_) => failed(rt, CommandFault::Memory),
     }
 }
@@ -244,10 +238,9 @@ fn print_keeper_faults<R: Eprint + AllocGlobal>(
 
 /// Runs a plant whose incarnations and retained variables are kept in a folder, which no other run uses meanwhile; the
 /// status, and the texts for the files of its trace.
-fn run_kept<R: Clock + Print + Eprint + AllocGlobal + Threads + Wait + Sync>(
+fn run_kept<R: Print + Eprint + AllocGlobal + Threads + Wait + Sync>(
     rt: &R,
     host: &HostRuntime,
-    told: bool,
     request: &RunRequest<'_>,
     prepared: Prepared,
     folder: &str,
@@ -262,7 +255,7 @@ fn run_kept<R: Clock + Print + Eprint + AllocGlobal + Threads + Wait + Sync>(
     let Ok(keepers) = keepers_in(rt.alloc(), host, &prepared.plant, folder) else {
         return failed(rt, CommandFault::Memory);
     };
-    let ran = run_plant(rt, told, request, prepared, keepers);
+    let ran = run_plant(rt, request, prepared, keepers);
     let is_of_keepers = matches!(&ran, Err(CommandFault::Run(RunFault::Keeper)));
     let answered = tell_run(rt, ran)?;
     if is_of_keepers {
@@ -272,10 +265,9 @@ fn run_kept<R: Clock + Print + Eprint + AllocGlobal + Threads + Wait + Sync>(
 }
 
 /// Reads what a run needs, and runs it; the status, and the texts for the files of its trace.
-fn answer_run<R: Files + Clock + Print + Eprint + AllocGlobal + Threads + Wait + Sync>(
+fn answer_run<R: Files + Print + Eprint + AllocGlobal + Threads + Wait + Sync>(
     rt: &R,
     host: &HostRuntime,
-    told: bool,
     request: &RunRequest<'_>,
 ) -> io::Result<Answered> {
     let prepared = match prepare(rt, request)? {
@@ -283,8 +275,8 @@ fn answer_run<R: Files + Clock + Print + Eprint + AllocGlobal + Threads + Wait +
         Err(status) => return Ok(Answered::with(status)),
     };
     match request.state {
-        Some(folder) => run_kept(rt, host, told, request, prepared, folder),
-        None => run_anew(rt, told, request, prepared),
+        Some(folder) => run_kept(rt, host, request, prepared, folder),
+        None => run_anew(rt, request, prepared),
     }
 }
 
@@ -358,7 +350,7 @@ fn answer<R: Env + Files + Clock + Input + Print + Eprint + AllocGlobal + Thread
             write_files(rt, host, request.files, answered)
         }
         Ok(Request::Run(request)) => {
-            let answered = answer_run(rt, host, told && !shown, &request)?;
+            let answered = answer_run(rt, host, &request)?;
             write_files(rt, host, request.files, answered)
         }
         Ok(Request::Node(request)) => answer_node(rt, host, &request),
