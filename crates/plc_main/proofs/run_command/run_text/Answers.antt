@@ -55,4 +55,4 @@ returns-clause-ok g c =
     let for_plant = rw c.in_ok-shared.ensures at ended.faults in
     let is_report = report_of plant until inputs c.in_ok-commands.commands.items report (rw c.deref.ensures at c.in_ok-commands.ensures.ok) ended.fitting (rw c.in_ok-shared.ensures at ended.journals) ended.made
     (rw c.deref-2.ensures.value at ended.answers) (rw c.in_ok-shared.ensures at ended.again) (rw c.in_ok-shared.ensures at ended.made_again) (rw c.deref-2.ensures.value at for_plant) in
-    record { report = report; is_report = is_report; appended = c.in_ok-faulty.ensures.ok.appended; faulty_is = c.in_ok-faulty.ensures.ok.faulty_is; texts = rw c.deref-3.ensures at c.in_ok-texts.ensures }
+    record { report = report; is_report = is_report; appended = c.in_ok-faulty.ensures.ok.appended; faulty_is = c.in_ok-faulty.ensures.ok.faulty_is; texts = rw (c.deref-3.ensures, c.entries.ensures.value) at c.in_ok-texts.ensures }
