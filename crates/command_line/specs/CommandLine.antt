@@ -129,14 +129,22 @@ abbrev pub plan_app : App
 plan_app = with_rule (with_rule (new_app (codes "plan")) plant_rule) until_rule
 
 -- `sim PLANT SCHEDULE [--max-number N]`
-abbrev pub sim_app : App
-sim_app = with_rule (with_rule (with_rule (new_app (codes "sim")) plant_rule) schedule_rule) max_number_rule
+abbrev pub limited_app : App
+limited_app = with_rule (with_rule (with_rule (new_app (codes "sim")) plant_rule) schedule_rule) max_number_rule
 
--- `run PLANT --until MS [--state DIR] [--paced] [ADDRESS=VALUE]..`
-abbrev pub run_app : App
-run_app =
+-- .. `[--vcd FILE] [--svg FILE]`
+abbrev pub sim_app : App
+sim_app = traced limited_app
+
+-- `run PLANT --until MS [--state DIR] [--paced]`
+abbrev pub paced_app : App
+paced_app =
     let until = with_rule (with_rule (new_app (codes "run")) plant_rule) until_rule in
-    with_rule (with_rule (with_rule until state_rule) paced_rule) words_rule
+    with_rule (with_rule until state_rule) paced_rule
+
+-- .. `[--vcd FILE] [--svg FILE] [ADDRESS=VALUE]..`
+abbrev pub run_app : App
+run_app = with_rule (traced paced_app) words_rule
 
 -- `node PLANT RESOURCE [--state DIR] [--journal FILE]`
 abbrev pub node_app : App
@@ -287,7 +295,7 @@ AsksSim found (OfText (Plan plant until)) = ⊥
 AsksSim found (Verify verify) = ⊥
 AsksSim found (Sim sim) =
     (sim.plant.now ≡ given_word (codes "PLANT") found) × (sim.schedule.now ≡ given_word (codes "SCHEDULE") found)
-    × GivesNumber 4294967295 (first_of (codes "max-number") found) sim.max_number
+    × GivesNumber 4294967295 (first_of (codes "max-number") found) sim.max_number × AsksFiles found sim.files
 AsksSim found (Run run) = ⊥
 AsksSim found (Node node) = ⊥
 AsksSim found (Explain kind) = ⊥
@@ -302,7 +310,7 @@ AsksRun found (Sim sim) = ⊥
 AsksRun found (Run run) =
     (run.plant.now ≡ given_word (codes "PLANT") found) × GivesNumber 0 (first_of (codes "until") found) run.until
     × (option_map (λ d. d.now) run.state ≡ first_of (codes "state") found)
-    × (run.paced ≡ is_given (codes "paced") found) × (map (λ w. w.now) run.words.items ≡ words_given found)
+    × (run.paced ≡ is_given (codes "paced") found) × AsksFiles found run.files × (map (λ w. w.now) run.words.items ≡ words_given found)
 AsksRun found (Node node) = ⊥
 AsksRun found (Explain kind) = ⊥
 AsksRun found (Audit audit) = ⊥

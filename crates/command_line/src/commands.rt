@@ -1,6 +1,6 @@
 ghost use Rattle.std.specs.Prelude.{◌≡◌, false, IfOk, codes};
 ghost use Rattle.clap.specs.Words.{app_of, new_app, rule_of};
-ghost use Rattle.command_line.specs.CommandLine.{needed_word, option_of, flag_of, words_rule, plant_rule, until_rule, state_rule, journal_rule, paced_rule, show_rule, chart_rule, color_rule, vcd_rule, svg_rule, traced, kind_rule, never_rule, journals_rule, shown_app, eval_app, verify_app, check_app, plan_app, sim_app, run_app, node_app, explain_app, audit_app, versioned, commanded, plc_app, text_app};
+ghost use Rattle.command_line.specs.CommandLine.{needed_word, option_of, flag_of, words_rule, plant_rule, until_rule, state_rule, journal_rule, paced_rule, show_rule, chart_rule, color_rule, vcd_rule, svg_rule, traced, kind_rule, never_rule, journals_rule, shown_app, eval_app, verify_app, check_app, plan_app, limited_app, sim_app, paced_app, run_app, node_app, explain_app, audit_app, versioned, commanded, plc_app, text_app};
 
 use crate::help::{
     AUDIT_HELP, CHECK_HELP, EVAL_HELP, EXPLAIN_HELP, FIRST_STEPS, NODE_HELP, PLAN_HELP, RUN_HELP,
@@ -269,8 +269,9 @@ fn plan_command<'a>(alloc: Global) -> Result<Command<'a>, AllocError>
         .arg(until_arg(alloc))
 }
 
-fn sim_command<'a>(alloc: Global) -> Result<Command<'a>, AllocError>
-    ensures { IfOk result (λ c. app_of c ≡ sim_app) }
+/// The command `sim` without its files.
+fn limited_command<'a>(alloc: Global) -> Result<Command<'a>, AllocError>
+    ensures { IfOk result (λ c. app_of c ≡ limited_app) }
 {
     Command::new(alloc, "sim")
         .about(
@@ -291,8 +292,15 @@ fn sim_command<'a>(alloc: Global) -> Result<Command<'a>, AllocError>
         ))
 }
 
-fn run_command<'a>(alloc: Global) -> Result<Command<'a>, AllocError>
-    ensures { IfOk result (λ c. app_of c ≡ run_app) }
+fn sim_command<'a>(alloc: Global) -> Result<Command<'a>, AllocError>
+    ensures { IfOk result (λ c. app_of c ≡ sim_app) }
+{
+    traced_command(alloc, limited_command(alloc)?)
+}
+
+/// The command `run` without its files and words.
+fn paced_command<'a>(alloc: Global) -> Result<Command<'a>, AllocError>
+    ensures { IfOk result (λ c. app_of c ≡ paced_app) }
 {
     Command::new(alloc, "run")
         .about(
@@ -302,12 +310,17 @@ fn run_command<'a>(alloc: Global) -> Result<Command<'a>, AllocError>
         .arg(plant_arg(alloc))?
         .arg(until_arg(alloc))?
         .arg(state_arg(alloc))?
-        .arg(paced_arg(alloc))?
-        .arg(words_arg(
-            alloc,
-            "ADDRESS=VALUE",
-            "The value of a field address, as %IX0=1 or %IW2=-7",
-        ))
+        .arg(paced_arg(alloc))
+}
+
+fn run_command<'a>(alloc: Global) -> Result<Command<'a>, AllocError>
+    ensures { IfOk result (λ c. app_of c ≡ run_app) }
+{
+    traced_command(alloc, paced_command(alloc)?)?.arg(words_arg(
+        alloc,
+        "ADDRESS=VALUE",
+        "The value of a field address, as %IX0=1 or %IW2=-7",
+    ))
 }
 
 fn node_command<'a>(alloc: Global) -> Result<Command<'a>, AllocError>

@@ -123,6 +123,9 @@ names nothing that exists changes nothing and is written as REFUSED, with the nu
 Where SCHEDULE is - the events are read from standard input line by line, and each one's line is written before the next
 one is read: another program can drive the plant, as examples/live.py does.
 
+With --vcd FILE and --svg FILE the outputs of all tasks are written behind the last event, as plc eval --help tells of
+variables: at 0 ms as they are before the first event (FALSE, 0 or T#0ms), and at K ms as they are behind event K.
+
 Example:
 
   $ cat examples/one_delivery.schedule
@@ -136,7 +139,7 @@ Example:
 
 The exit status is 0; 1 if the text of the plant is refused, with FILE:LINE: Kind on standard error, or a line of the
 schedule is no event, with FILE:LINE: Syntax, after the lines of the events before it; 2 if a word is refused; 3 if a file
-can't be read, the output can't be written or there is no memory left.";
+can't be read or written, the output can't be written or there is no memory left.";
 
 /// What `plc run --help` tells behind the words.
 pub const RUN_HELP: &str = "\
@@ -152,6 +155,9 @@ A line is written for each evaluation, in an order in which each one takes what 
 number of each command that wasn't done, FAULT and the resource, the number of the command and the reason for each thing
 that went wrong; at last whether a run of these evaluations in one thread makes the same ones again.
 
+With --vcd FILE and --svg FILE the outputs of all tasks are written, as plc eval --help tells of variables: at 0 ms as they
+are before the first evaluation (FALSE, 0 or T#0ms), and at K ms as they are behind the line EVAL K.
+
 Example:
 
   $ plc run examples/pair.plant --until 20 --paced %IX0=1
@@ -161,8 +167,8 @@ Example:
   REPLAY equal
 
 The exit status is 0; 1 if the text of the plant is refused, with FILE:LINE: Kind on standard error, or if the plan has
-more than 100,000 lines, with plan: TooLong; 2 if a word is refused; 3 if a FAULT was written, a file can't be read or an
-incarnation kept, the output can't be written, the threads can't be run or there is no memory left.";
+more than 100,000 lines, with plan: TooLong; 2 if a word is refused; 3 if a FAULT was written, a file can't be read or written
+or an incarnation kept, the output can't be written, the threads can't be run or there is no memory left.";
 
 /// What `plc node --help` tells behind the words.
 pub const NODE_HELP: &str = "\

@@ -110,6 +110,7 @@ pub struct SimRequest<'a> {
     pub plant: &'a str,
     pub schedule: &'a str,
     pub max_number: u32,
+    pub files: TraceFiles<'a>,
 }
 
 /// One thread for each resource of a plant, and a command for each entry of the plan, up to and with `until` (in ms).
@@ -121,6 +122,7 @@ pub struct RunRequest<'a> {
     pub until: u32,
     pub state: Option<&'a str>,
     pub paced: bool,
+    pub files: TraceFiles<'a>,
     pub words: Vec<&'a str>,
 }
 

@@ -207,6 +207,7 @@ fn sim_request<'a>(command: &mut Command<'a>, inner: &ArgMatches<'a>) -> Result<
             u32::MAX,
             "N of --max-number is a number from 0 to 4294967295",
         )?,
+        files: files_of(inner),
     }))
 }
 
@@ -222,6 +223,7 @@ fn run_request<'a>(
         until: number_of(command, inner, "until", 0, UNTIL_REFUSED)?,
         state: word_of(inner, "state"),
         paced: is_given(inner, "paced"),
+        files: files_of(inner),
         words: words_given(alloc, inner)?,
     }))
 }

@@ -2,3 +2,5 @@ pub mod Answers
 pub mod FieldWords
 pub mod Giving
 pub mod Verifying
+pub mod TracedRun
+pub mod Steps

@@ -17,7 +17,7 @@ mod status;
 mod verify_answer;
 
 pub use answered::Answered;
-pub use answers::{answer_kind, answer_kinds, answer_text, obey};
+pub use answers::{answer_kind, answer_kinds, answer_text, obey, wanted_for};
 pub use command_fault::CommandFault;
 pub use faults::{print_failure, print_fault};
 pub use field_words::read_field_words;

@@ -1,54 +1,81 @@
-ghost use Rattle.std.specs.Prelude.{OnOk, IfErr};
-ghost use Rattle.world.specs.Simulated.{WritesRun, EndsEarly};
-ghost use Rattle.world.specs.LiveRun.{WritesLiveRun, EndsLiveRun};
+ghost use Rattle.std.specs.Prelude.{IfOk, IfErr};
+ghost use Rattle.world.specs.Simulated.{EndsEarly};
+ghost use Rattle.world.specs.LiveRun.{EndsLiveRun};
+ghost use Rattle.console.specs.TracedRun.{WritesTracedRun, WritesTracedLines};
+ghost use Rattle.console.specs.Steps.Ending.{AreEndTexts};
 
+use crate::answered::Answered;
+use crate::answers::wanted_for;
 use crate::command_fault::CommandFault;
 use crate::faults::{print_failure, print_live_fault, print_sim_fault};
 use crate::files::{STANDARD_INPUT, file_plant, file_text};
 use command_line::SimRequest;
 use plant::Plant;
+use plant_traces::event_texts;
 use progress::{OnTerminal, ToldLines};
-use std::alloc::Global;
+use std::alloc::{AllocError, Global};
 use std::io;
 use std::io::{BufReader, Read, Write};
 use std::rt::{Clock, Files};
 use std::sync::Arc;
-use world::{LiveFault, SimFault, simulate, simulate_lines};
+use traces::TraceTexts;
+use world::{LiveFault, SimFault, Simulated, simulate_world, simulate_world_in_turns};
 
-/// Writes what each event of a schedule does to the plant, as the words ask for it.
+/// The texts for the files of a trace of a schedule that was done.
+fn texts_of(
+    alloc: Global,
+    request: &SimRequest<'_>,
+    ended: &Simulated,
+) -> Result<TraceTexts, AllocError>
+    ensures { IfOk result (AreEndTexts request.now ended.now) }
+{
+    let wanted = wanted_for(request.plant, request.files);
+    let world = &ended.world;
+    event_texts(alloc, wanted, world.plant(), ended.events, world.log())
+}
+
+/// Writes what each event of a schedule does to the plant, as the words ask for it; the texts for the files of its trace.
 pub fn obey_schedule<W: Write>(
     alloc: Global,
     request: &SimRequest<'_>,
     plant: Arc<Plant>,
     schedule: &str,
     writer: &mut W,
-) -> Result<(), SimFault>
-    ensures ok { OnOk result
-        (WritesRun plant.value request.now.max_number schedule.now (W.contents writer.old) (W.contents writer.new)) }
+) -> Result<TraceTexts, SimFault>
+    ensures ok { IfOk result
+        (WritesTracedRun plant.value request.now schedule.now (W.contents writer.old) (W.contents writer.new)) }
     ensures fault { IfErr result
         (EndsEarly plant.value request.now.max_number schedule.now (W.contents writer.old) (W.contents writer.new)) }
 {
-    simulate(alloc, plant, schedule, request.max_number, writer)
+    let ended = simulate_world(alloc, plant, schedule, request.max_number, writer)?;
+    let Ok(texts) = texts_of(alloc, request, &ended) else {
+        return Err(SimFault::Memory);
+    };
+    Ok(texts)
 }
 
-/// Writes what each event of a schedule does; the status.
+/// Writes what each event of a schedule does; the status, and the texts for the files of its trace.
 fn write_schedule<R: Clock + Print + Eprint + AllocGlobal>(
     rt: &R,
     told: bool,
     request: &SimRequest<'_>,
     plant: Arc<Plant>,
     schedule: &str,
-) -> io::Result<u8> {
+) -> io::Result<Answered> {
     let mut writer = ToldLines::new(io::writer(rt), OnTerminal::new(rt, told));
     let obeyed = obey_schedule(rt.alloc(), request, plant, schedule, &mut writer);
     writer.end();
     match obeyed {
-        Ok(()) => Ok(0),
-        Err(fault) => print_sim_fault(rt, request.schedule, schedule, fault),
+        Ok(texts) => Ok(Answered { status: 0, texts }),
+        Err(fault) => {
+            let status = print_sim_fault(rt, request.schedule, schedule, fault)?;
+            Ok(Answered::with(status))
+        }
     }
 }
 
-/// Writes what each event of a schedule does to the plant, as the words ask for it, before it reads the next line.
+/// Writes what each event of a schedule does to the plant, as the words ask for it, before it reads the next line;
+/// the texts for the files of its trace.
 pub fn obey_lines<R: Read, W: Write>(
     alloc: Global,
     request: &SimRequest<'_>,
@@ -56,25 +83,29 @@ pub fn obey_lines<R: Read, W: Write>(
     line: &mut Vec<u8>,
     input: &mut R,
     writer: &mut W,
-) -> Result<(), LiveFault>
-    ensures ok { OnOk result
-        (WritesLiveRun plant.value request.now.max_number (R.remaining input.old) (R.remaining input.new)
+) -> Result<TraceTexts, LiveFault>
+    ensures ok { IfOk result
+        (WritesTracedLines plant.value request.now (R.remaining input.old) (R.remaining input.new)
         (W.contents writer.old) (W.contents writer.new)) }
     ensures fault { IfErr result
         (EndsLiveRun plant.value request.now.max_number (R.remaining input.old) (R.remaining input.new)
         (W.contents writer.old) (W.contents writer.new)) }
 {
-    simulate_lines(alloc, plant, request.max_number, line, input, writer)
+    let ended = simulate_world_in_turns(alloc, plant, request.max_number, line, input, writer)?;
+    let Ok(texts) = texts_of(alloc, request, &ended) else {
+        return Err(LiveFault::Memory);
+    };
+    Ok(texts)
 }
 
-/// Writes what each event does that comes on standard input; the status.
+/// Writes what each event does that comes on standard input; the status, and the texts for the files of its trace.
 fn write_lines<R: Input + Print + Eprint + AllocGlobal>(
     rt: &R,
     request: &SimRequest<'_>,
     plant: Arc<Plant>,
-) -> io::Result<u8> {
+) -> io::Result<Answered> {
     let Ok(mut input) = BufReader::new(rt.alloc(), rt.reader()) else {
-        return print_failure(rt, CommandFault::Memory);
+        return Ok(Answered::with(print_failure(rt, CommandFault::Memory)?));
     };
     let mut writer = io::writer(rt);
     let mut line = Vec::new(rt.alloc());
@@ -86,28 +117,31 @@ fn write_lines<R: Input + Print + Eprint + AllocGlobal>(
         &mut input,
         &mut writer,
     ) {
-        Ok(()) => Ok(0),
-        Err(fault) => print_live_fault(rt, request.schedule, &line, fault),
+        Ok(texts) => Ok(Answered { status: 0, texts }),
+        Err(fault) => {
+            let status = print_live_fault(rt, request.schedule, &line, fault)?;
+            Ok(Answered::with(status))
+        }
     }
 }
 
 /// Reads the file of a plant and then that of a schedule, or standard input line by line where that is `-`, and writes
-/// what each event does; the status. `told` is whether it is told on standard error how many lines of a file's schedule
-/// went out.
+/// what each event does; the status, and the texts for the files of the trace. `told` is whether it is told on standard
+/// error how many lines of a file's schedule went out.
 pub fn answer_schedule<R: Files + Clock + Input + Print + Eprint + AllocGlobal>(
     rt: &R,
     told: bool,
     request: &SimRequest<'_>,
-) -> io::Result<u8> {
+) -> io::Result<Answered> {
     let plant = match file_plant(rt, request.plant)? {
         Ok(plant) => plant,
-        Err(status) => return Ok(status),
+        Err(status) => return Ok(Answered::with(status)),
     };
     if request.schedule == STANDARD_INPUT {
         return write_lines(rt, request, plant);
     }
     match file_text(rt, request.schedule)? {
         Ok(schedule) => write_schedule(rt, told, request, plant, schedule.as_str()),
-        Err(status) => Ok(status),
+        Err(status) => Ok(Answered::with(status)),
     }
 }

@@ -1,5 +1,5 @@
 -- What `plc run` writes.
-use Rattle.std.specs.Prelude.{◌≢◌, ◌↔◌, ℕ, ◌++◌, ◌⊎◌, Bool, IsTrue, true, List, [], Option}
+use Rattle.std.specs.Prelude.{◌≢◌, ◌↔◌, ℕ, ◌++◌, ◌⊎◌, IsTrue, true, List, [], Option}
 use Rattle.std.specs.Io.KnownBytes.{Appends, Keeps}
 use Rattle.plant.specs.PlantValue.{PlantValue}
 use Rattle.evaluation.specs.declared.field_input.FieldInput.{FieldInput}
@@ -13,6 +13,10 @@ use Rattle.node_journals.specs.declared.run_fault.RunFault.{RunFault}
 use Rattle.node_journals.specs.declared.run_fault.RunFault.TheVariants as run
 use Rattle.text_commands.specs.declared.text_command_fault.TextCommandFault.TheVariants as text
 use Rattle.text_commands.specs.PlanText.{RefusesPlanOf}
+use Rattle.traces.specs.declared.texts.Wanted.{Wanted}
+use Rattle.plant_traces.specs.Moments.{of_entries}
+use Rattle.plant_traces.specs.Texts.{AreOutputTexts}
+use Rattle.plc_main.specs.declared.run_command.Ran.{Ran}
 use Rattle.run_texts.specs.RunCommands.{ArePlanned}
 use Rattle.run_texts.specs.ReportText.{report_lines, replay_line}
 
@@ -35,13 +39,14 @@ pub record IsReportOf (plant : PlantValue) (until : ℕ) (inputs : List FieldInp
   pub reported : IsReport plant commands 4294967295 report
 
 -- The lines of such a report were written, and `REPLAY equal` last; the answer is whether there is a fault in the
--- report.
-pub record WritesReport (plant : PlantValue) (until : ℕ) (inputs : List FieldInput)
-    (old new : Option (List ℕ)) (faulty : Bool) : Type 0 where
+-- report, with the texts that are wanted of its book.
+pub record WritesReport (plant : PlantValue) (until : ℕ) (inputs : List FieldInput) (wanted : Wanted)
+    (old new : Option (List ℕ)) (ran : Ran) : Type 0 where
   pub report : Report
   pub is_report : IsReportOf plant until inputs report
   pub appended : Appends old new (report_lines plant report ++ replay_line true)
-  pub faulty_is : IsTrue faulty ↔ (report.node_faults ≢ [])
+  pub faulty_is : IsTrue ran.faulty ↔ (report.node_faults ≢ [])
+  pub texts : AreOutputTexts wanted plant (of_entries report.book.entries) ran.texts
 
 -- a beginning of the text of such a report was written, and not all of it
 pub record WritesReportLess (plant : PlantValue) (until : ℕ) (inputs : List FieldInput)

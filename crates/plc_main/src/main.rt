@@ -12,9 +12,9 @@ ghost use Rattle.plc_main.specs.RunText.{WritesReport, ExplainsRun};
 use audit_command::audit_text;
 use command_line::{AuditRequest, Request, RunRequest, read_words};
 use console::{
-    CommandFault, FAILED, Prepared, answer_kind, answer_kinds, answer_schedule, answer_text,
-    answer_verify, file_bytes, file_plant, given_words, prepare, print_failure, print_fault,
-    print_given_fault, print_usage,
+    Answered, CommandFault, FAILED, Prepared, answer_kind, answer_kinds, answer_schedule,
+    answer_text, answer_verify, file_bytes, file_plant, given_words, prepare, print_failure,
+    print_fault, print_given_fault, print_usage, wanted_for,
 };
 use file_keepers::{BadLine, FileKeeper, FolderLock, LockFault, SystemFolder};
 use journal_files::JournalFile;
@@ -22,7 +22,7 @@ use keepers::KeeperFault;
 use node::{FreeGate, Gate, Keeper, MemoryKeeper, PacedGate, RunFault};
 use node_command::answer_node;
 use plant::{Plant, TaskRef};
-use run_command::run_text;
+use run_command::{Ran, run_text};
 use std::alloc::{AllocError, Global};
 use std::io;
 use std::io::{IsTerminal, Write};
@@ -31,6 +31,7 @@ use std::rt::{Clock, Env, Files};
 use std::sync::{Arc, Wait};
 use std::thread::Threads;
 use trace_files::write_files;
+use traces::Wanted;
 
 /// How often a paced command looks, at most, whether the one before it is done.
 const TURNS: u64 = 10_000_000;
@@ -82,11 +83,12 @@ fn obey_run<R: AllocGlobal + Threads + Wait + Sync, K: Keeper, G: Gate, W: Write
     prepared: Prepared,
     keepers: Vec<K>,
     gate: &G,
+    wanted: Wanted<'_>,
     writer: &mut W,
-) -> Result<bool, CommandFault>
+) -> Result<Ran, CommandFault>
     requires { vec_len keepers ≡ length prepared.plant.value.resources }
     ensures ok { IfOk result
-        (WritesReport prepared.plant.value request.now.until prepared.inputs
+        (WritesReport prepared.plant.value request.now.until prepared.inputs wanted.entry
         (W.contents writer.old) (W.contents writer.new)) }
     ensures fault { IfErr result
         (ExplainsRun prepared.plant.value request.now.until prepared.inputs
@@ -101,6 +103,7 @@ fn obey_run<R: AllocGlobal + Threads + Wait + Sync, K: Keeper, G: Gate, W: Write
         inputs,
         keepers,
         gate,
+        wanted,
         writer,
     )
 }
@@ -111,36 +114,55 @@ fn run_plant<R: Print + AllocGlobal + Threads + Wait + Sync, K: Keeper>(
     request: &RunRequest<'_>,
     prepared: Prepared,
     keepers: Vec<K>,
-) -> Result<bool, CommandFault>
+) -> Result<Ran, CommandFault>
     requires { vec_len keepers ≡ length prepared.plant.value.resources }
 {
     let mut writer = io::writer(rt);
+    let wanted = wanted_for(request.plant, request.files);
     if request.paced {
         let gate = PacedGate::new(TURNS);
-        obey_run(rt, request, prepared, keepers, &gate, &mut writer)
+        obey_run(rt, request, prepared, keepers, &gate, wanted, &mut writer)
     } else {
-        obey_run(rt, request, prepared, keepers, &FreeGate, &mut writer)
+        obey_run(
+            rt,
+            request,
+            prepared,
+            keepers,
+            &FreeGate,
+            wanted,
+            &mut writer,
+        )
     }
 }
 
-/// Tells how a run ended; the status.
-fn tell_run<R: Eprint + AllocGlobal>(rt: &R, ran: Result<bool, CommandFault>) -> io::Result<u8> {
+/// Tells how a run ended; the status, and the texts for the files of its trace.
+fn tell_run<R: Eprint + AllocGlobal>(
+    rt: &R,
+    ran: Result<Ran, CommandFault>,
+) -> io::Result<Answered> {
     match ran {
-        Ok(false) => Ok(0),
-        Ok(true) => Ok(FAILED),
-        Err(fault) => print_fault(rt, "", "", &[], fault),
+        Ok(Ran { faulty, texts }) => {
+            let status = if faulty { FAILED } else { 0 };
+            Ok(Answered { status, texts })
+        }
+        Err(fault) => Ok(Answered::with(print_fault(rt, "", "", &[], fault)?)),
     }
 }
 
-/// Runs a plant that begins anew; the status.
+/// Tells that something failed; the status.
+fn failed<R: Eprint>(rt: &R, fault: CommandFault) -> io::Result<Answered> {
+    Ok(Answered::with(print_failure(rt, fault)?))
+}
+
+/// Runs a plant that begins anew; the status, and the texts for the files of its trace.
 fn run_anew<R: Print + Eprint + AllocGlobal + Threads + Wait + Sync>(
     rt: &R,
     request: &RunRequest<'_>,
     prepared: Prepared,
-) -> io::Result<u8> {
+) -> io::Result<Answered> {
     match memory_keepers(rt.alloc(), &prepared.plant) {
         Ok(keepers) => tell_run(rt, run_plant(rt, request, prepared, keepers)),
-        Err(_) => print_failure(rt, CommandFault::Memory),
+        Err(_) => failed(rt, CommandFault::Memory),
     }
 }
 
@@ -214,41 +236,43 @@ fn print_keeper_faults<R: Eprint + AllocGlobal>(
     Ok(())
 }
 
-/// Runs a plant whose incarnations and retained variables are kept in a folder, which no other run uses meanwhile; the status.
+/// Runs a plant whose incarnations and retained variables are kept in a folder, which no other run uses meanwhile; the
+/// status, and the texts for the files of its trace.
 fn run_kept<R: Print + Eprint + AllocGlobal + Threads + Wait + Sync>(
     rt: &R,
     host: &HostRuntime,
     request: &RunRequest<'_>,
     prepared: Prepared,
     folder: &str,
-) -> io::Result<u8> {
+) -> io::Result<Answered> {
     let _lock = match FolderLock::take(host, folder) {
         Ok(lock) => lock,
-        Err(fault) => return print_lock_fault(rt, folder, fault),
+        Err(fault) => return Ok(Answered::with(print_lock_fault(rt, folder, fault)?)),
     };
     let Ok(plant) = Arc::try_clone(&prepared.plant) else {
-        return print_failure(rt, CommandFault::Memory);
+        return failed(rt, CommandFault::Memory);
     };
     let Ok(keepers) = keepers_in(rt.alloc(), host, &prepared.plant, folder) else {
-        return print_failure(rt, CommandFault::Memory);
+        return failed(rt, CommandFault::Memory);
     };
     let ran = run_plant(rt, request, prepared, keepers);
-    let status = tell_run(rt, ran)?;
-    if ran == Err(CommandFault::Run(RunFault::Keeper)) {
+    let is_of_keepers = matches!(&ran, Err(CommandFault::Run(RunFault::Keeper)));
+    let answered = tell_run(rt, ran)?;
+    if is_of_keepers {
         print_keeper_faults(rt, host, &plant, folder)?;
     }
-    Ok(status)
+    Ok(answered)
 }
 
-/// Reads what a run needs, and runs it; the status.
+/// Reads what a run needs, and runs it; the status, and the texts for the files of its trace.
 fn answer_run<R: Files + Print + Eprint + AllocGlobal + Threads + Wait + Sync>(
     rt: &R,
     host: &HostRuntime,
     request: &RunRequest<'_>,
-) -> io::Result<u8> {
+) -> io::Result<Answered> {
     let prepared = match prepare(rt, request)? {
         Ok(prepared) => prepared,
-        Err(status) => return Ok(status),
+        Err(status) => return Ok(Answered::with(status)),
     };
     match request.state {
         Some(folder) => run_kept(rt, host, request, prepared, folder),
@@ -321,8 +345,14 @@ fn answer<R: Env + Files + Clock + Input + Print + Eprint + AllocGlobal + Thread
             write_files(rt, host, request.files(), answered)
         }
         Ok(Request::Verify(request)) => answer_verify(rt, told, &request),
-        Ok(Request::Sim(request)) => answer_schedule(rt, told && !shown, &request),
-        Ok(Request::Run(request)) => answer_run(rt, host, &request),
+        Ok(Request::Sim(request)) => {
+            let answered = answer_schedule(rt, told && !shown, &request)?;
+            write_files(rt, host, request.files, answered)
+        }
+        Ok(Request::Run(request)) => {
+            let answered = answer_run(rt, host, &request)?;
+            write_files(rt, host, request.files, answered)
+        }
         Ok(Request::Node(request)) => answer_node(rt, host, &request),
         Ok(Request::Audit(request)) => answer_audit(rt, &request),
         Ok(Request::Explain(Some(kind))) => answer_kind(rt, kind),

@@ -14,13 +14,14 @@ use Rattle.std.proofs.lemmas.Option.{slice_get-map, slice_get_read}
 use Rattle.plant.specs.PlantValue.{PlantValue}
 use Rattle.words.specs.Lines.{without_last, lines_of}
 use Rattle.evaluation.specs.InputTexts.{words_of}
-use Rattle.exchange.specs.History.{Setting}
+use Rattle.exchange.specs.History.{Setting, history_of}
 use Rattle.exchange.specs.World.{WorldValue}
 use Rattle.exchange.specs.declared.event.Event.{Event}
 use Rattle.world.specs.declared.line_fault.LineFault.{LineFault}
 use Rattle.world.specs.declared.line_fault.LineFault.TheVariants.{Syntax, Write, Memory}
 use Rattle.world.specs.ScheduleText.{schedule_lines, is_idle, SpellsEvent, IsBadLine, Spell}
-use Rattle.world.specs.Simulated.{from_one, WritesRun, RunsFirst, StopsAt, WritesBeginning, WritesFirst}
+use Rattle.world.specs.declared.simulation.Simulated.{Simulated}
+use Rattle.world.specs.Simulated.{from_one, WritesRun, HasRun, RunsFirst, StopsAt, WritesBeginning, WritesFirst}
 use Rattle.world.specs.Steps.Simulating.{HasBroken, HasStopped}
 use Rattle.world.proofs.Simulating.{Stands, next_line, appends_kept}
 
@@ -56,6 +57,17 @@ one_read text n t L lt is e =
 pub ends_well : (plant : PlantValue) (most : ℕ) (text : List ℕ) (L : List (List (List ℕ))) (w : WorldValue) (n : ℕ) (old now : Option (List ℕ)) → L ≡ schedule_lines text → Stands (from_one plant most) L w n old now
     → WritesRun plant most text old now
 ends_well plant most text L w n old now e a = record { events = a.events; spelled = subst (Spell plant a.events) e a.spelled; text = a.text; told = a.told; written = a.written }
+
+-- what stands at the end
+pub has_run : (plant : PlantValue) (most : ℕ) (text : List ℕ) (L : List (List (List ℕ))) (w : WorldValue) (n : ℕ) (old now : Option (List ℕ)) (ended : Simulated) → L ≡ schedule_lines text → Stands (from_one plant most) L w n old now
+    → ended.world ≡ w → ended.events ≡ n → HasRun plant most text old now ended
+unfolding ends_well
+has_run plant most text L w n old now ended e a is many = record {
+  run = ends_well plant most text L w n old now e a;
+  setting = ap (λ (x : WorldValue). x.setting) is ∙ a.setting;
+  history = ap (λ (x : WorldValue). history_of (from_one plant most) x.events) is ∙ a.history;
+  number = many ∙ a.number;
+}
 
 abbrev pub runs_first : (plant : PlantValue) (most : ℕ) (text : List ℕ) (k : ℕ) (L : List (List (List ℕ))) (w : WorldValue) (n : ℕ) (old now : Option (List ℕ)) → L ≡ take k (schedule_lines text) → (a : Stands (from_one plant most) L w n old now)
     → RunsFirst plant most text k a.text

@@ -10,17 +10,18 @@ use Rattle.std.proofs.lemmas.Option.{slice_get-map}
 use Rattle.lists.proofs.Places.{push_here}
 use Rattle.plant.specs.PlantValue.{PlantValue}
 use Rattle.words.specs.Lines.{lines_of}
-use Rattle.exchange.specs.History.{Setting}
+use Rattle.exchange.specs.History.{Setting, history_of}
 use Rattle.exchange.specs.World.{WorldValue}
 use Rattle.line_reader.specs.Lines.{HasNoFeed}
 use Rattle.world.specs.declared.live_fault.LiveFault.{LiveFault}
 use Rattle.world.specs.declared.live_fault.LiveFault.TheVariants.{Syntax, TooLong, Read, Write, Memory}
 use Rattle.world.specs.ScheduleText.{schedule_lines}
-use Rattle.world.specs.Simulated.{from_one, WritesRun}
-use Rattle.world.specs.LiveRun.{HasAnswered, WritesLiveRun, EndsLiveRun, StopsAtLast}
+use Rattle.world.specs.declared.simulation.Simulated.{Simulated}
+use Rattle.world.specs.Simulated.{from_one, WritesRun, HasRun}
+use Rattle.world.specs.LiveRun.{HasAnswered, HasLiveRun, EndsLiveRun, StopsAtLast}
 use Rattle.world.specs.Steps.Live.{line_words, IsLineOf, HasGoneOn, HasDoneNext, HasStoppedNext}
 use Rattle.world.proofs.Simulating.{Stands, stands_first, stands_next, appends_kept}
-use Rattle.world.proofs.Ending.{ends_well, runs_first, stops_at, breaks_off, runs_out, runs_nothing}
+use Rattle.world.proofs.Ending.{ends_well, has_run, runs_first, stops_at, breaks_off, runs_out, runs_nothing}
 use Rattle.world.proofs.LinesRead.{fed, fed_more, whole_more, lines_with, lines_with_last, lines_fed}
 
 -- where it stands after whole lines
@@ -95,23 +96,35 @@ ends_whole plant most [] w n old now whole a = record { events = a.events; spell
 ends_whole plant most (line ∷ lines) w n old now whole a =
     ends_well plant most (fed (line ∷ lines)) (map line_words (line ∷ lines)) w n old now (ap (map line_words) (sym (lines_fed line lines whole))) a
 
+-- what stands behind whole lines alone
+whole_run : (plant : PlantValue) (most : ℕ) (lines : List (List ℕ)) (w : WorldValue) (n : ℕ) (old now : Option (List ℕ)) (ended : Simulated) → AllByRecursion HasNoFeed lines → Stands (from_one plant most) (map line_words lines) w n old now
+    → ended.world ≡ w → ended.events ≡ n → HasRun plant most (fed lines) old now ended
+whole_run plant most [] w n old now ended whole a is many = record {
+  run = record { events = a.events; spelled = a.spelled; text = a.text; told = a.told; written = a.written };
+  setting = ap (λ (x : WorldValue). x.setting) is ∙ a.setting;
+  history = ap (λ (x : WorldValue). history_of (from_one plant most) x.events) is ∙ a.history;
+  number = many ∙ a.number;
+}
+whole_run plant most (line ∷ lines) w n old now ended whole a is many =
+    has_run plant most (fed (line ∷ lines)) (map line_words (line ∷ lines)) w n old now ended (ap (map line_words) (sym (lines_fed line lines whole))) a is many
+
 -- nothing more was there, or a last line without a line feed
 pub live_ends : (plant : PlantValue) (most : ℕ) (lines : List (List ℕ)) (w new : WorldValue) (n m : ℕ) (given left later old now next : Option (List ℕ)) → StandsLive (from_one plant most) lines w n given left old now
-    → HasDoneNext w new n m left later now next false → WritesLiveRun plant most given later old next
-live_ends plant most lines w new n m given left later old now next a (end, inl none) = record {
+    → HasDoneNext w new n m left later now next false → (ended : Simulated) → ended.world ≡ new → ended.events ≡ m → HasLiveRun plant most given later old next ended
+live_ends plant most lines w new n m given left later old now next a (end, inl none) ended is many = record {
   schedule = fed lines;
   read = subst (Consumes given later) (append-nil (fed lines)) (Consumes-trans given left later (fed lines) [] a.taken none.0);
   end = end;
-  run = ends_whole plant most lines w n old next a.whole (stands_kept (from_one plant most) (map line_words lines) w n old now next a.stands none.1);
+  run = whole_run plant most lines w n old next ended a.whole (stands_kept (from_one plant most) (map line_words lines) w n old now next a.stands none.1) (is ∙ none.2) (many ∙ none.3);
 }
-live_ends plant most lines w new n m given left later old now next a (end, inr last) = record {
+live_ends plant most lines w new n m given left later old now next a (end, inr last) ended is many = record {
   schedule = fed lines ++ last.line;
   read = Consumes-trans given left later (fed lines) last.line a.taken last.taken;
   end = end;
   run =
-      ends_well plant most (fed lines ++ last.line) (map line_words lines ++ line_words last.line ∷ []) new m old next
+      has_run plant most (fed lines ++ last.line) (map line_words lines ++ line_words last.line ∷ []) new m old next ended
       (words_all (fed lines ++ last.line) lines last.line (lines_with_last lines last.line a.whole last.plain last.some))
-      (stands_next (from_one plant most) (map line_words lines) w new n m (line_words last.line) old now next a.stands last.done);
+      (stands_next (from_one plant most) (map line_words lines) w new n m (line_words last.line) old now next a.stands last.done) is many;
 }
 
 -- what a fault leaves

@@ -6,7 +6,8 @@ use Rattle.plant.specs.PlantValue.{PlantValue}
 use Rattle.line_reader.specs.Lines.{HasNoFeed}
 use Rattle.world.specs.declared.live_fault.LiveFault.{LiveFault}
 use Rattle.world.specs.declared.live_fault.LiveFault.TheVariants.{Syntax, TooLong, Read, Write, Memory}
-use Rattle.world.specs.Simulated.{WritesRun, RunsFirst, StopsAt, WritesBeginning, WritesFirst}
+use Rattle.world.specs.declared.simulation.Simulated.{Simulated}
+use Rattle.world.specs.Simulated.{WritesRun, HasRun, RunsFirst, StopsAt, WritesBeginning, WritesFirst}
 
 -- all that the reader had left is a schedule, and what was written is the text of its run and nothing else
 pub record WritesLiveRun (plant : PlantValue) (max_number : ℕ) (given left old new : Option (List ℕ)) : Type 0 where
@@ -14,6 +15,14 @@ pub record WritesLiveRun (plant : PlantValue) (max_number : ℕ) (given left old
   pub read : Consumes given left schedule
   pub end : IsAtEnd left
   pub run : WritesRun plant max_number schedule old new
+
+-- all that the reader had left is a schedule, which was done so, and this stands at its end
+pub record HasLiveRun (plant : PlantValue) (max_number : ℕ) (given left old new : Option (List ℕ)) (ended : Simulated)
+    : Type 0 where
+  pub schedule : List ℕ
+  pub read : Consumes given left schedule
+  pub end : IsAtEnd left
+  pub run : HasRun plant max_number schedule old new ended
 
 -- what was read so far is a schedule, and what was written is the text of its run and nothing else
 pub record HasAnswered (plant : PlantValue) (max_number : ℕ) (given left old new : Option (List ℕ)) : Type 0 where

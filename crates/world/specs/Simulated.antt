@@ -3,7 +3,8 @@ use Rattle.std.specs.Prelude.{◌≡◌, ℕ, ◌+◌, ◌<◌, List, Option, So
 use Rattle.std.specs.Io.KnownBytes.{Appends}
 use Rattle.plant.specs.PlantValue.{PlantValue}
 use Rattle.exchange.specs.declared.event.Event.{Event}
-use Rattle.exchange.specs.History.{Setting, setting_over, initial_openings}
+use Rattle.exchange.specs.History.{Setting, setting_over, history_of, initial_openings}
+use Rattle.world.specs.declared.simulation.Simulated.{Simulated}
 use Rattle.world.specs.declared.sim_fault.SimFault.{SimFault}
 use Rattle.world.specs.declared.sim_fault.SimFault.TheVariants.{Syntax, Write, Memory}
 use Rattle.world.specs.RunText.{IsRunText}
@@ -22,6 +23,14 @@ pub record WritesRun (plant : PlantValue) (max_number : ℕ) (schedule : List �
   pub text : List ℕ
   pub told : IsRunText (from_one plant max_number) events text
   pub written : Appends old new text
+
+-- The schedule was done so, and this stands at its end: the history is that of its events, and there were so many.
+pub record HasRun (plant : PlantValue) (max_number : ℕ) (schedule : List ℕ) (old new : Option (List ℕ))
+    (ended : Simulated) : Type 0 where
+  pub run : WritesRun plant max_number schedule old new
+  pub setting : ended.world.setting ≡ from_one plant max_number
+  pub history : history_of (from_one plant max_number) ended.world.events ≡ history_of (from_one plant max_number) run.events
+  pub number : ended.events ≡ length run.events
 
 -- the first n lines spell these events, and this is the text of their run
 pub record RunsFirst (plant : PlantValue) (max_number : ℕ) (schedule : List ℕ) (n : ℕ) (text : List ℕ) : Type 0 where

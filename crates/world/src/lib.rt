@@ -26,11 +26,11 @@ pub use exchange::{
 pub use line_fault::LineFault;
 pub use line_source::LineSource;
 pub use lines::{is_idle, without_last};
-pub use live::{simulate_in_turns, simulate_lines};
+pub use live::{simulate_in_turns, simulate_lines, simulate_world_in_turns};
 pub use live_fault::LiveFault;
 pub use names::resource_of;
 pub use read_line::read_event;
 pub use schedule_laws::one_reading;
 pub use sim_fault::SimFault;
-pub use simulation::simulate;
+pub use simulation::{Simulated, simulate, simulate_world};
 pub use text_writer::{WriteFault, write_text};

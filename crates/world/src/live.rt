@@ -1,7 +1,7 @@
 //! A schedule is read line by line, and each line is done before the next one is read.
 
 ghost use Rattle.std.specs.Prelude.{◌≡◌, ℕ, ◌<◌, List, Option, IfErr, IfOk, OnOk};
-ghost use Rattle.world.specs.LiveRun.{HasAnswered, WritesLiveRun, EndsLiveRun};
+ghost use Rattle.world.specs.LiveRun.{HasAnswered, HasLiveRun, WritesLiveRun, EndsLiveRun};
 ghost use Rattle.world.specs.Steps.Simulating.{HasDone, HasStopped};
 ghost use Rattle.world.specs.Steps.Live.{line_words, HasFailed, HasDoneNext, HasStoppedNext};
 
@@ -9,7 +9,7 @@ use crate::line_fault::LineFault;
 use crate::line_source::LineSource;
 use crate::lines::without_last;
 use crate::live_fault::LiveFault;
-use crate::simulation::{Simulation, open};
+use crate::simulation::{Simulated, Simulation, open};
 use evaluation::push_words;
 use line_reader::{Given, ReadFault};
 use plant::Plant;
@@ -146,6 +146,29 @@ pub fn simulate_in_turns<L: LineSource, W: Write>(
         (EndsLiveRun plant.value max_number (L.left source.old) (L.left source.new)
         (W.contents out.old) (W.contents out.new)) }
 {
+    simulate_world_in_turns(alloc, plant, max_number, line, source, out)?;
+    Ok(())
+}
+
+/// Does the events of a schedule as `simulate_in_turns` does; what stands at the end.
+pub fn simulate_world_in_turns<L: LineSource, W: Write>(
+    alloc: Global,
+    plant: Arc<Plant>,
+    max_number: u32,
+    line: &mut Vec<u8>,
+    source: &mut L,
+    out: &mut W,
+) -> Result<Simulated, LiveFault>
+    requires turns { (left written : Option (List ℕ))
+        → HasAnswered plant.value max_number (L.left source.old) left (W.contents out.old) written
+        → L.is_ready left written }
+    ensures ok { IfOk result
+        (HasLiveRun plant.value max_number (L.left source.old) (L.left source.new)
+        (W.contents out.old) (W.contents out.new)) }
+    ensures fault { IfErr result
+        (EndsLiveRun plant.value max_number (L.left source.old) (L.left source.new)
+        (W.contents out.old) (W.contents out.new)) }
+{
     let Ok(world) = open(alloc, plant, max_number) else {
         return Err(LiveFault::Memory);
     };
@@ -156,7 +179,7 @@ pub fn simulate_in_turns<L: LineSource, W: Write>(
     };
     for before in 0..u64::MAX {
         if !simulation.do_next(alloc, before + 1, line, source, out)? {
-            return Ok(());
+            return Ok(simulation.ended());
         }
     }
     Err(LiveFault::Read)

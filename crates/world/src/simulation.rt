@@ -3,7 +3,7 @@
 ghost use Rattle.std.specs.Prelude.{◌≡◌, ◌<◌, [], IfErr, IfOk, OnErr, OnOk, length, replicate};
 ghost use Rattle.words.specs.Lines.{without_last};
 ghost use Rattle.evaluation.specs.InputTexts.{words_of};
-ghost use Rattle.world.specs.Simulated.{from_one, WritesRun, EndsEarly};
+ghost use Rattle.world.specs.Simulated.{from_one, WritesRun, HasRun, EndsEarly};
 ghost use Rattle.world.specs.Steps.ReadingLines.{texts};
 ghost use Rattle.world.specs.Steps.Simulating.{HasDone, HasStopped};
 
@@ -59,6 +59,13 @@ fn bytes_in(schedule: &str) -> usize
     schedule.len()
 }
 
+/// What stands when a schedule is done: the world, and how many events there were.
+#[derive(Drop)]
+pub struct Simulated {
+    pub world: World,
+    pub events: u64,
+}
+
 /// What stands while a schedule is done: the world, how many events there were, and room for the line of one.
 #[derive(Drop)]
 pub(crate) struct Simulation {
@@ -68,6 +75,17 @@ pub(crate) struct Simulation {
 }
 
 impl Simulation {
+    /// What stands at the end.
+    pub(crate) fn ended(self) -> Simulated
+        ensures world { result.world ≡ self.world }
+        ensures events { result.events ≡ self.events }
+    {
+        Simulated {
+            world: self.world,
+            events: self.events,
+        }
+    }
+
     /// Does the event that the words of a line spell, and writes its line.
     pub(crate) fn do_words<W: Write>(
         &mut self,
@@ -134,6 +152,23 @@ pub fn simulate<W: Write>(
     ensures fault { IfErr result
         (EndsEarly plant.value max_number schedule.now (W.contents out.old) (W.contents out.new)) }
 {
+    simulate_world(alloc, plant, schedule, max_number, out)?;
+    Ok(())
+}
+
+/// Does the events of a schedule as `simulate` does; what stands at the end.
+pub fn simulate_world<W: Write>(
+    alloc: Global,
+    plant: Arc<Plant>,
+    schedule: &str,
+    max_number: u32,
+    out: &mut W,
+) -> Result<Simulated, SimFault>
+    ensures ok { IfOk result
+        (HasRun plant.value max_number schedule.now (W.contents out.old) (W.contents out.new)) }
+    ensures fault { IfErr result
+        (EndsEarly plant.value max_number schedule.now (W.contents out.old) (W.contents out.new)) }
+{
     let _bytes = bytes_in(schedule);
     let world = open(alloc, plant, max_number)?;
     let mut simulation = Simulation {
@@ -152,5 +187,5 @@ pub fn simulate<W: Write>(
             Err(LineFault::Memory) => return Err(SimFault::Memory),
         }
     }
-    Ok(())
+    Ok(simulation.ended())
 }

@@ -5,6 +5,7 @@ from rules.words import BLOCK_TYPES
 
 from .drawings import Drawer, Names, cased
 from .retained import blocks_of, boxes_of, outputs_of, rows_of
+from .traces import trace_words
 
 KINDS = ("BOOL", "BOOL", "BOOL", "INT", "INT", "TIME")
 INTERVALS = {10: "T#10ms", 15: "T#15ms", 20: "t#20MS", 25: "TIME#0s_25ms", 40: "T#40ms", 50: "T#0s50ms"}
@@ -133,4 +134,5 @@ def inputs(chance):
 def plant(chance):
     """A plant, with words for a run in turns."""
     until = str(chance.choice([0, 40, 100, 100, 160, 200]))
-    return {"it.plant": PlantMaker(chance).text()}, [["run", "it.plant", "--until", until, "--paced", *inputs(chance)]]
+    traces = trace_words(chance) if chance.random() < 0.3 else []
+    return {"it.plant": PlantMaker(chance).text()}, [["run", "it.plant", "--until", until, *traces, "--paced", *inputs(chance)]]

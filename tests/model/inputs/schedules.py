@@ -1,6 +1,7 @@
 """Schedules for plants: evaluations, deliveries in any order, losses, repeats, restarts, hearings, and lines that aren't lawful."""
 from .drawings import cased
 from .plants import PlantMaker, inputs
+from .traces import trace_words
 
 
 class ScheduleMaker:
@@ -87,4 +88,5 @@ def schedule(chance):
     lines = ScheduleMaker(chance, plant).lines(chance.choice([5, 20, 60]))
     most = ["--max-number", str(chance.choice([0, 1, 2, 3, 5]))] if chance.random() < 0.15 else []
     files = {"it.plant": plant.text(), "it.schedule": "".join(f"{line}\n" for line in lines)}
-    return files, [["sim", "it.plant", "it.schedule", *most]]
+    traces = trace_words(chance) if chance.random() < 0.3 else []
+    return files, [["sim", "it.plant", "it.schedule", *most, *traces]]

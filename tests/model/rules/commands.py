@@ -64,8 +64,8 @@ SHAPES = {
     "verify": Shape(1, numbers=("--dt", "--most-states"), lists=("--never",), needed=("--never",), has_more=True),
     "check": Shape(1),
     "plan": Shape(1, numbers=("--until",), needed=("--until",)),
-    "sim": Shape(2, numbers=("--max-number",)),
-    "run": Shape(1, numbers=("--until",), names=("--state",), flags=("--paced",), needed=("--until",), has_more=True),
+    "sim": Shape(2, numbers=("--max-number",), names=("--vcd", "--svg")),
+    "run": Shape(1, ("--until",), names=("--state", "--vcd", "--svg"), flags=("--paced",), needed=("--until",), has_more=True),
     "node": Shape(2, names=("--state", "--journal")),
     "audit": Shape(2, has_more=True),
 }
@@ -326,12 +326,14 @@ def plan(write, files, paths, options, _more):
 
 
 def simulate(write, files, paths, options, _more):
-    run = Run(files.plant(paths[0]), options.get("--max-number", MOST_U32))
+    run, made = Run(files.plant(paths[0]), options.get("--max-number", MOST_U32)), []
     try:
         for line in lines_of_run(run, events_of(lines_of(files.text(paths[1])))):
             write(line)
+            made.append(run.log[-1] if line.startswith("EVAL") else None)
     except Refusal as refusal:
         raise Refused(REFUSED_TEXT, f"{paths[1]}:{refusal.line}: {refusal.kind}") from None
+    files.write_traces(options, paths[0], 1, len(made) + 1, tracks_of(run.plant, made))
 
 
 def run_paced(write, files, paths, options, more):
@@ -353,6 +355,25 @@ def run_paced(write, files, paths, options, more):
     for made in run.log:
         write(made.line())
     write("REPLAY equal")
+    files.write_traces(options, paths[0], 1, len(run.log) + 1, tracks_of(plant, run.log))
+
+
+def tracks_of(plant, made):
+    """The outputs of all tasks: their first values, and those after each moment, in which a task was evaluated or none was."""
+    return [
+        Track((task.resource.name, program.name), it.name, it.kind, list(values_of(task, program, it, made)))
+        for task in plant.tasks()
+        for program, it in task.outputs()
+    ]
+
+
+def values_of(task, program, declared, made):
+    value = words.first_value(declared.kind)
+    yield value
+    for evaluation in made:
+        if evaluation and evaluation.task is task:
+            value = evaluation.image[program, words.fold(declared.name)]
+        yield value
 
 
 def node(write, files, paths, options, _more):

@@ -57,7 +57,8 @@ abbrev pub HasDoneNext : WorldValue → WorldValue → ℕ → ℕ → Option (L
     → Option (List ℕ) → Bool → Type 0
 HasDoneNext old new count more given left from to true = HasGoneOn old new count more given left from to
 HasDoneNext old new count more given left from to false =
-    IsAtEnd left × ((Consumes given left [] × Keeps from to) ⊎ HasEnded old new count more given left from to)
+    IsAtEnd left
+    × ((Consumes given left [] × Keeps from to × (new ≡ old) × (more ≡ count)) ⊎ HasEnded old new count more given left from to)
 
 -- why the next line isn't there, or isn't done
 abbrev pub HasStoppedNext : WorldValue → WorldValue → ℕ → Option (List ℕ) → Option (List ℕ) → Option (List ℕ)

@@ -33,8 +33,8 @@ tell_report-requires-clause-again g c = rw c.in_ok-shared.ensures at c.in_ok-rep
 pub tell_report-requires-clause-made_again : goal.tell_report-requires-clause-made_again
 tell_report-requires-clause-made_again g c = rw c.in_ok-shared.ensures at c.in_ok-report.ensures.made_again
 
-pub returns-in_err-tell_report-clause-fault : goal.returns-in_err-tell_report-clause-fault
-returns-in_err-tell_report-clause-fault g c =
+pub returns-in_err-faulty-clause-fault : goal.returns-in_err-faulty-clause-fault
+returns-in_err-faulty-clause-fault g c =
     let plant = c.args.plant.value in
     let until = c.args.until in
     let inputs = c.args.inputs in
@@ -43,7 +43,7 @@ returns-in_err-tell_report-clause-fault g c =
     let for_plant = rw c.in_ok-shared.ensures at ended.faults in
     let is_report = report_of plant until inputs c.in_ok-commands.commands.items report (rw c.deref.ensures at c.in_ok-commands.ensures.ok) ended.fitting (rw c.in_ok-shared.ensures at ended.journals) ended.made
     (rw c.deref-2.ensures.value at ended.answers) (rw c.in_ok-shared.ensures at ended.again) (rw c.in_ok-shared.ensures at ended.made_again) (rw c.deref-2.ensures.value at for_plant) in
-    told_partly plant until inputs _ _ report _ _ c.from_residual-in_err-tell_report.ensures.1 is_report c.in_err-tell_report.ensures.fault
+    told_partly plant until inputs _ _ report _ _ c.from_residual-in_err-faulty.ensures.1 is_report c.in_err-faulty.ensures.fault
 
 pub returns-clause-ok : goal.returns-clause-ok
 returns-clause-ok g c =
@@ -55,4 +55,4 @@ returns-clause-ok g c =
     let for_plant = rw c.in_ok-shared.ensures at ended.faults in
     let is_report = report_of plant until inputs c.in_ok-commands.commands.items report (rw c.deref.ensures at c.in_ok-commands.ensures.ok) ended.fitting (rw c.in_ok-shared.ensures at ended.journals) ended.made
     (rw c.deref-2.ensures.value at ended.answers) (rw c.in_ok-shared.ensures at ended.again) (rw c.in_ok-shared.ensures at ended.made_again) (rw c.deref-2.ensures.value at for_plant) in
-    record { report = report; is_report = is_report; appended = c.in_ok-tell_report.ensures.ok.appended; faulty_is = c.in_ok-tell_report.ensures.ok.faulty_is }
+    record { report = report; is_report = is_report; appended = c.in_ok-faulty.ensures.ok.appended; faulty_is = c.in_ok-faulty.ensures.ok.faulty_is; texts = rw (c.deref-3.ensures, c.entries.ensures.value) at c.in_ok-texts.ensures }

@@ -3,7 +3,7 @@ use Rattle.evaluation.specs.InputTexts.{words_of}
 use Rattle.words.specs.Lines.{without_last}
 use Rattle.world.specs.Simulated.{from_one}
 use Rattle.world.proofs.Simulating.{Stands}
-use Rattle.world.proofs.simulation.simulate.Given as goal
+use Rattle.world.proofs.simulation.simulate_world.Given as goal
 
 abbrev pub invariant-loop-text : goal.invariant-loop-text
 invariant-loop-text g l = record {

@@ -1,7 +1,7 @@
 use Rattle.std.proofs.Common.{◌≡◌, ℕ, List, length}
 use Rattle.world.specs.Simulated.{from_one}
 use Rattle.world.proofs.LiveEnding.{StandsLive}
-use Rattle.world.proofs.live.simulate_in_turns.Given as goal
+use Rattle.world.proofs.live.simulate_world_in_turns.Given as goal
 
 abbrev pub invariant-loop-before : goal.invariant-loop-before
 invariant-loop-before g l =

@@ -1,0 +1,34 @@
+-- What the program writes for `plc sim`, and the texts for the files of its trace.
+use Rattle.std.specs.Prelude.{ℕ, List, Option, length}
+use Rattle.command_line.specs.declared.request.SimRequest.{SimRequest}
+use Rattle.plant.specs.PlantValue.{PlantValue}
+use Rattle.evaluation.specs.Meaning.{Evaluated}
+use Rattle.exchange.specs.declared.event.Event.{Event}
+use Rattle.exchange.specs.Run.{IsRun}
+use Rattle.world.specs.Simulated.{WritesRun, from_one}
+use Rattle.world.specs.LiveRun.{WritesLiveRun}
+use Rattle.traces.specs.declared.texts.Wanted.{Wanted}
+use Rattle.traces.specs.declared.texts.TraceTexts.{TraceTexts}
+use Rattle.plant_traces.specs.Moments.{of_events}
+use Rattle.plant_traces.specs.Texts.{AreOutputTexts}
+use Rattle.console.specs.Answers.{AreWantedFor}
+
+-- the texts for the files of a trace are those of the evaluations that the run of these events made
+pub record AreRunTexts (plant : PlantValue) (request : SimRequest) (events : List Event) (texts : TraceTexts) : Type 0 where
+  pub log : List Evaluated
+  pub made : IsRun (from_one plant request.max_number) events log
+  pub wanted : Wanted
+  pub asked : AreWantedFor request.plant.now request.files wanted
+  pub texts_are : AreOutputTexts wanted plant (of_events (length events) log) texts
+
+-- what was written is the text of the schedule's run, and these are the texts for the files of its trace
+pub record WritesTracedRun (plant : PlantValue) (request : SimRequest) (schedule : List ℕ) (old new : Option (List ℕ))
+    (texts : TraceTexts) : Type 0 where
+  pub run : WritesRun plant request.max_number schedule old new
+  pub traced : AreRunTexts plant request run.events texts
+
+-- the same of the schedule that was read
+pub record WritesTracedLines (plant : PlantValue) (request : SimRequest) (given left old new : Option (List ℕ))
+    (texts : TraceTexts) : Type 0 where
+  pub live : WritesLiveRun plant request.max_number given left old new
+  pub traced : AreRunTexts plant request live.run.events texts
