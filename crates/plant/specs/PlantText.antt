@@ -40,11 +40,20 @@ IsNotOfGrammar text =
     (tree : Tree) (more : List Token) → length tree.programs ≤ 64 → IsTreeWellFormed tree → list_all is_plain more ≡ true
     → Spells (without_last 13 text) (words_of tree ++ more) → (more ≢ []) × HasFaultlessWords tree
 
--- Trees of at most 64 program types that the text, but for a carriage return at its end, spells say the same.
-abbrev pub SpellsOneTree : List ℕ → Type 0
-SpellsOneTree text =
-    (t u : Tree) → length t.programs ≤ 64 → length u.programs ≤ 64 → Spells (without_last 13 text) (words_of t)
-    → Spells (without_last 13 text) (words_of u) → IsSameTree t u
+-- Trees of at most 64 program types that a text, but for a carriage return at its end, spells say the same.
+abbrev pub OneTree : Type 0
+OneTree =
+    (text : List ℕ) (t u : Tree) → length t.programs ≤ 64 → length u.programs ≤ 64
+    → Spells (without_last 13 text) (words_of t) → Spells (without_last 13 text) (words_of u) → IsSameTree t u
+
+-- A tree whose words are lawful stands for one plant, and so do trees that say the same.
+abbrev pub OnePlantOfTree : Type 0
+OnePlantOfTree =
+    (t u : Tree) (p q : PlantValue) → IsTreeLawful t → IsSameTree t u → IsPlantOf t p → IsPlantOf u q → p ≡ q
+
+-- A text is one plant at most.
+abbrev pub OnePlant : Type 0
+OnePlant = (text : List ℕ) (p q : PlantValue) → IsPlantText text p → IsPlantText text q → p ≡ q
 
 -- The text begins with these programs, their bodies on their first lines, and the fault is that of the first of them
 -- whose body is refused.

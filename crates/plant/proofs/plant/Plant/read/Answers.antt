@@ -213,12 +213,6 @@ returns-in_err-end-clause-refused c =
     let start : c.new-reader.result.words ≡ words_of tree ++ [] = sym words ∙ c.in_ok-words.ensures.every (words_of tree) (c.words_are_in_place.ensures tree faultless.lawful.few_types) spelled ∙ sym (append-nil (words_of tree)) in
     c.in_err-end.ensures.err.1 (c.in_ok-resources.ensures.only tree [] start).0)
 
-pub returns-clause-tree : goal.returns-clause-tree
-returns-clause-tree c = λ t u few_t few_u spelled_t spelled_u.
-    let every = c.in_ok-words.ensures.every in
-    let same : words_of t ≡ words_of u = sym (every (words_of t) (c.words_are_in_place.ensures t few_t) spelled_t) ∙ every (words_of u) (c.words_are_in_place.ensures u few_u) spelled_u in
-    (c.words_have_one_tree.ensures t u [] [] (ap (λ (ws : List Token). ws ++ []) same)).1
-
 pub returns-in_err-types-clause-syntax : goal.returns-in_err-types-clause-syntax
 returns-in_err-types-clause-syntax c =
     let fault = c.in_err-types.field-0.0 in
