@@ -15,7 +15,7 @@ use Rattle.program_bodies.specs.Faults.{IsPlantFault, IsOfBody, IsOfDeclaredName
 use Rattle.program_bodies.specs.Ladders.{IsLadderOf}
 use Rattle.program_bodies.specs.ProgramTypes.{TypeValue}
 use Rattle.plant.specs.Faultless.{AreBindsFed, IsTreeFaultless}
-use Rattle.plant.specs.SourceFaults.{HasSourceFault}
+use Rattle.plant.specs.SourceFaults.{HasFirstSourceFault}
 use Rattle.program_bodies.specs.declared.plant_fault.PlantFaultKind.TheVariants.{Memory, Syntax}
 use Rattle.plant_grammar.specs.Steps.Reading.{programs_of}
 use Rattle.plant.specs.PlantText.{IsNoPlant, HasFaultlessWords, IsNotOfGrammar, IsBodyFaultIn, IsNameFaultIn}
@@ -143,8 +143,9 @@ returns-in_err-plant-clause-name c =
       lines = begun.0;
       begun = begun.1;
       lawful = read.lawful;
+      drawn = drawn_have_ladders texts c.in_ok-types.types.items c.in_ok-types.ensures.ok;
       refused = λ fed. c.in_err-plant.ensures.refused (λ memory. subst names.IsOfName memory (of_name word.kind of)) read.name (subst (λ (t : Tree). All (AreBindsFed t) (all_uses t)) (sym same) fed);
-      wrong = subst (λ (t : Tree). HasSourceFault t word.kind) same (c.in_err-plant.ensures.why (λ memory. subst names.IsOfName memory (of_name word.kind of)) read.name);
+      wrong = subst (λ (t : Tree). HasFirstSourceFault t word.kind) same (c.in_err-plant.ensures.why (λ memory. subst names.IsOfName memory (of_name word.kind of)) read.name);
     }))
 
 pub returns-in_err-end-clause-value : goal.returns-in_err-end-clause-value
