@@ -18,13 +18,15 @@ use Rattle.program_bodies.specs.Ladders.{IsLadderOf}
 use Rattle.program_bodies.specs.ProgramTypes.{TypeValue}
 use Rattle.plant.specs.PlantValue.{ResourceValue, PlantValue}
 use Rattle.plant.specs.Faultless.{RunsType}
-use Rattle.plant.specs.SourceFaults.{IsBindFault, HasBindFault}
-use Rattle.plant.specs.Steps.Drafts.{drafted, programs_in, IsResourceDraft, IsTypeKnown}
-use Rattle.plant.specs.Steps.SourceFaults.{MissesSource, TellsOfBind, TellsOfUse, TellsOfUses}
+use Rattle.plant.specs.Faultless.{IsFed, AreBindsFed}
+use Rattle.plant.specs.SourceFaults.{FailsFirst, IsBindFault, HasFirstBindFault, HasFirstSourceFault}
+use Rattle.plant.specs.Steps.Drafts.{drafted, programs_in, IsResourceDraft, HasFeed, IsUseResolved, IsTypeKnown}
+use Rattle.plant.specs.Steps.SourceFaults.{MissesSource, TellsOfBind, TellsOfBinds, TellsOfUse, TellsOfUses}
 use Rattle.plant.proofs.FirstMentions.{all_flat}
 use Rattle.plant.proofs.LinkedPlants.{uses_all}
 use Rattle.plant.proofs.Members.{type_found}
-use Rattle.plant.proofs.Sourcing.{source_of_origin, origin_of_source, one_type, type_of, tree_apart, types_known}
+use Rattle.plant.proofs.Sourcing.{source_of_origin, origin_of_source, one_type, type_of, tree_apart, types_known, fed_in_tree, use_in_tree}
+use Rattle.plant.proofs.FirstFailing.{fails_moved}
 use Rattle.plant.proofs.Zips.{all_at}
 
 -- a name that is unknown
@@ -60,21 +62,24 @@ module _ (types : List TypeValue) (name : List ℕ) (rs : List Resource) (ds : L
   bind_fault p b kind.TooMany input told = told
   bind_fault p b kind.Memory input told = told
 
-  use_fault : (u : Use) (k : GrammarFaultKind) → IsTypeKnown types u → RunsType written (λ p. All (IsOfInputKind (variables p)) (binds_of u)) u → TellsOfUse (drafted ds) types u k → HasBindFault written k u
+  use_fault : (u : Use) (k : GrammarFaultKind) → IsTypeKnown types u → RunsType written (λ p. All (IsOfInputKind (variables p)) (binds_of u)) u → TellsOfUse (drafted ds) types u k → HasFirstBindFault written k u
   use_fault u k some inputs (inl none) = absurd (type_found types u some none)
-  use_fault u k some inputs (inr (type, found, any)) =
+  use_fault u k some inputs (inr (type, found, first)) =
       let t = type_of types name rs ds drawn known lawful u type found in
       let p = any_found (λ (p : Program). IsTrue (is_named u.program p.name) × All (IsOfInputKind (variables p)) (binds_of u)) (programs_in types) inputs in
       let same : p.1 ≡ type.program = one_type (programs_in types) name rs ds known lawful u p.0 p.1 type.program t.0 (record { stands = p.2; named = p.3.0 }) t.1 in
       let kinds : All (IsOfInputKind (variables type.program)) (binds_of u) = subst (λ (q : Program). All (IsOfInputKind (variables q)) (binds_of u)) same p.3.1 in
-      let b = any_found (λ (b : Bind). TellsOfBind (drafted ds) type.ladder.declarations b k) (binds_of u) any in
-      let told : TellsOfBind (drafted ds) (variables type.program) b.1 k = subst (λ (vs : List Declaration). TellsOfBind (drafted ds) vs b.1 k) t.2 b.3 in
-      let at : Any (IsBindFault written k type.program) (binds_of u) = any_at (IsBindFault written k type.program) (binds_of u) b.0 b.1 b.2 (bind_fault type.program b.1 k (all_at (IsOfInputKind (variables type.program)) (binds_of u) kinds b.0 b.1 b.2) told) in
-      any_at (λ (q : Program). IsTrue (is_named u.program q.name) × Any (IsBindFault written k q) (binds_of u)) (programs_in types) t.0 type.program t.1.stands (t.1.named, at)
+      let told : TellsOfBinds (drafted ds) (variables type.program) (binds_of u) k = subst (λ (vs : List Declaration). TellsOfBinds (drafted ds) vs (binds_of u) k) t.2 first in
+      let apart = tree_apart types name rs ds drawn known lawful in
+      let fault : FailsFirst (IsFed written type.program) (IsBindFault written k type.program) (binds_of u) =
+      fails_moved (HasFeed (drafted ds) (variables type.program)) (λ b. TellsOfBind (drafted ds) (variables type.program) b k) (IsFed written type.program) (IsBindFault written k type.program) (binds_of u)
+      (λ b fed. fed_in_tree (programs_in types) name rs ds known apart type.program b fed)
+      (λ n b at of. bind_fault type.program b k (all_at (IsOfInputKind (variables type.program)) (binds_of u) kinds n b at) of) told in
+      any_at (λ (q : Program). IsTrue (is_named u.program q.name) × FailsFirst (IsFed written q) (IsBindFault written k q) (binds_of u)) (programs_in types) t.0 type.program t.1.stands (t.1.named, fault)
 
-  pub fault_in_tree : (k : GrammarFaultKind) → TellsOfUses (drafted ds) types (flat_map uses_of rs) k → Any (HasBindFault written k) (flat_map uses_of rs)
-  fault_in_tree k any =
-      let u = any_found (λ (u : Use). TellsOfUse (drafted ds) types u k) (flat_map uses_of rs) any in
-      any_at (HasBindFault written k) (flat_map uses_of rs) u.0 u.1 u.2
-      (use_fault u.1 k (all_at (IsTypeKnown types) (flat_map uses_of rs) (types_known types name rs lawful) u.0 u.1 u.2)
-      (all_at (λ (v : Use). RunsType written (λ p. All (IsOfInputKind (variables p)) (binds_of v)) v) (flat_map uses_of rs) (inputs_known (programs_in types) name rs lawful) u.0 u.1 u.2) u.3)
+  pub fault_in_tree : (k : GrammarFaultKind) → TellsOfUses (drafted ds) types (flat_map uses_of rs) k → HasFirstSourceFault written k
+  fault_in_tree k first =
+      fails_moved (IsUseResolved (drafted ds) types) (λ u. TellsOfUse (drafted ds) types u k) (AreBindsFed written) (HasFirstBindFault written k) (flat_map uses_of rs)
+      (λ u is. use_in_tree types name rs ds drawn known lawful u is)
+      (λ n u at of. use_fault u k (all_at (IsTypeKnown types) (flat_map uses_of rs) (types_known types name rs lawful) n u at)
+      (all_at (λ (v : Use). RunsType written (λ p. All (IsOfInputKind (variables p)) (binds_of v)) v) (flat_map uses_of rs) (inputs_known (programs_in types) name rs lawful) n u at) of) first

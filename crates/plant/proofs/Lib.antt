@@ -18,3 +18,8 @@ pub mod Members
 pub mod Sourcing
 pub mod SameTrees
 pub mod FaultySources
+pub mod FirstFailing
+pub mod OneWords
+pub mod MovedPlants
+pub mod OnePlant
+pub mod OneTexts

@@ -31,7 +31,7 @@ use Rattle.plant.specs.Steps.Drafts.{drafted, IsProgramOf, IsDraftOf, IsResource
 use Rattle.plant.proofs.Zips.{zip_imply, item_at}
 
 -- two lists of one length whose items go together by place
-zip_from : {A B : Type 0} (R : A → B → Type 0) (xs : List A) (ys : List B) → length xs ≡ length ys → ((k : ℕ) (x : A) (y : B) → slice_get xs k ≡ Some x → slice_get ys k ≡ Some y → R x y) → AllZip R xs ys
+pub zip_from : {A B : Type 0} (R : A → B → Type 0) (xs : List A) (ys : List B) → length xs ≡ length ys → ((k : ℕ) (x : A) (y : B) → slice_get xs k ≡ Some x → slice_get ys k ≡ Some y → R x y) → AllZip R xs ys
 zip_from R [] [] e h = tt
 zip_from R [] (y ∷ ys) e h = absurd (omega arith)
 zip_from R (x ∷ xs) [] e h = absurd (omega arith)

@@ -107,3 +107,13 @@ sought_in_front os m k o program place kind pairs at other late placed = elim (c
     | inr also ↦ let here : m ≡ k = omega arith in let same = placed_alike os m k o program place kind here at placed in absurd (other same.0 same.1)
   ]
 ]
+
+-- one output at most has a program and a place
+pub one_output : (os : List TaskOutput) (j k : ℕ) (a b : TaskOutput) → AllPairs IsEarlierOutput os → slice_get os j ≡ Some a → slice_get os k ≡ Some b → a.program ≡ b.program → a.place ≡ b.place → j ≡ k
+one_output os j k a b pairs at at' program place = elim (cases_lt j k) [
+  | inl lt ↦ absurd (not_itself a b.program b.place (before_at os j k a b pairs lt at at') program place)
+  | inr ge ↦ elim (cases_lt k j) [
+    | inl lt ↦ absurd (not_itself b a.program a.place (before_at os k j b a pairs lt at' at) (sym program) (sym place))
+    | inr le ↦ omega arith
+  ]
+]

@@ -21,13 +21,14 @@ use Rattle.plant_grammar.specs.Names.{is_named}
 use Rattle.plant_grammar.specs.Kinds.{input_kind_of}
 use Rattle.plant_grammar.specs.Lawful.{variables, uses_of, binds_of, all_uses}
 use Rattle.plant_grammar.specs.Parts.{ProgramParts, UseParts, ResourceParts, program_parts, use_parts, resource_parts, IsSameTree}
-use Rattle.program_bodies.specs.Ladders.{HasLadder}
+use Rattle.power_flow.specs.LadderValue.{LadderValue}
+use Rattle.program_bodies.specs.Ladders.{IsLadderOf, HasLadder}
 use Rattle.plant.specs.Faultless.{DeclaresOutput, RunsType, GivesOutput, HasSource, IsFed, AreBindsFed}
 use Rattle.plant.proofs.Members.{mapped_item}
 use Rattle.plant.proofs.Zips.{all_at}
 
 -- lists whose items say the same, place by place
-partner : {A V : Type 0} (f : A → V) (xs ys : List A) → map f xs ≡ map f ys → (k : ℕ) (x : A) → slice_get xs k ≡ Some x → (y : A) × (slice_get ys k ≡ Some y) × (f x ≡ f y)
+pub partner : {A V : Type 0} (f : A → V) (xs ys : List A) → map f xs ≡ map f ys → (k : ℕ) (x : A) → slice_get xs k ≡ Some x → (y : A) × (slice_get ys k ≡ Some y) × (f x ≡ f y)
 partner {A} {V} f xs ys e k x at =
     let there : slice_get (map f ys) k ≡ Some (f x) = ap (λ (vs : List V). slice_get vs k) (sym e) ∙ slice_get-map f xs k ∙ ap (option_map f) at in
     let y = mapped_item f ys k (f x) there in
@@ -96,24 +97,25 @@ module _ (t u : Tree) (same : IsSameTree t u) where
   pub sources_same : All (AreBindsFed t) (all_uses t) → All (AreBindsFed u) (all_uses u)
   sources_same all = all_same use_parts (AreBindsFed t) (AreBindsFed u) (all_uses t) (all_uses u) (uses_same t.resources u.resources same.resources) binds_same all
 
--- the ladder of a program is one of each that says the same
-ladder_same : (p q : Program) → program_parts p ≡ program_parts q → HasLadder p → HasLadder q
-ladder_same p q e (l, is) =
+-- a ladder of a program is one of each that says the same
+pub ladder_kept : (p q : Program) → program_parts p ≡ program_parts q → (l : LadderValue) → IsLadderOf p l → IsLadderOf q l
+ladder_kept p q e l is =
     let body : p.body ≡ q.body = ap (λ (x : ProgramParts). x.body) e in
-    let declared : variables p ≡ variables q = ap (λ (x : ProgramParts). x.declarations) e in (
-      l,
-      record {
-        first_line = is.first_line;
-        graph = is.graph;
-        well_drawn = rw (← body) is.well_drawn;
-        built = rw (← body) is.built;
-        networks_faultless = rw (← body) is.networks_faultless;
-        declared = is.declared ∙ declared;
-        networks_are = is.networks_are;
-        bound = rw (← declared) is.bound;
-        room = is.room;
-      },
-    )
+    let declared : variables p ≡ variables q = ap (λ (x : ProgramParts). x.declarations) e in
+    record {
+      first_line = is.first_line;
+      graph = is.graph;
+      well_drawn = rw (← body) is.well_drawn;
+      built = rw (← body) is.built;
+      networks_faultless = rw (← body) is.networks_faultless;
+      declared = is.declared ∙ declared;
+      networks_are = is.networks_are;
+      bound = rw (← declared) is.bound;
+      room = is.room;
+    }
+
+ladder_same : (p q : Program) → program_parts p ≡ program_parts q → HasLadder p → HasLadder q
+ladder_same p q e (l, is) = (l, ladder_kept p q e l is)
 
 -- programs that say the same as the first ones of a tree have ladders
 pub ladders_same : (ts : List TextValue) (qs : List Program) (n : ℕ) → map program_parts (programs_of ts) ≡ map program_parts (take n qs) → All HasLadder qs → All (λ (t : TextValue). HasLadder t.program) ts

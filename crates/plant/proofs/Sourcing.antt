@@ -429,7 +429,7 @@ module _ (programs : List Program) (name : List ℕ) (rs : List Resource) (ds : 
   origin_of_source lawful (named.Output r i o) kind at = let x = value_of_source lawful r i o kind at in (origin.Output x.0.0 x.0.1, x.1)
 
   -- so it is with a bind that is fed
-  fed_in_tree : AreDraftsApart ds → (p : Program) (b : Bind) → HasFeed (drafted ds) (variables p) b → IsFed tree p b
+  pub fed_in_tree : AreDraftsApart ds → (p : Program) (b : Bind) → HasFeed (drafted ds) (variables p) b → IsFed tree p b
   fed_in_tree apart p b (f, is) = (f.kind, ap (option_and_then (input_kind_at (variables p))) is.input_is ∙ is.input_kind_is, source_of_origin apart b.source f.origin f.kind is.origin_is)
 
   fed_in_drafts : IsTreeLawful tree → (p : Program) (b : Bind) → IsFed tree p b → HasFeed (drafted ds) (variables p) b
@@ -467,7 +467,7 @@ module _ (types : List TypeValue) (name : List ℕ) (rs : List Resource) (ds : L
         (all_at (λ (t : TypeValue). IsLadderOf t.program t.ladder) types drawn at.0 t at.1).declared,
       )
 
-  use_in_tree : (u : Use) → IsUseResolved (drafted ds) types u → AreBindsFed written u
+  pub use_in_tree : (u : Use) → IsUseResolved (drafted ds) types u → AreBindsFed written u
   use_in_tree u is =
       let t = type_of u is.type is.type_is in
       let each : All (HasFeed (drafted ds) (variables is.type.program)) (binds_of u) = subst (λ (vs : List Declaration). All (HasFeed (drafted ds) vs) (binds_of u)) t.2 is.each in

@@ -11,10 +11,11 @@ use Rattle.plant_grammar.specs.Grammar.{TextValue, Tree, program_words, words_of
 use Rattle.plant_grammar.specs.Lawful.{all_uses, IsTreeLawful}
 use Rattle.plant_grammar.specs.WellFormed.{is_plain, IsTreeWellFormed}
 use Rattle.plant_grammar.specs.Parts.{IsSameTree}
+use Rattle.program_bodies.specs.Ladders.{HasLadder}
 use Rattle.program_bodies.specs.BodyFaults.{IsFirstBodyFault}
 use Rattle.plant_text.specs.Spelling.{Spells, BeginsWith}
 use Rattle.plant.specs.Faultless.{AreBindsFed, IsTreeFaultless}
-use Rattle.plant.specs.SourceFaults.{HasSourceFault}
+use Rattle.plant.specs.SourceFaults.{HasFirstSourceFault}
 use Rattle.plant.specs.PlantValue.{PlantValue}
 use Rattle.plant.specs.StandsFor.{IsPlantOf}
 
@@ -40,11 +41,20 @@ IsNotOfGrammar text =
     (tree : Tree) (more : List Token) → length tree.programs ≤ 64 → IsTreeWellFormed tree → list_all is_plain more ≡ true
     → Spells (without_last 13 text) (words_of tree ++ more) → (more ≢ []) × HasFaultlessWords tree
 
--- Trees of at most 64 program types that the text, but for a carriage return at its end, spells say the same.
-abbrev pub SpellsOneTree : List ℕ → Type 0
-SpellsOneTree text =
-    (t u : Tree) → length t.programs ≤ 64 → length u.programs ≤ 64 → Spells (without_last 13 text) (words_of t)
-    → Spells (without_last 13 text) (words_of u) → IsSameTree t u
+-- Trees of at most 64 program types that a text, but for a carriage return at its end, spells say the same.
+abbrev pub OneTree : Type 0
+OneTree =
+    (text : List ℕ) (t u : Tree) → length t.programs ≤ 64 → length u.programs ≤ 64
+    → Spells (without_last 13 text) (words_of t) → Spells (without_last 13 text) (words_of u) → IsSameTree t u
+
+-- A tree whose words are lawful stands for one plant, and so do trees that say the same.
+abbrev pub OnePlantOfTree : Type 0
+OnePlantOfTree =
+    (t u : Tree) (p q : PlantValue) → IsTreeLawful t → IsSameTree t u → IsPlantOf t p → IsPlantOf u q → p ≡ q
+
+-- A text is one plant at most.
+abbrev pub OnePlant : Type 0
+OnePlant = (text : List ℕ) (p q : PlantValue) → IsPlantText text p → IsPlantText text q → p ≡ q
 
 -- The text begins with these programs, their bodies on their first lines, and the fault is that of the first of them
 -- whose body is refused.
@@ -64,8 +74,8 @@ pub record IsWordFaultIn (text : List ℕ) (fault : PlantFault) : Type 0 where
   pub begun : BeginsWith 1 (without_last 13 text) words lines
   pub refused : RefusesPrograms kind words ⊎ RefusesConfiguration kind words
 
--- The text begins with a tree whose words are lawful, and a bind of it has no source, or one of another kind, as the
--- kind of the fault tells.
+-- The text begins with a tree whose words are lawful, and whose bodies have ladders. In the order of the text, the first
+-- bind of it that isn't fed has no source, or one of another kind, as the kind of the fault tells.
 pub record IsSourceFaultIn (text : List ℕ) (fault : PlantFault) : Type 0 where
   pub kind : GrammarFaultKind
   pub kind_is : fault.kind ≡ kind_of_word kind
@@ -73,8 +83,9 @@ pub record IsSourceFaultIn (text : List ℕ) (fault : PlantFault) : Type 0 where
   pub lines : List ℕ
   pub begun : BeginsWith 1 (without_last 13 text) (words_of tree) lines
   pub lawful : IsTreeLawful tree
+  pub drawn : All HasLadder tree.programs
   pub refused : All (AreBindsFed tree) (all_uses tree) → ⊥
-  pub wrong : HasSourceFault tree kind
+  pub wrong : HasFirstSourceFault tree kind
 
 -- a word of the text is at fault, or the source of a bind
 abbrev pub IsNameFaultIn : List ℕ → PlantFault → Type 0

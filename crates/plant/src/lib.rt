@@ -2,6 +2,7 @@
 #![tactic(auto)]
 
 mod find;
+mod laws;
 mod named;
 mod planning;
 mod plant;
@@ -11,6 +12,7 @@ mod sources;
 mod task;
 
 pub use due_list::{Due, PlanFault, TaskRef, one_plan};
+pub use laws::{one_plant, one_plant_of_tree, one_tree};
 pub use planning::plan;
 pub use plant::Plant;
 pub use plant_grammar::kind_of_space;

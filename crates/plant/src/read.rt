@@ -1,14 +1,13 @@
-ghost use Rattle.std.specs.Prelude.{◌≡◌, ◌≢◌, IfOk, OnOk, IfErr};
+ghost use Rattle.std.specs.Prelude.{◌≡◌, ◌≢◌, IfOk, IfErr};
 ghost use Rattle.program_bodies.specs.Faults.{IsPlantFault, IsOfBody, IsOfDeclaredName};
 ghost use Rattle.program_bodies.specs.declared.plant_fault.PlantFaultKind.TheVariants.{Memory, Syntax};
-ghost use Rattle.plant.specs.PlantText.{IsPlantText, SpellsOneTree, IsNoPlant, IsNotOfGrammar, IsBodyFaultIn, IsNameFaultIn};
+ghost use Rattle.plant.specs.PlantText.{IsPlantText, IsNoPlant, IsNotOfGrammar, IsBodyFaultIn, IsNameFaultIn};
 
 use crate::plant::Plant;
 use crate::sources::reading::Reading;
 use crate::sources::resolve::resolve;
 use plant_grammar::{
     Reader, programs_are_the_first, read_tree, words_are_in_place, words_behind_are_in_place,
-    words_have_one_tree,
 };
 use plant_text::read_words;
 use program_bodies::{PlantFault, draw_all};
@@ -18,11 +17,10 @@ impl Plant {
     /// Reads the text of a plant. The first fault met from top to bottom is answered, with its line; a word that the grammar doesn't have there, or that is no word,
     /// is met where it stands, a program's drawing at its END_PROGRAM, and the sources of bound inputs at END_CONFIGURATION.
     ///
-    /// A text without a fault is refused only where there is no memory left.
+    /// A text without a fault is refused only where there is no memory left. By `one_plant` it is one plant.
     #[tactic(auto, using(crate::proofs::WordFaults::memory_no_name, crate::proofs::WordFaults::memory_no_body, crate::proofs::WordFaults::memory_no_syntax))]
     pub fn read(alloc: Global, text: &str) -> Result<Plant, PlantFault>
         ensures ok { IfOk result (λ p. IsPlantText text.now p) }
-        ensures tree { OnOk result (SpellsOneTree text.now) }
         ensures refused { IfErr result (λ fault. fault.kind ≢ Memory → IsNoPlant text.now) }
         ensures syntax { IfErr result (λ fault. fault.kind ≡ Syntax → IsNotOfGrammar text.now) }
         ensures value { IfErr result IsPlantFault }
@@ -31,7 +29,6 @@ impl Plant {
     {
         words_are_in_place();
         words_behind_are_in_place();
-        words_have_one_tree();
         programs_are_the_first();
         let words = read_words(alloc, text)?;
         let mut reader = Reader::new(words.words(), words.last());

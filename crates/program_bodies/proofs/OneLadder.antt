@@ -38,14 +38,14 @@ use Rattle.program_bodies.specs.Ladders.{HasLadder}
 use Rattle.program_bodies.specs.BodyFaults.{drawing_line, picture_in, RefusesBody, IsFirstBodyFault}
 
 -- two drawings differ in their first line's number at most
-record IsSameDrawing (g h : Picture) : Type 0 where
+pub record IsSameDrawing (g h : Picture) : Type 0 where
   pub left : g.left ≡ h.left
   pub marks : g.marks ≡ h.marks
   pub contacts : g.contacts ≡ h.contacts
   pub coils : g.coils ≡ h.coils
   pub boxes : g.boxes ≡ h.boxes
 
-turned : (g h : Picture) → IsSameDrawing g h → IsSameDrawing h g
+pub turned : (g h : Picture) → IsSameDrawing g h → IsSameDrawing h g
 turned g h s = record { left = sym s.left; marks = sym s.marks; contacts = sym s.contacts; coils = sym s.coils; boxes = sym s.boxes }
 
 same_mark : (g h : Picture) → IsSameDrawing g h → (r c : ℕ) → mark_at g r c ≡ mark_at h r c
@@ -53,7 +53,7 @@ unfolding mark_at
 same_mark g h s r c = ap (λ (ms : List (List Mark)). slice_index_or (slice_index_or ([] ∷ ms) r []) c Blank) s.marks
 
 -- the elements
-element_kept : (g h : Picture) → IsSameDrawing g h → (e : Element) → IsElementOf g e → IsElementOf h e
+pub element_kept : (g h : Picture) → IsSameDrawing g h → (e : Element) → IsElementOf g e → IsElementOf h e
 element_kept g h s (Wire at) is = sym (same_mark g h s at.row at.column) ∙ is
 element_kept g h s (Join at) is = sym (same_mark g h s at.row at.column) ∙ is
 element_kept g h s (Upright at) is = sym (same_mark g h s at.row at.column) ∙ is
@@ -62,15 +62,15 @@ element_kept g h s (Coil x) is = rw (← s.coils) is
 element_kept g h s (Box b) is = rw (← s.boxes) is
 
 -- their chains
-chain_kept : (g d : Picture) → IsSameDrawing g d → {e f : Element} → Chained g e f → Chained d e f
+pub chain_kept : (g d : Picture) → IsSameDrawing g d → {e f : Element} → Chained g e f → Chained d e f
 chain_kept g d s here = here
 chain_kept g d s (along {e} {f} {h} one is linked) = along (chain_kept g d s one) (element_kept g d s h is) linked
 
 -- where they meet the left rail
-rail_kept : (g h : Picture) → IsSameDrawing g h → (p : Place) → IsLeftRail g p → IsLeftRail h p
+pub rail_kept : (g h : Picture) → IsSameDrawing g h → (p : Place) → IsLeftRail g p → IsLeftRail h p
 rail_kept g h s p is = record { column = is.column ∙ s.left; mark = sym (same_mark g h s p.row p.column) ∙ is.mark }
 
-meets_kept : (g h : Picture) → IsSameDrawing g h → (e : Element) (row : ℕ) → MeetsAt g e row → MeetsAt h e row
+pub meets_kept : (g h : Picture) → IsSameDrawing g h → (e : Element) (row : ℕ) → MeetsAt g e row → MeetsAt h e row
 meets_kept g h s e row (rail, f, chain, takes) = (
   subst (λ (n : ℕ). IsLeftRail h (place row n)) s.left (rail_kept g h s (place row g.left) rail),
   f,
@@ -179,7 +179,7 @@ module _ (g h : Picture) (same : IsSameDrawing g h) (one other : GraphValue) (bu
       network_of rails (es ∷ nets) (suc k) d at = network_of rails nets k d at
 
 -- two readings of one layout
-same_layout : (m n : ℕ) (p : Layout) → IsSameDrawing (picture_of m p) (picture_of n p)
+pub same_layout : (m n : ℕ) (p : Layout) → IsSameDrawing (picture_of m p) (picture_of n p)
 unfolding picture_of
 same_layout m n p = record { left = refl; marks = refl; contacts = refl; coils = refl; boxes = refl }
 

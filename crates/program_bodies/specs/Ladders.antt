@@ -29,3 +29,7 @@ pub record IsLadderOf (p : Program) (l : LadderValue) : Type 0 where
 -- the body of the program has a ladder
 abbrev pub HasLadder : Program → Type 0
 HasLadder p = (ladder : LadderValue) × IsLadderOf p ladder
+
+-- a program has one ladder
+abbrev pub OneLadder : Type 0
+OneLadder = (p : Program) (l m : LadderValue) → IsLadderOf p l → IsLadderOf p m → l ≡ m

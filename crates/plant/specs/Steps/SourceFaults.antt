@@ -1,5 +1,5 @@
 -- What is found wrong with a source while it is resolved.
-use Rattle.std.specs.Prelude.{◌≡◌, ◌≢◌, ◌⊎◌, List, Some, None, Any}
+use Rattle.std.specs.Prelude.{◌≡◌, ◌≢◌, ◌⊎◌, List, Some, None}
 use Rattle.std.specs.List.{find}
 use Rattle.declared_names.specs.declared.declarations.Kind.{Kind}
 use Rattle.declared_names.specs.declared.declarations.Declaration.{Declaration}
@@ -13,7 +13,8 @@ use Rattle.plant_grammar.specs.Lawful.{binds_of}
 use Rattle.program_bodies.specs.ProgramTypes.{TypeValue}
 use Rattle.plant.specs.declared.sources.feed.Origin.{Origin}
 use Rattle.plant.specs.PlantValue.{PlantValue}
-use Rattle.plant.specs.Steps.Drafts.{IsOriginOf, HasNoOrigin}
+use Rattle.plant.specs.SourceFaults.{FailsFirst}
+use Rattle.plant.specs.Steps.Drafts.{IsOriginOf, HasNoOrigin, HasFeed, IsUseResolved}
 
 -- the name is no input's, or the source gives no values
 abbrev pub MissesSource : PlantValue → List Declaration → Bind → Type 0
@@ -35,9 +36,9 @@ TellsOfBind plant ds b kind.InputBoundTwice = ⊥
 TellsOfBind plant ds b kind.TooMany = ⊥
 TellsOfBind plant ds b kind.Memory = ⊥
 
--- what it tells of one of these binds
+-- what it tells of the first of these binds that has no feed
 abbrev pub TellsOfBinds : PlantValue → List Declaration → List Bind → GrammarFaultKind → Type 0
-TellsOfBinds plant ds bs k = Any (λ b. TellsOfBind plant ds b k) bs
+TellsOfBinds plant ds bs k = FailsFirst (HasFeed plant ds) (λ b. TellsOfBind plant ds b k) bs
 
 -- what it tells of an instance: its type is none of these, or it is a bind's
 abbrev pub TellsOfUse : PlantValue → List TypeValue → Use → GrammarFaultKind → Type 0
@@ -46,6 +47,6 @@ TellsOfUse plant types u k =
     ⊎ ((type : TypeValue) × (find (λ (t : TypeValue). is_named u.program t.program.name) types ≡ Some type)
     × TellsOfBinds plant type.ladder.declarations (binds_of u) k)
 
--- what it tells of one of these instances
+-- what it tells of the first of these instances whose binds aren't resolved
 abbrev pub TellsOfUses : PlantValue → List TypeValue → List Use → GrammarFaultKind → Type 0
-TellsOfUses plant types us k = Any (λ u. TellsOfUse plant types u k) us
+TellsOfUses plant types us k = FailsFirst (IsUseResolved plant types) (λ u. TellsOfUse plant types u k) us

@@ -7,7 +7,7 @@ ghost use Rattle.program_bodies.specs.Ladders.{IsLadderOf};
 ghost use Rattle.plant.specs.Steps.Reading.{tree_of};
 ghost use Rattle.plant.specs.StandsFor.{IsPlantOf};
 ghost use Rattle.plant.specs.Faultless.{AreBindsFed};
-ghost use Rattle.plant.specs.SourceFaults.{HasSourceFault};
+ghost use Rattle.plant.specs.SourceFaults.{HasFirstSourceFault};
 
 use crate::plant::Plant;
 use crate::sources::draft::draft_resources;
@@ -24,7 +24,7 @@ pub fn resolve(alloc: Global, reading: &Reading) -> Result<Plant, GrammarFault>
     ensures ok { IfOk result (λ p. (name : List ℕ) → IsPlantOf (tree_of name reading.now) p) }
     ensures sources { OnOk result ((name : List ℕ) → All (AreBindsFed (tree_of name reading.now)) (all_uses (tree_of name reading.now))) }
     ensures refused { IfErr result (λ e. e.kind ≢ Memory → (name : List ℕ) → All (AreBindsFed (tree_of name reading.now)) (all_uses (tree_of name reading.now)) → ⊥) }
-    ensures why { IfErr result (λ e. e.kind ≢ Memory → (name : List ℕ) → HasSourceFault (tree_of name reading.now) e.kind) }
+    ensures why { IfErr result (λ e. e.kind ≢ Memory → (name : List ℕ) → HasFirstSourceFault (tree_of name reading.now) e.kind) }
     ensures tells { IfErr result (λ e. TellsOfSource e.kind) }
     ensures value { IfErr result IsGrammarFault }
 {

@@ -15,7 +15,7 @@ use Rattle.program_bodies.specs.Faults.{IsPlantFault, IsOfBody, IsOfDeclaredName
 use Rattle.program_bodies.specs.Ladders.{IsLadderOf}
 use Rattle.program_bodies.specs.ProgramTypes.{TypeValue}
 use Rattle.plant.specs.Faultless.{AreBindsFed, IsTreeFaultless}
-use Rattle.plant.specs.SourceFaults.{HasSourceFault}
+use Rattle.plant.specs.SourceFaults.{HasFirstSourceFault}
 use Rattle.program_bodies.specs.declared.plant_fault.PlantFaultKind.TheVariants.{Memory, Syntax}
 use Rattle.plant_grammar.specs.Steps.Reading.{programs_of}
 use Rattle.plant.specs.PlantText.{IsNoPlant, HasFaultlessWords, IsNotOfGrammar, IsBodyFaultIn, IsNameFaultIn}
@@ -143,8 +143,9 @@ returns-in_err-plant-clause-name c =
       lines = begun.0;
       begun = begun.1;
       lawful = read.lawful;
+      drawn = drawn_have_ladders texts c.in_ok-types.types.items c.in_ok-types.ensures.ok;
       refused = λ fed. c.in_err-plant.ensures.refused (λ memory. subst names.IsOfName memory (of_name word.kind of)) read.name (subst (λ (t : Tree). All (AreBindsFed t) (all_uses t)) (sym same) fed);
-      wrong = subst (λ (t : Tree). HasSourceFault t word.kind) same (c.in_err-plant.ensures.why (λ memory. subst names.IsOfName memory (of_name word.kind of)) read.name);
+      wrong = subst (λ (t : Tree). HasFirstSourceFault t word.kind) same (c.in_err-plant.ensures.why (λ memory. subst names.IsOfName memory (of_name word.kind of)) read.name);
     }))
 
 pub returns-in_err-end-clause-value : goal.returns-in_err-end-clause-value
@@ -212,12 +213,6 @@ returns-in_err-end-clause-refused c =
     (λ other tree spelled faultless.
     let start : c.new-reader.result.words ≡ words_of tree ++ [] = sym words ∙ c.in_ok-words.ensures.every (words_of tree) (c.words_are_in_place.ensures tree faultless.lawful.few_types) spelled ∙ sym (append-nil (words_of tree)) in
     c.in_err-end.ensures.err.1 (c.in_ok-resources.ensures.only tree [] start).0)
-
-pub returns-clause-tree : goal.returns-clause-tree
-returns-clause-tree c = λ t u few_t few_u spelled_t spelled_u.
-    let every = c.in_ok-words.ensures.every in
-    let same : words_of t ≡ words_of u = sym (every (words_of t) (c.words_are_in_place.ensures t few_t) spelled_t) ∙ every (words_of u) (c.words_are_in_place.ensures u few_u) spelled_u in
-    (c.words_have_one_tree.ensures t u [] [] (ap (λ (ws : List Token). ws ++ []) same)).1
 
 pub returns-in_err-types-clause-syntax : goal.returns-in_err-types-clause-syntax
 returns-in_err-types-clause-syntax c =

@@ -1,3 +1,5 @@
+use Rattle.plant.specs.Steps.SourceFaults.{TellsOfBind, TellsOfBinds}
+use Rattle.plant.proofs.FirstFailing.{first_fails}
 use Rattle.plant.proofs.Members.{one_of}
 use Rattle.plant.specs.Steps.Drafts.{AreDraftsApart}
 use Rattle.lists.proofs.Results.{kept_fault}
@@ -21,3 +23,11 @@ returns-in_err-feed-clause-refused c =
     let Fed = HasFeed (drafted c.args.drafts.now) c.args.declarations.now in
     kept_fault c.in_err-feed.field-0.0 (λ _. AreDraftsApart c.args.drafts.now → All Fed c.args.binds.now → ⊥) c.from_residual.result c.from_residual.ensures.1
     (λ apart each. c.in_err-feed.ensures.refused apart (one_of Fed c.args.binds.now c.loop-bind.bind-index c.bind-item.result c.loop-bind-test.true c.bind-item.is each))
+
+pub returns-in_err-feed-clause-why : goal.returns-in_err-feed-clause-why
+returns-in_err-feed-clause-why c =
+    let plant = drafted c.args.drafts.now in
+    let vs = c.args.declarations.now in
+    let fault = c.in_err-feed.field-0.0 in
+    kept_fault fault (λ e. AreDraftsApart c.args.drafts.now → TellsOfBinds plant vs c.args.binds.now e.kind) c.from_residual.result c.from_residual.ensures.1
+    (λ apart. first_fails (HasFeed plant vs) (λ b. TellsOfBind plant vs b fault.kind) c.args.binds.now c.loop-bind.bind-index c.bind-item.result c.loop-bind-test.true c.bind-item.is c.loop-bind.invariant (c.in_err-feed.ensures.why apart))

@@ -1,8 +1,6 @@
 use Rattle.std.proofs.Common.{[], ◌∷◌, refl}
-use Rattle.std.proofs.lemmas.List.Elements.{All-head}
+use Rattle.std.proofs.lemmas.List.Elements.{All-nil, All-head}
 use Rattle.std.proofs.lemmas.Result.{on_err_weaker, IfErr-weaker}
-use Rattle.lists.proofs.Members.{any_at}
-use Rattle.plant_grammar.specs.declared.grammar.tree.Use.{Use}
 use Rattle.plant.specs.Steps.Drafts.{drafted, IsUseResolved, AreDraftsApart}
 use Rattle.plant.specs.Steps.SourceFaults.{TellsOfUse, TellsOfUses}
 use Rattle.plant.proofs.sources.feeds.check_item.Goals as goal
@@ -16,4 +14,4 @@ returns-in-Use-clause-why c =
     let plant = drafted c.args.drafts.now in
     rw c.in-Use.is (IfErr-weaker c.check_use.result (λ e. AreDraftsApart c.args.drafts.now → TellsOfUse plant c.args.types.now c.in-Use.run' e.kind)
     (λ e. AreDraftsApart c.args.drafts.now → TellsOfUses plant c.args.types.now (c.in-Use.run' ∷ []) e.kind)
-    (λ e told apart. any_at (λ (u : Use). TellsOfUse plant c.args.types.now u e.kind) (c.in-Use.run' ∷ []) 0 c.in-Use.run' refl (told apart)) c.check_use.ensures.why)
+    (λ e told apart. record { before = []; first = c.in-Use.run'; behind = []; parts = refl; pass = All-nil (IsUseResolved plant c.args.types.now); fails = told apart }) c.check_use.ensures.why)

@@ -1,6 +1,7 @@
 use Rattle.plant.specs.Steps.SourceFaults.{TellsOfUse, TellsOfUses}
 use Rattle.plant_grammar.specs.declared.grammar.tree.Use.{Use}
-use Rattle.plant.proofs.Members.{part_of, part_some}
+use Rattle.plant.proofs.Members.{part_of}
+use Rattle.plant.proofs.FirstFailing.{part_fails}
 use Rattle.plant_grammar.specs.Lawful.{uses_of}
 use Rattle.plant.specs.Steps.Drafts.{AreDraftsApart}
 use Rattle.lists.proofs.Results.{kept_fault}
@@ -34,4 +35,5 @@ returns-in_err-check_item-clause-why c =
     let plant = drafted c.args.drafts.now in
     let fault = c.in_err-check_item.field-0.0 in
     kept_fault fault (λ e. AreDraftsApart c.args.drafts.now → TellsOfUses plant c.args.types.now (uses_of c.args.resource.now) e.kind) c.from_residual.result c.from_residual.ensures.1
-    (λ apart. rw (← c.deref-item-items.ensures.value) (part_some (λ (u : Use). TellsOfUse plant c.args.types.now u fault.kind) use_of c.deref-item-items.result.now c.loop-item.item-index c.item-item.result c.loop-item-test.true c.item-item.is (c.in_err-check_item.ensures.why apart)))
+    (λ apart. rw (← c.deref-item-items.ensures.value) (part_fails (IsUseResolved plant c.args.types.now) (λ (u : Use). TellsOfUse plant c.args.types.now u fault.kind) use_of c.deref-item-items.result.now c.loop-item.item-index c.item-item.result c.loop-item-test.true c.item-item.is
+    (rw c.deref-item-items.ensures.value c.loop-item.invariant) (c.in_err-check_item.ensures.why apart)))

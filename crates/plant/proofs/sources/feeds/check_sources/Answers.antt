@@ -1,6 +1,7 @@
 use Rattle.plant.specs.Steps.SourceFaults.{TellsOfUse, TellsOfUses}
 use Rattle.plant_grammar.specs.declared.grammar.tree.Use.{Use}
-use Rattle.plant.proofs.Members.{part_of, part_some}
+use Rattle.plant.proofs.Members.{part_of}
+use Rattle.plant.proofs.FirstFailing.{part_fails}
 use Rattle.plant.specs.Steps.Drafts.{AreDraftsApart}
 use Rattle.lists.proofs.Results.{kept_fault}
 use Rattle.std.proofs.Common.{subst}
@@ -32,4 +33,4 @@ returns-in_err-check_resource-clause-why c =
     let plant = drafted c.args.drafts.now in
     let fault = c.in_err-check_resource.field-0.0 in
     kept_fault fault (λ e. AreDraftsApart c.args.drafts.now → TellsOfUses plant c.args.types.now (flat_map uses_of c.args.resources.now) e.kind) c.from_residual.result c.from_residual.ensures.1
-    (λ apart. part_some (λ (u : Use). TellsOfUse plant c.args.types.now u fault.kind) uses_of c.args.resources.now c.loop-resource.resource-index c.resource-item.result c.loop-resource-test.true c.resource-item.is (c.in_err-check_resource.ensures.why apart))
+    (λ apart. part_fails (IsUseResolved plant c.args.types.now) (λ (u : Use). TellsOfUse plant c.args.types.now u fault.kind) uses_of c.args.resources.now c.loop-resource.resource-index c.resource-item.result c.loop-resource-test.true c.resource-item.is c.loop-resource.invariant (c.in_err-check_resource.ensures.why apart))
