@@ -17,8 +17,7 @@ use Rattle.plant_grammar.specs.declared.grammar.tree.NameList.{NameList}
 use Rattle.plant_grammar.specs.declared.grammar.tree.VarBlock.{VarBlock}
 use Rattle.plant_grammar.specs.declared.grammar.tree.Program.{Program}
 use Rattle.plant_grammar.specs.Grammar.{key_word, mark_word, section_words, type_word, name_words, list_words, lists_words, block_words, program_words, TextValue}
-use Rattle.plant_text.specs.Spelling.{BeginsWith}
-use Rattle.plant_text.specs.Lines.{WordValue, body_line, body_lines, IsBegunBy}
+use Rattle.plant_text.specs.Lines.{WordValue, body_line, body_lines, BeginsWithWords, IsBegunBy}
 use Rattle.plant_grammar.specs.Steps.Reading.{programs_of, lines_of}
 use Rattle.plant.proofs.KnownWords.{programs_known}
 
@@ -97,7 +96,7 @@ lines_count [] = refl
 lines_count (w ∷ ws) = ap length (flat_map-cons body_line w ws) ∙ omega (arith, length-append (body_line w) (body_lines ws), line_count w.token w.line, lines_count ws)
 
 -- fronts of one length of one list are the same
-same_fronts : {A : Type 0} (xs ys zs us : List A) → xs ++ ys ≡ zs ++ us → length xs ≡ length zs → xs ≡ zs
+pub same_fronts : {A : Type 0} (xs ys zs us : List A) → xs ++ ys ≡ zs ++ us → length xs ≡ length zs → xs ≡ zs
 same_fronts [] ys [] us e len = refl
 same_fronts [] ys (z ∷ zs) us e len = absurd (omega (arith, len))
 same_fronts (x ∷ xs) ys [] us e len = absurd (omega (arith, len))
@@ -116,7 +115,7 @@ map_take f (x ∷ xs) (suc n) = ap (λ ys. f x ∷ ys) (map_take f xs n)
 -- a text that begins with its words, as far as they are words, begins with the programs that they begin with
 pub begun_by_programs : (text : List ℕ) (ws : List WordValue) (texts : List TextValue) (rest : List Token) (more : List ℕ) → IsBegunBy text ws
     → map (λ (w : WordValue). w.token) ws ≡ flat_map program_words (programs_of texts) ++ rest → body_lines ws ≡ lines_of texts ++ more
-    → BeginsWith 1 text (flat_map program_words (programs_of texts)) (lines_of texts)
+    → (front : List WordValue) × BeginsWithWords text front × (map (λ (w : WordValue). w.token) front ≡ flat_map program_words (programs_of texts)) × (body_lines front ≡ lines_of texts)
 begun_by_programs text ws texts rest more begun words lines =
     let all = flat_map program_words (programs_of texts) in
     let front = take (length all) ws in
@@ -128,5 +127,4 @@ begun_by_programs text ws texts rest more begun words lines =
     lines_count front ∙ ap count_bodies tokens ∙ programs_count (programs_of texts) ∙ length-map texts (λ (t : TextValue). t.program) ∙ sym (length-map texts (λ (t : TextValue). t.first_line)) in
     let same : body_lines front ≡ lines_of texts = same_fronts (body_lines front) (body_lines back) (lines_of texts) more both many in
     let known : All (λ t. t ≢ token.Unknown) (map (λ (w : WordValue). w.token) front) = subst (λ (ts : List Token). All (λ t. t ≢ token.Unknown) ts) (sym tokens) (programs_known (programs_of texts)) in
-    let found = begun front back parts known in
-    subst (λ (ts : List Token). BeginsWith 1 text ts (lines_of texts)) tokens (subst (λ (ls : List ℕ). BeginsWith 1 text (map (λ (w : WordValue). w.token) front) ls) same found)
+    (front, begun front back parts known, tokens, same)

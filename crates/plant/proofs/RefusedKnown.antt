@@ -1,7 +1,7 @@
 -- The words up to a name that is refused are words.
-use Rattle.std.proofs.Common.{◌≡◌, ◌⊎◌, inl, inr, ℕ, List, [], ◌∷◌, ◌++◌, map, take, drop, length, sym, ap, subst, ◌∙◌}
+use Rattle.std.proofs.Common.{refl, append_assoc, arith, ◌≡◌, ◌⊎◌, inl, inr, ℕ, List, [], ◌∷◌, ◌++◌, map, take, drop, length, sym, ap, subst, ◌∙◌}
 use Rattle.std.specs.List.{flat_map}
-use Rattle.std.proofs.lemmas.List.{take-append-drop}
+use Rattle.std.proofs.lemmas.List.{take-append-drop, length-append, length-map, map-append}
 use Rattle.std.proofs.Math.Seq.{take-append_seam}
 use Rattle.declared_names.specs.declared.declarations.Declaration.{Declaration}
 use Rattle.plant_grammar.specs.declared.grammar_fault.GrammarFaultKind.{GrammarFaultKind}
@@ -18,12 +18,12 @@ use Rattle.plant_grammar.specs.declared.grammar.tree.Item.{Item}
 use Rattle.plant_grammar.specs.declared.grammar.tree.Resource.{Resource}
 use Rattle.plant_grammar.specs.Lawful.{variables}
 use Rattle.plant_grammar.specs.Grammar.{key_word, mark_word, section_words, name_words, bind_words, list_words, block_words, program_words, item_words, resource_words}
-use Rattle.plant_text.specs.Spelling.{BeginsWith}
 use Rattle.plant_grammar.specs.NameFaults.{IsRefused, IsMisused, IsAfter, IsAfterAll, IsAfterName, IsAfterWhole, name_and_comma, bind_and_comma, RefusesVariable, RefusesType, RefusesList, RefusesBlock, RefusesBlocks, RefusesProgram, RefusesPrograms, RefusesTask, RefusesAddress, RefusesBind, RefusesTyped, RefusesBinds, RefusesInstance, RefusesItems, RefusesResource, RefusesResources, RefusesConfiguration}
-use Rattle.plant_grammar.specs.Steps.Declaring.{BeginWith, RefusesPlantWords}
-use Rattle.plant_text.specs.Lines.{WordValue, body_lines, IsBegunBy}
+use Rattle.plant_grammar.specs.Steps.Declaring.{IsLineBefore, BeginWith, RefusesPlantWords}
+use Rattle.plant_grammar.specs.Steps.Lines.{HasLinesOf, all_left}
+use Rattle.plant_text.specs.Lines.{WordValue, BeginsWithWords, IsBegunBy}
 use Rattle.plant.proofs.KnownWords.{IsKnown, AreKnown, nothing, key_is, mark_is, name_is, type_is, names_are, behind, both, all_of, section_is, list_is, block_is, program_is, bind_is, item_is, resource_is}
-use Rattle.plant.proofs.BodyCounts.{map_take}
+use Rattle.plant.proofs.BodyCounts.{map_take, same_fronts}
 
 refused_known : (k : GrammarFaultKind) (Taken : List ℕ → Type 0) (full : Type 0) (words : List Token) → IsRefused k Taken full words → AreKnown words
 refused_known k Taken full words h = subst AreKnown (sym h.alone) (behind (token.Name h.name) [] (name_is h.name) nothing)
@@ -132,15 +132,59 @@ plant_known k words (inr h) =
 
 -- a text that begins with its words, as far as they are words, begins with a front of them
 pub begun_by_front : (text : List ℕ) (ws : List WordValue) (words known rest : List Token) → IsBegunBy text ws → map (λ (w : WordValue). w.token) ws ≡ words → words ≡ known ++ rest → AreKnown known
-    → (lines : List ℕ) × BeginsWith 1 text known lines
+    → (front : List WordValue) × BeginsWithWords text front × (map (λ (w : WordValue). w.token) front ≡ known)
 begun_by_front text ws words known rest begun is parted are =
     let front = take (length known) ws in
     let back = drop (length known) ws in
     let parts : ws ≡ front ++ back = sym (take-append-drop (length known) ws) in
     let tokens : map (λ (w : WordValue). w.token) front ≡ known = map_take (λ (w : WordValue). w.token) ws (length known) ∙ ap (λ x. take (length known) x) (is ∙ parted) ∙ take-append_seam known rest in
-    (body_lines front, subst (λ (ts : List Token). BeginsWith 1 text ts (body_lines front)) tokens (begun front back parts (subst AreKnown (sym tokens) are)))
+    (front, begun front back parts (subst AreKnown (sym tokens) are), tokens)
+
+-- where the line of a word stands, there stands the word
+word_of_line : (ws : List WordValue) (before : List ℕ) (line : ℕ) (behind : List ℕ) → map (λ (w : WordValue). w.line) ws ≡ before ++ line ∷ behind
+    → (front : List WordValue) × (word : WordValue) × (back : List WordValue) × (ws ≡ front ++ word ∷ back) × (line ≡ word.line) × (length back ≡ length behind)
+word_of_line [] [] line behind e = absurd cc
+word_of_line [] (l ∷ before) line behind e = absurd cc
+word_of_line (w ∷ ws) [] line behind e =
+    let first : line ≡ w.line = cc in
+    let more : map (λ (w : WordValue). w.line) ws ≡ behind = cc in
+    ([], w, ws, refl, first, sym (length-map ws (λ (w : WordValue). w.line)) ∙ ap length more)
+word_of_line (w ∷ ws) (l ∷ before) line behind e =
+    let more : map (λ (w : WordValue). w.line) ws ≡ before ++ line ∷ behind = cc in
+    let found = word_of_line ws before line behind more in
+    (w ∷ found.0, found.1, found.2, ap (λ us. w ∷ us) found.3, found.4, found.5)
+
+-- The text begins with words up to one that is refused, which stands on this line.
+pub record BeginsUpTo (text : List ℕ) (k : GrammarFaultKind) (line : ℕ) : Type 0 where
+  pub before : List WordValue
+  pub word : WordValue
+  pub begun : BeginsWithWords text (before ++ word ∷ [])
+  pub refused : RefusesPlantWords k (map (λ (w : WordValue). w.token) (before ++ word ∷ []))
+  pub line_is : line ≡ word.line
 
 -- so it does with those up to a word refused
-pub begun_by_refused : (text : List ℕ) (ws : List WordValue) (k : GrammarFaultKind) (words : List Token) → IsBegunBy text ws → map (λ (w : WordValue). w.token) ws ≡ words → (b : BeginWith (RefusesPlantWords k) words)
-    → (lines : List ℕ) × BeginsWith 1 text b.front lines
-begun_by_refused text ws k words begun is b = begun_by_front text ws words b.front b.rest begun is b.parts (plant_known k b.front b.holds)
+pub begun_by_refused : (text : List ℕ) (ws : List WordValue) (k : GrammarFaultKind) (line : ℕ) (words : List Token) → IsBegunBy text ws → map (λ (w : WordValue). w.token) ws ≡ words
+    → BeginWith (IsLineBefore (map (λ (w : WordValue). w.line) ws) line) (RefusesPlantWords k) words → BeginsUpTo text k line
+begun_by_refused text ws k line words begun is b =
+    let token_of : WordValue → Token = λ (w : WordValue). w.token in
+    let found = word_of_line ws b.behind.before line b.behind.behind b.behind.parts in
+    let front : List WordValue = found.0 ++ found.1 ∷ [] in
+    let parts : ws ≡ front ++ found.2 = found.3 ∙ sym (append_assoc found.0 (found.1 ∷ []) found.2) in
+    let both : map token_of front ++ map token_of found.2 ≡ b.front ++ b.rest = sym (map-append token_of front found.2) ∙ ap (map token_of) (sym parts) ∙ is ∙ b.parts in
+    let one = length-append (map token_of front) (map token_of found.2) in
+    let two = length-append b.front b.rest in
+    let back : length (map token_of found.2) ≡ length b.rest = length-map found.2 token_of ∙ found.5 ∙ b.behind.each in
+    let whole : length (map token_of front ++ map token_of found.2) ≡ length (b.front ++ b.rest) = ap length both in
+    let many : length (map token_of front) ≡ length b.front = omega (arith, one, two, back, whole) in
+    let tokens : map token_of front ≡ b.front = same_fronts (map token_of front) (map token_of found.2) b.front b.rest both many in
+    record {
+      before = found.0;
+      word = found.1;
+      begun = begun front found.2 parts (subst AreKnown (sym tokens) (plant_known k b.front b.holds));
+      refused = subst (RefusesPlantWords k) (sym tokens) b.holds;
+      line_is = found.4;
+    }
+
+-- all words that are left have their lines
+pub own_lines : (ws : List WordValue) (last : ℕ) → HasLinesOf (map (λ (w : WordValue). w.line) ws) (all_left ws last)
+own_lines ws last = record { front = []; parts = refl; each = length-map ws (λ (w : WordValue). w.line) ∙ sym (length-map ws (λ (w : WordValue). w.token)) }

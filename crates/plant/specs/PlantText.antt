@@ -1,5 +1,5 @@
 -- The plant that a text is.
-use Rattle.std.specs.Prelude.{◌≡◌, ◌≢◌, ◌⊎◌, ◌≤◌, ◌++◌, ℕ, List, [], true, length, map, All}
+use Rattle.std.specs.Prelude.{◌≡◌, ◌≢◌, ◌⊎◌, ◌≤◌, ◌++◌, ℕ, List, [], ◌∷◌, true, length, map, All}
 use Rattle.std.specs.List.{flat_map, list_all}
 use Rattle.words.specs.Lines.{without_last}
 use Rattle.plant_text.specs.declared.token.Token.{Token}
@@ -13,7 +13,8 @@ use Rattle.plant_grammar.specs.WellFormed.{is_plain, IsTreeWellFormed}
 use Rattle.plant_grammar.specs.Parts.{IsSameTree}
 use Rattle.program_bodies.specs.Ladders.{HasLadder}
 use Rattle.program_bodies.specs.BodyFaults.{IsFirstBodyFault}
-use Rattle.plant_text.specs.Spelling.{Spells, BeginsWith}
+use Rattle.plant_text.specs.Spelling.{Spells}
+use Rattle.plant_text.specs.Lines.{WordValue, body_lines, BeginsWithWords}
 use Rattle.plant.specs.Faultless.{AreBindsFed, IsTreeFaultless}
 use Rattle.plant.specs.SourceFaults.{HasFirstSourceFault}
 use Rattle.plant.specs.PlantValue.{PlantValue}
@@ -56,23 +57,31 @@ OnePlantOfTree =
 abbrev pub OnePlant : Type 0
 OnePlant = (text : List ℕ) (p q : PlantValue) → IsPlantText text p → IsPlantText text q → p ≡ q
 
--- The text begins with these programs, their bodies on their first lines, and the fault is that of the first of them
--- whose body is refused.
+-- The text begins with the words of these programs, each on its line and their bodies on their first lines, and the
+-- fault is that of the first of them whose body is refused.
 pub record IsBodyFaultIn (text : List ℕ) (fault : PlantFault) : Type 0 where
   pub texts : List TextValue
-  pub begun : BeginsWith 1 (without_last 13 text)
-      (flat_map program_words (map (λ (t : TextValue). t.program) texts)) (map (λ (t : TextValue). t.first_line) texts)
+  pub words : List WordValue
+  pub begun : BeginsWithWords (without_last 13 text) words
+  pub written : map (λ (w : WordValue). w.token) words
+      ≡ flat_map program_words (map (λ (t : TextValue). t.program) texts)
+  pub lines : body_lines words ≡ map (λ (t : TextValue). t.first_line) texts
   pub first : IsFirstBodyFault texts fault
 
--- The text begins with these words, of which the last is at fault: what stands before it is as the grammar has it, and
--- the kind tells what is wrong with it.
+-- the words of a plant's text up to the last of them, which is refused
+abbrev pub IsLastRefused : GrammarFaultKind → List Token → Type 0
+IsLastRefused kind words = RefusesPrograms kind words ⊎ RefusesConfiguration kind words
+
+-- The text begins with these words, each on its line, of which the last is at fault: what stands before it is as the
+-- grammar has it, and the kind tells what is wrong with it. The fault is on the line of that word.
 pub record IsWordFaultIn (text : List ℕ) (fault : PlantFault) : Type 0 where
   pub kind : GrammarFaultKind
   pub kind_is : fault.kind ≡ kind_of_word kind
-  pub words : List Token
-  pub lines : List ℕ
-  pub begun : BeginsWith 1 (without_last 13 text) words lines
-  pub refused : RefusesPrograms kind words ⊎ RefusesConfiguration kind words
+  pub before : List WordValue
+  pub word : WordValue
+  pub begun : BeginsWithWords (without_last 13 text) (before ++ word ∷ [])
+  pub refused : IsLastRefused kind (map (λ (w : WordValue). w.token) (before ++ word ∷ []))
+  pub line_is : fault.line ≡ word.line
 
 -- The text begins with a tree whose words are lawful, and whose bodies have ladders. In the order of the text, the first
 -- bind of it that isn't fed has no source, or one of another kind, as the kind of the fault tells.
@@ -80,8 +89,9 @@ pub record IsSourceFaultIn (text : List ℕ) (fault : PlantFault) : Type 0 where
   pub kind : GrammarFaultKind
   pub kind_is : fault.kind ≡ kind_of_word kind
   pub tree : Tree
-  pub lines : List ℕ
-  pub begun : BeginsWith 1 (without_last 13 text) (words_of tree) lines
+  pub words : List WordValue
+  pub begun : BeginsWithWords (without_last 13 text) words
+  pub written : map (λ (w : WordValue). w.token) words ≡ words_of tree
   pub lawful : IsTreeLawful tree
   pub drawn : All HasLadder tree.programs
   pub refused : All (AreBindsFed tree) (all_uses tree) → ⊥

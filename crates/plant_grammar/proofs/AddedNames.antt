@@ -1,18 +1,18 @@
 -- A name of a list that is refused while the list is declared.
-use Rattle.std.proofs.Common.{◌≡◌, ◌⊎◌, inl, inr, ℕ, zero, suc, ◌+◌, ◌<◌, ◌≤◌, ◌||◌, Bool, true, false, IsTrue, List, [], ◌∷◌, ◌++◌, length, map, take, drop, get_or, refl, sym, ap, subst, ◌∙◌, arith}
+use Rattle.std.proofs.Common.{append_assoc, ◌≡◌, ◌⊎◌, inl, inr, ℕ, zero, suc, ◌+◌, ◌<◌, ◌||◌, Bool, true, false, IsTrue, List, [], ◌∷◌, ◌++◌, length, map, take, drop, get_or, refl, sym, ap, subst, ◌∙◌, arith}
 use Rattle.std.specs.Prelude.{Any}
 use Rattle.std.specs.List.{list_any}
-use Rattle.std.proofs.lemmas.List.{length-append, length-map}
+use Rattle.std.proofs.lemmas.List.{append-nil, length-append, length-map}
 use Rattle.std.proofs.lemmas.List.Folds.{Any-from_list_any, list_any-from_Any, list_any-append}
 use Rattle.declared_names.specs.declared.declarations.Declaration.{Declaration}
 use Rattle.declared_names.specs.declared.declarations.Declared.{Declared}
 use Rattle.declared_names.specs.Names.{IsDeclared}
-use Rattle.plant_grammar.specs.declared.grammar_fault.GrammarFaultKind.{GrammarFaultKind}
 use Rattle.plant_grammar.specs.Names.{is_named}
-use Rattle.plant_grammar.specs.NameFaults.{TellsOfName, IsNameTaken}
-use Rattle.plant_grammar.proofs.Apart.{list_any-map, named_back, any_with}
+use Rattle.plant_grammar.specs.NameFaults.{IsNameTaken}
+use Rattle.plant_grammar.specs.Names.{AreNamesApart}
+use Rattle.plant_grammar.specs.Steps.ReadParts.{IsNew, AreVariables}
+use Rattle.plant_grammar.proofs.Apart.{apart_more, list_any-map, named_back, any_with}
 use Rattle.plant_grammar.specs.Steps.Refusing.{MayBeDeclared}
-use Rattle.plant_grammar.proofs.RefusedNames.{tells_with}
 use Rattle.plant_grammar.proofs.NewNames.{may_be_declared}
 
 split_at : {A : Type 0} (xs : List A) (i : ℕ) (x : A) → i < length xs → x ≡ get_or xs i x → xs ≡ take i xs ++ x ∷ drop (suc i) xs
@@ -37,22 +37,6 @@ declared_apart old d names n some =
       | inr late ↦ inr (Any-from_list_any (is_named n) names (sym (list_any-map make same names) ∙ list_any-from_Any same (map make names) late))
     ]
 
--- what is told of the name at this place of the list
-pub add_refused : (k : GrammarFaultKind) (old now : List Declaration) (d : Declared) (names read : List (List ℕ)) (i : ℕ) (n : List ℕ) → read ≡ names → now ≡ old ++ map (λ m. record { name = m; declared = d }) (take i names) → i < length read → n ≡ get_or read i n
-    → TellsOfName k (IsDeclared now n) (1000 ≤ length now)
-    → (before more : List (List ℕ)) × (name : List ℕ) × (names ≡ before ++ name ∷ more) × TellsOfName k (IsNameTaken (λ (v : Declaration). v.name) old name ⊎ IsNameTaken (λ (m : List ℕ). m) before name) (1000 ≤ length old + length before)
-add_refused k old now d names read i n same grown lt is tells =
-    let make : List ℕ → Declaration = λ m. record { name = m; declared = d } in
-    let before = take i names in
-    let told : TellsOfName k (IsDeclared (old ++ map make before) n) (1000 ≤ length (old ++ map make before)) = subst (λ ds. TellsOfName k (IsDeclared ds n) (1000 ≤ length ds)) grown tells in (
-      before,
-      drop (suc i) names,
-      n,
-      split_at names i n (subst (λ xs. i < length xs) same lt) (subst (λ xs. n ≡ get_or xs i n) same is),
-      tells_with k (IsDeclared (old ++ map make before) n) (1000 ≤ length (old ++ map make before)) _ (1000 ≤ length old + length before) (λ twice. declared_apart old d before n twice)
-          (λ full. omega (arith, full, length-append old (map make before), length-map before make)) told,
-    )
-
 -- a name at its place of a list that may be declared may be declared there
 pub add_allowed : (old now : List Declaration) (d : Declared) (names read : List (List ℕ)) (i : ℕ) (n : List ℕ) → read ≡ names → now ≡ old ++ map (λ m. record { name = m; declared = d }) (take i names) → i < length read → n ≡ get_or read i n
     → MayBeDeclared old names → (IsDeclared now n → ⊥) × (length now < 1000)
@@ -68,3 +52,28 @@ add_allowed old now d names read i n same grown lt is may =
       ]),
       omega (arith, long, m.2),
     )
+
+map_same : {A : Type 0} (xs : List A) → map (λ x. x) xs ≡ xs
+map_same [] = refl
+map_same (x ∷ xs) = ap (λ ys. x ∷ ys) (map_same xs)
+
+-- one more name may be declared, if it is none of these
+pub one_more_declared : (vs : List Declaration) (names : List (List ℕ)) (n : List ℕ) → MayBeDeclared vs names → (IsDeclared vs n → ⊥) → IsNew (λ (m : List ℕ). m) names n → length vs + length names < 1000 → MayBeDeclared vs (names ++ n ∷ [])
+one_more_declared vs names n may undeclared new few =
+    let old : List (List ℕ) = map (λ (v : Declaration). v.name) vs in
+    let fresh : IsNew (λ (m : List ℕ). m) (old ++ names) n = λ taken. elim (any_split (is_named n) old names taken) [
+      | inl early ↦ undeclared (any_with _ _ vs (λ v h. named_back n v.name h) (Any-from_list_any (λ (v : Declaration). is_named n v.name) vs (sym (list_any-map (λ (v : Declaration). v.name) (is_named n) vs) ∙ list_any-from_Any (is_named n) old early)))
+      | inr late ↦ new late
+    ] in
+    let apart : AreNamesApart (map (λ (m : List ℕ). m) ((old ++ names) ++ n ∷ [])) = apart_more (λ (m : List ℕ). m) (old ++ names) ((old ++ names) ++ n ∷ []) n refl (subst AreNamesApart (sym (map_same (old ++ names))) may.0) fresh in (
+      subst AreNamesApart (map_same ((old ++ names) ++ n ∷ []) ∙ append_assoc old names (n ∷ [])) apart,
+      omega (arith, few, length-append names (n ∷ [])),
+    )
+
+-- the first name may be declared, if it is none of the variables
+pub first_declared : (vs : List Declaration) (names : List (List ℕ)) (n : List ℕ) → AreVariables vs → names ≡ [] → (IsDeclared vs n → ⊥) → length vs + length names < 1000 → MayBeDeclared vs (names ++ n ∷ [])
+first_declared vs names n are none undeclared few =
+    let old : List (List ℕ) = map (λ (v : Declaration). v.name) vs in
+    let new : IsNew (λ (m : List ℕ). m) [] n = λ taken. absurd (omega (arith, taken.2)) in
+    let may : MayBeDeclared vs [] = (subst AreNamesApart (sym (append-nil old)) are.apart, omega (arith, are.few)) in
+    one_more_declared vs names n (subst (λ ns. MayBeDeclared vs ns) (sym none) may) undeclared (subst (λ ns. IsNew (λ (m : List ℕ). m) ns n) (sym none) new) few

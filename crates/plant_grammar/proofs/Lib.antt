@@ -2,6 +2,7 @@ pub mod Apart
 pub mod WordLists
 pub mod ResourceLines
 pub mod FoundTypes
+pub mod ReadLines
 pub mod RefusedNames
 pub mod RefusedPlaces
 pub mod AddedNames

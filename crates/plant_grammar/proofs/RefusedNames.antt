@@ -13,7 +13,8 @@ use Rattle.plant_grammar.specs.declared.grammar.tree.Bind.{Bind}
 use Rattle.plant_grammar.specs.Grammar.{mark_word, name_words, bind_words, with_commas}
 use Rattle.plant_grammar.specs.WordFaults.{IsGrammarFault}
 use Rattle.plant_grammar.specs.NameFaults.{IsOfName, Tells, TellsOfName, IsNameTaken, IsRefused, IsMisused, IsUnknown, IsAfter, IsAfterAll, IsAfterName, IsAfterWhole, name_and_comma, bind_and_comma}
-use Rattle.plant_grammar.specs.Steps.Declaring.{RepeatsName, IsNameNext, MissesName, BeginWith}
+use Rattle.plant_grammar.specs.Steps.Lines.{ReaderValue}
+use Rattle.plant_grammar.specs.Steps.Declaring.{RepeatsName, IsNameNext, MissesName, BeginWith, BeginRefusedBehind}
 
 -- a kind that tells of no name
 kind_no_name : (k : GrammarFaultKind) → TellsOfName k ⊥ ⊥ → IsOfName k → ⊥
@@ -34,103 +35,99 @@ pub memory_no_name : (fault : GrammarFault) → fault.kind ≡ kind.Memory → I
 memory_no_name fault m of = subst IsOfName m of
 
 -- a name that is refused stands next
-pub name_next : (k : GrammarFaultKind) (words : List Token) (Taken : List ℕ → Type 0) (full : Type 0) (Twice : Type 0)
+pub name_next : {R : List Token → Type 0} (k : GrammarFaultKind) (words : List Token) (there : (t : Token) (rest : List Token) → words ≡ t ∷ rest → R rest) (Taken : List ℕ → Type 0) (full : Type 0) (Twice : Type 0)
     → (Twice → (name : List ℕ) × (rest : List Token) × (words ≡ token.Name name ∷ rest) × Taken name)
-    → TellsOfName k Twice (IsNameNext words × full) → IsOfName k → BeginWith (IsRefused k Taken full) words
-name_next kind.Syntax words Taken full Twice two tells of = absurd of
-name_next kind.NameTwice words Taken full Twice two tells of =
+    → TellsOfName k Twice (IsNameNext words × full) → IsOfName k → BeginWith R (IsRefused k Taken full) words
+name_next kind.Syntax words there Taken full Twice two tells of = absurd of
+name_next kind.NameTwice words there Taken full Twice two tells of =
     let found = two tells in
-    record { front = token.Name found.0 ∷ []; rest = found.1; parts = found.2; holds = record { name = found.0; alone = refl; told = found.3 } }
-name_next kind.UnknownName words Taken full Twice two tells of = absurd tells
-name_next kind.WrongKind words Taken full Twice two tells of = absurd tells
-name_next kind.InputBoundTwice words Taken full Twice two tells of = absurd tells
-name_next kind.TooMany words Taken full Twice two tells of =
+    record { front = token.Name found.0 ∷ []; rest = found.1; parts = found.2; holds = record { name = found.0; alone = refl; told = found.3 }; behind = there (token.Name found.0) found.1 found.2 }
+name_next kind.UnknownName words there Taken full Twice two tells of = absurd tells
+name_next kind.WrongKind words there Taken full Twice two tells of = absurd tells
+name_next kind.InputBoundTwice words there Taken full Twice two tells of = absurd tells
+name_next kind.TooMany words there Taken full Twice two tells of =
     let next = tells.0 in
-    record { front = token.Name next.0 ∷ []; rest = next.1; parts = next.2; holds = record { name = next.0; alone = refl; told = tells.1 } }
-name_next kind.Memory words Taken full Twice two tells of = absurd of
+    record { front = token.Name next.0 ∷ []; rest = next.1; parts = next.2; holds = record { name = next.0; alone = refl; told = tells.1 }; behind = there (token.Name next.0) next.1 next.2 }
+name_next kind.Memory words there Taken full Twice two tells of = absurd of
 
 -- a name that isn't declared, that is bound already or is one too many stands next
-pub misused_next : (k : GrammarFaultKind) (words : List Token) (Unknown Bound : List ℕ → Type 0) (full missing bound : Type 0)
+pub misused_next : {R : List Token → Type 0} (k : GrammarFaultKind) (words : List Token) (there : (t : Token) (rest : List Token) → words ≡ t ∷ rest → R rest) (Unknown Bound : List ℕ → Type 0) (full missing bound : Type 0)
     → (missing → (name : List ℕ) × (rest : List Token) × (words ≡ token.Name name ∷ rest) × Unknown name)
     → (bound → (name : List ℕ) × (rest : List Token) × (words ≡ token.Name name ∷ rest) × Bound name)
-    → Tells k ⊥ missing ⊥ bound (IsNameNext words × full) → IsOfName k → BeginWith (IsMisused k Unknown Bound full) words
-misused_next kind.Syntax words Unknown Bound full missing bound um bm tells of = absurd of
-misused_next kind.NameTwice words Unknown Bound full missing bound um bm tells of = absurd tells
-misused_next kind.UnknownName words Unknown Bound full missing bound um bm tells of =
+    → Tells k ⊥ missing ⊥ bound (IsNameNext words × full) → IsOfName k → BeginWith R (IsMisused k Unknown Bound full) words
+misused_next kind.Syntax words there Unknown Bound full missing bound um bm tells of = absurd of
+misused_next kind.NameTwice words there Unknown Bound full missing bound um bm tells of = absurd tells
+misused_next kind.UnknownName words there Unknown Bound full missing bound um bm tells of =
     let found = um tells in
-    record { front = token.Name found.0 ∷ []; rest = found.1; parts = found.2; holds = record { name = found.0; alone = refl; told = found.3 } }
-misused_next kind.WrongKind words Unknown Bound full missing bound um bm tells of = absurd tells
-misused_next kind.InputBoundTwice words Unknown Bound full missing bound um bm tells of =
+    record { front = token.Name found.0 ∷ []; rest = found.1; parts = found.2; holds = record { name = found.0; alone = refl; told = found.3 }; behind = there (token.Name found.0) found.1 found.2 }
+misused_next kind.WrongKind words there Unknown Bound full missing bound um bm tells of = absurd tells
+misused_next kind.InputBoundTwice words there Unknown Bound full missing bound um bm tells of =
     let found = bm tells in
-    record { front = token.Name found.0 ∷ []; rest = found.1; parts = found.2; holds = record { name = found.0; alone = refl; told = found.3 } }
-misused_next kind.TooMany words Unknown Bound full missing bound um bm tells of =
+    record { front = token.Name found.0 ∷ []; rest = found.1; parts = found.2; holds = record { name = found.0; alone = refl; told = found.3 }; behind = there (token.Name found.0) found.1 found.2 }
+misused_next kind.TooMany words there Unknown Bound full missing bound um bm tells of =
     let next = tells.0 in
-    record { front = token.Name next.0 ∷ []; rest = next.1; parts = next.2; holds = record { name = next.0; alone = refl; told = tells.1 } }
-misused_next kind.Memory words Unknown Bound full missing bound um bm tells of = absurd of
+    record { front = token.Name next.0 ∷ []; rest = next.1; parts = next.2; holds = record { name = next.0; alone = refl; told = tells.1 }; behind = there (token.Name next.0) next.1 next.2 }
+misused_next kind.Memory words there Unknown Bound full missing bound um bm tells of = absurd of
 
--- behind a word stands a name that none of these has
-pub unknown_behind : {A : Type 0} (k : GrammarFaultKind) (t : Token) (name_of : A → List ℕ) (xs : List A) (words : List Token)
-    → Tells k ⊥ ((more : List Token) × (words ≡ t ∷ more) × MissesName name_of xs more) ⊥ ⊥ ⊥ → IsOfName k
-    → (more : List Token) × (words ≡ t ∷ more) × BeginWith (IsUnknown k name_of xs) more
-unknown_behind kind.Syntax t name_of xs words tells of = absurd of
-unknown_behind kind.NameTwice t name_of xs words tells of = absurd tells
-unknown_behind kind.UnknownName t name_of xs words (more, e, miss) of =
-    (more, e, record { front = token.Name miss.0 ∷ []; rest = miss.1; parts = miss.2; holds = record { name = miss.0; alone = refl; told = miss.3 } })
-unknown_behind kind.WrongKind t name_of xs words tells of = absurd tells
-unknown_behind kind.InputBoundTwice t name_of xs words tells of = absurd tells
-unknown_behind kind.TooMany t name_of xs words tells of = absurd tells
-unknown_behind kind.Memory t name_of xs words tells of = absurd of
+-- a name that none of these has stands next
+pub unknown_next : {R : List Token → Type 0} {A : Type 0} (k : GrammarFaultKind) (words : List Token) (there : (t : Token) (rest : List Token) → words ≡ t ∷ rest → R rest) (name_of : A → List ℕ) (xs : List A)
+    → Tells k ⊥ (MissesName name_of xs words) ⊥ ⊥ ⊥ → IsOfName k → BeginWith R (IsUnknown k name_of xs) words
+unknown_next kind.Syntax words there name_of xs tells of = absurd of
+unknown_next kind.NameTwice words there name_of xs tells of = absurd tells
+unknown_next kind.UnknownName words there name_of xs miss of =
+    record { front = token.Name miss.0 ∷ []; rest = miss.1; parts = miss.2; holds = record { name = miss.0; alone = refl; told = miss.3 }; behind = there (token.Name miss.0) miss.1 miss.2 }
+unknown_next kind.WrongKind words there name_of xs tells of = absurd tells
+unknown_next kind.InputBoundTwice words there name_of xs tells of = absurd tells
+unknown_next kind.TooMany words there name_of xs tells of = absurd tells
+unknown_next kind.Memory words there name_of xs tells of = absurd of
 
--- a word was read before the name that none of these has
-pub missing_behind : {A : Type 0} (k : GrammarFaultKind) (t : Token) (name_of : A → List ℕ) (xs : List A) (start now : List Token) → start ≡ t ∷ now
-    → Tells k ⊥ (MissesName name_of xs now) ⊥ ⊥ ⊥ → Tells k ⊥ ((more : List Token) × (start ≡ t ∷ more) × MissesName name_of xs more) ⊥ ⊥ ⊥
-missing_behind kind.Syntax t name_of xs start now e tells = tt
-missing_behind kind.NameTwice t name_of xs start now e tells = tells
-missing_behind kind.UnknownName t name_of xs start now e tells = (now, e, tells)
-missing_behind kind.WrongKind t name_of xs start now e tells = tells
-missing_behind kind.InputBoundTwice t name_of xs start now e tells = tells
-missing_behind kind.TooMany t name_of xs start now e tells = tells
-missing_behind kind.Memory t name_of xs start now e tells = tt
+-- so it is with an unknown name
+pub unknown_here : {R : List Token → Type 0} {A : Type 0} (k : GrammarFaultKind) → k ≡ kind.UnknownName → (words : List Token) (there : (t : Token) (rest : List Token) → words ≡ t ∷ rest → R rest) (name_of : A → List ℕ) (xs : List A)
+    → MissesName name_of xs words → BeginWith R (IsUnknown k name_of xs) words
+unknown_here {R = R} k is words there name_of xs miss = subst (λ (j : GrammarFaultKind). BeginWith R (IsUnknown j name_of xs) words) (sym is) (unknown_next kind.UnknownName words there name_of xs miss tt)
 
 -- a name that is refused stands next, and one of these has it
-pub name_repeated : {A : Type 0} (k : GrammarFaultKind) (words : List Token) (name_of : A → List ℕ) (xs : List A) (full : Type 0)
-    → TellsOfName k (RepeatsName name_of xs words) (IsNameNext words × full) → IsOfName k → BeginWith (IsRefused k (IsNameTaken name_of xs) full) words
-name_repeated k words name_of xs full tells of = name_next k words (IsNameTaken name_of xs) full (RepeatsName name_of xs words) (λ r. r) tells of
+pub name_repeated : {R : List Token → Type 0} {A : Type 0} (k : GrammarFaultKind) (words : List Token) (there : (t : Token) (rest : List Token) → words ≡ t ∷ rest → R rest) (name_of : A → List ℕ) (xs : List A) (full : Type 0)
+    → TellsOfName k (RepeatsName name_of xs words) (IsNameNext words × full) → IsOfName k → BeginWith R (IsRefused k (IsNameTaken name_of xs) full) words
+name_repeated k words there name_of xs full tells of = name_next k words there (IsNameTaken name_of xs) full (RepeatsName name_of xs words) (λ r. r) tells of
 
 -- whatever holds of the front, so does what follows from it
-pub begin_with : (P Q : List Token → Type 0) (words : List Token) → ((front : List Token) → P front → Q front) → BeginWith P words → BeginWith Q words
-begin_with P Q words h b = record { front = b.front; rest = b.rest; parts = b.parts; holds = h b.front b.holds }
+pub begin_with : {R : List Token → Type 0} (P Q : List Token → Type 0) (words : List Token) → ((front : List Token) → P front → Q front) → BeginWith R P words → BeginWith R Q words
+begin_with P Q words h b = record { front = b.front; rest = b.rest; parts = b.parts; holds = h b.front b.holds; behind = b.behind }
 
 -- a word was read before
-pub begin_after : (t : Token) (P : List Token → Type 0) (start now : List Token) → start ≡ t ∷ now → BeginWith P now → BeginWith (IsAfter t P) start
+pub begin_after : {R : List Token → Type 0} (t : Token) (P : List Token → Type 0) (start now : List Token) → start ≡ t ∷ now → BeginWith R P now → BeginWith R (IsAfter t P) start
 begin_after t P start now e b = record {
   front = t ∷ b.front;
   rest = b.rest;
   parts = e ∙ ap (λ r. t ∷ r) b.parts;
   holds = record { more = b.front; parts = refl; holds = b.holds };
+  behind = b.behind;
 }
 
 -- words were read before
-pub begin_after_all : (ts : List Token) (P : List Token → Type 0) (start now : List Token) → start ≡ ts ++ now → BeginWith P now → BeginWith (IsAfterAll ts P) start
+pub begin_after_all : {R : List Token → Type 0} (ts : List Token) (P : List Token → Type 0) (start now : List Token) → start ≡ ts ++ now → BeginWith R P now → BeginWith R (IsAfterAll ts P) start
 begin_after_all ts P start now e b = record {
   front = ts ++ b.front;
   rest = b.rest;
   parts = e ∙ ap (λ r. ts ++ r) b.parts ∙ sym (append_assoc ts b.front b.rest);
   holds = record { more = b.front; parts = refl; holds = b.holds };
+  behind = b.behind;
 }
 
 -- a name was read before
-pub begin_after_name : (n : List ℕ) (P : List Token → Type 0) (start now : List Token) → start ≡ token.Name n ∷ now → BeginWith P now → BeginWith (IsAfterName P) start
+pub begin_after_name : {R : List Token → Type 0} (n : List ℕ) (P : List Token → Type 0) (start now : List Token) → start ≡ token.Name n ∷ now → BeginWith R P now → BeginWith R (IsAfterName P) start
 begin_after_name n P start now e b =
     begin_with (IsAfter (token.Name n) P) (IsAfterName P) start (λ front h. record { name = n; after = h }) (begin_after (token.Name n) P start now e b)
 
 -- whole things were read before
-pub begin_behind : {A : Type 0} (f : A → List Token) (P : List A → List Token → Type 0) (xs : List A) (start now : List Token) → start ≡ flat_map f xs ++ now → BeginWith (P xs) now → BeginWith (IsAfterWhole f P) start
+pub begin_behind : {R : List Token → Type 0} {A : Type 0} (f : A → List Token) (P : List A → List Token → Type 0) (xs : List A) (start now : List Token) → start ≡ flat_map f xs ++ now → BeginWith R (P xs) now → BeginWith R (IsAfterWhole f P) start
 begin_behind f P xs start now e b = record {
   front = flat_map f xs ++ b.front;
   rest = b.rest;
   parts = e ∙ ap (λ r. flat_map f xs ++ r) b.parts ∙ sym (append_assoc (flat_map f xs) b.front b.rest);
   holds = record { whole = xs; more = b.front; parts = refl; holds = b.holds };
+  behind = b.behind;
 }
 
 -- names with commas between them and one more comma are names with a comma behind each
@@ -156,9 +153,14 @@ binds_and_commas (b ∷ c ∷ bs) rest some =
     ∙ ap (λ ws. ws ++ rest) (sym (flat_map-cons bind_and_comma b (c ∷ bs)))
 
 -- want of memory tells of no name, whatever a name is refused for
-pub memory_result : {T : Type 0} (P : GrammarFault → Type 0) (r : Result T GrammarFault) → IsErrAnd r (λ fault. (fault.kind ≡ kind.Memory) × IsGrammarFault fault) → IfErr r (λ f. IsOfName f.kind → P f)
-memory_result P (Ok x) h = tt
-memory_result P (Err fault) h = λ of. absurd (memory_no_name fault h.0 of)
+pub memory_result : {T : Type 0} (Refuses : GrammarFaultKind → List Token → Type 0) (left : ReaderValue) (words : List Token) (r : Result T GrammarFault) → IsErrAnd r (λ fault. (fault.kind ≡ kind.Memory) × IsGrammarFault fault) → IfErr r (BeginRefusedBehind Refuses left words)
+memory_result Refuses left words (Ok x) h = tt
+memory_result Refuses left words (Err fault) h = λ all lines of. absurd (memory_no_name fault h.0 of)
+
+-- what follows from two things that a fault tells
+pub both_told : {T : Type 0} (r : Result T GrammarFault) (P Q S : GrammarFault → Type 0) → ((fault : GrammarFault) → P fault → Q fault → S fault) → IfErr r P → IfErr r Q → IfErr r S
+both_told (Ok x) P Q S h p q = tt
+both_told (Err fault) P Q S h p q = h fault p q
 
 -- want of memory is no refusal
 pub memory_excused : {T : Type 0} (Q : GrammarFault → Type 0) (r : Result T GrammarFault) → IsErrAnd r (λ fault. (fault.kind ≡ kind.Memory) × IsGrammarFault fault) → IfErr r (λ f. f.kind ≢ kind.Memory → Q f)
@@ -180,10 +182,3 @@ pub tells_next : {A : Type 0} (k : GrammarFaultKind) (name_of : A → List ℕ) 
     → TellsOfName k twice full → TellsOfName k (RepeatsName name_of xs words) (IsNameNext words × many)
 tells_next k name_of xs name words rest twice full many e is_taken is_full tells =
     tells_with k twice full (RepeatsName name_of xs words) (IsNameNext words × many) (λ t. (name, rest, e, is_taken t)) (λ f. ((name, rest, e), is_full f)) tells
-
--- a name of a list, with a comma behind each before it
-pub names_split : (before : List (List ℕ)) (n : List ℕ) (more : List (List ℕ)) (rest : List Token) → (after : List Token) × (name_words (before ++ n ∷ more) ++ rest ≡ flat_map name_and_comma before ++ token.Name n ∷ after)
-names_split [] n [] rest = (rest, refl)
-names_split [] n (m ∷ more) rest = (mark_word Comma ∷ name_words (m ∷ more) ++ rest, refl)
-names_split (x ∷ []) n more rest = let found = names_split [] n more rest in (found.0, ap (λ ws. token.Name x ∷ mark_word Comma ∷ ws) found.1)
-names_split (x ∷ y ∷ xs) n more rest = let found = names_split (y ∷ xs) n more rest in (found.0, ap (λ ws. token.Name x ∷ mark_word Comma ∷ ws) found.1)

@@ -27,15 +27,15 @@ use Rattle.plant_grammar.specs.Kinds.{kind_of_space, input_kind_of}
 use Rattle.plant_grammar.specs.Names.{is_named}
 use Rattle.plant_grammar.specs.Lawful.{list_variables, block_variables, variables, IsTypeLawful, task_of, use_of, uses_of}
 use Rattle.plant_grammar.specs.NameFaults.{IsOfName, Tells, TellsOfName, IsNameTaken, IsRefused, IsUnknown, IsAfter, IsAfterAll, IsAfterName, IsAfterType, name_and_comma, bind_and_comma, RefusesVariable, RefusesType, RefusesOneList, RefusesList, RefusesBlock, RefusesBlocks, RefusesProgramName, RefusesProgram, RefusesPrograms, RefusesTask, RefusesInput, RefusesAddress, RefusesOneBind, RefusesBind, RefusesTyped, RefusesBinds, RefusesInstanceName, RefusesInstance, RefusesItems, RefusesResourceName, RefusesResource, RefusesResources, RefusesConfiguration}
-use Rattle.plant_grammar.specs.Steps.Declaring.{RepeatsName, IsNameNext, MissesName, MissesInput, BeginWith, RefusesItem}
+use Rattle.plant_grammar.specs.Steps.Declaring.{RepeatsName, IsNameNext, MissesInput, BeginWith, RefusesItem}
 use Rattle.plant_grammar.specs.Steps.ReadParts.{TallyValue, tally_with}
-use Rattle.plant_grammar.proofs.RefusedNames.{name_next, misused_next, unknown_behind, name_repeated, begin_with, begin_after, begin_after_all, begin_after_name, begin_behind, names_and_commas, names_split, binds_and_commas}
+use Rattle.plant_grammar.proofs.RefusedNames.{name_next, misused_next, name_repeated, begin_with, begin_after, begin_after_all, begin_after_name, begin_behind, names_and_commas, binds_and_commas}
 
 -- either of two holds of the front
-pub begin_left : (P Q : List Token → Type 0) (words : List Token) → BeginWith P words → BeginWith (λ w. P w ⊎ Q w) words
+pub begin_left : {R : List Token → Type 0} (P Q : List Token → Type 0) (words : List Token) → BeginWith R P words → BeginWith R (λ w. P w ⊎ Q w) words
 begin_left P Q words b = begin_with P (λ w. P w ⊎ Q w) words (λ front h. inl h) b
 
-pub begin_right : (P Q : List Token → Type 0) (words : List Token) → BeginWith Q words → BeginWith (λ w. P w ⊎ Q w) words
+pub begin_right : {R : List Token → Type 0} (P Q : List Token → Type 0) (words : List Token) → BeginWith R Q words → BeginWith R (λ w. P w ⊎ Q w) words
 begin_right P Q words b = begin_with Q (λ w. P w ⊎ Q w) words (λ front h. inr h) b
 
 abbrev taken_of : List Declaration → List (List ℕ) → List ℕ → Type 0
@@ -47,185 +47,176 @@ two_ways before names words (inl r) = (r.0, r.1, r.2, inl r.3)
 two_ways before names words (inr r) = (r.0, r.1, r.2, inr r.3)
 
 -- a variable behind the names of its list
-pub variable_refused : (k : GrammarFaultKind) (before : List Declaration) (names : List (List ℕ)) (start now : List Token) → start ≡ flat_map name_and_comma names ++ now
-    → TellsOfName k (RepeatsName (λ (v : Declaration). v.name) before now ⊎ RepeatsName (λ (m : List ℕ). m) names now) (IsNameNext now × (1000 ≤ length before + length names)) → IsOfName k → BeginWith (RefusesVariable k before) start
+pub variable_refused : {R : List Token → Type 0} (k : GrammarFaultKind) (before : List Declaration) (names : List (List ℕ)) (start now : List Token) (there : (t : Token) (rest : List Token) → now ≡ t ∷ rest → R rest) → start ≡ flat_map name_and_comma names ++ now
+    → TellsOfName k (RepeatsName (λ (v : Declaration). v.name) before now ⊎ RepeatsName (λ (m : List ℕ). m) names now) (IsNameNext now × (1000 ≤ length before + length names)) → IsOfName k → BeginWith R (RefusesVariable k before) start
 unfolding RefusesVariable
-variable_refused k before names start now e tells of =
+variable_refused k before names start now there e tells of =
     begin_behind name_and_comma (λ ns more. IsRefused k (taken_of before ns) (1000 ≤ length before + length ns) more) names start now e
-    (name_next k now (taken_of before names) (1000 ≤ length before + length names) (RepeatsName (λ (v : Declaration). v.name) before now ⊎ RepeatsName (λ (m : List ℕ). m) names now) (two_ways before names now) tells of)
+    (name_next k now there (taken_of before names) (1000 ≤ length before + length names) (RepeatsName (λ (v : Declaration). v.name) before now ⊎ RepeatsName (λ (m : List ℕ). m) names now) (two_ways before names now) tells of)
 
 -- the first name of a list
-pub first_variable : (k : GrammarFaultKind) (before : List Declaration) (names : List (List ℕ)) (start : List Token) → names ≡ []
-    → TellsOfName k (RepeatsName (λ (v : Declaration). v.name) before start ⊎ RepeatsName (λ (m : List ℕ). m) names start) (IsNameNext start × (1000 ≤ length before + length names)) → IsOfName k → BeginWith (RefusesVariable k before) start
-first_variable k before names start none tells of = variable_refused k before names start start (ap (λ (ns : List (List ℕ)). flat_map name_and_comma ns ++ start) (sym none)) tells of
+pub first_variable : {R : List Token → Type 0} (k : GrammarFaultKind) (before : List Declaration) (names : List (List ℕ)) (start : List Token) (there : (t : Token) (rest : List Token) → start ≡ t ∷ rest → R rest) → names ≡ []
+    → TellsOfName k (RepeatsName (λ (v : Declaration). v.name) before start ⊎ RepeatsName (λ (m : List ℕ). m) names start) (IsNameNext start × (1000 ≤ length before + length names)) → IsOfName k → BeginWith R (RefusesVariable k before) start
+first_variable k before names start there none tells of = variable_refused k before names start start there (ap (λ (ns : List (List ℕ)). flat_map name_and_comma ns ++ start) (sym none)) tells of
 
 -- a further name of a list
-pub next_variable : (k : GrammarFaultKind) (before : List Declaration) (names : List (List ℕ)) (start now mid : List Token) → 0 < length names → start ≡ name_words names ++ now → now ≡ mark_word Comma ∷ mid
-    → TellsOfName k (RepeatsName (λ (v : Declaration). v.name) before mid ⊎ RepeatsName (λ (m : List ℕ). m) names mid) (IsNameNext mid × (1000 ≤ length before + length names)) → IsOfName k → BeginWith (RefusesVariable k before) start
-next_variable k before names start now mid some h1 h2 tells of = variable_refused k before names start mid (h1 ∙ ap (λ r. name_words names ++ r) h2 ∙ names_and_commas names mid some) tells of
-
--- a name of a list that was read whole
-pub listed_variable : (k : GrammarFaultKind) (before : List Declaration) (all names more : List (List ℕ)) (n : List ℕ) (start now : List Token) → all ≡ names ++ n ∷ more → start ≡ name_words all ++ now
-    → TellsOfName k (taken_of before names n) (1000 ≤ length before + length names) → BeginWith (RefusesVariable k before) start
-unfolding RefusesVariable
-listed_variable k before all names more n start now is e tells =
-    let found = names_split names n more now in
-    let words : start ≡ flat_map name_and_comma names ++ token.Name n ∷ found.0 = e ∙ ap (λ (ns : List (List ℕ)). name_words ns ++ now) is ∙ found.1 in
-    begin_behind name_and_comma (λ ns w. IsRefused k (taken_of before ns) (1000 ≤ length before + length ns) w) names start (token.Name n ∷ found.0) words
-    (record { front = token.Name n ∷ []; rest = found.0; parts = refl; holds = record { name = n; alone = refl; told = tells } })
+pub next_variable : {R : List Token → Type 0} (k : GrammarFaultKind) (before : List Declaration) (names : List (List ℕ)) (start now mid : List Token) (there : (t : Token) (rest : List Token) → mid ≡ t ∷ rest → R rest) → 0 < length names → start ≡ name_words names ++ now → now ≡ mark_word Comma ∷ mid
+    → TellsOfName k (RepeatsName (λ (v : Declaration). v.name) before mid ⊎ RepeatsName (λ (m : List ℕ). m) names mid) (IsNameNext mid × (1000 ≤ length before + length names)) → IsOfName k → BeginWith R (RefusesVariable k before) start
+next_variable k before names start now mid there some h1 h2 tells of = variable_refused k before names start mid there (h1 ∙ ap (λ r. name_words names ++ r) h2 ∙ names_and_commas names mid some) tells of
 
 -- a list up to the type of a block
-type_next : (k : GrammarFaultKind) (s : Section) (names : List (List ℕ)) (start mid : List Token) → start ≡ name_words names ++ mark_word Colon ∷ mid
-    → Tells k ⊥ ⊥ ((b : BlockType) × (rest : List Token) × (mid ≡ token.Block b ∷ rest) × (IsTypeLawful s (Block b) → ⊥)) ⊥ ⊥ → IsOfName k → BeginWith (RefusesType k s) start
-type_next kind.Syntax s names start mid e tells of = absurd of
-type_next kind.NameTwice s names start mid e tells of = absurd tells
-type_next kind.UnknownName s names start mid e tells of = absurd tells
-type_next kind.WrongKind s names start mid e (b, rest, is, wrong) of = record {
+type_next : {R : List Token → Type 0} (k : GrammarFaultKind) (s : Section) (names : List (List ℕ)) (start mid : List Token) (there : (t : Token) (rest : List Token) → mid ≡ t ∷ rest → R rest) → start ≡ name_words names ++ mark_word Colon ∷ mid
+    → Tells k ⊥ ⊥ ((b : BlockType) × (rest : List Token) × (mid ≡ token.Block b ∷ rest) × (IsTypeLawful s (Block b) → ⊥)) ⊥ ⊥ → IsOfName k → BeginWith R (RefusesType k s) start
+type_next kind.Syntax s names start mid there e tells of = absurd of
+type_next kind.NameTwice s names start mid there e tells of = absurd tells
+type_next kind.UnknownName s names start mid there e tells of = absurd tells
+type_next kind.WrongKind s names start mid there e (b, rest, is, wrong) of = record {
   front = name_words names ++ mark_word Colon ∷ token.Block b ∷ [];
   rest = rest;
   parts = e ∙ ap (λ r. name_words names ++ mark_word Colon ∷ r) is ∙ sym (append_assoc (name_words names) (mark_word Colon ∷ token.Block b ∷ []) rest);
   holds = record { names = names; block = b; parts = refl; told = wrong };
+  behind = there (token.Block b) rest is;
 }
-type_next kind.InputBoundTwice s names start mid e tells of = absurd tells
-type_next kind.TooMany s names start mid e tells of = absurd tells
-type_next kind.Memory s names start mid e tells of = absurd of
+type_next kind.InputBoundTwice s names start mid there e tells of = absurd tells
+type_next kind.TooMany s names start mid there e tells of = absurd tells
+type_next kind.Memory s names start mid there e tells of = absurd of
 
 -- a list up to a name of it
-pub name_of_list : (k : GrammarFaultKind) (s : Section) (before : List Declaration) (start : List Token) → BeginWith (RefusesVariable k before) start → BeginWith (RefusesOneList s before k) start
+pub name_of_list : {R : List Token → Type 0} (k : GrammarFaultKind) (s : Section) (before : List Declaration) (start : List Token) → BeginWith R (RefusesVariable k before) start → BeginWith R (RefusesOneList s before k) start
 name_of_list k s before start b = begin_left (RefusesVariable k before) (RefusesType k s) start b
 
 -- a list up to its type
-pub type_of_list : (k : GrammarFaultKind) (s : Section) (before : List Declaration) (names : List (List ℕ)) (start now mid : List Token) → start ≡ name_words names ++ now → now ≡ mark_word Colon ∷ mid
-    → Tells k ⊥ ⊥ ((b : BlockType) × (rest : List Token) × (mid ≡ token.Block b ∷ rest) × (IsTypeLawful s (Block b) → ⊥)) ⊥ ⊥ → IsOfName k → BeginWith (RefusesOneList s before k) start
-type_of_list k s before names start now mid h1 h2 tells of = begin_right (RefusesVariable k before) (RefusesType k s) start (type_next k s names start mid (h1 ∙ ap (λ r. name_words names ++ r) h2) tells of)
+pub type_of_list : {R : List Token → Type 0} (k : GrammarFaultKind) (s : Section) (before : List Declaration) (names : List (List ℕ)) (start now mid : List Token) (there : (t : Token) (rest : List Token) → mid ≡ t ∷ rest → R rest) → start ≡ name_words names ++ now → now ≡ mark_word Colon ∷ mid
+    → Tells k ⊥ ⊥ ((b : BlockType) × (rest : List Token) × (mid ≡ token.Block b ∷ rest) × (IsTypeLawful s (Block b) → ⊥)) ⊥ ⊥ → IsOfName k → BeginWith R (RefusesOneList s before k) start
+type_of_list k s before names start now mid there h1 h2 tells of = begin_right (RefusesVariable k before) (RefusesType k s) start (type_next k s names start mid there (h1 ∙ ap (λ r. name_words names ++ r) h2) tells of)
 
 -- a list behind others of its block
-pub list_refused : (k : GrammarFaultKind) (s : Section) (before now_declared : List Declaration) (lists : List NameList) (start now : List Token) → start ≡ flat_map list_words lists ++ now → now_declared ≡ before ++ flat_map (list_variables s) lists
-    → BeginWith (RefusesOneList s now_declared k) now → BeginWith (RefusesList k s before) start
+pub list_refused : {R : List Token → Type 0} (k : GrammarFaultKind) (s : Section) (before now_declared : List Declaration) (lists : List NameList) (start now : List Token) → start ≡ flat_map list_words lists ++ now → now_declared ≡ before ++ flat_map (list_variables s) lists
+    → BeginWith R (RefusesOneList s now_declared k) now → BeginWith R (RefusesList k s before) start
 unfolding RefusesList
-list_refused k s before now_declared lists start now e declared b =
-    begin_behind list_words (λ (ls : List NameList) more. RefusesOneList s (before ++ flat_map (list_variables s) ls) k more) lists start now e (subst (λ ds. BeginWith (RefusesOneList s ds k) now) declared b)
+list_refused {R = R} k s before now_declared lists start now e declared b =
+    begin_behind list_words (λ (ls : List NameList) more. RefusesOneList s (before ++ flat_map (list_variables s) ls) k more) lists start now e (subst (λ ds. BeginWith R (RefusesOneList s ds k) now) declared b)
 
 -- a block up to a name refused
-pub in_block : (k : GrammarFaultKind) (s : Section) (before : List Declaration) (start now : List Token) → start ≡ section_words s ++ now → BeginWith (RefusesList k s before) now → BeginWith (RefusesBlock k before) start
+pub in_block : {R : List Token → Type 0} (k : GrammarFaultKind) (s : Section) (before : List Declaration) (start now : List Token) → start ≡ section_words s ++ now → BeginWith R (RefusesList k s before) now → BeginWith R (RefusesBlock k before) start
 unfolding RefusesBlock
 in_block k s before start now e b =
     begin_with (IsAfterAll (section_words s) (RefusesList k s before)) (λ w. (t : Section) × IsAfterAll (section_words t) (RefusesList k t before) w) start (λ front h. (s, h)) (begin_after_all (section_words s) (RefusesList k s before) start now e b)
 
 -- a block behind others of its program
-pub block_refused : (k : GrammarFaultKind) (before now_declared : List Declaration) (blocks : List VarBlock) (start now : List Token) → start ≡ flat_map block_words blocks ++ now → now_declared ≡ before ++ flat_map block_variables blocks
-    → BeginWith (RefusesBlock k now_declared) now → BeginWith (RefusesBlocks k before) start
+pub block_refused : {R : List Token → Type 0} (k : GrammarFaultKind) (before now_declared : List Declaration) (blocks : List VarBlock) (start now : List Token) → start ≡ flat_map block_words blocks ++ now → now_declared ≡ before ++ flat_map block_variables blocks
+    → BeginWith R (RefusesBlock k now_declared) now → BeginWith R (RefusesBlocks k before) start
 unfolding RefusesBlocks
-block_refused k before now_declared blocks start now e declared b =
-    begin_behind block_words (λ (bs : List VarBlock) more. RefusesBlock k (before ++ flat_map block_variables bs) more) blocks start now e (subst (λ ds. BeginWith (RefusesBlock k ds) now) declared b)
+block_refused {R = R} k before now_declared blocks start now e declared b =
+    begin_behind block_words (λ (bs : List VarBlock) more. RefusesBlock k (before ++ flat_map block_variables bs) more) blocks start now e (subst (λ ds. BeginWith R (RefusesBlock k ds) now) declared b)
 
 -- a program up to its name
-pub program_named : (k : GrammarFaultKind) (before : List Program) (start now : List Token) → start ≡ key_word key.Program ∷ now
-    → TellsOfName k (RepeatsName (λ (p : Program). p.name) before now) (IsNameNext now × (64 ≤ length before)) → IsOfName k → BeginWith (RefusesProgram k before) start
+pub program_named : {R : List Token → Type 0} (k : GrammarFaultKind) (before : List Program) (start now : List Token) (there : (t : Token) (rest : List Token) → now ≡ t ∷ rest → R rest) → start ≡ key_word key.Program ∷ now
+    → TellsOfName k (RepeatsName (λ (p : Program). p.name) before now) (IsNameNext now × (64 ≤ length before)) → IsOfName k → BeginWith R (RefusesProgram k before) start
 unfolding RefusesProgram
-program_named k before start now e tells of =
+program_named k before start now there e tells of =
     begin_after (key_word key.Program) (λ more. RefusesProgramName k before more ⊎ IsAfterName (RefusesBlocks k []) more) start now e
-    (begin_left (RefusesProgramName k before) (IsAfterName (RefusesBlocks k [])) now (name_repeated k now (λ (p : Program). p.name) before (64 ≤ length before) tells of))
+    (begin_left (RefusesProgramName k before) (IsAfterName (RefusesBlocks k [])) now (name_repeated k now there (λ (p : Program). p.name) before (64 ≤ length before) tells of))
 
 -- a program up to a variable
-pub in_program : (k : GrammarFaultKind) (before : List Program) (n : List ℕ) (declared : List Declaration) (start now : List Token) → start ≡ key_word key.Program ∷ token.Name n ∷ now → declared ≡ []
-    → BeginWith (RefusesBlocks k declared) now → BeginWith (RefusesProgram k before) start
+pub in_program : {R : List Token → Type 0} (k : GrammarFaultKind) (before : List Program) (n : List ℕ) (declared : List Declaration) (start now : List Token) → start ≡ key_word key.Program ∷ token.Name n ∷ now → declared ≡ []
+    → BeginWith R (RefusesBlocks k declared) now → BeginWith R (RefusesProgram k before) start
 unfolding RefusesProgram
-in_program k before n declared start now e none b =
+in_program {R = R} k before n declared start now e none b =
     begin_after (key_word key.Program) (λ more. RefusesProgramName k before more ⊎ IsAfterName (RefusesBlocks k []) more) start (token.Name n ∷ now) e
-    (begin_right (RefusesProgramName k before) (IsAfterName (RefusesBlocks k [])) (token.Name n ∷ now) (begin_after_name n (RefusesBlocks k []) (token.Name n ∷ now) now refl (subst (λ ds. BeginWith (RefusesBlocks k ds) now) none b)))
+    (begin_right (RefusesProgramName k before) (IsAfterName (RefusesBlocks k [])) (token.Name n ∷ now) (begin_after_name n (RefusesBlocks k []) (token.Name n ∷ now) now refl (subst (λ ds. BeginWith R (RefusesBlocks k ds) now) none b)))
 
 -- a program behind others
-pub program_refused : (k : GrammarFaultKind) (programs : List Program) (start now : List Token) → start ≡ flat_map program_words programs ++ now → BeginWith (RefusesProgram k programs) now → BeginWith (RefusesPrograms k) start
+pub program_refused : {R : List Token → Type 0} (k : GrammarFaultKind) (programs : List Program) (start now : List Token) → start ≡ flat_map program_words programs ++ now → BeginWith R (RefusesProgram k programs) now → BeginWith R (RefusesPrograms k) start
 unfolding RefusesPrograms
 program_refused k programs start now e b = begin_behind program_words (λ (ps : List Program) more. RefusesProgram k ps more) programs start now e b
 
 -- a task up to its name
-pub task_refused : (k : GrammarFaultKind) (before : List Item) (start now : List Token) → start ≡ key_word key.Task ∷ now
-    → TellsOfName k (RepeatsName (λ (t : TaskLine). t.name) (flat_map task_of before) now) (IsNameNext now × (16 ≤ length (flat_map task_of before))) → IsOfName k → BeginWith (RefusesTask k before) start
+pub task_refused : {R : List Token → Type 0} (k : GrammarFaultKind) (before : List Item) (start now : List Token) (there : (t : Token) (rest : List Token) → now ≡ t ∷ rest → R rest) → start ≡ key_word key.Task ∷ now
+    → TellsOfName k (RepeatsName (λ (t : TaskLine). t.name) (flat_map task_of before) now) (IsNameNext now × (16 ≤ length (flat_map task_of before))) → IsOfName k → BeginWith R (RefusesTask k before) start
 unfolding RefusesTask
-task_refused k before start now e tells of = let tasks = flat_map task_of before in
-    begin_after (key_word key.Task) (IsRefused k (IsNameTaken (λ (t : TaskLine). t.name) tasks) (16 ≤ length tasks)) start now e (name_repeated k now (λ (t : TaskLine). t.name) tasks (16 ≤ length tasks) tells of)
+task_refused k before start now there e tells of = let tasks = flat_map task_of before in
+    begin_after (key_word key.Task) (IsRefused k (IsNameTaken (λ (t : TaskLine). t.name) tasks) (16 ≤ length tasks)) start now e (name_repeated k now there (λ (t : TaskLine). t.name) tasks (16 ≤ length tasks) tells of)
 
 -- the input of a bind
-pub input_refused : (k : GrammarFaultKind) (n : ℕ) (ds : List Declaration) (before : List Bind) (words : List Token)
-    → Tells k ⊥ (MissesInput ds words) ⊥ (RepeatsName (λ (b : Bind). b.input) before words) (IsNameNext words × (4096 ≤ n)) → IsOfName k → BeginWith (RefusesOneBind n ds before k) words
-input_refused k n ds before words tells of =
+pub input_refused : {R : List Token → Type 0} (k : GrammarFaultKind) (n : ℕ) (ds : List Declaration) (before : List Bind) (words : List Token) (there : (t : Token) (rest : List Token) → words ≡ t ∷ rest → R rest)
+    → Tells k ⊥ (MissesInput ds words) ⊥ (RepeatsName (λ (b : Bind). b.input) before words) (IsNameNext words × (4096 ≤ n)) → IsOfName k → BeginWith R (RefusesOneBind n ds before k) words
+input_refused k n ds before words there tells of =
     begin_left (RefusesInput k n ds before) (RefusesAddress k ds) words
-    (misused_next k words (λ name. input_kind_of ds name ≡ None) (IsNameTaken (λ (b : Bind). b.input) before) (4096 ≤ n) (MissesInput ds words) (RepeatsName (λ (b : Bind). b.input) before words) (λ m. m) (λ r. r) tells of)
+    (misused_next k words there (λ name. input_kind_of ds name ≡ None) (IsNameTaken (λ (b : Bind). b.input) before) (4096 ≤ n) (MissesInput ds words) (RepeatsName (λ (b : Bind). b.input) before words) (λ m. m) (λ r. r) tells of)
 
 abbrev wrong_address : Kind → List Token → Type 0
 wrong_address its words = (a : Address) × (rest : List Token) × (words ≡ token.Address a ∷ rest) × (kind_of_space a.space ≢ its)
 
-address_next : (k : GrammarFaultKind) (ds : List Declaration) (name : List ℕ) (its : Kind) (start two : List Token) → start ≡ token.Name name ∷ mark_word Assign ∷ two → input_kind_of ds name ≡ Some its
-    → Tells k ⊥ ⊥ (wrong_address its two) ⊥ ⊥ → IsOfName k → BeginWith (RefusesAddress k ds) start
-address_next kind.Syntax ds name its start two e is tells of = absurd of
-address_next kind.NameTwice ds name its start two e is tells of = absurd tells
-address_next kind.UnknownName ds name its start two e is tells of = absurd tells
-address_next kind.WrongKind ds name its start two e is (a, rest, next, wrong) of = record {
+address_next : {R : List Token → Type 0} (k : GrammarFaultKind) (ds : List Declaration) (name : List ℕ) (its : Kind) (start two : List Token) (there : (t : Token) (rest : List Token) → two ≡ t ∷ rest → R rest) → start ≡ token.Name name ∷ mark_word Assign ∷ two → input_kind_of ds name ≡ Some its
+    → Tells k ⊥ ⊥ (wrong_address its two) ⊥ ⊥ → IsOfName k → BeginWith R (RefusesAddress k ds) start
+address_next kind.Syntax ds name its start two there e is tells of = absurd of
+address_next kind.NameTwice ds name its start two there e is tells of = absurd tells
+address_next kind.UnknownName ds name its start two there e is tells of = absurd tells
+address_next kind.WrongKind ds name its start two there e is (a, rest, next, wrong) of = record {
   front = token.Name name ∷ mark_word Assign ∷ token.Address a ∷ [];
   rest = rest;
   parts = e ∙ ap (λ r. token.Name name ∷ mark_word Assign ∷ r) next;
   holds = record { input = name; address = a; its = its; parts = refl; its_is = is; told = wrong };
+  behind = there (token.Address a) rest next;
 }
-address_next kind.InputBoundTwice ds name its start two e is tells of = absurd tells
-address_next kind.TooMany ds name its start two e is tells of = absurd tells
-address_next kind.Memory ds name its start two e is tells of = absurd of
+address_next kind.InputBoundTwice ds name its start two there e is tells of = absurd tells
+address_next kind.TooMany ds name its start two there e is tells of = absurd tells
+address_next kind.Memory ds name its start two there e is tells of = absurd of
 
 -- a bind up to its address
-pub address_refused : (k : GrammarFaultKind) (n : ℕ) (ds : List Declaration) (before : List Bind) (name : List ℕ) (its : Kind) (start one two : List Token) → start ≡ token.Name name ∷ one → one ≡ mark_word Assign ∷ two → input_kind_of ds name ≡ Some its
-    → Tells k ⊥ ⊥ (wrong_address its two) ⊥ ⊥ → IsOfName k → BeginWith (RefusesOneBind n ds before k) start
-address_refused k n ds before name its start one two h1 h2 is tells of =
-    begin_right (RefusesInput k n ds before) (RefusesAddress k ds) start (address_next k ds name its start two (h1 ∙ ap (λ r. token.Name name ∷ r) h2) is tells of)
+pub address_refused : {R : List Token → Type 0} (k : GrammarFaultKind) (n : ℕ) (ds : List Declaration) (before : List Bind) (name : List ℕ) (its : Kind) (start one two : List Token) (there : (t : Token) (rest : List Token) → two ≡ t ∷ rest → R rest) → start ≡ token.Name name ∷ one → one ≡ mark_word Assign ∷ two → input_kind_of ds name ≡ Some its
+    → Tells k ⊥ ⊥ (wrong_address its two) ⊥ ⊥ → IsOfName k → BeginWith R (RefusesOneBind n ds before k) start
+address_refused k n ds before name its start one two there h1 h2 is tells of =
+    begin_right (RefusesInput k n ds before) (RefusesAddress k ds) start (address_next k ds name its start two there (h1 ∙ ap (λ r. token.Name name ∷ r) h2) is tells of)
 
 -- a bind behind others of its instance
-bind_refused : (k : GrammarFaultKind) (n m : ℕ) (ds : List Declaration) (binds : List Bind) (start now : List Token) → start ≡ flat_map bind_and_comma binds ++ now → n ≡ m + length binds
-    → BeginWith (RefusesOneBind n ds binds k) now → BeginWith (RefusesBind k m ds) start
+bind_refused : {R : List Token → Type 0} (k : GrammarFaultKind) (n m : ℕ) (ds : List Declaration) (binds : List Bind) (start now : List Token) → start ≡ flat_map bind_and_comma binds ++ now → n ≡ m + length binds
+    → BeginWith R (RefusesOneBind n ds binds k) now → BeginWith R (RefusesBind k m ds) start
 unfolding RefusesBind
-bind_refused k n m ds binds start now e many b =
-    begin_behind bind_and_comma (λ (before : List Bind) more. RefusesOneBind (m + length before) ds before k more) binds start now e (subst (λ (j : ℕ). BeginWith (RefusesOneBind j ds binds k) now) many b)
+bind_refused {R = R} k n m ds binds start now e many b =
+    begin_behind bind_and_comma (λ (before : List Bind) more. RefusesOneBind (m + length before) ds before k more) binds start now e (subst (λ (j : ℕ). BeginWith R (RefusesOneBind j ds binds k) now) many b)
 
 -- the first bind of an instance
-pub first_bind : (k : GrammarFaultKind) (m : ℕ) (ds : List Declaration) (start : List Token) → BeginWith (RefusesOneBind m ds [] k) start → BeginWith (RefusesBind k m ds) start
+pub first_bind : {R : List Token → Type 0} (k : GrammarFaultKind) (m : ℕ) (ds : List Declaration) (start : List Token) → BeginWith R (RefusesOneBind m ds [] k) start → BeginWith R (RefusesBind k m ds) start
 first_bind k m ds start b = bind_refused k m m ds [] start start refl (omega arith) b
 
 -- a further bind of an instance
-pub next_bind : (k : GrammarFaultKind) (n m : ℕ) (ds : List Declaration) (binds : List Bind) (start now mid : List Token) → 0 < length binds → start ≡ with_commas binds ++ now → now ≡ mark_word Comma ∷ mid → n ≡ m + length binds
-    → BeginWith (RefusesOneBind n ds binds k) mid → BeginWith (RefusesBind k m ds) start
+pub next_bind : {R : List Token → Type 0} (k : GrammarFaultKind) (n m : ℕ) (ds : List Declaration) (binds : List Bind) (start now mid : List Token) → 0 < length binds → start ≡ with_commas binds ++ now → now ≡ mark_word Comma ∷ mid → n ≡ m + length binds
+    → BeginWith R (RefusesOneBind n ds binds k) mid → BeginWith R (RefusesBind k m ds) start
 next_bind k n m ds binds start now mid some h1 h2 many b = bind_refused k n m ds binds start mid (h1 ∙ ap (λ r. with_commas binds ++ r) h2 ∙ binds_and_commas binds mid some) many b
 
 -- the parenthesis before the binds
-pub in_binds : (k : GrammarFaultKind) (m : ℕ) (ds : List Declaration) (start now : List Token) → start ≡ mark_word Open ∷ now → BeginWith (RefusesBind k m ds) now → BeginWith (IsAfter (mark_word Open) (RefusesBind k m ds)) start
+pub in_binds : {R : List Token → Type 0} (k : GrammarFaultKind) (m : ℕ) (ds : List Declaration) (start now : List Token) → start ≡ mark_word Open ∷ now → BeginWith R (RefusesBind k m ds) now → BeginWith R (IsAfter (mark_word Open) (RefusesBind k m ds)) start
 in_binds k m ds start now e b = begin_after (mark_word Open) (RefusesBind k m ds) start now e b
 
 -- an instance up to its name
-pub instance_named : (k : GrammarFaultKind) (i m : ℕ) (programs : List Program) (before : List Item) (start now : List Token) → start ≡ key_word key.Program ∷ now
-    → TellsOfName k (RepeatsName (λ (u : Use). u.instance) (flat_map use_of before) now) (IsNameNext now × (64 ≤ i)) → IsOfName k → BeginWith (RefusesInstance k i m programs before) start
+pub instance_named : {R : List Token → Type 0} (k : GrammarFaultKind) (i m : ℕ) (programs : List Program) (before : List Item) (start now : List Token) (there : (t : Token) (rest : List Token) → now ≡ t ∷ rest → R rest) → start ≡ key_word key.Program ∷ now
+    → TellsOfName k (RepeatsName (λ (u : Use). u.instance) (flat_map use_of before) now) (IsNameNext now × (64 ≤ i)) → IsOfName k → BeginWith R (RefusesInstance k i m programs before) start
 unfolding RefusesInstance
-instance_named k i m programs before start now e tells of =
+instance_named k i m programs before start now there e tells of =
     begin_after (key_word key.Program) (λ more. RefusesInstanceName k i before more ⊎ IsAfterName (RefusesBinds k m programs before) more) start now e
-    (begin_left (RefusesInstanceName k i before) (IsAfterName (RefusesBinds k m programs before)) now (name_repeated k now (λ (u : Use). u.instance) (flat_map use_of before) (64 ≤ i) tells of))
+    (begin_left (RefusesInstanceName k i before) (IsAfterName (RefusesBinds k m programs before)) now (name_repeated k now there (λ (u : Use). u.instance) (flat_map use_of before) (64 ≤ i) tells of))
 
 -- an instance up to a word behind its name
-pub in_instance : (k : GrammarFaultKind) (i m : ℕ) (programs : List Program) (before : List Item) (name : List ℕ) (start one : List Token) → start ≡ key_word key.Program ∷ token.Name name ∷ one
-    → BeginWith (RefusesBinds k m programs before) one → BeginWith (RefusesInstance k i m programs before) start
+pub in_instance : {R : List Token → Type 0} (k : GrammarFaultKind) (i m : ℕ) (programs : List Program) (before : List Item) (name : List ℕ) (start one : List Token) → start ≡ key_word key.Program ∷ token.Name name ∷ one
+    → BeginWith R (RefusesBinds k m programs before) one → BeginWith R (RefusesInstance k i m programs before) start
 unfolding RefusesInstance
 in_instance k i m programs before name start one e b =
     begin_after (key_word key.Program) (λ more. RefusesInstanceName k i before more ⊎ IsAfterName (RefusesBinds k m programs before) more) start (token.Name name ∷ one) e
     (begin_right (RefusesInstanceName k i before) (IsAfterName (RefusesBinds k m programs before)) (token.Name name ∷ one) (begin_after_name name (RefusesBinds k m programs before) (token.Name name ∷ one) one refl b))
 
 -- a task that is none of these lines
-pub task_unknown : (k : GrammarFaultKind) (m : ℕ) (programs : List Program) (before : List Item) (one : List Token)
-    → Tells k ⊥ ((more : List Token) × (one ≡ key_word key.With ∷ more) × MissesName (λ (t : TaskLine). t.name) (flat_map task_of before) more) ⊥ ⊥ ⊥ → IsOfName k → BeginWith (RefusesBinds k m programs before) one
+pub task_unknown : {R : List Token → Type 0} (k : GrammarFaultKind) (m : ℕ) (programs : List Program) (before : List Item) (one : List Token)
+    → BeginWith R (IsAfter (key_word key.With) (IsUnknown k (λ (t : TaskLine). t.name) (flat_map task_of before))) one → BeginWith R (RefusesBinds k m programs before) one
 unfolding RefusesBinds
-task_unknown k m programs before one tells of =
+task_unknown k m programs before one b =
     let unknown = IsUnknown k (λ (t : TaskLine). t.name) (flat_map task_of before) in
     let behind = IsAfterName (IsAfter (mark_word Colon) (RefusesTyped k m programs)) in
-    let found = unknown_behind k (key_word key.With) (λ (t : TaskLine). t.name) (flat_map task_of before) one tells of in
-    begin_after (key_word key.With) (λ more. unknown more ⊎ behind more) one found.0 found.1 (begin_left unknown behind found.0 found.2)
+    begin_with (IsAfter (key_word key.With) unknown) (IsAfter (key_word key.With) (λ more. unknown more ⊎ behind more)) one (λ front h. record { more = h.more; parts = h.parts; holds = inl h.holds }) b
 
-behind_task : (k : GrammarFaultKind) (m : ℕ) (programs : List Program) (before : List Item) (task : List ℕ) (one two : List Token) → one ≡ key_word key.With ∷ token.Name task ∷ two
-    → BeginWith (IsAfter (mark_word Colon) (RefusesTyped k m programs)) two → BeginWith (RefusesBinds k m programs before) one
+behind_task : {R : List Token → Type 0} (k : GrammarFaultKind) (m : ℕ) (programs : List Program) (before : List Item) (task : List ℕ) (one two : List Token) → one ≡ key_word key.With ∷ token.Name task ∷ two
+    → BeginWith R (IsAfter (mark_word Colon) (RefusesTyped k m programs)) two → BeginWith R (RefusesBinds k m programs before) one
 unfolding RefusesBinds
 behind_task k m programs before task one two e b =
     let unknown = IsUnknown k (λ (t : TaskLine). t.name) (flat_map task_of before) in
@@ -234,20 +225,19 @@ behind_task k m programs before task one two e b =
     (begin_right unknown (IsAfterName typed) (token.Name task ∷ two) (begin_after_name task typed (token.Name task ∷ two) two refl b))
 
 -- a type that is none of these programs
-pub type_unknown : (k : GrammarFaultKind) (m : ℕ) (programs : List Program) (before : List Item) (task : List ℕ) (one two : List Token) → one ≡ key_word key.With ∷ token.Name task ∷ two
-    → Tells k ⊥ ((more : List Token) × (two ≡ mark_word Colon ∷ more) × MissesName (λ (p : Program). p.name) programs more) ⊥ ⊥ ⊥ → IsOfName k → BeginWith (RefusesBinds k m programs before) one
+pub type_unknown : {R : List Token → Type 0} (k : GrammarFaultKind) (m : ℕ) (programs : List Program) (before : List Item) (task : List ℕ) (one two : List Token) → one ≡ key_word key.With ∷ token.Name task ∷ two
+    → BeginWith R (IsAfter (mark_word Colon) (IsUnknown k (λ (p : Program). p.name) programs)) two → BeginWith R (RefusesBinds k m programs before) one
 unfolding RefusesTyped
-type_unknown k m programs before task one two e tells of =
+type_unknown k m programs before task one two e b =
     let unknown = IsUnknown k (λ (p : Program). p.name) programs in
-    let bound = IsAfterType programs (λ p more. IsAfter (mark_word Open) (RefusesBind k m (variables p)) more) in
-    let found = unknown_behind k (mark_word Colon) (λ (p : Program). p.name) programs two tells of in
-    behind_task k m programs before task one two e (begin_after (mark_word Colon) (RefusesTyped k m programs) two found.0 found.1 (begin_left unknown bound found.0 found.2))
+    behind_task k m programs before task one two e
+    (begin_with (IsAfter (mark_word Colon) unknown) (IsAfter (mark_word Colon) (RefusesTyped k m programs)) two (λ front h. record { more = h.more; parts = h.parts; holds = inl h.holds }) b)
 
 -- an instance up to a word in its binds
-pub binds_of_type : (k : GrammarFaultKind) (m n : ℕ) (programs : List Program) (before : List Item) (task type : List ℕ) (p : Program) (one two now : List Token) → one ≡ key_word key.With ∷ token.Name task ∷ two → two ≡ mark_word Colon ∷ token.Name type ∷ now
-    → Any (λ (q : Program). IsTrue (is_named type q.name) × (q ≡ p)) programs → n ≡ m → BeginWith (IsAfter (mark_word Open) (RefusesBind k n (variables p))) now → BeginWith (RefusesBinds k m programs before) one
+pub binds_of_type : {R : List Token → Type 0} (k : GrammarFaultKind) (m n : ℕ) (programs : List Program) (before : List Item) (task type : List ℕ) (p : Program) (one two now : List Token) → one ≡ key_word key.With ∷ token.Name task ∷ two → two ≡ mark_word Colon ∷ token.Name type ∷ now
+    → Any (λ (q : Program). IsTrue (is_named type q.name) × (q ≡ p)) programs → n ≡ m → BeginWith R (IsAfter (mark_word Open) (RefusesBind k n (variables p))) now → BeginWith R (RefusesBinds k m programs before) one
 unfolding RefusesTyped
-binds_of_type k m n programs before task type p one two now h1 h2 known same b =
+binds_of_type {R = R} k m n programs before task type p one two now h1 h2 known same b =
     let unknown = IsUnknown k (λ (q : Program). q.name) programs in
     let bound = IsAfterType programs (λ q more. IsAfter (mark_word Open) (RefusesBind k m (variables q)) more) in
     let binds = IsAfter (mark_word Open) (RefusesBind k m (variables p)) in
@@ -255,28 +245,28 @@ binds_of_type k m n programs before task type p one two now h1 h2 known same b =
     (begin_after (mark_word Colon) (RefusesTyped k m programs) two (token.Name type ∷ now) h2
     (begin_right unknown bound (token.Name type ∷ now)
     (begin_with (IsAfter (token.Name type) binds) bound (token.Name type ∷ now) (λ front h. record { name = type; type = p; known = known; after = h })
-    (begin_after (token.Name type) binds (token.Name type ∷ now) now refl (subst (λ (j : ℕ). BeginWith (IsAfter (mark_word Open) (RefusesBind k j (variables p))) now) same b)))))
+    (begin_after (token.Name type) binds (token.Name type ∷ now) now refl (subst (λ (j : ℕ). BeginWith R (IsAfter (mark_word Open) (RefusesBind k j (variables p))) now) same b)))))
 
 -- a line of a resource behind others
-pub item_refused : (k : GrammarFaultKind) (old tally : TallyValue) (programs : List Program) (items : List Item) (start now : List Token) → start ≡ flat_map item_words items ++ now → tally ≡ tally_with old (flat_map use_of items)
-    → BeginWith (RefusesItem tally programs items k) now → BeginWith (RefusesItems k old.instances old.binds programs) start
+pub item_refused : {R : List Token → Type 0} (k : GrammarFaultKind) (old tally : TallyValue) (programs : List Program) (items : List Item) (start now : List Token) → start ≡ flat_map item_words items ++ now → tally ≡ tally_with old (flat_map use_of items)
+    → BeginWith R (RefusesItem tally programs items k) now → BeginWith R (RefusesItems k old.instances old.binds programs) start
 unfolding RefusesItems
-item_refused k old tally programs items start now e counted b =
-    begin_behind item_words (λ (xs : List Item) more. RefusesItem (tally_with old (flat_map use_of xs)) programs xs k more) items start now e (subst (λ t. BeginWith (RefusesItem t programs items k) now) counted b)
+item_refused {R = R} k old tally programs items start now e counted b =
+    begin_behind item_words (λ (xs : List Item) more. RefusesItem (tally_with old (flat_map use_of xs)) programs xs k more) items start now e (subst (λ t. BeginWith R (RefusesItem t programs items k) now) counted b)
 
 -- a resource up to its name
-pub resource_named : (k : GrammarFaultKind) (i m : ℕ) (programs : List Program) (before : List Resource) (start now : List Token) → start ≡ key_word key.Resource ∷ now
-    → TellsOfName k (RepeatsName (λ (r : Resource). r.name) before now) (IsNameNext now × (16 ≤ length before)) → IsOfName k → BeginWith (RefusesResource k i m programs before) start
+pub resource_named : {R : List Token → Type 0} (k : GrammarFaultKind) (i m : ℕ) (programs : List Program) (before : List Resource) (start now : List Token) (there : (t : Token) (rest : List Token) → now ≡ t ∷ rest → R rest) → start ≡ key_word key.Resource ∷ now
+    → TellsOfName k (RepeatsName (λ (r : Resource). r.name) before now) (IsNameNext now × (16 ≤ length before)) → IsOfName k → BeginWith R (RefusesResource k i m programs before) start
 unfolding RefusesResource
-resource_named k i m programs before start now e tells of =
+resource_named k i m programs before start now there e tells of =
     let inside = IsAfterName (IsAfter (key_word key.On) (IsAfterName (RefusesItems k i m programs))) in
     begin_after (key_word key.Resource) (λ more. RefusesResourceName k before more ⊎ inside more) start now e
-    (begin_left (RefusesResourceName k before) inside now (name_repeated k now (λ (r : Resource). r.name) before (16 ≤ length before) tells of))
+    (begin_left (RefusesResourceName k before) inside now (name_repeated k now there (λ (r : Resource). r.name) before (16 ≤ length before) tells of))
 
 -- a resource up to a name in one of its lines
-pub in_resource : (k : GrammarFaultKind) (i m : ℕ) (programs : List Program) (before : List Resource) (name node : List ℕ) (start one two three four : List Token)
+pub in_resource : {R : List Token → Type 0} (k : GrammarFaultKind) (i m : ℕ) (programs : List Program) (before : List Resource) (name node : List ℕ) (start one two three four : List Token)
     → start ≡ key_word key.Resource ∷ one → one ≡ token.Name name ∷ two → two ≡ key_word key.On ∷ three → three ≡ token.Name node ∷ four
-    → BeginWith (RefusesItems k i m programs) four → BeginWith (RefusesResource k i m programs before) start
+    → BeginWith R (RefusesItems k i m programs) four → BeginWith R (RefusesResource k i m programs before) start
 unfolding RefusesResource
 in_resource k i m programs before name node start one two three four h1 h2 h3 h4 b =
     let items = RefusesItems k i m programs in
@@ -286,18 +276,18 @@ in_resource k i m programs before name node start one two three four h1 h2 h3 h4
     (begin_after_name name (IsAfter (key_word key.On) (IsAfterName items)) one two h2 (begin_after (key_word key.On) (IsAfterName items) two three h3 (begin_after_name node items three four h4 b))))
 
 -- a resource behind others
-pub resource_refused : (k : GrammarFaultKind) (old tally : TallyValue) (programs : List Program) (rs : List Resource) (start now : List Token) → start ≡ flat_map resource_words rs ++ now → tally ≡ tally_with old (flat_map uses_of rs)
-    → BeginWith (RefusesResource k tally.instances tally.binds programs rs) now → BeginWith (RefusesResources k old.instances old.binds programs) start
+pub resource_refused : {R : List Token → Type 0} (k : GrammarFaultKind) (old tally : TallyValue) (programs : List Program) (rs : List Resource) (start now : List Token) → start ≡ flat_map resource_words rs ++ now → tally ≡ tally_with old (flat_map uses_of rs)
+    → BeginWith R (RefusesResource k tally.instances tally.binds programs rs) now → BeginWith R (RefusesResources k old.instances old.binds programs) start
 unfolding RefusesResources
-resource_refused k old tally programs rs start now e counted b =
+resource_refused {R = R} k old tally programs rs start now e counted b =
     begin_behind resource_words (λ (xs : List Resource) more. RefusesResource k (tally_with old (flat_map uses_of xs)).instances (tally_with old (flat_map uses_of xs)).binds programs xs more) rs start now e
-    (subst (λ (t : TallyValue). BeginWith (RefusesResource k t.instances t.binds programs rs) now) counted b)
+    (subst (λ (t : TallyValue). BeginWith R (RefusesResource k t.instances t.binds programs rs) now) counted b)
 
 -- a configuration up to a name in one of its resources
-pub in_configuration : (k : GrammarFaultKind) (programs : List Program) (name : List ℕ) (tally : TallyValue) (start one two three : List Token) → start ≡ flat_map program_words programs ++ one → one ≡ key_word key.Configuration ∷ two → two ≡ token.Name name ∷ three
-    → tally ≡ record { instances = 0; binds = 0 } → BeginWith (RefusesResources k tally.instances tally.binds programs) three → BeginWith (RefusesConfiguration k) start
+pub in_configuration : {R : List Token → Type 0} (k : GrammarFaultKind) (programs : List Program) (name : List ℕ) (tally : TallyValue) (start one two three : List Token) → start ≡ flat_map program_words programs ++ one → one ≡ key_word key.Configuration ∷ two → two ≡ token.Name name ∷ three
+    → tally ≡ record { instances = 0; binds = 0 } → BeginWith R (RefusesResources k tally.instances tally.binds programs) three → BeginWith R (RefusesConfiguration k) start
 unfolding RefusesConfiguration
-in_configuration k programs name tally start one two three h1 h2 h3 none b =
+in_configuration {R = R} k programs name tally start one two three h1 h2 h3 none b =
     let resources = RefusesResources k 0 0 programs in
     begin_behind program_words (λ (ps : List Program) more. IsAfter (key_word key.Configuration) (IsAfterName (RefusesResources k 0 0 ps)) more) programs start one h1
-    (begin_after (key_word key.Configuration) (IsAfterName resources) one two h2 (begin_after_name name resources two three h3 (subst (λ (t : TallyValue). BeginWith (RefusesResources k t.instances t.binds programs) three) none b)))
+    (begin_after (key_word key.Configuration) (IsAfterName resources) one two h2 (begin_after_name name resources two three h3 (subst (λ (t : TallyValue). BeginWith R (RefusesResources k t.instances t.binds programs) three) none b)))

@@ -1,7 +1,7 @@
 -- The lines on which words begin, counted on from the first.
 use Rattle.std.proofs.Common.{◌≡◌, ◌≢◌, ◌+◌, ◌-◌, ℕ, min, true, false, cond, ◌==◌, List, [], ◌∷◌, ◌++◌, length, map, All, take, ◌⊎◌, inl, inr, refl, ap, sym, subst, ◌∙◌, append_assoc, arith}
 use Rattle.std.proofs.lemmas.Bool.{cases_Bool}
-use Rattle.std.proofs.lemmas.List.{append-nil, length-append, map-append, flat_map_more}
+use Rattle.std.proofs.lemmas.List.{append-nil, length-append, map-append}
 use Rattle.std.proofs.lemmas.List.Sums.{sum_by-append}
 use Rattle.std.proofs.Math.Seq.{take-append_seam}
 use Rattle.plant_text.specs.declared.token.Token.{Token}
@@ -11,7 +11,7 @@ use Rattle.plant_text.specs.Words.{word_of}
 use Rattle.plant_text.specs.Spelling.{is_parted, is_one_line, first_line, IsGap, IsLineEnd, IsBody, IsEndLine, BeginsNoBlock, feeds, BeginsWith}
 use Rattle.plant_text.specs.Steps.Gaps.{IsBehindGap}
 use Rattle.plant_text.specs.Steps.Lexing.{IsWordThen, IsBlankLine, IsBehindBody, LexerValue, StandsFirst}
-use Rattle.plant_text.specs.Lines.{WordValue, body_line, body_lines, IsBegunBy}
+use Rattle.plant_text.specs.Lines.{WordValue, IsBegunBy}
 use Rattle.plant_text.proofs.FirstWords.{word_of-body}
 use Rattle.plant_text.proofs.SpelledWords.{known_before, known_last}
 
@@ -38,17 +38,17 @@ passed text front rest e =
     ap (λ n. take n text) cut ∙ ap (λ x. take (length front) x) e ∙ take-append_seam front rest
 
 -- a word that is no body, behind a gap
-begins_word : (n : ℕ) (text gap word rest : List ℕ) (w : WordValue) (t : Token) (more : List Token) (lines : List ℕ) → w.token ≡ t → text ≡ gap ++ word ++ rest → IsGap gap → word_of word ≡ t → is_parted word rest ≡ true
-    → BeginsWith (n + feeds gap) rest more lines → BeginsWith n text (t ∷ more) (body_line (record { token = t; line = w.line }) ++ lines)
-begins_word n text gap word rest w (token.Keyword k) more lines et e g i p s = (gap, word, rest, e, g, i, p, s)
-begins_word n text gap word rest w (token.Block k) more lines et e g i p s = (gap, word, rest, e, g, i, p, s)
-begins_word n text gap word rest w (token.Punctuation k) more lines et e g i p s = (gap, word, rest, e, g, i, p, s)
-begins_word n text gap word rest w (token.Name k) more lines et e g i p s = (gap, word, rest, e, g, i, p, s)
-begins_word n text gap word rest w (token.Number k) more lines et e g i p s = (gap, word, rest, e, g, i, p, s)
-begins_word n text gap word rest w (token.Duration k) more lines et e g i p s = (gap, word, rest, e, g, i, p, s)
-begins_word n text gap word rest w (token.Address k) more lines et e g i p s = (gap, word, rest, e, g, i, p, s)
-begins_word n text gap word rest w (token.Body k) more lines et e g i p s = absurd (word_of-body word k i)
-begins_word n text gap word rest w token.Unknown more lines et e g i p s = (gap, word, rest, e, g, i, p, s)
+begins_word : (n : ℕ) (text gap word rest : List ℕ) (line : ℕ) (t : Token) (more : List Token) (lines : List ℕ) → text ≡ gap ++ word ++ rest → IsGap gap → word_of word ≡ t → is_parted word rest ≡ true
+    → line ≡ min (n + feeds gap) 18446744073709551615 → BeginsWith (n + feeds gap) rest more lines → BeginsWith n text (t ∷ more) (line ∷ lines)
+begins_word n text gap word rest line (token.Keyword k) more lines e g i p l s = (gap, word, rest, e, g, i, p, l, s)
+begins_word n text gap word rest line (token.Block k) more lines e g i p l s = (gap, word, rest, e, g, i, p, l, s)
+begins_word n text gap word rest line (token.Punctuation k) more lines e g i p l s = (gap, word, rest, e, g, i, p, l, s)
+begins_word n text gap word rest line (token.Name k) more lines e g i p l s = (gap, word, rest, e, g, i, p, l, s)
+begins_word n text gap word rest line (token.Number k) more lines e g i p l s = (gap, word, rest, e, g, i, p, l, s)
+begins_word n text gap word rest line (token.Duration k) more lines e g i p l s = (gap, word, rest, e, g, i, p, l, s)
+begins_word n text gap word rest line (token.Address k) more lines e g i p l s = (gap, word, rest, e, g, i, p, l, s)
+begins_word n text gap word rest line (token.Body k) more lines e g i p l s = absurd (word_of-body word k i)
+begins_word n text gap word rest line token.Unknown more lines e g i p l s = (gap, word, rest, e, g, i, p, l, s)
 
 counted : (line n k : ℕ) → line ≡ min n 18446744073709551615 → min (line + k) 18446744073709551615 ≡ min (n + k) 18446744073709551615
 counted line n k e = omega (arith, e)
@@ -56,15 +56,15 @@ counted line n k e = omega (arith, e)
 -- the word in front, behind a gap that is passed
 pub word_stands : (old passing new : LexerValue) (inner front : List ℕ) (w : WordValue) → old.text ≡ inner → IsBehindGap inner front → passing.text ≡ front
     → passing.line ≡ min (old.line + feeds (take (length old.text - length front) old.text)) 18446744073709551615
-    → (w.token ≢ token.Unknown → IsWordThen passing.text w.token new.text) → new.line ≡ passing.line → StandsFirst old w new
-word_stands old passing new inner front w ei g ep el v en known n is =
+    → (w.token ≢ token.Unknown → IsWordThen passing.text w.token new.text) → new.line ≡ passing.line → w.line ≡ passing.line → StandsFirst old w new
+word_stands old passing new inner front w ei g ep el v en ew known n is =
     let word = v known in
     let behind : old.text ≡ g.0 ++ front = ei ∙ g.1 in
     let gone : feeds (take (length old.text - length front) old.text) ≡ feeds g.0 = ap feeds (passed old.text g.0 front behind) in
-    let line : new.line ≡ min (n + feeds g.0) 18446744073709551615 =
-    en ∙ el ∙ ap (λ k. min (old.line + k) 18446744073709551615) gone ∙ counted old.line n (feeds g.0) is in
+    let along : passing.line ≡ min (n + feeds g.0) 18446744073709551615 =
+    el ∙ ap (λ k. min (old.line + k) 18446744073709551615) gone ∙ counted old.line n (feeds g.0) is in
     let e : old.text ≡ g.0 ++ word.0 ++ new.text = behind ∙ ap (λ x. g.0 ++ x) (sym ep ∙ word.1) ∙ sym (append_assoc g.0 word.0 new.text) in
-    (n + feeds g.0, line, λ more lines s. begins_word n old.text g.0 word.0 new.text w w.token more lines refl e g.2 word.2 word.3 s)
+    (n + feeds g.0, en ∙ along, λ more lines s. begins_word n old.text g.0 word.0 new.text w.line w.token more lines e g.2 word.2 word.3 (ew ∙ along) s)
 
 -- a body behind the rest of a line
 pub body_stands : (old new : LexerValue) (inner lines rest body : List ℕ) (w : WordValue) → old.text ≡ inner → w.token ≡ token.Body body → w.line ≡ min (old.line + 1) 18446744073709551615 → new.text ≡ rest
@@ -80,12 +80,15 @@ body_stands old new inner lines rest body w ei et ew en el n l b f eb known k is
     let first : w.line ≡ min (k + 1) 18446744073709551615 = ew ∙ counted old.line k 1 is in (
       k + 1 + feeds body,
       line,
-      λ more further s. subst (λ (t : Token). BeginsWith k old.text (t ∷ more) (body_line (record { token = t; line = w.line }) ++ further)) (sym et)
+      λ more further s. subst (λ (t : Token). BeginsWith k old.text (t ∷ more) (w.line ∷ further)) (sym et)
           (l.0, l.1, rest, whole, n, l.3, l.4, l.5, subst IsBody (sym same) b.2, f, first, subst (λ (x : List ℕ). BeginsWith (k + 1 + feeds body) x more further) en s),
     )
 
 abbrev tokens : List WordValue → List Token
 tokens ws = map (λ (w : WordValue). w.token) ws
+
+abbrev word_lines : List WordValue → List ℕ
+word_lines ws = map (λ (w : WordValue). w.line) ws
 
 abbrev AreKnown : List WordValue → Type 0
 AreKnown ws = All (λ t. t ≢ token.Unknown) (tokens ws)
@@ -93,7 +96,7 @@ AreKnown ws = All (λ t. t ≢ token.Unknown) (tokens ws)
 -- what has been read up to here, with its lines
 abbrev pub IsCountedTo : List ℕ → List WordValue → LexerValue → Type 0
 IsCountedTo text ws left = AreKnown ws → (n : ℕ) × (left.line ≡ min n 18446744073709551615)
-    × ((more : List Token) (lines : List ℕ) → BeginsWith n left.text more lines → BeginsWith 1 text (tokens ws ++ more) (body_lines ws ++ lines))
+    × ((more : List Token) (lines : List ℕ) → BeginsWith n left.text more lines → BeginsWith 1 text (tokens ws ++ more) (word_lines ws ++ lines))
 
 pub counted_first : (text : List ℕ) (left : LexerValue) → left ≡ record { text = text; line = 1; stage = stage.Outside; bodies = 0 } → IsCountedTo text [] left
 counted_first text left e known =
@@ -102,9 +105,6 @@ counted_first text left e known =
 pub begun_first : (text : List ℕ) → IsBegunBy text []
 begun_first text [] back e known = refl
 begun_first text (w ∷ front) back e known = absurd cc
-
-lines_push : (ws : List WordValue) (w : WordValue) → body_lines (ws ++ w ∷ []) ≡ body_lines ws ++ body_line w
-lines_push ws w = sym (flat_map_more body_line [] ws w)
 
 known_parts : (ws : List WordValue) (w : WordValue) → AreKnown (ws ++ w ∷ []) → AreKnown ws × (w.token ≢ token.Unknown)
 known_parts ws w known =
@@ -119,10 +119,10 @@ counted_next text ws us w left new e before first known =
       f.0,
       f.1,
       λ more lines s.
-          let next : BeginsWith 1 text (tokens ws ++ w.token ∷ more) (body_lines ws ++ (body_line w ++ lines)) = b.2 (w.token ∷ more) (body_line w ++ lines) (f.2 more lines s) in
+          let next : BeginsWith 1 text (tokens ws ++ w.token ∷ more) (word_lines ws ++ w.line ∷ lines) = b.2 (w.token ∷ more) (w.line ∷ lines) (f.2 more lines s) in
           let words : tokens us ++ more ≡ tokens ws ++ w.token ∷ more = ap (λ (x : List WordValue). tokens x ++ more) e ∙ ap (λ x. x ++ more) (map-append (λ (w : WordValue). w.token) ws (w ∷ [])) ∙ append_assoc (tokens ws) (w.token ∷ []) more in
-          let further : body_lines us ++ lines ≡ body_lines ws ++ (body_line w ++ lines) = ap (λ (x : List WordValue). body_lines x ++ lines) e ∙ ap (λ x. x ++ lines) (lines_push ws w) ∙ append_assoc (body_lines ws) (body_line w) lines in
-          subst (λ (x : List Token). BeginsWith 1 text x (body_lines us ++ lines)) (sym words) (subst (λ (x : List ℕ). BeginsWith 1 text (tokens ws ++ w.token ∷ more) x) (sym further) next),
+          let further : word_lines us ++ lines ≡ word_lines ws ++ w.line ∷ lines = ap (λ (x : List WordValue). word_lines x ++ lines) e ∙ ap (λ x. x ++ lines) (map-append (λ (w : WordValue). w.line) ws (w ∷ [])) ∙ append_assoc (word_lines ws) (w.line ∷ []) lines in
+          subst (λ (x : List Token). BeginsWith 1 text x (word_lines us ++ lines)) (sym words) (subst (λ (x : List ℕ). BeginsWith 1 text (tokens ws ++ w.token ∷ more) x) (sym further) next),
     )
 
 -- a front of a list is the whole, or one of the list without its last
@@ -144,9 +144,9 @@ begun_next text ws us w left e before all front back parts known =
       | inl whole ↦
           let same : us ≡ front = e ∙ sym whole in
           let c = all (subst AreKnown (sym same) known) in
-          let s : BeginsWith 1 text (tokens us ++ []) (body_lines us ++ []) = c.2 [] [] refl in
-          let t : BeginsWith 1 text (tokens us) (body_lines us ++ []) = subst (λ (x : List Token). BeginsWith 1 text x (body_lines us ++ [])) (append-nil (tokens us)) s in
-          let u : BeginsWith 1 text (tokens us) (body_lines us) = subst (λ (x : List ℕ). BeginsWith 1 text (tokens us) x) (append-nil (body_lines us)) t in
-          subst (λ (x : List WordValue). BeginsWith 1 text (tokens x) (body_lines x)) same u
+          let s : BeginsWith 1 text (tokens us ++ []) (word_lines us ++ []) = c.2 [] [] refl in
+          let t : BeginsWith 1 text (tokens us) (word_lines us ++ []) = subst (λ (x : List Token). BeginsWith 1 text x (word_lines us ++ [])) (append-nil (tokens us)) s in
+          let u : BeginsWith 1 text (tokens us) (word_lines us) = subst (λ (x : List ℕ). BeginsWith 1 text (tokens us) x) (append-nil (word_lines us)) t in
+          subst (λ (x : List WordValue). BeginsWith 1 text (tokens x) (word_lines x)) same u
       | inr part ↦ before front part.0 part.1 known
     ]

@@ -27,9 +27,13 @@ IsSpelledBy text ws =
     All (λ t. t ≢ token.Unknown) (map (λ (w : WordValue). w.token) ws)
     → Spells text (map (λ (w : WordValue). w.token) ws)
 
--- The text begins with each front of these words, as far as they are words.
+-- The text begins with these words, each on its line.
+abbrev pub BeginsWithWords : List ℕ → List WordValue → Type 0
+BeginsWithWords text ws =
+    BeginsWith 1 text (map (λ (w : WordValue). w.token) ws) (map (λ (w : WordValue). w.line) ws)
+
+-- So it does with each front of these words, as far as they are words.
 abbrev pub IsBegunBy : List ℕ → List WordValue → Type 0
 IsBegunBy text ws =
     (front back : List WordValue) → ws ≡ front ++ back
-    → All (λ t. t ≢ token.Unknown) (map (λ (w : WordValue). w.token) front)
-    → BeginsWith 1 text (map (λ (w : WordValue). w.token) front) (body_lines front)
+    → All (λ t. t ≢ token.Unknown) (map (λ (w : WordValue). w.token) front) → BeginsWithWords text front

@@ -75,17 +75,17 @@ Spells text (t ∷ more) =
 abbrev pub feeds : List ℕ → ℕ
 feeds text = count_by (λ c. c == 10) text
 
--- The text begins with these words, as one that spells them does, and the bodies among them begin on the lines of
--- these numbers. Its first line has this number, and behind each line feed begins a further one; none has a number
--- above the greatest.
+-- The text begins with these words, as one that spells them does, and each of them begins on the line of its number. The
+-- text's first line has this number, and behind each line feed begins a further one; none has a number above the greatest.
 abbrev pub BeginsWith : ℕ → List ℕ → List Token → List ℕ → Type 0
 BeginsWith line text [] lines = lines ≡ []
-BeginsWith line text (token.Body body ∷ more) [] = ⊥
+BeginsWith line text (t ∷ more) [] = ⊥
 BeginsWith line text (token.Body body ∷ more) (first ∷ lines) =
     (gap line_end rest : List ℕ) × (text ≡ gap ++ line_end ++ body ++ rest)
     × BeginsNoBlock text × IsGap gap × IsTrue (is_one_line gap) × IsLineEnd line_end
     × IsBody body × IsEndLine (first_line rest)
     × (first ≡ min (line + 1) 18446744073709551615) × BeginsWith (line + 1 + feeds body) rest more lines
-BeginsWith line text (t ∷ more) lines =
+BeginsWith line text (t ∷ more) (first ∷ lines) =
     (gap word rest : List ℕ) × (text ≡ gap ++ word ++ rest)
-    × IsGap gap × (word_of word ≡ t) × IsTrue (is_parted word rest) × BeginsWith (line + feeds gap) rest more lines
+    × IsGap gap × (word_of word ≡ t) × IsTrue (is_parted word rest)
+    × (first ≡ min (line + feeds gap) 18446744073709551615) × BeginsWith (line + feeds gap) rest more lines

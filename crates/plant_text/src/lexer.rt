@@ -139,6 +139,7 @@ impl<'a> Lexer<'a> {
     /// What is no word, at a line: the last word.
     fn stop(&mut self, line: u64) -> Word
         ensures unknown { result.token ≡ token.Unknown }
+        ensures begins { result.line ≡ line }
         ensures end { self.new.text ≡ [] }
         ensures line { self.new.line ≡ self.old.line }
         ensures counted { self.new.bodies ≡ self.old.bodies }
@@ -155,6 +156,7 @@ impl<'a> Lexer<'a> {
         ensures stage { IfOk result (λ w. w.token ≢ token.Unknown → self.new.stage ≡ stage_behind w.token self.old.stage) }
         ensures counted { OnOk result (self.new.bodies ≡ self.old.bodies) }
         ensures line { OnOk result (self.new.line ≡ self.old.line) }
+        ensures begins { IfOk result (λ w. w.line ≡ self.old.line) }
         ensures shorter { OnOk result (length self.new.text < length self.old.text) }
     {
         let line = self.line;

@@ -23,6 +23,7 @@ use Rattle.plant_grammar.specs.Grammar.{mark_word, TextValue}
 use Rattle.plant_grammar.specs.Kinds.{kind_of_space, input_kind_of}
 use Rattle.plant_grammar.specs.Lawful.{IsTypeLawful, task_of, use_of}
 use Rattle.plant_grammar.specs.NameFaults.{IsOfName, Tells, TellsOfName, IsNameTaken, IsAfter, RefusesPrograms, RefusesTask, RefusesBind, RefusesInstance, RefusesItems, RefusesResource, RefusesResources, RefusesConfiguration}
+use Rattle.plant_grammar.specs.Steps.Lines.{ReaderValue, HasLinesOf, next_line}
 use Rattle.plant_grammar.specs.Steps.ReadParts.{TallyValue}
 use Rattle.plant_grammar.specs.Steps.Reading.{programs_of}
 
@@ -73,11 +74,6 @@ MissesName name_of xs words =
 abbrev pub TellsOfMissing : {A : Type 0} → (A → List ℕ) → List A → List Token → GrammarFault → Type 0
 TellsOfMissing name_of xs words fault = Tells fault.kind ⊥ (MissesName name_of xs words) ⊥ ⊥ ⊥
 
--- so it is with the word behind this one
-abbrev pub TellsOfMissingBehind : {A : Type 0} → Token → (A → List ℕ) → List A → List Token → GrammarFault → Type 0
-TellsOfMissingBehind t name_of xs words fault =
-    Tells fault.kind ⊥ ((more : List Token) × (words ≡ t ∷ more) × MissesName name_of xs more) ⊥ ⊥ ⊥
-
 -- the next word is a name, but none of an input
 abbrev pub MissesInput : List Declaration → List Token → Type 0
 MissesInput ds words =
@@ -121,25 +117,35 @@ TellsOfChecked variables more name fault =
 abbrev pub TellsOfAdded : List Declaration → List ℕ → GrammarFault → Type 0
 TellsOfAdded variables name fault = TellsOfName fault.kind (IsDeclared variables name) (1000 ≤ length variables)
 
--- One of these names is refused. The kind is NameTwice only where one of these variables or an earlier name is the
--- same, and TooMany only where all these are 1,000.
-abbrev pub RefusesOneOf : List (List ℕ) → List Declaration → GrammarFaultKind → Type 0
-RefusesOneOf listed variables k =
-    (names more : List (List ℕ)) × (name : List ℕ) × (listed ≡ names ++ name ∷ more)
-    × TellsOfName k
-    (IsNameTaken (λ (v : Declaration). v.name) variables name ⊎ IsNameTaken (λ (m : List ℕ). m) names name)
-    (1000 ≤ length variables + length names)
+-- This is the line of the word before the rest, where all words begin on these lines.
+pub record IsLineBefore (all : List ℕ) (line : ℕ) (rest : List Token) : Type 0 where
+  pub before : List ℕ
+  pub behind : List ℕ
+  pub parts : all ≡ before ++ line ∷ behind
+  pub each : length behind ≡ length rest
 
--- the words begin with words of which this holds
-pub record BeginWith (P : List Token → Type 0) (words : List Token) : Type 0 where
+-- the words begin with words of which this holds, and of the rest holds that
+pub record BeginWith (R : List Token → Type 0) (P : List Token → Type 0) (words : List Token) : Type 0 where
   pub front : List Token
   pub rest : List Token
   pub parts : words ≡ front ++ rest
   pub holds : P front
+  pub behind : R rest
 
--- if the fault is of a name, the words begin with words up to one that is refused so
-abbrev pub BeginRefused : (GrammarFaultKind → List Token → Type 0) → List Token → GrammarFault → Type 0
-BeginRefused Refuses words fault = IsOfName fault.kind → BeginWith (Refuses fault.kind) words
+-- If the fault is of a name, these words, of which the last are left, begin with words up to one that is refused so, and
+-- the fault is on its line.
+abbrev pub BeginRefusedBehind : (GrammarFaultKind → List Token → Type 0) → ReaderValue → List Token → GrammarFault → Type 0
+BeginRefusedBehind Refuses left words fault =
+    (all : List ℕ) → HasLinesOf all left → IsOfName fault.kind
+    → BeginWith (IsLineBefore all fault.line) (Refuses fault.kind) words
+
+-- so it is with the words that are left
+abbrev pub BeginRefused : (GrammarFaultKind → List Token → Type 0) → ReaderValue → GrammarFault → Type 0
+BeginRefused Refuses left fault = BeginRefusedBehind Refuses left left.words fault
+
+-- if the fault is of a name, it is on the line of the next word
+abbrev pub IsAtNext : ReaderValue → GrammarFault → Type 0
+IsAtNext left fault = IsOfName fault.kind → fault.line ≡ next_line left
 
 -- a line of a resource up to a word refused, behind so many instances and binds of the plant
 abbrev pub RefusesItem : TallyValue → List Program → List Item → GrammarFaultKind → List Token → Type 0

@@ -1,5 +1,5 @@
 -- What is left to be read of a plant's words, and the fault of the next one.
-use Rattle.std.specs.Prelude.{◌≡◌, ◌++◌, ℕ, List, [], ◌∷◌, map, Option, MatchOption}
+use Rattle.std.specs.Prelude.{◌≡◌, ◌++◌, ℕ, List, [], ◌∷◌, length, map, Option, MatchOption}
 use Rattle.std.specs.Borrow.{Bor}
 use Rattle.plant_text.specs.declared.token.Token.{Token}
 use Rattle.plant_text.specs.Lines.{WordValue, body_line, body_lines}
@@ -29,6 +29,16 @@ next_line r = of_lines r.lines where
 -- the fault of a next word that the grammar doesn't have there
 abbrev pub syntax_at : ReaderValue → GrammarFault
 syntax_at r = record { kind = Syntax; line = next_line r }
+
+-- Each word that is left has its line, and these lines are the last of all.
+pub record HasLinesOf (all : List ℕ) (r : ReaderValue) : Type 0 where
+  pub front : List ℕ
+  pub parts : all ≡ front ++ r.lines
+  pub each : length r.lines ≡ length r.words
+
+-- Words were read from the front, each with its line.
+abbrev pub KeepsLines : ReaderValue → ReaderValue → Type 0
+KeepsLines old new = (all : List ℕ) → HasLinesOf all old → HasLinesOf all new
 
 -- the words behind the next one
 abbrev pub behind : List Token → List Token

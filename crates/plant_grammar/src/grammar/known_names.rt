@@ -18,19 +18,20 @@ use crate::grammar::tree::{Bind, Item, Resource};
 use crate::grammar_fault::{GrammarFault, GrammarFaultKind};
 use declared_names::{Declared, Kind};
 
-/// A new name, if it isn't declared twice and there may be one more.
-pub fn check_new(name: &Name, is_twice: bool, is_full: bool) -> Result<(), GrammarFault>
+/// Refuses a name on a line that is declared already, and one too many.
+pub fn check_new(line: u64, is_twice: bool, is_full: bool) -> Result<(), GrammarFault>
     ensures ok { OnOk result (IsFalse is_twice × IsFalse is_full) }
     ensures twice { IfErr result (λ e. IsTrue is_twice → e.kind ≡ NameTwice) }
     ensures full { IfErr result (λ e. IsFalse is_twice → IsTrue is_full × (e.kind ≡ TooMany)) }
     ensures tells { IfErr result (λ e. TellsOfName e.kind (IsTrue is_twice) (IsTrue is_full)) }
     ensures named { IfErr result (λ e. e.kind ≢ Syntax) }
+    ensures line { IfErr result (λ e. e.line ≡ line) }
     ensures value { IfErr result IsGrammarFault }
 {
     if is_twice {
-        Err(GrammarFault::at(GrammarFaultKind::NameTwice, name.line()))
+        Err(GrammarFault::at(GrammarFaultKind::NameTwice, line))
     } else if is_full {
-        Err(GrammarFault::at(GrammarFaultKind::TooMany, name.line()))
+        Err(GrammarFault::at(GrammarFaultKind::TooMany, line))
     } else {
         Ok(())
     }

@@ -19,8 +19,8 @@ ghost use Rattle.plant_grammar.specs.Grammar.{key_word, mark_word, section_words
 ghost use Rattle.plant_grammar.specs.Lawful.{list_variables, lists_variables, block_variables, IsTypeLawful, IsListLawful, IsBlockLawful, IsProgramLawful};
 ghost use Rattle.plant_grammar.specs.WellFormed.{HasNames, IsBlockWellFormed, IsProgramWellFormed};
 ghost use Rattle.plant_grammar.specs.NameFaults.{TellsOfName, RefusesVariable, RefusesOneList, RefusesList, RefusesBlock, RefusesBlocks, RefusesProgram, RefusesPrograms};
-ghost use Rattle.plant_grammar.specs.Steps.Declaring.{TellsOfType, TellsOfVariable, TellsOfBlock, BeginRefused};
-ghost use Rattle.plant_grammar.specs.Steps.Lines.{next_line, IsNotNext, IsOneNext, IsNoneNext};
+ghost use Rattle.plant_grammar.specs.Steps.Declaring.{TellsOfType, TellsOfVariable, TellsOfBlock, BeginRefused, BeginRefusedBehind, IsAtNext};
+ghost use Rattle.plant_grammar.specs.Steps.Lines.{next_line, KeepsLines, IsNotNext, IsOneNext, IsNoneNext};
 ghost use Rattle.plant_grammar.specs.Steps.ReadParts.{section_start, IsSectionWhole, IsNew, AreVariables, AreProgramsDeclared};
 ghost use Rattle.plant_grammar.specs.Steps.Reading.{programs_of, all_words, AreSameWords, AreSameLines, BeginWithWordsOf, BeginWithLinesOf};
 
@@ -41,6 +41,7 @@ const MOST_TYPES: usize = 64;
 
 impl<'a> Reader<'a> {
     /// A further name of a program, behind the variables and the names of the same list.
+    #[tactic(auto, using(crate::proofs::RefusedNames::no_name))]
     fn variable(
         &mut self,
         alloc: Global,
@@ -48,14 +49,19 @@ impl<'a> Reader<'a> {
         before: &[Name],
     ) -> Result<Name, GrammarFault>
         ensures ok { IfOk result (λ name. self.old.words ≡ token.Name name ∷ self.new.words) }
+        ensures left { OnOk result (KeepsLines self.old self.new) }
         ensures bodies { OnOk result (self.new.bodies ≡ self.old.bodies) }
         ensures other { IfErr result (λ e. e.kind ≢ Memory → (name : List ℕ) (rest : List Token) → self.old.words ≡ token.Name name ∷ rest → (IsDeclared variables.now name → ⊥) → IsNew (λ n. n) before.now name → length variables.now + length before.now < 1000 → ⊥) }
+        ensures lawful { OnOk result (AreVariables variables.now) }
+        ensures new { IfOk result (λ name. (IsDeclared variables.now name → ⊥) × IsNew (λ n. n) before.now name × (length variables.now + length before.now < 1000)) }
         ensures tells { IfErr result (TellsOfVariable variables.now before.now self.old.words) }
+        ensures line { IfErr result (IsAtNext self.old) }
         ensures syntax { IfErr result (λ e. e.kind ≡ Syntax → IsNoneNext token.Name self.old.words) }
         ensures value { IfErr result IsGrammarFault }
     {
+        let line = self.line();
         let name = self.name(alloc)?;
-        variables.check(before, &name)?;
+        variables.check(before, &name, line)?;
         Ok(name)
     }
 
@@ -63,11 +69,13 @@ impl<'a> Reader<'a> {
     #[tactic(auto, using(crate::proofs::RefusedNames::no_name, crate::proofs::RefusedNames::memory_no_name, crate::proofs::MissingWords::memory_no_syntax))]
     fn names(&mut self, alloc: Global, variables: &Variables) -> Result<Vec<Name>, GrammarFault>
         ensures ok { IfOk result (λ names. self.old.words ≡ name_words names.items ++ self.new.words) }
+        ensures left { OnOk result (KeepsLines self.old self.new) }
         ensures bodies { OnOk result (self.new.bodies ≡ self.old.bodies) }
         ensures some { IfOk result (λ names. 0 < length names.items) }
+        ensures may { IfOk result (λ names. MayBeDeclared variables.now names.items) }
         ensures other { IfErr result (λ e. e.kind ≢ Memory → (ns : List (List ℕ)) (rest : List Token) → self.old.words ≡ name_words ns ++ mark_word Colon ∷ rest → 0 < length ns → MayBeDeclared variables.now ns → ⊥) }
         ensures only { IfOk result (λ names. (ns : List (List ℕ)) (rest : List Token) → self.old.words ≡ name_words ns ++ mark_word Colon ∷ rest → 0 < length ns → (names.items ≡ ns) × (self.new.words ≡ mark_word Colon ∷ rest)) }
-        ensures names { IfErr result (BeginRefused (λ k. RefusesVariable k variables.now) self.old.words) }
+        ensures names { IfErr result (BeginRefused (λ k. RefusesVariable k variables.now) self.old) }
         ensures syntax { IfErr result (λ e. e.kind ≡ Syntax → (ns : List (List ℕ)) (rest : List Token) → self.old.words ≡ name_words ns ++ mark_word Colon ∷ rest → 0 < length ns → ⊥) }
         ensures value { IfErr result IsGrammarFault }
     {
@@ -83,6 +91,7 @@ impl<'a> Reader<'a> {
     /// BOOL, INT or TIME.
     fn kind(&mut self) -> Result<Kind, GrammarFault>
         ensures ok { IfOk result (λ kind. self.old.words ≡ kind_word kind ∷ self.new.words) }
+        ensures left { OnOk result (KeepsLines self.old self.new) }
         ensures bodies { OnOk result (self.new.bodies ≡ self.old.bodies) }
         ensures other { OnErr result (IsNoneNext kind_word self.old.words) }
         ensures tells { IfErr result (λ e. TellsOfName e.kind ⊥ ⊥) }
@@ -101,13 +110,16 @@ impl<'a> Reader<'a> {
     }
 
     /// The type of names of a section.
+    #[tactic(auto, using(crate::proofs::RefusedNames::no_name))]
     fn type_name(&mut self, section: Section) -> Result<TypeName, GrammarFault>
         ensures ok { IfOk result (λ t. self.old.words ≡ type_word t ∷ self.new.words) }
+        ensures left { OnOk result (KeepsLines self.old self.new) }
         ensures bodies { OnOk result (self.new.bodies ≡ self.old.bodies) }
         ensures lawful { IfOk result (λ t. IsTypeLawful section t) }
         ensures other { OnErr result ((t : TypeName) (rest : List Token) → self.old.words ≡ type_word t ∷ rest → IsTypeLawful section t → ⊥) }
         ensures only { OnOk result ((t : TypeName) (rest : List Token) → self.old.words ≡ type_word t ∷ rest → rest ≡ self.new.words) }
         ensures tells { IfErr result (TellsOfBlock section self.old.words) }
+        ensures line { IfErr result (IsAtNext self.old) }
         ensures syntax { IfErr result (λ e. e.kind ≡ Syntax → IsNoneNext type_word self.old.words) }
         ensures value { IfErr result IsGrammarFault }
     {
@@ -129,11 +141,12 @@ impl<'a> Reader<'a> {
         variables: &mut Variables,
     ) -> Result<NameList, GrammarFault>
         ensures ok { IfOk result (λ l. self.old.words ≡ list_words l ++ self.new.words) }
+        ensures left { OnOk result (KeepsLines self.old self.new) }
         ensures bodies { OnOk result (self.new.bodies ≡ self.old.bodies) }
         ensures declared { IfOk result (λ l. variables.new ≡ variables.old ++ list_variables section l) }
         ensures lawful { IfOk result (λ l. IsListLawful section l) }
         ensures other { IfErr result (λ e. e.kind ≢ Memory → (ns : List (List ℕ)) (t : TypeName) (rest : List Token) → self.old.words ≡ name_words ns ++ mark_word Colon ∷ type_word t ∷ mark_word Semicolon ∷ rest → 0 < length ns → IsTypeLawful section t → MayBeDeclared variables.old ns → ⊥) }
-        ensures names { IfErr result (BeginRefused (RefusesOneList section variables.old) self.old.words) }
+        ensures names { IfErr result (BeginRefused (RefusesOneList section variables.old) self.old) }
         ensures syntax { IfErr result (λ e. e.kind ≡ Syntax → (ns : List (List ℕ)) (t : TypeName) (rest : List Token) → self.old.words ≡ name_words ns ++ mark_word Colon ∷ type_word t ∷ mark_word Semicolon ∷ rest → 0 < length ns → ⊥) }
         ensures value { IfErr result IsGrammarFault }
     {
@@ -155,11 +168,12 @@ impl<'a> Reader<'a> {
         variables: &mut Variables,
     ) -> Result<Vec<NameList>, GrammarFault>
         ensures ok { IfOk result (λ ls. self.old.words ≡ lists_words ls.items ++ self.new.words) }
+        ensures left { OnOk result (KeepsLines self.old self.new) }
         ensures bodies { OnOk result (self.new.bodies ≡ self.old.bodies) }
         ensures declared { IfOk result (λ ls. variables.new ≡ variables.old ++ lists_variables section ls.items) }
         ensures lawful { IfOk result (λ ls. All (IsListLawful section) ls.items) }
         ensures other { IfErr result (λ e. e.kind ≢ Memory → (ls : List NameList) (rest : List Token) → self.old.words ≡ lists_words ls ++ rest → All (IsListLawful section) ls → AreVariables (variables.old ++ lists_variables section ls) → ⊥) }
-        ensures names { IfErr result (BeginRefused (λ k. RefusesList k section variables.old) self.old.words) }
+        ensures names { IfErr result (BeginRefused (λ k. RefusesList k section variables.old) self.old) }
         ensures syntax { IfErr result (λ e. e.kind ≡ Syntax → (ls : List NameList) (rest : List Token) → self.old.words ≡ lists_words ls ++ rest → All HasNames ls → ⊥) }
         ensures value { IfErr result IsGrammarFault }
     {
@@ -185,6 +199,7 @@ impl<'a> Reader<'a> {
     /// VAR_INPUT, VAR_OUTPUT, VAR or VAR RETAIN.
     fn section(&mut self) -> Result<Section, GrammarFault>
         ensures ok { IfOk result (λ s. self.old.words ≡ section_words s ++ self.new.words) }
+        ensures left { OnOk result (KeepsLines self.old self.new) }
         ensures whole { IfOk result (λ s. IsSectionWhole s self.new.words) }
         ensures bodies { OnOk result (self.new.bodies ≡ self.old.bodies) }
         ensures other { OnErr result (IsNoneNext section_start self.old.words) }
@@ -211,11 +226,12 @@ impl<'a> Reader<'a> {
     #[tactic(auto, using(crate::proofs::RefusedNames::no_name, crate::proofs::RefusedNames::memory_no_name, crate::proofs::MissingWords::memory_no_syntax), unfolding(crate::specs::Grammar::block_words))]
     fn block(&mut self, alloc: Global, variables: &mut Variables) -> Result<VarBlock, GrammarFault>
         ensures ok { IfOk result (λ b. self.old.words ≡ block_words b ++ self.new.words) }
+        ensures left { OnOk result (KeepsLines self.old self.new) }
         ensures bodies { OnOk result (self.new.bodies ≡ self.old.bodies) }
         ensures declared { IfOk result (λ b. variables.new ≡ variables.old ++ block_variables b) }
         ensures lawful { IfOk result (λ b. IsBlockLawful b) }
         ensures other { IfErr result (λ e. e.kind ≢ Memory → (s : Section) (ls : List NameList) (rest : List Token) → self.old.words ≡ section_words s ++ (lists_words ls ++ rest) → All (IsListLawful s) ls → AreVariables (variables.old ++ lists_variables s ls) → ⊥) }
-        ensures names { IfErr result (BeginRefused (λ k. RefusesBlock k variables.old) self.old.words) }
+        ensures names { IfErr result (BeginRefused (λ k. RefusesBlock k variables.old) self.old) }
         ensures syntax { IfErr result (λ e. e.kind ≡ Syntax → (s : Section) (ls : List NameList) (rest : List Token) → self.old.words ≡ section_words s ++ (lists_words ls ++ rest) → All HasNames ls → ⊥) }
         ensures value { IfErr result IsGrammarFault }
     {
@@ -232,12 +248,13 @@ impl<'a> Reader<'a> {
         variables: &mut Variables,
     ) -> Result<Vec<VarBlock>, GrammarFault>
         ensures ok { IfOk result (λ bs. self.old.words ≡ flat_map block_words bs.items ++ self.new.words) }
+        ensures left { OnOk result (KeepsLines self.old self.new) }
         ensures bodies { OnOk result (self.new.bodies ≡ self.old.bodies) }
         ensures declared { IfOk result (λ bs. variables.new ≡ variables.old ++ flat_map block_variables bs.items) }
         ensures lawful { IfOk result (λ bs. All IsBlockLawful bs.items) }
         ensures none { OnOk result (IsNoneNext section_start self.new.words) }
         ensures other { IfErr result (λ e. e.kind ≢ Memory → (bs : List VarBlock) (rest : List Token) → self.old.words ≡ flat_map block_words bs ++ rest → IsNoneNext section_start rest → All IsBlockLawful bs → AreVariables (variables.old ++ flat_map block_variables bs) → ⊥) }
-        ensures names { IfErr result (BeginRefused (λ k. RefusesBlocks k variables.old) self.old.words) }
+        ensures names { IfErr result (BeginRefused (λ k. RefusesBlocks k variables.old) self.old) }
         ensures syntax { IfErr result (λ e. e.kind ≡ Syntax → (bs : List VarBlock) (rest : List Token) → self.old.words ≡ flat_map block_words bs ++ rest → IsNoneNext section_start rest → All IsBlockWellFormed bs → ⊥) }
         ensures value { IfErr result IsGrammarFault }
     {
@@ -250,18 +267,22 @@ impl<'a> Reader<'a> {
     }
 
     /// A new name of a program type, behind these.
+    #[tactic(auto, using(crate::proofs::RefusedNames::no_name))]
     fn new_type(&mut self, alloc: Global, before: &[ProgramText]) -> Result<Name, GrammarFault>
         ensures ok { IfOk result (λ name. self.old.words ≡ token.Name name ∷ self.new.words) }
+        ensures left { OnOk result (KeepsLines self.old self.new) }
         ensures bodies { OnOk result (self.new.bodies ≡ self.old.bodies) }
         ensures new { IfOk result (λ name. IsNew (λ p. p.name) (programs_of before.now) name) }
         ensures few { OnOk result (length before.now < 64) }
         ensures other { IfErr result (λ e. e.kind ≢ Memory → (name : List ℕ) (rest : List Token) → self.old.words ≡ token.Name name ∷ rest → IsNew (λ p. p.name) (programs_of before.now) name → length before.now < 64 → ⊥) }
         ensures tells { IfErr result (TellsOfType before.now self.old.words) }
+        ensures line { IfErr result (IsAtNext self.old) }
         ensures syntax { IfErr result (λ e. e.kind ≡ Syntax → IsNoneNext token.Name self.old.words) }
         ensures value { IfErr result IsGrammarFault }
     {
+        let line = self.line();
         let name = self.name(alloc)?;
-        check_new(&name, is_program(before, &name), before.len() >= MOST_TYPES)?;
+        check_new(line, is_program(before, &name), before.len() >= MOST_TYPES)?;
         Ok(name)
     }
 
@@ -269,11 +290,12 @@ impl<'a> Reader<'a> {
     #[tactic(auto, using(crate::proofs::RefusedNames::no_name))]
     fn program_start(&mut self, alloc: Global, before: &[ProgramText]) -> Result<Name, GrammarFault>
         ensures ok { IfOk result (λ name. self.old.words ≡ key_word key.Program ∷ token.Name name ∷ self.new.words) }
+        ensures left { OnOk result (KeepsLines self.old self.new) }
         ensures bodies { OnOk result (self.new.bodies ≡ self.old.bodies) }
         ensures new { IfOk result (λ name. IsNew (λ p. p.name) (programs_of before.now) name) }
         ensures few { OnOk result (length before.now < 64) }
         ensures other { IfErr result (λ e. e.kind ≢ Memory → (name : List ℕ) (rest : List Token) → self.old.words ≡ key_word key.Program ∷ token.Name name ∷ rest → IsNew (λ p. p.name) (programs_of before.now) name → length before.now < 64 → ⊥) }
-        ensures names { IfErr result (BeginRefused (λ k. RefusesProgram k (programs_of before.now)) self.old.words) }
+        ensures names { IfErr result (BeginRefused (λ k. RefusesProgram k (programs_of before.now)) self.old) }
         ensures syntax { IfErr result (λ e. e.kind ≡ Syntax → (name : List ℕ) (rest : List Token) → self.old.words ≡ key_word key.Program ∷ token.Name name ∷ rest → ⊥) }
         ensures value { IfErr result IsGrammarFault }
     {
@@ -284,6 +306,7 @@ impl<'a> Reader<'a> {
     /// A body up to the end of its program.
     fn program_end(&mut self, alloc: Global) -> Result<Text, GrammarFault>
         ensures ok { IfOk result (λ body. self.old.words ≡ token.Body body ∷ key_word key.EndProgram ∷ self.new.words) }
+        ensures left { OnOk result (KeepsLines self.old self.new) }
         ensures bodies { OnOk result (self.old.bodies ≡ next_line self.old ∷ self.new.bodies) }
         ensures other { IfErr result (λ e. e.kind ≢ Memory → (body : List ℕ) (rest : List Token) → self.old.words ≡ token.Body body ∷ key_word key.EndProgram ∷ rest → ⊥) }
         ensures tells { IfErr result (λ e. TellsOfName e.kind ⊥ ⊥) }
@@ -302,12 +325,13 @@ impl<'a> Reader<'a> {
         before: &[ProgramText],
     ) -> Result<ProgramText, GrammarFault>
         ensures ok { IfOk result (λ p. self.old.words ≡ program_words p.program ++ self.new.words) }
+        ensures left { OnOk result (KeepsLines self.old self.new) }
         ensures bodies { IfOk result (λ p. self.old.bodies ≡ p.first_line ∷ self.new.bodies) }
         ensures new { IfOk result (λ p. IsNew (λ p. p.name) (programs_of before.now) p.program.name) }
         ensures few { OnOk result (length before.now < 64) }
         ensures declared { IfOk result (λ p. IsProgramLawful p.program) }
         ensures other { IfErr result (λ e. e.kind ≢ Memory → (p : Program) (rest : List Token) → self.old.words ≡ program_words p ++ rest → IsNew (λ p. p.name) (programs_of before.now) p.name → length before.now < 64 → IsProgramLawful p → ⊥) }
-        ensures names { IfErr result (BeginRefused (λ k. RefusesProgram k (programs_of before.now)) self.old.words) }
+        ensures names { IfErr result (BeginRefused (λ k. RefusesProgram k (programs_of before.now)) self.old) }
         ensures syntax { IfErr result (λ e. e.kind ≡ Syntax → (p : Program) (rest : List Token) → self.old.words ≡ program_words p ++ rest → IsProgramWellFormed p → ⊥) }
         ensures value { IfErr result IsGrammarFault }
     {
@@ -329,13 +353,14 @@ impl<'a> Reader<'a> {
     ) -> Result<(), GrammarFault>
         requires { AreProgramsDeclared (programs_of texts.old.items) }
         ensures ok { OnOk result (AreSameWords texts.old.items self.old.words texts.new.items self.new.words) }
+        ensures left { OnOk result (KeepsLines self.old self.new) }
         ensures err { OnErr result (BeginWithWordsOf texts.old.items self.old.words texts.new.items) }
         ensures lines { OnOk result (AreSameLines texts.old.items self.old.bodies texts.new.items self.new.bodies) }
         ensures err_lines { OnErr result (BeginWithLinesOf texts.old.items self.old.bodies texts.new.items) }
         ensures declared { AreProgramsDeclared (programs_of texts.new.items) }
         ensures none { OnOk result (IsNotNext (key_word key.Program) self.new.words) }
         ensures other { IfErr result (λ e. e.kind ≢ Memory → (ps : List Program) (rest : List Token) → all_words texts.old.items self.old.words ≡ flat_map program_words ps ++ rest → IsNotNext (key_word key.Program) rest → AreProgramsDeclared ps → ⊥) }
-        ensures names { IfErr result (BeginRefused RefusesPrograms (all_words texts.old.items self.old.words)) }
+        ensures names { IfErr result (BeginRefusedBehind RefusesPrograms self.old (all_words texts.old.items self.old.words)) }
         ensures syntax { IfErr result (λ e. e.kind ≡ Syntax → (ps : List Program) (rest : List Token) → all_words texts.old.items self.old.words ≡ flat_map program_words ps ++ rest → IsNotNext (key_word key.Program) rest → All IsProgramWellFormed ps → ⊥) }
         ensures value { IfErr result IsGrammarFault }
     {

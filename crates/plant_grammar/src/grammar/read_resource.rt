@@ -22,9 +22,9 @@ ghost use Rattle.plant_grammar.specs.Grammar.{key_word, mark_word, interval_word
 ghost use Rattle.plant_grammar.specs.Names.{is_named, AreNamesApart};
 ghost use Rattle.plant_grammar.specs.Lawful.{variables, task_of, use_of, uses_of, IsUseLawful, IsResourceLawful};
 ghost use Rattle.plant_grammar.specs.WellFormed.{AreIntervalsPositive, IsResourceWellFormed};
-ghost use Rattle.plant_grammar.specs.Steps.Lines.{IsNoneNext};
-ghost use Rattle.plant_grammar.specs.NameFaults.{TellsOfName, RefusesTask, RefusesOneBind, RefusesBind};
-ghost use Rattle.plant_grammar.specs.Steps.Declaring.{TellsOfTask, TellsOfInstance, TellsOfMissing, TellsOfMissingBehind, TellsOfInput, TellsOfAddress, TellsOfResource, BeginRefused, RefusesFurtherInstance, RefusesItem, RefusesFurtherItems, RefusesFurtherResource, RefusesFurtherResources, RefusesInParentheses};
+ghost use Rattle.plant_grammar.specs.Steps.Lines.{KeepsLines, IsNoneNext};
+ghost use Rattle.plant_grammar.specs.NameFaults.{TellsOfName, IsUnknown, IsAfter, RefusesTask, RefusesOneBind, RefusesBind};
+ghost use Rattle.plant_grammar.specs.Steps.Declaring.{TellsOfTask, TellsOfInstance, TellsOfMissing, TellsOfInput, TellsOfAddress, TellsOfResource, BeginRefused, IsAtNext, RefusesFurtherInstance, RefusesItem, RefusesFurtherItems, RefusesFurtherResource, RefusesFurtherResources, RefusesInParentheses};
 ghost use Rattle.plant_grammar.specs.Steps.ReadParts.{types_alone, with_instance, with_binds, tally_with, EndWithBinds, bound_in, IsNew, MayFollow, AreItemsLawful, AreResourcesLawful};
 ghost use Rattle.plant_grammar.specs.Steps.Reading.{programs_of};
 ghost use Rattle.plant_grammar.specs.Steps.Refusing.{HasRoomFor, AreTypesApart};
@@ -55,6 +55,7 @@ impl<'a> Reader<'a> {
     /// A task's interval, in ms. It isn't 0.
     fn interval(&mut self) -> Result<u32, GrammarFault>
         ensures ok { IfOk result (λ n. self.old.words ≡ interval_words n ++ self.new.words) }
+        ensures left { OnOk result (KeepsLines self.old self.new) }
         ensures positive { IfOk result (λ n. 0 < n) }
         ensures other { OnErr result ((n : ℕ) (rest : List Token) → self.old.words ≡ interval_words n ++ rest → 0 < n → ⊥) }
         ensures tells { IfErr result (λ e. TellsOfName e.kind ⊥ ⊥) }
@@ -74,6 +75,7 @@ impl<'a> Reader<'a> {
     /// A task's priority.
     fn priority(&mut self) -> Result<u16, GrammarFault>
         ensures ok { IfOk result (λ n. self.old.words ≡ priority_words n ++ self.new.words) }
+        ensures left { OnOk result (KeepsLines self.old self.new) }
         ensures other { OnErr result ((n : ℕ) (rest : List Token) → self.old.words ≡ priority_words n ++ rest → ⊥) }
         ensures tells { IfErr result (λ e. TellsOfName e.kind ⊥ ⊥) }
         ensures value { IfErr result IsGrammarFault }
@@ -86,6 +88,7 @@ impl<'a> Reader<'a> {
     /// The two settings of a task, in either order.
     fn settings(&mut self) -> Result<(Order, u32, u16), GrammarFault>
         ensures ok { IfOk result (λ s. self.old.words ≡ settings s.0 s.1 s.2 ++ self.new.words) }
+        ensures left { OnOk result (KeepsLines self.old self.new) }
         ensures positive { IfOk result (λ s. 0 < s.1) }
         ensures other { OnErr result ((o : Order) (i n : ℕ) (rest : List Token) → self.old.words ≡ settings o i n ++ rest → 0 < i → ⊥) }
         ensures only { OnOk result ((o : Order) (i n : ℕ) (rest : List Token) → self.old.words ≡ settings o i n ++ rest → rest ≡ self.new.words) }
@@ -106,18 +109,22 @@ impl<'a> Reader<'a> {
     }
 
     /// A new name of a task, behind these lines of its resource.
+    #[tactic(auto, using(crate::proofs::RefusedNames::no_name))]
     fn task_name(&mut self, alloc: Global, before: &[Item]) -> Result<Name, GrammarFault>
         ensures ok { IfOk result (λ name. self.old.words ≡ token.Name name ∷ self.new.words) }
+        ensures left { OnOk result (KeepsLines self.old self.new) }
         ensures new { IfOk result (λ name. IsNew (λ t. t.name) (flat_map task_of before.now) name) }
         ensures few { OnOk result (length (flat_map task_of before.now) < 16) }
         ensures other { IfErr result (λ e. e.kind ≢ Memory → (name : List ℕ) (rest : List Token) → self.old.words ≡ token.Name name ∷ rest → IsNew (λ t. t.name) (flat_map task_of before.now) name → length (flat_map task_of before.now) < 16 → ⊥) }
         ensures tells { IfErr result (TellsOfTask before.now self.old.words) }
+        ensures line { IfErr result (IsAtNext self.old) }
         ensures syntax { IfErr result (λ e. e.kind ≡ Syntax → IsNoneNext token.Name self.old.words) }
         ensures value { IfErr result IsGrammarFault }
     {
+        let line = self.line();
         let name = self.name(alloc)?;
         check_new(
-            &name,
+            line,
             is_task(before, &name),
             count_tasks(before) >= MOST_TASKS,
         )?;
@@ -128,11 +135,12 @@ impl<'a> Reader<'a> {
     #[tactic(auto, using(crate::proofs::RefusedNames::no_name, crate::proofs::RefusedNames::memory_no_name, crate::proofs::MissingWords::memory_no_syntax), unfolding(crate::specs::Grammar::task_words))]
     fn task(&mut self, alloc: Global, before: &[Item]) -> Result<TaskLine, GrammarFault>
         ensures ok { IfOk result (λ t. self.old.words ≡ task_words t ++ self.new.words) }
+        ensures left { OnOk result (KeepsLines self.old self.new) }
         ensures new { IfOk result (λ t. IsNew (λ t. t.name) (flat_map task_of before.now) t.name) }
         ensures few { OnOk result (length (flat_map task_of before.now) < 16) }
         ensures positive { IfOk result (λ t. 0 < t.interval) }
         ensures other { IfErr result (λ e. e.kind ≢ Memory → (t : TaskLine) (rest : List Token) → self.old.words ≡ task_words t ++ rest → IsNew (λ t. t.name) (flat_map task_of before.now) t.name → length (flat_map task_of before.now) < 16 → 0 < t.interval → ⊥) }
-        ensures names { IfErr result (BeginRefused (λ k. RefusesTask k before.now) self.old.words) }
+        ensures names { IfErr result (BeginRefused (λ k. RefusesTask k before.now) self.old) }
         ensures syntax { IfErr result (λ e. e.kind ≡ Syntax → (t : TaskLine) (rest : List Token) → self.old.words ≡ task_words t ++ rest → 0 < t.interval → ⊥) }
         ensures value { IfErr result IsGrammarFault }
     {
@@ -151,11 +159,14 @@ impl<'a> Reader<'a> {
     }
 
     /// A field address of a kind.
+    #[tactic(auto, using(crate::proofs::RefusedNames::no_name))]
     fn address_of(&mut self, kind: Kind) -> Result<Address, GrammarFault>
         ensures ok { IfOk result (λ a. self.old.words ≡ token.Address a ∷ self.new.words) }
+        ensures left { OnOk result (KeepsLines self.old self.new) }
         ensures kind { IfOk result (λ a. kind_of_space a.space ≡ kind) }
         ensures other { OnErr result ((a : Address) (rest : List Token) → self.old.words ≡ token.Address a ∷ rest → kind_of_space a.space ≡ kind → ⊥) }
         ensures tells { IfErr result (TellsOfAddress kind self.old.words) }
+        ensures line { IfErr result (IsAtNext self.old) }
         ensures syntax { IfErr result (λ e. e.kind ≡ Syntax → IsNoneNext token.Address self.old.words) }
         ensures value { IfErr result IsGrammarFault }
     {
@@ -171,6 +182,7 @@ impl<'a> Reader<'a> {
     /// An output of an instance of a resource.
     fn output(&mut self, alloc: Global) -> Result<SourceName, GrammarFault>
         ensures ok { IfOk result (λ s. self.old.words ≡ source_words s ++ self.new.words) }
+        ensures left { OnOk result (KeepsLines self.old self.new) }
         ensures kind { (kind : Kind) → IfOk result (HasFieldKind kind) }
         ensures other { IfErr result (λ e. e.kind ≢ Memory → (r i o : List ℕ) (rest : List Token) → self.old.words ≡ source_words (source.Output r i o) ++ rest → ⊥) }
         ensures tells { IfErr result (λ e. TellsOfName e.kind ⊥ ⊥) }
@@ -189,11 +201,14 @@ impl<'a> Reader<'a> {
     }
 
     /// The source of an input of a kind.
+    #[tactic(auto, using(crate::proofs::RefusedNames::no_name))]
     fn source(&mut self, alloc: Global, kind: Kind) -> Result<SourceName, GrammarFault>
         ensures ok { IfOk result (λ s. self.old.words ≡ source_words s ++ self.new.words) }
+        ensures left { OnOk result (KeepsLines self.old self.new) }
         ensures kind { IfOk result (HasFieldKind kind) }
         ensures other { IfErr result (λ e. e.kind ≢ Memory → (s : SourceName) (rest : List Token) → self.old.words ≡ source_words s ++ rest → HasFieldKind kind s → ⊥) }
         ensures tells { IfErr result (TellsOfAddress kind self.old.words) }
+        ensures line { IfErr result (IsAtNext self.old) }
         ensures syntax { IfErr result (λ e. e.kind ≡ Syntax → (s : SourceName) (rest : List Token) → self.old.words ≡ source_words s ++ rest → ⊥) }
         ensures value { IfErr result IsGrammarFault }
     {
@@ -205,6 +220,7 @@ impl<'a> Reader<'a> {
     }
 
     /// The input of a bind of an instance of a type, behind these, and the kind that its source has.
+    #[tactic(auto, using(crate::proofs::RefusedNames::no_name))]
     fn bound_input(
         &mut self,
         alloc: Global,
@@ -213,22 +229,25 @@ impl<'a> Reader<'a> {
         tally: &mut Tally,
     ) -> Result<(Name, Kind), GrammarFault>
         ensures ok { IfOk result (λ i. self.old.words ≡ token.Name i.0 ∷ self.new.words) }
+        ensures left { OnOk result (KeepsLines self.old self.new) }
         ensures new { IfOk result (λ i. IsNew (λ b. b.input) before.now i.0) }
         ensures kind { IfOk result (λ i. input_kind_of (variables program.now.program) i.0 ≡ Some i.1) }
         ensures tally { OnOk result (tally.new ≡ with_binds tally.old 1) }
         ensures other { IfErr result (λ e. e.kind ≢ Memory → (name : List ℕ) (k : Kind) (rest : List Token) → self.old.words ≡ token.Name name ∷ rest → input_kind_of (variables program.now.program) name ≡ Some k → IsNew (λ b. b.input) before.now name → tally.old.binds < 4096 → ⊥) }
         ensures tells { IfErr result (TellsOfInput tally.old.binds (variables program.now.program) before.now self.old.words) }
+        ensures line { IfErr result (IsAtNext self.old) }
         ensures syntax { IfErr result (λ e. e.kind ≡ Syntax → IsNoneNext token.Name self.old.words) }
         ensures value { IfErr result IsGrammarFault }
     {
+        let line = self.line();
         let input = self.name(alloc)?;
         let Some(kind) = input_kind(program, &input) else {
-            return Err(GrammarFault::at(GrammarFaultKind::UnknownName, input.line()));
+            return Err(GrammarFault::at(GrammarFaultKind::UnknownName, line));
         };
         if is_bound(before, &input) {
-            return Err(GrammarFault::at(GrammarFaultKind::InputBoundTwice, input.line()));
+            return Err(GrammarFault::at(GrammarFaultKind::InputBoundTwice, line));
         }
-        tally.add_bind(&input)?;
+        tally.add_bind(line)?;
         Ok((input, kind))
     }
 
@@ -242,11 +261,12 @@ impl<'a> Reader<'a> {
         tally: &mut Tally,
     ) -> Result<Bind, GrammarFault>
         ensures ok { IfOk result (λ b. self.old.words ≡ bind_words b ++ self.new.words) }
+        ensures left { OnOk result (KeepsLines self.old self.new) }
         ensures new { IfOk result (λ b. IsNew (λ b. b.input) before.now b.input) }
         ensures kind { IfOk result (IsOfInputKind (variables program.now.program)) }
         ensures tally { OnOk result (tally.new ≡ with_binds tally.old 1) }
         ensures other { IfErr result (λ e. e.kind ≢ Memory → (b : Bind) (rest : List Token) → self.old.words ≡ bind_words b ++ rest → IsOfInputKind (variables program.now.program) b → IsNew (λ b. b.input) before.now b.input → tally.old.binds < 4096 → ⊥) }
-        ensures names { IfErr result (BeginRefused (RefusesOneBind tally.old.binds (variables program.now.program) before.now) self.old.words) }
+        ensures names { IfErr result (BeginRefused (RefusesOneBind tally.old.binds (variables program.now.program) before.now) self.old) }
         ensures syntax { IfErr result (λ e. e.kind ≡ Syntax → (b : Bind) (rest : List Token) → self.old.words ≡ bind_words b ++ rest → ⊥) }
         ensures value { IfErr result IsGrammarFault }
     {
@@ -265,11 +285,12 @@ impl<'a> Reader<'a> {
         tally: &mut Tally,
     ) -> Result<Vec<Bind>, GrammarFault>
         ensures ok { IfOk result (λ binds. EndWithBinds binds.items self.old.words self.new.words) }
+        ensures left { OnOk result (KeepsLines self.old self.new) }
         ensures apart { IfOk result (λ binds. AreNamesApart (map (λ b. b.input) binds.items)) }
         ensures kinds { IfOk result (λ binds. All (IsOfInputKind (variables program.now.program)) binds.items) }
         ensures tally { IfOk result (λ binds. tally.new ≡ with_binds tally.old (length binds.items)) }
         ensures other { IfErr result (λ e. e.kind ≢ Memory → (bs : List Bind) (rest : List Token) → EndWithBinds bs self.old.words rest → AreNamesApart (map (λ b. b.input) bs) → All (IsOfInputKind (variables program.now.program)) bs → tally.old.binds + length bs ≤ 4096 → ⊥) }
-        ensures names { IfErr result (BeginRefused (λ k. RefusesBind k tally.old.binds (variables program.now.program)) self.old.words) }
+        ensures names { IfErr result (BeginRefused (λ k. RefusesBind k tally.old.binds (variables program.now.program)) self.old) }
         ensures syntax { IfErr result (λ e. e.kind ≡ Syntax → (bs : List Bind) (rest : List Token) → EndWithBinds bs self.old.words rest → ⊥) }
         ensures value { IfErr result IsGrammarFault }
     {
@@ -294,12 +315,13 @@ impl<'a> Reader<'a> {
         tally: &mut Tally,
     ) -> Result<Option<Vec<Bind>>, GrammarFault>
         ensures ok { IfOk result (λ binds. self.old.words ≡ binds_words (binds_listed binds) ++ self.new.words) }
+        ensures left { OnOk result (KeepsLines self.old self.new) }
         ensures apart { IfOk result (λ binds. AreNamesApart (map (λ b. b.input) (bound_in binds))) }
         ensures kinds { IfOk result (λ binds. All (IsOfInputKind (variables program.now.program)) (bound_in binds)) }
         ensures tally { IfOk result (λ binds. tally.new ≡ with_binds tally.old (length (bound_in binds))) }
         ensures other { IfErr result (λ e. e.kind ≢ Memory → (bs : Option (List Bind)) (rest : List Token) → self.old.words ≡ binds_words bs ++ mark_word Semicolon ∷ rest → AreNamesApart (map (λ b. b.input) (items_or_none bs)) → All (IsOfInputKind (variables program.now.program)) (items_or_none bs) → tally.old.binds + length (items_or_none bs) ≤ 4096 → ⊥) }
         ensures only { OnOk result ((bs : Option (List Bind)) (rest : List Token) → self.old.words ≡ binds_words bs ++ mark_word Semicolon ∷ rest → self.new.words ≡ mark_word Semicolon ∷ rest) }
-        ensures names { IfErr result (BeginRefused (RefusesInParentheses tally.old.binds (variables program.now.program)) self.old.words) }
+        ensures names { IfErr result (BeginRefused (RefusesInParentheses tally.old.binds (variables program.now.program)) self.old) }
         ensures syntax { IfErr result (λ e. e.kind ≡ Syntax → (bs : Option (List Bind)) (rest : List Token) → self.old.words ≡ binds_words bs ++ mark_word Semicolon ∷ rest → ⊥) }
         ensures value { IfErr result IsGrammarFault }
     {
@@ -312,6 +334,7 @@ impl<'a> Reader<'a> {
     }
 
     /// A new name of an instance, behind these lines of its resource.
+    #[tactic(auto, using(crate::proofs::RefusedNames::no_name))]
     fn instance_name(
         &mut self,
         alloc: Global,
@@ -319,33 +342,40 @@ impl<'a> Reader<'a> {
         tally: &mut Tally,
     ) -> Result<Name, GrammarFault>
         ensures ok { IfOk result (λ name. self.old.words ≡ token.Name name ∷ self.new.words) }
+        ensures left { OnOk result (KeepsLines self.old self.new) }
         ensures new { IfOk result (λ name. IsNew (λ u. u.instance) (flat_map use_of before.now) name) }
         ensures tally { OnOk result (tally.new ≡ with_instance tally.old) }
         ensures other { IfErr result (λ e. e.kind ≢ Memory → (name : List ℕ) (rest : List Token) → self.old.words ≡ token.Name name ∷ rest → IsNew (λ u. u.instance) (flat_map use_of before.now) name → tally.old.instances < 64 → ⊥) }
         ensures tells { IfErr result (TellsOfInstance before.now tally.old.instances self.old.words) }
+        ensures line { IfErr result (IsAtNext self.old) }
         ensures syntax { IfErr result (λ e. e.kind ≡ Syntax → IsNoneNext token.Name self.old.words) }
         ensures value { IfErr result IsGrammarFault }
     {
+        let line = self.line();
         let name = self.name(alloc)?;
-        check_new(&name, is_instance(before, &name), false)?;
-        tally.add_instance(&name)?;
+        check_new(line, is_instance(before, &name), false)?;
+        tally.add_instance(line)?;
         Ok(name)
     }
 
     /// The name of a task of these lines.
+    #[tactic(auto, using(crate::proofs::RefusedNames::no_name))]
     fn known_task(&mut self, alloc: Global, before: &[Item]) -> Result<Name, GrammarFault>
         ensures ok { IfOk result (λ name. self.old.words ≡ token.Name name ∷ self.new.words) }
+        ensures left { OnOk result (KeepsLines self.old self.new) }
         ensures known { IfOk result (λ name. Any (λ t. IsTrue (is_named name t.name)) (flat_map task_of before.now)) }
         ensures other { IfErr result (λ e. e.kind ≢ Memory → (name : List ℕ) (rest : List Token) → self.old.words ≡ token.Name name ∷ rest → Any (λ t. IsTrue (is_named name t.name)) (flat_map task_of before.now) → ⊥) }
         ensures tells { IfErr result (TellsOfMissing (λ t. t.name) (flat_map task_of before.now) self.old.words) }
+        ensures line { IfErr result (IsAtNext self.old) }
         ensures syntax { IfErr result (λ e. e.kind ≡ Syntax → IsNoneNext token.Name self.old.words) }
         ensures value { IfErr result IsGrammarFault }
     {
+        let line = self.line();
         let name = self.name(alloc)?;
         if is_task(before, &name) {
             Ok(name)
         } else {
-            Err(GrammarFault::at(GrammarFaultKind::UnknownName, name.line()))
+            Err(GrammarFault::at(GrammarFaultKind::UnknownName, line))
         }
     }
 
@@ -358,10 +388,11 @@ impl<'a> Reader<'a> {
         tally: &mut Tally,
     ) -> Result<Name, GrammarFault>
         ensures ok { IfOk result (λ name. self.old.words ≡ key_word Program ∷ token.Name name ∷ self.new.words) }
+        ensures left { OnOk result (KeepsLines self.old self.new) }
         ensures new { IfOk result (λ name. IsNew (λ u. u.instance) (flat_map use_of before.now) name) }
         ensures tally { OnOk result (tally.new ≡ with_instance tally.old) }
         ensures other { IfErr result (λ e. e.kind ≢ Memory → (name : List ℕ) (rest : List Token) → self.old.words ≡ key_word Program ∷ token.Name name ∷ rest → IsNew (λ u. u.instance) (flat_map use_of before.now) name → tally.old.instances < 64 → ⊥) }
-        ensures names { (programs : List ProgramTree) → IfErr result (BeginRefused (RefusesFurtherInstance tally.old programs before.now) self.old.words) }
+        ensures names { (programs : List ProgramTree) → IfErr result (BeginRefused (RefusesFurtherInstance tally.old programs before.now) self.old) }
         ensures syntax { IfErr result (λ e. e.kind ≡ Syntax → (name : List ℕ) (rest : List Token) → self.old.words ≡ key_word Program ∷ token.Name name ∷ rest → ⊥) }
         ensures value { IfErr result IsGrammarFault }
     {
@@ -370,11 +401,13 @@ impl<'a> Reader<'a> {
     }
 
     /// WITH and the name of a task of these lines.
+    #[tactic(auto, using(crate::proofs::RefusedNames::no_name))]
     fn task_of_instance(&mut self, alloc: Global, before: &[Item]) -> Result<Name, GrammarFault>
         ensures ok { IfOk result (λ name. self.old.words ≡ key_word With ∷ token.Name name ∷ self.new.words) }
+        ensures left { OnOk result (KeepsLines self.old self.new) }
         ensures known { IfOk result (λ name. Any (λ t. IsTrue (is_named name t.name)) (flat_map task_of before.now)) }
         ensures other { IfErr result (λ e. e.kind ≢ Memory → (name : List ℕ) (rest : List Token) → self.old.words ≡ key_word With ∷ token.Name name ∷ rest → Any (λ t. IsTrue (is_named name t.name)) (flat_map task_of before.now) → ⊥) }
-        ensures tells { IfErr result (TellsOfMissingBehind (key_word With) (λ t. t.name) (flat_map task_of before.now) self.old.words) }
+        ensures names { IfErr result (BeginRefused (λ k. IsAfter (key_word With) (IsUnknown k (λ t. t.name) (flat_map task_of before.now))) self.old) }
         ensures syntax { IfErr result (λ e. e.kind ≡ Syntax → (name : List ℕ) (rest : List Token) → self.old.words ≡ key_word With ∷ token.Name name ∷ rest → ⊥) }
         ensures value { IfErr result IsGrammarFault }
     {
@@ -383,23 +416,26 @@ impl<'a> Reader<'a> {
     }
 
     /// The type of an instance behind its colon, by its name, and the program of that name.
+    #[tactic(auto, using(crate::proofs::RefusedNames::no_name))]
     fn type_of_instance<'t>(
         &mut self,
         alloc: Global,
         types: &'t [ProgramText],
     ) -> Result<(Name, &'t ProgramText), GrammarFault>
         ensures ok { IfOk result (λ p. self.old.words ≡ mark_word Colon ∷ token.Name p.0 ∷ self.new.words) }
+        ensures left { OnOk result (KeepsLines self.old self.new) }
         ensures found { IfOk result (λ p. find (λ t. is_named p.0 t.program.name) types.now ≡ Some p.1.now) }
         ensures other { IfErr result (λ e. e.kind ≢ Memory → (name : List ℕ) (rest : List Token) → self.old.words ≡ mark_word Colon ∷ token.Name name ∷ rest → find (λ t. is_named name t.program.name) types.now ≢ None → ⊥) }
-        ensures tells { IfErr result (TellsOfMissingBehind (mark_word Colon) (λ p. p.name) (programs_of types.now) self.old.words) }
+        ensures names { IfErr result (BeginRefused (λ k. IsAfter (mark_word Colon) (IsUnknown k (λ p. p.name) (programs_of types.now))) self.old) }
         ensures syntax { IfErr result (λ e. e.kind ≡ Syntax → (name : List ℕ) (rest : List Token) → self.old.words ≡ mark_word Colon ∷ token.Name name ∷ rest → ⊥) }
         ensures value { IfErr result IsGrammarFault }
     {
         self.punctuation(Punctuation::Colon)?;
+        let line = self.line();
         let name = self.name(alloc)?;
         match program_named(types, &name) {
             Some(program) => Ok((name, program)),
-            None => Err(GrammarFault::at(GrammarFaultKind::UnknownName, name.line())),
+            None => Err(GrammarFault::at(GrammarFaultKind::UnknownName, line)),
         }
     }
 
@@ -413,11 +449,12 @@ impl<'a> Reader<'a> {
         tally: &mut Tally,
     ) -> Result<Use, GrammarFault>
         ensures ok { IfOk result (λ u. self.old.words ≡ use_words u ++ self.new.words) }
+        ensures left { OnOk result (KeepsLines self.old self.new) }
         ensures new { IfOk result (λ u. IsNew (λ u. u.instance) (flat_map use_of before.now) u.instance) }
         ensures lawful { IfOk result (λ u. IsUseLawful (types_alone types.now) before.now u) }
         ensures tally { IfOk result (λ u. tally.new ≡ tally_with tally.old (u ∷ [])) }
         ensures other { IfErr result (λ e. e.kind ≢ Memory → (u : Use) (rest : List Token) → self.old.words ≡ use_words u ++ rest → AreTypesApart types.now → IsNew (λ u. u.instance) (flat_map use_of before.now) u.instance → IsUseLawful (types_alone types.now) before.now u → HasRoomFor tally.old (u ∷ []) → ⊥) }
-        ensures names { IfErr result (BeginRefused (RefusesFurtherInstance tally.old (programs_of types.now) before.now) self.old.words) }
+        ensures names { IfErr result (BeginRefused (RefusesFurtherInstance tally.old (programs_of types.now) before.now) self.old) }
         ensures syntax { IfErr result (λ e. e.kind ≡ Syntax → (u : Use) (rest : List Token) → self.old.words ≡ use_words u ++ rest → ⊥) }
         ensures value { IfErr result IsGrammarFault }
     {
@@ -444,10 +481,11 @@ impl<'a> Reader<'a> {
         tally: &mut Tally,
     ) -> Result<Item, GrammarFault>
         ensures ok { IfOk result (λ x. self.old.words ≡ item_words x ++ self.new.words) }
+        ensures left { OnOk result (KeepsLines self.old self.new) }
         ensures lawful { IfOk result (λ x. MayFollow (types_alone types.now) before.now x) }
         ensures tally { IfOk result (λ x. tally.new ≡ tally_with tally.old (use_of x)) }
         ensures other { IfErr result (λ e. e.kind ≢ Memory → (x : Item) (rest : List Token) → self.old.words ≡ item_words x ++ rest → AreTypesApart types.now → MayFollow (types_alone types.now) before.now x → HasRoomFor tally.old (use_of x) → ⊥) }
-        ensures names { IfErr result (BeginRefused (RefusesItem tally.old (programs_of types.now) before.now) self.old.words) }
+        ensures names { IfErr result (BeginRefused (RefusesItem tally.old (programs_of types.now) before.now) self.old) }
         ensures syntax { IfErr result (λ e. e.kind ≡ Syntax → (x : Item) (rest : List Token) → self.old.words ≡ item_words x ++ rest → All (λ t. 0 < t.interval) (task_of x) → ⊥) }
         ensures value { IfErr result IsGrammarFault }
     {
@@ -467,10 +505,11 @@ impl<'a> Reader<'a> {
         tally: &mut Tally,
     ) -> Result<Vec<Item>, GrammarFault>
         ensures ok { IfOk result (λ xs. self.old.words ≡ items_words xs.items ++ self.new.words) }
+        ensures left { OnOk result (KeepsLines self.old self.new) }
         ensures lawful { IfOk result (λ xs. AreItemsLawful (types_alone types.now) xs.items) }
         ensures tally { IfOk result (λ xs. tally.new ≡ tally_with tally.old (flat_map use_of xs.items)) }
         ensures other { IfErr result (λ e. e.kind ≢ Memory → (xs : List Item) (rest : List Token) → self.old.words ≡ items_words xs ++ rest → AreTypesApart types.now → AreItemsLawful (types_alone types.now) xs → HasRoomFor tally.old (flat_map use_of xs) → ⊥) }
-        ensures names { IfErr result (BeginRefused (RefusesFurtherItems tally.old (programs_of types.now)) self.old.words) }
+        ensures names { IfErr result (BeginRefused (RefusesFurtherItems tally.old (programs_of types.now)) self.old) }
         ensures syntax { IfErr result (λ e. e.kind ≡ Syntax → (xs : List Item) (rest : List Token) → self.old.words ≡ items_words xs ++ rest → AreIntervalsPositive xs → ⊥) }
         ensures value { IfErr result IsGrammarFault }
     {
@@ -484,18 +523,22 @@ impl<'a> Reader<'a> {
     }
 
     /// A new name of a resource, behind these.
+    #[tactic(auto, using(crate::proofs::RefusedNames::no_name))]
     fn resource_name(&mut self, alloc: Global, before: &[Resource]) -> Result<Name, GrammarFault>
         ensures ok { IfOk result (λ name. self.old.words ≡ token.Name name ∷ self.new.words) }
+        ensures left { OnOk result (KeepsLines self.old self.new) }
         ensures new { IfOk result (λ name. IsNew (λ r. r.name) before.now name) }
         ensures few { OnOk result (length before.now < 16) }
         ensures other { IfErr result (λ e. e.kind ≢ Memory → (name : List ℕ) (rest : List Token) → self.old.words ≡ token.Name name ∷ rest → IsNew (λ r. r.name) before.now name → length before.now < 16 → ⊥) }
         ensures tells { IfErr result (TellsOfResource before.now self.old.words) }
+        ensures line { IfErr result (IsAtNext self.old) }
         ensures syntax { IfErr result (λ e. e.kind ≡ Syntax → IsNoneNext token.Name self.old.words) }
         ensures value { IfErr result IsGrammarFault }
     {
+        let line = self.line();
         let name = self.name(alloc)?;
         check_new(
-            &name,
+            line,
             is_resource(before, &name),
             before.len() >= MOST_RESOURCES,
         )?;
@@ -512,12 +555,13 @@ impl<'a> Reader<'a> {
         tally: &mut Tally,
     ) -> Result<Resource, GrammarFault>
         ensures ok { IfOk result (λ r. self.old.words ≡ resource_words r ++ self.new.words) }
+        ensures left { OnOk result (KeepsLines self.old self.new) }
         ensures new { IfOk result (λ r. IsNew (λ r. r.name) before.now r.name) }
         ensures few { OnOk result (length before.now < 16) }
         ensures lawful { IfOk result (λ r. IsResourceLawful (types_alone types.now) r) }
         ensures tally { IfOk result (λ r. tally.new ≡ tally_with tally.old (uses_of r)) }
         ensures other { IfErr result (λ e. e.kind ≢ Memory → (r : Resource) (rest : List Token) → self.old.words ≡ resource_words r ++ rest → AreTypesApart types.now → IsNew (λ r. r.name) before.now r.name → length before.now < 16 → IsResourceLawful (types_alone types.now) r → HasRoomFor tally.old (uses_of r) → ⊥) }
-        ensures names { IfErr result (BeginRefused (RefusesFurtherResource tally.old (programs_of types.now) before.now) self.old.words) }
+        ensures names { IfErr result (BeginRefused (RefusesFurtherResource tally.old (programs_of types.now) before.now) self.old) }
         ensures syntax { IfErr result (λ e. e.kind ≡ Syntax → (r : Resource) (rest : List Token) → self.old.words ≡ resource_words r ++ rest → IsResourceWellFormed r → ⊥) }
         ensures value { IfErr result IsGrammarFault }
     {
@@ -538,11 +582,12 @@ impl<'a> Reader<'a> {
         tally: &mut Tally,
     ) -> Result<Vec<Resource>, GrammarFault>
         ensures ok { IfOk result (λ rs. self.old.words ≡ resources_words rs.items ++ self.new.words) }
+        ensures left { OnOk result (KeepsLines self.old self.new) }
         ensures some { IfOk result (λ rs. 0 < length rs.items) }
         ensures lawful { IfOk result (λ rs. AreResourcesLawful (types_alone types.now) rs.items) }
         ensures tally { IfOk result (λ rs. tally.new ≡ tally_with tally.old (flat_map uses_of rs.items)) }
         ensures other { IfErr result (λ e. e.kind ≢ Memory → (rs : List Resource) (rest : List Token) → self.old.words ≡ resources_words rs ++ rest → 0 < length rs → AreTypesApart types.now → AreResourcesLawful (types_alone types.now) rs → HasRoomFor tally.old (flat_map uses_of rs) → ⊥) }
-        ensures names { IfErr result (BeginRefused (RefusesFurtherResources tally.old (programs_of types.now)) self.old.words) }
+        ensures names { IfErr result (BeginRefused (RefusesFurtherResources tally.old (programs_of types.now)) self.old) }
         ensures syntax { IfErr result (λ e. e.kind ≡ Syntax → (rs : List Resource) (rest : List Token) → self.old.words ≡ resources_words rs ++ rest → 0 < length rs → All IsResourceWellFormed rs → ⊥) }
         ensures value { IfErr result IsGrammarFault }
     {

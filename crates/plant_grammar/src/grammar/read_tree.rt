@@ -35,7 +35,7 @@ pub fn read_tree<'a>(
     ensures only { IfOk result (λ resources. (tree : Tree) (rest : List Token) → reader.old.words ≡ words_of tree ++ rest → (reader.new.words ≡ rest) × IsSameTree tree (tree_written tree.name texts.new.items resources.items)) }
     ensures syntax { IfErr result (λ e. e.kind ≡ Syntax → (tree : Tree) (rest : List Token) → reader.old.words ≡ words_of tree ++ rest → IsTreeWellFormed tree → ⊥) }
     ensures value { IfErr result IsGrammarFault }
-    ensures name { IfErr result (BeginRefused RefusesPlantWords reader.old.words) }
+    ensures name { IfErr result (BeginRefused RefusesPlantWords reader.old) }
 {
     reader.programs(alloc, texts)?;
     reader.keyword(Keyword::Configuration)?;

@@ -3,7 +3,7 @@ ghost use Rattle.plant_grammar.specs.WordFaults.{IsGrammarFault};
 ghost use Rattle.plant_text.specs.declared.token.Token.TheVariants as token;
 ghost use Rattle.plant_grammar.specs.declared.grammar_fault.GrammarFaultKind.TheVariants.{Memory};
 ghost use Rattle.plant_grammar.specs.NameFaults.{TellsOfName};
-ghost use Rattle.plant_grammar.specs.Steps.Lines.{all_left, next_line, syntax_at, behind, IsLeft, IsWordNext, IsNotNext, IsOneNext, IsNoneNext, TellsNext};
+ghost use Rattle.plant_grammar.specs.Steps.Lines.{all_left, next_line, syntax_at, behind, KeepsLines, IsLeft, IsWordNext, IsNotNext, IsOneNext, IsNoneNext, TellsNext};
 
 use crate::grammar::name::Name;
 use crate::grammar_fault::{GrammarFault, GrammarFaultKind};
@@ -72,6 +72,7 @@ impl<'a> Reader<'a> {
     /// Leaves the next word behind.
     fn advance(&mut self)
         ensures words { self.new.words ≡ behind self.old.words }
+        ensures left { KeepsLines self.old self.new }
         ensures bodies { (t : Token) (rest : List Token) → self.old.words ≡ t ∷ rest → IsLeft t self.old self.new }
     {
         match self.words {
@@ -96,6 +97,7 @@ impl<'a> Reader<'a> {
     /// A keyword.
     pub fn keyword(&mut self, keyword: Keyword) -> Result<(), GrammarFault>
         ensures ok { OnOk result (self.old.words ≡ token.Keyword keyword ∷ self.new.words) }
+        ensures left { OnOk result (KeepsLines self.old self.new) }
         ensures bodies { OnOk result (self.new.bodies ≡ self.old.bodies) }
         ensures err { IfErr result (λ e. (e ≡ syntax_at self.old) × (self.new ≡ self.old)) }
         ensures other { OnErr result (IsNotNext (token.Keyword keyword) self.old.words) }
@@ -112,6 +114,7 @@ impl<'a> Reader<'a> {
     /// A mark.
     pub fn punctuation(&mut self, punctuation: Punctuation) -> Result<(), GrammarFault>
         ensures ok { OnOk result (self.old.words ≡ token.Punctuation punctuation ∷ self.new.words) }
+        ensures left { OnOk result (KeepsLines self.old self.new) }
         ensures bodies { OnOk result (self.new.bodies ≡ self.old.bodies) }
         ensures err { IfErr result (λ e. (e ≡ syntax_at self.old) × (self.new ≡ self.old)) }
         ensures other { OnErr result (IsNotNext (token.Punctuation punctuation) self.old.words) }
@@ -128,6 +131,7 @@ impl<'a> Reader<'a> {
     /// A name.
     pub fn name(&mut self, alloc: Global) -> Result<Name, GrammarFault>
         ensures ok { IfOk result (λ name. self.old.words ≡ token.Name name ∷ self.new.words) }
+        ensures left { OnOk result (KeepsLines self.old self.new) }
         ensures bodies { OnOk result (self.new.bodies ≡ self.old.bodies) }
         ensures err { IfErr result (λ e. e.kind ≢ Memory → e ≡ syntax_at self.old) }
         ensures other { IfErr result (λ e. e.kind ≢ Memory → IsNoneNext token.Name self.old.words) }
@@ -148,6 +152,7 @@ impl<'a> Reader<'a> {
     /// The lines of a body.
     pub fn body(&mut self, alloc: Global) -> Result<Text, GrammarFault>
         ensures ok { IfOk result (λ body. self.old.words ≡ token.Body body ∷ self.new.words) }
+        ensures left { OnOk result (KeepsLines self.old self.new) }
         ensures bodies { OnOk result (self.old.bodies ≡ next_line self.old ∷ self.new.bodies) }
         ensures err { IfErr result (λ e. e.kind ≢ Memory → e ≡ syntax_at self.old) }
         ensures other { IfErr result (λ e. e.kind ≢ Memory → IsNoneNext token.Body self.old.words) }
@@ -168,6 +173,7 @@ impl<'a> Reader<'a> {
     /// A duration, in ms.
     pub fn duration(&mut self) -> Result<u32, GrammarFault>
         ensures ok { IfOk result (λ n. self.old.words ≡ token.Duration n ∷ self.new.words) }
+        ensures left { OnOk result (KeepsLines self.old self.new) }
         ensures err { IfErr result (λ e. (e ≡ syntax_at self.old) × (self.new ≡ self.old)) }
         ensures other { OnErr result (IsNoneNext token.Duration self.old.words) }
         ensures tells { IfErr result (λ e. TellsOfName e.kind ⊥ ⊥) }
@@ -185,6 +191,7 @@ impl<'a> Reader<'a> {
     /// A number.
     pub fn number(&mut self) -> Result<u16, GrammarFault>
         ensures ok { IfOk result (λ n. self.old.words ≡ token.Number n ∷ self.new.words) }
+        ensures left { OnOk result (KeepsLines self.old self.new) }
         ensures err { IfErr result (λ e. (e ≡ syntax_at self.old) × (self.new ≡ self.old)) }
         ensures other { OnErr result (IsNoneNext token.Number self.old.words) }
         ensures tells { IfErr result (λ e. TellsOfName e.kind ⊥ ⊥) }
@@ -202,6 +209,7 @@ impl<'a> Reader<'a> {
     /// A field address.
     pub fn address(&mut self) -> Result<Address, GrammarFault>
         ensures ok { IfOk result (λ a. self.old.words ≡ token.Address a ∷ self.new.words) }
+        ensures left { OnOk result (KeepsLines self.old self.new) }
         ensures err { IfErr result (λ e. (e ≡ syntax_at self.old) × (self.new ≡ self.old)) }
         ensures other { OnErr result (IsNoneNext token.Address self.old.words) }
         ensures tells { IfErr result (λ e. TellsOfName e.kind ⊥ ⊥) }
@@ -219,6 +227,7 @@ impl<'a> Reader<'a> {
     /// The type of a standard block.
     pub fn block_type(&mut self) -> Result<BlockType, GrammarFault>
         ensures ok { IfOk result (λ b. self.old.words ≡ token.Block b ∷ self.new.words) }
+        ensures left { OnOk result (KeepsLines self.old self.new) }
         ensures bodies { OnOk result (self.new.bodies ≡ self.old.bodies) }
         ensures err { IfErr result (λ e. (e ≡ syntax_at self.old) × (self.new ≡ self.old)) }
         ensures other { OnErr result ((b : BlockType) (rest : List Token) → self.old.words ≡ token.Block b ∷ rest → ⊥) }

@@ -2,7 +2,6 @@ ghost use Rattle.std.specs.Prelude.{◌≡◌, ◌≤◌, OnOk, IfErr};
 ghost use Rattle.plant_grammar.specs.WordFaults.{IsGrammarFault};
 ghost use Rattle.plant_grammar.specs.declared.grammar_fault.GrammarFaultKind.TheVariants.{TooMany};
 
-use crate::grammar::name::Name;
 use crate::grammar_fault::{GrammarFault, GrammarFaultKind};
 use std::marker::Model;
 
@@ -59,27 +58,29 @@ impl Tally {
         self.binds
     }
 
-    /// Counts a program instance of a name, if there may be one more.
-    pub fn add_instance(&mut self, name: &Name) -> Result<(), GrammarFault>
+    /// Counts a program instance whose name is on a line, if there may be one more.
+    pub fn add_instance(&mut self, line: u64) -> Result<(), GrammarFault>
         ensures ok { OnOk result (self.new ≡ with_instance self.old) }
         ensures err { IfErr result (λ e. (e.kind ≡ TooMany) × (self.new ≡ self.old) × (self.old.instances ≡ 64)) }
+        ensures line { IfErr result (λ e. e.line ≡ line) }
         ensures value { IfErr result IsGrammarFault }
     {
         if self.instances >= MOST_INSTANCES {
-            return Err(GrammarFault::at(GrammarFaultKind::TooMany, name.line()));
+            return Err(GrammarFault::at(GrammarFaultKind::TooMany, line));
         }
         self.instances += 1;
         Ok(())
     }
 
-    /// Counts a bind of an input, if there may be one more.
-    pub fn add_bind(&mut self, input: &Name) -> Result<(), GrammarFault>
+    /// Counts a bind whose input is on a line, if there may be one more.
+    pub fn add_bind(&mut self, line: u64) -> Result<(), GrammarFault>
         ensures ok { OnOk result (self.new ≡ with_binds self.old 1) }
         ensures err { IfErr result (λ e. (e.kind ≡ TooMany) × (self.new ≡ self.old) × (self.old.binds ≡ 4096)) }
+        ensures line { IfErr result (λ e. e.line ≡ line) }
         ensures value { IfErr result IsGrammarFault }
     {
         if self.binds >= MOST_BINDS {
-            return Err(GrammarFault::at(GrammarFaultKind::TooMany, input.line()));
+            return Err(GrammarFault::at(GrammarFaultKind::TooMany, line));
         }
         self.binds += 1;
         Ok(())

@@ -2,8 +2,8 @@ ghost use Rattle.std.specs.Prelude.{◌≡◌, ◌≢◌, ◌↔◌, ◌+◌, �
 ghost use Rattle.plant_grammar.specs.WordFaults.{IsGrammarFault};
 ghost use Rattle.declared_names.specs.Names.{IsDeclared};
 ghost use Rattle.plant_grammar.specs.Lawful.{declared_as, list_variables};
-ghost use Rattle.plant_grammar.specs.NameFaults.{IsOfName, IsNameTaken};
-ghost use Rattle.plant_grammar.specs.Steps.Declaring.{TellsOfChecked, TellsOfAdded, RefusesOneOf};
+ghost use Rattle.plant_grammar.specs.NameFaults.{IsNameTaken};
+ghost use Rattle.plant_grammar.specs.Steps.Declaring.{TellsOfChecked, TellsOfAdded};
 ghost use Rattle.plant_grammar.specs.Steps.ReadParts.{AreVariables, IsNew};
 ghost use Rattle.plant_grammar.specs.Steps.Refusing.{MayBeDeclared};
 ghost use Rattle.plant_grammar.specs.declared.grammar_fault.GrammarFaultKind.TheVariants.{Memory, Syntax};
@@ -72,6 +72,7 @@ impl Variables {
     fn len(&self) -> usize
         ensures count { result ≡ length self.now }
         ensures few { result ≤ 1000 }
+        ensures lawful { AreVariables self.now }
     {
         self.declarations.len()
     }
@@ -84,18 +85,20 @@ impl Variables {
         self.declarations.position(name.as_str()).is_some()
     }
 
-    /// Refuses a name that is declared, or that stands among `more`, which are to be declared next; and one too many.
-    pub fn check(&self, more: &[Name], name: &Name) -> Result<(), GrammarFault>
+    /// Refuses a name on a line that is declared, or that stands among `more`, which are to be declared next; and one too many.
+    pub fn check(&self, more: &[Name], name: &Name, line: u64) -> Result<(), GrammarFault>
+        ensures lawful { AreVariables self.now }
         ensures undeclared { OnOk result (IsDeclared self.now name.now → ⊥) }
         ensures new { OnOk result (IsNew (λ n. n) more.now name.now) }
         ensures few { OnOk result (length self.now + length more.now < 1000) }
         ensures other { OnErr result ((IsDeclared self.now name.now → ⊥) → IsNew (λ n. n) more.now name.now → length self.now + length more.now < 1000 → ⊥) }
         ensures tells { IfErr result (TellsOfChecked self.now more.now name.now) }
         ensures named { IfErr result (λ e. e.kind ≢ Syntax) }
+        ensures line { IfErr result (λ e. e.line ≡ line) }
         ensures value { IfErr result IsGrammarFault }
     {
         let is_full = more.len() >= MOST_NAMES - self.len();
-        check_new(name, self.has(name) || is_among(more, name), is_full)
+        check_new(line, self.has(name) || is_among(more, name), is_full)
     }
 
     /// Declares a name at the end. After an error the variables are as before.
@@ -120,11 +123,9 @@ impl Variables {
     }
 
     /// Declares the names of a list of a section.
-    #[tactic(auto, using(crate::proofs::RefusedNames::no_name, crate::proofs::RefusedNames::memory_no_name, crate::proofs::MissingWords::memory_no_syntax))]
     pub fn add_list(&mut self, section: Section, list: &NameList) -> Result<(), GrammarFault>
         ensures ok { OnOk result (self.new ≡ self.old ++ list_variables section list.now) }
         ensures other { IfErr result (λ e. e.kind ≢ Memory → MayBeDeclared self.old list.now.names.items → ⊥) }
-        ensures names { IfErr result (λ e. IsOfName e.kind → RefusesOneOf list.now.names.items self.old e.kind) }
         ensures named { IfErr result (λ e. e.kind ≢ Syntax) }
         ensures value { IfErr result IsGrammarFault }
     {

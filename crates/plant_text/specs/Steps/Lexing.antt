@@ -9,7 +9,7 @@ use Rattle.plant_text.specs.declared.lexer.Stage.{Stage}
 use Rattle.plant_text.specs.declared.lexer.Stage.TheVariants as stage
 use Rattle.plant_text.specs.Words.{is_name_char, word_of}
 use Rattle.plant_text.specs.Spelling.{is_parted, IsGap, IsLineEnd, IsBody, is_one_line, first_line, IsEndLine, feeds, Spells, BeginsWith}
-use Rattle.plant_text.specs.Lines.{WordValue, body_line}
+use Rattle.plant_text.specs.Lines.{WordValue}
 
 -- a character of a word that begins with a letter or a digit; `#` stands in durations
 abbrev pub is_run_char : ℕ → Bool
@@ -115,7 +115,7 @@ abbrev pub StandsFirst : LexerValue → WordValue → LexerValue → Type 0
 StandsFirst old w new = w.token ≢ token.Unknown → (n : ℕ) → old.line ≡ min n 18446744073709551615
     → (m : ℕ) × (new.line ≡ min m 18446744073709551615)
     × ((more : List Token) (lines : List ℕ) → BeginsWith m new.text more lines
-    → BeginsWith n old.text (w.token ∷ more) (body_line w ++ lines))
+    → BeginsWith n old.text (w.token ∷ more) (w.line ∷ lines))
 
 -- where the word behind this one stands
 abbrev pub stage_behind : Token → Stage → Stage

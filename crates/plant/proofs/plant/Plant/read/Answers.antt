@@ -8,7 +8,7 @@ use Rattle.plant_text.specs.Lines.{WordValue, body_lines}
 use Rattle.plant_grammar.specs.Grammar.{Tree, words_of}
 use Rattle.plant_grammar.specs.NameFaults as names
 use Rattle.plant_grammar.specs.Lawful.{all_uses, IsTreeLawful}
-use Rattle.plant_grammar.specs.Steps.Lines.{ReaderValue}
+use Rattle.plant_grammar.specs.Steps.Lines.{ReaderValue, HasLinesOf}
 use Rattle.plant_grammar.specs.Steps.Reading.{tree_written}
 use Rattle.lists.proofs.Results.{kept_fault}
 use Rattle.program_bodies.specs.Faults.{IsPlantFault, IsOfBody, IsOfDeclaredName, kind_of_word, fault_of_word}
@@ -26,7 +26,7 @@ use Rattle.plant.proofs.BodyCounts.{begun_by_programs}
 use Rattle.plant.proofs.DrawnTrees.{drawn_tree, drawn_have_ladders}
 use Rattle.plant.proofs.WordFaults.{plant_of_word, no_body, of_name, no_name, memory_no_body, memory_no_name, body_no_name, syntax_no_memory, body_no_syntax, of_syntax, source_no_syntax}
 use Rattle.plant.proofs.KnownWords.{words_known}
-use Rattle.plant.proofs.RefusedKnown.{begun_by_front, begun_by_refused}
+use Rattle.plant.proofs.RefusedKnown.{begun_by_front, begun_by_refused, own_lines}
 use Rattle.plant.proofs.plant.Plant.read.Goals as goal
 
 pub resolve-requires-clause-lawful : goal.resolve-requires-clause-lawful
@@ -71,9 +71,13 @@ returns-in_err-types-clause-body c =
     let texts = c.read_tree-tree.new.texts.items in
     let met = c.read_tree-tree.ensures.texts in
     kept_fault fault (λ f. IsOfBody f.kind → IsBodyFaultIn c.args.text.now f) c.from_residual-in_err-types.result c.from_residual-in_err-types.ensures.1
-    (λ of. record {
+    (λ of. let begun = begun_by_programs (without_last 13 c.args.text.now) ws texts met.rest met.more c.in_ok-words.ensures.begun (words ∙ met.written) (bodies ∙ met.lines) in
+    record {
       texts = texts;
-      begun = begun_by_programs (without_last 13 c.args.text.now) ws texts met.rest met.more c.in_ok-words.ensures.begun (words ∙ met.written) (bodies ∙ met.lines);
+      words = begun.0;
+      begun = begun.1;
+      written = begun.2;
+      lines = begun.3;
       first = c.in_err-types.ensures.fault (λ m. memory_no_body fault m of);
     })
 
@@ -101,15 +105,19 @@ returns-in_err-resources-clause-name c =
     let words : map (λ (w : WordValue). w.token) ws ≡ c.new-reader.result.words = ap (λ (ws : List WordValue). map (λ (w : WordValue). w.token) ws) (sym c.words-2.ensures) ∙ ap (λ (r : ReaderValue). r.words) (sym c.new-reader.ensures) in
     kept_fault (fault_of_word word) (λ f. IsOfDeclaredName f.kind → IsNameFaultIn c.args.text.now f) c.from_residual-in_err-resources.result c.from_residual-in_err-resources.ensures.1
     (λ of.
-    let met = c.in_err-resources.ensures.name (of_name word.kind of) in
-    let begun = begun_by_refused (without_last 13 c.args.text.now) ws word.kind c.new-reader.result.words c.in_ok-words.ensures.begun words met in
+    let us = c.words-2.result.now in
+    let own = subst (HasLinesOf (map (λ (w : WordValue). w.line) us)) (sym c.new-reader.ensures) (own_lines us _) in
+    let left = subst (λ (vs : List WordValue). HasLinesOf (map (λ (w : WordValue). w.line) vs) c.new-reader.result) c.words-2.ensures own in
+    let met = c.in_err-resources.ensures.name (map (λ (w : WordValue). w.line) ws) left (of_name word.kind of) in
+    let begun = begun_by_refused (without_last 13 c.args.text.now) ws word.kind word.line c.new-reader.result.words c.in_ok-words.ensures.begun words met in
     inl (record {
       kind = word.kind;
       kind_is = refl;
-      words = met.front;
-      lines = begun.0;
-      begun = begun.1;
-      refused = met.holds;
+      before = begun.before;
+      word = begun.word;
+      begun = begun.begun;
+      refused = begun.refused;
+      line_is = begun.line_is;
     }))
 
 pub returns-in_err-plant-clause-value : goal.returns-in_err-plant-clause-value
@@ -140,8 +148,9 @@ returns-in_err-plant-clause-name c =
       kind = word.kind;
       kind_is = refl;
       tree = tree;
-      lines = begun.0;
+      words = begun.0;
       begun = begun.1;
+      written = begun.2;
       lawful = read.lawful;
       drawn = drawn_have_ladders texts c.in_ok-types.types.items c.in_ok-types.ensures.ok;
       refused = λ fed. c.in_err-plant.ensures.refused (λ memory. subst names.IsOfName memory (of_name word.kind of)) read.name (subst (λ (t : Tree). All (AreBindsFed t) (all_uses t)) (sym same) fed);

@@ -3,8 +3,8 @@ use Rattle.std.specs.List.{flat_map}
 use Rattle.lists.proofs.Results.{kept_fault}
 use Rattle.plant_grammar.specs.Grammar.{Tree, TextValue, words_of}
 use Rattle.plant_grammar.specs.Lawful.{uses_of}
-use Rattle.plant_grammar.specs.NameFaults.{IsOfName, RefusesPrograms, RefusesResources, RefusesConfiguration}
-use Rattle.plant_grammar.specs.Steps.Declaring.{BeginWith, RefusesPlantWords}
+use Rattle.plant_grammar.specs.NameFaults.{RefusesPrograms, RefusesResources, RefusesConfiguration}
+use Rattle.plant_grammar.specs.Steps.Declaring.{BeginWith, BeginRefused, IsLineBefore, RefusesPlantWords}
 use Rattle.plant_grammar.specs.Steps.ReadParts.{tally_with, types_alone, AreResourcesLawful}
 use Rattle.plant_grammar.specs.Steps.Reading.{programs_of, all_words}
 use Rattle.plant_grammar.proofs.RefusedPlaces.{begin_left, begin_right, in_configuration}
@@ -44,9 +44,9 @@ pub returns-in_err-programs-clause-name : goal.returns-in_err-programs-clause-na
 returns-in_err-programs-clause-name c =
     let fault = c.in_err-programs.field-0.0 in
     let start = c.args.reader.now.words in
-    kept_fault fault (λ f. IsOfName f.kind → BeginWith (RefusesPlantWords f.kind) start) c.from_residual.result c.from_residual.ensures.1
-    (λ of. begin_left (RefusesPrograms fault.kind) (RefusesConfiguration fault.kind) start
-    (subst (λ (ts : List TextValue). BeginWith (RefusesPrograms fault.kind) (all_words ts start)) c.requires (c.in_err-programs.ensures.names of)))
+    kept_fault fault (BeginRefused RefusesPlantWords c.args.reader.now) c.from_residual.result c.from_residual.ensures.1
+    (λ all h of. begin_left (RefusesPrograms fault.kind) (RefusesConfiguration fault.kind) start
+    (subst (λ (ts : List TextValue). BeginWith (IsLineBefore all fault.line) (RefusesPrograms fault.kind) (all_words ts start)) c.requires (c.in_err-programs.ensures.names all h of)))
 
 pub returns-in_err-resources-clause-name : goal.returns-in_err-resources-clause-name
 returns-in_err-resources-clause-name c =
@@ -55,10 +55,10 @@ returns-in_err-resources-clause-name c =
     let texts = c.programs.new.texts.items in
     let one = c.programs.new.self.words in
     let written = begun_words c.args.texts.now.items texts start one c.requires c.in_ok-programs.ensures.ok in
-    kept_fault fault (λ f. IsOfName f.kind → BeginWith (RefusesPlantWords f.kind) start) c.from_residual-in_err-resources.result c.from_residual-in_err-resources.ensures.1
-    (λ of. begin_right (RefusesPrograms fault.kind) (RefusesConfiguration fault.kind) start
+    kept_fault fault (BeginRefused RefusesPlantWords c.args.reader.now) c.from_residual-in_err-resources.result c.from_residual-in_err-resources.ensures.1
+    (λ all h of. begin_right (RefusesPrograms fault.kind) (RefusesConfiguration fault.kind) start
     (in_configuration fault.kind (programs_of texts) c.in_ok-_name._name c.new-tally.result start one c.keyword.new.self.words c.name.new.self.words written c.in_ok-keyword.ensures.ok c.in_ok-_name.ensures.ok c.new-tally.ensures
-    (subst (λ (ts : List TextValue). BeginWith (RefusesResources fault.kind c.new-tally.result.instances c.new-tally.result.binds (programs_of ts)) c.name.new.self.words) c.as_slice.ensures.value (c.in_err-resources.ensures.names of))))
+    (subst (λ (ts : List TextValue). BeginWith (IsLineBefore all fault.line) (RefusesResources fault.kind c.new-tally.result.instances c.new-tally.result.binds (programs_of ts)) c.name.new.self.words) c.as_slice.ensures.value (c.in_err-resources.ensures.names all (c.in_ok-_name.ensures.left all (c.in_ok-keyword.ensures.left all (c.in_ok-programs.ensures.left all h))) of))))
 
 pub returns-in_err-programs-clause-refused : goal.returns-in_err-programs-clause-refused
 returns-in_err-programs-clause-refused c =

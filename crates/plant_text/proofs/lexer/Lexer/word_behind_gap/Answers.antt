@@ -13,7 +13,7 @@ returns-clause-word c =
 pub returns-clause-first : goal.returns-clause-first
 returns-clause-first c =
     let same : c.args.self.now.text ≡ c.self.inside.rest.now = cc in
-    word_stands c.args.self.now c.advance.new.self c.word.new.self c.self.inside.rest.now c.behind_gap-rest.result.now c.in_ok-word.field-0 same c.behind_gap-rest.ensures c.advance.ensures.text c.advance.ensures.line c.in_ok-word.ensures.word c.in_ok-word.ensures.line
+    word_stands c.args.self.now c.advance.new.self c.word.new.self c.self.inside.rest.now c.behind_gap-rest.result.now c.in_ok-word.field-0 same c.behind_gap-rest.ensures c.advance.ensures.text c.advance.ensures.line c.in_ok-word.ensures.word c.in_ok-word.ensures.line c.in_ok-word.ensures.begins
 
 pub returns-clause-every : goal.returns-clause-every
 returns-clause-every c =

@@ -8,8 +8,9 @@ use Rattle.plant_grammar.specs.Kinds.{IsOfInputKind}
 use Rattle.plant_grammar.specs.Lawful.{variables}
 use Rattle.plant_grammar.specs.Steps.ReadParts.{IsNew}
 use Rattle.plant_grammar.proofs.NewNames.{bind_name}
-use Rattle.plant_grammar.specs.NameFaults.{IsOfName, RefusesOneBind}
-use Rattle.plant_grammar.specs.Steps.Declaring.{BeginWith}
+use Rattle.plant_grammar.specs.NameFaults.{RefusesOneBind}
+use Rattle.plant_grammar.specs.Steps.Declaring.{BeginRefused}
+use Rattle.plant_grammar.proofs.ReadLines.{line_before}
 use Rattle.plant_grammar.proofs.RefusedPlaces.{input_refused, address_refused}
 use Rattle.plant_grammar.proofs.grammar.reader.Reader.bind.Goals as goal
 
@@ -23,13 +24,13 @@ pub returns-in_err-input-clause-names : goal.returns-in_err-input-clause-names
 returns-in_err-input-clause-names c =
     let fault = c.in_err-input.field-0.0 in
     let ds = variables c.args.program.now.program in
-    kept_fault fault (λ f. IsOfName f.kind → BeginWith (RefusesOneBind c.args.tally.now.binds ds c.args.before.now f.kind) c.args.self.now.words) c.from_residual.result c.from_residual.ensures.1
-    (λ of. input_refused fault.kind c.args.tally.now.binds ds c.args.before.now c.args.self.now.words c.in_err-input.ensures.tells of)
+    kept_fault fault (BeginRefused (λ k. RefusesOneBind c.args.tally.now.binds ds c.args.before.now k) c.args.self.now) c.from_residual.result c.from_residual.ensures.1
+    (λ all h of. input_refused fault.kind c.args.tally.now.binds ds c.args.before.now c.args.self.now.words (line_before all c.args.self.now fault.line h (c.in_err-input.ensures.line of)) c.in_err-input.ensures.tells of)
 
 pub returns-in_err-source-clause-names : goal.returns-in_err-source-clause-names
 returns-in_err-source-clause-names c =
     let fault = c.in_err-source.field-0.0 in
     let ds = variables c.args.program.now.program in
-    kept_fault fault (λ f. IsOfName f.kind → BeginWith (RefusesOneBind c.args.tally.now.binds ds c.args.before.now f.kind) c.args.self.now.words) c.from_residual-in_err-source.result c.from_residual-in_err-source.ensures.1
-    (λ of. address_refused fault.kind c.args.tally.now.binds ds c.args.before.now c.in_ok-input.input c.in_ok-input.kind c.args.self.now.words c.bound_input.new.self.words c.punctuation.new.self.words c.in_ok-input.ensures.ok c.in_ok-punctuation.ensures.ok c.in_ok-input.ensures.kind
+    kept_fault fault (BeginRefused (λ k. RefusesOneBind c.args.tally.now.binds ds c.args.before.now k) c.args.self.now) c.from_residual-in_err-source.result c.from_residual-in_err-source.ensures.1
+    (λ all h of. address_refused fault.kind c.args.tally.now.binds ds c.args.before.now c.in_ok-input.input c.in_ok-input.kind c.args.self.now.words c.bound_input.new.self.words c.punctuation.new.self.words (line_before all c.punctuation.new.self fault.line (c.in_ok-punctuation.ensures.left all (c.in_ok-input.ensures.left all h)) (c.in_err-source.ensures.line of)) c.in_ok-input.ensures.ok c.in_ok-punctuation.ensures.ok c.in_ok-input.ensures.kind
     c.in_err-source.ensures.tells of)

@@ -6,8 +6,8 @@ use Rattle.plant_grammar.specs.Kinds.{IsOfInputKind}
 use Rattle.plant_grammar.specs.Lawful.{variables}
 use Rattle.plant_grammar.proofs.WordLists.{binds_more, grown, all_more}
 use Rattle.plant_grammar.proofs.ResourceLines.{bind_counted}
-use Rattle.plant_grammar.specs.NameFaults.{IsOfName, RefusesOneBind, RefusesBind}
-use Rattle.plant_grammar.specs.Steps.Declaring.{BeginWith}
+use Rattle.plant_grammar.specs.NameFaults.{RefusesOneBind, RefusesBind}
+use Rattle.plant_grammar.specs.Steps.Declaring.{BeginWith, BeginRefused, IsLineBefore}
 use Rattle.lists.proofs.Results.{kept_fault}
 use Rattle.plant_grammar.proofs.RefusedPlaces.{first_bind, next_bind}
 use Rattle.std.proofs.lemmas.List.Elements.{All-nil}
@@ -25,6 +25,7 @@ use Rattle.plant_grammar.proofs.grammar.reader.Reader.binds.Goals.{then-not-sees
 
 pub binds-preserved : goal.binds-preserved
 binds-preserved c = record {
+  left = λ all h. c.in_ok-bind-2.ensures.left all (c.in_ok-punctuation.ensures.left all (c.binds.invariant.left all h));
   some = omega (arith, grown c.binds.binds.items c.push-in-binds.new.self.items c.in_ok-bind-2.field-0 c.in_ok-push-2.ensures.items);
   words = binds_more c.binds.binds.items c.push-in-binds.new.self.items c.in_ok-bind-2.field-0 c.args.self.now.words c.binds.self.words c.punctuation.new.self.words c.bind-in-binds.new.self.words
       c.binds.invariant.some c.in_ok-push-2.ensures.items c.binds.invariant.words c.in_ok-punctuation.ensures.ok c.in_ok-bind-2.ensures.ok;
@@ -38,18 +39,18 @@ pub returns-in_err-bind-clause-names : goal.returns-in_err-bind-clause-names
 returns-in_err-bind-clause-names c =
     let fault = c.in_err-bind.field-0.0 in
     let ds = variables c.args.program.now.program in
-    kept_fault fault (λ f. IsOfName f.kind → BeginWith (RefusesBind f.kind c.args.tally.now.binds ds) c.args.self.now.words) c.from_residual.result c.from_residual.ensures.1
-    (λ of. first_bind fault.kind c.args.tally.now.binds ds c.args.self.now.words
-    (subst (λ (bs : List Bind). BeginWith (RefusesOneBind c.args.tally.now.binds ds bs fault.kind) c.args.self.now.words) (c.deref.ensures.value ∙ c.new-binds.ensures.items) (c.in_err-bind.ensures.names of)))
+    kept_fault fault (BeginRefused (λ k. RefusesBind k c.args.tally.now.binds ds) c.args.self.now) c.from_residual.result c.from_residual.ensures.1
+    (λ all h of. first_bind fault.kind c.args.tally.now.binds ds c.args.self.now.words
+    (subst (λ (bs : List Bind). BeginWith (IsLineBefore all fault.line) (RefusesOneBind c.args.tally.now.binds ds bs fault.kind) c.args.self.now.words) (c.deref.ensures.value ∙ c.new-binds.ensures.items) (c.in_err-bind.ensures.names all h of)))
 
 pub returns-in_err-bind-2-clause-names : goal.returns-in_err-bind-2-clause-names
 returns-in_err-bind-2-clause-names c =
     let fault = c.in_err-bind-2.field-0.0 in
     let ds = variables c.args.program.now.program in
-    kept_fault fault (λ f. IsOfName f.kind → BeginWith (RefusesBind f.kind c.args.tally.now.binds ds) c.args.self.now.words) c.from_residual-in_err-bind-2.result c.from_residual-in_err-bind-2.ensures.1
-    (λ of. next_bind fault.kind c.binds.tally.binds c.args.tally.now.binds ds c.binds.binds.items c.args.self.now.words c.binds.self.words c.punctuation.new.self.words c.binds.invariant.some c.binds.invariant.words c.in_ok-punctuation.ensures.ok
+    kept_fault fault (BeginRefused (λ k. RefusesBind k c.args.tally.now.binds ds) c.args.self.now) c.from_residual-in_err-bind-2.result c.from_residual-in_err-bind-2.ensures.1
+    (λ all h of. next_bind fault.kind c.binds.tally.binds c.args.tally.now.binds ds c.binds.binds.items c.args.self.now.words c.binds.self.words c.punctuation.new.self.words c.binds.invariant.some c.binds.invariant.words c.in_ok-punctuation.ensures.ok
     (ap (λ (t : TallyValue). t.binds) c.binds.invariant.tally)
-    (subst (λ (bs : List Bind). BeginWith (RefusesOneBind c.binds.tally.binds ds bs fault.kind) c.punctuation.new.self.words) c.deref-in-binds.ensures.value (c.in_err-bind-2.ensures.names of)))
+    (subst (λ (bs : List Bind). BeginWith (IsLineBefore all fault.line) (RefusesOneBind c.binds.tally.binds ds bs fault.kind) c.punctuation.new.self.words) c.deref-in-binds.ensures.value (c.in_err-bind-2.ensures.names all (c.in_ok-punctuation.ensures.left all (c.binds.invariant.left all h)) of)))
 
 pub returns-clause-kinds : goal.returns-clause-kinds
 returns-clause-kinds c = elim c.if-not-sees_punctuation.branch [

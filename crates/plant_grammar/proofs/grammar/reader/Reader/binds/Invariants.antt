@@ -4,10 +4,12 @@ use Rattle.std.specs.Prelude.{All}
 use Rattle.plant_grammar.specs.Names.{AreNamesApart}
 use Rattle.plant_grammar.specs.Kinds.{IsOfInputKind}
 use Rattle.plant_grammar.specs.Lawful.{variables}
+use Rattle.plant_grammar.specs.Steps.Lines.{KeepsLines}
 use Rattle.plant_grammar.proofs.grammar.reader.Reader.binds.Given as goal
 
 abbrev pub invariant-binds : goal.invariant-binds
 invariant-binds l = record {
+  left : KeepsLines l.fn.self l.self;
   some : 0 < length l.binds.items;
   words : l.fn.self.words ≡ with_commas l.binds.items ++ l.self.words;
   apart : AreNamesApart (map (λ b. b.input) l.binds.items);

@@ -2,8 +2,8 @@ use Rattle.std.proofs.Common.{◌≡◌, ◌≢◌, ◌++◌, List, All, refl, �
 use Rattle.plant_grammar.specs.Lawful.{block_variables, IsBlockLawful}
 use Rattle.plant_grammar.specs.Grammar.{block_words}
 use Rattle.plant_grammar.proofs.WordLists.{words_more, declared_more, all_more}
-use Rattle.plant_grammar.specs.NameFaults.{IsOfName, RefusesBlocks}
-use Rattle.plant_grammar.specs.Steps.Declaring.{BeginWith}
+use Rattle.plant_grammar.specs.NameFaults.{RefusesBlocks}
+use Rattle.plant_grammar.specs.Steps.Declaring.{BeginRefused}
 use Rattle.lists.proofs.Results.{kept_fault}
 use Rattle.plant_grammar.proofs.RefusedPlaces.{block_refused}
 use Rattle.plant_text.specs.declared.token.Token.{Token}
@@ -19,6 +19,7 @@ use Rattle.plant_grammar.proofs.grammar.reader.Reader.blocks.Goals as goal
 
 pub sections-preserved : goal.sections-preserved
 sections-preserved c = record {
+  left = λ all h. c.in_ok-block.ensures.left all (c.sections.invariant.left all h);
   words = words_more block_words c.sections.blocks.items c.push.new.self.items c.in_ok-block.block c.args.self.now.words c.sections.self.words c.block.new.self.words c.in_ok-push.ensures.items c.sections.invariant.words c.in_ok-block.ensures.ok;
   bodies = c.in_ok-block.ensures.bodies ∙ c.sections.invariant.bodies;
   declared = declared_more block_variables c.sections.blocks.items c.push.new.self.items c.in_ok-block.block c.args.variables.now c.sections.variables c.block.new.variables c.in_ok-push.ensures.items c.sections.invariant.declared c.in_ok-block.ensures.declared;
@@ -28,8 +29,8 @@ sections-preserved c = record {
 pub returns-in_err-block-clause-names : goal.returns-in_err-block-clause-names
 returns-in_err-block-clause-names c =
     let fault = c.in_err-block.field-0.0 in
-    kept_fault fault (λ f. IsOfName f.kind → BeginWith (RefusesBlocks f.kind c.args.variables.now) (c.args.self.now.words)) c.from_residual.result c.from_residual.ensures.1
-    (λ of. block_refused fault.kind c.args.variables.now c.sections.variables c.sections.blocks.items c.args.self.now.words c.sections.self.words c.sections.invariant.words c.sections.invariant.declared (c.in_err-block.ensures.names of))
+    kept_fault fault (BeginRefused (λ k. RefusesBlocks k c.args.variables.now) c.args.self.now) c.from_residual.result c.from_residual.ensures.1
+    (λ all h of. block_refused fault.kind c.args.variables.now c.sections.variables c.sections.blocks.items c.args.self.now.words c.sections.self.words c.sections.invariant.words c.sections.invariant.declared (c.in_err-block.ensures.names all (c.sections.invariant.left all h) of))
 
 pub returns-in_err-block-clause-other : goal.returns-in_err-block-clause-other
 returns-in_err-block-clause-other c =

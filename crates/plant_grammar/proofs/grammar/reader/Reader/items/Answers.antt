@@ -5,8 +5,8 @@ use Rattle.plant_grammar.specs.Steps.ReadParts.{types_alone, MayFollow, AreItems
 use Rattle.plant_grammar.proofs.WordLists.{words_more, items_done}
 use Rattle.plant_grammar.proofs.ResourceLines.{items_more, tally_more}
 use Rattle.plant_grammar.specs.declared.grammar.tree.Item.{Item}
-use Rattle.plant_grammar.specs.NameFaults.{IsOfName, RefusesItems}
-use Rattle.plant_grammar.specs.Steps.Declaring.{BeginWith, RefusesItem}
+use Rattle.plant_grammar.specs.NameFaults.{RefusesItems}
+use Rattle.plant_grammar.specs.Steps.Declaring.{BeginWith, BeginRefused, IsLineBefore, RefusesItem}
 use Rattle.plant_grammar.specs.Steps.Reading.{programs_of}
 use Rattle.lists.proofs.Results.{kept_fault}
 use Rattle.plant_grammar.proofs.RefusedPlaces.{item_refused}
@@ -21,6 +21,7 @@ use Rattle.plant_grammar.proofs.grammar.reader.Reader.items.Goals as goal
 
 pub items-preserved : goal.items-preserved
 items-preserved c = record {
+  left = λ all h. c.in_ok-item.ensures.left all (c.items.invariant.left all h);
   words = words_more item_words c.items.items.items c.push.new.self.items c.in_ok-item.item c.args.self.now.words c.items.self.words c.item.new.self.words c.in_ok-push.ensures.items c.items.invariant.words c.in_ok-item.ensures.ok;
   lawful = items_more (types_alone c.args.types.now) c.items.items.items c.push.new.self.items c.in_ok-item.item c.in_ok-push.ensures.items c.items.invariant.lawful
       (subst (λ xs. MayFollow (types_alone c.args.types.now) xs c.in_ok-item.item) c.deref.ensures.value c.in_ok-item.ensures.lawful);
@@ -30,6 +31,7 @@ items-preserved c = record {
 pub returns : goal.returns
 returns c = record {
   ok = items_done c.items.items.items c.args.self.now.words c.items.self.words c.keyword.new.self.words c.items.invariant.words c.in_ok-keyword.ensures.ok;
+  left = λ all h. c.in_ok-keyword.ensures.left all (c.items.invariant.left all h);
   lawful = c.items.invariant.lawful;
   tally = c.items.invariant.tally;
   other = tt;
@@ -41,9 +43,9 @@ returns c = record {
 pub returns-in_err-item-clause-names : goal.returns-in_err-item-clause-names
 returns-in_err-item-clause-names c =
     let fault = c.in_err-item.field-0.0 in
-    kept_fault fault (λ f. IsOfName f.kind → BeginWith (RefusesItems f.kind c.args.tally.now.instances c.args.tally.now.binds (programs_of c.args.types.now)) c.args.self.now.words) c.from_residual.result c.from_residual.ensures.1
-    (λ of. item_refused fault.kind c.args.tally.now c.items.tally (programs_of c.args.types.now) c.items.items.items c.args.self.now.words c.items.self.words c.items.invariant.words c.items.invariant.tally
-    (subst (λ (xs : List Item). BeginWith (RefusesItem c.items.tally (programs_of c.args.types.now) xs fault.kind) c.items.self.words) c.deref.ensures.value (c.in_err-item.ensures.names of)))
+    kept_fault fault (BeginRefused (λ k. RefusesItems k c.args.tally.now.instances c.args.tally.now.binds (programs_of c.args.types.now)) c.args.self.now) c.from_residual.result c.from_residual.ensures.1
+    (λ all h of. item_refused fault.kind c.args.tally.now c.items.tally (programs_of c.args.types.now) c.items.items.items c.args.self.now.words c.items.self.words c.items.invariant.words c.items.invariant.tally
+    (subst (λ (xs : List Item). BeginWith (IsLineBefore all fault.line) (RefusesItem c.items.tally (programs_of c.args.types.now) xs fault.kind) c.items.self.words) c.deref.ensures.value (c.in_err-item.ensures.names all (c.items.invariant.left all h) of)))
 
 pub returns-in_err-item-clause-other : goal.returns-in_err-item-clause-other
 returns-in_err-item-clause-other c =

@@ -1,20 +1,39 @@
-use Rattle.std.proofs.Common.{◌≡◌, ◌≢◌, refl, ◌∙◌, ◌++◌, ◌∷◌, ◌<◌, ℕ, List, length, arith}
+use Rattle.std.proofs.Common.{rules, sym, subst, ◌+◌, ◌≡◌, ◌≢◌, refl, ◌∙◌, ◌++◌, ◌∷◌, ◌<◌, ℕ, List, length, arith}
 use Rattle.plant_text.specs.declared.token.Token.{Token}
 use Rattle.plant_text.specs.declared.token.Punctuation.TheVariants.{Colon}
 use Rattle.plant_grammar.specs.declared.grammar_fault.GrammarFaultKind.TheVariants.{Memory, Syntax}
 use Rattle.plant_grammar.specs.Grammar.{mark_word, name_words}
 use Rattle.plant_grammar.specs.Steps.Refusing.{MayBeDeclared}
+use Rattle.plant_grammar.specs.Steps.ReadParts.{IsNew}
+use Rattle.plant_grammar.proofs.AddedNames.{one_more_declared, first_declared}
 use Rattle.plant_grammar.proofs.NewNames.{first_refused, next_refused, all_names}
 use Rattle.plant_grammar.proofs.WordLists.{names_more, grown}
-use Rattle.plant_grammar.specs.NameFaults.{IsOfName, RefusesVariable}
-use Rattle.plant_grammar.specs.Steps.Declaring.{BeginWith}
+use Rattle.plant_grammar.specs.NameFaults.{RefusesVariable}
+use Rattle.plant_grammar.specs.Steps.Declaring.{BeginRefused}
 use Rattle.lists.proofs.Results.{kept_fault}
+use Rattle.plant_grammar.proofs.ReadLines.{line_before}
 use Rattle.plant_grammar.proofs.RefusedPlaces.{first_variable, next_variable}
 use Rattle.plant_grammar.proofs.MissingWords.{name_missing, next_missing}
 use Rattle.plant_grammar.proofs.grammar.reader.Reader.names.Goals as goal
 
+pub names-init : goal.names-init
+names-init c = record {
+  left = c.in_ok-variable.ensures.left;
+  some = search rules;
+  may = subst (λ ns. MayBeDeclared c.args.variables.now ns) (sym c.in_ok-push.ensures.items)
+      (first_declared c.args.variables.now c.new-names.result.items c.in_ok-variable.field-0 c.in_ok-variable.ensures.lawful c.new-names.ensures.items c.in_ok-variable.ensures.new.0
+      (subst (λ ns. length c.args.variables.now + length ns < 1000) c.deref.ensures.value c.in_ok-variable.ensures.new.2));
+  bodies = c.in_ok-variable.ensures.bodies;
+  words = search rules;
+}
+
 pub names-preserved : goal.names-preserved
 names-preserved c = record {
+  may = subst (λ ns. MayBeDeclared c.args.variables.now ns) (sym c.in_ok-push-2.ensures.items)
+      (one_more_declared c.args.variables.now c.names.names.items c.in_ok-variable-2.field-0 c.names.invariant.may c.in_ok-variable-2.ensures.new.0
+      (subst (λ ns. IsNew (λ (m : List ℕ). m) ns c.in_ok-variable-2.field-0) c.deref-in-names.ensures.value c.in_ok-variable-2.ensures.new.1)
+      (subst (λ ns. length c.args.variables.now + length ns < 1000) c.deref-in-names.ensures.value c.in_ok-variable-2.ensures.new.2));
+  left = λ all h. c.in_ok-variable-2.ensures.left all (c.in_ok-punctuation.ensures.left all (c.names.invariant.left all h));
   some = omega (arith, grown c.names.names.items c.push-in-names.new.self.items c.in_ok-variable-2.field-0 c.in_ok-push-2.ensures.items);
   bodies = c.in_ok-variable-2.ensures.bodies ∙ c.in_ok-punctuation.ensures.bodies ∙ c.names.invariant.bodies;
   words = names_more c.names.names.items c.push-in-names.new.self.items c.in_ok-variable-2.field-0 c.args.self.now.words c.names.self.words c.punctuation.new.self.words c.variable-in-names.new.self.words
@@ -24,14 +43,15 @@ names-preserved c = record {
 pub returns-in_err-variable-clause-names : goal.returns-in_err-variable-clause-names
 returns-in_err-variable-clause-names c =
     let fault = c.in_err-variable.field-0.0 in
-    kept_fault fault (λ f. IsOfName f.kind → BeginWith (RefusesVariable f.kind c.args.variables.now) (c.args.self.now.words)) c.from_residual.result c.from_residual.ensures.1
-    (λ of. first_variable fault.kind c.args.variables.now c.deref.result.now c.args.self.now.words (c.deref.ensures.value ∙ c.new-names.ensures.items) c.in_err-variable.ensures.tells of)
+    kept_fault fault (BeginRefused (λ k. RefusesVariable k c.args.variables.now) c.args.self.now) c.from_residual.result c.from_residual.ensures.1
+    (λ all h of. first_variable fault.kind c.args.variables.now c.deref.result.now c.args.self.now.words (line_before all c.args.self.now fault.line h (c.in_err-variable.ensures.line of)) (c.deref.ensures.value ∙ c.new-names.ensures.items) c.in_err-variable.ensures.tells of)
 
 pub returns-in_err-variable-2-clause-names : goal.returns-in_err-variable-2-clause-names
 returns-in_err-variable-2-clause-names c =
     let fault = c.in_err-variable-2.field-0.0 in
-    kept_fault fault (λ f. IsOfName f.kind → BeginWith (RefusesVariable f.kind c.args.variables.now) (c.args.self.now.words)) c.from_residual-in_err-variable-2.result c.from_residual-in_err-variable-2.ensures.1
-    (λ of. next_variable fault.kind c.args.variables.now c.names.names.items c.args.self.now.words c.names.self.words c.punctuation.new.self.words c.names.invariant.some c.names.invariant.words c.in_ok-punctuation.ensures.ok
+    kept_fault fault (BeginRefused (λ k. RefusesVariable k c.args.variables.now) c.args.self.now) c.from_residual-in_err-variable-2.result c.from_residual-in_err-variable-2.ensures.1
+    (λ all h of. next_variable fault.kind c.args.variables.now c.names.names.items c.args.self.now.words c.names.self.words c.punctuation.new.self.words
+    (line_before all c.punctuation.new.self fault.line (c.in_ok-punctuation.ensures.left all (c.names.invariant.left all h)) (c.in_err-variable-2.ensures.line of)) c.names.invariant.some c.names.invariant.words c.in_ok-punctuation.ensures.ok
     (rw c.deref-in-names.ensures.value at c.in_err-variable-2.ensures.tells) of)
 
 pub returns-in_err-variable-clause-other : goal.returns-in_err-variable-clause-other

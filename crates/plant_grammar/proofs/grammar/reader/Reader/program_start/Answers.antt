@@ -1,11 +1,11 @@
 use Rattle.std.proofs.Common.{◌≤◌, length, arith}
 use Rattle.std.proofs.lemmas.List.{length-map}
-use Rattle.std.proofs.lemmas.Result.{IfErr-weaker}
 use Rattle.plant_grammar.specs.Grammar.{TextValue}
 use Rattle.plant_grammar.specs.declared.grammar.tree.Program.{Program}
 use Rattle.plant_grammar.specs.Steps.Reading.{programs_of}
 use Rattle.plant_grammar.specs.Steps.Declaring.{RepeatsName, IsNameNext}
-use Rattle.plant_grammar.proofs.RefusedNames.{tells_with}
+use Rattle.plant_grammar.proofs.RefusedNames.{tells_with, both_told}
+use Rattle.plant_grammar.proofs.ReadLines.{line_before}
 use Rattle.plant_grammar.proofs.RefusedPlaces.{program_named}
 use Rattle.plant_grammar.proofs.grammar.reader.Reader.program_start.Goals as goal
 
@@ -14,8 +14,8 @@ returns-clause-names c =
     let before = programs_of c.args.before.now in
     let words = c.keyword.new.self.words in
     let repeats = RepeatsName (λ (x : Program). x.name) before words in
-    IfErr-weaker c.new_type.result _ _
-    (λ fault tells of. program_named fault.kind before c.args.self.now.words words c.in_ok-keyword.ensures.ok
+    both_told c.new_type.result _ _ _
+    (λ fault tells line all h of. program_named fault.kind before c.args.self.now.words words (line_before all c.keyword.new.self fault.line (c.in_ok-keyword.ensures.left all h) (line of)) c.in_ok-keyword.ensures.ok
     (tells_with fault.kind repeats (IsNameNext words × (64 ≤ length c.args.before.now)) repeats (IsNameNext words × (64 ≤ length before)) (λ twice. twice)
     (λ full. (full.0, omega (arith, full.1, length-map c.args.before.now (λ (t : TextValue). t.program)))) tells) of)
-    c.new_type.ensures.tells
+    c.new_type.ensures.tells c.new_type.ensures.line

@@ -8,8 +8,8 @@ use Rattle.plant_grammar.specs.Steps.ReadParts.{IsNew, AreProgramsDeclared}
 use Rattle.plant_grammar.specs.Steps.Reading.{programs_of, lines_of, all_words}
 use Rattle.plant_grammar.proofs.FoundTypes.{programs_more, map-grown}
 use Rattle.plant_grammar.proofs.WordLists.{words_more}
-use Rattle.plant_grammar.specs.NameFaults.{IsOfName, RefusesProgram, RefusesPrograms}
-use Rattle.plant_grammar.specs.Steps.Declaring.{BeginWith}
+use Rattle.plant_grammar.specs.NameFaults.{RefusesProgram, RefusesPrograms}
+use Rattle.plant_grammar.specs.Steps.Declaring.{BeginWith, BeginRefusedBehind, IsLineBefore}
 use Rattle.lists.proofs.Results.{kept_fault}
 use Rattle.plant_grammar.proofs.RefusedPlaces.{program_refused}
 use Rattle.plant_grammar.proofs.RefusedNames.{memory_result, memory_excused}
@@ -30,6 +30,7 @@ programs-preserved c =
     let longer : after ≡ before ++ program ∷ [] = map-grown (λ (t : TextValue). t.program) c.programs.texts.items c.push.new.self.items c.in_ok-text.text c.in_ok-push.ensures.items in
     let few : length c.programs.texts.items < 64 = subst (λ ts. length ts < 64) c.as_slice.ensures.value c.in_ok-text.ensures.few in
     record {
+      left = λ all h. c.in_ok-text.ensures.left all (c.programs.invariant.left all h);
       words = words_more program_words before after program (flat_map program_words (programs_of c.args.texts.now.items) ++ c.args.self.now.words) c.programs.self.words c.program.new.self.words longer c.programs.invariant.words c.in_ok-text.ensures.ok;
       lines = c.programs.invariant.lines ∙ ap (λ (x : List ℕ). lines_of c.programs.texts.items ++ x) c.in_ok-text.ensures.bodies ∙ sym (append_assoc (lines_of c.programs.texts.items) (c.in_ok-text.text.first_line ∷ []) c.program.new.self.bodies)
           ∙ ap (λ (x : List ℕ). x ++ c.program.new.self.bodies) (sym (map-grown (λ (t : TextValue). t.first_line) c.programs.texts.items c.push.new.self.items c.in_ok-text.text c.in_ok-push.ensures.items));
@@ -55,12 +56,12 @@ returns-in_err-push-clause-err_lines c =
 pub returns-in_err-text-clause-names : goal.returns-in_err-text-clause-names
 returns-in_err-text-clause-names c =
     let fault = c.in_err-text.field-0.0 in
-    kept_fault fault (λ f. IsOfName f.kind → BeginWith (RefusesPrograms f.kind) (flat_map program_words (programs_of c.args.texts.now.items) ++ c.args.self.now.words)) c.from_residual.result c.from_residual.ensures.1
-    (λ of. program_refused fault.kind (programs_of c.programs.texts.items) (flat_map program_words (programs_of c.args.texts.now.items) ++ c.args.self.now.words) c.programs.self.words c.programs.invariant.words
-    (subst (λ (ts : List TextValue). BeginWith (RefusesProgram fault.kind (programs_of ts)) c.programs.self.words) c.as_slice.ensures.value (c.in_err-text.ensures.names of)))
+    kept_fault fault (BeginRefusedBehind RefusesPrograms c.args.self.now (all_words c.args.texts.now.items c.args.self.now.words)) c.from_residual.result c.from_residual.ensures.1
+    (λ all h of. program_refused fault.kind (programs_of c.programs.texts.items) (flat_map program_words (programs_of c.args.texts.now.items) ++ c.args.self.now.words) c.programs.self.words c.programs.invariant.words
+    (subst (λ (ts : List TextValue). BeginWith (IsLineBefore all fault.line) (RefusesProgram fault.kind (programs_of ts)) c.programs.self.words) c.as_slice.ensures.value (c.in_err-text.ensures.names all (c.programs.invariant.left all h) of)))
 
 pub returns-in_err-push-clause-names : goal.returns-in_err-push-clause-names
-returns-in_err-push-clause-names c = memory_result (λ f. BeginWith (RefusesPrograms f.kind) (flat_map program_words (programs_of c.args.texts.now.items) ++ c.args.self.now.words)) c.from_residual-in_err-push.result c.from_residual-in_err-push.ensures.1
+returns-in_err-push-clause-names c = memory_result RefusesPrograms c.args.self.now (all_words c.args.texts.now.items c.args.self.now.words) c.from_residual-in_err-push.result c.from_residual-in_err-push.ensures.1
 
 pub returns-in_err-text-clause-other : goal.returns-in_err-text-clause-other
 returns-in_err-text-clause-other c =

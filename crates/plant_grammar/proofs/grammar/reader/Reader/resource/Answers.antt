@@ -2,6 +2,7 @@ use Rattle.plant_grammar.specs.NameFaults.{RefusesResource}
 use Rattle.plant_grammar.specs.Steps.Declaring.{BeginRefused}
 use Rattle.plant_grammar.specs.Steps.Reading.{programs_of}
 use Rattle.lists.proofs.Results.{kept_fault}
+use Rattle.plant_grammar.proofs.ReadLines.{line_before}
 use Rattle.plant_grammar.proofs.RefusedPlaces.{resource_named, in_resource}
 use Rattle.std.proofs.Common.{◌≡◌, ◌≢◌, ◌<◌, ◌++◌, List, length}
 use Rattle.plant_text.specs.declared.token.Token.{Token}
@@ -18,17 +19,17 @@ pub returns-in_err-name-clause-names : goal.returns-in_err-name-clause-names
 returns-in_err-name-clause-names c =
     let fault = c.in_err-name.field-0.0 in
     let tally = c.args.tally.now in
-    kept_fault fault (BeginRefused (λ k. RefusesResource k tally.instances tally.binds (programs_of c.args.types.now) c.args.before.now) c.args.self.now.words) c.from_residual-in_err-name.result c.from_residual-in_err-name.ensures.1
-    (λ of. resource_named fault.kind tally.instances tally.binds (programs_of c.args.types.now) c.args.before.now c.args.self.now.words c.keyword.new.self.words c.in_ok-keyword.ensures.ok c.in_err-name.ensures.tells of)
+    kept_fault fault (BeginRefused (λ k. RefusesResource k tally.instances tally.binds (programs_of c.args.types.now) c.args.before.now) c.args.self.now) c.from_residual-in_err-name.result c.from_residual-in_err-name.ensures.1
+    (λ all h of. resource_named fault.kind tally.instances tally.binds (programs_of c.args.types.now) c.args.before.now c.args.self.now.words c.keyword.new.self.words (line_before all c.keyword.new.self fault.line (c.in_ok-keyword.ensures.left all h) (c.in_err-name.ensures.line of)) c.in_ok-keyword.ensures.ok c.in_err-name.ensures.tells of)
 
 pub returns-in_err-items-clause-names : goal.returns-in_err-items-clause-names
 returns-in_err-items-clause-names c =
     let fault = c.in_err-items.field-0.0 in
     let tally = c.args.tally.now in
-    kept_fault fault (BeginRefused (λ k. RefusesResource k tally.instances tally.binds (programs_of c.args.types.now) c.args.before.now) c.args.self.now.words) c.from_residual-in_err-items.result c.from_residual-in_err-items.ensures.1
-    (λ of. in_resource fault.kind tally.instances tally.binds (programs_of c.args.types.now) c.args.before.now c.in_ok-name.name c.in_ok-node.node
+    kept_fault fault (BeginRefused (λ k. RefusesResource k tally.instances tally.binds (programs_of c.args.types.now) c.args.before.now) c.args.self.now) c.from_residual-in_err-items.result c.from_residual-in_err-items.ensures.1
+    (λ all h of. in_resource fault.kind tally.instances tally.binds (programs_of c.args.types.now) c.args.before.now c.in_ok-name.name c.in_ok-node.node
     c.args.self.now.words c.keyword.new.self.words c.resource_name.new.self.words c.keyword-2.new.self.words c.name-2.new.self.words
-    c.in_ok-keyword.ensures.ok c.in_ok-name.ensures.ok c.in_ok-keyword-2.ensures.ok c.in_ok-node.ensures.ok (c.in_err-items.ensures.names of))
+    c.in_ok-keyword.ensures.ok c.in_ok-name.ensures.ok c.in_ok-keyword-2.ensures.ok c.in_ok-node.ensures.ok (c.in_err-items.ensures.names all (c.in_ok-node.ensures.left all (c.in_ok-keyword-2.ensures.left all (c.in_ok-name.ensures.left all (c.in_ok-keyword.ensures.left all h)))) of))
 
 pub returns-in_err-items-clause-other : goal.returns-in_err-items-clause-other
 returns-in_err-items-clause-other c =

@@ -5,8 +5,8 @@ use Rattle.plant_grammar.specs.Grammar.{resource_words, resources_words}
 use Rattle.plant_grammar.specs.Steps.ReadParts.{types_alone, IsNew, AreResourcesLawful}
 use Rattle.plant_grammar.proofs.WordLists.{words_more, resources_done}
 use Rattle.plant_grammar.proofs.ResourceLines.{resources_more, tally_more}
-use Rattle.plant_grammar.specs.NameFaults.{IsOfName, RefusesResource, RefusesResources}
-use Rattle.plant_grammar.specs.Steps.Declaring.{BeginWith}
+use Rattle.plant_grammar.specs.NameFaults.{RefusesResource, RefusesResources}
+use Rattle.plant_grammar.specs.Steps.Declaring.{BeginWith, BeginRefused, IsLineBefore}
 use Rattle.plant_grammar.specs.Steps.Reading.{programs_of}
 use Rattle.lists.proofs.Results.{kept_fault}
 use Rattle.plant_grammar.proofs.RefusedPlaces.{resource_refused}
@@ -22,6 +22,7 @@ use Rattle.plant_grammar.proofs.grammar.reader.Reader.resources.Goals.{then-is_e
 
 pub resources-preserved : goal.resources-preserved
 resources-preserved c = record {
+  left = λ all h. c.in_ok-resource.ensures.left all (c.resources.invariant.left all h);
   words = words_more resource_words c.resources.resources.items c.push.new.self.items c.in_ok-resource.resource c.args.self.now.words c.resources.self.words c.resource.new.self.words c.in_ok-push.ensures.items c.resources.invariant.words c.in_ok-resource.ensures.ok;
   lawful = resources_more (types_alone c.args.types.now) c.resources.resources.items c.push.new.self.items c.in_ok-resource.resource c.in_ok-push.ensures.items c.resources.invariant.lawful
       (subst (λ rs. IsNew (λ (r : Resource). r.name) rs c.in_ok-resource.resource.name) c.deref.ensures.value c.in_ok-resource.ensures.new) (subst (λ rs. length rs < 16) c.deref.ensures.value c.in_ok-resource.ensures.few) c.in_ok-resource.ensures.lawful;
@@ -34,9 +35,9 @@ returns-clause-ok c = resources_done c.resources.resources.items c.args.self.now
 pub returns-in_err-resource-clause-names : goal.returns-in_err-resource-clause-names
 returns-in_err-resource-clause-names c =
     let fault = c.in_err-resource.field-0.0 in
-    kept_fault fault (λ f. IsOfName f.kind → BeginWith (RefusesResources f.kind c.args.tally.now.instances c.args.tally.now.binds (programs_of c.args.types.now)) c.args.self.now.words) c.from_residual.result c.from_residual.ensures.1
-    (λ of. resource_refused fault.kind c.args.tally.now c.resources.tally (programs_of c.args.types.now) c.resources.resources.items c.args.self.now.words c.resources.self.words c.resources.invariant.words c.resources.invariant.tally
-    (subst (λ (rs : List Resource). BeginWith (RefusesResource fault.kind c.resources.tally.instances c.resources.tally.binds (programs_of c.args.types.now) rs) c.resources.self.words) c.deref.ensures.value (c.in_err-resource.ensures.names of)))
+    kept_fault fault (BeginRefused (λ k. RefusesResources k c.args.tally.now.instances c.args.tally.now.binds (programs_of c.args.types.now)) c.args.self.now) c.from_residual.result c.from_residual.ensures.1
+    (λ all h of. resource_refused fault.kind c.args.tally.now c.resources.tally (programs_of c.args.types.now) c.resources.resources.items c.args.self.now.words c.resources.self.words c.resources.invariant.words c.resources.invariant.tally
+    (subst (λ (rs : List Resource). BeginWith (IsLineBefore all fault.line) (RefusesResource fault.kind c.resources.tally.instances c.resources.tally.binds (programs_of c.args.types.now) rs) c.resources.self.words) c.deref.ensures.value (c.in_err-resource.ensures.names all (c.resources.invariant.left all h) of)))
 
 pub returns-in_err-resource-clause-other : goal.returns-in_err-resource-clause-other
 returns-in_err-resource-clause-other c =

@@ -1,7 +1,7 @@
 use Rattle.plant_text.specs.declared.token.Punctuation.TheVariants.{Open, Semicolon}
 use Rattle.plant_grammar.specs.Grammar.{mark_word, binds_words}
-use Rattle.plant_grammar.specs.NameFaults.{IsOfName, IsAfter, RefusesBind}
-use Rattle.plant_grammar.specs.Steps.Declaring.{BeginWith}
+use Rattle.plant_grammar.specs.NameFaults.{IsAfter, RefusesBind}
+use Rattle.plant_grammar.specs.Steps.Declaring.{BeginRefused}
 use Rattle.lists.proofs.Results.{kept_fault}
 use Rattle.plant_grammar.proofs.RefusedPlaces.{in_binds}
 use Rattle.std.proofs.Common.{◌≡◌, ◌≢◌, ◌+◌, ◌≤◌, ◌++◌, ◌∷◌, List, Option, length, map}
@@ -19,8 +19,8 @@ pub returns-in_err-binds-clause-names : goal.returns-in_err-binds-clause-names
 returns-in_err-binds-clause-names c =
     let fault = c.in_err-binds.field-0.0 in
     let ds = variables c.args.program.now.program in
-    kept_fault fault (λ f. IsOfName f.kind → BeginWith (IsAfter (mark_word Open) (RefusesBind f.kind c.args.tally.now.binds ds)) c.args.self.now.words) c.from_residual-in_err-binds.result c.from_residual-in_err-binds.ensures.1
-    (λ of. in_binds fault.kind c.args.tally.now.binds ds c.args.self.now.words c.punctuation.new.self.words c.in_ok-punctuation.ensures.ok (c.in_err-binds.ensures.names of))
+    kept_fault fault (BeginRefused (λ k. IsAfter (mark_word Open) (RefusesBind k c.args.tally.now.binds ds)) c.args.self.now) c.from_residual-in_err-binds.result c.from_residual-in_err-binds.ensures.1
+    (λ all h of. in_binds fault.kind c.args.tally.now.binds ds c.args.self.now.words c.punctuation.new.self.words c.in_ok-punctuation.ensures.ok (c.in_err-binds.ensures.names all (c.in_ok-punctuation.ensures.left all h) of))
 
 pub returns-in_err-binds-clause-other : goal.returns-in_err-binds-clause-other
 returns-in_err-binds-clause-other c =

@@ -1,15 +1,19 @@
 use Rattle.std.specs.List.{flat_map}
-use Rattle.std.proofs.lemmas.Result.{IfErr-weaker}
 use Rattle.plant_text.specs.declared.token.Keyword.TheVariants.{With}
 use Rattle.plant_grammar.specs.declared.grammar.tree.TaskLine.{TaskLine}
 use Rattle.plant_grammar.specs.Grammar.{key_word}
 use Rattle.plant_grammar.specs.Lawful.{task_of}
-use Rattle.plant_grammar.proofs.RefusedNames.{missing_behind}
+use Rattle.plant_grammar.specs.NameFaults.{IsUnknown}
+use Rattle.plant_grammar.proofs.ReadLines.{line_before}
+use Rattle.plant_grammar.proofs.RefusedNames.{both_told, unknown_next, begin_after}
 use Rattle.plant_grammar.proofs.grammar.reader.Reader.task_of_instance.Goals as goal
 
-pub returns-clause-tells : goal.returns-clause-tells
-returns-clause-tells c =
+pub returns-clause-names : goal.returns-clause-names
+returns-clause-names c =
     let a = c.args in
-    IfErr-weaker c.known_task.result _ _
-    (λ fault tells. missing_behind fault.kind (key_word With) (λ (t : TaskLine). t.name) (flat_map task_of a.before.now) a.self.now.words c.keyword.new.self.words c.in_ok-keyword.ensures.ok tells)
-    c.known_task.ensures.tells
+    let tasks = flat_map task_of a.before.now in
+    let now = c.keyword.new.self in
+    both_told c.known_task.result _ _ _
+    (λ fault tells line all h of. begin_after (key_word With) (IsUnknown fault.kind (λ (t : TaskLine). t.name) tasks) a.self.now.words now.words c.in_ok-keyword.ensures.ok
+    (unknown_next fault.kind now.words (line_before all now fault.line (c.in_ok-keyword.ensures.left all h) (line of)) (λ (t : TaskLine). t.name) tasks tells of))
+    c.known_task.ensures.tells c.known_task.ensures.line
