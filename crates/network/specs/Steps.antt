@@ -2,6 +2,7 @@
 -- Only what stands inside this crate cites them; what is handed up is said without them.
 pub mod Corners
 pub mod Joined
+pub mod Listed
 pub mod Listing
 pub mod Numbers
 pub mod Pairs

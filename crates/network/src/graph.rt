@@ -52,7 +52,7 @@ impl Graph {
         if let Some(place) = first_of(&unmet) {
             return Err(fault_at(GraphFaultKind::Unattached, first_line, place));
         }
-        let networks = split(alloc, elements, &ranks.ranks, ranks.count).map_err(no_memory)?;
+        let networks = split(alloc, &elements, &ranks.ranks, ranks.count).map_err(no_memory)?;
         let tall = tall_places(alloc, &networks).map_err(no_memory)?;
         if let Some(place) = first_of(&tall) {
             return Err(fault_at(GraphFaultKind::TooTall, first_line, place));

@@ -2,5 +2,6 @@
 
 pub mod copies;
 pub mod elements;
+pub mod listed;
 pub mod symbol_rows;
 pub mod symbols;

@@ -5,6 +5,8 @@ use Rattle.drawings.specs.declared.place.Place.{Place}
 use Rattle.network.specs.declared.element.Element.{Element}
 use Rattle.network.specs.Apart.{first_place}
 use Rattle.network.specs.Networks.{IsElementOf, Precedes}
+use Rattle.network.specs.declared.listing.listed.Entry.{Entry}
+use Rattle.network.specs.Steps.Listed.{element_of}
 
 -- the elements of the drawing that begin before a place, by column and then row
 pub record AreElementsBefore (g : Picture) (at : Place) (elements : List Element) : Type 0 where
@@ -15,7 +17,7 @@ pub record AreElementsBefore (g : Picture) (at : Place) (elements : List Element
       → Precedes (first_place e) (first_place f)
 
 -- what was found, if anything, is added at the end
-abbrev pub AddsFound : Option Element → List Element → List Element → Type 0
+abbrev pub AddsFound : Option Entry → List Entry → List Entry → Type 0
 AddsFound found old new = MatchOption found (new ≡ old) (λ e. new ≡ old ++ e ∷ [])
 
 -- the answer is the one element that begins at a place
@@ -23,6 +25,10 @@ pub record IsTheElementAt (g : Picture) (p : Place) (e : Element) : Type 0 where
   pub drawn : IsElementOf g e
   pub begins : first_place e ≡ p
   pub only : (f : Element) → IsElementOf g f → first_place f ≡ p → f ≡ e
+
+-- the entry stands for the one element that begins at a place
+abbrev pub IsEntryAt : Picture → Place → Entry → Type 0
+IsEntryAt g p entry = IsTheElementAt g p (element_of g entry)
 
 -- no element begins at a place
 abbrev pub IsNoElementAt : Picture → Place → Type 0

@@ -1,7 +1,8 @@
 ghost use Rattle.std.specs.Prelude.{◌≡◌, ◌↔◌, IsTrue, Any};
 ghost use Rattle.network.specs.Links.{Takes, IsSymbolPlace};
+ghost use Rattle.network.specs.Steps.Listed.{element_seen};
 
-use crate::element::Element;
+use crate::listing::listed::Seen;
 use drawings::{DrawnBox, Place, Side};
 
 fn is_symbol_place(first: Place, place: Place) -> bool
@@ -21,17 +22,13 @@ fn has_pin(drawn: &DrawnBox, side: Side, row: usize) -> bool
 }
 
 /// Whether state passes to this place of the element from the left.
-pub fn takes(element: &Element, place: Place) -> bool
-    ensures { IsTrue result ↔ Takes element.now place }
+pub fn takes(element: Seen, place: Place) -> bool
+    ensures { IsTrue result ↔ Takes (element_seen element.entry) place }
 {
     match element {
-        Element::Wire(at) | Element::Join(at) => *at == place,
-        Element::Upright(_) => false,
-        Element::Contact(_) => is_symbol_place(element.first_place(), place),
-        Element::Coil(_) => is_symbol_place(element.first_place(), place),
-        Element::Box(boxed) => {
-            let drawn = boxed.drawn();
-            place.column == drawn.left && has_pin(drawn, Side::Left, place.row)
-        }
+        Seen::Wire(at) | Seen::Join(at) => at == place,
+        Seen::Upright(_) => false,
+        Seen::Contact(_) | Seen::Coil(_) => is_symbol_place(element.first_place(), place),
+        Seen::Box(drawn) => place.column == drawn.left && has_pin(drawn, Side::Left, place.row),
     }
 }

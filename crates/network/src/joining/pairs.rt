@@ -6,14 +6,15 @@ ghost use Rattle.network.specs.declared.element.Element.{Element};
 ghost use Rattle.network.specs.declared.joining.labels.Pair.{Pair};
 ghost use Rattle.network.specs.Links.{IsPinPlace};
 ghost use Rattle.network.specs.Apart.{Has};
+ghost use Rattle.network.specs.Steps.Listed.{element_seen};
 ghost use Rattle.network.specs.Steps.Listing.{AreElementsOf};
 ghost use Rattle.network.specs.Steps.Pairs.{AreLaidOut, Leaves, AreLast, IsLeftPair, IsUnder, IsUpperPair, IsNewPair, Adds, ArePairsTo, AreLabels, IsLeftPinPair, StandsInRows, AddsPairsOf, AreLabelsOf};
 ghost use Rattle.network.specs.Steps.Rows.{Puts};
 ghost use Rattle.network.specs.Steps.Tables.{AreBelow};
 
-use crate::element::Element;
 use crate::joining::labels::{Pair, settle_labels};
 use crate::joining::row_table::RowTable;
+use crate::listing::listed::{Elements, Seen};
 use drawings::{DrawnBox, Place, Side};
 use std::alloc::{AllocError, Global};
 
@@ -59,11 +60,11 @@ fn push_left_pins(
 }
 
 /// Whether a place is under a place of an upright.
-fn is_under(element: &Element, at: Place) -> bool
-    ensures { IsTrue result ↔ IsUnder element.now at }
+fn is_under(element: Seen, at: Place) -> bool
+    ensures { IsTrue result ↔ IsUnder (element_seen element.entry) at }
 {
     match element {
-        Element::Join(upper) | Element::Upright(upper) => {
+        Seen::Join(upper) | Seen::Upright(upper) => {
             upper.column == at.column && upper.row < at.row && at.row - upper.row == 1
         }
         _ => false,
@@ -73,7 +74,7 @@ fn is_under(element: &Element, at: Place) -> bool
 /// Adds the pair of an element that stands at a place with the one above it, which is the one before it.
 fn push_upper(
     pairs: &mut Vec<Pair>,
-    elements: &[Element],
+    elements: &Elements,
     at: Place,
     element: usize,
 ) -> Result<(), AllocError>
@@ -84,7 +85,7 @@ fn push_upper(
         return Ok(());
     }
     let one = element - 1;
-    if is_under(&elements[one], at) {
+    if is_under(elements.at(one), at) {
         pairs.push(Pair {
             one,
             other: element,
@@ -97,59 +98,60 @@ fn push_upper(
 fn push_pairs(
     pairs: &mut Vec<Pair>,
     last: &RowTable,
-    elements: &[Element],
+    elements: &Elements,
     k: usize,
 ) -> Result<(), AllocError>
     requires within { k < length elements.now }
     requires rows { StandsInRows elements.now k (length last.now) }
     ensures { OnOk result (AddsPairsOf elements.now last.now k pairs.old.items pairs.new.items) }
 {
-    match &elements[k] {
-        Element::Wire(at) => push_left(pairs, last, *at, k),
-        Element::Join(at) => {
-            push_left(pairs, last, *at, k)?;
-            push_upper(pairs, elements, *at, k)
+    match elements.at(k) {
+        Seen::Wire(at) => push_left(pairs, last, at, k),
+        Seen::Join(at) => {
+            push_left(pairs, last, at, k)?;
+            push_upper(pairs, elements, at, k)
         }
-        Element::Upright(at) => push_upper(pairs, elements, *at, k),
-        Element::Contact(contact) => {
+        Seen::Upright(at) => push_upper(pairs, elements, at, k),
+        Seen::Contact(contact) => {
             let row = contact.row;
             let column = contact.column;
             push_left(pairs, last, Place { row, column }, k)
         }
-        Element::Coil(coil) => {
+        Seen::Coil(coil) => {
             let row = coil.row;
             let column = coil.column;
             push_left(pairs, last, Place { row, column }, k)
         }
-        Element::Box(boxed) => push_left_pins(pairs, last, boxed.drawn(), k),
+        Seen::Box(drawn) => push_left_pins(pairs, last, drawn, k),
     }
 }
 
 /// Puts the last places of an element into their rows.
-fn put_last(last: &mut RowTable, element: &Element, k: usize)
-    requires { (p : Place) → Has element.now p → (p.row < length last.old) × (p.column ≤ 240) }
+fn put_last(last: &mut RowTable, element: Seen, k: usize)
+    requires { (p : Place) → Has (element_seen element) p → (p.row < length last.old) × (p.column ≤ 240) }
     ensures long { length last.new ≡ length last.old }
-    ensures puts { Puts (Leaves element.now) k last.old last.new }
+    ensures puts { Puts (Leaves (element_seen element.entry)) k last.old last.new }
 {
     match element {
-        Element::Wire(at) | Element::Join(at) => last.put(*at, k),
-        Element::Upright(_) => (),
-        Element::Contact(contact) => {
+        Seen::Wire(at) => last.put(at, k),
+        Seen::Join(at) => last.put(at, k),
+        Seen::Upright(_) => (),
+        Seen::Contact(contact) => {
             let row = contact.row;
             let column = contact.column + 2;
             last.put(Place { row, column }, k);
         }
-        Element::Coil(coil) => {
+        Seen::Coil(coil) => {
             let row = coil.row;
             let column = coil.column + 2;
             last.put(Place { row, column }, k);
         }
-        Element::Box(boxed) => last.put_pins(boxed.drawn(), Side::Right, k),
+        Seen::Box(drawn) => last.put_pins(drawn, Side::Right, k),
     }
 }
 
 /// The pairs of elements between which state passes.
-fn pairs_of(alloc: Global, rows: usize, elements: &[Element]) -> Result<Vec<Pair>, AllocError>
+fn pairs_of(alloc: Global, rows: usize, elements: &Elements) -> Result<Vec<Pair>, AllocError>
     requires { AreLaidOut rows elements.now }
     ensures { IfOk result (λ pairs. ArePairsTo elements.now pairs.items (length elements.now)) }
 {
@@ -157,7 +159,7 @@ fn pairs_of(alloc: Global, rows: usize, elements: &[Element]) -> Result<Vec<Pair
     let mut pairs = Vec::with_capacity(alloc, elements.len())?;
     for k in 0..elements.len() {
         push_pairs(&mut pairs, &last, elements, k)?;
-        put_last(&mut last, &elements[k], k);
+        put_last(&mut last, elements.at(k), k);
     }
     Ok(pairs)
 }
@@ -174,7 +176,7 @@ fn own_labels(alloc: Global, count: usize) -> Result<Vec<usize>, AllocError>
 }
 
 /// A label for each element: one for those that a chain joins.
-pub fn labels_of(alloc: Global, rows: usize, elements: &[Element]) -> Result<Vec<usize>, AllocError>
+pub fn labels_of(alloc: Global, rows: usize, elements: &Elements) -> Result<Vec<usize>, AllocError>
     requires { AreLaidOut rows elements.now }
     ensures labels { IfOk result (λ labels. AreLabelsOf elements.now labels.items) }
     ensures long { IfOk result (λ labels. length labels.items ≡ length elements.now) }

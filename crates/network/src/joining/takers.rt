@@ -2,23 +2,23 @@ ghost use Rattle.std.specs.Prelude.{◌≡◌, ◌<◌, IfOk, length};
 ghost use Rattle.drawings.specs.declared.place.Place.{Place};
 ghost use Rattle.network.specs.Links.{Takes};
 ghost use Rattle.network.specs.Apart.{Has};
+ghost use Rattle.network.specs.Steps.Listed.{element_seen};
 ghost use Rattle.network.specs.Steps.Pairs.{AreLaidOut, AreTakers};
 ghost use Rattle.network.specs.Steps.Rows.{Puts};
 
-use crate::element::Element;
 use crate::joining::links::takes;
 use crate::joining::row_table::RowTable;
+use crate::listing::listed::{Elements, Seen};
 use drawings::{Place, Side};
 use std::alloc::{AllocError, Global};
 
 /// Puts an element into the rows in which it takes state in a column.
-fn put_taker(takers: &mut RowTable, element: &Element, k: usize, column: usize)
-    requires { (p : Place) → Has element.now p → p.row < length takers.old }
+fn put_taker(takers: &mut RowTable, element: Seen, k: usize, column: usize)
+    requires { (p : Place) → Has (element_seen element) p → p.row < length takers.old }
     ensures long { length takers.new ≡ length takers.old }
-    ensures puts { Puts (λ p. Takes element.now p × (p.column ≡ column)) k takers.old takers.new }
+    ensures puts { Puts (λ p. Takes (element_seen element.entry) p × (p.column ≡ column)) k takers.old takers.new }
 {
-    if let Element::Box(boxed) = element {
-        let drawn = boxed.drawn();
+    if let Seen::Box(drawn) = element {
         if drawn.left == column {
             takers.put_pins(drawn, Side::Left, k);
         }
@@ -35,7 +35,7 @@ fn put_taker(takers: &mut RowTable, element: &Element, k: usize, column: usize)
 pub fn takers_of(
     alloc: Global,
     rows: usize,
-    elements: &[Element],
+    elements: &Elements,
     column: usize,
 ) -> Result<RowTable, AllocError>
     requires { AreLaidOut rows elements.now }
@@ -44,7 +44,7 @@ pub fn takers_of(
 {
     let mut takers = RowTable::new(alloc, rows)?;
     for k in 0..elements.len() {
-        put_taker(&mut takers, &elements[k], k, column);
+        put_taker(&mut takers, elements.at(k), k, column);
     }
     Ok(takers)
 }

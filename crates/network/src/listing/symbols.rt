@@ -4,13 +4,11 @@ ghost use Rattle.drawings.specs.Picture.{IsSound, mark_at};
 ghost use Rattle.drawings.specs.declared.mark.Mark.TheVariants.{ContactPart, CoilPart, BoxPart};
 ghost use Rattle.network.specs.Links.{place};
 ghost use Rattle.network.specs.Networks.{IsElementOf};
-ghost use Rattle.network.specs.Steps.Listing.{IsTheElementAt, IsNoElementAt};
+ghost use Rattle.network.specs.Steps.Listing.{IsNoElementAt, IsEntryAt};
 ghost use Rattle.network.specs.Steps.Numbers.{IsIndex};
 ghost use Rattle.network.specs.Steps.Symbols.{contact_places, coil_places, box_places, AreSymbols, IsInside, TellsNumber, is_contact_at, is_coil_at, BeginNowhereInside};
 
-use crate::element::Element;
-use crate::element_box::ElementBox;
-use crate::listing::copies::{copy_box, copy_coil, copy_contact};
+use crate::listing::listed::{Entry, number_of};
 use crate::listing::symbol_rows::SymbolRows;
 use crate::places::numbering::{Numbering, index_of};
 use drawings::{Coil, Contact, Drawing, DrawnBox, Mark, Place};
@@ -126,15 +124,14 @@ fn coil_number(coils: &[Coil], next: usize, at: Place) -> Option<usize>
 
 /// The contact that begins at a place.
 pub fn contact_at(
-    alloc: Global,
     drawing: &Drawing,
     rows: &mut SymbolRows,
     at: Place,
-) -> Result<Option<Element>, AllocError>
+) -> Result<Option<Entry>, AllocError>
     requires rows { BeginNowhereInside drawing.now rows.old }
     requires sound { IsSound drawing.now }
     requires mark { mark_at drawing.now at.row at.column ≡ ContactPart }
-    ensures found { IfOk result (λ e. MatchOption e (IsNoElementAt drawing.now at) (IsTheElementAt drawing.now at)) }
+    ensures found { IfOk result (λ e. MatchOption e (IsNoElementAt drawing.now at) (IsEntryAt drawing.now at)) }
     ensures rows { BeginNowhereInside drawing.now rows.new }
 {
     if rows.is_inside(at) {
@@ -145,21 +142,19 @@ pub fn contact_at(
         return Ok(None);
     };
     rows.found(at, k);
-    let contact = copy_contact(alloc, &contacts[k])?;
-    Ok(Some(Element::Contact(contact)))
+    Ok(Some(Entry::Contact(number_of(k)?)))
 }
 
 /// The coil that begins at a place.
 pub fn coil_at(
-    alloc: Global,
     drawing: &Drawing,
     rows: &mut SymbolRows,
     at: Place,
-) -> Result<Option<Element>, AllocError>
+) -> Result<Option<Entry>, AllocError>
     requires rows { BeginNowhereInside drawing.now rows.old }
     requires sound { IsSound drawing.now }
     requires mark { mark_at drawing.now at.row at.column ≡ CoilPart }
-    ensures found { IfOk result (λ e. MatchOption e (IsNoElementAt drawing.now at) (IsTheElementAt drawing.now at)) }
+    ensures found { IfOk result (λ e. MatchOption e (IsNoElementAt drawing.now at) (IsEntryAt drawing.now at)) }
     ensures rows { BeginNowhereInside drawing.now rows.new }
 {
     if rows.is_inside(at) {
@@ -170,26 +165,18 @@ pub fn coil_at(
         return Ok(None);
     };
     rows.found(at, k);
-    let coil = copy_coil(alloc, &coils[k])?;
-    Ok(Some(Element::Coil(coil)))
+    Ok(Some(Entry::Coil(number_of(k)?)))
 }
 
 /// The box that begins at a place.
-pub fn box_at(
-    alloc: Global,
-    drawing: &Drawing,
-    index: &Numbering,
-    at: Place,
-) -> Result<Option<Element>, AllocError>
+pub fn box_at(drawing: &Drawing, index: &Numbering, at: Place) -> Result<Option<Entry>, AllocError>
     requires index { IsIndex (box_places drawing.now.boxes) index.now }
     requires sound { IsSound drawing.now }
     requires mark { mark_at drawing.now at.row at.column ≡ BoxPart }
-    ensures { IfOk result (λ e. MatchOption e (IsNoElementAt drawing.now at) (IsTheElementAt drawing.now at)) }
+    ensures { IfOk result (λ e. MatchOption e (IsNoElementAt drawing.now at) (IsEntryAt drawing.now at)) }
 {
     let Some(k) = index.owner(at) else {
         return Ok(None);
     };
-    let drawn = copy_box(alloc, &drawing.boxes()[k])?;
-    let boxed = ElementBox::new(alloc, drawn)?;
-    Ok(Some(Element::Box(boxed)))
+    Ok(Some(Entry::Box(number_of(k)?)))
 }

@@ -9,10 +9,10 @@ ghost use Rattle.network.specs.Steps.Pairs.{AreTakers, AreLabels};
 ghost use Rattle.network.specs.Steps.Ranks.{AreTops, AreRanksOf, AreEntries, AreRanks, AreTopsOf, HaveLabels};
 ghost use Rattle.network.specs.Steps.Tables.{AreNone, AreBelow};
 
-use crate::element::Element;
 use crate::joining::pairs::labels_of;
 use crate::joining::row_table::RowTable;
 use crate::joining::takers::takers_of;
+use crate::listing::listed::{Elements, number_of};
 use drawings::{Drawing, Place};
 use std::alloc::{AllocError, Global};
 
@@ -29,13 +29,13 @@ pub struct Ranks {
     /// How many networks meet the left rail.
     pub count: usize,
     /// The number of each element's network, None where it doesn't meet the left rail.
-    pub ranks: Vec<Option<usize>>,
+    pub ranks: Vec<Option<u32>>,
 }
 
 /// Adds a label and its row, unless the label is there. The table has the position of each label.
 fn push_top(
     tops: &mut Vec<Top>,
-    table: &mut [Option<usize>],
+    table: &mut [Option<u32>],
     label: usize,
     row: usize,
 ) -> Result<(), AllocError>
@@ -47,7 +47,7 @@ fn push_top(
     ensures table { OnOk result (AreRanksOf tops.new.items table.new) }
 {
     if table[label].is_none() {
-        table[label] = Some(tops.len());
+        table[label] = Some(number_of(tops.len())?);
         tops.push(Top { label, row })?;
     }
     Ok(())
@@ -59,7 +59,7 @@ fn tops_of(
     rails: &[Place],
     takers: &RowTable,
     labels: &[usize],
-    table: &mut [Option<usize>],
+    table: &mut [Option<u32>],
 ) -> Result<Vec<Top>, AllocError>
     requires rows { (k : ℕ) (p : Place) → slice_get rails.now k ≡ Some p → p.row < length takers.now }
     requires owners { HaveLabels takers.now (length labels.now) }
@@ -78,7 +78,7 @@ fn tops_of(
     Ok(tops)
 }
 
-fn no_entries(alloc: Global, count: usize) -> Result<Vec<Option<usize>>, AllocError>
+fn no_entries(alloc: Global, count: usize) -> Result<Vec<Option<u32>>, AllocError>
     ensures long { IfOk result (λ table. length table.items ≡ count) }
     ensures none { IfOk result (λ table. AreNone table.items) }
 {
@@ -92,9 +92,9 @@ fn no_entries(alloc: Global, count: usize) -> Result<Vec<Option<usize>>, AllocEr
 /// Each element's entry, by its label.
 fn entries_of(
     alloc: Global,
-    table: &[Option<usize>],
+    table: &[Option<u32>],
     labels: &[usize],
-) -> Result<Vec<Option<usize>>, AllocError>
+) -> Result<Vec<Option<u32>>, AllocError>
     requires { (k : ℕ) → k < length labels.now → slice_index labels.now k < length table.now }
     ensures { IfOk result (λ ranks. AreEntries table.now labels.now ranks.items) }
 {
@@ -110,7 +110,7 @@ pub fn ranks_of(
     alloc: Global,
     drawing: &Drawing,
     rails: &[Place],
-    elements: &[Element],
+    elements: &Elements,
 ) -> Result<Ranks, AllocError>
     requires sound { IsSound drawing.now }
     requires elements { AreElementsOf drawing.now elements.now }

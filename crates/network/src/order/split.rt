@@ -4,11 +4,12 @@ ghost use Rattle.network.specs.Steps.Ranks.{AreAllSplit, IsPut};
 ghost use Rattle.network.specs.Steps.Tables.{AreSuch};
 
 use crate::element::Element;
+use crate::listing::listed::Elements;
 use crate::networks::Network;
 use std::alloc::{AllocError, Global};
 
 /// How many elements have each rank.
-fn sizes_of(alloc: Global, ranks: &[Option<usize>], count: usize) -> Result<Vec<usize>, AllocError>
+fn sizes_of(alloc: Global, ranks: &[Option<u32>], count: usize) -> Result<Vec<usize>, AllocError>
     requires { (i m : ℕ) → slice_get ranks.now i ≡ Some (Some m) → m < count }
     ensures { IfOk result (λ sizes. length sizes.items ≡ count) }
 {
@@ -16,6 +17,7 @@ fn sizes_of(alloc: Global, ranks: &[Option<usize>], count: usize) -> Result<Vec<
     sizes.resize(count, 0)?;
     for k in 0..ranks.len() {
         if let Some(rank) = ranks[k] {
+            let rank = rank as usize;
             sizes[rank] = sizes[rank].saturating_add(1);
         }
     }
@@ -35,33 +37,32 @@ fn empty_networks(alloc: Global, sizes: &[usize]) -> Result<Vec<Network>, AllocE
 }
 
 /// Puts an element at the end of the network of its rank.
-fn put(networks: &mut Vec<Network>, rank: Option<usize>, element: Element) -> Result<(), AllocError>
+fn put(networks: &mut Vec<Network>, rank: Option<u32>, element: Element) -> Result<(), AllocError>
     requires { IfSome rank (λ m. m < length networks.old.items) }
     ensures { OnOk result (IsPut networks.old.items rank element networks.new.items) }
 {
     if let Some(rank) = rank {
-        networks[rank].push(element)?;
+        networks[rank as usize].push(element)?;
     }
     Ok(())
 }
 
-/// Puts each element into the network of its rank.
+/// Puts a copy of each element into the network of its rank.
 pub fn split(
     alloc: Global,
-    elements: Vec<Element>,
-    ranks: &[Option<usize>],
+    elements: &Elements,
+    ranks: &[Option<u32>],
     count: usize,
 ) -> Result<Vec<Network>, AllocError>
-    requires long { length ranks.now ≡ length elements.items }
+    requires long { length ranks.now ≡ length elements.now }
     requires within { (i m : ℕ) → slice_get ranks.now i ≡ Some (Some m) → m < count }
-    ensures { IfOk result (λ networks. AreAllSplit elements.items ranks.now count networks.items) }
+    ensures { IfOk result (λ networks. AreAllSplit elements.now ranks.now count networks.items) }
 {
     let sizes = sizes_of(alloc, ranks, count)?;
     let mut networks = empty_networks(alloc, &sizes)?;
-    let mut k = 0;
-    for element in elements {
+    for k in 0..elements.len() {
+        let element = elements.at(k).copied(alloc)?;
         put(&mut networks, ranks[k], element)?;
-        k += 1;
     }
     Ok(networks)
 }

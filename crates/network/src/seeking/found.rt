@@ -7,6 +7,7 @@ ghost use Rattle.network.specs.Steps.Twice.{IsTwiceIn};
 ghost use Rattle.network.specs.Steps.Tables.{AreSuch};
 
 use crate::element::Element;
+use crate::listing::listed::Elements;
 use crate::networks::Network;
 use crate::seeking::corners::{corner_of, corners_of, is_twice};
 use drawings::{DrawnBox, Place};
@@ -15,8 +16,8 @@ use std::alloc::{AllocError, Global};
 /// Where the elements without a rank begin.
 pub fn unmet_places(
     alloc: Global,
-    elements: &[Element],
-    ranks: &[Option<usize>],
+    elements: &Elements,
+    ranks: &[Option<u32>],
 ) -> Result<Vec<Place>, AllocError>
     requires { length ranks.now ≡ length elements.now }
     ensures { IfOk result (λ places. ArePlaces (IsUnmetAt elements.now ranks.now (length elements.now)) places.items) }
@@ -24,7 +25,7 @@ pub fn unmet_places(
     let mut places = Vec::new(alloc);
     for k in 0..elements.len() {
         if ranks[k].is_none() {
-            places.push(elements[k].first_place())?;
+            places.push(elements.at(k).first_place())?;
         }
     }
     Ok(places)

@@ -1,37 +1,38 @@
 use Rattle.std.proofs.Common.{◌∙◌, Some, length, inl, inr, refl, ap}
-use Rattle.std.proofs.lemmas.Option.{slice_get_read}
 use Rattle.network.specs.declared.element.Element.TheVariants.{Wire, Join, Upright, Contact, Coil, Box}
+use Rattle.network.specs.declared.listing.listed.Seen.{Seen}
 use Rattle.network.specs.Links.{place}
+use Rattle.network.specs.Steps.Listed.{element_seen}
 use Rattle.network.proofs.Basics.{on_ok}
 use Rattle.network.proofs.Joined.LinkedPairs.{of_element, wire_pairs, symbol_pairs, upright_pairs, join_pairs, box_pairs}
 use Rattle.network.proofs.joining.pairs.push_pairs.Goals as goal
 
 pub push_left-requires : goal.push_left-requires
 push_left-requires c =
-    let at = slice_get_read c.args.elements.now (length c.args.elements.now) c.args.k c.index-elements-k.result refl c.requires.within c.index-elements-k.is in
-    c.requires.rows (Wire c.in-Wire.at) c.in-Wire.at (at ∙ ap Some c.in-Wire.is) (inl refl)
+    let at = c.at.ensures in
+    c.requires.rows (Wire c.in-Wire.at) c.in-Wire.at (at ∙ ap (λ (s : Seen). Some (element_seen s)) c.in-Wire.is) (inl refl)
 
 pub push_left-requires-in-Join : goal.push_left-requires-in-Join
 push_left-requires-in-Join c =
-    let at = slice_get_read c.args.elements.now (length c.args.elements.now) c.args.k c.index-elements-k.result refl c.requires.within c.index-elements-k.is in
-    c.requires.rows (Join c.in-Join.at) c.in-Join.at (at ∙ ap Some c.in-Join.is) (inl refl)
+    let at = c.at.ensures in
+    c.requires.rows (Join c.in-Join.at) c.in-Join.at (at ∙ ap (λ (s : Seen). Some (element_seen s)) c.in-Join.is) (inl refl)
 
 pub push_left-requires-in-Contact : goal.push_left-requires-in-Contact
 push_left-requires-in-Contact c =
-    let at = slice_get_read c.args.elements.now (length c.args.elements.now) c.args.k c.index-elements-k.result refl c.requires.within c.index-elements-k.is in
-    let x = c.in-Contact.contact in
-    c.requires.rows (Contact x) (place x.row x.column) (at ∙ ap Some c.in-Contact.is) (inl refl)
+    let at = c.at.ensures in
+    let x = c.in-Contact.contact.now in
+    c.requires.rows (Contact x) (place x.row x.column) (at ∙ ap (λ (s : Seen). Some (element_seen s)) c.in-Contact.is) (inl refl)
 
 pub push_left-requires-in-Coil : goal.push_left-requires-in-Coil
 push_left-requires-in-Coil c =
-    let at = slice_get_read c.args.elements.now (length c.args.elements.now) c.args.k c.index-elements-k.result refl c.requires.within c.index-elements-k.is in
-    let x = c.in-Coil.coil in
-    c.requires.rows (Coil x) (place x.row x.column) (at ∙ ap Some c.in-Coil.is) (inl refl)
+    let at = c.at.ensures in
+    let x = c.in-Coil.coil.now in
+    c.requires.rows (Coil x) (place x.row x.column) (at ∙ ap (λ (s : Seen). Some (element_seen s)) c.in-Coil.is) (inl refl)
 
 pub push_left_pins-requires : goal.push_left_pins-requires
 push_left_pins-requires c =
-    let at = slice_get_read c.args.elements.now (length c.args.elements.now) c.args.k c.index-elements-k.result refl c.requires.within c.index-elements-k.is in
-    rw c.drawn.ensures (λ p is. c.requires.rows (Box c.in-Box.boxed) p (at ∙ ap Some c.in-Box.is) (inr (inr (inl is))))
+    let at = c.at.ensures in
+    λ p is. c.requires.rows (Box c.in-Box.drawn.now) p (at ∙ ap (λ (s : Seen). Some (element_seen s)) c.in-Box.is) (inr (inr (inl is)))
 
 pub returns-in-Wire : goal.returns-in-Wire
 returns-in-Wire c =
@@ -39,8 +40,8 @@ returns-in-Wire c =
     let last = c.args.last.now in
     let old = c.args.pairs.now.items in
     let new = c.push_left.new.pairs.items in
-    let at = slice_get_read es (length es) c.args.k c.index-elements-k.result refl c.requires.within c.index-elements-k.is in
-    on_ok c.push_left.result _ _ (λ adds. of_element es last c.args.k old new (Wire c.in-Wire.at) (at ∙ ap Some c.in-Wire.is) (wire_pairs es last c.args.k old new c.in-Wire.at adds)) c.push_left.ensures
+    let at = c.at.ensures in
+    on_ok c.push_left.result _ _ (λ adds. of_element es last c.args.k old new (Wire c.in-Wire.at) (at ∙ ap (λ (s : Seen). Some (element_seen s)) c.in-Wire.is) (wire_pairs es last c.args.k old new c.in-Wire.at adds)) c.push_left.ensures
 
 pub returns-in_ok-push_left-in-Join : goal.returns-in_ok-push_left-in-Join
 returns-in_ok-push_left-in-Join c =
@@ -49,8 +50,8 @@ returns-in_ok-push_left-in-Join c =
     let old = c.args.pairs.now.items in
     let mid = c.push_left-in-Join.new.pairs.items in
     let new = c.push_upper.new.pairs.items in
-    let at = slice_get_read es (length es) c.args.k c.index-elements-k.result refl c.requires.within c.index-elements-k.is in
-    on_ok c.push_upper.result _ _ (λ adds. of_element es last c.args.k old new (Join c.in-Join.at) (at ∙ ap Some c.in-Join.is)
+    let at = c.at.ensures in
+    on_ok c.push_upper.result _ _ (λ adds. of_element es last c.args.k old new (Join c.in-Join.at) (at ∙ ap (λ (s : Seen). Some (element_seen s)) c.in-Join.is)
     (join_pairs es last c.args.k old new c.in-Join.at mid c.in_ok-push_left-in-Join.ensures adds)) c.push_upper.ensures
 
 pub returns-in-Upright : goal.returns-in-Upright
@@ -59,8 +60,8 @@ returns-in-Upright c =
     let last = c.args.last.now in
     let old = c.args.pairs.now.items in
     let new = c.push_upper-in-Upright.new.pairs.items in
-    let at = slice_get_read es (length es) c.args.k c.index-elements-k.result refl c.requires.within c.index-elements-k.is in
-    on_ok c.push_upper-in-Upright.result _ _ (λ adds. of_element es last c.args.k old new (Upright c.in-Upright.at) (at ∙ ap Some c.in-Upright.is)
+    let at = c.at.ensures in
+    on_ok c.push_upper-in-Upright.result _ _ (λ adds. of_element es last c.args.k old new (Upright c.in-Upright.at) (at ∙ ap (λ (s : Seen). Some (element_seen s)) c.in-Upright.is)
     (upright_pairs es last c.args.k old new c.in-Upright.at adds)) c.push_upper-in-Upright.ensures
 
 pub returns-in-Contact : goal.returns-in-Contact
@@ -69,9 +70,9 @@ returns-in-Contact c =
     let last = c.args.last.now in
     let old = c.args.pairs.now.items in
     let new = c.push_left-in-Contact.new.pairs.items in
-    let x = c.in-Contact.contact in
-    let at = slice_get_read es (length es) c.args.k c.index-elements-k.result refl c.requires.within c.index-elements-k.is in
-    on_ok c.push_left-in-Contact.result _ _ (λ adds. of_element es last c.args.k old new (Contact x) (at ∙ ap Some c.in-Contact.is)
+    let x = c.in-Contact.contact.now in
+    let at = c.at.ensures in
+    on_ok c.push_left-in-Contact.result _ _ (λ adds. of_element es last c.args.k old new (Contact x) (at ∙ ap (λ (s : Seen). Some (element_seen s)) c.in-Contact.is)
     (symbol_pairs es last c.args.k old new (Contact x) (place x.row x.column) (λ p e. e) (λ p e. e) (λ p n. n) adds)) c.push_left-in-Contact.ensures
 
 pub returns-in-Coil : goal.returns-in-Coil
@@ -80,9 +81,9 @@ returns-in-Coil c =
     let last = c.args.last.now in
     let old = c.args.pairs.now.items in
     let new = c.push_left-in-Coil.new.pairs.items in
-    let x = c.in-Coil.coil in
-    let at = slice_get_read es (length es) c.args.k c.index-elements-k.result refl c.requires.within c.index-elements-k.is in
-    on_ok c.push_left-in-Coil.result _ _ (λ adds. of_element es last c.args.k old new (Coil x) (at ∙ ap Some c.in-Coil.is)
+    let x = c.in-Coil.coil.now in
+    let at = c.at.ensures in
+    on_ok c.push_left-in-Coil.result _ _ (λ adds. of_element es last c.args.k old new (Coil x) (at ∙ ap (λ (s : Seen). Some (element_seen s)) c.in-Coil.is)
     (symbol_pairs es last c.args.k old new (Coil x) (place x.row x.column) (λ p e. e) (λ p e. e) (λ p n. n) adds)) c.push_left-in-Coil.ensures
 
 pub returns-in-Box : goal.returns-in-Box
@@ -91,7 +92,7 @@ returns-in-Box c =
     let last = c.args.last.now in
     let old = c.args.pairs.now.items in
     let new = c.push_left_pins.new.pairs.items in
-    let b = c.in-Box.boxed in
-    let at = slice_get_read es (length es) c.args.k c.index-elements-k.result refl c.requires.within c.index-elements-k.is in
-    on_ok c.push_left_pins.result _ _ (λ adds. of_element es last c.args.k old new (Box b) (at ∙ ap Some c.in-Box.is)
-    (box_pairs es last c.args.k old new b adds)) (rw c.drawn.ensures at c.push_left_pins.ensures)
+    let b = c.in-Box.drawn.now in
+    let at = c.at.ensures in
+    on_ok c.push_left_pins.result _ _ (λ adds. of_element es last c.args.k old new (Box b) (at ∙ ap (λ (s : Seen). Some (element_seen s)) c.in-Box.is)
+    (box_pairs es last c.args.k old new b adds)) c.push_left_pins.ensures

@@ -1,4 +1,5 @@
 use Rattle.std.proofs.Common.{arith}
+use Rattle.network.specs.Steps.Listed.{stand_for}
 use Rattle.network.proofs.Listed.ElementOrder.{elements_none, elements_all}
 use Rattle.network.proofs.listing.elements.elements_of.Goals as goal
 
@@ -9,4 +10,4 @@ loop-column-init c = record {
 }
 
 pub returns : goal.returns
-returns c = elements_all c.args.drawing.now c.requires c.loop-column.column c.loop-column.elements.items (let columns = c.columns-column-end.ensures in omega arith) c.loop-column.invariant.elements
+returns c = rw c.new.ensures (elements_all c.args.drawing.now c.requires c.loop-column.column (stand_for c.args.drawing.now c.loop-column.elements.items) (let columns = c.columns-column-end.ensures in omega arith) c.loop-column.invariant.elements)

@@ -7,19 +7,8 @@ use Rattle.network.proofs.listing.symbols.contact_at.Goals as goal
 pub returns-in_default-clause-found : goal.returns-in_default-clause-found
 returns-in_default-clause-found c = no_contact c.args.drawing.now c.requires.sound c.args.at c.requires.mark (rw (← c.contacts-contacts.ensures) c.in_default.ensures)
 
-pub offset_bounds-contacts-k : goal.offset_bounds-contacts-k
-offset_bounds-contacts-k c =
-    let there = contact_there c.contacts-contacts.result.now c.args.at c.in-Some.k c.in-Some.ensures in
-    let lt : c.in-Some.k < length c.contacts-contacts.result.now = slice_get_within c.contacts-contacts.result.now c.in-Some.k there.0 there.1 in
-    search rules
-
-pub bounds-contacts-k : goal.bounds-contacts-k
-bounds-contacts-k c =
-    let there = contact_there c.contacts-contacts.result.now c.args.at c.in-Some.k c.in-Some.ensures in
-    slice_get_within c.contacts-contacts.result.now c.in-Some.k there.0 there.1
-
-pub returns-in_err-contact-clause-rows : goal.returns-in_err-contact-clause-rows
-returns-in_err-contact-clause-rows c =
+pub returns-in_err-number_of-clause-rows : goal.returns-in_err-number_of-clause-rows
+returns-in_err-number_of-clause-rows c =
     let there = contact_there c.args.drawing.now.contacts c.args.at c.in-Some.k (rw (← c.contacts-contacts.ensures) c.in-Some.ensures) in
     inside_contact c.args.drawing.now c.requires.sound c.args.at c.in-Some.k there.0 there.1 there.2 c.args.rows.now c.found.new.self c.requires.rows c.found.ensures
 
@@ -27,12 +16,7 @@ pub returns-clause-found : goal.returns-clause-found
 returns-clause-found c =
     let g = c.args.drawing.now in
     let there = contact_there g.contacts c.args.at c.in-Some.k (rw (← c.contacts-contacts.ensures) c.in-Some.ensures) in
-    let lt = slice_get_within g.contacts c.in-Some.k there.0 there.1 in
-    let is = rw c.contacts-contacts.ensures at c.index-contacts-k.is in
-    let x = c.index-contacts-k.result in
-    let read : slice_get g.contacts c.in-Some.k ≡ Some x = slice_get_read g.contacts (length g.contacts) c.in-Some.k x refl lt is in
-    let one : there.0 ≡ x = some_is there.0 x (sym there.1 ∙ read) in
-    rw c.in_ok-contact.ensures (a_contact g c.requires.sound c.args.at c.in-Some.k x read (rw one at there.2))
+    rw (c.in_ok-number_of.ensures, there.1) (a_contact g c.requires.sound c.args.at c.in-Some.k there.0 there.1 there.2)
 
 pub returns-clause-rows : goal.returns-clause-rows
 returns-clause-rows c =
