@@ -209,9 +209,10 @@ impl Declarations {
         requires { length name.now ≤ length room.old }
         ensures { result ≡ place_of self.now name.now }
     {
-        room[..name.len()].copy_from_slice(name);
-        room.make_ascii_lowercase();
-        self.entries.get_index_of(&room[..name.len()])
+        let key = &mut room[..name.len()];
+        key.copy_from_slice(name);
+        key.make_ascii_lowercase();
+        self.entries.get_index_of(&*key)
     }
 
     /// The position of a name, sought one by one.

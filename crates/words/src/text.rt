@@ -77,6 +77,7 @@ impl Text {
     }
 
     /// A copy with memory of its own.
+    #[inline(always)]
     pub fn try_copy(&self, alloc: Global) -> Result<Text, AllocError>
         ensures { IfOk result (λ t. t ≡ self.now) }
     {
