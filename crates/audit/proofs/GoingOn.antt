@@ -1,7 +1,7 @@
 -- What a resource has made and received after one more step, and that the others stand as before.
-use Rattle.std.proofs.Common.{◌≡◌, ◌≢◌, ◌⊎◌, inl, inr, map, append_assoc, ℕ, ◌+◌, ◌++◌, List, [], ◌∷◌, All, Contains, Some, slice_get, cond, eqb, true, false, Bool, zero, suc, ◌<◌, add-zero, zero-add, length, replicate, refl, ap, ap₂, sym, ◌∙◌, subst, arith}
-use Rattle.std.proofs.lemmas.List.{append-nil, length-append, map-append, nil_from_length}
-use Rattle.std.proofs.lemmas.List.Elements.{filter-append, Contains-append_left, All-weaker, All-append, All-cons, All-nil}
+use Rattle.std.proofs.Common.{◌≡◌, ◌≢◌, ◌⊎◌, inl, inr, map, append_assoc, ℕ, ◌+◌, ◌++◌, List, [], ◌∷◌, All, Contains, Some, slice_get, slice_set, slice_index, reverse, cond, eqb, true, false, Bool, zero, suc, ◌<◌, add-zero, zero-add, length, replicate, refl, ap, ap₂, sym, ◌∙◌, subst, arith}
+use Rattle.std.proofs.lemmas.List.{append-nil, length-append, length-set, map-append, nil_from_length, get_or-set_same, get_or-set_other}
+use Rattle.std.proofs.lemmas.List.Elements.{filter-append, All-weaker, All-append, All-cons, All-nil}
 use Rattle.std.proofs.lemmas.Bool.{eq-eqb, eqb-true}
 use Rattle.std.proofs.lemmas.Option.{slice_get_within, none-some, same_Some}
 use Rattle.lists.proofs.Members.{all_from_places}
@@ -18,7 +18,7 @@ use Rattle.exchange_core.specs.CoreValue.{CoreValue, IsAccepted, HasHeard}
 use Rattle.node_journals.specs.declared.step.Step.{Step}
 use Rattle.node_journals.specs.declared.step.Step.TheVariants.{Took, Made, Restarted, Heard}
 use Rattle.node_journals.specs.declared.journal.Journal.{Journal}
-use Rattle.node_journals.specs.Journals.{made, received, with_step, firsts_of, IsLawful}
+use Rattle.node_journals.specs.Journals.{made, received, incarnation_after, with_step, firsts_of, IsLawful}
 use Rattle.node_journals.specs.Steps.Stations.{StationValue, PendingValue, IsReceived, IsTold, IsRestarted, IsPending, IsNoted}
 use Rattle.node_journals.specs.declared.run_fault.RunFault.{RunFault}
 use Rattle.node_journals.specs.declared.run_fault.RunFault.TheVariants.{BookDisagrees}
@@ -27,9 +27,12 @@ use Rattle.audit.specs.declared.standing.Standing.{Standing}
 use Rattle.audit.specs.declared.standing.Standing.TheVariants.{Going, Ended}
 use Rattle.audit.specs.declared.follower.Follower.{Follower}
 use Rattle.audit.specs.Lines.{zeros, AreLeft}
-use Rattle.audit.specs.Steps.Following.{IsFollowed, IsSettled, AreSettled}
-use Rattle.audit.proofs.Comings.{followed_left}
-use Rattle.audit.specs.Steps.Standings.{AuditedBook, empty_book, IsJournalOf, IsGoing, IsEnded, IsStanding, IsPendingFor, journal_in, Grows, Goes, IsOfSame, IsAt, AreFrom, AreJournalsFrom}
+use Rattle.audit.specs.Reasons.{present_of}
+use Rattle.audit.specs.Steps.Following.{IsFollowed}
+use Rattle.audit.specs.Steps.Settled.{IsSettled, AreSettled}
+use Rattle.audit.proofs.Comings.{followed_left, later_keeps, later_following}
+use Rattle.audit.proofs.Leavings.{turned}
+use Rattle.audit.specs.Steps.Standings.{AuditedBook, empty_book, IsJournalOf, IsGoing, IsEnded, IsStanding, IsPendingFor, journal_in, IsLater, Grows, Goes, IsOfSame, IsAt, AreFrom, AreJournalsFrom}
 use Rattle.audit.specs.Delivered.{AreDelivered}
 
 made-append : (a b : List Step) → made (a ++ b) ≡ made a ++ made b
@@ -46,10 +49,16 @@ received-append (Heard of heard ∷ a) b = received-append a b
 received-append (Made x ∷ a) b = received-append a b
 received-append (Restarted ticket incarnation ∷ a) b = received-append a b
 
+-- a step other than a restart leaves the incarnation as it was
+present_with : (j : Journal) (s : Step) → incarnation_after j.first (s ∷ reverse j.steps) ≡ present_of j → present_of (with_step j s) ≡ present_of j
+present_with j s same = ap (incarnation_after j.first) (turned j s) ∙ same
+
 -- a step that makes nothing and receives nothing
-still : (b : AuditedBook) (j : Journal) (s : Step) → made (s ∷ []) ≡ [] → received (s ∷ []) ≡ [] → IsJournalOf b j → IsJournalOf b (with_step j s)
-still b j s none nothing is = record {
+still : (b : AuditedBook) (j : Journal) (s : Step) → made (s ∷ []) ≡ [] → received (s ∷ []) ≡ [] → incarnation_after j.first (s ∷ reverse j.steps) ≡ present_of j → IsJournalOf b j → IsJournalOf b (with_step j s)
+still b j s none nothing same is = record {
   first_is = is.first_is;
+  exists = is.exists;
+  present_is = is.present_is ∙ sym (present_with j s same);
   made_is = made-append j.steps (s ∷ []) ∙ ap (λ ys. made j.steps ++ ys) none ∙ append-nil (made j.steps) ∙ is.made_is;
   delivered = subst (All (Contains b.book.entries)) (sym (received-append j.steps (s ∷ []) ∙ ap (λ ys. received j.steps ++ ys) nothing ∙ append-nil (received j.steps))) is.delivered;
 }
@@ -58,6 +67,8 @@ still b j s none nothing is = record {
 took : (b : AuditedBook) (j : Journal) (x : Evaluated) → Contains b.book.entries x → IsJournalOf b j → IsJournalOf b (with_step j (Took x))
 took b j x listed is = record {
   first_is = is.first_is;
+  exists = is.exists;
+  present_is = is.present_is ∙ sym (present_with j (Took x) refl);
   made_is = made-append j.steps (Took x ∷ []) ∙ append-nil (made j.steps) ∙ is.made_is;
   delivered = subst (All (Contains b.book.entries)) (sym (received-append j.steps (Took x ∷ [])))
       (All-append (Contains b.book.entries) (received j.steps) (x ∷ []) is.delivered (All-cons (Contains b.book.entries) x [] listed (All-nil (Contains b.book.entries))));
@@ -96,8 +107,18 @@ heard_setting : (old new : CoreValue) (of incarnation : ℕ) (answer : Bool) →
 heard_setting old new of incarnation true is = same_setting old new _ is.after (record { plant_is = refl; firsts_are = refl; limit_is = refl; resource_is = refl })
 heard_setting old new of incarnation false is = same_setting old new old is.after (unchanged old)
 
+-- the setting of a resource that goes on
+record IsSet (b : AuditedBook) (s : StationValue) : Type 0 where
+  plant_is : s.core.plant ≡ b.plant
+  firsts_are : s.core.first ≡ zeros b.plant
+  limit_is : s.core.max_number ≡ 4294967295
+  core_is : s.core.resource ≡ s.journal.resource
+
+set_of : (b : AuditedBook) (s : StationValue) → IsGoing b s → IsSet b s
+set_of b s going = record { plant_is = going.plant_is; firsts_are = going.firsts_are; limit_is = going.limit_is; core_is = going.core_is }
+
 -- a resource whose core has the same setting, and whose journal is another one
-gone : (b : AuditedBook) (old new : StationValue) → IsGoing b old → IsSameSetting old.core new.core → new.journal.resource ≡ old.journal.resource → IsJournalOf b new.journal → IsGoing b new
+gone : (b : AuditedBook) (old new : StationValue) → IsSet b old → IsSameSetting old.core new.core → new.journal.resource ≡ old.journal.resource → IsJournalOf b new.journal → IsGoing b new
 gone b old new going same resource journal = record {
   plant_is = same.plant_is ∙ going.plant_is;
   firsts_are = same.firsts_are ∙ going.firsts_are;
@@ -108,57 +129,105 @@ gone b old new going same resource journal = record {
 
 pub received_going : (b : AuditedBook) (old new : StationValue) (x : Evaluated) (answer : Accepted) → Contains b.book.entries x → IsReceived old new x answer → IsGoing b old → IsGoing b new
 received_going b old new x answer listed is going =
-    gone b old new going (accepted_setting old.core new.core x answer is.accepted) (ap (λ (j : Journal). j.resource) is.noted)
+    gone b old new (set_of b old going) (accepted_setting old.core new.core x answer is.accepted) (ap (λ (j : Journal). j.resource) is.noted)
     (subst (IsJournalOf b) (sym is.noted) (took b old.journal x listed going.journal))
 
 pub heard_going : (b : AuditedBook) (old new : StationValue) (of incarnation : ℕ) (answer : Bool) → IsTold old new of incarnation answer → IsGoing b old → IsGoing b new
 heard_going b old new of incarnation answer is going =
-    gone b old new going (heard_setting old.core new.core of incarnation answer is.heard_is) (ap (λ (j : Journal). j.resource) is.noted)
-    (subst (IsJournalOf b) (sym is.noted) (still b old.journal (Heard of incarnation) refl refl going.journal))
+    gone b old new (set_of b old going) (heard_setting old.core new.core of incarnation answer is.heard_is) (ap (λ (j : Journal). j.resource) is.noted)
+    (subst (IsJournalOf b) (sym is.noted) (still b old.journal (Heard of incarnation) refl refl refl going.journal))
 
-pub restarted_going : (b : AuditedBook) (old new : StationValue) (ticket incarnation : ℕ) → IsRestarted old new ticket incarnation → IsGoing b old → IsGoing b new
+-- the incarnation to which a resource has come is noted
+abbrev pub raised : AuditedBook → ℕ → ℕ → AuditedBook
+raised b resource incarnation = record b { present = slice_set b.present resource incarnation }
+
+restarted_journal : (b : AuditedBook) (j : Journal) (ticket incarnation : ℕ) → IsJournalOf b j → IsJournalOf (raised b j.resource incarnation) (with_step j (Restarted ticket incarnation))
+restarted_journal b j ticket incarnation is = record {
+  first_is = is.first_is;
+  exists = omega (arith, is.exists, length-set b.present j.resource incarnation);
+  present_is = get_or-set_same b.present j.resource incarnation 0 is.exists ∙ sym (ap (incarnation_after j.first) (turned j (Restarted ticket incarnation)));
+  made_is = made-append j.steps (Restarted ticket incarnation ∷ []) ∙ append-nil (made j.steps) ∙ is.made_is;
+  delivered = subst (All (Contains b.book.entries)) (sym (received-append j.steps (Restarted ticket incarnation ∷ []) ∙ append-nil (received j.steps))) is.delivered;
+}
+
+restarted_going : (b : AuditedBook) (old new : StationValue) (ticket incarnation : ℕ) → IsRestarted old new ticket incarnation → IsGoing b old → IsGoing (raised b old.journal.resource incarnation) new
 restarted_going b old new ticket incarnation is going =
-    gone b old new going (same_setting old.core new.core _ is.core.is (record { plant_is = refl; firsts_are = refl; limit_is = refl; resource_is = refl })) (ap (λ (j : Journal). j.resource) is.noted)
-    (subst (IsJournalOf b) (sym is.noted) (still b old.journal (Restarted ticket incarnation) refl refl going.journal))
+    gone (raised b old.journal.resource incarnation) old new (record {
+      plant_is = going.plant_is;
+      firsts_are = going.firsts_are;
+      limit_is = going.limit_is;
+      core_is = going.core_is;
+    }) (same_setting old.core new.core _ is.core.is (record { plant_is = refl; firsts_are = refl; limit_is = refl; resource_is = refl })) (ap (λ (j : Journal). j.resource) is.noted)
+    (subst (IsJournalOf (raised b old.journal.resource incarnation)) (sym is.noted) (restarted_journal b old.journal ticket incarnation going.journal))
 
 -- an evaluation was made next, and isn't noted yet
 pub pending_for : (b : AuditedBook) (s : StationValue) (p : PendingValue) (ticket task dt : ℕ) (inputs : List FieldInput) → IsPending s p ticket task dt inputs → IsGoing b s → IsPendingFor b p
 pending_for b s p ticket task dt inputs is going = record {
-  going = gone b s (record { core = p.core; journal = p.journal }) going (same_setting s.core p.core _ is.next.after (record { plant_is = refl; firsts_are = refl; limit_is = refl; resource_is = refl }))
+  going = gone b s (record { core = p.core; journal = p.journal }) (set_of b s going) (same_setting s.core p.core _ is.next.after (record { plant_is = refl; firsts_are = refl; limit_is = refl; resource_is = refl }))
       (ap (λ (j : Journal). j.resource) is.journal) (subst (IsJournalOf b) (sym is.journal) going.journal);
   own = ap (λ (x : Evaluated). x.name.task.resource) is.next.next.asked.is ∙ going.core_is ∙ ap (λ (j : Journal). j.resource) (sym is.journal);
 }
 
--- a book that is as it was
+-- a book that is as it was, and one that is later than a later one
+later_not : (book : BookValue) → IsLater book book
+later_not book = record { first_is = refl; later = []; entries_are = sym (append-nil book.entries) }
+
+later_twice : (a b c : BookValue) → IsLater a b → IsLater b c → IsLater a c
+later_twice a b c one two = record {
+  first_is = two.first_is ∙ one.first_is;
+  later = one.later ++ two.later;
+  entries_are = two.entries_are ∙ ap (λ xs. xs ++ two.later) one.entries_are ∙ append_assoc a.entries one.later two.later;
+}
+
 pub grown_not : (resource : ℕ) (b : AuditedBook) → Grows resource b b
-grown_not resource b = record { plant_is = refl; first_is = refl; others = λ r other. refl; kept = λ x listed. listed }
+grown_not resource b = record { plant_is = refl; book_is = later_not b.book; others = λ r other. refl; long = refl; still = λ r other. refl }
 
 pub grown_twice : (resource : ℕ) (a b c : AuditedBook) → Grows resource a b → Grows resource b c → Grows resource a c
 grown_twice resource a b c one two = record {
   plant_is = two.plant_is ∙ one.plant_is;
-  first_is = two.first_is ∙ one.first_is;
+  book_is = later_twice a.book b.book c.book one.book_is two.book_is;
   others = λ r other. two.others r other ∙ one.others r other;
-  kept = λ x listed. two.kept x (one.kept x listed);
+  long = two.long ∙ one.long;
+  still = λ r other. two.still r other ∙ one.still r other;
 }
 
-entries_behind : (r : ℕ) (old new : AuditedBook) (x : Evaluated) → new.book ≡ record old.book { entries = old.book.entries ++ x ∷ [] } → entries_of r new.book.entries ≡ entries_of r old.book.entries ++ entries_of r (x ∷ [])
-entries_behind r old new x is = ap (λ (k : BookValue). entries_of r k.entries) is ∙ filter-append (λ (y : Evaluated). eqb y.name.task.resource r) old.book.entries (x ∷ [])
+-- one resource has come to another incarnation
+grown_raised : (resource incarnation : ℕ) (b : AuditedBook) → Grows resource b (raised b resource incarnation)
+grown_raised resource incarnation b = record {
+  plant_is = refl;
+  book_is = later_not b.book;
+  others = λ r other. refl;
+  long = length-set b.present resource incarnation;
+  still = λ r other. get_or-set_other b.present resource r incarnation 0 other;
+}
 
--- a book with one more entry of a resource
-pub grown_by : (resource : ℕ) (old new : AuditedBook) (x : Evaluated) → new.plant ≡ old.plant → new.book ≡ record old.book { entries = old.book.entries ++ x ∷ [] } → x.name.task.resource ≡ resource → Grows resource old new
-grown_by resource old new x plant_is is own = record {
-  plant_is = plant_is;
-  first_is = ap (λ (k : BookValue). k.first) is;
-  others = λ r other. entries_behind r old new x is ∙ ap (λ ys. entries_of r old.book.entries ++ ys) (no_entry r x (λ same. other (sym same ∙ own))) ∙ append-nil (entries_of r old.book.entries);
-  kept = λ y listed. subst (λ (k : BookValue). Contains k.entries y) (sym is) (Contains-append_left old.book.entries (x ∷ []) y listed);
+-- a book with one more entry
+abbrev pub entered : AuditedBook → Evaluated → AuditedBook
+entered b x = record b { book = record b.book { entries = b.book.entries ++ x ∷ [] } }
+
+entries_behind : (r : ℕ) (b : AuditedBook) (x : Evaluated) → entries_of r (entered b x).book.entries ≡ entries_of r b.book.entries ++ entries_of r (x ∷ [])
+entries_behind r b x = filter-append (λ (y : Evaluated). eqb y.name.task.resource r) b.book.entries (x ∷ [])
+
+later_by : (b : AuditedBook) (x : Evaluated) → IsLater b.book (entered b x).book
+later_by b x = record { first_is = refl; later = x ∷ []; entries_are = refl }
+
+grown_by : (resource : ℕ) (b : AuditedBook) (x : Evaluated) → x.name.task.resource ≡ resource → Grows resource b (entered b x)
+grown_by resource b x own = record {
+  plant_is = refl;
+  book_is = later_by b x;
+  others = λ r other. entries_behind r b x ∙ ap (λ ys. entries_of r b.book.entries ++ ys) (no_entry r x (λ same. other (sym same ∙ own))) ∙ append-nil (entries_of r b.book.entries);
+  long = refl;
+  still = λ r other. refl;
 }
 
 -- the journal of another resource is one of a book that has grown
 still_of : (resource : ℕ) (old new : AuditedBook) (j : Journal) → Grows resource old new → j.resource ≢ resource → IsJournalOf old j → IsJournalOf new j
 still_of resource old new j grows other is = record {
   first_is = is.first_is;
+  exists = omega (arith, is.exists, grows.long);
+  present_is = grows.still j.resource other ∙ is.present_is;
   made_is = is.made_is ∙ sym (grows.others j.resource other);
-  delivered = All-weaker (Contains old.book.entries) (Contains new.book.entries) grows.kept (received j.steps) is.delivered;
+  delivered = All-weaker (Contains old.book.entries) (Contains new.book.entries) (later_keeps old.book new.book grows.book_is) (received j.steps) is.delivered;
 }
 
 pub still_standing : (resource : ℕ) (old new : AuditedBook) (s : Standing) → Grows resource old new → (journal_in s).resource ≢ resource → IsStanding old s → IsStanding new s
@@ -175,21 +244,23 @@ still_standing resource old new (Ended j) grows other is = record {
 }
 
 -- the evaluation was entered, and is noted as made
-pub noted_going : (old new : AuditedBook) (p : PendingValue) (s : StationValue) → new.plant ≡ old.plant → new.book ≡ record old.book { entries = old.book.entries ++ p.made ∷ [] } → IsNoted p s → IsPendingFor old p → IsGoing new s
-noted_going old new p s plant_is is noted pending = record {
-  plant_is = ap (λ (c : CoreValue). c.plant) noted.core ∙ pending.going.plant_is ∙ sym plant_is;
-  firsts_are = ap (λ (c : CoreValue). c.first) noted.core ∙ pending.going.firsts_are ∙ ap zeros (sym plant_is);
+pub noted_going : (old new : AuditedBook) (p : PendingValue) (s : StationValue) → new ≡ entered old p.made → IsNoted p s → IsPendingFor old p → IsGoing new s
+noted_going old new p s is noted pending = subst (λ b. IsGoing b s) (sym is) (record {
+  plant_is = ap (λ (c : CoreValue). c.plant) noted.core ∙ pending.going.plant_is;
+  firsts_are = ap (λ (c : CoreValue). c.first) noted.core ∙ pending.going.firsts_are;
   limit_is = ap (λ (c : CoreValue). c.max_number) noted.core ∙ pending.going.limit_is;
   core_is = ap (λ (c : CoreValue). c.resource) noted.core ∙ pending.going.core_is ∙ sym (ap (λ (j : Journal). j.resource) noted.noted);
-  journal = subst (IsJournalOf new) (sym noted.noted) (record {
+  journal = subst (IsJournalOf (entered old p.made)) (sym noted.noted) (record {
     first_is = pending.going.journal.first_is;
+    exists = pending.going.journal.exists;
+    present_is = pending.going.journal.present_is ∙ sym (present_with p.journal (Made p.made) refl);
     made_is = made-append p.journal.steps (Made p.made ∷ []) ∙ ap (λ ys. ys ++ p.made ∷ []) pending.going.journal.made_is
         ∙ ap (λ ys. entries_of p.journal.resource old.book.entries ++ ys) (sym (own_entry p.journal.resource p.made pending.own))
-        ∙ sym (entries_behind p.journal.resource old new p.made is);
-    delivered = subst (All (Contains new.book.entries)) (sym (received-append p.journal.steps (Made p.made ∷ []) ∙ append-nil (received p.journal.steps)))
-        (All-weaker (Contains old.book.entries) (Contains new.book.entries) (λ x listed. subst (λ (k : BookValue). Contains k.entries x) (sym is) (Contains-append_left old.book.entries (p.made ∷ []) x listed)) (received p.journal.steps) pending.going.journal.delivered);
+        ∙ sym (entries_behind p.journal.resource old p.made);
+    delivered = subst (All (Contains (entered old p.made).book.entries)) (sym (received-append p.journal.steps (Made p.made ∷ []) ∙ append-nil (received p.journal.steps)))
+        (All-weaker (Contains old.book.entries) (Contains (entered old p.made).book.entries) (later_keeps old.book (entered old p.made).book (later_by old p.made)) (received p.journal.steps) pending.going.journal.delivered);
   });
-}
+})
 
 -- the lawful journal of a resource that goes on or not
 pub ended_going : (b : AuditedBook) (s : StationValue) (j : Journal) → j ≡ s.journal → IsLawful s.core.plant s.core.first s.core.max_number j → IsGoing b s → IsEnded b j
@@ -219,6 +290,17 @@ first_at b n f fs are = subst (λ k. IsAt b k f) (add-zero n) (are 0 f refl)
 pub others_from : (b : AuditedBook) (n : ℕ) (f : Follower) (fs : List Follower) → AreFrom b n (f ∷ fs) → AreFrom b (n + 1) fs
 others_from b n f fs are = λ k g at. subst (λ j. IsAt b j g) (by_one n k) (are (suc k) g at)
 
+-- the incarnation to which a resource has come is noted
+pub present_at : (b : AuditedBook) (fs : List Follower) (n : ℕ) (f : Follower) → AreFrom b 0 fs → slice_get fs n ≡ Some f → slice_index b.present n ≡ present_of (journal_in f.standing)
+present_at b fs n f stand at =
+    let is = stand n f at in
+    let place : (journal_in f.standing).resource ≡ n = is.resource_is ∙ zero-add n in
+    ap (slice_index b.present) (sym place) ∙ by f.standing is.stands
+  where
+    by : (standing : Standing) → IsStanding b standing → slice_index b.present (journal_in standing).resource ≡ present_of (journal_in standing)
+    by (Going s) stands = stands.journal.present_is
+    by (Ended j) stands = stands.journal.present_is
+
 -- one more behind those from 0 on
 pub one_more_at : (b : AuditedBook) (n : ℕ) (fs : List Follower) (f : Follower) → AreFrom b n fs → IsAt b (n + length fs) f → AreFrom b n (fs ++ f ∷ [])
 one_more_at b n [] f are is zero g at = subst (λ h. IsAt b (n + 0) h) (same_Some f g at) is
@@ -228,26 +310,30 @@ one_more_at b n (h ∷ fs) f are is (suc k) g at =
     let more = one_more_at b (n + 1) fs f (others_from b n h fs are) (subst (λ j. IsAt b j f) (by_one n (length fs)) is) k g at in
     subst (λ j. IsAt b j g) (sym (by_one n k)) more
 
+-- what a resource has followed stays so in a later book
+still_followed : (old new : AuditedBook) (n : ℕ) (f : Follower) → old.plant ≡ new.plant → IsLater old.book new.book → IsFollowed old.plant old.book n f → IsFollowed new.plant new.book n f
+still_followed old new n f plant_is later is = subst (λ p. IsFollowed p new.book n f) plant_is (later_following old.plant old.book new.book n f.lines.items f.standing f.trail later is)
+
 -- resources that stand at other places than the one that went on
-pub others_still : (r n : ℕ) (old new : AuditedBook) (fs : List Follower) → Grows r old new → ((k : ℕ) → k < length fs → n + k ≢ r) → AreFrom old n fs → AreFrom new n fs
+others_still : (r n : ℕ) (old new : AuditedBook) (fs : List Follower) → Grows r old new → ((k : ℕ) → k < length fs → n + k ≢ r) → AreFrom old n fs → AreFrom new n fs
 others_still r n old new fs grows apart are = λ k f at.
     let is = are k f at in
     record {
       stands = still_standing r old new f.standing grows (λ same. apart k (slice_get_within fs k f at) (sym is.resource_is ∙ same)) is.stands;
       resource_is = is.resource_is;
-      followed = subst (λ p. IsFollowed p (n + k) f) (sym grows.plant_is) is.followed;
+      followed = still_followed old new (n + k) f (sym grows.plant_is) grows.book_is is.followed;
     }
 
--- where a resource has followed its lines, it has followed them further, and is settled
-abbrev pub Follows : Follower → Follower → Type 0
-Follows f g = (plant : PlantValue) (n : ℕ) → IsFollowed plant n f → IsFollowed plant n g × IsSettled g
+-- where a resource has followed its lines, it has followed them further, and is settled if it did none
+abbrev pub Follows : AuditedBook → AuditedBook → Follower → Follower → Bool → Type 0
+Follows old new f g went = (plant : PlantValue) (n : ℕ) → IsFollowed plant old.book n f → IsFollowed plant new.book n g × (went ≡ false → IsSettled new g)
 
 -- a resource that went on stands at its place
-pub went_at : (old new : AuditedBook) (n : ℕ) (f g : Follower) → IsAt old n f → Goes old new f.standing g.standing → Follows f g → IsAt new n g
-went_at old new n f g is goes follows = record {
+went_at : (old new : AuditedBook) (n : ℕ) (f g : Follower) (went : Bool) → IsAt old n f → Goes old new f.standing g.standing → Follows old new f g went → IsAt new n g
+went_at old new n f g went is goes follows = record {
   stands = goes.stands;
   resource_is = goes.resource_is ∙ is.resource_is;
-  followed = subst (λ p. IsFollowed p n g) (sym goes.grows.plant_is) (follows old.plant n is.followed).0;
+  followed = subst (λ p. IsFollowed p new.book n g) (sym goes.grows.plant_is) (follows old.plant n is.followed).0;
 }
 
 below_not : (k n : ℕ) → k < n → k ≡ n → ⊥
@@ -257,15 +343,15 @@ behind_not : (n k : ℕ) → n + 1 + k ≡ n → ⊥
 behind_not n k same = absurd (omega arith)
 
 -- one resource goes on, and all stand
-pub round_on : (old new : AuditedBook) (gone rest : List Follower) (f g : Follower) → AreFrom old 0 gone → AreFrom old (length gone) (f ∷ rest) → Goes old new f.standing g.standing → Follows f g
+round_on : (old new : AuditedBook) (gone rest : List Follower) (f g : Follower) (went : Bool) → AreFrom old 0 gone → AreFrom old (length gone) (f ∷ rest) → Goes old new f.standing g.standing → Follows old new f g went
     → AreFrom new 0 (gone ++ g ∷ []) × AreFrom new (length gone + 1) rest × IsOfSame old new
-round_on old new gone rest f g before behind goes follows =
+round_on old new gone rest f g went before behind goes follows =
     let here : IsAt old (length gone) f = first_at old (length gone) f rest behind in
     let grows : Grows (length gone) old new = subst (λ r. Grows r old new) here.resource_is goes.grows in (
       one_more_at new 0 gone g (others_still (length gone) 0 old new gone grows (λ k lt same. below_not k (length gone) lt (sym (zero-add k) ∙ same)) before)
-          (subst (λ k. IsAt new k g) (sym (zero-add (length gone))) (went_at old new (length gone) f g here goes follows)),
+          (subst (λ k. IsAt new k g) (sym (zero-add (length gone))) (went_at old new (length gone) f g went here goes follows)),
       others_still (length gone) (length gone + 1) old new rest grows (λ k lt same. behind_not (length gone) k same) (others_from old (length gone) f rest behind),
-      record { plant_is = grows.plant_is; first_is = grows.first_is },
+      record { plant_is = grows.plant_is; first_is = grows.book_is.first_is },
     )
 
 pub same_twice : (a b c : AuditedBook) → IsOfSame a b → IsOfSame b c → IsOfSame a c
@@ -308,8 +394,14 @@ all_agree plant b journals plant_is first_is many are =
 pub goes_still : (b : AuditedBook) (s t : StationValue) → IsGoing b t → t.journal.resource ≡ s.journal.resource → Goes b b (Going s) (Going t)
 goes_still b s t going same = record { stands = going; resource_is = same; grows = grown_not s.journal.resource b }
 
-pub restarted_goes : (b : AuditedBook) (old new : StationValue) (ticket incarnation : ℕ) → IsRestarted old new ticket incarnation → IsGoing b old → Goes b b (Going old) (Going new)
-restarted_goes b old new ticket incarnation is going = goes_still b old new (restarted_going b old new ticket incarnation is going) (ap (λ (j : Journal). j.resource) is.noted)
+pub restarted_goes : (b c : AuditedBook) (old new : StationValue) (ticket incarnation resource : ℕ) → c ≡ raised b resource incarnation → resource ≡ old.journal.resource → IsRestarted old new ticket incarnation → IsGoing b old → Goes b c (Going old) (Going new)
+restarted_goes b c old new ticket incarnation resource raised_is own is going =
+    let same : raised b old.journal.resource incarnation ≡ c = ap (λ r. raised b r incarnation) (sym own) ∙ sym raised_is in
+    subst (λ d. Goes b d (Going old) (Going new)) same (record {
+      stands = restarted_going b old new ticket incarnation is going;
+      resource_is = ap (λ (j : Journal). j.resource) is.noted;
+      grows = grown_raised old.journal.resource incarnation b;
+    })
 
 pub made_goes : (old new : AuditedBook) (s : StationValue) (p : PendingValue) (t : Standing) (ticket task dt : ℕ) (inputs : List FieldInput) → IsPending s p ticket task dt inputs
     → IsStanding new t → (journal_in t).resource ≡ p.journal.resource → Grows p.journal.resource old new → Goes old new (Going s) t
@@ -317,8 +409,8 @@ made_goes old new s p t ticket task dt inputs is stands same grows =
     let own : p.journal.resource ≡ s.journal.resource = ap (λ (j : Journal). j.resource) is.journal in
     record { stands = stands; resource_is = same ∙ own; grows = subst (λ r. Grows r old new) own grows }
 
-pub entered_grows : (old new : AuditedBook) (p : PendingValue) → new.plant ≡ old.plant → new.book ≡ record old.book { entries = old.book.entries ++ p.made ∷ [] } → IsPendingFor old p → Grows p.journal.resource old new
-entered_grows old new p plant_is is pending = grown_by p.journal.resource old new p.made plant_is is pending.own
+pub entered_grows : (old new : AuditedBook) (p : PendingValue) → new ≡ entered old p.made → IsPendingFor old p → Grows p.journal.resource old new
+entered_grows old new p is pending = subst (Grows p.journal.resource old) (sym is) (grown_by p.journal.resource old p.made pending.own)
 
 pub given_up : (b : AuditedBook) (p : PendingValue) (j : Journal) → j ≡ p.journal → IsLawful p.core.plant p.core.first p.core.max_number j → IsPendingFor b p → IsEnded b j
 given_up b p j same lawful pending = ended_going b (record { core = p.core; journal = p.journal }) j same lawful pending.going
@@ -338,11 +430,11 @@ moved : (gone_long rest_long after_long others_long n : ℕ) → rest_long ≡ s
 moved gone_long rest_long after_long others_long n is more sum = omega (arith, is, more, sum)
 
 -- a turn of a round: one more has gone on
-pub round_turns : (start old new : AuditedBook) (before after rest others : List Follower) (f g : Follower) (n : ℕ) → rest ≡ f ∷ others → after ≡ before ++ g ∷ []
-    → (length before + length rest ≡ n) × AreFrom old 0 before × AreFrom old (length before) rest × IsOfSame start old → Goes old new f.standing g.standing → Follows f g
+pub round_turns : (start old new : AuditedBook) (before after rest others : List Follower) (f g : Follower) (n : ℕ) (went : Bool) → rest ≡ f ∷ others → after ≡ before ++ g ∷ []
+    → (length before + length rest ≡ n) × AreFrom old 0 before × AreFrom old (length before) rest × IsOfSame start old → Goes old new f.standing g.standing → Follows old new f g went
     → (length after + length others ≡ n) × AreFrom new 0 after × AreFrom new (length after) others × IsOfSame start new
-round_turns start old new before after rest others f g n is more stand goes follows =
-    let r = round_on old new before others f g stand.1 (subst (λ (fs : List Follower). AreFrom old (length before) fs) is stand.2) goes follows in
+round_turns start old new before after rest others f g n went is more stand goes follows =
+    let r = round_on old new before others f g went stand.1 (subst (λ (fs : List Follower). AreFrom old (length before) fs) is stand.2) goes follows in
     let long : length after ≡ length before + 1 = ap length more ∙ length-append before (g ∷ []) in (
       moved (length before) (length rest) (length after) (length others) n (ap length is) long stand.0,
       subst (λ (fs : List Follower). AreFrom new 0 fs) (sym more) r.0,
@@ -352,17 +444,21 @@ round_turns start old new before after rest others f g n is more stand goes foll
 
 -- what is left of the tasks of the next one is known
 pub next_left : (b : AuditedBook) (n : ℕ) (rest others : List Follower) (f : Follower) → rest ≡ f ∷ others → AreFrom b n rest → AreLeft (journal_in f.standing) f.trail.past.left.items
-next_left b n rest others f is are = followed_left b.plant n f.lines.items f.standing f.trail (first_at b n f others (subst (λ (fs : List Follower). AreFrom b n fs) is are)).followed
+next_left b n rest others f is are = followed_left b.plant b.book n f.lines.items f.standing f.trail (first_at b n f others (subst (λ (fs : List Follower). AreFrom b n fs) is are)).followed
 
--- one more is settled
-pub settled_more : (b : AuditedBook) (n : ℕ) (before after rest others : List Follower) (f g : Follower) → rest ≡ f ∷ others → after ≡ before ++ g ∷ [] → AreFrom b n rest → Follows f g → AreSettled before → AreSettled after
-settled_more b n before after rest others f g is more are follows settled =
-    let here = first_at b n f others (subst (λ (fs : List Follower). AreFrom b n fs) is are) in
-    λ k h at. by k h (push_cases before g k h (ap (λ hs. slice_get hs k) (sym more) ∙ at)) ((follows b.plant n here.followed).1)
+-- one more is settled, where none has gone on
+pub settled_more : (start old new : AuditedBook) (n : ℕ) (before after rest others : List Follower) (f g : Follower) (went : Bool) → rest ≡ f ∷ others → after ≡ before ++ g ∷ [] → AreFrom old n rest → Follows old new f g went
+    → went ≡ false → new ≡ old → (old ≡ start) × AreSettled old before → (new ≡ start) × AreSettled new after
+settled_more start old new n before after rest others f g went is more are follows rests still settled =
+    let here = first_at old n f others (subst (λ (fs : List Follower). AreFrom old n fs) is are) in
+    (still ∙ settled.0, λ k h at. by k h (push_cases before g k h (ap (λ hs. slice_get hs k) (sym more) ∙ at)) ((follows old.plant n here.followed).1 rests))
   where
-    by : (k : ℕ) (h : Follower) → (slice_get before k ≡ Some h) ⊎ ((k ≡ length before) × (h ≡ g)) → IsSettled g → IsSettled h
-    by k h (inl there) so = settled k h there
-    by k h (inr here) so = subst IsSettled (sym here.1) so
+    by : (k : ℕ) (h : Follower) → (slice_get before k ≡ Some h) ⊎ ((k ≡ length before) × (h ≡ g)) → IsSettled new g → IsSettled new h
+    by k h (inl there) so = subst (λ b. IsSettled b h) (sym still) (settled.1 k h there)
+    by k h (inr here) so = subst (IsSettled new) (sym here.1) so
+
+pub not_both : {b : Bool} → b ≡ false → b ≡ true → ⊥
+not_both is_false is_true = absurd (let e = sym is_false ∙ is_true in cc)
 
 -- the lines of the resources stay
 abbrev pub lines_of : List Follower → List (Vec Line)
@@ -377,9 +473,6 @@ lines_turn before after rest others all f g is more same was =
     ∙ append_assoc (lines_of before) (g.lines ∷ []) (lines_of others)
     ∙ ap (λ (l : Vec Line). lines_of before ++ (l ∷ lines_of others)) same
     ∙ ap (λ fs. lines_of before ++ lines_of fs) (sym is) ∙ was
-
-pub lines_end : (before rest all : List Follower) → length rest ≡ 0 → lines_of before ++ lines_of rest ≡ lines_of all → lines_of before ≡ lines_of all
-lines_end before rest all none was = sym (append-nil (lines_of before)) ∙ ap (λ fs. lines_of before ++ lines_of fs) (sym (nil_from_length rest none)) ∙ was
 
 -- one more resource with its lines
 pub lines_begun : (followers after : List Follower) (rest others all : List (Vec Line)) (f : Follower) (lines : Vec Line) → rest ≡ lines ∷ others → after ≡ followers ++ f ∷ [] → f.lines ≡ lines
@@ -453,8 +546,3 @@ audited_agree plant start b followers all journals is same many as_many last sta
 
 pub disagrees_not : (plant : PlantValue) (book : BookValue) (journals : List Journal) (fault : RunFault) → fault ≡ BookDisagrees → IsAgreeFault plant book journals fault → Agree plant book journals → ⊥
 disagrees_not plant book journals fault is given agree = subst (λ (f : RunFault). IsAgreeFault plant book journals f) is given agree
-
--- after the last round all are settled
-pub settled_end : (round : ℕ) (fs : List Follower) → (round ≡ 0) ⊎ AreSettled fs → (round ≡ 0 → ⊥) → AreSettled fs
-settled_end round fs (inl none) some = absurd (some none)
-settled_end round fs (inr settled) some = settled

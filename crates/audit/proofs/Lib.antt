@@ -2,3 +2,4 @@ pub mod GoingOn
 pub mod Comings
 pub mod Leavings
 pub mod Tellings
+pub mod OneReason

@@ -1,15 +1,16 @@
 -- What is shown of all resources, and what can't be.
-use Rattle.std.proofs.Common.{arith, ◌≡◌, ℕ, zero, suc, ◌+◌, ◌++◌, List, [], ◌∷◌, Option, Some, None, length, map, slice_get, refl, ap, sym, ◌∙◌, subst, zero-add, add-one, option_map, append-nil}
+use Rattle.std.proofs.Common.{arith, ◌≡◌, ℕ, zero, suc, ◌+◌, ◌++◌, List, [], ◌∷◌, Option, Some, None, length, map, slice_get, slice_index, ◌<◌, inl, inr, IfSome, refl, ap, sym, ◌∙◌, subst, zero-add, add-one, option_map, append-nil}
 use Rattle.std.proofs.lemmas.List.{length-map}
 use Rattle.std.specs.Global.{Vec}
 use Rattle.std.proofs.lemmas.Option.{slice_get-map}
 use Rattle.plant.specs.PlantValue.{PlantValue}
-use Rattle.node_journals.specs.declared.journal.Journal.{Journal}
+use Rattle.evaluation_book.specs.Book.{BookValue}
 use Rattle.node_journals.specs.Steps.Stations.{StationValue}
 use Rattle.journal_files.specs.declared.item.Item.{Item}
 use Rattle.journal_files.specs.declared.line.Line.{Line}
 use Rattle.audit.specs.declared.follower.Follower.{Follower}
 use Rattle.audit.specs.declared.needs.Need.{Need}
+use Rattle.audit.specs.declared.needs.Need.TheVariants.{Evaluation, Incarnation}
 use Rattle.audit.specs.declared.outcome.Outcome.{Outcome}
 use Rattle.audit.specs.declared.outcome.Outcome.TheVariants.{Done, Waits, Stops}
 use Rattle.audit.specs.declared.reason.Reason.{Reason}
@@ -17,51 +18,103 @@ use Rattle.audit.specs.declared.reason.Reason.TheVariants as reason
 use Rattle.audit.specs.declared.reason.Unshown.{Unshown}
 use Rattle.audit.specs.declared.standing.Standing.{Standing}
 use Rattle.audit.specs.declared.standing.Standing.TheVariants.{Going, Ended}
-use Rattle.audit.specs.Reasons.{Needs, IsReason}
+use Rattle.audit.specs.Reasons.{Course, present_of, IsOver, MayBeIn, HasNotCome, Needs, maker_in, incarnation_of, IsReason}
 use Rattle.audit.specs.Told.{IsTold, IsShown, AreShown, AreToldBy, if_none, without_lines, all_without}
 use Rattle.audit.specs.Steps.Standings.{AuditedBook, journal_in, AreFrom}
-use Rattle.audit.specs.Steps.Following.{IsLed, IsTried, IsFollowed, IsReasonFor, IsToldOf, AreToldOf, HaveTold}
+use Rattle.audit.specs.Steps.Following.{IsLed, WouldNeed, IsStop, IsTried, IsFollowed}
+use Rattle.audit.specs.Steps.Settled.{IsUnmet, IsAhead, IsStuck, IsSettled, course_of, courses_of, maker_of, IsReasonFor, IsToldOf, AreToldOf, HaveTold}
 use Rattle.journal_files.specs.declared.journal_file.JournalFile.{JournalFile}
 use Rattle.journal_files.specs.declared.reading.Readings.{Readings}
 use Rattle.journal_files.specs.Readings.{AreReadings}
 use Rattle.audit.specs.declared.auditing.Audited.{Audited}
-use Rattle.audit.proofs.GoingOn.{lines_of, journals_in}
+use Rattle.audit.proofs.GoingOn.{lines_of, journals_in, present_at}
+
+-- what is shown of a resource at its place among all
+course_at : (fs : List Follower) (n : ℕ) (maker : Option Follower) → slice_get fs n ≡ maker → slice_get (courses_of fs) n ≡ option_map course_of maker
+course_at fs n maker at = slice_get-map course_of fs n ∙ ap (option_map course_of) at
+
+-- where an incarnation isn't met, the resource hasn't come to it
+not_come : (b : AuditedBook) (fs : List Follower) (n i : ℕ) → AreFrom b 0 fs → slice_index b.present n < i → HasNotCome (slice_get (courses_of fs) n) i
+not_come b fs n i stand below = by (slice_get fs n) refl
+  where
+    by : (maker : Option Follower) → slice_get fs n ≡ maker → HasNotCome (slice_get (courses_of fs) n) i
+    by None at = subst (λ (c : Option Course). HasNotCome c i) (sym (course_at fs n None at)) tt
+    by (Some f) at =
+        let present : slice_index b.present n ≡ present_of (journal_in f.standing) = present_at b fs n f stand at in
+        subst (λ (c : Option Course). HasNotCome c i) (sym (course_at fs n (Some f) at)) (omega (arith, present, below))
+
+-- a need that isn't met
+needs_so : (b : AuditedBook) (fs : List Follower) (s : StationValue) (item : Item) (need : Need) → AreFrom b 0 fs → WouldNeed s item need → IsUnmet b need → Needs b.book (courses_of fs) s item need
+needs_so b fs s item (Evaluation name) stand would unmet = (would.0, would.1, would.2, unmet)
+needs_so b fs s item (Incarnation n i) stand would unmet = (would, not_come b fs n i stand unmet)
 
 -- a need that isn't met is the reason
-pub reason_for : (s : StationValue) (item : Item) (need : Need) (why : Reason) → IsReasonFor need why → Needs s item need → IsReason s item why
-reason_for s item need reason.Syntax is h = absurd is
-reason_for s item need (reason.NotRisen i) is h = absurd is
-reason_for s item need (reason.TooHigh i) is h = absurd is
-reason_for s item need reason.Kept is h = absurd is
-reason_for s item need (reason.Differs name) is h = absurd is
-reason_for s item need (reason.Unmade name) is h = subst (Needs s item) is h
-reason_for s item need (reason.Waits n) is h = subst (Needs s item) is h
-reason_for s item need (reason.Missing n) is h = subst (Needs s item) is h
-reason_for s item need (reason.Misfit misfit) is h = absurd is
+reason_for : (book : BookValue) (all : List Course) (s : StationValue) (item : Item) (need : Need) (why : Reason) → IsReasonFor (maker_in all need) need why → Needs book all s item need → IsReason book all s item why
+reason_for book all s item need reason.Syntax is h = absurd is
+reason_for book all s item need (reason.NotRisen i) is h = absurd is
+reason_for book all s item need (reason.TooHigh i) is h = absurd is
+reason_for book all s item need reason.Kept is h = absurd is
+reason_for book all s item need (reason.Differs name) is h = absurd is
+reason_for book all s item need (reason.Unmade name) is h =
+    subst (λ n. Needs book all s item n × IsOver (maker_in all n) (incarnation_of n)) is.0 (h, is.1)
+reason_for book all s item need (reason.Waits n) is h =
+    subst (λ n. Needs book all s item n × MayBeIn (maker_in all n) (incarnation_of n)) (sym is.0) (h, is.1)
+reason_for book all s item need (reason.Missing n) is h =
+    subst (λ n. Needs book all s item n × (IsOver (maker_in all n) (incarnation_of n) → ⊥) × (MayBeIn (maker_in all n) (incarnation_of n) → ⊥)) (sym is.0) (h, is.1, is.2)
+reason_for book all s item need (reason.Misfit misfit) is h = absurd is
 
--- no line is left
-pub told_none : (f : Follower) (line : Option Line) → slice_get f.lines.items f.trail.at ≡ line → line ≡ None → IsToldOf f []
-told_none f line at none = λ s tried. subst (λ l. IsTold l s []) (sym (at ∙ none)) refl
+-- a line that can't be done, whatever others do
+stop_reason : (book : BookValue) (all : List Course) (s : StationValue) (item : Item) (why : Reason) → IsStop book s item why → IsReason book all s item why
+stop_reason book all s item reason.Syntax h = h
+stop_reason book all s item (reason.NotRisen i) h = h
+stop_reason book all s item (reason.TooHigh i) h = h
+stop_reason book all s item reason.Kept h = h
+stop_reason book all s item (reason.Differs name) h = h
+stop_reason book all s item (reason.Unmade name) h = absurd h
+stop_reason book all s item (reason.Waits need) h = absurd h
+stop_reason book all s item (reason.Missing need) h = absurd h
+stop_reason book all s item (reason.Misfit misfit) h = h
 
 -- the next line was tried, and why it can't be done is told
-pub told_stop : (f : Follower) (line : Line) (why : Reason) → slice_get f.lines.items f.trail.at ≡ Some line → f.trail.last ≡ Stops why → IsToldOf f (record { place = line.place; reason = why } ∷ [])
-told_stop f line why at last = λ s tried.
-    let so : IsTried s (Some line) (Stops why) = subst (λ l. IsTried s (Some line) l) last (subst (λ l. IsTried s l f.trail.last) at tried) in
-    subst (λ l. IsTold l s (record { place = line.place; reason = why } ∷ [])) (sym at) (why, refl, so)
+pub told_stop : (b : AuditedBook) (fs : List Follower) (f : Follower) (line : Line) (why : Reason) → slice_get f.lines.items f.trail.at ≡ Some line → f.trail.last ≡ Stops why → IsToldOf b fs f (record { place = line.place; reason = why } ∷ [])
+told_stop b fs f line why at last = λ s tried.
+    let so : IsTried b.book s (Some line) (Stops why) = subst (λ l. IsTried b.book s (Some line) l) last (subst (λ l. IsTried b.book s l f.trail.last) at tried) in
+    subst (λ l. IsTold b.book (courses_of fs) l s (record { place = line.place; reason = why } ∷ [])) (sym at) (why, refl, stop_reason b.book (courses_of fs) s line.item why so)
 
-pub told_need : (f : Follower) (line : Line) (need : Need) (why : Reason) → slice_get f.lines.items f.trail.at ≡ Some line → f.trail.last ≡ Waits need → IsReasonFor need why → IsToldOf f (record { place = line.place; reason = why } ∷ [])
-told_need f line need why at last is = λ s tried.
-    let so : IsTried s (Some line) (Waits need) = subst (λ l. IsTried s (Some line) l) last (subst (λ l. IsTried s l f.trail.last) at tried) in
-    subst (λ l. IsTold l s (record { place = line.place; reason = why } ∷ [])) (sym at) (why, refl, reason_for s line.item need why is so)
+pub told_need : (b : AuditedBook) (fs : List Follower) (f : Follower) (line : Line) (need : Need) (why : Reason) → AreFrom b 0 fs → slice_get f.lines.items f.trail.at ≡ Some line → f.trail.last ≡ Waits need → IsUnmet b need
+    → IsReasonFor (maker_in (courses_of fs) need) need why → IsToldOf b fs f (record { place = line.place; reason = why } ∷ [])
+told_need b fs f line need why stand at last unmet is = λ s tried.
+    let so : IsTried b.book s (Some line) (Waits need) = subst (λ l. IsTried b.book s (Some line) l) last (subst (λ l. IsTried b.book s l f.trail.last) at tried) in
+    subst (λ l. IsTold b.book (courses_of fs) l s (record { place = line.place; reason = why } ∷ [])) (sym at)
+    (why, refl, reason_for b.book (courses_of fs) s line.item need why is (needs_so b fs s line.item need stand so unmet))
+
+-- what is told of the maker is told of what is shown of it
+pub maker_is : (fs : List Follower) (need : Need) (maker : Option Follower) (n : ℕ) → maker_of need ≡ n → slice_get fs n ≡ maker → maker_in (courses_of fs) need ≡ option_map course_of maker
+maker_is fs (Evaluation name) maker n same at = course_at fs name.task.resource maker (ap (slice_get fs) same ∙ at)
+maker_is fs (Incarnation m i) maker n same at = course_at fs m maker (ap (slice_get fs) same ∙ at)
+
+-- the incarnation to which the maker has come
+pub come_to : (b : AuditedBook) (fs : List Follower) (n present : ℕ) (maker : Option Follower) → AreFrom b 0 fs → maker ≡ slice_get fs n → present ≡ slice_index b.present n → IfSome maker (λ (f : Follower). present ≡ present_of (journal_in f.standing))
+come_to b fs n present None stand at is = tt
+come_to b fs n present (Some f) stand at is = is ∙ present_at b fs n f stand (sym at)
+
+-- what a line waits for isn't there
+pub waiting_unmet : (b : AuditedBook) (f : Follower) (line : Line) (need : Need) → slice_get f.lines.items f.trail.at ≡ Some line → f.trail.last ≡ Waits need → IsSettled b f → IsUnmet b need
+waiting_unmet b f line need at last (inl none) = absurd (let e = sym at ∙ none in cc)
+waiting_unmet b f line need at last (inr stuck) = subst (IsStuck b) last stuck
+
+pub ahead_of : (b : AuditedBook) (need : Need) (n present : ℕ) → n ≡ maker_of need → present ≡ slice_index b.present n → IsUnmet b need → IsAhead present need
+ahead_of b (Evaluation name) n present same is unmet = tt
+ahead_of b (Incarnation m i) n present same is unmet =
+    let come : present ≡ slice_index b.present m = is ∙ ap (slice_index b.present) same in omega (arith, come, unmet)
 
 -- one more resource
-pub told_more : (fs : List Follower) (n : ℕ) (before these after : List Unshown) (f : Follower) → slice_get fs n ≡ Some f → AreToldOf fs n before → IsToldOf f these → after ≡ before ++ these → AreToldOf fs (n + 1) after
-told_more fs n before these after f at was told is = subst (λ k. AreToldOf fs k after) (sym (add-one n)) (before, these, f, was, at, told, is)
+pub told_more : (b : AuditedBook) (fs : List Follower) (n : ℕ) (before these after : List Unshown) (f : Follower) → slice_get fs n ≡ Some f → AreToldOf b fs n before → IsToldOf b fs f these → after ≡ before ++ these → AreToldOf b fs (n + 1) after
+told_more b fs n before these after f at was told is = subst (λ k. AreToldOf b fs k after) (sym (add-one n)) (before, these, f, was, at, told, is)
 
 -- what is shown of a resource that has followed its lines
-shown_of : (plant : PlantValue) (n : ℕ) (f : Follower) (these : List Unshown) → IsFollowed plant n f → IsToldOf f these → IsShown plant n f.lines.items (journal_in f.standing) these
-shown_of plant n f these follows told = record {
-  shown = f.trail.at;
+shown_of : (b : AuditedBook) (fs : List Follower) (n : ℕ) (f : Follower) (these : List Unshown) → IsFollowed b.plant b.book n f → IsToldOf b fs f these → IsShown b.plant b.book (courses_of fs) n (course_of f) these
+shown_of b fs n f these follows told = record {
   within = follows.within;
   stands = follows.station;
   reached = follows.reached;
@@ -75,21 +128,11 @@ shown_of plant n f these follows told = record {
     led_journal (Ended j) (Waits need) led = absurd led
     led_journal (Ended j) (Stops why) led = led
 
-pub shown_all : (plant : PlantValue) (b : AuditedBook) (fs : List Follower) (journals : List Journal) → b.plant ≡ plant → AreFrom b 0 fs → journals ≡ map (λ (f : Follower). journal_in f.standing) fs
-    → (n : ℕ) (unshown : List Unshown) → AreToldOf fs n unshown → AreShown plant (lines_of fs) journals n unshown
-shown_all plant b fs journals same stand are zero unshown told = told
-shown_all plant b fs journals same stand are (suc n) unshown (before, these, f, earlier, at, told, is) =
-    let follows : IsFollowed plant n f = subst (λ k. IsFollowed plant k f) (zero-add n) (subst (λ p. IsFollowed p (0 + n) f) same (stand n f at).followed) in (
-      before,
-      these,
-      f.lines,
-      journal_in f.standing,
-      shown_all plant b fs journals same stand are n before earlier,
-      slice_get-map (λ (g : Follower). g.lines) fs n ∙ ap (option_map (λ (g : Follower). g.lines)) at,
-      ap (λ js. slice_get js n) are ∙ slice_get-map (λ (g : Follower). journal_in g.standing) fs n ∙ ap (option_map (λ (g : Follower). journal_in g.standing)) at,
-      shown_of plant n f these follows told,
-      is,
-    )
+shown_all : (b : AuditedBook) (fs : List Follower) → AreFrom b 0 fs → (n : ℕ) (unshown : List Unshown) → AreToldOf b fs n unshown → AreShown b.plant b.book (courses_of fs) n unshown
+shown_all b fs stand zero unshown told = told
+shown_all b fs stand (suc n) unshown (before, these, f, earlier, at, told, is) =
+    let follows : IsFollowed b.plant b.book n f = subst (λ k. IsFollowed b.plant b.book k f) (zero-add n) (stand n f at).followed in
+    (before, these, course_of f, shown_all b fs stand n before earlier, course_at fs n (Some f) at, shown_of b fs n f these follows told, is)
 
 none_here : (lines : List Line) (n : ℕ) → length lines ≡ 0 → if_none lines n ≡ n ∷ []
 none_here [] n none = refl
@@ -108,18 +151,25 @@ pub without_less : (all : List (Vec Line)) (n : ℕ) (lines : Vec Line) (before 
 without_less all n lines before at some was =
     was ∙ sym (append-nil (all_without all n)) ∙ ap (λ ns. all_without all n ++ ns) (sym (ap (λ l. without_lines l n) at ∙ some_here lines.items n some)) ∙ ap (all_without all) (sym (add-one n))
 
+map_twice : {A B C : Type 0} (g : B → C) (f : A → B) (xs : List A) → map g (map f xs) ≡ map (λ x. g (f x)) xs
+map_twice g f [] = refl
+map_twice g f (x ∷ xs) = ap (λ ys. g (f x) ∷ ys) (map_twice g f xs)
+
 -- what is shown, and what can't be, is what the journals tell
-pub told_by : (plant : PlantValue) (files : List JournalFile) (r : Audited) (readings : Readings) (b : AuditedBook) (fs : List Follower) (js : List Journal) → AreReadings plant files readings → b.plant ≡ plant → AreFrom b 0 fs
-    → length fs ≡ length plant.resources → lines_of fs ≡ readings.resources.items → js ≡ journals_in fs → r.journals ≡ js → HaveTold fs readings.without_start.items r.unshown.items
+pub told_by : (plant : PlantValue) (files : List JournalFile) (r : Audited) (readings : Readings) (b : AuditedBook) (fs : List Follower) → AreReadings plant files readings → b.plant ≡ plant → b.book ≡ r.book → AreFrom b 0 fs
+    → length fs ≡ length plant.resources → lines_of fs ≡ readings.resources.items → r.journals ≡ journals_in fs → HaveTold b fs readings.without_start.items r.unshown.items
     → r.without.items ≡ all_without (lines_of fs) (length fs) → AreToldBy plant files r
-told_by plant files r readings b fs js read plant_is stand many lines same journals told without = record {
+told_by plant files r readings b fs read plant_is book_is stand many lines journals told without = record {
   readings = readings;
   read = read;
-  many = ap length journals ∙ ap length same ∙ length-map fs (λ (f : Follower). journal_in f.standing) ∙ many;
+  all = courses_of fs;
+  many = length-map fs course_of ∙ many;
+  lines_are = map_twice (λ (c : Course). c.lines) course_of fs ∙ sym (map_twice (λ (v : Vec Line). v.items) (λ (f : Follower). f.lines) fs) ∙ ap (map (λ (v : Vec Line). v.items)) lines;
+  journals_are = journals ∙ sym (map_twice (λ (c : Course). c.journal) course_of fs);
   unshown = told.unshown;
-  shown = subst (λ ls. AreShown plant ls r.journals (length plant.resources) told.unshown) lines
-      (subst (λ xs. AreShown plant (lines_of fs) xs (length plant.resources) told.unshown) (sym journals)
-      (shown_all plant b fs js plant_is stand same (length plant.resources) told.unshown (subst (λ n. AreToldOf fs n told.unshown) many told.told)));
+  shown = subst (λ p. AreShown p r.book (courses_of fs) (length (courses_of fs)) told.unshown) plant_is
+      (subst (λ k. AreShown b.plant k (courses_of fs) (length (courses_of fs)) told.unshown) book_is
+      (subst (λ n. AreShown b.plant b.book (courses_of fs) n told.unshown) (sym (length-map fs course_of)) (shown_all b fs stand (length fs) told.unshown told.told)));
   unshown_are = told.all_are;
   without_are = without ∙ ap (λ n. all_without (lines_of fs) n) many ∙ ap (λ ls. all_without ls (length plant.resources)) lines;
 }

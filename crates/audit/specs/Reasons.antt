@@ -1,78 +1,144 @@
--- Why a line can't be shown.
-use Rattle.std.specs.Prelude.{◌≡◌, ◌≢◌, ℕ, ◌+◌, ◌<◌, ◌≤◌, true}
+-- Why a line can't be shown, by what is shown of all journals.
+use Rattle.std.specs.Prelude.{◌≡◌, ◌≢◌, ◌==◌, ◌⊎◌, ◌++◌, ℕ, ◌+◌, ◌<◌, ◌≤◌, Bool, true, false, List, All, Contains, Option, IfSome, IsSomeAnd, length, reverse, slice_get, take}
+use Rattle.std.specs.Global.{Vec}
+use Rattle.std.specs.List.{list_any}
+use Rattle.std_blocks.specs.declared.value.Value.{Value}
+use Rattle.evaluation.specs.declared.field_input.FieldInput.{FieldInput}
 use Rattle.evaluation.specs.declared.name.Name.{Name}
+use Rattle.evaluation.specs.Meaning.{Evaluated}
+use Rattle.evaluation.specs.Messages.{MessageValue, message_of}
+use Rattle.evaluation_book.specs.declared.book.misfit.Misfit.{Misfit}
+use Rattle.evaluation_book.specs.declared.book.misfit.Misfit.TheVariants.{Memory as NoMemory}
+use Rattle.evaluation_book.specs.Book.{BookValue, IsMisfit}
 use Rattle.message_core.specs.declared.accepted.Accepted.TheVariants.{Taken}
 use Rattle.message_core.specs.declared.eval_fault.EvalFault.{EvalFault}
 use Rattle.message_core.specs.declared.eval_fault.EvalFault.TheVariants.{Memory}
 use Rattle.message_core.specs.MessageCoreValue.{IsAnswer}
-use Rattle.exchange_core.specs.CoreValue.{IsEvalFault, is_news}
+use Rattle.exchange_core.specs.CoreValue.{IsEvalFault, IsNextOf, is_news}
+use Rattle.node_journals.specs.declared.journal.Journal.{Journal}
+use Rattle.node_journals.specs.Journals.{incarnation_after}
 use Rattle.node_journals.specs.Steps.Stations.{StationValue}
 use Rattle.journal_files.specs.declared.item.Item.{Item}
 use Rattle.journal_files.specs.declared.item.Item.TheVariants.{Start, Restart, Message, Hello, Evaluate, Faulty}
+use Rattle.journal_files.specs.declared.line.Line.{Line}
 use Rattle.audit.specs.declared.needs.Need.{Need}
 use Rattle.audit.specs.declared.needs.Need.TheVariants.{Evaluation, Incarnation}
 use Rattle.audit.specs.declared.reason.Reason.{Reason}
 use Rattle.audit.specs.declared.reason.Reason.TheVariants as reason
 use Rattle.audit.specs.Lines.{AreLeft, messages_in}
 
--- a START or RESTART in this incarnation
-abbrev pub IsRiseTo : Item → ℕ → Type 0
-IsRiseTo (Start incarnation kept) i = incarnation ≡ i
-IsRiseTo (Restart incarnation) i = incarnation ≡ i
-IsRiseTo (Message m) i = ⊥
-IsRiseTo (Hello of incarnation) i = ⊥
-IsRiseTo (Evaluate task dt inputs) i = ⊥
-IsRiseTo Faulty i = ⊥
+-- What is shown of a resource: so many first ones of its lines, and its journal, which they made.
+pub record Course : Type 0 where
+  pub lines : List Line
+  pub shown : ℕ
+  pub journal : Journal
 
--- a START that opens with other values than were left
-abbrev pub OpensOtherwise : StationValue → Item → Type 0
-OpensOtherwise s (Start incarnation kept) = AreLeft s.journal kept.items → ⊥
-OpensOtherwise s (Restart incarnation) = ⊥
-OpensOtherwise s (Message m) = ⊥
-OpensOtherwise s (Hello of incarnation) = ⊥
-OpensOtherwise s (Evaluate task dt inputs) = ⊥
-OpensOtherwise s Faulty = ⊥
+-- the incarnation to which a resource has come
+abbrev pub present_of : Journal → ℕ
+present_of j = incarnation_after j.first (reverse j.steps)
 
--- no line of a node, or an evaluation of a task whose numbers are spent or that isn't there
+-- a line is a START or RESTART in this incarnation
+abbrev pub begins : ℕ → Item → Bool
+begins i (Start incarnation kept) = incarnation == i
+begins i (Restart incarnation) = incarnation == i
+begins i (Message m) = false
+begins i (Hello of incarnation) = false
+begins i (Evaluate task dt inputs) = false
+begins i Faulty = false
+
+-- a resource was in an incarnation: one of the lines shown is the START or RESTART in it
+abbrev pub was_in : Course → ℕ → Bool
+was_in c i = list_any (λ (line : Line). begins i line.item) (take c.shown c.lines)
+
+-- It is over with an incarnation: it was in it, and has come to a greater one.
+abbrev pub IsOver : Option Course → ℕ → Type 0
+IsOver maker i = IsSomeAnd maker (λ (c : Course). (was_in c i ≡ true) × (i < present_of c.journal))
+
+-- It may still be in an incarnation: it hasn't come to a greater one, and has a line that isn't shown.
+abbrev pub MayBeIn : Option Course → ℕ → Type 0
+MayBeIn maker i = IsSomeAnd maker (λ (c : Course). (present_of c.journal ≤ i) × (c.shown < length c.lines))
+
+-- It hasn't come to an incarnation yet.
+abbrev pub HasNotCome : Option Course → ℕ → Type 0
+HasNotCome maker i = IfSome maker (λ (c : Course). present_of c.journal < i)
+
+-- A line is none of a node, or an evaluation of a task that isn't there or whose numbers are spent.
 abbrev pub IsNoLine : StationValue → Item → Type 0
-IsNoLine s (Start incarnation kept) = ⊥
-IsNoLine s (Restart incarnation) = ⊥
-IsNoLine s (Message m) = ⊥
-IsNoLine s (Hello of incarnation) = ⊥
-IsNoLine s (Evaluate task dt inputs) = (fault : EvalFault) × (fault ≢ Memory) × IsEvalFault s.core task fault
-IsNoLine s Faulty = Unit {0}
+IsNoLine s item =
+    (item ≡ Faulty)
+    ⊎ ((task dt : ℕ) × (inputs : List FieldInput) × (item ≡ Evaluate task dt inputs)
+    × (fault : EvalFault) × (fault ≢ Memory) × IsEvalFault s.core task fault)
 
--- a message of the evaluation of this name, which the resource takes
-abbrev pub WouldTake : StationValue → Item → Name → Type 0
-WouldTake s (Start incarnation kept) name = ⊥
-WouldTake s (Restart incarnation) name = ⊥
-WouldTake s (Message m) name = (m.name ≡ name) × IsAnswer (messages_in s.core) m Taken
-WouldTake s (Hello of incarnation) name = ⊥
-WouldTake s (Evaluate task dt inputs) name = ⊥
-WouldTake s Faulty name = ⊥
+-- an incarnation is above the present one, by 1,000,000 at most
+abbrev pub IsAbove : ℕ → ℕ → Type 0
+IsAbove present i = (present < i) × (i ≤ present + 1000000)
 
--- a hello of a resource in this incarnation, which is news
+-- A line is a START that rises as it may, and opens with other values than were left.
+abbrev pub OpensOtherwise : StationValue → Item → Type 0
+OpensOtherwise s item =
+    (i : ℕ) × (kept : Vec (List Value)) × (item ≡ Start i kept) × IsAbove s.core.incarnation i
+    × (AreLeft s.journal kept.items → ⊥)
+
+-- a line is a message that the resource takes
+abbrev pub WouldTake : StationValue → Item → MessageValue → Type 0
+WouldTake s item m = (item ≡ Message m) × IsAnswer (messages_in s.core) m Taken
+
+-- a line is a hello of a resource in this incarnation, and is news
 abbrev pub WouldHear : StationValue → Item → ℕ → ℕ → Type 0
-WouldHear s (Start incarnation kept) n i = ⊥
-WouldHear s (Restart incarnation) n i = ⊥
-WouldHear s (Message m) n i = ⊥
-WouldHear s (Hello of incarnation) n i = (of ≡ n) × (incarnation ≡ i) × (is_news s.core of incarnation ≡ true)
-WouldHear s (Evaluate task dt inputs) n i = ⊥
-WouldHear s Faulty n i = ⊥
+WouldHear s item n i = (item ≡ Hello n i) × (is_news s.core n i ≡ true)
 
--- a line needs this
-abbrev pub Needs : StationValue → Item → Need → Type 0
-Needs s item (Evaluation name) = WouldTake s item name
-Needs s item (Incarnation n i) = WouldHear s item n i
+-- the book has an evaluation of this name, and this is its message
+abbrev pub WasMade : BookValue → Name → MessageValue → Type 0
+WasMade book name m = (x : Evaluated) × Contains book.entries x × (x.name ≡ name) × (message_of x ≡ m)
 
--- This is why a resource can't do a line.
-abbrev pub IsReason : StationValue → Item → Reason → Type 0
-IsReason s item reason.Syntax = IsNoLine s item
-IsReason s item (reason.NotRisen i) = IsRiseTo item i × (i ≤ s.core.incarnation)
-IsReason s item (reason.TooHigh i) = IsRiseTo item i × (s.core.incarnation + 1000000 < i)
-IsReason s item reason.Kept = OpensOtherwise s item
-IsReason s item (reason.Differs name) = WouldTake s item name
-IsReason s item (reason.Unmade name) = WouldTake s item name
-IsReason s item (reason.Waits need) = Needs s item need
-IsReason s item (reason.Missing need) = Needs s item need
-IsReason s item (reason.Misfit misfit) = Unit {0}
+-- the book has no evaluation of this name
+abbrev pub WasNotMade : BookValue → Name → Type 0
+WasNotMade book name = All (λ (x : Evaluated). x.name ≢ name) book.entries
+
+-- A line is a message of this name that the resource takes, and the evaluation was made with another message.
+abbrev pub IsOther : BookValue → StationValue → Item → Name → Type 0
+IsOther book s item name =
+    (m made : MessageValue) × WouldTake s item m × (m.name ≡ name) × WasMade book name made × (made ≢ m)
+
+-- A line needs what isn't there: an evaluation that the book doesn't have, whose message the resource takes; or an
+-- incarnation to which the other resource hasn't come, of which the hello is news.
+abbrev pub Needs : BookValue → List Course → StationValue → Item → Need → Type 0
+Needs book all s item (Evaluation name) =
+    (m : MessageValue) × WouldTake s item m × (m.name ≡ name) × WasNotMade book name
+Needs book all s item (Incarnation n i) = WouldHear s item n i × HasNotCome (slice_get all n) i
+
+-- what is shown of the resource of which a line needs something
+abbrev pub maker_in : List Course → Need → Option Course
+maker_in all (Evaluation name) = slice_get all name.task.resource
+maker_in all (Incarnation n i) = slice_get all n
+
+-- the incarnation in which it needs it
+abbrev pub incarnation_of : Need → ℕ
+incarnation_of (Evaluation name) = name.incarnation
+incarnation_of (Incarnation n i) = i
+
+-- A line is an evaluation, and what it makes didn't fit the book's entries before it.
+abbrev pub IsUnfit : BookValue → StationValue → Item → Misfit → Type 0
+IsUnfit book s item misfit =
+    (ticket task dt : ℕ) × (inputs : List FieldInput) × (x : Evaluated) × (older newer : List Evaluated)
+    × (item ≡ Evaluate task dt inputs) × IsNextOf s.core ticket task dt inputs x
+    × (book.entries ≡ older ++ newer) × IsMisfit book.first (reverse older) x misfit × (misfit ≢ NoMemory)
+
+-- This is why the next line of a resource can't be shown. Syntax: it is no line. NotRisen, TooHigh: it is a START or
+-- RESTART that isn't above the present incarnation, or too far above it. Kept: it opens otherwise. Differs: what it takes
+-- was made otherwise. Unmade: what it takes wasn't made, and the maker is over with that incarnation. Waits: what it needs
+-- isn't there, and the other resource may still be in that incarnation. Missing: neither is so.
+abbrev pub IsReason : BookValue → List Course → StationValue → Item → Reason → Type 0
+IsReason book all s item reason.Syntax = IsNoLine s item
+IsReason book all s item (reason.NotRisen i) = (begins i item ≡ true) × (i ≤ s.core.incarnation)
+IsReason book all s item (reason.TooHigh i) = (begins i item ≡ true) × (s.core.incarnation + 1000000 < i)
+IsReason book all s item reason.Kept = OpensOtherwise s item
+IsReason book all s item (reason.Differs name) = IsOther book s item name
+IsReason book all s item (reason.Unmade name) =
+    Needs book all s item (Evaluation name) × IsOver (maker_in all (Evaluation name)) name.incarnation
+IsReason book all s item (reason.Waits need) =
+    Needs book all s item need × MayBeIn (maker_in all need) (incarnation_of need)
+IsReason book all s item (reason.Missing need) =
+    Needs book all s item need × (IsOver (maker_in all need) (incarnation_of need) → ⊥)
+    × (MayBeIn (maker_in all need) (incarnation_of need) → ⊥)
+IsReason book all s item (reason.Misfit misfit) = IsUnfit book s item misfit

@@ -2,7 +2,7 @@
 use Rattle.std.specs.Prelude.{◌≡◌, ℕ, zero, suc, ◌≤◌, ◌++◌, List, [], ◌∷◌, Option, Some, None, length, map, slice_get}
 use Rattle.std.specs.Global.{Vec}
 use Rattle.plant.specs.PlantValue.{PlantValue}
-use Rattle.node_journals.specs.declared.journal.Journal.{Journal}
+use Rattle.evaluation_book.specs.Book.{BookValue}
 use Rattle.node_journals.specs.Steps.Stations.{StationValue}
 use Rattle.journal_files.specs.declared.journal_file.JournalFile.{JournalFile}
 use Rattle.journal_files.specs.declared.line.Line.{Line}
@@ -14,31 +14,30 @@ use Rattle.audit.specs.declared.reason.Reason.{Reason}
 use Rattle.audit.specs.declared.reason.Reason.TheVariants as reason
 use Rattle.audit.specs.declared.reason.Unshown.{Unshown}
 use Rattle.audit.specs.Lines.{StandsAt}
-use Rattle.audit.specs.Reasons.{IsReason}
+use Rattle.audit.specs.Reasons.{Course, IsReason}
 
 -- If there is a line from which on a resource isn't shown, it is told, and why.
-abbrev pub IsTold : Option Line → StationValue → List Unshown → Type 0
-IsTold None s unshown = unshown ≡ []
-IsTold (Some line) s unshown =
-    (why : Reason) × (unshown ≡ record { place = line.place; reason = why } ∷ []) × IsReason s line.item why
+abbrev pub IsTold : BookValue → List Course → Option Line → StationValue → List Unshown → Type 0
+IsTold book all None s unshown = unshown ≡ []
+IsTold book all (Some line) s unshown =
+    (why : Reason) × (unshown ≡ record { place = line.place; reason = why } ∷ []) × IsReason book all s line.item why
 
 -- So many first lines of a resource are shown: it has done them, and its journal has what it did at them and nothing
 -- else. The next line is told as the one that can't be shown.
-pub record IsShown (plant : PlantValue) (n : ℕ) (lines : List Line) (j : Journal) (unshown : List Unshown) : Type 0 where
-  pub shown : ℕ
-  pub within : shown ≤ length lines
+pub record IsShown (plant : PlantValue) (book : BookValue) (all : List Course) (n : ℕ) (c : Course) (unshown : List Unshown)
+    : Type 0 where
+  pub within : c.shown ≤ length c.lines
   pub stands : StationValue
-  pub reached : StandsAt plant n lines shown stands
-  pub journal_is : j ≡ stands.journal
-  pub told : IsTold (slice_get lines shown) stands unshown
+  pub reached : StandsAt plant n c.lines c.shown stands
+  pub journal_is : c.journal ≡ stands.journal
+  pub told : IsTold book all (slice_get c.lines c.shown) stands unshown
 
--- Of each of the first resources so many lines are shown, and what can't be is told in their order.
-abbrev pub AreShown : PlantValue → List (Vec Line) → List Journal → ℕ → List Unshown → Type 0
-AreShown plant all journals zero unshown = unshown ≡ []
-AreShown plant all journals (suc n) unshown =
-    (before these : List Unshown) × (lines : Vec Line) × (j : Journal) × AreShown plant all journals n before
-    × (slice_get all n ≡ Some lines) × (slice_get journals n ≡ Some j)
-    × IsShown plant n lines.items j these × (unshown ≡ before ++ these)
+-- This is what is shown of each of the first resources, and what can't be is told in their order.
+abbrev pub AreShown : PlantValue → BookValue → List Course → ℕ → List Unshown → Type 0
+AreShown plant book all zero unshown = unshown ≡ []
+AreShown plant book all (suc n) unshown =
+    (before these : List Unshown) × (c : Course) × AreShown plant book all n before × (slice_get all n ≡ Some c)
+    × IsShown plant book all n c these × (unshown ≡ before ++ these)
 
 -- a file without a START
 abbrev pub without_start : Place → Unshown
@@ -64,8 +63,11 @@ all_without all (suc n) = all_without all n ++ without_lines (slice_get all n) n
 pub record AreToldBy (plant : PlantValue) (files : List JournalFile) (r : Audited) : Type 0 where
   pub readings : Readings
   pub read : AreReadings plant files readings
-  pub many : length r.journals ≡ length plant.resources
+  pub all : List Course
+  pub many : length all ≡ length plant.resources
+  pub lines_are : map (λ (c : Course). c.lines) all ≡ map (λ (v : Vec Line). v.items) readings.resources.items
+  pub journals_are : r.journals ≡ map (λ (c : Course). c.journal) all
   pub unshown : List Unshown
-  pub shown : AreShown plant readings.resources.items r.journals (length plant.resources) unshown
+  pub shown : AreShown plant r.book all (length all) unshown
   pub unshown_are : r.unshown.items ≡ unshown ++ map without_start readings.without_start.items
   pub without_are : r.without.items ≡ all_without readings.resources.items (length plant.resources)

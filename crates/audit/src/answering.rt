@@ -3,8 +3,9 @@
 ghost use Rattle.std.specs.Prelude.{◌≡◌, IfOk};
 ghost use Rattle.journal_files.specs.declared.item.Item.TheVariants as item;
 ghost use Rattle.audit.specs.Lines.{Takes, Hears};
-ghost use Rattle.audit.specs.Steps.Standings.{AuditedBook, IsGoing};
+ghost use Rattle.audit.specs.Steps.Standings.{IsGoing};
 ghost use Rattle.audit.specs.Steps.Following.{Meets};
+ghost use Rattle.audit.specs.Steps.Settled.{Leaves};
 
 use crate::book_of_audit::BookOfAudit;
 use crate::needs::Need;
@@ -25,7 +26,8 @@ pub(crate) fn receive(
     requires { IsGoing book.now station.old }
     ensures going { IsGoing book.now station.new }
     ensures resource { station.new.journal.resource ≡ station.old.journal.resource }
-    ensures meets { IfOk result (Meets (Takes station.old station.new message.now) station.old station.new (item.Message message.now)) }
+    ensures meets { IfOk result (Meets book.now.book (Takes station.old station.new message.now) station.old station.new (item.Message message.now)) }
+    ensures leaves { IfOk result (Leaves book.now book.now) }
 {
     match station.core().messages().would_accept(message) {
         Accepted::Taken => {}
@@ -48,16 +50,18 @@ pub(crate) fn hear(
     station: &mut Station,
     of: usize,
     incarnation: u32,
-    present: &[u32],
+    book: &BookOfAudit,
 ) -> Result<Outcome, AllocError>
-    ensures going { (b : AuditedBook) → IsGoing b station.old → IsGoing b station.new }
+    requires { IsGoing book.now station.old }
+    ensures going { IsGoing book.now station.new }
     ensures resource { station.new.journal.resource ≡ station.old.journal.resource }
-    ensures meets { IfOk result (Meets (Hears station.old station.new of incarnation) station.old station.new (item.Hello of incarnation)) }
+    ensures meets { IfOk result (Meets book.now.book (Hears station.old station.new of incarnation) station.old station.new (item.Hello of incarnation)) }
+    ensures leaves { IfOk result (Leaves book.now book.now) }
 {
     if !station.core().messages().would_hear(of, incarnation) {
         return Ok(Outcome::Done);
     }
-    if present.get(of).copied().unwrap_or(0) < incarnation {
+    if book.present(of) < incarnation {
         return Ok(Outcome::Waits(Need::Incarnation {
             resource: of,
             incarnation,

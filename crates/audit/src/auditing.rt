@@ -1,10 +1,10 @@
 //! The audit of the journals of a plant's nodes.
 
-ghost use Rattle.std.specs.Prelude.{◌≡◌, IfOk, OnOk, length, map};
+ghost use Rattle.std.specs.Prelude.{◌≡◌, false, IfOk, OnOk, length, map};
 ghost use Rattle.node_reports.specs.Reports.{IsFittingBook, AreJournalsOf, AreInBook, RunsAgain, CanBeMadeAgain};
 ghost use Rattle.audit.specs.Delivered.{AreDelivered};
 ghost use Rattle.audit.specs.Told.{AreToldBy};
-ghost use Rattle.audit.specs.Steps.Following.{AreSettled};
+ghost use Rattle.audit.specs.Steps.Settled.{AreSettled};
 ghost use Rattle.audit.specs.Steps.Standings.{AuditedBook, empty_book, journal_in, AreFrom, AreJournalsFrom, IsOfSame};
 ghost use Rattle.audit.specs.declared.follower.Follower.{Follower as FollowerValue};
 
@@ -58,20 +58,19 @@ fn followers_of(
 fn go_round(
     alloc: Global,
     followers: Vec<Follower>,
-    present: &mut [u32],
     book: &mut BookOfAudit,
 ) -> Result<(Vec<Follower>, bool), AllocError>
     requires { AreFrom book.old 0 followers.items }
     ensures many { IfOk result (λ r. length r.0.items ≡ length followers.items) }
     ensures stand { IfOk result (λ r. AreFrom book.new 0 r.0.items) }
-    ensures settled { IfOk result (λ r. AreSettled r.0.items) }
+    ensures settled { IfOk result (λ r. r.1 ≡ false → AreSettled book.new r.0.items) }
     ensures lines { IfOk result (λ r. map (λ (f : FollowerValue). f.lines) r.0.items ≡ map (λ (f : FollowerValue). f.lines) followers.items) }
     ensures plant { OnOk result (IsOfSame book.old book.new) }
 {
     let mut gone = Vec::with_capacity(alloc, followers.len())?;
     let mut any = false;
     for follower in followers {
-        let (next, went) = follower.follow(alloc, present, book)?;
+        let (next, went) = follower.follow(alloc, book)?;
         gone.push(next)?;
         any = any || went;
     }
@@ -87,20 +86,20 @@ fn go_on(
     requires { AreFrom book.old 0 followers.items }
     ensures many { IfOk result (λ fs. length fs.items ≡ length followers.items) }
     ensures stand { IfOk result (λ fs. AreFrom book.new 0 fs.items) }
-    ensures settled { IfOk result (λ fs. AreSettled fs.items) }
+    ensures settled { IfOk result (λ fs. AreSettled book.new fs.items) }
     ensures lines { IfOk result (λ fs. map (λ (f : FollowerValue). f.lines) fs.items ≡ map (λ (f : FollowerValue). f.lines) followers.items) }
     ensures plant { OnOk result (IsOfSame book.old book.new) }
 {
-    let mut present = vec![in alloc; 0_u32; followers.len()]?;
     let mut followers = followers;
     for _round in 0..u64::MAX {
-        let (gone, went) = go_round(alloc, followers, present.as_mut_slice(), book)?;
-        followers = gone;
+        let (gone, went) = go_round(alloc, followers, book)?;
         if !went {
-            break;
+            return Ok(gone);
         }
+        followers = gone;
     }
-    Ok(followers)
+    // A line was done in each round, and no memory has so many.
+    Err(AllocError)
 }
 
 /// The journals that the resources have made.
@@ -134,7 +133,7 @@ pub fn audit(alloc: Global, plant: Arc<Plant>, files: &[JournalFile]) -> Result<
     let mut book = BookOfAudit::new(alloc, Arc::try_clone(&plant)?)?;
     let followers = followers_of(alloc, &plant, resources)?;
     let followers = go_on(alloc, followers, &mut book)?;
-    let unshown = all_unshown(alloc, followers.as_slice(), without_start.as_slice())?;
+    let unshown = all_unshown(alloc, followers.as_slice(), &book, without_start.as_slice())?;
     let without = all_without(alloc, followers.as_slice())?;
     let journals = journals_of(alloc, followers)?;
     match agreed(alloc, &plant, u32::MAX, book.into_book(), journals) {

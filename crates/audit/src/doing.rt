@@ -5,7 +5,8 @@ ghost use Rattle.std.specs.Option.{option_copied};
 ghost use Rattle.plant.specs.PlantValue.{PlantValue};
 ghost use Rattle.audit.specs.Lines.{AreLeft, item_at};
 ghost use Rattle.audit.specs.Steps.Standings.{IsGoing, IsStanding, journal_in, Goes};
-ghost use Rattle.audit.specs.Steps.Following.{HasRisen, HasStarted, Comes, IsStart, IsFollowing, IsSettledAt};
+ghost use Rattle.audit.specs.Steps.Following.{HasRisen, HasStarted, Comes, IsStart, IsFollowing};
+ghost use Rattle.audit.specs.Steps.Settled.{Leaves, IsSettledAt};
 ghost use Rattle.audit.specs.declared.standing.Standing.TheVariants.{Going};
 
 use crate::answering::{hear, receive};
@@ -23,13 +24,6 @@ use journal_files::{Item, Line};
 use node_journals::Station;
 use std::alloc::{AllocError, Global};
 
-/// Notes that a resource is in a greater incarnation by now.
-fn raise(present: &mut [u32], resource: usize, incarnation: u32) {
-    if let Some(place) = present.get_mut(resource) {
-        *place = incarnation;
-    }
-}
-
 /// Restarts a resource, where its incarnation rises.
 #[tactic(auto, using(crate::proofs::GoingOn::restarted_goes, crate::proofs::GoingOn::goes_not))]
 fn restart(
@@ -38,14 +32,14 @@ fn restart(
     ticket: u64,
     incarnation: u32,
     past: &mut Past,
-    present: &mut [u32],
-    book: &BookOfAudit,
+    book: &mut BookOfAudit,
 ) -> Result<(Standing, Outcome), AllocError>
-    requires going { IsGoing book.now station }
+    requires going { IsGoing book.old station }
     requires left { AreLeft station.journal past.old.left.items }
-    ensures goes { IfOk result (λ r. Goes book.now book.now (Going station) r.0) }
+    ensures goes { IfOk result (λ r. Goes book.old book.new (Going station) r.0) }
     ensures risen { IfOk result (λ r. HasRisen ticket incarnation station r.0 r.1) }
     ensures left { IfOk result (λ r. AreLeft (journal_in r.0) past.new.left.items) }
+    ensures leaves { IfOk result (λ r. Leaves book.old book.new r.1) }
 {
     if let Some(reason) = not_rising(station.incarnation(), incarnation) {
         return Ok((Standing::Going(station), Outcome::Stops(reason)));
@@ -53,8 +47,7 @@ fn restart(
     let resource = station.resource();
     match station.restart(alloc, ticket, incarnation) {
         Ok(station) => {
-            past.had.push(incarnation)?;
-            raise(present, resource, incarnation);
+            book.raise(resource, incarnation);
             Ok((Standing::Going(station), Outcome::Done))
         }
         Err(_) => Err(AllocError),
@@ -69,14 +62,14 @@ fn start(
     incarnation: u32,
     kept: &[Retained],
     past: &mut Past,
-    present: &mut [u32],
-    book: &BookOfAudit,
+    book: &mut BookOfAudit,
 ) -> Result<(Standing, Outcome), AllocError>
-    requires going { IsGoing book.now station }
+    requires going { IsGoing book.old station }
     requires left { AreLeft station.journal past.old.left.items }
-    ensures goes { IfOk result (λ r. Goes book.now book.now (Going station) r.0) }
+    ensures goes { IfOk result (λ r. Goes book.old book.new (Going station) r.0) }
     ensures started { IfOk result (λ r. HasStarted incarnation kept.now station r.0 r.1) }
     ensures left { IfOk result (λ r. AreLeft (journal_in r.0) past.new.left.items) }
+    ensures leaves { IfOk result (λ r. Leaves book.old book.new r.1) }
 {
     if let Some(reason) = not_rising(station.incarnation(), incarnation) {
         return Ok((Standing::Going(station), Outcome::Stops(reason)));
@@ -84,7 +77,7 @@ fn start(
     if !are_all_same(kept, past.left.as_slice()) {
         return Ok((Standing::Going(station), Outcome::Stops(Reason::Kept)));
     }
-    restart(alloc, station, 0, incarnation, past, present, book)
+    restart(alloc, station, 0, incarnation, past, book)
 }
 
 /// Does what a line tells, where it can be done; `ticket` is how many lines it stands behind the last START, and `next` the
@@ -97,29 +90,21 @@ fn do_item(
     next: Option<&Item>,
     ticket: u64,
     past: &mut Past,
-    present: &mut [u32],
     book: &mut BookOfAudit,
 ) -> Result<(Standing, Outcome), AllocError>
     requires going { IsGoing book.old station }
     requires left { AreLeft station.journal past.old.left.items }
     ensures goes { IfOk result (λ r. Goes book.old book.new (Going station) r.0) }
-    ensures comes { IfOk result (λ r. Comes ticket (option_copied next.entry) item.now station r.0 r.1) }
+    ensures comes { IfOk result (λ r. Comes book.new.book ticket (option_copied next.entry) item.now station r.0 r.1) }
     ensures left { IfOk result (λ r. AreLeft (journal_in r.0) past.new.left.items) }
+    ensures leaves { IfOk result (λ r. Leaves book.old book.new r.1) }
 {
     match item {
         Item::Start { incarnation, kept } => {
-            start(
-                alloc,
-                station,
-                *incarnation,
-                kept.as_slice(),
-                past,
-                present,
-                book,
-            )
+            start(alloc, station, *incarnation, kept.as_slice(), past, book)
         }
         Item::Restart { incarnation } => {
-            restart(alloc, station, ticket, *incarnation, past, present, book)
+            restart(alloc, station, ticket, *incarnation, past, book)
         }
         Item::Message(message) => {
             let mut station = station;
@@ -131,7 +116,7 @@ fn do_item(
             incarnation,
         } => {
             let mut station = station;
-            let outcome = hear(&mut station, *resource, *incarnation, present)?;
+            let outcome = hear(&mut station, *resource, *incarnation, book)?;
             Ok((Standing::Going(station), outcome))
         }
         Item::Evaluate { task, dt, inputs } => evaluate(
@@ -167,16 +152,16 @@ pub(crate) fn do_line(
     standing: Standing,
     lines: &[Line],
     trail: &mut Trail,
-    present: &mut [u32],
     book: &mut BookOfAudit,
 ) -> Result<(Standing, bool), AllocError>
     requires stands { IsStanding book.old standing }
     requires left { AreLeft (journal_in standing) trail.old.past.left.items }
     ensures goes { IfOk result (λ r. Goes book.old book.new standing r.0) }
     ensures left { IfOk result (λ r. AreLeft (journal_in r.0) trail.new.past.left.items) }
-    ensures follows { (plant : PlantValue) (n : ℕ) → IsFollowing plant n lines.now standing trail.old
-        → IfOk result (λ r. IsFollowing plant n lines.now r.0 trail.new × (r.1 ≡ false → IsSettledAt lines.now trail.new)) }
+    ensures follows { (plant : PlantValue) (n : ℕ) → IsFollowing plant book.old.book n lines.now standing trail.old
+        → IfOk result (λ r. IsFollowing plant book.new.book n lines.now r.0 trail.new × (r.1 ≡ false → IsSettledAt book.new lines.now trail.new)) }
     ensures more { IfOk result (λ r. r.1 ≡ true → trail.new.at ≡ trail.old.at + 1) }
+    ensures rests { IfOk result (λ r. r.1 ≡ false → (trail.new.at ≡ trail.old.at) × (book.new ≡ book.old)) }
 {
     let Some(line) = lines.get(trail.at) else {
         return Ok((standing, false));
@@ -196,7 +181,6 @@ pub(crate) fn do_line(
                 next,
                 ticket,
                 &mut trail.past,
-                present,
                 book,
             )?;
             Ok((standing, trail.note(is_start(&line.item), outcome)))

@@ -7,6 +7,7 @@ ghost use Rattle.evaluation.specs.Retained.{retained_values};
 ghost use Rattle.audit.specs.Lines.{AreLeft, Evaluates};
 ghost use Rattle.audit.specs.Steps.Standings.{IsGoing, IsPendingFor, IsStanding, journal_in, Grows, Goes};
 ghost use Rattle.audit.specs.Steps.Following.{IsUndone, HasEntered, Comes};
+ghost use Rattle.audit.specs.Steps.Settled.{Leaves};
 ghost use Rattle.audit.specs.declared.standing.Standing.TheVariants.{Going};
 
 use crate::book_of_audit::BookOfAudit;
@@ -67,8 +68,9 @@ fn enter(
     ensures stands { IfOk result (λ r. IsStanding book.new r.0) }
     ensures resource { IfOk result (λ r. (journal_in r.0).resource ≡ pending.journal.resource) }
     ensures grows { OnOk result (Grows pending.journal.resource book.old book.new) }
-    ensures entered { IfOk result (λ r. HasEntered pending r.0 r.1) }
+    ensures entered { IfOk result (λ r. HasEntered book.new.book pending r.0 r.1) }
     ensures left { IfOk result (λ r. AreLeft (journal_in r.0) past.new.left.items) }
+    ensures leaves { IfOk result (λ r. Leaves book.old book.new r.1) }
 {
     let left = left_by(alloc, pending.frame().evaluation())?;
     let task = pending.frame().name().task.task;
@@ -101,8 +103,9 @@ pub(crate) fn evaluate(
     requires going { IsGoing book.old station }
     requires left { AreLeft station.journal past.old.left.items }
     ensures goes { IfOk result (λ r. Goes book.old book.new (Going station) r.0) }
-    ensures comes { IfOk result (λ r. Comes ticket (option_copied next.entry) (item.Evaluate task dt inputs.now) station r.0 r.1) }
+    ensures comes { IfOk result (λ r. Comes book.new.book ticket (option_copied next.entry) (item.Evaluate task dt inputs.now) station r.0 r.1) }
     ensures left { IfOk result (λ r. AreLeft (journal_in r.0) past.new.left.items) }
+    ensures leaves { IfOk result (λ r. Leaves book.old book.new r.1) }
 {
     if station.core().next_number(task).is_err() {
         return Ok((Standing::Going(station), Outcome::Stops(Reason::Syntax)));

@@ -1,11 +1,15 @@
 //! A resource goes through its lines.
 
-ghost use Rattle.std.specs.Prelude.{◌≡◌, ◌<◌, ◌↔◌, ℕ, IsTrue, length, IfOk};
+ghost use Rattle.std.specs.Prelude.{◌≡◌, ◌<◌, ◌↔◌, ℕ, Bool, false, IsTrue, length, take, IfOk};
+ghost use Rattle.std.specs.List.{list_any};
+ghost use Rattle.journal_files.specs.declared.line.Line.{Line as LineValue};
 ghost use Rattle.message_core.specs.Openings.{AreOpeningOf};
 ghost use Rattle.plant.specs.PlantValue.{PlantValue};
 ghost use Rattle.audit.specs.Lines.{zeros, item_at, AreLeft, Opens};
+ghost use Rattle.audit.specs.Reasons.{begins, was_in};
 ghost use Rattle.audit.specs.Steps.Standings.{AuditedBook, empty_book, IsEnded, IsStanding, IsAt, journal_in, Goes};
-ghost use Rattle.audit.specs.Steps.Following.{HasBegun, IsFollowed, IsSettled};
+ghost use Rattle.audit.specs.Steps.Following.{HasBegun, IsFollowed};
+ghost use Rattle.audit.specs.Steps.Settled.{IsSettled, course_of};
 
 use crate::book_of_audit::BookOfAudit;
 use crate::doing::do_line;
@@ -92,6 +96,28 @@ fn journal_of(standing: Standing) -> Journal
     }
 }
 
+/// Whether a line is a START or RESTART in an incarnation.
+fn begins(item: &Item, in_incarnation: u32) -> bool
+    ensures { result ≡ begins in_incarnation item.now }
+{
+    match item {
+        Item::Start { incarnation, .. } | Item::Restart { incarnation } => {
+            *incarnation == in_incarnation
+        }
+        Item::Message(_) | Item::Hello { .. } | Item::Evaluate { .. } | Item::Faulty => false,
+    }
+}
+
+/// Whether one of the first lines is a START or RESTART in an incarnation.
+fn begin_in(lines: &[Line], first: usize, incarnation: u32) -> bool
+    ensures { result ≡ list_any (λ (line : LineValue). begins incarnation line.item) (take first lines.now) }
+{
+    lines
+        .iter()
+        .take(first)
+        .any(|line| begins(&line.item, incarnation))
+}
+
 impl Follower {
     /// A resource before its first line.
     pub(crate) fn new(
@@ -112,7 +138,7 @@ impl Follower {
         Ok(Follower {
             standing: begin(alloc, shared, resource, first, opening)?,
             lines,
-            trail: Trail::new(Past::new(alloc, left)),
+            trail: Trail::new(Past::new(left)),
         })
     }
 
@@ -120,13 +146,14 @@ impl Follower {
     pub(crate) fn follow(
         self,
         alloc: Global,
-        present: &mut [u32],
         book: &mut BookOfAudit,
     ) -> Result<(Follower, bool), AllocError>
         requires stands { IsStanding book.old self.standing }
         requires left { AreLeft (journal_in self.standing) self.trail.past.left.items }
         ensures goes { IfOk result (λ r. Goes book.old book.new self.standing r.0.standing) }
-        ensures follows { (plant : PlantValue) (n : ℕ) → IsFollowed plant n self → IfOk result (λ r. IsFollowed plant n r.0 × IsSettled r.0) }
+        ensures follows { (plant : PlantValue) (n : ℕ) → IsFollowed plant book.old.book n self
+            → IfOk result (λ r. IsFollowed plant book.new.book n r.0 × (r.1 ≡ false → IsSettled book.new r.0)) }
+        ensures rests { IfOk result (λ r. r.1 ≡ false → book.new ≡ book.old) }
         ensures lines { IfOk result (λ r. r.0.lines ≡ self.lines) }
     {
         let Follower {
@@ -137,14 +164,7 @@ impl Follower {
         let mut standing = standing;
         let from = trail.at;
         for _line in 0..lines.len() {
-            let (next, done) = do_line(
-                alloc,
-                standing,
-                lines.as_slice(),
-                &mut trail,
-                present,
-                book,
-            )?;
+            let (next, done) = do_line(alloc, standing, lines.as_slice(), &mut trail, book)?;
             standing = next;
             if !done {
                 break;
@@ -167,6 +187,13 @@ impl Follower {
         ensures lawful { (b : AuditedBook) → IsStanding b self.standing → IsEnded b result }
     {
         journal_of(self.standing)
+    }
+
+    /// Whether it was in an incarnation, by a line that was done.
+    pub(crate) fn was_in(&self, incarnation: u32) -> bool
+        ensures { result ≡ was_in (course_of self.now) incarnation }
+    {
+        begin_in(self.lines.as_slice(), self.trail.at, incarnation)
     }
 
     /// Whether there are lines that weren't done.

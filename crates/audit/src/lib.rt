@@ -8,6 +8,7 @@ mod doing;
 mod evaluating;
 mod follower;
 mod kept;
+mod laws;
 mod needs;
 mod outcome;
 mod past;
@@ -19,5 +20,6 @@ mod trail;
 
 pub use auditing::{Audited, audit};
 pub use evaluation_book::Misfit;
+pub use laws::one_reason;
 pub use needs::Need;
 pub use reason::{Reason, Unshown};

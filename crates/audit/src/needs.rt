@@ -1,3 +1,7 @@
+ghost use Rattle.std.specs.Prelude.{◌≡◌};
+ghost use Rattle.audit.specs.Reasons.{incarnation_of};
+ghost use Rattle.audit.specs.Steps.Settled.{maker_of};
+
 use evaluation::Name;
 
 /// What a line waits for.
@@ -11,7 +15,9 @@ pub enum Need {
 
 impl Need {
     /// The resource that is to go on.
-    pub(crate) fn resource(self) -> usize {
+    pub(crate) fn resource(self) -> usize
+        ensures { result ≡ maker_of self }
+    {
         match self {
             Need::Evaluation(name) => name.task.resource,
             Need::Incarnation { resource, .. } => resource,
@@ -19,7 +25,9 @@ impl Need {
     }
 
     /// The incarnation in which it is to be.
-    pub(crate) fn incarnation(self) -> u32 {
+    pub(crate) fn incarnation(self) -> u32
+        ensures { result ≡ incarnation_of self }
+    {
         match self {
             Need::Evaluation(name) => name.incarnation,
             Need::Incarnation { incarnation, .. } => incarnation,

@@ -20,7 +20,7 @@ pub enum Reason {
     Unmade(Name),
     /// What the line needs may come behind a line at which that resource's own journal can't be shown further.
     Waits(Need),
-    /// What the line needs is in none of the journals.
+    /// What the line needs isn't made by that resource's journal, which is shown whole, or went past that incarnation without being in it.
     Missing(Need),
     /// The evaluation made doesn't fit the book. No journal does that: the program would be wrong.
     Misfit(Misfit),

@@ -1,4 +1,5 @@
-ghost use Rattle.std.specs.Prelude.{◌<◌, MatchOption};
+ghost use Rattle.std.specs.Prelude.{MatchOption};
+ghost use Rattle.audit.specs.Reasons.{IsAbove};
 ghost use Rattle.audit.specs.Steps.Following.{IsNotRisen};
 
 use crate::reason::Reason;
@@ -8,7 +9,7 @@ const MOST_ABOVE: u32 = 1_000_000;
 
 /// Why a START or RESTART can't be done: its incarnation isn't above the present one, or too high above it.
 pub(crate) fn not_rising(present: u32, incarnation: u32) -> Option<Reason>
-    ensures { MatchOption result (present < incarnation) (IsNotRisen present incarnation) }
+    ensures { MatchOption result (IsAbove present incarnation) (IsNotRisen present incarnation) }
 {
     if incarnation <= present {
         return Some(Reason::NotRisen(incarnation));

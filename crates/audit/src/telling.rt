@@ -1,11 +1,14 @@
 //! What can't be shown of the journals, and why.
 
-ghost use Rattle.std.specs.Prelude.{◌≡◌, ◌++◌, IfOk, OnOk, length, map};
-ghost use Rattle.std.specs.Option.{option_to_list};
+ghost use Rattle.std.specs.Prelude.{◌≡◌, ◌++◌, IfOk, OnOk, IfSome, length, map, slice_get};
+ghost use Rattle.std.specs.Option.{option_copied, option_map, option_to_list};
+ghost use Rattle.audit.specs.Reasons.{present_of};
 ghost use Rattle.audit.specs.Told.{without_start, all_without};
-ghost use Rattle.audit.specs.Steps.Following.{IsReasonFor, IsToldOf, AreToldOf, HaveTold, IsSettled, AreSettled};
+ghost use Rattle.audit.specs.Steps.Standings.{journal_in, AreFrom};
+ghost use Rattle.audit.specs.Steps.Settled.{IsAhead, IsReasonFor, IsToldOf, AreToldOf, HaveTold, IsSettled, AreSettled, course_of};
 ghost use Rattle.audit.specs.declared.follower.Follower.{Follower as FollowerValue};
 
+use crate::book_of_audit::BookOfAudit;
 use crate::follower::Follower;
 use crate::needs::Need;
 use crate::outcome::Outcome;
@@ -13,61 +16,74 @@ use crate::reason::{Reason, Unshown};
 use journal_files::Place;
 use std::alloc::{AllocError, Global};
 
-/// Whether a resource was in an incarnation that was begun by a line.
-fn was_in(maker: &Follower, incarnation: u32) -> bool {
-    maker.trail.past.had.as_slice().contains(&incarnation)
-}
-
-/// Whether a resource is past an incarnation.
-fn is_past(maker: &Follower, incarnation: u32) -> bool {
-    match maker.trail.past.had.last() {
-        Some(present) => incarnation < *present,
-        None => false,
-    }
-}
-
-/// Why a line can't be done that waits for an evaluation, or for an incarnation.
-fn reason_of(followers: &[Follower], need: Need) -> Reason
-    ensures { IsReasonFor need result }
+/// Why a line can't be done that needs what isn't there, by what is shown of the resource of which it needs it; `present` is the
+/// incarnation to which that one has come.
+fn reason_of(maker: Option<&Follower>, present: u32, need: Need) -> Reason
+    requires come { IfSome (option_copied maker) (λ (f : FollowerValue). present ≡ present_of (journal_in f.standing)) }
+    requires unmet { IsAhead present need }
+    ensures { IsReasonFor (option_map course_of (option_copied maker.entry)) need result }
 {
-    let Some(maker) = followers.get(need.resource()) else {
+    let Some(maker) = maker else {
         return Reason::Missing(need);
     };
-    if is_past(maker, need.incarnation()) {
-        return match need {
-            Need::Evaluation(name) if was_in(maker, name.incarnation) => Reason::Unmade(name),
-            _ => Reason::Missing(need),
+    if present <= need.incarnation() {
+        return if maker.is_open() {
+            Reason::Waits(need)
+        } else {
+            Reason::Missing(need)
         };
     }
-    if maker.is_open() {
-        Reason::Waits(need)
-    } else {
-        Reason::Missing(need)
+    match need {
+        Need::Evaluation(name) => {
+            if maker.was_in(name.incarnation) {
+                Reason::Unmade(name)
+            } else {
+                Reason::Missing(need)
+            }
+        }
+        // A hello waits only for what is to come.
+        Need::Incarnation { .. } => unreachable!(),
     }
+}
+
+/// A resource at its place.
+fn follower_at(followers: &[Follower], resource: usize) -> Option<&Follower>
+    ensures { option_copied result ≡ slice_get followers.now resource }
+{
+    followers.get(resource)
 }
 
 /// The line of a resource that can't be done, and why.
-fn unshown_of(followers: &[Follower], follower: &Follower) -> Option<Unshown>
-    requires { IsSettled follower.now }
-    ensures { IsToldOf follower.now (option_to_list result) }
+fn unshown_of(followers: &[Follower], book: &BookOfAudit, follower: &Follower) -> Option<Unshown>
+    requires stand { AreFrom book.now 0 followers.now }
+    requires settled { IsSettled book.now follower.now }
+    ensures { IsToldOf book.now followers.now follower.now (option_to_list result) }
 {
     let place = follower.lines.get(follower.trail.at)?.place;
     let reason = match follower.trail.last {
         Outcome::Stops(reason) => reason,
-        Outcome::Waits(need) => reason_of(followers, need),
+        Outcome::Waits(need) => {
+            let maker = need.resource();
+            reason_of(follower_at(followers, maker), book.present(maker), need)
+        }
         Outcome::Done => return None,
     };
     Some(Unshown { place, reason })
 }
 
 /// The lines that can't be done: of each resource the first one.
-fn open_lines(alloc: Global, followers: &[Follower]) -> Result<Vec<Unshown>, AllocError>
-    requires { AreSettled followers.now }
-    ensures { IfOk result (λ unshown. AreToldOf followers.now (length followers.now) unshown.items) }
+fn open_lines(
+    alloc: Global,
+    followers: &[Follower],
+    book: &BookOfAudit,
+) -> Result<Vec<Unshown>, AllocError>
+    requires stand { AreFrom book.now 0 followers.now }
+    requires settled { AreSettled book.now followers.now }
+    ensures { IfOk result (λ unshown. AreToldOf book.now followers.now (length followers.now) unshown.items) }
 {
     let mut unshown = Vec::new(alloc);
     for n in 0..followers.len() {
-        if let Some(found) = unshown_of(followers, &followers[n]) {
+        if let Some(found) = unshown_of(followers, book, &followers[n]) {
             unshown.push(found)?;
         }
     }
@@ -92,12 +108,14 @@ fn push_without_start(unshown: &mut Vec<Unshown>, places: &[Place]) -> Result<()
 pub(crate) fn all_unshown(
     alloc: Global,
     followers: &[Follower],
+    book: &BookOfAudit,
     without_start: &[Place],
 ) -> Result<Vec<Unshown>, AllocError>
-    requires { AreSettled followers.now }
-    ensures { IfOk result (λ all. HaveTold followers.now without_start.now all.items) }
+    requires stand { AreFrom book.now 0 followers.now }
+    requires settled { AreSettled book.now followers.now }
+    ensures { IfOk result (λ all. HaveTold book.now followers.now without_start.now all.items) }
 {
-    let mut unshown = open_lines(alloc, followers)?;
+    let mut unshown = open_lines(alloc, followers, book)?;
     push_without_start(&mut unshown, without_start)?;
     Ok(unshown)
 }

@@ -1,28 +1,31 @@
 -- A resource that goes through its lines, and what comes of one.
-use Rattle.std.specs.Prelude.{◌≡◌, ◌≢◌, ◌⊎◌, ℕ, zero, suc, ◌+◌, ◌-◌, ◌<◌, ◌≤◌, ◌++◌, Bool, true, false, List, [], Option, Some, None, length, map, slice_get, if◌then◌else◌}
+use Rattle.std.specs.Prelude.{◌≡◌, ◌≢◌, ◌⊎◌, ℕ, ◌+◌, ◌-◌, ◌<◌, ◌≤◌, Bool, true, false, List, Contains, Option, Some, None, length, reverse, slice_get, if◌then◌else◌}
 use Rattle.std_blocks.specs.declared.value.Value.{Value}
 use Rattle.plant.specs.PlantValue.{PlantValue}
 use Rattle.evaluation.specs.declared.field_input.FieldInput.{FieldInput}
+use Rattle.evaluation.specs.declared.name.Name.{Name}
+use Rattle.evaluation.specs.Meaning.{Evaluated}
+use Rattle.evaluation.specs.Messages.{MessageValue}
+use Rattle.evaluation_book.specs.declared.book.misfit.Misfit.{Misfit}
+use Rattle.evaluation_book.specs.declared.book.misfit.Misfit.TheVariants.{Memory}
+use Rattle.evaluation_book.specs.Book.{BookValue, IsMisfit}
 use Rattle.exchange_core.specs.CoreValue.{CoreValue}
 use Rattle.node_journals.specs.Steps.Stations.{StationValue, PendingValue, fresh_station, IsNoted}
 use Rattle.journal_files.specs.declared.item.Item.{Item}
 use Rattle.journal_files.specs.declared.item.Item.TheVariants.{Start, Restart, Message, Hello, Evaluate, Faulty}
 use Rattle.journal_files.specs.declared.line.Line.{Line}
-use Rattle.journal_files.specs.declared.line.Place.{Place}
 use Rattle.audit.specs.declared.follower.Follower.{Follower}
 use Rattle.audit.specs.declared.needs.Need.{Need}
-use Rattle.audit.specs.declared.needs.Need.TheVariants.{Evaluation}
+use Rattle.audit.specs.declared.needs.Need.TheVariants.{Evaluation, Incarnation}
 use Rattle.audit.specs.declared.outcome.Outcome.{Outcome}
 use Rattle.audit.specs.declared.outcome.Outcome.TheVariants.{Done, Waits, Stops}
 use Rattle.audit.specs.declared.reason.Reason.{Reason}
 use Rattle.audit.specs.declared.reason.Reason.TheVariants as reason
-use Rattle.audit.specs.declared.reason.Unshown.{Unshown}
 use Rattle.audit.specs.declared.standing.Standing.{Standing}
 use Rattle.audit.specs.declared.standing.Standing.TheVariants.{Going, Ended}
 use Rattle.audit.specs.declared.trail.Trail.{Trail}
 use Rattle.audit.specs.Lines.{zeros, AreLeft, Rises, OpensWith, WasUndone, WasDone, Does, ticket_at, StandsAt}
-use Rattle.audit.specs.Reasons.{Needs, IsReason}
-use Rattle.audit.specs.Told.{IsTold, without_start}
+use Rattle.audit.specs.Reasons.{begins, IsNoLine, IsAbove, OpensOtherwise, WouldTake, WouldHear, IsOther, IsUnfit}
 
 -- no START that opens the task stands next
 abbrev pub OpensNot : Option Item → ℕ → Type 0
@@ -51,41 +54,25 @@ HasNoted start Done old new went =
 HasNoted start (Waits need) old new went = (new ≡ record old { last = Waits need }) × (went ≡ false)
 HasNoted start (Stops why) old new went = (new ≡ record old { last = Stops why }) × (went ≡ false)
 
--- why an incarnation doesn't rise
+-- why an incarnation doesn't rise as it may
 abbrev pub IsNotRisen : ℕ → ℕ → Reason → Type 0
-IsNotRisen present incarnation reason.Syntax = ⊥
-IsNotRisen present incarnation (reason.NotRisen i) = (incarnation ≡ i) × (i ≤ present)
-IsNotRisen present incarnation (reason.TooHigh i) = (incarnation ≡ i) × (present + 1000000 < i)
-IsNotRisen present incarnation reason.Kept = ⊥
-IsNotRisen present incarnation (reason.Differs name) = ⊥
-IsNotRisen present incarnation (reason.Unmade name) = ⊥
-IsNotRisen present incarnation (reason.Waits need) = ⊥
-IsNotRisen present incarnation (reason.Missing need) = ⊥
-IsNotRisen present incarnation (reason.Misfit misfit) = ⊥
+IsNotRisen present i why =
+    ((why ≡ reason.NotRisen i) × (i ≤ present)) ⊎ ((why ≡ reason.TooHigh i) × (present + 1000000 < i))
 
 -- why a START can't be done
 abbrev pub IsNoStart : StationValue → ℕ → List (List Value) → Reason → Type 0
-IsNoStart s incarnation kept reason.Syntax = ⊥
-IsNoStart s incarnation kept (reason.NotRisen i) = (incarnation ≡ i) × (i ≤ s.core.incarnation)
-IsNoStart s incarnation kept (reason.TooHigh i) = (incarnation ≡ i) × (s.core.incarnation + 1000000 < i)
-IsNoStart s incarnation kept reason.Kept = AreLeft s.journal kept → ⊥
-IsNoStart s incarnation kept (reason.Differs name) = ⊥
-IsNoStart s incarnation kept (reason.Unmade name) = ⊥
-IsNoStart s incarnation kept (reason.Waits need) = ⊥
-IsNoStart s incarnation kept (reason.Missing need) = ⊥
-IsNoStart s incarnation kept (reason.Misfit misfit) = ⊥
+IsNoStart s i kept why =
+    IsNotRisen s.core.incarnation i why
+    ⊎ ((why ≡ reason.Kept) × IsAbove s.core.incarnation i × (AreLeft s.journal kept → ⊥))
 
--- an evaluation doesn't fit the book
-abbrev pub IsMisfit : Reason → Type 0
-IsMisfit reason.Syntax = ⊥
-IsMisfit (reason.NotRisen i) = ⊥
-IsMisfit (reason.TooHigh i) = ⊥
-IsMisfit reason.Kept = ⊥
-IsMisfit (reason.Differs name) = ⊥
-IsMisfit (reason.Unmade name) = ⊥
-IsMisfit (reason.Waits need) = ⊥
-IsMisfit (reason.Missing need) = ⊥
-IsMisfit (reason.Misfit misfit) = Unit {0}
+-- the book has this evaluation, which is of this name
+pub record IsEntry (book : BookValue) (name : Name) (x : Evaluated) : Type 0 where
+  pub listed : Contains book.entries x
+  pub name_is : x.name ≡ name
+
+-- why an evaluation isn't entered
+abbrev pub IsMisfitOf : BookValue → Evaluated → Misfit → Type 0
+IsMisfitOf book x misfit = IsMisfit book.first (reverse book.entries) x misfit × (misfit ≢ Memory)
 
 -- what came of a restart
 abbrev pub HasRisen : ℕ → ℕ → StationValue → Standing → Outcome → Type 0
@@ -106,16 +93,34 @@ IsUndone core next ticket task dt inputs true = WasUndone core next ticket task 
 IsUndone core next ticket task dt inputs false = WasDone core next ticket task dt inputs
 
 -- what came of an evaluation that was made
-abbrev pub HasEntered : PendingValue → Standing → Outcome → Type 0
-HasEntered pending to Done = (s : StationValue) × (to ≡ Going s) × IsNoted pending s
-HasEntered pending to (Waits need) = ⊥
-HasEntered pending to (Stops why) = (to ≡ Ended pending.journal) × IsMisfit why
+abbrev pub HasEntered : BookValue → PendingValue → Standing → Outcome → Type 0
+HasEntered book pending to Done = (s : StationValue) × (to ≡ Going s) × IsNoted pending s
+HasEntered book pending to (Waits need) = ⊥
+HasEntered book pending to (Stops why) =
+    (misfit : Misfit) × (to ≡ Ended pending.journal) × (why ≡ reason.Misfit misfit) × IsMisfitOf book pending.made misfit
+
+-- a line needs this, whether it is there or not
+abbrev pub WouldNeed : StationValue → Item → Need → Type 0
+WouldNeed s item (Evaluation name) = (m : MessageValue) × WouldTake s item m × (m.name ≡ name)
+WouldNeed s item (Incarnation n i) = WouldHear s item n i
+
+-- this is why a line can't be done, whatever others do
+abbrev pub IsStop : BookValue → StationValue → Item → Reason → Type 0
+IsStop book s item reason.Syntax = IsNoLine s item
+IsStop book s item (reason.NotRisen i) = (begins i item ≡ true) × (i ≤ s.core.incarnation)
+IsStop book s item (reason.TooHigh i) = (begins i item ≡ true) × (s.core.incarnation + 1000000 < i)
+IsStop book s item reason.Kept = OpensOtherwise s item
+IsStop book s item (reason.Differs name) = IsOther book s item name
+IsStop book s item (reason.Unmade name) = ⊥
+IsStop book s item (reason.Waits need) = ⊥
+IsStop book s item (reason.Missing need) = ⊥
+IsStop book s item (reason.Misfit misfit) = IsUnfit book s item misfit
 
 -- what came of a line at which the resource doesn't end: it was done, which is this; or it is as before
-abbrev pub Meets : Type 0 → StationValue → StationValue → Item → Outcome → Type 0
-Meets did old new item Done = did
-Meets did old new item (Waits need) = (new ≡ old) × Needs old item need
-Meets did old new item (Stops why) = (new ≡ old) × IsReason old item why
+abbrev pub Meets : BookValue → Type 0 → StationValue → StationValue → Item → Outcome → Type 0
+Meets book did old new item Done = did
+Meets book did old new item (Waits need) = (new ≡ old) × WouldNeed old item need
+Meets book did old new item (Stops why) = (new ≡ old) × IsStop book old item why
 
 -- a resource that stops is as before, or has its journal left
 abbrev pub HasStopped : StationValue → Standing → Type 0
@@ -123,10 +128,10 @@ HasStopped old (Going s) = s ≡ old
 HasStopped old (Ended j) = j ≡ old.journal
 
 -- what came of a line
-abbrev pub Comes : ℕ → Option Item → Item → StationValue → Standing → Outcome → Type 0
-Comes ticket next item old to Done = (new : StationValue) × (to ≡ Going new) × Does ticket next item old new
-Comes ticket next item old to (Waits need) = (to ≡ Going old) × Needs old item need
-Comes ticket next item old to (Stops why) = HasStopped old to × IsReason old item why
+abbrev pub Comes : BookValue → ℕ → Option Item → Item → StationValue → Standing → Outcome → Type 0
+Comes book ticket next item old to Done = (new : StationValue) × (to ≡ Going new) × Does ticket next item old new
+Comes book ticket next item old to (Waits need) = (to ≡ Going old) × WouldNeed old item need
+Comes book ticket next item old to (Stops why) = HasStopped old to × IsStop book old item why
 
 -- the resource where its lines have led it
 abbrev pub IsLed : StationValue → Standing → Outcome → Type 0
@@ -136,15 +141,16 @@ IsLed s (Ended j) (Waits need) = ⊥
 IsLed s (Ended j) (Stops why) = j ≡ s.journal
 
 -- what is known of the next line, where it was tried
-abbrev pub IsTried : StationValue → Option Line → Outcome → Type 0
-IsTried s line Done = Unit {0}
-IsTried s None (Waits need) = ⊥
-IsTried s (Some line) (Waits need) = Needs s line.item need
-IsTried s None (Stops why) = ⊥
-IsTried s (Some line) (Stops why) = IsReason s line.item why
+abbrev pub IsTried : BookValue → StationValue → Option Line → Outcome → Type 0
+IsTried book s line Done = Unit {0}
+IsTried book s None (Waits need) = ⊥
+IsTried book s (Some line) (Waits need) = WouldNeed s line.item need
+IsTried book s None (Stops why) = ⊥
+IsTried book s (Some line) (Stops why) = IsStop book s line.item why
 
 -- a resource of the plant has come so far in its lines
-pub record IsFollowing (plant : PlantValue) (n : ℕ) (lines : List Line) (standing : Standing) (trail : Trail) : Type 0 where
+pub record IsFollowing (plant : PlantValue) (book : BookValue) (n : ℕ) (lines : List Line) (standing : Standing) (trail : Trail)
+    : Type 0 where
   pub station : StationValue
   pub reached : StandsAt plant n lines trail.at station
   pub led : IsLed station standing trail.last
@@ -152,52 +158,11 @@ pub record IsFollowing (plant : PlantValue) (n : ℕ) (lines : List Line) (stand
   pub ticket_is : ticket_at lines trail.at ≡ trail.at - trail.begun
   pub left : AreLeft station.journal trail.past.left.items
   pub within : trail.at ≤ length lines
-  pub tried : IsTried station (slice_get lines trail.at) trail.last
+  pub tried : IsTried book station (slice_get lines trail.at) trail.last
 
-abbrev pub IsFollowed : PlantValue → ℕ → Follower → Type 0
-IsFollowed plant n f = IsFollowing plant n f.lines.items f.standing f.trail
-
--- no line is left, or the next one was tried and can't be done yet
-abbrev pub IsSettledAt : List Line → Trail → Type 0
-IsSettledAt lines trail = (slice_get lines trail.at ≡ None) ⊎ (trail.last ≢ Done)
-
-abbrev pub IsSettled : Follower → Type 0
-IsSettled f = IsSettledAt f.lines.items f.trail
-
-abbrev pub AreSettled : List Follower → Type 0
-AreSettled fs = (k : ℕ) (f : Follower) → slice_get fs k ≡ Some f → IsSettled f
+abbrev pub IsFollowed : PlantValue → BookValue → ℕ → Follower → Type 0
+IsFollowed plant book n f = IsFollowing plant book n f.lines.items f.standing f.trail
 
 -- a resource before its first line
 abbrev pub HasBegun : PlantValue → ℕ → List (List Value) → Standing → Type 0
 HasBegun plant n opening standing = standing ≡ Going (fresh_station plant n (zeros plant) opening 4294967295)
-
--- why a need isn't met
-abbrev pub IsReasonFor : Need → Reason → Type 0
-IsReasonFor need reason.Syntax = ⊥
-IsReasonFor need (reason.NotRisen i) = ⊥
-IsReasonFor need (reason.TooHigh i) = ⊥
-IsReasonFor need reason.Kept = ⊥
-IsReasonFor need (reason.Differs name) = ⊥
-IsReasonFor need (reason.Unmade name) = need ≡ Evaluation name
-IsReasonFor need (reason.Waits n) = need ≡ n
-IsReasonFor need (reason.Missing n) = need ≡ n
-IsReasonFor need (reason.Misfit misfit) = ⊥
-
--- what is told of a resource is so of any that has come where it stands
-abbrev pub IsToldOf : Follower → List Unshown → Type 0
-IsToldOf f unshown =
-    (s : StationValue) → IsTried s (slice_get f.lines.items f.trail.at) f.trail.last
-    → IsTold (slice_get f.lines.items f.trail.at) s unshown
-
--- what is told of the first resources
-abbrev pub AreToldOf : List Follower → ℕ → List Unshown → Type 0
-AreToldOf fs zero unshown = unshown ≡ []
-AreToldOf fs (suc n) unshown =
-    (before these : List Unshown) × (f : Follower) × AreToldOf fs n before × (slice_get fs n ≡ Some f)
-    × IsToldOf f these × (unshown ≡ before ++ these)
-
--- what is told of all resources, and behind it the files without a START
-pub record HaveTold (fs : List Follower) (places : List Place) (all : List Unshown) : Type 0 where
-  pub unshown : List Unshown
-  pub told : AreToldOf fs (length fs) unshown
-  pub all_are : all ≡ unshown ++ map without_start places

@@ -1,5 +1,5 @@
 -- Resources that go through their lines, and the book that they make.
-use Rattle.std.specs.Prelude.{◌≡◌, ◌≢◌, ℕ, ◌+◌, List, [], All, Contains, Some, slice_get}
+use Rattle.std.specs.Prelude.{◌≡◌, ◌≢◌, ℕ, ◌+◌, ◌<◌, ◌++◌, List, [], All, Contains, Some, length, slice_get, slice_index}
 use Rattle.plant.specs.PlantValue.{PlantValue}
 use Rattle.evaluation.specs.Meaning.{Evaluated}
 use Rattle.evaluation_book.specs.Book.{BookValue}
@@ -8,23 +8,28 @@ use Rattle.node_journals.specs.Journals.{made, received, IsLawful}
 use Rattle.node_journals.specs.Steps.Stations.{StationValue, PendingValue}
 use Rattle.node_reports.specs.Reports.{entries_of}
 use Rattle.audit.specs.Lines.{zeros}
+use Rattle.audit.specs.Reasons.{present_of}
 use Rattle.audit.specs.Steps.Following.{IsFollowed}
 use Rattle.audit.specs.declared.follower.Follower.{Follower}
 use Rattle.audit.specs.declared.standing.Standing.{Standing}
 use Rattle.audit.specs.declared.standing.Standing.TheVariants.{Going, Ended}
 
--- a plant and its book
+-- a plant, its book, and the incarnation to which each resource has come
 pub record AuditedBook : Type 0 where
   pub plant : PlantValue
   pub book : BookValue
+  pub present : List ℕ
 
 -- the book before the first entry
 abbrev pub empty_book : PlantValue → AuditedBook
-empty_book plant = record { plant = plant; book = record { first = zeros plant; entries = [] } }
+empty_book plant = record { plant = plant; book = record { first = zeros plant; entries = [] }; present = zeros plant }
 
--- the journal of a resource that began in 0: what it made are the book's entries of it, and what it received are entries
+-- the journal of a resource that began in 0: what it made are the book's entries of it, what it received are entries, and
+-- its present incarnation is noted
 pub record IsJournalOf (b : AuditedBook) (j : Journal) : Type 0 where
   pub first_is : j.first ≡ 0
+  pub exists : j.resource < length b.present
+  pub present_is : slice_index b.present j.resource ≡ present_of j
   pub made_is : made j.steps ≡ entries_of j.resource b.book.entries
   pub delivered : All (Contains b.book.entries) (received j.steps)
 
@@ -55,12 +60,19 @@ abbrev pub journal_in : Standing → Journal
 journal_in (Going s) = s.journal
 journal_in (Ended j) = j
 
--- a book has grown by entries of one resource alone
+-- a book has the entries of another one, and later ones
+pub record IsLater (old new : BookValue) : Type 0 where
+  pub first_is : new.first ≡ old.first
+  pub later : List Evaluated
+  pub entries_are : new.entries ≡ old.entries ++ later
+
+-- a book has grown by entries of one resource alone, which may have come to another incarnation
 pub record Grows (resource : ℕ) (old new : AuditedBook) : Type 0 where
   pub plant_is : new.plant ≡ old.plant
-  pub first_is : new.book.first ≡ old.book.first
+  pub book_is : IsLater old.book new.book
   pub others : (r : ℕ) → r ≢ resource → entries_of r new.book.entries ≡ entries_of r old.book.entries
-  pub kept : (x : Evaluated) → Contains old.book.entries x → Contains new.book.entries x
+  pub long : length new.present ≡ length old.present
+  pub still : (r : ℕ) → r ≢ resource → slice_index new.present r ≡ slice_index old.present r
 
 -- a book of the same plant, in which the resources begin in the same incarnations
 pub record IsOfSame (old new : AuditedBook) : Type 0 where
@@ -77,7 +89,7 @@ pub record Goes (old new : AuditedBook) (from to : Standing) : Type 0 where
 pub record IsAt (b : AuditedBook) (place : ℕ) (f : Follower) : Type 0 where
   pub stands : IsStanding b f.standing
   pub resource_is : (journal_in f.standing).resource ≡ place
-  pub followed : IsFollowed b.plant place f
+  pub followed : IsFollowed b.plant b.book place f
 
 -- these resources stand at the places from this one on
 abbrev pub AreFrom : AuditedBook → ℕ → List Follower → Type 0

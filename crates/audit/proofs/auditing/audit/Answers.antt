@@ -10,7 +10,7 @@ use Rattle.audit.specs.Steps.Standings.{AuditedBook, empty_book, AreFrom}
 use Rattle.journal_files.specs.Readings.{AreReadings}
 use Rattle.journal_files.specs.declared.line.Place.{Place}
 use Rattle.audit.specs.Told.{all_without}
-use Rattle.audit.specs.Steps.Following.{HaveTold}
+use Rattle.audit.specs.Steps.Settled.{HaveTold}
 use Rattle.audit.specs.declared.follower.Follower.{Follower}
 use Rattle.audit.proofs.GoingOn.{audited_agree, disagrees_not, lines_of}
 use Rattle.audit.proofs.Tellings.{told_by}
@@ -61,12 +61,17 @@ returns-in-Ok-clause-told c =
     let fs = c.in_ok-followers-2.followers.items in
     let begins : c.in_ok-book.book ≡ empty_book p = c.in_ok-book.ensures ∙ ap (λ (p : PlantValue). empty_book p) c.in_ok-try_clone.ensures in
     let readings = c.in_ok-resources.field-0 in
-    told_by p files (record { book = c.in-Ok.field-0.book; journals = c.in-Ok.field-0.journals; unshown = c.in_ok-unshown.unshown; without = c.in_ok-without.without }) readings c.go_on.new.book fs c.in_ok-journals.journals.items
+    told_by p files (record { book = c.in-Ok.field-0.book; journals = c.in-Ok.field-0.journals; unshown = c.in_ok-unshown.unshown; without = c.in_ok-without.without }) readings c.go_on.new.book fs
     (subst (λ q. AreReadings q files readings) c.deref.ensures c.in_ok-resources.ensures.read)
     (c.in_ok-followers-2.ensures.plant.plant_is ∙ ap (λ (x : AuditedBook). x.plant) begins)
+    (sym (c.in-Ok.ensures.kept.0 ∙ c.into_book.ensures.same))
     c.in_ok-followers-2.ensures.stand (c.in_ok-followers-2.ensures.many ∙ c.in_ok-followers.ensures.many)
     (c.in_ok-followers-2.ensures.lines ∙ c.in_ok-followers.ensures.lines)
-    c.in_ok-journals.ensures.same c.in-Ok.ensures.kept.1
-    (subst (λ (xs : List Follower). HaveTold xs readings.without_start.items c.in_ok-unshown.unshown.items) c.as_slice.ensures.value
-    (subst (λ (places : List Place). HaveTold c.as_slice.result.now places c.in_ok-unshown.unshown.items) c.as_slice-2.ensures.value c.in_ok-unshown.ensures))
+    (c.in-Ok.ensures.kept.1 ∙ c.in_ok-journals.ensures.same)
+    (subst (λ (xs : List Follower). HaveTold c.go_on.new.book xs readings.without_start.items c.in_ok-unshown.unshown.items) c.as_slice.ensures.value
+    (subst (λ (places : List Place). HaveTold c.go_on.new.book c.as_slice.result.now places c.in_ok-unshown.unshown.items) c.as_slice-2.ensures.value c.in_ok-unshown.ensures))
     (c.in_ok-without.ensures ∙ ap (λ (xs : List Follower). all_without (lines_of xs) (length xs)) c.as_slice-3.ensures.value)
+
+pub all_unshown-requires-clause-stand : goal.all_unshown-requires-clause-stand
+all_unshown-requires-clause-stand c =
+    subst (λ (fs : List Follower). AreFrom c.go_on.new.book 0 fs) (sym c.as_slice.ensures.value) c.in_ok-followers-2.ensures.stand

@@ -1,7 +1,6 @@
--- The resources stand after each round, and are settled after the first one.
-use Rattle.std.proofs.Common.{◌≡◌, ◌⊎◌, length}
+-- The resources stand after each round.
+use Rattle.std.proofs.Common.{◌≡◌, length}
 use Rattle.audit.specs.Steps.Standings.{AreFrom, IsOfSame}
-use Rattle.audit.specs.Steps.Following.{AreSettled}
 use Rattle.audit.proofs.GoingOn.{lines_of}
 use Rattle.audit.proofs.auditing.go_on.Given as goal
 
@@ -10,6 +9,5 @@ invariant-loop-round l = record {
   many : length l.followers.items ≡ length l.fn.followers.items;
   stand : AreFrom l.book 0 l.followers.items;
   same : IsOfSame l.fn.book l.book;
-  settled : (l._round ≡ 0) ⊎ AreSettled l.followers.items;
   lines : lines_of l.followers.items ≡ lines_of l.fn.followers.items;
 }

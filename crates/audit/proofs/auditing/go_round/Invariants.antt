@@ -1,7 +1,7 @@
--- The resources that went on stand at the first places, and the others behind them.
-use Rattle.std.proofs.Common.{◌≡◌, ◌+◌, ◌++◌, length}
+-- The resources that had their turn stand at the first places, and the others behind them. Those are settled if none did a line.
+use Rattle.std.proofs.Common.{◌≡◌, ◌+◌, ◌++◌, false, length}
 use Rattle.audit.specs.Steps.Standings.{AreFrom, IsOfSame}
-use Rattle.audit.specs.Steps.Following.{AreSettled}
+use Rattle.audit.specs.Steps.Settled.{AreSettled}
 use Rattle.audit.proofs.GoingOn.{lines_of}
 use Rattle.audit.proofs.auditing.go_round.Given as goal
 
@@ -11,6 +11,6 @@ invariant-loop-follower l = record {
       × AreFrom l.book 0 l.gone.items
       × AreFrom l.book (length l.gone.items) l.follower-iterator.rest.items
       × IsOfSame l.fn.book l.book;
-  settled : AreSettled l.gone.items;
+  settled : l.any ≡ false → (l.book ≡ l.fn.book) × AreSettled l.book l.gone.items;
   lines : lines_of l.gone.items ++ lines_of l.follower-iterator.rest.items ≡ lines_of l.fn.followers.items;
 }
