@@ -2,4 +2,5 @@ mod LineTaking
 mod NextAnswered
 mod Opened
 mod Standing
+mod Stopping
 mod Telling

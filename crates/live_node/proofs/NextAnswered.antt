@@ -1,6 +1,6 @@
 -- One line of a source is answered.
-use Rattle.std.proofs.Common.{◌≡◌, ◌⊎◌, inl, inr, ℕ, ◌+◌, ◌++◌, ◌≤◌, true, false, Bool, List, [], Option, Some, None, refl, sym, ap, subst, arith}
-use Rattle.std.specs.Io.KnownBytes.{Appends, Consumes, IsAtEnd}
+use Rattle.std.proofs.Common.{◌≡◌, inl, inr, ℕ, ◌+◌, ◌≤◌, true, false, Bool, List, [], Option, Some, None, refl, ap, subst, arith}
+use Rattle.std.specs.Io.KnownBytes.{Appends}
 use Rattle.std.proofs.KnownBytes.{Appends-nil, Keeps-refl}
 use Rattle.node_lines.specs.declared.node_line.NodeLine.{NodeLine}
 use Rattle.node_lines.specs.declared.node_line.NodeLine.TheVariants.{Idle, Evaluate, Take, Hello, Restart}
@@ -8,41 +8,41 @@ use Rattle.node_lines.specs.Answers.{refused_line}
 use Rattle.node_cores.specs.declared.line_refusal.LineRefusal.TheVariants as refusal
 use Rattle.node_cores.specs.NodeValue.{NodeValue}
 use Rattle.live_node.specs.declared.live_lines.TakenLine.TheVariants.{Line, TooLong, End}
-use Rattle.live_node.specs.LineTaking.{Takes}
-use Rattle.live_node.specs.NodeAnswers.{AnswersAsked, IsAnswered}
-use Rattle.live_node.specs.LiveNode.{AnswersTaken, HasAnsweredNext}
+use Rattle.live_node.specs.Steps.LineTaking.{Takes}
+use Rattle.live_node.specs.NodeAnswers.{Raising, AnswersAsked, IsAnswered}
+use Rattle.live_node.specs.Steps.Answering.{AnswersTaken, HasAnsweredNext}
 
 same_lines : (old new : NodeValue) → new ≡ old → new.lines ≤ old.lines + 1
 same_lines old new e = let k : new.lines ≡ old.lines = ap (λ (s : NodeValue). s.lines) e in omega (arith, k)
 
-lines_asked : (old new : NodeValue) (line : List ℕ) (asked : Option NodeLine) (note text : List ℕ) → AnswersAsked old new line asked note text → new.lines ≤ old.lines + 1
-lines_asked old new line None note text h = same_lines old new h.same
-lines_asked old new line (Some Idle) note text h = same_lines old new h.0
-lines_asked old new line (Some (Evaluate t dt inputs)) note text (inl h) = omega (arith, h.made.counted.lines_are)
-lines_asked old new line (Some (Evaluate t dt inputs)) note text (inr h) = same_lines old new h.2.same
-lines_asked old new line (Some (Take m)) note text h = omega (arith, h.taken.counted.lines_are)
-lines_asked old new line (Some (Hello of incarnation)) note text (inl h) = omega (arith, h.heard.counted.lines_are)
-lines_asked old new line (Some (Hello of incarnation)) note text (inr h) = same_lines old new h.1.same
-lines_asked old new line (Some (Restart n)) note text (inl h) = omega (arith, h.risen.counted.lines_are)
-lines_asked old new line (Some (Restart n)) note text (inr h) = same_lines old new h.2.same
+lines_asked : (raising : Raising) (old new : NodeValue) (line : List ℕ) (asked : Option NodeLine) (note text : List ℕ) → AnswersAsked raising old new line asked note text → new.lines ≤ old.lines + 1
+lines_asked raising old new line None note text h = same_lines old new h.same
+lines_asked raising old new line (Some Idle) note text h = same_lines old new h.0
+lines_asked raising old new line (Some (Evaluate t dt inputs)) note text (inl h) = omega (arith, h.made.counted.lines_are)
+lines_asked raising old new line (Some (Evaluate t dt inputs)) note text (inr h) = same_lines old new h.2.same
+lines_asked raising old new line (Some (Take m)) note text h = omega (arith, h.taken.counted.lines_are)
+lines_asked raising old new line (Some (Hello of incarnation)) note text (inl h) = omega (arith, h.heard.counted.lines_are)
+lines_asked raising old new line (Some (Hello of incarnation)) note text (inr h) = same_lines old new h.1.same
+lines_asked raising old new line (Some (Restart n)) note text (inl h) = omega (arith, h.risen.counted.lines_are)
+lines_asked raising old new line (Some (Restart n)) note text (inr h) = same_lines old new h.2.same
 
 -- a line that is answered is at most one line more
-pub lines_after : (old new : NodeValue) (line : List ℕ) (noted_old noted_new : Option (List ℕ)) (out_old out_new : List ℕ) → IsAnswered old new line noted_old noted_new out_old out_new → new.lines ≤ old.lines + 1
-lines_after old new line noted_old noted_new out_old out_new h = lines_asked old new line h.answers.asked h.note h.text h.answers.answered
+pub lines_after : (raising : Raising) (old new : NodeValue) (line : List ℕ) (noted_old noted_new : Option (List ℕ)) (out_old out_new : List ℕ) → IsAnswered raising old new line noted_old noted_new out_old out_new → new.lines ≤ old.lines + 1
+lines_after raising old new line noted_old noted_new out_old out_new h = lines_asked raising old new line h.answers.asked h.note h.text h.answers.answered
 
-taken_next : (old new : NodeValue) (given left noted_old noted_new from to : Option (List ℕ)) (fed : Bool) → AnswersTaken old new given left noted_old noted_new from to fed → HasAnsweredNext old new given left noted_old noted_new from to fed
-taken_next old new given left noted_old noted_new from to true h = h
-taken_next old new given left noted_old noted_new from to false h = inr h
+taken_next : (raising : Raising) (old new : NodeValue) (given left noted_old noted_new from to : Option (List ℕ)) (fed : Bool) → AnswersTaken raising old new given left noted_old noted_new from to fed → HasAnsweredNext raising old new given left noted_old noted_new from to fed
+taken_next raising old new given left noted_old noted_new from to true h = h
+taken_next raising old new given left noted_old noted_new from to false h = inr h
 
 -- nothing was left
-pub next_ended : (s : NodeValue) (given left noted from : Option (List ℕ)) (line : List ℕ) → Takes given left line End → HasAnsweredNext s s given left noted noted from from false
-next_ended s given left noted from line h = inl (record { same = refl; none = h.0; end = h.1; unnoted = Keeps-refl noted; unwritten = Keeps-refl from })
+pub next_ended : (raising : Raising) (s : NodeValue) (given left noted from : Option (List ℕ)) (line : List ℕ) → Takes given left line End → HasAnsweredNext raising s s given left noted noted from from false
+next_ended raising s given left noted from line h = inl (record { same = refl; none = h.0; end = h.1; unnoted = Keeps-refl noted; unwritten = Keeps-refl from })
 
 -- a line was taken and answered, and its answer handed on
-pub next_answered : (old new : NodeValue) (given left noted_old noted_new from to : Option (List ℕ)) (line text : List ℕ) (fed : Bool) → Takes given left line (Line fed) → IsAnswered old new line noted_old noted_new [] text → Appends from to text
-    → HasAnsweredNext old new given left noted_old noted_new from to fed
-next_answered old new given left noted_old noted_new from to line text fed t h w =
-    taken_next old new given left noted_old noted_new from to fed (record {
+pub next_answered : (raising : Raising) (old new : NodeValue) (given left noted_old noted_new from to : Option (List ℕ)) (line text : List ℕ) (fed : Bool) → Takes given left line (Line fed) → IsAnswered raising old new line noted_old noted_new [] text → Appends from to text
+    → HasAnsweredNext raising old new given left noted_old noted_new from to fed
+next_answered raising old new given left noted_old noted_new from to line text fed t h w =
+    taken_next raising old new given left noted_old noted_new from to fed (record {
       line = line;
       taken = t.1;
       note = h.note;
@@ -53,10 +53,10 @@ next_answered old new given left noted_old noted_new from to line text fed t h w
     })
 
 -- a line that is too long was taken, and its refusal handed on
-pub next_too_long : (s : NodeValue) (given left noted from to : Option (List ℕ)) (line text : List ℕ) (fed : Bool) → Takes given left line (TooLong fed) → text ≡ refused_line refusal.TooLong → Appends from to text
-    → HasAnsweredNext s s given left noted noted from to fed
-next_too_long s given left noted from to line text fed t is w =
-    taken_next s s given left noted noted from to fed (record {
+pub next_too_long : (raising : Raising) (s : NodeValue) (given left noted from to : Option (List ℕ)) (line text : List ℕ) (fed : Bool) → Takes given left line (TooLong fed) → text ≡ refused_line refusal.TooLong → Appends from to text
+    → HasAnsweredNext raising s s given left noted noted from to fed
+next_too_long raising s given left noted from to line text fed t is w =
+    taken_next raising s s given left noted noted from to fed (record {
       line = t.0;
       taken = t.2;
       note = [];

@@ -1,12 +1,10 @@
 -- What was kept of the tasks of a resource.
-use Rattle.std.proofs.Common.{arith, ◌≡◌, ℕ, ◌+◌, ◌<◌, ◌⊎◌, inl, inr, List, [], ◌∷◌, ◌++◌, Option, Some, None, length, slice_get, refl, ap, sym, ◌∙◌, subst}
-use Rattle.std.specs.Option.{option_map}
+use Rattle.std.proofs.Common.{arith, ◌≡◌, ℕ, ◌+◌, ◌<◌, ◌⊎◌, inl, inr, List, [], ◌∷◌, ◌++◌, Some, None, length, slice_get, refl, ap, sym, ◌∙◌, subst}
 use Rattle.std.proofs.lemmas.List.{length-append}
 use Rattle.std.proofs.lemmas.Option.{none-some, same_Some}
 use Rattle.lists.proofs.Places.{element_at, push_cases}
 use Rattle.std_blocks.specs.declared.value.Value.{Value}
-use Rattle.plant_grammar.specs.Kinds.{items_or_none}
-use Rattle.plant.specs.PlantValue.{ResourceValue, PlantValue, codes_at, tasks_at, IsSoundPlant}
+use Rattle.plant.specs.PlantValue.{PlantValue, codes_at, tasks_at, IsSoundPlant}
 use Rattle.task_codes.specs.CodeValue.{CodeValue}
 use Rattle.evaluation.specs.Retained.{Suits}
 use Rattle.message_core.specs.Openings.{AreOpeningOf}

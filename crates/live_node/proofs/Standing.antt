@@ -1,5 +1,5 @@
 -- What stands after whole lines of a source.
-use Rattle.std.proofs.Common.{◌≡◌, ◌⊎◌, inl, inr, ℕ, ◌+◌, ◌++◌, ◌≤◌, true, false, List, [], ◌∷◌, Option, None, Some, length, refl, sym, ap, subst, ◌∙◌, arith, append_assoc, append-nil}
+use Rattle.std.proofs.Common.{inl, inr, ℕ, ◌++◌, true, false, List, [], ◌∷◌, Option, None, Some, refl, sym, subst, ◌∙◌, arith, append_assoc, append-nil}
 use Rattle.std.specs.Prelude.{reverse}
 use Rattle.std.specs.List.{AllByRecursion}
 use Rattle.std.specs.Io.KnownBytes.{Appends, Consumes, Keeps}
@@ -10,22 +10,24 @@ use Rattle.line_reader.specs.Lines.{HasNoFeed}
 use Rattle.world.proofs.LinesRead.{fed, fed_more, whole_more, lines_with_last, lines_fed}
 use Rattle.node_lines.specs.declared.node_line.NodeLine.TheVariants.{Idle}
 use Rattle.node_cores.specs.NodeValue.{NodeValue}
-use Rattle.live_node.specs.LineTaking.{BeginsLine}
-use Rattle.live_node.specs.LiveNode.{AnswersLine, HaveAnswered, AnswersTaken, HasEnded, HasAnsweredNext, WritesNode, HasAnsweredSoFar}
+use Rattle.live_node.specs.Steps.LineTaking.{BeginsLine}
+use Rattle.live_node.specs.NodeAnswers.{Raising}
+use Rattle.live_node.specs.LiveNode.{AnswersLine, HaveAnswered, WritesNode, HasAnsweredSoFar}
+use Rattle.live_node.specs.Steps.Answering.{AnswersTaken, HasAnsweredNext}
 
 -- these whole lines were read and answered, and what the start wrote was written before
-pub record Stands (first last : NodeValue) (begun : List ℕ) (lines : List (List ℕ)) (given left noted_old noted_new from to : Option (List ℕ)) : Type 0 where
+pub record Stands (raising : Raising) (first last : NodeValue) (begun : List ℕ) (lines : List (List ℕ)) (given left noted_old noted_new from to : Option (List ℕ)) : Type 0 where
   pub whole : AllByRecursion HasNoFeed lines
   pub read : Consumes given left (fed lines)
   pub notes : List ℕ
   pub text : List ℕ
-  pub answered : HaveAnswered first (reverse lines) last notes text
+  pub answered : HaveAnswered raising first (reverse lines) last notes text
   pub noted : Appends noted_old noted_new notes
   pub written : Appends from to (begun ++ text)
 
 -- before the first line
-pub stands_first : (first : NodeValue) (begun : List ℕ) (given noted from to : Option (List ℕ)) → Appends from to begun → Stands first first begun [] given given noted noted from to
-stands_first first begun given noted from to h = record {
+pub stands_first : (raising : Raising) (first : NodeValue) (begun : List ℕ) (given noted from to : Option (List ℕ)) → Appends from to begun → Stands raising first first begun [] given given noted noted from to
+stands_first raising first begun given noted from to h = record {
   whole = tt;
   read = Consumes-nil given;
   notes = [];
@@ -36,10 +38,10 @@ stands_first first begun given noted from to h = record {
 }
 
 -- one line more is answered
-more_answered : (first mid last : NodeValue) (lines : List (List ℕ)) (line notes text note answer : List ℕ) → HaveAnswered first (reverse lines) mid notes text → AnswersLine mid last line note answer
-    → HaveAnswered first (reverse (lines ++ line ∷ [])) last (notes ++ note) (text ++ answer)
-more_answered first mid last lines line notes text note answer h a =
-    subst (λ ls. HaveAnswered first ls last (notes ++ note) (text ++ answer)) (sym (reverse-append lines (line ∷ [])))
+more_answered : (raising : Raising) (first mid last : NodeValue) (lines : List (List ℕ)) (line notes text note answer : List ℕ) → HaveAnswered raising first (reverse lines) mid notes text → AnswersLine raising mid last line note answer
+    → HaveAnswered raising first (reverse (lines ++ line ∷ [])) last (notes ++ note) (text ++ answer)
+more_answered raising first mid last lines line notes text note answer h a =
+    subst (λ ls. HaveAnswered raising first ls last (notes ++ note) (text ++ answer)) (sym (reverse-append lines (line ∷ [])))
     (mid, notes, text, note, answer, h, a, refl, refl)
 
 more_written : (from mid to : Option (List ℕ)) (begun text more : List ℕ) → Appends from mid (begun ++ text) → Appends mid to more → Appends from to (begun ++ (text ++ more))
@@ -47,33 +49,33 @@ more_written from mid to begun text more a b =
     subst (Appends from to) (append_assoc begun text more) (Appends-trans from mid to (begun ++ text) more a b)
 
 -- after one more
-pub stands_next : (first mid last : NodeValue) (begun : List ℕ) (lines : List (List ℕ)) (given now left noted_old noted_mid noted_new from mid_to to : Option (List ℕ)) → Stands first mid begun lines given now noted_old noted_mid from mid_to
-    → (a : AnswersTaken mid last now left noted_mid noted_new mid_to to true) → Stands first last begun (lines ++ a.line ∷ []) given left noted_old noted_new from to
-stands_next first mid last begun lines given now left noted_old noted_mid noted_new from mid_to to s a = record {
+pub stands_next : (raising : Raising) (first mid last : NodeValue) (begun : List ℕ) (lines : List (List ℕ)) (given now left noted_old noted_mid noted_new from mid_to to : Option (List ℕ)) → Stands raising first mid begun lines given now noted_old noted_mid from mid_to
+    → (a : AnswersTaken raising mid last now left noted_mid noted_new mid_to to true) → Stands raising first last begun (lines ++ a.line ∷ []) given left noted_old noted_new from to
+stands_next raising first mid last begun lines given now left noted_old noted_mid noted_new from mid_to to s a = record {
   whole = whole_more lines a.line s.whole a.taken.0;
   read = subst (Consumes given left) (sym (fed_more lines a.line)) (Consumes-trans given now left (fed lines) (a.line ++ 10 ∷ []) s.read a.taken.2);
   notes = s.notes ++ a.note;
   text = s.text ++ a.text;
-  answered = more_answered first mid last lines a.line s.notes s.text a.note a.text s.answered a.answered;
+  answered = more_answered raising first mid last lines a.line s.notes s.text a.note a.text s.answered a.answered;
   noted = Appends-trans noted_old noted_mid noted_new s.notes a.note s.noted a.noted;
   written = more_written from mid_to to begun s.text a.text s.written a.written;
 }
 
 -- an empty line is answered by nothing
-nothing_answered : (first last : NodeValue) (notes text : List ℕ) → HaveAnswered first [] last notes text → HaveAnswered first ([] ∷ []) last notes text
-nothing_answered first last notes text h =
+nothing_answered : (raising : Raising) (first last : NodeValue) (notes text : List ℕ) → HaveAnswered raising first [] last notes text → HaveAnswered raising first ([] ∷ []) last notes text
+nothing_answered raising first last notes text h =
     (first, [], [], [], [], (refl, refl, refl), inl (omega arith, record { asked = Some Idle; read = refl; answered = (h.0, refl, refl) }), h.1, h.2)
 
 -- the lines of what was read
-lines_answered : (first last : NodeValue) (lines : List (List ℕ)) (notes text : List ℕ) → AllByRecursion HasNoFeed lines → HaveAnswered first (reverse lines) last notes text → HaveAnswered first (reverse (lines_of (fed lines))) last notes text
-lines_answered first last [] notes text whole h = nothing_answered first last notes text h
-lines_answered first last (line ∷ lines) notes text whole h =
-    subst (λ ls. HaveAnswered first (reverse ls) last notes text) (sym (lines_fed line lines whole)) h
+lines_answered : (raising : Raising) (first last : NodeValue) (lines : List (List ℕ)) (notes text : List ℕ) → AllByRecursion HasNoFeed lines → HaveAnswered raising first (reverse lines) last notes text → HaveAnswered raising first (reverse (lines_of (fed lines))) last notes text
+lines_answered raising first last [] notes text whole h = nothing_answered raising first last notes text h
+lines_answered raising first last (line ∷ lines) notes text whole h =
+    subst (λ ls. HaveAnswered raising first (reverse ls) last notes text) (sym (lines_fed line lines whole)) h
 
 -- the beginning of a further line was read
-pub stands_within : (first last : NodeValue) (begun : List ℕ) (lines : List (List ℕ)) (given now left noted_old noted_new from to : Option (List ℕ)) → Stands first last begun lines given now noted_old noted_new from to → BeginsLine now left
-    → HasAnsweredSoFar first begun given left from to
-stands_within first last begun lines given now left noted_old noted_new from to s b = record {
+pub stands_within : (raising : Raising) (first last : NodeValue) (begun : List ℕ) (lines : List (List ℕ)) (given now left noted_old noted_new from to : Option (List ℕ)) → Stands raising first last begun lines given now noted_old noted_new from to → BeginsLine now left
+    → HasAnsweredSoFar raising first begun given left from to
+stands_within raising first last begun lines given now left noted_old noted_new from to s b = record {
   lines = lines_of (fed lines);
   whole = fed lines;
   part = b.0;
@@ -83,38 +85,38 @@ stands_within first last begun lines given now left noted_old noted_new from to 
   last = last;
   notes = s.notes;
   text = s.text;
-  answered = lines_answered first last lines s.notes s.text s.whole s.answered;
+  answered = lines_answered raising first last lines s.notes s.text s.whole s.answered;
   written = s.written;
 }
 
-appends_kept : (from now next : Option (List ℕ)) (text : List ℕ) → Appends from now text → Keeps now next → Appends from next text
+pub appends_kept : (from now next : Option (List ℕ)) (text : List ℕ) → Appends from now text → Keeps now next → Appends from next text
 appends_kept None now next text a k = tt
 appends_kept (Some x) None next text a k = absurd a
 appends_kept (Some x) (Some y) None text a k = absurd k
 appends_kept (Some x) (Some y) (Some z) text a k = k ∙ a
 
 -- nothing more was there, or a last line without a line feed
-pub stands_ended : (first mid last : NodeValue) (begun : List ℕ) (lines : List (List ℕ)) (given now left noted_old noted_mid noted_new from mid_to to : Option (List ℕ)) → Stands first mid begun lines given now noted_old noted_mid from mid_to
-    → HasAnsweredNext mid last now left noted_mid noted_new mid_to to false → WritesNode first last begun given left noted_old noted_new from to
-stands_ended first mid last begun lines given now left noted_old noted_mid noted_new from mid_to to s (inl e) = record {
+pub stands_ended : (raising : Raising) (first mid last : NodeValue) (begun : List ℕ) (lines : List (List ℕ)) (given now left noted_old noted_mid noted_new from mid_to to : Option (List ℕ)) → Stands raising first mid begun lines given now noted_old noted_mid from mid_to
+    → HasAnsweredNext raising mid last now left noted_mid noted_new mid_to to false → WritesNode raising first last begun given left noted_old noted_new from to
+stands_ended raising first mid last begun lines given now left noted_old noted_mid noted_new from mid_to to s (inl e) = record {
   bytes = fed lines;
   read = subst (Consumes given left) (append-nil (fed lines)) (Consumes-trans given now left (fed lines) [] s.read e.none);
   end = e.end;
   notes = s.notes;
   text = s.text;
-  answered = subst (λ n. HaveAnswered first (reverse (lines_of (fed lines))) n s.notes s.text) (sym e.same) (lines_answered first mid lines s.notes s.text s.whole s.answered);
+  answered = subst (λ n. HaveAnswered raising first (reverse (lines_of (fed lines))) n s.notes s.text) (sym e.same) (lines_answered raising first mid lines s.notes s.text s.whole s.answered);
   noted = appends_kept noted_old noted_mid noted_new s.notes s.noted e.unnoted;
   written = appends_kept from mid_to to (begun ++ s.text) s.written e.unwritten;
 }
-stands_ended first mid last begun lines given now left noted_old noted_mid noted_new from mid_to to s (inr a) = record {
+stands_ended raising first mid last begun lines given now left noted_old noted_mid noted_new from mid_to to s (inr a) = record {
   bytes = fed lines ++ a.line;
   read = Consumes-trans given now left (fed lines) a.line s.read a.taken.2.0;
   end = a.taken.2.1;
   notes = s.notes ++ a.note;
   text = s.text ++ a.text;
   answered =
-      subst (λ ls. HaveAnswered first (reverse ls) last (s.notes ++ a.note) (s.text ++ a.text)) (sym (lines_with_last lines a.line s.whole a.taken.0 (a.taken.1 refl)))
-      (more_answered first mid last lines a.line s.notes s.text a.note a.text s.answered a.answered);
+      subst (λ ls. HaveAnswered raising first (reverse ls) last (s.notes ++ a.note) (s.text ++ a.text)) (sym (lines_with_last lines a.line s.whole a.taken.0 (a.taken.1 refl)))
+      (more_answered raising first mid last lines a.line s.notes s.text a.note a.text s.answered a.answered);
   noted = Appends-trans noted_old noted_mid noted_new s.notes a.note s.noted a.noted;
   written = more_written from mid_to to begun s.text a.text s.written a.written;
 }

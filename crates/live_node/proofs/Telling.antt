@@ -1,19 +1,21 @@
 -- What a node answers, put together.
-use Rattle.std.proofs.Common.{◌≡◌, inl, inr, ℕ, ◌+◌, ◌++◌, ◌<◌, ◌≤◌, true, false, Bool, List, [], Option, Some, None, length, refl, sym, ap, ◌∙◌, subst, append_assoc}
+use Rattle.std.proofs.Common.{◌≡◌, ◌≢◌, Result, Ok, Err, OnOk, inl, inr, ℕ, ◌+◌, ◌++◌, ◌<◌, true, List, [], Option, Some, length, refl, sym, ap, ◌∙◌, subst, append_assoc}
 use Rattle.std.specs.Prelude.{codes}
 use Rattle.std.specs.Io.KnownBytes.{Appends}
 use Rattle.std.proofs.KnownBytes.{Appends-nil}
 use Rattle.std_blocks.specs.declared.value.Value.{Value}
+use Rattle.keepers.specs.declared.keeper_fault.KeeperFault.{KeeperFault}
+use Rattle.keepers.specs.declared.keeper_fault.KeeperFault.TheVariants as keeping
 use Rattle.due_list.specs.declared.task_ref.TaskRef.{TaskRef}
 use Rattle.plant.specs.PlantValue.{PlantValue}
 use Rattle.evaluation.specs.declared.field_input.FieldInput.{FieldInput}
 use Rattle.evaluation.specs.Meaning.{Evaluated}
-use Rattle.evaluation.specs.Messages.{MessageValue, message_of}
+use Rattle.evaluation.specs.Messages.{message_of}
 use Rattle.message_core.specs.MessageCoreValue.{MessageCoreValue}
 use Rattle.message_texts.specs.MessageLines.{HasForm}
 use Rattle.world.specs.RunLines.{evaluation_line}
 use Rattle.node_lines.specs.declared.node_line.NodeLine.{NodeLine}
-use Rattle.node_lines.specs.declared.node_line.NodeLine.TheVariants.{Idle, Evaluate, Take, Hello, Restart}
+use Rattle.node_lines.specs.declared.node_line.NodeLine.TheVariants.{Idle, Evaluate, Restart}
 use Rattle.node_lines.specs.Sends.{greetings, message_sends}
 use Rattle.node_lines.specs.Answers.{refused_line, risen_line}
 use Rattle.node_lines.specs.NodeJournal.{line_note, restart_note, start_note}
@@ -24,7 +26,8 @@ use Rattle.node_cores.specs.NodeSteps.{HasMade, IsPlaceRefusal, IsTaskRefusal}
 use Rattle.std.proofs.lemmas.List.{append-nil}
 use Rattle.world.specs.ScheduleText.{is_idle}
 use Rattle.node_lines.specs.NodeLines.{Spells, node_words}
-use Rattle.live_node.specs.NodeAnswers.{HasBegun, start_text, HasRisenTo, IsAnsweredBy, IsAnswered, IsRestartRefusal}
+use Rattle.live_node.specs.NodeAnswers.{Raising, HasBegun, start_text, IsAnswered, IsRestartRefusal}
+use Rattle.live_node.specs.Steps.Answering.{HasRisenTo, IsAnsweredBy}
 
 -- an evaluation's message has the form of the plant's
 pub made_form : (old new : NodeValue) (task dt : ℕ) (inputs : List FieldInput) (x : Evaluated) → HasMade old new task dt inputs x → length x.heard ≡ length new.core.plant.resources → HasForm new.core.plant (message_of x)
@@ -36,10 +39,10 @@ made_form old new task dt inputs x made many = record {
 }
 
 -- a task was evaluated, and its message and its line were written
-pub evaluated_answer : (old new : NodeValue) (line : List ℕ) (t : TaskRef) (dt : ℕ) (inputs : List FieldInput) (x : Evaluated) (noted_old noted_new : Option (List ℕ)) (out_old mid out_new : List ℕ) → t.resource ≡ old.core.resource → HasMade old new t.task dt inputs x
+pub evaluated_answer : (raising : Raising) (old new : NodeValue) (line : List ℕ) (t : TaskRef) (dt : ℕ) (inputs : List FieldInput) (x : Evaluated) (noted_old noted_new : Option (List ℕ)) (out_old mid out_new : List ℕ) → t.resource ≡ old.core.resource → HasMade old new t.task dt inputs x
     → Appends noted_old noted_new (line_note line) → mid ≡ out_old ++ message_sends new.core.plant (message_of x) → out_new ≡ mid ++ evaluation_line new.core.plant new.made x
-    → IsAnsweredBy old new line (Some (Evaluate t dt inputs)) noted_old noted_new out_old out_new
-evaluated_answer old new line t dt inputs x noted_old noted_new out_old mid out_new here made noted first last =
+    → IsAnsweredBy raising old new line (Some (Evaluate t dt inputs)) noted_old noted_new out_old out_new
+evaluated_answer raising old new line t dt inputs x noted_old noted_new out_old mid out_new here made noted first last =
     let p : new.core.plant ≡ old.core.plant = ap (λ (c : MessageCoreValue). c.plant) made.next.after in
     let is : out_new ≡ out_old ++ (message_sends new.core.plant (message_of x) ++ evaluation_line new.core.plant new.made x) =
     last ∙ ap (λ l. l ++ evaluation_line new.core.plant new.made x) first ∙ append_assoc out_old (message_sends new.core.plant (message_of x)) (evaluation_line new.core.plant new.made x) in
@@ -55,9 +58,9 @@ evaluated_answer old new line t dt inputs x noted_old noted_new out_old mid out_
     }
 
 -- a task isn't evaluated
-pub refused_evaluate : (s : NodeValue) (line : List ℕ) (t : TaskRef) (dt : ℕ) (inputs : List FieldInput) (r : LineRefusal) (noted : Option (List ℕ)) (out_old out_new : List ℕ) → IsTaskRefusal s.core t r → out_new ≡ out_old ++ refused_line r
-    → IsAnsweredBy s s line (Some (Evaluate t dt inputs)) noted noted out_old out_new
-refused_evaluate s line t dt inputs r noted out_old out_new why is = record {
+pub refused_evaluate : (raising : Raising) (s : NodeValue) (line : List ℕ) (t : TaskRef) (dt : ℕ) (inputs : List FieldInput) (r : LineRefusal) (noted : Option (List ℕ)) (out_old out_new : List ℕ) → IsTaskRefusal s.core t r → out_new ≡ out_old ++ refused_line r
+    → IsAnsweredBy raising s s line (Some (Evaluate t dt inputs)) noted noted out_old out_new
+refused_evaluate raising s line t dt inputs r noted out_old out_new why is = record {
   note = [];
   text = refused_line r;
   answered = inr (r, why, record { same = refl; unnoted = refl; text_is = refl });
@@ -66,8 +69,8 @@ refused_evaluate s line t dt inputs r noted out_old out_new why is = record {
 }
 
 -- a restart isn't done
-pub refused_restart : (s : NodeValue) (line : List ℕ) (n : ℕ) (r : LineRefusal) (noted : Option (List ℕ)) (out_old out_new : List ℕ) → IsRestartRefusal s.core n r → out_new ≡ out_old ++ refused_line r → IsAnsweredBy s s line (Some (Restart n)) noted noted out_old out_new
-refused_restart s line n r noted out_old out_new why is = record {
+pub refused_restart : (raising : Raising) (s : NodeValue) (line : List ℕ) (n : ℕ) (r : LineRefusal) (noted : Option (List ℕ)) (out_old out_new : List ℕ) → IsRestartRefusal raising s.core n r → out_new ≡ out_old ++ refused_line r → IsAnsweredBy raising s s line (Some (Restart n)) noted noted out_old out_new
+refused_restart raising s line n r noted out_old out_new why is = record {
   note = [];
   text = refused_line r;
   answered = inr (r, why, record { same = refl; unnoted = refl; text_is = refl });
@@ -76,37 +79,45 @@ refused_restart s line n r noted out_old out_new why is = record {
 }
 
 -- a restart of another resource
-restart_place : (core : MessageCoreValue) (n : ℕ) (r : LineRefusal) → IsPlaceRefusal core n r → IsRestartRefusal core n r
-restart_place core n Syntax why = why
-restart_place core n TooLong why = why
-restart_place core n NoSuchResource why = why
-restart_place core n NotHere why = why
-restart_place core n NoSuchTask why = why
-restart_place core n NumbersSpent why = why
-restart_place core n Keeper why = absurd why
+restart_place : (raising : Raising) (core : MessageCoreValue) (n : ℕ) (r : LineRefusal) → IsPlaceRefusal core n r → IsRestartRefusal raising core n r
+restart_place raising core n Syntax why = why
+restart_place raising core n TooLong why = why
+restart_place raising core n NoSuchResource why = why
+restart_place raising core n NotHere why = why
+restart_place raising core n NoSuchTask why = why
+restart_place raising core n NumbersSpent why = why
+restart_place raising core n Keeper why = absurd why
 
-pub refused_place : (s : NodeValue) (line : List ℕ) (n : ℕ) (r : LineRefusal) (noted : Option (List ℕ)) (out_old out_new : List ℕ) → IsPlaceRefusal s.core n r → out_new ≡ out_old ++ refused_line r → IsAnsweredBy s s line (Some (Restart n)) noted noted out_old out_new
-refused_place s line n r noted out_old out_new why is = refused_restart s line n r noted out_old out_new (restart_place s.core n r why) is
+pub refused_place : (raising : Raising) (s : NodeValue) (line : List ℕ) (n : ℕ) (r : LineRefusal) (noted : Option (List ℕ)) (out_old out_new : List ℕ) → IsPlaceRefusal s.core n r → out_new ≡ out_old ++ refused_line r → IsAnsweredBy raising s s line (Some (Restart n)) noted noted out_old out_new
+refused_place raising s line n r noted out_old out_new why is = refused_restart raising s line n r noted out_old out_new (restart_place raising s.core n r why) is
 
 -- a restart to which the keeper doesn't raise
-pub refused_raise : (s : NodeValue) (line : List ℕ) (n : ℕ) (noted : Option (List ℕ)) (out_old out_new : List ℕ) → n ≡ s.core.resource → out_new ≡ out_old ++ refused_line Keeper → IsAnsweredBy s s line (Some (Restart n)) noted noted out_old out_new
-refused_raise s line n noted out_old out_new here is = refused_restart s line n Keeper noted out_old out_new here is
+pub refused_raise : {T E : Type 0} (r : Result T E) (raising : Raising) (s : NodeValue) (line : List ℕ) (n last : ℕ) (fault : KeeperFault) (noted : Option (List ℕ)) (out_old out_new : List ℕ) → n ≡ s.core.resource → last ≡ s.core.incarnation → raising last (Err fault)
+    → OnOk r ((fault ≢ keeping.Memory) × (out_new ≡ out_old ++ refused_line Keeper)) → OnOk r (IsAnsweredBy raising s s line (Some (Restart n)) noted noted out_old out_new)
+refused_raise (Ok x) raising s line n last fault noted out_old out_new here held given is =
+    refused_restart raising s line n Keeper noted out_old out_new (here, record { fault = fault; not_memory = is.0; given = subst (λ i. raising i (Err fault)) held given }) is.1
+refused_raise (Err e) raising s line n last fault noted out_old out_new here held given is = tt
+
+-- what holds anyway holds after Ok
+pub on_ok : {T E P : Type 0} (r : Result T E) → P → OnOk r P
+on_ok (Ok x) p = p
+on_ok (Err e) p = tt
 
 -- a restart
-pub risen_restart : (old new : NodeValue) (line : List ℕ) (n incarnation : ℕ) (noted_old noted_new : Option (List ℕ)) (out_old out_new : List ℕ) → n ≡ old.core.resource → old.core.incarnation < incarnation → HasRisenTo old new incarnation noted_old noted_new out_old out_new
-    → IsAnsweredBy old new line (Some (Restart n)) noted_old noted_new out_old out_new
-risen_restart old new line n incarnation noted_old noted_new out_old out_new here above h =
-    subst (λ m. IsAnsweredBy old new line (Some (Restart m)) noted_old noted_new out_old out_new) (sym here) (record {
+pub risen_restart : (raising : Raising) (old new : NodeValue) (line : List ℕ) (n incarnation : ℕ) (noted_old noted_new : Option (List ℕ)) (out_old out_new : List ℕ) → n ≡ old.core.resource → raising old.core.incarnation (Ok incarnation) → old.core.incarnation < incarnation → HasRisenTo old new incarnation noted_old noted_new out_old out_new
+    → IsAnsweredBy raising old new line (Some (Restart n)) noted_old noted_new out_old out_new
+risen_restart raising old new line n incarnation noted_old noted_new out_old out_new here given above h =
+    subst (λ m. IsAnsweredBy raising old new line (Some (Restart m)) noted_old noted_new out_old out_new) (sym here) (record {
       note = restart_note old.core.plant old.core.resource incarnation;
       text = greetings old.core.plant old.core.resource incarnation ++ risen_line (codes "RESTART") old.core.plant old.core.resource incarnation;
-      answered = inl (record { incarnation = incarnation; here = refl; above = above; risen = h.risen; note_is = refl; text_is = refl });
+      answered = inl (record { incarnation = incarnation; here = refl; given = given; above = above; risen = h.risen; note_is = refl; text_is = refl });
       noted = h.noted;
       written = h.written;
     })
 
 -- a blank line or a comment
-pub idle_answer : (s : NodeValue) (line : List ℕ) (noted : Option (List ℕ)) (out : List ℕ) → is_idle (node_words line) ≡ true → IsAnswered s s line noted noted out out
-idle_answer s line noted out idle = record {
+pub idle_answer : (raising : Raising) (s : NodeValue) (line : List ℕ) (noted : Option (List ℕ)) (out : List ℕ) → is_idle (node_words line) ≡ true → IsAnswered raising s s line noted noted out out
+idle_answer raising s line noted out idle = record {
   note = [];
   text = [];
   answers = record { asked = Some Idle; read = idle; answered = (refl, refl, refl) };
@@ -115,9 +126,9 @@ idle_answer s line noted out idle = record {
 }
 
 -- a line that asks what was answered
-pub line_answered : (old new : NodeValue) (line : List ℕ) (asked : NodeLine) (noted_old noted_new : Option (List ℕ)) (out_old out_new : List ℕ) → Spells old.core.plant asked line → IsAnsweredBy old new line (Some asked) noted_old noted_new out_old out_new
-    → IsAnswered old new line noted_old noted_new out_old out_new
-line_answered old new line asked noted_old noted_new out_old out_new read h = record {
+pub line_answered : (raising : Raising) (old new : NodeValue) (line : List ℕ) (asked : NodeLine) (noted_old noted_new : Option (List ℕ)) (out_old out_new : List ℕ) → Spells old.core.plant asked line → IsAnsweredBy raising old new line (Some asked) noted_old noted_new out_old out_new
+    → IsAnswered raising old new line noted_old noted_new out_old out_new
+line_answered raising old new line asked noted_old noted_new out_old out_new read h = record {
   note = h.note;
   text = h.text;
   answers = record { asked = Some asked; read = read; answered = h.answered };

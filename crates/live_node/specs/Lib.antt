@@ -1,3 +1,4 @@
-pub mod LineTaking
 pub mod LiveNode
 pub mod NodeAnswers
+pub mod Stops
+pub mod Steps

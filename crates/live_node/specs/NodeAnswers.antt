@@ -1,17 +1,17 @@
 -- What a node answers to a line, what it notes for it, and what it is then.
-use Rattle.std.specs.Prelude.{◌≡◌, ◌≢◌, ℕ, ◌+◌, ◌<◌, ◌≤◌, ◌++◌, ◌⊎◌, ◌&&◌, Bool, true, false, nat_lt, List, [], Option, Some, None, MatchOption, codes, length, slice_index, slice_get, if◌then◌else◌}
+use Rattle.std.specs.Prelude.{◌≡◌, ◌≢◌, ℕ, ◌+◌, ◌<◌, ◌≤◌, ◌++◌, ◌⊎◌, ◌&&◌, Bool, false, List, [], Option, Some, None, Result, Ok, Err, MatchOption, codes, length, if◌then◌else◌}
 use Rattle.std.specs.Io.KnownBytes.{Appends}
 use Rattle.std_blocks.specs.declared.value.Value.{Value}
 use Rattle.due_list.specs.declared.task_ref.TaskRef.{TaskRef}
-use Rattle.plant.specs.PlantValue.{PlantValue, code_at}
+use Rattle.keepers.specs.declared.keeper_fault.KeeperFault.{KeeperFault}
+use Rattle.keepers.specs.declared.keeper_fault.KeeperFault.TheVariants.{Memory}
+use Rattle.plant.specs.PlantValue.{PlantValue}
 use Rattle.evaluation.specs.declared.field_input.FieldInput.{FieldInput}
-use Rattle.evaluation.specs.Last.{last_number}
 use Rattle.evaluation.specs.Meaning.{Evaluated}
 use Rattle.evaluation.specs.Messages.{MessageValue, message_of}
 use Rattle.message_core.specs.declared.accepted.Accepted.{Accepted}
 use Rattle.message_core.specs.declared.accepted.Accepted.TheVariants.{Taken, Old, Unused, Stray}
-use Rattle.message_core.specs.declared.last.Last.TheVariants.{Told}
-use Rattle.message_core.specs.MessageCoreValue.{MessageCoreValue, HasHeard, HasOwnTask, IsAccepted, IsDue, IsNext, IsRestartOf, own_last}
+use Rattle.message_core.specs.MessageCoreValue.{MessageCoreValue}
 use Rattle.world.specs.RunLines.{evaluation_line}
 use Rattle.node_lines.specs.declared.node_line.NodeLine.{NodeLine}
 use Rattle.node_lines.specs.declared.node_line.NodeLine.TheVariants.{Idle, Evaluate, Take, Hello, Restart}
@@ -31,15 +31,25 @@ pub record IsRefused (old new : NodeValue) (note text : List ℕ) (refusal : Lin
   pub unnoted : note ≡ []
   pub text_is : text ≡ refused_line refusal
 
+-- what a keeper may answer to a raise from an incarnation
+abbrev pub Raising : Type 1
+Raising = ℕ → Result ℕ KeeperFault → Type 0
+
+-- the keeper was asked to raise this incarnation, and had a fault, which isn't want of memory
+pub record IsUnraised (raising : Raising) (incarnation : ℕ) : Type 0 where
+  pub fault : KeeperFault
+  pub not_memory : fault ≢ Memory
+  pub given : raising incarnation (Err fault)
+
 -- why a restart isn't done: it isn't this resource's, or the keeper doesn't raise its incarnation
-abbrev pub IsRestartRefusal : MessageCoreValue → ℕ → LineRefusal → Type 0
-IsRestartRefusal core n Syntax = ⊥
-IsRestartRefusal core n TooLong = ⊥
-IsRestartRefusal core n NoSuchResource = length core.plant.resources ≤ n
-IsRestartRefusal core n NotHere = (n < length core.plant.resources) × (n ≢ core.resource)
-IsRestartRefusal core n NoSuchTask = ⊥
-IsRestartRefusal core n NumbersSpent = ⊥
-IsRestartRefusal core n Keeper = n ≡ core.resource
+abbrev pub IsRestartRefusal : Raising → MessageCoreValue → ℕ → LineRefusal → Type 0
+IsRestartRefusal raising core n Syntax = ⊥
+IsRestartRefusal raising core n TooLong = ⊥
+IsRestartRefusal raising core n NoSuchResource = length core.plant.resources ≤ n
+IsRestartRefusal raising core n NotHere = (n < length core.plant.resources) × (n ≢ core.resource)
+IsRestartRefusal raising core n NoSuchTask = ⊥
+IsRestartRefusal raising core n NumbersSpent = ⊥
+IsRestartRefusal raising core n Keeper = (n ≡ core.resource) × IsUnraised raising core.incarnation
 
 -- the node's own hello, to this resource
 abbrev pub own_hello : MessageCoreValue → ℕ → List ℕ
@@ -88,67 +98,49 @@ pub record AnswersHello (old new : NodeValue) (line : List ℕ) (of incarnation 
   pub note_is : note ≡ line_note line
   pub text_is : text ≡ news_hello old.core of newer ++ hello_answer old.core.plant of incarnation newer
 
--- The resource was restarted in a greater incarnation, which is noted; hellos go to its partners.
-pub record AnswersRestart (old new : NodeValue) (n : ℕ) (note text : List ℕ) : Type 0 where
+-- The resource was restarted in a greater incarnation, to which its keeper was raised, and which is noted; hellos go to
+-- its partners.
+pub record AnswersRestart (raising : Raising) (old new : NodeValue) (n : ℕ) (note text : List ℕ) : Type 0 where
   pub incarnation : ℕ
   pub here : n ≡ old.core.resource
+  pub given : raising old.core.incarnation (Ok incarnation)
   pub above : old.core.incarnation < incarnation
   pub risen : HasRisen old new incarnation
   pub note_is : note ≡ restart_note old.core.plant n incarnation
   pub text_is : text
       ≡ greetings old.core.plant n incarnation ++ risen_line (codes "RESTART") old.core.plant n incarnation
 
--- The resource was restarted in this incarnation; the note stands behind what was noted, and what is written behind
--- what was written.
-pub record HasRisenTo (old new : NodeValue) (incarnation : ℕ) (noted_old noted_new : Option (List ℕ))
-    (out_old out_new : List ℕ) : Type 0 where
-  pub risen : HasRisen old new incarnation
-  pub noted : Appends noted_old noted_new (restart_note old.core.plant old.core.resource incarnation)
-  pub written : out_new
-      ≡ out_old
-      ++ (greetings old.core.plant old.core.resource incarnation
-      ++ risen_line (codes "RESTART") old.core.plant old.core.resource incarnation)
-
 -- this is noted for what a line asks, and answered to it
-abbrev pub AnswersAsked : NodeValue → NodeValue → List ℕ → Option NodeLine → List ℕ → List ℕ → Type 0
-AnswersAsked old new line None note text = IsRefused old new note text Syntax
-AnswersAsked old new line (Some Idle) note text = (new ≡ old) × (note ≡ []) × (text ≡ [])
-AnswersAsked old new line (Some (Evaluate t dt inputs)) note text =
+abbrev pub AnswersAsked : Raising → NodeValue → NodeValue → List ℕ → Option NodeLine → List ℕ → List ℕ → Type 0
+AnswersAsked raising old new line None note text = IsRefused old new note text Syntax
+AnswersAsked raising old new line (Some Idle) note text = (new ≡ old) × (note ≡ []) × (text ≡ [])
+AnswersAsked raising old new line (Some (Evaluate t dt inputs)) note text =
     AnswersEvaluate old new line t dt inputs note text
     ⊎ ((refusal : LineRefusal) × IsTaskRefusal old.core t refusal × IsRefused old new note text refusal)
-AnswersAsked old new line (Some (Take m)) note text = AnswersMessage old new line m note text
-AnswersAsked old new line (Some (Hello of incarnation)) note text =
+AnswersAsked raising old new line (Some (Take m)) note text = AnswersMessage old new line m note text
+AnswersAsked raising old new line (Some (Hello of incarnation)) note text =
     AnswersHello old new line of incarnation note text
     ⊎ ((length old.core.plant.resources ≤ of) × IsRefused old new note text NoSuchResource)
-AnswersAsked old new line (Some (Restart n)) note text =
-    AnswersRestart old new n note text
-    ⊎ ((refusal : LineRefusal) × IsRestartRefusal old.core n refusal × IsRefused old new note text refusal)
+AnswersAsked raising old new line (Some (Restart n)) note text =
+    AnswersRestart raising old new n note text
+    ⊎ ((refusal : LineRefusal) × IsRestartRefusal raising old.core n refusal × IsRefused old new note text refusal)
 
 -- a line asks this of a node
 abbrev pub IsAsking : PlantValue → List ℕ → Option NodeLine → Type 0
 IsAsking plant line asked = MatchOption asked (SpellsNothing plant line) (λ a. Spells plant a line)
 
 -- A line was answered: this was noted for it before it was done, and this is its answer.
-pub record Answers (old new : NodeValue) (line note text : List ℕ) : Type 0 where
+pub record Answers (raising : Raising) (old new : NodeValue) (line note text : List ℕ) : Type 0 where
   pub asked : Option NodeLine
   pub read : IsAsking old.core.plant line asked
-  pub answered : AnswersAsked old new line asked note text
+  pub answered : AnswersAsked raising old new line asked note text
 
--- what a line asks was answered; the note stands behind what was noted, the answer behind what was written
-pub record IsAnsweredBy (old new : NodeValue) (line : List ℕ) (asked : Option NodeLine)
+-- a line was answered; the note stands behind what was noted, the answer behind what was written
+pub record IsAnswered (raising : Raising) (old new : NodeValue) (line : List ℕ)
     (noted_old noted_new : Option (List ℕ)) (out_old out_new : List ℕ) : Type 0 where
   pub note : List ℕ
   pub text : List ℕ
-  pub answered : AnswersAsked old new line asked note text
-  pub noted : Appends noted_old noted_new note
-  pub written : out_new ≡ out_old ++ text
-
--- a line was answered; the note stands behind what was noted, the answer behind what was written
-pub record IsAnswered (old new : NodeValue) (line : List ℕ) (noted_old noted_new : Option (List ℕ))
-    (out_old out_new : List ℕ) : Type 0 where
-  pub note : List ℕ
-  pub text : List ℕ
-  pub answers : Answers old new line note text
+  pub answers : Answers raising old new line note text
   pub noted : Appends noted_old noted_new note
   pub written : out_new ≡ out_old ++ text
 

@@ -1,9 +1,12 @@
 //! A node reads line by line, and answers each line before it reads the next one.
 
-ghost use Rattle.std.specs.Prelude.{◌≡◌, ℕ, ◌+◌, ◌<◌, ◌≤◌, IfOk, OnOk, List, Option, string_bytes};
+ghost use Rattle.std.specs.Prelude.{◌≡◌, ℕ, ◌+◌, ◌<◌, ◌≤◌, IfOk, IfErr, OnOk, List, Option, string_bytes};
 ghost use Rattle.std.specs.Io.KnownBytes.{Appends};
-ghost use Rattle.live_node.specs.LineTaking.{BeginsLine};
-ghost use Rattle.live_node.specs.LiveNode.{HasAnsweredNext, HasAnsweredSoFar, WritesNode};
+ghost use Rattle.text_writer.specs.Sending.{SendsPart};
+ghost use Rattle.live_node.specs.LiveNode.{HasAnsweredSoFar, WritesNode};
+ghost use Rattle.live_node.specs.Stops.{StopsWithin, StopsNode};
+ghost use Rattle.live_node.specs.Steps.Answering.{HasAnsweredNext, IsUnwritten};
+ghost use Rattle.live_node.specs.Steps.LineTaking.{BeginsLine};
 
 use crate::live_lines::{TakenLine, take_line};
 use crate::live_stop::LiveStop;
@@ -27,7 +30,8 @@ struct Room {
 
 /// Writes an answer, and hands it on.
 fn hand_on<W: Write>(answer: &str, out: &mut W) -> Result<(), LiveStop>
-    ensures { OnOk result (Appends (W.contents out.old) (W.contents out.new) answer.now) }
+    ensures whole { OnOk result (Appends (W.contents out.old) (W.contents out.new) answer.now) }
+    ensures part { IfErr result (IsUnwritten answer.now (W.contents out.old) (W.contents out.new)) }
 {
     write_text(out, answer)?;
     match out.flush() {
@@ -47,8 +51,12 @@ fn do_next<K: Keeper, N: Notes, L: LineSource, W: Write>(
     requires few { node.old.state.lines < 18446744073709551615 }
     requires kept { K.last node.old.keeper ≡ node.old.state.core.incarnation }
     requires ready { (left : Option (List ℕ)) → BeginsLine (L.left source.old) left → L.is_ready left (W.contents out.old) }
-    ensures answered { IfOk result (HasAnsweredNext node.old.state node.new.state (L.left source.old) (L.left source.new)
-        (N.noted node.old.notes) (N.noted node.new.notes) (W.contents out.old) (W.contents out.new)) }
+    ensures answered { IfOk result (HasAnsweredNext K.raise_gives node.old.state node.new.state
+        (L.left source.old) (L.left source.new) (N.noted node.old.notes) (N.noted node.new.notes)
+        (W.contents out.old) (W.contents out.new)) }
+    ensures stopped { IfErr result (StopsWithin K.raise_gives node.old.state
+        (L.left source.old) (L.left source.new) (N.noted node.old.notes) (N.noted node.new.notes)
+        (W.contents out.old) (W.contents out.new)) }
     ensures kept { OnOk result (K.last node.new.keeper ≡ node.new.state.core.incarnation) }
     ensures few { OnOk result (node.new.state.lines ≤ node.old.state.lines + 1) }
 {
@@ -70,7 +78,9 @@ fn do_next<K: Keeper, N: Notes, L: LineSource, W: Write>(
 
 /// Writes what a node that begun writes at its start, and answers the lines of a source, to its end: each line is answered, and the answer handed on, before the next line is taken.
 ///
-/// After a stop the line that was read last isn't answered; after `Write` a beginning of its answer is written.
+/// After a stop all lines before the one that was read last are answered. That one isn't, nor is it noted, but: after
+/// `Node` no more than a beginning of its note is noted, and after `Write` its note is, and a beginning of its answer is
+/// written, or of what is written at the start.
 pub fn live<K: Keeper, N: Notes, L: LineSource, W: Write>(
     alloc: Global,
     node: &mut Node<K, N>,
@@ -81,10 +91,15 @@ pub fn live<K: Keeper, N: Notes, L: LineSource, W: Write>(
     requires fresh { node.old.state.lines ≡ 0 }
     requires kept { K.last node.old.keeper ≡ node.old.state.core.incarnation }
     requires turns { (left written : Option (List ℕ))
-        → HasAnsweredSoFar node.old.state begun.now (L.left source.old) left (W.contents out.old) written
+        → HasAnsweredSoFar K.raise_gives node.old.state begun.now (L.left source.old) left (W.contents out.old) written
         → L.is_ready left written }
-    ensures ok { OnOk result (WritesNode node.old.state node.new.state begun.now (L.left source.old) (L.left source.new)
-        (N.noted node.old.notes) (N.noted node.new.notes) (W.contents out.old) (W.contents out.new)) }
+    ensures ok { OnOk result (WritesNode K.raise_gives node.old.state node.new.state begun.now
+        (L.left source.old) (L.left source.new) (N.noted node.old.notes) (N.noted node.new.notes)
+        (W.contents out.old) (W.contents out.new)) }
+    ensures kept { OnOk result (K.last node.new.keeper ≡ node.new.state.core.incarnation) }
+    ensures stopped { IfErr result (StopsNode K.raise_gives node.old.state begun.now
+        (L.left source.old) (L.left source.new) (N.noted node.old.notes) (N.noted node.new.notes)
+        (W.contents out.old) (W.contents out.new)) }
 {
     let mut room = Room {
         line: Vec::new(alloc),

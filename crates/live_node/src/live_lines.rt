@@ -1,7 +1,7 @@
 //! The lines that a node reads. A longer one than it may have is read to its end.
 
-ghost use Rattle.std.specs.Prelude.{◌≡◌, ℕ, ◌≤◌, IfOk, List, Option, length};
-ghost use Rattle.live_node.specs.LineTaking.{BeginsLine, IsTaken, Takes, TakesRest, HasPut};
+ghost use Rattle.std.specs.Prelude.{◌≡◌, ℕ, ◌≤◌, IfOk, OnErr, List, Option, length};
+ghost use Rattle.live_node.specs.Steps.LineTaking.{BeginsLine, IsTaken, Takes, TakesRest, TakesWithin, HasPut};
 
 use line_reader::{Given, ReadFault};
 use std::io::Write;
@@ -54,6 +54,7 @@ fn take_rest<L: LineSource, W: Write>(
     requires few { length line.old.items ≤ 16777216 }
     requires ready { (left : Option (List ℕ)) → BeginsLine (L.left source.old) left → L.is_ready left (W.contents out.now) }
     ensures ok { IfOk result (TakesRest (L.left source.old) (L.left source.new) line.old.items line.new.items) }
+    ensures fault { OnErr result (TakesWithin (L.left source.old) (L.left source.new)) }
 {
     let mut too_long = false;
     for _ in 0..u64::MAX {
@@ -79,6 +80,7 @@ pub(crate) fn take_line<L: LineSource, W: Write>(
 ) -> Result<TakenLine, ReadFault>
     requires ready { (left : Option (List ℕ)) → BeginsLine (L.left source.old) left → L.is_ready left (W.contents out.now) }
     ensures ok { IfOk result (Takes (L.left source.old) (L.left source.new) line.new.items) }
+    ensures fault { OnErr result (TakesWithin (L.left source.old) (L.left source.new)) }
 {
     match source.take_line(line, out)? {
         Given::Line => Ok(TakenLine::Line { fed: true }),

@@ -44,6 +44,11 @@ impl From<WriteFault> for LiveStop {
 }
 
 impl From<ReadFault> for LiveStop {
+    ghost use Rattle.std.specs.Prelude.{◌≡◌};
+    ghost use Rattle.live_node.specs.Steps.Answering.{stop_of};
+
+    ghost from_gives = { λ found stop. stop ≡ stop_of found };
+
     fn from(fault: ReadFault) -> LiveStop {
         match fault {
             ReadFault::Read => LiveStop::Read,

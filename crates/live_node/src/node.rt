@@ -1,14 +1,20 @@
 //! A node answers lines.
 
-ghost use Rattle.std.specs.Prelude.{◌≡◌, ◌<◌, IfOk, OnOk, Some, [], length, string_bytes, if◌then◌else◌};
+ghost use Rattle.std.specs.Prelude.{◌≡◌, ◌≢◌, ◌<◌, IfOk, OnOk, OnErr, Some, [], length, string_bytes, if◌then◌else◌};
 ghost use Rattle.std.specs.Io.KnownBytes.{Appends};
 ghost use Rattle.evaluation.specs.Messages.{message_of};
 ghost use Rattle.message_core.specs.Openings.{AreOpeningOf};
 ghost use Rattle.message_texts.specs.MessageLines.{IsMessageOf};
+ghost use Rattle.keepers.specs.declared.keeper_fault.KeeperFault.TheVariants as keeping;
+ghost use Rattle.node_cores.specs.declared.line_refusal.LineRefusal.TheVariants as refusal;
+ghost use Rattle.node_lines.specs.Answers.{refused_line};
 ghost use Rattle.node_lines.specs.declared.node_line.NodeLine.TheVariants as asked;
-ghost use Rattle.live_node.specs.NodeAnswers.{is_told, own_hello, HasRisenTo, IsAnsweredBy, IsAnswered, HasBegun};
-ghost use Rattle.node_lines.specs.NodeJournal.{line_note};
+ghost use Rattle.live_node.specs.NodeAnswers.{is_told, own_hello, IsAnswered, HasBegun};
+ghost use Rattle.live_node.specs.Stops.{NotesPart};
+ghost use Rattle.live_node.specs.Steps.Answering.{HasRisenTo, IsAnsweredBy, NotesRestartPart};
+ghost use Rattle.node_lines.specs.NodeJournal.{line_note, restart_note};
 ghost use Rattle.text_writer.specs.Growing.{GrowsBy};
+ghost use Rattle.text_writer.specs.Sending.{SendsPart};
 
 use crate::node_stop::NodeStop;
 use crate::notes::Notes;
@@ -84,6 +90,19 @@ fn is_told(answer: Accepted, is_behind: bool) -> bool
     }
 }
 
+/// Refuses a restart for which the keeper didn't raise the incarnation. Want of memory is a stop.
+fn refuse_unraised(fault: KeeperFault, out: &mut String) -> Result<(), NodeStop>
+    ensures { OnOk result ((fault ≢ keeping.Memory) × GrowsBy out.old out.new (refused_line refusal.Keeper)) }
+{
+    match fault {
+        KeeperFault::Memory => Err(NodeStop::Memory),
+        _ => {
+            push_refused(out, LineRefusal::Keeper)?;
+            Ok(())
+        }
+    }
+}
+
 impl<K: Keeper, N: Notes> Node<K, N> {
     /// Raises the incarnation of a resource of the plant, notes the start with what was kept of its tasks, and starts it. `out` is what it writes, behind what is there: its hellos, and `START R i`.
     pub fn begin(
@@ -120,6 +139,7 @@ impl<K: Keeper, N: Notes> Node<K, N> {
     /// Notes a line that is done next.
     fn note_line(&mut self, line: &[u8]) -> Result<(), NodeStop>
         ensures noted { OnOk result (Appends (N.noted self.old.notes) (N.noted self.new.notes) (line_note line.now)) }
+        ensures part { OnErr result (SendsPart (line_note line.now) (N.noted self.old.notes) (N.noted self.new.notes)) }
         ensures state { self.new.state ≡ self.old.state }
         ensures keeper { self.new.keeper ≡ self.old.keeper }
     {
@@ -139,8 +159,9 @@ impl<K: Keeper, N: Notes> Node<K, N> {
         out: &mut String,
     ) -> Result<(), NodeStop>
         requires few { self.old.state.lines < 18446744073709551615 }
-        ensures answered { OnOk result (IsAnsweredBy self.old.state self.new.state line.now (Some (asked.Evaluate task dt inputs.now))
+        ensures answered { OnOk result (IsAnsweredBy K.raise_gives self.old.state self.new.state line.now (Some (asked.Evaluate task dt inputs.now))
             (N.noted self.old.notes) (N.noted self.new.notes) (string_bytes out.old) (string_bytes out.new)) }
+        ensures part { OnErr result (SendsPart (line_note line.now) (N.noted self.old.notes) (N.noted self.new.notes)) }
         ensures kept { OnOk result (K.last self.new.keeper ≡ K.last self.old.keeper) }
     {
         if let Some(refusal) = self.state.refusal_of_task(task) {
@@ -166,8 +187,9 @@ impl<K: Keeper, N: Notes> Node<K, N> {
         out: &mut String,
     ) -> Result<(), NodeStop>
         requires few { self.old.state.lines < 18446744073709551615 }
-        ensures answered { OnOk result (IsAnsweredBy self.old.state self.new.state line.now (Some (asked.Take message))
+        ensures answered { OnOk result (IsAnsweredBy K.raise_gives self.old.state self.new.state line.now (Some (asked.Take message))
             (N.noted self.old.notes) (N.noted self.new.notes) (string_bytes out.old) (string_bytes out.new)) }
+        ensures part { OnErr result (SendsPart (line_note line.now) (N.noted self.old.notes) (N.noted self.new.notes)) }
         ensures kept { self.new.keeper ≡ self.old.keeper }
     {
         self.note_line(line)?;
@@ -214,8 +236,9 @@ impl<K: Keeper, N: Notes> Node<K, N> {
         out: &mut String,
     ) -> Result<(), NodeStop>
         requires few { self.old.state.lines < 18446744073709551615 }
-        ensures answered { OnOk result (IsAnsweredBy self.old.state self.new.state line.now (Some (asked.Hello of incarnation))
+        ensures answered { OnOk result (IsAnsweredBy K.raise_gives self.old.state self.new.state line.now (Some (asked.Hello of incarnation))
             (N.noted self.old.notes) (N.noted self.new.notes) (string_bytes out.old) (string_bytes out.new)) }
+        ensures part { OnErr result (SendsPart (line_note line.now) (N.noted self.old.notes) (N.noted self.new.notes)) }
         ensures kept { self.new.keeper ≡ self.old.keeper }
     {
         if of >= self.state.plant().resources() {
@@ -231,7 +254,7 @@ impl<K: Keeper, N: Notes> Node<K, N> {
     }
 
     /// Answers a line `RESTART`.
-    #[tactic(auto, using(crate::proofs::Telling::refused_place, crate::proofs::Telling::refused_raise, crate::proofs::Telling::risen_restart))]
+    #[tactic(auto, using(crate::proofs::Telling::refused_place, crate::proofs::Telling::risen_restart))]
     fn answer_restart(
         &mut self,
         line: &[u8],
@@ -240,8 +263,9 @@ impl<K: Keeper, N: Notes> Node<K, N> {
     ) -> Result<(), NodeStop>
         requires kept { K.last self.old.keeper ≡ self.old.state.core.incarnation }
         requires few { self.old.state.lines < 18446744073709551615 }
-        ensures answered { OnOk result (IsAnsweredBy self.old.state self.new.state line.now (Some (asked.Restart resource))
+        ensures answered { OnOk result (IsAnsweredBy K.raise_gives self.old.state self.new.state line.now (Some (asked.Restart resource))
             (N.noted self.old.notes) (N.noted self.new.notes) (string_bytes out.old) (string_bytes out.new)) }
+        ensures part { OnErr result (NotesRestartPart self.old.state (N.noted self.old.notes) (N.noted self.new.notes)) }
         ensures kept { OnOk result (K.last self.new.keeper ≡ self.new.state.core.incarnation) }
     {
         if let Some(refusal) = self.state.refusal_of_place(resource) {
@@ -250,11 +274,7 @@ impl<K: Keeper, N: Notes> Node<K, N> {
         }
         match self.keeper.raise() {
             Ok(incarnation) => self.rise(incarnation, out),
-            Err(KeeperFault::Memory) => Err(NodeStop::Memory),
-            Err(_) => {
-                push_refused(out, LineRefusal::Keeper)?;
-                Ok(())
-            }
+            Err(fault) => refuse_unraised(fault, out),
         }
     }
 
@@ -263,6 +283,9 @@ impl<K: Keeper, N: Notes> Node<K, N> {
         requires few { self.old.state.lines < 18446744073709551615 }
         ensures risen { OnOk result (HasRisenTo self.old.state self.new.state incarnation
             (N.noted self.old.notes) (N.noted self.new.notes) (string_bytes out.old) (string_bytes out.new)) }
+        ensures part { OnErr result
+            (SendsPart (restart_note self.old.state.core.plant self.old.state.core.resource incarnation)
+            (N.noted self.old.notes) (N.noted self.new.notes)) }
         ensures keeper { self.new.keeper ≡ self.old.keeper }
     {
         let resource = self.state.resource();
@@ -275,13 +298,14 @@ impl<K: Keeper, N: Notes> Node<K, N> {
         Ok(())
     }
 
-    /// Answers a line, without its line feed: notes it, does it, keeps what it left, and writes its answer behind what is there. A line that is refused, a blank one and a comment change nothing, and aren't noted. After a stop there is no answer, and the node is at its end.
+    /// Answers a line, without its line feed: notes it, does it, keeps what it left, and writes its answer behind what is there. A line that is refused, a blank one and a comment change nothing, and aren't noted. After a stop there is no answer, no more than a beginning of the line's note is noted, and the node is at its end.
     #[tactic(auto, using(crate::proofs::Telling::idle_answer, crate::proofs::Telling::line_answered))]
     pub fn answer(&mut self, line: &[u8], out: &mut String) -> Result<(), NodeStop>
         requires few { self.old.state.lines < 18446744073709551615 }
         requires kept { K.last self.old.keeper ≡ self.old.state.core.incarnation }
-        ensures answered { OnOk result (IsAnswered self.old.state self.new.state line.now
+        ensures answered { OnOk result (IsAnswered K.raise_gives self.old.state self.new.state line.now
             (N.noted self.old.notes) (N.noted self.new.notes) (string_bytes out.old) (string_bytes out.new)) }
+        ensures stopped { OnErr result (NotesPart self.old.state line.now (N.noted self.old.notes) (N.noted self.new.notes)) }
         ensures kept { OnOk result (K.last self.new.keeper ≡ self.new.state.core.incarnation) }
     {
         match read_node_line(self.alloc, self.state.plant(), line)? {

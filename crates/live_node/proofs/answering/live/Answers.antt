@@ -1,22 +1,26 @@
-use Rattle.std.proofs.Common.{◌≡◌, ℕ, ◌+◌, ◌≤◌, [], ◌∷◌, ◌++◌, refl, subst, arith}
-use Rattle.live_node.specs.LiveNode.{HasAnsweredNext}
+use Rattle.std.proofs.Common.{[], ◌∷◌, ◌++◌, subst, arith}
+use Rattle.lists.proofs.Results.{kept_fault}
+use Rattle.live_node.specs.declared.live_stop.LiveStop.TheVariants.{Read}
+use Rattle.live_node.specs.Stops.{StopsNode}
+use Rattle.live_node.specs.Steps.Answering.{HasAnsweredNext}
 use Rattle.live_node.proofs.Standing.{stands_first, stands_next, stands_within, stands_ended}
+use Rattle.live_node.proofs.Stopping.{stops_behind, stops_endless}
 use Rattle.live_node.proofs.answering.live.Goals as goal
 
 pub loop-init : goal.loop-init
 loop-init g c =
     let first = c.args.node.now.state in
-    let stands = stands_first first c.args.begun.now (g.L.LineSource.left c.args.source.now) (g.N.Notes.noted c.args.node.now.notes) (g.W.Write.contents c.args.out.now) (g.W.Write.contents c.hand_on.new.out) c.in_ok-hand_on.ensures in
+    let stands = stands_first g.K.Keeper.raise_gives first c.args.begun.now (g.L.LineSource.left c.args.source.now) (g.N.Notes.noted c.args.node.now.notes) (g.W.Write.contents c.args.out.now) (g.W.Write.contents c.hand_on.new.out) c.in_ok-hand_on.ensures.whole in
     ([], stands, c.requires.kept, omega (arith, c.requires.fresh))
 
 pub do_next-requires-clause-ready : goal.do_next-requires-clause-ready
 do_next-requires-clause-ready g c κs within = λ left b.
     let so_far = c.loop.invariant in
     c.requires.turns left (g.W.Write.contents c.loop.out)
-    (stands_within c.args.node.now.state c.loop.node.state c.args.begun.now so_far.0 (g.L.LineSource.left c.args.source.now) (g.L.LineSource.left c.loop.source) left (g.N.Notes.noted c.args.node.now.notes) (g.N.Notes.noted c.loop.node.notes) (g.W.Write.contents c.args.out.now) (g.W.Write.contents c.loop.out) so_far.1 b)
+    (stands_within g.K.Keeper.raise_gives c.args.node.now.state c.loop.node.state c.args.begun.now so_far.0 (g.L.LineSource.left c.args.source.now) (g.L.LineSource.left c.loop.source) left (g.N.Notes.noted c.args.node.now.notes) (g.N.Notes.noted c.loop.node.notes) (g.W.Write.contents c.args.out.now) (g.W.Write.contents c.loop.out) so_far.1 b)
 
-pub returns-then-not-branch : goal.returns-then-not-branch
-returns-then-not-branch g c =
+pub returns-then-not-branch-clause-ok : goal.returns-then-not-branch-clause-ok
+returns-then-not-branch-clause-ok g c =
     let first = c.args.node.now.state in
     let mid = c.loop.node.state in
     let last = c.do_next.new.node.state in
@@ -30,8 +34,8 @@ returns-then-not-branch g c =
     let written = g.W.Write.contents c.loop.out in
     let to = g.W.Write.contents c.do_next.new.out in
     let so_far = c.loop.invariant in
-    let next = subst (HasAnsweredNext mid last now left noted_mid noted_new written to) c.if-not-branch.true c.in_ok-do_next.ensures.answered in
-    record { ok = stands_ended first mid last c.args.begun.now so_far.0 given now left noted_old noted_mid noted_new from written to so_far.1 next }
+    let next = subst (HasAnsweredNext g.K.Keeper.raise_gives mid last now left noted_mid noted_new written to) c.if-not-branch.true c.in_ok-do_next.ensures.answered in
+    stands_ended g.K.Keeper.raise_gives first mid last c.args.begun.now so_far.0 given now left noted_old noted_mid noted_new from written to so_far.1 next
 
 pub loop-preserved : goal.loop-preserved
 loop-preserved g c =
@@ -48,9 +52,42 @@ loop-preserved g c =
     let written = g.W.Write.contents c.loop.out in
     let to = g.W.Write.contents c.do_next.new.out in
     let so_far = c.loop.invariant in
-    let next = subst (HasAnsweredNext mid last now left noted_mid noted_new written to) c.if-not-branch.false c.in_ok-do_next.ensures.answered in (
+    let next = subst (HasAnsweredNext g.K.Keeper.raise_gives mid last now left noted_mid noted_new written to) c.if-not-branch.false c.in_ok-do_next.ensures.answered in (
       so_far.0 ++ next.line ∷ [],
-      stands_next first mid last c.args.begun.now so_far.0 given now left noted_old noted_mid noted_new from written to so_far.1 next,
+      stands_next g.K.Keeper.raise_gives first mid last c.args.begun.now so_far.0 given now left noted_old noted_mid noted_new from written to so_far.1 next,
       c.in_ok-do_next.ensures.kept,
       omega (arith, so_far.3, c.in_ok-do_next.ensures.few),
     )
+
+pub returns-in_err-do_next-clause-stopped : goal.returns-in_err-do_next-clause-stopped
+returns-in_err-do_next-clause-stopped g c =
+    let raising = g.K.Keeper.raise_gives in
+    let first = c.args.node.now.state in
+    let mid = c.loop.node.state in
+    let given = g.L.LineSource.left c.args.source.now in
+    let now = g.L.LineSource.left c.loop.source in
+    let left = g.L.LineSource.left c.do_next.new.source in
+    let noted_old = g.N.Notes.noted c.args.node.now.notes in
+    let noted_mid = g.N.Notes.noted c.loop.node.notes in
+    let noted_new = g.N.Notes.noted c.do_next.new.node.notes in
+    let from = g.W.Write.contents c.args.out.now in
+    let written = g.W.Write.contents c.loop.out in
+    let to = g.W.Write.contents c.do_next.new.out in
+    let so_far = c.loop.invariant in
+    let stop = c.in_err-do_next.field-0.0 in
+    kept_fault stop (λ found. StopsNode raising first c.args.begun.now given left noted_old noted_new from to found) c.from_residual-in_err-do_next.result c.from_residual-in_err-do_next.ensures.1
+    (stops_behind raising first mid c.args.begun.now so_far.0 given now left noted_old noted_mid noted_new from written to stop so_far.1 c.in_err-do_next.ensures.stopped)
+
+pub returns-clause-stopped : goal.returns-clause-stopped
+returns-clause-stopped g c =
+    let raising = g.K.Keeper.raise_gives in
+    let first = c.args.node.now.state in
+    let mid = c.loop.node.state in
+    let given = g.L.LineSource.left c.args.source.now in
+    let left = g.L.LineSource.left c.loop.source in
+    let noted_old = g.N.Notes.noted c.args.node.now.notes in
+    let noted_new = g.N.Notes.noted c.loop.node.notes in
+    let from = g.W.Write.contents c.args.out.now in
+    let to = g.W.Write.contents c.loop.out in
+    let so_far = c.loop.invariant in
+    stops_behind raising first mid c.args.begun.now so_far.0 given left left noted_old noted_new noted_new from to to Read so_far.1 (stops_endless raising mid left noted_new to)

@@ -1,12 +1,13 @@
-use Rattle.std.proofs.Common.{true, false, ◌++◌, ◌∷◌, [], subst}
+use Rattle.std.proofs.Common.{true, false, ◌++◌, subst}
 use Rattle.std.proofs.KnownBytes.{Consumes-trans}
 use Rattle.line_reader.specs.Lines.{Gives}
-use Rattle.live_node.specs.LineTaking.{HasPut}
-use Rattle.live_node.proofs.LineTaking.{plain_both, held_more, held_within, rest_taken, fed_end, whole_end, last_end}
+use Rattle.live_node.specs.Steps.LineTaking.{HasPut}
+use Rattle.text_writer.proofs.Sending.{on_err}
+use Rattle.live_node.proofs.LineTaking.{plain_both, within_some, within_given, held_more, held_within, rest_taken, fed_end, whole_end, last_end}
 use Rattle.live_node.proofs.live_lines.take_rest.Goals as goal
 
-pub returns-in-Line : goal.returns-in-Line
-returns-in-Line g c =
+pub returns-in-Line-clause-ok : goal.returns-in-Line-clause-ok
+returns-in-Line-clause-ok g c =
     let given = g.L.LineSource.left c.args.source.now in
     let mid = g.L.LineSource.left c.loop.source in
     let left = g.L.LineSource.left c.take_line.new.self in
@@ -17,15 +18,13 @@ returns-in-Line g c =
     let so_far = c.loop.invariant in
     let put = subst (λ p. HasPut c.loop.line.items new p c.loop.too_long now) c.as_slice.ensures.value c.in_ok-too_long.ensures in
     let gives = subst (Gives mid left piece) c.in-Line.is c.in_ok-given.ensures.ok in
-    record {
-      ok = rest_taken now true given left begun new (so_far.0 ++ piece) c.taken.result (plain_both so_far.0 piece so_far.1 gives.0)
-          (held_more c.loop.too_long now begun c.loop.line.items new so_far.0 piece so_far.3 put)
-          (held_within c.loop.too_long now c.loop.line.items new piece so_far.4 put)
-          (fed_end given mid left so_far.0 piece so_far.2 gives.2) c.taken.ensures;
-    }
+    rest_taken now true given left begun new (so_far.0 ++ piece) c.taken.result (plain_both so_far.0 piece so_far.1 gives.0)
+    (held_more c.loop.too_long now begun c.loop.line.items new so_far.0 piece so_far.3 put)
+    (held_within c.loop.too_long now c.loop.line.items new piece so_far.4 put)
+    (fed_end given mid left so_far.0 piece so_far.2 gives.2) c.taken.ensures
 
-pub returns-in-LastLine : goal.returns-in-LastLine
-returns-in-LastLine g c =
+pub returns-in-LastLine-clause-ok : goal.returns-in-LastLine-clause-ok
+returns-in-LastLine-clause-ok g c =
     let given = g.L.LineSource.left c.args.source.now in
     let mid = g.L.LineSource.left c.loop.source in
     let left = g.L.LineSource.left c.take_line.new.self in
@@ -36,12 +35,10 @@ returns-in-LastLine g c =
     let so_far = c.loop.invariant in
     let put = subst (λ p. HasPut c.loop.line.items new p c.loop.too_long now) c.as_slice.ensures.value c.in_ok-too_long.ensures in
     let gives = last_end mid left piece c.in_ok-given.given c.in-LastLine.is c.in_ok-given.ensures.ok in
-    record {
-      ok = rest_taken now false given left begun new (so_far.0 ++ piece) c.taken-in-LastLine.result (plain_both so_far.0 piece so_far.1 gives.0)
-          (held_more c.loop.too_long now begun c.loop.line.items new so_far.0 piece so_far.3 put)
-          (held_within c.loop.too_long now c.loop.line.items new piece so_far.4 put)
-          (whole_end given mid left so_far.0 piece false so_far.2 (gives.1, gives.2)) c.taken-in-LastLine.ensures;
-    }
+    rest_taken now false given left begun new (so_far.0 ++ piece) c.taken-in-LastLine.result (plain_both so_far.0 piece so_far.1 gives.0)
+    (held_more c.loop.too_long now begun c.loop.line.items new so_far.0 piece so_far.3 put)
+    (held_within c.loop.too_long now c.loop.line.items new piece so_far.4 put)
+    (whole_end given mid left so_far.0 piece false so_far.2 (gives.1, gives.2)) c.taken-in-LastLine.ensures
 
 pub loop-preserved : goal.loop-preserved
 loop-preserved g c =
@@ -61,3 +58,13 @@ loop-preserved g c =
       held_more c.loop.too_long now begun c.loop.line.items new so_far.0 piece so_far.3 put,
       held_within c.loop.too_long now c.loop.line.items new piece so_far.4 put,
     )
+
+pub returns-in_err-given-clause-fault : goal.returns-in_err-given-clause-fault
+returns-in_err-given-clause-fault g c =
+    let so_far = c.loop.invariant in
+    on_err _ (within_some _ _ _ so_far.0 so_far.1 so_far.2 c.in_err-given.ensures.fault)
+
+pub returns-in_err-too_long-clause-fault : goal.returns-in_err-too_long-clause-fault
+returns-in_err-too_long-clause-fault g c =
+    let so_far = c.loop.invariant in
+    on_err _ (within_given _ _ _ so_far.0 _ c.in_ok-given.given so_far.1 so_far.2 c.in_ok-given.ensures.ok)

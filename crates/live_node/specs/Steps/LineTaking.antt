@@ -4,6 +4,7 @@ use Rattle.std.specs.Io.KnownBytes.{Consumes, IsAtEnd}
 use Rattle.line_reader.specs.Lines.{HasNoFeed}
 use Rattle.live_node.specs.declared.live_lines.TakenLine.{TakenLine}
 use Rattle.live_node.specs.declared.live_lines.TakenLine.TheVariants.{Line, TooLong, End}
+use Rattle.live_node.specs.Stops.{IsLine}
 
 -- the beginning of a line was taken, or nothing yet
 abbrev pub BeginsLine : Option (List ℕ) → Option (List ℕ) → Type 0
@@ -42,3 +43,10 @@ IsTaken too_long fed End = ⊥
 abbrev pub HasPut : List ℕ → List ℕ → List ℕ → Bool → Bool → Type 0
 HasPut old new piece before true = (new ≡ old) × (before ≡ false → 16777216 < length (old ++ piece))
 HasPut old new piece before false = (new ≡ old ++ piece) × (before ≡ false) × (length new ≤ 16777216)
+
+-- no more than one line was taken
+pub record TakesWithin (old new : Option (List ℕ)) : Type 0 where
+  pub line : List ℕ
+  pub bytes : List ℕ
+  pub line_is : IsLine line bytes
+  pub taken : Consumes old new bytes

@@ -1,0 +1,142 @@
+-- A node stops: what was noted and written for the line that it read last.
+use Rattle.std.proofs.Common.{◌≡◌, inl, inr, ℕ, ◌+◌, ◌++◌, ◌<◌, true, false, Bool, List, [], ◌∷◌, Option, refl, sym, ap, ◌∙◌, subst, append_assoc, append-nil, arith}
+use Rattle.std.specs.List.{flat_map}
+use Rattle.std.specs.Io.KnownBytes.{Appends, Consumes}
+use Rattle.std.proofs.KnownBytes.{Appends-nil, Consumes-nil, Keeps-refl}
+use Rattle.text_writer.specs.Sending.{SendsPart}
+use Rattle.text_writer.proofs.Sending.{begins}
+use Rattle.line_reader.specs.Lines.{TakesSome}
+use Rattle.line_reader.specs.declared.read_fault.ReadFault.{ReadFault}
+use Rattle.line_reader.specs.declared.read_fault.ReadFault.TheVariants as reading
+use Rattle.world.proofs.LinesRead.{fed}
+use Rattle.node_lines.specs.declared.node_line.NodeLine.TheVariants.{Restart}
+use Rattle.node_lines.specs.Answers.{refused_line}
+use Rattle.node_lines.specs.NodeJournal.{line_note, restart_note}
+use Rattle.node_lines.specs.NodeLines.{Spells}
+use Rattle.node_cores.specs.declared.line_refusal.LineRefusal.TheVariants as refusal
+use Rattle.node_cores.specs.NodeValue.{NodeValue}
+use Rattle.live_node.specs.declared.live_lines.TakenLine.TheVariants.{Line, TooLong}
+use Rattle.live_node.specs.declared.live_stop.LiveStop.{LiveStop}
+use Rattle.live_node.specs.declared.live_stop.LiveStop.TheVariants.{Node, Read, Write, Memory}
+use Rattle.live_node.specs.declared.node_stop.NodeStop.{NodeStop}
+use Rattle.live_node.specs.NodeAnswers.{Raising, IsAnswered}
+use Rattle.live_node.specs.Stops.{NotesPart, StopsWithin, StopsNode}
+use Rattle.live_node.specs.Steps.Answering.{NotesRestartPart, stop_of}
+use Rattle.live_node.specs.Steps.LineTaking.{Takes, TakesWithin}
+use Rattle.live_node.proofs.Standing.{Stands}
+
+-- nothing is a beginning
+pub none_sent : (text : List ℕ) (old : Option (List ℕ)) → SendsPart text old old
+none_sent text old = begins text [] text old old refl (Appends-nil old)
+
+-- and so is all
+pub all_sent : (text : List ℕ) (old new : Option (List ℕ)) → Appends old new text → SendsPart text old new
+all_sent text old new h = begins text text [] old new (append-nil text) h
+
+-- a line that was noted in part
+pub line_part : (s : NodeValue) (line : List ℕ) (old new : Option (List ℕ)) → SendsPart (line_note line) old new → NotesPart s line old new
+line_part s line old new h = (line_note line, inl refl, h)
+
+-- nothing was noted of a line
+pub no_part : (s : NodeValue) (line : List ℕ) (old : Option (List ℕ)) → NotesPart s line old old
+no_part s line old = line_part s line old old (none_sent (line_note line) old)
+
+-- nothing was noted of a restart
+pub no_restart : (s : NodeValue) (old : Option (List ℕ)) → NotesRestartPart s old old
+no_restart s old = (s.core.incarnation + 1, omega arith, none_sent (restart_note s.core.plant s.core.resource (s.core.incarnation + 1)) old)
+
+-- a restart was noted in part
+pub restart_part : (s : NodeValue) (incarnation : ℕ) (old new : Option (List ℕ)) → s.core.incarnation < incarnation → SendsPart (restart_note s.core.plant s.core.resource incarnation) old new → NotesRestartPart s old new
+restart_part s incarnation old new above h = (incarnation, above, h)
+
+-- a line that asks for a restart
+pub asked_part : (s : NodeValue) (resource : ℕ) (line : List ℕ) (old new : Option (List ℕ)) → Spells s.core.plant (Restart resource) line → NotesRestartPart s old new → NotesPart s line old new
+asked_part s resource line old new asked h =
+    (restart_note s.core.plant s.core.resource h.0, inr (record { resource = resource; asked = asked; incarnation = h.0; above = h.1; note_is = refl }), h.2)
+
+-- the next line can't be read
+pub stops_unread : (raising : Raising) (s : NodeValue) (given left noted from : Option (List ℕ)) (found : ReadFault) → TakesWithin given left → StopsWithin raising s given left noted noted from from (stop_of found)
+stops_unread raising s given left noted from reading.Read t = record { line = t.line; bytes = t.bytes; line_is = t.line_is; read = t.taken; leaves = (Keeps-refl noted, Keeps-refl from) }
+stops_unread raising s given left noted from reading.Memory t = record { line = t.line; bytes = t.bytes; line_is = t.line_is; read = t.taken; leaves = (Keeps-refl noted, Keeps-refl from) }
+
+-- a line isn't answered
+pub stops_unanswered : (raising : Raising) (s : NodeValue) (given left noted_old noted_new from : Option (List ℕ)) (line : List ℕ) (fed : Bool) (why : NodeStop) → Takes given left line (Line fed) → NotesPart s line noted_old noted_new
+    → StopsWithin raising s given left noted_old noted_new from from (Node why)
+stops_unanswered raising s given left noted_old noted_new from line true why t h = record { line = line; bytes = line ++ 10 ∷ []; line_is = (t.1.0, inl refl); read = t.1.2; leaves = (h, Keeps-refl from) }
+stops_unanswered raising s given left noted_old noted_new from line false why t h = record { line = line; bytes = line; line_is = (t.1.0, inr refl); read = t.1.2.0; leaves = (h, Keeps-refl from) }
+
+-- an answer isn't written
+pub stops_unwritten : (raising : Raising) (s last : NodeValue) (given left noted_old noted_new from to : Option (List ℕ)) (line text : List ℕ) (fed : Bool) → Takes given left line (Line fed) → IsAnswered raising s last line noted_old noted_new [] text → SendsPart text from to
+    → StopsWithin raising s given left noted_old noted_new from to Write
+stops_unwritten raising s last given left noted_old noted_new from to line text true t h sent = record {
+  line = line;
+  bytes = line ++ 10 ∷ [];
+  line_is = (t.1.0, inl refl);
+  read = t.1.2;
+  leaves = record { last = last; note = h.note; text = h.text; answered = inl (t.0, h.answers); noted = h.noted; sent = subst (λ l. SendsPart l from to) h.written sent };
+}
+stops_unwritten raising s last given left noted_old noted_new from to line text false t h sent = record {
+  line = line;
+  bytes = line;
+  line_is = (t.1.0, inr refl);
+  read = t.1.2.0;
+  leaves = record { last = last; note = h.note; text = h.text; answered = inl (t.0, h.answers); noted = h.noted; sent = subst (λ l. SendsPart l from to) h.written sent };
+}
+
+-- a line is too long, and there is no memory for the refusal
+pub stops_unrefused : (raising : Raising) (s : NodeValue) (given left noted from : Option (List ℕ)) (line : List ℕ) (fed : Bool) → Takes given left line (TooLong fed) → StopsWithin raising s given left noted noted from from Memory
+stops_unrefused raising s given left noted from line true t = record { line = t.0; bytes = t.0 ++ 10 ∷ []; line_is = (t.2.0, inl refl); read = t.2.2; leaves = (Keeps-refl noted, Keeps-refl from) }
+stops_unrefused raising s given left noted from line false t = record { line = t.0; bytes = t.0; line_is = (t.2.0, inr refl); read = t.2.2.0; leaves = (Keeps-refl noted, Keeps-refl from) }
+
+-- the refusal isn't written
+pub stops_too_long : (raising : Raising) (s : NodeValue) (given left noted from to : Option (List ℕ)) (line text : List ℕ) (fed : Bool) → Takes given left line (TooLong fed) → text ≡ refused_line refusal.TooLong → SendsPart text from to
+    → StopsWithin raising s given left noted noted from to Write
+stops_too_long raising s given left noted from to line text true t is sent = record {
+  line = t.0;
+  bytes = t.0 ++ 10 ∷ [];
+  line_is = (t.2.0, inl refl);
+  read = t.2.2;
+  leaves = record { last = s; note = []; text = text; answered = inr (t.1, record { same = refl; unnoted = refl; text_is = is }); noted = Appends-nil noted; sent = sent };
+}
+stops_too_long raising s given left noted from to line text false t is sent = record {
+  line = t.0;
+  bytes = t.0;
+  line_is = (t.2.0, inr refl);
+  read = t.2.2.0;
+  leaves = record { last = s; note = []; text = text; answered = inr (t.1, record { same = refl; unnoted = refl; text_is = is }); noted = Appends-nil noted; sent = sent };
+}
+
+fed_each : (lines : List (List ℕ)) → fed lines ≡ flat_map (λ line. line ++ 10 ∷ []) lines
+fed_each [] = refl
+fed_each (line ∷ lines) = ap (λ t. line ++ 10 ∷ t) (fed_each lines) ∙ sym (append_assoc line (10 ∷ []) (flat_map (λ l. l ++ 10 ∷ []) lines))
+
+-- behind whole lines that were answered
+pub stops_behind : (raising : Raising) (first mid : NodeValue) (begun : List ℕ) (lines : List (List ℕ)) (given now left noted_old noted_mid noted_new from mid_to to : Option (List ℕ)) (stop : LiveStop) → Stands raising first mid begun lines given now noted_old noted_mid from mid_to
+    → StopsWithin raising mid now left noted_mid noted_new mid_to to stop → StopsNode raising first begun given left noted_old noted_new from to stop
+stops_behind raising first mid begun lines given now left noted_old noted_mid noted_new from mid_to to stop s h = inr (record {
+  lines = lines;
+  whole = s.whole;
+  now = now;
+  read = subst (Consumes given now) (fed_each lines) s.read;
+  last = mid;
+  notes = s.notes;
+  text = s.text;
+  answered = s.answered;
+  noted_mid = noted_mid;
+  noted = s.noted;
+  mid = mid_to;
+  written = s.written;
+  stops = h;
+})
+
+-- no line more is read
+pub stops_endless : (raising : Raising) (s : NodeValue) (given noted from : Option (List ℕ)) → StopsWithin raising s given given noted noted from from Read
+stops_endless raising s given noted from = record { line = []; bytes = []; line_is = (λ j d lt. absurd (omega (arith, lt)), inr refl); read = Consumes-nil given; leaves = (Keeps-refl noted, Keeps-refl from) }
+
+-- before the first line
+pub stops_at_start : (raising : Raising) (first : NodeValue) (begun : List ℕ) (given noted from to : Option (List ℕ)) (stop : LiveStop) → stop ≡ Write → SendsPart begun from to → StopsNode raising first begun given given noted noted from to stop
+stops_at_start raising first begun given noted from to stop is sent = inl (record { cause = is; unread = Consumes-nil given; unnoted = Keeps-refl noted; sent = sent })
+
+-- some of a line was taken
+pub some_taken : (given left : Option (List ℕ)) → TakesSome given left → TakesWithin given left
+some_taken given left t = record { line = t.0; bytes = t.0; line_is = (t.1, inr refl); taken = t.2 }
