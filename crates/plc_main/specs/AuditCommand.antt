@@ -5,15 +5,18 @@ use Rattle.plant.specs.PlantValue.{PlantValue}
 use Rattle.node_reports.specs.Reports.{IsFittingBook, AreJournalsOf, AreInBook, RunsAgain, CanBeMadeAgain}
 use Rattle.journal_files.specs.declared.journal_file.JournalFile.{JournalFile}
 use Rattle.audit.specs.Delivered.{AreDelivered}
+use Rattle.audit.specs.Told.{AreToldBy}
 use Rattle.audit.specs.declared.auditing.Audited.{Audited}
 use Rattle.console.specs.declared.command_fault.CommandFault.{CommandFault}
 use Rattle.console.specs.declared.command_fault.CommandFault.TheVariants.{Text, Word, Write, Run, Memory}
 use Rattle.text_writer.specs.declared.send_fault.SendFault.TheVariants as sending
 use Rattle.run_texts.specs.AuditText.{TellsAudit, TellsAuditPart}
 
--- What an audit is: its book fits, its journals are lawful and made the book's entries, which are a run and could have
--- been made one after the other, and each evaluation that a resource received is an entry.
-pub record IsAudit (plant : PlantValue) (a : Audited) : Type 0 where
+-- What an audit of journals is: what is shown is what they tell, and what isn't is told. Its book fits, its journals are
+-- lawful and made the book's entries, which are a run and could have been made one after the other, and each evaluation
+-- that a resource received is an entry.
+pub record IsAudit (plant : PlantValue) (files : List JournalFile) (a : Audited) : Type 0 where
+  pub told : AreToldBy plant files a
   pub fitting : IsFittingBook a.book a.journals
   pub journals : AreJournalsOf plant 4294967295 a.journals
   pub made : AreInBook a.book.entries a.journals
@@ -21,23 +24,23 @@ pub record IsAudit (plant : PlantValue) (a : Audited) : Type 0 where
   pub made_again : CanBeMadeAgain plant 4294967295 a.book a.journals
   pub delivered : AreDelivered a.book.entries a.journals
 
--- the lines of such an audit were written, and `REPLAY equal` last; the answer is whether all is shown
+-- the lines of an audit of these files were written, and `REPLAY equal` last; the answer is whether all is shown
 pub record WritesAudit (plant : PlantValue) (files : List JournalFile) (old new : Option (List ℕ)) (shown : Bool)
     : Type 0 where
   pub audited : Audited
-  pub is_audit : IsAudit plant audited
+  pub is_audit : IsAudit plant files audited
   pub told : TellsAudit plant files audited old new shown
 
--- a beginning of the text of such an audit was written, and not all of it
+-- a beginning of the text of an audit of these files was written, and not all of it
 pub record WritesAuditLess (plant : PlantValue) (files : List JournalFile) (old new : Option (List ℕ)) : Type 0 where
   pub audited : Audited
-  pub is_audit : IsAudit plant audited
+  pub is_audit : IsAudit plant files audited
   pub sent : TellsAuditPart plant files audited old new sending.Write
 
--- no more than a beginning of the lines of such an audit was written, and nothing of the last line
+-- no more than a beginning of the lines of an audit of these files was written, and nothing of the last line
 pub record WritesAuditPart (plant : PlantValue) (files : List JournalFile) (old new : Option (List ℕ)) : Type 0 where
   pub audited : Audited
-  pub is_audit : IsAudit plant audited
+  pub is_audit : IsAudit plant files audited
   pub sent : TellsAuditPart plant files audited old new sending.Memory
 
 -- why there was a fault, and what was written before; after want of memory there is no last line

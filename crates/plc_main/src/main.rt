@@ -4,6 +4,7 @@
 mod audit_command;
 mod node_command;
 mod run_command;
+mod told_run;
 mod trace_files;
 
 ghost use Rattle.std.specs.Prelude.{◌≡◌, length, vec_len, IfOk, IfErr};
@@ -22,14 +23,16 @@ use keepers::KeeperFault;
 use node::{FreeGate, Gate, Keeper, MemoryKeeper, PacedGate, RunFault};
 use node_command::answer_node;
 use plant::{Plant, TaskRef};
+use progress::OnTerminal;
 use run_command::{Ran, run_text};
 use std::alloc::{AllocError, Global};
 use std::io;
 use std::io::{IsTerminal, Write};
 use std::process::ExitCode;
 use std::rt::{Clock, Env, Files};
-use std::sync::{Arc, Wait};
+use std::sync::{Arc, Mutex, Wait};
 use std::thread::Threads;
+use told_run::{ToldGate, UntoldWriter};
 use trace_files::write_files;
 use traces::Wanted;
 
@@ -108,30 +111,44 @@ fn obey_run<R: AllocGlobal + Threads + Wait + Sync, K: Keeper, G: Gate, W: Write
     )
 }
 
-/// Runs a plant with these keepers, paced or free, and writes what its threads did; whether there was a fault in them.
-fn run_plant<R: Print + AllocGlobal + Threads + Wait + Sync, K: Keeper>(
+/// Runs a plant with these keepers, through a gate, and writes what its threads did; whether there was a fault in them.
+/// `told` is whether it is told on standard error how many commands are done with, until the first line goes out.
+fn run_through<R: Clock + Print + Eprint + AllocGlobal + Threads + Wait + Sync, K: Keeper, G: Gate>(
     rt: &R,
+    told: bool,
+    request: &RunRequest<'_>,
+    prepared: Prepared,
+    keepers: Vec<K>,
+    gate: &G,
+) -> Result<Ran, CommandFault>
+    requires { vec_len keepers ≡ length prepared.plant.value.resources }
+{
+    let terminal = Mutex::new(OnTerminal::new(rt, told));
+    let progress = if told { Some(&terminal) } else { None };
+    let gate = ToldGate::new(gate, progress);
+    let mut writer = UntoldWriter::new(io::writer(rt), progress);
+    let wanted = wanted_for(request.plant, request.files);
+    let ran = obey_run(rt, request, prepared, keepers, &gate, wanted, &mut writer);
+    writer.end();
+    ran
+}
+
+/// Runs a plant with these keepers, paced or free, and writes what its threads did; whether there was a fault in them.
+/// `told` is whether it is told on standard error how far they are.
+fn run_plant<R: Clock + Print + Eprint + AllocGlobal + Threads + Wait + Sync, K: Keeper>(
+    rt: &R,
+    told: bool,
     request: &RunRequest<'_>,
     prepared: Prepared,
     keepers: Vec<K>,
 ) -> Result<Ran, CommandFault>
     requires { vec_len keepers ≡ length prepared.plant.value.resources }
 {
-    let mut writer = io::writer(rt);
-    let wanted = wanted_for(request.plant, request.files);
     if request.paced {
         let gate = PacedGate::new(TURNS);
-        obey_run(rt, request, prepared, keepers, &gate, wanted, &mut writer)
+        run_through(rt, told, request, prepared, keepers, &gate)
     } else {
-        obey_run(
-            rt,
-            request,
-            prepared,
-            keepers,
-            &FreeGate,
-            wanted,
-            &mut writer,
-        )
+        run_through(rt, told, request, prepared, keepers, &FreeGate)
     }
 }
 
@@ -155,13 +172,14 @@ fn failed<R: Eprint>(rt: &R, fault: CommandFault) -> io::Result<Answered> {
 }
 
 /// Runs a plant that begins anew; the status, and the texts for the files of its trace.
-fn run_anew<R: Print + Eprint + AllocGlobal + Threads + Wait + Sync>(
+fn run_anew<R: Clock + Print + Eprint + AllocGlobal + Threads + Wait + Sync>(
     rt: &R,
+    told: bool,
     request: &RunRequest<'_>,
     prepared: Prepared,
 ) -> io::Result<Answered> {
     match memory_keepers(rt.alloc(), &prepared.plant) {
-        Ok(keepers) => tell_run(rt, run_plant(rt, request, prepared, keepers)),
+        Ok(keepers) => tell_run(rt, run_plant(rt, told, request, prepared, keepers)),
         Err(_) => failed(rt, CommandFault::Memory),
     }
 }
@@ -238,9 +256,10 @@ fn print_keeper_faults<R: Eprint + AllocGlobal>(
 
 /// Runs a plant whose incarnations and retained variables are kept in a folder, which no other run uses meanwhile; the
 /// status, and the texts for the files of its trace.
-fn run_kept<R: Print + Eprint + AllocGlobal + Threads + Wait + Sync>(
+fn run_kept<R: Clock + Print + Eprint + AllocGlobal + Threads + Wait + Sync>(
     rt: &R,
     host: &HostRuntime,
+    told: bool,
     request: &RunRequest<'_>,
     prepared: Prepared,
     folder: &str,
@@ -255,7 +274,7 @@ fn run_kept<R: Print + Eprint + AllocGlobal + Threads + Wait + Sync>(
     let Ok(keepers) = keepers_in(rt.alloc(), host, &prepared.plant, folder) else {
         return failed(rt, CommandFault::Memory);
     };
-    let ran = run_plant(rt, request, prepared, keepers);
+    let ran = run_plant(rt, told, request, prepared, keepers);
     let is_of_keepers = matches!(&ran, Err(CommandFault::Run(RunFault::Keeper)));
     let answered = tell_run(rt, ran)?;
     if is_of_keepers {
@@ -264,10 +283,12 @@ fn run_kept<R: Print + Eprint + AllocGlobal + Threads + Wait + Sync>(
     Ok(answered)
 }
 
-/// Reads what a run needs, and runs it; the status, and the texts for the files of its trace.
-fn answer_run<R: Files + Print + Eprint + AllocGlobal + Threads + Wait + Sync>(
+/// Reads what a run needs, and runs it; the status, and the texts for the files of its trace. `told` is whether it is told
+/// on standard error how far the run is.
+fn answer_run<R: Files + Clock + Print + Eprint + AllocGlobal + Threads + Wait + Sync>(
     rt: &R,
     host: &HostRuntime,
+    told: bool,
     request: &RunRequest<'_>,
 ) -> io::Result<Answered> {
     let prepared = match prepare(rt, request)? {
@@ -275,8 +296,8 @@ fn answer_run<R: Files + Print + Eprint + AllocGlobal + Threads + Wait + Sync>(
         Err(status) => return Ok(Answered::with(status)),
     };
     match request.state {
-        Some(folder) => run_kept(rt, host, request, prepared, folder),
-        None => run_anew(rt, request, prepared),
+        Some(folder) => run_kept(rt, host, told, request, prepared, folder),
+        None => run_anew(rt, told, request, prepared),
     }
 }
 
@@ -350,7 +371,7 @@ fn answer<R: Env + Files + Clock + Input + Print + Eprint + AllocGlobal + Thread
             write_files(rt, host, request.files, answered)
         }
         Ok(Request::Run(request)) => {
-            let answered = answer_run(rt, host, &request)?;
+            let answered = answer_run(rt, host, told, &request)?;
             write_files(rt, host, request.files, answered)
         }
         Ok(Request::Node(request)) => answer_node(rt, host, &request),

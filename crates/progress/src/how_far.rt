@@ -11,6 +11,10 @@ pub enum HowFar {
     Written {
         lines: usize,
     },
+    /// Of a run: commands that are done with, obeyed or not.
+    Obeyed {
+        commands: u64,
+    },
 }
 
 /// Who is told how far a work is. The work is the same, whatever comes of it.

@@ -42,7 +42,7 @@ impl<'a, R: Eprint + Clock> OnTerminal<'a, R> {
                 self.calls = self.calls.wrapping_add(1) % SCANS;
                 self.calls != 0
             }
-            HowFar::Written { .. } => false,
+            HowFar::Written { .. } | HowFar::Obeyed { .. } => false,
         }
     }
 
@@ -62,6 +62,10 @@ impl<'a, R: Eprint + Clock> OnTerminal<'a, R> {
             HowFar::Written { lines } => {
                 let rate = lines as u64 / seconds;
                 eprint!(self.rt; "\r{lines} lines, {rate} a second\x1b[K")
+            }
+            HowFar::Obeyed { commands } => {
+                let rate = commands / seconds;
+                eprint!(self.rt; "\r{commands} commands, {rate} a second\x1b[K")
             }
         }
     }

@@ -6,7 +6,8 @@ use Rattle.plc_main.proofs.audit_command.audit_text.Goals as goal
 pub returns-in_err-tell_audit-clause-fault : goal.returns-in_err-tell_audit-clause-fault
 returns-in_err-tell_audit-clause-fault g c =
     let a = c.in_ok-audited.ensures in
-    let is_audit : IsAudit c.args.plant.value c.in_ok-audited.audited = record {
+    let is_audit : IsAudit c.args.plant.value c.args.files.now c.in_ok-audited.audited = record {
+      told = rw c.in_ok-shared.ensures at a.told;
       fitting = a.fitting;
       journals = rw c.in_ok-shared.ensures at a.journals;
       made = a.made;
@@ -28,7 +29,8 @@ tell_audit-requires-clause-made_again g c = rw c.in_ok-shared.ensures at c.in_ok
 pub returns-clause-ok : goal.returns-clause-ok
 returns-clause-ok g c =
     let a = c.in_ok-audited.ensures in
-    let is_audit : IsAudit c.args.plant.value c.in_ok-audited.audited = record {
+    let is_audit : IsAudit c.args.plant.value c.args.files.now c.in_ok-audited.audited = record {
+      told = rw c.in_ok-shared.ensures at a.told;
       fitting = a.fitting;
       journals = rw c.in_ok-shared.ensures at a.journals;
       made = a.made;
