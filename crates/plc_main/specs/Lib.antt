@@ -1,2 +1,3 @@
 pub mod RunText
 pub mod AuditCommand
+pub mod NodeCommand

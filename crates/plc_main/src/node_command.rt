@@ -1,6 +1,7 @@
 //! The command `node`.
 
-ghost use Rattle.std.specs.Prelude.{◌<◌, length};
+ghost use Rattle.std.specs.Prelude.{◌≡◌, ◌<◌, length, IfOk, IfErr};
+ghost use Rattle.plc_main.specs.NodeCommand.{RunsNode, StopsRunning};
 
 use crate::{keeper_in, print_lock_fault, print_resource_faults};
 use command_line::NodeRequest;
@@ -23,7 +24,10 @@ enum NodeFault {
     Stop(LiveStop),
 }
 
-/// Starts a node, and answers the lines of a reader, to its end.
+/// Starts a node, and answers the lines of a reader, to its end; it answers with the node as it is then.
+///
+/// Before a stop all lines but the one that was read last are answered. After `Node` nothing is written of the answer to
+/// that line, or of what a node writes that doesn't start.
 fn run_node<K: Keeper, N: Notes, I: Read, W: Write>(
     alloc: Global,
     prepared: PreparedNode,
@@ -31,13 +35,21 @@ fn run_node<K: Keeper, N: Notes, I: Read, W: Write>(
     notes: N,
     input: &mut I,
     writer: &mut W,
-) -> Result<(), LiveStop>
+) -> Result<Node<K, N>, LiveStop>
     requires { prepared.resource < length prepared.plant.value.resources }
+    ensures ok { IfOk result (λ node. RunsNode K.raise_gives prepared.plant.value prepared.resource node.state
+        (I.remaining input.old) (I.remaining input.new) (N.noted notes) (N.noted node.notes)
+        (W.contents writer.old) (W.contents writer.new)) }
+    ensures kept { IfOk result (λ node. K.last node.keeper ≡ node.state.core.incarnation) }
+    ensures stopped { IfErr result (StopsRunning K.raise_gives prepared.plant.value prepared.resource
+        (I.remaining input.old) (I.remaining input.new) (N.noted notes)
+        (W.contents writer.old) (W.contents writer.new)) }
 {
     let PreparedNode { plant, resource } = prepared;
     let mut begun = String::new(alloc);
     let mut node = Node::begin(alloc, plant, resource, keeper, notes, &mut begun)?;
-    live(alloc, &mut node, begun.as_str(), input, writer)
+    live(alloc, &mut node, begun.as_str(), input, writer)?;
+    Ok(node)
 }
 
 /// Runs a node on standard input and output.
@@ -54,7 +66,7 @@ fn run_with<R: Input + Print + AllocGlobal, K: Keeper, N: Notes>(
     };
     let mut writer = io::writer(rt);
     match run_node(rt.alloc(), prepared, keeper, notes, &mut input, &mut writer) {
-        Ok(()) => Ok(()),
+        Ok(_node) => Ok(()),
         Err(stop) => Err(NodeFault::Stop(stop)),
     }
 }
