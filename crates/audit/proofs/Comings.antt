@@ -14,7 +14,7 @@ use Rattle.evaluation.specs.Messages.{MessageValue, message_of}
 use Rattle.evaluation_book.specs.Book.{BookValue, IsMisfit}
 use Rattle.message_core.specs.declared.accepted.Accepted.TheVariants.{Taken}
 use Rattle.message_core.specs.MessageCoreValue as messages
-use Rattle.exchange_core.specs.CoreValue.{CoreValue, is_news}
+use Rattle.exchange_core.specs.CoreValue.{CoreValue}
 use Rattle.exchange_core.specs.Wholes.{core_in, AreWhole}
 use Rattle.node_journals.specs.declared.journal.Journal.{Journal}
 use Rattle.node_journals.specs.Steps.Stations.{StationValue, fresh_station}
@@ -30,7 +30,7 @@ use Rattle.audit.specs.declared.standing.Standing.{Standing}
 use Rattle.audit.specs.declared.standing.Standing.TheVariants.{Going, Ended}
 use Rattle.audit.specs.declared.trail.Trail.{Trail}
 use Rattle.audit.specs.Lines.{messages_in, zeros, AreLeft, Does, Opens, item_at, ticket_behind, ticket_at, StandsAt}
-use Rattle.audit.specs.Reasons.{begins, WouldTake, WouldHear, IsOther}
+use Rattle.audit.specs.Reasons.{begins, WouldTake, IsOther}
 use Rattle.audit.specs.Steps.Standings.{AuditedBook, IsLater, journal_in}
 use Rattle.audit.specs.Steps.Following.{IsStart, HasNoted, IsNotRisen, IsNoStart, IsEntry, HasRisen, HasStarted, IsStop, HasStopped, Comes, IsLed, IsTried, IsFollowing, HasBegun}
 use Rattle.audit.specs.Steps.Settled.{Leaves, IsStuck, IsSettledAt}
@@ -47,13 +47,6 @@ would_take s inner m same whole is = (refl, subst (λ c. messages.IsAnswer c m T
 -- the book has another message than the one that came
 pub is_other : (book : BookValue) (s : StationValue) (m : MessageValue) (x : Evaluated) (name : Name) → name ≡ m.name → WouldTake s (Message m) m → IsEntry book name x → (message_of x ≡ m → ⊥) → IsOther book s (Message m) name
 is_other book s m x name same takes entry other = (m, message_of x, takes, sym same, (x, entry.listed, entry.name_is, refl), other)
-
--- a hello that is no news, and one that is
-same_news : (inner : messages.MessageCoreValue) (core : CoreValue) (of incarnation : ℕ) → core_in inner ≡ core → messages.is_news inner of incarnation ≡ is_news core of incarnation
-same_news inner core of incarnation same = ap (λ (c : CoreValue). is_news c of incarnation) same
-
-pub would_hear : (s : StationValue) (inner : messages.MessageCoreValue) (of incarnation : ℕ) → core_in inner ≡ s.core → messages.is_news inner of incarnation ≡ true → WouldHear s (Hello of incarnation) of incarnation
-would_hear s inner of incarnation same is = (refl, sym (same_news inner s.core of incarnation same) ∙ is)
 
 -- what is in a book is in a later one
 pub later_keeps : (old new : BookValue) → IsLater old new → (x : Evaluated) → Contains old.entries x → Contains new.entries x
