@@ -11,16 +11,16 @@ use Rattle.plant.specs.PlantValue.{PlantValue}
 use Rattle.evaluation.specs.declared.name.Name.{Name}
 use Rattle.evaluation.specs.Meaning.{Evaluated}
 use Rattle.evaluation.specs.Messages.{MessageValue, message_of}
-use Rattle.evaluation_book.specs.Book.{BookValue, IsMisfit}
-use Rattle.message_core.specs.declared.accepted.Accepted.TheVariants.{Taken}
-use Rattle.message_core.specs.MessageCoreValue as messages
+use Rattle.book.specs.Book.{BookValue, IsMisfit}
+use Rattle.exchange_core.specs.declared.accepted.Accepted.TheVariants.{Taken}
+use Rattle.exchange_core.specs.MessageCoreValue as messages
 use Rattle.exchange_core.specs.CoreValue.{CoreValue}
 use Rattle.exchange_core.specs.Wholes.{core_in, AreWhole}
-use Rattle.node_journals.specs.declared.journal.Journal.{Journal}
-use Rattle.node_journals.specs.Steps.Stations.{StationValue, fresh_station}
-use Rattle.journal_files.specs.declared.item.Item.{Item}
-use Rattle.journal_files.specs.declared.item.Item.TheVariants.{Start, Restart, Message, Hello, Evaluate, Faulty}
-use Rattle.journal_files.specs.declared.line.Line.{Line}
+use Rattle.node_reports.specs.declared.journal.Journal.{Journal}
+use Rattle.node_reports.specs.Steps.Stations.{StationValue, fresh_station}
+use Rattle.audit.specs.declared.item.Item.{Item}
+use Rattle.audit.specs.declared.item.Item.TheVariants.{Start, Restart, Message, Hello, Evaluate, Faulty}
+use Rattle.audit.specs.declared.line.Line.{Line}
 use Rattle.audit.specs.declared.outcome.Outcome.{Outcome}
 use Rattle.audit.specs.declared.outcome.Outcome.TheVariants.{Done, Waits, Stops}
 use Rattle.audit.specs.declared.past.Past.{Past}

@@ -7,21 +7,21 @@ use Rattle.std.proofs.lemmas.Option.{slice_get_within, none-some, same_Some}
 use Rattle.lists.proofs.Members.{all_from_places}
 use Rattle.lists.proofs.Places.{push_cases}
 use Rattle.std.specs.Global.{Vec}
-use Rattle.journal_files.specs.declared.line.Line.{Line}
+use Rattle.audit.specs.declared.line.Line.{Line}
 use Rattle.plant.specs.PlantValue.{PlantValue}
 use Rattle.evaluation.specs.Meaning.{Evaluated}
-use Rattle.evaluation_book.specs.Book.{BookValue}
-use Rattle.message_core.specs.declared.accepted.Accepted.{Accepted}
-use Rattle.message_core.specs.declared.accepted.Accepted.TheVariants.{Taken, Old, Unused, Stray}
+use Rattle.book.specs.Book.{BookValue}
+use Rattle.exchange_core.specs.declared.accepted.Accepted.{Accepted}
+use Rattle.exchange_core.specs.declared.accepted.Accepted.TheVariants.{Taken, Old, Unused, Stray}
 use Rattle.evaluation.specs.declared.field_input.FieldInput.{FieldInput}
 use Rattle.exchange_core.specs.CoreValue.{CoreValue, IsAccepted, HasHeard}
-use Rattle.node_journals.specs.declared.step.Step.{Step}
-use Rattle.node_journals.specs.declared.step.Step.TheVariants.{Took, Made, Restarted, Heard}
-use Rattle.node_journals.specs.declared.journal.Journal.{Journal}
-use Rattle.node_journals.specs.Journals.{made, received, incarnation_after, with_step, firsts_of, IsLawful}
-use Rattle.node_journals.specs.Steps.Stations.{StationValue, PendingValue, IsReceived, IsTold, IsRestarted, IsPending, IsNoted}
-use Rattle.node_journals.specs.declared.run_fault.RunFault.{RunFault}
-use Rattle.node_journals.specs.declared.run_fault.RunFault.TheVariants.{BookDisagrees}
+use Rattle.node_reports.specs.declared.step.Step.{Step}
+use Rattle.node_reports.specs.declared.step.Step.TheVariants.{Took, Made, Restarted, Heard}
+use Rattle.node_reports.specs.declared.journal.Journal.{Journal}
+use Rattle.node_reports.specs.Journals.{made, received, incarnation_after, with_step, firsts_of, IsLawful}
+use Rattle.node_reports.specs.Steps.Stations.{StationValue, PendingValue, IsReceived, IsTold, IsRestarted, IsPending, IsNoted}
+use Rattle.node_reports.specs.declared.run_fault.RunFault.{RunFault}
+use Rattle.node_reports.specs.declared.run_fault.RunFault.TheVariants.{BookDisagrees}
 use Rattle.node_reports.specs.Reports.{entries_of, Agree, IsAgreeFault}
 use Rattle.audit.specs.declared.standing.Standing.{Standing}
 use Rattle.audit.specs.declared.standing.Standing.TheVariants.{Going, Ended}

@@ -6,18 +6,18 @@ use Rattle.std.proofs.lemmas.Bool.{eq-eqb, eqb-true}
 use Rattle.std.proofs.lemmas.Option.{slice_get_within, same_Some, get_or_from_slice_get}
 use Rattle.lists.proofs.Places.{same_by_each, slice_get-set_same, slice_get-set_other}
 use Rattle.std_blocks.specs.declared.value.Value.{Value}
-use Rattle.due_list.specs.declared.task_ref.TaskRef.{TaskRef}
+use Rattle.task_codes.specs.declared.task_ref.TaskRef.{TaskRef}
 use Rattle.evaluation.specs.Last.{left_by, same_task}
 use Rattle.evaluation.specs.Meaning.{Evaluated}
 use Rattle.evaluation.specs.Retained.{retained_values}
-use Rattle.evaluation_book.specs.Book.{BookValue}
-use Rattle.node_journals.specs.declared.step.Step.{Step}
-use Rattle.node_journals.specs.declared.step.Step.TheVariants.{Took, Made, Restarted, Heard}
-use Rattle.node_journals.specs.declared.journal.Journal.{Journal}
-use Rattle.node_journals.specs.Journals.{made, newest, last_of, opening_at, with_step, fresh_journal}
-use Rattle.node_journals.specs.Steps.Stations.{StationValue, PendingValue, IsNoted, IsRestarted}
+use Rattle.book.specs.Book.{BookValue}
+use Rattle.node_reports.specs.declared.step.Step.{Step}
+use Rattle.node_reports.specs.declared.step.Step.TheVariants.{Took, Made, Restarted, Heard}
+use Rattle.node_reports.specs.declared.journal.Journal.{Journal}
+use Rattle.node_reports.specs.Journals.{made, newest, last_of, opening_at, with_step, fresh_journal}
+use Rattle.node_reports.specs.Steps.Stations.{StationValue, PendingValue, IsNoted, IsRestarted}
 use Rattle.evaluation.specs.Messages.{MessageValue}
-use Rattle.journal_files.specs.declared.item.Item.{Item}
+use Rattle.audit.specs.declared.item.Item.{Item}
 use Rattle.audit.specs.declared.outcome.Outcome.{Outcome}
 use Rattle.audit.specs.declared.outcome.Outcome.TheVariants.{Done, Waits, Stops}
 use Rattle.audit.specs.Lines.{left_in, AreLeft, Takes, Hears}

@@ -1,3 +1,9 @@
+mod KeptLists
+mod Restarts
+mod RunLines
+mod Starts
+mod LineTellings
+mod WholeLines
 pub mod GoingOn
 pub mod Comings
 pub mod Leavings

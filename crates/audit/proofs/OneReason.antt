@@ -9,14 +9,14 @@ use Rattle.evaluation.specs.declared.field_input.FieldInput.{FieldInput}
 use Rattle.evaluation.specs.declared.name.Name.{Name}
 use Rattle.evaluation.specs.Meaning.{Evaluated}
 use Rattle.evaluation.specs.Messages.{MessageValue}
-use Rattle.evaluation_book.specs.declared.book.misfit.Misfit.{Misfit}
-use Rattle.evaluation_book.specs.Book.{BookValue}
-use Rattle.message_core.specs.declared.eval_fault.EvalFault.{EvalFault}
-use Rattle.message_core.specs.declared.eval_fault.EvalFault.TheVariants as fault
+use Rattle.book.specs.declared.book.misfit.Misfit.{Misfit}
+use Rattle.book.specs.Book.{BookValue}
+use Rattle.exchange_core.specs.declared.eval_fault.EvalFault.{EvalFault}
+use Rattle.exchange_core.specs.declared.eval_fault.EvalFault.TheVariants as fault
 use Rattle.exchange_core.specs.CoreValue.{CoreValue, IsEvalFault, IsNextOf}
-use Rattle.node_journals.specs.Steps.Stations.{StationValue}
-use Rattle.journal_files.specs.declared.item.Item.{Item}
-use Rattle.journal_files.specs.declared.item.Item.TheVariants.{Start, Restart, Message, Hello, Evaluate, Faulty}
+use Rattle.node_reports.specs.Steps.Stations.{StationValue}
+use Rattle.audit.specs.declared.item.Item.{Item}
+use Rattle.audit.specs.declared.item.Item.TheVariants.{Start, Restart, Message, Hello, Evaluate, Faulty}
 use Rattle.audit.specs.declared.needs.Need.{Need}
 use Rattle.audit.specs.declared.needs.Need.TheVariants.{Evaluation, Incarnation}
 use Rattle.audit.specs.declared.reason.Reason.{Reason}

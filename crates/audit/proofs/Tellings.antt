@@ -4,10 +4,10 @@ use Rattle.std.proofs.lemmas.List.{length-map}
 use Rattle.std.specs.Global.{Vec}
 use Rattle.std.proofs.lemmas.Option.{slice_get-map}
 use Rattle.plant.specs.PlantValue.{PlantValue}
-use Rattle.evaluation_book.specs.Book.{BookValue}
-use Rattle.node_journals.specs.Steps.Stations.{StationValue}
-use Rattle.journal_files.specs.declared.item.Item.{Item}
-use Rattle.journal_files.specs.declared.line.Line.{Line}
+use Rattle.book.specs.Book.{BookValue}
+use Rattle.node_reports.specs.Steps.Stations.{StationValue}
+use Rattle.audit.specs.declared.item.Item.{Item}
+use Rattle.audit.specs.declared.line.Line.{Line}
 use Rattle.audit.specs.declared.follower.Follower.{Follower}
 use Rattle.audit.specs.declared.needs.Need.{Need}
 use Rattle.audit.specs.declared.needs.Need.TheVariants.{Evaluation, Incarnation}
@@ -23,9 +23,9 @@ use Rattle.audit.specs.Told.{IsTold, IsShown, AreShown, AreToldBy, if_none, with
 use Rattle.audit.specs.Steps.Standings.{AuditedBook, journal_in, AreFrom}
 use Rattle.audit.specs.Steps.Following.{IsLed, WouldNeed, IsStop, IsTried, IsFollowed}
 use Rattle.audit.specs.Steps.Settled.{IsUnmet, IsAhead, IsStuck, IsSettled, course_of, courses_of, maker_of, IsReasonFor, IsToldOf, AreToldOf, HaveTold}
-use Rattle.journal_files.specs.declared.journal_file.JournalFile.{JournalFile}
-use Rattle.journal_files.specs.declared.reading.Readings.{Readings}
-use Rattle.journal_files.specs.Readings.{AreReadings}
+use Rattle.audit.specs.declared.journal_file.JournalFile.{JournalFile}
+use Rattle.audit.specs.declared.reading.Readings.{Readings}
+use Rattle.audit.specs.Readings.{AreReadings}
 use Rattle.audit.specs.declared.auditing.Audited.{Audited}
 use Rattle.audit.proofs.GoingOn.{lines_of, journals_in, present_at}
 

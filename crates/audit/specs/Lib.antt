@@ -1,6 +1,8 @@
+pub mod JournalLines
+pub mod Readings
 pub mod Delivered
 pub mod Lines
 pub mod OneReason
 pub mod Reasons
-pub mod Steps
 pub mod Told
+pub mod Steps

@@ -8,17 +8,17 @@ use Rattle.evaluation.specs.Last.{left_by}
 use Rattle.evaluation.specs.Meaning.{Evaluated}
 use Rattle.evaluation.specs.Messages.{MessageValue, message_of}
 use Rattle.evaluation.specs.Retained.{retained_values}
-use Rattle.message_core.specs.declared.accepted.Accepted.{Accepted}
-use Rattle.message_core.specs.declared.accepted.Accepted.TheVariants.{Taken}
-use Rattle.message_core.specs.MessageCoreValue as messages
+use Rattle.exchange_core.specs.declared.accepted.Accepted.{Accepted}
+use Rattle.exchange_core.specs.declared.accepted.Accepted.TheVariants.{Taken}
+use Rattle.exchange_core.specs.MessageCoreValue as messages
 use Rattle.exchange_core.specs.CoreValue.{CoreValue, AreOpeningOf, initial_opening, is_news}
 use Rattle.exchange_core.specs.Wholes.{as_wholes}
-use Rattle.node_journals.specs.declared.journal.Journal.{Journal}
-use Rattle.node_journals.specs.Journals.{last_of, opening_at}
-use Rattle.node_journals.specs.Steps.Stations.{StationValue, PendingValue, fresh_station, IsReceived, IsTold, IsPending, IsNoted, IsRestarted}
-use Rattle.journal_files.specs.declared.item.Item.{Item}
-use Rattle.journal_files.specs.declared.item.Item.TheVariants.{Start, Restart, Message, Hello, Evaluate, Faulty}
-use Rattle.journal_files.specs.declared.line.Line.{Line}
+use Rattle.node_reports.specs.declared.journal.Journal.{Journal}
+use Rattle.node_reports.specs.Journals.{last_of, opening_at}
+use Rattle.node_reports.specs.Steps.Stations.{StationValue, PendingValue, fresh_station, IsReceived, IsTold, IsPending, IsNoted, IsRestarted}
+use Rattle.audit.specs.declared.item.Item.{Item}
+use Rattle.audit.specs.declared.item.Item.TheVariants.{Start, Restart, Message, Hello, Evaluate, Faulty}
+use Rattle.audit.specs.declared.line.Line.{Line}
 
 -- the first incarnations: 0 for each resource
 abbrev pub zeros : PlantValue → List ℕ

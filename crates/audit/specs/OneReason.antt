@@ -1,9 +1,9 @@
 -- No two reasons are told of the same line.
 use Rattle.std.specs.Prelude.{◌≡◌, ◌⊎◌, List}
-use Rattle.evaluation_book.specs.declared.book.misfit.Misfit.{Misfit}
-use Rattle.evaluation_book.specs.Book.{BookValue}
-use Rattle.node_journals.specs.Steps.Stations.{StationValue}
-use Rattle.journal_files.specs.declared.item.Item.{Item}
+use Rattle.book.specs.declared.book.misfit.Misfit.{Misfit}
+use Rattle.book.specs.Book.{BookValue}
+use Rattle.node_reports.specs.Steps.Stations.{StationValue}
+use Rattle.audit.specs.declared.item.Item.{Item}
 use Rattle.audit.specs.declared.reason.Reason.{Reason}
 use Rattle.audit.specs.declared.reason.Reason.TheVariants as reason
 use Rattle.audit.specs.Reasons.{Course, IsReason}

@@ -7,20 +7,20 @@ use Rattle.evaluation.specs.declared.field_input.FieldInput.{FieldInput}
 use Rattle.evaluation.specs.declared.name.Name.{Name}
 use Rattle.evaluation.specs.Meaning.{Evaluated}
 use Rattle.evaluation.specs.Messages.{MessageValue, message_of}
-use Rattle.evaluation_book.specs.declared.book.misfit.Misfit.{Misfit}
-use Rattle.evaluation_book.specs.declared.book.misfit.Misfit.TheVariants.{Memory as NoMemory}
-use Rattle.evaluation_book.specs.Book.{BookValue, IsMisfit}
-use Rattle.message_core.specs.declared.accepted.Accepted.TheVariants.{Taken}
-use Rattle.message_core.specs.declared.eval_fault.EvalFault.{EvalFault}
-use Rattle.message_core.specs.declared.eval_fault.EvalFault.TheVariants.{Memory}
-use Rattle.message_core.specs.MessageCoreValue.{IsAnswer}
+use Rattle.book.specs.declared.book.misfit.Misfit.{Misfit}
+use Rattle.book.specs.declared.book.misfit.Misfit.TheVariants.{Memory as NoMemory}
+use Rattle.book.specs.Book.{BookValue, IsMisfit}
+use Rattle.exchange_core.specs.declared.accepted.Accepted.TheVariants.{Taken}
+use Rattle.exchange_core.specs.declared.eval_fault.EvalFault.{EvalFault}
+use Rattle.exchange_core.specs.declared.eval_fault.EvalFault.TheVariants.{Memory}
+use Rattle.exchange_core.specs.MessageCoreValue.{IsAnswer}
 use Rattle.exchange_core.specs.CoreValue.{IsEvalFault, IsNextOf, is_news}
-use Rattle.node_journals.specs.declared.journal.Journal.{Journal}
-use Rattle.node_journals.specs.Journals.{incarnation_after}
-use Rattle.node_journals.specs.Steps.Stations.{StationValue}
-use Rattle.journal_files.specs.declared.item.Item.{Item}
-use Rattle.journal_files.specs.declared.item.Item.TheVariants.{Start, Restart, Message, Hello, Evaluate, Faulty}
-use Rattle.journal_files.specs.declared.line.Line.{Line}
+use Rattle.node_reports.specs.declared.journal.Journal.{Journal}
+use Rattle.node_reports.specs.Journals.{incarnation_after}
+use Rattle.node_reports.specs.Steps.Stations.{StationValue}
+use Rattle.audit.specs.declared.item.Item.{Item}
+use Rattle.audit.specs.declared.item.Item.TheVariants.{Start, Restart, Message, Hello, Evaluate, Faulty}
+use Rattle.audit.specs.declared.line.Line.{Line}
 use Rattle.audit.specs.declared.needs.Need.{Need}
 use Rattle.audit.specs.declared.needs.Need.TheVariants.{Evaluation, Incarnation}
 use Rattle.audit.specs.declared.reason.Reason.{Reason}

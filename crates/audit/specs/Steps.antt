@@ -1,4 +1,5 @@
 -- Steps of the proofs. Only contracts inside this crate cite them, so no reader has to believe them.
+pub mod Reading
 pub mod Following
 pub mod Settled
 pub mod Standings

@@ -2,13 +2,13 @@
 use Rattle.std.specs.Prelude.{◌≡◌, ℕ, zero, suc, ◌≤◌, ◌++◌, List, [], ◌∷◌, Option, Some, None, length, map, slice_get}
 use Rattle.std.specs.Global.{Vec}
 use Rattle.plant.specs.PlantValue.{PlantValue}
-use Rattle.evaluation_book.specs.Book.{BookValue}
-use Rattle.node_journals.specs.Steps.Stations.{StationValue}
-use Rattle.journal_files.specs.declared.journal_file.JournalFile.{JournalFile}
-use Rattle.journal_files.specs.declared.line.Line.{Line}
-use Rattle.journal_files.specs.declared.line.Place.{Place}
-use Rattle.journal_files.specs.declared.reading.Readings.{Readings}
-use Rattle.journal_files.specs.Readings.{AreReadings}
+use Rattle.book.specs.Book.{BookValue}
+use Rattle.node_reports.specs.Steps.Stations.{StationValue}
+use Rattle.audit.specs.declared.journal_file.JournalFile.{JournalFile}
+use Rattle.audit.specs.declared.line.Line.{Line}
+use Rattle.audit.specs.declared.line.Place.{Place}
+use Rattle.audit.specs.declared.reading.Readings.{Readings}
+use Rattle.audit.specs.Readings.{AreReadings}
 use Rattle.audit.specs.declared.auditing.Audited.{Audited}
 use Rattle.audit.specs.declared.reason.Reason.{Reason}
 use Rattle.audit.specs.declared.reason.Reason.TheVariants as reason

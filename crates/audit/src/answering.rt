@@ -1,7 +1,7 @@
 //! Messages and hellos that come to a resource.
 
 ghost use Rattle.std.specs.Prelude.{◌≡◌, IfOk};
-ghost use Rattle.journal_files.specs.declared.item.Item.TheVariants as item;
+ghost use Rattle.audit.specs.declared.item.Item.TheVariants as item;
 ghost use Rattle.audit.specs.Lines.{Takes, Hears};
 ghost use Rattle.audit.specs.Steps.Standings.{IsGoing};
 ghost use Rattle.audit.specs.Steps.Following.{Meets};
@@ -13,7 +13,7 @@ use crate::outcome::Outcome;
 use crate::reason::Reason;
 use evaluation::Message;
 use exchange_core::Accepted;
-use node_journals::Station;
+use node_reports::Station;
 use std::alloc::AllocError;
 
 /// Receives the entry whose message came. What wouldn't be taken changes nothing, and needs no entry.

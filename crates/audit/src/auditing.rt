@@ -10,15 +10,16 @@ ghost use Rattle.audit.specs.declared.follower.Follower.{Follower as FollowerVal
 
 use crate::book_of_audit::BookOfAudit;
 use crate::follower::Follower;
+use crate::journal_file::JournalFile;
+use crate::line::Line;
+use crate::reading::{Readings, read_journals};
 use crate::reason::Unshown;
 use crate::telling::{all_unshown, all_without};
-use exchange::Book;
-use journal_files::{JournalFile, Line, Readings, read_journals};
-use node_journals::{Journal, RunFault};
-use node_reports::{Journals, PlantBook, agreed};
+use node_reports::{Journal, Journals, PlantBook, RunFault, agreed};
 use plant::Plant;
 use std::alloc::{AllocError, Global};
 use std::sync::Arc;
+use world::Book;
 
 /// What is shown of the journals of a plant's nodes, and what can't be.
 #[derive(Drop)]

@@ -1,7 +1,7 @@
 //! The book of an audit, in which an entry is found by its name, and the incarnations to which the resources have come.
 
+use book::{Book, Misfit};
 use evaluation::{Frame, Name};
-use evaluation_book::{Book, Misfit};
 use plant::Plant;
 use std::alloc::{AllocError, Global};
 use std::marker::Model;
@@ -16,7 +16,7 @@ pub(crate) struct BookOfAudit {
 }
 
 impl Model for BookOfAudit {
-    ghost use Rattle.node_journals.specs.Codes.{AreOfPlant};
+    ghost use Rattle.node_reports.specs.Codes.{AreOfPlant};
     ghost use Rattle.audit.specs.Steps.Standings.{AuditedBook};
 
     ghost Value = { AuditedBook };
@@ -27,7 +27,7 @@ impl Model for BookOfAudit {
 }
 
 ghost use Rattle.std.specs.Prelude.{◌≡◌, ◌∷◌, ◌++◌, [], IfOk, IfSome, MatchOption, slice_index, slice_set};
-ghost use Rattle.node_journals.specs.Codes.{IsOfPlant, AreOfPlant};
+ghost use Rattle.node_reports.specs.Codes.{IsOfPlant, AreOfPlant};
 ghost use Rattle.audit.specs.Reasons.{WasNotMade};
 ghost use Rattle.audit.specs.Steps.Following.{IsEntry, IsMisfitOf};
 ghost use Rattle.audit.specs.Steps.Standings.{empty_book};

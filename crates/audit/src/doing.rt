@@ -12,7 +12,9 @@ ghost use Rattle.audit.specs.declared.standing.Standing.TheVariants.{Going};
 use crate::answering::{hear, receive};
 use crate::book_of_audit::BookOfAudit;
 use crate::evaluating::evaluate;
+use crate::item::Item;
 use crate::kept::are_all_same;
+use crate::line::Line;
 use crate::outcome::Outcome;
 use crate::past::Past;
 use crate::reason::Reason;
@@ -20,8 +22,7 @@ use crate::rising::not_rising;
 use crate::standing::Standing;
 use crate::trail::Trail;
 use evaluation::Retained;
-use journal_files::{Item, Line};
-use node_journals::Station;
+use node_reports::Station;
 use std::alloc::{AllocError, Global};
 
 /// Restarts a resource, where its incarnation rises.

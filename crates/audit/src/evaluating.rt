@@ -2,7 +2,7 @@
 
 ghost use Rattle.std.specs.Prelude.{◌≡◌, IfOk, OnOk};
 ghost use Rattle.std.specs.Option.{option_copied};
-ghost use Rattle.journal_files.specs.declared.item.Item.TheVariants as item;
+ghost use Rattle.audit.specs.declared.item.Item.TheVariants as item;
 ghost use Rattle.evaluation.specs.Retained.{retained_values};
 ghost use Rattle.audit.specs.Lines.{AreLeft, Evaluates};
 ghost use Rattle.audit.specs.Steps.Standings.{IsGoing, IsPendingFor, IsStanding, journal_in, Grows, Goes};
@@ -11,14 +11,14 @@ ghost use Rattle.audit.specs.Steps.Settled.{Leaves};
 ghost use Rattle.audit.specs.declared.standing.Standing.TheVariants.{Going};
 
 use crate::book_of_audit::BookOfAudit;
+use crate::item::Item;
 use crate::kept::{are_same, opened_by};
 use crate::outcome::Outcome;
 use crate::past::Past;
 use crate::reason::Reason;
 use crate::standing::Standing;
 use evaluation::{Evaluation, Inputs, Retained};
-use journal_files::Item;
-use node_journals::{PendingEvaluation, Station};
+use node_reports::{PendingEvaluation, Station};
 use std::alloc::{AllocError, Global};
 
 /// What an evaluation leaves of its task's retained variables.

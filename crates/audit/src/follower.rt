@@ -2,8 +2,8 @@
 
 ghost use Rattle.std.specs.Prelude.{◌≡◌, ◌<◌, ◌↔◌, ℕ, Bool, false, IsTrue, length, take, IfOk};
 ghost use Rattle.std.specs.List.{list_any};
-ghost use Rattle.journal_files.specs.declared.line.Line.{Line as LineValue};
-ghost use Rattle.message_core.specs.Openings.{AreOpeningOf};
+ghost use Rattle.audit.specs.declared.line.Line.{Line as LineValue};
+ghost use Rattle.exchange_core.specs.Openings.{AreOpeningOf};
 ghost use Rattle.plant.specs.PlantValue.{PlantValue};
 ghost use Rattle.audit.specs.Lines.{zeros, item_at, AreLeft, Opens};
 ghost use Rattle.audit.specs.Reasons.{begins, was_in};
@@ -13,13 +13,14 @@ ghost use Rattle.audit.specs.Steps.Settled.{IsSettled, course_of};
 
 use crate::book_of_audit::BookOfAudit;
 use crate::doing::do_line;
+use crate::item::Item;
+use crate::line::Line;
 use crate::past::Past;
 use crate::standing::Standing;
 use crate::trail::Trail;
 use evaluation::Retained;
 use exchange_core::{CoreFault, initial_opening, is_opening};
-use journal_files::{Item, Line};
-use node_journals::{Journal, Opening, Station};
+use node_reports::{Journal, Opening, Station};
 use plant::Plant;
 use std::alloc::{AllocError, Global};
 use std::sync::Arc;

@@ -5,8 +5,8 @@ ghost use Rattle.std.specs.Option.{option_copied};
 ghost use Rattle.audit.specs.Lines.{OpensWith};
 ghost use Rattle.audit.specs.Steps.Following.{OpensNot};
 
+use crate::item::Item;
 use evaluation::Retained;
-use journal_files::Item;
 use std_blocks::Value;
 
 /// The retained values of a task with which the next line opens, if it is a START.

@@ -1,25 +1,42 @@
-//! The audit of journals: what the nodes of a plant noted is done again, line by line, and made a book and journals.
+//! The audit of journals: what the nodes of a plant noted is read and done again, line by line, and made a book and
+//! journals.
 #![tactic(auto)]
 
 mod answering;
 mod auditing;
+mod beginnings;
 mod book_of_audit;
 mod doing;
 mod evaluating;
 mod follower;
+mod item;
+mod journal_file;
 mod kept;
+mod kept_values;
 mod laws;
+mod line;
+mod line_telling;
 mod needs;
+mod notes;
 mod outcome;
 mod past;
+mod reading;
 mod reason;
+mod restart_line;
 mod rising;
+mod run;
+mod runs;
 mod standing;
+mod start_line;
 mod telling;
 mod trail;
+mod whole_lines;
 
 pub use auditing::{Audited, audit};
-pub use evaluation_book::Misfit;
+pub use book::Misfit;
+pub use item::Item;
+pub use journal_file::JournalFile;
 pub use laws::one_reason;
+pub use line::{Line, Place};
 pub use needs::Need;
 pub use reason::{Reason, Unshown};

@@ -1,7 +1,7 @@
+use crate::line::Place;
 use crate::needs::Need;
+use book::Misfit;
 use evaluation::Name;
-use evaluation_book::Misfit;
-use journal_files::Place;
 
 /// Why what a journal tells can't be shown from a line on.
 #[derive(Clone, Copy, Debug, PartialEq, Eq)]

@@ -1,4 +1,4 @@
-use node_journals::{Journal, Station};
+use node_reports::{Journal, Station};
 
 /// A resource where its lines have led it.
 #[derive(Drop)]

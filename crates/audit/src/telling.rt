@@ -10,10 +10,10 @@ ghost use Rattle.audit.specs.declared.follower.Follower.{Follower as FollowerVal
 
 use crate::book_of_audit::BookOfAudit;
 use crate::follower::Follower;
+use crate::line::Place;
 use crate::needs::Need;
 use crate::outcome::Outcome;
 use crate::reason::{Reason, Unshown};
-use journal_files::Place;
 use std::alloc::{AllocError, Global};
 
 /// Why a line can't be done that needs what isn't there, by what is shown of the resource of which it needs it; `present` is the

@@ -3,18 +3,18 @@ use Rattle.std.proofs.Common.{◌≡◌, ℕ, List, Option, length, sym, subst, 
 use Rattle.std.specs.Prelude.{reverse}
 use Rattle.std.proofs.lemmas.List.{take_all}
 use Rattle.plant.specs.PlantValue.{PlantValue}
-use Rattle.command_line.specs.declared.request.SimRequest.{SimRequest}
-use Rattle.exchange.specs.declared.event.Event.{Event}
-use Rattle.exchange.specs.History.{Setting, history_of}
-use Rattle.exchange.specs.Run.{IsLog}
+use Rattle.console.specs.declared.request.SimRequest.{SimRequest}
+use Rattle.world.specs.declared.event.Event.{Event}
+use Rattle.world.specs.History.{Setting, history_of}
+use Rattle.world.specs.Run.{IsLog}
 use Rattle.world.specs.ScheduleText.{Spell, schedule_lines}
 use Rattle.world.specs.declared.simulation.Simulated.{Simulated}
 use Rattle.world.specs.Simulated.{HasRun, WritesFirst, WritesRun, from_one}
 use Rattle.world.specs.LiveRun.{EndsLiveRun, HasLiveRun}
 use Rattle.world.specs.declared.live_fault.LiveFault.TheVariants.{Memory}
 use Rattle.traces.specs.declared.texts.TraceTexts.{TraceTexts}
-use Rattle.plant_traces.specs.Moments.{of_events}
-use Rattle.plant_traces.specs.Texts.{AreOutputTexts}
+use Rattle.traces.specs.Moments.{of_events}
+use Rattle.traces.specs.Texts.{AreOutputTexts}
 use Rattle.console.specs.TracedRun.{AreRunTexts, WritesTracedLines, WritesTracedRun}
 use Rattle.console.specs.Steps.Ending.{AreEndTexts}
 

@@ -1,17 +1,17 @@
 -- What the program writes for the words of its command line.
 use Rattle.std.specs.Prelude.{◌≡◌, ℕ, List, Option, None, Bool, true, false}
 use Rattle.std.specs.Option.{option_map, option_map_or}
-use Rattle.command_line.specs.declared.request.TextRequest.{TextRequest}
-use Rattle.command_line.specs.declared.request.TextRequest.TheVariants.{Eval, Check, Plan}
-use Rattle.command_line.specs.declared.request.View.{View}
-use Rattle.command_line.specs.declared.request.View.TheVariants as view
-use Rattle.command_line.specs.declared.request.Color.{Color}
-use Rattle.command_line.specs.declared.request.Color.TheVariants.{Always, Auto, Never}
-use Rattle.command_line.specs.CommandLine.{words_in}
+use Rattle.console.specs.declared.request.TextRequest.{TextRequest}
+use Rattle.console.specs.declared.request.TextRequest.TheVariants.{Eval, Check, Plan}
+use Rattle.console.specs.declared.request.View.{View}
+use Rattle.console.specs.declared.request.View.TheVariants as view
+use Rattle.console.specs.declared.request.Color.{Color}
+use Rattle.console.specs.declared.request.Color.TheVariants.{Always, Auto, Never}
+use Rattle.console.specs.CommandLine.{words_in}
 use Rattle.text_commands.specs.declared.form.Form.{Form}
 use Rattle.text_commands.specs.declared.form.Form.TheVariants.{Rows, Drawings, Chart}
 use Rattle.text_commands.specs.declared.text_command_fault.TextCommandFault.{TextCommandFault}
-use Rattle.command_line.specs.declared.request.TraceFiles.{TraceFiles}
+use Rattle.console.specs.declared.request.TraceFiles.{TraceFiles}
 use Rattle.traces.specs.declared.texts.Wanted.{Wanted}
 use Rattle.text_commands.specs.TestText.{ExplainsTest}
 use Rattle.text_commands.specs.Traced.{WritesTraced}

@@ -2,8 +2,8 @@
 use Rattle.std.specs.Prelude.{◌≡◌, ◌⊎◌}
 use Rattle.text_commands.specs.declared.text_command_fault.TextCommandFault.{TextCommandFault}
 use Rattle.text_commands.specs.declared.text_command_fault.TextCommandFault.TheVariants as text
-use Rattle.node_journals.specs.declared.run_fault.RunFault.{RunFault}
-use Rattle.node_journals.specs.declared.run_fault.RunFault.TheVariants as run
+use Rattle.node_reports.specs.declared.run_fault.RunFault.{RunFault}
+use Rattle.node_reports.specs.declared.run_fault.RunFault.TheVariants as run
 use Rattle.console.specs.declared.command_fault.CommandFault.{CommandFault}
 use Rattle.console.specs.declared.command_fault.CommandFault.TheVariants.{Text, Word, Write, Run, Memory}
 

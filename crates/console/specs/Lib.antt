@@ -1,3 +1,4 @@
+pub mod CommandLine
 pub mod Answers
 pub mod FieldWords
 pub mod Giving

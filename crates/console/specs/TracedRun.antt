@@ -1,16 +1,16 @@
 -- What the program writes for `plc sim`, and the texts for the files of its trace.
 use Rattle.std.specs.Prelude.{ℕ, List, Option, length}
-use Rattle.command_line.specs.declared.request.SimRequest.{SimRequest}
+use Rattle.console.specs.declared.request.SimRequest.{SimRequest}
 use Rattle.plant.specs.PlantValue.{PlantValue}
 use Rattle.evaluation.specs.Meaning.{Evaluated}
-use Rattle.exchange.specs.declared.event.Event.{Event}
-use Rattle.exchange.specs.Run.{IsRun}
+use Rattle.world.specs.declared.event.Event.{Event}
+use Rattle.world.specs.Run.{IsRun}
 use Rattle.world.specs.Simulated.{WritesRun, from_one}
 use Rattle.world.specs.LiveRun.{WritesLiveRun}
 use Rattle.traces.specs.declared.texts.Wanted.{Wanted}
 use Rattle.traces.specs.declared.texts.TraceTexts.{TraceTexts}
-use Rattle.plant_traces.specs.Moments.{of_events}
-use Rattle.plant_traces.specs.Texts.{AreOutputTexts}
+use Rattle.traces.specs.Moments.{of_events}
+use Rattle.traces.specs.Texts.{AreOutputTexts}
 use Rattle.console.specs.Answers.{AreWantedFor}
 
 -- the texts for the files of a trace are those of the evaluations that the run of these events made

@@ -1,8 +1,8 @@
 -- What the words of `plc verify` ask.
 use Rattle.std.specs.Prelude.{ℕ, List}
-use Rattle.command_line.specs.declared.request.VerifyRequest.{VerifyRequest}
+use Rattle.console.specs.declared.request.VerifyRequest.{VerifyRequest}
 use Rattle.text_commands.specs.Rows.{texts}
-use Rattle.verify_texts.specs.Questions.{QuestionValue}
+use Rattle.verifying.specs.Questions.{QuestionValue}
 
 -- the claims, the words, the time between scans and the number of states of the request, for the drawing in this file
 abbrev pub asked_question : List ℕ → VerifyRequest → QuestionValue

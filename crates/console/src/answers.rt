@@ -5,17 +5,16 @@ use crate::answered::Answered;
 use crate::command_fault::CommandFault;
 use crate::faults::{print_difference, print_failure, print_fault};
 use crate::files::file_text;
+use crate::request::{Color, TextRequest, TraceFiles, View};
 use crate::shown::Shown;
 use crate::status::WORD_REFUSED;
-use command_line::{Color, TextRequest, TraceFiles, View};
 use guidance::{explain, kinds};
-use progress::{OnTerminal, ToldLines};
 use std::alloc::Global;
 use std::io;
 use std::io::Write;
 use std::rt::{Clock, Files};
 use text_commands::{Form, TextCommandFault, Traced, check, eval_traced, plan_text};
-use text_writer::write_text;
+use text_lines::{OnTerminal, ToldLines, write_text};
 use traces::{TraceTexts, Wanted};
 
 /// Whether there is color.

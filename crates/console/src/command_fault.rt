@@ -1,9 +1,9 @@
 ghost use Rattle.std.specs.Prelude.{◌≡◌};
 
-use node_journals::RunFault;
+use node_reports::RunFault;
 use std::alloc::{AllocError, AllocFailed};
 use text_commands::{TextCommandFault, TextFault, WordFault};
-use text_writer::{SendFault, WriteFault};
+use text_lines::{SendFault, WriteFault};
 use thiserror::Error;
 
 /// Why a command of the program ends without its answer.

@@ -1,7 +1,7 @@
 use crate::command_fault::CommandFault;
 use crate::faults::print_failure;
+use crate::help::FIRST_STEPS;
 use crate::status::{FAILED, WORD_REFUSED};
-use command_line::FIRST_STEPS;
 use std::io::ErrorKind;
 use std::rt::Env;
 use std::{env, io};

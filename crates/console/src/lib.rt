@@ -1,20 +1,25 @@
-//! What the program tells for what it is asked but a run in threads: answers, refusals, and statuses.
+//! What the words of the command line ask for, and what the program tells for what it is asked but runs, nodes and
+//! audits: answers, refusals, and statuses.
 #![tactic(auto)]
 
 mod answered;
 mod answers;
 mod command_fault;
+mod commands;
 mod faults;
 mod field_words;
 mod files;
 mod given;
+mod help;
 mod node_prepared;
 mod prepared;
 mod refusal;
+mod request;
 mod schedules;
 mod shown;
 mod status;
 mod verify_answer;
+mod words;
 
 pub use answered::Answered;
 pub use answers::{answer_kind, answer_kinds, answer_text, obey, wanted_for};
@@ -25,6 +30,11 @@ pub use files::{file_bytes, file_plant};
 pub use given::{given_words, print_given_fault, print_usage};
 pub use node_prepared::{PreparedNode, prepare_node};
 pub use prepared::{Prepared, prepare};
+pub use request::{
+    AuditRequest, Color, NodeRequest, Request, RunRequest, SimRequest, TextRequest, TraceFiles,
+    VerifyRequest, View,
+};
 pub use schedules::{answer_schedule, obey_lines, obey_schedule};
 pub use status::FAILED;
 pub use verify_answer::{answer_verify, obey_verify};
+pub use words::read_words;

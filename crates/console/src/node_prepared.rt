@@ -1,9 +1,9 @@
 ghost use Rattle.std.specs.Prelude.{◌<◌, IfOk, IfSome, length};
 
 use crate::files::file_plant;
+use crate::request::NodeRequest;
 use crate::shown::Shown;
 use crate::status::WORD_REFUSED;
-use command_line::NodeRequest;
 use plant::Plant;
 use std::io;
 use std::rt::Files;

@@ -1,7 +1,7 @@
 use crate::faults::print_input_fault;
 use crate::field_words::read_field_words;
 use crate::files::file_plant;
-use command_line::RunRequest;
+use crate::request::RunRequest;
 use evaluation::Inputs;
 use plant::Plant;
 use std::io;

@@ -9,16 +9,15 @@ use crate::answers::wanted_for;
 use crate::command_fault::CommandFault;
 use crate::faults::{print_failure, print_live_fault, print_sim_fault};
 use crate::files::{STANDARD_INPUT, file_plant, file_text};
-use command_line::SimRequest;
+use crate::request::SimRequest;
 use plant::Plant;
-use plant_traces::event_texts;
-use progress::{OnTerminal, ToldLines};
 use std::alloc::{AllocError, Global};
 use std::io;
 use std::io::{BufReader, Read, Write};
 use std::rt::{Clock, Files};
 use std::sync::Arc;
-use traces::TraceTexts;
+use text_lines::{OnTerminal, ToldLines};
+use traces::{TraceTexts, event_texts};
 use world::{LiveFault, SimFault, Simulated, simulate_world, simulate_world_in_turns};
 
 /// The texts for the files of a trace of a schedule that was done.

@@ -1,19 +1,19 @@
 ghost use Rattle.std.specs.Prelude.{IfOk, IfErr};
-ghost use Rattle.verify_texts.specs.VerifyText.{ExplainsAnswer, WritesAnswer};
+ghost use Rattle.verifying.specs.VerifyText.{ExplainsAnswer, WritesAnswer};
 ghost use Rattle.console.specs.Verifying.{asked_question};
 
 use crate::command_fault::CommandFault;
 use crate::faults::{print_failure, print_fault, print_nearest};
 use crate::files::file_text;
+use crate::request::VerifyRequest;
 use crate::shown::Shown;
 use crate::status::{CLAIM_FAILS, UNDECIDED, WORD_REFUSED};
-use command_line::VerifyRequest;
-use progress::{OnTerminal, Progress};
 use std::alloc::Global;
 use std::io;
 use std::io::Write;
 use std::rt::{Clock, Files};
-use verify_texts::{
+use text_lines::{OnTerminal, Progress};
+use verifying::{
     ClaimFault, ClaimFaultKind, HeldFault, Question, Summary, VerifyFault, verify_text,
 };
 

@@ -1,13 +1,12 @@
 ghost use Rattle.std.specs.Prelude.{◌↔◌, IsTrue};
-ghost use Rattle.due_list.specs.declared.task_ref.TaskRef.{TaskRef};
+ghost use Rattle.task_codes.specs.declared.task_ref.TaskRef.{TaskRef};
 ghost use Rattle.evaluation.specs.Takes.{IsTakeOf, AreTakesOf};
 ghost use Rattle.evaluation.specs.States.{AreStatesOf};
 
 use crate::take::Take;
 use crate::task_state::TaskState;
-use due_list::TaskRef;
 use power_flow::{Kind, Snapshot};
-use task_codes::TaskCode;
+use task_codes::{TaskCode, TaskRef};
 
 /// Whether a state is one of a task's code: one state for each program, with its variables and their kinds, its blocks, its memories, and the places that a scan works in.
 pub fn fits_state(code: &TaskCode, state: &TaskState) -> bool

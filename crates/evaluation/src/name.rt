@@ -1,7 +1,7 @@
 ghost use Rattle.std.specs.Prelude.{◌≡◌, ◌↔◌, IsTrue};
 ghost use Rattle.evaluation.specs.Names.{precedes};
 
-use due_list::TaskRef;
+use task_codes::TaskRef;
 
 /// The name of an evaluation: its task, the incarnation of the task's resource, and its number among the task's evaluations in that incarnation.
 #[derive(Clone, Copy, Debug, PartialEq, Eq)]

@@ -1,8 +1,8 @@
 ghost use Rattle.std.specs.Prelude.{◌≡◌, ◌↔◌, IsTrue, IfOk};
 
 use crate::image::Image;
-use due_list::TaskRef;
 use std::alloc::AllocError;
+use task_codes::TaskRef;
 
 /// What an evaluation took from one producer: the incarnation and number of the producer's evaluation, and its image.
 /// Where there was none, `from` is None and the image is the initial one.

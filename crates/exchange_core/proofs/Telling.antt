@@ -4,7 +4,7 @@ use Rattle.std.specs.List.{zip}
 use Rattle.std.specs.Option.{option_map}
 use Rattle.std_blocks.specs.declared.value.Value.{Value}
 use Rattle.declared_names.specs.declared.declarations.Kind.{Kind}
-use Rattle.due_list.specs.declared.task_ref.TaskRef.{TaskRef}
+use Rattle.task_codes.specs.declared.task_ref.TaskRef.{TaskRef}
 use Rattle.plant.specs.PlantValue.{PlantValue}
 use Rattle.task_codes.specs.CodeValue.{CodeValue}
 use Rattle.evaluation.specs.declared.field_input.FieldInput.{FieldInput}
@@ -13,13 +13,13 @@ use Rattle.evaluation.specs.declared.take.Take.{Take}
 use Rattle.evaluation.specs.Meaning.{Evaluated, IsAsked}
 use Rattle.evaluation.specs.Last.{state_from, left_by, takes_of, last_number}
 use Rattle.evaluation.specs.Messages.{MessageValue, message_of, take_from, taken_of, TakenAlike}
-use Rattle.message_core.specs.declared.accepted.Accepted.{Accepted}
-use Rattle.message_core.specs.declared.accepted.Accepted.TheVariants.{Taken, Old, Unused, Stray}
-use Rattle.message_core.specs.declared.eval_fault.EvalFault.{EvalFault}
-use Rattle.message_core.specs.declared.last.Last.TheVariants.{Whole}
-use Rattle.message_core.specs.Held.{message_known}
-use Rattle.message_core.specs.MessageCoreValue.{MessageCoreValue}
-use Rattle.message_core.specs.MessageCoreValue as messages
+use Rattle.exchange_core.specs.declared.accepted.Accepted.{Accepted}
+use Rattle.exchange_core.specs.declared.accepted.Accepted.TheVariants.{Taken, Old, Unused, Stray}
+use Rattle.exchange_core.specs.declared.eval_fault.EvalFault.{EvalFault}
+use Rattle.exchange_core.specs.declared.last.Last.TheVariants.{Whole}
+use Rattle.exchange_core.specs.HeldMessages.{message_known}
+use Rattle.exchange_core.specs.MessageCoreValue.{MessageCoreValue}
+use Rattle.exchange_core.specs.MessageCoreValue as messages
 use Rattle.exchange_core.specs.Held.{known}
 use Rattle.exchange_core.specs.CoreValue.{fresh_core, own_task, own_last, is_greater, IsUsable, IsAccepted, HasHeard, IsNextOf, IsNext, IsRestartOf}
 use Rattle.exchange_core.specs.Wholes.{wholes, AreWhole, core_in}

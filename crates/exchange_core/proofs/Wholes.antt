@@ -3,14 +3,14 @@ use Rattle.std.proofs.Common.{◌≡◌, ℕ, zero, suc, List, [], ◌∷◌, le
 use Rattle.std.specs.Option.{option_map, option_and_then}
 use Rattle.std.proofs.lemmas.List.{map-set}
 use Rattle.std.proofs.Math.ListN.{get_or-map}
-use Rattle.due_list.specs.declared.task_ref.TaskRef.{TaskRef}
+use Rattle.task_codes.specs.declared.task_ref.TaskRef.{TaskRef}
 use Rattle.plant.specs.PlantValue.{ResourceValue, PlantValue}
 use Rattle.evaluation.specs.Meaning.{Evaluated}
 use Rattle.evaluation.specs.Messages.{message_of}
-use Rattle.message_core.specs.declared.last.Last.{Last}
-use Rattle.message_core.specs.declared.last.Last.TheVariants.{Whole}
-use Rattle.message_core.specs.Held.{at_task, with_task, nothing_for, whole_in, message_in}
-use Rattle.message_core.specs.Held as messages
+use Rattle.exchange_core.specs.declared.last.Last.{Last}
+use Rattle.exchange_core.specs.declared.last.Last.TheVariants.{Whole}
+use Rattle.exchange_core.specs.HeldMessages.{at_task, with_task, nothing_for, whole_in, message_in}
+use Rattle.exchange_core.specs.HeldMessages as messages
 use Rattle.exchange_core.specs.Held.{known, with_known}
 use Rattle.exchange_core.specs.Wholes.{wholes, as_wholes, AreWhole}
 

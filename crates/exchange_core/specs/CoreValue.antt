@@ -2,21 +2,21 @@
 use Rattle.std.specs.Prelude.{◌≡◌, ◌≢◌, ℕ, ◌+◌, ◌<◌, ◌≤◌, ◌==◌, ◌&&◌, Bool, true, false, not, nat_lt, List, [], Option, Some, None, is_some, length, map, slice_set, slice_index, slice_index_or, if◌then◌else◌}
 use Rattle.std_blocks.specs.declared.value.Value.{Value}
 use Rattle.declared_names.specs.Kinds.{kind_of}
-use Rattle.due_list.specs.declared.task_ref.TaskRef.{TaskRef}
+use Rattle.task_codes.specs.declared.task_ref.TaskRef.{TaskRef}
 use Rattle.plant.specs.PlantValue.{PlantValue, code_at}
 use Rattle.task_codes.specs.CodeValue.{CodeValue}
 use Rattle.evaluation.specs.declared.field_input.FieldInput.{FieldInput}
 use Rattle.evaluation.specs.declared.name.Name.{Name}
 use Rattle.evaluation.specs.Names.{precedes}
 use Rattle.evaluation.specs.Meaning.{Evaluated, IsAsked}
-use Rattle.message_core.specs.declared.accepted.Accepted.{Accepted}
-use Rattle.message_core.specs.declared.accepted.Accepted.TheVariants.{Taken, Old, Unused, Stray}
-use Rattle.message_core.specs.declared.eval_fault.EvalFault.{EvalFault}
-use Rattle.message_core.specs.declared.eval_fault.EvalFault.TheVariants.{NoSuchTask, NumbersSpent, Memory}
+use Rattle.exchange_core.specs.declared.accepted.Accepted.{Accepted}
+use Rattle.exchange_core.specs.declared.accepted.Accepted.TheVariants.{Taken, Old, Unused, Stray}
+use Rattle.exchange_core.specs.declared.eval_fault.EvalFault.{EvalFault}
+use Rattle.exchange_core.specs.declared.eval_fault.EvalFault.TheVariants.{NoSuchTask, NumbersSpent, Memory}
 use Rattle.evaluation.specs.Heard.{is_addressed}
 use Rattle.evaluation.specs.Last.{state_from, left_by, takes_of, last_number}
 use Rattle.exchange_core.specs.Held.{Table, known, with_known, empty_for}
-pub use Rattle.message_core.specs.Openings.{AreOpeningOf, initial_opening, IsCoreFault, Expects}
+pub use Rattle.exchange_core.specs.Openings.{AreOpeningOf, initial_opening, IsCoreFault, Expects}
 
 -- A core: its plant, its resource, the first incarnation of each resource, its own incarnation, the incarnation of each
 -- resource of which it has heard, the greatest number, for each task of its resource the retained values with which it

@@ -1,9 +1,9 @@
 -- A table of the last evaluation known of each task, by resource and task.
 use Rattle.std.specs.Prelude.{List, Option}
-use Rattle.due_list.specs.declared.task_ref.TaskRef.{TaskRef}
+use Rattle.task_codes.specs.declared.task_ref.TaskRef.{TaskRef}
 use Rattle.plant.specs.PlantValue.{PlantValue}
 use Rattle.evaluation.specs.Meaning.{Evaluated}
-use Rattle.message_core.specs.Held.{at_task, with_task, nothing_for, HasPlaces}
+use Rattle.exchange_core.specs.HeldMessages.{at_task, with_task, nothing_for, HasPlaces}
 
 abbrev pub Table : Type 0
 Table = List (List (Option Evaluated))

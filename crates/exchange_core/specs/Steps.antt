@@ -1,2 +1,5 @@
--- Steps of the proofs: where the last evaluations stand. No reader has to believe them.
+-- Steps of the proofs: where the last evaluations stand, and what they have to be.
+-- Only contracts inside this crate cite them, so no reader has to believe them.
+pub mod KnowingMessages
+pub mod Outliving
 pub mod Knowing

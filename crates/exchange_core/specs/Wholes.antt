@@ -1,9 +1,9 @@
 -- The core over messages that stands in a core.
 use Rattle.std.specs.Prelude.{◌≡◌, map}
 use Rattle.std.specs.Option.{option_map, option_and_then}
-use Rattle.message_core.specs.declared.last.Last.TheVariants.{Whole}
-use Rattle.message_core.specs.Held as messages
-use Rattle.message_core.specs.MessageCoreValue.{MessageCoreValue}
+use Rattle.exchange_core.specs.declared.last.Last.TheVariants.{Whole}
+use Rattle.exchange_core.specs.HeldMessages as messages
+use Rattle.exchange_core.specs.MessageCoreValue.{MessageCoreValue}
 use Rattle.exchange_core.specs.Held.{Table}
 use Rattle.exchange_core.specs.CoreValue.{CoreValue, core_of}
 

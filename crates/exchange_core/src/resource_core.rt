@@ -1,5 +1,9 @@
+use crate::accepted::Accepted;
+use crate::core_fault::CoreFault;
+use crate::eval_fault::EvalFault;
+use crate::message_core::MessageCore;
+use crate::restart_fault::RestartFault;
 use evaluation::{Frame, Inputs, Retained, taken_alike};
-use message_core::{Accepted, CoreFault, EvalFault, MessageCore, RestartFault};
 use plant::{Plant, TaskRef};
 use std::alloc::{AllocError, Global};
 use std::marker::Model;
@@ -26,11 +30,11 @@ impl Model for Core {
 ghost use Rattle.std.specs.Prelude.{◌≡◌, ◌≢◌, ◌+◌, ◌<◌, IfOk, IfErr, OnOk, OnErr, Some, length, slice_index};
 ghost use Rattle.std.specs.Option.{option_copied};
 ghost use Rattle.evaluation.specs.Last.{last_number};
-ghost use Rattle.message_core.specs.Openings.{AreOpeningOf, IsCoreFault};
+ghost use Rattle.exchange_core.specs.Openings.{AreOpeningOf, IsCoreFault};
 ghost use Rattle.exchange_core.specs.CoreValue.{fresh_core, IsRestartOf, IsAccepted, HasHeard, IsNext, IsDue, IsEvalFault, held_of, own_last};
 ghost use Rattle.exchange_core.specs.Wholes.{core_in, AreWhole};
-ghost use Rattle.message_core.specs.declared.accepted.Accepted.TheVariants.{Taken};
-ghost use Rattle.message_core.specs.declared.eval_fault.EvalFault.TheVariants.{Memory};
+ghost use Rattle.exchange_core.specs.declared.accepted.Accepted.TheVariants.{Taken};
+ghost use Rattle.exchange_core.specs.declared.eval_fault.EvalFault.TheVariants.{Memory};
 
 impl Core {
     /// A core of a resource in its first incarnation. It holds nothing, each of its tasks begins with its opening, and of each other resource it has heard the first incarnation.

@@ -4,12 +4,12 @@ use Rattle.ladder_text.specs.declared.draw_fault.DrawFaultKind.{DrawFaultKind}
 use Rattle.ladder_text.specs.declared.draw_fault.DrawFaultKind.TheVariants as draw
 use Rattle.network.specs.declared.fault.GraphFaultKind.{GraphFaultKind}
 use Rattle.network.specs.declared.fault.GraphFaultKind.TheVariants as graph
-use Rattle.variable_binding.specs.declared.bind_fault.BindKind.{BindKind}
-use Rattle.variable_binding.specs.declared.bind_fault.BindKind.TheVariants as bind
-use Rattle.program_bodies.specs.declared.plant_fault.PlantFaultKind.{PlantFaultKind}
-use Rattle.program_bodies.specs.declared.plant_fault.PlantFaultKind.TheVariants as plant
-use Rattle.program_bodies.specs.declared.plant_fault.BodyFault.{BodyFault}
-use Rattle.program_bodies.specs.declared.plant_fault.BodyFault.TheVariants as body
+use Rattle.name_faults.specs.declared.bind_fault.BindKind.{BindKind}
+use Rattle.name_faults.specs.declared.bind_fault.BindKind.TheVariants as bind
+use Rattle.plant.specs.declared.plant_fault.PlantFaultKind.{PlantFaultKind}
+use Rattle.plant.specs.declared.plant_fault.PlantFaultKind.TheVariants as plant
+use Rattle.plant.specs.declared.plant_fault.BodyFault.{BodyFault}
+use Rattle.plant.specs.declared.plant_fault.BodyFault.TheVariants as body
 use Rattle.guidance.specs.declared.table.TheConstants as table
 use Rattle.guidance.specs.declared.topic.Topic.{Topic}
 use Rattle.guidance.specs.declared.topic.Topic.TheVariants as topic

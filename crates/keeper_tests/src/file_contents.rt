@@ -3,8 +3,7 @@
 use crate::checks::{equal, must};
 use crate::disk::Left;
 use crate::disk_files::{DiskFiles, FOLDER};
-use file_keepers::{FileKeeper, SystemFolder};
-use keepers::{Keeper, KeeperFault};
+use keepers::{FileKeeper, Keeper, KeeperFault, SystemFolder};
 use std::alloc::Global;
 use std::process::Abort;
 

@@ -1,4 +1,4 @@
-//! Tests of `keepers` and `file_keepers`, over a disk in memory.
+//! Tests of `keepers`, over a disk in memory.
 #![tactic(auto)]
 
 #[cfg(test)]

@@ -1,0 +1,5 @@
+pub mod KeptFiles
+pub mod KeptTexts
+pub mod NumberTexts
+pub mod ReadTexts
+pub mod RetainedTexts

@@ -1,3 +1,5 @@
+mod KeptLines
+mod LinesRead
 mod LineTaking
 mod NextAnswered
 mod Opened

@@ -3,9 +3,9 @@ use Rattle.std.proofs.Common.{◌≡◌, ◌≢◌, ◌==◌, ◌⊎◌, inl, in
 use Rattle.std.specs.Io.KnownBytes.{Consumes, IsAtEnd}
 use Rattle.std.proofs.KnownBytes.{Consumes-nil, Consumes-trans}
 use Rattle.std.proofs.lemmas.List.Elements.{All-append}
-use Rattle.line_reader.specs.Lines.{HasNoFeed, Gives, TakesSome}
-use Rattle.line_reader.specs.declared.lines.Given.{Given}
-use Rattle.line_reader.specs.declared.lines.Given.TheVariants as gave
+use Rattle.text_lines.specs.Lines.{HasNoFeed, Gives, TakesSome}
+use Rattle.text_lines.specs.declared.lines.Given.{Given}
+use Rattle.text_lines.specs.declared.lines.Given.TheVariants as gave
 use Rattle.live_node.specs.declared.live_lines.TakenLine.{TakenLine}
 use Rattle.live_node.specs.declared.live_lines.TakenLine.TheVariants.{Line, TooLong, End}
 use Rattle.live_node.specs.Steps.LineTaking.{BeginsLine, TakesToEnd, TakesLine, Takes, TakesRest, TakesWithin, IsTaken, HasPut}

@@ -2,11 +2,11 @@
 use Rattle.std.proofs.Common.{◌≡◌, inl, inr, ℕ, ◌+◌, ◌≤◌, true, false, Bool, List, [], Option, Some, None, refl, ap, subst, arith}
 use Rattle.std.specs.Io.KnownBytes.{Appends}
 use Rattle.std.proofs.KnownBytes.{Appends-nil, Keeps-refl}
-use Rattle.node_lines.specs.declared.node_line.NodeLine.{NodeLine}
-use Rattle.node_lines.specs.declared.node_line.NodeLine.TheVariants.{Idle, Evaluate, Take, Hello, Restart}
-use Rattle.node_lines.specs.Answers.{refused_line}
-use Rattle.node_cores.specs.declared.line_refusal.LineRefusal.TheVariants as refusal
-use Rattle.node_cores.specs.NodeValue.{NodeValue}
+use Rattle.live_node.specs.declared.node_line.NodeLine.{NodeLine}
+use Rattle.live_node.specs.declared.node_line.NodeLine.TheVariants.{Idle, Evaluate, Take, Hello, Restart}
+use Rattle.live_node.specs.Answers.{refused_line}
+use Rattle.live_node.specs.declared.line_refusal.LineRefusal.TheVariants as refusal
+use Rattle.live_node.specs.NodeValue.{NodeValue}
 use Rattle.live_node.specs.declared.live_lines.TakenLine.TheVariants.{Line, TooLong, End}
 use Rattle.live_node.specs.Steps.LineTaking.{Takes}
 use Rattle.live_node.specs.NodeAnswers.{Raising, AnswersAsked, IsAnswered}

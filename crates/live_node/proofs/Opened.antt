@@ -7,8 +7,8 @@ use Rattle.std_blocks.specs.declared.value.Value.{Value}
 use Rattle.plant.specs.PlantValue.{PlantValue, codes_at, tasks_at, IsSoundPlant}
 use Rattle.task_codes.specs.CodeValue.{CodeValue}
 use Rattle.evaluation.specs.Retained.{Suits}
-use Rattle.message_core.specs.Openings.{AreOpeningOf}
-use Rattle.message_core.proofs.Openings.{codes-many}
+use Rattle.exchange_core.specs.Openings.{AreOpeningOf}
+use Rattle.exchange_core.proofs.Openings.{codes-many}
 
 -- what was kept of the first tasks of a resource suits them
 pub record IsKeptOf (plant : PlantValue) (resource n : ℕ) (listed : List (List Value)) : Type 0 where

@@ -6,10 +6,10 @@ use Rattle.std.specs.Io.KnownBytes.{Appends, Consumes, Keeps}
 use Rattle.std.proofs.KnownBytes.{Appends-nil, Appends-trans, Consumes-nil, Consumes-trans}
 use Rattle.std.proofs.lemmas.List.{reverse-append}
 use Rattle.words.specs.Lines.{lines_of}
-use Rattle.line_reader.specs.Lines.{HasNoFeed}
+use Rattle.text_lines.specs.Lines.{HasNoFeed}
 use Rattle.world.proofs.LinesRead.{fed, fed_more, whole_more, lines_with_last, lines_fed}
-use Rattle.node_lines.specs.declared.node_line.NodeLine.TheVariants.{Idle}
-use Rattle.node_cores.specs.NodeValue.{NodeValue}
+use Rattle.live_node.specs.declared.node_line.NodeLine.TheVariants.{Idle}
+use Rattle.live_node.specs.NodeValue.{NodeValue}
 use Rattle.live_node.specs.Steps.LineTaking.{BeginsLine}
 use Rattle.live_node.specs.NodeAnswers.{Raising}
 use Rattle.live_node.specs.LiveNode.{AnswersLine, HaveAnswered, WritesNode, HasAnsweredSoFar}

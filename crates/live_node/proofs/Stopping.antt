@@ -3,18 +3,18 @@ use Rattle.std.proofs.Common.{◌≡◌, inl, inr, ℕ, ◌+◌, ◌++◌, ◌<�
 use Rattle.std.specs.List.{flat_map}
 use Rattle.std.specs.Io.KnownBytes.{Appends, Consumes}
 use Rattle.std.proofs.KnownBytes.{Appends-nil, Consumes-nil, Keeps-refl}
-use Rattle.text_writer.specs.Sending.{SendsPart}
-use Rattle.text_writer.proofs.Sending.{begins}
-use Rattle.line_reader.specs.Lines.{TakesSome}
-use Rattle.line_reader.specs.declared.read_fault.ReadFault.{ReadFault}
-use Rattle.line_reader.specs.declared.read_fault.ReadFault.TheVariants as reading
+use Rattle.text_lines.specs.Sending.{SendsPart}
+use Rattle.text_lines.proofs.Sending.{begins}
+use Rattle.text_lines.specs.Lines.{TakesSome}
+use Rattle.text_lines.specs.declared.read_fault.ReadFault.{ReadFault}
+use Rattle.text_lines.specs.declared.read_fault.ReadFault.TheVariants as reading
 use Rattle.world.proofs.LinesRead.{fed}
-use Rattle.node_lines.specs.declared.node_line.NodeLine.TheVariants.{Restart}
-use Rattle.node_lines.specs.Answers.{refused_line}
-use Rattle.node_lines.specs.NodeJournal.{line_note, restart_note}
-use Rattle.node_lines.specs.NodeLines.{Spells}
-use Rattle.node_cores.specs.declared.line_refusal.LineRefusal.TheVariants as refusal
-use Rattle.node_cores.specs.NodeValue.{NodeValue}
+use Rattle.live_node.specs.declared.node_line.NodeLine.TheVariants.{Restart}
+use Rattle.live_node.specs.Answers.{refused_line}
+use Rattle.live_node.specs.NodeJournal.{line_note, restart_note}
+use Rattle.live_node.specs.NodeLines.{Spells}
+use Rattle.live_node.specs.declared.line_refusal.LineRefusal.TheVariants as refusal
+use Rattle.live_node.specs.NodeValue.{NodeValue}
 use Rattle.live_node.specs.declared.live_lines.TakenLine.TheVariants.{Line, TooLong}
 use Rattle.live_node.specs.declared.live_stop.LiveStop.{LiveStop}
 use Rattle.live_node.specs.declared.live_stop.LiveStop.TheVariants.{Node, Read, Write, Memory}

@@ -6,26 +6,26 @@ use Rattle.std.proofs.KnownBytes.{Appends-nil}
 use Rattle.std_blocks.specs.declared.value.Value.{Value}
 use Rattle.keepers.specs.declared.keeper_fault.KeeperFault.{KeeperFault}
 use Rattle.keepers.specs.declared.keeper_fault.KeeperFault.TheVariants as keeping
-use Rattle.due_list.specs.declared.task_ref.TaskRef.{TaskRef}
+use Rattle.task_codes.specs.declared.task_ref.TaskRef.{TaskRef}
 use Rattle.plant.specs.PlantValue.{PlantValue}
 use Rattle.evaluation.specs.declared.field_input.FieldInput.{FieldInput}
 use Rattle.evaluation.specs.Meaning.{Evaluated}
 use Rattle.evaluation.specs.Messages.{message_of}
-use Rattle.message_core.specs.MessageCoreValue.{MessageCoreValue}
-use Rattle.message_texts.specs.MessageLines.{HasForm}
+use Rattle.exchange_core.specs.MessageCoreValue.{MessageCoreValue}
+use Rattle.text_lines.specs.MessageLines.{HasForm}
 use Rattle.world.specs.RunLines.{evaluation_line}
-use Rattle.node_lines.specs.declared.node_line.NodeLine.{NodeLine}
-use Rattle.node_lines.specs.declared.node_line.NodeLine.TheVariants.{Idle, Evaluate, Restart}
-use Rattle.node_lines.specs.Sends.{greetings, message_sends}
-use Rattle.node_lines.specs.Answers.{refused_line, risen_line}
-use Rattle.node_lines.specs.NodeJournal.{line_note, restart_note, start_note}
-use Rattle.node_cores.specs.declared.line_refusal.LineRefusal.{LineRefusal}
-use Rattle.node_cores.specs.declared.line_refusal.LineRefusal.TheVariants.{Syntax, TooLong, NoSuchResource, NotHere, NoSuchTask, NumbersSpent, Keeper}
-use Rattle.node_cores.specs.NodeValue.{NodeValue, IsStarted}
-use Rattle.node_cores.specs.NodeSteps.{HasMade, IsPlaceRefusal, IsTaskRefusal}
+use Rattle.live_node.specs.declared.node_line.NodeLine.{NodeLine}
+use Rattle.live_node.specs.declared.node_line.NodeLine.TheVariants.{Idle, Evaluate, Restart}
+use Rattle.live_node.specs.Sends.{greetings, message_sends}
+use Rattle.live_node.specs.Answers.{refused_line, risen_line}
+use Rattle.live_node.specs.NodeJournal.{line_note, restart_note, start_note}
+use Rattle.live_node.specs.declared.line_refusal.LineRefusal.{LineRefusal}
+use Rattle.live_node.specs.declared.line_refusal.LineRefusal.TheVariants.{Syntax, TooLong, NoSuchResource, NotHere, NoSuchTask, NumbersSpent, Keeper}
+use Rattle.live_node.specs.NodeValue.{NodeValue, IsStarted}
+use Rattle.live_node.specs.NodeSteps.{HasMade, IsPlaceRefusal, IsTaskRefusal}
 use Rattle.std.proofs.lemmas.List.{append-nil}
 use Rattle.world.specs.ScheduleText.{is_idle}
-use Rattle.node_lines.specs.NodeLines.{Spells, node_words}
+use Rattle.live_node.specs.NodeLines.{Spells, node_words}
 use Rattle.live_node.specs.NodeAnswers.{Raising, HasBegun, start_text, IsAnswered, IsRestartRefusal}
 use Rattle.live_node.specs.Steps.Answering.{HasRisenTo, IsAnsweredBy}
 

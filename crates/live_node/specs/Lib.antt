@@ -1,3 +1,10 @@
+pub mod NodeSteps
+pub mod NodeValue
+pub mod Answers
+pub mod NodeJournal
+pub mod NodeLines
+pub mod Partners
+pub mod Sends
 pub mod LiveNode
 pub mod NodeAnswers
 pub mod Stops

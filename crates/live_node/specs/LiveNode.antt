@@ -2,9 +2,9 @@
 use Rattle.std.specs.Prelude.{◌≡◌, ℕ, ◌<◌, ◌≤◌, ◌++◌, ◌⊎◌, List, [], ◌∷◌, Option, length, reverse}
 use Rattle.std.specs.Io.KnownBytes.{Appends, Consumes, IsAtEnd}
 use Rattle.words.specs.Lines.{lines_of}
-use Rattle.line_reader.specs.Lines.{HasNoFeed}
-use Rattle.node_cores.specs.declared.line_refusal.LineRefusal.TheVariants.{TooLong}
-use Rattle.node_cores.specs.NodeValue.{NodeValue}
+use Rattle.text_lines.specs.Lines.{HasNoFeed}
+use Rattle.live_node.specs.declared.line_refusal.LineRefusal.TheVariants.{TooLong}
+use Rattle.live_node.specs.NodeValue.{NodeValue}
 use Rattle.live_node.specs.NodeAnswers.{Raising, Answers, IsRefused}
 
 -- a line is answered: as it asks, or, if it has more than 16,777,216 bytes, by a refusal

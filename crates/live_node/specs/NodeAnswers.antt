@@ -2,28 +2,28 @@
 use Rattle.std.specs.Prelude.{◌≡◌, ◌≢◌, ℕ, ◌+◌, ◌<◌, ◌≤◌, ◌++◌, ◌⊎◌, ◌&&◌, Bool, false, List, [], Option, Some, None, Result, Ok, Err, MatchOption, codes, length, if◌then◌else◌}
 use Rattle.std.specs.Io.KnownBytes.{Appends}
 use Rattle.std_blocks.specs.declared.value.Value.{Value}
-use Rattle.due_list.specs.declared.task_ref.TaskRef.{TaskRef}
+use Rattle.task_codes.specs.declared.task_ref.TaskRef.{TaskRef}
 use Rattle.keepers.specs.declared.keeper_fault.KeeperFault.{KeeperFault}
 use Rattle.keepers.specs.declared.keeper_fault.KeeperFault.TheVariants.{Memory}
 use Rattle.plant.specs.PlantValue.{PlantValue}
 use Rattle.evaluation.specs.declared.field_input.FieldInput.{FieldInput}
 use Rattle.evaluation.specs.Meaning.{Evaluated}
 use Rattle.evaluation.specs.Messages.{MessageValue, message_of}
-use Rattle.message_core.specs.declared.accepted.Accepted.{Accepted}
-use Rattle.message_core.specs.declared.accepted.Accepted.TheVariants.{Taken, Old, Unused, Stray}
-use Rattle.message_core.specs.MessageCoreValue.{MessageCoreValue}
+use Rattle.exchange_core.specs.declared.accepted.Accepted.{Accepted}
+use Rattle.exchange_core.specs.declared.accepted.Accepted.TheVariants.{Taken, Old, Unused, Stray}
+use Rattle.exchange_core.specs.MessageCoreValue.{MessageCoreValue}
 use Rattle.world.specs.RunLines.{evaluation_line}
-use Rattle.node_lines.specs.declared.node_line.NodeLine.{NodeLine}
-use Rattle.node_lines.specs.declared.node_line.NodeLine.TheVariants.{Idle, Evaluate, Take, Hello, Restart}
-use Rattle.node_cores.specs.declared.line_refusal.LineRefusal.{LineRefusal}
-use Rattle.node_cores.specs.declared.line_refusal.LineRefusal.TheVariants.{Syntax, TooLong, NoSuchResource, NotHere, NoSuchTask, NumbersSpent, Keeper}
-use Rattle.node_lines.specs.NodeLines.{Spells, SpellsNothing}
-use Rattle.node_lines.specs.Partners.{takes_from_resource}
-use Rattle.node_lines.specs.Sends.{greetings, hello_to, message_sends}
-use Rattle.node_lines.specs.Answers.{refused_line, message_answer, hello_answer, risen_line}
-use Rattle.node_lines.specs.NodeJournal.{line_note, start_note, restart_note}
-use Rattle.node_cores.specs.NodeValue.{NodeValue, IsStarted}
-use Rattle.node_cores.specs.NodeSteps.{HasMade, HasTaken, HasHeardOf, HasRisen, IsTaskRefusal, is_behind}
+use Rattle.live_node.specs.declared.node_line.NodeLine.{NodeLine}
+use Rattle.live_node.specs.declared.node_line.NodeLine.TheVariants.{Idle, Evaluate, Take, Hello, Restart}
+use Rattle.live_node.specs.declared.line_refusal.LineRefusal.{LineRefusal}
+use Rattle.live_node.specs.declared.line_refusal.LineRefusal.TheVariants.{Syntax, TooLong, NoSuchResource, NotHere, NoSuchTask, NumbersSpent, Keeper}
+use Rattle.live_node.specs.NodeLines.{Spells, SpellsNothing}
+use Rattle.live_node.specs.Partners.{takes_from_resource}
+use Rattle.live_node.specs.Sends.{greetings, hello_to, message_sends}
+use Rattle.live_node.specs.Answers.{refused_line, message_answer, hello_answer, risen_line}
+use Rattle.live_node.specs.NodeJournal.{line_note, start_note, restart_note}
+use Rattle.live_node.specs.NodeValue.{NodeValue, IsStarted}
+use Rattle.live_node.specs.NodeSteps.{HasMade, HasTaken, HasHeardOf, HasRisen, IsTaskRefusal, is_behind}
 
 -- a line isn't done: nothing changes, nothing is noted, and its answer is the refusal
 pub record IsRefused (old new : NodeValue) (note text : List ℕ) (refusal : LineRefusal) : Type 0 where

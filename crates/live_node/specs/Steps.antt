@@ -1,2 +1,4 @@
+-- Steps of the proofs. Only contracts inside this crate cite them, so no reader has to believe them.
+pub mod Reading
 pub mod Answering
 pub mod LineTaking

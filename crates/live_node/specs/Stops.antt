@@ -2,12 +2,12 @@
 use Rattle.std.specs.Prelude.{◌≡◌, ℕ, ◌<◌, ◌++◌, ◌⊎◌, List, [], ◌∷◌, Option, reverse}
 use Rattle.std.specs.List.{AllByRecursion, flat_map}
 use Rattle.std.specs.Io.KnownBytes.{Appends, Consumes, Keeps}
-use Rattle.text_writer.specs.Sending.{SendsPart}
-use Rattle.line_reader.specs.Lines.{HasNoFeed}
-use Rattle.node_lines.specs.declared.node_line.NodeLine.TheVariants.{Restart}
-use Rattle.node_lines.specs.NodeLines.{Spells}
-use Rattle.node_lines.specs.NodeJournal.{line_note, restart_note}
-use Rattle.node_cores.specs.NodeValue.{NodeValue}
+use Rattle.text_lines.specs.Sending.{SendsPart}
+use Rattle.text_lines.specs.Lines.{HasNoFeed}
+use Rattle.live_node.specs.declared.node_line.NodeLine.TheVariants.{Restart}
+use Rattle.live_node.specs.NodeLines.{Spells}
+use Rattle.live_node.specs.NodeJournal.{line_note, restart_note}
+use Rattle.live_node.specs.NodeValue.{NodeValue}
 use Rattle.live_node.specs.declared.live_stop.LiveStop.{LiveStop}
 use Rattle.live_node.specs.declared.live_stop.LiveStop.TheVariants.{Node, Read, Write, Memory}
 use Rattle.live_node.specs.NodeAnswers.{Raising}

@@ -2,22 +2,22 @@
 
 ghost use Rattle.std.specs.Prelude.{◌≡◌, ℕ, ◌+◌, ◌<◌, ◌≤◌, IfOk, IfErr, OnOk, List, Option, string_bytes};
 ghost use Rattle.std.specs.Io.KnownBytes.{Appends};
-ghost use Rattle.text_writer.specs.Sending.{SendsPart};
+ghost use Rattle.text_lines.specs.Sending.{SendsPart};
 ghost use Rattle.live_node.specs.LiveNode.{HasAnsweredSoFar, WritesNode};
 ghost use Rattle.live_node.specs.Stops.{StopsWithin, StopsNode};
 ghost use Rattle.live_node.specs.Steps.Answering.{HasAnsweredNext, IsUnwritten};
 ghost use Rattle.live_node.specs.Steps.LineTaking.{BeginsLine};
 
+use crate::answers::push_refused;
+use crate::line_refusal::LineRefusal;
 use crate::live_lines::{TakenLine, take_line};
 use crate::live_stop::LiveStop;
 use crate::node::Node;
 use crate::notes::Notes;
 use keepers::Keeper;
-use node_cores::LineRefusal;
-use node_lines::push_refused;
 use std::alloc::Global;
 use std::io::Write;
-use text_writer::write_text;
+use text_lines::write_text;
 use world::LineSource;
 
 /// What a node reads and writes by: a line, a part of a long one, and an answer.

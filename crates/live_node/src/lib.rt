@@ -3,18 +3,32 @@
 #![tactic(auto)]
 
 mod answering;
+mod answers;
 mod file_notes;
+mod journal_lines;
+mod line_refusal;
 mod live_lines;
 mod live_stop;
 mod no_notes;
 mod node;
+mod node_core;
+mod node_line;
 mod node_stop;
 mod notes;
+mod partners;
+mod reading;
+mod sends;
 
 pub use answering::live;
 pub use file_notes::{FileNotes, JournalFault};
+pub use journal_lines::{note_of_restart, note_of_start};
+pub use line_refusal::LineRefusal;
 pub use live_stop::LiveStop;
 pub use no_notes::NoNotes;
 pub use node::Node;
+pub use node_core::NodeCore;
+pub use node_line::NodeLine;
 pub use node_stop::NodeStop;
 pub use notes::{NoteFault, Notes};
+pub use partners::takes_from_task;
+pub use reading::read_node_line;

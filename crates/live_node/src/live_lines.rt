@@ -3,8 +3,8 @@
 ghost use Rattle.std.specs.Prelude.{◌≡◌, ℕ, ◌≤◌, IfOk, OnErr, List, Option, length};
 ghost use Rattle.live_node.specs.Steps.LineTaking.{BeginsLine, IsTaken, Takes, TakesRest, TakesWithin, HasPut};
 
-use line_reader::{Given, ReadFault};
 use std::io::Write;
+use text_lines::{Given, ReadFault};
 use world::LineSource;
 
 /// How many bytes a line of a node has at most, its line feed aside.

@@ -1,7 +1,6 @@
 use crate::node_stop::NodeStop;
-use line_reader::ReadFault;
 use std::alloc::AllocError;
-use text_writer::WriteFault;
+use text_lines::{ReadFault, WriteFault};
 use thiserror::Error;
 
 /// Why a node ends before the end of its lines.

@@ -3,30 +3,32 @@
 ghost use Rattle.std.specs.Prelude.{◌≡◌, ◌≢◌, ◌<◌, IfOk, OnOk, OnErr, Some, [], length, string_bytes, if◌then◌else◌};
 ghost use Rattle.std.specs.Io.KnownBytes.{Appends};
 ghost use Rattle.evaluation.specs.Messages.{message_of};
-ghost use Rattle.message_core.specs.Openings.{AreOpeningOf};
-ghost use Rattle.message_texts.specs.MessageLines.{IsMessageOf};
+ghost use Rattle.exchange_core.specs.Openings.{AreOpeningOf};
+ghost use Rattle.text_lines.specs.MessageLines.{IsMessageOf};
 ghost use Rattle.keepers.specs.declared.keeper_fault.KeeperFault.TheVariants as keeping;
-ghost use Rattle.node_cores.specs.declared.line_refusal.LineRefusal.TheVariants as refusal;
-ghost use Rattle.node_lines.specs.Answers.{refused_line};
-ghost use Rattle.node_lines.specs.declared.node_line.NodeLine.TheVariants as asked;
+ghost use Rattle.live_node.specs.declared.line_refusal.LineRefusal.TheVariants as refusal;
+ghost use Rattle.live_node.specs.Answers.{refused_line};
+ghost use Rattle.live_node.specs.declared.node_line.NodeLine.TheVariants as asked;
 ghost use Rattle.live_node.specs.NodeAnswers.{is_told, own_hello, IsAnswered, HasBegun};
 ghost use Rattle.live_node.specs.Stops.{NotesPart};
 ghost use Rattle.live_node.specs.Steps.Answering.{HasRisenTo, IsAnsweredBy, NotesRestartPart};
-ghost use Rattle.node_lines.specs.NodeJournal.{line_note, restart_note};
-ghost use Rattle.text_writer.specs.Growing.{GrowsBy};
-ghost use Rattle.text_writer.specs.Sending.{SendsPart};
+ghost use Rattle.live_node.specs.NodeJournal.{line_note, restart_note};
+ghost use Rattle.text_lines.specs.Growing.{GrowsBy};
+ghost use Rattle.text_lines.specs.Sending.{SendsPart};
 
+use crate::answers::{push_hello_answer, push_message_answer, push_refused, push_risen};
+use crate::journal_lines::{note_of_line, note_of_restart, note_of_start};
+use crate::line_refusal::LineRefusal;
+use crate::node_core::NodeCore;
+use crate::node_line::NodeLine;
 use crate::node_stop::NodeStop;
 use crate::notes::Notes;
+use crate::partners::takes_from_resource;
+use crate::reading::read_node_line;
+use crate::sends::{push_greetings, push_hello_to, push_message_sends};
 use evaluation::{Evaluation, Inputs, Message, Retained};
+use exchange_core::Accepted;
 use keepers::{Keeper, KeeperFault};
-use message_core::Accepted;
-use node_cores::{LineRefusal, NodeCore};
-use node_lines::{
-    NodeLine, note_of_line, note_of_restart, note_of_start, push_greetings, push_hello_answer,
-    push_hello_to, push_message_answer, push_message_sends, push_refused, push_risen,
-    read_node_line, takes_from_resource,
-};
 use plant::{Plant, TaskRef};
 use std::alloc::Global;
 use std::sync::Arc;

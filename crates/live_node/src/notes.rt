@@ -1,6 +1,6 @@
 ghost use Rattle.std.specs.Prelude.{ℕ, List, Option, OnOk, OnErr};
 ghost use Rattle.std.specs.Io.KnownBytes.{Appends};
-ghost use Rattle.text_writer.specs.Sending.{SendsPart};
+ghost use Rattle.text_lines.specs.Sending.{SendsPart};
 
 /// A note isn't kept, or not whole.
 #[derive(Clone, Copy, Debug, PartialEq, Eq)]

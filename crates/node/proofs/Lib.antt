@@ -1,1 +1,5 @@
+pub mod Alls
+pub mod Firsts
+pub mod Opened
+pub mod Refusing
 pub mod Unreported

@@ -1,15 +1,15 @@
 -- Why a run gives no report, from why a part of it gives none.
 use Rattle.std.proofs.Common.{◌≡◌, ℕ, List, All, reverse, Result, Ok, Err, IfOk, IfErr, sym, subst}
 use Rattle.plant.specs.PlantValue.{PlantValue}
-use Rattle.evaluation_book.specs.Book.{BookValue}
-use Rattle.evaluation_book.specs.Fits.{AllFit}
-use Rattle.node_journals.specs.declared.command.Command.{Command}
-use Rattle.node_journals.specs.declared.journal.Journal.{Journal}
-use Rattle.node_journals.specs.declared.node_fault.NodeFault.{NodeFault}
-use Rattle.node_journals.specs.declared.run_fault.RunFault.{RunFault}
-use Rattle.node_journals.specs.declared.run_fault.RunFault.TheVariants.{Memory, Spawn, BookDisagrees, Stranger, Doubled, Keeper}
-use Rattle.node_journals.specs.Journals.{firsts_of, IsLawful, BeginAbove}
-use Rattle.node_journals.specs.RunFaults.{IsThreadsFault}
+use Rattle.book.specs.Book.{BookValue}
+use Rattle.book.specs.Fits.{AllFit}
+use Rattle.node_reports.specs.declared.command.Command.{Command}
+use Rattle.node_reports.specs.declared.journal.Journal.{Journal}
+use Rattle.node_reports.specs.declared.node_fault.NodeFault.{NodeFault}
+use Rattle.node_reports.specs.declared.run_fault.RunFault.{RunFault}
+use Rattle.node_reports.specs.declared.run_fault.RunFault.TheVariants.{Memory, Spawn, BookDisagrees, Stranger, Doubled, Keeper}
+use Rattle.node_reports.specs.Journals.{firsts_of, IsLawful, BeginAbove}
+use Rattle.node_reports.specs.RunFaults.{IsThreadsFault}
 use Rattle.node_reports.specs.declared.report.Report.{Report}
 use Rattle.node_reports.specs.Reports.{IsCollectFault, IsRunFault}
 

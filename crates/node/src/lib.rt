@@ -1,12 +1,22 @@
-//! The run of commands in threads, one for each resource of a plant, and all that a caller of it needs.
+//! The run of commands in threads, one for each resource of a plant, with its gate and its keepers; and all that a
+//! caller of it needs.
 #![tactic(auto)]
 
+mod free_gate;
+mod gate;
+mod out_of_turns;
+mod paced_gate;
 mod running;
+mod threads;
 
-pub use node_journals::{
-    Act, Cause, Command, Journal, NodeFault, Opening, RunFault, Step, Steps, are_for_plant,
-    are_numbered,
+pub use free_gate::FreeGate;
+pub use gate::Gate;
+pub use keepers::{Keeper, KeeperFault, MemoryKeeper};
+pub use node_reports::{
+    Act, Cause, Command, Journal, Journals, NodeFault, NodeFaults, Opening, Report, RunFault, Step,
+    Steps, Tickets, are_for_plant, are_numbered,
 };
-pub use node_reports::{Journals, NodeFaults, Report, Tickets};
-pub use node_threads::{FreeGate, Gate, Keeper, KeeperFault, MemoryKeeper, OutOfTurns, PacedGate};
+pub use out_of_turns::OutOfTurns;
+pub use paced_gate::PacedGate;
 pub use running::run_threads;
+pub use threads::{Outcome, run_all};

@@ -1,11 +1,12 @@
 ghost use Rattle.std.specs.Prelude.{◌≡◌, IfOk, IfErr, length, vec_len};
-ghost use Rattle.node_journals.specs.Commands.{AreNumbered, AreForPlant};
-ghost use Rattle.node_journals.specs.Journals.{BeginAbove};
+ghost use Rattle.node_reports.specs.Commands.{AreNumbered, AreForPlant};
+ghost use Rattle.node_reports.specs.Journals.{BeginAbove};
 ghost use Rattle.node_reports.specs.Reports.{IsFittingBook, AreJournalsOf, AreInBook, AreAnswers, RunsAgain, CanBeMadeAgain, AreTold, IsRunFault};
 
-use node_journals::{Command, RunFault};
-use node_reports::{Report, collect};
-use node_threads::{Gate, Keeper, Outcome, run_all};
+use crate::gate::Gate;
+use crate::threads::{Outcome, run_all};
+use keepers::Keeper;
+use node_reports::{Command, Report, RunFault, collect};
 use plant::Plant;
 use std::alloc::Global;
 use std::sync::{Arc, Wait};

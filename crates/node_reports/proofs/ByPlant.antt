@@ -7,11 +7,11 @@ use Rattle.std.proofs.lemmas.Option.{same_Some}
 use Rattle.std_blocks.specs.declared.value.Value.{Value}
 use Rattle.plant.specs.PlantValue.{PlantValue, code_at}
 use Rattle.evaluation.specs.Meaning.{Evaluated}
-use Rattle.node_journals.specs.declared.step.Step.{Step}
-use Rattle.node_journals.specs.declared.step.Step.TheVariants.{Took, Made, Restarted, Heard}
-use Rattle.node_journals.specs.declared.journal.Journal.{Journal}
-use Rattle.node_journals.specs.Codes.{IsOfPlant, AreOfPlant}
-use Rattle.node_journals.specs.Journals.{made, Follows, EachAfter, IsLawful}
+use Rattle.node_reports.specs.declared.step.Step.{Step}
+use Rattle.node_reports.specs.declared.step.Step.TheVariants.{Took, Made, Restarted, Heard}
+use Rattle.node_reports.specs.declared.journal.Journal.{Journal}
+use Rattle.node_reports.specs.Codes.{IsOfPlant, AreOfPlant}
+use Rattle.node_reports.specs.Journals.{made, Follows, EachAfter, IsLawful}
 use Rattle.node_reports.specs.Steps.Comparing.{AreByCodeOf, MadeByCodeOf, MadeOfPlant}
 use Rattle.node_reports.proofs.JournalRuns.{made-reverse}
 use Rattle.node_reports.proofs.Remaking.{each-reverse}

@@ -9,12 +9,12 @@ use Rattle.std.proofs.lemmas.List.Elements.{filter_map-append, filter-append}
 use Rattle.std.proofs.lemmas.Option.{same_Some, slice_get_within, slice_get-map, get_or_from_slice_get, slice_get-get_or}
 use Rattle.lists.proofs.Places.{element_at, same_by_each}
 use Rattle.evaluation.specs.Meaning.{Evaluated}
-use Rattle.evaluation_book.specs.Book.{BookValue}
-use Rattle.node_journals.specs.declared.command.Command.{Command}
-use Rattle.node_journals.specs.declared.step.Step.{Step}
-use Rattle.node_journals.specs.declared.journal.Journal.{Journal}
-use Rattle.node_journals.specs.Journals.{firsts_of}
-use Rattle.node_journals.specs.Commands.{AreNumbered}
+use Rattle.book.specs.Book.{BookValue}
+use Rattle.node_reports.specs.declared.command.Command.{Command}
+use Rattle.node_reports.specs.declared.step.Step.{Step}
+use Rattle.node_reports.specs.declared.journal.Journal.{Journal}
+use Rattle.node_reports.specs.Journals.{firsts_of}
+use Rattle.node_reports.specs.Commands.{AreNumbered}
 use Rattle.node_reports.specs.Reports.{ticket_of, tickets_of, is_evaluate, is_unanswered, unanswered_of}
 use Rattle.node_reports.specs.Steps.Collecting.{AllBegin, AreMarks, RiseTo}
 use Rattle.node_reports.proofs.Walking.{parts_at}

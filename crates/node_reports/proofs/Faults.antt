@@ -10,7 +10,7 @@ use Rattle.std.proofs.lemmas.List.Elements.{All-push, All-weaker, Contains-appen
 use Rattle.std.proofs.lemmas.List.Sorted.{IsPermutation-sym, All-permutation}
 use Rattle.std.proofs.lemmas.Option.{slice_get_within, same_Some, get_or_from_slice_get}
 use Rattle.lists.proofs.Members.{contains_at}
-use Rattle.node_journals.specs.declared.node_fault.NodeFault.{NodeFault}
+use Rattle.node_reports.specs.declared.node_fault.NodeFault.{NodeFault}
 use Rattle.node_reports.specs.Steps.Collecting.{RiseTo, AreListedUpTo}
 use Rattle.node_reports.specs.Reports.{fault_tickets, first_of_ticket, AreByTicket}
 use Rattle.node_reports.proofs.Collecting.{rise-more}

@@ -3,7 +3,7 @@ use Rattle.std.proofs.Common.{◌≡◌, ℕ, List, Option, Some, None, IfSome, 
 use Rattle.std.specs.Option.{option_map}
 use Rattle.std.proofs.lemmas.Option.{slice_get-map}
 use Rattle.evaluation.specs.Meaning.{Evaluated}
-use Rattle.node_journals.specs.declared.journal.Journal.{Journal}
+use Rattle.node_reports.specs.declared.journal.Journal.{Journal}
 use Rattle.node_reports.specs.Reports.{incarnations_of, HasHeardTruly}
 use Rattle.node_reports.specs.Steps.Collecting.{IsAt, AreAt}
 

@@ -5,16 +5,16 @@ use Rattle.std.proofs.lemmas.Bool.Decides.{nat_tests}
 use Rattle.std.proofs.lemmas.List.{append-nil, reverse-append}
 use Rattle.std.proofs.lemmas.List.Elements.{filter-append}
 use Rattle.std_blocks.specs.declared.value.Value.{Value}
-use Rattle.due_list.specs.declared.task_ref.TaskRef.{TaskRef}
+use Rattle.task_codes.specs.declared.task_ref.TaskRef.{TaskRef}
 use Rattle.plant.specs.PlantValue.{PlantValue}
 use Rattle.evaluation.specs.Meaning.{Evaluated}
 use Rattle.evaluation.specs.Last.{same_task}
 use Rattle.std.specs.List.{AllByRecursion, filter}
-use Rattle.evaluation_book.specs.Fits.{last_in}
-use Rattle.node_journals.specs.declared.step.Step.{Step}
-use Rattle.node_journals.specs.declared.step.Step.TheVariants.{Took, Made, Restarted, Heard}
-use Rattle.node_journals.specs.Journals.{incarnation_after, made, newest, made_of, last_made, IsNextMade, Follows, EachAfter}
-use Rattle.exchange.specs.Run.{last_of}
+use Rattle.book.specs.Fits.{last_in}
+use Rattle.node_reports.specs.declared.step.Step.{Step}
+use Rattle.node_reports.specs.declared.step.Step.TheVariants.{Took, Made, Restarted, Heard}
+use Rattle.node_reports.specs.Journals.{incarnation_after, made, newest, made_of, last_made, IsNextMade, Follows, EachAfter}
+use Rattle.world.specs.Run.{last_of}
 use Rattle.node_reports.specs.Reports.{entries_of}
 
 -- no evaluation of a lawful journal is of a later incarnation than the present one

@@ -1,3 +1,6 @@
+pub mod Greatest
+pub mod Standing
+pub mod Stations
 pub mod JournalRuns
 pub mod Remaking
 pub mod AskedAlike

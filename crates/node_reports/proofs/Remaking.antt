@@ -8,16 +8,16 @@ use Rattle.plant.specs.PlantValue.{PlantValue, IsSoundPlant}
 use Rattle.evaluation.specs.Meaning.{Evaluated}
 use Rattle.std_blocks.specs.declared.value.Value.{Value}
 use Rattle.evaluation.specs.Last.{same_task, left_by, state_from}
-use Rattle.exchange.specs.History.{Setting, setting_over, opening_of}
-use Rattle.exchange.specs.Run.{IsRun, last_of}
+use Rattle.world.specs.History.{Setting, setting_over, opening_of}
+use Rattle.world.specs.Run.{IsRun, last_of}
 use Rattle.std.specs.List.{AllByRecursion, filter}
 use Rattle.std.specs.Prelude.{slice_index_or}
 use Rattle.std.specs.Option.{option_map}
-use Rattle.evaluation_book.specs.Fits.{Fits, AllFit, last_in}
-use Rattle.evaluation_book.specs.Book.{BookValue}
-use Rattle.exchange.specs.Replays.{CouldBeMade, AllCouldBeMade}
-use Rattle.node_journals.specs.declared.journal.Journal.{Journal}
-use Rattle.node_journals.specs.Journals.{made, newest, last_made, last_of as last_noted, opening_at, firsts_of, openings_of, IsLawful}
+use Rattle.book.specs.Fits.{Fits, AllFit, last_in}
+use Rattle.book.specs.Book.{BookValue}
+use Rattle.world.specs.Replays.{CouldBeMade, AllCouldBeMade}
+use Rattle.node_reports.specs.declared.journal.Journal.{Journal}
+use Rattle.node_reports.specs.Journals.{made, newest, last_made, last_of as last_noted, opening_at, firsts_of, openings_of, IsLawful}
 use Rattle.node_reports.specs.Reports.{entries_of, IsFittingBook, AreJournalsOf, AreInBook, RunsAgain}
 use Rattle.node_reports.proofs.JournalRuns.{IsMadeAfter, made_after, last_made_is, made-reverse, entries-reverse, entries-part, last_in-entries, last_of-entries}
 

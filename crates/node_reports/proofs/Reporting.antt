@@ -8,16 +8,16 @@ use Rattle.std.proofs.lemmas.Option.{slice_get-map, slice_get_within}
 use Rattle.lists.proofs.Members.{all_from_places}
 use Rattle.plant.specs.PlantValue.{PlantValue, IsSoundPlant}
 use Rattle.evaluation.specs.Meaning.{Evaluated}
-use Rattle.evaluation_book.specs.Book.{BookValue}
-use Rattle.evaluation_book.specs.Fits.{AllFit}
-use Rattle.exchange.specs.History.{setting_over}
-use Rattle.exchange.specs.Replays.{AllCouldBeMade}
-use Rattle.node_journals.specs.declared.command.Command.{Command}
-use Rattle.node_journals.specs.declared.journal.Journal.{Journal}
-use Rattle.node_journals.specs.declared.node_fault.NodeFault.{NodeFault}
-use Rattle.node_journals.specs.declared.run_fault.RunFault.{RunFault}
-use Rattle.node_journals.specs.declared.run_fault.RunFault.TheVariants as run
-use Rattle.node_journals.specs.Journals.{made, firsts_of, openings_of, IsLawful}
+use Rattle.book.specs.Book.{BookValue}
+use Rattle.book.specs.Fits.{AllFit}
+use Rattle.world.specs.History.{setting_over}
+use Rattle.world.specs.Replays.{AllCouldBeMade}
+use Rattle.node_reports.specs.declared.command.Command.{Command}
+use Rattle.node_reports.specs.declared.journal.Journal.{Journal}
+use Rattle.node_reports.specs.declared.node_fault.NodeFault.{NodeFault}
+use Rattle.node_reports.specs.declared.run_fault.RunFault.{RunFault}
+use Rattle.node_reports.specs.declared.run_fault.RunFault.TheVariants as run
+use Rattle.node_reports.specs.Journals.{made, firsts_of, openings_of, IsLawful}
 use Rattle.node_reports.specs.Reports.{entries_of, IsFittingBook, AreJournalsOf, RunsAgain, CanBeMadeAgain, Agree, IsAgreeFault, unanswered_of, IsCollectFault}
 use Rattle.node_reports.specs.Steps.Collecting.{AllBegin, HaveJournals, AllMade, IsToldFault}
 use Rattle.node_reports.proofs.Collecting.{firsts_are}

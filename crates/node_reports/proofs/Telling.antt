@@ -10,14 +10,14 @@ use Rattle.std.proofs.lemmas.List.Folds.{list_any_none, list_any_at}
 use Rattle.std.proofs.lemmas.List.Kept.{AllPairs-from_increasing}
 use Rattle.std.proofs.lemmas.List.Sorted.{searched}
 use Rattle.plant.specs.PlantValue.{PlantValue}
-use Rattle.node_journals.specs.declared.act.Act.{Act}
-use Rattle.node_journals.specs.declared.act.Act.TheVariants.{Restart}
-use Rattle.node_journals.specs.declared.command.Command.{Command}
-use Rattle.node_journals.specs.declared.journal.Journal.{Journal}
-use Rattle.node_journals.specs.declared.cause.Cause.{Cause}
-use Rattle.node_journals.specs.declared.cause.Cause.TheVariants.{OutOfTurns, NoSuchTask, NumbersSpent, Memory, Misfit, Keeper, NotSent, Stopped}
-use Rattle.node_journals.specs.declared.node_fault.NodeFault.{NodeFault}
-use Rattle.node_journals.specs.Commands.{AreForPlant}
+use Rattle.node_reports.specs.declared.act.Act.{Act}
+use Rattle.node_reports.specs.declared.act.Act.TheVariants.{Restart}
+use Rattle.node_reports.specs.declared.command.Command.{Command}
+use Rattle.node_reports.specs.declared.journal.Journal.{Journal}
+use Rattle.node_reports.specs.declared.cause.Cause.{Cause}
+use Rattle.node_reports.specs.declared.cause.Cause.TheVariants.{OutOfTurns, NoSuchTask, NumbersSpent, Memory, Misfit, Keeper, NotSent, Stopped}
+use Rattle.node_reports.specs.declared.node_fault.NodeFault.{NodeFault}
+use Rattle.node_reports.specs.Commands.{AreForPlant}
 use Rattle.node_reports.specs.Reports.{is_restart_of, IsUnobeyed, MayMeet, IsToldOf, AllTold}
 use Rattle.node_reports.specs.Steps.Collecting.{AreRestartMarks, IsNoTicket, IsOfTicket, HasMark, AreWithin}
 

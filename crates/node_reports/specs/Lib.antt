@@ -1,2 +1,7 @@
+pub mod Causes
+pub mod Codes
+pub mod Commands
+pub mod Journals
+pub mod RunFaults
 pub mod Reports
 pub mod Steps

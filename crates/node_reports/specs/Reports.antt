@@ -5,24 +5,24 @@ use Rattle.std.specs.List.{filter_map, list_any}
 use Rattle.std.specs.List.Sorted.{IsStrictlyIncreasing}
 use Rattle.plant.specs.PlantValue.{PlantValue, tasks_at, code_at}
 use Rattle.evaluation.specs.Meaning.{Evaluated}
-use Rattle.exchange.specs.declared.event.Event.{Event}
-use Rattle.exchange.specs.History.{Setting, setting_over}
-use Rattle.exchange.specs.Run.{IsRun}
-use Rattle.evaluation_book.specs.Fits.{AllFit}
-use Rattle.evaluation_book.specs.Book.{BookValue}
-use Rattle.exchange.specs.Replays.{Replays, AllCouldBeMade}
-use Rattle.node_journals.specs.declared.command.Command.{Command}
-use Rattle.node_journals.specs.declared.act.Act.{Act}
-use Rattle.node_journals.specs.declared.act.Act.TheVariants.{Evaluate, Restart}
-use Rattle.node_journals.specs.declared.step.Step.{Step}
-use Rattle.node_journals.specs.declared.step.Step.TheVariants.{Took, Made, Restarted, Heard}
-use Rattle.node_journals.specs.declared.journal.Journal.{Journal}
-use Rattle.node_journals.specs.declared.cause.Cause.{Cause}
-use Rattle.node_journals.specs.declared.cause.Cause.TheVariants.{OutOfTurns, NoSuchTask, NumbersSpent, Memory, Misfit, Keeper, NotSent, Stopped}
-use Rattle.node_journals.specs.declared.node_fault.NodeFault.{NodeFault}
-use Rattle.node_journals.specs.declared.run_fault.RunFault.{RunFault}
-use Rattle.node_journals.specs.declared.run_fault.RunFault.TheVariants as run
-use Rattle.node_journals.specs.Journals.{made, firsts_of, openings_of, IsLawful}
+use Rattle.world.specs.declared.event.Event.{Event}
+use Rattle.world.specs.History.{Setting, setting_over}
+use Rattle.world.specs.Run.{IsRun}
+use Rattle.book.specs.Fits.{AllFit}
+use Rattle.book.specs.Book.{BookValue}
+use Rattle.world.specs.Replays.{Replays, AllCouldBeMade}
+use Rattle.node_reports.specs.declared.command.Command.{Command}
+use Rattle.node_reports.specs.declared.act.Act.{Act}
+use Rattle.node_reports.specs.declared.act.Act.TheVariants.{Evaluate, Restart}
+use Rattle.node_reports.specs.declared.step.Step.{Step}
+use Rattle.node_reports.specs.declared.step.Step.TheVariants.{Took, Made, Restarted, Heard}
+use Rattle.node_reports.specs.declared.journal.Journal.{Journal}
+use Rattle.node_reports.specs.declared.cause.Cause.{Cause}
+use Rattle.node_reports.specs.declared.cause.Cause.TheVariants.{OutOfTurns, NoSuchTask, NumbersSpent, Memory, Misfit, Keeper, NotSent, Stopped}
+use Rattle.node_reports.specs.declared.node_fault.NodeFault.{NodeFault}
+use Rattle.node_reports.specs.declared.run_fault.RunFault.{RunFault}
+use Rattle.node_reports.specs.declared.run_fault.RunFault.TheVariants as run
+use Rattle.node_reports.specs.Journals.{made, firsts_of, openings_of, IsLawful}
 
 -- the entries of one resource, in order
 abbrev pub entries_of : ℕ → List Evaluated → List Evaluated

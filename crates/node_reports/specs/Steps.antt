@@ -1,3 +1,5 @@
--- What the checks of a report decide. Only contracts inside this crate cite it, so no reader has to believe it.
+-- Steps of the proofs. Only contracts inside this crate cite them, so no reader has to believe them.
+pub mod Standing
+pub mod Stations
 pub mod Collecting
 pub mod Comparing

@@ -7,22 +7,25 @@ mod told;
 mod unanswered;
 
 ghost use Rattle.std.specs.Prelude.{◌≡◌, IfOk, IfErr, All};
-ghost use Rattle.node_journals.specs.Codes.{AreOfPlant};
-ghost use Rattle.node_journals.specs.Commands.{AreNumbered, AreForPlant};
-ghost use Rattle.node_journals.specs.Journals.{firsts_of, IsLawful};
+ghost use Rattle.node_reports.specs.Codes.{AreOfPlant};
+ghost use Rattle.node_reports.specs.Commands.{AreNumbered, AreForPlant};
+ghost use Rattle.node_reports.specs.Journals.{firsts_of, IsLawful};
 ghost use Rattle.node_reports.specs.Reports.{IsFittingBook, AreJournalsOf, AreInBook, AreAnswers, RunsAgain, CanBeMadeAgain, AreTold, AreByTicket, IsCollectFault};
 
 use crate::collector::hearings::have_heard_truly;
 use crate::collector::obedience::{all_commanded, all_rising, are_answers};
 use crate::collector::told::told_faults;
 use crate::collector::unanswered::unanswered_tickets;
+use crate::command::Command;
+use crate::journal::Journal;
+use crate::node_fault::NodeFault;
 use crate::plant_book::PlantBook;
 use crate::report::Report;
+use crate::run_fault::RunFault;
 pub use agreeing::agreed;
-use exchange::Book;
-use node_journals::{Command, Journal, NodeFault, RunFault};
 use plant::Plant;
 use std::alloc::Global;
+use world::Book;
 
 /// The report of what the threads did, if the book and the journals agree, and answer the commands.
 pub fn collect(

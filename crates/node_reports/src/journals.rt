@@ -1,4 +1,4 @@
-use node_journals::Journal;
+use crate::journal::Journal;
 use std::marker::Model;
 
 /// The journals of a plant's resources, in the order of the resources.
@@ -9,7 +9,7 @@ pub struct Journals {
 
 impl Model for Journals {
     ghost use Rattle.std.specs.Prelude.{List};
-    ghost use Rattle.node_journals.specs.declared.journal.Journal.{Journal};
+    ghost use Rattle.node_reports.specs.declared.journal.Journal.{Journal};
 
     ghost Value = { List Journal };
 

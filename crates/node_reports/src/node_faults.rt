@@ -1,5 +1,5 @@
+use crate::node_fault::NodeFault;
 use crate::tickets::is_above;
-use node_journals::NodeFault;
 use std::alloc::{AllocError, Global};
 use std::marker::Model;
 
@@ -11,7 +11,7 @@ pub struct NodeFaults {
 
 impl Model for NodeFaults {
     ghost use Rattle.std.specs.Prelude.{List};
-    ghost use Rattle.node_journals.specs.declared.node_fault.NodeFault.{NodeFault};
+    ghost use Rattle.node_reports.specs.declared.node_fault.NodeFault.{NodeFault};
 
     ghost Value = { List NodeFault };
 

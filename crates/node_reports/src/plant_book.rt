@@ -1,5 +1,5 @@
 use crate::journals::Journals;
-use exchange::Book;
+use world::Book;
 
 /// A book, and the journals of a plant's resources that made its entries.
 #[derive(Drop)]

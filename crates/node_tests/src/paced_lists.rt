@@ -3,13 +3,13 @@
 use crate::checks::{equal, holds, must};
 use crate::drawn::{drawn_asks, ring};
 use crate::runs::{commands_of, keepers_of, plant_of, run_on, world_of};
-use exchange::{Event, World, initial_openings};
 use node::{Act, Command, PacedGate};
 use plant::{Plant, TaskRef};
 use std::alloc::Global;
 use std::process::Abort;
 use std::sync::Arc;
 use worked_texts::PAIR;
+use world::{Event, World, initial_openings};
 
 const TURNS: u64 = 10_000_000;
 

@@ -8,7 +8,7 @@ use crate::runs::{
 use crate::test_keepers::{
     ForgetfulKeeper, Meeting, MeetingKeeper, NamedFile, OnceKeeper, SharedFolder, SharedKeeper,
 };
-use file_keepers::FileKeeper;
+use keepers::FileKeeper;
 use node::{Cause, FreeGate, Keeper, MemoryKeeper, PacedGate, Report, RunFault, run_threads};
 use std::alloc::Global;
 use std::process::Abort;

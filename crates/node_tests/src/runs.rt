@@ -2,7 +2,6 @@
 
 use crate::checks::{equal, holds, must};
 use evaluation::{Frame, Inputs, Retained};
-use exchange::{Event, Schedule, World, are_openings};
 use node::{
     Act, Cause, Command, Gate, Keeper, MemoryKeeper, Report, are_for_plant, are_numbered,
     run_threads,
@@ -14,6 +13,7 @@ use std::sync::{Arc, Wait};
 use std::thread::Threads;
 use std_blocks::Value;
 use worked_texts::PAIR;
+use world::{Event, Schedule, World, are_openings};
 
 /// What a command asks for.
 #[derive(Clone, Copy, Debug, PartialEq, Eq)]

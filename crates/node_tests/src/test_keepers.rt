@@ -2,7 +2,7 @@
 
 use crate::gates::wait_for;
 use evaluation::Retained;
-use file_keepers::{Folder, FolderFault};
+use keepers::{Folder, FolderFault};
 use node::{Keeper, KeeperFault, MemoryKeeper};
 use plant::TaskCode;
 use std::alloc::Global;
@@ -195,7 +195,7 @@ impl SharedFolder {
 }
 
 impl Folder for SharedFolder {
-    ghost use Rattle.file_keepers.specs.KnownFiles.KnownFile.{Unknown};
+    ghost use Rattle.keepers.specs.KnownFiles.KnownFile.{Unknown};
 
     ghost file = { λ _ _. Unknown };
 

@@ -20,8 +20,8 @@ use Rattle.plant_grammar.specs.declared.grammar.tree.Item.TheVariants as item
 use Rattle.plant_grammar.specs.Names.{is_named}
 use Rattle.plant_grammar.specs.Lawful.{use_of}
 use Rattle.plant_grammar.specs.Retained.{retained_places}
-use Rattle.program_bodies.specs.Ladders.{IsLadderOf}
-use Rattle.program_bodies.specs.ProgramTypes.{TypeValue}
+use Rattle.plant.specs.Ladders.{IsLadderOf}
+use Rattle.plant.specs.ProgramTypes.{TypeValue}
 use Rattle.task_codes.specs.CodeValue.{ProgramValue, CodeValue}
 use Rattle.plant.specs.Steps.Drafts.{programs_in, IsProgramOf, IsPlacedAt, IsOutputAt}
 use Rattle.plant.proofs.FoldedNames.{at_place}

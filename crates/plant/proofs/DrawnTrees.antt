@@ -6,8 +6,8 @@ use Rattle.plant_grammar.specs.declared.grammar.tree.Program.{Program}
 use Rattle.plant_grammar.specs.declared.grammar.tree.Resource.{Resource}
 use Rattle.plant_grammar.specs.Grammar.{Tree, TextValue}
 use Rattle.plant_grammar.specs.Steps.Reading.{programs_of, tree_written}
-use Rattle.program_bodies.specs.Ladders.{IsLadderOf, HasLadder}
-use Rattle.program_bodies.specs.ProgramTypes.{TypeValue, AreDrawn}
+use Rattle.plant.specs.Ladders.{IsLadderOf, HasLadder}
+use Rattle.plant.specs.ProgramTypes.{TypeValue, AreDrawn}
 use Rattle.plant.specs.Steps.Reading.{tree_of}
 
 abbrev IsWithLadder : TypeValue → Type 0

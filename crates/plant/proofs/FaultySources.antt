@@ -14,8 +14,8 @@ use Rattle.plant_grammar.specs.Grammar.{Tree}
 use Rattle.plant_grammar.specs.Names.{is_named}
 use Rattle.plant_grammar.specs.Kinds.{IsOfInputKind}
 use Rattle.plant_grammar.specs.Lawful.{variables, uses_of, binds_of, IsResourceLawful, IsTreeLawful}
-use Rattle.program_bodies.specs.Ladders.{IsLadderOf}
-use Rattle.program_bodies.specs.ProgramTypes.{TypeValue}
+use Rattle.plant.specs.Ladders.{IsLadderOf}
+use Rattle.plant.specs.ProgramTypes.{TypeValue}
 use Rattle.plant.specs.PlantValue.{ResourceValue, PlantValue}
 use Rattle.plant.specs.Faultless.{RunsType}
 use Rattle.plant.specs.Faultless.{IsFed, AreBindsFed}

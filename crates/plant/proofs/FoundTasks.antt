@@ -6,7 +6,7 @@ use Rattle.std.specs.List.{before_first, after_first, position_or_len}
 use Rattle.std.proofs.lemmas.Bool.{cases_lt, eqb-true}
 use Rattle.std.proofs.lemmas.List.Sums.{passes_at_first, fails_before_first}
 use Rattle.declared_names.specs.Names.{is_dot}
-use Rattle.due_list.specs.declared.task_ref.TaskRef.{TaskRef}
+use Rattle.task_codes.specs.declared.task_ref.TaskRef.{TaskRef}
 use Rattle.std.proofs.lemmas.Option.{get_or_from_slice_get}
 use Rattle.plant_grammar.specs.Names.{IsAt}
 use Rattle.plant.specs.PlantValue.{PlantValue}

@@ -1,3 +1,8 @@
+pub mod RefusedBodies
+pub mod DrawnTypes
+pub mod OneLadder
+pub mod RisingLists
+pub mod OneNetworks
 pub mod ProgramOutputs
 pub mod RetainedVariables
 pub mod OutputOrder

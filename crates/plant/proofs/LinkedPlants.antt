@@ -10,7 +10,7 @@ use Rattle.declared_names.specs.declared.declarations.Declaration.{Declaration}
 use Rattle.task_codes.specs.declared.binding.Source.{Source}
 use Rattle.task_codes.specs.declared.binding.Source.TheVariants as source
 use Rattle.task_codes.specs.declared.binding.Binding.{Binding}
-use Rattle.due_list.specs.declared.task_ref.TaskRef.{TaskRef}
+use Rattle.task_codes.specs.declared.task_ref.TaskRef.{TaskRef}
 use Rattle.plant_grammar.specs.declared.grammar.tree.Program.{Program}
 use Rattle.plant_grammar.specs.declared.grammar.tree.TaskLine.{TaskLine}
 use Rattle.plant_grammar.specs.declared.grammar.tree.SourceName.{SourceName}
@@ -23,7 +23,7 @@ use Rattle.plant_grammar.specs.declared.grammar.tree.Resource.{Resource}
 use Rattle.plant_grammar.specs.Grammar.{Tree}
 use Rattle.plant_grammar.specs.Names.{is_named, IsAt}
 use Rattle.plant_grammar.specs.Lawful.{variables, tasks_of, use_of, binds_of, IsResourceLawful}
-use Rattle.program_bodies.specs.Ladders.{IsLadderOf}
+use Rattle.plant.specs.Ladders.{IsLadderOf}
 use Rattle.plant.specs.PlantValue.{TaskValue, ResourceValue, PlantValue, code_at, IsSoundPlant, AreProducersOf}
 use Rattle.task_codes.specs.CodeValue.{ProgramValue, CodeValue, bindings_at}
 use Rattle.plant.specs.StandsFor.{runs_in, IsOrigin, IsSourceOf, IsBindingOf, IsCodeOf, IsResourceOf, IsPlantOf, task_value}

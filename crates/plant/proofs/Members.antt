@@ -8,7 +8,7 @@ use Rattle.lists.proofs.Places.{some_same}
 use Rattle.lists.proofs.Members.{any_at, any_found}
 use Rattle.plant_grammar.specs.declared.grammar.tree.Use.{Use}
 use Rattle.plant_grammar.specs.Names.{is_named, IsAt}
-use Rattle.program_bodies.specs.ProgramTypes.{TypeValue}
+use Rattle.plant.specs.ProgramTypes.{TypeValue}
 use Rattle.plant.specs.Steps.Drafts.{seen, IsTypeKnown}
 use Rattle.plant.proofs.FirstMentions.{flat_all}
 use Rattle.plant.proofs.Zips.{all_at, ref_at}

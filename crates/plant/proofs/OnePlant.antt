@@ -8,7 +8,7 @@ use Rattle.declared_names.specs.declared.declarations.Kind.{Kind}
 use Rattle.declared_names.specs.declared.declarations.Declaration.{Declaration}
 use Rattle.declared_names.specs.Names.{place_of}
 use Rattle.power_flow.specs.LadderValue.{LadderValue}
-use Rattle.due_list.specs.declared.task_ref.TaskRef.{TaskRef}
+use Rattle.task_codes.specs.declared.task_ref.TaskRef.{TaskRef}
 use Rattle.task_codes.specs.declared.binding.Source.{Source}
 use Rattle.task_codes.specs.declared.binding.Source.TheVariants as source
 use Rattle.task_codes.specs.declared.binding.Binding.{Binding}
@@ -27,7 +27,7 @@ use Rattle.plant_grammar.specs.Kinds.{items_or_none}
 use Rattle.plant_grammar.specs.Names.{IsAt}
 use Rattle.plant_grammar.specs.Retained.{retained_places}
 use Rattle.plant_grammar.specs.Lawful.{variables, tasks_of, binds_of, IsTreeLawful}
-use Rattle.program_bodies.specs.Ladders.{IsLadderOf, OneLadder}
+use Rattle.plant.specs.Ladders.{IsLadderOf, OneLadder}
 use Rattle.plant.specs.PlantValue.{TaskValue, ResourceValue, PlantValue, code_at}
 use Rattle.plant.specs.StandsFor.{runs_in, IsOrigin, IsSourceOf, IsBindingOf, IsInstanceOf, one_or_none, mention, firsts, IsCodeOf, IsResourceOf, IsPlantOf}
 use Rattle.plant.specs.Steps.Drafts.{IsProgramOf, IsDraftOf, IsResourceDraft, IsInstanceAt, AreDraftsApart, HasPrograms}

@@ -6,7 +6,7 @@ use Rattle.plant_text.specs.declared.lexer.Stage.TheVariants as stage
 use Rattle.plant_text.specs.Steps.Lexing.{AreWordsInPlace}
 use Rattle.plant_grammar.specs.Grammar.{Tree, words_of}
 use Rattle.plant_grammar.specs.Parts.{IsSameTree}
-use Rattle.program_bodies.specs.Ladders.{OneLadder}
+use Rattle.plant.specs.Ladders.{OneLadder}
 use Rattle.plant.specs.PlantText.{OneTree, OnePlantOfTree, OnePlant}
 use Rattle.plant.proofs.OneWords.{one_words}
 use Rattle.plant.proofs.MovedPlants.{plant_moved}

@@ -22,7 +22,7 @@ use Rattle.plant_grammar.specs.Kinds.{input_kind_of}
 use Rattle.plant_grammar.specs.Lawful.{variables, uses_of, binds_of, all_uses}
 use Rattle.plant_grammar.specs.Parts.{ProgramParts, UseParts, ResourceParts, program_parts, use_parts, resource_parts, IsSameTree}
 use Rattle.power_flow.specs.LadderValue.{LadderValue}
-use Rattle.program_bodies.specs.Ladders.{IsLadderOf, HasLadder}
+use Rattle.plant.specs.Ladders.{IsLadderOf, HasLadder}
 use Rattle.plant.specs.Faultless.{DeclaresOutput, RunsType, GivesOutput, HasSource, IsFed, AreBindsFed}
 use Rattle.plant.proofs.Members.{mapped_item}
 use Rattle.plant.proofs.Zips.{all_at}

@@ -16,7 +16,7 @@ use Rattle.declared_names.specs.declared.declarations.Declared.{Declared}
 use Rattle.declared_names.specs.declared.declarations.Declared.TheVariants as declared
 use Rattle.declared_names.specs.declared.declarations.Declaration.{Declaration}
 use Rattle.declared_names.specs.Names.{place_of}
-use Rattle.due_list.specs.declared.task_ref.TaskRef.{TaskRef}
+use Rattle.task_codes.specs.declared.task_ref.TaskRef.{TaskRef}
 use Rattle.task_codes.specs.declared.task_output.TaskOutput.{TaskOutput}
 use Rattle.task_codes.specs.CodeValue.{ProgramValue, CodeValue, output_kind, output_at, outputs_in, outputs_of, image_kinds}
 use Rattle.plant_text.specs.declared.address.Address.{Address}
@@ -32,8 +32,8 @@ use Rattle.plant_grammar.specs.Grammar.{Tree}
 use Rattle.plant_grammar.specs.Names.{is_named, IsAt, AreNamesApart}
 use Rattle.plant_grammar.specs.Kinds.{kind_of_space, input_kind_at, IsOfInputKind}
 use Rattle.plant_grammar.specs.Lawful.{variables, task_of, tasks_of, uses_of, binds_of, IsProgramLawful, IsResourceLawful, IsTreeLawful}
-use Rattle.program_bodies.specs.Ladders.{IsLadderOf}
-use Rattle.program_bodies.specs.ProgramTypes.{TypeValue}
+use Rattle.plant.specs.Ladders.{IsLadderOf}
+use Rattle.plant.specs.ProgramTypes.{TypeValue}
 use Rattle.plant.specs.declared.sources.feed.Origin.{Origin}
 use Rattle.plant.specs.declared.sources.feed.Origin.TheVariants as origin
 use Rattle.plant.specs.PlantValue.{ResourceValue, PlantValue}

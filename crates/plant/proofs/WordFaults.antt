@@ -6,14 +6,14 @@ use Rattle.plant_grammar.specs.declared.grammar_fault.GrammarFaultKind.TheVarian
 use Rattle.plant_grammar.specs.NameFaults.{TellsOfName}
 use Rattle.plant_grammar.specs.NameFaults as names
 use Rattle.plant_grammar.specs.WordFaults.{IsOfWord, IsGrammarFault}
-use Rattle.program_bodies.specs.declared.plant_fault.BodyFault.{BodyFault}
-use Rattle.program_bodies.specs.declared.plant_fault.BodyFault.TheVariants as body
-use Rattle.program_bodies.specs.BodyFaults.{kind_of_body}
-use Rattle.program_bodies.specs.declared.plant_fault.PlantFault.{PlantFault}
-use Rattle.program_bodies.specs.declared.plant_fault.PlantFaultKind.{PlantFaultKind}
-use Rattle.program_bodies.specs.declared.plant_fault.PlantFaultKind.TheVariants as kind
+use Rattle.plant.specs.declared.plant_fault.BodyFault.{BodyFault}
+use Rattle.plant.specs.declared.plant_fault.BodyFault.TheVariants as body
+use Rattle.plant.specs.BodyFaults.{kind_of_body}
+use Rattle.plant.specs.declared.plant_fault.PlantFault.{PlantFault}
+use Rattle.plant.specs.declared.plant_fault.PlantFaultKind.{PlantFaultKind}
+use Rattle.plant.specs.declared.plant_fault.PlantFaultKind.TheVariants as kind
 use Rattle.plant.specs.Steps.Found.{TellsOfSource}
-use Rattle.program_bodies.specs.Faults.{IsOfKind, IsPlantFault, IsOfBody, IsOfDeclaredName, kind_of_word, fault_of_word}
+use Rattle.plant.specs.Faults.{IsOfKind, IsPlantFault, IsOfBody, IsOfDeclaredName, kind_of_word, fault_of_word}
 
 of_word : (k : GrammarFaultKind) (line : ℕ) → IsOfWord k line → IsOfKind (kind_of_word k) line None
 of_word word.Syntax line w = refl

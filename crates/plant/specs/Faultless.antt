@@ -12,7 +12,7 @@ use Rattle.plant_grammar.specs.Grammar.{Tree}
 use Rattle.plant_grammar.specs.Names.{is_named}
 use Rattle.plant_grammar.specs.Kinds.{kind_of_space, input_kind_of}
 use Rattle.plant_grammar.specs.Lawful.{variables, uses_of, binds_of, all_uses, IsTreeLawful}
-use Rattle.program_bodies.specs.Ladders.{HasLadder}
+use Rattle.plant.specs.Ladders.{HasLadder}
 
 -- the program declares an output of this name and kind
 abbrev pub DeclaresOutput : List ℕ → Kind → Program → Type 0

@@ -2,7 +2,7 @@
 use Rattle.std.specs.Prelude.{◌≡◌, ℕ, List, Option, MatchOption, Contains}
 use Rattle.std.specs.List.{before_first, after_first}
 use Rattle.declared_names.specs.Names.{is_dot}
-use Rattle.due_list.specs.declared.task_ref.TaskRef.{TaskRef}
+use Rattle.task_codes.specs.declared.task_ref.TaskRef.{TaskRef}
 use Rattle.plant_grammar.specs.Names.{IsAt}
 use Rattle.plant.specs.PlantValue.{TaskValue, ResourceValue, PlantValue}
 

@@ -1,3 +1,7 @@
+pub mod Ladders
+pub mod ProgramTypes
+pub mod Faults
+pub mod BodyFaults
 pub mod PlantValue
 pub mod StandsFor
 pub mod Faultless

@@ -1,9 +1,9 @@
 -- The plan of a plant: what is due of its tasks, and when.
 use Rattle.std.specs.Prelude.{ℕ, ◌<◌, List, Option, length, map, slice_get}
-use Rattle.due_list.specs.declared.due.Due.{Due}
-use Rattle.due_list.specs.declared.task_ref.TaskRef.{TaskRef}
-use Rattle.due_list.specs.declared.timing.Timing.{Timing}
-use Rattle.due_list.specs.Plan.{IsPlanOf}
+use Rattle.task_codes.specs.declared.due.Due.{Due}
+use Rattle.task_codes.specs.declared.task_ref.TaskRef.{TaskRef}
+use Rattle.task_codes.specs.declared.timing.Timing.{Timing}
+use Rattle.task_codes.specs.Plan.{IsPlanOf}
 use Rattle.plant.specs.PlantValue.{TaskValue, ResourceValue, PlantValue, tasks_at}
 
 -- a task of the plant

@@ -5,14 +5,14 @@ use Rattle.words.specs.Lines.{without_last}
 use Rattle.plant_text.specs.declared.token.Token.{Token}
 use Rattle.plant_grammar.specs.declared.grammar_fault.GrammarFaultKind.{GrammarFaultKind}
 use Rattle.plant_grammar.specs.NameFaults.{RefusesPrograms, RefusesConfiguration}
-use Rattle.program_bodies.specs.Faults.{kind_of_word}
-use Rattle.program_bodies.specs.declared.plant_fault.PlantFault.{PlantFault}
+use Rattle.plant.specs.Faults.{kind_of_word}
+use Rattle.plant.specs.declared.plant_fault.PlantFault.{PlantFault}
 use Rattle.plant_grammar.specs.Grammar.{TextValue, Tree, program_words, words_of}
 use Rattle.plant_grammar.specs.Lawful.{all_uses, IsTreeLawful}
 use Rattle.plant_grammar.specs.WellFormed.{is_plain, IsTreeWellFormed}
 use Rattle.plant_grammar.specs.Parts.{IsSameTree}
-use Rattle.program_bodies.specs.Ladders.{HasLadder}
-use Rattle.program_bodies.specs.BodyFaults.{IsFirstBodyFault}
+use Rattle.plant.specs.Ladders.{HasLadder}
+use Rattle.plant.specs.BodyFaults.{IsFirstBodyFault}
 use Rattle.plant_text.specs.Spelling.{Spells}
 use Rattle.plant_text.specs.Lines.{WordValue, body_lines, BeginsWithWords}
 use Rattle.plant.specs.Faultless.{AreBindsFed, IsTreeFaultless}

@@ -7,7 +7,7 @@ use Rattle.declared_names.specs.Names.{place_of}
 use Rattle.task_codes.specs.declared.binding.Source.{Source}
 use Rattle.task_codes.specs.declared.binding.Source.TheVariants.{Field, Given}
 use Rattle.task_codes.specs.declared.binding.Binding.{Binding}
-use Rattle.due_list.specs.declared.task_ref.TaskRef.{TaskRef}
+use Rattle.task_codes.specs.declared.task_ref.TaskRef.{TaskRef}
 use Rattle.task_codes.specs.declared.task_output.TaskOutput.{TaskOutput}
 use Rattle.plant_grammar.specs.declared.grammar.tree.Program.{Program}
 use Rattle.plant_grammar.specs.declared.grammar.tree.TaskLine.{TaskLine}
@@ -20,7 +20,7 @@ use Rattle.plant_grammar.specs.Grammar.{Tree}
 use Rattle.plant_grammar.specs.Names.{is_named, IsAt}
 use Rattle.plant_grammar.specs.Lawful.{variables, tasks_of, uses_of, binds_of}
 use Rattle.plant_grammar.specs.Retained.{retained_places}
-use Rattle.program_bodies.specs.Ladders.{IsLadderOf}
+use Rattle.plant.specs.Ladders.{IsLadderOf}
 use Rattle.plant_grammar.specs.Kinds.{input_kind_at}
 use Rattle.plant.specs.PlantValue.{TaskValue, ResourceValue, PlantValue, AreProducersOf}
 use Rattle.task_codes.specs.CodeValue.{ProgramValue, CodeValue, bindings_at, source_kind, IsSoundCode}

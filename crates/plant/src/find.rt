@@ -3,8 +3,8 @@ ghost use Rattle.plant.specs.Find.{ArePartsOf, IsTaskAt, IsTaskNamed, Finds};
 
 use crate::named::find_named;
 use crate::plant::Plant;
-use due_list::TaskRef;
 use plant_grammar::is_named;
+use task_codes::TaskRef;
 
 /// The parts of a name before and behind its first dot.
 fn parts(name: &str) -> Option<(&str, &str)>

@@ -1,22 +1,29 @@
-//! Plants: programs with drawn ladders, resources with their tasks, and what feeds what.
+//! Plants: programs with drawn ladders, resources with their tasks, what feeds what, and when tasks are due.
 #![tactic(auto)]
 
+mod body_faults;
+mod drawn;
 mod find;
+mod ladder_laws;
 mod laws;
 mod named;
 mod planning;
 mod plant;
+mod plant_fault;
 mod plant_resource;
+mod program_type;
 mod read;
 mod sources;
 mod task;
 
-pub use due_list::{Due, PlanFault, TaskRef, one_plan};
+pub use ladder_laws::program_has_one_ladder;
 pub use laws::{one_plant, one_plant_of_tree, one_tree};
 pub use planning::plan;
 pub use plant::Plant;
+pub use plant_fault::{BodyFault, PlantFault, PlantFaultKind};
 pub use plant_grammar::kind_of_space;
 pub use plant_text::{Address, Space};
-pub use program_bodies::{BodyFault, PlantFault, PlantFaultKind};
 pub use task::Task;
-pub use task_codes::{Binding, RetainedVariable, Source, TaskCode, TaskOutput};
+pub use task_codes::{
+    Binding, Due, PlanFault, RetainedVariable, Source, TaskCode, TaskOutput, TaskRef, one_plan,
+};

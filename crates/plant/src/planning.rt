@@ -1,12 +1,12 @@
 ghost use Rattle.std.specs.Prelude.{◌≡◌, ◌≤◌, length, map, IfOk, IfErr, All};
-ghost use Rattle.due_list.specs.declared.plan_fault.PlanFault.TheVariants.{TooLong};
-ghost use Rattle.due_list.specs.Plan.{AllTimed, timings_in};
+ghost use Rattle.task_codes.specs.declared.plan_fault.PlanFault.TheVariants.{TooLong};
+ghost use Rattle.task_codes.specs.Plan.{AllTimed, timings_in};
 ghost use Rattle.plant.specs.Plan.{timing_of, timings_of, IsPlan, IsPlanTooLong};
 
 use crate::plant::Plant;
 use crate::task::Task;
-use due_list::{Due, PlanFault, Timing};
 use std::alloc::{AllocError, Global};
+use task_codes::{Due, PlanFault, Timing};
 
 /// When the tasks of a resource are due.
 fn timings_of(alloc: Global, tasks: &[Task]) -> Result<Vec<Timing>, AllocError>
@@ -42,5 +42,5 @@ pub fn plan(alloc: Global, plant: &Plant, until: u32) -> Result<Vec<Due>, PlanFa
     ensures too_long { IfErr result (λ fault. fault ≡ TooLong → IsPlanTooLong plant.now until) }
 {
     let timings = all_timings(alloc, plant)?;
-    due_list::plan(alloc, &timings, until)
+    task_codes::plan(alloc, &timings, until)
 }

@@ -1,9 +1,8 @@
 use crate::plant_resource::PlantResource;
 use crate::task::Task;
-use due_list::TaskRef;
 use std::marker::Model;
 use std::sync::Arc;
-use task_codes::TaskCode;
+use task_codes::{TaskCode, TaskRef};
 
 /// A plant: resources with their tasks, and what each task runs and takes from others.
 #[derive(Drop)]

@@ -1,16 +1,17 @@
 ghost use Rattle.std.specs.Prelude.{◌≡◌, ◌≢◌, IfOk, IfErr};
-ghost use Rattle.program_bodies.specs.Faults.{IsPlantFault, IsOfBody, IsOfDeclaredName};
-ghost use Rattle.program_bodies.specs.declared.plant_fault.PlantFaultKind.TheVariants.{Memory, Syntax};
+ghost use Rattle.plant.specs.Faults.{IsPlantFault, IsOfBody, IsOfDeclaredName};
+ghost use Rattle.plant.specs.declared.plant_fault.PlantFaultKind.TheVariants.{Memory, Syntax};
 ghost use Rattle.plant.specs.PlantText.{IsPlantText, IsNoPlant, IsNotOfGrammar, IsBodyFaultIn, IsNameFaultIn};
 
+use crate::drawn::draw_all;
 use crate::plant::Plant;
+use crate::plant_fault::PlantFault;
 use crate::sources::reading::Reading;
 use crate::sources::resolve::resolve;
 use plant_grammar::{
     Reader, programs_are_the_first, read_tree, words_are_in_place, words_behind_are_in_place,
 };
 use plant_text::read_words;
-use program_bodies::{PlantFault, draw_all};
 use std::alloc::Global;
 
 impl Plant {

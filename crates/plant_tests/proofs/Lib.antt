@@ -1,1 +1,2 @@
+pub mod WorkedFigures
 pub mod NoLadders

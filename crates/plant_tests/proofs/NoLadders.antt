@@ -24,8 +24,8 @@ use Rattle.network.specs.Networks.Chained.{here, along}
 use Rattle.network.specs.Links.{place, Takes}
 use Rattle.power_flow.specs.LadderValue.{LadderValue}
 use Rattle.plant_grammar.specs.declared.grammar.tree.Program.{Program}
-use Rattle.program_bodies.specs.Ladders.{IsLadderOf}
-use Rattle.worked_drawings.specs.Figures.{unattached_box}
+use Rattle.plant.specs.Ladders.{IsLadderOf}
+use Rattle.plant_tests.specs.Figures.{unattached_box}
 use Rattle.plant_tests.specs.NoLadder.{HasNoLadder, name_twice, tall_box}
 
 -- unfolds the words of drawings

@@ -2,8 +2,8 @@
 use Rattle.std.specs.Prelude.{◌≡◌, ℕ, List, [], ◌∷◌, ◌++◌, codes, replicate}
 use Rattle.power_flow.specs.LadderValue.{LadderValue}
 use Rattle.plant_grammar.specs.declared.grammar.tree.Program.{Program}
-use Rattle.program_bodies.specs.Ladders.{IsLadderOf}
-use Rattle.worked_drawings.specs.Figures.{text_of}
+use Rattle.plant.specs.Ladders.{IsLadderOf}
+use Rattle.plant_tests.specs.Figures.{text_of}
 
 -- no program with this body has a ladder
 abbrev pub HasNoLadder : List ℕ → Type 0

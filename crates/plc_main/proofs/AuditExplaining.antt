@@ -3,13 +3,13 @@ use Rattle.std.proofs.Common.{◌≡◌, ℕ, List, Option, Result, IfErr, inr}
 use Rattle.std.specs.Result.{IsErrAnd}
 use Rattle.lists.proofs.Results.{kept_fault}
 use Rattle.plant.specs.PlantValue.{PlantValue}
-use Rattle.journal_files.specs.declared.journal_file.JournalFile.{JournalFile}
+use Rattle.audit.specs.declared.journal_file.JournalFile.{JournalFile}
 use Rattle.audit.specs.declared.auditing.Audited.{Audited}
 use Rattle.console.specs.declared.command_fault.CommandFault.{CommandFault}
 use Rattle.console.specs.Giving.{command_fault}
 use Rattle.text_commands.specs.Giving.{sending_fault}
-use Rattle.text_writer.specs.declared.send_fault.SendFault.{SendFault}
-use Rattle.text_writer.specs.declared.send_fault.SendFault.TheVariants as sending
+use Rattle.text_lines.specs.declared.send_fault.SendFault.{SendFault}
+use Rattle.text_lines.specs.declared.send_fault.SendFault.TheVariants as sending
 use Rattle.run_texts.specs.AuditText.{TellsAuditPart}
 use Rattle.plc_main.specs.AuditCommand.{IsAudit, ExplainsAudit}
 

@@ -5,13 +5,13 @@ use Rattle.std.proofs.KnownBytes.{Keeps-refl}
 use Rattle.lists.proofs.Results.{kept_fault}
 use Rattle.plant.specs.PlantValue.{PlantValue}
 use Rattle.evaluation.specs.declared.field_input.FieldInput.{FieldInput}
-use Rattle.node_journals.specs.declared.command.Command.{Command}
-use Rattle.node_journals.specs.declared.run_fault.RunFault.{RunFault}
+use Rattle.node_reports.specs.declared.command.Command.{Command}
+use Rattle.node_reports.specs.declared.run_fault.RunFault.{RunFault}
 use Rattle.node_reports.specs.declared.report.Report.{Report}
 use Rattle.node_reports.specs.Reports.{IsFittingBook, AreJournalsOf, AreInBook, AreAnswers, RunsAgain, CanBeMadeAgain, AreTold, IsRunFault}
 use Rattle.console.specs.declared.command_fault.CommandFault.{CommandFault}
-use Rattle.text_writer.specs.declared.send_fault.SendFault.{SendFault}
-use Rattle.text_writer.specs.declared.send_fault.SendFault.TheVariants as sending
+use Rattle.text_lines.specs.declared.send_fault.SendFault.{SendFault}
+use Rattle.text_lines.specs.declared.send_fault.SendFault.TheVariants as sending
 use Rattle.text_commands.specs.declared.text_command_fault.TextCommandFault.{TextCommandFault}
 use Rattle.text_commands.specs.declared.text_command_fault.TextCommandFault.TheVariants as text
 use Rattle.text_commands.specs.PlanText.{RefusesPlanOf}

@@ -3,13 +3,13 @@ use Rattle.std.specs.Prelude.{ℕ, ◌⊎◌, Bool, List, Option}
 use Rattle.std.specs.Io.KnownBytes.{Keeps}
 use Rattle.plant.specs.PlantValue.{PlantValue}
 use Rattle.node_reports.specs.Reports.{IsFittingBook, AreJournalsOf, AreInBook, RunsAgain, CanBeMadeAgain}
-use Rattle.journal_files.specs.declared.journal_file.JournalFile.{JournalFile}
+use Rattle.audit.specs.declared.journal_file.JournalFile.{JournalFile}
 use Rattle.audit.specs.Delivered.{AreDelivered}
 use Rattle.audit.specs.Told.{AreToldBy}
 use Rattle.audit.specs.declared.auditing.Audited.{Audited}
 use Rattle.console.specs.declared.command_fault.CommandFault.{CommandFault}
 use Rattle.console.specs.declared.command_fault.CommandFault.TheVariants.{Text, Word, Write, Run, Memory}
-use Rattle.text_writer.specs.declared.send_fault.SendFault.TheVariants as sending
+use Rattle.text_lines.specs.declared.send_fault.SendFault.TheVariants as sending
 use Rattle.run_texts.specs.AuditText.{TellsAudit, TellsAuditPart}
 
 -- What an audit of journals is: what is shown is what they tell, and what isn't is told. Its book fits, its journals are

@@ -2,7 +2,7 @@
 use Rattle.std.specs.Prelude.{◌≡◌, ℕ, ◌⊎◌, List, [], Option}
 use Rattle.std.specs.Io.KnownBytes.{Consumes, Keeps}
 use Rattle.plant.specs.PlantValue.{PlantValue}
-use Rattle.node_cores.specs.NodeValue.{NodeValue}
+use Rattle.live_node.specs.NodeValue.{NodeValue}
 use Rattle.live_node.specs.declared.live_stop.LiveStop.{LiveStop}
 use Rattle.live_node.specs.declared.live_stop.LiveStop.TheVariants.{Node}
 use Rattle.live_node.specs.declared.node_stop.NodeStop.{NodeStop}

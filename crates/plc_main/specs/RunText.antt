@@ -3,19 +3,19 @@ use Rattle.std.specs.Prelude.{◌≢◌, ◌↔◌, ℕ, ◌++◌, ◌⊎◌, Is
 use Rattle.std.specs.Io.KnownBytes.{Appends, Keeps}
 use Rattle.plant.specs.PlantValue.{PlantValue}
 use Rattle.evaluation.specs.declared.field_input.FieldInput.{FieldInput}
-use Rattle.node_journals.specs.declared.command.Command.{Command}
+use Rattle.node_reports.specs.declared.command.Command.{Command}
 use Rattle.node_reports.specs.declared.report.Report.{Report}
 use Rattle.node_reports.specs.Reports.{IsFittingBook, AreJournalsOf, AreInBook, AreAnswers, RunsAgain, CanBeMadeAgain, AreTold, IsRunFault}
 use Rattle.console.specs.declared.command_fault.CommandFault.{CommandFault}
 use Rattle.console.specs.declared.command_fault.CommandFault.TheVariants.{Text, Word, Write, Run, Memory}
-use Rattle.text_writer.specs.Sending.{SendsPart, SendsLess}
-use Rattle.node_journals.specs.declared.run_fault.RunFault.{RunFault}
-use Rattle.node_journals.specs.declared.run_fault.RunFault.TheVariants as run
+use Rattle.text_lines.specs.Sending.{SendsPart, SendsLess}
+use Rattle.node_reports.specs.declared.run_fault.RunFault.{RunFault}
+use Rattle.node_reports.specs.declared.run_fault.RunFault.TheVariants as run
 use Rattle.text_commands.specs.declared.text_command_fault.TextCommandFault.TheVariants as text
 use Rattle.text_commands.specs.PlanText.{RefusesPlanOf}
 use Rattle.traces.specs.declared.texts.Wanted.{Wanted}
-use Rattle.plant_traces.specs.Moments.{of_entries}
-use Rattle.plant_traces.specs.Texts.{AreOutputTexts}
+use Rattle.traces.specs.Moments.{of_entries}
+use Rattle.traces.specs.Texts.{AreOutputTexts}
 use Rattle.plc_main.specs.declared.run_command.Ran.{Ran}
 use Rattle.run_texts.specs.RunCommands.{ArePlanned}
 use Rattle.run_texts.specs.ReportText.{report_lines, replay_line}

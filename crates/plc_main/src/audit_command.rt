@@ -1,9 +1,8 @@
 ghost use Rattle.std.specs.Prelude.{IfOk, IfErr};
 ghost use Rattle.plc_main.specs.AuditCommand.{WritesAudit, ExplainsAudit};
 
-use audit::audit;
+use audit::{JournalFile, audit};
 use console::CommandFault;
-use journal_files::JournalFile;
 use plant::Plant;
 use run_texts::tell_audit;
 use std::alloc::Global;

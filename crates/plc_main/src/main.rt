@@ -10,20 +10,17 @@ mod trace_files;
 ghost use Rattle.std.specs.Prelude.{◌≡◌, length, vec_len, IfOk, IfErr};
 ghost use Rattle.plc_main.specs.RunText.{WritesReport, ExplainsRun};
 
+use audit::JournalFile;
 use audit_command::audit_text;
-use command_line::{AuditRequest, Request, RunRequest, read_words};
 use console::{
-    Answered, CommandFault, FAILED, Prepared, answer_kind, answer_kinds, answer_schedule,
-    answer_text, answer_verify, file_bytes, file_plant, given_words, prepare, print_failure,
-    print_fault, print_given_fault, print_usage, wanted_for,
+    Answered, AuditRequest, CommandFault, FAILED, Prepared, Request, RunRequest, answer_kind,
+    answer_kinds, answer_schedule, answer_text, answer_verify, file_bytes, file_plant, given_words,
+    prepare, print_failure, print_fault, print_given_fault, print_usage, read_words, wanted_for,
 };
-use file_keepers::{BadLine, FileKeeper, FolderLock, LockFault, SystemFolder};
-use journal_files::JournalFile;
-use keepers::KeeperFault;
+use keepers::{BadLine, FileKeeper, FolderLock, KeeperFault, LockFault, SystemFolder};
 use node::{FreeGate, Gate, Keeper, MemoryKeeper, PacedGate, RunFault};
 use node_command::answer_node;
 use plant::{Plant, TaskRef};
-use progress::OnTerminal;
 use run_command::{Ran, run_text};
 use std::alloc::{AllocError, Global};
 use std::io;
@@ -32,6 +29,7 @@ use std::process::ExitCode;
 use std::rt::{Clock, Env, Files};
 use std::sync::{Arc, Mutex, Wait};
 use std::thread::Threads;
+use text_lines::OnTerminal;
 use told_run::{ToldGate, UntoldWriter};
 use trace_files::write_files;
 use traces::Wanted;

@@ -4,10 +4,8 @@ ghost use Rattle.std.specs.Prelude.{◌≡◌, ◌<◌, length, IfOk, IfErr};
 ghost use Rattle.plc_main.specs.NodeCommand.{RunsNode, StopsRunning};
 
 use crate::{keeper_in, print_lock_fault, print_resource_faults};
-use command_line::NodeRequest;
-use console::{FAILED, PreparedNode, prepare_node};
-use file_keepers::ResourceLock;
-use keepers::{Keeper, MemoryKeeper};
+use console::{FAILED, NodeRequest, PreparedNode, prepare_node};
+use keepers::{Keeper, MemoryKeeper, ResourceLock};
 use live_node::{FileNotes, JournalFault, LiveStop, NoNotes, Node, NodeStop, Notes, live};
 use std::alloc::Global;
 use std::io;

@@ -5,13 +5,12 @@ use console::CommandFault;
 use evaluation::Inputs;
 use node::{Gate, Keeper, run_threads};
 use plant::Plant;
-use plant_traces::entry_texts;
 use run_texts::{planned_commands, tell_report};
 use std::alloc::Global;
 use std::io::Write;
 use std::sync::{Arc, Wait};
 use std::thread::Threads;
-use traces::{TraceTexts, Wanted};
+use traces::{TraceTexts, Wanted, entry_texts};
 
 /// What came of a run: whether there was a fault, and the texts of its trace.
 #[derive(Debug, Drop)]

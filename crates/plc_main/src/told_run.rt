@@ -1,11 +1,11 @@
 //! How far a run is: how many commands are done with, until the first line goes out.
 
 use node::{Gate, OutOfTurns};
-use progress::{HowFar, Progress};
 use std::io;
 use std::io::Write;
 use std::sync::Mutex;
 use std::sync::atomic::{AtomicU64, Ordering};
+use text_lines::{HowFar, Progress};
 
 /// The telling ends, until something is told anew.
 fn end<P: Progress>(progress: Option<&Mutex<P>>) {

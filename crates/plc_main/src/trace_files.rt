@@ -1,11 +1,10 @@
 //! The files of a trace.
 
 ghost use Rattle.std.specs.Prelude.{◌++◌, codes};
-ghost use Rattle.file_keepers.specs.KnownFiles.{IsReplacing};
+ghost use Rattle.keepers.specs.KnownFiles.{IsReplacing};
 
-use command_line::TraceFiles;
-use console::{Answered, FAILED};
-use file_keepers::{Folder, FolderFault, SystemFolder};
+use console::{Answered, FAILED, TraceFiles};
+use keepers::{Folder, FolderFault, SystemFolder};
 use std::alloc::Global;
 use std::io;
 

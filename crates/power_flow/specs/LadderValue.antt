@@ -9,7 +9,7 @@ use Rattle.scan_steps.specs.declared.slot.Slot.{Slot}
 use Rattle.power_flow.specs.StateValue.{StateValue}
 use Rattle.scan_steps.specs.Slots.{AreSlotsOf}
 use Rattle.declared_names.specs.Names.{place_of}
-use Rattle.variable_binding.specs.Binding.{CanBind}
+use Rattle.name_faults.specs.Binding.{CanBind}
 use Rattle.power_flow.specs.Scan.{ScanMeaning}
 
 -- a ladder: its declarations, its networks in order, and how many waiting places a scan needs

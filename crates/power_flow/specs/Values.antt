@@ -8,7 +8,7 @@ use Rattle.std_blocks.specs.declared.pins.PinsOut.{PinsOut}
 use Rattle.std_blocks.specs.Pins.{pin_of, field_value}
 use Rattle.declared_names.specs.declared.declarations.Declaration.{Declaration}
 use Rattle.declared_names.specs.Names.{place_of, is_dot}
-use Rattle.variable_binding.specs.Literals.{literal_value}
+use Rattle.name_faults.specs.Literals.{literal_value}
 use Rattle.scan_steps.specs.declared.slot.Slot.{Slot}
 use Rattle.scan_steps.specs.declared.slot.Slot.TheVariants.{Variable, Block}
 

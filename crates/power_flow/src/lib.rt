@@ -1,4 +1,4 @@
-//! What a drawing does: one scan of its networks.
+//! What a drawing does: its names bound, its states, and one scan of its networks.
 #![tactic(auto)]
 
 mod binding;
@@ -12,10 +12,10 @@ mod steps;
 
 pub use ladder::Ladder;
 pub use laws::{fitting_states_are_equal, one_ladder, one_scan};
-pub use scan_steps::{Instance, Slot};
-pub use snapshot::Snapshot;
-pub use state::State;
-pub use variable_binding::{
+pub use name_faults::{
     BindFault, BindKind, Declaration, Declarations, DeclareFault, Declared, Guess, Kind,
     first_value, kind_of,
 };
+pub use scan_steps::{Instance, Slot};
+pub use snapshot::Snapshot;
+pub use state::State;

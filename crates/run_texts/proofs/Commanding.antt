@@ -1,10 +1,10 @@
 -- The commands for the entries of a plan.
 use Rattle.std.proofs.Common.{◌≡◌, ℕ, suc, ◌+◌, ◌<◌, ◌++◌, List, [], ◌∷◌, length, take, get_or, sym, ap, ◌∙◌, arith}
 use Rattle.std.proofs.lemmas.List.{take_more, length-take}
-use Rattle.due_list.specs.declared.due.Due.{Due}
+use Rattle.task_codes.specs.declared.due.Due.{Due}
 use Rattle.plant.specs.PlantValue.{PlantValue}
 use Rattle.evaluation.specs.declared.field_input.FieldInput.{FieldInput}
-use Rattle.node_journals.specs.declared.command.Command.{Command}
+use Rattle.node_reports.specs.declared.command.Command.{Command}
 use Rattle.run_texts.specs.RunCommands.{command_for, commands_from}
 
 commands_from-append : (plant : PlantValue) (inputs : List FieldInput) (k : ℕ) (xs ys : List Due) → commands_from plant inputs k (xs ++ ys) ≡ commands_from plant inputs k xs ++ commands_from plant inputs (k + length xs) ys

@@ -3,14 +3,14 @@ use Rattle.std.proofs.Common.{◌≡◌, ℕ, ◌+◌, ◌<◌, suc, zero, List,
 use Rattle.std.specs.Prelude.{unwrap_or}
 use Rattle.std.proofs.lemmas.List.{length-map}
 use Rattle.std.proofs.lemmas.Option.{none-some, slice_get_within}
-use Rattle.due_list.specs.declared.due.Due.{Due}
-use Rattle.due_list.specs.declared.timing.Timing.{Timing}
-use Rattle.due_list.specs.Plan.{IsDue, timing_at}
+use Rattle.task_codes.specs.declared.due.Due.{Due}
+use Rattle.task_codes.specs.declared.timing.Timing.{Timing}
+use Rattle.task_codes.specs.Plan.{IsDue, timing_at}
 use Rattle.plant.specs.PlantValue.{PlantValue}
 use Rattle.plant.specs.Plan.{timings_of}
 use Rattle.evaluation.specs.declared.field_input.FieldInput.{FieldInput}
-use Rattle.node_journals.specs.declared.command.Command.{Command}
-use Rattle.node_journals.specs.Commands.{AreNumbered, AreForPlant}
+use Rattle.node_reports.specs.declared.command.Command.{Command}
+use Rattle.node_reports.specs.Commands.{AreNumbered, AreForPlant}
 use Rattle.run_texts.specs.RunCommands.{command_for, commands_from, ArePlanned}
 
 -- the tickets count from k on

@@ -12,20 +12,20 @@ use Rattle.lists.proofs.Places.{element_at}
 use Rattle.plant_grammar.specs.Kinds.{items_or_none}
 use Rattle.plant.specs.PlantValue.{PlantValue, ResourceValue, code_at, codes_at}
 use Rattle.evaluation.specs.Meaning.{Evaluated}
-use Rattle.exchange.specs.declared.event.Event.{Event}
-use Rattle.exchange.specs.declared.event.Event.TheVariants.{Evaluate, Deliver, Restart, Hear}
+use Rattle.world.specs.declared.event.Event.{Event}
+use Rattle.world.specs.declared.event.Event.TheVariants.{Evaluate, Deliver, Restart, Hear}
 use Rattle.exchange_core.specs.CoreValue.{AreOpeningOf}
-use Rattle.exchange.specs.History.{Setting, AreOpenings, openings_at, history_of, is_lawful, after_events, lawful_among}
-use Rattle.exchange.specs.Run.{IsLog, IsRun}
-use Rattle.exchange.specs.World.{WorldValue}
-use Rattle.exchange.specs.Step.{HaveRun}
-use Rattle.exchange.specs.Laws.{OneRun}
-use Rattle.evaluation_book.specs.Book.{BookValue}
-use Rattle.exchange.specs.Replays.{AllCouldBeMade}
-use Rattle.node_journals.specs.declared.journal.Journal.{Journal}
-use Rattle.node_journals.specs.Journals.{firsts_of, openings_of, IsLawful}
+use Rattle.world.specs.History.{Setting, AreOpenings, openings_at, history_of, is_lawful, after_events, lawful_among}
+use Rattle.world.specs.Run.{IsLog, IsRun}
+use Rattle.world.specs.World.{WorldValue}
+use Rattle.world.specs.Step.{HaveRun}
+use Rattle.world.specs.Laws.{OneRun}
+use Rattle.book.specs.Book.{BookValue}
+use Rattle.world.specs.Replays.{AllCouldBeMade}
+use Rattle.node_reports.specs.declared.journal.Journal.{Journal}
+use Rattle.node_reports.specs.Journals.{firsts_of, openings_of, IsLawful}
 use Rattle.node_reports.specs.Reports.{AreJournalsOf, RunsAgain}
-use Rattle.node_journals.specs.Codes.{IsOfPlant, AreOfPlant}
+use Rattle.node_reports.specs.Codes.{IsOfPlant, AreOfPlant}
 use Rattle.run_texts.specs.Steps.Replaying.{IsReplay, AreOfOneCode}
 
 -- the lawful events of a list have the history of all of them

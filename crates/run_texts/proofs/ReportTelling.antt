@@ -5,11 +5,11 @@ use Rattle.std.proofs.KnownBytes.{Appends-trans}
 use Rattle.std.proofs.Math.Seq.{take-append_seam}
 use Rattle.std.proofs.lemmas.Bool.{eqb-true}
 use Rattle.std.proofs.lemmas.List.{append-nil, take-append-drop, length-append, length-drop}
-use Rattle.node_journals.specs.declared.node_fault.NodeFault.{NodeFault}
-use Rattle.text_writer.specs.declared.send_fault.SendFault.{SendFault}
-use Rattle.text_writer.specs.declared.send_fault.SendFault.TheVariants.{Write, Memory}
-use Rattle.text_writer.specs.Sending.{SendsPart, SendsLess}
-use Rattle.text_writer.proofs.Sending.{begins}
+use Rattle.node_reports.specs.declared.node_fault.NodeFault.{NodeFault}
+use Rattle.text_lines.specs.declared.send_fault.SendFault.{SendFault}
+use Rattle.text_lines.specs.declared.send_fault.SendFault.TheVariants.{Write, Memory}
+use Rattle.text_lines.specs.Sending.{SendsPart, SendsLess}
+use Rattle.text_lines.proofs.Sending.{begins}
 use Rattle.run_texts.specs.ReportText.{replay_line, TellsBeginning}
 
 -- a beginning was written, and something is left

@@ -6,12 +6,12 @@ use Rattle.std.specs.Fmt.{decimal}
 use Rattle.std.specs.Io.KnownBytes.{Appends}
 use Rattle.plant_grammar.specs.Kinds.{items_or_none}
 use Rattle.plant.specs.PlantValue.{PlantValue}
-use Rattle.text_writer.specs.declared.send_fault.SendFault.{SendFault}
-use Rattle.line_parts.specs.LineParts.{resource_text}
-use Rattle.message_texts.specs.MessageLines.{name_text}
-use Rattle.evaluation_book.specs.declared.book.misfit.Misfit.{Misfit}
-use Rattle.evaluation_book.specs.declared.book.misfit.Misfit.TheVariants as misfit
-use Rattle.journal_files.specs.declared.journal_file.JournalFile.{JournalFile}
+use Rattle.text_lines.specs.declared.send_fault.SendFault.{SendFault}
+use Rattle.text_lines.specs.LineParts.{resource_text}
+use Rattle.text_lines.specs.MessageLines.{name_text}
+use Rattle.book.specs.declared.book.misfit.Misfit.{Misfit}
+use Rattle.book.specs.declared.book.misfit.Misfit.TheVariants as misfit
+use Rattle.audit.specs.declared.journal_file.JournalFile.{JournalFile}
 use Rattle.audit.specs.declared.needs.Need.{Need}
 use Rattle.audit.specs.declared.needs.Need.TheVariants.{Evaluation, Incarnation}
 use Rattle.audit.specs.declared.reason.Reason.{Reason}

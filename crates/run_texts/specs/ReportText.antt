@@ -5,14 +5,14 @@ use Rattle.std.specs.Fmt.{decimal}
 use Rattle.std.specs.Io.KnownBytes.{Appends}
 use Rattle.plant.specs.PlantValue.{PlantValue}
 use Rattle.evaluation.specs.Meaning.{Evaluated}
-use Rattle.text_writer.specs.declared.send_fault.SendFault.{SendFault}
-use Rattle.text_writer.specs.declared.send_fault.SendFault.TheVariants as sending
-use Rattle.text_writer.specs.Sending.{SendsPart, SendsLess}
-use Rattle.line_parts.specs.LineParts.{resource_text}
+use Rattle.text_lines.specs.declared.send_fault.SendFault.{SendFault}
+use Rattle.text_lines.specs.declared.send_fault.SendFault.TheVariants as sending
+use Rattle.text_lines.specs.Sending.{SendsPart, SendsLess}
+use Rattle.text_lines.specs.LineParts.{resource_text}
 use Rattle.world.specs.RunLines.{evaluation_line}
-use Rattle.node_journals.specs.declared.cause.Cause.{Cause}
-use Rattle.node_journals.specs.declared.cause.Cause.TheVariants.{OutOfTurns, NoSuchTask, NumbersSpent, Memory, Misfit, Keeper, NotSent, Stopped}
-use Rattle.node_journals.specs.declared.node_fault.NodeFault.{NodeFault}
+use Rattle.node_reports.specs.declared.cause.Cause.{Cause}
+use Rattle.node_reports.specs.declared.cause.Cause.TheVariants.{OutOfTurns, NoSuchTask, NumbersSpent, Memory, Misfit, Keeper, NotSent, Stopped}
+use Rattle.node_reports.specs.declared.node_fault.NodeFault.{NodeFault}
 use Rattle.node_reports.specs.declared.report.Report.{Report}
 
 -- the lines of evaluations; their places are numbered from k on

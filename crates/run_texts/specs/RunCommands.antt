@@ -1,13 +1,13 @@
 -- The commands of `plc run`.
 use Rattle.std.specs.Prelude.{◌≡◌, ℕ, ◌+◌, ◌≤◌, List, [], ◌∷◌, length, unwrap_or}
 use Rattle.std.specs.Option.{option_map}
-use Rattle.due_list.specs.declared.due.Due.{Due}
-use Rattle.due_list.specs.declared.task_ref.TaskRef.{TaskRef}
+use Rattle.task_codes.specs.declared.due.Due.{Due}
+use Rattle.task_codes.specs.declared.task_ref.TaskRef.{TaskRef}
 use Rattle.plant.specs.PlantValue.{TaskValue, PlantValue}
 use Rattle.plant.specs.Plan.{task_at, IsPlan}
 use Rattle.evaluation.specs.declared.field_input.FieldInput.{FieldInput}
-use Rattle.node_journals.specs.declared.command.Command.{Command}
-use Rattle.node_journals.specs.declared.act.Act.TheVariants.{Evaluate}
+use Rattle.node_reports.specs.declared.command.Command.{Command}
+use Rattle.node_reports.specs.declared.act.Act.TheVariants.{Evaluate}
 
 -- the interval of a task
 abbrev pub interval_at : PlantValue → TaskRef → ℕ

@@ -5,13 +5,12 @@ ghost use Rattle.run_texts.specs.AuditText.{TellsAudit, TellsAuditPart};
 use crate::audit_text::write_audit;
 use crate::replay::replay;
 use crate::report_text::replay_line;
-use audit::Audited;
-use journal_files::JournalFile;
+use audit::{Audited, JournalFile};
 use plant::Plant;
 use std::alloc::Global;
 use std::io::Write;
 use std::sync::Arc;
-use text_writer::{SendFault, write_text};
+use text_lines::{SendFault, write_text};
 
 /// Writes what an audit has shown: a line for each evaluation, then for each line from which on a journal can't be shown
 /// and for each resource without a journal, and last whether one thread makes the same evaluations. It tells whether all

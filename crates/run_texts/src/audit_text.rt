@@ -2,20 +2,17 @@
 
 ghost use Rattle.std.specs.Prelude.{◌≡◌, OnOk, OnErr};
 ghost use Rattle.std.specs.Io.KnownBytes.{Appends};
-ghost use Rattle.text_writer.specs.Growing.{GrowsBy};
-ghost use Rattle.text_writer.specs.Sending.{SendsPart};
+ghost use Rattle.text_lines.specs.Growing.{GrowsBy};
+ghost use Rattle.text_lines.specs.Sending.{SendsPart};
 ghost use Rattle.run_texts.specs.AuditText.{file_name, incarnation_text, need_text, misfit_text, reason_text, unshown_line, unshown_lines, without_line, without_lines, audit_lines};
 
 use crate::report_text::write_entries;
-use audit::{Audited, Misfit, Need, Reason, Unshown};
-use journal_files::JournalFile;
-use line_parts::push_resource;
-use message_texts::push_name;
+use audit::{Audited, JournalFile, Misfit, Need, Reason, Unshown};
 use plant::Plant;
 use std::alloc::{AllocError, Global};
 use std::fmt::Write as _;
 use std::io::Write;
-use text_writer::{SendFault, send_full, write_text};
+use text_lines::{SendFault, push_name, push_resource, send_full, write_text};
 
 /// The name of a file; empty where there is no such file.
 fn file_name(files: &[JournalFile], file: usize) -> &str

@@ -2,19 +2,18 @@
 
 ghost use Rattle.std.specs.Prelude.{◌≡◌, ◌↔◌, true, length, IfOk, IsTrue};
 ghost use Rattle.task_codes.specs.CodeValue.{lists_of};
-ghost use Rattle.exchange.specs.History.{AreOpenings};
-ghost use Rattle.node_journals.specs.Codes.{AreOfPlant};
-ghost use Rattle.node_journals.specs.Journals.{firsts_of, openings_of};
+ghost use Rattle.world.specs.History.{AreOpenings};
+ghost use Rattle.node_reports.specs.Codes.{AreOfPlant};
+ghost use Rattle.node_reports.specs.Journals.{firsts_of, openings_of};
 ghost use Rattle.node_reports.specs.Reports.{AreJournalsOf, RunsAgain};
 ghost use Rattle.run_texts.specs.Steps.Replaying.{IsReplay, AreOfOneCode};
 
 use evaluation::{Frame, Retained};
-use exchange::{Book, Schedule, World, one_run};
-use node_journals::Journal;
-use node_reports::are_equal;
+use node_reports::{Journal, are_equal};
 use plant::Plant;
 use std::alloc::{AllocError, Global};
 use std::sync::Arc;
+use world::{Book, Schedule, World, one_run};
 
 /// Whether both lists have the same evaluations, which are by the plant's codes.
 fn are_same(frames: &[Frame], others: &[Frame]) -> bool

@@ -2,19 +2,17 @@
 
 ghost use Rattle.std.specs.Prelude.{◌≡◌, OnOk, OnErr};
 ghost use Rattle.std.specs.Io.KnownBytes.{Appends};
-ghost use Rattle.text_writer.specs.Growing.{GrowsBy};
-ghost use Rattle.text_writer.specs.Sending.{SendsPart};
+ghost use Rattle.text_lines.specs.Growing.{GrowsBy};
+ghost use Rattle.text_lines.specs.Sending.{SendsPart};
 ghost use Rattle.run_texts.specs.ReportText.{cause_text, unanswered_line, unanswered_lines, fault_line, fault_lines, entry_lines, report_lines, replay_line};
 
 use evaluation::Frame;
-use line_parts::push_resource;
-use node_journals::{Cause, NodeFault};
-use node_reports::Report;
+use node_reports::{Cause, NodeFault, Report};
 use plant::Plant;
 use std::alloc::{AllocError, Global};
 use std::fmt::Write as _;
 use std::io::Write;
-use text_writer::{SendFault, send_full, write_text};
+use text_lines::{SendFault, push_resource, send_full, write_text};
 use world::push_evaluation;
 
 fn cause_name(cause: Cause) -> &'static str

@@ -1,10 +1,10 @@
 ghost use Rattle.std.specs.Prelude.{◌≡◌, IfOk, IfErr};
 ghost use Rattle.text_commands.specs.PlanText.{RefusesPlanOf};
-ghost use Rattle.node_journals.specs.Commands.{AreNumbered, AreForPlant};
+ghost use Rattle.node_reports.specs.Commands.{AreNumbered, AreForPlant};
 ghost use Rattle.run_texts.specs.RunCommands.{interval_at, command_for, commands_from, ArePlanned};
 
 use evaluation::Inputs;
-use node_journals::{Act, Command};
+use node_reports::{Act, Command};
 use plant::{Due, Plant, TaskRef};
 use std::alloc::{AllocError, Global};
 use text_commands::{TextCommandFault, plan_of};

@@ -9,7 +9,7 @@ use plant::Plant;
 use std::alloc::Global;
 use std::io::Write;
 use std::sync::Arc;
-use text_writer::{SendFault, write_text};
+use text_lines::{SendFault, write_text};
 
 /// Writes what the threads of a run did: a line for each evaluation, then for each command that wasn't answered and for
 /// each fault, and last whether one thread makes the same evaluations. It tells whether there was a fault.

@@ -1,1 +1,4 @@
+mod Moments
+mod Ordered
+mod Planned
 pub mod SameCode

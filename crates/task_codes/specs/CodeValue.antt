@@ -12,7 +12,7 @@ use Rattle.plant_grammar.specs.Kinds.{items_or_none, kind_of_space, input_kind_a
 use Rattle.task_codes.specs.declared.binding.Source.{Source}
 use Rattle.task_codes.specs.declared.binding.Source.TheVariants.{Field, Given}
 use Rattle.task_codes.specs.declared.binding.Binding.{Binding}
-use Rattle.due_list.specs.declared.task_ref.TaskRef.{TaskRef}
+use Rattle.task_codes.specs.declared.task_ref.TaskRef.{TaskRef}
 use Rattle.task_codes.specs.declared.task_output.TaskOutput.{TaskOutput}
 use Rattle.task_codes.specs.declared.retained_variable.RetainedVariable.{RetainedVariable}
 

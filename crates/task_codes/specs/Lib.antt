@@ -1,2 +1,4 @@
+pub mod Plan
 pub mod CodeValue
 pub mod OutputNames
+pub mod Steps

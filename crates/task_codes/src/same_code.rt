@@ -4,7 +4,7 @@ ghost use Rattle.task_codes.specs.CodeValue.{bindings_at, expected_at, IsSoundCo
 
 use crate::binding::Binding;
 use crate::task_code::TaskCode;
-use due_list::TaskRef;
+use crate::task_ref::TaskRef;
 use power_flow::{Kind, Ladder};
 
 fn are_same_bindings(bindings: &[Binding], others: &[Binding]) -> bool

@@ -2,7 +2,7 @@ use crate::binding::Binding;
 use crate::program_instance::ProgramInstance;
 use crate::retained_variable::RetainedVariable;
 use crate::task_output::TaskOutput;
-use due_list::TaskRef;
+use crate::task_ref::TaskRef;
 use power_flow::{Kind, Ladder};
 use std::marker::Model;
 

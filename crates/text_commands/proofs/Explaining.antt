@@ -5,15 +5,15 @@ use Rattle.network.specs.Links.{Diagram}
 use Rattle.declared_names.specs.declared.declarations.Declaration.{Declaration}
 use Rattle.std.specs.Result.{IsErrAnd}
 use Rattle.lists.proofs.Results.{kept_fault}
-use Rattle.variable_binding.specs.declared.bind_fault.BindFault.{BindFault}
-use Rattle.variable_binding.specs.declared.bind_fault.BindKind.TheVariants.{Memory as BindMemory}
+use Rattle.name_faults.specs.declared.bind_fault.BindFault.{BindFault}
+use Rattle.name_faults.specs.declared.bind_fault.BindKind.TheVariants.{Memory as BindMemory}
 use Rattle.network.specs.declared.fault.GraphFault.{GraphFault}
 use Rattle.ladder_text.specs.declared.draw_fault.DrawFault.{DrawFault}
 use Rattle.ladder_text.specs.declared.draw_fault.DrawFaultKind.TheVariants.{Memory as DrawMemory}
 use Rattle.network.specs.declared.fault.GraphFaultKind.TheVariants.{Memory as GraphMemory}
 use Rattle.text_commands.specs.declared.text_fault.TextFault.TheVariants.{Bind, Draw, Graph}
-use Rattle.text_writer.specs.declared.send_fault.SendFault.{SendFault}
-use Rattle.text_writer.specs.declared.send_fault.SendFault.TheVariants as sending
+use Rattle.text_lines.specs.declared.send_fault.SendFault.{SendFault}
+use Rattle.text_lines.specs.declared.send_fault.SendFault.TheVariants as sending
 use Rattle.text_commands.specs.Giving.{GivenFor, sending_fault}
 use Rattle.text_commands.specs.Rows.{RowValue, SpellRows}
 use Rattle.text_commands.specs.declared.text_command_fault.TextCommandFault.{TextCommandFault}

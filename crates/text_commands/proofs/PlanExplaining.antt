@@ -4,18 +4,18 @@ use Rattle.std.specs.Result.{IsErrAnd}
 use Rattle.std.proofs.KnownBytes.{Keeps-refl}
 use Rattle.lists.proofs.Results.{kept_fault}
 use Rattle.std.specs.Io.KnownBytes.{Appends}
-use Rattle.due_list.specs.declared.due.Due.{Due}
+use Rattle.task_codes.specs.declared.due.Due.{Due}
 use Rattle.plant.specs.PlantValue.{PlantValue}
 use Rattle.plant.specs.PlantText.{IsPlantText}
 use Rattle.plant.specs.Plan.{IsPlan}
 use Rattle.text_commands.specs.declared.text_command_fault.TextCommandFault.{TextCommandFault}
 use Rattle.text_commands.specs.declared.text_command_fault.TextCommandFault.TheVariants.{Text, Word, Write, Memory}
 use Rattle.text_commands.specs.declared.text_fault.TextFault.TheVariants.{Draw, Graph, Bind, Plant, TooLong}
-use Rattle.text_writer.specs.declared.send_fault.SendFault.{SendFault}
-use Rattle.text_writer.specs.declared.send_fault.SendFault.TheVariants as sending
+use Rattle.text_lines.specs.declared.send_fault.SendFault.{SendFault}
+use Rattle.text_lines.specs.declared.send_fault.SendFault.TheVariants as sending
 use Rattle.text_commands.specs.Giving.{sending_fault}
 use Rattle.text_commands.specs.PlanText.{plan_lines, RefusesPlanOf, WritesPlan, StopsPlan, ExplainsPlan}
-use Rattle.text_writer.specs.Sending.{Stops}
+use Rattle.text_lines.specs.Sending.{Stops}
 
 pub plan_refused : (text : List ℕ) (until : ℕ) (old : Option (List ℕ)) (plant : PlantValue) (fault : TextCommandFault) → IsPlantText text plant → RefusesPlanOf plant until fault → ExplainsPlan text until old old fault
 plan_refused text until old plant (Text (Draw fault)) read refused = absurd refused

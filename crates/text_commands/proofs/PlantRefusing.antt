@@ -1,10 +1,10 @@
 -- Why no plant was read, from why the reader of plants refused its text.
 use Rattle.std.proofs.Common.{◌≡◌, ◌≢◌, List, ℕ, Result, Ok, Err, IfErr, inl, inr}
 use Rattle.std.specs.Result.{IsErrAnd}
-use Rattle.program_bodies.specs.Faults.{IsPlantFault, IsOfBody, IsOfDeclaredName}
+use Rattle.plant.specs.Faults.{IsPlantFault, IsOfBody, IsOfDeclaredName}
 use Rattle.plant.specs.PlantText.{IsNoPlant, IsNotOfGrammar, IsBodyFaultIn, IsNameFaultIn}
-use Rattle.program_bodies.specs.declared.plant_fault.PlantFault.{PlantFault}
-use Rattle.program_bodies.specs.declared.plant_fault.PlantFaultKind.TheVariants.{Memory, Syntax}
+use Rattle.plant.specs.declared.plant_fault.PlantFault.{PlantFault}
+use Rattle.plant.specs.declared.plant_fault.PlantFaultKind.TheVariants.{Memory, Syntax}
 use Rattle.text_commands.specs.declared.text_command_fault.TextCommandFault.{TextCommandFault}
 use Rattle.text_commands.specs.declared.text_fault.TextFault.TheVariants.{Plant}
 use Rattle.text_commands.specs.CheckText.{GivesNoPlant}

@@ -8,9 +8,9 @@ use Rattle.std.specs.Io.KnownBytes.{Appends}
 use Rattle.network.specs.Links.{Diagram}
 use Rattle.declared_names.specs.declared.declarations.Declaration.{Declaration}
 use Rattle.scan_steps.specs.declared.slot.Slot.{Slot}
-use Rattle.text_writer.specs.Sending.{SendsLess, Stops}
-use Rattle.text_writer.specs.declared.send_fault.SendFault.{SendFault}
-use Rattle.text_writer.specs.declared.send_fault.SendFault.TheVariants as sending
+use Rattle.text_lines.specs.Sending.{SendsLess, Stops}
+use Rattle.text_lines.specs.declared.send_fault.SendFault.{SendFault}
+use Rattle.text_lines.specs.declared.send_fault.SendFault.TheVariants as sending
 use Rattle.text_commands.specs.declared.difference.Difference.{Difference}
 use Rattle.text_commands.specs.declared.text_command_fault.TextCommandFault.{TextCommandFault}
 use Rattle.text_commands.specs.declared.text_command_fault.TextCommandFault.TheVariants.{Text, Word, Write, Memory}

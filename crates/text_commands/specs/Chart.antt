@@ -10,7 +10,7 @@ use Rattle.declared_names.specs.declared.declarations.Declared.{Declared}
 use Rattle.declared_names.specs.declared.declarations.Declared.TheVariants.{Input, Output, Local, Instance}
 use Rattle.scan_steps.specs.declared.slot.Slot.{Slot}
 use Rattle.scan_steps.specs.Slots.{variable_at}
-use Rattle.line_parts.specs.LineParts.{value_text}
+use Rattle.text_lines.specs.LineParts.{value_text}
 
 -- a variable, and no instance of a block
 abbrev pub is_variable : Declared → Bool

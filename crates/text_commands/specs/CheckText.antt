@@ -4,11 +4,11 @@ use Rattle.std.specs.Fmt.{decimal}
 use Rattle.std.specs.Io.KnownBytes.{Appends, Keeps}
 use Rattle.plant.specs.PlantValue.{ResourceValue, PlantValue}
 use Rattle.task_codes.specs.CodeValue.{CodeValue}
-use Rattle.program_bodies.specs.Faults.{IsPlantFault, IsOfBody, IsOfDeclaredName}
+use Rattle.plant.specs.Faults.{IsPlantFault, IsOfBody, IsOfDeclaredName}
 use Rattle.plant.specs.PlantText.{IsPlantText, IsNoPlant, IsNotOfGrammar, IsBodyFaultIn, IsNameFaultIn}
-use Rattle.program_bodies.specs.declared.plant_fault.PlantFault.{PlantFault}
-use Rattle.program_bodies.specs.declared.plant_fault.PlantFaultKind.TheVariants as plant
-use Rattle.text_writer.specs.Sending.{SendsLess}
+use Rattle.plant.specs.declared.plant_fault.PlantFault.{PlantFault}
+use Rattle.plant.specs.declared.plant_fault.PlantFaultKind.TheVariants as plant
+use Rattle.text_lines.specs.Sending.{SendsLess}
 use Rattle.text_commands.specs.declared.text_command_fault.TextCommandFault.{TextCommandFault}
 use Rattle.text_commands.specs.declared.text_command_fault.TextCommandFault.TheVariants.{Text, Word, Write, Memory}
 use Rattle.text_commands.specs.declared.text_fault.TextFault.{TextFault}

@@ -18,12 +18,12 @@ use Rattle.declared_names.specs.declared.declarations.Declaration.{Declaration}
 use Rattle.scan_steps.specs.declared.slot.Slot.{Slot}
 use Rattle.scan_steps.specs.declared.slot.Slot.TheVariants.{Variable}
 use Rattle.scan_steps.specs.First.{slot_first}
-use Rattle.variable_binding.specs.Guess.{AreGuessed}
-use Rattle.variable_binding.specs.Binding.{CanBind}
+use Rattle.name_faults.specs.Guess.{AreGuessed}
+use Rattle.name_faults.specs.Binding.{CanBind}
 use Rattle.power_flow.specs.Scan.{ScanMeaning}
 use Rattle.power_flow.specs.LadderValue.{diagrams as diagrams_of}
-use Rattle.variable_binding.specs.Findings.{IsFirstBindFault}
-use Rattle.variable_binding.specs.declared.bind_fault.BindFault.{BindFault}
+use Rattle.name_faults.specs.Findings.{IsFirstBindFault}
+use Rattle.name_faults.specs.declared.bind_fault.BindFault.{BindFault}
 use Rattle.text_commands.specs.declared.word_fault.WordFault.{WordFault}
 use Rattle.text_commands.specs.declared.text_command_fault.TextCommandFault.{TextCommandFault}
 use Rattle.text_commands.specs.declared.text_command_fault.TextCommandFault.TheVariants.{Text, Word, Write, Memory}
@@ -31,9 +31,9 @@ use Rattle.text_commands.specs.declared.text_fault.TextFault.{TextFault}
 use Rattle.text_commands.specs.declared.text_fault.TextFault.TheVariants.{Draw, Graph, Bind, Plant, TooLong}
 use Rattle.text_commands.specs.Rows.{RowValue, SpellRows, SpellNoRows, IsFirstRefused, scans_of}
 use Rattle.text_commands.specs.Lines.{line_of}
-use Rattle.text_writer.specs.Sending.{Stops}
-use Rattle.text_writer.specs.declared.send_fault.SendFault.{SendFault}
-use Rattle.text_writer.specs.declared.send_fault.SendFault.TheVariants as sending
+use Rattle.text_lines.specs.Sending.{Stops}
+use Rattle.text_lines.specs.declared.send_fault.SendFault.{SendFault}
+use Rattle.text_lines.specs.declared.send_fault.SendFault.TheVariants as sending
 
 -- the text of a drawing is read as this picture
 pub record IsPictureOf (text : List ℕ) (drawn : Picture) : Type 0 where

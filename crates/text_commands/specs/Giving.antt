@@ -1,7 +1,7 @@
 -- How a refusal by a lower crate becomes a fault of a command.
 use Rattle.std.specs.Prelude.{◌≡◌, ◌⊎◌}
-use Rattle.text_writer.specs.declared.send_fault.SendFault.{SendFault}
-use Rattle.text_writer.specs.declared.send_fault.SendFault.TheVariants as sending
+use Rattle.text_lines.specs.declared.send_fault.SendFault.{SendFault}
+use Rattle.text_lines.specs.declared.send_fault.SendFault.TheVariants as sending
 use Rattle.text_commands.specs.declared.text_command_fault.TextCommandFault.{TextCommandFault}
 use Rattle.text_commands.specs.declared.text_command_fault.TextCommandFault.TheVariants.{Text, Write, Memory}
 use Rattle.text_commands.specs.declared.text_fault.TextFault.{TextFault}

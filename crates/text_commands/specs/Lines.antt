@@ -5,7 +5,7 @@ use Rattle.std_blocks.specs.declared.value.Value.{Value}
 use Rattle.declared_names.specs.declared.declarations.Declaration.{Declaration}
 use Rattle.scan_steps.specs.declared.slot.Slot.{Slot}
 use Rattle.scan_steps.specs.declared.slot.Slot.TheVariants.{Variable, Block}
-use Rattle.line_parts.specs.LineParts.{value_text}
+use Rattle.text_lines.specs.LineParts.{value_text}
 
 -- NAME=VALUE
 abbrev pub item_text : List ℕ → Value → List ℕ

@@ -3,15 +3,15 @@ use Rattle.std.specs.Prelude.{ℕ, ◌<◌, ◌≤◌, ◌++◌, ◌⊎◌, List
 use Rattle.std.specs.List.{flat_map}
 use Rattle.std.specs.Fmt.{decimal}
 use Rattle.std.specs.Io.KnownBytes.{Appends, Keeps}
-use Rattle.due_list.specs.declared.due.Due.{Due}
+use Rattle.task_codes.specs.declared.due.Due.{Due}
 use Rattle.plant.specs.PlantValue.{PlantValue}
 use Rattle.plant.specs.PlantText.{IsPlantText}
 use Rattle.plant.specs.Plan.{IsPlan}
-use Rattle.line_parts.specs.LineParts.{task_text}
+use Rattle.text_lines.specs.LineParts.{task_text}
 use Rattle.text_commands.specs.CheckText.{IsRefusal}
-use Rattle.text_writer.specs.Sending.{Stops}
-use Rattle.text_writer.specs.declared.send_fault.SendFault.{SendFault}
-use Rattle.text_writer.specs.declared.send_fault.SendFault.TheVariants as sending
+use Rattle.text_lines.specs.Sending.{Stops}
+use Rattle.text_lines.specs.declared.send_fault.SendFault.{SendFault}
+use Rattle.text_lines.specs.declared.send_fault.SendFault.TheVariants as sending
 use Rattle.text_commands.specs.declared.text_command_fault.TextCommandFault.{TextCommandFault}
 use Rattle.text_commands.specs.declared.text_command_fault.TextCommandFault.TheVariants.{Text, Word, Write, Memory}
 use Rattle.text_commands.specs.declared.text_fault.TextFault.{TextFault}

@@ -8,9 +8,9 @@ use Rattle.std_blocks.specs.declared.value.Value.TheVariants.{Bool as BoolValue,
 use Rattle.declared_names.specs.declared.declarations.Declaration.{Declaration}
 use Rattle.scan_steps.specs.declared.slot.Slot.{Slot}
 use Rattle.scan_steps.specs.Slots.{variable_at}
-use Rattle.text_writer.specs.Sending.{Stops}
-use Rattle.text_writer.specs.declared.send_fault.SendFault.{SendFault}
-use Rattle.text_writer.specs.declared.send_fault.SendFault.TheVariants as sending
+use Rattle.text_lines.specs.Sending.{Stops}
+use Rattle.text_lines.specs.declared.send_fault.SendFault.{SendFault}
+use Rattle.text_lines.specs.declared.send_fault.SendFault.TheVariants as sending
 use Rattle.text_commands.specs.declared.word_fault.WordFault.{WordFault}
 use Rattle.text_commands.specs.declared.text_command_fault.TextCommandFault.{TextCommandFault}
 use Rattle.text_commands.specs.declared.text_command_fault.TextCommandFault.TheVariants.{Text, Word, Write, Memory}

@@ -1,16 +1,16 @@
 ghost use Rattle.std.specs.Prelude.{◌≡◌, OnOk, IfOk, None, [], slice_get, string_bytes};
 ghost use Rattle.std.specs.List.{flat_map};
 ghost use Rattle.std.specs.Option.{option_map_or, option_to_list};
-ghost use Rattle.text_writer.specs.Growing.{GrowsBy};
+ghost use Rattle.text_lines.specs.Growing.{GrowsBy};
 ghost use Rattle.text_commands.specs.Lines.{line_of};
 ghost use Rattle.text_commands.specs.Chart.{change_text, chart_line, chart_of, is_same_value, is_variable, name_width, padded, sign_of, signs_of, values_at, width_of};
 ghost use Rattle.text_commands.specs.Steps.Testing.{last_of, slots_of};
 
 use crate::line::state_line;
-use line_parts::push_value;
 use power_flow::{Declarations, Declared, State};
 use std::alloc::{AllocError, Global};
 use std_blocks::Value;
+use text_lines::push_value;
 
 /// Whether what is declared is a variable, and no instance of a block.
 pub(crate) fn is_variable(declared: Declared) -> bool

@@ -1,6 +1,6 @@
 ghost use Rattle.std.specs.Prelude.{◌≡◌, ◌<◌, ◌^◌, OnOk, IfOk, IfErr, string_bytes};
 ghost use Rattle.plant.specs.PlantText.{IsPlantText};
-ghost use Rattle.text_writer.specs.Growing.{GrowsBy};
+ghost use Rattle.text_lines.specs.Growing.{GrowsBy};
 ghost use Rattle.text_commands.specs.CheckText.{count_line, check_lines, GivesNoPlant, WritesCheck, ExplainsCheck};
 ghost use Rattle.text_commands.specs.Steps.Counting.{AreCounts};
 
@@ -10,7 +10,7 @@ use plant::Plant;
 use std::alloc::{AllocError, Global};
 use std::fmt::Write as _;
 use std::io::Write;
-use text_writer::write_text;
+use text_lines::write_text;
 
 /// Reads the text of a plant.
 pub fn read_plant(alloc: Global, text: &str) -> Result<Plant, TextCommandFault>

@@ -15,7 +15,7 @@ use power_flow::{Declarations, Guess, Ladder, State};
 use std::alloc::Global;
 use std::io::Write;
 use std_blocks::Value;
-use text_writer::{SendFault, write_text};
+use text_lines::{SendFault, write_text};
 
 /// The ladder of a drawing, its names declared by their use.
 pub fn read_ladder(alloc: Global, drawing: &str) -> Result<Ladder, TextCommandFault>

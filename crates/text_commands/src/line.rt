@@ -2,10 +2,10 @@ ghost use Rattle.std.specs.Prelude.{◌≡◌, ◌+◌, ◌<◌, ◌++◌, OnOk,
 ghost use Rattle.text_commands.specs.Lines.{item_text, line_of};
 ghost use Rattle.text_commands.specs.Steps.Joining.{ready, IsLineTo};
 
-use line_parts::push_value;
 use power_flow::{Declarations, State};
 use std::alloc::{AllocError, Global};
 use std_blocks::Value;
+use text_lines::push_value;
 
 /// Makes a line ready for the next item.
 fn push_blank(line: &mut String) -> Result<(), AllocError>

@@ -1,6 +1,6 @@
 ghost use Rattle.std.specs.Prelude.{◌≡◌, ◌-◌, OnOk, IfOk, drop, false, length, map, min, slice_get, slice_set, unwrap_or};
 ghost use Rattle.words.specs.Lines.{without_last};
-ghost use Rattle.text_writer.specs.Growing.{GrowsBy};
+ghost use Rattle.text_lines.specs.Growing.{GrowsBy};
 ghost use Rattle.text_commands.specs.declared.live_drawing.Sign.TheVariants.{Drawn};
 ghost use Rattle.text_commands.specs.LiveDrawing.{drawn_lines, line_text, live_drawing, live_lines, live_text, sign_text, with_element, with_power, with_sign};
 

@@ -1,18 +1,17 @@
 ghost use Rattle.std.specs.Prelude.{◌≤◌, length, OnOk, IfOk, IfErr};
 ghost use Rattle.std.specs.Io.KnownBytes.{Appends};
 ghost use Rattle.plant.specs.Plan.{IsPlan};
-ghost use Rattle.text_writer.specs.Growing.{GrowsBy};
-ghost use Rattle.text_writer.specs.Sending.{Stops};
+ghost use Rattle.text_lines.specs.Growing.{GrowsBy};
+ghost use Rattle.text_lines.specs.Sending.{Stops};
 ghost use Rattle.text_commands.specs.PlanText.{due_line, plan_lines, RefusesPlanOf, WritesPlan, ExplainsPlan};
 
 use crate::check_command::read_plant;
 use crate::text_command_fault::TextCommandFault;
-use line_parts::push_task;
 use plant::{Due, Plant, plan};
 use std::alloc::{AllocError, Global};
 use std::fmt::Write as _;
 use std::io::Write;
-use text_writer::{SendFault, send_full, write_text};
+use text_lines::{SendFault, push_task, send_full, write_text};
 
 fn push_due(lines: &mut String, plant: &Plant, due: Due) -> Result<(), AllocError>
     ensures { OnOk result (GrowsBy lines.old lines.new (due_line plant.now due)) }

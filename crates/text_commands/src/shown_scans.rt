@@ -11,7 +11,7 @@ use crate::rows::scan_count;
 use power_flow::{Ladder, State};
 use std::alloc::{AllocError, Global};
 use std::io::Write;
-use text_writer::{SendFault, write_text};
+use text_lines::{SendFault, write_text};
 
 /// Makes a scan; its line, and the drawing with what has power in it.
 fn shown_scan(

@@ -18,7 +18,7 @@ use crate::text_command_fault::TextCommandFault;
 use power_flow::{Ladder, State};
 use std::alloc::{AllocError, Global};
 use std::io::Write;
-use text_writer::write_text;
+use text_lines::write_text;
 
 /// The states after each of so many scans.
 fn trace_scans(

@@ -7,7 +7,7 @@ use network::{GraphFault, GraphFaultKind};
 use plant::{PlanFault, PlantFault, PlantFaultKind};
 use power_flow::{BindFault, BindKind};
 use std::alloc::{AllocError, AllocFailed};
-use text_writer::{SendFault, WriteFault};
+use text_lines::{SendFault, WriteFault};
 use thiserror::Error;
 
 /// Why a command that needs one text ends without its answer.
@@ -102,7 +102,7 @@ impl From<GraphFault> for TextCommandFault {
 
 impl From<BindFault> for TextCommandFault {
     ghost use Rattle.text_commands.specs.Giving.{GivenFor};
-    ghost use Rattle.variable_binding.specs.declared.bind_fault.BindKind.TheVariants as bind;
+    ghost use Rattle.name_faults.specs.declared.bind_fault.BindKind.TheVariants as bind;
     ghost use Rattle.text_commands.specs.declared.text_fault.TextFault.TheVariants.{Bind};
 
     ghost from_gives = { λ found fault. GivenFor (found.kind ≡ bind.Memory) (Bind found) fault };
@@ -117,7 +117,7 @@ impl From<BindFault> for TextCommandFault {
 
 impl From<PlantFault> for TextCommandFault {
     ghost use Rattle.text_commands.specs.Giving.{GivenFor};
-    ghost use Rattle.program_bodies.specs.declared.plant_fault.PlantFaultKind.TheVariants as plant;
+    ghost use Rattle.plant.specs.declared.plant_fault.PlantFaultKind.TheVariants as plant;
     ghost use Rattle.text_commands.specs.declared.text_fault.TextFault.TheVariants.{Plant};
 
     ghost from_gives = { λ found fault. GivenFor (found.kind ≡ plant.Memory) (Plant found) fault };
@@ -132,7 +132,7 @@ impl From<PlantFault> for TextCommandFault {
 
 impl From<PlanFault> for TextCommandFault {
     ghost use Rattle.text_commands.specs.Giving.{GivenFor};
-    ghost use Rattle.due_list.specs.declared.plan_fault.PlanFault.TheVariants as plan;
+    ghost use Rattle.task_codes.specs.declared.plan_fault.PlanFault.TheVariants as plan;
     ghost use Rattle.text_commands.specs.declared.text_fault.TextFault.TheVariants.{TooLong};
 
     ghost from_gives = { λ found fault. GivenFor (found ≡ plan.Memory) TooLong fault };

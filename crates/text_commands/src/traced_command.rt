@@ -15,7 +15,7 @@ use crate::tracks::state_texts;
 use power_flow::Ladder;
 use std::alloc::{AllocError, Global};
 use std::io::Write;
-use text_writer::write_text;
+use text_lines::write_text;
 use traces::{TraceTexts, Wanted};
 
 /// The text of all scans of a test, the first difference, if there is one, and the texts of their trace.

@@ -5,7 +5,7 @@ use Rattle.std.specs.Option.{option_map_or}
 use Rattle.std.specs.Fmt.{decimal}
 use Rattle.std_blocks.specs.declared.value.Value.{Value}
 use Rattle.std_blocks.specs.declared.value.Value.TheVariants.{Bool as BoolValue, Int as IntValue, Time as TimeValue}
-use Rattle.line_parts.specs.LineParts.{value_text}
+use Rattle.text_lines.specs.LineParts.{value_text}
 use Rattle.traces.specs.declared.scale.Scale.{Scale}
 use Rattle.traces.specs.declared.segments.Segment.{Segment}
 use Rattle.traces.specs.Tracks.{ScopeValue, TrackValue}

@@ -4,4 +4,7 @@ pub mod Segments
 pub mod Escaped
 pub mod Diagram
 pub mod Wanted
+pub mod Outputs
+pub mod Moments
+pub mod Texts
 pub mod Steps

@@ -1,7 +1,7 @@
 ghost use Rattle.std.specs.Prelude.{◌≡◌, ◌<◌, ◌^◌, [], IfOk, OnOk, length, slice_get, string_bytes};
 ghost use Rattle.std.specs.List.{flat_map};
 ghost use Rattle.std.specs.Option.{option_map_or};
-ghost use Rattle.text_writer.specs.Growing.{GrowsBy};
+ghost use Rattle.text_lines.specs.Growing.{GrowsBy};
 ghost use Rattle.traces.specs.Diagram.{diagram_of, marks, row_text, rows_of, segment_text};
 
 use crate::diagram_parts::{push_head, push_mark_at, push_row_head, push_segment, y_of};

@@ -1,4 +1,4 @@
-pub mod Inputs
+pub mod FreeInputs
 pub mod RowNumbers
 pub mod SetInputs
 pub mod Leading
@@ -8,3 +8,11 @@ pub mod Answering
 pub mod Exploring
 pub mod Counting
 pub mod Chaining
+pub mod Storing
+pub mod Marking
+pub mod Reading
+pub mod Wording
+pub mod Telling
+pub mod Refusing
+pub mod Joining
+pub mod Asking

@@ -1,14 +1,31 @@
-//! What can never happen, whatever a ladder's inputs do: its states, searched breadth first.
+//! What can never happen, whatever a ladder's inputs do: its states, searched breadth first; and the command that tells
+//! it of a drawing, `verify`.
 #![tactic(auto)]
 
 mod claim;
+mod claims;
+mod fault_from;
+mod held;
+mod inputs;
 mod kept;
+mod question;
 mod row;
+mod run_lines;
 mod search;
 mod setup;
+mod stored;
+mod summary;
 mod verdict;
+mod verdict_lines;
+mod verdict_words;
+mod verify_command;
+mod verify_fault;
 
+pub use question::Question;
 pub use row::Row;
 pub use search::verify;
 pub use setup::{Setting, Setup};
+pub use summary::Summary;
 pub use verdict::{Outcome, Verdict};
+pub use verify_command::verify_text;
+pub use verify_fault::{ClaimFault, ClaimFaultKind, HeldFault, HeldFaultKind, VerifyFault};

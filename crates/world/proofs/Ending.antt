@@ -14,9 +14,9 @@ use Rattle.std.proofs.lemmas.Option.{slice_get-map, slice_get_read}
 use Rattle.plant.specs.PlantValue.{PlantValue}
 use Rattle.words.specs.Lines.{without_last, lines_of}
 use Rattle.evaluation.specs.InputTexts.{words_of}
-use Rattle.exchange.specs.History.{Setting, history_of}
-use Rattle.exchange.specs.World.{WorldValue}
-use Rattle.exchange.specs.declared.event.Event.{Event}
+use Rattle.world.specs.History.{Setting, history_of}
+use Rattle.world.specs.World.{WorldValue}
+use Rattle.world.specs.declared.event.Event.{Event}
 use Rattle.world.specs.declared.line_fault.LineFault.{LineFault}
 use Rattle.world.specs.declared.line_fault.LineFault.TheVariants.{Syntax, Write, Memory}
 use Rattle.world.specs.ScheduleText.{schedule_lines, is_idle, SpellsEvent, IsBadLine, Spell}

@@ -1,3 +1,8 @@
+pub mod Histories
+pub mod Opening
+pub mod Worlds
+pub mod Consistency
+pub mod Schedules
 pub mod ScheduleWords
 pub mod ScheduleLists
 pub mod ScheduleReading

@@ -5,7 +5,7 @@ use Rattle.std.specs.List.{slice_split, AllByRecursion}
 use Rattle.std.proofs.lemmas.List.{get_or-append-add}
 use Rattle.std.proofs.lemmas.List.Splits.{slice_split_none, slice_split_at}
 use Rattle.words.specs.Lines.{lines_of}
-use Rattle.line_reader.specs.Lines.{HasNoFeed}
+use Rattle.text_lines.specs.Lines.{HasNoFeed}
 use Rattle.world.proofs.Ending.{with_feed}
 
 -- lines, each with a line feed behind it

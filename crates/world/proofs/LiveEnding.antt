@@ -10,9 +10,9 @@ use Rattle.std.proofs.lemmas.Option.{slice_get-map}
 use Rattle.lists.proofs.Places.{push_here}
 use Rattle.plant.specs.PlantValue.{PlantValue}
 use Rattle.words.specs.Lines.{lines_of}
-use Rattle.exchange.specs.History.{Setting, history_of}
-use Rattle.exchange.specs.World.{WorldValue}
-use Rattle.line_reader.specs.Lines.{HasNoFeed}
+use Rattle.world.specs.History.{Setting, history_of}
+use Rattle.world.specs.World.{WorldValue}
+use Rattle.text_lines.specs.Lines.{HasNoFeed}
 use Rattle.world.specs.declared.live_fault.LiveFault.{LiveFault}
 use Rattle.world.specs.declared.live_fault.LiveFault.TheVariants.{Syntax, TooLong, Read, Write, Memory}
 use Rattle.world.specs.ScheduleText.{schedule_lines}

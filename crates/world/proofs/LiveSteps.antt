@@ -2,9 +2,9 @@
 use Rattle.std.proofs.Common.{◌≡◌, ◌≢◌, inl, inr, ℕ, List, [], ◌∷◌, ◌++◌, length, Option, refl, arith}
 use Rattle.std.specs.Io.KnownBytes.{Keeps}
 use Rattle.std.proofs.KnownBytes.{Keeps-refl, Keeps-trans}
-use Rattle.exchange.specs.World.{WorldValue}
-use Rattle.line_reader.specs.Lines.{Gives}
-use Rattle.line_reader.specs.declared.lines.Given.TheVariants as gave
+use Rattle.world.specs.World.{WorldValue}
+use Rattle.text_lines.specs.Lines.{Gives}
+use Rattle.text_lines.specs.declared.lines.Given.TheVariants as gave
 use Rattle.world.specs.declared.live_fault.LiveFault.{LiveFault}
 use Rattle.world.specs.declared.live_fault.LiveFault.TheVariants.{Syntax, TooLong, Read, Write, Memory}
 use Rattle.world.specs.Steps.Simulating.{HasDone}

@@ -8,14 +8,14 @@ use Rattle.std.proofs.lemmas.Option.{slice_get-map, same_Some}
 use Rattle.lists.proofs.Places.{somes_same}
 use Rattle.words.specs.Chars.{same_word, first_that}
 use Rattle.words.specs.Numbers.{number_up_to}
-use Rattle.due_list.specs.declared.task_ref.TaskRef.{TaskRef}
+use Rattle.task_codes.specs.declared.task_ref.TaskRef.{TaskRef}
 use Rattle.plant.specs.PlantValue.{PlantValue}
 use Rattle.evaluation.specs.declared.field_input.FieldInput.{FieldInput}
 use Rattle.evaluation.specs.declared.input_fault.InputFault.{InputFault}
 use Rattle.evaluation.specs.declared.input_fault.InputFault.TheVariants as input
 use Rattle.evaluation.specs.InputTexts.{input_of, AreInputs, AreApart, HasBadWord, HasAddressTwice, IsFaultOfWords}
-use Rattle.exchange.specs.declared.event.Event.{Event}
-use Rattle.exchange.specs.declared.event.Event.TheVariants.{Evaluate, Deliver, Restart, Hear}
+use Rattle.world.specs.declared.event.Event.{Event}
+use Rattle.world.specs.declared.event.Event.TheVariants.{Evaluate, Deliver, Restart, Hear}
 use Rattle.world.specs.declared.read_line.Keyword.{Keyword}
 use Rattle.world.specs.declared.read_line.Keyword.TheVariants as key
 use Rattle.world.specs.ScheduleText.{IsResourceWord, IsTaskWord, SpellsEvaluate, SpellsDeliver, SpellsRestart, SpellsHear, SpellsEvent}

@@ -7,7 +7,7 @@ use Rattle.std.proofs.lemmas.List.{take-append-drop}
 use Rattle.std.proofs.Math.Seq.{take-append_seam, drop-append-add}
 use Rattle.std.proofs.lemmas.List.Quantifiers.{position-Some}
 use Rattle.words.specs.Chars.{same_word, is_letter_or_digit, is_rest, is_identifier, is_plain_name}
-use Rattle.due_list.specs.declared.task_ref.TaskRef.{TaskRef}
+use Rattle.task_codes.specs.declared.task_ref.TaskRef.{TaskRef}
 use Rattle.plant.specs.PlantValue.{PlantValue, ResourceValue}
 use Rattle.world.specs.ScheduleText.{resource_named, task_in, IsResourceWord, IsTaskWord}
 

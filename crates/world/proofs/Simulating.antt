@@ -11,20 +11,20 @@ use Rattle.std.proofs.lemmas.List.Concat.{flat_map-append}
 use Rattle.std.proofs.lemmas.List.Elements.{filter-append}
 use Rattle.std.proofs.lemmas.Option.{slice_get_within, same_Some}
 use Rattle.lists.proofs.Places.{push_here}
-use Rattle.due_list.specs.declared.task_ref.TaskRef.{TaskRef}
+use Rattle.task_codes.specs.declared.task_ref.TaskRef.{TaskRef}
 use Rattle.plant.specs.PlantValue.{PlantValue}
 use Rattle.evaluation.specs.Meaning.{Evaluated}
 use Rattle.evaluation.specs.Heard.{is_addressed}
-use Rattle.message_core.specs.declared.accepted.Accepted.{Accepted}
-use Rattle.message_core.specs.declared.accepted.Accepted.TheVariants.{Taken, Old, Unused, Stray}
-use Rattle.exchange.specs.declared.event.Event.{Event}
-use Rattle.exchange.specs.declared.event.Event.TheVariants.{Evaluate, Deliver, Restart, Hear}
-use Rattle.exchange.specs.declared.world_fault.WorldFault.{WorldFault}
-use Rattle.exchange.specs.declared.world_fault.WorldFault.TheVariants.{NoSuchResource, NoSuchTask, NoSuchMessage, NumbersSpent, IncarnationsSpent, Memory, NeverHeld}
-use Rattle.exchange.specs.History.{Setting, history_of, after_events, is_lawful, incarnation_of, heard_by, number_of, made_count}
-use Rattle.exchange.specs.Run.{IsLog, latest}
-use Rattle.exchange.specs.World.{WorldValue}
-use Rattle.exchange.specs.Step.{history_at, IsCause, Answers}
+use Rattle.exchange_core.specs.declared.accepted.Accepted.{Accepted}
+use Rattle.exchange_core.specs.declared.accepted.Accepted.TheVariants.{Taken, Old, Unused, Stray}
+use Rattle.world.specs.declared.event.Event.{Event}
+use Rattle.world.specs.declared.event.Event.TheVariants.{Evaluate, Deliver, Restart, Hear}
+use Rattle.world.specs.declared.world_fault.WorldFault.{WorldFault}
+use Rattle.world.specs.declared.world_fault.WorldFault.TheVariants.{NoSuchResource, NoSuchTask, NoSuchMessage, NumbersSpent, IncarnationsSpent, Memory, NeverHeld}
+use Rattle.world.specs.History.{Setting, history_of, after_events, is_lawful, incarnation_of, heard_by, number_of, made_count}
+use Rattle.world.specs.Run.{IsLog, latest}
+use Rattle.world.specs.World.{WorldValue}
+use Rattle.world.specs.Step.{history_at, IsCause, Answers}
 use Rattle.world.specs.RunText.{IsDoneLine, TellsEvent, IsLineAfter, IsRunText, restart_line, hear_line}
 use Rattle.world.specs.ScheduleText.{is_idle, SpellsEvent, SpellEvents, Spell}
 use Rattle.world.specs.Steps.Telling.{IsTold}

@@ -4,16 +4,16 @@ use Rattle.std.specs.Prelude.{reverse, if◌then◌else◌}
 use Rattle.std.proofs.lemmas.List.{reverse-append}
 use Rattle.lists.proofs.Places.{push_here}
 use Rattle.evaluation.specs.Meaning.{Evaluated}
-use Rattle.exchange.specs.declared.event.Event.{Event}
-use Rattle.exchange.specs.declared.event.Event.TheVariants.{Evaluate, Deliver, Restart, Hear}
-use Rattle.exchange.specs.declared.done.Done.{Done}
-use Rattle.exchange.specs.declared.done.Done.TheVariants.{Evaluated as MadeOne, Delivered, Restarted, Heard}
-use Rattle.exchange.specs.declared.world_fault.WorldFault.{WorldFault}
-use Rattle.exchange.specs.declared.world_fault.WorldFault.TheVariants.{Memory}
-use Rattle.exchange.specs.History.{Setting, history_of, after_events, is_lawful, incarnation_of}
-use Rattle.exchange.specs.Run.{IsRun, IsLog}
-use Rattle.exchange.specs.World.{WorldValue}
-use Rattle.exchange.specs.Step.{history_at, IsDone, IsStep, IsCause}
+use Rattle.world.specs.declared.event.Event.{Event}
+use Rattle.world.specs.declared.event.Event.TheVariants.{Evaluate, Deliver, Restart, Hear}
+use Rattle.world.specs.declared.done.Done.{Done}
+use Rattle.world.specs.declared.done.Done.TheVariants.{Evaluated as MadeOne, Delivered, Restarted, Heard}
+use Rattle.world.specs.declared.world_fault.WorldFault.{WorldFault}
+use Rattle.world.specs.declared.world_fault.WorldFault.TheVariants.{Memory}
+use Rattle.world.specs.History.{Setting, history_of, after_events, is_lawful, incarnation_of}
+use Rattle.world.specs.Run.{IsRun, IsLog}
+use Rattle.world.specs.World.{WorldValue}
+use Rattle.world.specs.Step.{history_at, IsDone, IsStep, IsCause}
 use Rattle.world.specs.RunLines.{evaluation_line}
 use Rattle.world.specs.RunText.{TellsEvent, refused_line, delivery_line, restart_line, hear_line}
 use Rattle.world.specs.Steps.Telling.{made_line, done_line, IsTold}

@@ -3,7 +3,7 @@ use Rattle.std.specs.Prelude.{◌≡◌, ℕ, ◌+◌, ◌++◌, ◌⊎◌, List
 use Rattle.std.specs.Io.KnownBytes.{Appends, Consumes, IsAtEnd}
 use Rattle.words.specs.Lines.{lines_of}
 use Rattle.plant.specs.PlantValue.{PlantValue}
-use Rattle.line_reader.specs.Lines.{HasNoFeed}
+use Rattle.text_lines.specs.Lines.{HasNoFeed}
 use Rattle.world.specs.declared.live_fault.LiveFault.{LiveFault}
 use Rattle.world.specs.declared.live_fault.LiveFault.TheVariants.{Syntax, TooLong, Read, Write, Memory}
 use Rattle.world.specs.declared.simulation.Simulated.{Simulated}

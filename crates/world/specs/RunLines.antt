@@ -2,8 +2,8 @@
 use Rattle.std.specs.Prelude.{ℕ, ◌++◌, List, codes}
 use Rattle.std.specs.Fmt.{decimal}
 use Rattle.plant.specs.PlantValue.{PlantValue}
-use Rattle.line_parts.specs.LineParts.{task_text}
-use Rattle.line_parts.specs.Lists.{takes_text, gives_text}
+use Rattle.text_lines.specs.LineParts.{task_text}
+use Rattle.text_lines.specs.Lists.{takes_text, gives_text}
 use Rattle.evaluation.specs.declared.name.Name.{Name}
 use Rattle.evaluation.specs.Meaning.{Evaluated}
 

@@ -4,17 +4,17 @@ use Rattle.std.specs.List.{flat_map}
 use Rattle.std.specs.Fmt.{decimal}
 use Rattle.plant.specs.PlantValue.{PlantValue}
 use Rattle.evaluation.specs.Meaning.{Evaluated}
-use Rattle.message_core.specs.declared.accepted.Accepted.{Accepted}
-use Rattle.message_core.specs.declared.accepted.Accepted.TheVariants.{Taken, Old, Unused, Stray}
-use Rattle.exchange.specs.declared.event.Event.{Event}
-use Rattle.exchange.specs.declared.event.Event.TheVariants.{Evaluate, Deliver, Restart, Hear}
-use Rattle.exchange.specs.declared.world_fault.WorldFault.{WorldFault}
-use Rattle.exchange.specs.declared.world_fault.WorldFault.TheVariants.{NoSuchResource, NoSuchTask, NoSuchMessage, NumbersSpent, IncarnationsSpent, Memory, NeverHeld}
-use Rattle.exchange.specs.History.{Setting, history_of, is_lawful, incarnation_of}
-use Rattle.exchange.specs.Run.{IsRun}
-use Rattle.exchange.specs.World.{WorldValue}
-use Rattle.exchange.specs.Step.{IsCause, IsDelivered, is_newer}
-use Rattle.line_parts.specs.LineParts.{resource_text}
+use Rattle.exchange_core.specs.declared.accepted.Accepted.{Accepted}
+use Rattle.exchange_core.specs.declared.accepted.Accepted.TheVariants.{Taken, Old, Unused, Stray}
+use Rattle.world.specs.declared.event.Event.{Event}
+use Rattle.world.specs.declared.event.Event.TheVariants.{Evaluate, Deliver, Restart, Hear}
+use Rattle.world.specs.declared.world_fault.WorldFault.{WorldFault}
+use Rattle.world.specs.declared.world_fault.WorldFault.TheVariants.{NoSuchResource, NoSuchTask, NoSuchMessage, NumbersSpent, IncarnationsSpent, Memory, NeverHeld}
+use Rattle.world.specs.History.{Setting, history_of, is_lawful, incarnation_of}
+use Rattle.world.specs.Run.{IsRun}
+use Rattle.world.specs.World.{WorldValue}
+use Rattle.world.specs.Step.{IsCause, IsDelivered, is_newer}
+use Rattle.text_lines.specs.LineParts.{resource_text}
 use Rattle.world.specs.RunLines.{evaluation_line}
 
 -- what a resource answers to a message

@@ -1,7 +1,7 @@
 -- What holds for every schedule.
 use Rattle.std.specs.Prelude.{◌≡◌, ℕ, List}
 use Rattle.plant.specs.PlantValue.{PlantValue}
-use Rattle.exchange.specs.declared.event.Event.{Event}
+use Rattle.world.specs.declared.event.Event.{Event}
 use Rattle.world.specs.ScheduleText.{IsSchedule}
 
 -- a text spells one list of events

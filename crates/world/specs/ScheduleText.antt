@@ -4,12 +4,12 @@ use Rattle.std.specs.List.{position_or_len}
 use Rattle.words.specs.Lines.{lines_of, without_last}
 use Rattle.words.specs.Chars.{same_word, is_plain_name}
 use Rattle.words.specs.Numbers.{number_up_to}
-use Rattle.due_list.specs.declared.task_ref.TaskRef.{TaskRef}
+use Rattle.task_codes.specs.declared.task_ref.TaskRef.{TaskRef}
 use Rattle.plant.specs.PlantValue.{PlantValue, ResourceValue, TaskValue, tasks_at}
 use Rattle.evaluation.specs.declared.field_input.FieldInput.{FieldInput}
 use Rattle.evaluation.specs.InputTexts.{words_of, AreInputs}
-use Rattle.exchange.specs.declared.event.Event.{Event}
-use Rattle.exchange.specs.declared.event.Event.TheVariants.{Evaluate, Deliver, Restart, Hear}
+use Rattle.world.specs.declared.event.Event.{Event}
+use Rattle.world.specs.declared.event.Event.TheVariants.{Evaluate, Deliver, Restart, Hear}
 
 -- the place of the resource of a name, in either case; without one the number of resources, where none stands
 abbrev pub resource_named : PlantValue → List ℕ → ℕ

@@ -2,8 +2,8 @@
 use Rattle.std.specs.Prelude.{◌≡◌, ℕ, ◌+◌, ◌<◌, List, Option, Some, length, take, replicate, slice_get}
 use Rattle.std.specs.Io.KnownBytes.{Appends}
 use Rattle.plant.specs.PlantValue.{PlantValue}
-use Rattle.exchange.specs.declared.event.Event.{Event}
-use Rattle.exchange.specs.History.{Setting, setting_over, history_of, initial_openings}
+use Rattle.world.specs.declared.event.Event.{Event}
+use Rattle.world.specs.History.{Setting, setting_over, history_of, initial_openings}
 use Rattle.world.specs.declared.simulation.Simulated.{Simulated}
 use Rattle.world.specs.declared.sim_fault.SimFault.{SimFault}
 use Rattle.world.specs.declared.sim_fault.SimFault.TheVariants.{Syntax, Write, Memory}

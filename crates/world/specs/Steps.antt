@@ -1,5 +1,7 @@
--- Steps of the proofs: one line of a schedule. Only contracts inside this crate cite them, so no reader has to believe
--- them.
+-- Steps of the proofs. Only contracts inside this crate cite them, so no reader has to believe them.
+pub mod Fresh
+pub mod Nodes
+pub mod Tables
 pub mod ReadingLines
 pub mod Telling
 pub mod Simulating

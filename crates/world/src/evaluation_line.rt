@@ -1,14 +1,14 @@
 //! The line that tells an evaluation.
 
 ghost use Rattle.std.specs.Prelude.{OnOk};
-ghost use Rattle.text_writer.specs.Growing.{GrowsBy};
+ghost use Rattle.text_lines.specs.Growing.{GrowsBy};
 ghost use Rattle.world.specs.RunLines.{name_text, evaluation_line};
 
 use evaluation::Evaluation;
-use line_parts::{push_gives, push_takes, push_task};
 use plant::Plant;
 use std::alloc::AllocError;
 use std::fmt::Write;
+use text_lines::{push_gives, push_takes, push_task};
 
 /// Writes which evaluation it is behind a line.
 fn push_name(

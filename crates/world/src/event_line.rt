@@ -2,18 +2,21 @@
 
 ghost use Rattle.std.specs.Prelude.{OnOk, string_bytes};
 ghost use Rattle.std.specs.Option.{option_map};
-ghost use Rattle.text_writer.specs.Growing.{GrowsBy};
+ghost use Rattle.text_lines.specs.Growing.{GrowsBy};
 ghost use Rattle.world.specs.RunText.{accepted_text, refusal_text, delivery_line, restart_line, hear_line, refused_line};
 ghost use Rattle.world.specs.Steps.Telling.{made_line, done_line, IsTold};
 
+use crate::done::Done;
 use crate::evaluation_line::push_evaluation;
+use crate::event::Event;
+use crate::plant_world::World;
+use crate::world_fault::WorldFault;
 use evaluation::Frame;
-use exchange::{Done, Event, World, WorldFault};
 use exchange_core::Accepted;
-use line_parts::push_resource;
 use plant::Plant;
 use std::alloc::{AllocError, Global};
 use std::fmt::Write;
+use text_lines::push_resource;
 
 /// Writes what a resource answers to a message behind a line.
 pub fn push_accepted(line: &mut String, accepted: Accepted) -> Result<(), AllocError>

@@ -1,6 +1,6 @@
 use evaluation::InputFault;
 use std::alloc::AllocError;
-use text_writer::WriteFault;
+use text_lines::WriteFault;
 
 /// Why a line isn't done.
 #[derive(Clone, Copy)]

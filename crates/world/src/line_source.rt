@@ -1,8 +1,8 @@
 ghost use Rattle.std.specs.Prelude.{ℕ, List, Option, IfOk, OnErr};
-ghost use Rattle.line_reader.specs.Lines.{Gives, TakesSome};
+ghost use Rattle.text_lines.specs.Lines.{Gives, TakesSome};
 
-use line_reader::{Given, ReadFault, next_line};
 use std::io::{Read, Write};
+use text_lines::{Given, ReadFault, next_line};
 
 /// What gives the lines of a schedule, one at a time. It may say when the next one is taken: only where `is_ready` holds
 /// of what it has left and of what was written. A reader gives each at any time.

@@ -11,11 +11,11 @@ use crate::lines::without_last;
 use crate::live_fault::LiveFault;
 use crate::simulation::{Simulated, Simulation, open};
 use evaluation::push_words;
-use line_reader::{Given, ReadFault};
 use plant::Plant;
 use std::alloc::Global;
 use std::io::{Read, Write};
 use std::sync::Arc;
+use text_lines::{Given, ReadFault};
 
 impl Simulation {
     /// Does a line that was read.

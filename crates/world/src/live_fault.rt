@@ -1,5 +1,5 @@
-use line_reader::ReadFault;
 use std::alloc::AllocError;
+use text_lines::ReadFault;
 use thiserror::Error;
 
 /// Why a schedule that is read line by line isn't done to its end.

@@ -6,10 +6,10 @@ ghost use Rattle.world.specs.declared.line_fault.LineFault.TheVariants.{Syntax, 
 ghost use Rattle.world.specs.ScheduleText.{SpellsEvaluate, SpellsDeliver, SpellsRestart, SpellsHear, SpellsEvent, SpellsNoEvent};
 ghost use Rattle.world.specs.Steps.ReadingLines.{texts, keyword_of, SpellsNoEvaluate};
 
+use crate::event::Event;
 use crate::line_fault::LineFault;
 use crate::names::{resource_of, task_of};
 use evaluation::Inputs;
-use exchange::Event;
 use plant::{Plant, TaskRef};
 use std::alloc::Global;
 use words::number_up_to;

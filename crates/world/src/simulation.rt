@@ -10,15 +10,16 @@ ghost use Rattle.world.specs.Steps.Simulating.{HasDone, HasStopped};
 use crate::event_line::tell;
 use crate::line_fault::LineFault;
 use crate::lines::{is_idle, without_last};
+use crate::openings::initial_openings;
+use crate::plant_world::World;
 use crate::read_line::read_event;
 use crate::sim_fault::SimFault;
 use evaluation::push_words;
-use exchange::{World, initial_openings};
 use plant::Plant;
 use std::alloc::{AllocError, Global};
 use std::io::Write;
 use std::sync::Arc;
-use text_writer::write_text;
+use text_lines::write_text;
 
 /// The first incarnations: 1 for each resource.
 fn ones(alloc: Global, resources: usize) -> Result<Vec<u32>, AllocError>

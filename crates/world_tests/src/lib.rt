@@ -1,4 +1,4 @@
-//! Tests of `exchange` and `world`, by their public calls alone. What the program shows of them, a case of `tests/sim` shows.
+//! Tests of `world`, by their public calls alone. What the program shows of them, a case of `tests/sim` shows.
 #![tactic(auto)]
 
 #[cfg(test)]

@@ -15,7 +15,7 @@ from crates import PROGRAM, crates_of
 
 FOLDERS = ("", "docs", "examples", "examples/machines", "tests", "bench", "wrong_bodies")
 # There is no call in the one, and nothing is promised of the other.
-PROMISE_NOTHING = {"lists", "progress"}
+PROMISE_NOTHING = {"lists"}
 LINK = re.compile(r"\]\(([^)\s]+)\)")
 told = []
 

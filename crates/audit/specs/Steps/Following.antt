@@ -6,14 +6,14 @@ use Rattle.evaluation.specs.declared.field_input.FieldInput.{FieldInput}
 use Rattle.evaluation.specs.declared.name.Name.{Name}
 use Rattle.evaluation.specs.Meaning.{Evaluated}
 use Rattle.evaluation.specs.Messages.{MessageValue}
-use Rattle.evaluation_book.specs.declared.book.misfit.Misfit.{Misfit}
-use Rattle.evaluation_book.specs.declared.book.misfit.Misfit.TheVariants.{Memory}
-use Rattle.evaluation_book.specs.Book.{BookValue, IsMisfit}
+use Rattle.book.specs.declared.book.misfit.Misfit.{Misfit}
+use Rattle.book.specs.declared.book.misfit.Misfit.TheVariants.{Memory}
+use Rattle.book.specs.Book.{BookValue, IsMisfit}
 use Rattle.exchange_core.specs.CoreValue.{CoreValue}
-use Rattle.node_journals.specs.Steps.Stations.{StationValue, PendingValue, fresh_station, IsNoted}
-use Rattle.journal_files.specs.declared.item.Item.{Item}
-use Rattle.journal_files.specs.declared.item.Item.TheVariants.{Start, Restart, Message, Hello, Evaluate, Faulty}
-use Rattle.journal_files.specs.declared.line.Line.{Line}
+use Rattle.node_reports.specs.Steps.Stations.{StationValue, PendingValue, fresh_station, IsNoted}
+use Rattle.audit.specs.declared.item.Item.{Item}
+use Rattle.audit.specs.declared.item.Item.TheVariants.{Start, Restart, Message, Hello, Evaluate, Faulty}
+use Rattle.audit.specs.declared.line.Line.{Line}
 use Rattle.audit.specs.declared.follower.Follower.{Follower}
 use Rattle.audit.specs.declared.needs.Need.{Need}
 use Rattle.audit.specs.declared.needs.Need.TheVariants.{Evaluation, Incarnation}

@@ -2,10 +2,10 @@
 use Rattle.std.specs.Prelude.{◌≡◌, ◌≢◌, ℕ, ◌+◌, ◌<◌, ◌++◌, List, [], All, Contains, Some, length, slice_get, slice_index}
 use Rattle.plant.specs.PlantValue.{PlantValue}
 use Rattle.evaluation.specs.Meaning.{Evaluated}
-use Rattle.evaluation_book.specs.Book.{BookValue}
-use Rattle.node_journals.specs.declared.journal.Journal.{Journal}
-use Rattle.node_journals.specs.Journals.{made, received, IsLawful}
-use Rattle.node_journals.specs.Steps.Stations.{StationValue, PendingValue}
+use Rattle.book.specs.Book.{BookValue}
+use Rattle.node_reports.specs.declared.journal.Journal.{Journal}
+use Rattle.node_reports.specs.Journals.{made, received, IsLawful}
+use Rattle.node_reports.specs.Steps.Stations.{StationValue, PendingValue}
 use Rattle.node_reports.specs.Reports.{entries_of}
 use Rattle.audit.specs.Lines.{zeros}
 use Rattle.audit.specs.Reasons.{present_of}

@@ -1,11 +1,11 @@
 -- The texts of a schedule that was done.
-use Rattle.command_line.specs.declared.request.SimRequest.{SimRequest}
-use Rattle.exchange.specs.Run.{IsRun}
+use Rattle.console.specs.declared.request.SimRequest.{SimRequest}
+use Rattle.world.specs.Run.{IsRun}
 use Rattle.world.specs.declared.simulation.Simulated.{Simulated}
 use Rattle.traces.specs.declared.texts.Wanted.{Wanted}
 use Rattle.traces.specs.declared.texts.TraceTexts.{TraceTexts}
-use Rattle.plant_traces.specs.Moments.{of_events}
-use Rattle.plant_traces.specs.Texts.{AreOutputTexts}
+use Rattle.traces.specs.Moments.{of_events}
+use Rattle.traces.specs.Texts.{AreOutputTexts}
 use Rattle.console.specs.Answers.{AreWantedFor}
 
 -- the texts for the files of a trace, by what stands when a schedule is done

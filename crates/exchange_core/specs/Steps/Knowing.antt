@@ -1,6 +1,6 @@
 -- Where the last evaluations stand.
-use Rattle.due_list.specs.declared.task_ref.TaskRef.{TaskRef}
-use Rattle.message_core.specs.Steps.Knowing as cells
+use Rattle.task_codes.specs.declared.task_ref.TaskRef.{TaskRef}
+use Rattle.exchange_core.specs.Steps.KnowingMessages as cells
 use Rattle.exchange_core.specs.Held.{Table}
 
 -- the table has a place for this task

@@ -1,15 +1,15 @@
 -- A node takes a line and answers it.
 use Rattle.std.specs.Prelude.{◌≡◌, ℕ, ◌<◌, ◌++◌, ◌⊎◌, Bool, true, false, List, [], Option, codes}
 use Rattle.std.specs.Io.KnownBytes.{Appends, Consumes, IsAtEnd, Keeps}
-use Rattle.text_writer.specs.Sending.{SendsPart}
-use Rattle.line_reader.specs.declared.read_fault.ReadFault.{ReadFault}
-use Rattle.line_reader.specs.declared.read_fault.ReadFault.TheVariants as reading
-use Rattle.node_lines.specs.declared.node_line.NodeLine.{NodeLine}
-use Rattle.node_lines.specs.Sends.{greetings}
-use Rattle.node_lines.specs.Answers.{risen_line}
-use Rattle.node_lines.specs.NodeJournal.{restart_note}
-use Rattle.node_cores.specs.NodeValue.{NodeValue}
-use Rattle.node_cores.specs.NodeSteps.{HasRisen}
+use Rattle.text_lines.specs.Sending.{SendsPart}
+use Rattle.text_lines.specs.declared.read_fault.ReadFault.{ReadFault}
+use Rattle.text_lines.specs.declared.read_fault.ReadFault.TheVariants as reading
+use Rattle.live_node.specs.declared.node_line.NodeLine.{NodeLine}
+use Rattle.live_node.specs.Sends.{greetings}
+use Rattle.live_node.specs.Answers.{risen_line}
+use Rattle.live_node.specs.NodeJournal.{restart_note}
+use Rattle.live_node.specs.NodeValue.{NodeValue}
+use Rattle.live_node.specs.NodeSteps.{HasRisen}
 use Rattle.live_node.specs.declared.live_stop.LiveStop.{LiveStop}
 use Rattle.live_node.specs.declared.live_stop.LiveStop.TheVariants.{Read, Write, Memory}
 use Rattle.live_node.specs.NodeAnswers.{Raising, AnswersAsked}

@@ -4,13 +4,13 @@ use Rattle.std.specs.List.{list_any}
 use Rattle.std.specs.List.Sorted.{IsStrictlyIncreasing}
 use Rattle.plant.specs.PlantValue.{PlantValue}
 use Rattle.evaluation.specs.Meaning.{Evaluated}
-use Rattle.node_journals.specs.declared.command.Command.{Command}
-use Rattle.node_journals.specs.declared.journal.Journal.{Journal}
-use Rattle.node_journals.specs.declared.cause.Cause.TheVariants.{Stopped}
-use Rattle.node_journals.specs.declared.node_fault.NodeFault.{NodeFault}
-use Rattle.node_journals.specs.declared.run_fault.RunFault.{RunFault}
-use Rattle.node_journals.specs.declared.run_fault.RunFault.TheVariants as run
-use Rattle.node_journals.specs.Journals.{made}
+use Rattle.node_reports.specs.declared.command.Command.{Command}
+use Rattle.node_reports.specs.declared.journal.Journal.{Journal}
+use Rattle.node_reports.specs.declared.cause.Cause.TheVariants.{Stopped}
+use Rattle.node_reports.specs.declared.node_fault.NodeFault.{NodeFault}
+use Rattle.node_reports.specs.declared.run_fault.RunFault.{RunFault}
+use Rattle.node_reports.specs.declared.run_fault.RunFault.TheVariants as run
+use Rattle.node_reports.specs.Journals.{made}
 use Rattle.node_reports.specs.Reports.{entries_of, is_restart_of, incarnations_of, IsUnobeyed, IsToldOf, AreTold, AreListed, may_stop, may_have_stopped, fault_tickets, first_of_ticket}
 
 -- a journal is that of the resource at a place, and begins in this place's incarnation

@@ -3,9 +3,9 @@ use Rattle.std.specs.Prelude.{◌≡◌, List, All}
 use Rattle.plant.specs.PlantValue.{PlantValue}
 use Rattle.evaluation.specs.States.{AreSame}
 use Rattle.evaluation.specs.Meaning.{Evaluated}
-use Rattle.node_journals.specs.declared.journal.Journal.{Journal}
-use Rattle.node_journals.specs.Codes.{AreOfPlant}
-use Rattle.node_journals.specs.Journals.{made}
+use Rattle.node_reports.specs.declared.journal.Journal.{Journal}
+use Rattle.node_reports.specs.Codes.{AreOfPlant}
+use Rattle.node_reports.specs.Journals.{made}
 
 -- the same was asked of both, of the same state before, waiting places aside
 pub record AreAskedAlike (x y : Evaluated) : Type 0 where

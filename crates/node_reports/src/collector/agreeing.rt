@@ -1,20 +1,21 @@
 //! Whether a book and journals are those of one run.
 
 ghost use Rattle.std.specs.Prelude.{◌≡◌, ◌↔◌, ◌≤◌, ℕ, IsTrue, IfOk, IfErr, OnOk, All, slice_index};
-ghost use Rattle.node_journals.specs.Codes.{AreOfPlant};
-ghost use Rattle.node_journals.specs.Journals.{firsts_of, IsLawful};
+ghost use Rattle.node_reports.specs.Codes.{AreOfPlant};
+ghost use Rattle.node_reports.specs.Journals.{firsts_of, IsLawful};
 ghost use Rattle.node_reports.specs.Reports.{IsFittingBook, AreJournalsOf, AreInBook, RunsAgain, CanBeMadeAgain, Agree, IsAgreeFault};
 ghost use Rattle.node_reports.specs.Steps.Comparing.{MadeOfPlant};
 
 use crate::collector::agreement::{all_begin, all_made};
 use crate::collector::obedience::heard_of;
+use crate::journal::Journal;
 use crate::journals::Journals;
 use crate::plant_book::PlantBook;
+use crate::run_fault::RunFault;
 use evaluation::Frame;
-use exchange::Book;
-use node_journals::{Journal, RunFault};
 use plant::Plant;
 use std::alloc::{AllocError, Global};
+use world::Book;
 
 /// Whether the journals are those of the plant's resources in order, begin in the book's first incarnations, and made the book's entries.
 fn agrees(

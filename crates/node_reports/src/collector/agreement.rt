@@ -1,12 +1,13 @@
 ghost use Rattle.std.specs.Prelude.{◌≡◌, ◌↔◌, ◌+◌, ◌<◌, [], ◌∷◌, IsTrue, MatchOption, MatchBool, IfOk, List, All, drop, length};
 ghost use Rattle.evaluation.specs.Meaning.{Evaluated};
-ghost use Rattle.node_journals.specs.Journals.{made};
+ghost use Rattle.node_reports.specs.Journals.{made};
 ghost use Rattle.node_reports.specs.Steps.Collecting.{BeginsAt, AllBegin, HaveJournals, HaveCome, HaveGoneOn, CantGoOn, AreAtEnd, AllMade};
 ghost use Rattle.node_reports.specs.Steps.Comparing.{AreByCodeOf, MadeByCodeOf};
 
 use crate::comparing::are_equal;
+use crate::journal::Journal;
+use crate::step::Step;
 use evaluation::Frame;
-use node_journals::{Journal, Step};
 use std::alloc::{AllocError, Global};
 
 /// The next evaluation made, from a place on, after the place behind it.

@@ -5,8 +5,9 @@ ghost use Rattle.node_reports.specs.Reports.{restarted_in, incarnations_of, HasH
 ghost use Rattle.node_reports.specs.Steps.Collecting.{IsAt, AreAt, AreIncarnationsOf};
 
 use crate::incarnations::Incarnations;
+use crate::journal::Journal;
+use crate::step::Step;
 use evaluation::Frame;
-use node_journals::{Journal, Step};
 use std::alloc::{AllocError, Global};
 
 /// Appends the incarnation of a step, where it is a restart.

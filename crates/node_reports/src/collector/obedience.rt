@@ -1,13 +1,16 @@
 ghost use Rattle.std.specs.Prelude.{◌≡◌, ◌↔◌, ◌≤◌, ℕ, slice_index, IsTrue, MatchOption, All, Contains};
 ghost use Rattle.std.specs.List.Sorted.{IsStrictlyIncreasing};
-ghost use Rattle.node_journals.specs.declared.act.Act.TheVariants.{Restart};
-ghost use Rattle.node_journals.specs.Commands.{AreNumbered};
+ghost use Rattle.node_reports.specs.declared.act.Act.TheVariants.{Restart};
+ghost use Rattle.node_reports.specs.Commands.{AreNumbered};
 ghost use Rattle.node_reports.specs.Reports.{command_of, IsCommanded, ticket_of, tickets_of};
 ghost use Rattle.node_reports.specs.Steps.Collecting.{IsNoTicket, IsOfTicket};
 
+use crate::act::Act;
+use crate::command::Command;
+use crate::journal::Journal;
+use crate::step::Step;
 use crate::tickets::is_above;
 use evaluation::{Evaluation, Frame};
-use node_journals::{Act, Command, Journal, Step};
 
 /// The command of a ticket.
 pub(crate) fn find_command(commands: &[Command], ticket: u64) -> Option<&Command>

@@ -2,7 +2,8 @@ ghost use Rattle.std.specs.Prelude.{◌≡◌, ◌↔◌, ◌<◌, [], IsTrue, I
 ghost use Rattle.node_reports.specs.Reports.{may_stop};
 ghost use Rattle.node_reports.specs.Steps.Collecting.{AreMarkedBy, IsMarkedIfStopped, AreStopMarks, AreWithin, AreStopsTold};
 
-use node_journals::{Cause, NodeFault};
+use crate::cause::Cause;
+use crate::node_fault::NodeFault;
 use std::alloc::{AllocError, Global};
 
 /// Whether a resource may obey no further command after this.

@@ -1,17 +1,23 @@
 ghost use Rattle.std.specs.Prelude.{◌≡◌, ◌↔◌, ◌-◌, false, length, slice_index_or, IsTrue, IfOk, IfErr, Contains};
 ghost use Rattle.std.specs.List.{list_any};
 ghost use Rattle.std.specs.List.Sorted.{IsStrictlyIncreasing};
-ghost use Rattle.node_journals.specs.declared.act.Act.TheVariants.{Restart};
-ghost use Rattle.node_journals.specs.declared.cause.Cause.TheVariants.{Keeper};
-ghost use Rattle.node_journals.specs.Commands.{AreNumbered, AreForPlant};
+ghost use Rattle.node_reports.specs.declared.act.Act.TheVariants.{Restart};
+ghost use Rattle.node_reports.specs.declared.cause.Cause.TheVariants.{Keeper};
+ghost use Rattle.node_reports.specs.Commands.{AreNumbered, AreForPlant};
 ghost use Rattle.node_reports.specs.Reports.{is_restart_of, HasTask, LacksTask, KeepsRetained, MayMeet, AllTold, AreTold, AreByTicket};
 ghost use Rattle.node_reports.specs.Steps.Collecting.{AreMarkedAlso, AreRestartMarks, HasMark, TellsUnobeyed, TellsTold, IsToldFault};
 
+use crate::act::Act;
+use crate::cause::Cause;
 use crate::collector::obedience::find_command;
 use crate::collector::stops::are_stops_told;
 use crate::collector::unanswered::mark;
+use crate::command::Command;
+use crate::journal::Journal;
+use crate::node_fault::NodeFault;
 use crate::node_faults::NodeFaults;
-use node_journals::{Act, Cause, Command, Journal, NodeFault, RunFault, Step};
+use crate::run_fault::RunFault;
+use crate::step::Step;
 use plant::{Plant, TaskRef};
 use std::alloc::{AllocError, Global};
 

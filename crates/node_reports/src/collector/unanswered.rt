@@ -1,12 +1,13 @@
 ghost use Rattle.std.specs.Prelude.{◌≡◌, ◌==◌, ◌&&◌, ◌<◌, false, not, IfOk};
 ghost use Rattle.std.specs.List.Sorted.{IsStrictlyIncreasing};
-ghost use Rattle.node_journals.specs.Commands.{AreNumbered};
+ghost use Rattle.node_reports.specs.Commands.{AreNumbered};
 ghost use Rattle.node_reports.specs.Reports.{unanswered_of, is_evaluate};
 ghost use Rattle.node_reports.specs.Steps.Collecting.{AreMarkedAlso, AreMarks};
 
+use crate::act::Act;
+use crate::command::Command;
 use crate::tickets::Tickets;
 use evaluation::Frame;
-use node_journals::{Act, Command};
 use std::alloc::{AllocError, Global};
 
 /// Marks the place of a ticket, if it has one.

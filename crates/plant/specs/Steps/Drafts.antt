@@ -10,7 +10,7 @@ use Rattle.declared_names.specs.Names.{place_of}
 use Rattle.task_codes.specs.declared.binding.Source.{Source}
 use Rattle.task_codes.specs.declared.binding.Source.TheVariants as source
 use Rattle.task_codes.specs.declared.binding.Binding.{Binding}
-use Rattle.due_list.specs.declared.task_ref.TaskRef.{TaskRef}
+use Rattle.task_codes.specs.declared.task_ref.TaskRef.{TaskRef}
 use Rattle.task_codes.specs.declared.task_output.TaskOutput.{TaskOutput}
 use Rattle.task_codes.specs.declared.task_code.TaskCode.{TaskCode}
 use Rattle.plant_grammar.specs.declared.grammar.tree.Program.{Program}
@@ -26,9 +26,9 @@ use Rattle.plant.specs.declared.sources.feed.Origin.TheVariants as origin
 use Rattle.plant.specs.declared.sources.feed.Feed.{Feed}
 use Rattle.plant_grammar.specs.Names.{is_named, IsAt, AreNamesApart}
 use Rattle.plant_grammar.specs.Retained.{retained_places}
-use Rattle.program_bodies.specs.Ladders.{IsLadderOf}
+use Rattle.plant.specs.Ladders.{IsLadderOf}
 use Rattle.plant_grammar.specs.Lawful.{use_of, tasks_of, uses_of, binds_of}
-use Rattle.program_bodies.specs.ProgramTypes.{TypeValue}
+use Rattle.plant.specs.ProgramTypes.{TypeValue}
 use Rattle.plant_grammar.specs.Kinds.{input_kind_at, kind_of_space}
 use Rattle.plant.specs.PlantValue.{ResourceValue, PlantValue, code_at, AreProducersOf}
 use Rattle.task_codes.specs.CodeValue.{ProgramValue, CodeValue, lists_of, image_kinds, outputs_of, source_kind, bindings_at, IsSoundCode}

@@ -2,7 +2,7 @@
 use Rattle.std.specs.Prelude.{ℕ, List, map}
 use Rattle.plant_grammar.specs.declared.grammar.tree.Resource.{Resource}
 use Rattle.plant_grammar.specs.Grammar.{Tree}
-use Rattle.program_bodies.specs.ProgramTypes.{TypeValue}
+use Rattle.plant.specs.ProgramTypes.{TypeValue}
 
 -- the program types with their ladders, and the resources as they are written
 pub record ReadingValue : Type 0 where

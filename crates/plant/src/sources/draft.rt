@@ -9,12 +9,12 @@ ghost use Rattle.plant_grammar.specs.declared.grammar_fault.GrammarFaultKind.The
 ghost use Rattle.plant.specs.StandsFor.{runs_in};
 ghost use Rattle.plant.specs.Steps.Drafts.{seen, runs_at, programs_in, IsProgramOf, IsDraftOf, IsResourceDraft, IsTypeKnown};
 
+use crate::program_type::{ProgramType, type_named};
 use crate::sources::resource_draft::ResourceDraft;
 use crate::sources::task_draft::TaskDraft;
 use plant_grammar::{
     GrammarFault, GrammarFaultKind, Item, Name, Resource, TaskLine, Use, retained_places,
 };
-use program_bodies::{ProgramType, type_named};
 use std::alloc::{AllocError, Global};
 use std::sync::Arc;
 use task_codes::ProgramInstance;

@@ -1,6 +1,6 @@
-use due_list::TaskRef;
 use plant_text::Address;
 use power_flow::Kind;
+use task_codes::TaskRef;
 
 /// Where a bound input takes its values from.
 #[derive(Clone, Copy)]

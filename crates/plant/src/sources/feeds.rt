@@ -11,17 +11,16 @@ ghost use Rattle.plant_grammar.specs.Steps.ReadParts.{FindsInput};
 ghost use Rattle.plant.specs.Steps.Drafts.{seen, drafted, IsValue, HasNoValue, IsOriginOf, HasNoOrigin, IsFeedOf, HasFeed, AreAllFeeds, AreRunsFed, IsUseResolved, AreDraftsApart};
 
 use crate::named::find_named;
+use crate::program_type::{ProgramType, type_named};
 use crate::sources::feed::{Feed, Origin};
 use crate::sources::lookup::{find_instance, find_output};
 use crate::sources::resource_draft::ResourceDraft;
-use due_list::TaskRef;
 use plant_grammar::{
     Bind, GrammarFault, GrammarFaultKind, Item, Name, Resource, SourceName, Use, kind_of_space,
 };
 use power_flow::{Declarations, Declared, Kind};
-use program_bodies::{ProgramType, type_named};
 use std::alloc::Global;
-use task_codes::ProgramInstance;
+use task_codes::{ProgramInstance, TaskRef};
 
 /// The fault of a name that isn't declared where it is sought.
 fn unknown(name: &Name) -> GrammarFault

@@ -10,10 +10,9 @@ ghost use Rattle.plant.specs.Steps.Drafts.{drafted, AddsFirsts, tasks_taken, all
 use crate::sources::feed::{Feed, Origin};
 use crate::sources::resource_draft::ResourceDraft;
 use crate::sources::task_draft::TaskDraft;
-use due_list::TaskRef;
 use power_flow::Kind;
 use std::alloc::{AllocError, Global};
-use task_codes::{Binding, Source};
+use task_codes::{Binding, Source, TaskRef};
 
 /// Adds a task if it isn't there yet.
 fn push_first(producers: &mut Vec<TaskRef>, task: TaskRef) -> Result<(), AllocError>

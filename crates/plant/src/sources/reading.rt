@@ -1,7 +1,7 @@
 ghost use Rattle.std.specs.Prelude.{◌≡◌};
 
+use crate::program_type::ProgramType;
 use plant_grammar::Resource;
-use program_bodies::ProgramType;
 use std::marker::Model;
 
 /// All that is written in a plant's text, without a fault but in its sources, which aren't resolved yet.

@@ -3,7 +3,7 @@ ghost use Rattle.plant.specs.Steps.Found.{TellsOfSource};
 ghost use Rattle.plant_grammar.specs.WordFaults.{IsGrammarFault};
 ghost use Rattle.plant_grammar.specs.declared.grammar_fault.GrammarFaultKind.TheVariants.{Memory};
 ghost use Rattle.plant_grammar.specs.Lawful.{all_uses, IsTreeLawful};
-ghost use Rattle.program_bodies.specs.Ladders.{IsLadderOf};
+ghost use Rattle.plant.specs.Ladders.{IsLadderOf};
 ghost use Rattle.plant.specs.Steps.Reading.{tree_of};
 ghost use Rattle.plant.specs.StandsFor.{IsPlantOf};
 ghost use Rattle.plant.specs.Faultless.{AreBindsFed};

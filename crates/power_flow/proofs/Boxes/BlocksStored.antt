@@ -15,9 +15,9 @@ use Rattle.declared_names.specs.declared.declarations.Declared.{Declared}
 use Rattle.declared_names.specs.declared.declarations.Declared.TheVariants.{Instance as instance_of}
 use Rattle.declared_names.specs.declared.declarations.Kind.{Kind}
 use Rattle.declared_names.specs.Names.{place_of}
-use Rattle.variable_binding.specs.PinKinds.{field_kind}
-use Rattle.variable_binding.specs.BindFaults.{IsVariable}
-use Rattle.variable_binding.specs.Steps.Named.{IsDeclaredVariable, AreNamed}
+use Rattle.name_faults.specs.PinKinds.{field_kind}
+use Rattle.name_faults.specs.BindFaults.{IsVariable}
+use Rattle.name_faults.specs.Steps.Named.{IsDeclaredVariable, AreNamed}
 use Rattle.scan_steps.specs.declared.slot.Instance.{Instance}
 use Rattle.scan_steps.specs.declared.slot.Slot.{Slot}
 use Rattle.scan_steps.specs.declared.slot.Slot.TheVariants.{Variable, Block}

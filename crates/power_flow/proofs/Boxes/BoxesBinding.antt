@@ -2,7 +2,7 @@
 use Rattle.std.proofs.Common.{◌≡◌, ℕ, zero, suc, ◌+◌, ◌<◌, List, [], ◌∷◌, ◌++◌, Option, Some, None, All, Contains, MatchOption, slice_get, get_or, take, length, arith, refl, sym, ap, ◌∙◌}
 use Rattle.std.specs.List.{AllZip, cons_option}
 use Rattle.std.specs.Option.{option_and_then, option_map}
-use Rattle.variable_binding.specs.Lookup.{declared_at}
+use Rattle.name_faults.specs.Lookup.{declared_at}
 use Rattle.declared_names.specs.declared.declarations.Declared.{Declared}
 use Rattle.scan_steps.specs.declared.source.Source.{Source}
 use Rattle.scan_steps.specs.declared.source.Source.TheVariants as source
@@ -25,7 +25,7 @@ use Rattle.declared_names.specs.declared.declarations.Declaration.{Declaration}
 use Rattle.scan_steps.specs.declared.bound_box.BoundOutput.{BoundOutput}
 use Rattle.declared_names.specs.Names.{place_of}
 use Rattle.power_flow.specs.Meaning.{IsDrawn}
-use Rattle.variable_binding.specs.Steps.Named.{IsDrawnOnce, AreInRange, IsInRange}
+use Rattle.name_faults.specs.Steps.Named.{IsDrawnOnce, AreInRange, IsInRange}
 use Rattle.power_flow.specs.Steps.BoxTable.{right_pin, right_pins, output_if, box_of, boxes_of}
 
 -- an input is drawn once

@@ -37,7 +37,7 @@ use Rattle.scan_steps.specs.declared.bound_box.BoundBox.{BoundBox}
 use Rattle.declared_names.specs.Names.{place_of, is_dot}
 use Rattle.power_flow.specs.Values.{value_of, slot_value, shown_at}
 use Rattle.scan_steps.specs.Values.{is_true}
-use Rattle.variable_binding.specs.Literals.{literal_value}
+use Rattle.name_faults.specs.Literals.{literal_value}
 use Rattle.power_flow.specs.Values.{text_value, value_or}
 use Rattle.scan_steps.specs.Steps.Sources.{source_value, source_bit, slot_output}
 use Rattle.power_flow.specs.Steps.NameSources.{output_source, declared_source, name_source, operand_source, pin_source}

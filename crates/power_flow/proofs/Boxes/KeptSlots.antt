@@ -29,12 +29,12 @@ use Rattle.std.proofs.lemmas.List.Sums.{sum_by-cons}
 use Rattle.power_flow.specs.declared.steps.circuit.Circuit.{Circuit}
 use Rattle.power_flow.specs.Steps.Circuit.{circuit_diagram}
 use Rattle.power_flow.specs.LadderValue.{LadderValue, Fits}
-use Rattle.variable_binding.specs.BindFaults.{IsVariable}
+use Rattle.name_faults.specs.BindFaults.{IsVariable}
 use Rattle.declared_names.specs.declared.declarations.Kind.{Kind}
 use Rattle.scan_steps.specs.declared.slot.Instance.{Instance as InstanceRecord}
 use Rattle.scan_steps.specs.declared.slot.Slot.TheVariants.{Block}
-use Rattle.variable_binding.specs.PinKinds.{field_kind}
-use Rattle.variable_binding.specs.Steps.Named.{IsNamedBox, IsDeclaredVariable, AreNamed}
+use Rattle.name_faults.specs.PinKinds.{field_kind}
+use Rattle.name_faults.specs.Steps.Named.{IsNamedBox, IsDeclaredVariable, AreNamed}
 use Rattle.std_blocks.specs.declared.pin.Field.{Field}
 use Rattle.std_blocks.specs.declared.pin.Field.TheVariants.{Bit, Int, Time}
 use Rattle.std_blocks.specs.declared.pins.PinsOut.{PinsOut}

@@ -26,8 +26,8 @@ use Rattle.declared_names.specs.declared.declarations.Declared.TheVariants.{Inpu
 use Rattle.declared_names.specs.declared.declarations.Kind.TheVariants as kind
 use Rattle.declared_names.specs.Kinds.{kind_of}
 use Rattle.declared_names.specs.Names.{place_of}
-use Rattle.variable_binding.specs.PinKinds.{field_kind}
-use Rattle.variable_binding.specs.Steps.Named.{IsNamedBox, IsDeclaredVariable, AreNamed}
+use Rattle.name_faults.specs.PinKinds.{field_kind}
+use Rattle.name_faults.specs.Steps.Named.{IsNamedBox, IsDeclaredVariable, AreNamed}
 use Rattle.scan_steps.specs.declared.slot.Instance.{Instance}
 use Rattle.scan_steps.specs.declared.slot.Slot.{Slot}
 use Rattle.scan_steps.specs.declared.slot.Slot.TheVariants.{Variable, Block}

@@ -9,8 +9,8 @@ use Rattle.network.specs.Links.{Diagram}
 use Rattle.network.specs.GraphValue.{diagram, IsSoundNetwork}
 use Rattle.power_flow.specs.declared.steps.circuit.Circuit.{Circuit}
 use Rattle.declared_names.specs.declared.declarations.Declaration.{Declaration}
-use Rattle.variable_binding.specs.Binding.{IsBoundNetwork, CanBind}
-use Rattle.variable_binding.specs.Steps.Named.{AreNamed}
+use Rattle.name_faults.specs.Binding.{IsBoundNetwork, CanBind}
+use Rattle.name_faults.specs.Steps.Named.{AreNamed}
 use Rattle.power_flow.specs.Steps.Circuit.{IsCircuit, AreCircuits, HasShape, HasRoom, circuit_diagram}
 use Rattle.power_flow.specs.Scan.{AllAreWide}
 

@@ -20,7 +20,7 @@ use Rattle.scan_steps.specs.declared.source.Source.TheVariants as source
 use Rattle.scan_steps.specs.declared.bound_box.BoundBox.{BoundBox}
 use Rattle.scan_steps.specs.declared.bound_box.BoundOutput.{BoundOutput}
 use Rattle.declared_names.specs.Names.{place_of}
-use Rattle.variable_binding.specs.Steps.Named.{IsInRange, IsNamedBox}
+use Rattle.name_faults.specs.Steps.Named.{IsInRange, IsNamedBox}
 use Rattle.power_flow.specs.Meaning.{IsDrawn, IsUndrawn}
 use Rattle.power_flow.specs.Steps.NameSources.{name_source, pin_source}
 pub use Rattle.power_flow.specs.Waiting.{box_of, boxes_of}

@@ -20,7 +20,7 @@ use Rattle.scan_steps.specs.declared.bound_box.BoundBox.{BoundBox}
 use Rattle.scan_steps.specs.declared.rung.Rung.{Rung}
 use Rattle.scan_steps.specs.Steps.Passing.{IsStepIn}
 use Rattle.declared_names.specs.Names.{place_of}
-use Rattle.variable_binding.specs.Steps.Named.{AreNamed}
+use Rattle.name_faults.specs.Steps.Named.{AreNamed}
 use Rattle.power_flow.specs.Steps.Columns.{AreSteps}
 use Rattle.power_flow.specs.Steps.Fused.{singles}
 use Rattle.power_flow.specs.Steps.BoxTable.{AreBoundBoxes}

@@ -8,7 +8,7 @@ use Rattle.std_blocks.specs.Pins.{pin_of}
 use Rattle.declared_names.specs.declared.declarations.Declaration.{Declaration}
 use Rattle.declared_names.specs.declared.declarations.Declared.{Declared}
 use Rattle.declared_names.specs.declared.declarations.Declared.TheVariants as declared
-use Rattle.variable_binding.specs.Literals.{literal_value}
+use Rattle.name_faults.specs.Literals.{literal_value}
 use Rattle.scan_steps.specs.declared.source.Source.{Source}
 use Rattle.scan_steps.specs.declared.source.Source.TheVariants as source
 use Rattle.declared_names.specs.Names.{place_of, is_dot}

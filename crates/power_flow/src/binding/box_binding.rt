@@ -9,16 +9,16 @@ ghost use Rattle.drawings.specs.declared.drawn_box.DrawnBox.{DrawnBox};
 ghost use Rattle.declared_names.specs.Names.{place_of};
 ghost use Rattle.power_flow.specs.Meaning.{IsDrawn, IsUndrawn};
 ghost use Rattle.power_flow.specs.Steps.NameSources.{operand_source, pin_source};
-ghost use Rattle.variable_binding.specs.Steps.Named.{IsDrawnOnce, AreOutputs, IsInRange, AreInRange, IsNamedBox};
+ghost use Rattle.name_faults.specs.Steps.Named.{IsDrawnOnce, AreOutputs, IsInRange, AreInRange, IsNamedBox};
 ghost use Rattle.power_flow.specs.Steps.BoxTable.{boxes_of, own_box, output_if, IsSourceOfBit, IsSourceOfValue, IsOperandInRange, IsBitSource, IsBoundIfNamed, IsBoundBox, AreBoundOutputs, AreBoundIfNamed, AreBoundWith, ArePinRowsKept, AreRowsKept, AreRowsKeptWith};
 
 use crate::binding::source::name_source;
 use drawings::{DrawnBox, DrawnPin, Side};
+use name_faults::{Declarations, literal_value};
 use network::Element;
 use scan_steps::{BoundBox, BoundOutput, Source};
 use std::alloc::{AllocError, Global};
 use std_blocks::{BlockType, Field, Pin};
-use variable_binding::{Declarations, literal_value};
 use words::Text;
 
 /// Whether a name is that of this input of a block.

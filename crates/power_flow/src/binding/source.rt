@@ -1,8 +1,8 @@
 ghost use Rattle.std.specs.Prelude.{◌≡◌};
 ghost use Rattle.power_flow.specs.Steps.NameSources.{declared_source, name_source};
 
+use name_faults::{Declarations, Declared, parts};
 use scan_steps::Source;
-use variable_binding::{Declarations, Declared, parts};
 use words::Text;
 
 /// The source of what is declared at a place, or of an output pin of the block there.

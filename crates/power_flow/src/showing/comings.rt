@@ -11,10 +11,10 @@ ghost use Rattle.power_flow.specs.Waiting.{boxes_of, coils_of};
 use crate::steps::row_ends::note_element;
 use crate::steps::steps::{Numbers, is_at_rail, push_element};
 use drawings::Place;
+use name_faults::Declarations;
 use network::{Element, Rails};
 use scan_steps::{BoundBox, Instance, Slots, Step, pass};
 use std::alloc::AllocError;
-use variable_binding::Declarations;
 
 /// Whether state comes to a place from its left: it goes on in its row, or comes from the left rail.
 fn comes(rails: &Rails, ends: &[usize], top: usize, at: Place, rows: &[bool]) -> bool

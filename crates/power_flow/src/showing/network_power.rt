@@ -10,11 +10,11 @@ use crate::showing::comings::read_elements;
 use crate::showing::uprights::join_uprights;
 use crate::steps::circuit::Circuit;
 use crate::steps::rows::Rows;
+use name_faults::{Declarations, names_of_one_place_are_one};
 use network::Rails;
 use scan_steps::{Instance, Slots};
 use std::alloc::{AllocError, Global};
 use std_blocks::BlockType;
-use variable_binding::{Declarations, names_of_one_place_are_one};
 
 /// Whether the first place of each element of a network has power in a scan from these slots and memories.
 pub fn power_of(

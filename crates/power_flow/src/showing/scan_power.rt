@@ -10,10 +10,10 @@ use crate::showing::network_power::power_of;
 use crate::state::State;
 use crate::steps::circuit::Circuit;
 use arrayvec::ArrayVec;
+use name_faults::Declarations;
 use network::Rails;
 use scan_steps::{Instance, Slots};
 use std::alloc::{AllocError, Global};
-use variable_binding::Declarations;
 
 /// One scan of a network, that adds of each element whether its first place has power.
 fn show_circuit(

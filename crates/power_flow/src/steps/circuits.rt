@@ -2,7 +2,7 @@ ghost use Rattle.std.specs.Prelude.{◌≡◌, ◌⊎◌, ◌↔◌, [], All, If
 ghost use Rattle.network.specs.declared.element.Element.{Element};
 ghost use Rattle.network.specs.GraphValue.{diagram};
 ghost use Rattle.network.specs.GraphValue.{IsSoundNetwork};
-ghost use Rattle.variable_binding.specs.Steps.Named.{AreNamed};
+ghost use Rattle.name_faults.specs.Steps.Named.{AreNamed};
 ghost use Rattle.power_flow.specs.Steps.Circuit.{HasShape, IsCircuit, AreCircuits, AreSoundNetworks, all_elements, circuit_diagrams, bound_coil, bound_coils};
 ghost use Rattle.power_flow.specs.declared.steps.circuit.Circuit.{Circuit};
 
@@ -14,10 +14,10 @@ use crate::steps::rows::Rows;
 use crate::steps::same_elements::{are_same_elements, are_same_places};
 use crate::steps::steps::steps_of;
 use drawings::Place;
+use name_faults::{Declarations, names_of_one_place_are_one};
 use network::{Element, Network, Rails};
 use scan_steps::BoundCoil;
 use std::alloc::{AllocError, Global};
-use variable_binding::{Declarations, names_of_one_place_are_one};
 
 /// The element with the number k, bound if it is a coil.
 fn bound_coil(declarations: &Declarations, k: usize, element: &Element) -> Option<BoundCoil>

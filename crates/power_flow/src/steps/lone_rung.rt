@@ -5,9 +5,9 @@ ghost use Rattle.scan_steps.specs.declared.step.BoundCoil.{BoundCoil};
 ghost use Rattle.power_flow.specs.Steps.Circuit.{IsBoolAt, IsRung};
 
 use drawings::CoilKind;
+use name_faults::{Declarations, Declared, Kind};
 use scan_steps::{BoundBox, BoundCoil, Rung, Step, VariableContact};
 use std::alloc::{AllocError, Global};
-use variable_binding::{Declarations, Declared, Kind};
 
 /// The contacts of the only step, if it is a rung.
 fn only_contacts(steps: &[Step]) -> Option<&[VariableContact]>

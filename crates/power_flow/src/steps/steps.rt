@@ -17,10 +17,10 @@ use crate::binding::source::name_source;
 use crate::steps::row_ends::note_element;
 use crate::steps::rows::Rows;
 use drawings::{Contact, DrawnBox, DrawnPin, Place, Side};
+use name_faults::Declarations;
 use network::{Element, Rails};
 use scan_steps::{BoundContact, Step};
 use std::alloc::{AllocError, Global};
-use variable_binding::Declarations;
 
 /// Whether the left rail stands on the left of a place.
 pub fn is_at_rail(rails: &Rails, at: Place) -> bool

@@ -2,11 +2,11 @@
 use Rattle.std.specs.Prelude.{◌≡◌, ◌↔◌, ℕ, Bool, IsTrue, List, Some, slice_get}
 use Rattle.plant.specs.PlantValue.{PlantValue}
 use Rattle.evaluation.specs.Meaning.{Evaluated}
-use Rattle.exchange.specs.declared.event.Event.{Event}
-use Rattle.exchange.specs.History.{Setting, Openings, setting_over}
-use Rattle.exchange.specs.Run.{IsRun}
-use Rattle.evaluation_book.specs.Book.{BookValue}
-use Rattle.exchange.specs.Replays.{Replays}
+use Rattle.world.specs.declared.event.Event.{Event}
+use Rattle.world.specs.History.{Setting, Openings, setting_over}
+use Rattle.world.specs.Run.{IsRun}
+use Rattle.book.specs.Book.{BookValue}
+use Rattle.world.specs.Replays.{Replays}
 
 -- the plant, from these first incarnations and openings, with numbers up to the greatest of 32 bits
 abbrev pub replayed_in : PlantValue → List ℕ → Openings → Setting

@@ -7,8 +7,8 @@ use Rattle.scan_steps.specs.declared.slot.Slot.{Slot}
 use Rattle.power_flow.specs.StateValue.{StateValue}
 use Rattle.power_flow.specs.LadderValue.{LadderValue}
 use Rattle.power_flow.specs.Shown.{ShowsScan}
-use Rattle.text_writer.specs.Sending.{Stops}
-use Rattle.text_writer.specs.declared.send_fault.SendFault.{SendFault}
+use Rattle.text_lines.specs.Sending.{Stops}
+use Rattle.text_lines.specs.declared.send_fault.SendFault.{SendFault}
 use Rattle.text_commands.specs.Rows.{RowValue, scans_of}
 use Rattle.text_commands.specs.Lines.{line_of}
 use Rattle.text_commands.specs.LiveDrawing.{live_drawing}

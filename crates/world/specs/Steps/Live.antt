@@ -3,8 +3,8 @@ use Rattle.std.specs.Prelude.{◌≡◌, ◌≢◌, ℕ, ◌+◌, ◌++◌, ◌�
 use Rattle.std.specs.Io.KnownBytes.{Consumes, IsAtEnd, Keeps}
 use Rattle.words.specs.Lines.{without_last}
 use Rattle.evaluation.specs.InputTexts.{words_of}
-use Rattle.exchange.specs.World.{WorldValue}
-use Rattle.line_reader.specs.Lines.{HasNoFeed, TakesSome}
+use Rattle.world.specs.World.{WorldValue}
+use Rattle.text_lines.specs.Lines.{HasNoFeed, TakesSome}
 use Rattle.world.specs.declared.live_fault.LiveFault.{LiveFault}
 use Rattle.world.specs.declared.live_fault.LiveFault.TheVariants.{Syntax, TooLong, Read, Write, Memory}
 use Rattle.world.specs.ScheduleText.{IsBadLine}

@@ -2,7 +2,7 @@
 use Rattle.std.specs.Prelude.{ℕ, List, [], ◌∷◌, map, codes, Option}
 use Rattle.std.specs.Borrow.{Bor}
 use Rattle.words.specs.Chars.{same_word, first_that}
-use Rattle.due_list.specs.declared.task_ref.TaskRef.{TaskRef}
+use Rattle.task_codes.specs.declared.task_ref.TaskRef.{TaskRef}
 use Rattle.plant.specs.PlantValue.{PlantValue}
 use Rattle.evaluation.specs.declared.field_input.FieldInput.{FieldInput}
 use Rattle.world.specs.declared.read_line.Keyword.{Keyword}

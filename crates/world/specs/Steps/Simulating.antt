@@ -1,8 +1,8 @@
 -- Steps of the proofs: what one line of a schedule does.
 use Rattle.std.specs.Prelude.{◌≡◌, ℕ, ◌+◌, ◌<◌, ◌⊎◌, true, false, List, Option, length, take}
 use Rattle.std.specs.Io.KnownBytes.{Appends, Keeps}
-use Rattle.exchange.specs.declared.event.Event.{Event}
-use Rattle.exchange.specs.World.{WorldValue}
+use Rattle.world.specs.declared.event.Event.{Event}
+use Rattle.world.specs.World.{WorldValue}
 use Rattle.world.specs.declared.line_fault.LineFault.{LineFault}
 use Rattle.world.specs.declared.line_fault.LineFault.TheVariants.{Syntax, Write, Memory}
 use Rattle.world.specs.ScheduleText.{is_idle, SpellsEvent, IsBadLine}

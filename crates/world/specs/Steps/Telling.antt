@@ -2,13 +2,13 @@
 use Rattle.std.specs.Prelude.{◌≡◌, ℕ, ◌-◌, List, [], ◌∷◌, Option, Some, None, length, slice_get}
 use Rattle.plant.specs.PlantValue.{PlantValue}
 use Rattle.evaluation.specs.Meaning.{Evaluated}
-use Rattle.exchange.specs.declared.event.Event.{Event}
-use Rattle.exchange.specs.declared.event.Event.TheVariants.{Evaluate, Deliver, Restart, Hear}
-use Rattle.exchange.specs.declared.done.Done.{Done}
-use Rattle.exchange.specs.declared.done.Done.TheVariants.{Evaluated as MadeOne, Delivered, Restarted, Heard}
-use Rattle.exchange.specs.History.{history_of, after_events}
-use Rattle.exchange.specs.Run.{IsRun}
-use Rattle.exchange.specs.World.{WorldValue}
+use Rattle.world.specs.declared.event.Event.{Event}
+use Rattle.world.specs.declared.event.Event.TheVariants.{Evaluate, Deliver, Restart, Hear}
+use Rattle.world.specs.declared.done.Done.{Done}
+use Rattle.world.specs.declared.done.Done.TheVariants.{Evaluated as MadeOne, Delivered, Restarted, Heard}
+use Rattle.world.specs.History.{history_of, after_events}
+use Rattle.world.specs.Run.{IsRun}
+use Rattle.world.specs.World.{WorldValue}
 use Rattle.world.specs.RunLines.{evaluation_line}
 use Rattle.world.specs.RunText.{delivery_line, restart_line, hear_line, TellsEvent}
 

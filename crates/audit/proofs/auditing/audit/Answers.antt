@@ -1,14 +1,14 @@
 -- The journals and the book agree in the end, since each resource has stood from its beginning on.
 use Rattle.std.proofs.Common.{◌≡◌, ◌∙◌, All, List, length, sym, ap, subst}
 use Rattle.plant.specs.PlantValue.{PlantValue}
-use Rattle.evaluation_book.specs.Book.{BookValue}
-use Rattle.node_journals.specs.declared.journal.Journal.{Journal}
-use Rattle.node_journals.specs.Journals.{firsts_of, IsLawful}
+use Rattle.book.specs.Book.{BookValue}
+use Rattle.node_reports.specs.declared.journal.Journal.{Journal}
+use Rattle.node_reports.specs.Journals.{firsts_of, IsLawful}
 use Rattle.node_reports.specs.Reports.{RunsAgain, IsAgreeFault}
 use Rattle.audit.specs.Delivered.{AreDelivered}
 use Rattle.audit.specs.Steps.Standings.{AuditedBook, empty_book, AreFrom}
-use Rattle.journal_files.specs.Readings.{AreReadings}
-use Rattle.journal_files.specs.declared.line.Place.{Place}
+use Rattle.audit.specs.Readings.{AreReadings}
+use Rattle.audit.specs.declared.line.Place.{Place}
 use Rattle.audit.specs.Told.{all_without}
 use Rattle.audit.specs.Steps.Settled.{HaveTold}
 use Rattle.audit.specs.declared.follower.Follower.{Follower}

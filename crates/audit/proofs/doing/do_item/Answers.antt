@@ -3,8 +3,8 @@ use Rattle.std.specs.Prelude.{IfOk}
 use Rattle.std.specs.Option.{option_copied}
 use Rattle.std.proofs.lemmas.Result.{IfOk-weaker}
 use Rattle.std_blocks.specs.declared.value.Value.{Value}
-use Rattle.journal_files.specs.declared.item.Item.{Item}
-use Rattle.journal_files.specs.declared.item.Item.TheVariants.{Message, Hello}
+use Rattle.audit.specs.declared.item.Item.{Item}
+use Rattle.audit.specs.declared.item.Item.TheVariants.{Message, Hello}
 use Rattle.audit.specs.Steps.Following.{HasStarted, Comes}
 use Rattle.audit.proofs.Comings.{started_comes}
 use Rattle.audit.proofs.Leavings.{left_taken, left_heard}

@@ -1,7 +1,7 @@
 use Rattle.std.proofs.Common.{◌≡◌, List, Option, Some, length, slice_get, refl, sym, subst}
 use Rattle.std.specs.Option.{option_copied}
 use Rattle.std.proofs.lemmas.Option.{slice_get_read}
-use Rattle.journal_files.specs.declared.line.Line.{Line}
+use Rattle.audit.specs.declared.line.Line.{Line}
 use Rattle.audit.specs.Reasons.{Course}
 use Rattle.audit.specs.Steps.Settled.{IsReasonFor}
 use Rattle.audit.proofs.Tellings.{told_stop, told_need, maker_is, come_to, waiting_unmet, ahead_of}

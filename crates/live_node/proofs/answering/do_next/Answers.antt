@@ -2,9 +2,9 @@
 use Rattle.std.proofs.Common.{◌++◌, sym, ap, ◌∙◌, subst}
 use Rattle.std.specs.Prelude.{string_bytes}
 use Rattle.lists.proofs.Results.{kept_fault}
-use Rattle.text_writer.specs.Sending.{SendsPart}
-use Rattle.node_cores.specs.declared.line_refusal.LineRefusal.TheVariants as refusal
-use Rattle.node_lines.specs.Answers.{refused_line}
+use Rattle.text_lines.specs.Sending.{SendsPart}
+use Rattle.live_node.specs.declared.line_refusal.LineRefusal.TheVariants as refusal
+use Rattle.live_node.specs.Answers.{refused_line}
 use Rattle.live_node.specs.declared.live_stop.LiveStop.TheVariants.{Node}
 use Rattle.live_node.specs.NodeAnswers.{IsAnswered}
 use Rattle.live_node.specs.Stops.{NotesPart, StopsWithin}

@@ -1,5 +1,5 @@
 use Rattle.std.proofs.Common.{subst}
-use Rattle.line_reader.specs.Lines.{Gives}
+use Rattle.text_lines.specs.Lines.{Gives}
 use Rattle.live_node.proofs.LineTaking.{begins_more, fault_behind}
 use Rattle.live_node.proofs.live_lines.take_line.Goals as goal
 

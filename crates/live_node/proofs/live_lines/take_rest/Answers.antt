@@ -1,8 +1,8 @@
 use Rattle.std.proofs.Common.{true, false, ◌++◌, subst}
 use Rattle.std.proofs.KnownBytes.{Consumes-trans}
-use Rattle.line_reader.specs.Lines.{Gives}
+use Rattle.text_lines.specs.Lines.{Gives}
 use Rattle.live_node.specs.Steps.LineTaking.{HasPut}
-use Rattle.text_writer.proofs.Sending.{on_err}
+use Rattle.text_lines.proofs.Sending.{on_err}
 use Rattle.live_node.proofs.LineTaking.{plain_both, within_some, within_given, held_more, held_within, rest_taken, fed_end, whole_end, last_end}
 use Rattle.live_node.proofs.live_lines.take_rest.Goals as goal
 

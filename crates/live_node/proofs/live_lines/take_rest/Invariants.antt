@@ -1,6 +1,6 @@
 use Rattle.std.proofs.Common.{ℕ, ◌≤◌, List, length}
 use Rattle.std.specs.Io.KnownBytes.{Consumes}
-use Rattle.line_reader.specs.Lines.{HasNoFeed}
+use Rattle.text_lines.specs.Lines.{HasNoFeed}
 use Rattle.live_node.proofs.LineTaking.{IsHeld}
 use Rattle.live_node.proofs.live_lines.take_rest.Given as goal
 

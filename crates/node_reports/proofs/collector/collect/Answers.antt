@@ -4,8 +4,8 @@ use Rattle.std.proofs.lemmas.Bool.{false≢true}
 use Rattle.std.specs.List.Sorted.{IsStrictlyIncreasing}
 use Rattle.lists.proofs.Results.{kept_fault}
 use Rattle.evaluation.specs.Meaning.{Evaluated}
-use Rattle.evaluation_book.specs.Book.{BookValue}
-use Rattle.node_journals.specs.declared.journal.Journal.{Journal}
+use Rattle.book.specs.Book.{BookValue}
+use Rattle.node_reports.specs.declared.journal.Journal.{Journal}
 use Rattle.node_reports.specs.Reports.{IsCommanded, IsObedient, HasHeardTruly, AreTold, AreRising, IsCollectFault, command_of, tickets_of, unanswered_of}
 use Rattle.node_reports.specs.Steps.Collecting.{IsToldFault}
 use Rattle.node_reports.proofs.Reporting.{agree_fault, told_fault}

@@ -3,8 +3,8 @@ use Rattle.std.proofs.Common.{◌≡◌, ◌<◌, Some, Contains, get_or, slice_
 use Rattle.std.proofs.lemmas.Option.{slice_get_within, slice_get-get_or}
 use Rattle.std.proofs.lemmas.Bool.{false≢true}
 use Rattle.lists.proofs.Members.{all_from_places}
-use Rattle.node_journals.specs.declared.cause.Cause.TheVariants.{OutOfTurns}
-use Rattle.node_journals.specs.declared.node_fault.NodeFault.{NodeFault}
+use Rattle.node_reports.specs.declared.cause.Cause.TheVariants.{OutOfTurns}
+use Rattle.node_reports.specs.declared.node_fault.NodeFault.{NodeFault}
 use Rattle.node_reports.specs.Reports.{fault_tickets}
 use Rattle.node_reports.proofs.Faults.{list_more, list_kept}
 use Rattle.node_reports.proofs.node_faults.first_of_each.Goals as goal

@@ -1,6 +1,6 @@
 use Rattle.std.proofs.Common.{◌<◌, List, length, map, ap, ◌∙◌, arith}
 use Rattle.std.specs.Global.{Vec}
-use Rattle.due_list.specs.declared.timing.Timing.{Timing}
+use Rattle.task_codes.specs.declared.timing.Timing.{Timing}
 use Rattle.plant.specs.PlantValue.{TaskValue}
 use Rattle.plant.specs.Plan.{timing_of}
 use Rattle.plant.proofs.DueTasks.{timings_more, timed_more}

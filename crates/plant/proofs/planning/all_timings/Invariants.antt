@@ -1,5 +1,5 @@
 use Rattle.std.proofs.Common.{◌≡◌, All, take}
-use Rattle.due_list.specs.Plan.{AllTimed, timings_in}
+use Rattle.task_codes.specs.Plan.{AllTimed, timings_in}
 use Rattle.plant.specs.Plan.{timings_of}
 use Rattle.plant.proofs.planning.all_timings.Given as goal
 

@@ -1,5 +1,5 @@
 use Rattle.std.proofs.Common.{◌≡◌, map, take}
-use Rattle.due_list.specs.Plan.{AllTimed}
+use Rattle.task_codes.specs.Plan.{AllTimed}
 use Rattle.plant.specs.Plan.{timing_of}
 use Rattle.plant.proofs.planning.timings_of.Given as goal
 

@@ -1,8 +1,8 @@
 -- The commands are numbered and for the plant; the report is told whole or in part.
 use Rattle.std.proofs.Common.{List, sym, subst}
 use Rattle.plant.specs.PlantValue.{PlantValue}
-use Rattle.node_journals.specs.Commands.{AreNumbered, AreForPlant}
-use Rattle.node_journals.specs.declared.command.Command.{Command}
+use Rattle.node_reports.specs.Commands.{AreNumbered, AreForPlant}
+use Rattle.node_reports.specs.declared.command.Command.{Command}
 use Rattle.node_reports.specs.Reports.{IsRunFault}
 use Rattle.plc_main.proofs.RunExplaining.{run_refused, no_report, report_of, told_partly}
 use Rattle.plc_main.proofs.run_command.run_text.Goals as goal

@@ -2,7 +2,7 @@
 use Rattle.std.proofs.Common.{◌≡◌, ◌↔◌, ◌∙◌, ◌==◌, ℕ, Bool, true, false, IsTrue, [], length, ap, sym, refl, subst}
 use Rattle.std.proofs.KnownBytes.{Appends-trans}
 use Rattle.lists.proofs.Results.{kept_fault}
-use Rattle.text_writer.specs.declared.send_fault.SendFault.TheVariants.{Write, Memory}
+use Rattle.text_lines.specs.declared.send_fault.SendFault.TheVariants.{Write, Memory}
 use Rattle.run_texts.specs.ReportText.{replay_line}
 use Rattle.run_texts.specs.AuditText.{audit_lines, TellsAuditPart}
 use Rattle.run_texts.proofs.ReportTelling.{lines_partly, lines_alone, last_partly, all_shown}

@@ -1,4 +1,4 @@
-use Rattle.text_writer.proofs.Sending.{none_made, sends_on, part_of_less, lines_unmade, lines_unsent, line_made}
+use Rattle.text_lines.proofs.Sending.{none_made, sends_on, part_of_less, lines_unmade, lines_unsent, line_made}
 use Rattle.run_texts.specs.AuditText.{unshown_line}
 use Rattle.run_texts.proofs.audit_text.write_unshown.Goals as goal
 

@@ -1,7 +1,7 @@
 -- The world begins anew, and does the events of the schedule.
 use Rattle.std.proofs.Common.{◌≡◌, ◌↔◌, IsTrue, sym, subst}
 use Rattle.task_codes.specs.CodeValue.{lists_of}
-use Rattle.node_journals.specs.Codes.{AreOfPlant}
+use Rattle.node_reports.specs.Codes.{AreOfPlant}
 use Rattle.run_texts.specs.Steps.Replaying.{replayed_in}
 use Rattle.run_texts.proofs.Replaying.{run_of, of_one_code}
 use Rattle.run_texts.proofs.replay.is_replayed.Goals as goal

@@ -1,6 +1,6 @@
 use Rattle.std.proofs.Common.{◌≡◌, take}
 use Rattle.task_codes.specs.CodeValue.{lists_of}
-use Rattle.node_journals.specs.Journals.{openings_of}
+use Rattle.node_reports.specs.Journals.{openings_of}
 use Rattle.run_texts.proofs.replay.openings.Given as goal
 
 abbrev pub invariant-loop-journal : goal.invariant-loop-journal

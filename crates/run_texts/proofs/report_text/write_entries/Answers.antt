@@ -1,5 +1,5 @@
 use Rattle.std.proofs.Common.{◌+◌, ◌++◌, string_bytes, ap, ◌∙◌}
-use Rattle.text_writer.proofs.Sending.{none_made, more_made, sends_on, part_of_less, part_sent, part_left, on_err}
+use Rattle.text_lines.proofs.Sending.{none_made, more_made, sends_on, part_of_less, part_sent, part_left, on_err}
 use Rattle.world.specs.RunLines.{evaluation_line}
 use Rattle.run_texts.proofs.Reporting.{entries_parted, entry_more}
 use Rattle.run_texts.proofs.report_text.write_entries.Goals as goal

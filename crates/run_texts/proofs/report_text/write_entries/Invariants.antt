@@ -1,5 +1,5 @@
 use Rattle.std.proofs.Common.{take, string_bytes}
-use Rattle.text_writer.specs.Sending.{Sends}
+use Rattle.text_lines.specs.Sending.{Sends}
 use Rattle.run_texts.specs.ReportText.{entry_lines}
 use Rattle.run_texts.proofs.report_text.write_entries.Given as goal
 

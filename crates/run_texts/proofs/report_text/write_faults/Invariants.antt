@@ -1,6 +1,6 @@
 use Rattle.std.proofs.Common.{take, string_bytes}
 use Rattle.std.specs.List.{flat_map}
-use Rattle.text_writer.specs.Sending.{Sends}
+use Rattle.text_lines.specs.Sending.{Sends}
 use Rattle.run_texts.specs.ReportText.{fault_line}
 use Rattle.run_texts.proofs.report_text.write_faults.Given as goal
 

@@ -3,7 +3,7 @@ use Rattle.std.proofs.Common.{◌++◌}
 use Rattle.std.specs.List.{flat_map}
 use Rattle.std.proofs.KnownBytes.{Appends-trans}
 use Rattle.run_texts.specs.ReportText.{entry_lines, unanswered_line, fault_line}
-use Rattle.text_writer.proofs.Sending.{on_err, part_of_first, part_of_second, then_ok, then_part}
+use Rattle.text_lines.proofs.Sending.{on_err, part_of_first, part_of_second, then_ok, then_part}
 use Rattle.run_texts.proofs.report_text.write_report.Goals as goal
 
 pub returns-in_err-write_entries-clause-part : goal.returns-in_err-write_entries-clause-part

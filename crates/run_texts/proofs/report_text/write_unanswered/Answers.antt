@@ -1,4 +1,4 @@
-use Rattle.text_writer.proofs.Sending.{none_made, sends_on, part_of_less, lines_unmade, lines_unsent, line_made}
+use Rattle.text_lines.proofs.Sending.{none_made, sends_on, part_of_less, lines_unmade, lines_unsent, line_made}
 use Rattle.run_texts.specs.ReportText.{unanswered_line}
 use Rattle.run_texts.proofs.report_text.write_unanswered.Goals as goal
 

@@ -2,7 +2,7 @@
 use Rattle.std.proofs.Common.{ap, ◌∙◌}
 use Rattle.std.proofs.KnownBytes.{Appends-trans}
 use Rattle.lists.proofs.Results.{kept_fault}
-use Rattle.text_writer.specs.declared.send_fault.SendFault.TheVariants.{Write, Memory}
+use Rattle.text_lines.specs.declared.send_fault.SendFault.TheVariants.{Write, Memory}
 use Rattle.run_texts.specs.ReportText.{report_lines, replay_line, TellsPart}
 use Rattle.run_texts.proofs.ReportTelling.{lines_partly, lines_alone, last_partly, faulty}
 use Rattle.node_reports.specs.Reports.{setting_of}

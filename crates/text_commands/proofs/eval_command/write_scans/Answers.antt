@@ -3,7 +3,7 @@ use Rattle.std.proofs.KnownBytes.{Appends-nil, Appends-trans}
 use Rattle.text_commands.specs.Rows.{scans_of}
 use Rattle.text_commands.specs.Lines.{line_of}
 use Rattle.lists.proofs.Results.{kept_fault}
-use Rattle.text_writer.specs.declared.send_fault.SendFault.TheVariants.{Write, Memory}
+use Rattle.text_lines.specs.declared.send_fault.SendFault.TheVariants.{Write, Memory}
 use Rattle.text_commands.specs.EvalText.{StopsScans}
 use Rattle.text_commands.proofs.Scanning.{begun_at, scan_more, stopped_behind, stopped_at_first, stopped_within}
 use Rattle.text_commands.proofs.Setting.{fits_after}

@@ -1,7 +1,7 @@
 use Rattle.lists.proofs.Results.{kept_fault}
-use Rattle.text_writer.specs.Sending.{Stops}
-use Rattle.text_writer.specs.declared.send_fault.SendFault.TheVariants.{Write, Memory}
-use Rattle.text_writer.proofs.Sending.{none_made, sends_on, part_sent, less_left, lines_parted, line_made}
+use Rattle.text_lines.specs.Sending.{Stops}
+use Rattle.text_lines.specs.declared.send_fault.SendFault.TheVariants.{Write, Memory}
+use Rattle.text_lines.proofs.Sending.{none_made, sends_on, part_sent, less_left, lines_parted, line_made}
 use Rattle.text_commands.specs.PlanText.{due_line, plan_lines}
 use Rattle.text_commands.proofs.plan_command.write_dues.Goals as goal
 

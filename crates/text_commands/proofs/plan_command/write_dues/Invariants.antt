@@ -1,5 +1,5 @@
 use Rattle.std.proofs.Common.{take, string_bytes}
-use Rattle.text_writer.specs.Sending.{Sends}
+use Rattle.text_lines.specs.Sending.{Sends}
 use Rattle.text_commands.specs.PlanText.{plan_lines}
 use Rattle.text_commands.proofs.plan_command.write_dues.Given as goal
 

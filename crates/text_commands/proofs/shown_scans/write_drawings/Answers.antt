@@ -1,7 +1,7 @@
 use Rattle.std.proofs.Common.{◌≡◌, ◌+◌, ◌≤◌, ◌++◌, ◌∷◌, [], ◌∙◌, length, subst, sym, arith}
 use Rattle.std.proofs.KnownBytes.{Appends-nil, Appends-trans}
 use Rattle.lists.proofs.Results.{kept_fault}
-use Rattle.text_writer.specs.declared.send_fault.SendFault.TheVariants.{Write, Memory}
+use Rattle.text_lines.specs.declared.send_fault.SendFault.TheVariants.{Write, Memory}
 use Rattle.text_commands.specs.Rows.{scans_of}
 use Rattle.text_commands.specs.Steps.Showing.{IsShownScan, StopsShown}
 use Rattle.text_commands.proofs.Setting.{fits_after}

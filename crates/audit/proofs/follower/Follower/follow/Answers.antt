@@ -1,6 +1,6 @@
 -- One line more, and then the last one that was done.
 use Rattle.std.proofs.Common.{List, arith, sym, subst}
-use Rattle.journal_files.specs.declared.line.Line.{Line}
+use Rattle.audit.specs.declared.line.Line.{Line}
 use Rattle.audit.specs.Steps.Following.{IsFollowing}
 use Rattle.audit.specs.Steps.Settled.{IsSettledAt}
 use Rattle.audit.proofs.GoingOn.{goes_twice}

@@ -2,7 +2,7 @@ use Rattle.std.proofs.Common.{◌≡◌, ◌∙◌, List, ap, subst}
 use Rattle.std.specs.Global.{Vec}
 use Rattle.std_blocks.specs.declared.value.Value.{Value}
 use Rattle.plant.specs.PlantValue.{PlantValue}
-use Rattle.journal_files.specs.declared.line.Line.{Line}
+use Rattle.audit.specs.declared.line.Line.{Line}
 use Rattle.audit.specs.Lines.{Opens, item_at}
 use Rattle.audit.specs.Steps.Standings.{empty_book, IsStanding, journal_in}
 use Rattle.audit.specs.Steps.Following.{HasBegun}

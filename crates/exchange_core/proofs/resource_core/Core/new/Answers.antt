@@ -1,5 +1,5 @@
 use Rattle.std.proofs.Common.{sym, ap, subst, get_or, ◌∙◌}
-use Rattle.message_core.specs.MessageCoreValue.{MessageCoreValue}
+use Rattle.exchange_core.specs.MessageCoreValue.{MessageCoreValue}
 use Rattle.exchange_core.specs.Wholes.{AreWhole, core_in}
 use Rattle.exchange_core.proofs.Wholes.{are-whole-nothing}
 use Rattle.exchange_core.proofs.Telling.{fresh-in}

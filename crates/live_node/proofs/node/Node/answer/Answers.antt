@@ -1,5 +1,5 @@
 -- Nothing was noted.
-use Rattle.text_writer.proofs.Sending.{on_err}
+use Rattle.text_lines.proofs.Sending.{on_err}
 use Rattle.live_node.proofs.Stopping.{no_part}
 use Rattle.live_node.proofs.node.Node.answer.Goals as goal
 

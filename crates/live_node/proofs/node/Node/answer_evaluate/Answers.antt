@@ -1,5 +1,5 @@
 -- What was noted is the whole note of the line.
-use Rattle.text_writer.proofs.Sending.{on_err}
+use Rattle.text_lines.proofs.Sending.{on_err}
 use Rattle.live_node.proofs.Stopping.{all_sent}
 use Rattle.live_node.proofs.node.Node.answer_evaluate.Goals as goal
 

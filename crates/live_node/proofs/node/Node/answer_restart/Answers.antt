@@ -1,7 +1,7 @@
 -- A restart that isn't done: nothing was noted, and the keeper had a fault.
 use Rattle.std.proofs.Common.{rules, ◌∙◌}
 use Rattle.std.specs.Prelude.{string_bytes}
-use Rattle.text_writer.proofs.Sending.{on_err}
+use Rattle.text_lines.proofs.Sending.{on_err}
 use Rattle.live_node.proofs.Stopping.{no_restart}
 use Rattle.live_node.proofs.Telling.{refused_raise, on_ok}
 use Rattle.live_node.proofs.node.Node.answer_restart.Goals as goal

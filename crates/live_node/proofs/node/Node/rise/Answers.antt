@@ -1,6 +1,6 @@
 -- What was noted is the whole note of the restart.
 use Rattle.std.proofs.Common.{rules}
-use Rattle.text_writer.proofs.Sending.{on_err}
+use Rattle.text_lines.proofs.Sending.{on_err}
 use Rattle.live_node.proofs.Stopping.{all_sent}
 use Rattle.live_node.proofs.node.Node.rise.Goals as goal
 

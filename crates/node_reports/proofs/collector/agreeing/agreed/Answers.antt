@@ -1,7 +1,7 @@
 -- Where they agree, the clauses hold; else they don't agree.
 use Rattle.std.proofs.Common.{All, sym, ◌∙◌, subst}
 use Rattle.std.proofs.lemmas.Bool.{false≢true}
-use Rattle.node_journals.specs.Journals.{firsts_of}
+use Rattle.node_reports.specs.Journals.{firsts_of}
 use Rattle.node_reports.specs.Reports.{IsFittingBook, AreJournalsOf, AreInBook, RunsAgain, CanBeMadeAgain, Agree}
 use Rattle.node_reports.specs.Steps.Comparing.{MadeOfPlant}
 use Rattle.node_reports.proofs.ByPlant.{made_of_plant}

@@ -3,9 +3,9 @@ use Rattle.std.proofs.Common.{◌≡◌, ◌<◌, ◌∷◌, Some, List, drop, g
 use Rattle.std.proofs.lemmas.Option.{slice_get_read, get_or_from_slice_get}
 use Rattle.evaluation.specs.declared.name.Name.{Name}
 use Rattle.evaluation.specs.Meaning.{Evaluated}
-use Rattle.node_journals.specs.declared.step.Step.{Step}
-use Rattle.node_journals.specs.declared.journal.Journal.{Journal}
-use Rattle.node_journals.specs.Journals.{made}
+use Rattle.node_reports.specs.declared.step.Step.{Step}
+use Rattle.node_reports.specs.declared.journal.Journal.{Journal}
+use Rattle.node_reports.specs.Journals.{made}
 use Rattle.node_reports.specs.Steps.Comparing.{AreByCodeOf}
 use Rattle.node_reports.proofs.ByPlant.{made_from}
 use Rattle.node_reports.proofs.Remaking.{holds_at}

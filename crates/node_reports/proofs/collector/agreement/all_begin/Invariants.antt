@@ -1,6 +1,6 @@
 -- Each journal before the present one begins at its place.
 use Rattle.std.proofs.Common.{◌≡◌, ℕ, ◌<◌, Some, slice_get}
-use Rattle.node_journals.specs.declared.journal.Journal.{Journal}
+use Rattle.node_reports.specs.declared.journal.Journal.{Journal}
 use Rattle.node_reports.specs.Steps.Collecting.{BeginsAt}
 use Rattle.node_reports.proofs.collector.agreement.all_begin.Given as goal
 

@@ -1,6 +1,6 @@
 -- Each step of each journal before the present one is commanded.
 use Rattle.std.proofs.Common.{ℕ, ◌<◌, All, get_or}
-use Rattle.node_journals.specs.declared.journal.Journal.{Journal}
+use Rattle.node_reports.specs.declared.journal.Journal.{Journal}
 use Rattle.node_reports.specs.Reports.{IsCommanded}
 use Rattle.node_reports.proofs.collector.obedience.all_commanded.Given as goal
 

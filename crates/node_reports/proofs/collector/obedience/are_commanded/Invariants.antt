@@ -1,6 +1,6 @@
 -- Each step before the present one is commanded.
 use Rattle.std.proofs.Common.{ℕ, ◌<◌, get_or}
-use Rattle.node_journals.specs.declared.step.Step.{Step}
+use Rattle.node_reports.specs.declared.step.Step.{Step}
 use Rattle.node_reports.specs.Reports.{IsCommanded}
 use Rattle.node_reports.proofs.collector.obedience.are_commanded.Given as goal
 

@@ -1,8 +1,8 @@
 -- One more fault follows those before it, or doesn't.
 use Rattle.std.proofs.Common.{◌<◌, length, get_or, refl, arith}
 use Rattle.std.proofs.lemmas.Bool.{false≢true}
-use Rattle.node_journals.specs.declared.cause.Cause.TheVariants.{OutOfTurns}
-use Rattle.node_journals.specs.declared.node_fault.NodeFault.{NodeFault}
+use Rattle.node_reports.specs.declared.cause.Cause.TheVariants.{OutOfTurns}
+use Rattle.node_reports.specs.declared.node_fault.NodeFault.{NodeFault}
 use Rattle.node_reports.proofs.Stopping.{stop_marks_more, stops_more, stop_marked}
 use Rattle.node_reports.proofs.collector.stops.all_follow.Goals as goal
 

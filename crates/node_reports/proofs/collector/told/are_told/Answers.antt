@@ -2,8 +2,8 @@
 use Rattle.std.proofs.Common.{◌≡◌, ◌<◌, Some, slice_get, length, get_or, below_more, refl, sym, subst, arith}
 use Rattle.std.proofs.lemmas.Bool.{false≢true}
 use Rattle.std.proofs.lemmas.Option.{slice_get-get_or, get_or_from_slice_get}
-use Rattle.node_journals.specs.declared.cause.Cause.TheVariants.{OutOfTurns}
-use Rattle.node_journals.specs.declared.node_fault.NodeFault.{NodeFault}
+use Rattle.node_reports.specs.declared.cause.Cause.TheVariants.{OutOfTurns}
+use Rattle.node_reports.specs.declared.node_fault.NodeFault.{NodeFault}
 use Rattle.node_reports.specs.Reports.{IsToldOf}
 use Rattle.node_reports.specs.Steps.Collecting.{AreRestartMarks}
 use Rattle.node_reports.proofs.collector.told.are_told.Goals as goal

@@ -1,6 +1,6 @@
 -- Each fault before the present one is told of a command.
 use Rattle.std.proofs.Common.{ℕ, ◌<◌, get_or}
-use Rattle.node_journals.specs.declared.node_fault.NodeFault.{NodeFault}
+use Rattle.node_reports.specs.declared.node_fault.NodeFault.{NodeFault}
 use Rattle.node_reports.specs.Reports.{IsToldOf}
 use Rattle.node_reports.proofs.collector.told.are_told.Given as goal
 

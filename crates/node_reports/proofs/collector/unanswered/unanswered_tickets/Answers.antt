@@ -4,7 +4,7 @@ use Rattle.std.proofs.lemmas.List.{append-nil, get_or_read, take_all}
 use Rattle.std.proofs.lemmas.Option.{slice_get_read}
 use Rattle.node_reports.specs.Reports.{is_unanswered, unanswered_of}
 use Rattle.std.specs.List.Sorted.{IsStrictlyIncreasing}
-use Rattle.node_journals.specs.declared.command.Command.{Command}
+use Rattle.node_reports.specs.declared.command.Command.{Command}
 use Rattle.node_reports.proofs.Collecting.{unanswered_is, unanswered-more}
 use Rattle.node_reports.proofs.Numbered.{unanswered_rise}
 use Rattle.node_reports.proofs.collector.unanswered.unanswered_tickets.Goals as goal

@@ -2,7 +2,7 @@
 use Rattle.std.proofs.Common.{rules, List, sym, subst}
 use Rattle.std.specs.List.Sorted.{IsNonDecreasingBy}
 use Rattle.std.proofs.lemmas.List.Sorted.{IsNonDecreasingBy-from_sort_by_key, answers_always}
-use Rattle.node_journals.specs.declared.node_fault.NodeFault.{NodeFault}
+use Rattle.node_reports.specs.declared.node_fault.NodeFault.{NodeFault}
 use Rattle.node_reports.specs.Reports.{AreByTicket}
 use Rattle.node_reports.proofs.Faults.{stable_order}
 use Rattle.node_reports.proofs.node_faults.NodeFaults.of.Goals as goal

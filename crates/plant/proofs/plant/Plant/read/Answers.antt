@@ -11,12 +11,12 @@ use Rattle.plant_grammar.specs.Lawful.{all_uses, IsTreeLawful}
 use Rattle.plant_grammar.specs.Steps.Lines.{ReaderValue, HasLinesOf}
 use Rattle.plant_grammar.specs.Steps.Reading.{tree_written}
 use Rattle.lists.proofs.Results.{kept_fault}
-use Rattle.program_bodies.specs.Faults.{IsPlantFault, IsOfBody, IsOfDeclaredName, kind_of_word, fault_of_word}
-use Rattle.program_bodies.specs.Ladders.{IsLadderOf}
-use Rattle.program_bodies.specs.ProgramTypes.{TypeValue}
+use Rattle.plant.specs.Faults.{IsPlantFault, IsOfBody, IsOfDeclaredName, kind_of_word, fault_of_word}
+use Rattle.plant.specs.Ladders.{IsLadderOf}
+use Rattle.plant.specs.ProgramTypes.{TypeValue}
 use Rattle.plant.specs.Faultless.{AreBindsFed, IsTreeFaultless}
 use Rattle.plant.specs.SourceFaults.{HasFirstSourceFault}
-use Rattle.program_bodies.specs.declared.plant_fault.PlantFaultKind.TheVariants.{Memory, Syntax}
+use Rattle.plant.specs.declared.plant_fault.PlantFaultKind.TheVariants.{Memory, Syntax}
 use Rattle.plant_grammar.specs.Steps.Reading.{programs_of}
 use Rattle.plant.specs.PlantText.{IsNoPlant, HasFaultlessWords, IsNotOfGrammar, IsBodyFaultIn, IsNameFaultIn}
 use Rattle.plant.proofs.SameTrees.{ladders_same, sources_same}

@@ -3,7 +3,7 @@ use Rattle.std.proofs.Common.{None}
 use Rattle.std.proofs.Common.{rules, ◌≡◌, ◌∙◌, ap, Some}
 use Rattle.std.specs.List.{find}
 use Rattle.plant_grammar.specs.Names.{is_named}
-use Rattle.program_bodies.specs.ProgramTypes.{TypeValue}
+use Rattle.plant.specs.ProgramTypes.{TypeValue}
 use Rattle.task_codes.specs.CodeValue.{ProgramValue}
 use Rattle.plant.proofs.Drafting.{program_made}
 use Rattle.plant.proofs.sources.draft.draft_program.Goals as goal

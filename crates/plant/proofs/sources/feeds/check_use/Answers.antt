@@ -7,7 +7,7 @@ use Rattle.std.proofs.Common.{sym, subst, ◌∙◌, All, inr}
 use Rattle.std.proofs.Common.{rules, ◌≡◌, Some}
 use Rattle.std.specs.List.{find}
 use Rattle.plant_grammar.specs.Names.{is_named}
-use Rattle.program_bodies.specs.ProgramTypes.{TypeValue}
+use Rattle.plant.specs.ProgramTypes.{TypeValue}
 use Rattle.std.proofs.lemmas.Result.{on_ok_weaker}
 use Rattle.plant.proofs.sources.feeds.check_use.Goals as goal
 

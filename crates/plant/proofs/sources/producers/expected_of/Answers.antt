@@ -1,7 +1,7 @@
 use Rattle.std.proofs.Common.{get_or, Vec}
 use Rattle.std.specs.Global.{Global}
 use Rattle.declared_names.specs.declared.declarations.Kind.{Kind}
-use Rattle.due_list.specs.declared.task_ref.TaskRef.{TaskRef}
+use Rattle.task_codes.specs.declared.task_ref.TaskRef.{TaskRef}
 use Rattle.plant.specs.Steps.Drafts.{drafted, AreKindsOf}
 use Rattle.plant.proofs.Zips.{zip_more_right, at_itself}
 use Rattle.plant.proofs.sources.producers.expected_of.Goals as goal

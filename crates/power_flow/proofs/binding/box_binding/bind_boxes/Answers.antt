@@ -2,7 +2,7 @@ use Rattle.std.proofs.Common.{ℕ, subst, [], ◌∷◌, ◌+◌, ◌++◌, List
 use Rattle.std.proofs.lemmas.List.{length-append, take_all}
 use Rattle.lists.proofs.Members.{all_first, all_last}
 use Rattle.network.specs.declared.element.Element.{Element}
-use Rattle.variable_binding.specs.Steps.Named.{IsNamedBox}
+use Rattle.name_faults.specs.Steps.Named.{IsNamedBox}
 use Rattle.power_flow.specs.Steps.BoxTable.{ArePinsIn, AreOutputsIn}
 use Rattle.power_flow.specs.Steps.BoxTable.{boxes_of}
 use Rattle.power_flow.proofs.Boxes.BoxesBinding.{boxes_more}

@@ -1,6 +1,6 @@
 use Rattle.std.proofs.Common.{◌≡◌, ℕ, All, take, length}
 use Rattle.std.specs.List.{AllZip}
-use Rattle.variable_binding.specs.Steps.Named.{IsNamedBox}
+use Rattle.name_faults.specs.Steps.Named.{IsNamedBox}
 use Rattle.power_flow.specs.Steps.BoxTable.{ArePinsIn, AreOutputsIn}
 use Rattle.power_flow.specs.Steps.BoxTable.{boxes_of, IsBoundBox}
 use Rattle.power_flow.proofs.binding.box_binding.bind_boxes.Given as goal

@@ -1,6 +1,6 @@
 use Rattle.std.proofs.Common.{◌<◌, ℕ, All, take}
 use Rattle.std.specs.List.{AllZip}
-use Rattle.variable_binding.specs.Steps.Named.{AreOutputs}
+use Rattle.name_faults.specs.Steps.Named.{AreOutputs}
 use Rattle.power_flow.specs.Steps.BoxTable.{ArePinsIn}
 use Rattle.power_flow.specs.Steps.BoxTable.{right_pins, IsBoundOutput}
 use Rattle.power_flow.proofs.binding.box_binding.outputs_of.Given as goal

@@ -4,7 +4,7 @@ use Rattle.std.proofs.lemmas.List.Elements.{All-head, All-push}
 use Rattle.lists.proofs.Zips.{zip_push}
 use Rattle.scan_steps.specs.declared.bound_box.BoundBox.{BoundBox}
 use Rattle.scan_steps.specs.declared.bound_box.BoundOutput.{BoundOutput}
-use Rattle.variable_binding.specs.Steps.Named.{IsNamedBox}
+use Rattle.name_faults.specs.Steps.Named.{IsNamedBox}
 use Rattle.power_flow.specs.Steps.BoxTable.{ArePinsIn}
 use Rattle.power_flow.specs.Steps.BoxTable.{IsBoundBox}
 use Rattle.power_flow.proofs.Boxes.BoxesBinding.{none_pushed}

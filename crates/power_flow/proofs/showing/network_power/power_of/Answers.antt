@@ -1,7 +1,7 @@
 use Rattle.std.proofs.Common.{◌≡◌, None, length, refl, ap, ◌∙◌, arith}
 use Rattle.network.specs.GraphValue.{diagram, IsSoundNetwork}
 use Rattle.scan_steps.specs.Steps.Passing.{Pass, pass_of}
-use Rattle.variable_binding.specs.Steps.Named.{IsNamedBox}
+use Rattle.name_faults.specs.Steps.Named.{IsNamedBox}
 use Rattle.power_flow.specs.declared.steps.circuit.Circuit.{Circuit}
 use Rattle.power_flow.specs.Steps.BoxStores.{with_blocks}
 use Rattle.power_flow.specs.Steps.Circuit.{IsCircuit}

@@ -1,7 +1,7 @@
 use Rattle.std.proofs.Common.{◌≡◌, ◌<◌, ℕ, All, length, sym, ap, ◌∙◌}
 use Rattle.network.specs.GraphValue.{diagram}
 use Rattle.scan_steps.specs.declared.step.BoundCoil.{BoundCoil}
-use Rattle.variable_binding.specs.Steps.Named.{IsNamedBox}
+use Rattle.name_faults.specs.Steps.Named.{IsNamedBox}
 use Rattle.power_flow.specs.Waiting.{coils_of, boxes_of}
 use Rattle.power_flow.proofs.Networks.Fusing.{fewer_in}
 use Rattle.power_flow.proofs.Boxes.BoxesTable.{all_boxes, bound_boxes_are}

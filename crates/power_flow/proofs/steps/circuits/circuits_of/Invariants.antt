@@ -1,6 +1,6 @@
 use Rattle.std.proofs.Common.{◌≡◌, All, map}
 use Rattle.power_flow.specs.declared.steps.circuit.Circuit.{Circuit}
-use Rattle.variable_binding.specs.Steps.Named.{AreNamed}
+use Rattle.name_faults.specs.Steps.Named.{AreNamed}
 use Rattle.power_flow.specs.Steps.Circuit.{AreCircuits, HasShape}
 use Rattle.power_flow.proofs.steps.circuits.circuits_of.Given as goal
 

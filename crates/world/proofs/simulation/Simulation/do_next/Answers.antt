@@ -1,6 +1,6 @@
 use Rattle.std.proofs.Common.{subst}
 use Rattle.lists.proofs.Results.{kept_fault}
-use Rattle.line_reader.specs.Lines.{Gives}
+use Rattle.text_lines.specs.Lines.{Gives}
 use Rattle.world.specs.Steps.Live.{HasStoppedNext}
 use Rattle.world.proofs.LiveSteps.{line_failed, last_failed, next_too_long}
 use Rattle.world.proofs.simulation.Simulation.do_next.Goals as goal

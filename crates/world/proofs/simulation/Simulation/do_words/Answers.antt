@@ -1,6 +1,6 @@
 use Rattle.std.proofs.Common.{◌≡◌, ◌+◌, sym, ◌∙◌, subst, map}
 use Rattle.plant.specs.PlantValue.{PlantValue}
-use Rattle.exchange.specs.declared.event.Event.{Event}
+use Rattle.world.specs.declared.event.Event.{Event}
 use Rattle.world.specs.ScheduleText.{SpellsEvent}
 use Rattle.world.proofs.ScheduleReading.{err_and}
 use Rattle.world.proofs.Ending.{stopped_early}

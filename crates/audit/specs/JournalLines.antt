@@ -1,0 +1,75 @@
+-- What a line of a journal tells: it is what a node notes. `;` and the line feed stand behind it.
+use Rattle.std.specs.Prelude.{◌≡◌, ◌≢◌, ◌⊎◌, ℕ, ◌<◌, ◌≤◌, ◌++◌, List, Some, codes, length}
+use Rattle.std.specs.List.{AllByRecursion}
+use Rattle.std_blocks.specs.declared.value.Value.{Value}
+use Rattle.plant.specs.PlantValue.{PlantValue, code_at}
+use Rattle.task_codes.specs.CodeValue.{CodeValue}
+use Rattle.exchange_core.specs.Openings.{AreOpeningOf}
+use Rattle.text_lines.specs.ReadParts.{IsInRange}
+use Rattle.text_lines.specs.MessageLines.{IsSmall}
+use Rattle.live_node.specs.NodeLines.{Spells, SpellsNothing}
+use Rattle.live_node.specs.NodeJournal.{note_end, line_note, start_note, restart_note}
+use Rattle.live_node.specs.declared.node_line.NodeLine.{NodeLine}
+use Rattle.live_node.specs.declared.node_line.NodeLine.TheVariants as asked
+use Rattle.audit.specs.declared.item.Item.{Item}
+use Rattle.audit.specs.declared.item.Item.TheVariants.{Start, Restart, Message, Hello, Evaluate, Faulty}
+
+-- a line is what a resource notes as it starts in this incarnation, and opens with these values
+pub record IsStart (plant : PlantValue) (n incarnation : ℕ) (opening : List (List Value)) (line : List ℕ) : Type 0 where
+  pub exists : n < length plant.resources
+  pub opens : AreOpeningOf plant n opening
+  pub noted : codes "\n" ++ line ++ note_end ≡ start_note plant n incarnation opening
+
+-- values that are in their ranges
+abbrev pub AreInRange : List (List Value) → Type 0
+AreInRange opening = AllByRecursion (AllByRecursion IsInRange) opening
+
+-- a line is no START of a resource of the plant
+abbrev pub IsNoStart : PlantValue → List ℕ → Type 0
+IsNoStart plant line =
+    (n incarnation : ℕ) (opening : List (List Value)) → IsSmall incarnation → AreInRange opening
+    → IsStart plant n incarnation opening line → ⊥
+
+-- a line is what the resource notes as it restarts in this incarnation
+abbrev pub IsRestart : PlantValue → ℕ → List ℕ → ℕ → Type 0
+IsRestart plant n line incarnation = line ++ note_end ≡ restart_note plant n incarnation
+
+-- a line is what a node notes of one that asks this of it
+abbrev pub IsNoted : PlantValue → NodeLine → List ℕ → Type 0
+IsNoted plant a line = Spells plant a line × (line_note line ≡ line ++ note_end)
+
+-- the resource has a task
+abbrev pub HasTask : PlantValue → ℕ → ℕ → Type 0
+HasTask plant n task =
+    (code : CodeValue) × (code_at plant (record { resource = n; task = task }) ≡ Some code)
+
+-- A node of the resource doesn't note what is asked: nothing, another resource's hello than one of the plant, an
+-- evaluation that isn't of one of its tasks, or a restart, which is noted with its incarnation.
+abbrev pub IsUnnoted : PlantValue → ℕ → NodeLine → Type 0
+IsUnnoted plant n asked.Idle = Unit {0}
+IsUnnoted plant n (asked.Evaluate t dt inputs) = (t.resource ≡ n) × HasTask plant n t.task → ⊥
+IsUnnoted plant n (asked.Take m) = ⊥
+IsUnnoted plant n (asked.Hello of incarnation) = length plant.resources ≤ of
+IsUnnoted plant n (asked.Restart resource) = Unit {0}
+
+-- a line isn't as a node notes lines, or it asks nothing, or what a node of the resource doesn't note
+abbrev pub AsksNothing : PlantValue → ℕ → List ℕ → Type 0
+AsksNothing plant n line =
+    (line_note line ≢ line ++ note_end) ⊎ SpellsNothing plant line
+    ⊎ ((a : NodeLine) × Spells plant a line × IsUnnoted plant n a)
+
+-- a line is no restart of the resource
+abbrev pub IsNoRestart : PlantValue → ℕ → List ℕ → Type 0
+IsNoRestart plant n line = (incarnation : ℕ) → IsSmall incarnation → IsRestart plant n line incarnation → ⊥
+
+-- A line behind a START of a resource tells this: a restart of it; a message of the plant; a hello of a resource of the
+-- plant; or an evaluation of one of its tasks. It is faulty only where it tells
+-- none of these.
+abbrev pub Tells : PlantValue → ℕ → List ℕ → Item → Type 0
+Tells plant n line (Start incarnation kept) = ⊥
+Tells plant n line (Restart incarnation) = IsRestart plant n line incarnation
+Tells plant n line (Message m) = IsNoted plant (asked.Take m) line
+Tells plant n line (Hello of incarnation) = (of < length plant.resources) × IsNoted plant (asked.Hello of incarnation) line
+Tells plant n line (Evaluate task dt inputs) =
+    HasTask plant n task × IsNoted plant (asked.Evaluate (record { resource = n; task = task }) dt inputs) line
+Tells plant n line Faulty = IsNoRestart plant n line × AsksNothing plant n line

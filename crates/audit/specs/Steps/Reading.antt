@@ -1,0 +1,45 @@
+-- A START that is read part by part.
+use Rattle.std.specs.Prelude.{◌≡◌, ℕ, ◌++◌, List, Option, Some, codes}
+use Rattle.std.specs.List.{AllZip}
+use Rattle.std.specs.Fmt.{decimal}
+use Rattle.std_blocks.specs.declared.value.Value.{Value}
+use Rattle.task_codes.specs.CodeValue.{CodeValue}
+use Rattle.task_codes.specs.declared.retained_variable.RetainedVariable.{RetainedVariable}
+use Rattle.plant.specs.PlantValue.{PlantValue, codes_at}
+use Rattle.text_lines.specs.LineParts.{resource_text}
+use Rattle.text_lines.specs.MessageLines.{IsSmall}
+use Rattle.text_lines.specs.Steps.Reading.{IsOfKind}
+use Rattle.live_node.specs.NodeJournal.{all_kept_text, keeps_text}
+use Rattle.audit.specs.JournalLines.{AreInRange, IsStart}
+
+-- a value of a retained variable
+abbrev pub IsKeptOf : RetainedVariable → Value → Type 0
+IsKeptOf v value = IsOfKind v.kind value
+
+-- values of a code's retained variables, one for each
+abbrev pub AreKeptOf : CodeValue → List Value → Type 0
+AreKeptOf code values = AllZip IsKeptOf code.retained values
+
+-- the text of a START
+abbrev pub start_line : PlantValue → ℕ → ℕ → List (List Value) → List ℕ
+start_line plant n incarnation opening =
+    (codes "START " ++ resource_text plant n ++ codes " ")
+    ++ (decimal incarnation ++ keeps_text (all_kept_text plant n opening))
+
+-- Where a text is what is kept of all tasks of a resource, that was read.
+abbrev pub AreKeptRead : PlantValue → ℕ → List ℕ → Option (List (List Value)) → Type 0
+AreKeptRead plant n text found =
+    (opening : List (List Value)) → AllZip AreKeptOf (codes_at plant n) opening → text ≡ all_kept_text plant n opening
+    → found ≡ Some opening
+
+-- Where a line is a START of a resource, its incarnation and values were read.
+abbrev pub IsStartRead : PlantValue → ℕ → List ℕ → Option (ℕ × List (List Value)) → Type 0
+IsStartRead plant n line found =
+    (incarnation : ℕ) (opening : List (List Value)) → IsSmall incarnation → AllZip AreKeptOf (codes_at plant n) opening
+    → line ≡ start_line plant n incarnation opening → found ≡ Some (incarnation, opening)
+
+-- a line is no START of this resource
+abbrev pub IsNoStartOf : PlantValue → ℕ → List ℕ → Type 0
+IsNoStartOf plant n line =
+    (incarnation : ℕ) (opening : List (List Value)) → IsSmall incarnation → AreInRange opening
+    → IsStart plant n incarnation opening line → ⊥

@@ -1,6 +1,0 @@
-use Rattle.std.proofs.Common.{rules}
-use Rattle.command_line.proofs.Matching.{plus_is_none}
-use Rattle.command_line.proofs.words.number.Goals as goal
-
-pub returns-then-starts_with : goal.returns-then-starts_with
-returns-then-starts_with c = plus_is_none c.args.text.now (search rules)

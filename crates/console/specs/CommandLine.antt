@@ -1,0 +1,380 @@
+-- What the words of the command line ask for.
+use Rattle.std.specs.Prelude.{◌≡◌, ℕ, ◌^◌, ◌<◌, ◌⊎◌, List, [], Option, Some, None, Bool, true, false, bytes_eq, codes, map, unwrap_or}
+use Rattle.std.specs.Option.{option_map, option_map_or}
+use Rattle.std.specs.Str.Parse.{IsNumeral, digits_value}
+use Rattle.clap.specs.Lexer.{usize_max}
+use Rattle.clap.specs.Words.{App, Row, Rule, Text, new_app, new_rule, with_rule, with_subcommand, first_of, all_of}
+use Rattle.clap.specs.declared.builder.action.ArgAction.TheVariants.{Set, Append, SetTrue}
+use Rattle.console.specs.declared.request.TextRequest.{TextRequest}
+use Rattle.console.specs.declared.request.TextRequest.TheVariants.{Eval, Check, Plan}
+use Rattle.console.specs.declared.request.View.{View}
+use Rattle.console.specs.declared.request.View.TheVariants.{Rows, Drawings, Chart}
+use Rattle.console.specs.declared.request.Color.{Color}
+use Rattle.console.specs.declared.request.Color.TheVariants.{Always, Auto, Never}
+use Rattle.console.specs.declared.request.TraceFiles.{TraceFiles}
+use Rattle.console.specs.declared.request.Request.{Request}
+use Rattle.console.specs.declared.request.Request.TheVariants.{Text as OfText, Verify, Sim, Run, Node, Explain, Audit}
+
+-- a word that must be given
+abbrev pub needed_word : Text → Rule
+needed_word id = record (new_rule id) { action = Some Set; required = true }
+
+-- an option `--id NUMBER`
+abbrev pub option_of : Text → Rule
+option_of id = record (new_rule id) { action = Some Set; long = Some id; value_names = 1 }
+
+abbrev pub drawing_rule : Rule
+drawing_rule = needed_word (codes "DRAWING")
+
+abbrev pub plant_rule : Rule
+plant_rule = needed_word (codes "PLANT")
+
+-- a word that may be left out
+abbrev pub kind_rule : Rule
+kind_rule = record (new_rule (codes "KIND")) { action = Some Set }
+
+abbrev pub dt_rule : Rule
+dt_rule = option_of (codes "dt")
+
+abbrev pub until_rule : Rule
+until_rule = record (option_of (codes "until")) { required = true }
+
+abbrev pub schedule_rule : Rule
+schedule_rule = needed_word (codes "SCHEDULE")
+
+abbrev pub resource_rule : Rule
+resource_rule = needed_word (codes "RESOURCE")
+
+abbrev pub max_number_rule : Rule
+max_number_rule = option_of (codes "max-number")
+
+-- an option `--state DIR`
+abbrev pub state_rule : Rule
+state_rule = option_of (codes "state")
+
+-- an option `--journal FILE`
+abbrev pub journal_rule : Rule
+journal_rule = option_of (codes "journal")
+
+-- a flag `--id`
+abbrev pub flag_of : Text → Rule
+flag_of id = record (new_rule id) { action = Some SetTrue; long = Some id }
+
+abbrev pub paced_rule : Rule
+paced_rule = flag_of (codes "paced")
+
+abbrev pub chart_rule : Rule
+chart_rule = flag_of (codes "chart")
+
+abbrev pub show_rule : Rule
+show_rule = flag_of (codes "show")
+
+-- an option `--color WHEN`
+abbrev pub color_rule : Rule
+color_rule = option_of (codes "color")
+
+-- options `--vcd FILE` and `--svg FILE`
+abbrev pub vcd_rule : Rule
+vcd_rule = option_of (codes "vcd")
+
+abbrev pub svg_rule : Rule
+svg_rule = option_of (codes "svg")
+
+-- with the options for files of a trace, `[--vcd FILE] [--svg FILE]`
+abbrev pub traced : App → App
+traced a = with_rule (with_rule a vcd_rule) svg_rule
+
+-- an option `--never NAME`, once or more often
+abbrev pub never_rule : Rule
+never_rule = record (new_rule (codes "never")) {
+  action = Some Append;
+  long = Some (codes "never");
+  value_names = 1;
+  required = true;
+}
+
+abbrev pub most_states_rule : Rule
+most_states_rule = option_of (codes "most-states")
+
+-- any number of words
+abbrev pub words_rule : Rule
+words_rule = record (new_rule (codes "words")) {
+  action = Some Append;
+  range = Some (record { start_inclusive = 0; end_inclusive = usize_max });
+  value_names = 1;
+}
+
+-- `eval DRAWING [--dt MS] [--show] [--chart] [--color WHEN]`
+abbrev pub shown_app : App
+shown_app =
+    let dt = with_rule (with_rule (new_app (codes "eval")) drawing_rule) dt_rule in
+    with_rule (with_rule (with_rule dt show_rule) chart_rule) color_rule
+
+-- .. `[--vcd FILE] [--svg FILE] [NAME=BITS]..`
+abbrev pub eval_app : App
+eval_app = with_rule (traced shown_app) words_rule
+
+-- `verify DRAWING --never NAME [--dt MS] [--most-states N] [NAME=BIT]..`
+abbrev pub verify_app : App
+verify_app =
+    let never = with_rule (with_rule (new_app (codes "verify")) drawing_rule) never_rule in
+    with_rule (with_rule (with_rule never dt_rule) most_states_rule) words_rule
+
+-- `check PLANT`
+abbrev pub check_app : App
+check_app = with_rule (new_app (codes "check")) plant_rule
+
+-- `plan PLANT --until MS`
+abbrev pub plan_app : App
+plan_app = with_rule (with_rule (new_app (codes "plan")) plant_rule) until_rule
+
+-- `sim PLANT SCHEDULE [--max-number N]`
+abbrev pub limited_app : App
+limited_app = with_rule (with_rule (with_rule (new_app (codes "sim")) plant_rule) schedule_rule) max_number_rule
+
+-- .. `[--vcd FILE] [--svg FILE]`
+abbrev pub sim_app : App
+sim_app = traced limited_app
+
+-- `run PLANT --until MS [--state DIR] [--paced]`
+abbrev pub paced_app : App
+paced_app =
+    let until = with_rule (with_rule (new_app (codes "run")) plant_rule) until_rule in
+    with_rule (with_rule until state_rule) paced_rule
+
+-- .. `[--vcd FILE] [--svg FILE] [ADDRESS=VALUE]..`
+abbrev pub run_app : App
+run_app = with_rule (traced paced_app) words_rule
+
+-- `node PLANT RESOURCE [--state DIR] [--journal FILE]`
+abbrev pub node_app : App
+node_app =
+    let resource = with_rule (with_rule (new_app (codes "node")) plant_rule) resource_rule in
+    with_rule (with_rule resource state_rule) journal_rule
+
+-- the names of journals, one or more
+abbrev pub journals_rule : Rule
+journals_rule = record (new_rule (codes "JOURNAL")) {
+  action = Some Append;
+  range = Some (record { start_inclusive = 1; end_inclusive = usize_max });
+  required = true;
+}
+
+-- `audit PLANT JOURNAL..`
+abbrev pub audit_app : App
+audit_app = with_rule (with_rule (new_app (codes "audit")) plant_rule) journals_rule
+
+-- `explain [KIND]`
+abbrev pub explain_app : App
+explain_app = with_rule (new_app (codes "explain")) kind_rule
+
+-- with a version
+abbrev pub versioned : App → App
+versioned a = record a { top = record a.top { has_version = true } }
+
+-- it needs a command
+abbrev pub commanded : App → App
+commanded a = record a { top = record a.top { subcommand_required = true } }
+
+-- `plc` with the four commands of one text
+abbrev pub text_app : App
+text_app =
+    let plc = commanded (versioned (new_app (codes "plc"))) in
+    with_subcommand (with_subcommand (with_subcommand (with_subcommand plc eval_app.top) verify_app.top) check_app.top)
+    plan_app.top
+
+-- `plc`, and one of the eight
+abbrev pub plc_app : App
+plc_app =
+    let run = with_subcommand (with_subcommand text_app sim_app.top) run_app.top in
+    with_subcommand (with_subcommand (with_subcommand run node_app.top) audit_app.top) explain_app.top
+
+-- digits alone are a number of 32 bits
+abbrev pub IsNumber : List ℕ → Type 0
+IsNumber text = IsNumeral 10 text × (digits_value 10 text < 2 ^ 32)
+
+-- the number of an option, and another where it isn't given
+abbrev pub GivesNumber : ℕ → Option (List ℕ) → ℕ → Type 0
+GivesNumber otherwise None n = n ≡ otherwise
+GivesNumber otherwise (Some text) n = IsNumber text × (n ≡ digits_value 10 text)
+
+-- what stands for a word by its id in what was found
+abbrev pub given_word : Text → List Row → List ℕ
+given_word id found = unwrap_or (first_of id found) []
+
+-- the words NAME=BITS, NAME==BITS, NAME=BIT or ADDRESS=VALUE in what was found
+abbrev pub words_given : List Row → List Text
+words_given found = unwrap_or (all_of (codes "words") found) []
+
+-- the names behind each `--never`, in order
+abbrev pub claims_given : List Row → List Text
+claims_given found = unwrap_or (all_of (codes "never") found) []
+
+-- the names of journals, in order
+abbrev pub journals_given : List Row → List Text
+journals_given found = unwrap_or (all_of (codes "JOURNAL") found) []
+
+-- a flag was given: what stands for it is `true`
+abbrev pub is_given : Text → List Row → Bool
+is_given id found = option_map_or (λ text. bytes_eq text (codes "true")) (first_of id found) false
+
+-- `--show` asks for drawings, and `--chart` for a chart; nothing asks for both
+abbrev pub GivesView : Bool → Bool → View → Type 0
+GivesView show chart Rows = (show ≡ false) × (chart ≡ false)
+GivesView show chart Drawings = (show ≡ true) × (chart ≡ false)
+GivesView show chart Chart = (show ≡ false) × (chart ≡ true)
+
+-- the word behind `--color`; where there is none it is `auto`
+abbrev pub GivesColor : Option (List ℕ) → Color → Type 0
+GivesColor word Always = word ≡ Some (codes "always")
+GivesColor word Auto = (word ≡ None) ⊎ (word ≡ Some (codes "auto"))
+GivesColor word Never = word ≡ Some (codes "never")
+
+-- the files behind `--vcd` and `--svg`
+abbrev pub AsksFiles : List Row → TraceFiles → Type 0
+AsksFiles found files =
+    (option_map (λ f. f.now) files.vcd ≡ first_of (codes "vcd") found)
+    × (option_map (λ f. f.now) files.svg ≡ first_of (codes "svg") found)
+
+abbrev pub AsksEval : List Row → Request → Type 0
+AsksEval found (OfText (Eval drawing dt view color files words)) =
+    (drawing.now ≡ given_word (codes "DRAWING") found) × GivesNumber 0 (first_of (codes "dt") found) dt
+    × GivesView (is_given (codes "show") found) (is_given (codes "chart") found) view
+    × GivesColor (first_of (codes "color") found) color
+    × AsksFiles found files × (map (λ w. w.now) words.items ≡ words_given found)
+AsksEval found (OfText (Check plant)) = ⊥
+AsksEval found (OfText (Plan plant until)) = ⊥
+AsksEval found (Verify verify) = ⊥
+AsksEval found (Sim sim) = ⊥
+AsksEval found (Run run) = ⊥
+AsksEval found (Node node) = ⊥
+AsksEval found (Explain kind) = ⊥
+AsksEval found (Audit audit) = ⊥
+
+abbrev pub AsksVerify : List Row → Request → Type 0
+AsksVerify found (OfText text) = ⊥
+AsksVerify found (Verify verify) =
+    (verify.drawing.now ≡ given_word (codes "DRAWING") found)
+    × (map (λ w. w.now) verify.claims.items ≡ claims_given found)
+    × GivesNumber 0 (first_of (codes "dt") found) verify.dt
+    × GivesNumber 1000000 (first_of (codes "most-states") found) verify.most_states
+    × (map (λ w. w.now) verify.words.items ≡ words_given found)
+AsksVerify found (Sim sim) = ⊥
+AsksVerify found (Run run) = ⊥
+AsksVerify found (Node node) = ⊥
+AsksVerify found (Explain kind) = ⊥
+AsksVerify found (Audit audit) = ⊥
+
+abbrev pub AsksCheck : List Row → Request → Type 0
+AsksCheck found (OfText (Eval drawing dt view color files words)) = ⊥
+AsksCheck found (OfText (Check plant)) = plant.now ≡ given_word (codes "PLANT") found
+AsksCheck found (OfText (Plan plant until)) = ⊥
+AsksCheck found (Verify verify) = ⊥
+AsksCheck found (Sim sim) = ⊥
+AsksCheck found (Run run) = ⊥
+AsksCheck found (Node node) = ⊥
+AsksCheck found (Explain kind) = ⊥
+AsksCheck found (Audit audit) = ⊥
+
+abbrev pub AsksPlan : List Row → Request → Type 0
+AsksPlan found (OfText (Eval drawing dt view color files words)) = ⊥
+AsksPlan found (OfText (Check plant)) = ⊥
+AsksPlan found (OfText (Plan plant until)) =
+    (plant.now ≡ given_word (codes "PLANT") found) × GivesNumber 0 (first_of (codes "until") found) until
+AsksPlan found (Verify verify) = ⊥
+AsksPlan found (Sim sim) = ⊥
+AsksPlan found (Run run) = ⊥
+AsksPlan found (Node node) = ⊥
+AsksPlan found (Explain kind) = ⊥
+AsksPlan found (Audit audit) = ⊥
+
+abbrev pub AsksSim : List Row → Request → Type 0
+AsksSim found (OfText (Eval drawing dt view color files words)) = ⊥
+AsksSim found (OfText (Check plant)) = ⊥
+AsksSim found (OfText (Plan plant until)) = ⊥
+AsksSim found (Verify verify) = ⊥
+AsksSim found (Sim sim) =
+    (sim.plant.now ≡ given_word (codes "PLANT") found) × (sim.schedule.now ≡ given_word (codes "SCHEDULE") found)
+    × GivesNumber 4294967295 (first_of (codes "max-number") found) sim.max_number × AsksFiles found sim.files
+AsksSim found (Run run) = ⊥
+AsksSim found (Node node) = ⊥
+AsksSim found (Explain kind) = ⊥
+AsksSim found (Audit audit) = ⊥
+
+abbrev pub AsksRun : List Row → Request → Type 0
+AsksRun found (OfText (Eval drawing dt view color files words)) = ⊥
+AsksRun found (OfText (Check plant)) = ⊥
+AsksRun found (OfText (Plan plant until)) = ⊥
+AsksRun found (Verify verify) = ⊥
+AsksRun found (Sim sim) = ⊥
+AsksRun found (Run run) =
+    (run.plant.now ≡ given_word (codes "PLANT") found) × GivesNumber 0 (first_of (codes "until") found) run.until
+    × (option_map (λ d. d.now) run.state ≡ first_of (codes "state") found)
+    × (run.paced ≡ is_given (codes "paced") found) × AsksFiles found run.files × (map (λ w. w.now) run.words.items ≡ words_given found)
+AsksRun found (Node node) = ⊥
+AsksRun found (Explain kind) = ⊥
+AsksRun found (Audit audit) = ⊥
+
+abbrev pub AsksNode : List Row → Request → Type 0
+AsksNode found (OfText text) = ⊥
+AsksNode found (Verify verify) = ⊥
+AsksNode found (Sim sim) = ⊥
+AsksNode found (Run run) = ⊥
+AsksNode found (Node node) =
+    (node.plant.now ≡ given_word (codes "PLANT") found) × (node.resource.now ≡ given_word (codes "RESOURCE") found)
+    × (option_map (λ d. d.now) node.state ≡ first_of (codes "state") found)
+    × (option_map (λ f. f.now) node.journal ≡ first_of (codes "journal") found)
+AsksNode found (Explain kind) = ⊥
+AsksNode found (Audit audit) = ⊥
+
+abbrev pub AsksExplain : List Row → Request → Type 0
+AsksExplain found (OfText text) = ⊥
+AsksExplain found (Verify verify) = ⊥
+AsksExplain found (Sim sim) = ⊥
+AsksExplain found (Run run) = ⊥
+AsksExplain found (Node node) = ⊥
+AsksExplain found (Explain kind) = option_map (λ k. k.now) kind ≡ first_of (codes "KIND") found
+AsksExplain found (Audit audit) = ⊥
+
+abbrev pub AsksAudit : List Row → Request → Type 0
+AsksAudit found (OfText text) = ⊥
+AsksAudit found (Verify verify) = ⊥
+AsksAudit found (Sim sim) = ⊥
+AsksAudit found (Run run) = ⊥
+AsksAudit found (Node node) = ⊥
+AsksAudit found (Explain kind) = ⊥
+AsksAudit found (Audit audit) =
+    (audit.plant.now ≡ given_word (codes "PLANT") found)
+    × (map (λ w. w.now) audit.journals.items ≡ journals_given found)
+
+-- the request is what the subcommand asks for, with what was found for its options
+abbrev pub AsksFor : Option (Text × List Row) → Request → Type 0
+AsksFor None request = ⊥
+AsksFor (Some (name, found)) request =
+    ((name ≡ codes "eval") × AsksEval found request)
+    ⊎ (((name ≡ codes "verify") × AsksVerify found request)
+    ⊎ (((name ≡ codes "check") × AsksCheck found request)
+    ⊎ (((name ≡ codes "plan") × AsksPlan found request)
+    ⊎ (((name ≡ codes "sim") × AsksSim found request)
+    ⊎ (((name ≡ codes "run") × AsksRun found request)
+    ⊎ (((name ≡ codes "node") × AsksNode found request)
+    ⊎ (((name ≡ codes "audit") × AsksAudit found request)
+    ⊎ ((name ≡ codes "explain") × AsksExplain found request))))))))
+
+-- the file that is to be read
+abbrev pub file_of : TextRequest → List ℕ
+file_of (Eval drawing dt view color files words) = drawing.now
+file_of (Check plant) = plant.now
+file_of (Plan plant until) = plant.now
+
+-- the files that are written of a trace
+abbrev pub files_in : TextRequest → TraceFiles
+files_in (Eval drawing dt view color files words) = files
+files_in (Check plant) = record { vcd = None; svg = None }
+files_in (Plan plant until) = record { vcd = None; svg = None }
+
+-- the words NAME=BITS and NAME==BITS
+abbrev pub words_in : TextRequest → List (List ℕ)
+words_in (Eval drawing dt view color files words) = map (λ w. w.now) words.items
+words_in (Check plant) = []
+words_in (Plan plant until) = []

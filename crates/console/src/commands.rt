@@ -1,0 +1,413 @@
+ghost use Rattle.std.specs.Prelude.{◌≡◌, false, IfOk, codes};
+ghost use Rattle.clap.specs.Words.{app_of, new_app, rule_of};
+ghost use Rattle.console.specs.CommandLine.{needed_word, option_of, flag_of, words_rule, plant_rule, until_rule, state_rule, journal_rule, paced_rule, show_rule, chart_rule, color_rule, vcd_rule, svg_rule, traced, kind_rule, never_rule, journals_rule, shown_app, eval_app, verify_app, check_app, plan_app, limited_app, sim_app, paced_app, run_app, node_app, explain_app, audit_app, versioned, commanded, plc_app, text_app};
+
+use crate::help::{
+    AUDIT_HELP, CHECK_HELP, EVAL_HELP, EXPLAIN_HELP, FIRST_STEPS, NODE_HELP, PLAN_HELP, RUN_HELP,
+    SIM_HELP, VERIFY_HELP,
+};
+use clap::{Arg, ArgAction, Command};
+use std::alloc::{AllocError, Global};
+
+/// The version of the program.
+const VERSION: &str = "0.1.0";
+
+/// A word that must be given.
+fn needed_arg<'a>(alloc: Global, id: &'a str, help: &'a str) -> Arg<'a>
+    ensures rule { rule_of result ≡ needed_word id.entry.now }
+    ensures local { result.global ≡ false }
+{
+    Arg::new(alloc, id)
+        .required(true)
+        .action(ArgAction::Set)
+        .help(help)
+}
+
+/// An option `--id`, with one word behind it.
+fn number_arg<'a>(alloc: Global, id: &'a str, unit: &'a str, help: &'a str) -> Arg<'a>
+    ensures rule { rule_of result ≡ option_of id.entry.now }
+    ensures local { result.global ≡ false }
+{
+    Arg::new(alloc, id)
+        .long(id)
+        .value_name(unit)
+        .action(ArgAction::Set)
+        .help(help)
+}
+
+/// Any number of words.
+fn words_arg<'a>(alloc: Global, form: &'a str, help: &'a str) -> Arg<'a>
+    ensures rule { rule_of result ≡ words_rule }
+    ensures local { result.global ≡ false }
+{
+    Arg::new(alloc, "words")
+        .value_name(form)
+        .action(ArgAction::Append)
+        .num_args(0..)
+        .help(help)
+}
+
+fn plant_arg<'a>(alloc: Global) -> Arg<'a>
+    ensures rule { rule_of result ≡ plant_rule }
+    ensures local { result.global ≡ false }
+{
+    needed_arg(alloc, "PLANT", "The file of the plant")
+}
+
+fn until_arg<'a>(alloc: Global) -> Arg<'a>
+    ensures rule { rule_of result ≡ until_rule }
+    ensures local { result.global ≡ false }
+{
+    number_arg(
+        alloc,
+        "until",
+        "MS",
+        "The last moment of the plan in milliseconds, 0 to 4294967295",
+    )
+    .required(true)
+}
+
+fn state_arg<'a>(alloc: Global) -> Arg<'a>
+    ensures rule { rule_of result ≡ state_rule }
+    ensures local { result.global ≡ false }
+{
+    number_arg(
+        alloc,
+        "state",
+        "DIR",
+        "A folder that keeps incarnations and retained variables between runs",
+    )
+}
+
+fn journal_arg<'a>(alloc: Global) -> Arg<'a>
+    ensures rule { rule_of result ≡ journal_rule }
+    ensures local { result.global ≡ false }
+{
+    number_arg(
+        alloc,
+        "journal",
+        "FILE",
+        "The file to which the node notes what it does, for plc audit",
+    )
+}
+
+/// A flag `--id`.
+fn flag_arg<'a>(alloc: Global, id: &'a str, help: &'a str) -> Arg<'a>
+    ensures rule { rule_of result ≡ flag_of id.entry.now }
+    ensures local { result.global ≡ false }
+{
+    Arg::new(alloc, id)
+        .long(id)
+        .action(ArgAction::SetTrue)
+        .help(help)
+}
+
+fn paced_arg<'a>(alloc: Global) -> Arg<'a>
+    ensures rule { rule_of result ≡ paced_rule }
+    ensures local { result.global ≡ false }
+{
+    flag_arg(
+        alloc,
+        "paced",
+        "Each command waits until the one before it is done",
+    )
+}
+
+fn chart_arg<'a>(alloc: Global) -> Arg<'a>
+    ensures rule { rule_of result ≡ chart_rule }
+    ensures local { result.global ≡ false }
+{
+    flag_arg(
+        alloc,
+        "chart",
+        "A line is written for each variable, not for each scan",
+    )
+}
+
+fn show_arg<'a>(alloc: Global) -> Arg<'a>
+    ensures rule { rule_of result ≡ show_rule }
+    ensures local { result.global ≡ false }
+{
+    flag_arg(
+        alloc,
+        "show",
+        "Behind the line of each scan the drawing is written, with what has power in it",
+    )
+}
+
+fn color_arg<'a>(alloc: Global) -> Arg<'a>
+    ensures rule { rule_of result ≡ color_rule }
+    ensures local { result.global ≡ false }
+{
+    number_arg(
+        alloc,
+        "color",
+        "WHEN",
+        "When --show writes what has power in bold green: always, auto (on a terminal) or never [default: auto]",
+    )
+}
+
+fn vcd_arg<'a>(alloc: Global) -> Arg<'a>
+    ensures rule { rule_of result ≡ vcd_rule }
+    ensures local { result.global ≡ false }
+{
+    number_arg(
+        alloc,
+        "vcd",
+        "FILE",
+        "A file for a value change dump, which programs that show waves read",
+    )
+}
+
+fn svg_arg<'a>(alloc: Global) -> Arg<'a>
+    ensures rule { rule_of result ≡ svg_rule }
+    ensures local { result.global ≡ false }
+{
+    number_arg(alloc, "svg", "FILE", "A file for a timing diagram (SVG)")
+}
+
+/// The options for files of a trace.
+fn traced_command<'a>(alloc: Global, command: Command<'a>) -> Result<Command<'a>, AllocError>
+    ensures { IfOk result (λ c. app_of c ≡ traced (app_of command.entry)) }
+{
+    command.arg(vcd_arg(alloc))?.arg(svg_arg(alloc))
+}
+
+fn kind_arg<'a>(alloc: Global) -> Arg<'a>
+    ensures rule { rule_of result ≡ kind_rule }
+    ensures local { result.global ≡ false }
+{
+    Arg::new(alloc, "KIND").action(ArgAction::Set).help(
+        "The kind of a fault, as NoSource [default: all kinds are listed]",
+    )
+}
+
+fn never_arg<'a>(alloc: Global) -> Arg<'a>
+    ensures rule { rule_of result ≡ never_rule }
+    ensures local { result.global ≡ false }
+{
+    Arg::new(alloc, "never")
+        .long("never")
+        .value_name("NAME")
+        .required(true)
+        .action(ArgAction::Append)
+        .help("A BOOL variable that is never to be TRUE; may be given several times")
+}
+
+/// The command `eval` without its files and words.
+fn shown_command<'a>(alloc: Global) -> Result<Command<'a>, AllocError>
+    ensures { IfOk result (λ c. app_of c ≡ shown_app) }
+{
+    Command::new(alloc, "eval")
+        .about("Evaluates a drawing, scan by scan, and writes its variables after each scan")
+        .after_help(EVAL_HELP)
+        .arg(needed_arg(alloc, "DRAWING", "The file of the drawing"))?
+        .arg(number_arg(
+            alloc,
+            "dt",
+            "MS",
+            "The time between two scans in milliseconds, 0 to 4294967295 [default: 0]",
+        ))?
+        .arg(show_arg(alloc))?
+        .arg(chart_arg(alloc))?
+        .arg(color_arg(alloc))
+}
+
+fn eval_command<'a>(alloc: Global) -> Result<Command<'a>, AllocError>
+    ensures { IfOk result (λ c. app_of c ≡ eval_app) }
+{
+    traced_command(alloc, shown_command(alloc)?)?.arg(words_arg(
+        alloc,
+        "NAME=BITS",
+        "The values of a variable, a digit for each scan; NAME==BITS: what they are to be after it",
+    ))
+}
+
+fn verify_command<'a>(alloc: Global) -> Result<Command<'a>, AllocError>
+    ensures { IfOk result (λ c. app_of c ≡ verify_app) }
+{
+    Command::new(alloc, "verify")
+        .about("Proves that variables of a drawing are never TRUE, or tells how they come to be")
+        .after_help(VERIFY_HELP)
+        .arg(needed_arg(alloc, "DRAWING", "The file of the drawing"))?
+        .arg(never_arg(alloc))?
+        .arg(number_arg(
+            alloc,
+            "dt",
+            "MS",
+            "The time between two scans in milliseconds, 0 to 4294967295 [default: 0]",
+        ))?
+        .arg(number_arg(
+            alloc,
+            "most-states",
+            "N",
+            "How many states are looked at before the search is given up, 0 to 4294967295 [default: 1000000]",
+        ))?
+        .arg(words_arg(
+            alloc,
+            "NAME=BIT",
+            "An input that has this value in every scan",
+        ))
+}
+
+fn check_command<'a>(alloc: Global) -> Result<Command<'a>, AllocError>
+    ensures { IfOk result (λ c. app_of c ≡ check_app) }
+{
+    Command::new(alloc, "check")
+        .about("Reads a plant, and writes how many parts it has")
+        .after_help(CHECK_HELP)
+        .arg(plant_arg(alloc))
+}
+
+fn plan_command<'a>(alloc: Global) -> Result<Command<'a>, AllocError>
+    ensures { IfOk result (λ c. app_of c ≡ plan_app) }
+{
+    Command::new(alloc, "plan")
+        .about("Reads a plant, and writes when its tasks are due")
+        .after_help(PLAN_HELP)
+        .arg(plant_arg(alloc))?
+        .arg(until_arg(alloc))
+}
+
+/// The command `sim` without its files.
+fn limited_command<'a>(alloc: Global) -> Result<Command<'a>, AllocError>
+    ensures { IfOk result (λ c. app_of c ≡ limited_app) }
+{
+    Command::new(alloc, "sim")
+        .about(
+            "Runs a schedule of evaluations, deliveries and restarts over a plant, and writes what each did",
+        )
+        .after_help(SIM_HELP)
+        .arg(plant_arg(alloc))?
+        .arg(needed_arg(
+            alloc,
+            "SCHEDULE",
+            "The file of the schedule, or - for standard input",
+        ))?
+        .arg(number_arg(
+            alloc,
+            "max-number",
+            "N",
+            "How often a task is evaluated in one incarnation at most, 0 to 4294967295 [default: 4294967295]",
+        ))
+}
+
+fn sim_command<'a>(alloc: Global) -> Result<Command<'a>, AllocError>
+    ensures { IfOk result (λ c. app_of c ≡ sim_app) }
+{
+    traced_command(alloc, limited_command(alloc)?)
+}
+
+/// The command `run` without its files and words.
+fn paced_command<'a>(alloc: Global) -> Result<Command<'a>, AllocError>
+    ensures { IfOk result (λ c. app_of c ≡ paced_app) }
+{
+    Command::new(alloc, "run")
+        .about(
+            "Runs a plant in threads, one for each resource, and writes what each evaluation gave",
+        )
+        .after_help(RUN_HELP)
+        .arg(plant_arg(alloc))?
+        .arg(until_arg(alloc))?
+        .arg(state_arg(alloc))?
+        .arg(paced_arg(alloc))
+}
+
+fn run_command<'a>(alloc: Global) -> Result<Command<'a>, AllocError>
+    ensures { IfOk result (λ c. app_of c ≡ run_app) }
+{
+    traced_command(alloc, paced_command(alloc)?)?.arg(words_arg(
+        alloc,
+        "ADDRESS=VALUE",
+        "The value of a field address, as %IX0=1 or %IW2=-7",
+    ))
+}
+
+fn node_command<'a>(alloc: Global) -> Result<Command<'a>, AllocError>
+    ensures { IfOk result (λ c. app_of c ≡ node_app) }
+{
+    Command::new(alloc, "node")
+        .about(
+            "Runs one resource of a plant: answers each line of standard input before it reads the next",
+        )
+        .after_help(NODE_HELP)
+        .arg(plant_arg(alloc))?
+        .arg(needed_arg(alloc, "RESOURCE", "The name of the resource"))?
+        .arg(state_arg(alloc))?
+        .arg(journal_arg(alloc))
+}
+
+fn journals_arg<'a>(alloc: Global) -> Arg<'a>
+    ensures rule { rule_of result ≡ journals_rule }
+    ensures local { result.global ≡ false }
+{
+    Arg::new(alloc, "JOURNAL")
+        .required(true)
+        .action(ArgAction::Append)
+        .num_args(1..)
+        .help("The file of a node's journal; several, in any order")
+}
+
+fn audit_command<'a>(alloc: Global) -> Result<Command<'a>, AllocError>
+    ensures { IfOk result (λ c. app_of c ≡ audit_app) }
+{
+    Command::new(alloc, "audit")
+        .about(
+            "Reads the journals of a plant's nodes, and writes what they show and what they can't",
+        )
+        .after_help(AUDIT_HELP)
+        .arg(plant_arg(alloc))?
+        .arg(journals_arg(alloc))
+}
+
+fn explain_command<'a>(alloc: Global) -> Result<Command<'a>, AllocError>
+    ensures { IfOk result (λ c. app_of c ≡ explain_app) }
+{
+    Command::new(alloc, "explain")
+        .about("Tells what a kind of fault is, and how it is mended")
+        .after_help(EXPLAIN_HELP)
+        .arg(kind_arg(alloc))
+}
+
+/// The program without its commands, and without a version.
+fn named_command<'a>(alloc: Global) -> Result<Command<'a>, AllocError>
+    ensures { IfOk result (λ c. app_of c ≡ new_app (codes "plc")) }
+{
+    let command = Command::new(alloc, "plc").bin_name("plc")?;
+    Ok(
+        command
+            .about("Runs ladder diagrams drawn in characters (IEC 61131-3)")
+            .after_help(FIRST_STEPS),
+    )
+}
+
+/// The program without its commands.
+fn plc_command<'a>(alloc: Global) -> Result<Command<'a>, AllocError>
+    ensures { IfOk result (λ c. app_of c ≡ commanded (versioned (new_app (codes "plc")))) }
+{
+    let command = named_command(alloc)?;
+    Ok(command.version(VERSION).subcommand_required(true))
+}
+
+/// The program with the commands of one text: a drawing or a plant.
+fn text_commands<'a>(alloc: Global) -> Result<Command<'a>, AllocError>
+    ensures { IfOk result (λ c. app_of c ≡ text_app) }
+{
+    plc_command(alloc)?
+        .subcommand(eval_command(alloc)?)?
+        .subcommand(verify_command(alloc)?)?
+        .subcommand(check_command(alloc)?)?
+        .subcommand(plan_command(alloc)?)
+}
+
+/// The commands of the program.
+pub fn commands<'a>(alloc: Global) -> Result<Command<'a>, AllocError>
+    ensures { IfOk result (λ c. app_of c ≡ plc_app) }
+{
+    text_commands(alloc)?
+        .subcommand(sim_command(alloc)?)?
+        .subcommand(run_command(alloc)?)?
+        .subcommand(node_command(alloc)?)?
+        .subcommand(audit_command(alloc)?)?
+        .subcommand(explain_command(alloc)?)
+}

@@ -1,0 +1,238 @@
+/// What can be tried first.
+pub(crate) const FIRST_STEPS: &str = "\
+A first drawing, and its scans (paste both lines into a shell):
+
+  printf '|  START      STOP     RUN\\n+--| |----+---|/|------( )\\n|  RUN    |\\n+--| |----+\\n' >first.ladder
+  plc eval first.ladder START=100 STOP=001
+
+Each digit is the input of one scan: RUN holds itself from START until STOP. plc COMMAND --help tells what the words of a
+command mean, and plc explain KIND what a refused text has wrong.";
+
+/// What `plc eval --help` tells behind the words.
+pub const EVAL_HELP: &str = "\
+Each word NAME=BITS gives the BOOL variable NAME its values: BITS is a row of digits 0 and 1, one for each
+scan. Before scan k the variable is set to the k-th digit, or left alone if there is none. There are as many
+scans as the longest word has digits (at most 1,000), and one if there are no words. A name that the drawing
+uses is a variable; it is written in either case.
+
+After each scan one line of all variables is written, in the order in which they appear in the drawing. With
+--show the drawing follows each of these lines as it stands in the file, with = for a - that has power in this
+scan, and # for a + or | of an upright that has it; --color always writes these in bold green, and auto does
+where standard output is a terminal. With --chart one line is written for each variable instead, after the
+last scan: a BOOL is # where it is on and _ where it is off, a sign for each scan; a number or time is written
+after the first scan, and behind a blank after each one that changed it.
+
+A word NAME==BITS tells what the BOOL variable NAME is to be after each scan, and behind its last digit nothing.
+The first difference is told on standard error.
+
+With --vcd FILE all variables are written as a value change dump (IEEE 1364) after the last scan, for programs that show
+waves; with --svg FILE as a timing diagram, which a browser shows. The first scan is at 0 ms, each further one --dt MS later,
+or 1 ms where that is 0. A file is written whole, in the place of one of its name; both options may be given.
+
+Example, for the drawing examples/start_stop.ladder:
+
+  $ plc eval examples/start_stop.ladder START=100 STOP=001
+  START=1 STOP=0 RUN=1
+  START=0 STOP=0 RUN=1
+  START=0 STOP=1 RUN=0
+  $ plc eval examples/start_stop.ladder START=1 --show
+  START=1 STOP=0 RUN=1
+  |  START      STOP     RUN
+  +==| |====#===|/|======( )
+  |  RUN    #
+  +==| |----#
+  $ plc eval examples/start_stop.ladder START=100 STOP=001 RUN==110 --chart
+  START #__
+  STOP  __#
+  RUN   ##_
+  $ plc eval examples/start_stop.ladder START=100 STOP=001 --svg start_stop.svg >/dev/null
+
+The exit status is 0; 1 if the text of the drawing is refused, with FILE:LINE:COLUMN: Kind on standard error;
+2 if a word is refused; 3 if the file can't be read, the output or a file can't be written or there is no memory left;
+4 if a variable isn't what a word NAME==BITS tells.";
+
+/// What `plc verify --help` tells behind the words.
+pub const VERIFY_HELP: &str = "\
+Each --never NAME claims that the BOOL variable NAME is never TRUE after a scan, whatever the inputs do and however long
+the drawing runs. The inputs are the BOOL variables that no coil and no output pin stores: each has any value in each scan,
+unless a word NAME=BIT holds it at 0 or 1. At most 20 may be free. A claim is a rung: draw a coil that turns ON where what
+must not happen has happened.
+
+A line is written for each claim, in the order given:
+
+  HOLDS      it is never TRUE; how many states and scans were looked at
+  FAILS      it is TRUE after a run of scans, and after no shorter one; the words for plc eval and the lines that it
+             writes follow (of at most 1,000 scans)
+  UNDECIDED  more than N states were met, and the claim is broken in no run of so many scans or fewer
+
+Example:
+
+  $ plc verify examples/hoist.ladder --never CLASH
+  HOLDS CLASH is never on: 3 states, 24 scans
+
+The exit status is 0 if all claims hold; 4 if one fails; 5 if none fails and one is undecided; 1 if the text of the drawing
+is refused, with FILE:LINE:COLUMN: Kind on standard error; 2 if a word is refused; 3 if the file can't be read, the output
+can't be written or there is no memory left.";
+
+/// What `plc check --help` tells behind the words.
+pub const CHECK_HELP: &str = "\
+Four lines are written: how many resources, tasks, program instances and bound inputs the plant has.
+
+Example:
+
+  $ plc check examples/pair.plant
+  resources 2
+  tasks 2
+  programs 2
+  connections 3
+
+The exit status is 0; 1 if the text of the plant is refused, with FILE:LINE: Kind on standard error (and the kind of what
+is wrong in a program's drawing behind it, as FILE:LINE: Bind WritesInput); 2 if a word is refused; 3 if the file can't
+be read, the output can't be written or there is no memory left.";
+
+/// What `plc plan --help` tells behind the words.
+pub const PLAN_HELP: &str = "\
+A task is due at each multiple of its INTERVAL, from once the INTERVAL on, up to and with MS. A line is written for each
+moment and task, ordered by moment, priority (0 is the highest), resource and task.
+
+Example:
+
+  $ plc plan examples/pair.plant --until 20
+  10 R1.FAST
+  20 R1.FAST
+  20 R2.SLOW
+
+The exit status is 0; 1 if the text of the plant is refused, with FILE:LINE: Kind on standard error, or if the plan has
+more than 100,000 lines, with plan: TooLong; 2 if a word is refused; 3 if the file can't be read, the output can't be
+written or there is no memory left.";
+
+/// What `plc sim --help` tells behind the words.
+pub const SIM_HELP: &str = "\
+The schedule says what happens in which order, one event a line; the program writes one line for each. Words are parted
+by blanks or tabs, and stand in either case; a line that is blank or begins with # is no event.
+
+  EVAL R1.FAST 10 %IX0=1   task FAST of resource R1 is evaluated, 10 ms after the time before, with these field inputs
+  DELIVER 1 R2             the message of the first evaluation reaches resource R2
+  RESTART R1               resource R1 restarts: it forgets all but retained variables, and its incarnation is one more
+  HEAR R1 R2 2             R1 hears that R2 is in incarnation 2: what R1 makes from now on is meant for that
+
+An evaluation takes, from each task that feeds it, the latest evaluation that reached its resource and is meant for its
+present incarnation; one that is never delivered is lost, and one may be delivered twice, late or out of order. What
+names nothing that exists changes nothing and is written as REFUSED, with the number of the event and the reason.
+
+Where SCHEDULE is - the events are read from standard input line by line, and each one's line is written before the next
+one is read: another program can drive the plant, as examples/live.py does.
+
+With --vcd FILE and --svg FILE the outputs of all tasks are written behind the last event, as plc eval --help tells of
+variables: at 0 ms as they are before the first event (FALSE, 0 or T#0ms), and at K ms as they are behind event K.
+
+Example:
+
+  $ cat examples/one_delivery.schedule
+  EVAL R1.FAST 10 %IX0=1
+  DELIVER 1 R2
+  EVAL R2.SLOW 20
+  $ plc sim examples/pair.plant examples/one_delivery.schedule
+  EVAL 1 R1.FAST 1.1 TAKES - GIVES A.N=1 A.FULL=0
+  DELIVER 1 R2 taken
+  EVAL 2 R2.SLOW 1.1 TAKES R1.FAST=1.1 GIVES B.SEEN=1 B.HIT=0
+
+The exit status is 0; 1 if the text of the plant is refused, with FILE:LINE: Kind on standard error, or a line of the
+schedule is no event, with FILE:LINE: Syntax, after the lines of the events before it; 2 if a word is refused; 3 if a file
+can't be read or written, the output can't be written or there is no memory left.";
+
+/// What `plc run --help` tells behind the words.
+pub const RUN_HELP: &str = "\
+Each resource of the plant runs in a thread of its own, all of them at once. Each entry of the plan up to and with MS (plc
+plan writes it) is a command to its resource: to evaluate the task, INTERVAL ms after the time before. Each word
+ADDRESS=VALUE gives a field address its value, a bit 0 or 1, a word -32768 to 32767; every other address is 0. A task takes,
+from each task that feeds it, the latest evaluation that has reached its resource; which one that is depends on the threads.
+With --paced each command waits until the one before it is done, and then it is always the same. With --state DIR each
+resource counts its incarnations in the file DIR/NAME.inc, one more at each run, and its task K keeps what stands in VAR
+RETAIN in DIR/NAME.K.ret; without it the incarnation is 1, and nothing is kept.
+
+A line is written for each evaluation, in an order in which each one takes what was made before it; then UNANSWERED and the
+number of each command that wasn't done, FAULT and the resource, the number of the command and the reason for each thing
+that went wrong; at last whether a run of these evaluations in one thread makes the same ones again.
+
+With --vcd FILE and --svg FILE the outputs of all tasks are written, as plc eval --help tells of variables: at 0 ms as they
+are before the first evaluation (FALSE, 0 or T#0ms), and at K ms as they are behind the line EVAL K.
+
+Example:
+
+  $ plc run examples/pair.plant --until 20 --paced %IX0=1
+  EVAL 1 R1.FAST 1.1 TAKES - GIVES A.N=1 A.FULL=0
+  EVAL 2 R1.FAST 1.2 TAKES - GIVES A.N=1 A.FULL=0
+  EVAL 3 R2.SLOW 1.1 TAKES R1.FAST=1.2 GIVES B.SEEN=1 B.HIT=0
+  REPLAY equal
+
+The exit status is 0; 1 if the text of the plant is refused, with FILE:LINE: Kind on standard error, or if the plan has
+more than 100,000 lines, with plan: TooLong; 2 if a word is refused; 3 if a FAULT was written, a file can't be read or written
+or an incarnation kept, the output can't be written, the threads can't be run or there is no memory left.";
+
+/// What `plc node --help` tells behind the words.
+pub const NODE_HELP: &str = "\
+The resource runs on a machine of its own: lines go in and out, and whatever carries them connects the nodes. These lines are
+read, each is answered before the next one is read, and words are as in a schedule:
+
+  EVAL R.T MS ADDRESS=VALUE..   evaluate the task, MS ms after the time before
+  MESSAGE ..                    what another node gave, as its SEND line has it
+  HELLO R I                     resource R is in incarnation I
+  RESTART R                     go to the next incarnation
+
+SEND R LINE is written for each LINE that is to be carried to the node of R, and then one closing line: START at the start,
+EVAL, MESSAGE with taken, old, stray or unused, HELLO with new or old, RESTART, or REFUSED and why (plc explain tells of it).
+A line that is refused changes nothing; for a blank line or a comment nothing is written.
+
+With --state DIR the resource counts its incarnations in DIR/NAME.inc, one more at each start and RESTART, and its task K
+keeps what stands in VAR RETAIN in DIR/NAME.K.ret; without it the incarnation is 1: for one life alone. With --journal FILE
+each line is noted at the end of FILE, and on the disk, before it is done; plc audit reads these files. A second node doesn't
+use the same DIR or FILE meanwhile.
+
+Example:
+
+  $ printf 'HELLO R2 1\\nEVAL R1.FAST 10 %IX0=1\\n' | plc node examples/pair.plant R1
+  SEND R2 HELLO R1 1
+  START R1 1
+  HELLO R2 1 new
+  SEND R2 MESSAGE R1.FAST 1.1 HEARD R1=1 R2=1 GIVES A.N=1 A.FULL=0
+  EVAL 1 R1.FAST 1.1 TAKES - GIVES A.N=1 A.FULL=0
+
+The exit status is 0 at the end of the lines; 1 if the text of the plant is refused, with FILE:LINE: Kind on standard error;
+2 if a word is refused; 3 if a file can't be read or written, an incarnation kept, the output written or there is no memory
+left: then the line that was read last isn't answered.";
+
+/// What `plc audit --help` tells behind the words.
+pub const AUDIT_HELP: &str = "\
+Each JOURNAL is a file that plc node wrote with --journal; a file may hold the lines of several nodes, one after the other.
+The lines of all of them are done once more, each as soon as what it needs is there: a message that was taken needs the
+evaluation that made it, and has to be equal to what that gave.
+
+A line is written for each evaluation that is shown, in an order in which each one takes what was made before it; then
+UNSHOWN with FILE:LINE and the reason for each resource whose journal can't be followed further, and for each file without
+a START, and NOJOURNAL for each resource without a journal; at last whether a run of these evaluations in one thread makes
+the same ones again. plc explain tells more of each reason.
+
+Example:
+
+  $ plc audit examples/pair.plant r1.journal r2.journal
+  EVAL 1 R1.FAST 1.1 TAKES - GIVES A.N=1 A.FULL=0
+  EVAL 2 R2.SLOW 1.1 TAKES R1.FAST=1.1 GIVES B.SEEN=1 B.HIT=0
+  REPLAY equal
+
+The exit status is 0 if all is shown; 1 if the text of the plant is refused, with FILE:LINE: Kind on standard error; 2 if a
+word is refused; 3 if an UNSHOWN or NOJOURNAL was written, a file can't be read, the output can't be written or there is no
+memory left.";
+
+/// What `plc explain --help` tells behind the words.
+pub const EXPLAIN_HELP: &str = "\
+KIND is the kind of a fault as the first line of a message tells it, in either case: Crossing in drawing.ladder:3:14: Crossing;
+or that of a line REFUSED, FAULT or UNSHOWN. What is wrong and how it is mended is written, of a text with an example. A kind that is
+met in several places is told for each of them. Without KIND all kinds are listed, with where they are met.
+
+Example:
+
+  $ plc explain NameMissing
+
+The exit status is 0; 2 if there is no kind of fault of this name; 3 if the output can't be written or there is no memory
+left.";

@@ -1,0 +1,163 @@
+ghost use Rattle.std.specs.Prelude.{◌≡◌, map};
+ghost use Rattle.console.specs.CommandLine.{file_of, files_in, words_in};
+
+/// What is written of the scans of a drawing.
+#[derive(Clone, Copy, Debug, PartialEq, Eq)]
+pub enum View {
+    /// A line for each scan.
+    Rows,
+    /// A line for each scan, and behind it the drawing with what has power in it.
+    Drawings,
+    /// A line for each variable.
+    Chart,
+}
+
+/// When what has power is written in color.
+#[derive(Clone, Copy, Debug, PartialEq, Eq)]
+pub enum Color {
+    Always,
+    /// Where standard output is a terminal.
+    Auto,
+    Never,
+}
+
+/// The files that are written of a trace: a value change dump, and a timing diagram.
+#[derive(Clone, Copy, Debug)]
+pub struct TraceFiles<'a> {
+    pub vcd: Option<&'a str>,
+    pub svg: Option<&'a str>,
+}
+
+impl TraceFiles<'_> {
+    /// No files.
+    pub const NONE: TraceFiles<'static> = TraceFiles {
+        vcd: None,
+        svg: None,
+    };
+}
+
+/// What is done with the text of one file.
+#[derive(Drop)]
+pub enum TextRequest<'a> {
+    /// The scans of a drawing, each `dt` milliseconds after the one before. The words set its variables, or tell what they
+    /// are to be.
+    Eval {
+        drawing: &'a str,
+        dt: u32,
+        view: View,
+        color: Color,
+        files: TraceFiles<'a>,
+        words: Vec<&'a str>,
+    },
+    /// How many resources, tasks, programs and connections a plant has.
+    Check {
+        plant: &'a str,
+    },
+    /// When the tasks of a plant are due, up to and with `until` (in ms).
+    Plan {
+        plant: &'a str,
+        until: u32,
+    },
+}
+
+impl<'a> TextRequest<'a> {
+    /// The file that is to be read.
+    pub fn file(&self) -> &'a str
+        ensures { result.now ≡ file_of self.now }
+    {
+        match self {
+            TextRequest::Eval { drawing, .. } => drawing,
+            TextRequest::Check { plant } => plant,
+            TextRequest::Plan { plant, .. } => plant,
+        }
+    }
+
+    /// The files that are written of a trace.
+    pub fn files(&self) -> TraceFiles<'a>
+        ensures { result ≡ files_in self.now }
+    {
+        match self {
+            TextRequest::Eval { files, .. } => *files,
+            TextRequest::Check { .. } | TextRequest::Plan { .. } => TraceFiles::NONE,
+        }
+    }
+
+    /// The words NAME=BITS and NAME==BITS.
+    pub fn words(&self) -> &[&'a str]
+        ensures { map (λ w. w.now) result.now ≡ words_in self.now }
+    {
+        match self {
+            TextRequest::Eval { words, .. } => words.as_slice(),
+            TextRequest::Check { .. } | TextRequest::Plan { .. } => &[],
+        }
+    }
+}
+
+/// Whether variables of a drawing are ever TRUE, whatever its inputs do; each scan is `dt` milliseconds after the one
+/// before. The claims name the variables; at most `most_states` states are looked at; the words hold inputs at a value.
+#[derive(Drop)]
+pub struct VerifyRequest<'a> {
+    pub drawing: &'a str,
+    pub claims: Vec<&'a str>,
+    pub dt: u32,
+    pub most_states: u32,
+    pub words: Vec<&'a str>,
+}
+
+/// What each event of a schedule does to a plant; in one incarnation a task is evaluated `max_number` times at most.
+#[derive(Clone, Copy)]
+pub struct SimRequest<'a> {
+    pub plant: &'a str,
+    pub schedule: &'a str,
+    pub max_number: u32,
+    pub files: TraceFiles<'a>,
+}
+
+/// One thread for each resource of a plant, and a command for each entry of the plan, up to and with `until` (in ms).
+/// If they are paced, each command waits until the one before it is done. The words give the field inputs. The folder
+/// `state` keeps the incarnation of each resource; without it each is 1.
+#[derive(Drop)]
+pub struct RunRequest<'a> {
+    pub plant: &'a str,
+    pub until: u32,
+    pub state: Option<&'a str>,
+    pub paced: bool,
+    pub files: TraceFiles<'a>,
+    pub words: Vec<&'a str>,
+}
+
+/// One resource of a plant, of this name, as a node of its own, which answers the lines of standard input. The folder
+/// `state` keeps its incarnation; without it that is 1. It notes what it does in the file `journal`, if one is given.
+#[derive(Clone, Copy)]
+pub struct NodeRequest<'a> {
+    pub plant: &'a str,
+    pub resource: &'a str,
+    pub state: Option<&'a str>,
+    pub journal: Option<&'a str>,
+}
+
+/// What is shown of the journals of a plant's nodes.
+#[derive(Drop)]
+pub struct AuditRequest<'a> {
+    pub plant: &'a str,
+    pub journals: Vec<&'a str>,
+}
+
+/// What the words of the command line ask for.
+#[derive(Drop)]
+pub enum Request<'a> {
+    /// What is done with the text of one file.
+    Text(TextRequest<'a>),
+    /// What can never happen in a drawing.
+    Verify(VerifyRequest<'a>),
+    /// What a schedule does to a plant.
+    Sim(SimRequest<'a>),
+    /// What the threads of a plant do.
+    Run(RunRequest<'a>),
+    /// What one resource of a plant does on a machine of its own.
+    Node(NodeRequest<'a>),
+    /// What is told of the kinds of faults of this name; all kinds, where none is named.
+    Explain(Option<&'a str>),
+    /// What is shown of the journals of a plant's nodes.
+    Audit(AuditRequest<'a>),
+}

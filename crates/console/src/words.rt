@@ -1,0 +1,286 @@
+ghost use Rattle.std.specs.Prelude.{◌≡◌, IfOk, MatchOption, Some, map, string_bytes};
+ghost use Rattle.std.specs.Option.{option_map};
+ghost use Rattle.std.specs.Str.Parse.{digits_value};
+ghost use Rattle.clap.specs.Words.{rows_of, found_of, first_of, subcommand_of};
+ghost use Rattle.console.specs.CommandLine.{plc_app, IsNumber, GivesNumber, AsksEval, AsksVerify, AsksPlan, AsksSim, AsksRun, AsksNode, AsksAudit, AsksFiles, AsksFor, given_word, words_given, claims_given, journals_given, is_given, GivesView, GivesColor};
+
+use crate::commands::commands;
+use crate::request::{
+    AuditRequest, Color, NodeRequest, Request, RunRequest, SimRequest, TextRequest, TraceFiles,
+    VerifyRequest, View,
+};
+use clap::error::ErrorKind;
+use clap::{ArgMatches, Command, Error};
+use std::alloc::{AllocError, Global};
+
+const UNTIL_REFUSED: &str = "MS of --until is a number from 0 to 4294967295";
+
+const DT_REFUSED: &str = "MS of --dt is a number from 0 to 4294967295";
+
+/// How many states are looked at, unless the words say it.
+const MOST_STATES: u32 = 1_000_000;
+
+/// A number of decimal digits alone, at most 4294967295.
+pub fn number(text: &str) -> Option<u32>
+    ensures { MatchOption result (IsNumber text.now → ⊥) (λ n. IsNumber text.now × (n ≡ digits_value 10 text.now)) }
+{
+    if text.starts_with('+') {
+        return None;
+    }
+    text.parse::<u32>().ok()
+}
+
+fn number_of<'a>(
+    command: &mut Command<'a>,
+    matches: &ArgMatches<'a>,
+    id: &str,
+    otherwise: u32,
+    refusal: &'static str,
+) -> Result<u32, Error>
+    ensures { IfOk result (GivesNumber otherwise (first_of id.now (rows_of (found_of matches.now)))) }
+{
+    match matches.get_str(id) {
+        None => Ok(otherwise),
+        Some(text) => match number(text) {
+            Some(n) => Ok(n),
+            None => Err(command.error(ErrorKind::ValueValidation, refusal)?),
+        },
+    }
+}
+
+/// The word that stands for an argument.
+fn given_word<'a>(matches: &ArgMatches<'a>, id: &str) -> &'a str
+    ensures { result.now ≡ given_word id.now (rows_of (found_of matches.now)) }
+{
+    match matches.get_str(id) {
+        Some(word) => word,
+        None => "",
+    }
+}
+
+/// The word that stands for an argument that may be left out.
+fn word_of<'a>(matches: &ArgMatches<'a>, id: &str) -> Option<&'a str>
+    ensures { option_map (λ w. w.now) result ≡ first_of id.now (rows_of (found_of matches.now)) }
+{
+    matches.get_str(id)
+}
+
+/// Whether a flag was given.
+fn is_given(matches: &ArgMatches<'_>, id: &str) -> bool
+    ensures { result ≡ is_given id.now (rows_of (found_of matches.now)) }
+{
+    match matches.get_str(id) {
+        Some(text) => text == "true",
+        None => false,
+    }
+}
+
+fn words_given<'a>(alloc: Global, matches: &ArgMatches<'a>) -> Result<Vec<&'a str>, AllocError>
+    ensures { IfOk result (λ words. map (λ w. w.now) words.items ≡ words_given (rows_of (found_of matches.now))) }
+{
+    match matches.get_strs("words") {
+        Some(words) => Vec::from_slice(alloc, words),
+        None => Ok(Vec::new(alloc)),
+    }
+}
+
+fn claims_given<'a>(alloc: Global, matches: &ArgMatches<'a>) -> Result<Vec<&'a str>, AllocError>
+    ensures { IfOk result (λ claims. map (λ w. w.now) claims.items ≡ claims_given (rows_of (found_of matches.now))) }
+{
+    match matches.get_strs("never") {
+        Some(claims) => Vec::from_slice(alloc, claims),
+        None => Ok(Vec::new(alloc)),
+    }
+}
+
+/// The files that are written of a trace.
+fn files_of<'a>(matches: &ArgMatches<'a>) -> TraceFiles<'a>
+    ensures { AsksFiles (rows_of (found_of matches.now)) result }
+{
+    TraceFiles {
+        vcd: word_of(matches, "vcd"),
+        svg: word_of(matches, "svg"),
+    }
+}
+
+fn journals_given<'a>(alloc: Global, matches: &ArgMatches<'a>) -> Result<Vec<&'a str>, AllocError>
+    ensures { IfOk result (λ journals. map (λ w. w.now) journals.items ≡ journals_given (rows_of (found_of matches.now))) }
+{
+    match matches.get_strs("JOURNAL") {
+        Some(journals) => Vec::from_slice(alloc, journals),
+        None => Ok(Vec::new(alloc)),
+    }
+}
+
+/// What is written of the scans, by the flags that were given.
+fn view_of<'a>(command: &mut Command<'a>, show: bool, chart: bool) -> Result<View, Error>
+    ensures { IfOk result (GivesView show chart) }
+{
+    match (show, chart) {
+        (false, false) => Ok(View::Rows),
+        (true, false) => Ok(View::Drawings),
+        (false, true) => Ok(View::Chart),
+        (true, true) => {
+            Err(command.error(
+                ErrorKind::ArgumentConflict,
+                "--show and --chart can't be given both",
+            )?)
+        }
+    }
+}
+
+/// When there is color, by the word behind `--color`.
+fn color_of<'a>(command: &mut Command<'a>, word: Option<&'a str>) -> Result<Color, Error>
+    ensures { IfOk result (GivesColor (option_map (λ w. w.now) word.entry)) }
+{
+    match word {
+        None | Some("auto") => Ok(Color::Auto),
+        Some("always") => Ok(Color::Always),
+        Some("never") => Ok(Color::Never),
+        Some(_) => {
+            Err(command.error(
+                ErrorKind::InvalidValue,
+                "WHEN of --color is always, auto or never",
+            )?)
+        }
+    }
+}
+
+fn eval_request<'a>(
+    alloc: Global,
+    command: &mut Command<'a>,
+    inner: &ArgMatches<'a>,
+) -> Result<Request<'a>, Error>
+    ensures { IfOk result (AsksEval (rows_of (found_of inner.now))) }
+{
+    Ok(Request::Text(TextRequest::Eval {
+        drawing: given_word(inner, "DRAWING"),
+        dt: number_of(command, inner, "dt", 0, DT_REFUSED)?,
+        view: view_of(command, is_given(inner, "show"), is_given(inner, "chart"))?,
+        color: color_of(command, word_of(inner, "color"))?,
+        files: files_of(inner),
+        words: words_given(alloc, inner)?,
+    }))
+}
+
+fn verify_request<'a>(
+    alloc: Global,
+    command: &mut Command<'a>,
+    inner: &ArgMatches<'a>,
+) -> Result<Request<'a>, Error>
+    ensures { IfOk result (AsksVerify (rows_of (found_of inner.now))) }
+{
+    Ok(Request::Verify(VerifyRequest {
+        drawing: given_word(inner, "DRAWING"),
+        claims: claims_given(alloc, inner)?,
+        dt: number_of(command, inner, "dt", 0, DT_REFUSED)?,
+        most_states: number_of(
+            command,
+            inner,
+            "most-states",
+            MOST_STATES,
+            "N of --most-states is a number from 0 to 4294967295",
+        )?,
+        words: words_given(alloc, inner)?,
+    }))
+}
+
+fn plan_request<'a>(command: &mut Command<'a>, inner: &ArgMatches<'a>) -> Result<Request<'a>, Error>
+    ensures { IfOk result (AsksPlan (rows_of (found_of inner.now))) }
+{
+    Ok(Request::Text(TextRequest::Plan {
+        plant: given_word(inner, "PLANT"),
+        until: number_of(command, inner, "until", 0, UNTIL_REFUSED)?,
+    }))
+}
+
+fn sim_request<'a>(command: &mut Command<'a>, inner: &ArgMatches<'a>) -> Result<Request<'a>, Error>
+    ensures { IfOk result (AsksSim (rows_of (found_of inner.now))) }
+{
+    Ok(Request::Sim(SimRequest {
+        plant: given_word(inner, "PLANT"),
+        schedule: given_word(inner, "SCHEDULE"),
+        max_number: number_of(
+            command,
+            inner,
+            "max-number",
+            u32::MAX,
+            "N of --max-number is a number from 0 to 4294967295",
+        )?,
+        files: files_of(inner),
+    }))
+}
+
+fn run_request<'a>(
+    alloc: Global,
+    command: &mut Command<'a>,
+    inner: &ArgMatches<'a>,
+) -> Result<Request<'a>, Error>
+    ensures { IfOk result (AsksRun (rows_of (found_of inner.now))) }
+{
+    Ok(Request::Run(RunRequest {
+        plant: given_word(inner, "PLANT"),
+        until: number_of(command, inner, "until", 0, UNTIL_REFUSED)?,
+        state: word_of(inner, "state"),
+        paced: is_given(inner, "paced"),
+        files: files_of(inner),
+        words: words_given(alloc, inner)?,
+    }))
+}
+
+fn node_request<'a>(inner: &ArgMatches<'a>) -> Request<'a>
+    ensures { AsksNode (rows_of (found_of inner.now)) result }
+{
+    Request::Node(NodeRequest {
+        plant: given_word(inner, "PLANT"),
+        resource: given_word(inner, "RESOURCE"),
+        state: word_of(inner, "state"),
+        journal: word_of(inner, "journal"),
+    })
+}
+
+fn audit_request<'a>(alloc: Global, inner: &ArgMatches<'a>) -> Result<Request<'a>, Error>
+    ensures { IfOk result (AsksAudit (rows_of (found_of inner.now))) }
+{
+    Ok(Request::Audit(AuditRequest {
+        plant: given_word(inner, "PLANT"),
+        journals: journals_given(alloc, inner)?,
+    }))
+}
+
+/// What a command of that name asks for, by what was found for it.
+fn request_of<'a>(
+    alloc: Global,
+    command: &mut Command<'a>,
+    name: &str,
+    inner: &ArgMatches<'a>,
+) -> Result<Request<'a>, Error>
+    ensures { IfOk result (AsksFor (Some (name.now, rows_of (found_of inner.now)))) }
+{
+    match name {
+        "eval" => eval_request(alloc, command, inner),
+        "verify" => verify_request(alloc, command, inner),
+        "check" => Ok(Request::Text(TextRequest::Check {
+            plant: given_word(inner, "PLANT"),
+        })),
+        "plan" => plan_request(command, inner),
+        "sim" => sim_request(command, inner),
+        "run" => run_request(alloc, command, inner),
+        "node" => Ok(node_request(inner)),
+        "audit" => audit_request(alloc, inner),
+        "explain" => Ok(Request::Explain(word_of(inner, "KIND"))),
+        _ => Err(command.error(ErrorKind::MissingSubcommand, "a command is missing")?),
+    }
+}
+
+/// Reads the words, of which the first is the program's own name.
+pub fn read_words<'a>(alloc: Global, words: &'a [String]) -> Result<Request<'a>, Error>
+    ensures { IfOk result (AsksFor (subcommand_of plc_app (map (λ word. string_bytes word) words.now))) }
+{
+    let mut command = commands(alloc)?;
+    let matches = command.try_get_matches_from_mut(words)?;
+    match matches.subcommand() {
+        Some((name, inner)) => request_of(alloc, &mut command, name, inner),
+        None => Err(command.error(ErrorKind::MissingSubcommand, "a command is missing")?),
+    }
+}

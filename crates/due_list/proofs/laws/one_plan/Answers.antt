@@ -1,5 +1,0 @@
-use Rattle.due_list.proofs.Planned.{plan_is_one}
-use Rattle.due_list.proofs.laws.one_plan.Goals as goal
-
-pub returns : goal.returns
-returns c = λ resources until a b. plan_is_one resources until a b

@@ -1,9 +1,0 @@
-use Rattle.std.proofs.Common.{◌≡◌, ◌++◌, ◌≤◌, length, take}
-use Rattle.due_list.specs.Steps.Slots.{dues_at}
-use Rattle.due_list.proofs.planning.push_dues.Given as goal
-
-abbrev pub invariant-loop-slot : goal.invariant-loop-slot
-invariant-loop-slot l = record {
-  so_far : l.dues.items ≡ l.fn.dues.items ++ dues_at (take l.slot-index l.order) l.moment;
-  few : length l.dues.items ≤ 100000;
-}

@@ -1,9 +1,0 @@
-use Rattle.std.proofs.Common.{◌≡◌, ◌++◌, ◌<◌, All}
-use Rattle.due_list.specs.Steps.Slots.{slots_within}
-use Rattle.due_list.proofs.planning.push_slots.Given as goal
-
-abbrev pub invariant-loop-task : goal.invariant-loop-task
-invariant-loop-task l = record {
-  so_far : l.slots.items ≡ l.fn.slots.items ++ slots_within l.resource l.tasks l.task;
-  positive : All (λ s. 0 < s.interval) l.fn.slots.items → All (λ s. 0 < s.interval) l.slots.items;
-}

@@ -1,9 +1,0 @@
--- Where each entry fits those before it, takes never fall.
-use Rattle.std.proofs.Common.{subst, reverse}
-use Rattle.evaluation_book.specs.Book.{BookValue}
-use Rattle.evaluation_book.specs.Fits.{NeverFall}
-use Rattle.evaluation_book.proofs.Falling.{never-fall}
-use Rattle.evaluation_book.proofs.book.Book.entries.Goals as goal
-
-pub returns-clause-unfallen : goal.returns-clause-unfallen
-returns-clause-unfallen c = subst (λ (b : BookValue). NeverFall (reverse b.entries)) c.self.view_is (never-fall c.self.inside.first.items (reverse c.self.inside.entries.items) c.self.invariant.0)

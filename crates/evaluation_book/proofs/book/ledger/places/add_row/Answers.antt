@@ -1,6 +1,0 @@
--- The new row has the one place.
-use Rattle.std.proofs.Common.{rules}
-use Rattle.evaluation_book.proofs.book.ledger.places.add_row.Goals as goal
-
-pub returns-clause-ok : goal.returns-clause-ok
-returns-clause-ok c = (record { task = c.args.task; places = c.push.new.self }, search rules, search rules, search rules)

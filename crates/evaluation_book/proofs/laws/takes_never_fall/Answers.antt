@@ -1,6 +1,0 @@
--- The law holds by the clauses alone.
-use Rattle.evaluation_book.proofs.Falling.{never-fall}
-use Rattle.evaluation_book.proofs.laws.takes_never_fall.Goals as goal
-
-pub returns : goal.returns
-returns c = never-fall

@@ -1,9 +1,0 @@
-use crate::book::ledger::place::Place;
-use due_list::TaskRef;
-
-/// The places of a task's entries, in their order.
-#[derive(Drop)]
-pub struct TaskPlaces {
-    pub task: TaskRef,
-    pub places: Vec<Place>,
-}

@@ -1,6 +1,0 @@
--- The consistency theorem holds.
-use Rattle.exchange.proofs.Consistency.Makings.{consistency-theorem}
-use Rattle.exchange.proofs.log_laws.consistency_theorem.Goals as goal
-
-pub returns : goal.returns
-returns c = consistency-theorem c.takes_never_fall.ensures

@@ -1,6 +1,0 @@
--- Resources that hold one evaluation hold equal values.
-use Rattle.exchange.proofs.Consistency.Entered.{holders-agree}
-use Rattle.exchange.proofs.log_laws.holders_agree.Goals as goal
-
-pub returns : goal.returns
-returns c = holders-agree

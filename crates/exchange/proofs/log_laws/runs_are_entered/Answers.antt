@@ -1,6 +1,0 @@
--- The log of a run is entered without a misfit.
-use Rattle.exchange.proofs.Consistency.Entered.{runs-entered}
-use Rattle.exchange.proofs.log_laws.runs_are_entered.Goals as goal
-
-pub returns : goal.returns
-returns c = runs-entered

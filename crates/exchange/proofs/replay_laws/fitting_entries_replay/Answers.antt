@@ -1,5 +1,0 @@
-use Rattle.exchange.proofs.Schedules.Replaying.{replays}
-use Rattle.exchange.proofs.replay_laws.fitting_entries_replay.Goals as goal
-
-pub returns : goal.returns
-returns c = replays

@@ -1,8 +1,0 @@
-use Rattle.std.proofs.Common.{◌≡◌, ◌++◌, take}
-use Rattle.std.specs.List.{flat_map}
-use Rattle.exchange.specs.Schedule.{delivery}
-use Rattle.exchange.specs.Steps.Tables.{before}
-use Rattle.exchange.proofs.schedule.deliveries.push_deliveries.Given as goal
-
-abbrev pub invariant-loop-take : goal.invariant-loop-take
-invariant-loop-take l = l.events.items ≡ l.fn.events.items ++ flat_map (delivery (before l.book.entries l.index) l.name) (take l.take-index l.takes)

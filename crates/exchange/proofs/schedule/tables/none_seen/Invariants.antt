@@ -1,6 +1,0 @@
--- Nothing is seen of the resources so far.
-use Rattle.exchange.specs.Steps.Tables.{AreUnseen}
-use Rattle.exchange.proofs.schedule.tables.none_seen.Given as goal
-
-abbrev pub invariant-loop-resource : goal.invariant-loop-resource
-invariant-loop-resource l = AreUnseen l._resource l.seen.items

@@ -1,5 +1,0 @@
-pub mod KeptFiles
-pub mod KeptTexts
-pub mod NumberTexts
-pub mod ReadTexts
-pub mod RetainedTexts

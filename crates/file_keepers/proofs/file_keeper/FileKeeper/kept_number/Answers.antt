@@ -1,6 +1,0 @@
-use Rattle.std.proofs.Common.{rules}
-use Rattle.file_keepers.proofs.KeptFiles.{found_read}
-use Rattle.file_keepers.proofs.file_keeper.FileKeeper.kept_number.Goals as goal
-
-pub returns : goal.returns
-returns g c = search (rules, found_read)

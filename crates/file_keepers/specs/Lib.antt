@@ -1,4 +1,0 @@
-pub mod KeptNumbers
-pub mod KeptRetained
-pub mod KnownFiles
-pub mod Steps

@@ -1,6 +1,0 @@
-mod KeptLists
-mod Restarts
-mod RunLines
-mod Starts
-mod Tellings
-mod WholeLines

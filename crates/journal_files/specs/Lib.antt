@@ -1,3 +1,0 @@
-pub mod JournalLines
-pub mod Readings
-pub mod Steps

@@ -1,3 +1,0 @@
-pub mod BegunTexts
-pub mod ListTexts
-pub mod ValueTexts

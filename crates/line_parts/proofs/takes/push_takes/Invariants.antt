@@ -1,7 +1,0 @@
-use Rattle.std.proofs.Common.{◌≡◌, ◌++◌, map, take, string_bytes}
-use Rattle.std.specs.List.{join_with_byte}
-use Rattle.line_parts.specs.Lists.{take_text}
-use Rattle.line_parts.proofs.takes.push_takes.Given as goal
-
-abbrev pub invariant-loop-i : goal.invariant-loop-i
-invariant-loop-i l = string_bytes l.line ≡ string_bytes l.initial.line ++ join_with_byte 32 (map (take_text l.plant) (take l.i l.takes))

@@ -1,4 +1,0 @@
-pub mod LineParts
-pub mod Lists
-pub mod ReadParts
-pub mod Steps

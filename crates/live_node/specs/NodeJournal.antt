@@ -1,0 +1,47 @@
+-- What a node notes in its journal: each line ends with `;` and a line feed.
+use Rattle.std.specs.Prelude.{ℕ, ◌++◌, List, [], ◌∷◌, codes}
+use Rattle.std.specs.List.{flat_map, zip}
+use Rattle.std.specs.Fmt.{decimal}
+use Rattle.std_blocks.specs.declared.value.Value.{Value}
+use Rattle.task_codes.specs.CodeValue.{CodeValue}
+use Rattle.task_codes.specs.declared.retained_variable.RetainedVariable.{RetainedVariable}
+use Rattle.plant.specs.PlantValue.{PlantValue, codes_at}
+use Rattle.text_lines.specs.LineParts.{resource_text, value_text}
+use Rattle.keepers.specs.KeptRetained.{before_value}
+use Rattle.live_node.specs.NodeLines.{node_text}
+
+-- what ends a line: a torn line hasn't got it
+abbrev pub note_end : List ℕ
+note_end = codes ";\n"
+
+-- a line that is done, as it was read
+abbrev pub line_note : List ℕ → List ℕ
+line_note line = node_text line ++ note_end
+
+-- ` PROGRAM.VARIABLE=value`, behind a blank: a retained variable and its value
+abbrev pub kept_text : CodeValue → RetainedVariable × Value → List ℕ
+kept_text code e = codes " " ++ before_value code e.0 ++ value_text e.1
+
+-- those of a task, in order
+abbrev pub task_kept_text : CodeValue × List Value → List ℕ
+task_kept_text e = flat_map (kept_text e.0) (zip e.0.retained e.1)
+
+-- those of all tasks of a resource, task by task
+abbrev pub all_kept_text : PlantValue → ℕ → List (List Value) → List ℕ
+all_kept_text plant n opening = flat_map task_kept_text (zip (codes_at plant n) opening)
+
+-- ` KEEPS` before them; nothing where there are none
+abbrev pub keeps_text : List ℕ → List ℕ
+keeps_text [] = []
+keeps_text (c ∷ more) = codes " KEEPS" ++ c ∷ more
+
+-- A start: a line feed, `START R i`, and the values that it opens with. The line feed ends a torn line before it.
+abbrev pub start_note : PlantValue → ℕ → ℕ → List (List Value) → List ℕ
+start_note plant n incarnation opening =
+    codes "\nSTART " ++ resource_text plant n ++ codes " " ++ decimal incarnation
+    ++ keeps_text (all_kept_text plant n opening) ++ note_end
+
+-- `RESTART R i`: a restart, and the incarnation of it
+abbrev pub restart_note : PlantValue → ℕ → ℕ → List ℕ
+restart_note plant n incarnation =
+    codes "RESTART " ++ resource_text plant n ++ codes " " ++ decimal incarnation ++ note_end

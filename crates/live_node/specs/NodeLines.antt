@@ -1,0 +1,43 @@
+-- What a line asks of a node.
+use Rattle.std.specs.Prelude.{◌≡◌, ℕ, true, IsTrue, List, [], ◌∷◌, Some, codes}
+use Rattle.words.specs.Lines.{without_last}
+use Rattle.words.specs.Chars.{same_word}
+use Rattle.words.specs.Numbers.{number_up_to}
+use Rattle.plant.specs.PlantValue.{PlantValue}
+use Rattle.evaluation.specs.InputTexts.{words_of}
+use Rattle.world.specs.declared.event.Event.TheVariants as event
+use Rattle.world.specs.ScheduleText.{is_idle, IsResourceWord, SpellsEvent}
+use Rattle.text_lines.specs.MessageLines.{IsMessageOf, message_line}
+use Rattle.live_node.specs.declared.node_line.NodeLine.{NodeLine}
+use Rattle.live_node.specs.declared.node_line.NodeLine.TheVariants.{Idle, Evaluate, Take, Hello, Restart}
+
+-- a line without the carriage return at its end
+abbrev pub node_text : List ℕ → List ℕ
+node_text line = without_last 13 line
+
+-- the words of a line
+abbrev pub node_words : List ℕ → List (List ℕ)
+node_words line = words_of (node_text line)
+
+-- three words: HELLO in either case, a resource, and an incarnation
+abbrev pub SpellsHello : PlantValue → ℕ → ℕ → List (List ℕ) → Type 0
+SpellsHello plant of incarnation [] = ⊥
+SpellsHello plant of incarnation (keyword ∷ []) = ⊥
+SpellsHello plant of incarnation (keyword ∷ first ∷ []) = ⊥
+SpellsHello plant of incarnation (keyword ∷ first ∷ second ∷ []) =
+    IsTrue (same_word keyword (codes "HELLO")) × IsResourceWord plant first of
+    × (number_up_to 4294967295 second ≡ Some incarnation)
+SpellsHello plant of incarnation (keyword ∷ first ∷ second ∷ third ∷ more) = ⊥
+
+-- A line asks this of a node: it is blank or a comment; or `EVAL` or `RESTART` as in a schedule; or `HELLO R i`; or
+-- exactly the line of a message of the plant.
+abbrev pub Spells : PlantValue → NodeLine → List ℕ → Type 0
+Spells plant Idle line = is_idle (node_words line) ≡ true
+Spells plant (Evaluate task dt inputs) line = SpellsEvent plant 0 (event.Evaluate 0 task dt inputs) (node_words line)
+Spells plant (Take m) line = IsMessageOf plant m × (node_text line ≡ message_line plant m)
+Spells plant (Hello of incarnation) line = SpellsHello plant of incarnation (node_words line)
+Spells plant (Restart resource) line = SpellsEvent plant 0 (event.Restart resource) (node_words line)
+
+-- it asks nothing that a node knows
+abbrev pub SpellsNothing : PlantValue → List ℕ → Type 0
+SpellsNothing plant line = (asked : NodeLine) → Spells plant asked line → ⊥

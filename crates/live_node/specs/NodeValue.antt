@@ -1,0 +1,40 @@
+-- What a node is, and how it starts.
+use Rattle.std.specs.Prelude.{◌≡◌, ℕ, ◌+◌, ◌<◌, ◌≤◌, List, length, replicate}
+use Rattle.std_blocks.specs.declared.value.Value.{Value}
+use Rattle.plant.specs.PlantValue.{PlantValue}
+use Rattle.exchange_core.specs.MessageCoreValue.{MessageCoreValue, fresh_core, IsRestartOf}
+
+-- A node: its core, how many lines it has done since it started, and how many evaluations it made of them.
+pub record NodeValue : Type 0 where
+  pub core : MessageCoreValue
+  pub lines : ℕ
+  pub made : ℕ
+
+-- the node of these parts
+abbrev pub node_of : MessageCoreValue → ℕ → ℕ → NodeValue
+node_of core lines made = record { core = core; lines = lines; made = made }
+
+-- a resource in incarnation 0, in which nothing is evaluated: all resources are, and its tasks open with these values
+abbrev pub core_at_0 : PlantValue → ℕ → List (List Value) → MessageCoreValue
+core_at_0 plant n opening = fresh_core plant n (replicate (length plant.resources) 0) 0 opening 4294967295
+
+-- A node starts: its core is that in incarnation 0 behind a restart in this one, and it has done nothing.
+pub record IsStarted (plant : PlantValue) (n : ℕ) (opening : List (List Value)) (incarnation : ℕ) (s : NodeValue)
+    : Type 0 where
+  pub risen : IsRestartOf (core_at_0 plant n opening) s.core incarnation
+  pub no_lines : s.lines ≡ 0
+  pub none_made : s.made ≡ 0
+
+-- the parts of a node suit each other
+pub record IsNodeOf (plant : PlantValue) (n : ℕ) (s : NodeValue) : Type 0 where
+  pub plant_is : s.core.plant ≡ plant
+  pub resource_is : s.core.resource ≡ n
+  pub exists : n < length plant.resources
+  pub firsts : length s.core.first ≡ length plant.resources
+  pub heards : length s.core.heard ≡ length plant.resources
+  pub fewer : s.made ≤ s.lines
+
+-- one more line was done, and of it so many evaluations were made
+pub record HasCounted (old new : NodeValue) (made : ℕ) : Type 0 where
+  pub lines_are : new.lines ≡ old.lines + 1
+  pub made_are : new.made ≡ old.made + made

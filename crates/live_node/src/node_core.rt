@@ -1,0 +1,189 @@
+use crate::line_refusal::LineRefusal;
+use evaluation::{Frame, Inputs, Message, Retained};
+use exchange_core::{Accepted, EvalFault, MessageCore};
+use plant::{Plant, TaskRef};
+use std::alloc::{AllocError, Global};
+use std::marker::Model;
+use std::sync::Arc;
+
+/// What stands of a node beside its keeper and its notes: its core, how many lines it has done since it started, and how
+/// many evaluations it made of them.
+#[derive(Drop)]
+pub struct NodeCore {
+    plant: Arc<Plant>,
+    resource: usize,
+    core: MessageCore,
+    lines: u64,
+    made: u64,
+}
+
+impl Model for NodeCore {
+    ghost use Rattle.live_node.specs.NodeValue.{NodeValue, node_of, IsNodeOf};
+
+    ghost Value = { NodeValue };
+
+    ghost view = { λ s. node_of s.core s.lines s.made };
+
+    ghost invariant = { λ s. IsNodeOf s.plant.value s.resource (node_of s.core s.lines s.made) };
+}
+
+ghost use Rattle.std.specs.Prelude.{◌≡◌, ◌<◌, IfOk, OnOk, MatchOption, length, replicate};
+ghost use Rattle.exchange_core.specs.Openings.{AreOpeningOf};
+ghost use Rattle.live_node.specs.NodeValue.{IsStarted};
+ghost use Rattle.live_node.specs.NodeSteps.{HasTaken, HasHeardOf, HasRisen, HasMade, IsTaskRefusal, IsNotRefused, IsPlaceRefusal, is_behind};
+
+/// The incarnations in which all begin: 0 for each resource.
+fn zeros(alloc: Global, resources: usize) -> Result<Vec<u32>, AllocError>
+    ensures { IfOk result (λ first. first.items ≡ replicate resources 0) }
+{
+    vec![in alloc; 0u32; resources]
+}
+
+impl NodeCore {
+    /// A resource in the incarnation to which it rose from 0, in which each of its tasks opened with these values. It has done nothing yet.
+    pub fn start(
+        alloc: Global,
+        plant: Arc<Plant>,
+        resource: usize,
+        opening: &[Retained],
+        incarnation: u32,
+    ) -> Result<NodeCore, AllocError>
+        requires exists { resource < length plant.value.resources }
+        requires opening { AreOpeningOf plant.value resource opening.now }
+        ensures { IfOk result (IsStarted plant.value resource opening.now incarnation) }
+    {
+        let first = zeros(alloc, plant.resources())?;
+        let shared = Arc::try_clone(&plant)?;
+        let Ok(core) = MessageCore::new(
+            alloc,
+            shared,
+            resource,
+            first.as_slice(),
+            opening,
+            u32::MAX,
+        ) else {
+            return Err(AllocError);
+        };
+        Ok(NodeCore {
+            plant,
+            resource,
+            core: core.restarted(alloc, incarnation)?,
+            lines: 0,
+            made: 0,
+        })
+    }
+
+    /// The plant.
+    pub fn plant(&self) -> &Plant
+        ensures { result.now ≡ self.now.core.plant }
+    {
+        &self.plant
+    }
+
+    /// The resource.
+    pub fn resource(&self) -> usize
+        ensures is { result ≡ self.now.core.resource }
+        ensures exists { result < length self.now.core.plant.resources }
+    {
+        self.resource
+    }
+
+    /// The incarnation.
+    pub fn incarnation(&self) -> u32
+        ensures { result ≡ self.now.core.incarnation }
+    {
+        self.core.incarnation()
+    }
+
+    /// How many evaluations were made since the start.
+    pub fn made(&self) -> u64
+        ensures { result ≡ self.now.made }
+    {
+        self.made
+    }
+
+    /// Why a line about a resource isn't done: there is no such resource, or it isn't this one.
+    pub fn refusal_of_place(&self, resource: usize) -> Option<LineRefusal>
+        ensures { MatchOption result (resource ≡ self.now.core.resource) (IsPlaceRefusal self.now.core resource) }
+    {
+        if resource >= self.plant.resources() {
+            return Some(LineRefusal::NoSuchResource);
+        }
+        if resource != self.resource {
+            return Some(LineRefusal::NotHere);
+        }
+        None
+    }
+
+    /// Why a task isn't evaluated, the first cause.
+    pub fn refusal_of_task(&self, task: TaskRef) -> Option<LineRefusal>
+        ensures { MatchOption result (IsNotRefused self.now.core task) (IsTaskRefusal self.now.core task) }
+    {
+        if let Some(refusal) = self.refusal_of_place(task.resource) {
+            return Some(refusal);
+        }
+        match self.core.next_number(task.task) {
+            Ok(_) => None,
+            Err(EvalFault::NoSuchTask) => Some(LineRefusal::NoSuchTask),
+            Err(_) => Some(LineRefusal::NumbersSpent),
+        }
+    }
+
+    /// Evaluates a task: the line's place since the start is the ticket. Memory: nothing has changed.
+    pub fn evaluate(
+        &mut self,
+        alloc: Global,
+        task: usize,
+        dt: u32,
+        inputs: &Inputs,
+    ) -> Result<Frame, EvalFault>
+        requires { self.old.lines < 18446744073709551615 }
+        ensures made { IfOk result (HasMade self.old self.new task dt inputs.now) }
+        ensures heard { IfOk result (λ f. length f.heard ≡ length self.new.core.plant.resources) }
+    {
+        let ticket = self.lines + 1;
+        let frame = self.core.evaluate(alloc, ticket, task, dt, inputs)?;
+        self.lines = ticket;
+        self.made += 1;
+        Ok(frame)
+    }
+
+    /// Takes in a message, if it is to be taken.
+    pub fn accept(&mut self, message: Message) -> Accepted
+        requires { self.old.lines < 18446744073709551615 }
+        ensures { HasTaken self.old self.new message result }
+    {
+        self.lines += 1;
+        self.core.accept(message)
+    }
+
+    /// Whether a message is addressed to an incarnation below the present one.
+    pub fn is_behind(&self, message: &Message) -> bool
+        ensures { result ≡ is_behind self.now.core message.now }
+    {
+        match message.heard().get(self.resource) {
+            Some(heard) => *heard < self.incarnation(),
+            None => false,
+        }
+    }
+
+    /// Hears that a resource is in an incarnation; whether that is news.
+    pub fn hear(&mut self, of: usize, incarnation: u32) -> bool
+        requires { self.old.lines < 18446744073709551615 }
+        ensures { HasHeardOf self.old self.new of incarnation result }
+    {
+        self.lines += 1;
+        self.core.hear(of, incarnation)
+    }
+
+    /// Restarts in a greater incarnation. Without memory nothing has changed.
+    pub fn restart(&mut self, alloc: Global, incarnation: u32) -> Result<(), AllocError>
+        requires { self.old.lines < 18446744073709551615 }
+        ensures { OnOk result (HasRisen self.old self.new incarnation) }
+    {
+        let core = self.core.restarted(alloc, incarnation)?;
+        self.core = core;
+        self.lines += 1;
+        Ok(())
+    }
+}

@@ -1,0 +1,101 @@
+//! What a line asks of a node.
+
+ghost use Rattle.std.specs.Prelude.{◌≡◌, ℕ, IfOk, MatchOption};
+ghost use Rattle.plant.specs.Find.{Finds};
+ghost use Rattle.evaluation.specs.InputTexts.{words_of};
+ghost use Rattle.live_node.specs.NodeLines.{SpellsHello, Spells, SpellsNothing};
+ghost use Rattle.live_node.specs.Steps.Reading.{texts, IsEventLine, IsWordsLine};
+
+use crate::node_line::NodeLine;
+use evaluation::push_words;
+use plant::Plant;
+use std::alloc::{AllocError, Global};
+use text_lines::read_message;
+use words::number_up_to;
+use world::{Event, LineFault, is_idle, read_event, resource_of, without_last};
+
+/// The resource and the incarnation that the words of a line `HELLO` spell.
+fn read_hello(plant: &Plant, words: &[&[u8]]) -> Option<(usize, u32)>
+    ensures { Finds (λ (h : ℕ × ℕ). SpellsHello plant.now h.0 h.1 (texts words.now)) result }
+{
+    let [keyword, of, incarnation] = words else {
+        return None;
+    };
+    if !keyword.eq_ignore_ascii_case(b"HELLO") {
+        return None;
+    }
+    let of = resource_of(plant, of)?;
+    let incarnation = number_up_to(incarnation, 4_294_967_295)?;
+    Some((of, incarnation as u32))
+}
+
+/// The evaluation or the restart that the words of a line spell.
+#[tactic(auto, using(crate::proofs::LinesRead::no_own))]
+fn read_own_event(
+    alloc: Global,
+    plant: &Plant,
+    words: &[&[u8]],
+) -> Result<Option<NodeLine>, AllocError>
+    ensures { IfOk result (IsEventLine plant.now (texts words.now)) }
+{
+    match read_event(alloc, plant, 0, words) {
+        Ok(
+            Event::Evaluate {
+                task,
+                dt,
+                inputs,
+                ..
+            },
+        ) => Ok(Some(NodeLine::Evaluate { task, dt, inputs })),
+        Ok(Event::Restart { resource }) => Ok(Some(NodeLine::Restart { resource })),
+        Ok(_) => Ok(None),
+        Err(LineFault::Syntax) => Ok(None),
+        Err(LineFault::Write | LineFault::Memory) => Err(AllocError),
+    }
+}
+
+/// What the words of a line ask, if it isn't a message.
+fn read_by_words(
+    alloc: Global,
+    plant: &Plant,
+    words: &[&[u8]],
+) -> Result<Option<NodeLine>, AllocError>
+    ensures { IfOk result (IsWordsLine plant.now (texts words.now)) }
+{
+    if is_idle(words) {
+        return Ok(Some(NodeLine::Idle));
+    }
+    match read_hello(plant, words) {
+        Some((of, incarnation)) => Ok(Some(NodeLine::Hello { of, incarnation })),
+        None => read_own_event(alloc, plant, words),
+    }
+}
+
+/// The words of a text.
+fn words_in<'a>(alloc: Global, text: &'a [u8]) -> Result<Vec<&'a [u8]>, AllocError>
+    ensures { IfOk result (λ words. texts words.items ≡ words_of text.now) }
+{
+    let mut words = Vec::new(alloc);
+    push_words(&mut words, text)?;
+    Ok(words)
+}
+
+/// What a line asks of a node; None where it is no line of one. `line` is without its line feed.
+#[tactic(auto, using(crate::proofs::LinesRead::by_words, crate::proofs::LinesRead::nothing))]
+pub fn read_node_line(
+    alloc: Global,
+    plant: &Plant,
+    line: &[u8],
+) -> Result<Option<NodeLine>, AllocError>
+    ensures { IfOk result (λ found. MatchOption found (SpellsNothing plant.now line.now) (λ asked. Spells plant.now asked line.now)) }
+{
+    let text = without_last(b'\r', line);
+    let words = words_in(alloc, text)?;
+    if let Some(asked) = read_by_words(alloc, plant, words.as_slice())? {
+        return Ok(Some(asked));
+    }
+    match read_message(alloc, plant, text)? {
+        Some(message) => Ok(Some(NodeLine::Take(message))),
+        None => Ok(None),
+    }
+}

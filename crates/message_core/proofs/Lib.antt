@@ -1,4 +1,0 @@
-pub mod Tables
-pub mod CodeTakes
-pub mod Keeping
-pub mod Openings

@@ -1,8 +1,0 @@
-use Rattle.std.proofs.Common.{◌≡◌, map, take}
-use Rattle.std.specs.List.{zip}
-use Rattle.evaluation.specs.Messages.{take_from}
-use Rattle.message_core.specs.Held.{message_known}
-use Rattle.message_core.proofs.takes.takes_of.Given as goal
-
-abbrev pub invariant-loop-k : goal.invariant-loop-k
-invariant-loop-k l = l.takes.items ≡ map (λ e. take_from e.0 e.1 (message_known l.fn.table e.0)) (take l.k (zip l.fn.code.producers l.fn.code.expected))

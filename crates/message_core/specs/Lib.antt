@@ -1,4 +1,0 @@
-pub mod Held
-pub mod Openings
-pub mod MessageCoreValue
-pub mod Steps

@@ -1,4 +1,0 @@
--- Steps of the proofs: where the last evaluations stand, and what they have to be.
--- Only contracts inside this crate cite them, so no reader has to believe them.
-pub mod Knowing
-pub mod Outliving

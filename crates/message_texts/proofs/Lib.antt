@@ -1,4 +1,0 @@
-pub mod Lists
-pub mod Messages
-pub mod Parts
-pub mod WordsRead

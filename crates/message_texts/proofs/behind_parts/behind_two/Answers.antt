@@ -1,5 +1,0 @@
-use Rattle.message_texts.proofs.Parts.{behind_both}
-use Rattle.message_texts.proofs.behind_parts.behind_two.Goals as goal
-
-pub returns-in-Some : goal.returns-in-Some
-returns-in-Some c = behind_both c.args.text.now c.args.first.now c.args.second.now c.in-Some.rest.now _ c.in-Some.ensures c.behind-in-Some.ensures

@@ -1,2 +1,0 @@
-pub mod MessageLines
-pub mod Steps

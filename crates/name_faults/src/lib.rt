@@ -1,0 +1,22 @@
+//! The faults of a drawing's names, and names declared by their use.
+#![tactic(auto)]
+
+mod bind_fault;
+mod box_faults;
+mod element_faults;
+mod finding;
+mod first_fault;
+mod guess;
+mod kinds;
+mod literal;
+mod name_use;
+mod names;
+
+pub use bind_fault::{BindFault, BindKind};
+pub use declared_names::{
+    Declaration, Declarations, DeclareFault, Declared, Kind, first_value, kind_of,
+    names_of_one_place_are_one,
+};
+pub use guess::Guess;
+pub use literal::literal_value;
+pub use names::parts;

@@ -1,0 +1,63 @@
+-- In which incarnations the journals begin.
+use Rattle.std.proofs.Common.{◌≡◌, ℕ, ◌<◌, List, [], ◌∷◌, ◌++◌, ◌+◌, length, map, get_or, slice_index, length-append, Some, slice_get, refl, ap, sym, ◌∙◌, subst, arith}
+use Rattle.std.specs.Option.{option_map}
+use Rattle.std.specs.declared.thread.PromisedHandle.{PromisedHandle}
+use Rattle.std.proofs.lemmas.List.{length-map}
+use Rattle.std.proofs.lemmas.Option.{slice_get-map, same_Some, slice_get_within, slice_get_read, get_or_from_slice_get}
+use Rattle.lists.proofs.Places.{element_at, same_by_each}
+use Rattle.node_reports.specs.declared.journal.Journal.{Journal}
+use Rattle.node_reports.specs.Journals.{BeginAbove}
+use Rattle.node.specs.declared.threads.ended.Ended.{Ended}
+use Rattle.node.specs.declared.threads.lawful_for.LawfulFor.{LawfulFor}
+use Rattle.node.specs.Steps.Working.{WorkerValue, firsts_of_workers, firsts_of_ended, AreAbove}
+use Rattle.node.proofs.Alls.{zip_at}
+
+pub firsts_parted : (es : List Ended) → map (λ (j : Journal). j.first) (map (λ (e : Ended). e.journal) es) ≡ firsts_of_ended es
+firsts_parted [] = refl
+firsts_parted (e ∷ es) = ap (λ firsts. e.journal.first ∷ firsts) (firsts_parted es)
+
+-- the journals that threads leave begin above what their keepers held, if the workers did
+pub begin_above : {K : Type 0} (last : K → ℕ) (keepers : List K) (workers : List WorkerValue) (ended : List Ended) (journals : List Journal) → AreAbove last keepers (firsts_of_workers workers)
+    → firsts_of_ended ended ≡ firsts_of_workers workers → journals ≡ map (λ (e : Ended). e.journal) ended → BeginAbove last keepers journals
+begin_above last keepers workers ended journals above kept are = λ k keeper j at found.
+    let first_of : Journal → ℕ = λ (i : Journal). i.first in
+    let held : slice_get (map last keepers) k ≡ Some (last keeper) = slice_get-map last keepers k ∙ ap (option_map last) at in
+    let begun : slice_get (map first_of journals) k ≡ Some j.first = slice_get-map first_of journals k ∙ ap (option_map first_of) found in
+    let same : map first_of journals ≡ firsts_of_workers workers = ap (map first_of) are ∙ firsts_parted ended ∙ kept in
+    zip_at (λ a b. a < b) (map last keepers) (firsts_of_workers workers) k (last keeper) j.first above held (subst (λ (l : List ℕ). slice_get l k ≡ Some j.first) same begun)
+
+-- each thread left a journal that begins where its promise says
+pub firsts_kept : (hs : List (PromisedHandle Ended LawfulFor)) (es : List Ended) → length es ≡ length hs
+    → ((i : ℕ) (d : Ended) → i < length hs → (handle : PromisedHandle Ended LawfulFor) × (handle ≡ get_or hs i handle) × ((get_or es i d).journal.first ≡ handle.promise.first))
+    → firsts_of_ended es ≡ map (λ (h : PromisedHandle Ended LawfulFor). h.promise.first) hs
+firsts_kept hs es many each = same_by_each (firsts_of_ended es) (map promised hs) (length-map es begun ∙ many ∙ sym (length-map hs promised)) at_place
+  where
+    begun : Ended → ℕ
+    begun e = e.journal.first
+
+    promised : PromisedHandle Ended LawfulFor → ℕ
+    promised h = h.promise.first
+
+    at_place : (k x y : ℕ) → slice_get (firsts_of_ended es) k ≡ Some x → slice_get (map promised hs) k ≡ Some y → x ≡ y
+    at_place k x y at found =
+        let within = slice_get_within (firsts_of_ended es) k x at in
+        let long = length-map es begun in
+        let inside : k < length es = omega (arith, within, long) in
+        let e = element_at es k inside in
+        let kept = each k e.0 (omega (arith, inside, many)) in
+        let handle : slice_get hs k ≡ Some kept.0 = slice_get_read hs (length hs) k kept.0 refl (omega (arith, inside, many)) kept.1 in
+        same_Some x (begun e.0) (sym at ∙ slice_get-map begun es k ∙ ap (option_map begun) e.1)
+        ∙ ap begun (sym (get_or_from_slice_get es k e.0 e.0 e.1))
+        ∙ kept.2
+        ∙ same_Some (promised kept.0) y (sym (slice_get-map promised hs k ∙ ap (option_map promised) handle) ∙ found)
+
+-- the number behind the first ones
+at_seam : (xs : List ℕ) (x : ℕ) (rest : List ℕ) → slice_index (xs ++ x ∷ rest) (length xs) ≡ x
+at_seam [] x rest = refl
+at_seam (y ∷ ys) x rest = at_seam ys x rest
+
+-- the next resource exists, and this is its first incarnation
+pub next_first : (firsts xs rest : List ℕ) (x place : ℕ) → firsts ≡ xs ++ x ∷ rest → place ≡ length xs → (place < length firsts) × (slice_index firsts place ≡ x)
+next_first firsts xs rest x place are at =
+    let long : length firsts ≡ length xs + length (x ∷ rest) = ap length are ∙ length-append xs (x ∷ rest) in
+    (omega (arith, long, at), ap (λ (l : List ℕ). slice_index l place) are ∙ ap (slice_index (xs ++ x ∷ rest)) at ∙ at_seam xs x rest)

@@ -1,0 +1,7 @@
+-- What was kept of the tasks so far suits them, and the keeper is in the same incarnation.
+use Rattle.std.proofs.Common.{◌≡◌}
+use Rattle.node.proofs.Opened.{IsKeptOf}
+use Rattle.node.proofs.threads.preparing.kept_opening.Given as goal
+
+abbrev pub invariant-loop-task : goal.invariant-loop-task
+invariant-loop-task g l = IsKeptOf l.plant l.resource l.task l.listed.items × (g.K.Keeper.last l.keeper ≡ g.K.Keeper.last l.fn.keeper)

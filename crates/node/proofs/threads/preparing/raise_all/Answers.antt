@@ -1,0 +1,30 @@
+-- One more keeper.
+use Rattle.std.proofs.Common.{rules, ◌≡◌, ℕ, ◌<◌, ◌++◌, List, [], ◌∷◌, map, ap, sym, ◌∙◌, append_assoc, subst}
+use Rattle.std.specs.List.{AllZip}
+use Rattle.std.specs.Vec.Iter.{into_iter_items}
+use Rattle.node.specs.Steps.Working.{lasts_of}
+use Rattle.node.proofs.Alls.{zip_push}
+use Rattle.node.proofs.Opened.{opened_push, lasts_push}
+use Rattle.node.proofs.threads.preparing.raise_all.Goals as goal
+
+pub loop-keeper-preserved : goal.loop-keeper-preserved
+loop-keeper-preserved g c =
+    let was = c.loop-keeper.invariant.0 in
+    let last = g.K.Keeper.last c.in-Some.keeper in
+    let old : List ℕ = c.loop-keeper.firsts.items in
+    let before = c.loop-keeper.raised.items in
+    let rest_is : into_iter_items c.loop-keeper.keeper-iterator ≡ c.in-Some.keeper ∷ into_iter_items c.next.new.self = search rules in
+    let firsts : c.push-in-loop-keeper.new.self.items ≡ old ++ c.in_ok-one.first ∷ [] = c.in-Ok-push.ensures.items in (
+      (
+        was.0 ++ last ∷ [],
+        was.1 ∙ ap (λ ks. was.0 ++ map g.K.Keeper.last ks) rest_is ∙ sym (append_assoc was.0 (last ∷ []) (map g.K.Keeper.last (into_iter_items c.next.new.self))),
+        subst (λ (fs : List ℕ). AllZip (λ (held first : ℕ). held < first) (was.0 ++ last ∷ []) fs) (sym firsts)
+            (zip_push (λ (held first : ℕ). held < first) was.0 old last c.in_ok-one.first was.2 c.in_ok-one.ensures.above),
+      ),
+      ap (lasts_of g.K.Keeper.last) c.in-Ok.ensures.items
+          ∙ lasts_push g.K.Keeper.last before c.in_ok-one.one
+          ∙ ap (λ (ns : List ℕ). ns ++ g.K.Keeper.last c.in_ok-one.one.keeper ∷ []) c.loop-keeper.invariant.1
+          ∙ ap (λ (n : ℕ). old ++ n ∷ []) c.in_ok-one.ensures.raised
+          ∙ sym firsts,
+      opened_push c.args.plant.now before c.in_ok-one.one c.push.new.self.items c.len-resource.result (search rules) c.in-Ok.ensures.items c.loop-keeper.invariant.2 c.in_ok-one.ensures.opened,
+    )

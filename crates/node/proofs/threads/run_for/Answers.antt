@@ -1,0 +1,57 @@
+-- Each thread kept its promise.
+use Rattle.std.proofs.Common.{◌≡◌, ◌∙◌, ℕ, ◌<◌, List, length, map, All, ap, subst, sym}
+use Rattle.std.proofs.lemmas.List.{length-map}
+use Rattle.std.proofs.lemmas.List.Elements.{All-map}
+use Rattle.lists.proofs.Results.{kept_fault}
+use Rattle.plant.specs.PlantValue.{PlantValue}
+use Rattle.node.specs.declared.threads.ended.Ended.{Ended}
+use Rattle.node_reports.specs.declared.journal.Journal.{Journal}
+use Rattle.node_reports.specs.Journals.{firsts_of, IsLawful}
+use Rattle.node.specs.Steps.Working.{AreAbove}
+use Rattle.node_reports.specs.RunFaults.{IsThreadsFault}
+use Rattle.node.proofs.Alls.{zip_long}
+use Rattle.node.proofs.Firsts.{begin_above, firsts_parted}
+use Rattle.node.proofs.Refusing.{raise_fault, start_fault}
+use Rattle.node.proofs.threads.run_for.Goals as goal
+
+-- there is one keeper for each resource, so there is one first incarnation for each
+pub make_workers-requires-clause-many : goal.make_workers-requires-clause-many
+make_workers-requires-clause-many g c _ _ =
+    ap (λ (l : List ℕ). length l) c.as_slice.ensures.value
+    ∙ zip_long (λ (held first : ℕ). held < first) (map g.K.Keeper.last c.args.keepers.items) c.in_ok-raised.firsts.items c.in_ok-raised.ensures.above
+    ∙ length-map c.args.keepers.items g.K.Keeper.last
+    ∙ c.requires.keepers
+
+pub returns-clause-lawful : goal.returns-clause-lawful
+returns-clause-lawful g c =
+    let plant = c.args.plant.now.value in
+    let max_number = c.args.max_number in
+    let ended : List Ended = c.in_ok-ended.ended.items in
+    let journals : List Journal = c.in_ok-journals.journals.items in
+    let begun : c.as_slice-3.result.now ≡ firsts_of journals =
+    c.as_slice-3.ensures.value ∙ sym c.as_slice.ensures.value ∙ sym c.in_ok-workers.ensures.firsts ∙ sym c.in_ok-ended.ensures.firsts ∙ sym (firsts_parted ended) ∙ sym (ap firsts_of c.in_ok-journals.ensures.journals) in
+    let of_plant = subst (λ (p : PlantValue). All (λ (e : Ended). IsLawful p c.as_slice-3.result.now max_number e.journal) ended) c.deref-3.ensures c.in_ok-ended.ensures.lawful in
+    let promised = subst (λ (firsts : List ℕ). All (λ (e : Ended). IsLawful plant firsts max_number e.journal) ended) begun of_plant in
+    subst (All (IsLawful plant (firsts_of journals) max_number)) (sym c.in_ok-journals.ensures.journals) (All-map (IsLawful plant (firsts_of journals) max_number) (λ (e : Ended). e.journal) ended promised)
+
+pub returns-clause-begun : goal.returns-clause-begun
+returns-clause-begun g c =
+    begin_above g.K.Keeper.last c.args.keepers.items c.in_ok-workers.workers.items c.in_ok-ended.ended.items c.in_ok-journals.journals.items
+    (subst (AreAbove g.K.Keeper.last c.args.keepers.items) (sym (c.in_ok-workers.ensures.firsts ∙ c.as_slice.ensures.value)) c.in_ok-raised.ensures.above)
+    c.in_ok-ended.ensures.firsts c.in_ok-journals.ensures.journals
+
+pub returns-in_err-raised-clause-fault : goal.returns-in_err-raised-clause-fault
+returns-in_err-raised-clause-fault g c =
+    kept_fault c.in_err-raised.field-0.0 IsThreadsFault _ c.from_residual.ensures.1 (raise_fault c.in_err-raised.field-0.0 c.in_err-raised.ensures.fault)
+
+pub returns-in_err-workers-clause-fault : goal.returns-in_err-workers-clause-fault
+returns-in_err-workers-clause-fault g c =
+    kept_fault c.in_err-workers.field-0.0 IsThreadsFault _ c.from_residual-in_err-workers.ensures.1 (raise_fault c.in_err-workers.field-0.0 c.in_err-workers.ensures.fault)
+
+pub returns-in_err-ended-clause-fault : goal.returns-in_err-ended-clause-fault
+returns-in_err-ended-clause-fault g c =
+    kept_fault c.in_err-ended.field-0.0 IsThreadsFault _ c.from_residual-in_err-ended.ensures.1 (start_fault c.in_err-ended.field-0.0 c.in_err-ended.ensures.fault)
+
+pub returns-in_err-journals-clause-fault : goal.returns-in_err-journals-clause-fault
+returns-in_err-journals-clause-fault g c =
+    kept_fault c.in_err-journals.field-0.0 IsThreadsFault _ c.from_residual-in_err-journals.ensures.1 (start_fault c.in_err-journals.field-0.0 c.in_err-journals.ensures.fault)

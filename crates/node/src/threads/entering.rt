@@ -1,0 +1,53 @@
+ghost use Rattle.std.specs.Prelude.{◌≡◌};
+ghost use Rattle.node_reports.specs.Codes.{IsOfPlant};
+ghost use Rattle.node.specs.Steps.Working.{IsWorking, journal_of};
+
+use crate::threads::entered::Entered;
+use crate::threads::keeping::keep_after;
+use crate::threads::of_plant::OfPlant;
+use crate::threads::plant_book::PlantBook;
+use crate::threads::worker_state::WorkerState;
+use evaluation::Frame;
+use keepers::Keeper;
+use node_reports::{Cause, PendingEvaluation};
+use std::alloc::Global;
+use std::sync::{Mutex, Wait};
+
+/// Enters a copy of an evaluation. The lock is held for that alone.
+fn enter<R: Wait, P: OfPlant>(
+    rt: &R,
+    shared: &Mutex<PlantBook<P>>,
+    frame: &Frame,
+) -> Result<(), Cause>
+    requires { IsOfPlant P.plant frame.now }
+{
+    let Ok(copy) = frame.try_clone() else {
+        return Err(Cause::Memory);
+    };
+    shared.lock(rt).enter(copy)
+}
+
+/// Enters the evaluation that a resource has made, keeps its task's retained variables, and then notes it. Where it isn't
+/// entered or noted, the resource is stopped.
+pub(crate) fn enter_pending<R: Wait, K: Keeper, P: OfPlant>(
+    rt: &R,
+    alloc: Global,
+    book: &Mutex<PlantBook<P>>,
+    keeper: &mut K,
+    pending: PendingEvaluation,
+) -> (WorkerState, Result<Entered, Cause>)
+    requires kept { K.last keeper.old ≡ pending.core.incarnation }
+    requires plant { pending.core.plant ≡ P.plant }
+    ensures working { IsWorking pending.core.plant pending.core.first pending.core.max_number (K.last keeper.new) result.0 }
+    ensures first { (journal_of result.0).first ≡ pending.journal.first }
+{
+    if let Err(cause) = enter(rt, book, pending.frame()) {
+        return (WorkerState::Stopped(pending.give_up()), Err(cause));
+    }
+    let kept = keep_after(alloc, keeper, pending.frame().evaluation());
+    let frame = pending.frame().try_clone().ok();
+    match pending.note() {
+        Ok(station) => (WorkerState::Running(station), Ok(Entered { frame, kept })),
+        Err(journal) => (WorkerState::Stopped(journal), Err(Cause::Memory)),
+    }
+}

@@ -1,0 +1,16 @@
+use crate::threads::hello::Hello;
+use evaluation::Frame;
+use node_reports::Command;
+
+/// What comes to the thread of a resource.
+#[derive(Drop)]
+pub(crate) enum Inbox {
+    /// An evaluation of another resource's task.
+    Frame(Frame),
+    /// Another resource's incarnation.
+    Hello(Hello),
+    /// What the resource is asked to do.
+    Command(Command),
+    /// Nothing else comes that counts.
+    Stop,
+}

@@ -1,0 +1,19 @@
+ghost use Rattle.std.specs.Prelude.{◌≡◌};
+ghost use Rattle.node_reports.specs.Journals.{IsLawful};
+
+use crate::threads::ended::Ended;
+use plant::Plant;
+use std::thread::Promise;
+
+/// That the journal which a thread leaves is lawful for this plant, these first incarnations and this limit, and begins in this incarnation.
+#[derive(Clone, Copy)]
+pub(crate) struct LawfulFor<'a> {
+    pub plant: &'a Plant,
+    pub firsts: &'a [u32],
+    pub max_number: u32,
+    pub first: u32,
+}
+
+impl<'a> Promise<Ended> for LawfulFor<'a> {
+    ghost kept_by = { λ p r. IsLawful p.plant.now p.firsts.now p.max_number r.journal × (r.journal.first ≡ p.first) };
+}

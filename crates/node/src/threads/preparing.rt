@@ -1,0 +1,129 @@
+ghost use Rattle.std.specs.Prelude.{◌≡◌, ◌<◌, All, IfOk, IfErr, length};
+ghost use Rattle.exchange_core.specs.CoreValue.{AreOpeningOf};
+ghost use Rattle.node_reports.specs.RunFaults.{IsRaiseFault};
+ghost use Rattle.node.specs.Steps.Working.{IsWorkerFor, firsts_of_workers, AreAbove, AreOpened, lasts_of};
+
+use crate::threads::inbox::Inbox;
+use crate::threads::raised::Raised;
+use crate::threads::worker::Worker;
+use crossbeam_channel::{Receiver, Sender};
+use keepers::Keeper;
+use node_reports::{Opening, RunFault};
+use plant::{Plant, TaskRef};
+use std::alloc::{AllocError, Global};
+use std::sync::Arc;
+
+/// Makes an inbox for each resource, with its door.
+pub(crate) fn make_inboxes(
+    alloc: Global,
+    count: usize,
+) -> Result<(Vec<Sender<Inbox>>, Vec<Receiver<Inbox>>), AllocError> {
+    let mut doors = Vec::with_capacity(alloc, count)?;
+    let mut inboxes = Vec::with_capacity(alloc, count)?;
+    for _resource in 0..count {
+        let (door, inbox) = crossbeam_channel::unbounded(alloc)?;
+        doors.push(door)?;
+        inboxes.push(inbox)?;
+    }
+    Ok((doors, inboxes))
+}
+
+/// What a keeper has kept of each task of its resource, in their order.
+fn kept_opening<K: Keeper>(
+    alloc: Global,
+    plant: &Plant,
+    resource: usize,
+    keeper: &mut K,
+) -> Result<Opening, RunFault>
+    ensures opened { IfOk result (AreOpeningOf plant.now resource) }
+    ensures last { K.last keeper.new ≡ K.last keeper.old }
+    ensures fault { IfErr result IsRaiseFault }
+{
+    // The getter hands out that each task has its code.
+    let _resources = plant.resources();
+    let tasks = plant.tasks(resource).len();
+    let mut listed = Vec::with_capacity(alloc, tasks)?;
+    for task in 0..tasks {
+        if let Some(code) = plant.code(TaskRef { resource, task }) {
+            let Ok(retained) = keeper.kept(task, code) else {
+                return Err(RunFault::Keeper);
+            };
+            let Ok(()) = listed.push(retained) else {
+                return Err(RunFault::Memory);
+            };
+        }
+    }
+    Ok(Opening::of(listed))
+}
+
+/// Raises a keeper, and asks what it has kept. It answers it with that, and the incarnation.
+fn raise_one<K: Keeper>(
+    alloc: Global,
+    plant: &Plant,
+    resource: usize,
+    keeper: K,
+) -> Result<(Raised<K>, u32), RunFault>
+    ensures above { IfOk result (λ r. K.last keeper < r.1) }
+    ensures raised { IfOk result (λ r. K.last r.0.keeper ≡ r.1) }
+    ensures opened { IfOk result (λ r. AreOpeningOf plant.now resource r.0.opening) }
+    ensures fault { IfErr result IsRaiseFault }
+{
+    let mut keeper = keeper;
+    let Ok(first) = keeper.raise() else {
+        return Err(RunFault::Keeper);
+    };
+    let opening = kept_opening(alloc, plant, resource, &mut keeper)?;
+    Ok((Raised { keeper, opening }, first))
+}
+
+/// Raises each keeper, in order, and asks what it has kept. It answers them with that, and the first incarnations.
+pub(crate) fn raise_all<K: Keeper>(
+    alloc: Global,
+    plant: &Plant,
+    keepers: Vec<K>,
+) -> Result<(Vec<Raised<K>>, Vec<u32>), RunFault>
+    ensures above { IfOk result (λ r. AreAbove K.last keepers.items r.1.items) }
+    ensures raised { IfOk result (λ r. lasts_of K.last r.0.items ≡ r.1.items) }
+    ensures opened { IfOk result (λ r. AreOpened plant.now 0 r.0.items) }
+    ensures fault { IfErr result IsRaiseFault }
+{
+    let mut raised = Vec::new(alloc);
+    let mut firsts = Vec::new(alloc);
+    for keeper in keepers {
+        let resource = raised.len();
+        let (one, first) = raise_one(alloc, plant, resource, keeper)?;
+        let Ok(()) = raised.push(one) else {
+            return Err(RunFault::Memory);
+        };
+        let Ok(()) = firsts.push(first) else {
+            return Err(RunFault::Memory);
+        };
+    }
+    Ok((raised, firsts))
+}
+
+/// Makes the resources with their first incarnations, in which their keepers are.
+pub(crate) fn make_workers<K: Keeper>(
+    alloc: Global,
+    plant: &Arc<Plant>,
+    raised: Vec<Raised<K>>,
+    firsts: &[u32],
+    max_number: u32,
+) -> Result<Vec<Worker<K>>, RunFault>
+    requires many { length firsts.now ≡ length plant.now.value.resources }
+    requires raised { lasts_of K.last raised.items ≡ firsts.now }
+    requires opened { AreOpened plant.now.value 0 raised.items }
+    ensures made { IfOk result (λ ws. All (IsWorkerFor plant.now.value firsts.now max_number) ws.items) }
+    ensures firsts { IfOk result (λ ws. firsts_of_workers ws.items ≡ firsts.now) }
+    ensures fault { IfErr result IsRaiseFault }
+{
+    let mut workers = Vec::new(alloc);
+    for one in raised {
+        let resource = workers.len();
+        let worker = Worker::new(alloc, plant, resource, one, firsts, max_number)?;
+        let Ok(()) = workers.push(worker) else {
+            return Err(RunFault::Memory);
+        };
+    }
+    Ok(workers)
+}

@@ -1,0 +1,34 @@
+ghost use Rattle.std.specs.Prelude.{◌≡◌};
+ghost use Rattle.node.specs.Steps.Working.{IsWorking, journal_of};
+
+use crate::threads::worker_state::WorkerState;
+use keepers::Keeper;
+use node_reports::{Cause, Station};
+use std::alloc::Global;
+
+/// Raises the incarnation, and restarts. Where the core isn't restarted after that, the resource is stopped.
+pub(crate) fn restart_station<K: Keeper>(
+    alloc: Global,
+    keeper: &mut K,
+    station: Station,
+    ticket: u64,
+) -> (WorkerState, Result<(), Cause>)
+    requires { K.last keeper.old ≡ station.core.incarnation }
+    ensures working { IsWorking station.core.plant station.core.first station.core.max_number (K.last keeper.new) result.0 }
+    ensures first { (journal_of result.0).first ≡ station.journal.first }
+{
+    let mut station = station;
+    if station.make_room().is_err() {
+        return (WorkerState::Running(station), Err(Cause::Memory));
+    }
+    let Ok(incarnation) = keeper.raise() else {
+        return (WorkerState::Running(station), Err(Cause::Keeper));
+    };
+    match station.restart(alloc, ticket, incarnation) {
+        Ok(station) => (WorkerState::Running(station), Ok(())),
+        Err((station, _)) => (
+            WorkerState::Stopped(station.into_journal()),
+            Err(Cause::Memory),
+        ),
+    }
+}

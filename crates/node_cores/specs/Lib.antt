@@ -1,2 +1,0 @@
-pub mod NodeSteps
-pub mod NodeValue

@@ -1,3 +1,0 @@
-pub mod Greatest
-pub mod Standing
-pub mod Stations

@@ -1,6 +1,0 @@
-pub mod Causes
-pub mod Codes
-pub mod Commands
-pub mod Journals
-pub mod RunFaults
-pub mod Steps

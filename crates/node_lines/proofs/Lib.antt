@@ -1,2 +1,0 @@
-mod KeptLines
-mod LinesRead

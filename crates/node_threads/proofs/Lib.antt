@@ -1,4 +1,0 @@
-pub mod Alls
-pub mod Firsts
-pub mod Opened
-pub mod Refusing

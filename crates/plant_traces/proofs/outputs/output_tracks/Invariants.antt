@@ -1,7 +1,0 @@
-use Rattle.std.proofs.Common.{◌≡◌}
-use Rattle.plant_traces.specs.Moments.{made_at}
-use Rattle.plant_traces.specs.Outputs.{plant_tracks}
-use Rattle.plant_traces.proofs.outputs.output_tracks.Given as goal
-
-abbrev pub invariant-loop-resource : goal.invariant-loop-resource
-invariant-loop-resource l = l.tracks.items ≡ plant_tracks l.plant (made_at l.moments) l.resource

@@ -1,7 +1,0 @@
-use Rattle.std.proofs.Common.{◌≡◌, ◌++◌}
-use Rattle.plant_traces.specs.Moments.{made_at}
-use Rattle.plant_traces.specs.Outputs.{task_tracks}
-use Rattle.plant_traces.proofs.outputs.push_outputs.Given as goal
-
-abbrev pub invariant-loop-output : goal.invariant-loop-output
-invariant-loop-output l = l.tracks.items ≡ l.initial.tracks.items ++ task_tracks l.plant (made_at l.moments) l.task l.code l.output

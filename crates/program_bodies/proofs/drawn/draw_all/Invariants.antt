@@ -1,7 +1,0 @@
-use Rattle.std.proofs.Common.{◌≡◌, ◌++◌, List}
-use Rattle.plant_grammar.specs.Grammar.{TextValue}
-use Rattle.program_bodies.specs.ProgramTypes.{AreDrawn}
-use Rattle.program_bodies.proofs.drawn.draw_all.Given as goal
-
-abbrev pub invariant-loop-text : goal.invariant-loop-text
-invariant-loop-text l = (before : List TextValue) × (before ++ l.text-iterator.rest.items ≡ l.fn.texts.items) × AreDrawn before l.types.items

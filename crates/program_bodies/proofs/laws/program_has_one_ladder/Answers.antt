@@ -1,5 +1,0 @@
-use Rattle.program_bodies.proofs.OneNetworks.{ladder_once}
-use Rattle.program_bodies.proofs.laws.program_has_one_ladder.Goals as goal
-
-pub returns : goal.returns
-returns c = ladder_once c.one_ladder.ensures

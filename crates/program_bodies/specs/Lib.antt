@@ -1,4 +1,0 @@
-pub mod Ladders
-pub mod ProgramTypes
-pub mod Faults
-pub mod BodyFaults

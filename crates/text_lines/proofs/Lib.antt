@@ -1,0 +1,9 @@
+pub mod Sending
+pub mod ByteReading
+pub mod BegunTexts
+pub mod ListTexts
+pub mod ValueTexts
+pub mod Lists
+pub mod Messages
+pub mod Parts
+pub mod WordsRead

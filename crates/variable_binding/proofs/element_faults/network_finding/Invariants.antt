@@ -1,8 +1,0 @@
-use Rattle.std.proofs.Common.{take}
-use Rattle.std.specs.List.{flat_map}
-use Rattle.variable_binding.specs.Steps.ElementFindings.{element_findings}
-use Rattle.variable_binding.specs.Steps.ElementFindings.{IsFirstFinding}
-use Rattle.variable_binding.proofs.element_faults.network_finding.Given as goal
-
-abbrev pub invariant-loop-element : goal.invariant-loop-element
-invariant-loop-element l = IsFirstFinding (flat_map (element_findings l.declarations l.elements) (take l.element-index l.elements)) l.first

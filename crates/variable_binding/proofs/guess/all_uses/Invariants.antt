@@ -1,7 +1,0 @@
-use Rattle.std.proofs.Common.{take}
-use Rattle.variable_binding.specs.Guess.{uses_of}
-use Rattle.variable_binding.proofs.GuessedNames.{AreOrdered}
-use Rattle.variable_binding.proofs.guess.all_uses.Given as goal
-
-abbrev pub invariant-loop-network : goal.invariant-loop-network
-invariant-loop-network l = AreOrdered (uses_of (take l.network-index l.networks)) l.uses.items

@@ -1,7 +1,0 @@
-use Rattle.std.proofs.Common.{take}
-use Rattle.text_commands.specs.Rows.{texts}
-use Rattle.verify_texts.specs.Steps.Marks.{ClaimsRead}
-use Rattle.verify_texts.proofs.claims.read_claims.Given as goal
-
-abbrev pub invariant-loop-number : goal.invariant-loop-number
-invariant-loop-number l = ClaimsRead l.declarations l.marks (take l.number (texts l.names)) l.places.items

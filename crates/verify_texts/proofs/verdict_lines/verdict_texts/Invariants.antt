@@ -1,7 +1,0 @@
-use Rattle.std.proofs.Common.{string_bytes, take}
-use Rattle.text_commands.specs.Rows.{texts}
-use Rattle.verify_texts.specs.VerdictLines.{AreTexts}
-use Rattle.verify_texts.proofs.verdict_lines.verdict_texts.Given as goal
-
-abbrev pub invariant-loop-k : goal.invariant-loop-k
-invariant-loop-k l = AreTexts l.setup l.file l.outcome.states l.outcome.scans (take l.k (texts l.names)) (take l.k l.outcome.verdicts.items) (string_bytes l.text)

@@ -1,0 +1,314 @@
+-- From marks to what is stored, and from parts of a question to the whole.
+use Rattle.std.proofs.Common.{◌≡◌, ℕ, Option, Result, Ok, Err, IfOk, IfErr, zero, suc, ◌<◌, ◌≤◌, List, [], ◌∷◌, Bool, true, inl, inr, All, length, take, get_or, refl, sym, ◌∙◌, subst, arith}
+use Rattle.std.specs.Borrow.{Bor}
+use Rattle.std.specs.Global.{Vec}
+use Rattle.std.specs.List.{AllZip}
+use Rattle.std.proofs.lemmas.List.{length-map}
+use Rattle.std.proofs.lemmas.Option.{slice_get-get_or, slice_get_within}
+use Rattle.std.proofs.KnownBytes.{Keeps-refl}
+use Rattle.lists.proofs.Zips.{zip_back, zip_length}
+use Rattle.network.specs.Links.{Diagram}
+use Rattle.declared_names.specs.declared.declarations.Declaration.{Declaration}
+use Rattle.declared_names.specs.declared.declarations.Declared.{Declared}
+use Rattle.declared_names.specs.declared.declarations.Declared.TheVariants.{Input, Output, Local, Instance}
+use Rattle.declared_names.specs.declared.declarations.Kind.{Kind}
+use Rattle.declared_names.specs.declared.declarations.Kind.TheVariants as kind
+use Rattle.text_commands.specs.EvalText.{IsLadderOfDrawing}
+use Rattle.text_commands.specs.Rows.{RowValue, IsRow, SpellRows, texts, is_bool, is_bool_kind}
+use Rattle.text_commands.specs.Steps.Refusing.{RefusesLadder, RefusesRows}
+use Rattle.text_commands.specs.declared.text_command_fault.TextCommandFault.{TextCommandFault}
+use Rattle.text_commands.specs.declared.text_command_fault.TextCommandFault.TheVariants.{Text, Word, Write, Memory}
+use Rattle.verifying.specs.declared.setup.Setting.{Setting}
+use Rattle.verifying.specs.declared.verdict.Verdict.{Verdict}
+use Rattle.verifying.specs.declared.verdict.Verdict.TheVariants.{Holds, Fails, Undecided}
+use Rattle.power_flow.specs.LadderValue.{LadderValue}
+use Rattle.power_flow.specs.Meaning.{Moment}
+use Rattle.verifying.specs.Runs.{HasInputs, IsBool, IsBoolAt, Leads, SetupValue}
+use Rattle.verifying.specs.Verdicts.{AreVerdicts, IsVerdict}
+use Rattle.verifying.specs.Inputs.{AreFree, AreInputs, IsInput}
+use Rattle.verifying.specs.Stores.{stored_places}
+use Rattle.verifying.specs.Questions.{HoldsInput, HoldsNoInput, IsClaim, IsNoClaim, QuestionValue}
+use Rattle.verifying.specs.VerifyText.{ExplainsAnswer}
+use Rattle.verifying.specs.Steps.Adding.{AreWholeRows, FitsSetup}
+use Rattle.verifying.specs.Steps.Asking.{AreHeldBy, IsAsked, IsPrepared, RefusesAsking, RefusesFree, RefusesHolding, RefusesPreparing}
+use Rattle.verifying.specs.Steps.Marks.{AreMarksOf, AreUnmarked, ClaimsRead, ClaimsRefused, HeldRead, HeldRefused, HoldsOf, HoldsNoneOf, IsClaimOf, IsNoClaimOf}
+use Rattle.verifying.specs.declared.verify_fault.ClaimFaultKind.{ClaimFaultKind}
+use Rattle.verifying.specs.declared.verify_fault.ClaimFaultKind.TheVariants.{NoVariable, NeverStored}
+use Rattle.verifying.specs.declared.verify_fault.HeldFaultKind.{HeldFaultKind}
+use Rattle.verifying.specs.declared.verify_fault.HeldFaultKind.TheVariants.{NotOneDigit, NoInput}
+use Rattle.verifying.specs.declared.verify_fault.VerifyFault.{VerifyFault}
+use Rattle.verifying.specs.declared.verify_fault.VerifyFault.TheVariants.{Command, Claim, Held, TooManyInputs}
+
+-- the marks are those of a ladder
+abbrev pub AreLadderMarks : List Declaration → List Diagram → List Bool → Type 0
+AreLadderMarks ds networks marks = AreMarksOf (stored_places ds networks) (length ds) marks
+
+kind_bool : (k : Kind) → is_bool_kind k ≡ true → k ≡ kind.Bool
+kind_bool kind.Bool e = refl
+kind_bool kind.Int e = cc
+kind_bool kind.Time e = cc
+
+declared_bool : (d : Declared) → is_bool d ≡ true → IsBool d
+declared_bool (Input k) e = kind_bool k e
+declared_bool (Output k) e = kind_bool k e
+declared_bool (Local k) e = kind_bool k e
+declared_bool (Instance b) e = cc
+
+row_bool : (ds : List Declaration) (word : List ℕ) (row : RowValue) → IsRow ds word row → IsBoolAt ds row.place
+row_bool ds word row is = let (e, at, bool) = is.bool in (e, at, declared_bool e.declared bool)
+
+within_of : (ds : List Declaration) (place : ℕ) → IsBoolAt ds place → place < length ds
+within_of ds place (e, at, bool) = slice_get_within ds place e at
+
+-- a claim by the marks is one
+claim_of : (ds : List Declaration) (networks : List Diagram) (marks : List Bool) (name : List ℕ) (place : ℕ) → AreLadderMarks ds networks marks → IsClaimOf ds marks name place → IsClaim ds networks name place
+claim_of ds networks marks name place are is = record { variable = is.variable; stored = (are.each place (within_of ds place is.variable.bool)).0 is.marked }
+
+claims_of : (ds : List Declaration) (networks : List Diagram) (marks : List Bool) (names : List (List ℕ)) (places : List ℕ) → AreLadderMarks ds networks marks → ClaimsRead ds marks names places
+    → AllZip (IsClaim ds networks) names places
+claims_of ds networks marks [] [] are read = tt
+claims_of ds networks marks [] (p ∷ places) are read = absurd read
+claims_of ds networks marks (n ∷ names) [] are read = absurd read
+claims_of ds networks marks (n ∷ names) (p ∷ places) are read = (claim_of ds networks marks n p are read.0, claims_of ds networks marks names places are read.1)
+
+no_claim_of : (ds : List Declaration) (networks : List Diagram) (marks : List Bool) (name : List ℕ) (kind : ClaimFaultKind) → AreLadderMarks ds networks marks → IsNoClaimOf ds marks name kind → IsNoClaim ds networks name kind
+no_claim_of ds networks marks name NoVariable are is = is
+no_claim_of ds networks marks name NeverStored are (place, named, unmarked) = (place, named, λ stored. unmarked ((are.each place (within_of ds place named.bool)).1 stored))
+
+-- a row that holds an input by the marks holds one
+holds_of : (ds : List Declaration) (networks : List Diagram) (marks : List Bool) (word : List ℕ) (row : RowValue) (s : Setting) → AreLadderMarks ds networks marks → IsRow ds word row → HoldsOf marks row s → HoldsInput ds networks row s
+holds_of ds networks marks word row s are read is =
+    record { holds = is.holds; unstored = λ stored. is.unmarked ((are.each row.place (within_of ds row.place (row_bool ds word row read))).1 stored) }
+
+held_of : (ds : List Declaration) (networks : List Diagram) (marks : List Bool) (words : List (List ℕ)) (rows : List RowValue) (held : List Setting) → AreLadderMarks ds networks marks → AllZip (IsRow ds) words rows
+    → HeldRead marks rows held → AllZip (HoldsInput ds networks) rows held
+held_of ds networks marks [] [] [] are read is = tt
+held_of ds networks marks [] [] (s ∷ held) are read is = absurd is
+held_of ds networks marks [] (r ∷ rows) held are read is = absurd read
+held_of ds networks marks (w ∷ words) [] held are read is = absurd read
+held_of ds networks marks (w ∷ words) (r ∷ rows) [] are read is = absurd is
+held_of ds networks marks (w ∷ words) (r ∷ rows) (s ∷ held) are read is = (holds_of ds networks marks w r s are read.0 is.0, held_of ds networks marks words rows held are read.1 is.1)
+
+take_zip : (ds : List Declaration) (n : ℕ) (words : List (List ℕ)) (rows : List RowValue) → AllZip (IsRow ds) words rows → AllZip (IsRow ds) (take n words) (take n rows)
+take_zip ds zero words rows read = tt
+take_zip ds (suc n) [] [] read = tt
+take_zip ds (suc n) [] (r ∷ rows) read = absurd read
+take_zip ds (suc n) (w ∷ words) [] read = absurd read
+take_zip ds (suc n) (w ∷ words) (r ∷ rows) read = (read.0, take_zip ds n words rows read.1)
+
+holds_none_of : (ds : List Declaration) (networks : List Diagram) (marks : List Bool) (word : List ℕ) (row : RowValue) (kind : HeldFaultKind) → AreLadderMarks ds networks marks → IsRow ds word row → HoldsNoneOf marks row kind
+    → HoldsNoInput ds networks row kind
+holds_none_of ds networks marks word row NotOneDigit are read is = is
+holds_none_of ds networks marks word row NoInput are read is = (are.each row.place (within_of ds row.place (row_bool ds word row read))).0 is
+
+-- why nothing was prepared
+pub text_refused : (drawing : List ℕ) (q : QuestionValue) (fault : TextCommandFault) → RefusesLadder drawing fault → RefusesPreparing drawing q (Command fault)
+text_refused drawing q (Text fault) refused = refused
+text_refused drawing q (Word fault) refused = absurd refused
+text_refused drawing q Write refused = absurd refused
+text_refused drawing q Memory refused = tt
+
+held_refused : (drawing : List ℕ) (q : QuestionValue) (ds : List Declaration) (networks : List Diagram) (marks : List Bool) (rows : List RowValue) (fault : VerifyFault) → IsLadderOfDrawing drawing ds networks
+    → AreLadderMarks ds networks marks → SpellRows ds q.words rows → HeldRefused marks rows fault → RefusesPreparing drawing q fault
+held_refused drawing q ds networks marks rows (Command (Text fault)) ladder are read refused = absurd refused
+held_refused drawing q ds networks marks rows (Command (Word fault)) ladder are read refused = absurd refused
+held_refused drawing q ds networks marks rows (Command Write) ladder are read refused = absurd refused
+held_refused drawing q ds networks marks rows (Command Memory) ladder are read refused = tt
+held_refused drawing q ds networks marks rows (Claim fault) ladder are read refused = absurd refused
+held_refused drawing q ds networks marks rows (TooManyInputs count) ladder are read refused = absurd refused
+held_refused drawing q ds networks marks rows (Held fault) ladder are read refused =
+    let partner = zip_back (IsRow ds) q.words rows read.each fault.number refused.row refused.at in
+    record {
+      declarations = ds;
+      networks = networks;
+      ladder = ladder;
+      rows = rows;
+      read = read;
+      first = record {
+        row = refused.row;
+        at = refused.at;
+        held = refused.held;
+        before = held_of ds networks marks (take fault.number q.words) (take fault.number rows) refused.held are (take_zip ds fault.number q.words rows read.each) refused.before;
+        refused = holds_none_of ds networks marks partner.0 refused.row fault.kind are partner.2 refused.refused;
+      };
+    }
+
+claims_refused : (drawing : List ℕ) (q : QuestionValue) (ds : List Declaration) (networks : List Diagram) (marks : List Bool) (fault : VerifyFault) → IsLadderOfDrawing drawing ds networks
+    → AreLadderMarks ds networks marks → ClaimsRefused ds marks q.claims fault → RefusesPreparing drawing q fault
+claims_refused drawing q ds networks marks (Command (Text fault)) ladder are refused = absurd refused
+claims_refused drawing q ds networks marks (Command (Word fault)) ladder are refused = absurd refused
+claims_refused drawing q ds networks marks (Command Write) ladder are refused = absurd refused
+claims_refused drawing q ds networks marks (Command Memory) ladder are refused = tt
+claims_refused drawing q ds networks marks (Held fault) ladder are refused = absurd refused
+claims_refused drawing q ds networks marks (TooManyInputs count) ladder are refused = absurd refused
+claims_refused drawing q ds networks marks (Claim fault) ladder are refused = record {
+  declarations = ds;
+  networks = networks;
+  ladder = ladder;
+  first = record {
+    name = refused.name;
+    at = refused.at;
+    places = refused.places;
+    before = claims_of ds networks marks (take fault.number q.claims) refused.places are refused.before;
+    refused = no_claim_of ds networks marks refused.name fault.kind are refused.refused;
+  };
+}
+
+-- the unmarked places are the free inputs
+free_of : (ds : List Declaration) (networks : List Diagram) (marks : List Bool) (held : List Setting) (free : List ℕ) → AreLadderMarks ds networks marks → AreUnmarked ds marks held (length ds) free → AreFree ds networks held free
+free_of ds networks marks held free are is = record {
+  each = λ place. (
+    (λ has. let known = (is.each place).0 has in
+        (record { bool = known.0.bool; unstored = λ stored. known.0.unmarked ((are.each place known.1).1 stored) }, known.0.unheld)),
+    (λ known. let within = within_of ds place known.0.bool in
+        (is.each place).1 (record { bool = known.0.bool; unmarked = λ marked. known.0.unstored ((are.each place within).0 marked); unheld = known.1 }, within)),
+  );
+  ascending = is.ascending;
+}
+
+-- the words hold inputs, where each row does
+pub held_by_rows : (ds : List Declaration) (marks : List Bool) (words : List (List ℕ)) (rows : List RowValue) (r : Result (Vec Setting) VerifyFault) → SpellRows ds words rows
+    → IfOk r (λ held. HeldRead marks rows held.items) → IfOk r (λ held. AreHeldBy ds marks words held.items)
+held_by_rows ds marks words rows (Ok held) read each = record { rows = rows; read = read; each = each }
+held_by_rows ds marks words rows (Err fault) read each = tt
+
+pub settings_refused : (ds : List Declaration) (marks : List Bool) (words : List (List ℕ)) (rows : List RowValue) (r : Result (Vec Setting) VerifyFault) → SpellRows ds words rows
+    → IfErr r (HeldRefused marks rows) → IfErr r (RefusesHolding ds marks words)
+settings_refused ds marks words rows (Ok held) read refused = tt
+settings_refused ds marks words rows (Err (Command (Text fault))) read refused = absurd refused
+settings_refused ds marks words rows (Err (Command (Word fault))) read refused = absurd refused
+settings_refused ds marks words rows (Err (Command Write)) read refused = absurd refused
+settings_refused ds marks words rows (Err (Command Memory)) read refused = tt
+settings_refused ds marks words rows (Err (Claim fault)) read refused = absurd refused
+settings_refused ds marks words rows (Err (Held fault)) read refused = record { rows = rows; read = read; first = refused }
+settings_refused ds marks words rows (Err (TooManyInputs count)) read refused = absurd refused
+
+pub rows_refused : (ds : List Declaration) (marks : List Bool) (words : List (List ℕ)) (fault : TextCommandFault) → RefusesRows ds words fault → RefusesHolding ds marks words (Command fault)
+rows_refused ds marks words (Text fault) refused = absurd refused
+rows_refused ds marks words (Word fault) refused = refused
+rows_refused ds marks words Write refused = absurd refused
+rows_refused ds marks words Memory refused = tt
+
+holding_refused : (drawing : List ℕ) (q : QuestionValue) (ds : List Declaration) (networks : List Diagram) (marks : List Bool) (fault : VerifyFault) → IsLadderOfDrawing drawing ds networks
+    → AreLadderMarks ds networks marks → RefusesHolding ds marks q.words fault → RefusesPreparing drawing q fault
+holding_refused drawing q ds networks marks (Command (Text fault)) ladder are refused = absurd refused
+holding_refused drawing q ds networks marks (Command (Word fault)) ladder are refused = record { declarations = ds; networks = networks; ladder = ladder; refused = refused.0; first = refused.1 }
+holding_refused drawing q ds networks marks (Command Write) ladder are refused = absurd refused
+holding_refused drawing q ds networks marks (Command Memory) ladder are refused = tt
+holding_refused drawing q ds networks marks (Claim fault) ladder are refused = absurd refused
+holding_refused drawing q ds networks marks (Held fault) ladder are refused = held_refused drawing q ds networks marks refused.rows (Held fault) ladder are refused.read refused.first
+holding_refused drawing q ds networks marks (TooManyInputs count) ladder are refused = absurd refused
+
+free_refused : (drawing : List ℕ) (q : QuestionValue) (ds : List Declaration) (networks : List Diagram) (marks : List Bool) (held : List Setting) (fault : VerifyFault) → IsLadderOfDrawing drawing ds networks
+    → AreLadderMarks ds networks marks → AreHeldBy ds marks q.words held → RefusesFree ds marks held fault → RefusesPreparing drawing q fault
+free_refused drawing q ds networks marks held (Command (Text fault)) ladder are by refused = absurd refused
+free_refused drawing q ds networks marks held (Command (Word fault)) ladder are by refused = absurd refused
+free_refused drawing q ds networks marks held (Command Write) ladder are by refused = absurd refused
+free_refused drawing q ds networks marks held (Command Memory) ladder are by refused = tt
+free_refused drawing q ds networks marks held (Claim fault) ladder are by refused = absurd refused
+free_refused drawing q ds networks marks held (Held fault) ladder are by refused = absurd refused
+free_refused drawing q ds networks marks held (TooManyInputs count) ladder are by refused = record {
+  declarations = ds;
+  networks = networks;
+  ladder = ladder;
+  rows = by.rows;
+  read = by.read;
+  held = held;
+  holds = held_of ds networks marks q.words by.rows held are by.read.each by.each;
+  free = refused.free;
+  are_free = free_of ds networks marks held refused.free are refused.are;
+  many = refused.many;
+  count_is = refused.count_is;
+}
+
+pub asking_refused : (drawing : List ℕ) (q : QuestionValue) (ds : List Declaration) (networks : List Diagram) (marks : List Bool) (fault : VerifyFault) → IsLadderOfDrawing drawing ds networks
+    → AreLadderMarks ds networks marks → RefusesAsking ds marks q fault → RefusesPreparing drawing q fault
+asking_refused drawing q ds networks marks fault ladder are (inl refused) = holding_refused drawing q ds networks marks fault ladder are refused
+asking_refused drawing q ds networks marks fault ladder are (inr (inl refused)) = claims_refused drawing q ds networks marks fault ladder are refused
+asking_refused drawing q ds networks marks fault ladder are (inr (inr refused)) = free_refused drawing q ds networks marks refused.held fault ladder are refused.by refused.refused
+
+get_itself : {X : Type 0} (xs : List X) (k : ℕ) (e : X) → k < length xs → get_or xs k (get_or xs k e) ≡ get_or xs k e
+get_itself [] k e lt = absurd (omega arith)
+get_itself (x ∷ xs) zero e lt = refl
+get_itself (x ∷ xs) (suc k) e lt = get_itself xs k e (omega arith)
+
+inputs_of : (ds : List Declaration) (networks : List Diagram) (words : List (List ℕ)) (rows : List RowValue) (held : List Setting) (free : List ℕ) → AllZip (IsRow ds) words rows
+    → AllZip (HoldsInput ds networks) rows held → AreFree ds networks held free → length free ≤ 20 → AreInputs ds networks free held
+inputs_of ds networks words rows held free read holds are few = record {
+  are_free = are;
+  few = few;
+  are_held = λ k d lt.
+      let s = get_or held k d in
+      let row = zip_back (HoldsInput ds networks) rows held holds k s (slice_get-get_or held k d lt) in
+      let word = zip_back (IsRow ds) words rows read k row.0 row.1 in
+      let place : row.0.place ≡ s.place = sym row.2.holds.place in
+      let at : IsInput ds networks row.0.place = record { bool = row_bool ds word.0 row.0 word.2; unstored = row.2.unstored } in
+      subst (IsInput ds networks) place at;
+}
+
+-- what a ladder with its inputs needs
+has_inputs : (ds : List Declaration) (networks : List Diagram) (free : List ℕ) (held : List Setting) → AreInputs ds networks free held → HasInputs ds free held
+has_inputs ds networks free held are = record {
+  free = λ k d lt. ((are.are_free.each (get_or free k d)).0 (k, lt, get_itself free k d lt)).0.bool;
+  few = are.few;
+  held = λ k d lt. (are.are_held k d lt).bool;
+}
+
+asked_inputs : (ds : List Declaration) (networks : List Diagram) (marks : List Bool) (q : QuestionValue) (claims free : List ℕ) (held : List Setting) → AreLadderMarks ds networks marks → IsAsked ds marks q claims free held
+    → AreInputs ds networks free held
+asked_inputs ds networks marks q claims free held are asked =
+    inputs_of ds networks q.words asked.by.rows held free asked.by.read.each (held_of ds networks marks q.words asked.by.rows held are asked.by.read.each asked.by.each) (free_of ds networks marks held free are asked.few.0) asked.few.1
+
+pub asked_has_inputs : (ds : List Declaration) (networks : List Diagram) (marks : List Bool) (q : QuestionValue) (claims free : List ℕ) (held : List Setting) → AreLadderMarks ds networks marks → IsAsked ds marks q claims free held
+    → HasInputs ds free held
+asked_has_inputs ds networks marks q claims free held are asked = has_inputs ds networks free held (asked_inputs ds networks marks q claims free held are asked)
+
+pub asked_prepared : (drawing : List ℕ) (q : QuestionValue) (l : LadderValue) (marks : List Bool) (claims free : List ℕ) (held : List Setting) → IsLadderOfDrawing drawing l.declarations l.networks
+    → AreLadderMarks l.declarations l.networks marks → IsAsked l.declarations marks q claims free held → IsPrepared drawing q (record { ladder = l; dt = q.dt; free = free; held = held }) claims
+asked_prepared drawing q l marks claims free held ladder are asked = record {
+  is = record {
+    ladder = ladder;
+    dt = refl;
+    rows = asked.by.rows;
+    read = asked.by.read;
+    held = held_of l.declarations l.networks marks q.words asked.by.rows held are asked.by.read.each asked.by.each;
+    inputs = asked_inputs l.declarations l.networks marks q claims free held are asked;
+  };
+  claims = claims_of l.declarations l.networks marks q.claims claims are asked.claimed;
+}
+
+-- each row of a run has a value for each free input
+whole_more : (u : SetupValue) (row : List Bool) (rows : List (List Bool)) → length row ≡ length u.free → AreWholeRows u rows
+    → (k : ℕ) (d : List Bool) → k < length (row ∷ rows) → length (get_or (row ∷ rows) k d) ≡ length u.free
+whole_more u row rows whole others zero d lt = whole
+whole_more u row rows whole others (suc k) d lt = others k d (omega arith)
+
+leads_whole : (u : SetupValue) (s : Moment) (rows : List (List Bool)) (t : Moment) → Leads u s rows t → AreWholeRows u rows
+leads_whole u s [] t leads = λ k d lt. absurd (omega arith)
+leads_whole u s (row ∷ rows) t (between, scan, rest) = λ k d lt. whole_more u row rows scan.whole (leads_whole u between rows t rest) k d lt
+
+fits_of : (u : SetupValue) (most place : ℕ) (v : Verdict) → IsVerdict u most place v → FitsSetup u v
+fits_of u most place Holds is = tt
+fits_of u most place (Fails rows) is = leads_whole u _ rows.items is.last is.run
+fits_of u most place (Undecided depth) is = tt
+
+pub verdicts_fit : (u : SetupValue) (most : ℕ) (places : List ℕ) (verdicts : List Verdict) → AreVerdicts u most places verdicts → All (FitsSetup u) verdicts
+verdicts_fit u most places verdicts are = λ k d lt.
+    let inside : k < length places = let l = are.long in omega arith in
+    fits_of u most (get_or places k 0) (get_or verdicts k d) (are.each k (get_or places k 0) (get_or verdicts k d) (slice_get-get_or places k 0 inside) (slice_get-get_or verdicts k d lt))
+
+-- a verdict for each name
+pub names_long : (u : SetupValue) (most : ℕ) (names : List (Bor (List ℕ))) (places : List ℕ) (verdicts : List Verdict) → AllZip (IsClaim u.ladder.declarations u.ladder.networks) (texts names) places
+    → AreVerdicts u most places verdicts → length verdicts ≡ length names
+names_long u most names places verdicts claims are =
+    are.long ∙ sym (zip_length (IsClaim u.ladder.declarations u.ladder.networks) (texts names) places claims) ∙ length-map names (λ w. w.now)
+
+-- before anything is written
+pub preparing_explained : (drawing : List ℕ) (q : QuestionValue) (old : Option (List ℕ)) (fault : VerifyFault) → RefusesPreparing drawing q fault → ExplainsAnswer drawing q old old fault
+preparing_explained drawing q old (Command (Text fault)) refused = (refused, Keeps-refl old)
+preparing_explained drawing q old (Command (Word fault)) refused = (refused, Keeps-refl old)
+preparing_explained drawing q old (Command Write) refused = absurd refused
+preparing_explained drawing q old (Command Memory) refused = Keeps-refl old
+preparing_explained drawing q old (Claim fault) refused = (refused, Keeps-refl old)
+preparing_explained drawing q old (Held fault) refused = (refused, Keeps-refl old)
+preparing_explained drawing q old (TooManyInputs count) refused = (refused, Keeps-refl old)

@@ -1,0 +1,38 @@
+-- Words are read one after the other.
+use Rattle.std.proofs.Common.{◌≡◌, ℕ, ◌+◌, ◌<◌, ◌++◌, List, [], ◌∷◌, Some, length, take, get_or, slice_get, ap, ◌∙◌, arith, Bool}
+use Rattle.std.specs.Borrow.{Bor}
+use Rattle.std.specs.List.{AllZip}
+use Rattle.std.proofs.lemmas.List.{get_or-map, length-map, take_more}
+use Rattle.std.proofs.lemmas.Option.{slice_get-get_or}
+use Rattle.lists.proofs.Zips.{zip_push}
+use Rattle.text_commands.specs.Rows.{texts}
+use Rattle.declared_names.specs.declared.declarations.Declaration.{Declaration}
+use Rattle.verifying.specs.declared.verify_fault.ClaimFaultKind.{ClaimFaultKind}
+use Rattle.verifying.specs.Steps.Marks.{ClaimsRead, IsClaimFaultOf, IsClaimOf, IsNoClaimOf}
+
+-- one more item has its partner
+pub zip_more : {X Y : Type 0} (R : X → Y → Type 0) (xs : List X) (ys : List Y) (i : ℕ) (d : X) (y : Y) → i < length xs → AllZip R (take i xs) ys
+    → R (get_or xs i d) y → AllZip R (take (i + 1) xs) (ys ++ y ∷ [])
+zip_more R xs ys i d y within each is = rw (take_more xs i d within) (zip_push R (take i xs) ys (get_or xs i d) y each is)
+
+-- the text of a word
+pub text_at : (names : List (Bor (List ℕ))) (i : ℕ) (d : Bor (List ℕ)) → i < length names → get_or (texts names) i [] ≡ (get_or names i d).now
+text_at names i d within = get_or-map (λ (w : Bor (List ℕ)). w.now) names i d [] within
+
+pub text_there : (names : List (Bor (List ℕ))) (i : ℕ) (d : Bor (List ℕ)) → i < length names → slice_get (texts names) i ≡ Some (get_or names i d).now
+text_there names i d within =
+    let long = length-map names (λ (w : Bor (List ℕ)). w.now) in
+    slice_get-get_or (texts names) i [] (omega arith) ∙ ap (λ w. Some w) (text_at names i d within)
+
+-- the next name is a claim
+pub claims_push : (ds : List Declaration) (marks : List Bool) (names : List (Bor (List ℕ))) (n : ℕ) (d : Bor (List ℕ)) (places : List ℕ) (place : ℕ) → n < length names
+    → ClaimsRead ds marks (take n (texts names)) places → IsClaimOf ds marks (get_or names n d).now place → ClaimsRead ds marks (take (n + 1) (texts names)) (places ++ place ∷ [])
+claims_push ds marks names n d places place within before is =
+    let long = length-map names (λ (w : Bor (List ℕ)). w.now) in
+    zip_more (IsClaimOf ds marks) (texts names) places n [] place (omega arith) before (rw (text_at names n d within) is)
+
+-- the next name is none
+pub claim_fault : (ds : List Declaration) (marks : List Bool) (names : List (Bor (List ℕ))) (n : ℕ) (d : Bor (List ℕ)) (places : List ℕ) (kind : ClaimFaultKind) → n < length names
+    → ClaimsRead ds marks (take n (texts names)) places → IsNoClaimOf ds marks (get_or names n d).now kind → IsClaimFaultOf ds marks (texts names) (record { number = n; kind = kind })
+claim_fault ds marks names n d places kind within before refused =
+    record { name = (get_or names n d).now; at = text_there names n d within; places = places; before = before; refused = refused }

@@ -1,0 +1,24 @@
+use Rattle.std.proofs.Common.{inl, inr}
+use Rattle.lists.proofs.Results.{kept_fault}
+use Rattle.verifying.specs.Questions.{question_of}
+use Rattle.verifying.specs.Steps.Asking.{RefusesAsking}
+use Rattle.verifying.proofs.verify_command.read_question.Goals as goal
+
+pub returns-in_err-held-clause-err : goal.returns-in_err-held-clause-err
+returns-in_err-held-clause-err c =
+    kept_fault c.in_err-held.field-0.0 (RefusesAsking c.args.declarations.now c.args.marks.now (question_of c.args.question.now)) _ c.from_residual.ensures.1 (inl c.in_err-held.ensures.err)
+
+pub returns-in_err-claims-clause-err : goal.returns-in_err-claims-clause-err
+returns-in_err-claims-clause-err c =
+    kept_fault c.in_err-claims.field-0.0 (RefusesAsking c.args.declarations.now c.args.marks.now (question_of c.args.question.now)) _ c.from_residual-in_err-claims.ensures.1 (inr (inl c.in_err-claims.ensures.err))
+
+pub returns-in_err-free-clause-err : goal.returns-in_err-free-clause-err
+returns-in_err-free-clause-err c =
+    let refused = rw c.deref.ensures.value at c.in_err-free.ensures.err in
+    kept_fault c.in_err-free.field-0.0 (RefusesAsking c.args.declarations.now c.args.marks.now (question_of c.args.question.now)) _ c.from_residual-in_err-free.ensures.1
+    (inr (inr (record { held = c.in_ok-held.held.items; by = c.in_ok-held.ensures.ok; refused = refused })))
+
+pub returns-clause-ok : goal.returns-clause-ok
+returns-clause-ok c =
+    let few = rw c.deref.ensures.value at c.in_ok-free.ensures.ok in
+    record { by = c.in_ok-held.ensures.ok; claimed = c.in_ok-claims.ensures.ok; few = few }

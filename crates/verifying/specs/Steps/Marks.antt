@@ -1,0 +1,96 @@
+-- Where a ladder stores, as a mark for each declared name.
+use Rattle.std.specs.Prelude.{◌≡◌, ◌≢◌, ℕ, ◌<◌, ◌↔◌, List, Bool, IsTrue, Some, false, Contains, length, slice_get, slice_index_or, take}
+use Rattle.std.specs.List.{AllPairs, AllZip}
+use Rattle.declared_names.specs.declared.declarations.Declaration.{Declaration}
+use Rattle.verifying.specs.declared.setup.Setting.{Setting}
+use Rattle.verifying.specs.Runs.{IsBoolAt}
+use Rattle.text_commands.specs.Rows.{RowValue}
+use Rattle.text_commands.specs.declared.text_command_fault.TextCommandFault.TheVariants.{Text, Word, Write, Memory}
+use Rattle.verifying.specs.Inputs.{IsHeld}
+use Rattle.verifying.specs.Questions.{HoldsAt, IsBoolNamed}
+use Rattle.verifying.specs.declared.verify_fault.ClaimFault.{ClaimFault}
+use Rattle.verifying.specs.declared.verify_fault.ClaimFaultKind.{ClaimFaultKind}
+use Rattle.verifying.specs.declared.verify_fault.ClaimFaultKind.TheVariants.{NoVariable, NeverStored}
+use Rattle.verifying.specs.declared.verify_fault.HeldFault.{HeldFault}
+use Rattle.verifying.specs.declared.verify_fault.HeldFaultKind.{HeldFaultKind}
+use Rattle.verifying.specs.declared.verify_fault.HeldFaultKind.TheVariants.{NotOneDigit, NoInput}
+use Rattle.verifying.specs.declared.verify_fault.VerifyFault.{VerifyFault}
+use Rattle.verifying.specs.declared.verify_fault.VerifyFault.TheVariants.{Command, Claim, Held, TooManyInputs}
+
+-- the name at a place is marked
+abbrev pub IsMarked : List Bool → ℕ → Type 0
+IsMarked marks place = IsTrue (slice_index_or marks place false)
+
+-- so many marks, those at the places of a list
+pub record AreMarksOf (places : List ℕ) (count : ℕ) (marks : List Bool) : Type 0 where
+  pub long : length marks ≡ count
+  pub each : (place : ℕ) → place < count → IsMarked marks place ↔ Contains places place
+
+-- a BOOL variable that is neither marked nor held
+pub record IsUnmarked (ds : List Declaration) (marks : List Bool) (held : List Setting) (place : ℕ) : Type 0 where
+  pub bool : IsBoolAt ds place
+  pub unmarked : IsMarked marks place → ⊥
+  pub unheld : IsHeld held place → ⊥
+
+-- those before a place, in order
+pub record AreUnmarked (ds : List Declaration) (marks : List Bool) (held : List Setting) (count : ℕ) (free : List ℕ) : Type 0 where
+  pub each : (place : ℕ) → Contains free place ↔ (IsUnmarked ds marks held place × (place < count))
+  pub ascending : AllPairs ◌<◌ free
+
+-- a claim, where the marks tell what is stored
+pub record IsClaimOf (ds : List Declaration) (marks : List Bool) (name : List ℕ) (place : ℕ) : Type 0 where
+  pub variable : IsBoolNamed ds name place
+  pub marked : IsMarked marks place
+
+abbrev pub IsNoClaimOf : List Declaration → List Bool → List ℕ → ClaimFaultKind → Type 0
+IsNoClaimOf ds marks name NoVariable = (place : ℕ) → IsBoolNamed ds name place → ⊥
+IsNoClaimOf ds marks name NeverStored = (place : ℕ) × IsBoolNamed ds name place × (IsMarked marks place → ⊥)
+
+abbrev pub ClaimsRead : List Declaration → List Bool → List (List ℕ) → List ℕ → Type 0
+ClaimsRead ds marks names places = AllZip (IsClaimOf ds marks) names places
+
+-- the first name that is no claim
+pub record IsClaimFaultOf (ds : List Declaration) (marks : List Bool) (names : List (List ℕ)) (fault : ClaimFault) : Type 0 where
+  pub name : List ℕ
+  pub at : slice_get names fault.number ≡ Some name
+  pub places : List ℕ
+  pub before : ClaimsRead ds marks (take fault.number names) places
+  pub refused : IsNoClaimOf ds marks name fault.kind
+
+abbrev pub ClaimsRefused : List Declaration → List Bool → List (List ℕ) → VerifyFault → Type 0
+ClaimsRefused ds marks names (Command (Text fault)) = ⊥
+ClaimsRefused ds marks names (Command (Word fault)) = ⊥
+ClaimsRefused ds marks names (Command Write) = ⊥
+ClaimsRefused ds marks names (Command Memory) = Unit {0}
+ClaimsRefused ds marks names (Claim fault) = IsClaimFaultOf ds marks names fault
+ClaimsRefused ds marks names (Held fault) = ⊥
+ClaimsRefused ds marks names (TooManyInputs count) = ⊥
+
+-- a row holds an input, where the marks tell what is stored
+pub record HoldsOf (marks : List Bool) (row : RowValue) (s : Setting) : Type 0 where
+  pub holds : HoldsAt row s
+  pub unmarked : IsMarked marks row.place → ⊥
+
+abbrev pub HoldsNoneOf : List Bool → RowValue → HeldFaultKind → Type 0
+HoldsNoneOf marks row NotOneDigit = length row.digits ≢ 1
+HoldsNoneOf marks row NoInput = IsMarked marks row.place
+
+abbrev pub HeldRead : List Bool → List RowValue → List Setting → Type 0
+HeldRead marks rows held = AllZip (HoldsOf marks) rows held
+
+-- the first row that holds no input
+pub record IsHeldFaultOf (marks : List Bool) (rows : List RowValue) (fault : HeldFault) : Type 0 where
+  pub row : RowValue
+  pub at : slice_get rows fault.number ≡ Some row
+  pub held : List Setting
+  pub before : HeldRead marks (take fault.number rows) held
+  pub refused : HoldsNoneOf marks row fault.kind
+
+abbrev pub HeldRefused : List Bool → List RowValue → VerifyFault → Type 0
+HeldRefused marks rows (Command (Text fault)) = ⊥
+HeldRefused marks rows (Command (Word fault)) = ⊥
+HeldRefused marks rows (Command Write) = ⊥
+HeldRefused marks rows (Command Memory) = Unit {0}
+HeldRefused marks rows (Claim fault) = ⊥
+HeldRefused marks rows (Held fault) = IsHeldFaultOf marks rows fault
+HeldRefused marks rows (TooManyInputs count) = ⊥

@@ -1,0 +1,100 @@
+-- What `plc verify` writes.
+use Rattle.std.specs.Prelude.{◌≡◌, ℕ, ◌<◌, List, All, Option, length}
+use Rattle.std.specs.List.{AllZip}
+use Rattle.std.specs.Io.KnownBytes.{Appends, Keeps}
+use Rattle.network.specs.Links.{Diagram}
+use Rattle.declared_names.specs.declared.declarations.Declaration.{Declaration}
+use Rattle.text_lines.specs.Sending.{SendsLess}
+use Rattle.text_commands.specs.EvalText.{IsLadderOfDrawing, RefusesDrawing, RefusesWords}
+use Rattle.text_commands.specs.Rows.{RowValue, SpellRows}
+use Rattle.text_commands.specs.declared.text_command_fault.TextCommandFault.TheVariants.{Text, Word, Write, Memory}
+use Rattle.verifying.specs.declared.setup.Setting.{Setting}
+use Rattle.verifying.specs.declared.verdict.Verdict.{Verdict}
+use Rattle.verifying.specs.Runs.{SetupValue}
+use Rattle.verifying.specs.Verdicts.{AreVerdicts}
+use Rattle.verifying.specs.Counts.{AreCounts}
+use Rattle.verifying.specs.Inputs.{AreFree, AreInputs}
+use Rattle.verifying.specs.Questions.{IsClaim, IsFirstClaimFault, HoldsInput, IsFirstHeldFault, QuestionValue}
+use Rattle.verifying.specs.VerdictLines.{AreTexts}
+use Rattle.verifying.specs.declared.verify_fault.ClaimFault.{ClaimFault}
+use Rattle.verifying.specs.declared.verify_fault.HeldFault.{HeldFault}
+use Rattle.verifying.specs.declared.summary.Summary.{Summary}
+use Rattle.verifying.specs.Summaries.{IsSummary}
+use Rattle.verifying.specs.declared.verify_fault.VerifyFault.{VerifyFault}
+use Rattle.verifying.specs.declared.verify_fault.VerifyFault.TheVariants.{Command, Claim, Held, TooManyInputs}
+
+-- The ladder of the drawing with its inputs: those that the words hold, and all others free.
+pub record IsSetup (drawing : List ℕ) (q : QuestionValue) (u : SetupValue) : Type 0 where
+  pub ladder : IsLadderOfDrawing drawing u.ladder.declarations u.ladder.networks
+  pub dt : u.dt ≡ q.dt
+  pub rows : List RowValue
+  pub read : SpellRows u.ladder.declarations q.words rows
+  pub held : AllZip (HoldsInput u.ladder.declarations u.ladder.networks) rows u.held
+  pub inputs : AreInputs u.ladder.declarations u.ladder.networks u.free u.held
+
+-- A text that answers the question: the ladder with its inputs, the claims at their places, a verdict for each that is
+-- proved of all runs, with the numbers of states and scans, and the text of all that.
+pub record IsAnswer (drawing : List ℕ) (q : QuestionValue) (text : List ℕ) : Type 0 where
+  pub setup : SetupValue
+  pub is : IsSetup drawing q setup
+  pub places : List ℕ
+  pub claims : AllZip (IsClaim setup.ladder.declarations setup.ladder.networks) q.claims places
+  pub verdicts : List Verdict
+  pub proved : AreVerdicts setup q.most_states places verdicts
+  pub states : ℕ
+  pub scans : ℕ
+  pub counts : All (AreCounts setup q.most_states states scans) verdicts
+  pub texts : AreTexts setup q.file states scans q.claims verdicts text
+
+-- such a text was written, and this is its summary
+pub record WritesAnswer (drawing : List ℕ) (q : QuestionValue) (old new : Option (List ℕ)) (summary : Summary) : Type 0 where
+  pub text : List ℕ
+  pub answer : IsAnswer drawing q text
+  pub appended : Appends old new text
+  pub summed : IsSummary answer.verdicts summary
+
+-- a beginning of such a text was written, and not all of it
+pub record WritesLess (drawing : List ℕ) (q : QuestionValue) (old new : Option (List ℕ)) : Type 0 where
+  pub text : List ℕ
+  pub answer : IsAnswer drawing q text
+  pub sent : SendsLess text old new
+
+-- a name is no claim of the drawing's ladder, and this is the first fault
+pub record RefusesClaims (drawing : List ℕ) (q : QuestionValue) (fault : ClaimFault) : Type 0 where
+  pub declarations : List Declaration
+  pub networks : List Diagram
+  pub ladder : IsLadderOfDrawing drawing declarations networks
+  pub first : IsFirstClaimFault declarations networks q.claims fault
+
+-- a word holds no input of the drawing's ladder, and this is the first fault
+pub record RefusesHeld (drawing : List ℕ) (q : QuestionValue) (fault : HeldFault) : Type 0 where
+  pub declarations : List Declaration
+  pub networks : List Diagram
+  pub ladder : IsLadderOfDrawing drawing declarations networks
+  pub rows : List RowValue
+  pub read : SpellRows declarations q.words rows
+  pub first : IsFirstHeldFault declarations networks rows fault
+
+-- so many inputs of the drawing's ladder are free, more than 20
+pub record HasManyInputs (drawing : List ℕ) (q : QuestionValue) (count : ℕ) : Type 0 where
+  pub declarations : List Declaration
+  pub networks : List Diagram
+  pub ladder : IsLadderOfDrawing drawing declarations networks
+  pub rows : List RowValue
+  pub read : SpellRows declarations q.words rows
+  pub held : List Setting
+  pub holds : AllZip (HoldsInput declarations networks) rows held
+  pub free : List ℕ
+  pub are_free : AreFree declarations networks held free
+  pub many : 20 < length free
+  pub count_is : count ≡ length free
+
+-- Why there was a fault, and what was written before: nothing, but where the output failed.
+abbrev pub ExplainsAnswer : List ℕ → QuestionValue → Option (List ℕ) → Option (List ℕ) → VerifyFault → Type 0
+ExplainsAnswer drawing q old new (Command (Text fault)) = RefusesDrawing drawing fault × Keeps old new
+ExplainsAnswer drawing q old new (Command (Word fault)) = RefusesWords drawing q.words fault × Keeps old new
+ExplainsAnswer drawing q old new (Command Write) = WritesLess drawing q old new
+ExplainsAnswer drawing q old new (Command Memory) = Keeps old new
+ExplainsAnswer drawing q old new (Claim fault) = RefusesClaims drawing q fault × Keeps old new
+ExplainsAnswer drawing q old new (Held fault) = RefusesHeld drawing q fault × Keeps old new
+ExplainsAnswer drawing q old new (TooManyInputs count) = HasManyInputs drawing q count × Keeps old new

@@ -1,0 +1,143 @@
+//! The text of verdicts.
+
+ghost use Rattle.std.specs.Prelude.{◌≡◌, ◌++◌, ℕ, List, OnOk, IfOk, All, length, string_bytes};
+ghost use Rattle.text_lines.specs.Growing.{GrowsBy};
+ghost use Rattle.text_commands.specs.Rows.{texts};
+ghost use Rattle.verifying.specs.VerdictLines.{AreTexts, IsFailText, IsVerdictText, counted, fails_line, holds_line, looked_at, undecided_line};
+ghost use Rattle.verifying.specs.Steps.Adding.{AddsFailText, AddsVerdictText, AreWholeRows, FitsSetup};
+
+use crate::row::Row;
+use crate::run_lines::run_lines;
+use crate::setup::Setup;
+use crate::verdict::{Outcome, Verdict};
+use crate::verdict_words::{can_be_words, push_eval_line};
+use std::alloc::{AllocError, Global};
+use std::fmt::Write;
+
+/// Writes a number of things, as `1 scan` or `2 scans`.
+fn push_counted(text: &mut String, count: usize, what: &str) -> Result<(), AllocError>
+    ensures { OnOk result (GrowsBy text.old text.new (counted count what.now)) }
+{
+    write!(text, "{count} {what}")?;
+    text.push_str(if count == 1 { "" } else { "s" })
+}
+
+/// Writes how much was looked at, and a line feed.
+fn push_looked_at(text: &mut String, states: usize, scans: usize) -> Result<(), AllocError>
+    ensures { OnOk result (GrowsBy text.old text.new (looked_at states scans)) }
+{
+    text.push_str(": ")?;
+    push_counted(text, states, "state")?;
+    text.push_str(", ")?;
+    push_counted(text, scans, "scan")?;
+    text.push_str("\n")
+}
+
+fn push_holds(text: &mut String, name: &str, states: usize, scans: usize) -> Result<(), AllocError>
+    ensures { OnOk result (GrowsBy text.old text.new (holds_line name.now states scans)) }
+{
+    text.push_str("HOLDS ")?;
+    text.push_str(name)?;
+    text.push_str(" is never on")?;
+    push_looked_at(text, states, scans)
+}
+
+fn push_undecided(
+    text: &mut String,
+    name: &str,
+    depth: usize,
+    states: usize,
+    scans: usize,
+) -> Result<(), AllocError>
+    ensures { OnOk result (GrowsBy text.old text.new (undecided_line name.now depth states scans)) }
+{
+    text.push_str("UNDECIDED ")?;
+    text.push_str(name)?;
+    text.push_str(" is not on within ")?;
+    push_counted(text, depth, "scan")?;
+    push_looked_at(text, states, scans)
+}
+
+fn push_fails(text: &mut String, name: &str, scans: usize) -> Result<(), AllocError>
+    ensures { OnOk result (GrowsBy text.old text.new (fails_line name.now scans)) }
+{
+    text.push_str("FAILS ")?;
+    text.push_str(name)?;
+    text.push_str(" is on after ")?;
+    push_counted(text, scans, "scan")?;
+    text.push_str("\n")?;
+    Ok(())
+}
+
+/// Writes a run that breaks a claim: the words for `plc eval`, and the lines that it writes.
+fn push_run(
+    alloc: Global,
+    text: &mut String,
+    setup: &Setup,
+    file: &str,
+    name: &str,
+    rows: &[Row],
+) -> Result<(), AllocError>
+    requires { AreWholeRows setup.now rows.now }
+    ensures { OnOk result (AddsFailText setup.now file.now name.now rows.now (string_bytes text.old) (string_bytes text.new)) }
+{
+    push_fails(text, name, rows.len())?;
+    if can_be_words(setup, rows.len()) {
+        push_eval_line(text, setup, file, rows)?;
+    }
+    let lines = run_lines(alloc, setup, rows)?;
+    text.push_str(lines.as_str())
+}
+
+/// Where the texts of the verdicts go, and what they tell of beside the verdict itself.
+#[derive(Clone, Copy)]
+struct Told<'a> {
+    setup: &'a Setup,
+    file: &'a str,
+    states: usize,
+    scans: usize,
+}
+
+fn push_verdict(
+    alloc: Global,
+    text: &mut String,
+    told: &Told<'_>,
+    name: &str,
+    verdict: &Verdict,
+) -> Result<(), AllocError>
+    requires { FitsSetup told.now.setup.now verdict.now }
+    ensures { OnOk result (AddsVerdictText told.now.setup.now told.now.file.now told.now.states told.now.scans name.now verdict.now
+        (string_bytes text.old) (string_bytes text.new)) }
+{
+    match verdict {
+        Verdict::Holds => push_holds(text, name, told.states, told.scans),
+        Verdict::Fails(rows) => push_run(alloc, text, told.setup, told.file, name, rows),
+        Verdict::Undecided(depth) => push_undecided(text, name, *depth, told.states, told.scans),
+    }
+}
+
+/// The texts of the verdicts, one behind the other, each with the name of its claim.
+pub(crate) fn verdict_texts(
+    alloc: Global,
+    setup: &Setup,
+    file: &str,
+    names: &[&str],
+    outcome: &Outcome,
+) -> Result<String, AllocError>
+    requires long { length outcome.now.verdicts.items ≡ length names.now }
+    requires fits { All (FitsSetup setup.now) outcome.now.verdicts.items }
+    ensures { IfOk result (λ text. AreTexts setup.now file.now outcome.now.states outcome.now.scans (texts names.now)
+        outcome.now.verdicts.items (string_bytes text)) }
+{
+    let told = Told {
+        setup,
+        file,
+        states: outcome.states,
+        scans: outcome.scans,
+    };
+    let mut text = String::new(alloc);
+    for (k, verdict) in outcome.verdicts.iter().enumerate() {
+        push_verdict(alloc, &mut text, &told, names[k], verdict)?;
+    }
+    Ok(text)
+}

@@ -1,0 +1,112 @@
+//! The words that have `plc eval` make a run.
+
+ghost use Rattle.std.specs.Prelude.{◌≡◌, [], ◌∷◌, OnOk};
+ghost use Rattle.text_lines.specs.Growing.{GrowsBy};
+ghost use Rattle.verifying.specs.VerdictLines.{can_be_words, digit_of, digits_of_free, digits_of_held, dt_words, eval_line, free_words, held_words, input_word, name_at};
+
+use crate::row::Row;
+use crate::setup::{Setting, Setup};
+use power_flow::Declarations;
+use std::alloc::AllocError;
+use std::fmt::Write;
+
+fn push_digit(text: &mut String, on: bool) -> Result<(), AllocError>
+    ensures { OnOk result (GrowsBy text.old text.new (digit_of on ∷ [])) }
+{
+    text.push_str(if on { "1" } else { "0" })
+}
+
+/// Writes ` NAME=` with the name at a place.
+fn push_name(text: &mut String, declarations: &Declarations, place: usize) -> Result<(), AllocError>
+    ensures { OnOk result (GrowsBy text.old text.new (input_word (name_at declarations.now place) [])) }
+{
+    let name = match declarations.entry(place) {
+        Some((name, _)) => name,
+        None => "",
+    };
+    write!(text, " {name}=")
+}
+
+/// Writes the values of a free input, by its number.
+fn push_free_digits(text: &mut String, rows: &[Row], input: usize) -> Result<(), AllocError>
+    ensures { OnOk result (GrowsBy text.old text.new (digits_of_free rows.now input)) }
+{
+    for row in rows {
+        push_digit(text, row.value(input).unwrap_or(false))?;
+    }
+    Ok(())
+}
+
+/// Writes the value of a held input, once for each row.
+fn push_held_digits(text: &mut String, rows: &[Row], value: bool) -> Result<(), AllocError>
+    ensures { OnOk result (GrowsBy text.old text.new (digits_of_held rows.now value)) }
+{
+    for row in rows {
+        push_digit(text, value)?;
+    }
+    Ok(())
+}
+
+fn push_free_words(
+    text: &mut String,
+    declarations: &Declarations,
+    free: &[usize],
+    rows: &[Row],
+) -> Result<(), AllocError>
+    ensures { OnOk result (GrowsBy text.old text.new (free_words declarations.now free.now rows.now)) }
+{
+    for input in 0..free.len() {
+        push_name(text, declarations, free[input])?;
+        push_free_digits(text, rows, input)?;
+    }
+    Ok(())
+}
+
+fn push_held_words(
+    text: &mut String,
+    declarations: &Declarations,
+    held: &[Setting],
+    rows: &[Row],
+) -> Result<(), AllocError>
+    ensures { OnOk result (GrowsBy text.old text.new (held_words declarations.now held.now rows.now)) }
+{
+    for setting in held {
+        push_name(text, declarations, setting.place)?;
+        push_held_digits(text, rows, setting.value)?;
+    }
+    Ok(())
+}
+
+fn push_dt(text: &mut String, dt: u32) -> Result<(), AllocError>
+    ensures { OnOk result (GrowsBy text.old text.new (dt_words dt)) }
+{
+    if dt == 0 {
+        Ok(())
+    } else {
+        write!(text, " --dt {dt}")
+    }
+}
+
+/// Whether `plc eval` can make a run of so many scans.
+pub(crate) fn can_be_words(setup: &Setup, scans: usize) -> bool
+    ensures { result ≡ can_be_words setup.now scans }
+{
+    scans <= 1000 && (scans == 1 || !(setup.free().is_empty() && setup.held().is_empty()))
+}
+
+/// Writes the words that have `plc eval` make a run, and a line feed.
+pub(crate) fn push_eval_line(
+    text: &mut String,
+    setup: &Setup,
+    file: &str,
+    rows: &[Row],
+) -> Result<(), AllocError>
+    ensures { OnOk result (GrowsBy text.old text.new (eval_line setup.now file.now rows.now)) }
+{
+    let declarations = setup.ladder().declarations();
+    write!(text, "plc eval {file}")?;
+    push_dt(text, setup.dt())?;
+    push_free_words(text, declarations, setup.free(), rows)?;
+    push_held_words(text, declarations, setup.held(), rows)?;
+    text.push_str("\n")
+}
