@@ -5,6 +5,7 @@
 mod answered;
 mod answers;
 mod command_fault;
+mod command_words;
 mod commands;
 mod faults;
 mod field_words;
@@ -19,11 +20,11 @@ mod schedules;
 mod shown;
 mod status;
 mod verify_answer;
-mod words;
 
 pub use answered::Answered;
 pub use answers::{answer_kind, answer_kinds, answer_text, obey, wanted_for};
 pub use command_fault::CommandFault;
+pub use command_words::read_words;
 pub use faults::{print_failure, print_fault};
 pub use field_words::read_field_words;
 pub use files::{file_bytes, file_plant};
@@ -37,4 +38,3 @@ pub use request::{
 pub use schedules::{answer_schedule, obey_lines, obey_schedule};
 pub use status::FAILED;
 pub use verify_answer::{answer_verify, obey_verify};
-pub use words::read_words;

@@ -1,8 +1,9 @@
 ghost use Rattle.std.specs.Prelude.{◌≡◌, ◌↔◌, IsTrue};
-ghost use Rattle.declared_names.specs.Kinds.{kind_of, value_first};
+ghost use Rattle.declared_names.specs.Kinds.{kind_of, kind_of_space, value_first};
 
 use crate::declarations::Kind;
 use std_blocks::Value;
+use words::Space;
 
 /// The kind of a value.
 pub fn kind_of(value: Value) -> Kind
@@ -30,5 +31,15 @@ pub fn first_value(kind: Kind) -> Value
         Kind::Bool => Value::Bool(false),
         Kind::Int => Value::Int(0),
         Kind::Time => Value::Time(0),
+    }
+}
+
+/// The kind of the values that a space of addresses holds: bits are BOOL, words INT.
+pub fn kind_of_space(space: Space) -> Kind
+    ensures { result ≡ kind_of_space space }
+{
+    match space {
+        Space::Bit => Kind::Bool,
+        Space::Word => Kind::Int,
     }
 }

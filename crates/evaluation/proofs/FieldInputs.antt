@@ -1,8 +1,8 @@
 -- Field inputs that are read.
 use Rattle.std.proofs.Common.{◌≡◌, ◌≢◌, Bool, true, false, cond, IsTrue, nat_cmp, ℕ, ◌+◌, ◌*◌, ◌<◌, ◌⊎◌, ◌↔◌, inl, inr, List, [], ◌∷◌, length, map, slice_get, Some, arith, refl, sym, ap, ◌∙◌}
-use Rattle.std.proofs.lemmas.Bool.{cases_eq}
+use Rattle.std.proofs.lemmas.Bool.{cases_eq, cases_lt}
 use Rattle.std.proofs.lemmas.Option.{slice_get_within, same_Some}
-use Rattle.plant_text.specs.declared.address.Address.{Address}
+use Rattle.words.specs.declared.address.Address.{Address}
 use Rattle.evaluation.specs.declared.field_input.FieldInput.{FieldInput}
 use Rattle.evaluation.specs.declared.field_input.FieldInput.TheVariants.{Bit, Word}
 use Rattle.evaluation.specs.Inputs.{address_of}
@@ -11,7 +11,6 @@ use Rattle.evaluation.specs.InputTexts.{AreApart}
 use Rattle.std.specs.Ordering.{is_eq}
 use Rattle.std.specs.declared.cmp.Ordering.TheVariants.{Less, Equal, Greater}
 use Rattle.std.specs.Cmp.{nat_cmp_is}
-use Rattle.std.proofs.lemmas.Bool.{cases_lt}
 
 pub map_map : {X Y Z : Type 0} (f : Y → Z) (g : X → Y) (xs : List X) → map f (map g xs) ≡ map (λ x. f (g x)) xs
 map_map f g [] = refl

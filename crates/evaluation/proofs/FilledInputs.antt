@@ -12,17 +12,16 @@ use Rattle.declared_names.specs.declared.declarations.Declared.TheVariants.{Inpu
 use Rattle.declared_names.specs.declared.declarations.Declaration.{Declaration}
 use Rattle.scan_steps.specs.declared.slot.Slot.{Slot}
 use Rattle.scan_steps.specs.declared.slot.Slot.TheVariants.{Variable, Block}
-use Rattle.declared_names.specs.Kinds.{value_first}
-use Rattle.declared_names.specs.Kinds.{kind_of}
+use Rattle.declared_names.specs.Kinds.{value_first, kind_of, kind_of_space, input_kind, input_kind_at}
 use Rattle.power_flow.specs.StateValue.{StateValue}
 use Rattle.scan_steps.specs.Slots.{variable_of, variable_at, IsKindAt, IsSlotOf, AreSlotsOf}
-use Rattle.plant_text.specs.declared.address.Space.{Space}
-use Rattle.plant_text.specs.declared.address.Space.TheVariants.{Bit as BitSpace, Word as WordSpace}
-use Rattle.plant_text.specs.declared.address.Address.{Address}
+use Rattle.words.specs.declared.address.Space.{Space}
+use Rattle.words.specs.declared.address.Space.TheVariants.{Bit as BitSpace, Word as WordSpace}
+use Rattle.words.specs.declared.address.Address.{Address}
 use Rattle.task_codes.specs.declared.binding.Source.{Source}
 use Rattle.task_codes.specs.declared.binding.Source.TheVariants.{Field, Given}
 use Rattle.task_codes.specs.declared.binding.Binding.{Binding}
-use Rattle.plant_grammar.specs.Kinds.{items_or_none, input_kind, input_kind_at, kind_of_space}
+use Rattle.lists.specs.Items.{items_or_none}
 use Rattle.task_codes.specs.CodeValue.{ProgramValue, CodeValue, source_kind, bindings_at, AreOnce, IsBindingSound, IsSoundCode}
 use Rattle.evaluation.specs.declared.field_input.FieldInput.{FieldInput}
 use Rattle.evaluation.specs.declared.field_input.FieldInput.TheVariants.{Bit, Word}

@@ -3,10 +3,10 @@ use Rattle.std.specs.Prelude.{◌≡◌, ℕ, ◌+◌, ◌==◌, ◌||◌, Bool,
 use Rattle.std.specs.List.{slice_split, filter}
 use Rattle.std.specs.Option.{option_map, option_and_then}
 use Rattle.words.specs.Numbers.{number_up_to}
-use Rattle.plant_text.specs.declared.address.Space.{Space}
-use Rattle.plant_text.specs.declared.address.Space.TheVariants.{Bit as BitSpace, Word as WordSpace}
-use Rattle.plant_text.specs.declared.address.Address.{Address}
-use Rattle.plant_text.specs.Words.{address}
+use Rattle.words.specs.declared.address.Space.{Space}
+use Rattle.words.specs.declared.address.Space.TheVariants.{Bit as BitSpace, Word as WordSpace}
+use Rattle.words.specs.declared.address.Address.{Address}
+use Rattle.words.specs.Addresses.{address}
 use Rattle.evaluation.specs.declared.field_input.FieldInput.{FieldInput}
 use Rattle.evaluation.specs.declared.field_input.FieldInput.TheVariants.{Bit, Word}
 use Rattle.evaluation.specs.declared.input_fault.InputFault.{InputFault}

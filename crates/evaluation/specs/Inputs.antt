@@ -3,11 +3,10 @@ use Rattle.std.specs.Prelude.{◌==◌, ◌&&◌, Bool, true, false, List, Optio
 use Rattle.std.specs.List.{find}
 use Rattle.std_blocks.specs.declared.value.Value.{Value}
 use Rattle.std_blocks.specs.declared.value.Value.TheVariants.{Bool as BoolValue, Int as IntValue}
-use Rattle.declared_names.specs.Kinds.{value_first}
-use Rattle.plant_text.specs.declared.address.Space.{Space}
-use Rattle.plant_text.specs.declared.address.Space.TheVariants.{Bit as BitSpace, Word as WordSpace}
-use Rattle.plant_text.specs.declared.address.Address.{Address}
-use Rattle.plant_grammar.specs.Kinds.{kind_of_space}
+use Rattle.declared_names.specs.Kinds.{value_first, kind_of_space}
+use Rattle.words.specs.declared.address.Space.{Space}
+use Rattle.words.specs.declared.address.Space.TheVariants.{Bit as BitSpace, Word as WordSpace}
+use Rattle.words.specs.declared.address.Address.{Address}
 use Rattle.evaluation.specs.declared.field_input.FieldInput.{FieldInput}
 use Rattle.evaluation.specs.declared.field_input.FieldInput.TheVariants.{Bit, Word}
 

@@ -2,8 +2,8 @@ ghost use Rattle.std.specs.Prelude.{◌≡◌, ◌↔◌, IsTrue};
 ghost use Rattle.evaluation.specs.Inputs.{address_of, same_address, value_of};
 ghost use Rattle.evaluation.specs.Steps.InputWords.{key_of};
 
-use plant_text::{Address, Space};
 use std_blocks::Value;
+use words::{Address, Space};
 
 /// A listed field input: a bit (`%IX`) or a word (`%IW`) of a number, and what it holds.
 #[derive(Clone, Copy, Debug, PartialEq, Eq)]

@@ -1,11 +1,11 @@
 use crate::field_input::FieldInput;
-use plant_grammar::kind_of_space;
-use plant_text::Address;
+use declared_names::kind_of_space;
 use power_flow::first_value;
 use std::alloc::{AllocError, Global};
 use std::marker::Model;
 use std::sync::Arc;
 use std_blocks::Value;
+use words::Address;
 
 /// Field inputs: the listed addresses with their values, in order. They do not change, and copies share them.
 #[derive(Drop)]

@@ -8,10 +8,9 @@ ghost use Rattle.evaluation.specs.Steps.InputWords.{IsWordFault};
 use crate::field_input::FieldInput;
 use crate::input_fault::InputFault;
 use crate::inputs::Inputs;
-use plant_text::{Address, Space};
 use std::alloc::{AllocError, Global};
 use std::collections::BTreeSet;
-use words::number_up_to;
+use words::{Address, Space, number_up_to};
 
 /// Puts the words of a text behind those that are there: what stands between blanks and tabs.
 pub fn push_words<'a>(words: &mut Vec<&'a [u8]>, text: &'a [u8]) -> Result<(), AllocError>

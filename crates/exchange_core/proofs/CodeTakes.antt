@@ -8,10 +8,9 @@ use Rattle.std.proofs.lemmas.Option.{none-some, same_Some, slice_get_within, sli
 use Rattle.lists.proofs.Places.{element_at}
 use Rattle.declared_names.specs.declared.declarations.Kind.{Kind}
 use Rattle.declared_names.specs.declared.declarations.Kind.TheVariants as kind
-use Rattle.declared_names.specs.Kinds.{value_first}
-use Rattle.declared_names.specs.Kinds.{kind_of}
+use Rattle.declared_names.specs.Kinds.{value_first, kind_of}
 use Rattle.task_codes.specs.declared.task_ref.TaskRef.{TaskRef}
-use Rattle.plant_grammar.specs.Kinds.{items_or_none}
+use Rattle.lists.specs.Items.{items_or_none}
 use Rattle.plant.specs.PlantValue.{code_at}
 use Rattle.task_codes.specs.CodeValue.{CodeValue, expected_at, image_kinds, IsSoundCode}
 use Rattle.evaluation.specs.declared.take.Take.{Take}

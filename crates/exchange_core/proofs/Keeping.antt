@@ -9,7 +9,7 @@ use Rattle.std.proofs.lemmas.Option.{none-some, same_Some, slice_get_within, sli
 use Rattle.lists.proofs.Places.{push_cases}
 use Rattle.lists.proofs.Tables.{both_same, cell_same, cell_other, cell_filled, row_lengths_kept, row_lengths_filled}
 use Rattle.task_codes.specs.declared.task_ref.TaskRef.{TaskRef}
-use Rattle.plant_grammar.specs.Kinds.{items_or_none}
+use Rattle.lists.specs.Items.{items_or_none}
 use Rattle.plant.specs.PlantValue.{ResourceValue, PlantValue, code_at, codes_at, IsSoundPlant}
 use Rattle.task_codes.specs.CodeValue.{CodeValue, image_kinds}
 use Rattle.evaluation.specs.declared.field_input.FieldInput.{FieldInput}

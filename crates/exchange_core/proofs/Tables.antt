@@ -7,7 +7,7 @@ use Rattle.std.proofs.lemmas.List.{map-set, get_or-map, take_more, map-append}
 use Rattle.std.proofs.lemmas.Option.{slice_get_within, get_or_from_slice_get}
 use Rattle.lists.proofs.Tables.{cell_place}
 use Rattle.task_codes.specs.declared.task_ref.TaskRef.{TaskRef}
-use Rattle.plant_grammar.specs.Kinds.{items_or_none}
+use Rattle.lists.specs.Items.{items_or_none}
 use Rattle.plant.specs.PlantValue.{ResourceValue, PlantValue, code_at}
 use Rattle.task_codes.specs.CodeValue.{CodeValue}
 use Rattle.exchange_core.specs.HeldMessages.{Table, IsShaped}

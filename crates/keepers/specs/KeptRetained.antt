@@ -6,7 +6,7 @@ use Rattle.std.specs.Fmt.{decimal}
 use Rattle.std_blocks.specs.declared.value.Value.{Value}
 use Rattle.declared_names.specs.declared.declarations.Declaration.{Declaration}
 use Rattle.declared_names.specs.Kinds.{kind_of}
-use Rattle.plant_grammar.specs.Kinds.{items_or_none}
+use Rattle.lists.specs.Items.{items_or_none}
 use Rattle.task_codes.specs.CodeValue.{ProgramValue, CodeValue, retained_kinds}
 use Rattle.task_codes.specs.declared.retained_variable.RetainedVariable.{RetainedVariable}
 use Rattle.evaluation.specs.Retained.{Suits, initial_retained}

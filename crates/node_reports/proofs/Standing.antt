@@ -13,7 +13,7 @@ use Rattle.std_blocks.specs.declared.value.Value.{Value}
 use Rattle.declared_names.specs.declared.declarations.Kind.{Kind}
 use Rattle.power_flow.specs.StateValue.{StateValue}
 use Rattle.task_codes.specs.declared.task_ref.TaskRef.{TaskRef}
-use Rattle.plant_grammar.specs.Kinds.{items_or_none}
+use Rattle.lists.specs.Items.{items_or_none}
 use Rattle.plant.specs.PlantValue.{ResourceValue, PlantValue, code_at, codes_at, IsSoundPlant}
 use Rattle.task_codes.specs.CodeValue.{CodeValue, expected_at, image_kinds}
 use Rattle.evaluation.specs.declared.field_input.FieldInput.{FieldInput}

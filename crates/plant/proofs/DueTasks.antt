@@ -8,7 +8,7 @@ use Rattle.std.proofs.lemmas.List.Elements.{All-push}
 use Rattle.std.proofs.lemmas.Option.{slice_get-map, get_or_from_slice_get}
 use Rattle.task_codes.specs.declared.timing.Timing.{Timing}
 use Rattle.task_codes.specs.Plan.{AllTimed, timings_in}
-use Rattle.plant_grammar.specs.Kinds.{items_or_none}
+use Rattle.lists.specs.Items.{items_or_none}
 use Rattle.plant.specs.PlantValue.{ResourceValue, PlantValue, tasks_at}
 use Rattle.plant.specs.Plan.{timing_of, timings_of}
 use Rattle.lists.proofs.Places.{element_at}

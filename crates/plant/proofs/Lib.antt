@@ -28,3 +28,4 @@ pub mod OneWords
 pub mod MovedPlants
 pub mod OnePlant
 pub mod OneTexts
+pub mod SmallCounts

@@ -13,7 +13,7 @@ use Rattle.plant_grammar.specs.declared.grammar.tree.Use.{Use}
 use Rattle.plant_grammar.specs.declared.grammar.tree.Resource.{Resource}
 use Rattle.plant_grammar.specs.Grammar.{Tree}
 use Rattle.plant_grammar.specs.Names.{is_named}
-use Rattle.plant_grammar.specs.Kinds.{input_kind_at}
+use Rattle.declared_names.specs.Kinds.{input_kind_at}
 use Rattle.plant_grammar.specs.Lawful.{variables, tasks_of, uses_of, binds_of}
 use Rattle.plant_grammar.specs.Parts.{ProgramParts, UseParts, ResourceParts, program_parts, use_parts, resource_parts, IsSameTree}
 use Rattle.plant.specs.PlantValue.{ResourceValue, PlantValue}

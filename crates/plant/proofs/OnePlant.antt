@@ -23,7 +23,7 @@ use Rattle.plant_grammar.specs.declared.grammar.tree.Bind.{Bind}
 use Rattle.plant_grammar.specs.declared.grammar.tree.Use.{Use}
 use Rattle.plant_grammar.specs.declared.grammar.tree.Resource.{Resource}
 use Rattle.plant_grammar.specs.Grammar.{Tree}
-use Rattle.plant_grammar.specs.Kinds.{items_or_none}
+use Rattle.lists.specs.Items.{items_or_none}
 use Rattle.plant_grammar.specs.Names.{IsAt}
 use Rattle.plant_grammar.specs.Retained.{retained_places}
 use Rattle.plant_grammar.specs.Lawful.{variables, tasks_of, binds_of, IsTreeLawful}

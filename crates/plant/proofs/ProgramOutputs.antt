@@ -12,7 +12,7 @@ use Rattle.lists.proofs.Places.{element_at}
 use Rattle.declared_names.specs.declared.declarations.Kind.{Kind}
 use Rattle.declared_names.specs.declared.declarations.Declaration.{Declaration}
 use Rattle.task_codes.specs.declared.task_output.TaskOutput.{TaskOutput}
-use Rattle.plant_grammar.specs.Kinds.{items_or_none}
+use Rattle.lists.specs.Items.{items_or_none}
 use Rattle.task_codes.specs.CodeValue.{ProgramValue, CodeValue, IsOutputOf, output_kind, outputs_of, outputs_in, output_at}
 use Rattle.plant.specs.Steps.Outputs.{output_if}
 

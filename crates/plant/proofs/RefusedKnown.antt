@@ -5,7 +5,7 @@ use Rattle.std.proofs.lemmas.List.{take-append-drop, length-append, length-map, 
 use Rattle.std.proofs.Math.Seq.{take-append_seam}
 use Rattle.declared_names.specs.declared.declarations.Declaration.{Declaration}
 use Rattle.plant_grammar.specs.declared.grammar_fault.GrammarFaultKind.{GrammarFaultKind}
-use Rattle.plant_text.specs.declared.address.Address.{Address}
+use Rattle.words.specs.declared.address.Address.{Address}
 use Rattle.plant_text.specs.declared.token.Token.{Token}
 use Rattle.plant_text.specs.declared.token.Token.TheVariants as token
 use Rattle.plant_text.specs.declared.token.Keyword.TheVariants as key

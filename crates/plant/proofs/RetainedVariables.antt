@@ -10,7 +10,7 @@ use Rattle.std.proofs.lemmas.List.Elements.{All-append, All-nil, All-cons}
 use Rattle.declared_names.specs.declared.declarations.Kind.{Kind}
 use Rattle.declared_names.specs.declared.declarations.Declaration.{Declaration}
 use Rattle.task_codes.specs.declared.retained_variable.RetainedVariable.{RetainedVariable}
-use Rattle.plant_grammar.specs.Kinds.{items_or_none}
+use Rattle.lists.specs.Items.{items_or_none}
 use Rattle.task_codes.specs.CodeValue.{ProgramValue, CodeValue, IsRetainedOf, local_kind, retained_at, retained_in, retained_of}
 use Rattle.plant.proofs.ProgramOutputs.{one_more, all_counted}
 

@@ -3,9 +3,8 @@ use Rattle.std.proofs.Common.{◌≡◌, ℕ, zero, suc, ◌+◌, ◌≤◌, Boo
 use Rattle.std.specs.Prelude.{slice_get, All, Any, Contains}
 use Rattle.std.specs.List.{flat_map, filter, find, enumerate_from, position, position_or_len, AllZip}
 use Rattle.std.specs.Option.{option_map, option_and_then}
-use Rattle.std.proofs.lemmas.Grind.{common_steps}
+use Rattle.std.proofs.lemmas.Grind.{common_steps, flat_map-append}
 use Rattle.std.proofs.lemmas.List.{get_or-map, length-map, take-append-drop}
-use Rattle.std.proofs.lemmas.Grind.{flat_map-append}
 use Rattle.std.proofs.lemmas.List.Sums.{fails_before_first}
 use Rattle.std.proofs.lemmas.Option.{slice_get_within, slice_get-map, get_or_from_slice_get}
 use Rattle.lists.proofs.Places.{some_same}
@@ -19,7 +18,7 @@ use Rattle.declared_names.specs.Names.{place_of}
 use Rattle.task_codes.specs.declared.task_ref.TaskRef.{TaskRef}
 use Rattle.task_codes.specs.declared.task_output.TaskOutput.{TaskOutput}
 use Rattle.task_codes.specs.CodeValue.{ProgramValue, CodeValue, output_kind, output_at, outputs_in, outputs_of, image_kinds}
-use Rattle.plant_text.specs.declared.address.Address.{Address}
+use Rattle.words.specs.declared.address.Address.{Address}
 use Rattle.plant_grammar.specs.declared.grammar.tree.Program.{Program}
 use Rattle.plant_grammar.specs.declared.grammar.tree.TaskLine.{TaskLine}
 use Rattle.plant_grammar.specs.declared.grammar.tree.SourceName.{SourceName}
@@ -30,7 +29,8 @@ use Rattle.plant_grammar.specs.declared.grammar.tree.Item.{Item}
 use Rattle.plant_grammar.specs.declared.grammar.tree.Resource.{Resource}
 use Rattle.plant_grammar.specs.Grammar.{Tree}
 use Rattle.plant_grammar.specs.Names.{is_named, IsAt, AreNamesApart}
-use Rattle.plant_grammar.specs.Kinds.{kind_of_space, input_kind_at, IsOfInputKind}
+use Rattle.plant_grammar.specs.Kinds.{IsOfInputKind}
+use Rattle.declared_names.specs.Kinds.{input_kind_at, kind_of_space}
 use Rattle.plant_grammar.specs.Lawful.{variables, task_of, tasks_of, uses_of, binds_of, IsProgramLawful, IsResourceLawful, IsTreeLawful}
 use Rattle.plant.specs.Ladders.{IsLadderOf}
 use Rattle.plant.specs.ProgramTypes.{TypeValue}

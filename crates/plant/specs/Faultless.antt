@@ -10,7 +10,8 @@ use Rattle.plant_grammar.specs.declared.grammar.tree.Use.{Use}
 use Rattle.plant_grammar.specs.declared.grammar.tree.Resource.{Resource}
 use Rattle.plant_grammar.specs.Grammar.{Tree}
 use Rattle.plant_grammar.specs.Names.{is_named}
-use Rattle.plant_grammar.specs.Kinds.{kind_of_space, input_kind_of}
+use Rattle.plant_grammar.specs.Kinds.{input_kind_of}
+use Rattle.declared_names.specs.Kinds.{kind_of_space}
 use Rattle.plant_grammar.specs.Lawful.{variables, uses_of, binds_of, all_uses, IsTreeLawful}
 use Rattle.plant.specs.Ladders.{HasLadder}
 

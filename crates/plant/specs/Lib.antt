@@ -7,6 +7,7 @@ pub mod StandsFor
 pub mod Faultless
 pub mod SourceFaults
 pub mod PlantText
+pub mod Counts
 pub mod Find
 pub mod Plan
 pub mod Steps

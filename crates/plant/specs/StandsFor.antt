@@ -21,7 +21,7 @@ use Rattle.plant_grammar.specs.Names.{is_named, IsAt}
 use Rattle.plant_grammar.specs.Lawful.{variables, tasks_of, uses_of, binds_of}
 use Rattle.plant_grammar.specs.Retained.{retained_places}
 use Rattle.plant.specs.Ladders.{IsLadderOf}
-use Rattle.plant_grammar.specs.Kinds.{input_kind_at}
+use Rattle.declared_names.specs.Kinds.{input_kind_at}
 use Rattle.plant.specs.PlantValue.{TaskValue, ResourceValue, PlantValue, AreProducersOf}
 use Rattle.task_codes.specs.CodeValue.{ProgramValue, CodeValue, bindings_at, source_kind, IsSoundCode}
 

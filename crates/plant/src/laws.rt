@@ -1,3 +1,4 @@
+ghost use Rattle.plant.specs.Counts.{CountsAreSmall};
 ghost use Rattle.plant.specs.PlantText.{OneTree, OnePlantOfTree, OnePlant};
 
 use crate::ladder_laws::program_has_one_ladder;
@@ -25,3 +26,8 @@ pub fn one_plant()
     one_tree();
     one_plant_of_tree();
 }
+
+/// A plant of a text has at most 16 resources, 64 instances and 4,096 connections, so its counts are numbers of 64 bits.
+pub fn counts_are_small()
+    ensures { CountsAreSmall }
+{}

@@ -17,13 +17,12 @@ mod sources;
 mod task;
 
 pub use ladder_laws::program_has_one_ladder;
-pub use laws::{one_plant, one_plant_of_tree, one_tree};
+pub use laws::{counts_are_small, one_plant, one_plant_of_tree, one_tree};
 pub use planning::plan;
 pub use plant::Plant;
 pub use plant_fault::{BodyFault, PlantFault, PlantFaultKind};
-pub use plant_grammar::kind_of_space;
-pub use plant_text::{Address, Space};
 pub use task::Task;
 pub use task_codes::{
     Binding, Due, PlanFault, RetainedVariable, Source, TaskCode, TaskOutput, TaskRef, one_plan,
 };
+pub use words::{Address, Space};

@@ -21,7 +21,8 @@ use Rattle.plant_grammar.specs.declared.grammar.tree.Use.{Use}
 use Rattle.plant_grammar.specs.declared.grammar.tree.Item.{Item}
 use Rattle.plant_grammar.specs.declared.grammar.tree.Item.TheVariants as item
 use Rattle.plant_grammar.specs.declared.grammar.tree.Resource.{Resource}
-use Rattle.plant_grammar.specs.Kinds.{items_or_none, IsOfInputKind}
+use Rattle.plant_grammar.specs.Kinds.{IsOfInputKind}
+use Rattle.lists.specs.Items.{items_or_none}
 use Rattle.plant_grammar.specs.Grammar.{Tree, TextValue, key_word, mark_word, bind_words, with_commas, binds_words, binds_listed, task_words, use_words, item_words, items_words, resource_words, resources_words}
 use Rattle.plant_grammar.specs.Names.{is_named, AreNamesApart}
 use Rattle.plant_grammar.specs.Lawful.{variables, task_of, use_of, uses_of, binds_of, IsUseLawful, IsResourceLawful}

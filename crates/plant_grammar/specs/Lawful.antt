@@ -20,7 +20,8 @@ use Rattle.plant_grammar.specs.declared.grammar.tree.Item.TheVariants as item
 use Rattle.plant_grammar.specs.declared.grammar.tree.Resource.{Resource}
 use Rattle.plant_grammar.specs.Grammar.{Tree, binds_listed}
 use Rattle.plant_grammar.specs.Names.{is_named, AreNamesApart}
-use Rattle.plant_grammar.specs.Kinds.{items_or_none, IsOfInputKind}
+use Rattle.plant_grammar.specs.Kinds.{IsOfInputKind}
+use Rattle.lists.specs.Items.{items_or_none}
 
 -- what a name of a section is declared as
 abbrev pub declared_as : Section → TypeName → Declared

@@ -5,7 +5,6 @@ mod grammar;
 mod grammar_fault;
 mod laws;
 mod names;
-mod spaces;
 
 pub use grammar::name::Name;
 pub use grammar::program_text::ProgramText;
@@ -21,4 +20,3 @@ pub use laws::{
     programs_are_the_first, words_are_in_place, words_behind_are_in_place, words_have_one_tree,
 };
 pub use names::is_named;
-pub use spaces::kind_of_space;

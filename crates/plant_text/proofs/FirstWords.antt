@@ -10,12 +10,13 @@ use Rattle.std.specs.Prelude.{unwrap_or}
 use Rattle.words.specs.Chars.{same_word, block_type, is_plain_name}
 use Rattle.std_blocks.specs.declared.block_type.BlockType.{BlockType}
 use Rattle.words.specs.Numbers.{number_up_to, duration_up_to}
-use Rattle.plant_text.specs.declared.address.Address.{Address}
+use Rattle.words.specs.declared.address.Address.{Address}
 use Rattle.plant_text.specs.declared.token.Token.{Token}
 use Rattle.plant_text.specs.declared.token.Token.TheVariants as token
 use Rattle.plant_text.specs.declared.token.Keyword.{Keyword}
 use Rattle.plant_text.specs.declared.token.Punctuation.{Punctuation}
-use Rattle.plant_text.specs.Words.{is_name_char, or_else, program_keyword, configuration_keyword, task_keyword, keyword, punctuation, address, name, fixed_word, value_word, word_of}
+use Rattle.plant_text.specs.Words.{is_name_char, or_else, program_keyword, configuration_keyword, task_keyword, keyword, punctuation, name, fixed_word, value_word, word_of}
+use Rattle.words.specs.Addresses.{address}
 use Rattle.plant_text.specs.Spelling.{is_parted}
 use Rattle.plant_text.specs.Steps.Gaps.{behind_space}
 use Rattle.plant_text.specs.Steps.Lexing.{is_run_char, letters}

@@ -11,12 +11,13 @@ use Rattle.words.specs.Numbers.{number_value, duration_value, limited, number_up
 use Rattle.words.specs.Durations.{Part, AreParts, IsSpelling}
 use Rattle.words.proofs.DurationWords.{duration_spelled}
 use Rattle.std_blocks.specs.declared.block_type.BlockType.{BlockType}
-use Rattle.plant_text.specs.declared.address.Address.{Address}
-use Rattle.plant_text.specs.declared.address.Space.{Space}
+use Rattle.words.specs.declared.address.Address.{Address}
+use Rattle.words.specs.declared.address.Space.{Space}
 use Rattle.plant_text.specs.declared.token.Token.TheVariants as token
 use Rattle.plant_text.specs.declared.token.Keyword.{Keyword}
 use Rattle.plant_text.specs.declared.token.Punctuation.{Punctuation}
-use Rattle.plant_text.specs.Words.{is_name_char, or_else, keyword, punctuation, address_space, address, name, fixed_word, value_word, word_of}
+use Rattle.plant_text.specs.Words.{is_name_char, or_else, keyword, punctuation, name, fixed_word, value_word, word_of}
+use Rattle.words.specs.Addresses.{address_space, address}
 use Rattle.plant_text.specs.Steps.Lexing.{is_run_char}
 use Rattle.plant_text.proofs.FoundGaps.{cases_of_cond}
 use Rattle.plant_text.proofs.FirstWords.{are_letters, IsLetters, keyword_letters, same_word_letters, letter_at}

@@ -2,9 +2,7 @@
 use Rattle.std.specs.Prelude.{ℕ, ◌==◌, ◌||◌, Bool, if◌then◌else◌, List, [], ◌∷◌, take, drop, codes, Option, Some, None, unwrap_or}
 use Rattle.std.specs.Option.{option_map, option_and_then}
 use Rattle.words.specs.Chars.{is_letter_or_digit, same_word, first_that, is_plain_name, block_type}
-use Rattle.plant_text.specs.declared.address.Space.{Space}
-use Rattle.plant_text.specs.declared.address.Space.TheVariants.{Bit as BitSpace, Word as WordSpace}
-use Rattle.plant_text.specs.declared.address.Address.{Address}
+use Rattle.words.specs.Addresses.{address}
 use Rattle.plant_text.specs.declared.token.Token.{Token}
 use Rattle.plant_text.specs.declared.token.Token.TheVariants as token
 use Rattle.plant_text.specs.declared.token.Keyword.{Keyword}
@@ -55,17 +53,6 @@ punctuation w = first_that (
     (same_word w (codes "("), Open) ∷ (same_word w (codes ")"), Close) ∷ (same_word w (codes ":"), Colon)
     ∷ (same_word w (codes ";"), Semicolon) ∷ (same_word w (codes ","), Comma) ∷ (same_word w (codes "."), Dot)
     ∷ (same_word w (codes ":="), Assign) ∷ [])
-
--- the space of addresses that a word begins with
-unfoldable pub address_space : List ℕ → Option Space
-address_space w =
-    first_that ((same_word (take 3 w) (codes "%IX"), BitSpace) ∷ (same_word (take 3 w) (codes "%IW"), WordSpace) ∷ [])
-
--- %IX or %IW and a number up to 65535
-unfoldable pub address : List ℕ → Option Address
-address w =
-    option_and_then (λ s. option_map (λ n. record { space = s; number = n }) (number_up_to 65535 (drop 3 w)))
-    (address_space w)
 
 -- the name that a word is, if it is an identifier and isn't reserved
 unfoldable pub name : List ℕ → Option Token

@@ -1,6 +1,5 @@
-use crate::address::Address;
 use std_blocks::BlockType;
-use words::Text;
+use words::{Address, Text};
 
 /// The words that are fixed, in either case.
 #[derive(Clone, Copy, Debug, PartialEq, Eq)]

@@ -1,6 +1,6 @@
 ghost use Rattle.std.specs.Prelude.{◌≡◌, ◌↔◌, IsTrue};
 ghost use Rattle.plant_text.specs.declared.token.Token.TheVariants as token;
-ghost use Rattle.plant_text.specs.declared.address.Address.{Address};
+ghost use Rattle.words.specs.declared.address.Address.{Address};
 ghost use Rattle.std_blocks.specs.declared.block_type.BlockType.{BlockType};
 
 use crate::token::{Keyword, Punctuation, Token};

@@ -5,11 +5,9 @@ ghost use Rattle.plant_text.specs.declared.token.Token.TheVariants as token;
 ghost use Rattle.plant_text.specs.Words.{program_keyword, configuration_keyword, task_keyword, keyword, punctuation, fixed_word, value_word, name, word_of};
 ghost use Rattle.words.specs.Numbers.{duration_up_to};
 
-use crate::address::Address;
-use crate::small_number::small_number;
 use crate::token::{Keyword, Punctuation, Token};
 use std::alloc::{AllocError, Global};
-use words::{Text, block_type, duration_up_to, is_plain_name};
+use words::{Address, Text, block_type, duration_up_to, is_plain_name, small_number};
 
 #[tactic(auto, unfolding(crate::specs::Words::program_keyword))]
 fn program_keyword(word: &[u8]) -> Option<Keyword>

@@ -9,7 +9,7 @@ use Rattle.std.specs.Option.{option_map}
 use Rattle.lists.proofs.Each.{Each-at, slice_get-among}
 use Rattle.lists.proofs.Members.{contains_at, all_from_places}
 use Rattle.lists.proofs.Places.{element_at}
-use Rattle.plant_grammar.specs.Kinds.{items_or_none}
+use Rattle.lists.specs.Items.{items_or_none}
 use Rattle.plant.specs.PlantValue.{PlantValue, ResourceValue, code_at, codes_at}
 use Rattle.evaluation.specs.Meaning.{Evaluated}
 use Rattle.world.specs.declared.event.Event.{Event}

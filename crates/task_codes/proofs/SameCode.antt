@@ -1,6 +1,6 @@
 -- Lists that are the same by what is found at each place.
 use Rattle.std.proofs.Common.{◌≡◌, ℕ, suc, ◌<◌, List, [], ◌∷◌, length, slice_get, arith, refl}
-use Rattle.plant_grammar.specs.Kinds.{items_or_none}
+use Rattle.lists.specs.Items.{items_or_none}
 
 -- lists of lists of one length are equal where the lists found at each place are
 pub same_by_items : {X : Type 0} (xs ys : List (List X)) → length xs ≡ length ys → ((k : ℕ) → k < length xs → items_or_none (slice_get xs k) ≡ items_or_none (slice_get ys k)) → xs ≡ ys

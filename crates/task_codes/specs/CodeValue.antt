@@ -8,7 +8,8 @@ use Rattle.declared_names.specs.declared.declarations.Declared.{Declared}
 use Rattle.declared_names.specs.declared.declarations.Declared.TheVariants.{Input, Output, Local, Instance}
 use Rattle.declared_names.specs.declared.declarations.Declaration.{Declaration}
 use Rattle.power_flow.specs.LadderValue.{LadderValue}
-use Rattle.plant_grammar.specs.Kinds.{items_or_none, kind_of_space, input_kind_at}
+use Rattle.declared_names.specs.Kinds.{input_kind_at, kind_of_space}
+use Rattle.lists.specs.Items.{items_or_none}
 use Rattle.task_codes.specs.declared.binding.Source.{Source}
 use Rattle.task_codes.specs.declared.binding.Source.TheVariants.{Field, Given}
 use Rattle.task_codes.specs.declared.binding.Binding.{Binding}

@@ -1,4 +1,4 @@
-use plant_text::Address;
+use words::Address;
 
 /// Where a bound input is filled from.
 #[derive(Clone, Copy, Debug, PartialEq, Eq)]

@@ -5,9 +5,9 @@ use Rattle.std.specs.Option.{option_map, option_map_or}
 use Rattle.std.proofs.lemmas.List.{take_all}
 use Rattle.std.proofs.lemmas.List.Sums.{sum_by_more, sum_by-take-le}
 use Rattle.std.proofs.lemmas.Option.{slice_get_cases, slice_get_within, get_or_from_slice_get}
-use Rattle.plant_grammar.specs.Kinds.{items_or_none}
+use Rattle.lists.specs.Items.{items_or_none}
 use Rattle.plant.specs.PlantValue.{ResourceValue, PlantValue, tasks_at, codes_at}
-use Rattle.text_commands.specs.CheckText.{task_count, instances_of, program_count, connections_of, connection_count}
+use Rattle.plant.specs.Counts.{task_count, instances_of, program_count, connections_of, connection_count}
 
 pub more_found : {X : Type 0} (f : X → ℕ) (xs : List X) (n : ℕ) (x : X) → slice_get xs n ≡ Some x → sum_by f (take (n + 1) xs) ≡ sum_by f (take n xs) + f x
 more_found f xs n x is = sum_by_more f xs n x (slice_get_within xs n x is) ∙ ap (λ y. sum_by f (take n xs) + f y) (get_or_from_slice_get xs n x x is)

@@ -4,7 +4,6 @@ pub mod Scanning
 pub mod WordRows
 pub mod Explaining
 pub mod Counting
-pub mod PlantBounds
 pub mod PlanExplaining
 pub mod PlantRefusing
 pub mod Tracing

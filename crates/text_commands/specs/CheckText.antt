@@ -1,9 +1,9 @@
 -- What `plc check` writes.
-use Rattle.std.specs.Prelude.{◌≡◌, ◌≢◌, ℕ, ◌++◌, List, Option, length, codes, sum_by}
+use Rattle.std.specs.Prelude.{◌≡◌, ◌≢◌, ℕ, ◌++◌, List, Option, length, codes}
 use Rattle.std.specs.Fmt.{decimal}
 use Rattle.std.specs.Io.KnownBytes.{Appends, Keeps}
-use Rattle.plant.specs.PlantValue.{ResourceValue, PlantValue}
-use Rattle.task_codes.specs.CodeValue.{CodeValue}
+use Rattle.plant.specs.PlantValue.{PlantValue}
+use Rattle.plant.specs.Counts.{task_count, program_count, connection_count}
 use Rattle.plant.specs.Faults.{IsPlantFault, IsOfBody, IsOfDeclaredName}
 use Rattle.plant.specs.PlantText.{IsPlantText, IsNoPlant, IsNotOfGrammar, IsBodyFaultIn, IsNameFaultIn}
 use Rattle.plant.specs.declared.plant_fault.PlantFault.{PlantFault}
@@ -13,24 +13,6 @@ use Rattle.text_commands.specs.declared.text_command_fault.TextCommandFault.{Tex
 use Rattle.text_commands.specs.declared.text_command_fault.TextCommandFault.TheVariants.{Text, Word, Write, Memory}
 use Rattle.text_commands.specs.declared.text_fault.TextFault.{TextFault}
 use Rattle.text_commands.specs.declared.text_fault.TextFault.TheVariants.{Draw, Graph, Bind, Plant, TooLong}
-
--- how many tasks a plant has
-abbrev pub task_count : PlantValue → ℕ
-task_count plant = sum_by (λ (r : ResourceValue). length r.tasks) plant.resources
-
--- how many program instances the tasks run
-abbrev pub instances_of : List CodeValue → ℕ
-instances_of codes = sum_by (λ (c : CodeValue). length c.programs) codes
-
-abbrev pub program_count : PlantValue → ℕ
-program_count plant = sum_by (λ (r : ResourceValue). instances_of r.codes) plant.resources
-
--- how many inputs of the instances are bound
-abbrev pub connections_of : List CodeValue → ℕ
-connections_of codes = sum_by (λ (c : CodeValue). sum_by length c.bindings) codes
-
-abbrev pub connection_count : PlantValue → ℕ
-connection_count plant = sum_by (λ (r : ResourceValue). connections_of r.codes) plant.resources
 
 -- a line `what n`
 abbrev pub count_line : List ℕ → ℕ → List ℕ

@@ -1,5 +1,4 @@
 -- Steps of the proofs. Only contracts inside this crate cite them, so no reader has to believe them.
-pub mod Counting
 pub mod Refusing
 pub mod Joining
 pub mod Rows

@@ -2,11 +2,11 @@ ghost use Rattle.std.specs.Prelude.{◌≡◌, ◌<◌, ◌^◌, OnOk, IfOk, IfE
 ghost use Rattle.plant.specs.PlantText.{IsPlantText};
 ghost use Rattle.text_lines.specs.Growing.{GrowsBy};
 ghost use Rattle.text_commands.specs.CheckText.{count_line, check_lines, GivesNoPlant, WritesCheck, ExplainsCheck};
-ghost use Rattle.text_commands.specs.Steps.Counting.{AreCounts};
+ghost use Rattle.plant.specs.Counts.{AreCounts};
 
 use crate::plant_counts::{count_connections, count_programs, count_tasks};
 use crate::text_command_fault::TextCommandFault;
-use plant::Plant;
+use plant::{Plant, counts_are_small};
 use std::alloc::{AllocError, Global};
 use std::fmt::Write as _;
 use std::io::Write;
@@ -46,6 +46,7 @@ pub fn check<W: Write>(alloc: Global, plant: &str, writer: &mut W) -> Result<(),
     ensures ok { OnOk result (WritesCheck plant.now (W.contents writer.old) (W.contents writer.new)) }
     ensures fault { IfErr result (ExplainsCheck plant.now (W.contents writer.old) (W.contents writer.new)) }
 {
+    counts_are_small();
     let plant = read_plant(alloc, plant)?;
     let text = check_lines(alloc, &plant)?;
     Ok(write_text(writer, text.as_str())?)

@@ -2,7 +2,7 @@ ghost use Rattle.std.specs.Prelude.{◌≡◌, ◌<◌, ◌^◌, length, sum_by}
 ghost use Rattle.std.specs.Option.{option_map_or};
 ghost use Rattle.plant.specs.PlantValue.{IsSoundPlant, codes_at, code_at};
 ghost use Rattle.task_codes.specs.CodeValue.{CodeValue};
-ghost use Rattle.text_commands.specs.CheckText.{task_count, instances_of, program_count, connections_of, connection_count};
+ghost use Rattle.plant.specs.Counts.{task_count, instances_of, program_count, connections_of, connection_count};
 
 use plant::{Plant, TaskCode, TaskRef};
 

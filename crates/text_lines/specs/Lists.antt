@@ -6,7 +6,7 @@ use Rattle.std.specs.Fmt.{decimal}
 use Rattle.std_blocks.specs.declared.value.Value.{Value}
 use Rattle.declared_names.specs.declared.declarations.Declaration.{Declaration}
 use Rattle.task_codes.specs.declared.task_output.TaskOutput.{TaskOutput}
-use Rattle.plant_grammar.specs.Kinds.{items_or_none}
+use Rattle.lists.specs.Items.{items_or_none}
 use Rattle.plant.specs.PlantValue.{PlantValue}
 use Rattle.task_codes.specs.CodeValue.{ProgramValue, CodeValue}
 use Rattle.evaluation.specs.declared.take.Take.{Take}

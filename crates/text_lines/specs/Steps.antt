@@ -1,3 +1,4 @@
 -- Steps of the proofs. Only contracts inside this crate cite them, so no reader has to believe them.
+pub mod Bytes
 pub mod Gaps
 pub mod Reading

@@ -1,6 +1,6 @@
 ghost use Rattle.std.specs.Prelude.{IfOk, OnErr};
 ghost use Rattle.std.specs.Io.KnownBytes.{Keeps};
-ghost use Rattle.text_lines.specs.Steps.{TakesByte};
+ghost use Rattle.text_lines.specs.Steps.Bytes.{TakesByte};
 
 use crate::read_fault::ReadFault;
 use std::io::{ErrorKind, Read};

@@ -11,7 +11,7 @@ use Rattle.std_blocks.specs.declared.value.Value.{Value}
 use Rattle.declared_names.specs.declared.declarations.Kind.{Kind}
 use Rattle.declared_names.specs.declared.declarations.Kind.TheVariants as kind
 use Rattle.declared_names.specs.Kinds.{kind_of, value_first}
-use Rattle.plant_grammar.specs.Kinds.{items_or_none}
+use Rattle.lists.specs.Items.{items_or_none}
 use Rattle.plant.specs.PlantValue.{PlantValue, ResourceValue, codes_at}
 use Rattle.task_codes.specs.CodeValue.{CodeValue, lists_of, retained_kinds}
 use Rattle.evaluation.specs.Retained.{Suits, initial_retained}

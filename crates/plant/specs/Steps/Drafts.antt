@@ -29,7 +29,7 @@ use Rattle.plant_grammar.specs.Retained.{retained_places}
 use Rattle.plant.specs.Ladders.{IsLadderOf}
 use Rattle.plant_grammar.specs.Lawful.{use_of, tasks_of, uses_of, binds_of}
 use Rattle.plant.specs.ProgramTypes.{TypeValue}
-use Rattle.plant_grammar.specs.Kinds.{input_kind_at, kind_of_space}
+use Rattle.declared_names.specs.Kinds.{input_kind_at, kind_of_space}
 use Rattle.plant.specs.PlantValue.{ResourceValue, PlantValue, code_at, AreProducersOf}
 use Rattle.task_codes.specs.CodeValue.{ProgramValue, CodeValue, lists_of, image_kinds, outputs_of, source_kind, bindings_at, IsSoundCode}
 use Rattle.plant.specs.StandsFor.{runs_in, IsOrigin, IsSourceOf, firsts, mention, task_value}

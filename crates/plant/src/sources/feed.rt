@@ -1,6 +1,6 @@
-use plant_text::Address;
 use power_flow::Kind;
 use task_codes::TaskRef;
+use words::Address;
 
 /// Where a bound input takes its values from.
 #[derive(Clone, Copy)]

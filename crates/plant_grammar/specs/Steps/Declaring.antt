@@ -7,7 +7,7 @@ use Rattle.declared_names.specs.declared.declarations.Kind.{Kind}
 use Rattle.declared_names.specs.Names.{IsDeclared}
 use Rattle.plant_grammar.specs.declared.grammar_fault.GrammarFault.{GrammarFault}
 use Rattle.plant_grammar.specs.declared.grammar_fault.GrammarFaultKind.{GrammarFaultKind}
-use Rattle.plant_text.specs.declared.address.Address.{Address}
+use Rattle.words.specs.declared.address.Address.{Address}
 use Rattle.plant_text.specs.declared.token.Token.{Token}
 use Rattle.plant_text.specs.declared.token.Token.TheVariants as token
 use Rattle.plant_grammar.specs.declared.grammar.tree.Section.{Section}
@@ -20,7 +20,8 @@ use Rattle.plant_grammar.specs.declared.grammar.tree.Item.{Item}
 use Rattle.plant_grammar.specs.declared.grammar.tree.Resource.{Resource}
 use Rattle.plant_text.specs.declared.token.Punctuation.TheVariants.{Open}
 use Rattle.plant_grammar.specs.Grammar.{mark_word, TextValue}
-use Rattle.plant_grammar.specs.Kinds.{kind_of_space, input_kind_of}
+use Rattle.plant_grammar.specs.Kinds.{input_kind_of}
+use Rattle.declared_names.specs.Kinds.{kind_of_space}
 use Rattle.plant_grammar.specs.Lawful.{IsTypeLawful, task_of, use_of}
 use Rattle.plant_grammar.specs.NameFaults.{IsOfName, Tells, TellsOfName, IsNameTaken, IsAfter, RefusesPrograms, RefusesTask, RefusesBind, RefusesInstance, RefusesItems, RefusesResource, RefusesResources, RefusesConfiguration}
 use Rattle.plant_grammar.specs.Steps.Lines.{ReaderValue, HasLinesOf, next_line}

@@ -10,7 +10,9 @@ use Rattle.plant_grammar.specs.declared.grammar.tree.Item.{Item}
 use Rattle.plant_grammar.specs.declared.grammar.tree.Item.TheVariants as item
 use Rattle.plant_grammar.specs.declared.grammar.tree.Resource.{Resource}
 use Rattle.declared_names.specs.declared.declarations.Kind.{Kind}
-use Rattle.plant_grammar.specs.Kinds.{items_or_none, input_kind_at, input_kind_of}
+use Rattle.plant_grammar.specs.Kinds.{input_kind_of}
+use Rattle.declared_names.specs.Kinds.{input_kind_at}
+use Rattle.lists.specs.Items.{items_or_none}
 use Rattle.plant_grammar.specs.declared.grammar.tree.Bind.{Bind}
 use Rattle.plant_text.specs.declared.token.Token.{Token}
 use Rattle.plant_text.specs.declared.token.Keyword.TheVariants as key

@@ -5,7 +5,7 @@ ghost use Rattle.plant_grammar.specs.WordFaults.{IsGrammarFault};
 ghost use Rattle.std.specs.List.{find, flat_map};
 ghost use Rattle.plant_text.specs.declared.token.Token.{Token};
 ghost use Rattle.plant_text.specs.declared.token.Token.TheVariants as token;
-ghost use Rattle.plant_text.specs.declared.address.Address.{Address};
+ghost use Rattle.words.specs.declared.address.Address.{Address};
 ghost use Rattle.plant_grammar.specs.declared.grammar.tree.Order.{Order};
 ghost use Rattle.plant_grammar.specs.declared.grammar.tree.Program.{Program as ProgramTree};
 ghost use Rattle.plant_grammar.specs.declared.grammar.tree.TaskLine.{TaskLine};
@@ -28,7 +28,9 @@ ghost use Rattle.plant_grammar.specs.Steps.Declaring.{TellsOfTask, TellsOfInstan
 ghost use Rattle.plant_grammar.specs.Steps.ReadParts.{types_alone, with_instance, with_binds, tally_with, EndWithBinds, bound_in, IsNew, MayFollow, AreItemsLawful, AreResourcesLawful};
 ghost use Rattle.plant_grammar.specs.Steps.Reading.{programs_of};
 ghost use Rattle.plant_grammar.specs.Steps.Refusing.{HasRoomFor, AreTypesApart};
-ghost use Rattle.plant_grammar.specs.Kinds.{items_or_none, kind_of_space, input_kind_of, HasFieldKind, IsOfInputKind};
+ghost use Rattle.plant_grammar.specs.Kinds.{input_kind_of, HasFieldKind, IsOfInputKind};
+ghost use Rattle.declared_names.specs.Kinds.{kind_of_space};
+ghost use Rattle.lists.specs.Items.{items_or_none};
 ghost use Rattle.declared_names.specs.declared.declarations.Kind.{Kind};
 
 use crate::grammar::known_names::{
@@ -40,10 +42,10 @@ use crate::grammar::reader::Reader;
 use crate::grammar::tally::Tally;
 use crate::grammar::tree::{Bind, Item, Order, Resource, SourceName, TaskLine, Use};
 use crate::grammar_fault::{GrammarFault, GrammarFaultKind};
-use crate::spaces::kind_of_space;
-use declared_names::Kind;
-use plant_text::{Address, Keyword, Punctuation};
+use declared_names::{Kind, kind_of_space};
+use plant_text::{Keyword, Punctuation};
 use std::alloc::Global;
+use words::Address;
 
 /// How many tasks a resource may have.
 const MOST_TASKS: usize = 16;

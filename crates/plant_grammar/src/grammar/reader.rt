@@ -7,11 +7,11 @@ ghost use Rattle.plant_grammar.specs.Steps.Lines.{all_left, next_line, syntax_at
 
 use crate::grammar::name::Name;
 use crate::grammar_fault::{GrammarFault, GrammarFaultKind};
-use plant_text::{Address, Keyword, Punctuation, Token, Word};
+use plant_text::{Keyword, Punctuation, Token, Word};
 use std::alloc::Global;
 use std::marker::Model;
 use std_blocks::BlockType;
-use words::Text;
+use words::{Address, Text};
 
 /// The words that are left to be read, and the line on which the text ends. Contracts see the words and their lines.
 ///

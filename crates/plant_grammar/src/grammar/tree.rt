@@ -2,9 +2,8 @@
 
 use crate::grammar::name::Name;
 use declared_names::Kind;
-use plant_text::Address;
 use std_blocks::BlockType;
-use words::Text;
+use words::{Address, Text};
 
 /// Which variables a block declares.
 #[derive(Clone, Copy)]

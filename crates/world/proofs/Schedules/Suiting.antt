@@ -4,7 +4,7 @@ use Rattle.std.specs.Prelude.{slice_get}
 use Rattle.std.proofs.lemmas.Option.{none-some, same_Some}
 use Rattle.declared_names.specs.declared.declarations.Kind.{Kind}
 use Rattle.task_codes.specs.declared.task_ref.TaskRef.{TaskRef}
-use Rattle.plant_grammar.specs.Kinds.{items_or_none}
+use Rattle.lists.specs.Items.{items_or_none}
 use Rattle.plant.specs.PlantValue.{PlantValue, AreProducersOf}
 use Rattle.task_codes.specs.CodeValue.{CodeValue, AreDistinct, image_kinds}
 use Rattle.evaluation.specs.declared.take.Take.{Take}

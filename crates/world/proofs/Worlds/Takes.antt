@@ -7,7 +7,7 @@ use Rattle.std.proofs.lemmas.List.Folds.{list_any_at, Any-from_list_any}
 use Rattle.std.proofs.lemmas.Option.{same_Some, slice_get_within, slice_get_read, get_or_from_slice_get}
 use Rattle.declared_names.specs.Kinds.{kind_of}
 use Rattle.task_codes.specs.declared.task_ref.TaskRef.{TaskRef}
-use Rattle.plant_grammar.specs.Kinds.{items_or_none}
+use Rattle.lists.specs.Items.{items_or_none}
 use Rattle.plant.specs.PlantValue.{PlantValue, code_at, codes_at, IsSoundPlant}
 use Rattle.task_codes.specs.CodeValue.{CodeValue, image_kinds}
 use Rattle.evaluation.specs.Meaning.{Evaluated}

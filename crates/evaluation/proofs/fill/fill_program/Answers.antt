@@ -2,7 +2,7 @@ use Rattle.std.proofs.Common.{◌≡◌, ◌+◌, Some, slice_get, get_or, sym, 
 use Rattle.std.proofs.lemmas.Option.{slice_get-get_or, same_Some}
 use Rattle.power_flow.specs.StateValue.{StateValue}
 use Rattle.scan_steps.specs.Slots.{IsKindAt}
-use Rattle.plant_text.specs.declared.address.Space.TheVariants.{Bit}
+use Rattle.words.specs.declared.address.Space.TheVariants.{Bit}
 use Rattle.task_codes.specs.declared.binding.Source.TheVariants.{Field}
 use Rattle.task_codes.specs.declared.binding.Binding.{Binding}
 use Rattle.std_blocks.specs.declared.value.Value.{Value}

@@ -1,6 +1,6 @@
 use Rattle.std.proofs.Common.{◌≡◌, take, sum_by}
 use Rattle.plant.specs.PlantValue.{ResourceValue}
-use Rattle.text_commands.specs.CheckText.{instances_of}
+use Rattle.plant.specs.Counts.{instances_of}
 use Rattle.text_commands.proofs.plant_counts.count_programs.Given as goal
 
 abbrev pub invariant-loop-resource : goal.invariant-loop-resource

@@ -1,7 +1,7 @@
 -- The number stands behind the resource's name.
 use Rattle.std.proofs.Common.{◌≡◌, ◌++◌, ◌∙◌, codes, sym, ap, option_map}
 use Rattle.std.specs.Fmt.{decimal}
-use Rattle.plant_grammar.specs.Kinds.{items_or_none}
+use Rattle.lists.specs.Items.{items_or_none}
 use Rattle.plant.specs.PlantValue.{ResourceValue}
 use Rattle.text_lines.specs.MessageLines.{IsSmall}
 use Rattle.text_lines.proofs.Parts.{read_behind}

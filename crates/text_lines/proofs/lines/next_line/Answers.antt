@@ -1,5 +1,5 @@
 use Rattle.std.proofs.Common.{subst}
-use Rattle.text_lines.specs.Steps.{TakesByte}
+use Rattle.text_lines.specs.Steps.Bytes.{TakesByte}
 use Rattle.text_lines.proofs.ByteReading.{takes_more, at_fault}
 use Rattle.text_lines.proofs.lines.next_line.Goals as goal
 

@@ -1,7 +1,7 @@
 use Rattle.std.proofs.Common.{◌≡◌, length, arith, ap, sym, ◌∙◌, refl}
 use Rattle.std.specs.Option.{option_map}
 use Rattle.lists.proofs.Places.{element_at}
-use Rattle.plant_grammar.specs.Kinds.{items_or_none}
+use Rattle.lists.specs.Items.{items_or_none}
 use Rattle.plant.specs.PlantValue.{ResourceValue}
 use Rattle.exchange_core.proofs.Tables.{rows-more}
 use Rattle.exchange_core.proofs.known.Known.empty.Goals as goal

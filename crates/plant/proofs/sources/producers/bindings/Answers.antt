@@ -1,6 +1,6 @@
 use Rattle.std.proofs.Common.{get_or}
 use Rattle.declared_names.specs.declared.declarations.Kind.TheVariants as kind
-use Rattle.plant_text.specs.declared.address.Space.TheVariants as space
+use Rattle.words.specs.declared.address.Space.TheVariants as space
 use Rattle.plant.specs.declared.sources.feed.Feed.{Feed}
 use Rattle.plant.specs.declared.sources.feed.Origin.TheVariants as origin
 use Rattle.plant.specs.Steps.Drafts.{IsPlacedBinding}

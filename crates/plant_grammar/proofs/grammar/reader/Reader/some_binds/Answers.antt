@@ -9,7 +9,8 @@ use Rattle.std.specs.Prelude.{All}
 use Rattle.plant_text.specs.declared.token.Token.{Token}
 use Rattle.plant_grammar.specs.declared.grammar_fault.GrammarFaultKind.TheVariants.{Memory}
 use Rattle.plant_grammar.specs.declared.grammar.tree.Bind.{Bind}
-use Rattle.plant_grammar.specs.Kinds.{items_or_none, IsOfInputKind}
+use Rattle.plant_grammar.specs.Kinds.{IsOfInputKind}
+use Rattle.lists.specs.Items.{items_or_none}
 use Rattle.plant_grammar.specs.Names.{AreNamesApart}
 use Rattle.plant_grammar.specs.Lawful.{variables}
 use Rattle.plant_grammar.proofs.LawfulResources.{listed_allowed, behind_binds}

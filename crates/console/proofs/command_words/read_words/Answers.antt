@@ -4,7 +4,7 @@ use Rattle.std.proofs.lemmas.Result.{IfOk-weaker}
 use Rattle.console.specs.declared.request.Request.{Request}
 use Rattle.console.specs.CommandLine.{AsksFor}
 use Rattle.console.proofs.Matching.{named_by}
-use Rattle.console.proofs.words.read_words.Goals as goal
+use Rattle.console.proofs.command_words.read_words.Goals as goal
 
 pub returns-in-Some : goal.returns-in-Some
 returns-in-Some c =

@@ -1,7 +1,7 @@
 ghost use Rattle.std.specs.Prelude.{◌≡◌};
-ghost use Rattle.plant_text.specs.Words.{address_space, address};
+ghost use Rattle.words.specs.Addresses.{address_space, address};
 
-use crate::small_number::small_number;
+use crate::small_numbers::small_number;
 
 /// What a field address counts: bits or words. The two do not overlap.
 #[derive(Clone, Copy, Debug, PartialEq, Eq)]
@@ -14,7 +14,7 @@ pub enum Space {
 
 impl Space {
     /// `%IX` or `%IW`, in either case.
-    #[tactic(auto, unfolding(crate::specs::Words::address_space))]
+    #[tactic(auto, unfolding(crate::specs::Addresses::address_space))]
     fn of_word(word: &[u8]) -> Option<Space>
         ensures { result ≡ address_space word.now }
     {
@@ -38,7 +38,7 @@ pub struct Address {
 
 impl Address {
     /// The address that a word is: `%IX` or `%IW`, in either case, and a number up to 65,535.
-    #[tactic(auto, unfolding(crate::specs::Words::address))]
+    #[tactic(auto, unfolding(crate::specs::Addresses::address))]
     pub fn of_word(word: &[u8]) -> Option<Address>
         ensures { result ≡ address word.now }
     {

@@ -3,7 +3,7 @@
 ghost use Rattle.std.specs.Prelude.{◌≡◌};
 ghost use Rattle.words.specs.Numbers.{number_up_to};
 
-use words::number_up_to;
+use crate::numbers::number_up_to;
 
 /// A number up to 65,535.
 pub fn small_number(word: &[u8]) -> Option<u16>

@@ -3,7 +3,7 @@ use Rattle.std.proofs.lemmas.Result.{IfOk-weaker}
 use Rattle.clap.specs.Words.{found_of}
 use Rattle.clap.proofs.WalkLemmas.{raw_values-rows}
 use Rattle.console.proofs.Matching.{no_words, some_words}
-use Rattle.console.proofs.words.claims_given.Goals as goal
+use Rattle.console.proofs.command_words.claims_given.Goals as goal
 
 pub returns-in-Some : goal.returns-in-Some
 returns-in-Some c =

@@ -15,13 +15,12 @@ use Rattle.plant_grammar.specs.declared.grammar.tree.Resource.{Resource}
 use Rattle.plant_grammar.specs.declared.grammar.tree.TaskLine.{TaskLine}
 use Rattle.plant_grammar.specs.Grammar.{Tree}
 use Rattle.plant_grammar.specs.Lawful.{tasks_of, uses_of, binds_of, all_uses, IsTreeLawful, IsResourceLawful}
-use Rattle.plant_grammar.specs.Kinds.{items_or_none}
+use Rattle.lists.specs.Items.{items_or_none}
 use Rattle.plant.specs.PlantValue.{ResourceValue, PlantValue}
 use Rattle.task_codes.specs.CodeValue.{CodeValue, bindings_at}
 use Rattle.plant.specs.StandsFor.{runs_in, task_value, IsBindingOf, IsCodeOf, IsResourceOf}
 use Rattle.plant.specs.PlantText.{IsPlantText}
-use Rattle.text_commands.specs.CheckText.{instances_of, connections_of}
-use Rattle.text_commands.specs.Steps.Counting.{AreCounts}
+use Rattle.plant.specs.Counts.{instances_of, connections_of, AreCounts}
 
 zip_get : {X Y : Type 0} (R : X → Y → Type 0) (xs : List X) (ys : List Y) (k : ℕ) (y : Y) → AllZip R xs ys → slice_get ys k ≡ Some y → (x : X) × (slice_get xs k ≡ Some x) × R x y
 zip_get R [] [] k y each is = cc
