@@ -14,7 +14,7 @@ sys.dont_write_bytecode = True
 from crates import PROGRAM, crates_of
 
 FOLDERS = ("", "docs", "examples", "examples/machines", "tests", "bench", "wrong_bodies")
-# There is no call in the one, and nothing is promised of the other.
+# There is no call in it.
 PROMISE_NOTHING = {"lists"}
 LINK = re.compile(r"\]\(([^)\s]+)\)")
 told = []
