@@ -1,18 +1,19 @@
-ghost use Rattle.std.specs.Prelude.{◌≡◌, ◌<◌, ◌≤◌, ◌+◌, ◌⊎◌, ◌↔◌, ◌&&◌, ℕ, List, Bool, All, Some, true, false, length, slice_set};
+ghost use Rattle.std.specs.Prelude.{◌≡◌, ◌<◌, ◌≤◌, ◌+◌, ◌⊎◌, ◌↔◌, ◌&&◌, ℕ, List, Bool, All, Some, IsTrue, true, false, length, slice_set};
 ghost use Rattle.scan_steps.specs.Conducting.{bit_at, contact_conducts, contact_memory};
 ghost use Rattle.std_blocks.specs.Pins.{field_value};
+ghost use Rattle.scan_steps.specs.declared.variable_pair.Negated.{Negated};
 ghost use Rattle.scan_steps.specs.Values.{is_true};
 ghost use Rattle.scan_steps.specs.Steps.BoxSteps.{HasOutput, box_result};
-ghost use Rattle.scan_steps.specs.Steps.Passing.{IsStepIn, AreJoined, AreMarked, ArePinsShown, AreShown, IsBoxObeyed, IsObeyed, ArePassed, IsReadAtRail, behind_all, pass_of, rows_behind, memories_behind, read_rows, read_memories};
+ghost use Rattle.scan_steps.specs.Steps.Passing.{IsStepIn, AreJoined, AreMarked, ArePinsShown, AreShown, IsBoxObeyed, IsObeyed, ArePassed, IsReadAtRail, IsJoinedPairRead, behind_all, pass_of, rows_behind, memories_behind, read_rows, read_memories};
 
 use crate::bound_box::{BoundBox, BoundOutput};
-use crate::bound_contact::{BoundContact, VariableContact};
+use crate::bound_contact::{BoundContact, VariableContact, is_variable_on};
 use crate::series::Series;
 use crate::slot::Instance;
 use crate::slots::Slots;
 use crate::source::is_output_on;
 use crate::step::Step;
-use crate::variable_pair::{read_pair, read_variable};
+use crate::variable_pair::{Negated, PairPlaces, PairRows, read_pair, read_variable};
 use drawings::ContactKind;
 use std_blocks::PinsOut;
 
@@ -280,6 +281,45 @@ fn read_at_rail(contact: VariableContact, slots: &Slots, rows: &mut [bool])
     read_variable(contact.negated, contact.row, contact.place, slots, rows);
 }
 
+/// Where one of a row and the next is ON, both are; and then state goes on in the row of each of two plain contacts in them that conducts.
+fn read_joined_two(pair: &PairRows, places: &PairPlaces, slots: &Slots, rows: &mut [bool])
+    requires plain { pair.now.negated ≡ Negated.Neither }
+    requires next { pair.now.second ≡ pair.now.first + 1 }
+    requires second { pair.now.second < length rows.old }
+    ensures { IsJoinedPairRead pair.now places.now slots.now rows.old rows.new }
+{
+    let upper = is_variable_on(slots, places.first as usize);
+    let lower = is_variable_on(slots, places.second as usize);
+    let first = pair.first as usize;
+    join_two(rows, first);
+    rows[first] = rows[first] & upper;
+    rows[first + 1] = rows[first + 1] & lower;
+}
+
+/// Whether both contacts of a pair are plain, and the second stands in the row below the first.
+fn is_plain_beneath(pair: &PairRows) -> bool
+    ensures { IsTrue result → (pair.now.negated ≡ Negated.Neither) × (pair.now.second ≡ pair.now.first + 1) }
+{
+    match pair.negated {
+        Negated::Neither => pair.first as usize + 1 == pair.second as usize,
+        Negated::First | Negated::Second | Negated::Both => false,
+    }
+}
+
+/// The rows from the first to the second contact of a pair are joined, and then state goes on in the row of each that conducts.
+fn read_joined_pair(pair: &PairRows, places: &PairPlaces, slots: &Slots, rows: &mut [bool])
+    requires first { pair.now.first < length rows.old }
+    requires second { pair.now.second < length rows.old }
+    ensures { IsJoinedPairRead pair.now places.now slots.now rows.old rows.new }
+{
+    if is_plain_beneath(pair) {
+        read_joined_two(pair, places, slots, rows);
+    } else {
+        join_rows(rows, pair.first as usize, pair.second as usize);
+        read_pair(pair, places, slots, rows);
+    }
+}
+
 /// Reads the contacts of a rung: the state behind them is that of its row, and the left link of its coil.
 fn read_rung(
     row: u8,
@@ -346,11 +386,8 @@ fn obey(
         Step::Up(row) => go_up(rows, *row as usize),
         Step::Contact(contact) => read_contact(contact, slots, rows, memories),
         Step::RailContact(contact) => read_at_rail(*contact, slots, rows),
-        Step::Pair(pair, places) => read_pair(*pair, *places, slots, rows),
-        Step::JoinedPair(pair, places) => {
-            join_rows(rows, pair.first as usize, pair.second as usize);
-            read_pair(*pair, *places, slots, rows)
-        }
+        Step::Pair(pair, places) => read_pair(pair, places, slots, rows),
+        Step::JoinedPair(pair, places) => read_joined_pair(pair, places, slots, rows),
         Step::Rung(row, coil, contacts) => read_rung(*row, *coil, contacts, slots, rows, links),
         Step::Coil(row, number) => links[*number as usize] = rows[*row as usize],
         Step::Box(number) | Step::BoxCoil(number, _, _) => {

@@ -1,4 +1,5 @@
 ghost use Rattle.std.specs.Prelude.{◌≡◌, ◌<◌, ◌&&◌, IfSome, length};
+ghost use Rattle.scan_steps.specs.declared.variable_pair.Negated.{Negated};
 ghost use Rattle.scan_steps.specs.Steps.Contacts.{is_first_negated, is_second_negated, first_of, second_of};
 ghost use Rattle.scan_steps.specs.Steps.Passing.{IsVariableRead, IsPairRead};
 
@@ -94,18 +95,35 @@ pub fn pair_of(first: &BoundContact, second: &BoundContact) -> Option<(PairRows,
     Some((rows, places))
 }
 
-/// State goes on in the row of each contact of a pair that conducts.
-pub fn read_pair(pair: PairRows, places: PairPlaces, slots: &Slots, rows: &mut [bool])
-    requires first { pair.first < length rows.old }
-    requires second { pair.second < length rows.old }
-    ensures { IsPairRead pair places slots.now rows.old rows.new }
+/// State goes on in the row of each contact of a pair of plain ones that conducts.
+fn read_plain_pair(pair: &PairRows, places: &PairPlaces, slots: &Slots, rows: &mut [bool])
+    requires plain { pair.now.negated ≡ Negated.Neither }
+    requires first { pair.now.first < length rows.old }
+    requires second { pair.now.second < length rows.old }
+    ensures { IsPairRead pair.now places.now slots.now rows.old rows.new }
 {
-    read_variable(pair.negated.first(), pair.first, places.first, slots, rows);
-    read_variable(
-        pair.negated.second(),
-        pair.second,
-        places.second,
-        slots,
-        rows,
-    );
+    let first = is_variable_on(slots, places.first as usize);
+    let second = is_variable_on(slots, places.second as usize);
+    rows[pair.first as usize] = rows[pair.first as usize] & first;
+    rows[pair.second as usize] = rows[pair.second as usize] & second;
+}
+
+/// State goes on in the row of each contact of a pair that conducts.
+pub fn read_pair(pair: &PairRows, places: &PairPlaces, slots: &Slots, rows: &mut [bool])
+    requires first { pair.now.first < length rows.old }
+    requires second { pair.now.second < length rows.old }
+    ensures { IsPairRead pair.now places.now slots.now rows.old rows.new }
+{
+    if let Negated::Neither = pair.negated {
+        read_plain_pair(pair, places, slots, rows);
+    } else {
+        read_variable(pair.negated.first(), pair.first, places.first, slots, rows);
+        read_variable(
+            pair.negated.second(),
+            pair.second,
+            places.second,
+            slots,
+            rows,
+        );
+    }
 }

@@ -82,6 +82,11 @@ abbrev pub IsPairRead : PairRows → PairPlaces → List Slot → List Bool → 
 IsPairRead rows places slots old new = (memories later : List Bool)
     → new ≡ read_rows (second_of rows places) slots (read_rows (first_of rows places) slots old memories) later
 
+-- the rows from the first to the second contact of a pair are joined, and then the contacts are read
+abbrev pub IsJoinedPairRead : PairRows → PairPlaces → List Slot → List Bool → List Bool → Type 0
+IsJoinedPairRead rows places slots old new = (mid : List Bool) × AreJoined rows.first rows.second old mid
+    × IsPairRead rows places slots mid new
+
 -- what a contact leaves, that is read in these rows
 abbrev pub after_contact : ContactValue → List Slot → List Bool → Pass → Pass
 after_contact c slots rows a =

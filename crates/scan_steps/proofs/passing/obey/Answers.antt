@@ -15,11 +15,11 @@ returns-in-JoinedPair c =
     let links = c.args.links.now in
     let results = c.args.results.now in
     let of_rows : List Bool → Pass = λ rows. pass_of rows memories links results in
-    let read = c.read_pair-in-JoinedPair.ensures memories (read_memories (first_of pair places) slots memories) in
+    let read = c.read_joined_pair.ensures.2 memories (read_memories (first_of pair places) slots memories) in
     let later = read_memories (second_of pair places) slots (read_memories (first_of pair places) slots memories) in
-    let kept : List Bool → Pass = λ m. pass_of c.read_pair-in-JoinedPair.new.rows m links results in
+    let kept : List Bool → Pass = λ m. pass_of c.read_joined_pair.new.rows m links results in
     rw c.in-JoinedPair.is
-    (of_rows c.join_rows-in-JoinedPair.new.rows, (c.join_rows-in-JoinedPair.ensures, refl, refl, refl), ap kept (sym (pair_keeps pair places slots memories)) ∙ ap (λ rows. pass_of rows later links results) read)
+    (of_rows c.read_joined_pair.ensures.0, (c.read_joined_pair.ensures.1, refl, refl, refl), ap kept (sym (pair_keeps pair places slots memories)) ∙ ap (λ rows. pass_of rows later links results) read)
 
 -- the number of a step of a box
 abbrev number_of : Step → ℕ
