@@ -1,4 +1,5 @@
 //! Networks in order, by where they meet the left rail.
 
+pub mod part;
 pub mod ranks;
 pub mod split;

@@ -1,12 +1,12 @@
 -- Elements that are put into the lists of their networks, one by one.
-use Rattle.std.proofs.Common.{◌≡◌, ℕ, ◌+◌, ◌<◌, ◌⊎◌, inl, inr, List, [], ◌∷◌, ◌++◌, Option, Some, None, set, length-set, slice_get, length, sym, ap, ◌∙◌, arith}
+use Rattle.std.proofs.Common.{◌≡◌, ℕ, ◌+◌, ◌<◌, ◌⊎◌, inl, inr, List, [], ◌∷◌, ◌++◌, Option, Some, None, set, length-set, map, slice_get, length, sym, ap, ◌∙◌, arith}
 use Rattle.std.proofs.lemmas.Bool.{cases_eq}
-use Rattle.std.proofs.lemmas.List.{get_or-set_other}
+use Rattle.std.proofs.lemmas.List.{get_or-set_other, map-set, map-append}
 use Rattle.std.proofs.lemmas.Option.{slice_get_within, slice_get-get_or, get_or_from_slice_get}
 use Rattle.lists.proofs.Places.{slice_get-set_same, push_cases, push_here}
 use Rattle.network.specs.declared.element.Element.{Element}
 use Rattle.network.specs.Steps.Ranks.{IsIn, AreSplit, IsPut}
-use Rattle.network.proofs.Basics.{some_is, one_at, get_set}
+use Rattle.network.proofs.Basics.{some_is, one_at, get_set, get_map, map_get}
 use Rattle.network.proofs.Spots.{push_old}
 
 set_get_other : {A : Type 0} (xs : List A) (i k : ℕ) (x y : A) → (k ≡ i → ⊥) → slice_get xs k ≡ Some y → slice_get (set xs i x) k ≡ Some y
@@ -98,3 +98,24 @@ pub split_put : (es : List Element) (ranks : List (Option ℕ)) (count : ℕ) (n
     → slice_get es n ≡ Some e → slice_get ranks n ≡ Some rank → IsPut networks rank e new → AreSplit es ranks count networks n → AreSplit es ranks count new (n + 1)
 split_put es ranks count networks new n e None at_e at put done = rw put (split_skip es ranks count networks n at done)
 split_put es ranks count networks new n e (Some m) at_e at put done = rw put.2 (split_more es ranks count networks n m e put.0 at_e at put.1 done)
+
+-- an entry that is put into the part of its rank is put there as what it stands for
+pub put_map : {A B : Type 0} (f : A → B) (old new : List (List A)) (rank : Option ℕ) (e : A) → IsPut old rank e new → IsPut (map (map f) old) rank (f e) (map (map f) new)
+put_map f old new None e put = ap (map (map f)) put
+put_map f old new (Some m) e put = (
+  map f put.0,
+  get_map (map f) old m put.0 put.1,
+  ap (map (map f)) put.2 ∙ map-set (map f) old m (put.0 ++ e ∷ []) ∙ ap (set (map (map f) old) m) (map-append f put.0 (e ∷ [])),
+)
+
+-- there are as many parts as before
+pub put_long : {A : Type 0} (old new : List (List A)) (rank : Option ℕ) (e : A) → IsPut old rank e new → length new ≡ length old
+put_long old new None e put = ap length put
+put_long old new (Some m) e put = ap length put.2 ∙ length-set old m (put.0 ++ e ∷ [])
+
+-- empty parts stand for networks without elements
+pub empty_map : {A B : Type 0} (f : A → B) (parts : List (List A)) → ((m : ℕ) (es : List A) → slice_get parts m ≡ Some es → es ≡ [])
+    → (m : ℕ) (es : List B) → slice_get (map (map f) parts) m ≡ Some es → es ≡ []
+empty_map f parts empty m es at =
+    let was = map_get (map f) parts m es at in
+    sym was.2 ∙ ap (map f) (empty m was.0 was.1)

@@ -105,6 +105,6 @@ pub record IsFirstPlaceOf (places : List Place) (p : Place) : Type 0 where
   pub first : (q : Place) → Contains places q → PrecedesByRow q p → ⊥
 
 -- the element stands at the end of the network of its rank, if it has one
-abbrev pub IsPut : List (List Element) → Option ℕ → Element → List (List Element) → Type 0
-IsPut old None e new = new ≡ old
-IsPut old (Some m) e new = (es : List Element) × (slice_get old m ≡ Some es) × (new ≡ slice_set old m (es ++ e ∷ []))
+abbrev pub IsPut : {A : Type 0} → List (List A) → Option ℕ → A → List (List A) → Type 0
+IsPut {A} old None e new = new ≡ old
+IsPut {A} old (Some m) e new = (es : List A) × (slice_get old m ≡ Some es) × (new ≡ slice_set old m (es ++ e ∷ []))

@@ -151,7 +151,7 @@ fn box_seen(boxes: &[DrawnBox], number: u32) -> Seen<'_>
 }
 
 /// The element of an entry.
-fn entry_seen(drawing: &Drawing, entry: Entry) -> Seen<'_>
+pub fn entry_seen(drawing: &Drawing, entry: Entry) -> Seen<'_>
     ensures { element_seen result ≡ element_of drawing.now entry }
 {
     match entry {
@@ -195,6 +195,13 @@ impl<'a> Elements<'a> {
         ensures { result ≡ length self.now }
     {
         self.entries.len()
+    }
+
+    /// The drawing, and the entries.
+    pub fn parts(&self) -> (&Drawing, &[Entry])
+        ensures { self.now ≡ stand_for result.0.now result.1.now }
+    {
+        (self.drawing, &self.entries)
     }
 
     /// The element at a position.

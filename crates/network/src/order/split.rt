@@ -1,11 +1,14 @@
-ghost use Rattle.std.specs.Prelude.{◌≡◌, ◌<◌, ℕ, List, [], Some, IfOk, IfSome, OnOk, slice_get, length};
-ghost use Rattle.network.specs.declared.element.Element.{Element};
+ghost use Rattle.std.specs.Prelude.{◌≡◌, ◌<◌, ℕ, List, [], Some, IfOk, IfSome, OnOk, map, slice_get, length};
+ghost use Rattle.drawings.specs.Picture.{Picture};
+ghost use Rattle.network.specs.declared.listing.listed.Entry.{Entry};
+ghost use Rattle.network.specs.Steps.Listed.{stand_for};
 ghost use Rattle.network.specs.Steps.Ranks.{AreAllSplit, IsPut};
 ghost use Rattle.network.specs.Steps.Tables.{AreSuch};
 
-use crate::element::Element;
-use crate::listing::listed::Elements;
+use crate::listing::listed::{Elements, Entry, entry_seen};
 use crate::networks::Network;
+use crate::order::part::Part;
+use drawings::Drawing;
 use std::alloc::{AllocError, Global};
 
 /// How many elements have each rank.
@@ -24,30 +27,73 @@ fn sizes_of(alloc: Global, ranks: &[Option<u32>], count: usize) -> Result<Vec<us
     Ok(sizes)
 }
 
-/// Networks without elements, with room for so many in each.
-fn empty_networks(alloc: Global, sizes: &[usize]) -> Result<Vec<Network>, AllocError>
-    ensures long { IfOk result (λ networks. length networks.items ≡ length sizes.now) }
-    ensures empty { IfOk result (λ networks. AreSuch (λ (es : List Element). es ≡ []) networks.items) }
+/// Parts without entries, with room for so many in each.
+fn empty_parts(alloc: Global, sizes: &[usize]) -> Result<Vec<Part>, AllocError>
+    ensures long { IfOk result (λ parts. length parts.items ≡ length sizes.now) }
+    ensures empty { IfOk result (λ parts. AreSuch (λ (es : List Entry). es ≡ []) parts.items) }
 {
-    let mut networks = Vec::with_capacity(alloc, sizes.len())?;
+    let mut parts = Vec::with_capacity(alloc, sizes.len())?;
     for size in sizes {
-        networks.push(Network::with_capacity(alloc, *size)?)?;
+        parts.push(Part::with_capacity(alloc, *size)?)?;
     }
-    Ok(networks)
+    Ok(parts)
 }
 
-/// Puts an element at the end of the network of its rank.
-fn put(networks: &mut Vec<Network>, rank: Option<u32>, element: Element) -> Result<(), AllocError>
-    requires { IfSome rank (λ m. m < length networks.old.items) }
-    ensures { OnOk result (IsPut networks.old.items rank element networks.new.items) }
+/// Puts an entry at the end of the part of its rank.
+fn put(parts: &mut Vec<Part>, rank: Option<u32>, entry: Entry) -> Result<(), AllocError>
+    requires { IfSome rank (λ m. m < length parts.old.items) }
+    ensures { OnOk result (IsPut parts.old.items rank entry parts.new.items) }
 {
     if let Some(rank) = rank {
-        networks[rank as usize].push(element)?;
+        parts[rank as usize].push(entry)?;
     }
     Ok(())
 }
 
-/// Puts a copy of each element into the network of its rank.
+/// Puts each entry into the part of its rank.
+fn split_entries(
+    alloc: Global,
+    entries: &[Entry],
+    ranks: &[Option<u32>],
+    count: usize,
+) -> Result<Vec<Part>, AllocError>
+    requires long { length ranks.now ≡ length entries.now }
+    requires within { (i m : ℕ) → slice_get ranks.now i ≡ Some (Some m) → m < count }
+    ensures { IfOk result (λ parts. (g : Picture)
+        → AreAllSplit (stand_for g entries.now) ranks.now count (map (stand_for g) parts.items)) }
+{
+    let sizes = sizes_of(alloc, ranks, count)?;
+    let mut parts = empty_parts(alloc, &sizes)?;
+    for k in 0..entries.len() {
+        put(&mut parts, ranks[k], entries[k])?;
+    }
+    Ok(parts)
+}
+
+/// The network of these entries, with copies of what the drawing has of its elements.
+fn network_of(alloc: Global, drawing: &Drawing, entries: &[Entry]) -> Result<Network, AllocError>
+    ensures { IfOk result (λ network. network ≡ stand_for drawing.now entries.now) }
+{
+    let mut network = Network::with_capacity(alloc, entries.len())?;
+    for entry in entries {
+        let element = entry_seen(drawing, *entry).copied(alloc)?;
+        network.push(element)?;
+    }
+    Ok(network)
+}
+
+/// The network of each part.
+fn networks_of(alloc: Global, drawing: &Drawing, parts: &[Part]) -> Result<Vec<Network>, AllocError>
+    ensures { IfOk result (λ networks. networks.items ≡ map (stand_for drawing.now) parts.now) }
+{
+    let mut networks = Vec::with_capacity(alloc, parts.len())?;
+    for part in parts {
+        networks.push(network_of(alloc, drawing, part.entries())?)?;
+    }
+    Ok(networks)
+}
+
+/// Puts a copy of each element into the network of its rank. Entries are split first, and then a network is written at once, since they are small.
 pub fn split(
     alloc: Global,
     elements: &Elements,
@@ -58,11 +104,7 @@ pub fn split(
     requires within { (i m : ℕ) → slice_get ranks.now i ≡ Some (Some m) → m < count }
     ensures { IfOk result (λ networks. AreAllSplit elements.now ranks.now count networks.items) }
 {
-    let sizes = sizes_of(alloc, ranks, count)?;
-    let mut networks = empty_networks(alloc, &sizes)?;
-    for k in 0..elements.len() {
-        let element = elements.at(k).copied(alloc)?;
-        put(&mut networks, ranks[k], element)?;
-    }
-    Ok(networks)
+    let (drawing, entries) = elements.parts();
+    let parts = split_entries(alloc, entries, ranks, count)?;
+    networks_of(alloc, drawing, &parts)
 }
