@@ -112,6 +112,35 @@ fn join_rows(rows: &mut [bool], first: usize, last: usize)
     }
 }
 
+/// Nothing leads to the row below this one, and all three from this one on are ON where this one or the third is.
+fn join_over(rows: &mut [bool], first: usize)
+    requires { first + 2 < length rows.old }
+    ensures { AreJoined first (first + 2) (slice_set rows.old (first + 1) false) rows.new }
+{
+    let upper = rows[first];
+    let lower = rows[first + 2];
+    let on = upper | lower;
+    rows[first] = on;
+    rows[first + 1] = on;
+    rows[first + 2] = on;
+}
+
+/// Nothing leads to this row, and where any of the rows from first to last is ON, all are.
+fn join_off(rows: &mut [bool], row: usize, first: usize, last: usize)
+    requires row { row < length rows.old }
+    requires last { last < length rows.old }
+    ensures { AreJoined first last (slice_set rows.old row false) rows.new }
+{
+    let above = row.saturating_sub(first);
+    let further = last.saturating_sub(first);
+    if above == 1 && further == 2 {
+        join_over(rows, first);
+    } else {
+        rows[row] = false;
+        join_rows(rows, first, last);
+    }
+}
+
 /// The row below this one takes its state.
 fn go_down(rows: &mut [bool], row: usize)
     requires { row + 1 < length rows.old }
@@ -379,8 +408,7 @@ fn obey(
         Step::Off(row) => rows[*row as usize] = false,
         Step::Upright(first, last) => join_rows(rows, *first as usize, *last as usize),
         Step::OffUpright(row, first, last) => {
-            rows[*row as usize] = false;
-            join_rows(rows, *first as usize, *last as usize)
+            join_off(rows, *row as usize, *first as usize, *last as usize)
         }
         Step::Down(row) => go_down(rows, *row as usize),
         Step::Up(row) => go_up(rows, *row as usize),
