@@ -126,14 +126,15 @@ fn join_over(rows: &mut [bool], first: usize)
 }
 
 /// Nothing leads to this row, and where any of the rows from first to last is ON, all are.
-fn join_off(rows: &mut [bool], row: usize, first: usize, last: usize)
+fn join_off(rows: &mut [bool], row: u8, first: u8, last: u8)
     requires row { row < length rows.old }
     requires last { last < length rows.old }
     ensures { AreJoined first last (slice_set rows.old row false) rows.new }
 {
-    let above = row.saturating_sub(first);
-    let further = last.saturating_sub(first);
-    if above == 1 && further == 2 {
+    let row = row as usize;
+    let first = first as usize;
+    let last = last as usize;
+    if row == first + 1 && last == first + 2 {
         join_over(rows, first);
     } else {
         rows[row] = false;
@@ -407,9 +408,7 @@ fn obey(
         Step::Rail(row) => rows[*row as usize] = true,
         Step::Off(row) => rows[*row as usize] = false,
         Step::Upright(first, last) => join_rows(rows, *first as usize, *last as usize),
-        Step::OffUpright(row, first, last) => {
-            join_off(rows, *row as usize, *first as usize, *last as usize)
-        }
+        Step::OffUpright(row, first, last) => { join_off(rows, *row, *first, *last) }
         Step::Down(row) => go_down(rows, *row as usize),
         Step::Up(row) => go_up(rows, *row as usize),
         Step::Contact(contact) => read_contact(contact, slots, rows, memories),
