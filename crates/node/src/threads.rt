@@ -59,7 +59,6 @@ fn run_in<'s, E, R: Threads + Wait + Sync, K: Keeper, G: Gate, P: OfPlant + Send
     inboxes: &'s [Receiver<Inbox>],
     workers: Vec<Worker<K>>,
     max_number: u32,
-    commands: &[Command],
     faults: &mut Vec<NodeFault>,
 ) -> Result<Vec<Ended>, RunFault>
 where
@@ -71,12 +70,10 @@ where
     ensures firsts { IfOk result (λ es. firsts_of_ended es.items ≡ firsts_of_workers workers.items) }
     ensures fault { IfErr result IsStartFault }
 {
-    let started = start_all(
-        scope, rt, alloc, desk, inboxes, workers, max_number, commands,
-    );
+    let started = start_all(scope, rt, alloc, desk, inboxes, workers, max_number);
     match started {
         Ok(handles) => {
-            issue_all(rt, &desk, commands, faults);
+            issue_all(rt, &desk, faults);
             stop_all(rt, desk.doors);
             match thread::join_promised(rt, handles) {
                 Ok(ended) => Ok(ended),
@@ -98,7 +95,6 @@ fn run_scoped<R: Threads + Wait + Sync, K: Keeper, G: Gate, P: OfPlant + Send + 
     inboxes: &[Receiver<Inbox>],
     workers: Vec<Worker<K>>,
     max_number: u32,
-    commands: &[Command],
     faults: &mut Vec<NodeFault>,
 ) -> Result<Vec<Ended>, RunFault>
     requires workers { All (IsWorkerFor desk.plant.now desk.firsts.now max_number) workers.items }
@@ -116,11 +112,7 @@ fn run_scoped<R: Threads + Wait + Sync, K: Keeper, G: Gate, P: OfPlant + Send + 
             ensures lawful { IfOk result (λ es. All (λ e. IsLawful desk.entry.plant.now desk.entry.firsts.now max_number e.journal) es.items) }
             ensures firsts { IfOk result (λ es. firsts_of_ended es.items ≡ firsts_of_workers workers.items) }
             ensures fault { IfErr result IsStartFault }
-        {
-            run_in(
-                scope, rt, alloc, desk, inboxes, workers, max_number, commands, faults,
-            )
-        },
+        { run_in(scope, rt, alloc, desk, inboxes, workers, max_number, faults) },
     )
 }
 
@@ -150,6 +142,7 @@ fn run_for<P: OfPlant + Send + Sync, R: Threads + Wait + Sync, K: Keeper, G: Gat
     let desk = Desk {
         plant: &**plant,
         firsts: firsts.as_slice(),
+        commands,
         book: &book,
         gate,
         doors: doors.as_slice(),
@@ -161,7 +154,6 @@ fn run_for<P: OfPlant + Send + Sync, R: Threads + Wait + Sync, K: Keeper, G: Gat
         inboxes.as_slice(),
         workers,
         max_number,
-        commands,
         &mut faults,
     )?;
     let journals = part(alloc, ended, &mut faults)?;

@@ -3,6 +3,7 @@ use crate::threads::inbox::Inbox;
 use crate::threads::of_plant::OfPlant;
 use crate::threads::plant_book::PlantBook;
 use crossbeam_channel::Sender;
+use node_reports::Command;
 use plant::Plant;
 use std::sync::Mutex;
 
@@ -12,6 +13,8 @@ pub(crate) struct Desk<'a, G: Gate, P: OfPlant> {
     pub plant: &'a Plant,
     /// Of each resource the first incarnation.
     pub firsts: &'a [u32],
+    /// All commands of the run. A thread is told the places of its own.
+    pub commands: &'a [Command],
     pub book: &'a Mutex<PlantBook<P>>,
     pub gate: &'a G,
     /// One for each resource, in order.

@@ -1,6 +1,5 @@
 use crate::threads::hello::Hello;
 use evaluation::Frame;
-use node_reports::Command;
 
 /// What comes to the thread of a resource.
 #[derive(Drop)]
@@ -9,8 +8,8 @@ pub(crate) enum Inbox {
     Frame(Frame),
     /// Another resource's incarnation.
     Hello(Hello),
-    /// What the resource is asked to do.
-    Command(Command),
+    /// What the resource is asked to do: the command at this place among those of the run.
+    Command(usize),
     /// Nothing else comes that counts.
     Stop,
 }

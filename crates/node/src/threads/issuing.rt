@@ -8,27 +8,25 @@ use node_reports::{Cause, Command, NodeFault};
 use std::sync::Wait;
 use std::thread;
 
-/// Sends a copy of a command to its resource. It answers whether that is done.
-fn send_command<R: Wait>(rt: &R, doors: &[Sender<Inbox>], command: &Command) -> bool {
-    let Some(door) = doors.get(command.resource) else {
-        return false;
-    };
-    match command.try_copy() {
-        Ok(copy) => door.send(rt, Inbox::Command(copy)).is_ok(),
-        Err(_) => false,
+/// Tells a resource the place of a command. It answers whether that is done.
+fn send_place<R: Wait>(rt: &R, doors: &[Sender<Inbox>], resource: usize, place: usize) -> bool {
+    match doors.get(resource) {
+        Some(door) => door.send(rt, Inbox::Command(place)).is_ok(),
+        None => false,
     }
 }
 
-/// Issues a command.
+/// Issues the command that stands at a place.
 fn issue<R: Wait, G: Gate, P: OfPlant>(
     rt: &R,
     desk: &Desk<'_, G, P>,
+    place: usize,
     command: &Command,
 ) -> Result<(), Cause> {
     if desk.gate.issue(command.ticket).is_err() {
         return Err(Cause::OutOfTurns);
     }
-    if send_command(rt, desk.doors, command) {
+    if send_place(rt, desk.doors, command.resource, place) {
         Ok(())
     } else {
         Err(Cause::NotSent)
@@ -39,11 +37,10 @@ fn issue<R: Wait, G: Gate, P: OfPlant>(
 pub(crate) fn issue_all<R: Wait, G: Gate, P: OfPlant>(
     rt: &R,
     desk: &Desk<'_, G, P>,
-    commands: &[Command],
     faults: &mut Vec<NodeFault>,
 ) {
-    for command in commands {
-        if let Err(cause) = issue(rt, desk, command) {
+    for (place, command) in desk.commands.iter().enumerate() {
+        if let Err(cause) = issue(rt, desk, place, command) {
             note(faults, command.resource, command.ticket, cause);
             if desk.gate.sent(command.resource, command.ticket).is_err() {
                 note(faults, command.resource, command.ticket, Cause::OutOfTurns);

@@ -36,8 +36,10 @@ pub(crate) fn serve<R: Wait, K: Keeper, G: Gate, P: OfPlant>(
         match inbox.recv(rt) {
             Ok(Inbox::Frame(frame)) => worker = worker.receive(frame),
             Ok(Inbox::Hello(hello)) => worker = hear(rt, &desk, worker, hello),
-            Ok(Inbox::Command(command)) => {
-                worker = answer(rt, alloc, &desk, worker, &mut faults, &command);
+            Ok(Inbox::Command(place)) => {
+                if let Some(command) = desk.commands.get(place) {
+                    worker = answer(rt, alloc, &desk, worker, &mut faults, command);
+                }
             }
             Ok(Inbox::Stop) | Err(_) => break,
         }

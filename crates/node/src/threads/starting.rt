@@ -82,7 +82,6 @@ pub(crate) fn start_all<
     inboxes: &'s [Receiver<Inbox>],
     workers: Vec<Worker<K>>,
     max_number: u32,
-    commands: &[Command],
 ) -> Result<Vec<PromisedHandle<Ended, LawfulFor<'s>>>, RunFault>
 where
     K: 's,
@@ -99,7 +98,7 @@ where
         let Some(inbox) = inboxes.get(resource) else {
             return Err(RunFault::Spawn);
         };
-        let faults = Vec::with_capacity(alloc, count_of(commands, resource))?;
+        let faults = Vec::with_capacity(alloc, count_of(desk.commands, resource))?;
         let handle = start_one(scope, rt, alloc, desk, inbox, worker, faults, max_number)?;
         let Ok(()) = handles.push(handle) else {
             return Err(RunFault::Memory);
