@@ -137,7 +137,7 @@ pub fn audit(alloc: Global, plant: Arc<Plant>, files: &[JournalFile]) -> Result<
     let unshown = all_unshown(alloc, followers.as_slice(), &book, without_start.as_slice())?;
     let without = all_without(alloc, followers.as_slice())?;
     let journals = journals_of(alloc, followers)?;
-    match agreed(alloc, &plant, u32::MAX, book.into_book(), journals) {
+    match agreed(&plant, u32::MAX, book.into_book(), journals) {
         Ok(PlantBook { book, journals }) => Ok(Audited {
             book,
             journals,

@@ -46,5 +46,7 @@ pub fn run_threads<R: Threads + Wait + Sync, K: Keeper, G: Gate>(
     } = run_all(rt, alloc, &plant, commands, keepers, gate, max_number)?;
     // The getter hands out that each entry fits those before it.
     let _entries = book.entries();
-    collect(alloc, &plant, max_number, commands, book, journals, faults)
+    collect(
+        rt, alloc, &plant, max_number, commands, book, journals, faults,
+    )
 }

@@ -13,3 +13,4 @@ pub mod Numbered
 pub mod Telling
 pub mod Hearing
 pub mod ByPlant
+pub mod Looking

@@ -1,11 +1,10 @@
 -- What is known where the book and the journals agree.
-use Rattle.std.proofs.Common.{◌≡◌, inl, inr, ℕ, ◌<◌, List, [], ◌∷◌, All, length, reverse, slice_get, sym, ap, ◌∙◌, subst}
+use Rattle.std.proofs.Common.{◌≡◌, inl, inr, ℕ, ◌<◌, List, [], ◌∷◌, All, Some, length, reverse, slice_get, sym, ap, ◌∙◌, subst}
 use Rattle.std.specs.List.{AllByRecursion}
 use Rattle.std.specs.Option.{option_map}
 use Rattle.std.proofs.lemmas.List.{length-map, reverse-reverse}
 use Rattle.std.proofs.lemmas.List.Elements.{All-from_recursion}
 use Rattle.std.proofs.lemmas.Option.{slice_get-map, slice_get_within}
-use Rattle.lists.proofs.Members.{all_from_places}
 use Rattle.plant.specs.PlantValue.{PlantValue, IsSoundPlant}
 use Rattle.evaluation.specs.Meaning.{Evaluated}
 use Rattle.book.specs.Book.{BookValue}
@@ -18,19 +17,18 @@ use Rattle.node_reports.specs.declared.node_fault.NodeFault.{NodeFault}
 use Rattle.node_reports.specs.declared.run_fault.RunFault.{RunFault}
 use Rattle.node_reports.specs.declared.run_fault.RunFault.TheVariants as run
 use Rattle.node_reports.specs.Journals.{made, firsts_of, openings_of, IsLawful}
-use Rattle.node_reports.specs.Reports.{entries_of, IsFittingBook, AreJournalsOf, RunsAgain, CanBeMadeAgain, Agree, IsAgreeFault, unanswered_of, IsCollectFault}
-use Rattle.node_reports.specs.Steps.Collecting.{AllBegin, HaveJournals, AllMade, IsToldFault}
+use Rattle.node_reports.specs.Reports.{entries_of, IsFittingBook, AreJournalsOf, AreInBook, RunsAgain, CanBeMadeAgain, Agree, IsAgreeFault, unanswered_of, IsCollectFault}
+use Rattle.node_reports.specs.Steps.Collecting.{AllBegin, IsToldFault}
 use Rattle.node_reports.proofs.Collecting.{firsts_are}
 use Rattle.node_reports.proofs.Remaking.{HasIncarnation, holds_at, each-reverse, could_be_made, runs_again}
 
 -- they agree where the checks find it
-pub agree_of : (plant : PlantValue) (book : BookValue) (journals : List Journal) → length journals ≡ length plant.resources → AllBegin book.first journals → AllMade book.entries journals → Agree plant book journals
-agree_of plant book journals many begin all_made = record {
+pub agree_of : (plant : PlantValue) (book : BookValue) (journals : List Journal) → length journals ≡ length plant.resources → AllBegin book.first journals → AreInBook book.entries journals → Agree plant book journals
+agree_of plant book journals many begin in_book = record {
   many = many;
   in_order = λ k j at. (begin.each k j at).resource_is;
   first_is = firsts_are book journals begin;
-  in_book = all_from_places (λ (j : Journal). made j.steps ≡ entries_of j.resource book.entries) journals
-      (λ k j at. subst (λ (r : ℕ). made j.steps ≡ entries_of r book.entries) (sym (begin.each k j at).resource_is) (all_made k j at));
+  in_book = in_book;
 }
 
 -- and the checks find it where they agree
@@ -43,7 +41,9 @@ begin_of plant book journals agree = record {
   };
 }
 
-pub made_of : (plant : PlantValue) (book : BookValue) (journals : List Journal) → Agree plant book journals → AllMade book.entries journals
+-- what each journal made are then the entries of the resource at its place
+pub made_of : (plant : PlantValue) (book : BookValue) (journals : List Journal) → Agree plant book journals
+    → (k : ℕ) (j : Journal) → slice_get journals k ≡ Some j → made j.steps ≡ entries_of k book.entries
 made_of plant book journals agree = λ k j at.
     subst (λ (r : ℕ). made j.steps ≡ entries_of r book.entries) (agree.in_order k j at)
     (holds_at (λ (i : Journal). made i.steps ≡ entries_of i.resource book.entries) journals k j (slice_get_within journals k j at) at agree.in_book)
@@ -52,6 +52,10 @@ made_of plant book journals agree = λ k j at.
 exist : (first : List ℕ) (older : List Evaluated) → AllFit first older → AllByRecursion (λ (x : Evaluated). x.name.task.resource < length first) older
 exist first [] fit = tt
 exist first (x ∷ older) fit = (fit.0.numbered.exists, exist first older fit.1)
+
+-- each entry is of a resource that has a journal
+abbrev pub HaveJournals : List Evaluated → List Journal → Type 0
+HaveJournals entries journals = All (λ (x : Evaluated). x.name.task.resource < length journals) entries
 
 pub have_journals : (first : List ℕ) (entries : List Evaluated) (journals : List Journal) → AllFit first (reverse entries) → length journals ≡ length first → HaveJournals entries journals
 have_journals first entries journals fit many =

@@ -3,3 +3,4 @@ pub mod Standing
 pub mod Stations
 pub mod Collecting
 pub mod Comparing
+pub mod Looking

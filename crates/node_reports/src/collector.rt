@@ -1,6 +1,9 @@
 mod agreeing;
 mod agreement;
+mod found;
 mod hearings;
+mod looked;
+mod looking;
 mod obedience;
 mod stops;
 mod told;
@@ -12,8 +15,8 @@ ghost use Rattle.node_reports.specs.Commands.{AreNumbered, AreForPlant};
 ghost use Rattle.node_reports.specs.Journals.{firsts_of, IsLawful};
 ghost use Rattle.node_reports.specs.Reports.{IsFittingBook, AreJournalsOf, AreInBook, AreAnswers, RunsAgain, CanBeMadeAgain, AreTold, AreByTicket, IsCollectFault};
 
-use crate::collector::hearings::have_heard_truly;
-use crate::collector::obedience::{all_commanded, all_rising, are_answers};
+use crate::collector::agreeing::agreed_if;
+use crate::collector::looking::find_out;
 use crate::collector::told::told_faults;
 use crate::collector::unanswered::unanswered_tickets;
 use crate::command::Command;
@@ -25,10 +28,12 @@ use crate::run_fault::RunFault;
 pub use agreeing::agreed;
 use plant::Plant;
 use std::alloc::Global;
+use std::thread::Threads;
 use world::Book;
 
-/// The report of what the threads did, if the book and the journals agree, and answer the commands.
-pub fn collect(
+/// The report of what the threads did, if the book and the journals agree, and answer the commands. Each journal is looked at in a thread of its own where one can be made.
+pub fn collect<R: Threads + Sync>(
+    rt: &R,
     alloc: Global,
     plant: &Plant,
     max_number: u32,
@@ -52,15 +57,9 @@ pub fn collect(
     ensures kept { IfOk result (λ r. (r.book ≡ book) × (r.journals ≡ journals.items)) }
     ensures fault { IfErr result (IsCollectFault plant.now commands.now book journals.items faults.items) }
 {
-    let PlantBook { book, journals } = agreed(alloc, plant, max_number, book, journals)?;
-    if !are_answers(commands, book.entries()) {
-        return Err(RunFault::Stranger);
-    }
-    if !all_commanded(commands, journals.as_slice()) {
-        return Err(RunFault::Stranger);
-    }
-    let heard = have_heard_truly(alloc, journals.as_slice(), book.entries())?;
-    if !heard {
+    let found = find_out(rt, alloc, plant, commands, &book, journals.as_slice())?;
+    let PlantBook { book, journals } = agreed_if(plant, max_number, book, journals, found.agree)?;
+    if !found.are_honest {
         return Err(RunFault::Stranger);
     }
     let unanswered = unanswered_tickets(alloc, commands, book.entries())?;
@@ -72,7 +71,7 @@ pub fn collect(
         unanswered.as_slice(),
         faults,
     )?;
-    if !all_rising(journals.as_slice()) {
+    if !found.are_rising {
         return Err(RunFault::Doubled);
     }
     Ok(Report {

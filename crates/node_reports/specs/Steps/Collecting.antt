@@ -5,6 +5,7 @@ use Rattle.std.specs.List.Sorted.{IsStrictlyIncreasing}
 use Rattle.plant.specs.PlantValue.{PlantValue}
 use Rattle.evaluation.specs.Meaning.{Evaluated}
 use Rattle.node_reports.specs.declared.command.Command.{Command}
+use Rattle.node_reports.specs.declared.step.Step.{Step}
 use Rattle.node_reports.specs.declared.journal.Journal.{Journal}
 use Rattle.node_reports.specs.declared.cause.Cause.TheVariants.{Stopped}
 use Rattle.node_reports.specs.declared.node_fault.NodeFault.{NodeFault}
@@ -24,36 +25,22 @@ pub record AllBegin (first : List ℕ) (journals : List Journal) : Type 0 where
   pub many : length journals ≡ length first
   pub each : (k : ℕ) (j : Journal) → slice_get journals k ≡ Some j → BeginsAt first k j
 
--- each entry is of a resource that has a journal
-abbrev pub HaveJournals : List Evaluated → List Journal → Type 0
-HaveJournals entries journals = All (λ (x : Evaluated). x.name.task.resource < length journals) entries
+-- the steps of a resource have come to a place: what they made are these entries of the resource,
+-- and then what they made from that place on
+abbrev pub HaveCome : List Evaluated → ℕ → List Step → ℕ → Type 0
+HaveCome entries resource steps at = made steps ≡ entries_of resource entries ++ made (drop at steps)
 
--- Each journal has come to a place: what it made are these entries of the resource at its place,
--- and then what it made from that place on.
-pub record HaveCome (entries : List Evaluated) (journals : List Journal) (at : List ℕ) : Type 0 where
-  pub many : length at ≡ length journals
-  pub each : (k : ℕ) (j : Journal) → slice_get journals k ≡ Some j
-      → made j.steps ≡ entries_of k entries ++ made (drop (slice_index_or at k 0) j.steps)
+-- the place has gone on by this entry, whichever entries the steps had come to before
+abbrev pub HasGoneOn : ℕ → List Step → ℕ → ℕ → Evaluated → Type 0
+HasGoneOn resource steps old new x =
+    (earlier : List Evaluated) → HaveCome earlier resource steps old → HaveCome (earlier ++ x ∷ []) resource steps new
 
--- what each journal made are, in order, the entries of the resource at its place
-abbrev pub AllMade : List Evaluated → List Journal → Type 0
-AllMade entries journals = (k : ℕ) (j : Journal) → slice_get journals k ≡ Some j → made j.steps ≡ entries_of k entries
-
--- the places have gone on by this entry, whichever entries the journals had come to before
-abbrev pub HaveGoneOn : List Journal → List ℕ → List ℕ → Evaluated → Type 0
-HaveGoneOn journals old new x =
-    (earlier : List Evaluated) → HaveCome earlier journals old → HaveCome (earlier ++ x ∷ []) journals new
-
--- the places can't go on by this entry: whichever entries the journals had come to before,
+-- the place can't go on by this entry: whichever entries the steps had come to before,
 -- they didn't make these, this one and any later ones
-abbrev pub CantGoOn : List Journal → List ℕ → Evaluated → Type 0
-CantGoOn journals at x =
-    (earlier later : List Evaluated) → HaveCome earlier journals at → ¬ (AllMade (earlier ++ x ∷ later) journals)
-
--- no journal made anything from its place on
-abbrev pub AreAtEnd : List Journal → List ℕ → Type 0
-AreAtEnd journals at =
-    (k : ℕ) (j : Journal) → slice_get journals k ≡ Some j → made (drop (slice_index_or at k 0) j.steps) ≡ []
+abbrev pub CantGoOn : ℕ → List Step → ℕ → Evaluated → Type 0
+CantGoOn resource steps at x =
+    (earlier later : List Evaluated) → HaveCome earlier resource steps at
+    → ¬ (made steps ≡ entries_of resource (earlier ++ x ∷ later))
 
 -- each place is marked where it was, or where the test passes for its ticket, which is one more than the place
 abbrev pub AreMarkedAlso : (ℕ → Bool) → List Bool → List Bool → Type 0

@@ -1,14 +1,14 @@
-ghost use Rattle.std.specs.Prelude.{◌≡◌, ◌↔◌, ◌+◌, ◌<◌, [], ◌∷◌, IsTrue, MatchOption, MatchBool, IfOk, List, All, drop, length};
+ghost use Rattle.std.specs.Prelude.{◌≡◌, ◌↔◌, [], ◌∷◌, IsTrue, MatchOption, List, All, drop, length};
 ghost use Rattle.evaluation.specs.Meaning.{Evaluated};
 ghost use Rattle.node_reports.specs.Journals.{made};
-ghost use Rattle.node_reports.specs.Steps.Collecting.{BeginsAt, AllBegin, HaveJournals, HaveCome, HaveGoneOn, CantGoOn, AreAtEnd, AllMade};
+ghost use Rattle.node_reports.specs.Reports.{entries_of, AreInBook};
+ghost use Rattle.node_reports.specs.Steps.Collecting.{BeginsAt, AllBegin, HasGoneOn, CantGoOn};
 ghost use Rattle.node_reports.specs.Steps.Comparing.{AreByCodeOf, MadeByCodeOf};
 
 use crate::comparing::are_equal;
 use crate::journal::Journal;
 use crate::step::Step;
 use evaluation::Frame;
-use std::alloc::{AllocError, Global};
 
 /// The next evaluation made, from a place on, after the place behind it.
 fn next_made(steps: &[Step], from: usize) -> Option<(usize, &Frame)>
@@ -41,64 +41,61 @@ fn behind(steps: &[Step], from: usize, entry: &Frame) -> Option<usize>
     }
 }
 
-/// Goes on in the journal of an entry's resource to the place behind that entry, if it is what that journal made next.
-fn advance(journals: &[Journal], at: &mut [usize], entry: &Frame) -> bool
-    requires journal { entry.now.name.task.resource < length journals.now }
-    requires many { length at.old ≡ length journals.now }
-    requires by_code { MadeByCodeOf journals.now entry.now }
-    ensures { MatchBool result (HaveGoneOn journals.now at.old at.new entry.now) (CantGoOn journals.now at.old entry.now) }
+/// The place to which the steps of a resource go on by an entry, if they can: behind the evaluation that they made next
+/// where the entry is of this resource, and where they are for any other one.
+fn advanced(steps: &[Step], from: usize, resource: usize, entry: &Frame) -> Option<usize>
+    requires { AreByCodeOf entry.now (made steps.now) }
+    ensures { MatchOption result (CantGoOn resource steps.now from entry.now)
+        (λ to. HasGoneOn resource steps.now from to entry.now) }
 {
-    let resource = entry.name().task.resource;
-    match behind(journals[resource].steps.as_slice(), at[resource], entry) {
-        Some(next) => {
-            at[resource] = next;
-            true
-        }
-        None => false,
+    if entry.name().task.resource != resource {
+        return Some(from);
     }
+    behind(steps, from, entry)
 }
 
-/// Whether no journal made anything from its place on.
-fn are_at_end(journals: &[Journal], at: &[usize]) -> bool
-    requires { length at.now ≡ length journals.now }
-    ensures { IsTrue result ↔ AreAtEnd journals.now at.now }
+/// Whether steps made nothing from a place on.
+fn is_at_end(steps: &[Step], at: usize) -> bool
+    ensures { IsTrue result ↔ (made (drop at steps.now) ≡ []) }
+{
+    next_made(steps, at).is_none()
+}
+
+/// Whether what the steps of a resource made are, in order, the entries of this resource. It goes through the entries,
+/// and the steps along with them.
+pub(crate) fn are_made(resource: usize, steps: &[Step], entries: &[Frame]) -> bool
+    requires { All (λ x. AreByCodeOf x (made steps.now)) entries.now }
+    ensures { IsTrue result ↔ (made steps.now ≡ entries_of resource entries.now) }
+{
+    let mut at = 0_usize;
+    for k in 0..entries.len() {
+        match advanced(steps, at, resource, &entries[k]) {
+            Some(next) => at = next,
+            None => return false,
+        }
+    }
+    is_at_end(steps, at)
+}
+
+/// Whether that holds of a journal.
+fn is_in_book(journal: &Journal, entries: &[Frame]) -> bool
+    requires { All (λ x. AreByCodeOf x (made journal.now.steps)) entries.now }
+    ensures { IsTrue result ↔ (made journal.now.steps ≡ entries_of journal.now.resource entries.now) }
+{
+    are_made(journal.resource, journal.steps.as_slice(), entries)
+}
+
+/// Whether what each journal made are, in order, the entries of its resource.
+pub(crate) fn all_made(entries: &[Frame], journals: &[Journal]) -> bool
+    requires { All (MadeByCodeOf journals.now) entries.now }
+    ensures { IsTrue result ↔ AreInBook entries.now journals.now }
 {
     for k in 0..journals.len() {
-        if next_made(journals[k].steps.as_slice(), at[k]).is_some() {
+        if !is_in_book(&journals[k], entries) {
             return false;
         }
     }
     true
-}
-
-/// Goes through the entries, and each journal along with them: whether what each made from its place on are, in order,
-/// the entries of the resource at its place.
-fn walk(journals: &[Journal], at: &mut [usize], entries: &[Frame]) -> bool
-    requires journals { HaveJournals entries.now journals.now }
-    requires many { length at.old ≡ length journals.now }
-    requires by_code { All (MadeByCodeOf journals.now) entries.now }
-    ensures { HaveCome [] journals.now at.old → (IsTrue result ↔ AllMade entries.now journals.now) }
-{
-    for k in 0..entries.len() {
-        if !advance(journals, at, &entries[k]) {
-            return false;
-        }
-    }
-    are_at_end(journals, at)
-}
-
-/// Whether what each journal made are, in order, the entries of the resource at its place.
-pub(crate) fn all_made(
-    alloc: Global,
-    entries: &[Frame],
-    journals: &[Journal],
-) -> Result<bool, AllocError>
-    requires journals { HaveJournals entries.now journals.now }
-    requires by_code { All (MadeByCodeOf journals.now) entries.now }
-    ensures { IfOk result (λ all. IsTrue all ↔ AllMade entries.now journals.now) }
-{
-    let mut at = vec![in alloc; 0_usize; journals.len()]?;
-    Ok(walk(journals, at.as_mut_slice(), entries))
 }
 
 /// Whether a journal is that of the resource at a place, and begins in this place's incarnation.

@@ -1,7 +1,7 @@
-ghost use Rattle.std.specs.Prelude.{◌≡◌, ◌↔◌, ◌++◌, IsTrue, IfOk, OnOk, All};
+ghost use Rattle.std.specs.Prelude.{◌≡◌, ◌↔◌, ◌++◌, IsTrue, IfOk, OnOk};
 ghost use Rattle.std.specs.List.{filter_map};
 ghost use Rattle.std.specs.Option.{option_to_list};
-ghost use Rattle.node_reports.specs.Reports.{restarted_in, incarnations_of, HasHeardTruly};
+ghost use Rattle.node_reports.specs.Reports.{restarted_in, incarnations_of};
 ghost use Rattle.node_reports.specs.Steps.Collecting.{IsAt, AreAt, AreIncarnationsOf};
 
 use crate::incarnations::Incarnations;
@@ -40,7 +40,10 @@ fn incarnations_of(alloc: Global, journal: &Journal) -> Result<Incarnations, All
 }
 
 /// For each journal, the incarnations in which its resource was.
-fn all_incarnations(alloc: Global, journals: &[Journal]) -> Result<Vec<Incarnations>, AllocError>
+pub(crate) fn all_incarnations(
+    alloc: Global,
+    journals: &[Journal],
+) -> Result<Vec<Incarnations>, AllocError>
     ensures { IfOk result (λ all. AreIncarnationsOf journals.now all.items) }
 {
     let mut all = Vec::with_capacity(alloc, journals.len())?;
@@ -72,33 +75,9 @@ fn are_at(all: &[Incarnations], heard: &[u32]) -> bool
     true
 }
 
-/// Whether that holds of what an entry has heard.
-fn is_true(all: &[Incarnations], entry: &Frame) -> bool
-    ensures { IsTrue result ↔ AreAt all.now entry.now.heard }
+/// Whether that holds of what an evaluation has heard.
+pub(crate) fn has_heard_at(all: &[Incarnations], frame: &Frame) -> bool
+    ensures { IsTrue result ↔ AreAt all.now frame.now.heard }
 {
-    are_at(all, entry.evaluation().heard())
-}
-
-/// Whether that holds of what each entry has heard.
-fn are_true(all: &[Incarnations], entries: &[Frame]) -> bool
-    ensures { IsTrue result ↔ All (λ x. AreAt all.now x.heard) entries.now }
-{
-    for k in 0..entries.len() {
-        if !is_true(all, &entries[k]) {
-            return false;
-        }
-    }
-    true
-}
-
-/// Whether each entry has heard of incarnations alone in which the resources were, as the journals tell.
-pub(crate) fn have_heard_truly(
-    alloc: Global,
-    journals: &[Journal],
-    entries: &[Frame],
-) -> Result<bool, AllocError>
-    ensures { IfOk result (λ truly. IsTrue truly ↔ All (HasHeardTruly journals.now) entries.now) }
-{
-    let all = all_incarnations(alloc, journals)?;
-    Ok(are_true(all.as_slice(), entries))
+    are_at(all, frame.evaluation().heard())
 }

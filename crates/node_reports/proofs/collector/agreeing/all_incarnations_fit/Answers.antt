@@ -1,5 +1,5 @@
 -- Those of one more entry fit.
-use Rattle.std.proofs.Common.{get_or, below_more, subst, refl, arith}
+use Rattle.std.proofs.Common.{get_or, below_more, subst, refl}
 use Rattle.std.proofs.lemmas.List.{get_or_read_under}
 use Rattle.node_reports.proofs.Remaking.{HasIncarnation}
 use Rattle.node_reports.proofs.collector.agreeing.all_incarnations_fit.Goals as goal
