@@ -16,6 +16,7 @@ mod posting;
 mod preparing;
 mod raised;
 mod restarting;
+mod room;
 mod serving;
 mod starting;
 mod worker;

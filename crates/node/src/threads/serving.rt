@@ -10,6 +10,7 @@ use crate::threads::inbox::Inbox;
 use crate::threads::noting::note;
 use crate::threads::of_plant::OfPlant;
 use crate::threads::posting::{greet, greet_back, post};
+use crate::threads::room::make_ready;
 use crate::threads::worker::Worker;
 use crossbeam_channel::Receiver;
 use keepers::Keeper;
@@ -30,6 +31,8 @@ pub(crate) fn serve<R: Wait, K: Keeper, G: Gate, P: OfPlant>(
     ensures lawful { IsLawful worker.plant worker.firsts worker.max_number result.journal }
     ensures first { result.journal.first ≡ worker.first }
 {
+    // There is room for one fault of each command.
+    make_ready(alloc, faults.capacity());
     let mut worker = worker;
     let mut faults = faults;
     for _ in rt.forever() {
