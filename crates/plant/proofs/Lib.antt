@@ -26,6 +26,7 @@ pub mod FaultySources
 pub mod FirstFailing
 pub mod OneWords
 pub mod MovedPlants
+mod NamesApart
 pub mod OnePlant
 pub mod OneTexts
 pub mod SmallCounts

@@ -8,6 +8,7 @@ pub mod Faultless
 pub mod SourceFaults
 pub mod PlantText
 pub mod Counts
+pub mod NamesApart
 pub mod Find
 pub mod Plan
 pub mod Steps

@@ -1,4 +1,5 @@
 ghost use Rattle.plant.specs.Counts.{CountsAreSmall};
+ghost use Rattle.plant.specs.NamesApart.{NamesAreApart};
 ghost use Rattle.plant.specs.PlantText.{OneTree, OnePlantOfTree, OnePlant};
 
 use crate::ladder_laws::program_has_one_ladder;
@@ -30,4 +31,9 @@ pub fn one_plant()
 /// A plant of a text has at most 16 resources, 64 instances and 4,096 connections, so its counts are numbers of 64 bits.
 pub fn counts_are_small()
     ensures { CountsAreSmall }
+{}
+
+/// The names of a plant that a text spells are plain, and tell its resources and the tasks of each apart.
+pub fn names_are_apart()
+    ensures { NamesAreApart }
 {}

@@ -5,5 +5,7 @@ pub mod ListTexts
 pub mod ValueTexts
 pub mod Lists
 pub mod Messages
+mod OneReading
+mod OneMessage
 pub mod Parts
 pub mod WordsRead

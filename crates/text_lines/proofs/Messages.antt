@@ -18,13 +18,13 @@ use Rattle.evaluation.specs.Messages.{MessageValue, message}
 use Rattle.text_lines.specs.MessageLines.{name_text, image_text, message_line, IsSmall, IsMessageOf}
 use Rattle.text_lines.specs.Steps.Reading.{StopsAt, IsRead, before_pair, pair_text, IsPair, IsHeardOf, all_heard_text, IsGivenOf, blank_give, blank_gives, AreGivesRead, IsFreelyRead}
 
-all_small : (rs : List ResourceValue) (ns : List ℕ) → length ns ≡ length rs → AllByRecursion IsSmall ns → AllZip IsHeardOf rs ns
+pub all_small : (rs : List ResourceValue) (ns : List ℕ) → length ns ≡ length rs → AllByRecursion IsSmall ns → AllZip IsHeardOf rs ns
 all_small [] [] e all = tt
 all_small [] (n ∷ ns) e all = absurd (omega (arith, e))
 all_small (r ∷ rs) [] e all = absurd (omega (arith, e))
 all_small (r ∷ rs) (n ∷ ns) e all = (all.0, all_small rs ns (omega (arith, e)) all.1)
 
-all_given : (os : List TaskOutput) (xs : List Value) → map kind_of xs ≡ map (λ (o : TaskOutput). o.kind) os → AllByRecursion IsInRange xs → AllZip IsGivenOf os xs
+pub all_given : (os : List TaskOutput) (xs : List Value) → map kind_of xs ≡ map (λ (o : TaskOutput). o.kind) os → AllByRecursion IsInRange xs → AllZip IsGivenOf os xs
 all_given [] [] e all = tt
 all_given [] (x ∷ xs) e all = absurd cc
 all_given (o ∷ os) [] e all = absurd cc
@@ -34,7 +34,7 @@ all_given (o ∷ os) (x ∷ xs) e all =
     ((first, all.0), all_given os xs others all.1)
 
 -- items parted by blanks, each behind its blank
-blanks : {A : Type 0} (g : A → List ℕ) (e : A) (es : List A) → codes " " ++ join_with_byte 32 (map g (e ∷ es)) ≡ flat_map (λ d. codes " " ++ g d) (e ∷ es)
+pub blanks : {A : Type 0} (g : A → List ℕ) (e : A) (es : List A) → codes " " ++ join_with_byte 32 (map g (e ∷ es)) ≡ flat_map (λ d. codes " " ++ g d) (e ∷ es)
 blanks g e [] = ap (λ l. 32 ∷ l) (sym (append-nil (g e)))
 blanks g e (d ∷ es) = ap (λ l. 32 ∷ (g e ++ l)) (blanks g d es)
 
@@ -55,7 +55,7 @@ gives_read code text rest found behind read =
     gives_last code code.outputs rest found read values all (append_cancel_left (codes " GIVES") rest (codes " " ++ gives_text code values) (sym behind ∙ is))
 
 -- the line of a message of a task with this code, part by part
-line_parted : (plant : PlantValue) (code : CodeValue) (m : MessageValue) → code_at plant m.name.task ≡ Some code
+pub line_parted : (plant : PlantValue) (code : CodeValue) (m : MessageValue) → code_at plant m.name.task ≡ Some code
     → message_line plant m
     ≡ before_pair plant m.name.task
     ++ (pair_text (m.name.incarnation, m.name.number) ++ ((codes " HEARD" ++ all_heard_text plant m.heard) ++ (codes " GIVES " ++ gives_text code m.image)))

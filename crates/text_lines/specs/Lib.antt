@@ -5,4 +5,5 @@ pub mod LineParts
 pub mod Lists
 pub mod ReadParts
 pub mod MessageLines
+pub mod OneMessage
 pub mod Steps
