@@ -24,7 +24,6 @@ pub mod Sourcing
 pub mod SameTrees
 pub mod FaultySources
 pub mod FirstFailing
-pub mod OneWords
 pub mod MovedPlants
 mod NamesApart
 pub mod OnePlant

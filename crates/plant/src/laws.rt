@@ -4,11 +4,13 @@ ghost use Rattle.plant.specs.PlantText.{OneTree, OnePlantOfTree, OnePlant};
 
 use crate::ladder_laws::program_has_one_ladder;
 use plant_grammar::{words_are_in_place, words_have_one_tree};
+use plant_text::one_words;
 
 /// Trees of at most 64 program types that a text spells say the same.
 pub fn one_tree()
     ensures { OneTree }
 {
+    one_words();
     words_are_in_place();
     words_have_one_tree();
 }

@@ -9,3 +9,4 @@ pub mod WordShapes
 pub mod WholeWords
 pub mod ReadWords
 pub mod BodyTexts
+pub mod OneWords

@@ -9,7 +9,7 @@ use Rattle.plant_text.specs.declared.lexer.Stage.TheVariants as stage
 use Rattle.plant_text.specs.Words.{word_of}
 use Rattle.plant_text.specs.Spelling.{Spells}
 use Rattle.plant_text.specs.Steps.Gaps.{behind_space, IsBehindGap}
-use Rattle.plant_text.specs.Steps.Lexing.{front_len, may_follow, stage_behind, is_due, is_section, AreInPlace}
+use Rattle.plant_text.specs.Steps.Lexing.{front_len, may_follow, stage_behind, is_due, is_section, AreInPlace, AreWordsInPlace}
 use Rattle.plant_text.proofs.FoundGaps.{shorter_behind_space, IsBehindGap-more, IsBehindGap-here}
 use Rattle.plant_text.proofs.BodyUnique.{one_rest, one_body}
 use Rattle.plant_text.proofs.WholeWords.{IsWordNext, IsBodyNext, next_of, spelled_follows, whole_cut, whole_behind, no_whole_here}
@@ -78,7 +78,7 @@ body_next text s n t u ts us b c =
 abbrev AreOnce : List Token → List Token → Type 0
 AreOnce ts us = (rest : List ℕ) (z : Stage) (m : ℕ) → Spells rest ts → AreInPlace z m ts → Spells rest us → AreInPlace z m us → ts ≡ us
 
-pub one_words : (text : List ℕ) (s : Stage) (n : ℕ) (ts us : List Token) → Spells text ts → AreInPlace s n ts → Spells text us → AreInPlace s n us → ts ≡ us
+one_words : (text : List ℕ) (s : Stage) (n : ℕ) (ts us : List Token) → Spells text ts → AreInPlace s n ts → Spells text us → AreInPlace s n us → ts ≡ us
 one_words text s n [] [] spelled placed spelled' placed' = refl
 one_words text s n [] (u ∷ us) spelled placed spelled' placed' = absurd (none_next text s n u us spelled placed spelled' placed')
 one_words text s n (t ∷ ts) [] spelled placed spelled' placed' = absurd (none_next text s n t ts spelled' placed' spelled placed)
@@ -107,3 +107,7 @@ one_words text s n (t ∷ ts) (u ∷ us) spelled placed spelled' placed' =
     by (inl w) (inr c) once = absurd (no_word_and_body text s n t u ts us w c)
     by (inr b) (inl v) once = absurd (no_word_and_body text s n u t us ts v b)
     by (inr b) (inr c) once = bodies_same b c once
+
+-- the words of a whole text
+pub words_once : (text : List ℕ) (ts us : List Token) → AreWordsInPlace ts → AreWordsInPlace us → Spells text ts → Spells text us → ts ≡ us
+words_once text ts us placed placed' spelled spelled' = one_words text stage.Outside 0 ts us spelled placed spelled' placed'
