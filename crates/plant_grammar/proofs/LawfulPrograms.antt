@@ -20,10 +20,10 @@ use Rattle.plant_grammar.specs.declared.grammar.tree.VarBlock.{VarBlock}
 use Rattle.plant_grammar.specs.declared.grammar.tree.Program.{Program}
 use Rattle.plant_grammar.specs.Grammar.{key_word, mark_word, section_words, type_word, name_words, list_words, lists_words, block_words, program_words}
 use Rattle.plant_grammar.specs.Names.{is_named, AreNamesApart}
-use Rattle.plant_grammar.specs.Lawful.{declared_as, list_variables, lists_variables, block_variables, IsTypeLawful, IsListLawful, IsBlockLawful, IsProgramLawful}
+use Rattle.plant_grammar.specs.Lawful.{declared_as, list_variables, lists_variables, block_variables, IsTypeLawful, IsListLawful, IsBlockLawful, IsProgramLawful, AreProgramsDeclared}
 use Rattle.plant_grammar.specs.Parts.{ProgramParts, program_parts}
 use Rattle.plant_grammar.specs.Steps.Lines.{IsNotNext, IsOneNext, IsNoneNext}
-use Rattle.plant_grammar.specs.Steps.ReadParts.{section_start, IsSectionWhole, AreVariables, AreProgramsDeclared, IsNew}
+use Rattle.plant_grammar.specs.Steps.ReadParts.{section_start, IsSectionWhole, AreVariables, IsNew}
 use Rattle.plant_grammar.specs.Steps.Refusing.{MayBeDeclared}
 use Rattle.plant_grammar.proofs.Apart.{list_any-map}
 use Rattle.plant_grammar.proofs.NewNames.{behind_others, list_parts}

@@ -16,3 +16,4 @@ pub mod LawfulPrograms
 pub mod LawfulResources
 pub mod LawfulTrees
 pub mod MissingWords
+pub mod PlacedSources

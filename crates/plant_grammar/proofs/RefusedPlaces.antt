@@ -27,8 +27,8 @@ use Rattle.plant_grammar.specs.Kinds.{input_kind_of}
 use Rattle.declared_names.specs.Kinds.{kind_of_space}
 use Rattle.plant_grammar.specs.Names.{is_named}
 use Rattle.plant_grammar.specs.Lawful.{list_variables, block_variables, variables, IsTypeLawful, task_of, use_of, uses_of}
-use Rattle.plant_grammar.specs.NameFaults.{IsOfName, Tells, TellsOfName, IsNameTaken, IsRefused, IsUnknown, IsAfter, IsAfterAll, IsAfterName, IsAfterType, name_and_comma, bind_and_comma, RefusesVariable, RefusesType, RefusesOneList, RefusesList, RefusesBlock, RefusesBlocks, RefusesProgramName, RefusesProgram, RefusesPrograms, RefusesTask, RefusesInput, RefusesAddress, RefusesOneBind, RefusesBind, RefusesTyped, RefusesBinds, RefusesInstanceName, RefusesInstance, RefusesItems, RefusesResourceName, RefusesResource, RefusesResources, RefusesConfiguration}
-use Rattle.plant_grammar.specs.Steps.Declaring.{RepeatsName, IsNameNext, MissesInput, BeginWith, RefusesItem}
+use Rattle.plant_grammar.specs.NameFaults.{IsOfName, Tells, TellsOfName, IsNameTaken, IsRefused, IsUnknown, IsAfter, IsAfterAll, IsAfterName, IsAfterType, name_and_comma, bind_and_comma, RefusesVariable, RefusesType, RefusesOneList, RefusesList, RefusesBlock, RefusesBlocks, RefusesProgramName, RefusesProgram, RefusesTask, RefusesInput, RefusesAddress, RefusesOneBind, RefusesBind, RefusesTyped, RefusesBinds, RefusesInstanceName, RefusesInstance, RefusesItems, RefusesResourceName, RefusesResource, RefusesResources, RefusesBehind}
+use Rattle.plant_grammar.specs.Steps.Declaring.{RepeatsName, IsNameNext, MissesInput, BeginWith, RefusesItem, RefusesFurtherProgram, RefusesPlantWords}
 use Rattle.plant_grammar.specs.Steps.ReadParts.{TallyValue, tally_with}
 use Rattle.plant_grammar.proofs.RefusedNames.{name_next, misused_next, name_repeated, begin_with, begin_after, begin_after_all, begin_after_name, begin_behind, names_and_commas, binds_and_commas}
 
@@ -128,9 +128,13 @@ in_program {R = R} k before n declared start now e none b =
     (begin_right (RefusesProgramName k before) (IsAfterName (RefusesBlocks k [])) (token.Name n ∷ now) (begin_after_name n (RefusesBlocks k []) (token.Name n ∷ now) now refl (subst (λ ds. BeginWith R (RefusesBlocks k ds) now) none b)))
 
 -- a program behind others
-pub program_refused : {R : List Token → Type 0} (k : GrammarFaultKind) (programs : List Program) (start now : List Token) → start ≡ flat_map program_words programs ++ now → BeginWith R (RefusesProgram k programs) now → BeginWith R (RefusesPrograms k) start
-unfolding RefusesPrograms
-program_refused k programs start now e b = begin_behind program_words (λ (ps : List Program) more. RefusesProgram k ps more) programs start now e b
+pub program_refused : {R : List Token → Type 0} (k : GrammarFaultKind) (programs : List Program) (start now : List Token) → start ≡ flat_map program_words programs ++ now → BeginWith R (RefusesProgram k programs) now → BeginWith R (RefusesFurtherProgram programs k) start
+program_refused k programs start now e b = begin_after_all (flat_map program_words programs) (RefusesProgram k programs) start now e b
+
+pub further_program : {R : List Token → Type 0} (k : GrammarFaultKind) (programs : List Program) (start : List Token) → BeginWith R (RefusesFurtherProgram programs k) start → BeginWith R (RefusesPlantWords programs k) start
+unfolding RefusesBehind
+further_program k programs start b =
+    begin_with (RefusesFurtherProgram programs k) (RefusesPlantWords programs k) start (λ front h. record { more = h.more; parts = h.parts; holds = inl h.holds }) b
 
 -- a task up to its name
 pub task_refused : {R : List Token → Type 0} (k : GrammarFaultKind) (before : List Item) (start now : List Token) (there : (t : Token) (rest : List Token) → now ≡ t ∷ rest → R rest) → start ≡ key_word key.Task ∷ now
@@ -286,9 +290,11 @@ resource_refused {R = R} k old tally programs rs start now e counted b =
 
 -- a configuration up to a name in one of its resources
 pub in_configuration : {R : List Token → Type 0} (k : GrammarFaultKind) (programs : List Program) (name : List ℕ) (tally : TallyValue) (start one two three : List Token) → start ≡ flat_map program_words programs ++ one → one ≡ key_word key.Configuration ∷ two → two ≡ token.Name name ∷ three
-    → tally ≡ record { instances = 0; binds = 0 } → BeginWith R (RefusesResources k tally.instances tally.binds programs) three → BeginWith R (RefusesConfiguration k) start
-unfolding RefusesConfiguration
+    → tally ≡ record { instances = 0; binds = 0 } → BeginWith R (RefusesResources k tally.instances tally.binds programs) three → BeginWith R (RefusesPlantWords programs k) start
+unfolding RefusesBehind
 in_configuration {R = R} k programs name tally start one two three h1 h2 h3 none b =
     let resources = RefusesResources k 0 0 programs in
-    begin_behind program_words (λ (ps : List Program) more. IsAfter (key_word key.Configuration) (IsAfterName (RefusesResources k 0 0 ps)) more) programs start one h1
-    (begin_after (key_word key.Configuration) (IsAfterName resources) one two h2 (begin_after_name name resources two three h3 (subst (λ (t : TallyValue). BeginWith R (RefusesResources k t.instances t.binds programs) three) none b)))
+    let inside = IsAfter (key_word key.Configuration) (IsAfterName resources) in
+    begin_after_all (flat_map program_words programs) (λ more. RefusesProgram k programs more ⊎ inside more) start one h1
+    (begin_right (RefusesProgram k programs) inside one
+    (begin_after (key_word key.Configuration) (IsAfterName resources) one two h2 (begin_after_name name resources two three h3 (subst (λ (t : TallyValue). BeginWith R (RefusesResources k t.instances t.binds programs) three) none b))))

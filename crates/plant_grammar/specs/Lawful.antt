@@ -70,6 +70,12 @@ pub record IsProgramLawful (p : Program) : Type 0 where
   pub few : length (variables p) ≤ 1000
   pub blocks_are : All IsBlockLawful p.blocks.items
 
+-- program types: at most 64, their names apart, and each lawful
+pub record AreProgramsDeclared (programs : List Program) : Type 0 where
+  pub few : length programs ≤ 64
+  pub apart : AreNamesApart (map (λ p. p.name) programs)
+  pub declared : All IsProgramLawful programs
+
 abbrev pub task_of : Item → List TaskLine
 task_of (item.Task t) = t ∷ []
 task_of (item.Use u) = []

@@ -2,6 +2,7 @@ pub mod Names
 pub mod Kinds
 pub mod Grammar
 pub mod Lawful
+pub mod SourceLines
 pub mod WellFormed
 pub mod Retained
 pub mod Parts

@@ -22,7 +22,7 @@ use Rattle.plant_grammar.specs.declared.grammar.tree.Bind.{Bind}
 use Rattle.plant_grammar.specs.declared.grammar.tree.Use.{Use}
 use Rattle.plant_grammar.specs.declared.grammar.tree.Item.{Item}
 use Rattle.plant_grammar.specs.declared.grammar.tree.Resource.{Resource}
-use Rattle.plant_grammar.specs.Grammar.{key_word, mark_word, section_words, name_words, list_words, block_words, program_words, bind_words, item_words, resource_words}
+use Rattle.plant_grammar.specs.Grammar.{key_word, mark_word, section_words, name_words, list_words, block_words, bind_words, item_words, resource_words}
 use Rattle.plant_grammar.specs.Kinds.{input_kind_of}
 use Rattle.declared_names.specs.Kinds.{kind_of_space}
 use Rattle.plant_grammar.specs.Names.{is_named}
@@ -155,11 +155,6 @@ RefusesProgram k before words =
     IsAfter (key_word key.Program)
     (λ more. RefusesProgramName k before more ⊎ IsAfterName (RefusesBlocks k []) more) words
 
--- programs up to a name refused
-unfoldable pub RefusesPrograms : GrammarFaultKind → List Token → Type 0
-RefusesPrograms k words =
-    IsAfterWhole program_words (λ (programs : List Program) more. RefusesProgram k programs more) words
-
 -- a task up to its name, if a task of these lines of its resource has it or 16 of them are tasks
 unfoldable pub RefusesTask : GrammarFaultKind → List Item → List Token → Type 0
 RefusesTask k before words =
@@ -254,9 +249,9 @@ RefusesResources k instances binds programs words =
     (λ (rs : List Resource) more. RefusesResource k (instances + length (flat_map uses_of rs))
     (binds + length (flat_map binds_of (flat_map uses_of rs))) programs rs more) words
 
--- programs, CONFIGURATION, its name, and the resources up to a word refused
-unfoldable pub RefusesConfiguration : GrammarFaultKind → List Token → Type 0
-RefusesConfiguration k words =
-    IsAfterWhole program_words
-    (λ (programs : List Program) more. IsAfter (key_word key.Configuration)
-    (IsAfterName (RefusesResources k 0 0 programs)) more) words
+-- behind these programs: a further one up to a word refused, or CONFIGURATION, its name, and the resources up to a word
+-- refused
+unfoldable pub RefusesBehind : GrammarFaultKind → List Program → List Token → Type 0
+RefusesBehind k programs words =
+    RefusesProgram k programs words
+    ⊎ IsAfter (key_word key.Configuration) (IsAfterName (RefusesResources k 0 0 programs)) words

@@ -12,8 +12,8 @@ pub use grammar::read_tree::read_tree;
 pub use grammar::reader::Reader;
 pub use grammar::retained_places::retained_places;
 pub use grammar::tree::{
-    Bind, Item, NameList, Order, Program, Resource, Section, SourceName, TaskLine, TypeName, Use,
-    VarBlock,
+    Bind, Item, NameList, Order, Program, Resource, Section, SourceLines, SourceName, TaskLine,
+    TypeName, Use, VarBlock,
 };
 pub use grammar_fault::{GrammarFault, GrammarFaultKind};
 pub use laws::{

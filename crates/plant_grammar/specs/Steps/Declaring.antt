@@ -19,11 +19,11 @@ use Rattle.plant_grammar.specs.declared.grammar.tree.Use.{Use}
 use Rattle.plant_grammar.specs.declared.grammar.tree.Item.{Item}
 use Rattle.plant_grammar.specs.declared.grammar.tree.Resource.{Resource}
 use Rattle.plant_text.specs.declared.token.Punctuation.TheVariants.{Open}
-use Rattle.plant_grammar.specs.Grammar.{mark_word, TextValue}
+use Rattle.plant_grammar.specs.Grammar.{mark_word, program_words, TextValue}
 use Rattle.plant_grammar.specs.Kinds.{input_kind_of}
 use Rattle.declared_names.specs.Kinds.{kind_of_space}
 use Rattle.plant_grammar.specs.Lawful.{IsTypeLawful, task_of, use_of}
-use Rattle.plant_grammar.specs.NameFaults.{IsOfName, Tells, TellsOfName, IsNameTaken, IsAfter, RefusesPrograms, RefusesTask, RefusesBind, RefusesInstance, RefusesItems, RefusesResource, RefusesResources, RefusesConfiguration}
+use Rattle.plant_grammar.specs.NameFaults.{IsOfName, Tells, TellsOfName, IsNameTaken, IsAfter, IsAfterAll, RefusesProgram, RefusesTask, RefusesBind, RefusesInstance, RefusesItems, RefusesResource, RefusesResources, RefusesBehind}
 use Rattle.plant_grammar.specs.Steps.Lines.{ReaderValue, HasLinesOf, next_line}
 use Rattle.plant_grammar.specs.Steps.ReadParts.{TallyValue}
 use Rattle.plant_grammar.specs.Steps.Reading.{programs_of}
@@ -173,6 +173,10 @@ RefusesFurtherResources t programs k words = RefusesResources k t.instances t.bi
 abbrev pub RefusesInParentheses : ℕ → List Declaration → GrammarFaultKind → List Token → Type 0
 RefusesInParentheses binds ds k words = IsAfter (mark_word Open) (RefusesBind k binds ds) words
 
--- words of a plant up to a name refused
-abbrev pub RefusesPlantWords : GrammarFaultKind → List Token → Type 0
-RefusesPlantWords k words = RefusesPrograms k words ⊎ RefusesConfiguration k words
+-- these programs, and a further one up to a word refused
+abbrev pub RefusesFurtherProgram : List Program → GrammarFaultKind → List Token → Type 0
+RefusesFurtherProgram programs k words = IsAfterAll (flat_map program_words programs) (RefusesProgram k programs) words
+
+-- these programs, and words of a plant behind them up to a word refused
+abbrev pub RefusesPlantWords : List Program → GrammarFaultKind → List Token → Type 0
+RefusesPlantWords programs k words = IsAfterAll (flat_map program_words programs) (RefusesBehind k programs) words

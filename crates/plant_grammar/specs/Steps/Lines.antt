@@ -1,8 +1,9 @@
 -- What is left to be read of a plant's words, and the fault of the next one.
-use Rattle.std.specs.Prelude.{◌≡◌, ◌++◌, ℕ, List, [], ◌∷◌, length, map, Option, MatchOption}
+use Rattle.std.specs.Prelude.{◌≡◌, ◌++◌, ℕ, List, [], ◌∷◌, length, map, slice_index_or, Option, MatchOption}
 use Rattle.std.specs.Borrow.{Bor}
 use Rattle.plant_text.specs.declared.token.Token.{Token}
 use Rattle.plant_text.specs.Lines.{WordValue, body_line, body_lines}
+use Rattle.plant_grammar.specs.declared.grammar.tree.SourceLines.{SourceLines}
 use Rattle.plant_grammar.specs.declared.grammar_fault.GrammarFault.{GrammarFault}
 use Rattle.plant_grammar.specs.declared.grammar_fault.GrammarFaultKind.TheVariants.{Syntax}
 
@@ -29,6 +30,15 @@ next_line r = of_lines r.lines where
 -- the fault of a next word that the grammar doesn't have there
 abbrev pub syntax_at : ReaderValue → GrammarFault
 syntax_at r = record { kind = Syntax; line = next_line r }
+
+-- the first, third and fifth of these lines
+abbrev pub source_parts : List ℕ → SourceLines
+source_parts lines =
+    record {
+      resource = slice_index_or lines 0 0;
+      instance = slice_index_or lines 2 0;
+      output = slice_index_or lines 4 0;
+    }
 
 -- Each word that is left has its line, and these lines are the last of all.
 pub record HasLinesOf (all : List ℕ) (r : ReaderValue) : Type 0 where

@@ -1,5 +1,5 @@
 -- What is known of the parts of a plant's text while it is read.
-use Rattle.std.specs.Prelude.{◌≡◌, ℕ, ◌+◌, ◌<◌, ◌≤◌, ◌++◌, ◌∷◌, Bool, true, false, List, [], length, map, take, slice_get, Option, None, Some, MatchOption, All}
+use Rattle.std.specs.Prelude.{◌≡◌, ℕ, ◌+◌, ◌<◌, ◌≤◌, ◌++◌, ◌∷◌, Bool, true, false, List, [], length, map, take, slice_get, Option, None, Some, MatchOption, IsTrue, All, Any}
 use Rattle.declared_names.specs.Names.{place_of}
 use Rattle.std.specs.List.{flat_map}
 use Rattle.std.specs.Global.{Vec}
@@ -20,10 +20,13 @@ use Rattle.plant_text.specs.declared.token.Punctuation.TheVariants.{Close}
 use Rattle.plant_grammar.specs.declared.grammar.tree.Section.{Section}
 use Rattle.plant_grammar.specs.declared.grammar.tree.Section.TheVariants as section
 use Rattle.plant_grammar.specs.Grammar.{Tree, TextValue, key_word, mark_word, with_commas, binds_listed}
-use Rattle.plant_grammar.specs.Names.{AreNamesApart}
+use Rattle.plant_grammar.specs.Names.{is_named, AreNamesApart}
 use Rattle.plant_grammar.specs.NameFaults.{IsNameTaken}
-use Rattle.plant_grammar.specs.Lawful.{task_of, use_of, binds_of, IsProgramLawful, IsUseLawful, IsResourceLawful}
-use Rattle.plant_grammar.specs.Steps.Lines.{IsNotNext}
+use Rattle.plant_grammar.specs.Lawful.{task_of, use_of, binds_of, IsUseLawful, IsResourceLawful}
+use Rattle.plant_grammar.specs.declared.grammar.tree.SourceName.{SourceName}
+use Rattle.plant_grammar.specs.declared.grammar.tree.SourceLines.{SourceLines}
+use Rattle.plant_grammar.specs.SourceLines.{IsSourceOn, AreBindsOn}
+use Rattle.plant_grammar.specs.Steps.Lines.{ReaderValue, HasLinesOf, IsNotNext}
 use Rattle.plant_grammar.specs.Steps.Reading.{programs_of}
 
 -- the word that a block of a section begins with
@@ -74,12 +77,6 @@ pub record AreVariables (variables : List Declaration) : Type 0 where
   pub apart : AreNamesApart (map (λ v. v.name) variables)
   pub few : length variables ≤ 1000
 
--- program types: at most 64, their names apart, and each lawful
-pub record AreProgramsDeclared (programs : List Program) : Type 0 where
-  pub few : length programs ≤ 64
-  pub apart : AreNamesApart (map (λ p. p.name) programs)
-  pub declared : All IsProgramLawful programs
-
 -- nothing in the list has this name
 abbrev pub IsNew : {A : Type 0} → (A → List ℕ) → List A → List ℕ → Type 0
 IsNew name_of xs name = IsNameTaken name_of xs name → ⊥
@@ -87,6 +84,10 @@ IsNew name_of xs name = IsNameTaken name_of xs name → ⊥
 abbrev pub is_task_line : Item → Bool
 is_task_line (item.Task t) = true
 is_task_line (item.Use u) = false
+
+-- the line is a program instance of the name
+unfoldable pub NamesInstance : List ℕ → Item → Type 0
+NamesInstance name x = Any (λ u. IsTrue (is_named name u.instance)) (use_of x)
 
 -- a task or an instance that may follow these
 abbrev pub MayFollow : Tree → List Item → Item → Type 0
@@ -114,3 +115,12 @@ abbrev pub FindsInput : List Declaration → List ℕ → Option (ℕ × Kind) �
 FindsInput ds name found =
     MatchOption found (input_kind_of ds name ≡ None)
     (λ x. (place_of ds name ≡ Some x.0) × (input_kind_at ds x.0 ≡ Some x.1))
+
+-- Of this source, before the rest of what is left to be read, the lines were kept behind the others.
+abbrev pub KeepsLinesOf : ReaderValue → SourceName → List Token → List SourceLines → List SourceLines → Type 0
+KeepsLinesOf r s rest old new =
+    (l : SourceLines) × (new ≡ old ++ l ∷ []) × ((all : List ℕ) → HasLinesOf all r → IsSourceOn all s rest l)
+
+-- of these binds, before the rest of what is left to be read, these lines were kept
+abbrev pub AreKeptLines : ReaderValue → List Bind → List Token → List SourceLines → Type 0
+AreKeptLines r bs rest ls = (all : List ℕ) → HasLinesOf all r → AreBindsOn all bs ls rest

@@ -7,7 +7,7 @@ ghost use Rattle.std.specs.List.{flat_map, find};
 ghost use Rattle.std.specs.Option.{option_map};
 ghost use Rattle.plant_grammar.specs.NameFaults.{TellsOfName};
 ghost use Rattle.plant_grammar.specs.Kinds.{input_kind_of};
-ghost use Rattle.plant_grammar.specs.Steps.ReadParts.{is_task_line};
+ghost use Rattle.plant_grammar.specs.Steps.ReadParts.{is_task_line, NamesInstance};
 ghost use Rattle.plant_grammar.specs.Steps.Reading.{programs_of};
 ghost use Rattle.plant_grammar.specs.Names.{is_named};
 ghost use Rattle.plant_grammar.specs.Lawful.{variables, task_of, use_of};
@@ -97,8 +97,9 @@ fn names_task(item: &Item, name: &Name) -> bool
 }
 
 /// Whether the line is a program instance of the name.
+#[tactic(auto, unfolding(crate::specs::Steps::ReadParts::NamesInstance))]
 fn names_instance(item: &Item, name: &Name) -> bool
-    ensures { IsTrue result ↔ Any (λ u. IsTrue (is_named name.now u.instance)) (use_of item.now) }
+    ensures { IsTrue result ↔ NamesInstance name.now item.now }
 {
     match item {
         Item::Task(_) => false,

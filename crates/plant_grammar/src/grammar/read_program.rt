@@ -16,12 +16,12 @@ ghost use Rattle.plant_text.specs.declared.token.Keyword.TheVariants as key;
 ghost use Rattle.plant_text.specs.declared.token.Punctuation.TheVariants.{Colon, Semicolon};
 ghost use Rattle.plant_grammar.specs.Steps.Refusing.{MayBeDeclared};
 ghost use Rattle.plant_grammar.specs.Grammar.{key_word, mark_word, section_words, kind_word, type_word, name_words, list_words, lists_words, block_words, program_words};
-ghost use Rattle.plant_grammar.specs.Lawful.{list_variables, lists_variables, block_variables, IsTypeLawful, IsListLawful, IsBlockLawful, IsProgramLawful};
+ghost use Rattle.plant_grammar.specs.Lawful.{list_variables, lists_variables, block_variables, IsTypeLawful, IsListLawful, IsBlockLawful, IsProgramLawful, AreProgramsDeclared};
 ghost use Rattle.plant_grammar.specs.WellFormed.{HasNames, IsBlockWellFormed, IsProgramWellFormed};
-ghost use Rattle.plant_grammar.specs.NameFaults.{TellsOfName, RefusesVariable, RefusesOneList, RefusesList, RefusesBlock, RefusesBlocks, RefusesProgram, RefusesPrograms};
-ghost use Rattle.plant_grammar.specs.Steps.Declaring.{TellsOfType, TellsOfVariable, TellsOfBlock, BeginRefused, BeginRefusedBehind, IsAtNext};
+ghost use Rattle.plant_grammar.specs.NameFaults.{TellsOfName, RefusesVariable, RefusesOneList, RefusesList, RefusesBlock, RefusesBlocks, RefusesProgram};
+ghost use Rattle.plant_grammar.specs.Steps.Declaring.{TellsOfType, TellsOfVariable, TellsOfBlock, BeginRefused, BeginRefusedBehind, IsAtNext, RefusesFurtherProgram};
 ghost use Rattle.plant_grammar.specs.Steps.Lines.{next_line, KeepsLines, IsNotNext, IsOneNext, IsNoneNext};
-ghost use Rattle.plant_grammar.specs.Steps.ReadParts.{section_start, IsSectionWhole, IsNew, AreVariables, AreProgramsDeclared};
+ghost use Rattle.plant_grammar.specs.Steps.ReadParts.{section_start, IsSectionWhole, IsNew, AreVariables};
 ghost use Rattle.plant_grammar.specs.Steps.Reading.{programs_of, all_words, AreSameWords, AreSameLines, BeginWithWordsOf, BeginWithLinesOf};
 
 use crate::grammar::known_names::{check_new, is_program};
@@ -360,7 +360,7 @@ impl<'a> Reader<'a> {
         ensures declared { AreProgramsDeclared (programs_of texts.new.items) }
         ensures none { OnOk result (IsNotNext (key_word key.Program) self.new.words) }
         ensures other { IfErr result (λ e. e.kind ≢ Memory → (ps : List Program) (rest : List Token) → all_words texts.old.items self.old.words ≡ flat_map program_words ps ++ rest → IsNotNext (key_word key.Program) rest → AreProgramsDeclared ps → ⊥) }
-        ensures names { IfErr result (BeginRefusedBehind RefusesPrograms self.old (all_words texts.old.items self.old.words)) }
+        ensures names { IfErr result (BeginRefusedBehind (RefusesFurtherProgram (programs_of texts.new.items)) self.old (all_words texts.old.items self.old.words)) }
         ensures syntax { IfErr result (λ e. e.kind ≡ Syntax → (ps : List Program) (rest : List Token) → all_words texts.old.items self.old.words ≡ flat_map program_words ps ++ rest → IsNotNext (key_word key.Program) rest → All IsProgramWellFormed ps → ⊥) }
         ensures value { IfErr result IsGrammarFault }
     {

@@ -16,16 +16,17 @@ ghost use Rattle.plant_grammar.specs.declared.grammar.tree.Resource.{Resource};
 ghost use Rattle.plant_grammar.specs.declared.grammar.tree.SourceName.{SourceName};
 ghost use Rattle.plant_grammar.specs.declared.grammar.tree.SourceName.TheVariants as source;
 ghost use Rattle.plant_grammar.specs.declared.grammar_fault.GrammarFaultKind.TheVariants.{Memory, Syntax};
-ghost use Rattle.plant_text.specs.declared.token.Keyword.TheVariants.{Program, With};
-ghost use Rattle.plant_text.specs.declared.token.Punctuation.TheVariants.{Colon, Semicolon};
+ghost use Rattle.plant_text.specs.declared.token.Keyword.TheVariants.{Program, With, EndResource};
+ghost use Rattle.plant_text.specs.declared.token.Punctuation.TheVariants.{Colon, Semicolon, Close};
 ghost use Rattle.plant_grammar.specs.Grammar.{key_word, mark_word, interval_words, priority_words, settings, task_words, source_words, bind_words, binds_words, binds_listed, use_words, item_words, items_words, resource_words, resources_words};
 ghost use Rattle.plant_grammar.specs.Names.{is_named, AreNamesApart};
 ghost use Rattle.plant_grammar.specs.Lawful.{variables, task_of, use_of, uses_of, IsUseLawful, IsResourceLawful};
+ghost use Rattle.plant_grammar.specs.SourceLines.{IsUseOn, IsItemOn, EachBefore, IsResourceOn, AreSourcesOn};
 ghost use Rattle.plant_grammar.specs.WellFormed.{AreIntervalsPositive, IsResourceWellFormed};
-ghost use Rattle.plant_grammar.specs.Steps.Lines.{KeepsLines, IsNoneNext};
+ghost use Rattle.plant_grammar.specs.Steps.Lines.{HasLinesOf, KeepsLines, IsNoneNext};
 ghost use Rattle.plant_grammar.specs.NameFaults.{TellsOfName, IsUnknown, IsAfter, RefusesTask, RefusesOneBind, RefusesBind};
 ghost use Rattle.plant_grammar.specs.Steps.Declaring.{TellsOfTask, TellsOfInstance, TellsOfMissing, TellsOfInput, TellsOfAddress, TellsOfResource, BeginRefused, IsAtNext, RefusesFurtherInstance, RefusesItem, RefusesFurtherItems, RefusesFurtherResource, RefusesFurtherResources, RefusesInParentheses};
-ghost use Rattle.plant_grammar.specs.Steps.ReadParts.{types_alone, with_instance, with_binds, tally_with, EndWithBinds, bound_in, IsNew, MayFollow, AreItemsLawful, AreResourcesLawful};
+ghost use Rattle.plant_grammar.specs.Steps.ReadParts.{types_alone, with_instance, with_binds, tally_with, EndWithBinds, bound_in, IsNew, MayFollow, AreItemsLawful, AreResourcesLawful, KeepsLinesOf, AreKeptLines};
 ghost use Rattle.plant_grammar.specs.Steps.Reading.{programs_of};
 ghost use Rattle.plant_grammar.specs.Steps.Refusing.{HasRoomFor, AreTypesApart};
 ghost use Rattle.plant_grammar.specs.Kinds.{input_kind_of, HasFieldKind, IsOfInputKind};
@@ -40,7 +41,7 @@ use crate::grammar::name::Name;
 use crate::grammar::program_text::ProgramText;
 use crate::grammar::reader::Reader;
 use crate::grammar::tally::Tally;
-use crate::grammar::tree::{Bind, Item, Order, Resource, SourceName, TaskLine, Use};
+use crate::grammar::tree::{Bind, Item, Order, Resource, SourceLines, SourceName, TaskLine, Use};
 use crate::grammar_fault::{GrammarFault, GrammarFaultKind};
 use declared_names::{Kind, kind_of_space};
 use plant_text::{Keyword, Punctuation};
@@ -253,19 +254,21 @@ impl<'a> Reader<'a> {
         Ok((input, kind))
     }
 
-    /// A bind of an instance of a type, behind these.
-    #[tactic(auto, using(crate::proofs::RefusedNames::no_name), unfolding(crate::specs::Grammar::bind_words))]
+    /// A bind of an instance of a type, behind these. The lines of its source are added to `lines`.
+    #[tactic(auto, using(crate::proofs::RefusedNames::no_name, crate::proofs::RefusedNames::memory_no_name, crate::proofs::MissingWords::memory_no_syntax), unfolding(crate::specs::Grammar::bind_words))]
     fn bind(
         &mut self,
         alloc: Global,
         program: &ProgramText,
         before: &[Bind],
         tally: &mut Tally,
+        lines: &mut Vec<SourceLines>,
     ) -> Result<Bind, GrammarFault>
         ensures ok { IfOk result (λ b. self.old.words ≡ bind_words b ++ self.new.words) }
         ensures left { OnOk result (KeepsLines self.old self.new) }
         ensures new { IfOk result (λ b. IsNew (λ b. b.input) before.now b.input) }
         ensures kind { IfOk result (IsOfInputKind (variables program.now.program)) }
+        ensures lined { IfOk result (λ b. KeepsLinesOf self.old b.source self.new.words lines.old.items lines.new.items) }
         ensures tally { OnOk result (tally.new ≡ with_binds tally.old 1) }
         ensures other { IfErr result (λ e. e.kind ≢ Memory → (b : Bind) (rest : List Token) → self.old.words ≡ bind_words b ++ rest → IsOfInputKind (variables program.now.program) b → IsNew (λ b. b.input) before.now b.input → tally.old.binds < 4096 → ⊥) }
         ensures names { IfErr result (BeginRefused (RefusesOneBind tally.old.binds (variables program.now.program) before.now) self.old) }
@@ -274,22 +277,27 @@ impl<'a> Reader<'a> {
     {
         let (input, kind) = self.bound_input(alloc, program, before, tally)?;
         self.punctuation(Punctuation::Assign)?;
+        let parts = self.source_lines();
         let source = self.source(alloc, kind)?;
+        lines.push(parts)?;
         Ok(Bind { input, source })
     }
 
-    /// The binds of an instance of a type, up to the parenthesis that closes them.
+    /// The binds of an instance of a type, up to the parenthesis that closes them. The lines of their sources are left in `lines`.
     #[tactic(auto, using(crate::proofs::RefusedNames::no_name, crate::proofs::RefusedNames::memory_no_name, crate::proofs::MissingWords::memory_no_syntax))]
     fn binds(
         &mut self,
         alloc: Global,
         program: &ProgramText,
         tally: &mut Tally,
+        lines: &mut Vec<SourceLines>,
     ) -> Result<Vec<Bind>, GrammarFault>
+        requires { lines.old.items ≡ [] }
         ensures ok { IfOk result (λ binds. EndWithBinds binds.items self.old.words self.new.words) }
         ensures left { OnOk result (KeepsLines self.old self.new) }
         ensures apart { IfOk result (λ binds. AreNamesApart (map (λ b. b.input) binds.items)) }
         ensures kinds { IfOk result (λ binds. All (IsOfInputKind (variables program.now.program)) binds.items) }
+        ensures lined { IfOk result (λ binds. AreKeptLines self.old binds.items (mark_word Close ∷ self.new.words) lines.new.items) }
         ensures tally { IfOk result (λ binds. tally.new ≡ with_binds tally.old (length binds.items)) }
         ensures other { IfErr result (λ e. e.kind ≢ Memory → (bs : List Bind) (rest : List Token) → EndWithBinds bs self.old.words rest → AreNamesApart (map (λ b. b.input) bs) → All (IsOfInputKind (variables program.now.program)) bs → tally.old.binds + length bs ≤ 4096 → ⊥) }
         ensures names { IfErr result (BeginRefused (λ k. RefusesBind k tally.old.binds (variables program.now.program)) self.old) }
@@ -298,28 +306,31 @@ impl<'a> Reader<'a> {
     {
         let mut binds = Vec::new(alloc);
         if !self.sees_punctuation(Punctuation::Close) {
-            binds.push(self.bind(alloc, program, &binds, tally)?)?;
+            binds.push(self.bind(alloc, program, &binds, tally, lines)?)?;
             'binds: while self.sees_punctuation(Punctuation::Comma) {
                 self.punctuation(Punctuation::Comma)?;
-                binds.push(self.bind(alloc, program, &binds, tally)?)?;
+                binds.push(self.bind(alloc, program, &binds, tally, lines)?)?;
             }
         }
         self.punctuation(Punctuation::Close)?;
         Ok(binds)
     }
 
-    /// The binds of an instance of a type. There may be no parentheses.
+    /// The binds of an instance of a type. There may be no parentheses. The lines of their sources are left in `lines`.
     #[tactic(auto, using(crate::proofs::RefusedNames::no_name, crate::proofs::RefusedNames::memory_no_name, crate::proofs::MissingWords::memory_no_syntax))]
     fn some_binds(
         &mut self,
         alloc: Global,
         program: &ProgramText,
         tally: &mut Tally,
+        lines: &mut Vec<SourceLines>,
     ) -> Result<Option<Vec<Bind>>, GrammarFault>
+        requires { lines.old.items ≡ [] }
         ensures ok { IfOk result (λ binds. self.old.words ≡ binds_words (binds_listed binds) ++ self.new.words) }
         ensures left { OnOk result (KeepsLines self.old self.new) }
         ensures apart { IfOk result (λ binds. AreNamesApart (map (λ b. b.input) (bound_in binds))) }
         ensures kinds { IfOk result (λ binds. All (IsOfInputKind (variables program.now.program)) (bound_in binds)) }
+        ensures lined { IfOk result (λ binds. AreKeptLines self.old (bound_in binds) (mark_word Close ∷ self.new.words) lines.new.items) }
         ensures tally { IfOk result (λ binds. tally.new ≡ with_binds tally.old (length (bound_in binds))) }
         ensures other { IfErr result (λ e. e.kind ≢ Memory → (bs : Option (List Bind)) (rest : List Token) → self.old.words ≡ binds_words bs ++ mark_word Semicolon ∷ rest → AreNamesApart (map (λ b. b.input) (items_or_none bs)) → All (IsOfInputKind (variables program.now.program)) (items_or_none bs) → tally.old.binds + length (items_or_none bs) ≤ 4096 → ⊥) }
         ensures only { OnOk result ((bs : Option (List Bind)) (rest : List Token) → self.old.words ≡ binds_words bs ++ mark_word Semicolon ∷ rest → self.new.words ≡ mark_word Semicolon ∷ rest) }
@@ -329,7 +340,7 @@ impl<'a> Reader<'a> {
     {
         if self.sees_punctuation(Punctuation::Open) {
             self.punctuation(Punctuation::Open)?;
-            Ok(Some(self.binds(alloc, program, tally)?))
+            Ok(Some(self.binds(alloc, program, tally, lines)?))
         } else {
             Ok(None)
         }
@@ -454,6 +465,7 @@ impl<'a> Reader<'a> {
         ensures left { OnOk result (KeepsLines self.old self.new) }
         ensures new { IfOk result (λ u. IsNew (λ u. u.instance) (flat_map use_of before.now) u.instance) }
         ensures lawful { IfOk result (λ u. IsUseLawful (types_alone types.now) before.now u) }
+        ensures lined { IfOk result (λ u. (all : List ℕ) → HasLinesOf all self.old → IsUseOn all u self.new.words) }
         ensures tally { IfOk result (λ u. tally.new ≡ tally_with tally.old (u ∷ [])) }
         ensures other { IfErr result (λ e. e.kind ≢ Memory → (u : Use) (rest : List Token) → self.old.words ≡ use_words u ++ rest → AreTypesApart types.now → IsNew (λ u. u.instance) (flat_map use_of before.now) u.instance → IsUseLawful (types_alone types.now) before.now u → HasRoomFor tally.old (u ∷ []) → ⊥) }
         ensures names { IfErr result (BeginRefused (RefusesFurtherInstance tally.old (programs_of types.now) before.now) self.old) }
@@ -463,13 +475,15 @@ impl<'a> Reader<'a> {
         let instance = self.instance_start(alloc, before, tally)?;
         let task = self.task_of_instance(alloc, before)?;
         let (program, text) = self.type_of_instance(alloc, types)?;
-        let binds = self.some_binds(alloc, text, tally)?;
+        let mut lines = Vec::new(alloc);
+        let binds = self.some_binds(alloc, text, tally, &mut lines)?;
         self.punctuation(Punctuation::Semicolon)?;
         Ok(Use {
             instance,
             task,
             program,
             binds,
+            lines,
         })
     }
 
@@ -485,6 +499,7 @@ impl<'a> Reader<'a> {
         ensures ok { IfOk result (λ x. self.old.words ≡ item_words x ++ self.new.words) }
         ensures left { OnOk result (KeepsLines self.old self.new) }
         ensures lawful { IfOk result (λ x. MayFollow (types_alone types.now) before.now x) }
+        ensures lined { IfOk result (λ x. (all : List ℕ) → HasLinesOf all self.old → IsItemOn all x self.new.words) }
         ensures tally { IfOk result (λ x. tally.new ≡ tally_with tally.old (use_of x)) }
         ensures other { IfErr result (λ e. e.kind ≢ Memory → (x : Item) (rest : List Token) → self.old.words ≡ item_words x ++ rest → AreTypesApart types.now → MayFollow (types_alone types.now) before.now x → HasRoomFor tally.old (use_of x) → ⊥) }
         ensures names { IfErr result (BeginRefused (RefusesItem tally.old (programs_of types.now) before.now) self.old) }
@@ -509,6 +524,7 @@ impl<'a> Reader<'a> {
         ensures ok { IfOk result (λ xs. self.old.words ≡ items_words xs.items ++ self.new.words) }
         ensures left { OnOk result (KeepsLines self.old self.new) }
         ensures lawful { IfOk result (λ xs. AreItemsLawful (types_alone types.now) xs.items) }
+        ensures lined { IfOk result (λ xs. (all : List ℕ) → HasLinesOf all self.old → EachBefore item_words (IsItemOn all) xs.items (key_word EndResource ∷ self.new.words)) }
         ensures tally { IfOk result (λ xs. tally.new ≡ tally_with tally.old (flat_map use_of xs.items)) }
         ensures other { IfErr result (λ e. e.kind ≢ Memory → (xs : List Item) (rest : List Token) → self.old.words ≡ items_words xs ++ rest → AreTypesApart types.now → AreItemsLawful (types_alone types.now) xs → HasRoomFor tally.old (flat_map use_of xs) → ⊥) }
         ensures names { IfErr result (BeginRefused (RefusesFurtherItems tally.old (programs_of types.now)) self.old) }
@@ -561,6 +577,7 @@ impl<'a> Reader<'a> {
         ensures new { IfOk result (λ r. IsNew (λ r. r.name) before.now r.name) }
         ensures few { OnOk result (length before.now < 16) }
         ensures lawful { IfOk result (λ r. IsResourceLawful (types_alone types.now) r) }
+        ensures lined { IfOk result (λ r. (all : List ℕ) → HasLinesOf all self.old → IsResourceOn all r self.new.words) }
         ensures tally { IfOk result (λ r. tally.new ≡ tally_with tally.old (uses_of r)) }
         ensures other { IfErr result (λ e. e.kind ≢ Memory → (r : Resource) (rest : List Token) → self.old.words ≡ resource_words r ++ rest → AreTypesApart types.now → IsNew (λ r. r.name) before.now r.name → length before.now < 16 → IsResourceLawful (types_alone types.now) r → HasRoomFor tally.old (uses_of r) → ⊥) }
         ensures names { IfErr result (BeginRefused (RefusesFurtherResource tally.old (programs_of types.now) before.now) self.old) }
@@ -587,6 +604,7 @@ impl<'a> Reader<'a> {
         ensures left { OnOk result (KeepsLines self.old self.new) }
         ensures some { IfOk result (λ rs. 0 < length rs.items) }
         ensures lawful { IfOk result (λ rs. AreResourcesLawful (types_alone types.now) rs.items) }
+        ensures lined { IfOk result (λ rs. (all : List ℕ) → HasLinesOf all self.old → AreSourcesOn all rs.items self.new.words) }
         ensures tally { IfOk result (λ rs. tally.new ≡ tally_with tally.old (flat_map uses_of rs.items)) }
         ensures other { IfErr result (λ e. e.kind ≢ Memory → (rs : List Resource) (rest : List Token) → self.old.words ≡ resources_words rs ++ rest → 0 < length rs → AreTypesApart types.now → AreResourcesLawful (types_alone types.now) rs → HasRoomFor tally.old (flat_map uses_of rs) → ⊥) }
         ensures names { IfErr result (BeginRefused (RefusesFurtherResources tally.old (programs_of types.now)) self.old) }

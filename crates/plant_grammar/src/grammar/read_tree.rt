@@ -1,15 +1,17 @@
 //! The words of a plant's text, up to the word that ends its configuration.
 
-ghost use Rattle.std.specs.Prelude.{◌≡◌, ◌≢◌, ◌++◌, List, [], IfOk, IfErr};
+ghost use Rattle.std.specs.Prelude.{◌≡◌, ◌≢◌, ◌++◌, ℕ, List, [], IfOk, IfErr};
 ghost use Rattle.plant_text.specs.declared.token.Token.{Token};
 ghost use Rattle.plant_grammar.specs.declared.grammar_fault.GrammarFaultKind.TheVariants.{Memory, Syntax};
 ghost use Rattle.plant_grammar.specs.Grammar.{Tree, words_of};
-ghost use Rattle.plant_grammar.specs.Lawful.{IsTreeLawful};
+ghost use Rattle.plant_grammar.specs.Lawful.{AreProgramsDeclared, IsTreeLawful};
 ghost use Rattle.plant_grammar.specs.Parts.{IsSameTree};
+ghost use Rattle.plant_grammar.specs.SourceLines.{AreSourcesOn};
+ghost use Rattle.plant_grammar.specs.Steps.Lines.{HasLinesOf};
 ghost use Rattle.plant_grammar.specs.WellFormed.{IsTreeWellFormed};
 ghost use Rattle.plant_grammar.specs.WordFaults.{IsGrammarFault};
 ghost use Rattle.plant_grammar.specs.Steps.Declaring.{BeginRefused, RefusesPlantWords};
-ghost use Rattle.plant_grammar.specs.Steps.Reading.{IsTreeOf, BeginWithTexts, tree_written};
+ghost use Rattle.plant_grammar.specs.Steps.Reading.{programs_of, IsTreeOf, BeginWithTexts, tree_written};
 
 use crate::grammar::program_text::ProgramText;
 use crate::grammar::reader::Reader;
@@ -31,11 +33,13 @@ pub fn read_tree<'a>(
     requires { texts.old.items ≡ [] }
     ensures ok { IfOk result (λ resources. IsTreeOf reader.old.words texts.new.items resources.items reader.new.words) }
     ensures texts { BeginWithTexts reader.old texts.new.items }
+    ensures declared { AreProgramsDeclared (programs_of texts.new.items) }
+    ensures lined { IfOk result (λ resources. (all : List ℕ) → HasLinesOf all reader.old → AreSourcesOn all resources.items reader.new.words) }
     ensures refused { IfErr result (λ e. e.kind ≢ Memory → (tree : Tree) (rest : List Token) → reader.old.words ≡ words_of tree ++ rest → IsTreeLawful tree → ⊥) }
     ensures only { IfOk result (λ resources. (tree : Tree) (rest : List Token) → reader.old.words ≡ words_of tree ++ rest → (reader.new.words ≡ rest) × IsSameTree tree (tree_written tree.name texts.new.items resources.items)) }
     ensures syntax { IfErr result (λ e. e.kind ≡ Syntax → (tree : Tree) (rest : List Token) → reader.old.words ≡ words_of tree ++ rest → IsTreeWellFormed tree → ⊥) }
     ensures value { IfErr result IsGrammarFault }
-    ensures name { IfErr result (BeginRefused RefusesPlantWords reader.old) }
+    ensures name { IfErr result (BeginRefused (RefusesPlantWords (programs_of texts.new.items)) reader.old) }
 {
     reader.programs(alloc, texts)?;
     reader.keyword(Keyword::Configuration)?;

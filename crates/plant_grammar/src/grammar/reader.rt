@@ -1,11 +1,12 @@
-ghost use Rattle.std.specs.Prelude.{◌≡◌, ◌≢◌, ◌∷◌, List, OnOk, IfOk, OnErr, IfErr, IsTrue, IsFalse};
+ghost use Rattle.std.specs.Prelude.{◌≡◌, ◌≢◌, ◌∷◌, List, slice_index_or, OnOk, IfOk, OnErr, IfErr, IsTrue, IsFalse};
 ghost use Rattle.plant_grammar.specs.WordFaults.{IsGrammarFault};
 ghost use Rattle.plant_text.specs.declared.token.Token.TheVariants as token;
 ghost use Rattle.plant_grammar.specs.declared.grammar_fault.GrammarFaultKind.TheVariants.{Memory};
 ghost use Rattle.plant_grammar.specs.NameFaults.{TellsOfName};
-ghost use Rattle.plant_grammar.specs.Steps.Lines.{all_left, next_line, syntax_at, behind, KeepsLines, IsLeft, IsWordNext, IsNotNext, IsOneNext, IsNoneNext, TellsNext};
+ghost use Rattle.plant_grammar.specs.Steps.Lines.{all_left, next_line, syntax_at, source_parts, behind, KeepsLines, IsLeft, IsWordNext, IsNotNext, IsOneNext, IsNoneNext, TellsNext};
 
 use crate::grammar::name::Name;
+use crate::grammar::tree::SourceLines;
 use crate::grammar_fault::{GrammarFault, GrammarFaultKind};
 use plant_text::{Keyword, Punctuation, Token, Word};
 use std::alloc::Global;
@@ -49,6 +50,27 @@ impl<'a> Reader<'a> {
         match self.words {
             [word, ..] => word.line(),
             [] => self.last,
+        }
+    }
+
+    /// The line of the word at a place among those that are left; 0 where they are fewer.
+    fn line_at(&self, place: usize) -> u64
+        ensures { result ≡ slice_index_or self.now.lines place 0 }
+    {
+        match self.words.get(place) {
+            Some(word) => word.line(),
+            None => 0,
+        }
+    }
+
+    /// The lines of a source that stands next.
+    pub fn source_lines(&self) -> SourceLines
+        ensures { result ≡ source_parts self.now.lines }
+    {
+        SourceLines {
+            resource: self.line_at(0),
+            instance: self.line_at(2),
+            output: self.line_at(4),
         }
     }
 

@@ -82,6 +82,14 @@ pub struct Bind {
     pub source: SourceName,
 }
 
+/// The lines that the three names of a source stand on. Of an address the first line is its own; the others tell nothing.
+#[derive(Clone, Copy)]
+pub struct SourceLines {
+    pub resource: u64,
+    pub instance: u64,
+    pub output: u64,
+}
+
 /// An instance of a program. There may be no parentheses.
 #[derive(Drop)]
 pub struct Use {
@@ -89,6 +97,8 @@ pub struct Use {
     pub task: Name,
     pub program: Name,
     pub binds: Option<Vec<Bind>>,
+    /// The lines of the source of each bind, in order.
+    pub lines: Vec<SourceLines>,
 }
 
 /// A line of a resource.

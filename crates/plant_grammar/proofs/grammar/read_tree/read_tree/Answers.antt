@@ -3,11 +3,11 @@ use Rattle.std.specs.List.{flat_map}
 use Rattle.lists.proofs.Results.{kept_fault}
 use Rattle.plant_grammar.specs.Grammar.{Tree, TextValue, words_of}
 use Rattle.plant_grammar.specs.Lawful.{uses_of}
-use Rattle.plant_grammar.specs.NameFaults.{RefusesPrograms, RefusesResources, RefusesConfiguration}
-use Rattle.plant_grammar.specs.Steps.Declaring.{BeginWith, BeginRefused, IsLineBefore, RefusesPlantWords}
+use Rattle.plant_grammar.specs.NameFaults.{RefusesResources}
+use Rattle.plant_grammar.specs.Steps.Declaring.{BeginWith, BeginRefused, IsLineBefore, RefusesFurtherProgram, RefusesPlantWords}
 use Rattle.plant_grammar.specs.Steps.ReadParts.{tally_with, types_alone, AreResourcesLawful}
 use Rattle.plant_grammar.specs.Steps.Reading.{programs_of, all_words}
-use Rattle.plant_grammar.proofs.RefusedPlaces.{begin_left, begin_right, in_configuration}
+use Rattle.plant_grammar.proofs.RefusedPlaces.{further_program, in_configuration}
 use Rattle.plant_grammar.proofs.WholeTrees.{tree_is, begun_words, begin_with_texts}
 use Rattle.plant_text.specs.declared.token.Token.{Token}
 use Rattle.plant_grammar.specs.declared.grammar_fault.GrammarFaultKind.TheVariants.{Memory, Syntax}
@@ -44,9 +44,10 @@ pub returns-in_err-programs-clause-name : goal.returns-in_err-programs-clause-na
 returns-in_err-programs-clause-name c =
     let fault = c.in_err-programs.field-0.0 in
     let start = c.args.reader.now.words in
-    kept_fault fault (BeginRefused RefusesPlantWords c.args.reader.now) c.from_residual.result c.from_residual.ensures.1
-    (λ all h of. begin_left (RefusesPrograms fault.kind) (RefusesConfiguration fault.kind) start
-    (subst (λ (ts : List TextValue). BeginWith (IsLineBefore all fault.line) (RefusesPrograms fault.kind) (all_words ts start)) c.requires (c.in_err-programs.ensures.names all h of)))
+    let programs = programs_of c.programs.new.texts.items in
+    kept_fault fault (BeginRefused (RefusesPlantWords programs) c.args.reader.now) c.from_residual.result c.from_residual.ensures.1
+    (λ all h of. further_program fault.kind programs start
+    (subst (λ (ts : List TextValue). BeginWith (IsLineBefore all fault.line) (RefusesFurtherProgram programs fault.kind) (all_words ts start)) c.requires (c.in_err-programs.ensures.names all h of)))
 
 pub returns-in_err-resources-clause-name : goal.returns-in_err-resources-clause-name
 returns-in_err-resources-clause-name c =
@@ -55,10 +56,9 @@ returns-in_err-resources-clause-name c =
     let texts = c.programs.new.texts.items in
     let one = c.programs.new.self.words in
     let written = begun_words c.args.texts.now.items texts start one c.requires c.in_ok-programs.ensures.ok in
-    kept_fault fault (BeginRefused RefusesPlantWords c.args.reader.now) c.from_residual-in_err-resources.result c.from_residual-in_err-resources.ensures.1
-    (λ all h of. begin_right (RefusesPrograms fault.kind) (RefusesConfiguration fault.kind) start
-    (in_configuration fault.kind (programs_of texts) c.in_ok-_name._name c.new-tally.result start one c.keyword.new.self.words c.name.new.self.words written c.in_ok-keyword.ensures.ok c.in_ok-_name.ensures.ok c.new-tally.ensures
-    (subst (λ (ts : List TextValue). BeginWith (IsLineBefore all fault.line) (RefusesResources fault.kind c.new-tally.result.instances c.new-tally.result.binds (programs_of ts)) c.name.new.self.words) c.as_slice.ensures.value (c.in_err-resources.ensures.names all (c.in_ok-_name.ensures.left all (c.in_ok-keyword.ensures.left all (c.in_ok-programs.ensures.left all h))) of))))
+    kept_fault fault (BeginRefused (RefusesPlantWords (programs_of texts)) c.args.reader.now) c.from_residual-in_err-resources.result c.from_residual-in_err-resources.ensures.1
+    (λ all h of. in_configuration fault.kind (programs_of texts) c.in_ok-_name._name c.new-tally.result start one c.keyword.new.self.words c.name.new.self.words written c.in_ok-keyword.ensures.ok c.in_ok-_name.ensures.ok c.new-tally.ensures
+    (subst (λ (ts : List TextValue). BeginWith (IsLineBefore all fault.line) (RefusesResources fault.kind c.new-tally.result.instances c.new-tally.result.binds (programs_of ts)) c.name.new.self.words) c.as_slice.ensures.value (c.in_err-resources.ensures.names all (c.in_ok-_name.ensures.left all (c.in_ok-keyword.ensures.left all (c.in_ok-programs.ensures.left all h))) of)))
 
 pub returns-in_err-programs-clause-refused : goal.returns-in_err-programs-clause-refused
 returns-in_err-programs-clause-refused c =
@@ -126,3 +126,6 @@ returns-in_err-resources-clause-syntax c =
     let one = behind_programs c.args.texts.now.items c.programs.new.texts.items tree c.args.reader.now.words c.programs.new.self.words rest c.requires c.in_ok-programs.ensures.ok c.in_ok-programs.ensures.none e in
     c.in_err-resources.ensures.syntax syntax tree.resources rest
     (behind_name tree c.in_ok-_name._name c.programs.new.self.words c.keyword.new.self.words c.name.new.self.words rest one.1 c.in_ok-keyword.ensures.ok c.in_ok-_name.ensures.ok) formed.some_resource formed.resources)
+
+pub returns-clause-lined : goal.returns-clause-lined
+returns-clause-lined c = λ all h. c.in_ok-resources.ensures.lined all (c.in_ok-_name.ensures.left all (c.in_ok-keyword.ensures.left all (c.in_ok-programs.ensures.left all h)))

@@ -12,6 +12,7 @@ use Rattle.plant_grammar.specs.NameFaults.{RefusesOneBind}
 use Rattle.plant_grammar.specs.Steps.Declaring.{BeginRefused}
 use Rattle.plant_grammar.proofs.ReadLines.{line_before}
 use Rattle.plant_grammar.proofs.RefusedPlaces.{input_refused, address_refused}
+use Rattle.plant_grammar.proofs.PlacedSources.{source_stands}
 use Rattle.plant_grammar.proofs.grammar.reader.Reader.bind.Goals as goal
 
 pub returns-in_err-input-clause-other : goal.returns-in_err-input-clause-other
@@ -34,3 +35,10 @@ returns-in_err-source-clause-names c =
     kept_fault fault (BeginRefused (λ k. RefusesOneBind c.args.tally.now.binds ds c.args.before.now k) c.args.self.now) c.from_residual-in_err-source.result c.from_residual-in_err-source.ensures.1
     (λ all h of. address_refused fault.kind c.args.tally.now.binds ds c.args.before.now c.in_ok-input.input c.in_ok-input.kind c.args.self.now.words c.bound_input.new.self.words c.punctuation.new.self.words (line_before all c.punctuation.new.self fault.line (c.in_ok-punctuation.ensures.left all (c.in_ok-input.ensures.left all h)) (c.in_err-source.ensures.line of)) c.in_ok-input.ensures.ok c.in_ok-punctuation.ensures.ok c.in_ok-input.ensures.kind
     c.in_err-source.ensures.tells of)
+
+pub returns-clause-lined : goal.returns-clause-lined
+returns-clause-lined c = (
+  c.source_lines-parts.result,
+  c.in_ok-push.ensures.items,
+  λ all h. source_stands all c.punctuation.new.self _ c.source.new.self.words c.source_lines-parts.result (c.in_ok-punctuation.ensures.left all (c.in_ok-input.ensures.left all h)) c.in_ok-source.ensures.ok c.source_lines-parts.ensures,
+)

@@ -1,4 +1,4 @@
-use Rattle.std.proofs.Common.{◌≢◌, ◌+◌, ◌≤◌, List, length, map, refl, ◌∙◌, arith, subst, ap, ◌≡◌}
+use Rattle.std.proofs.Common.{◌≢◌, ◌+◌, ◌≤◌, List, length, map, refl, sym, ◌∙◌, arith, subst, ap, ◌≡◌}
 use Rattle.plant_grammar.specs.declared.grammar.tree.Bind.{Bind}
 use Rattle.plant_grammar.specs.Steps.ReadParts.{IsNew, TallyValue, EndWithBinds}
 use Rattle.plant_grammar.proofs.Apart.{apart_more}
@@ -14,12 +14,16 @@ use Rattle.std.proofs.lemmas.List.Elements.{All-nil}
 use Rattle.plant_text.specs.declared.token.Token.{Token}
 use Rattle.plant_grammar.specs.declared.grammar_fault.GrammarFaultKind.TheVariants.{Memory, Syntax}
 use Rattle.std.specs.Prelude.{All}
+use Rattle.std.specs.Global.{Vec}
+use Rattle.plant_grammar.specs.declared.grammar.tree.SourceLines.{SourceLines}
 use Rattle.plant_text.specs.declared.token.Punctuation.TheVariants.{Close}
 use Rattle.plant_grammar.specs.Grammar.{mark_word}
 use Rattle.plant_grammar.specs.Names.{AreNamesApart}
 use Rattle.plant_grammar.specs.Steps.Lines.{ReaderValue, IsNotNext}
 use Rattle.plant_grammar.proofs.LawfulResources.{first_bind_allowed, next_bind_allowed, close_allowed}
 use Rattle.plant_grammar.proofs.MissingWords.{bind_missing, next_bind_missing}
+use Rattle.plant_grammar.specs.SourceLines.{AreBindsOn}
+use Rattle.plant_grammar.proofs.PlacedSources.{binds_pushed, first_bind_on, no_binds_on}
 use Rattle.plant_grammar.proofs.grammar.reader.Reader.binds.Goals as goal
 use Rattle.plant_grammar.proofs.grammar.reader.Reader.binds.Goals.{then-not-sees_punctuation+in_ok-bind+in_ok-push+else-binds-test, else-not-sees_punctuation}
 
@@ -29,6 +33,9 @@ binds-preserved c = record {
   some = omega (arith, grown c.binds.binds.items c.push-in-binds.new.self.items c.in_ok-bind-2.field-0 c.in_ok-push-2.ensures.items);
   words = binds_more c.binds.binds.items c.push-in-binds.new.self.items c.in_ok-bind-2.field-0 c.args.self.now.words c.binds.self.words c.punctuation.new.self.words c.bind-in-binds.new.self.words
       c.binds.invariant.some c.in_ok-push-2.ensures.items c.binds.invariant.words c.in_ok-punctuation.ensures.ok c.in_ok-bind-2.ensures.ok;
+  lined = λ all h. let kept = c.in_ok-bind-2.ensures.lined in
+      binds_pushed all c.binds.binds.items c.push-in-binds.new.self.items c.in_ok-bind-2.field-0 c.binds.lines.items c.bind-in-binds.new.lines.items kept.0 c.binds.self.words c.punctuation.new.self.words c.bind-in-binds.new.self.words
+      c.in_ok-push-2.ensures.items kept.1 c.in_ok-punctuation.ensures.ok c.in_ok-bind-2.ensures.ok (c.binds.invariant.lined all h) (kept.2 all (c.in_ok-punctuation.ensures.left all (c.binds.invariant.left all h)));
   apart = apart_more (λ (b : Bind). b.input) c.binds.binds.items c.push-in-binds.new.self.items c.in_ok-bind-2.field-0 c.in_ok-push-2.ensures.items c.binds.invariant.apart
       (subst (λ bs. IsNew (λ (b : Bind). b.input) bs c.in_ok-bind-2.field-0.input) c.deref-in-binds.ensures.value c.in_ok-bind-2.ensures.new);
   kinds = all_more (IsOfInputKind (variables c.args.program.now.program)) c.binds.binds.items c.push-in-binds.new.self.items c.in_ok-bind-2.field-0 c.in_ok-push-2.ensures.items c.binds.invariant.kinds c.in_ok-bind-2.ensures.kind;
@@ -106,3 +113,9 @@ returns-in_err-punctuation-2-clause-syntax c =
       | else-not-sees_punctuation w ↦ let next = w.if-not-sees_punctuation.ensures.yes refl in
           (subst (λ (r : ReaderValue). IsNotNext (mark_word Close) r.words) w.self-is c.in_err-punctuation-2.ensures.other) next.0 next.1
     ])
+
+pub returns-clause-lined : goal.returns-clause-lined
+returns-clause-lined c = λ all h. elim c.if-not-sees_punctuation.branch [
+  | then-not-sees_punctuation+in_ok-bind+in_ok-push+else-binds-test w ↦ subst (AreBindsOn all _ _) (ap (λ (r : ReaderValue). r.words) (sym w.self-is) ∙ c.in_ok-punctuation-2.ensures.ok) (rw (w.binds-is, w.lines-is) (w.binds.invariant.lined all h))
+  | else-not-sees_punctuation w ↦ no_binds_on all _ _ _ (ap (λ (v : Vec Bind). v.items) w.binds-is ∙ c.new-binds.ensures.items) (ap (λ (v : Vec SourceLines). v.items) w.lines-is ∙ c.requires)
+]

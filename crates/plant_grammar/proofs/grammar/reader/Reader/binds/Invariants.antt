@@ -1,10 +1,11 @@
-use Rattle.std.proofs.Common.{◌≡◌, ◌++◌, ◌+◌, ◌<◌, length, map}
+use Rattle.std.proofs.Common.{◌≡◌, ◌++◌, ◌+◌, ◌<◌, ℕ, List, length, map}
 use Rattle.plant_grammar.specs.Grammar.{with_commas}
 use Rattle.std.specs.Prelude.{All}
 use Rattle.plant_grammar.specs.Names.{AreNamesApart}
 use Rattle.plant_grammar.specs.Kinds.{IsOfInputKind}
 use Rattle.plant_grammar.specs.Lawful.{variables}
-use Rattle.plant_grammar.specs.Steps.Lines.{KeepsLines}
+use Rattle.plant_grammar.specs.Steps.Lines.{HasLinesOf, KeepsLines}
+use Rattle.plant_grammar.specs.SourceLines.{AreBindsOn}
 use Rattle.plant_grammar.proofs.grammar.reader.Reader.binds.Given as goal
 
 abbrev pub invariant-binds : goal.invariant-binds
@@ -13,6 +14,7 @@ invariant-binds l = record {
   some : 0 < length l.binds.items;
   words : l.fn.self.words ≡ with_commas l.binds.items ++ l.self.words;
   apart : AreNamesApart (map (λ b. b.input) l.binds.items);
+  lined : (all : List ℕ) → HasLinesOf all l.fn.self → AreBindsOn all l.binds.items l.lines.items l.self.words;
   kinds : All (IsOfInputKind (variables l.program.program)) l.binds.items;
   tally : l.tally ≡ record { instances = l.fn.tally.instances; binds = l.fn.tally.binds + length l.binds.items };
 }

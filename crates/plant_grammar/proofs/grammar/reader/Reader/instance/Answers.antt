@@ -1,4 +1,4 @@
-use Rattle.std.proofs.Common.{◌≡◌, ◌≢◌, ◌++◌, ◌∷◌, [], List, ap, refl}
+use Rattle.std.proofs.Common.{◌≡◌, ◌≢◌, ◌++◌, ◌∷◌, [], List, ap, subst, refl}
 use Rattle.std.specs.Prelude.{All}
 use Rattle.plant_grammar.specs.Kinds.{IsOfInputKind}
 use Rattle.plant_grammar.specs.Lawful.{variables, use_of, binds_of, IsUseLawful}
@@ -14,9 +14,11 @@ use Rattle.plant_grammar.specs.declared.grammar_fault.GrammarFaultKind.TheVarian
 use Rattle.plant_grammar.specs.declared.grammar.tree.Program.{Program}
 use Rattle.plant_grammar.specs.declared.grammar.tree.Use.{Use}
 use Rattle.std.specs.List.{flat_map}
-use Rattle.plant_grammar.specs.Grammar.{use_words, binds_listed}
+use Rattle.plant_grammar.specs.Grammar.{mark_word, use_words, binds_listed}
 use Rattle.plant_grammar.specs.Steps.Refusing.{HasRoomFor, AreTypesApart}
-use Rattle.plant_grammar.proofs.LawfulResources.{some_type, use_tasked, use_typed, room_for_binds, kinds_of_type}
+use Rattle.plant_grammar.proofs.LawfulResources.{some_type, use_started, use_tasked, use_typed, room_for_binds, kinds_of_type}
+use Rattle.plant_text.specs.declared.token.Punctuation.TheVariants.{Close}
+use Rattle.plant_grammar.specs.SourceLines.{AreBindsOn}
 use Rattle.plant_grammar.proofs.grammar.reader.Reader.instance.Goals as goal
 
 pub returns-clause-lawful : goal.returns-clause-lawful
@@ -100,3 +102,15 @@ returns-in_err-punctuation-clause-syntax c =
     (λ syntax u rest e.
     let typed = use_typed u c.in_ok-instance.instance c.in_ok-task.task _ c.args.self.now.words c.instance_start.new.self.words c.task_of_instance.new.self.words c.type_of_instance.new.self.words rest c.in_ok-instance.ensures.ok c.in_ok-task.ensures.ok c.in_ok-program.ensures.ok e in
     c.in_err-punctuation.ensures.other rest (c.in_ok-binds.ensures.only (binds_listed u.binds) rest typed.1))
+
+pub returns-clause-lined : goal.returns-clause-lined
+returns-clause-lined c = λ all h.
+    subst (λ (rest : List Token). AreBindsOn all (bound_in c.in_ok-binds.binds) c.some_binds.new.lines.items (mark_word Close ∷ rest)) c.in_ok-punctuation.ensures.ok
+    (c.in_ok-binds.ensures.lined all (c.in_ok-program.ensures.left all (c.in_ok-task.ensures.left all (c.in_ok-instance.ensures.left all h))))
+
+pub returns-in_err-task-clause-other : goal.returns-in_err-task-clause-other
+returns-in_err-task-clause-other c =
+    let fault = c.in_err-task.field-0.0 in
+    kept_fault fault (λ f. f.kind ≢ Memory → (u : Use) (rest : List Token) → c.args.self.now.words ≡ use_words u ++ rest → AreTypesApart c.args.types.now → IsNew (λ (u : Use). u.instance) (flat_map use_of c.args.before.now) u.instance → IsUseLawful (types_alone c.args.types.now) c.args.before.now u → HasRoomFor c.args.tally.now (u ∷ []) → ⊥) c.from_residual-in_err-task.result c.from_residual-in_err-task.ensures.1
+    (λ known u rest e apart new lawful room.
+    c.in_err-task.ensures.other known u.task _ (use_started u c.in_ok-instance.instance c.args.self.now.words c.instance_start.new.self.words rest c.in_ok-instance.ensures.ok e) lawful.task_is)

@@ -17,6 +17,8 @@ use Rattle.plant_grammar.specs.Steps.Refusing.{HasRoomFor, AreTypesApart}
 use Rattle.plant_grammar.proofs.LawfulResources.{item_allowed}
 use Rattle.plant_grammar.proofs.MissingWords.{item_missing}
 use Rattle.plant_grammar.specs.WellFormed.{AreIntervalsPositive}
+use Rattle.plant_grammar.specs.SourceLines.{IsItemOn, EachBefore}
+use Rattle.plant_grammar.proofs.PlacedSources.{each_more}
 use Rattle.plant_grammar.proofs.grammar.reader.Reader.items.Goals as goal
 
 pub items-preserved : goal.items-preserved
@@ -25,6 +27,7 @@ items-preserved c = record {
   words = words_more item_words c.items.items.items c.push.new.self.items c.in_ok-item.item c.args.self.now.words c.items.self.words c.item.new.self.words c.in_ok-push.ensures.items c.items.invariant.words c.in_ok-item.ensures.ok;
   lawful = items_more (types_alone c.args.types.now) c.items.items.items c.push.new.self.items c.in_ok-item.item c.in_ok-push.ensures.items c.items.invariant.lawful
       (subst (λ xs. MayFollow (types_alone c.args.types.now) xs c.in_ok-item.item) c.deref.ensures.value c.in_ok-item.ensures.lawful);
+  lined = λ all h. each_more item_words (IsItemOn all) c.items.items.items c.push.new.self.items c.in_ok-item.item c.items.self.words c.item.new.self.words c.in_ok-push.ensures.items c.in_ok-item.ensures.ok (c.items.invariant.lined all h) (c.in_ok-item.ensures.lined all (c.items.invariant.left all h));
   tally = tally_more use_of c.items.items.items c.push.new.self.items c.in_ok-item.item c.args.tally.now c.items.tally c.item.new.tally c.in_ok-push.ensures.items c.items.invariant.tally c.in_ok-item.ensures.tally;
 }
 
@@ -33,6 +36,7 @@ returns c = record {
   ok = items_done c.items.items.items c.args.self.now.words c.items.self.words c.keyword.new.self.words c.items.invariant.words c.in_ok-keyword.ensures.ok;
   left = λ all h. c.in_ok-keyword.ensures.left all (c.items.invariant.left all h);
   lawful = c.items.invariant.lawful;
+  lined = λ all h. subst (EachBefore item_words (IsItemOn all) c.items.items.items) c.in_ok-keyword.ensures.ok (c.items.invariant.lined all h);
   tally = c.items.invariant.tally;
   other = tt;
   names = tt;

@@ -1,15 +1,16 @@
 use Rattle.std.proofs.Common.{rules, ◌≡◌, ◌≢◌, refl, ◌++◌, ◌∷◌, [], ◌∙◌, ◌<◌, ℕ, List, append_assoc, length, ap, sym, subst, arith, All}
 use Rattle.std.proofs.lemmas.List.{length-map}
 use Rattle.std.specs.List.{flat_map}
+use Rattle.plant_grammar.specs.Lawful.{AreProgramsDeclared}
 use Rattle.plant_grammar.specs.Grammar.{TextValue, key_word, program_words}
 use Rattle.plant_text.specs.declared.token.Token.{Token}
 use Rattle.plant_grammar.specs.declared.grammar.tree.Program.{Program}
-use Rattle.plant_grammar.specs.Steps.ReadParts.{IsNew, AreProgramsDeclared}
+use Rattle.plant_grammar.specs.Steps.ReadParts.{IsNew}
 use Rattle.plant_grammar.specs.Steps.Reading.{programs_of, lines_of, all_words}
 use Rattle.plant_grammar.proofs.FoundTypes.{programs_more, map-grown}
 use Rattle.plant_grammar.proofs.WordLists.{words_more}
-use Rattle.plant_grammar.specs.NameFaults.{RefusesProgram, RefusesPrograms}
-use Rattle.plant_grammar.specs.Steps.Declaring.{BeginWith, BeginRefusedBehind, IsLineBefore}
+use Rattle.plant_grammar.specs.NameFaults.{RefusesProgram}
+use Rattle.plant_grammar.specs.Steps.Declaring.{BeginWith, BeginRefusedBehind, IsLineBefore, RefusesFurtherProgram}
 use Rattle.lists.proofs.Results.{kept_fault}
 use Rattle.plant_grammar.proofs.RefusedPlaces.{program_refused}
 use Rattle.plant_grammar.proofs.RefusedNames.{memory_result, memory_excused}
@@ -56,12 +57,12 @@ returns-in_err-push-clause-err_lines c =
 pub returns-in_err-text-clause-names : goal.returns-in_err-text-clause-names
 returns-in_err-text-clause-names c =
     let fault = c.in_err-text.field-0.0 in
-    kept_fault fault (BeginRefusedBehind RefusesPrograms c.args.self.now (all_words c.args.texts.now.items c.args.self.now.words)) c.from_residual.result c.from_residual.ensures.1
+    kept_fault fault (BeginRefusedBehind (RefusesFurtherProgram (programs_of c.programs.texts.items)) c.args.self.now (all_words c.args.texts.now.items c.args.self.now.words)) c.from_residual.result c.from_residual.ensures.1
     (λ all h of. program_refused fault.kind (programs_of c.programs.texts.items) (flat_map program_words (programs_of c.args.texts.now.items) ++ c.args.self.now.words) c.programs.self.words c.programs.invariant.words
     (subst (λ (ts : List TextValue). BeginWith (IsLineBefore all fault.line) (RefusesProgram fault.kind (programs_of ts)) c.programs.self.words) c.as_slice.ensures.value (c.in_err-text.ensures.names all (c.programs.invariant.left all h) of)))
 
 pub returns-in_err-push-clause-names : goal.returns-in_err-push-clause-names
-returns-in_err-push-clause-names c = memory_result RefusesPrograms c.args.self.now (all_words c.args.texts.now.items c.args.self.now.words) c.from_residual-in_err-push.result c.from_residual-in_err-push.ensures.1
+returns-in_err-push-clause-names c = memory_result (RefusesFurtherProgram (programs_of c.push.new.self.items)) c.args.self.now (all_words c.args.texts.now.items c.args.self.now.words) c.from_residual-in_err-push.result c.from_residual-in_err-push.ensures.1
 
 pub returns-in_err-text-clause-other : goal.returns-in_err-text-clause-other
 returns-in_err-text-clause-other c =

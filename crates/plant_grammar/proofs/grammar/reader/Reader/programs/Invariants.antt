@@ -1,7 +1,7 @@
 use Rattle.std.proofs.Common.{◌≡◌, ◌++◌, length}
 use Rattle.std.specs.List.{flat_map}
+use Rattle.plant_grammar.specs.Lawful.{AreProgramsDeclared}
 use Rattle.plant_grammar.specs.Grammar.{program_words}
-use Rattle.plant_grammar.specs.Steps.ReadParts.{AreProgramsDeclared}
 use Rattle.plant_grammar.specs.Steps.Reading.{programs_of, lines_of}
 use Rattle.plant_grammar.specs.Steps.Lines.{KeepsLines}
 use Rattle.plant_grammar.proofs.grammar.reader.Reader.programs.Given as goal

@@ -39,3 +39,7 @@ returns-in_err-items-clause-other c =
     let words = resource_started r c.in_ok-name.name c.in_ok-node.node c.args.self.now.words c.keyword.new.self.words c.resource_name.new.self.words c.keyword-2.new.self.words c.name-2.new.self.words rest
     c.in_ok-keyword.ensures.ok c.in_ok-name.ensures.ok c.in_ok-keyword-2.ensures.ok c.in_ok-node.ensures.ok e in
     c.in_err-items.ensures.other known r.items.items rest words apart (items_of_resource (types_alone c.args.types.now) r lawful) room)
+
+pub returns-clause-lined : goal.returns-clause-lined
+returns-clause-lined c = λ all h.
+    c.in_ok-items.ensures.lined all (c.in_ok-node.ensures.left all (c.in_ok-keyword-2.ensures.left all (c.in_ok-name.ensures.left all (c.in_ok-keyword.ensures.left all h))))

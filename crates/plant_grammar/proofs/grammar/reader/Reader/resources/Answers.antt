@@ -17,6 +17,8 @@ use Rattle.plant_grammar.specs.Steps.Refusing.{HasRoomFor, AreTypesApart}
 use Rattle.plant_grammar.proofs.LawfulResources.{resource_allowed, first_resource}
 use Rattle.plant_grammar.proofs.MissingWords.{resource_missing}
 use Rattle.plant_grammar.specs.WellFormed.{IsResourceWellFormed}
+use Rattle.plant_grammar.specs.SourceLines.{IsResourceOn, EachBefore}
+use Rattle.plant_grammar.proofs.PlacedSources.{each_more}
 use Rattle.plant_grammar.proofs.grammar.reader.Reader.resources.Goals as goal
 use Rattle.plant_grammar.proofs.grammar.reader.Reader.resources.Goals.{then-is_empty, else-is_empty+then-not-sees_keyword}
 
@@ -26,8 +28,12 @@ resources-preserved c = record {
   words = words_more resource_words c.resources.resources.items c.push.new.self.items c.in_ok-resource.resource c.args.self.now.words c.resources.self.words c.resource.new.self.words c.in_ok-push.ensures.items c.resources.invariant.words c.in_ok-resource.ensures.ok;
   lawful = resources_more (types_alone c.args.types.now) c.resources.resources.items c.push.new.self.items c.in_ok-resource.resource c.in_ok-push.ensures.items c.resources.invariant.lawful
       (subst (λ rs. IsNew (λ (r : Resource). r.name) rs c.in_ok-resource.resource.name) c.deref.ensures.value c.in_ok-resource.ensures.new) (subst (λ rs. length rs < 16) c.deref.ensures.value c.in_ok-resource.ensures.few) c.in_ok-resource.ensures.lawful;
+  lined = λ all h. each_more resource_words (IsResourceOn all) c.resources.resources.items c.push.new.self.items c.in_ok-resource.resource c.resources.self.words c.resource.new.self.words c.in_ok-push.ensures.items c.in_ok-resource.ensures.ok (c.resources.invariant.lined all h) (c.in_ok-resource.ensures.lined all (c.resources.invariant.left all h));
   tally = tally_more uses_of c.resources.resources.items c.push.new.self.items c.in_ok-resource.resource c.args.tally.now c.resources.tally c.resource.new.tally c.in_ok-push.ensures.items c.resources.invariant.tally c.in_ok-resource.ensures.tally;
 }
+
+pub returns-clause-lined : goal.returns-clause-lined
+returns-clause-lined c = λ all h. subst (EachBefore resource_words (IsResourceOn all) c.resources.resources.items) c.in_ok-keyword.ensures.ok (c.resources.invariant.lined all h)
 
 pub returns-clause-ok : goal.returns-clause-ok
 returns-clause-ok c = resources_done c.resources.resources.items c.args.self.now.words c.resources.self.words c.keyword.new.self.words c.resources.invariant.words c.in_ok-keyword.ensures.ok

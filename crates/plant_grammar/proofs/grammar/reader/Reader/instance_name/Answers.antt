@@ -1,0 +1,18 @@
+use Rattle.std.proofs.Common.{◌≡◌, ◌≢◌, ◌<◌, ◌∷◌, ℕ, List}
+use Rattle.std.specs.List.{flat_map}
+use Rattle.lists.proofs.Results.{kept_fault}
+use Rattle.plant_text.specs.declared.token.Token.{Token}
+use Rattle.plant_text.specs.declared.token.Token.TheVariants as token
+use Rattle.plant_grammar.specs.declared.grammar_fault.GrammarFaultKind.TheVariants.{Memory}
+use Rattle.plant_grammar.specs.declared.grammar.tree.Use.{Use}
+use Rattle.plant_grammar.specs.Lawful.{use_of}
+use Rattle.plant_grammar.specs.Steps.ReadParts.{IsNew}
+use Rattle.plant_grammar.proofs.NewNames.{new_allowed}
+use Rattle.plant_grammar.proofs.grammar.reader.Reader.instance_name.Goals as goal
+
+pub returns-in_err-check_new-clause-other : goal.returns-in_err-check_new-clause-other
+returns-in_err-check_new-clause-other c =
+    let fault = c.in_err-check_new.field-0.0 in
+    let before = flat_map use_of c.args.before.now in
+    kept_fault fault (λ f. f.kind ≢ Memory → (name : List ℕ) (rest : List Token) → c.args.self.now.words ≡ token.Name name ∷ rest → IsNew (λ (u : Use). u.instance) (flat_map use_of c.args.before.now) name → c.args.tally.now.instances < 64 → ⊥) c.from_residual-in_err-check_new.result c.from_residual-in_err-check_new.ensures.1
+    (λ known name rest e new few. new_allowed (λ (u : Use). u.instance) before c.in_ok-name.name name c.args.self.now.words c.name.new.self.words rest 64 c.args.tally.now.instances _ _ fault.kind c.in_ok-name.ensures.ok e new few c.is_instance.ensures.0 (λ full. absurd cc) c.in_err-check_new.ensures.full)
