@@ -1,9 +1,9 @@
 -- The first item of a list that fails.
-use Rattle.std.proofs.Common.{◌≡◌, ℕ, ◌+◌, ◌<◌, List, [], ◌∷◌, ◌++◌, Some, length, take, drop, get_or, refl, sym, ap, ◌∙◌, append_assoc}
+use Rattle.std.proofs.Common.{◌≡◌, ℕ, ◌+◌, ◌<◌, List, [], ◌∷◌, ◌++◌, Some, length, take, drop, get_or, refl, sym, ap, subst, ◌∙◌, append_assoc, arith}
 use Rattle.std.specs.Prelude.{slice_get, All}
 use Rattle.std.specs.List.{flat_map}
 use Rattle.std.proofs.lemmas.Grind.{flat_map-append}
-use Rattle.std.proofs.lemmas.List.{take_more, take-append-drop}
+use Rattle.std.proofs.lemmas.List.{take_more, take-append-drop, length-take}
 use Rattle.std.proofs.lemmas.List.Elements.{All-append}
 use Rattle.plant.specs.SourceFaults.{FailsFirst}
 
@@ -13,11 +13,14 @@ around xs n x lt is =
     sym (take-append-drop (n + 1) xs) ∙ ap (λ ys. ys ++ drop (n + 1) xs) (take_more xs n x lt ∙ ap (λ y. take n xs ++ y ∷ []) (sym is)) ∙ append_assoc (take n xs) (x ∷ []) (drop (n + 1) xs)
 
 -- where all before it pass
-pub first_fails : {A : Type 0} (P Q : A → Type 0) (xs : List A) (n : ℕ) (x : A) → n < length xs → x ≡ get_or xs n x → All P (take n xs) → Q x → FailsFirst P Q xs
-first_fails P Q xs n x lt is pass fails = record { before = take n xs; first = x; behind = drop (n + 1) xs; parts = around xs n x lt is; pass = pass; fails = fails }
+pub first_fails : {A : Type 0} (P : A → Type 0) (Q : ℕ → A → Type 0) (xs : List A) (n : ℕ) (x : A) → n < length xs → x ≡ get_or xs n x → All P (take n xs) → Q n x → FailsFirst P Q xs
+first_fails P Q xs n x lt is pass fails =
+    let long = length-take n xs in
+    let many : n ≡ length (take n xs) = omega arith in
+    record { before = take n xs; first = x; behind = drop (n + 1) xs; parts = around xs n x lt is; pass = pass; fails = subst (λ (m : ℕ). Q m x) many fails }
 
 -- where all that the items before have pass, and of what it has one fails
-pub part_fails : {A B : Type 0} (P Q : B → Type 0) (f : A → List B) (xs : List A) (n : ℕ) (x : A) → n < length xs → x ≡ get_or xs n x → All P (flat_map f (take n xs)) → FailsFirst P Q (f x) → FailsFirst P Q (flat_map f xs)
+pub part_fails : {A B : Type 0} (P Q : B → Type 0) (f : A → List B) (xs : List A) (n : ℕ) (x : A) → n < length xs → x ≡ get_or xs n x → All P (flat_map f (take n xs)) → FailsFirst P (λ k y. Q y) (f x) → FailsFirst P (λ k y. Q y) (flat_map f xs)
 part_fails P Q f xs n x lt is pass of =
     let front = flat_map f (take n xs) in
     let back = flat_map f (drop (n + 1) xs) in
@@ -38,8 +41,8 @@ behind_others [] ys x = refl
 behind_others (z ∷ zs) ys x = behind_others zs ys x
 
 -- what passes and fails so, passes and fails otherwise too
-pub fails_moved : {A : Type 0} (P Q R S : A → Type 0) (xs : List A) → ((x : A) → P x → R x) → ((k : ℕ) (x : A) → slice_get xs k ≡ Some x → Q x → S x) → FailsFirst P Q xs → FailsFirst R S xs
-fails_moved P Q R S xs passes fails of = record {
+pub fails_moved : {A : Type 0} (P R : A → Type 0) (Q S : ℕ → A → Type 0) (xs : List A) → ((x : A) → P x → R x) → ((k : ℕ) (x : A) → slice_get xs k ≡ Some x → Q k x → S k x) → FailsFirst P Q xs → FailsFirst R S xs
+fails_moved P R Q S xs passes fails of = record {
   before = of.before;
   first = of.first;
   behind = of.behind;

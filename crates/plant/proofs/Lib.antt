@@ -29,3 +29,5 @@ mod NamesApart
 pub mod OnePlant
 pub mod OneTexts
 pub mod SmallCounts
+pub mod MissingParts
+pub mod CutSources

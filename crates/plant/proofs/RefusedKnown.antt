@@ -1,5 +1,5 @@
 -- The words up to a name that is refused are words.
-use Rattle.std.proofs.Common.{refl, append_assoc, arith, ◌≡◌, ◌⊎◌, inl, inr, ℕ, List, [], ◌∷◌, ◌++◌, map, take, drop, length, sym, ap, subst, ◌∙◌}
+use Rattle.std.proofs.Common.{refl, append_assoc, arith, ◌+◌, ◌≡◌, ◌⊎◌, inl, inr, ℕ, List, [], ◌∷◌, ◌++◌, map, take, drop, length, sym, ap, subst, ◌∙◌}
 use Rattle.std.specs.List.{flat_map}
 use Rattle.std.proofs.lemmas.List.{take-append-drop, length-append, length-map, map-append}
 use Rattle.std.proofs.Math.Seq.{take-append_seam}
@@ -18,11 +18,11 @@ use Rattle.plant_grammar.specs.declared.grammar.tree.Item.{Item}
 use Rattle.plant_grammar.specs.declared.grammar.tree.Resource.{Resource}
 use Rattle.plant_grammar.specs.Lawful.{variables}
 use Rattle.plant_grammar.specs.Grammar.{key_word, mark_word, section_words, name_words, bind_words, list_words, block_words, program_words, item_words, resource_words}
-use Rattle.plant_grammar.specs.NameFaults.{IsRefused, IsMisused, IsAfter, IsAfterAll, IsAfterName, IsAfterWhole, name_and_comma, bind_and_comma, RefusesVariable, RefusesType, RefusesList, RefusesBlock, RefusesBlocks, RefusesProgram, RefusesPrograms, RefusesTask, RefusesAddress, RefusesBind, RefusesTyped, RefusesBinds, RefusesInstance, RefusesItems, RefusesResource, RefusesResources, RefusesConfiguration}
+use Rattle.plant_grammar.specs.NameFaults.{IsRefused, IsMisused, IsAfter, IsAfterAll, IsAfterName, IsAfterWhole, name_and_comma, bind_and_comma, RefusesVariable, RefusesType, RefusesList, RefusesBlock, RefusesBlocks, RefusesProgram, RefusesTask, RefusesAddress, RefusesBind, RefusesTyped, RefusesBinds, RefusesInstance, RefusesItems, RefusesResource, RefusesResources, RefusesBehind}
 use Rattle.plant_grammar.specs.Steps.Declaring.{IsLineBefore, BeginWith, RefusesPlantWords}
 use Rattle.plant_grammar.specs.Steps.Lines.{HasLinesOf, all_left}
 use Rattle.plant_text.specs.Lines.{WordValue, BeginsWithWords, IsBegunBy}
-use Rattle.plant.proofs.KnownWords.{IsKnown, AreKnown, nothing, key_is, mark_is, name_is, type_is, names_are, behind, both, all_of, section_is, list_is, block_is, program_is, bind_is, item_is, resource_is}
+use Rattle.plant.proofs.KnownWords.{IsKnown, AreKnown, nothing, key_is, mark_is, name_is, type_is, names_are, behind, both, all_of, section_is, list_is, block_is, program_is, bind_is, item_is, resource_is, programs_known}
 use Rattle.plant.proofs.BodyCounts.{map_take, same_fronts}
 
 refused_known : (k : GrammarFaultKind) (Taken : List ℕ → Type 0) (full : Type 0) (words : List Token) → IsRefused k Taken full words → AreKnown words
@@ -124,21 +124,25 @@ unfolding RefusesResources
 resources_known k i n programs words h = behind_known resource_words _ words resource_is (λ rs w r. resource_known k _ _ programs rs w r) h
 
 -- none of the words up to a name refused is unknown
-plant_known : (k : GrammarFaultKind) (words : List Token) → RefusesPlantWords k words → AreKnown words
-unfolding RefusesPrograms RefusesConfiguration
-plant_known k words (inl h) = behind_known program_words _ words program_is (λ ps w r. program_known k ps w r) h
-plant_known k words (inr h) =
-    behind_known program_words _ words program_is (λ ps w r. after_known (key_word key.Configuration) _ w (key_is key.Configuration) (λ w1 h1. after_name_known (RefusesResources k 0 0 ps) w1 (λ w2 h2. resources_known k 0 0 ps w2 h2) h1) r) h
+plant_known : (programs : List Program) (k : GrammarFaultKind) (words : List Token) → RefusesPlantWords programs k words → AreKnown words
+unfolding RefusesBehind
+plant_known programs k words h = after_all_known (flat_map program_words programs) _ words (programs_known programs)
+    (λ w r. either_known _ _ w (λ p. program_known k programs w p)
+    (λ c. after_known (key_word key.Configuration) _ w (key_is key.Configuration) (λ w1 h1. after_name_known (RefusesResources k 0 0 programs) w1 (λ w2 h2. resources_known k 0 0 programs w2 h2) h1) c) r) h
 
 -- a text that begins with its words, as far as they are words, begins with a front of them
 pub begun_by_front : (text : List ℕ) (ws : List WordValue) (words known rest : List Token) → IsBegunBy text ws → map (λ (w : WordValue). w.token) ws ≡ words → words ≡ known ++ rest → AreKnown known
-    → (front : List WordValue) × BeginsWithWords text front × (map (λ (w : WordValue). w.token) front ≡ known)
+    → (front : List WordValue) × BeginsWithWords text front × (map (λ (w : WordValue). w.token) front ≡ known) × (back : List WordValue) × (ws ≡ front ++ back) × (length back ≡ length rest)
 begun_by_front text ws words known rest begun is parted are =
     let front = take (length known) ws in
     let back = drop (length known) ws in
     let parts : ws ≡ front ++ back = sym (take-append-drop (length known) ws) in
     let tokens : map (λ (w : WordValue). w.token) front ≡ known = map_take (λ (w : WordValue). w.token) ws (length known) ∙ ap (λ x. take (length known) x) (is ∙ parted) ∙ take-append_seam known rest in
-    (front, begun front back parts (subst AreKnown (sym tokens) are), tokens)
+    let all : length ws ≡ length known + length rest = sym (length-map ws (λ (w : WordValue). w.token)) ∙ ap length (is ∙ parted) ∙ length-append known rest in
+    let both : length ws ≡ length front + length back = ap length parts ∙ length-append front back in
+    let few : length front ≡ length known = sym (length-map front (λ (w : WordValue). w.token)) ∙ ap length tokens in
+    let left : length back ≡ length rest = omega (arith, all, both, few) in
+    (front, begun front back parts (subst AreKnown (sym tokens) are), tokens, back, parts, left)
 
 -- where the line of a word stands, there stands the word
 word_of_line : (ws : List WordValue) (before : List ℕ) (line : ℕ) (behind : List ℕ) → map (λ (w : WordValue). w.line) ws ≡ before ++ line ∷ behind
@@ -155,17 +159,17 @@ word_of_line (w ∷ ws) (l ∷ before) line behind e =
     (w ∷ found.0, found.1, found.2, ap (λ us. w ∷ us) found.3, found.4, found.5)
 
 -- The text begins with words up to one that is refused, which stands on this line.
-pub record BeginsUpTo (text : List ℕ) (k : GrammarFaultKind) (line : ℕ) : Type 0 where
+pub record BeginsUpTo (text : List ℕ) (programs : List Program) (k : GrammarFaultKind) (line : ℕ) : Type 0 where
   pub before : List WordValue
   pub word : WordValue
   pub begun : BeginsWithWords text (before ++ word ∷ [])
-  pub refused : RefusesPlantWords k (map (λ (w : WordValue). w.token) (before ++ word ∷ []))
+  pub refused : RefusesPlantWords programs k (map (λ (w : WordValue). w.token) (before ++ word ∷ []))
   pub line_is : line ≡ word.line
 
 -- so it does with those up to a word refused
-pub begun_by_refused : (text : List ℕ) (ws : List WordValue) (k : GrammarFaultKind) (line : ℕ) (words : List Token) → IsBegunBy text ws → map (λ (w : WordValue). w.token) ws ≡ words
-    → BeginWith (IsLineBefore (map (λ (w : WordValue). w.line) ws) line) (RefusesPlantWords k) words → BeginsUpTo text k line
-begun_by_refused text ws k line words begun is b =
+pub begun_by_refused : (text : List ℕ) (programs : List Program) (ws : List WordValue) (k : GrammarFaultKind) (line : ℕ) (words : List Token) → IsBegunBy text ws → map (λ (w : WordValue). w.token) ws ≡ words
+    → BeginWith (IsLineBefore (map (λ (w : WordValue). w.line) ws) line) (RefusesPlantWords programs k) words → BeginsUpTo text programs k line
+begun_by_refused text programs ws k line words begun is b =
     let token_of : WordValue → Token = λ (w : WordValue). w.token in
     let found = word_of_line ws b.behind.before line b.behind.behind b.behind.parts in
     let front : List WordValue = found.0 ++ found.1 ∷ [] in
@@ -180,8 +184,8 @@ begun_by_refused text ws k line words begun is b =
     record {
       before = found.0;
       word = found.1;
-      begun = begun front found.2 parts (subst AreKnown (sym tokens) (plant_known k b.front b.holds));
-      refused = subst (RefusesPlantWords k) (sym tokens) b.holds;
+      begun = begun front found.2 parts (subst AreKnown (sym tokens) (plant_known programs k b.front b.holds));
+      refused = subst (RefusesPlantWords programs k) (sym tokens) b.holds;
       line_is = found.4;
     }
 

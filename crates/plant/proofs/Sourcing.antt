@@ -99,7 +99,7 @@ filtered {A} p (z ∷ zs) i x at = by (p z) refl i at (λ i at'. filtered p zs i
     by true e (suc i) at' later = let rest = later i at' in (suc rest.0, rest.1, rest.2)
     by false e i at' later = let rest = later i at' in (suc rest.0, rest.1, rest.2)
 
-kept : {A : Type 0} (p : A → Bool) (xs : List A) (k : ℕ) (x : A) → slice_get xs k ≡ Some x → IsTrue (p x) → (i : ℕ) × (slice_get (filter p xs) i ≡ Some x)
+pub kept : {A : Type 0} (p : A → Bool) (xs : List A) (k : ℕ) (x : A) → slice_get xs k ≡ Some x → IsTrue (p x) → (i : ℕ) × (slice_get (filter p xs) i ≡ Some x)
 kept p [] k x at passes = cc
 kept {A} p (z ∷ zs) zero x at passes =
     let same : z ≡ x = some_same at in
@@ -308,7 +308,7 @@ module _ (programs : List Program) (name : List ℕ) (rs : List Resource) (ds : 
   names_same (r ∷ rs) (d ∷ ds) z = let first : r.name ≡ d.name = sym z.0.name_is in let rest = names_same rs ds z.1 in cc
 
   -- an instance of a draft is one of the resource, run by the task of its line
-  run_of : (r : Resource) (d : ResourceValue) → IsResourceDraft programs r d → (i : List ℕ) (m n : ℕ) → IsInstanceAt d.codes i m n
+  pub run_of : (r : Resource) (d : ResourceValue) → IsResourceDraft programs r d → (i : List ℕ) (m n : ℕ) → IsInstanceAt d.codes i m n
       → (t : TaskLine) × (u : Use) × (k : ℕ) × (slice_get (tasks_of r) m ≡ Some t) × (slice_get (runs_in r t) n ≡ Some u) × IsAt (λ (u : Use). u.instance) (uses_of r) i k u × IsTrue (is_named u.task t.name)
   run_of r d of_draft i m n at =
       let t = zip_back (IsDraftOf programs r) (tasks_of r) d.codes of_draft.codes_are m at.code at.code_is in
@@ -370,7 +370,7 @@ module _ (programs : List Program) (name : List ℕ) (rs : List Resource) (ds : 
       )
 
   -- the task that runs an instance
-  line_of : (r : Resource) → IsResourceLawful tree r → (k : ℕ) (u : Use) → slice_get (uses_of r) k ≡ Some u → (m : ℕ) × (t : TaskLine) × (slice_get (tasks_of r) m ≡ Some t) × IsTrue (is_named u.task t.name)
+  pub line_of : (r : Resource) → IsResourceLawful tree r → (k : ℕ) (u : Use) → slice_get (uses_of r) k ≡ Some u → (m : ℕ) × (t : TaskLine) × (slice_get (tasks_of r) m ≡ Some t) × IsTrue (is_named u.task t.name)
   line_of r lawful k u at =
       let each : All (λ (u : Use). Any (λ (t : TaskLine). IsTrue (is_named u.task t.name)) (tasks_of r)) (uses_of r) =
       uses_all (λ (u : Use). Any (λ (t : TaskLine). IsTrue (is_named u.task t.name)) (tasks_of r)) r.items.items (λ j v at'. before_all (λ (t : TaskLine). IsTrue (is_named v.task t.name)) r.items.items j (lawful.uses_lawful j v at').task_is) in

@@ -4,11 +4,13 @@ use Rattle.std.specs.List.{flat_map, list_all}
 use Rattle.words.specs.Lines.{without_last}
 use Rattle.plant_text.specs.declared.token.Token.{Token}
 use Rattle.plant_grammar.specs.declared.grammar_fault.GrammarFaultKind.{GrammarFaultKind}
-use Rattle.plant_grammar.specs.NameFaults.{RefusesPrograms, RefusesConfiguration}
+use Rattle.plant_grammar.specs.declared.grammar.tree.Program.{Program}
+use Rattle.plant_grammar.specs.NameFaults.{RefusesBehind}
 use Rattle.plant.specs.Faults.{kind_of_word}
 use Rattle.plant.specs.declared.plant_fault.PlantFault.{PlantFault}
 use Rattle.plant_grammar.specs.Grammar.{TextValue, Tree, program_words, words_of}
-use Rattle.plant_grammar.specs.Lawful.{all_uses, IsTreeLawful}
+use Rattle.plant_grammar.specs.Lawful.{all_uses, AreProgramsDeclared, IsTreeLawful}
+use Rattle.plant_grammar.specs.SourceLines.{AreSourcesOn}
 use Rattle.plant_grammar.specs.WellFormed.{is_plain, IsTreeWellFormed}
 use Rattle.plant_grammar.specs.Parts.{IsSameTree}
 use Rattle.plant.specs.Ladders.{HasLadder}
@@ -57,8 +59,8 @@ OnePlantOfTree =
 abbrev pub OnePlant : Type 0
 OnePlant = (text : List ℕ) (p q : PlantValue) → IsPlantText text p → IsPlantText text q → p ≡ q
 
--- The text begins with the words of these programs, each on its line and their bodies on their first lines, and the
--- fault is that of the first of them whose body is refused.
+-- The text begins with the words of these programs, each on its line and their bodies on their first lines. Their words
+-- have no fault, and the fault is that of the first of them whose body is refused.
 pub record IsBodyFaultIn (text : List ℕ) (fault : PlantFault) : Type 0 where
   pub texts : List TextValue
   pub words : List WordValue
@@ -66,11 +68,18 @@ pub record IsBodyFaultIn (text : List ℕ) (fault : PlantFault) : Type 0 where
   pub written : map (λ (w : WordValue). w.token) words
       ≡ flat_map program_words (map (λ (t : TextValue). t.program) texts)
   pub lines : body_lines words ≡ map (λ (t : TextValue). t.first_line) texts
+  pub declared : AreProgramsDeclared (map (λ (t : TextValue). t.program) texts)
   pub first : IsFirstBodyFault texts fault
 
--- the words of a plant's text up to the last of them, which is refused
-abbrev pub IsLastRefused : GrammarFaultKind → List Token → Type 0
-IsLastRefused kind words = RefusesPrograms kind words ⊎ RefusesConfiguration kind words
+-- These words are programs whose words have no fault and whose bodies have ladders, and behind them the words of a plant up
+-- to the last, which is refused.
+pub record IsLastRefused (kind : GrammarFaultKind) (words : List Token) : Type 0 where
+  pub programs : List Program
+  pub behind : List Token
+  pub parts : words ≡ flat_map program_words programs ++ behind
+  pub declared : AreProgramsDeclared programs
+  pub drawn : All HasLadder programs
+  pub refused : RefusesBehind kind programs behind
 
 -- The text begins with these words, each on its line, of which the last is at fault: what stands before it is as the
 -- grammar has it, and the kind tells what is wrong with it. The fault is on the line of that word.
@@ -84,7 +93,8 @@ pub record IsWordFaultIn (text : List ℕ) (fault : PlantFault) : Type 0 where
   pub line_is : fault.line ≡ word.line
 
 -- The text begins with a tree whose words are lawful, and whose bodies have ladders. In the order of the text, the first
--- bind of it that isn't fed has no source, or one of another kind, as the kind of the fault tells.
+-- bind of it that isn't fed has no source, or one of another kind, as the kind of the fault tells. The tree keeps the lines
+-- of the words that name sources, and the fault is on that of the first name that isn't found, or of the output's.
 pub record IsSourceFaultIn (text : List ℕ) (fault : PlantFault) : Type 0 where
   pub kind : GrammarFaultKind
   pub kind_is : fault.kind ≡ kind_of_word kind
@@ -95,7 +105,8 @@ pub record IsSourceFaultIn (text : List ℕ) (fault : PlantFault) : Type 0 where
   pub lawful : IsTreeLawful tree
   pub drawn : All HasLadder tree.programs
   pub refused : All (AreBindsFed tree) (all_uses tree) → ⊥
-  pub wrong : HasFirstSourceFault tree kind
+  pub lined : AreSourcesOn (map (λ (w : WordValue). w.line) words) tree.resources []
+  pub wrong : HasFirstSourceFault tree kind fault.line
 
 -- a word of the text is at fault, or the source of a bind
 abbrev pub IsNameFaultIn : List ℕ → PlantFault → Type 0

@@ -2,7 +2,8 @@
 
 ghost use Rattle.std.specs.Prelude.{◌≡◌, ◌≢◌, All, IfOk, OnOk, OnErr, length, IfErr};
 ghost use Rattle.plant.specs.Steps.Found.{TellsOfSource};
-ghost use Rattle.plant.specs.Steps.SourceFaults.{TellsOfBind, TellsOfBinds, TellsOfUse, TellsOfUses};
+ghost use Rattle.plant.specs.SourceFaults.{value_line, lines_at};
+ghost use Rattle.plant.specs.Steps.SourceFaults.{IsValueMissing, IsOriginMissing, TellsOfBind, TellsOfBinds, TellsOfUse, TellsOfUses};
 ghost use Rattle.plant_grammar.specs.WordFaults.{IsGrammarFault};
 ghost use Rattle.plant_grammar.specs.declared.grammar_fault.GrammarFaultKind.TheVariants.{Memory, UnknownName};
 ghost use Rattle.std.specs.List.{AllZip, flat_map};
@@ -16,42 +17,47 @@ use crate::sources::feed::{Feed, Origin};
 use crate::sources::lookup::{find_instance, find_output};
 use crate::sources::resource_draft::ResourceDraft;
 use declared_names::kind_of_space;
-use plant_grammar::{Bind, GrammarFault, GrammarFaultKind, Item, Name, Resource, SourceName, Use};
+use plant_grammar::{
+    Bind, GrammarFault, GrammarFaultKind, Item, Name, Resource, SourceLines, SourceName, Use,
+};
 use power_flow::{Declarations, Declared, Kind};
 use std::alloc::Global;
 use task_codes::{ProgramInstance, TaskRef};
 
-/// The fault of a name that isn't declared where it is sought.
-fn unknown(name: &Name) -> GrammarFault
+/// The fault of a name that isn't declared where it is sought, on its line.
+fn unknown(line: u64) -> GrammarFault
     ensures kind { result.kind ≡ UnknownName }
+    ensures line { result.line ≡ line }
     ensures tells { TellsOfSource result.kind }
     ensures value { IsGrammarFault result }
 {
-    GrammarFault::at(GrammarFaultKind::UnknownName, name.line())
+    GrammarFault::at(GrammarFaultKind::UnknownName, line)
 }
 
-/// The value of a task's image that names mean, and its kind.
+/// The value of a task's image that names on these lines mean, and its kind.
 fn find_value(
     drafts: &[ResourceDraft],
     resource: &Name,
     instance: &Name,
     output: &Name,
+    lines: SourceLines,
 ) -> Result<(TaskRef, usize, Kind), GrammarFault>
     ensures ok { IfOk result (IsValue (drafted drafts.now) resource.now instance.now output.now) }
     ensures refused { OnErr result (AreDraftsApart drafts.now → HasNoValue (drafted drafts.now) resource.now instance.now output.now) }
     ensures kind { IfErr result (λ e. e.kind ≡ UnknownName) }
+    ensures missing { IfErr result (λ e. IsValueMissing (drafted drafts.now) resource.now instance.now lines e.line) }
     ensures tells { IfErr result (λ e. TellsOfSource e.kind) }
     ensures value { IfErr result IsGrammarFault }
 {
     let Some(position) = find_named(drafts, resource.as_str()) else {
-        return Err(unknown(resource));
+        return Err(unknown(lines.resource));
     };
     let tasks = drafts[position].tasks();
     let Some((task, program)) = find_instance(tasks, instance.as_str()) else {
-        return Err(unknown(instance));
+        return Err(unknown(lines.instance));
     };
     let Some((place, kind)) = find_output(&tasks[task], program, output.as_str()) else {
-        return Err(unknown(output));
+        return Err(unknown(lines.output));
     };
     let found = TaskRef {
         resource: position,
@@ -60,14 +66,16 @@ fn find_value(
     Ok((found, place, kind))
 }
 
-/// What a source means, and the kind of its values.
+/// What a source on these lines means, and the kind of its values.
 fn find_origin(
     drafts: &[ResourceDraft],
     source: &SourceName,
+    lines: SourceLines,
 ) -> Result<(Origin, Kind), GrammarFault>
     ensures ok { IfOk result (λ x. IsOriginOf (drafted drafts.now) source.now x.0 x.1) }
     ensures refused { OnErr result (AreDraftsApart drafts.now → HasNoOrigin (drafted drafts.now) source.now) }
     ensures kind { IfErr result (λ e. e.kind ≡ UnknownName) }
+    ensures missing { IfErr result (λ e. IsOriginMissing (drafted drafts.now) source.now lines e.line) }
     ensures tells { IfErr result (λ e. TellsOfSource e.kind) }
     ensures value { IfErr result IsGrammarFault }
 {
@@ -78,7 +86,7 @@ fn find_origin(
             instance,
             output,
         } => {
-            let (task, output, kind) = find_value(drafts, resource, instance, output)?;
+            let (task, output, kind) = find_value(drafts, resource, instance, output, lines)?;
             Ok((Origin::Output { task, output }, kind))
         }
     }
@@ -96,31 +104,51 @@ fn find_input(declarations: &Declarations, name: &str) -> Option<(usize, Kind)>
 }
 
 /// The line on which a source of another kind than its input is refused.
-fn source_line(bind: &Bind) -> u64 {
-    match &bind.source {
-        SourceName::Field(_) => bind.input.line(),
-        SourceName::Output { output, .. } => output.line(),
+fn source_line(source: &SourceName, lines: SourceLines) -> u64
+    ensures { result ≡ value_line source.now lines }
+{
+    match source {
+        SourceName::Field(_) => lines.resource,
+        SourceName::Output { .. } => lines.output,
     }
 }
 
-/// A bind with its names resolved.
+/// The lines of the source of a bind, by its place; 0 where none are kept.
+fn lines_at(lines: &[SourceLines], place: usize) -> SourceLines
+    ensures { result ≡ lines_at lines.now place }
+{
+    match lines.get(place) {
+        Some(found) => *found,
+        None => SourceLines {
+            resource: 0,
+            instance: 0,
+            output: 0,
+        },
+    }
+}
+
+/// A bind with its names resolved, its source on these lines.
 fn feed(
     drafts: &[ResourceDraft],
     declarations: &Declarations,
     bind: &Bind,
+    lines: SourceLines,
 ) -> Result<Feed, GrammarFault>
     ensures ok { IfOk result (λ f. IsFeedOf (drafted drafts.now) declarations.now bind.now f) }
     ensures refused { OnErr result (AreDraftsApart drafts.now → HasFeed (drafted drafts.now) declarations.now bind.now → ⊥) }
-    ensures why { IfErr result (λ e. AreDraftsApart drafts.now → TellsOfBind (drafted drafts.now) declarations.now bind.now e.kind) }
+    ensures why { IfErr result (λ e. AreDraftsApart drafts.now → TellsOfBind (drafted drafts.now) declarations.now e.kind e.line bind.now lines) }
     ensures tells { IfErr result (λ e. TellsOfSource e.kind) }
     ensures value { IfErr result IsGrammarFault }
 {
     let Some((place, kind)) = find_input(declarations, bind.input.as_str()) else {
-        return Err(unknown(&bind.input));
+        return Err(unknown(lines.resource));
     };
-    let (origin, given) = find_origin(drafts, &bind.source)?;
+    let (origin, given) = find_origin(drafts, &bind.source, lines)?;
     if given != kind {
-        return Err(GrammarFault::at(GrammarFaultKind::WrongKind, source_line(bind)));
+        return Err(GrammarFault::at(
+            GrammarFaultKind::WrongKind,
+            source_line(&bind.source, lines),
+        ));
     }
     Ok(Feed {
         place,
@@ -139,12 +167,13 @@ fn binds_of(run: &Use) -> &[Bind]
     }
 }
 
-/// The binds of an instance with their names resolved.
+/// The binds of an instance with their names resolved, their sources on these lines.
 fn feeds(
     alloc: Global,
     drafts: &[ResourceDraft],
     declarations: &Declarations,
     binds: &[Bind],
+    lines: &[SourceLines],
 ) -> Result<Vec<Feed>, GrammarFault>
     ensures ok { IfOk result (λ fs. AllZip (IsFeedOf (drafted drafts.now) declarations.now) binds.now fs.items) }
     ensures refused { IfErr result (λ e. e.kind ≢ Memory → AreDraftsApart drafts.now → All (HasFeed (drafted drafts.now) declarations.now) binds.now → ⊥) }
@@ -152,8 +181,8 @@ fn feeds(
     ensures value { IfErr result IsGrammarFault }
 {
     let mut feeds = Vec::new(alloc);
-    for bind in binds {
-        let found = feed(drafts, declarations, bind)?;
+    for (i, bind) in binds.iter().enumerate() {
+        let found = feed(drafts, declarations, bind, lines_at(lines, i))?;
         feeds.push(found)?;
     }
     Ok(feeds)
@@ -176,26 +205,34 @@ pub fn feeds_of(
     let mut all = Vec::new(alloc);
     for (i, program) in programs.iter().enumerate() {
         let declarations = program.ladder().declarations();
-        let found = feeds(alloc, drafts, declarations, binds_of(runs[i]))?;
+        let run = runs[i];
+        let found = feeds(
+            alloc,
+            drafts,
+            declarations,
+            binds_of(run),
+            run.lines.as_slice(),
+        )?;
         all.push(found)?;
     }
     Ok(all)
 }
 
-/// Answers the first fault among binds of inputs that are declared.
+/// Answers the first fault among binds of inputs that are declared, their sources on these lines.
 fn check_binds(
     drafts: &[ResourceDraft],
     declarations: &Declarations,
     binds: &[Bind],
+    lines: &[SourceLines],
 ) -> Result<(), GrammarFault>
     ensures ok { OnOk result (All (HasFeed (drafted drafts.now) declarations.now) binds.now) }
     ensures refused { OnErr result (AreDraftsApart drafts.now → All (HasFeed (drafted drafts.now) declarations.now) binds.now → ⊥) }
-    ensures why { IfErr result (λ e. AreDraftsApart drafts.now → TellsOfBinds (drafted drafts.now) declarations.now binds.now e.kind) }
+    ensures why { IfErr result (λ e. AreDraftsApart drafts.now → TellsOfBinds (drafted drafts.now) declarations.now binds.now lines.now e.kind e.line) }
     ensures tells { IfErr result (λ e. TellsOfSource e.kind) }
     ensures value { IfErr result IsGrammarFault }
 {
-    for bind in binds {
-        feed(drafts, declarations, bind)?;
+    for (i, bind) in binds.iter().enumerate() {
+        feed(drafts, declarations, bind, lines_at(lines, i))?;
     }
     Ok(())
 }
@@ -204,14 +241,19 @@ fn check_binds(
 fn check_use(drafts: &[ResourceDraft], types: &[ProgramType], run: &Use) -> Result<(), GrammarFault>
     ensures ok { OnOk result (IsUseResolved (drafted drafts.now) types.now run.now) }
     ensures refused { OnErr result (AreDraftsApart drafts.now → IsUseResolved (drafted drafts.now) types.now run.now → ⊥) }
-    ensures why { IfErr result (λ e. AreDraftsApart drafts.now → TellsOfUse (drafted drafts.now) types.now run.now e.kind) }
+    ensures why { IfErr result (λ e. AreDraftsApart drafts.now → TellsOfUse (drafted drafts.now) types.now run.now e.kind e.line) }
     ensures tells { IfErr result (λ e. TellsOfSource e.kind) }
     ensures value { IfErr result IsGrammarFault }
 {
     let Some(found) = type_named(types, &run.program) else {
-        return Err(unknown(&run.program));
+        return Err(unknown(run.program.line()));
     };
-    check_binds(drafts, found.ladder().declarations(), binds_of(run))
+    check_binds(
+        drafts,
+        found.ladder().declarations(),
+        binds_of(run),
+        run.lines.as_slice(),
+    )
 }
 
 /// Answers the first fault among the binds of a line of a resource.
@@ -222,7 +264,7 @@ fn check_item(
 ) -> Result<(), GrammarFault>
     ensures ok { OnOk result (All (IsUseResolved (drafted drafts.now) types.now) (use_of item.now)) }
     ensures refused { OnErr result (AreDraftsApart drafts.now → All (IsUseResolved (drafted drafts.now) types.now) (use_of item.now) → ⊥) }
-    ensures why { IfErr result (λ e. AreDraftsApart drafts.now → TellsOfUses (drafted drafts.now) types.now (use_of item.now) e.kind) }
+    ensures why { IfErr result (λ e. AreDraftsApart drafts.now → TellsOfUses (drafted drafts.now) types.now (use_of item.now) e.kind e.line) }
     ensures tells { IfErr result (λ e. TellsOfSource e.kind) }
     ensures value { IfErr result IsGrammarFault }
 {
@@ -240,7 +282,7 @@ fn check_resource(
 ) -> Result<(), GrammarFault>
     ensures ok { OnOk result (All (IsUseResolved (drafted drafts.now) types.now) (uses_of resource.now)) }
     ensures refused { OnErr result (AreDraftsApart drafts.now → All (IsUseResolved (drafted drafts.now) types.now) (uses_of resource.now) → ⊥) }
-    ensures why { IfErr result (λ e. AreDraftsApart drafts.now → TellsOfUses (drafted drafts.now) types.now (uses_of resource.now) e.kind) }
+    ensures why { IfErr result (λ e. AreDraftsApart drafts.now → TellsOfUses (drafted drafts.now) types.now (uses_of resource.now) e.kind e.line) }
     ensures tells { IfErr result (λ e. TellsOfSource e.kind) }
     ensures value { IfErr result IsGrammarFault }
 {
@@ -258,7 +300,7 @@ pub fn check_sources(
 ) -> Result<(), GrammarFault>
     ensures ok { OnOk result (All (IsUseResolved (drafted drafts.now) types.now) (flat_map uses_of resources.now)) }
     ensures refused { OnErr result (AreDraftsApart drafts.now → All (IsUseResolved (drafted drafts.now) types.now) (flat_map uses_of resources.now) → ⊥) }
-    ensures why { IfErr result (λ e. AreDraftsApart drafts.now → TellsOfUses (drafted drafts.now) types.now (flat_map uses_of resources.now) e.kind) }
+    ensures why { IfErr result (λ e. AreDraftsApart drafts.now → TellsOfUses (drafted drafts.now) types.now (flat_map uses_of resources.now) e.kind e.line) }
     ensures tells { IfErr result (λ e. TellsOfSource e.kind) }
     ensures value { IfErr result IsGrammarFault }
 {

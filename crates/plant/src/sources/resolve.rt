@@ -24,7 +24,7 @@ pub fn resolve(alloc: Global, reading: &Reading) -> Result<Plant, GrammarFault>
     ensures ok { IfOk result (λ p. (name : List ℕ) → IsPlantOf (tree_of name reading.now) p) }
     ensures sources { OnOk result ((name : List ℕ) → All (AreBindsFed (tree_of name reading.now)) (all_uses (tree_of name reading.now))) }
     ensures refused { IfErr result (λ e. e.kind ≢ Memory → (name : List ℕ) → All (AreBindsFed (tree_of name reading.now)) (all_uses (tree_of name reading.now)) → ⊥) }
-    ensures why { IfErr result (λ e. e.kind ≢ Memory → (name : List ℕ) → HasFirstSourceFault (tree_of name reading.now) e.kind) }
+    ensures why { IfErr result (λ e. e.kind ≢ Memory → (name : List ℕ) → HasFirstSourceFault (tree_of name reading.now) e.kind e.line) }
     ensures tells { IfErr result (λ e. TellsOfSource e.kind) }
     ensures value { IfErr result IsGrammarFault }
 {

@@ -1,5 +1,5 @@
-use Rattle.std.proofs.Common.{◌≡◌, ◌≢◌, inl, inr, List, [], ◌++◌, All, map, ap, refl, sym, subst, ◌∙◌}
-use Rattle.std.proofs.lemmas.List.{append-nil, append_cancel_right}
+use Rattle.std.proofs.Common.{ℕ, ◌≡◌, ◌≢◌, inl, inr, List, [], ◌++◌, All, map, ap, refl, sym, subst, ◌∙◌}
+use Rattle.std.proofs.lemmas.List.{append-nil, append_cancel_right, map-append, length-map}
 use Rattle.words.specs.Lines.{without_last}
 use Rattle.plant_text.specs.declared.token.Token.{Token}
 use Rattle.plant_text.specs.declared.token.Token.TheVariants as token
@@ -26,6 +26,8 @@ use Rattle.plant.proofs.BodyCounts.{begun_by_programs}
 use Rattle.plant.proofs.DrawnTrees.{drawn_tree, drawn_have_ladders}
 use Rattle.plant.proofs.WordFaults.{plant_of_word, no_body, of_name, no_name, memory_no_body, memory_no_name, body_no_name, syntax_no_memory, body_no_syntax, of_syntax, source_no_syntax}
 use Rattle.plant.proofs.KnownWords.{words_known}
+use Rattle.plant_grammar.specs.SourceLines.{AreSourcesOn}
+use Rattle.plant.proofs.CutSources.{sources_cut}
 use Rattle.plant.proofs.RefusedKnown.{begun_by_front, begun_by_refused, own_lines}
 use Rattle.plant.proofs.plant.Plant.read.Goals as goal
 
@@ -78,6 +80,7 @@ returns-in_err-types-clause-body c =
       begun = begun.1;
       written = begun.2;
       lines = begun.3;
+      declared = c.read_tree-tree.ensures.declared;
       first = c.in_err-types.ensures.fault (λ m. memory_no_body fault m of);
     })
 
@@ -109,14 +112,22 @@ returns-in_err-resources-clause-name c =
     let own = subst (HasLinesOf (map (λ (w : WordValue). w.line) us)) (sym c.new-reader.ensures) (own_lines us _) in
     let left = subst (λ (vs : List WordValue). HasLinesOf (map (λ (w : WordValue). w.line) vs) c.new-reader.result) c.words-2.ensures own in
     let met = c.in_err-resources.ensures.name (map (λ (w : WordValue). w.line) ws) left (of_name word.kind of) in
-    let begun = begun_by_refused (without_last 13 c.args.text.now) ws word.kind word.line c.new-reader.result.words c.in_ok-words.ensures.begun words met in
+    let texts = c.read_tree-tree.new.texts.items in
+    let begun = begun_by_refused (without_last 13 c.args.text.now) (programs_of texts) ws word.kind word.line c.new-reader.result.words c.in_ok-words.ensures.begun words met in
     inl (record {
       kind = word.kind;
       kind_is = refl;
       before = begun.before;
       word = begun.word;
       begun = begun.begun;
-      refused = begun.refused;
+      refused = record {
+        programs = programs_of texts;
+        behind = begun.refused.more;
+        parts = begun.refused.parts;
+        declared = c.read_tree-tree.ensures.declared;
+        drawn = drawn_have_ladders texts c.in_ok-types.types.items c.in_ok-types.ensures.ok;
+        refused = begun.refused.holds;
+      };
       line_is = begun.line_is;
     }))
 
@@ -144,6 +155,12 @@ returns-in_err-plant-clause-name c =
     let ws = c.in_ok-words.words in
     let words : map (λ (w : WordValue). w.token) ws ≡ c.new-reader.result.words = ap (λ (ws : List WordValue). map (λ (w : WordValue). w.token) ws) (sym c.words-2.ensures) ∙ ap (λ (r : ReaderValue). r.words) (sym c.new-reader.ensures) in
     let begun = begun_by_front (without_last 13 c.args.text.now) ws c.new-reader.result.words (words_of tree) c.read_tree-tree.new.reader.words c.in_ok-words.ensures.begun words read.written (words_known tree) in
+    let us = c.words-2.result.now in
+    let line_of : WordValue → ℕ = λ (w : WordValue). w.line in
+    let own = subst (HasLinesOf (map line_of us)) (sym c.new-reader.ensures) (own_lines us _) in
+    let left = subst (λ (vs : List WordValue). HasLinesOf (map line_of vs) c.new-reader.result) c.words-2.ensures own in
+    let parts : map line_of ws ≡ map line_of begun.0 ++ map line_of begun.3 = ap (map line_of) begun.4 ∙ map-append line_of begun.0 begun.3 in
+    let lined = sources_cut (map line_of begun.0) (map line_of begun.3) c.read_tree-tree.new.reader.words (length-map begun.3 line_of ∙ begun.5) rs (subst (λ (all : List ℕ). AreSourcesOn all rs c.read_tree-tree.new.reader.words) parts (c.in_ok-resources.ensures.lined (map line_of ws) left)) in
     inr (record {
       kind = word.kind;
       kind_is = refl;
@@ -151,10 +168,11 @@ returns-in_err-plant-clause-name c =
       words = begun.0;
       begun = begun.1;
       written = begun.2;
+      lined = lined;
       lawful = read.lawful;
       drawn = drawn_have_ladders texts c.in_ok-types.types.items c.in_ok-types.ensures.ok;
       refused = λ fed. c.in_err-plant.ensures.refused (λ memory. subst names.IsOfName memory (of_name word.kind of)) read.name (subst (λ (t : Tree). All (AreBindsFed t) (all_uses t)) (sym same) fed);
-      wrong = subst (λ (t : Tree). HasFirstSourceFault t word.kind) same (c.in_err-plant.ensures.why (λ memory. subst names.IsOfName memory (of_name word.kind of)) read.name);
+      wrong = subst (λ (t : Tree). HasFirstSourceFault t word.kind word.line) same (c.in_err-plant.ensures.why (λ memory. subst names.IsOfName memory (of_name word.kind of)) read.name);
     }))
 
 pub returns-in_err-end-clause-value : goal.returns-in_err-end-clause-value

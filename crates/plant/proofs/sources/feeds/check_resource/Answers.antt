@@ -34,6 +34,6 @@ pub returns-in_err-check_item-clause-why : goal.returns-in_err-check_item-clause
 returns-in_err-check_item-clause-why c =
     let plant = drafted c.args.drafts.now in
     let fault = c.in_err-check_item.field-0.0 in
-    kept_fault fault (λ e. AreDraftsApart c.args.drafts.now → TellsOfUses plant c.args.types.now (uses_of c.args.resource.now) e.kind) c.from_residual.result c.from_residual.ensures.1
-    (λ apart. rw (← c.deref-item-items.ensures.value) (part_fails (IsUseResolved plant c.args.types.now) (λ (u : Use). TellsOfUse plant c.args.types.now u fault.kind) use_of c.deref-item-items.result.now c.loop-item.item-index c.item-item.result c.loop-item-test.true c.item-item.is
+    kept_fault fault (λ e. AreDraftsApart c.args.drafts.now → TellsOfUses plant c.args.types.now (uses_of c.args.resource.now) e.kind e.line) c.from_residual.result c.from_residual.ensures.1
+    (λ apart. rw (← c.deref-item-items.ensures.value) (part_fails (IsUseResolved plant c.args.types.now) (λ (u : Use). TellsOfUse plant c.args.types.now u fault.kind fault.line) use_of c.deref-item-items.result.now c.loop-item.item-index c.item-item.result c.loop-item-test.true c.item-item.is
     (rw c.deref-item-items.ensures.value c.loop-item.invariant) (c.in_err-check_item.ensures.why apart)))

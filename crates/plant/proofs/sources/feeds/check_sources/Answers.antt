@@ -32,5 +32,5 @@ pub returns-in_err-check_resource-clause-why : goal.returns-in_err-check_resourc
 returns-in_err-check_resource-clause-why c =
     let plant = drafted c.args.drafts.now in
     let fault = c.in_err-check_resource.field-0.0 in
-    kept_fault fault (λ e. AreDraftsApart c.args.drafts.now → TellsOfUses plant c.args.types.now (flat_map uses_of c.args.resources.now) e.kind) c.from_residual.result c.from_residual.ensures.1
-    (λ apart. part_fails (IsUseResolved plant c.args.types.now) (λ (u : Use). TellsOfUse plant c.args.types.now u fault.kind) uses_of c.args.resources.now c.loop-resource.resource-index c.resource-item.result c.loop-resource-test.true c.resource-item.is c.loop-resource.invariant (c.in_err-check_resource.ensures.why apart))
+    kept_fault fault (λ e. AreDraftsApart c.args.drafts.now → TellsOfUses plant c.args.types.now (flat_map uses_of c.args.resources.now) e.kind e.line) c.from_residual.result c.from_residual.ensures.1
+    (λ apart. part_fails (IsUseResolved plant c.args.types.now) (λ (u : Use). TellsOfUse plant c.args.types.now u fault.kind fault.line) uses_of c.args.resources.now c.loop-resource.resource-index c.resource-item.result c.loop-resource-test.true c.resource-item.is c.loop-resource.invariant (c.in_err-check_resource.ensures.why apart))

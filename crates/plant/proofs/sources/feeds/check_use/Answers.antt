@@ -29,6 +29,6 @@ pub returns-clause-why : goal.returns-clause-why
 returns-clause-why c =
     let plant = drafted c.args.drafts.now in
     let found : find (λ (t : TypeValue). is_named c.args.run.now.program t.program.name) c.args.types.now ≡ Some c.in-Some.found.now = search rules in
-    let why = rw (c.binds_of.ensures, c.declarations.ensures.list, c.deref.ensures, c.ladder.ensures.ladder) at c.check_binds.ensures.why in
-    IfErr-weaker c.check_binds.result (λ e. AreDraftsApart c.args.drafts.now → TellsOfBinds plant c.in-Some.found.now.ladder.declarations (binds_of c.args.run.now) e.kind)
-    (λ e. AreDraftsApart c.args.drafts.now → TellsOfUse plant c.args.types.now c.args.run.now e.kind) (λ e told apart. inr (c.in-Some.found.now, found, told apart)) why
+    let why = rw (c.binds_of.ensures, c.declarations.ensures.list, c.deref.ensures, c.ladder.ensures.ladder, c.as_slice.ensures.value) at c.check_binds.ensures.why in
+    IfErr-weaker c.check_binds.result (λ e. AreDraftsApart c.args.drafts.now → TellsOfBinds plant c.in-Some.found.now.ladder.declarations (binds_of c.args.run.now) c.args.run.now.lines.items e.kind e.line)
+    (λ e. AreDraftsApart c.args.drafts.now → TellsOfUse plant c.args.types.now c.args.run.now e.kind e.line) (λ e told apart. inr (c.in-Some.found.now, found, told apart)) why

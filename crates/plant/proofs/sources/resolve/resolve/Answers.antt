@@ -74,7 +74,7 @@ returns-in_err-linked-clause-refused c =
 pub returns-in_err-drafts-clause-why : goal.returns-in_err-drafts-clause-why
 returns-in_err-drafts-clause-why c =
     let reading = c.args.reading.now in
-    kept_fault c.in_err-drafts.field-0.0 (λ e. e.kind ≢ Memory → (name : List ℕ) → HasFirstSourceFault (tree_of name reading) e.kind) c.from_residual.result c.from_residual.ensures.1
+    kept_fault c.in_err-drafts.field-0.0 (λ e. e.kind ≢ Memory → (name : List ℕ) → HasFirstSourceFault (tree_of name reading) e.kind e.line) c.from_residual.result c.from_residual.ensures.1
     (λ other name. absurd ((rw (c.types-types.ensures, c.resources-resources.ensures) at (c.in_err-drafts.ensures.refused other)) (types_known reading.types c.requires.lawful.0 reading.resources c.requires.lawful.1)))
 
 pub returns-in_err-check_sources-clause-why : goal.returns-in_err-check_sources-clause-why
@@ -83,8 +83,8 @@ returns-in_err-check_sources-clause-why c =
     let known = rw (c.types-types.ensures, c.resources-resources.ensures) at c.in_ok-drafts.ensures.ok in
     let drafts = c.in_ok-drafts.drafts.items in
     let fault = c.in_err-check_sources.field-0.0 in
-    kept_fault fault (λ e. e.kind ≢ Memory → (name : List ℕ) → HasFirstSourceFault (tree_of name reading) e.kind) c.from_residual-in_err-check_sources.result c.from_residual-in_err-check_sources.ensures.1
-    (λ other name. fault_in_tree reading.types c.requires.lawful.0 reading.resources drafts c.requires.drawn known c.requires.lawful.1 fault.kind
+    kept_fault fault (λ e. e.kind ≢ Memory → (name : List ℕ) → HasFirstSourceFault (tree_of name reading) e.kind e.line) c.from_residual-in_err-check_sources.result c.from_residual-in_err-check_sources.ensures.1
+    (λ other name. fault_in_tree reading.types c.requires.lawful.0 reading.resources drafts c.requires.drawn known c.requires.lawful.1 fault.kind fault.line
     ((rw (c.as_slice.ensures.value, c.types-types.ensures, c.resources-resources.ensures) at c.in_err-check_sources.ensures.why) (tree_apart reading.types c.requires.lawful.0 reading.resources drafts c.requires.drawn known c.requires.lawful.1)))
 
 pub returns-in_err-linked-clause-why : goal.returns-in_err-linked-clause-why
@@ -93,7 +93,7 @@ returns-in_err-linked-clause-why c =
     let known = rw (c.types-types.ensures, c.resources-resources.ensures) at c.in_ok-drafts.ensures.ok in
     let drafts = c.in_ok-drafts.drafts.items in
     let resolved = rw (c.as_slice.ensures.value, c.types-types.ensures, c.resources-resources.ensures) at c.in_ok-check_sources.ensures.ok in
-    kept_fault c.in_err-linked.field-0.0 (λ e. e.kind ≢ Memory → (name : List ℕ) → HasFirstSourceFault (tree_of name reading) e.kind) c.from_residual-in_err-linked.result c.from_residual-in_err-linked.ensures.1
+    kept_fault c.in_err-linked.field-0.0 (λ e. e.kind ≢ Memory → (name : List ℕ) → HasFirstSourceFault (tree_of name reading) e.kind e.line) c.from_residual-in_err-linked.result c.from_residual-in_err-linked.ensures.1
     (λ other name. absurd ((rw (c.as_slice-2.ensures.value, c.resources-resources.ensures) at (c.in_err-linked.ensures.refused other))
     (tree_apart reading.types c.requires.lawful.0 reading.resources drafts c.requires.drawn known c.requires.lawful.1)
     (resources_fed reading.types c.requires.lawful.0 reading.resources drafts c.requires.drawn known c.requires.lawful.1 resolved)))
