@@ -17,7 +17,7 @@ use Rattle.plant_grammar.specs.Kinds.{IsOfInputKind}
 use Rattle.plant_grammar.specs.Lawful.{variables, uses_of, binds_of, IsResourceLawful, IsTreeLawful}
 use Rattle.plant.specs.Ladders.{IsLadderOf}
 use Rattle.plant.specs.ProgramTypes.{TypeValue}
-use Rattle.plant.specs.PlantValue.{ResourceValue, PlantValue}
+use Rattle.plant.specs.PlantValue.{ResourceValue}
 use Rattle.plant.specs.Faultless.{RunsType}
 use Rattle.plant.specs.Faultless.{IsFed, AreBindsFed}
 use Rattle.plant.specs.SourceFaults.{lines_at, FailsFirst, IsBindFault, HasFirstBindFault, HasFirstSourceFault}

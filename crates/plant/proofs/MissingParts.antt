@@ -1,6 +1,6 @@
 -- The first name of a source that isn't found in the drafts of resources isn't found in the tree either.
 use Rattle.std.proofs.Common.{◌≡◌, inl, inr, ℕ, IsTrue, List, sym, subst}
-use Rattle.std.specs.Prelude.{slice_get, All, Any, Some}
+use Rattle.std.specs.Prelude.{slice_get, Any, Some}
 use Rattle.std.specs.List.{AllZip}
 use Rattle.lists.proofs.Members.{any_at, any_found}
 use Rattle.lists.proofs.Zips.{zip_at, zip_back}
@@ -11,7 +11,7 @@ use Rattle.plant_grammar.specs.declared.grammar.tree.SourceLines.{SourceLines}
 use Rattle.plant_grammar.specs.declared.grammar.tree.Use.{Use}
 use Rattle.plant_grammar.specs.declared.grammar.tree.Resource.{Resource}
 use Rattle.plant_grammar.specs.Grammar.{Tree}
-use Rattle.plant_grammar.specs.Names.{is_named, IsAt}
+use Rattle.plant_grammar.specs.Names.{is_named}
 use Rattle.plant_grammar.specs.Lawful.{tasks_of, uses_of, IsResourceLawful, IsTreeLawful}
 use Rattle.plant.specs.PlantValue.{ResourceValue}
 use Rattle.plant.specs.StandsFor.{runs_in}

@@ -22,7 +22,7 @@ use Rattle.plant_grammar.specs.NameFaults.{IsRefused, IsMisused, IsAfter, IsAfte
 use Rattle.plant_grammar.specs.Steps.Declaring.{IsLineBefore, BeginWith, RefusesPlantWords}
 use Rattle.plant_grammar.specs.Steps.Lines.{HasLinesOf, all_left}
 use Rattle.plant_text.specs.Lines.{WordValue, BeginsWithWords, IsBegunBy}
-use Rattle.plant.proofs.KnownWords.{IsKnown, AreKnown, nothing, key_is, mark_is, name_is, type_is, names_are, behind, both, all_of, section_is, list_is, block_is, program_is, bind_is, item_is, resource_is, programs_known}
+use Rattle.plant.proofs.KnownWords.{IsKnown, AreKnown, nothing, key_is, mark_is, name_is, type_is, names_are, behind, both, all_of, section_is, list_is, block_is, bind_is, item_is, resource_is, programs_known}
 use Rattle.plant.proofs.BodyCounts.{map_take, same_fronts}
 
 refused_known : (k : GrammarFaultKind) (Taken : List ℕ → Type 0) (full : Type 0) (words : List Token) → IsRefused k Taken full words → AreKnown words

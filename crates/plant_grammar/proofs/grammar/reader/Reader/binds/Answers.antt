@@ -23,7 +23,7 @@ use Rattle.plant_grammar.specs.Steps.Lines.{ReaderValue, IsNotNext}
 use Rattle.plant_grammar.proofs.LawfulResources.{first_bind_allowed, next_bind_allowed, close_allowed}
 use Rattle.plant_grammar.proofs.MissingWords.{bind_missing, next_bind_missing}
 use Rattle.plant_grammar.specs.SourceLines.{AreBindsOn}
-use Rattle.plant_grammar.proofs.PlacedSources.{binds_pushed, first_bind_on, no_binds_on}
+use Rattle.plant_grammar.proofs.PlacedSources.{binds_pushed, no_binds_on}
 use Rattle.plant_grammar.proofs.grammar.reader.Reader.binds.Goals as goal
 use Rattle.plant_grammar.proofs.grammar.reader.Reader.binds.Goals.{then-not-sees_punctuation+in_ok-bind+in_ok-push+else-binds-test, else-not-sees_punctuation}
 
